@@ -1,0 +1,68 @@
+-- What one more entry does to a history.
+use Rattle.std.proofs.Common.{◌≡◌, ◌≤◌, ◌<◌, ℕ, ◌+◌, Bool, true, false, List, [], ◌∷◌, ◌++◌, length, Option, None, Some, refl, sym, ap, ◌∙◌, subst, arith, append_assoc, append-nil, length-append}
+use Rattle.std.specs.Prelude.{find, MatchOption}
+use Rattle.sms_construct.specs.declared.entry.Entry.{Entry}
+use Rattle.desk_history.specs.State.{DeskState, start_state}
+use Rattle.desk_history.specs.Stack.{IsPacked}
+use Rattle.desk_history.specs.Step.{is_entered, is_of, kept_for, IsStep, IsFresh, IsRepeat}
+use Rattle.desk_history.specs.History.{Leads, Reaches, IsLegal}
+use Rattle.desk_history.proofs.PackedLemmas.{rule-packed}
+
+-- one more step
+pub Leads-push : (before h : List Entry) (s t u : DeskState) (e : Entry) → Leads before s h t → IsStep (before ++ h) t e u → Leads before s (h ++ e ∷ []) u
+Leads-push before [] s t u e leads step =
+    let here : IsStep (before ++ []) s e u = subst (λ (x : DeskState). IsStep (before ++ []) x e u) leads step in
+    (u, subst (λ (b : List Entry). IsStep b s e u) (append-nil before) here, refl)
+Leads-push before (x ∷ h) s t u e leads step =
+    (leads.0, leads.1, Leads-push (before ++ x ∷ []) h leads.0 t u e leads.2 (subst (λ (b : List Entry). IsStep b t e u) (sym (append_assoc before (x ∷ []) h)) step))
+
+-- a state between two parts of a history
+pub Leads-split : (before front rest : List Entry) (s t : DeskState) → Leads before s (front ++ rest) t
+    → (mid : DeskState) × Leads before s front mid × Leads (before ++ front) mid rest t
+Leads-split before [] rest s t leads = (s, refl, subst (λ (b : List Entry). Leads b s rest t) (sym (append-nil before)) leads)
+Leads-split before (x ∷ front) rest s t leads =
+    let later = Leads-split (before ++ x ∷ []) front rest leads.0 t leads.2 in
+    (later.0, (leads.0, leads.1, later.1), subst (λ (b : List Entry). Leads b later.0 rest t) (append_assoc before (x ∷ []) front) later.2)
+
+-- where an entry stands, and that it was entered
+abbrev pub StandsIn : List Entry → List Entry → Entry → Type 0
+StandsIn before h e = (e.answer.place ≤ length before + length h) × (is_entered e.answer.reply ≡ true)
+
+find-stands_at : (p : Entry → Bool) (before : List Entry) (s t : DeskState) (x : Entry) (h : List Entry) (kept : Entry) (b : Bool) → p x ≡ b → IsStep before s x t
+    → find p (x ∷ h) ≡ Some kept → (find p h ≡ Some kept → StandsIn (before ++ x ∷ []) h kept) → StandsIn before (x ∷ h) kept
+find-stands_at p before s t x h kept true is step found rest =
+    let same : x ≡ kept = cc (rw is at found) in
+    let here : StandsIn before (x ∷ h) x = (omega (arith, step.place), step.entered) in
+    subst (StandsIn before (x ∷ h)) same here
+find-stands_at p before s t x h kept false is step found rest =
+    let later = rest (rw is at found) in
+    (omega (arith, later.0, length-append before (x ∷ [])), later.1)
+
+-- an entry that is found in a legal history stands in it
+pub find-stands : (p : Entry → Bool) (before h : List Entry) (s t : DeskState) (kept : Entry) → Leads before s h t → find p h ≡ Some kept → StandsIn before h kept
+find-stands p before [] s t kept leads found = absurd cc
+find-stands p before (x ∷ h) s t kept leads found =
+    find-stands_at p before s leads.0 x h kept (p x) refl leads.1 found (λ later. find-stands p (before ++ x ∷ []) h leads.0 t kept leads.2 later)
+
+-- a repeat of an entered entry is entered
+repeat-entered_at : (kept e : Entry) (b : Bool) → is_entered e.answer.reply ≡ b → IsRepeat kept e → is_entered kept.answer.reply ≡ true → b ≡ true
+repeat-entered_at kept e true is repeat entered = refl
+repeat-entered_at kept e false is repeat entered =
+    let differ : e.request.op ≡ kept.request.op → ⊥ = λ same. cc (ap is_entered (repeat.same same).0) in
+    absurd (cc (ap is_entered (repeat.other differ).0))
+
+pub repeat-entered : (kept e : Entry) → IsRepeat kept e → is_entered kept.answer.reply ≡ true → is_entered e.answer.reply ≡ true
+repeat-entered kept e repeat entered = repeat-entered_at kept e (is_entered e.answer.reply) refl repeat entered
+
+-- a step keeps the data sets in one stack
+step-packed_at : (before : List Entry) (s t : DeskState) (e : Entry) (o : Option Entry) → MatchOption o (IsFresh s e t) (λ kept. IsRepeat kept e × (t ≡ s)) → IsPacked s → IsPacked t
+step-packed_at before s t e None fresh packed = rule-packed s e.request.op e.answer.reply t fresh.rule packed
+step-packed_at before s t e (Some kept) repeat packed = subst IsPacked (sym repeat.1) packed
+
+pub Leads-packed : (before h : List Entry) (s t : DeskState) → Leads before s h t → IsPacked s → IsPacked t
+Leads-packed before [] s t leads packed = subst IsPacked (sym leads) packed
+Leads-packed before (e ∷ h) s t leads packed =
+    Leads-packed (before ++ e ∷ []) h leads.0 t leads.2 (step-packed_at before s leads.0 e (kept_for e.request.job e.request.number before) leads.1.answer packed)
+
+pub Reaches-packed : (h : List Entry) (s : DeskState) → Reaches h s → IsPacked s
+Reaches-packed h s reaches = Leads-packed [] h start_state s reaches refl

@@ -1,0 +1,100 @@
+-- What holds of each legal history.
+use Rattle.std.proofs.Common.{◌≡◌, ◌≤◌, ◌<◌, ℕ, zero, suc, ◌+◌, Bool, true, false, List, [], ◌∷◌, ◌++◌, length, Option, None, Some, inl, inr, codes, refl, sym, ap, ◌∙◌, subst, arith}
+use Rattle.std.specs.Prelude.{find, MatchOption, MatchBool, ◌⊎◌}
+use Rattle.std.specs.List.{AllByRecursion}
+use Rattle.sms_construct.specs.declared.data_set.DataSet.{DataSet}
+use Rattle.sms_construct.specs.declared.entry.Entry.{Entry}
+use Rattle.sms_construct.specs.declared.extent.Extent.{Extent}
+use Rattle.sms_construct.specs.declared.fault.Fault.TheVariants.{NotBuilt}
+use Rattle.sms_construct.specs.declared.reply.Reply.{Reply}
+use Rattle.sms_construct.specs.declared.reply.Reply.TheVariants.{Granted, NoConfig, NameInUse, NoVolume, Deck}
+use Rattle.sms_construct.specs.declared.request.Alloc.{Alloc}
+use Rattle.sms_construct.specs.declared.request.Op.{Op}
+use Rattle.sms_construct.specs.declared.request.Op.TheVariants.{Alloc as AllocOp, Activate}
+use Rattle.desk_history.specs.Configuration.{Configuration}
+use Rattle.desk_history.specs.State.{DeskState, start_state, extents_of, is_catalogued}
+use Rattle.desk_history.specs.Refusal.{Refuses}
+use Rattle.desk_history.specs.Activation.{Activates, RefusesDeck}
+use Rattle.desk_history.specs.Allocation.{Allocates, FindsNoVolume, IsLawfulGrant}
+use Rattle.desk_history.specs.Step.{is_of, kept_for, IsStep, IsFresh, IsRepeat, Rule}
+use Rattle.desk_history.specs.History.{Leads, Reaches, IsLegal}
+use Rattle.desk_history.specs.Grants.{GrantsLawfully}
+use Rattle.desk_history.specs.Stack.{IsStack, IsStacked, IsPacked}
+use Rattle.desk_history.specs.Tracks.{AreApart, NoTrackTwice}
+use Rattle.desk_history.proofs.HistoryLemmas.{Leads-split, Reaches-packed, find-stands}
+
+-- an extent below a stack is apart from all of it
+below-apart : (volser : List ℕ) (e : Extent) (track : ℕ) (es : List Extent) (mark : ℕ) → IsStack volser track es mark → e.start + e.length ≤ track → AllByRecursion (AreApart e) es
+below-apart volser e track [] mark stack below = tt
+below-apart volser e track (x ∷ es) mark stack below =
+    let start : x.start ≡ track = stack.1 in
+    (inr (inl (omega arith)), below-apart volser e (track + x.length) es mark stack.2 (omega arith))
+
+stack-apart : (volser : List ℕ) (track : ℕ) (es : List Extent) (mark : ℕ) → IsStack volser track es mark → NoTrackTwice es
+stack-apart volser track [] mark stack = tt
+stack-apart volser track (e ∷ es) mark stack =
+    let start : e.start ≡ track = stack.1 in
+    (below-apart volser e (track + e.length) es mark stack.2 (omega arith), stack-apart volser (track + e.length) es mark stack.2)
+
+packed-apart : (sets : List DataSet) (active : Option Configuration) → MatchOption active (sets ≡ []) (λ config. IsStacked config sets) → NoTrackTwice (extents_of sets)
+packed-apart sets None empty = rw empty tt
+packed-apart sets (Some config) stacked = stack-apart stacked.volume.volser 0 (extents_of sets) stacked.mark stacked.stack
+
+pub tracks-once : (front : List Entry) (s : DeskState) → Reaches front s → NoTrackTwice (extents_of s.sets)
+tracks-once front s reaches = packed-apart s.sets s.active (Reaches-packed front s reaches)
+
+-- the step of an entry inside a history
+pub step-inside : (front rest : List Entry) (e : Entry) → IsLegal (front ++ e ∷ rest) → (s : DeskState) × (t : DeskState) × Reaches front s × IsStep front s e t
+step-inside front rest e legal =
+    let parts = Leads-split [] front (e ∷ rest) start_state legal.0 legal.1 in
+    (parts.0, parts.2.0, parts.1, parts.2.1)
+
+pub kept-repeat : (front rest : List Entry) (e kept : Entry) → IsLegal (front ++ e ∷ rest) → kept_for e.request.job e.request.number front ≡ Some kept → IsRepeat kept e
+kept-repeat front rest e kept legal found =
+    let parts = step-inside front rest e legal in
+    let answer = rw found at parts.3.answer in answer.0
+
+-- a grant comes by the rule of ALLOC
+granted_at : (s : DeskState) (config : Configuration) (alloc : Alloc) (set : DataSet) (after : DeskState) (used : Bool)
+    → MatchBool used (Refuses s NameInUse (Granted set) after) (FindsNoVolume s config alloc (Granted set) after ⊎ Allocates s config alloc (Granted set) after)
+    → IsLawfulGrant s config alloc set
+granted_at s config alloc set after true refuses = absurd (cc refuses.reply_is)
+granted_at s config alloc set after false rule =
+    elim rule [
+      inl none ↦ absurd (cc none.refuses.reply_is)
+      | inr allocates ↦ let same : allocates.set ≡ set = cc allocates.reply_is in subst (IsLawfulGrant s config alloc) same allocates.lawful
+    ]
+
+granted-alloc : (s : DeskState) (alloc : Alloc) (set : DataSet) (after : DeskState) (active : Option Configuration) → s.active ≡ active
+    → MatchOption active (Refuses s NoConfig (Granted set) after)
+      (λ config. MatchBool (is_catalogued alloc.dsn s.sets) (Refuses s NameInUse (Granted set) after) (FindsNoVolume s config alloc (Granted set) after ⊎ Allocates s config alloc (Granted set) after))
+    → (config : Configuration) × (s.active ≡ Some config) × IsLawfulGrant s config alloc set
+granted-alloc s alloc set after None is refuses = absurd (cc refuses.reply_is)
+granted-alloc s alloc set after (Some config) is rule = (config, is, granted_at s config alloc set after (is_catalogued alloc.dsn s.sets) rule)
+
+activate-grants-none : (s : DeskState) (deck : List ℕ) (set : DataSet) (after : DeskState) (active : Option Configuration)
+    → MatchOption active (RefusesDeck s deck (Granted set) after ⊎ Activates s deck (Granted set) after) (λ _. Refuses s (Deck (NotBuilt (codes "active"))) (Granted set) after) → ⊥
+activate-grants-none s deck set after (Some config) refuses = cc refuses.reply_is
+activate-grants-none s deck set after None rule = elim rule [ inl refused ↦ cc refused.refuses.reply_is | inr activates ↦ cc activates.reply_is ]
+
+granted-rule : (front : List Entry) (s : DeskState) (op : Op) (set : DataSet) (after : DeskState) → Reaches front s → Rule s op (Granted set) after → GrantsLawfully front op set
+granted-rule front s (AllocOp alloc) set after reaches rule =
+    let found = granted-alloc s alloc set after s.active refl rule in
+    record { alloc = alloc; state = s; config = found.0; op_is = refl; reaches = reaches; active = found.1; lawful = found.2 }
+granted-rule front s (Activate deck) set after reaches rule = absurd (activate-grants-none s deck set after s.active rule)
+
+granted-step : (front : List Entry) (s t : DeskState) (e : Entry) (set : DataSet) (o : Option Entry) → kept_for e.request.job e.request.number front ≡ o → Reaches front s
+    → e.answer.place ≡ length front + 1 → MatchOption o (IsFresh s e t) (λ kept. IsRepeat kept e × (t ≡ s)) → e.answer.reply ≡ Granted set → e.answer.first ≡ e.answer.place
+    → GrantsLawfully front e.request.op set
+granted-step front s t e set None is reaches place fresh granted first =
+    granted-rule front s e.request.op set t reaches (rw granted at fresh.rule)
+granted-step front s t e set (Some kept) is reaches place repeat granted first =
+    let stands = find-stands (is_of e.request.job e.request.number) [] front start_state s kept reaches is in
+    let differ : e.request.op ≡ kept.request.op → ⊥ = λ same. omega (arith, (repeat.0.same same).1, stands.0) in
+    absurd (cc (granted, (repeat.0.other differ).0))
+
+pub granted-lawfully : (front rest : List Entry) (e : Entry) (set : DataSet) → IsLegal (front ++ e ∷ rest) → e.answer.reply ≡ Granted set → e.answer.first ≡ e.answer.place
+    → GrantsLawfully front e.request.op set
+granted-lawfully front rest e set legal granted first =
+    let parts = step-inside front rest e legal in
+    granted-step front parts.0 parts.1 e set (kept_for e.request.job e.request.number front) refl parts.2 parts.3.place parts.3.answer granted first

@@ -1,0 +1,6 @@
+pub mod StackLemmas
+pub mod GrantLemmas
+pub mod PackedLemmas
+pub mod HistoryLemmas
+pub mod LawLemmas
+pub mod FormRules

@@ -1,0 +1,17 @@
+pub mod Configuration
+pub mod State
+pub mod Gaps
+pub mod GapRule
+pub mod DeckForm
+pub mod Refusal
+pub mod Activation
+pub mod Allocation
+pub mod Step
+pub mod History
+pub mod Tracks
+pub mod Stack
+pub mod Grants
+pub use Rattle.desk_common.specs.Words
+pub use Rattle.dsn_mask.specs.Name
+pub use Rattle.sms_construct.specs.Path
+pub use Rattle.sms_construct.specs.Quantities

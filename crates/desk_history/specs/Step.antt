@@ -1,0 +1,44 @@
+-- One event of the desk: what an entry may be after the entries before it, and what it does.
+use Rattle.std.specs.Prelude.{ℕ, Bool, true, false, ◌≡◌, ◌+◌, ◌==◌, ◌&&◌, List, Option, length, bytes_eq, find, MatchOption}
+use Rattle.sms_construct.specs.declared.entry.Entry.{Entry}
+use Rattle.sms_construct.specs.declared.reply.Reply.{Reply}
+use Rattle.sms_construct.specs.declared.reply.Reply.TheVariants.{Reused, Memory}
+use Rattle.sms_construct.specs.declared.request.Op.{Op}
+use Rattle.sms_construct.specs.declared.request.Op.TheVariants.{Alloc, Activate}
+use Rattle.desk_history.specs.State.{DeskState}
+use Rattle.desk_history.specs.Allocation.{AllocRule}
+use Rattle.desk_history.specs.Activation.{ActivateRule}
+
+-- the reply to a fresh request of this op, and the state after it
+abbrev pub Rule : DeskState → Op → Reply → DeskState → Type 0
+Rule s (Alloc alloc) reply after = AllocRule s alloc reply after
+Rule s (Activate deck) reply after = ActivateRule s deck reply after
+
+-- the entry's request has this job and number
+abbrev pub is_of : List ℕ → ℕ → Entry → Bool
+is_of job number e = bytes_eq e.request.job job && (e.request.number == number)
+
+-- the entry whose reply is kept for a job's number, if any: the first of that job and number
+abbrev pub kept_for : List ℕ → ℕ → List Entry → Option Entry
+kept_for job number before = find (is_of job number) before
+
+-- a reply that comes with an entry: any but want of memory
+abbrev pub is_entered : Reply → Bool
+is_entered Memory = false
+is_entered reply = true
+
+-- the number is new: the reply is by the rule of its op
+pub record IsFresh (s : DeskState) (e : Entry) (after : DeskState) : Type 0 where
+  pub first : e.answer.first ≡ e.answer.place
+  pub rule : Rule s e.request.op e.answer.reply after
+
+-- the number has a kept reply: an equal op gets it, another op is refused with its place
+pub record IsRepeat (kept e : Entry) : Type 0 where
+  pub same : e.request.op ≡ kept.request.op → (e.answer.reply ≡ kept.answer.reply) × (e.answer.first ≡ kept.answer.place)
+  pub other : (e.request.op ≡ kept.request.op → ⊥) → (e.answer.reply ≡ Reused kept.answer.place) × (e.answer.first ≡ e.answer.place)
+
+-- the entry is lawful after these entries, which left the desk in the state s, and leaves it in the state after
+pub record IsStep (before : List Entry) (s : DeskState) (e : Entry) (after : DeskState) : Type 0 where
+  pub place : e.answer.place ≡ length before + 1
+  pub entered : is_entered e.answer.reply ≡ true
+  pub answer : MatchOption (kept_for e.request.job e.request.number before) (IsFresh s e after) (λ kept. IsRepeat kept e × (after ≡ s))

@@ -1,0 +1,27 @@
+//! What holds of each legal history.
+ghost use Rattle.std.specs.Prelude.{◌≡◌, ◌++◌, ◌∷◌, List, Some};
+ghost use Rattle.sms_construct.specs.declared.data_set.DataSet.{DataSet};
+ghost use Rattle.sms_construct.specs.declared.entry.Entry.{Entry};
+ghost use Rattle.sms_construct.specs.declared.reply.Reply.TheVariants.{Granted};
+ghost use Rattle.desk_history.specs.State.{DeskState, extents_of};
+ghost use Rattle.desk_history.specs.Step.{IsRepeat, kept_for};
+ghost use Rattle.desk_history.specs.History.{IsLegal, Reaches};
+ghost use Rattle.desk_history.specs.Grants.{GrantsLawfully};
+ghost use Rattle.desk_history.specs.Tracks.{NoTrackTwice};
+
+/// At no time in a legal history does a track belong to two extents.
+pub fn tracks_held_once()
+    ensures { (front : List Entry) (s : DeskState) → Reaches front s → NoTrackTwice (extents_of s.sets) }
+{}
+
+/// In a legal history a number that came before gets its kept reply.
+pub fn kept_replies()
+    ensures { (front rest : List Entry) (entry kept : Entry) →
+        IsLegal (front ++ entry ∷ rest) → kept_for entry.request.job entry.request.number front ≡ Some kept → IsRepeat kept entry }
+{}
+
+/// In a legal history a grant that isn't a repeat is lawful where it stands.
+pub fn lawful_grants()
+    ensures { (front rest : List Entry) (entry : Entry) (set : DataSet) →
+        IsLegal (front ++ entry ∷ rest) → entry.answer.reply ≡ Granted set → entry.answer.first ≡ entry.answer.place → GrantsLawfully front entry.request.op set }
+{}

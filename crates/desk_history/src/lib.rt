@@ -1,0 +1,6 @@
+//! What a lawful history of the desk is, and what holds of each.
+#![tactic(auto)]
+
+mod laws;
+
+pub use laws::{kept_replies, lawful_grants, tracks_held_once};

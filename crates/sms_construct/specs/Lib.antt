@@ -1,0 +1,3 @@
+pub mod Path
+pub mod Quantities
+pub use Rattle.dsn_mask.specs.Name

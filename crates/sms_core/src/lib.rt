@@ -1,0 +1,13 @@
+//! The desk's core: each request that it enters is a lawful step of its history.
+#![tactic(auto)]
+
+mod config;
+mod decision;
+mod deck_form;
+mod deck_keys;
+mod deck_reader;
+mod effect;
+mod routine_form;
+mod running;
+
+pub use config::Config;
