@@ -19,3 +19,5 @@ pub use std_sink::StdSink;
 pub use std_source::StdSource;
 pub use writing::write_all;
 
+#[cfg(test)]
+mod tests;

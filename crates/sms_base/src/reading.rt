@@ -6,7 +6,7 @@ ghost use Rattle.desk_common.specs.Causes.{Rose};
 use crate::source::{ReadEnd, Source};
 use std::alloc::Global;
 
-// how many bytes are asked for at a time
+// How many bytes are asked for at a time
 const PIECE: usize = 16_384;
 
 /// All bytes up to the end, of which there are at most `limit`.
@@ -16,9 +16,12 @@ pub fn read_all<S: Source>(alloc: Global, src: &mut S, limit: usize) -> Result<V
     ensures within { IfOk result (λ read. vec_len read ≤ limit) }
     ensures beside { S.beside_reading src.new ≡ S.beside_reading src.old }
     ensures later { S.read_faults src.old ≤ S.read_faults src.new }
-    ensures failed { IsErrOf result ReadEnd.Failed → Rose (S.read_faults src.old) (S.read_faults src.new) }
-    ensures too_long { IsErrOf result ReadEnd.TooLong → IfSome (S.left src.old) (λ left. limit < length left) }
-    ensures one_more { IsErrOf result ReadEnd.TooLong → (front : List ℕ) × (length front ≡ limit + 1)
+    ensures failed { IsErrOf result ReadEnd.Failed
+        → Rose (S.read_faults src.old) (S.read_faults src.new) }
+    ensures too_long { IsErrOf result ReadEnd.TooLong
+        → IfSome (S.left src.old) (λ left. limit < length left) }
+    ensures one_more { IsErrOf result ReadEnd.TooLong
+        → (front : List ℕ) × (length front ≡ limit + 1)
         × Consumes (S.left src.old) (S.left src.new) front }
     ensures err { OnErr result ((front : List ℕ) × (length front ≤ limit + 1)
         × Consumes (S.left src.old) (S.left src.new) front) }

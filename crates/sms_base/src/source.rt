@@ -5,7 +5,6 @@ ghost use Rattle.std.specs.Io.{ReadsAtMost};
 ghost use Rattle.std.specs.Io.KnownBytes.{ReadConsumes};
 ghost use Rattle.desk_common.specs.Causes.{HasCause};
 
-use std::alloc::{AllocError, AllocFailed};
 use thiserror::Error;
 
 /// A fault of the outside.
