@@ -1,0 +1,44 @@
+//! Where bytes come from.
+ghost use Rattle.std.specs.Prelude.{◌≡◌, List, ℕ, None};
+ghost use Rattle.std.specs.declared.option.Option.{Option};
+ghost use Rattle.std.specs.Io.{ReadsAtMost};
+ghost use Rattle.std.specs.Io.KnownBytes.{ReadConsumes};
+ghost use Rattle.desk_common.specs.Causes.{HasCause};
+
+use thiserror::Error;
+
+/// A fault of the outside.
+#[derive(Clone, Copy, Debug, PartialEq, Eq, Error)]
+#[error("a fault of the outside")]
+pub struct Failed;
+
+/// How a reading ends without all bytes.
+#[derive(Clone, Copy, Debug, PartialEq, Eq, Error)]
+pub enum ReadEnd {
+    #[error("a fault of the source")]
+    Failed,
+    #[error("more bytes came than are allowed")]
+    TooLong,
+    #[error("no memory is left")]
+    NoMemory,
+}
+
+/// Where bytes come from, in order, until they end.
+pub trait Source {
+    /// The bytes that are left to read, where they are told.
+    ghost left: { Self → Option (List ℕ) };
+
+    /// How often a read has failed.
+    ghost read_faults: { Self → ℕ };
+
+    /// What a read never changes, where there is such a thing.
+    ghost beside_reading: { Self → Option (List ℕ) } = { λ _. None };
+
+    /// Reads the next bytes into the front of the buffer, and answers how many. A read of none into
+    /// a buffer that isn't empty is the end of the input.
+    fn read(&mut self, buf: &mut [u8]) -> Result<usize, Failed>
+        ensures bound { ReadsAtMost result buf.new }
+        ensures bytes { ReadConsumes (left self.old) (left self.new) result buf.new }
+        ensures beside { beside_reading self.new ≡ beside_reading self.old }
+        ensures cause { HasCause (read_faults self.old) (read_faults self.new) result };
+}
