@@ -1,0 +1,17 @@
+//! Names, volume serials, data set names and short texts.
+#![tactic(auto)]
+
+mod byte_class;
+mod literal;
+mod name;
+mod name_err;
+mod qualifiers;
+mod short;
+mod text;
+mod volser;
+
+pub use literal::Lit;
+pub use name::Name;
+pub use name_err::NameErr;
+pub use short::Short;
+pub use volser::Volser;
