@@ -1,5 +1,5 @@
 -- Names, volume serials, values and literals, as lists of bytes.
-use Rattle.std.specs.Prelude.{◌≡◌, ◌≤◌, ◌==◌, ◌&&◌, ◌||◌, ℕ, Bool, true, List, Option, None, Some, length, nat_le, slice_index, if◌then◌else◌}
+use Rattle.std.specs.Prelude.{◌≡◌, ◌≤◌, ◌==◌, ◌&&◌, ◌||◌, ℕ, Bool, true, List, Option, None, Some, length, nat_le, not, slice_index, if◌then◌else◌}
 use Rattle.std.specs.List.{AllPass, list_all}
 
 -- 0 to 9
@@ -16,7 +16,7 @@ is_name_byte byte = is_initial byte || is_digit byte
 
 -- a printed byte but the blank and the quote
 abbrev pub is_short_byte : ℕ → Bool
-is_short_byte byte = nat_le 33 byte && (nat_le byte 38 || (nat_le 40 byte && nat_le byte 126))
+is_short_byte byte = nat_le 33 byte && (nat_le byte 126 && not (byte == 39))
 
 -- a printed byte but the quote
 abbrev pub is_literal_byte : ℕ → Bool

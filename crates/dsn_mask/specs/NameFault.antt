@@ -41,3 +41,9 @@ IsFirstNameFault bytes Empty = bytes ≡ []
 IsFirstNameFault bytes TooLong = 44 < length bytes
 IsFirstNameFault bytes (BadQualifier number) = (1 ≤ length bytes) × (length bytes ≤ 44) × IsFirstAmong 0 1 (qualifiers_of bytes) (BadQualifier number)
 IsFirstNameFault bytes (BadByte at) = (1 ≤ length bytes) × (length bytes ≤ 44) × IsFirstAmong 0 1 (qualifiers_of bytes) (BadByte at)
+
+-- the first of all faults of one qualifier
+pub record IsFirstIn (start number : ℕ) (qualifier : List ℕ) (err : NameErr) : Type 0 where
+  pub place : ℕ
+  pub met : QualifierFault start number qualifier place err
+  pub first : (other_place : ℕ) (other : NameErr) → QualifierFault start number qualifier other_place other → Precedes place err other_place other

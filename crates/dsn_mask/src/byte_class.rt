@@ -2,6 +2,7 @@
 ghost use Rattle.std.specs.Prelude.{◌≡◌, true};
 ghost use Rattle.std.specs.List.{AllPass, list_all};
 ghost use Rattle.dsn_mask.specs.Name.{is_digit, is_initial, is_name_byte, is_short_byte, is_literal_byte};
+ghost use Rattle.dsn_mask.specs.DataSetName.{is_qualifier_byte};
 
 pub fn is_digit(byte: u8) -> bool
     ensures { result ≡ is_digit byte }
@@ -55,4 +56,10 @@ pub fn are_literal_bytes(bytes: &[u8]) -> bool
     ensures value { result ≡ list_all is_literal_byte bytes.now }
 {
     bytes.iter().all(|byte| is_literal_byte(*byte))
+}
+
+pub fn is_qualifier_byte(byte: u8) -> bool
+    ensures { result ≡ is_qualifier_byte byte }
+{
+    is_name_byte(byte) || byte == b'-'
 }

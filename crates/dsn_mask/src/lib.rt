@@ -2,14 +2,17 @@
 #![tactic(auto)]
 
 mod byte_class;
+mod dsn;
 mod literal;
 mod name;
 mod name_err;
+mod name_fault;
 mod qualifiers;
 mod short;
 mod text;
 mod volser;
 
+pub use dsn::Dsn;
 pub use literal::Lit;
 pub use name::Name;
 pub use name_err::NameErr;

@@ -8,7 +8,7 @@ use std::marker::Model;
 
 /// A value of at most 44 printed bytes with no blank and no quote; the empty one is the null value.
 pub struct Short {
-    text: Text<44>,
+    pub(crate) text: Text<44>,
 }
 
 impl Model for Short {
