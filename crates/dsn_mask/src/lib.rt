@@ -7,6 +7,7 @@ mod literal;
 mod name;
 mod name_err;
 mod name_fault;
+mod names;
 mod qualifiers;
 mod short;
 mod text;
@@ -16,5 +17,9 @@ pub use dsn::Dsn;
 pub use literal::Lit;
 pub use name::Name;
 pub use name_err::NameErr;
+pub use names::Names;
 pub use short::Short;
 pub use volser::Volser;
+
+#[cfg(test)]
+mod tests;

@@ -1,6 +1,7 @@
 //! Names of one to eight bytes.
 ghost use Rattle.std.specs.Prelude.{◌≡◌, ◌↔◌, MatchOption, IsTrue};
 ghost use Rattle.dsn_mask.specs.Name.{IsName, name_of};
+ghost use Rattle.dsn_mask.specs.Names.{filler};
 
 use crate::byte_class::{are_name_bytes, is_initial};
 use crate::text::Text;
@@ -73,5 +74,14 @@ impl Name {
         ensures form { IsName self.now }
     {
         self.text.bytes()
+    }
+
+    // The name A, which stands in unused places.
+    pub(crate) fn filler() -> Self
+        ensures { result ≡ filler }
+    {
+        Name {
+            text: Text::new(&[b'A']),
+        }
     }
 }
