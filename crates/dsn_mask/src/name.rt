@@ -1,5 +1,5 @@
 //! Names of one to eight bytes.
-ghost use Rattle.std.specs.Prelude.{◌≡◌, ◌↔◌, MatchOption, IsTrue};
+ghost use Rattle.std.specs.Prelude.{◌≡◌, MatchOption};
 ghost use Rattle.dsn_mask.specs.Name.{IsName, name_of};
 ghost use Rattle.dsn_mask.specs.Names.{filler};
 

@@ -1,5 +1,5 @@
 //! Short texts.
-ghost use Rattle.std.specs.Prelude.{◌≡◌, ◌↔◌, MatchOption, IsTrue};
+ghost use Rattle.std.specs.Prelude.{◌≡◌, MatchOption};
 ghost use Rattle.dsn_mask.specs.Name.{IsShort, short_of};
 
 use crate::byte_class::are_short_bytes;

@@ -1,5 +1,5 @@
 //! Bytes in an array of a fixed size.
-ghost use Rattle.std.specs.Prelude.{◌≡◌, ◌≤◌, ◌↔◌, length, IsTrue};
+ghost use Rattle.std.specs.Prelude.{◌≡◌, ◌≤◌, length};
 
 use std::marker::Model;
 

@@ -1,5 +1,5 @@
 //! Volume serials.
-ghost use Rattle.std.specs.Prelude.{◌≡◌, ◌↔◌, MatchOption, IsTrue};
+ghost use Rattle.std.specs.Prelude.{◌≡◌, MatchOption};
 ghost use Rattle.dsn_mask.specs.Name.{IsVolser, volser_of};
 
 use crate::byte_class::are_name_bytes;
