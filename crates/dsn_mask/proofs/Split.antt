@@ -1,0 +1,25 @@
+-- The first qualifier of a text.
+use Rattle.std.proofs.Common.{◌≡◌, ◌≢◌, ◌<◌, ℕ, zero, suc, true, false, List, [], ◌∷◌, length, get_or, take, drop, refl, arith}
+use Rattle.std.specs.Prelude.{◌==◌}
+use Rattle.std.proofs.lemmas.Bool.Decides.{nat_tests}
+use Rattle.dsn_mask.specs.Qualifiers.{qualifiers_of}
+
+differs : (x y : ℕ) → x ≢ y → (x == y) ≡ false
+differs x y ne = grind (arith, nat_tests)
+
+agrees : (x y : ℕ) → x ≡ y → (x == y) ≡ true
+agrees x y e = grind (arith, nat_tests)
+
+pub qualifiers_of-stop : (xs : List ℕ) (n : ℕ) → ((k : ℕ) → k < n → get_or xs k 0 ≢ 46) → n < length xs → get_or xs n 0 ≡ 46
+    → qualifiers_of xs ≡ take n xs ∷ qualifiers_of (drop (suc n) xs)
+qualifiers_of-stop [] n before less found = absurd (omega arith)
+qualifiers_of-stop (x ∷ xs) zero before less found = rw (agrees x 46 found) refl
+qualifiers_of-stop (x ∷ xs) (suc n) before less found =
+    let rest = qualifiers_of-stop xs n (λ k lt. before (suc k) (omega arith)) (omega arith) found in
+    rw (differs x 46 (before 0 (omega arith)), rest) refl
+
+pub qualifiers_of-one : (xs : List ℕ) → ((k : ℕ) → k < length xs → get_or xs k 0 ≢ 46) → qualifiers_of xs ≡ xs ∷ []
+qualifiers_of-one [] before = refl
+qualifiers_of-one (x ∷ xs) before =
+    let rest = qualifiers_of-one xs (λ k lt. before (suc k) (omega arith)) in
+    rw (differs x 46 (before 0 (omega arith)), rest) refl

@@ -1,0 +1,8 @@
+use Rattle.std.proofs.Common.{arith}
+use Rattle.dsn_mask.proofs.Faults.{bad_byte_is}
+use Rattle.dsn_mask.proofs.name_fault.qualifier_fault.Goals as goal
+
+pub returns-else-good-eq8 : goal.returns-else-good-eq8
+returns-else-good-eq8 c =
+    let said = c.good_front-good.ensures in
+    bad_byte_is _ _ _ _ (omega arith) (omega arith) (cc) said.before (said.bad (omega arith) (omega arith))

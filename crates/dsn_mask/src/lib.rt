@@ -1,0 +1,26 @@
+//! Names, volume serials, data set names and short texts.
+#![tactic(auto)]
+
+mod byte_class;
+mod dsn;
+mod literal;
+mod name;
+mod name_err;
+mod name_fault;
+mod names;
+mod qualifiers;
+mod short;
+mod text;
+mod volser;
+
+pub use dsn::Dsn;
+pub use literal::Lit;
+pub use name::Name;
+pub use name_err::NameErr;
+pub use names::Names;
+pub use short::Short;
+pub use text::Text;
+pub use volser::Volser;
+
+#[cfg(test)]
+mod tests;

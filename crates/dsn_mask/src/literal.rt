@@ -1,0 +1,77 @@
+//! Literals.
+ghost use Rattle.std.specs.Prelude.{◌≡◌, MatchOption};
+ghost use Rattle.dsn_mask.specs.Name.{IsLiteral, literal_of};
+
+use crate::byte_class::are_literal_bytes;
+use crate::text::Text;
+use std::marker::Model;
+
+/// A literal: at most 110 printed bytes with no quote.
+pub struct Lit {
+    text: Text<110>,
+}
+
+impl Model for Lit {
+    ghost use Rattle.std.specs.Prelude.{List, ℕ};
+    ghost use Rattle.dsn_mask.specs.Name.{IsLiteral};
+
+    ghost Value = { List ℕ };
+
+    ghost view = { λ s. s.text };
+
+    ghost invariant = { λ s. IsLiteral s.text };
+
+    ghost inverse = { λ xs. record { text = xs } };
+}
+
+impl Clone for Lit {
+    fn clone(&self) -> Result<Self, std::alloc::AllocError> {
+        Ok(*self)
+    }
+}
+
+impl Copy for Lit {}
+
+impl PartialEq for Lit {
+    ghost use Rattle.std.specs.Prelude.{nat_eq};
+    ghost use Rattle.std.specs.Cmp.Lexicographic.{pointwise};
+    ghost use Rattle.std.specs.Cmp.Rules.{comparing};
+    ghost use Rattle.std.proofs.Common.{rules};
+
+    ghost eq = { pointwise nat_eq };
+
+    ghost laws = { Prim.search (comparing, rules) };
+
+    fn eq(&self, other: &Lit) -> bool {
+        self.bytes() == other.bytes()
+    }
+}
+
+impl Eq for Lit {
+    ghost use Rattle.std.specs.Cmp.Rules.{comparing};
+    ghost use Rattle.std.proofs.Common.{rules};
+
+    ghost laws = { Prim.search (comparing, rules) };
+}
+
+impl Lit {
+    /// None where the bytes are out of form.
+    pub fn new(bytes: &[u8]) -> Option<Self>
+        ensures value { result ≡ literal_of bytes.now }
+        ensures exact { MatchOption result (IsLiteral bytes.now → ⊥) (λ made. IsLiteral bytes.now × (made ≡ bytes.now)) }
+    {
+        if bytes.len() > 110 || !are_literal_bytes(bytes) {
+            return None;
+        }
+        Some(Lit {
+            text: Text::new(bytes),
+        })
+    }
+
+    pub fn bytes(&self) -> &[u8]
+        ensures bytes { result.now ≡ self.now }
+        ensures form { IsLiteral self.now }
+    {
+        self.text.bytes()
+    }
+}

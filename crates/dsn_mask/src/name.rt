@@ -1,0 +1,87 @@
+//! Names of one to eight bytes.
+ghost use Rattle.std.specs.Prelude.{◌≡◌, MatchOption};
+ghost use Rattle.dsn_mask.specs.Name.{IsName, name_of};
+ghost use Rattle.dsn_mask.specs.Names.{filler};
+
+use crate::byte_class::{are_name_bytes, is_initial};
+use crate::text::Text;
+use std::marker::Model;
+
+/// A name: one to eight letters, digits, `#`, `@` and `$`, the first no digit.
+pub struct Name {
+    text: Text<8>,
+}
+
+impl Model for Name {
+    ghost use Rattle.std.specs.Prelude.{List, ℕ};
+    ghost use Rattle.dsn_mask.specs.Name.{IsName};
+
+    ghost Value = { List ℕ };
+
+    ghost view = { λ s. s.text };
+
+    ghost invariant = { λ s. IsName s.text };
+
+    ghost inverse = { λ xs. record { text = xs } };
+}
+
+impl Clone for Name {
+    fn clone(&self) -> Result<Self, std::alloc::AllocError> {
+        Ok(*self)
+    }
+}
+
+impl Copy for Name {}
+
+impl PartialEq for Name {
+    ghost use Rattle.std.specs.Prelude.{nat_eq};
+    ghost use Rattle.std.specs.Cmp.Lexicographic.{pointwise};
+    ghost use Rattle.std.specs.Cmp.Rules.{comparing};
+    ghost use Rattle.std.proofs.Common.{rules};
+
+    ghost eq = { pointwise nat_eq };
+
+    ghost laws = { Prim.search (comparing, rules) };
+
+    fn eq(&self, other: &Name) -> bool {
+        self.bytes() == other.bytes()
+    }
+}
+
+impl Eq for Name {
+    ghost use Rattle.std.specs.Cmp.Rules.{comparing};
+    ghost use Rattle.std.proofs.Common.{rules};
+
+    ghost laws = { Prim.search (comparing, rules) };
+}
+
+impl Name {
+    /// None where the bytes are out of form.
+    pub fn new(bytes: &[u8]) -> Option<Self>
+        ensures value { result ≡ name_of bytes.now }
+        ensures exact { MatchOption result (IsName bytes.now → ⊥) (λ made. IsName bytes.now × (made ≡ bytes.now)) }
+    {
+        if bytes.is_empty() || bytes.len() > 8 || !is_initial(bytes[0]) || !are_name_bytes(bytes) {
+            return None;
+        }
+        Some(Name {
+            text: Text::new(bytes),
+        })
+    }
+
+    pub fn bytes(&self) -> &[u8]
+        ensures bytes { result.now ≡ self.now }
+        ensures form { IsName self.now }
+    {
+        self.text.bytes()
+    }
+
+    // The name A, which stands in unused places.
+    pub(crate) fn filler() -> Self
+        ensures { result ≡ filler }
+    {
+        Name {
+            text: Text::new(&[b'A']),
+        }
+    }
+}

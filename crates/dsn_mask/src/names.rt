@@ -1,0 +1,120 @@
+//! Lists of names.
+ghost use Rattle.std.specs.Prelude.{◌≡◌, ◌≤◌, ◌<◌, ◌↔◌, List, ℕ, [], ◌∷◌, ◌++◌, length, IsTrue, Contains};
+ghost use Rattle.dsn_mask.specs.Names.{AreFewAndOnce};
+
+use crate::Name;
+use std::marker::Model;
+
+/// At most 15 names, none twice, in the order in which they were added.
+pub struct Names {
+    items: [Name; 15],
+    count: usize,
+}
+
+impl Model for Names {
+    ghost use Rattle.std.specs.Prelude.{List, ℕ, length, take, ◌≡◌, ◌≤◌};
+    ghost use Rattle.dsn_mask.specs.Names.{AreFewAndOnce, filled};
+
+    ghost Value = { List (List ℕ) };
+
+    ghost view = { λ s. take s.count s.items };
+
+    ghost invariant = { λ s. (s.count ≡ length (take s.count s.items)) × (s.items ≡ filled (take s.count s.items)) × AreFewAndOnce (take s.count s.items) };
+
+    ghost inverse = { λ xs. record { items = filled xs; count = length xs } };
+
+    ghost use Rattle.dsn_mask.specs.NamesFields.{fields_back};
+
+    ghost inverse_ok = { λ a h. fields_back a h.0 h.1 };
+}
+
+impl Clone for Names {
+    fn clone(&self) -> Result<Self, std::alloc::AllocError> {
+        Ok(*self)
+    }
+}
+
+impl Copy for Names {}
+
+impl PartialEq for Names {
+    ghost use Rattle.std.specs.Prelude.{nat_eq};
+    ghost use Rattle.std.specs.Cmp.Lexicographic.{pointwise};
+    ghost use Rattle.std.specs.Cmp.Rules.{comparing};
+    ghost use Rattle.std.proofs.Common.{rules};
+
+    ghost eq = { pointwise (pointwise nat_eq) };
+
+    ghost laws = { Prim.search (comparing, rules) };
+
+    fn eq(&self, other: &Names) -> bool {
+        self.as_slice() == other.as_slice()
+    }
+}
+
+impl Eq for Names {
+    ghost use Rattle.std.specs.Cmp.Rules.{comparing};
+    ghost use Rattle.std.proofs.Common.{rules};
+
+    ghost laws = { Prim.search (comparing, rules) };
+}
+
+impl Names {
+    /// No names.
+    pub fn new() -> Self
+        ensures { result ≡ [] }
+    {
+        Names {
+            items: [Name::filler(); 15],
+            count: 0,
+        }
+    }
+
+    pub fn len(&self) -> usize
+        ensures { result ≡ length self.now }
+    {
+        self.count
+    }
+
+    pub fn is_empty(&self) -> bool
+        ensures { IsTrue result ↔ (self.now ≡ []) }
+    {
+        self.count == 0
+    }
+
+    /// No more names can be added.
+    pub fn is_full(&self) -> bool
+        ensures { IsTrue result ↔ (length self.now ≡ 15) }
+    {
+        self.count == 15
+    }
+
+    pub fn as_slice(&self) -> &[Name]
+        ensures names { result.now ≡ self.now }
+        ensures form { AreFewAndOnce self.now }
+    {
+        &self.items[..self.count]
+    }
+
+    pub fn contains(&self, name: &Name) -> bool
+        ensures { IsTrue result ↔ Contains self.now name.now }
+    {
+        self.as_slice().iter().any(|held| held == name)
+    }
+
+    /// Adds a name behind the others.
+    pub fn push(&mut self, name: Name)
+        requires room { length self.old < 15 }
+        requires unknown { Contains self.old name → ⊥ }
+        ensures { self.new ≡ self.old ++ name ∷ [] }
+    {
+        self.items[self.count] = name;
+        self.count += 1;
+    }
+
+    /// The same names in the same order.
+    pub fn equals(&self, other: &Names) -> bool
+        ensures { IsTrue result ↔ (self.now ≡ other.now) }
+    {
+        self == other
+    }
+}

@@ -1,0 +1,55 @@
+//! Bytes in an array of a fixed size.
+ghost use Rattle.std.specs.Prelude.{◌≡◌, ◌≤◌, length};
+
+use std::marker::Model;
+
+/// At most `N` bytes.
+pub struct Text<const N: usize> {
+    buffer: [u8; N],
+    count: usize,
+}
+
+impl<const N: usize> Model for Text<N> {
+    ghost use Rattle.std.specs.Prelude.{List, ℕ, length, take, ◌≡◌, ◌≤◌};
+    ghost use Rattle.dsn_mask.specs.Text.{padded};
+
+    ghost Value = { List ℕ };
+
+    ghost view = { λ s. take s.count s.buffer };
+
+    ghost invariant = { λ s. (s.count ≡ length (take s.count s.buffer)) × (s.buffer ≡ padded N (take s.count s.buffer)) };
+
+    ghost inverse = { λ xs. record { buffer = padded N xs; count = length xs } };
+
+    ghost use Rattle.dsn_mask.specs.TextFields.{fields_back};
+
+    ghost inverse_ok = { λ a h. fields_back N a h.0 h.1 };
+}
+
+impl<const N: usize> Clone for Text<N> {
+    fn clone(&self) -> Result<Self, std::alloc::AllocError> {
+        Ok(*self)
+    }
+}
+
+impl<const N: usize> Copy for Text<N> {}
+
+impl<const N: usize> Text<N> {
+    pub fn new(bytes: &[u8]) -> Self
+        requires { length bytes.now ≤ N }
+        ensures { result ≡ bytes.now }
+    {
+        let mut buffer = [0; N];
+        buffer[..bytes.len()].copy_from_slice(bytes);
+        Text {
+            buffer,
+            count: bytes.len(),
+        }
+    }
+
+    pub fn bytes(&self) -> &[u8]
+        ensures { result.now ≡ self.now }
+    {
+        &self.buffer[..self.count]
+    }
+}

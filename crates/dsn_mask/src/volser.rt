@@ -1,0 +1,77 @@
+//! Volume serials.
+ghost use Rattle.std.specs.Prelude.{◌≡◌, MatchOption};
+ghost use Rattle.dsn_mask.specs.Name.{IsVolser, volser_of};
+
+use crate::byte_class::are_name_bytes;
+use crate::text::Text;
+use std::marker::Model;
+
+/// A volume serial: one to six letters, digits, `#`, `@` and `$`.
+pub struct Volser {
+    text: Text<6>,
+}
+
+impl Model for Volser {
+    ghost use Rattle.std.specs.Prelude.{List, ℕ};
+    ghost use Rattle.dsn_mask.specs.Name.{IsVolser};
+
+    ghost Value = { List ℕ };
+
+    ghost view = { λ s. s.text };
+
+    ghost invariant = { λ s. IsVolser s.text };
+
+    ghost inverse = { λ xs. record { text = xs } };
+}
+
+impl Clone for Volser {
+    fn clone(&self) -> Result<Self, std::alloc::AllocError> {
+        Ok(*self)
+    }
+}
+
+impl Copy for Volser {}
+
+impl PartialEq for Volser {
+    ghost use Rattle.std.specs.Prelude.{nat_eq};
+    ghost use Rattle.std.specs.Cmp.Lexicographic.{pointwise};
+    ghost use Rattle.std.specs.Cmp.Rules.{comparing};
+    ghost use Rattle.std.proofs.Common.{rules};
+
+    ghost eq = { pointwise nat_eq };
+
+    ghost laws = { Prim.search (comparing, rules) };
+
+    fn eq(&self, other: &Volser) -> bool {
+        self.bytes() == other.bytes()
+    }
+}
+
+impl Eq for Volser {
+    ghost use Rattle.std.specs.Cmp.Rules.{comparing};
+    ghost use Rattle.std.proofs.Common.{rules};
+
+    ghost laws = { Prim.search (comparing, rules) };
+}
+
+impl Volser {
+    /// None where the bytes are out of form.
+    pub fn new(bytes: &[u8]) -> Option<Self>
+        ensures value { result ≡ volser_of bytes.now }
+        ensures exact { MatchOption result (IsVolser bytes.now → ⊥) (λ made. IsVolser bytes.now × (made ≡ bytes.now)) }
+    {
+        if bytes.is_empty() || bytes.len() > 6 || !are_name_bytes(bytes) {
+            return None;
+        }
+        Some(Volser {
+            text: Text::new(bytes),
+        })
+    }
+
+    pub fn bytes(&self) -> &[u8]
+        ensures bytes { result.now ≡ self.now }
+        ensures form { IsVolser self.now }
+    {
+        self.text.bytes()
+    }
+}
