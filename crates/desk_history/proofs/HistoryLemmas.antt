@@ -1,10 +1,20 @@
 -- What one more entry does to a history.
-use Rattle.std.proofs.Common.{◌≡◌, ◌≤◌, ◌<◌, ℕ, ◌+◌, Bool, true, false, List, [], ◌∷◌, ◌++◌, length, Option, None, Some, refl, sym, ap, ◌∙◌, subst, arith, append_assoc, append-nil, length-append}
-use Rattle.std.specs.Prelude.{find, MatchOption}
+use Rattle.std.proofs.Common.{◌≡◌, ◌≤◌, ◌<◌, ℕ, ◌+◌, Bool, true, false, List, [], ◌∷◌, ◌++◌, length, Option, None, Some, inl, inr, codes, refl, sym, ap, ◌∙◌, subst, arith, append_assoc, append-nil, length-append}
+use Rattle.std.specs.Prelude.{find, MatchOption, MatchBool, ◌⊎◌}
 use Rattle.sms_construct.specs.declared.entry.Entry.{Entry}
-use Rattle.desk_history.specs.State.{DeskState, start_state}
+use Rattle.sms_construct.specs.declared.fault.Fault.TheVariants.{NotBuilt}
+use Rattle.sms_construct.specs.declared.reply.Reply.{Reply}
+use Rattle.sms_construct.specs.declared.reply.Reply.TheVariants.{NoConfig, NameInUse, NoVolume, Deck}
+use Rattle.sms_construct.specs.declared.request.Alloc.{Alloc}
+use Rattle.sms_construct.specs.declared.request.Op.{Op}
+use Rattle.sms_construct.specs.declared.request.Op.TheVariants.{Alloc as AllocOp, Activate}
+use Rattle.desk_history.specs.Configuration.{Configuration}
+use Rattle.desk_history.specs.State.{DeskState, start_state, is_catalogued}
+use Rattle.desk_history.specs.Refusal.{Refuses}
+use Rattle.desk_history.specs.Activation.{Activates, RefusesDeck}
+use Rattle.desk_history.specs.Allocation.{Allocates, FindsNoVolume}
 use Rattle.desk_history.specs.Stack.{IsPacked}
-use Rattle.desk_history.specs.Step.{is_entered, is_of, kept_for, IsStep, IsFresh, IsRepeat}
+use Rattle.desk_history.specs.Step.{is_entered, is_of, kept_for, IsStep, IsFresh, IsRepeat, Rule}
 use Rattle.desk_history.specs.History.{Leads, Reaches, IsLegal}
 use Rattle.desk_history.proofs.PackedLemmas.{rule-packed}
 
@@ -66,3 +76,58 @@ Leads-packed before (e ∷ h) s t leads packed =
 
 pub Reaches-packed : (h : List Entry) (s : DeskState) → Reaches h s → IsPacked s
 Reaches-packed h s reaches = Leads-packed [] h start_state s reaches refl
+
+-- one more step of a history
+pub Reaches-push : (h : List Entry) (s t : DeskState) (e : Entry) → Reaches h s → IsStep h s e t → Reaches (h ++ e ∷ []) t
+Reaches-push h s t e reaches step = Leads-push [] h start_state s t e reaches step
+
+-- the entry leaves the data sets in one stack
+pub step-packed : (h : List Entry) (s t : DeskState) (e : Entry) → Reaches h s → IsStep h s e t → IsPacked t
+step-packed h s t e reaches step = Reaches-packed (h ++ e ∷ []) t (Reaches-push h s t e reaches step)
+
+-- an entry activates at most once
+refuse-activations : (s : DeskState) (refusal reply : Reply) (after : DeskState) → Refuses s refusal reply after → after.activations ≤ s.activations + 1
+refuse-activations s refusal reply after refuses = omega (arith, ap (λ (x : DeskState). x.activations) refuses.after_is)
+
+alloc-activations_at : (s : DeskState) (config : Configuration) (alloc : Alloc) (reply : Reply) (after : DeskState) (used : Bool)
+    → MatchBool used (Refuses s NameInUse reply after) (FindsNoVolume s config alloc reply after ⊎ Allocates s config alloc reply after) → after.activations ≤ s.activations + 1
+alloc-activations_at s config alloc reply after true refuses = refuse-activations s NameInUse reply after refuses
+alloc-activations_at s config alloc reply after false rule =
+    elim rule [
+      inl none ↦ refuse-activations s NoVolume reply after none.refuses
+      | inr allocates ↦ omega (arith, ap (λ (x : DeskState). x.activations) allocates.after_is)
+    ]
+
+alloc-activations : (s : DeskState) (alloc : Alloc) (reply : Reply) (after : DeskState) (active : Option Configuration)
+    → MatchOption active (Refuses s NoConfig reply after)
+      (λ config. MatchBool (is_catalogued alloc.dsn s.sets) (Refuses s NameInUse reply after) (FindsNoVolume s config alloc reply after ⊎ Allocates s config alloc reply after))
+    → after.activations ≤ s.activations + 1
+alloc-activations s alloc reply after None refuses = refuse-activations s NoConfig reply after refuses
+alloc-activations s alloc reply after (Some config) rule = alloc-activations_at s config alloc reply after (is_catalogued alloc.dsn s.sets) rule
+
+deck-activations : (s : DeskState) (deck : List ℕ) (reply : Reply) (after : DeskState) (active : Option Configuration)
+    → MatchOption active (RefusesDeck s deck reply after ⊎ Activates s deck reply after) (λ _. Refuses s (Deck (NotBuilt (codes "active"))) reply after)
+    → after.activations ≤ s.activations + 1
+deck-activations s deck reply after (Some config) refuses = refuse-activations s _ reply after refuses
+deck-activations s deck reply after None rule =
+    elim rule [
+      inl refused ↦ refuse-activations s (Deck refused.fault) reply after refused.refuses
+      | inr activates ↦ omega (arith, ap (λ (x : DeskState). x.activations) activates.after_is)
+    ]
+
+rule-activations : (s : DeskState) (op : Op) (reply : Reply) (after : DeskState) → Rule s op reply after → after.activations ≤ s.activations + 1
+rule-activations s (AllocOp alloc) reply after rule = alloc-activations s alloc reply after s.active rule
+rule-activations s (Activate deck) reply after rule = deck-activations s deck reply after s.active rule
+
+step-activations_at : (s t : DeskState) (e : Entry) (o : Option Entry) → MatchOption o (IsFresh s e t) (λ kept. IsRepeat kept e × (t ≡ s)) → t.activations ≤ s.activations + 1
+step-activations_at s t e None fresh = rule-activations s e.request.op e.answer.reply t fresh.rule
+step-activations_at s t e (Some kept) repeat = omega (arith, ap (λ (x : DeskState). x.activations) repeat.1)
+
+Leads-activations : (before h : List Entry) (s t : DeskState) → Leads before s h t → t.activations ≤ s.activations + length h
+Leads-activations before [] s t leads = omega (arith, ap (λ (x : DeskState). x.activations) leads)
+Leads-activations before (e ∷ h) s t leads =
+    omega (arith, step-activations_at s leads.0 e (kept_for e.request.job e.request.number before) leads.1.answer, Leads-activations (before ++ e ∷ []) h leads.0 t leads.2)
+
+-- there were no more activations than entries
+pub Reaches-activations : (h : List Entry) (s : DeskState) → Reaches h s → s.activations ≤ length h
+Reaches-activations h s reaches = omega (arith, Leads-activations [] h start_state s reaches)

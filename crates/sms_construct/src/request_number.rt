@@ -5,6 +5,7 @@ ghost use Rattle.sms_construct.specs.Quantities.{request_number_of, IsRequestNum
 use std::marker::Model;
 
 /// The number by which a job tells its requests apart: 1 to 4,294,967,295.
+#[derive(PartialEq, Eq)]
 pub struct RequestNumber {
     number: u32,
 }

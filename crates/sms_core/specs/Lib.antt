@@ -1,3 +1,4 @@
+pub mod Core
 pub mod Effect
 pub mod Running
 pub use Rattle.desk_history.specs.Configuration

@@ -2,6 +2,7 @@
 #![tactic(auto)]
 
 mod config;
+mod core_state;
 mod decision;
 mod deck_form;
 mod deck_keys;
@@ -9,5 +10,6 @@ mod deck_reader;
 mod effect;
 mod routine_form;
 mod running;
+mod stepping;
 
-pub use config::Config;
+pub use core_state::Core;
