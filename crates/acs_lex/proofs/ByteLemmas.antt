@@ -1,7 +1,7 @@
 -- Which tests no byte passes together.
 use Rattle.std.proofs.Common.{◌≡◌, ℕ, Bool, true, false, not, List, [], ◌∷◌, refl, sym, ◌∙◌, ap, subst, arith}
 use Rattle.std.specs.Prelude.{◌==◌, ◌&&◌, ◌||◌, codes}
-use Rattle.std.specs.List.{list_any, list_all}
+use Rattle.std.specs.List.{list_all}
 use Rattle.std.proofs.lemmas.Bool.Decides.{nat_tests}
 use Rattle.acs_lex.specs.Lexical.{among, is_line_end, is_blank, is_name_byte, is_word_byte, is_ampersand, is_quote, is_printable, is_quotable, is_single_sign, is_double_sign, begins}
 

@@ -1,12 +1,12 @@
 -- A text has a cut or a fault, never both, and at most one of each.
-use Rattle.std.proofs.Common.{◌≡◌, ◌≤◌, ◌<◌, ◌+◌, ℕ, zero, suc, List, [], ◌∷◌, ◌++◌, length, refl, sym, ◌∙◌, ap, subst, arith, append_assoc, inl, inr, ◌⊎◌}
-use Rattle.std.specs.Prelude.{Result, Ok, Err}
+use Rattle.std.proofs.Common.{◌≡◌, ◌<◌, ℕ, zero, suc, List, [], ◌∷◌, ◌++◌, length, refl, sym, ◌∙◌, ap, subst, arith, append_assoc, inl, inr, ◌⊎◌}
+use Rattle.std.specs.Prelude.{Ok, Err}
 use Rattle.acs_lex.specs.declared.token.Token.{Token}
 use Rattle.acs_lex.specs.declared.fault.LexErr.{LexErr}
 use Rattle.acs_lex.specs.declared.fault.LexErr.TheVariants.{OpenComment, OpenLiteral, BadByte, LongWord, NoMemory}
 use Rattle.acs_lex.specs.Lexical.{IsGap}
-use Rattle.acs_lex.specs.Tokens.{IsToken, Cut, nothing_left, after_gap, after_token, IsCut}
-use Rattle.acs_lex.specs.LexFault.{StopsBy, FirstFault, here, behind_gap, behind_token, IsFirstLexFault, MayRefuse, IsExact}
+use Rattle.acs_lex.specs.Tokens.{IsToken, CutsInto, nothing_left, after_gap, after_token, IsCut}
+use Rattle.acs_lex.specs.LexFault.{StopsBy, FirstStopsBy, here, behind_gap, behind_token, IsFirstLexFault, MayRefuse, IsExact}
 use Rattle.acs_lex.specs.Scanning.{Front, Ends, Skips, Takes, Fails, front}
 use Rattle.acs_lex.proofs.FrontLemmas.{Stands, front_stands, stands_front, gap_shorter, token_shorter}
 
@@ -47,13 +47,13 @@ token_fault {A} {total} {text} {a} {one} {err} d e = let same : Takes one a ≡ 
 
 -- along a text
 
-cut_along : {total : ℕ} {a b : List ℕ} {tokens : List Token} → a ≡ b → Cut total b tokens → Cut total a tokens
-cut_along {total} {a} {b} {tokens} e d = subst (λ z. Cut total z tokens) (sym e) d
+cut_along : {total : ℕ} {a b : List ℕ} {tokens : List Token} → a ≡ b → CutsInto total b tokens → CutsInto total a tokens
+cut_along {total} {a} {b} {tokens} e d = subst (λ z. CutsInto total z tokens) (sym e) d
 
-fault_along : {total : ℕ} {a b : List ℕ} {err : LexErr} → a ≡ b → FirstFault total b err → FirstFault total a err
-fault_along {total} {a} {b} {err} e d = subst (λ z. FirstFault total z err) (sym e) d
+fault_along : {total : ℕ} {a b : List ℕ} {err : LexErr} → a ≡ b → FirstStopsBy total b err → FirstStopsBy total a err
+fault_along {total} {a} {b} {err} e d = subst (λ z. FirstStopsBy total z err) (sym e) d
 
-pub cut_once : {total : ℕ} {text : List ℕ} {ones twos : List Token} → Cut total text ones → Cut total text twos → ones ≡ twos
+pub cut_once : {total : ℕ} {text : List ℕ} {ones twos : List Token} → CutsInto total text ones → CutsInto total text twos → ones ≡ twos
 cut_once nothing_left nothing_left = refl
 cut_once nothing_left (after_gap e d) = end_gap e
 cut_once nothing_left (after_token e d) = end_token e
@@ -67,7 +67,7 @@ cut_once (after_token s c) (after_token e d) =
     let others = cut_once c (cut_along (one_rest s e) d) in
     cc
 
-pub never_both : {total : ℕ} {text : List ℕ} {tokens : List Token} {err : LexErr} → Cut total text tokens → FirstFault total text err → ⊥
+pub never_both : {total : ℕ} {text : List ℕ} {tokens : List Token} {err : LexErr} → CutsInto total text tokens → FirstStopsBy total text err → ⊥
 never_both nothing_left (here e) = end_fault e
 never_both nothing_left (behind_gap e d) = end_gap e
 never_both nothing_left (behind_token e d) = end_token e
@@ -78,7 +78,7 @@ never_both (after_token s c) (here e) = token_fault s e
 never_both (after_token s c) (behind_gap e d) = gap_token e s
 never_both (after_token s c) (behind_token e d) = never_both c (fault_along (one_rest s e) d)
 
-pub fault_once : {total : ℕ} {text : List ℕ} {one two : LexErr} → FirstFault total text one → FirstFault total text two → one ≡ two
+pub fault_once : {total : ℕ} {text : List ℕ} {one two : LexErr} → FirstStopsBy total text one → FirstStopsBy total text two → one ≡ two
 fault_once (here s) (here e) = one_fault s e
 fault_once (here s) (behind_gap e d) = gap_fault e s
 fault_once (here s) (behind_token e d) = token_fault e s
@@ -92,7 +92,7 @@ fault_once (behind_token s c) (behind_token e d) = fault_once c (fault_along (on
 -- each text has one of the two
 
 abbrev pub CutOrFault : ℕ → List ℕ → Type 0
-CutOrFault total text = ((tokens : List Token) × Cut total text tokens) ⊎ ((err : LexErr) × FirstFault total text err)
+CutOrFault total text = ((tokens : List Token) × CutsInto total text tokens) ⊎ ((err : LexErr) × FirstStopsBy total text err)
 
 either_gap : {total : ℕ} {text rest : List ℕ} → IsGap text rest → CutOrFault total rest → CutOrFault total text
 either_gap s (inl d) = inl (d.0, after_gap s d.1)
@@ -118,8 +118,8 @@ cut_or_fault total text = either_within (suc (length text)) total text (front to
 -- what holds of a text while its front is cut
 
 pub record FrontCut (total : ℕ) (text rest : List ℕ) (tokens : List Token) : Type 0 where
-  pub cut : (others : List Token) → Cut total rest others → Cut total text (tokens ++ others)
-  pub fault : (err : LexErr) → FirstFault total rest err → FirstFault total text err
+  pub cut : (others : List Token) → CutsInto total rest others → CutsInto total text (tokens ++ others)
+  pub fault : (err : LexErr) → FirstStopsBy total rest err → FirstStopsBy total text err
 
 pub front_cut : (total : ℕ) (text : List ℕ) → FrontCut total text text []
 front_cut total text = record { cut = λ others d. d; fault = λ err d. d }
@@ -135,7 +135,7 @@ cut_past_gap {total} {text} {rest} {left} t e = record {
 
 cut_past_one : {total : ℕ} {text rest left : List ℕ} {tokens : List Token} {one : Token} → FrontCut total text rest tokens → Takes one left ≡ front total rest → FrontCut total text left (tokens ++ one ∷ [])
 cut_past_one {total} {text} {rest} {left} {tokens} {one} t e = record {
-  cut = λ others d. subst (λ z. Cut total text z) (sym (append_assoc tokens (one ∷ []) others)) (t.cut (one ∷ others) (after_token (stands_as total rest (Takes one left) e) d));
+  cut = λ others d. subst (λ z. CutsInto total text z) (sym (append_assoc tokens (one ∷ []) others)) (t.cut (one ∷ others) (after_token (stands_as total rest (Takes one left) e) d));
   fault = λ err d. t.fault err (behind_token (stands_as total rest (Takes one left) e) d);
 }
 
@@ -146,10 +146,10 @@ empty_right : (xs : List Token) → xs ++ [] ≡ xs
 empty_right [] = refl
 empty_right (x ∷ xs) = ap (λ z. x ∷ z) (empty_right xs)
 
-pub cut_at_end : {total : ℕ} {text rest : List ℕ} {tokens : List Token} → FrontCut total text rest tokens → Ends ≡ front total rest → Cut total text tokens
-cut_at_end {total} {text} {rest} {tokens} t e = subst (λ z. Cut total text z) (empty_right tokens) (t.cut [] (cut_along (stands_as total rest Ends e) nothing_left))
+pub cut_at_end : {total : ℕ} {text rest : List ℕ} {tokens : List Token} → FrontCut total text rest tokens → Ends ≡ front total rest → CutsInto total text tokens
+cut_at_end {total} {text} {rest} {tokens} t e = subst (λ z. CutsInto total text z) (empty_right tokens) (t.cut [] (cut_along (stands_as total rest Ends e) nothing_left))
 
-pub fault_at : {total : ℕ} {text rest : List ℕ} {tokens : List Token} {err : LexErr} → FrontCut total text rest tokens → Fails err ≡ front total rest → FirstFault total text err
+pub fault_at : {total : ℕ} {text rest : List ℕ} {tokens : List Token} {err : LexErr} → FrontCut total text rest tokens → Fails err ≡ front total rest → FirstStopsBy total text err
 fault_at {total} {text} {rest} {tokens} {err} t e = t.fault err (here (stands_as total rest (Fails err) e))
 
 pub gap_less : (total : ℕ) (rest left : List ℕ) → Skips left ≡ front total rest → length left < length rest

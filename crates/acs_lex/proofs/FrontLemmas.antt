@@ -1,17 +1,17 @@
 -- What stands at the front of a text is the step's value, and the step's value stands there.
-use Rattle.std.proofs.Common.{◌≡◌, ◌≤◌, ◌<◌, ◌+◌, ◌-◌, ℕ, zero, suc, Bool, true, false, List, [], ◌∷◌, length, refl, sym, ◌∙◌, ap, subst, arith}
-use Rattle.std.specs.Prelude.{if◌then◌else◌, nat_le, ◌==◌, ◌&&◌, Option, Some, None, codes}
+use Rattle.std.proofs.Common.{◌≡◌, ◌≤◌, ◌<◌, ◌-◌, ℕ, Bool, true, false, List, [], ◌∷◌, length, refl, sym, ◌∙◌, ap, subst, arith}
+use Rattle.std.specs.Prelude.{if◌then◌else◌, nat_le, ◌==◌, Option, Some, None, codes}
 use Rattle.std.proofs.lemmas.Bool.Decides.{nat_tests}
 use Rattle.acs_lex.specs.declared.token.TokenForm.{TokenForm}
 use Rattle.acs_lex.specs.declared.token.TokenForm.TheVariants.{Word, Variable, Literal, Sign}
 use Rattle.acs_lex.specs.declared.token.Token.{Token}
 use Rattle.acs_lex.specs.declared.fault.LexErr.{LexErr}
-use Rattle.acs_lex.specs.declared.fault.LexErr.TheVariants.{OpenComment, OpenLiteral, BadByte, LongWord}
+use Rattle.acs_lex.specs.declared.fault.LexErr.TheVariants.{OpenLiteral, LongWord}
 use Rattle.acs_lex.specs.Lexical.{Runs, is_blank, is_line_end, is_name_byte, is_word_byte, is_ampersand, is_quote, is_printable, is_quotable, is_single_sign, is_double_sign, begins, IsForm, word, variable, literal, double, single, counted_bytes, most_bytes, IsCommentTail, over, inside, IsGap, blank, comment}
-use Rattle.acs_lex.specs.Tokens.{Longest, size_of, token_at, IsToken, token}
+use Rattle.acs_lex.specs.Tokens.{IsLongest, size_of, token_at, IsToken, token}
 use Rattle.acs_lex.specs.LexFault.{ends_line, StopsBy, open_comment, open_literal, bad_inside, bad_byte, too_long}
 use Rattle.acs_lex.specs.Scanning.{Front, Ends, Skips, Takes, Fails, after, after_comment, token_front, bad_front, comment_front, slash_front, literal_front, single_front, sign_front, ampersand_front, front}
-use Rattle.acs_lex.proofs.ByteLemmas.{clash, and_false, not_slash, slash_of, star_of, only_among, double_begins, double_is_no, single_is_no, double_ampersand, begins_double, word_no_blank, ampersand_no_name, ampersand_no_single, quote_not_quotable, line_end_not_quotable, line_end_no_quote, quote_is_printable, not_printable}
+use Rattle.acs_lex.proofs.ByteLemmas.{clash, and_false, not_slash, slash_of, star_of, only_among, double_begins, double_is_no, single_is_no, double_ampersand, word_no_blank, ampersand_no_name, ampersand_no_single, quote_not_quotable, line_end_not_quotable, line_end_no_quote, quote_is_printable, not_printable}
 use Rattle.acs_lex.proofs.RunLemmas.{starts, runs_after, after_stops, runs_end, runs_most}
 use Rattle.acs_lex.proofs.FormLemmas.{word_longest, variable_longest, literal_longest, double_longest, single_longest, double_here, no_form, form_shorter}
 
@@ -36,11 +36,11 @@ of_lt m n e = grind (arith, nat_tests)
 
 -- the step's value stands at the front
 
-token_by : (total : ℕ) (form : TokenForm) (text rest : List ℕ) (v : Bool) → nat_le (counted_bytes form (size_of text rest)) (most_bytes form) ≡ v → Longest form text rest → Stands total text (if v then Takes (token_at total form text rest) rest else Fails (LongWord (total - length text)))
+token_by : (total : ℕ) (form : TokenForm) (text rest : List ℕ) (v : Bool) → nat_le (counted_bytes form (size_of text rest)) (most_bytes form) ≡ v → IsLongest form text rest → Stands total text (if v then Takes (token_at total form text rest) rest else Fails (LongWord (total - length text)))
 token_by total form text rest true e d = token d (le_of _ _ e)
 token_by total form text rest false e d = too_long d (lt_of _ _ e)
 
-token_stands : (total : ℕ) (form : TokenForm) (text rest : List ℕ) → Longest form text rest → Stands total text (token_front total form text rest)
+token_stands : (total : ℕ) (form : TokenForm) (text rest : List ℕ) → IsLongest form text rest → Stands total text (token_front total form text rest)
 token_stands total form text rest d = token_by total form text rest (nat_le (counted_bytes form (size_of text rest)) (most_bytes form)) refl d
 
 bad_stands : (total a : ℕ) (bytes : List ℕ) → is_blank a ≡ false → is_word_byte a ≡ false → is_quote a ≡ false → begins (codes "/*") (a ∷ bytes) ≡ false → (is_ampersand a ≡ true → starts is_name_byte bytes ≡ false) → double_here a bytes ≡ false → is_single_sign a ≡ false → Stands total (a ∷ bytes) (bad_front total (a ∷ bytes))

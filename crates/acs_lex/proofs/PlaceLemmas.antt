@@ -1,20 +1,20 @@
 -- Where the tokens of a cut stand, and what text they have.
-use Rattle.std.proofs.Common.{◌≡◌, ◌≤◌, ◌<◌, ◌+◌, ◌-◌, ℕ, zero, suc, Bool, true, false, List, [], ◌∷◌, length, take, drop, refl, sym, ◌∙◌, ap, subst, arith}
-use Rattle.std.specs.Prelude.{All, slice_range}
+use Rattle.std.proofs.Common.{◌≡◌, ◌≤◌, ◌<◌, ◌-◌, ℕ, suc, Bool, true, List, [], ◌∷◌, length, take, drop, refl, sym, ◌∙◌, ap, subst, arith}
+use Rattle.std.specs.Prelude.{All}
 use Rattle.std.proofs.lemmas.Grind.{common_steps}
 use Rattle.std.proofs.lemmas.List.Elements.{All-nil, All-cons}
 use Rattle.acs_lex.specs.declared.token.TokenForm.{TokenForm}
 use Rattle.acs_lex.specs.declared.token.TokenForm.TheVariants.{Word, Variable, Literal, Sign}
 use Rattle.acs_lex.specs.declared.token.Token.{Token}
-use Rattle.acs_lex.specs.Lexical.{Runs, stop, on, IsForm, word, variable, literal, double, single, is_quotable, counted_bytes, most_bytes, IsCommentTail, over, inside, IsGap, blank, comment}
-use Rattle.acs_lex.specs.Tokens.{Longest, size_of, token_at, IsToken, token, Cut, nothing_left, after_gap, after_token, IsCut, InOrder, token_text, IsOfForm}
+use Rattle.acs_lex.specs.Lexical.{Runs, stop, on, IsForm, word, variable, literal, double, single, counted_bytes, most_bytes, IsCommentTail, over, inside, IsGap, blank, comment}
+use Rattle.acs_lex.specs.Tokens.{IsLongest, size_of, token_at, token, CutsInto, nothing_left, after_gap, after_token, IsCut, InOrder, token_text, IsOfForm}
 use Rattle.acs_lex.proofs.RunLemmas.{runs_shorter}
 use Rattle.acs_lex.proofs.FormLemmas.{form_shorter}
-use Rattle.acs_lex.proofs.FrontLemmas.{gap_shorter, token_shorter}
+use Rattle.acs_lex.proofs.FrontLemmas.{gap_shorter}
 
 -- the tokens in order
 
-order_from : {total : ℕ} {text : List ℕ} {tokens : List Token} (from : ℕ) → Cut total text tokens → length text ≤ total → from ≤ total - length text → InOrder from total tokens
+order_from : {total : ℕ} {text : List ℕ} {tokens : List Token} (from : ℕ) → CutsInto total text tokens → length text ≤ total → from ≤ total - length text → InOrder from total tokens
 order_from from nothing_left h k = omega arith
 order_from from (after_gap d c) h k = order_from from c (omega (arith, gap_shorter d)) (omega (arith, gap_shorter d))
 order_from {total} from (after_token (token {rest = rest} d e) c) h k =
@@ -113,7 +113,7 @@ text_of whole text rest form d h = ap (λ n. take n (drop (length whole - length
 length_taken : (text rest : List ℕ) → length rest ≤ length text → length (take (length text - length rest) text) ≡ length text - length rest
 length_taken text rest h = grind (arith, common_steps)
 
-of_form : (whole text rest : List ℕ) (form : TokenForm) → Runs any_byte whole text → Longest form text rest → counted_bytes form (size_of text rest) ≤ most_bytes form → IsOfForm whole (token_at (length whole) form text rest)
+of_form : (whole text rest : List ℕ) (form : TokenForm) → Runs any_byte whole text → IsLongest form text rest → counted_bytes form (size_of text rest) ≤ most_bytes form → IsOfForm whole (token_at (length whole) form text rest)
 of_form whole text rest form d l h =
     let within : length rest < length text = form_shorter l.is in
     let same = text_of whole text rest form d (omega arith) in
@@ -122,7 +122,7 @@ of_form whole text rest form d l h =
       fits = subst (λ n. counted_bytes form n ≤ most_bytes form) (sym (ap length same ∙ length_taken text rest (omega arith))) h;
     }
 
-forms_from : (whole : List ℕ) {text : List ℕ} {tokens : List Token} → Runs any_byte whole text → Cut (length whole) text tokens → All (IsOfForm whole) tokens
+forms_from : (whole : List ℕ) {text : List ℕ} {tokens : List Token} → Runs any_byte whole text → CutsInto (length whole) text tokens → All (IsOfForm whole) tokens
 forms_from whole r nothing_left = All-nil (IsOfForm whole)
 forms_from whole r (after_gap d c) = forms_from whole (runs_join r (gap_runs d)) c
 forms_from whole {text} r (after_token (token {form = form} {rest = rest} d e) c) = All-cons (IsOfForm whole) _ _ (of_form whole text rest form r d e) (forms_from whole (runs_join r (form_runs d.is)) c)

@@ -5,7 +5,7 @@ use Rattle.acs_lex.specs.declared.token.Token.{Token}
 use Rattle.acs_lex.specs.declared.fault.LexErr.{LexErr}
 use Rattle.acs_lex.specs.declared.fault.LexErr.TheVariants.{OpenComment, OpenLiteral, BadByte, LongWord, NoMemory}
 use Rattle.acs_lex.specs.Lexical.{Runs, IsForm, IsCommentTail, IsGap, is_blank, is_quote, is_printable, is_quotable, is_line_end, begins, counted_bytes, most_bytes}
-use Rattle.acs_lex.specs.Tokens.{Longest, IsToken, IsCut, size_of}
+use Rattle.acs_lex.specs.Tokens.{IsLongest, IsToken, IsCut, size_of}
 
 -- the text or its line ends here
 abbrev pub ends_line : List ℕ → Bool
@@ -23,17 +23,17 @@ pub data StopsBy (total : ℕ) : List ℕ → LexErr → Type 0 where
   -- no blank, comment, literal or other token begins here
   bad_byte : {a : ℕ} {bytes : List ℕ} → is_blank a ≡ false → begins (codes "/*") (a ∷ bytes) ≡ false → is_quote a ≡ false → ((form : TokenForm) (rest : List ℕ) → IsForm form (a ∷ bytes) rest → ⊥) → StopsBy total (a ∷ bytes) (BadByte (total - length (a ∷ bytes)))
   -- the longest token here is too long
-  too_long : {form : TokenForm} {text rest : List ℕ} → Longest form text rest → most_bytes form < counted_bytes form (size_of text rest) → StopsBy total text (LongWord (total - length text))
+  too_long : {form : TokenForm} {text rest : List ℕ} → IsLongest form text rest → most_bytes form < counted_bytes form (size_of text rest) → StopsBy total text (LongWord (total - length text))
 
 -- a front of what is left is cut, and there nothing can go on
-pub data FirstFault (total : ℕ) : List ℕ → LexErr → Type 0 where
-  here : {text : List ℕ} {err : LexErr} → StopsBy total text err → FirstFault total text err
-  behind_gap : {text rest : List ℕ} {err : LexErr} → IsGap text rest → FirstFault total rest err → FirstFault total text err
-  behind_token : {text rest : List ℕ} {one : Token} {err : LexErr} → IsToken total text one rest → FirstFault total rest err → FirstFault total text err
+pub data FirstStopsBy (total : ℕ) : List ℕ → LexErr → Type 0 where
+  here : {text : List ℕ} {err : LexErr} → StopsBy total text err → FirstStopsBy total text err
+  behind_gap : {text rest : List ℕ} {err : LexErr} → IsGap text rest → FirstStopsBy total rest err → FirstStopsBy total text err
+  behind_token : {text rest : List ℕ} {one : Token} {err : LexErr} → IsToken total text one rest → FirstStopsBy total rest err → FirstStopsBy total text err
 
 -- the fault of a text that is met first from the left
 abbrev pub IsFirstLexFault : List ℕ → LexErr → Type 0
-IsFirstLexFault text err = FirstFault (length text) text err
+IsFirstLexFault text err = FirstStopsBy (length text) text err
 
 -- the error may be answered: want of memory to every text
 abbrev pub MayRefuse : List ℕ → LexErr → Type 0

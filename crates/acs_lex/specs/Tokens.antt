@@ -1,13 +1,12 @@
 -- The cut of a text into tokens (docs/acs-language.md).
-use Rattle.std.specs.Prelude.{◌≡◌, ◌≤◌, ◌<◌, ◌-◌, ℕ, List, [], ◌∷◌, length, slice_range, All}
+use Rattle.std.specs.Prelude.{◌≤◌, ◌<◌, ◌-◌, ℕ, List, [], ◌∷◌, length, slice_range}
 use Rattle.std.specs.Str.{str_to_ascii_uppercase}
 use Rattle.acs_lex.specs.declared.token.TokenForm.{TokenForm}
-use Rattle.acs_lex.specs.declared.token.TokenForm.TheVariants.{Word, Variable, Literal, Sign}
 use Rattle.acs_lex.specs.declared.token.Token.{Token}
 use Rattle.acs_lex.specs.Lexical.{IsForm, IsGap, counted_bytes, most_bytes}
 
 -- a token of this form at the front, and no token at the front is longer
-pub record Longest (form : TokenForm) (text rest : List ℕ) : Type 0 where
+pub record IsLongest (form : TokenForm) (text rest : List ℕ) : Type 0 where
   pub is : IsForm form text rest
   pub most : (other : TokenForm) (behind : List ℕ) → IsForm other text behind → length rest ≤ length behind
 
@@ -21,17 +20,17 @@ token_at total form text rest = record { form = form; from = total - length text
 
 -- a token at the front of what is left of a text of so many bytes: the longest, and not too long
 pub data IsToken (total : ℕ) : List ℕ → Token → List ℕ → Type 0 where
-  token : {form : TokenForm} {text rest : List ℕ} → Longest form text rest → counted_bytes form (size_of text rest) ≤ most_bytes form → IsToken total text (token_at total form text rest) rest
+  token : {form : TokenForm} {text rest : List ℕ} → IsLongest form text rest → counted_bytes form (size_of text rest) ≤ most_bytes form → IsToken total text (token_at total form text rest) rest
 
 -- what is left of a text of so many bytes is blanks, comments and these tokens, and nothing else
-pub data Cut (total : ℕ) : List ℕ → List Token → Type 0 where
-  nothing_left : Cut total [] []
-  after_gap : {text rest : List ℕ} {tokens : List Token} → IsGap text rest → Cut total rest tokens → Cut total text tokens
-  after_token : {text rest : List ℕ} {one : Token} {tokens : List Token} → IsToken total text one rest → Cut total rest tokens → Cut total text (one ∷ tokens)
+pub data CutsInto (total : ℕ) : List ℕ → List Token → Type 0 where
+  nothing_left : CutsInto total [] []
+  after_gap : {text rest : List ℕ} {tokens : List Token} → IsGap text rest → CutsInto total rest tokens → CutsInto total text tokens
+  after_token : {text rest : List ℕ} {one : Token} {tokens : List Token} → IsToken total text one rest → CutsInto total rest tokens → CutsInto total text (one ∷ tokens)
 
 -- the cut of a text: blanks, comments and these tokens, each the longest at its place
 abbrev pub IsCut : List ℕ → List Token → Type 0
-IsCut text tokens = Cut (length text) text tokens
+IsCut text tokens = CutsInto (length text) text tokens
 
 -- the tokens lie in order between two places, and none is empty
 abbrev pub InOrder : ℕ → ℕ → List Token → Type 0

@@ -9,7 +9,7 @@ use crate::bytes::{
 };
 use crate::fault::LexErr;
 use crate::piece::Piece;
-use crate::token::{Token, TokenForm};
+use crate::token::{MAX_LITERAL, MAX_SIGN, MAX_WORD, Token, TokenForm};
 
 pub fn front(total: u32, text: &[u8]) -> Piece<'_>
     requires { length text.now ≤ total }
@@ -144,9 +144,9 @@ fn most_bytes(form: TokenForm) -> usize
     ensures { result ≡ most_bytes form }
 {
     match form {
-        TokenForm::Word | TokenForm::Variable => 64,
-        TokenForm::Literal => 110,
-        TokenForm::Sign => 2,
+        TokenForm::Word | TokenForm::Variable => MAX_WORD,
+        TokenForm::Literal => MAX_LITERAL,
+        TokenForm::Sign => MAX_SIGN,
     }
 }
 

@@ -7,12 +7,11 @@ mod forms;
 mod laws;
 mod piece;
 mod scanner;
-mod token;
-
 #[cfg(test)]
 mod tests;
+mod token;
 
 pub use fault::LexErr;
 pub use laws::{token_laws, tokens_or_fault};
 pub use scanner::scan;
-pub use token::{Token, TokenForm, Tokens};
+pub use token::{MAX_LITERAL, MAX_SIGN, MAX_WORD, Token, TokenForm, Tokens};
