@@ -7,7 +7,7 @@ use Rattle.acs_lex.specs.declared.token.TokenForm.{TokenForm}
 use Rattle.acs_lex.specs.declared.token.TokenForm.TheVariants.{Word, Variable, Literal, Sign}
 use Rattle.acs_lex.specs.declared.token.Token.{Token}
 use Rattle.acs_lex.specs.Lexical.{Runs, stop, on, IsForm, word, variable, literal, double, single, counted_bytes, most_bytes, IsCommentTail, over, inside, IsGap, blank, comment}
-use Rattle.acs_lex.specs.Tokens.{IsLongest, size_of, token_at, token, CutsInto, nothing_left, after_gap, after_token, IsCut, InOrder, token_text, IsOfForm}
+use Rattle.acs_lex.specs.Tokens.{IsLongest, size_of, token_at, token, CutsInto, nothing_left, after_gap, after_token, IsCut, InOrder, token_text, IsTokenOf}
 use Rattle.acs_lex.proofs.RunLemmas.{runs_shorter}
 use Rattle.acs_lex.proofs.FormLemmas.{form_shorter}
 use Rattle.acs_lex.proofs.FrontLemmas.{gap_shorter}
@@ -113,19 +113,22 @@ text_of whole text rest form d h = ap (λ n. take n (drop (length whole - length
 length_taken : (text rest : List ℕ) → length rest ≤ length text → length (take (length text - length rest) text) ≡ length text - length rest
 length_taken text rest h = grind (arith, common_steps)
 
-of_form : (whole text rest : List ℕ) (form : TokenForm) → Runs any_byte whole text → IsLongest form text rest → counted_bytes form (size_of text rest) ≤ most_bytes form → IsOfForm whole (token_at (length whole) form text rest)
-of_form whole text rest form d l h =
-    let within : length rest < length text = form_shorter l.is in
+is_token_of : (whole text rest : List ℕ) (form : TokenForm) → Runs any_byte whole text → IsLongest form text rest → counted_bytes form (size_of text rest) ≤ most_bytes form → IsTokenOf whole (token_at (length whole) form text rest)
+is_token_of whole text rest form d l h =
+    let shorter : length rest < length text = form_shorter l.is in
+    let inside : length text ≤ length whole = runs_shorter d in
     let same = text_of whole text rest form d (omega arith) in
     record {
+      not_empty = omega arith;
+      within = omega arith;
       is = subst (λ z. IsForm form z []) (sym same) (form_alone l.is);
       fits = subst (λ n. counted_bytes form n ≤ most_bytes form) (sym (ap length same ∙ length_taken text rest (omega arith))) h;
     }
 
-forms_from : (whole : List ℕ) {text : List ℕ} {tokens : List Token} → Runs any_byte whole text → CutsInto (length whole) text tokens → All (IsOfForm whole) tokens
-forms_from whole r nothing_left = All-nil (IsOfForm whole)
-forms_from whole r (after_gap d c) = forms_from whole (runs_join r (gap_runs d)) c
-forms_from whole {text} r (after_token (token {form = form} {rest = rest} d e) c) = All-cons (IsOfForm whole) _ _ (of_form whole text rest form r d e) (forms_from whole (runs_join r (form_runs d.is)) c)
+tokens_from : (whole : List ℕ) {text : List ℕ} {tokens : List Token} → Runs any_byte whole text → CutsInto (length whole) text tokens → All (IsTokenOf whole) tokens
+tokens_from whole r nothing_left = All-nil (IsTokenOf whole)
+tokens_from whole r (after_gap d c) = tokens_from whole (runs_join r (gap_runs d)) c
+tokens_from whole {text} r (after_token (token {form = form} {rest = rest} d e) c) = All-cons (IsTokenOf whole) _ _ (is_token_of whole text rest form r d e) (tokens_from whole (runs_join r (form_runs d.is)) c)
 
-pub cut_of_forms : (text : List ℕ) (tokens : List Token) → IsCut text tokens → All (IsOfForm text) tokens
-cut_of_forms text tokens c = forms_from text stop c
+pub cut_of_tokens : (text : List ℕ) (tokens : List Token) → IsCut text tokens → All (IsTokenOf text) tokens
+cut_of_tokens text tokens c = tokens_from text stop c

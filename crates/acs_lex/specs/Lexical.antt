@@ -65,9 +65,12 @@ pub data Runs (test : ℕ → Bool) : List ℕ → List ℕ → Type 0 where
 
 -- a text of this form at the front of a text, and what is behind it
 pub data IsForm : TokenForm → List ℕ → List ℕ → Type 0 where
-  word : {b : ℕ} {bytes rest : List ℕ} → is_word_byte b ≡ true → Runs is_word_byte bytes rest → IsForm Word (b ∷ bytes) rest
-  variable : {a b : ℕ} {bytes rest : List ℕ} → is_ampersand a ≡ true → is_name_byte b ≡ true → Runs is_name_byte bytes rest → IsForm Variable (a ∷ b ∷ bytes) rest
-  literal : {a b : ℕ} {bytes rest : List ℕ} → is_quote a ≡ true → Runs is_quotable bytes (b ∷ rest) → is_quote b ≡ true → IsForm Literal (a ∷ bytes) rest
+  word : {b : ℕ} {bytes rest : List ℕ}
+      → is_word_byte b ≡ true → Runs is_word_byte bytes rest → IsForm Word (b ∷ bytes) rest
+  variable : {a b : ℕ} {bytes rest : List ℕ}
+      → is_ampersand a ≡ true → is_name_byte b ≡ true → Runs is_name_byte bytes rest → IsForm Variable (a ∷ b ∷ bytes) rest
+  literal : {a b : ℕ} {bytes rest : List ℕ}
+      → is_quote a ≡ true → Runs is_quotable bytes (b ∷ rest) → is_quote b ≡ true → IsForm Literal (a ∷ bytes) rest
   double : {a b : ℕ} {rest : List ℕ} → is_double_sign a b ≡ true → IsForm Sign (a ∷ b ∷ rest) rest
   single : {a : ℕ} {rest : List ℕ} → is_single_sign a ≡ true → IsForm Sign (a ∷ rest) rest
 
@@ -85,10 +88,13 @@ most_bytes Sign = MAX_SIGN
 
 -- the text goes on, behind a comment's first two bytes, to its first end, and what is behind that
 pub data IsCommentTail : List ℕ → List ℕ → Type 0 where
-  over : {a b : ℕ} {rest : List ℕ} → begins (codes "*/") (a ∷ b ∷ rest) ≡ true → IsCommentTail (a ∷ b ∷ rest) rest
-  inside : {b : ℕ} {bytes rest : List ℕ} → begins (codes "*/") (b ∷ bytes) ≡ false → IsCommentTail bytes rest → IsCommentTail (b ∷ bytes) rest
+  over : {a b : ℕ} {rest : List ℕ}
+      → begins (codes "*/") (a ∷ b ∷ rest) ≡ true → IsCommentTail (a ∷ b ∷ rest) rest
+  inside : {b : ℕ} {bytes rest : List ℕ}
+      → begins (codes "*/") (b ∷ bytes) ≡ false → IsCommentTail bytes rest → IsCommentTail (b ∷ bytes) rest
 
 -- a blank or a comment at the front of a text, and what is behind it
 pub data IsGap : List ℕ → List ℕ → Type 0 where
   blank : {b : ℕ} {rest : List ℕ} → is_blank b ≡ true → IsGap (b ∷ rest) rest
-  comment : {a b : ℕ} {bytes rest : List ℕ} → begins (codes "/*") (a ∷ b ∷ bytes) ≡ true → IsCommentTail bytes rest → IsGap (a ∷ b ∷ bytes) rest
+  comment : {a b : ℕ} {bytes rest : List ℕ}
+      → begins (codes "/*") (a ∷ b ∷ bytes) ≡ true → IsCommentTail bytes rest → IsGap (a ∷ b ∷ bytes) rest

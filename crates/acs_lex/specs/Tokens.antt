@@ -14,19 +14,27 @@ pub record IsLongest (form : TokenForm) (text rest : List ℕ) : Type 0 where
 abbrev pub size_of : List ℕ → List ℕ → ℕ
 size_of text rest = length text - length rest
 
+-- the place in a text of so many bytes at which this is left
+abbrev pub place_of : ℕ → List ℕ → ℕ
+place_of total text = total - length text
+
 -- the token of this form between what is left of a text of so many bytes and what is behind it
 abbrev pub token_at : ℕ → TokenForm → List ℕ → List ℕ → Token
-token_at total form text rest = record { form = form; from = total - length text; to = total - length rest }
+token_at total form text rest = record { form = form; from = place_of total text; to = place_of total rest }
 
 -- a token at the front of what is left of a text of so many bytes: the longest, and not too long
 pub data IsToken (total : ℕ) : List ℕ → Token → List ℕ → Type 0 where
-  token : {form : TokenForm} {text rest : List ℕ} → IsLongest form text rest → counted_bytes form (size_of text rest) ≤ most_bytes form → IsToken total text (token_at total form text rest) rest
+  token : {form : TokenForm} {text rest : List ℕ}
+      → IsLongest form text rest → counted_bytes form (size_of text rest) ≤ most_bytes form
+      → IsToken total text (token_at total form text rest) rest
 
 -- what is left of a text of so many bytes is blanks, comments and these tokens, and nothing else
 pub data CutsInto (total : ℕ) : List ℕ → List Token → Type 0 where
   nothing_left : CutsInto total [] []
-  after_gap : {text rest : List ℕ} {tokens : List Token} → IsGap text rest → CutsInto total rest tokens → CutsInto total text tokens
-  after_token : {text rest : List ℕ} {one : Token} {tokens : List Token} → IsToken total text one rest → CutsInto total rest tokens → CutsInto total text (one ∷ tokens)
+  after_gap : {text rest : List ℕ} {tokens : List Token}
+      → IsGap text rest → CutsInto total rest tokens → CutsInto total text tokens
+  after_token : {text rest : List ℕ} {one : Token} {tokens : List Token}
+      → IsToken total text one rest → CutsInto total rest tokens → CutsInto total text (one ∷ tokens)
 
 -- the cut of a text: blanks, comments and these tokens, each the longest at its place
 abbrev pub IsCut : List ℕ → List Token → Type 0
@@ -45,7 +53,9 @@ token_text text one = slice_range text one.from one.to
 abbrev pub upper_text : List ℕ → Token → List ℕ
 upper_text text one = str_to_ascii_uppercase (token_text text one)
 
--- the token's own bytes are a text of its form, with nothing behind it, and not too long
-pub record IsOfForm (text : List ℕ) (one : Token) : Type 0 where
+-- the token lies in the text, and its own bytes, alone, are a text of its form and not too many
+pub record IsTokenOf (text : List ℕ) (one : Token) : Type 0 where
+  pub not_empty : one.from < one.to
+  pub within : one.to ≤ length text
   pub is : IsForm one.form (token_text text one) []
   pub fits : counted_bytes one.form (length (token_text text one)) ≤ most_bytes one.form

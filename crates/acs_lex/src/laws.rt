@@ -2,7 +2,7 @@
 ghost use Rattle.std.specs.Prelude.{◌≡◌, ◌⊎◌, ℕ, List, length, All};
 ghost use Rattle.acs_lex.specs.declared.token.Token.{Token};
 ghost use Rattle.acs_lex.specs.declared.fault.LexErr.{LexErr};
-ghost use Rattle.acs_lex.specs.Tokens.{IsCut, InOrder, IsOfForm};
+ghost use Rattle.acs_lex.specs.Tokens.{IsCut, InOrder, IsTokenOf};
 ghost use Rattle.acs_lex.specs.LexFault.{IsFirstLexFault};
 
 /// A text has a cut or a fault, never both, and at most one of each.
@@ -17,5 +17,5 @@ pub fn tokens_or_fault()
 /// form.
 pub fn token_laws()
     ensures order { (text : List ℕ) (tokens : List Token) → IsCut text tokens → InOrder 0 (length text) tokens }
-    ensures forms { (text : List ℕ) (tokens : List Token) → IsCut text tokens → All (IsOfForm text) tokens }
+    ensures each { (text : List ℕ) (tokens : List Token) → IsCut text tokens → All (IsTokenOf text) tokens }
 {}

@@ -1,6 +1,6 @@
 // The scanner.
 ghost use Rattle.std.specs.Prelude.{◌≡◌, ◌<◌, ◌^◌, ◌⊎◌, ℕ, List, length, IfOk, IfErr, All};
-ghost use Rattle.acs_lex.specs.Tokens.{IsCut, InOrder, IsOfForm};
+ghost use Rattle.acs_lex.specs.Tokens.{IsCut, InOrder, IsTokenOf};
 ghost use Rattle.acs_lex.specs.LexFault.{MayRefuse, IsExact};
 
 use crate::fault::LexErr;
@@ -9,7 +9,8 @@ use crate::piece::Piece;
 use crate::token::Tokens;
 use std::alloc::Global;
 
-/// The tokens of the text, or its first fault (docs/acs-language.md).
+/// The tokens of the text in their order, or the fault that is met first from the left
+/// (docs/acs-language.md).
 pub fn scan(alloc: Global, text: &[u8]) -> Result<Tokens, LexErr>
     requires { length text.now < 2 ^ 32 }
     ensures ok { IfOk result (IsCut text.now) }
@@ -18,7 +19,7 @@ pub fn scan(alloc: Global, text: &[u8]) -> Result<Tokens, LexErr>
 
     // Where the tokens stand.
     ensures order { IfOk result (InOrder 0 (length text.now)) }
-    ensures forms { IfOk result (All (IsOfForm text.now)) }
+    ensures each { IfOk result (All (IsTokenOf text.now)) }
 {
     let total = text.len() as u32;
     let mut tokens = Tokens::new(alloc);

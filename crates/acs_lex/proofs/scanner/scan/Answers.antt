@@ -2,7 +2,7 @@
 use Rattle.std.proofs.Common.{◌<◌, length, arith}
 use Rattle.std.proofs.lemmas.Grind.{common_steps}
 use Rattle.acs_lex.proofs.CutLemmas.{cut_at_end, cut_past_gap, cut_past_token, fault_at, gap_less, token_less, may_refuse, exact_tokens, exact_fault}
-use Rattle.acs_lex.proofs.PlaceLemmas.{cut_in_order, cut_of_forms}
+use Rattle.acs_lex.proofs.PlaceLemmas.{cut_in_order, cut_of_tokens}
 use Rattle.acs_lex.proofs.scanner.scan.Goals as goal
 
 pub returns-in-End-clause-ok : goal.returns-in-End-clause-ok
@@ -14,8 +14,8 @@ returns-in-End-clause-exactly c = exact_tokens _ _ (cut_at_end c.pieces.invarian
 pub returns-in-End-clause-order : goal.returns-in-End-clause-order
 returns-in-End-clause-order c = cut_in_order _ _ (cut_at_end c.pieces.invariant.cut c.in-End.ensures)
 
-pub returns-in-End-clause-forms : goal.returns-in-End-clause-forms
-returns-in-End-clause-forms c = cut_of_forms _ _ (cut_at_end c.pieces.invariant.cut c.in-End.ensures)
+pub returns-in-End-clause-each : goal.returns-in-End-clause-each
+returns-in-End-clause-each c = cut_of_tokens _ _ (cut_at_end c.pieces.invariant.cut c.in-End.ensures)
 
 pub pieces-smaller-in-Gap : goal.pieces-smaller-in-Gap
 pieces-smaller-in-Gap c = gap_less _ _ _ c.in-Gap.ensures
