@@ -1,5 +1,5 @@
 -- The first fault of a text that has no cut (docs/acs-language.md).
-use Rattle.std.specs.Prelude.{◌≡◌, ◌<◌, ◌-◌, ◌⊎◌, ℕ, Bool, true, false, List, [], ◌∷◌, length, codes, Result, Ok, Err}
+use Rattle.std.specs.Prelude.{◌≡◌, ◌<◌, ◌⊎◌, ℕ, Bool, true, false, List, [], ◌∷◌, length, codes, Result, Ok, Err}
 use Rattle.acs_lex.specs.declared.token.TokenForm.{TokenForm}
 use Rattle.acs_lex.specs.declared.token.Token.{Token}
 use Rattle.acs_lex.specs.declared.fault.LexErr.{LexErr}

@@ -1,6 +1,6 @@
 -- One step over a text as a function. It is the means of the scanner: what is promised stands in
 -- Tokens and LexFault. In it 47 is a slash and 42 an asterisk.
-use Rattle.std.specs.Prelude.{◌==◌, ◌-◌, ℕ, Bool, List, [], ◌∷◌, length, nat_le, codes, Option, Some, None, if◌then◌else◌}
+use Rattle.std.specs.Prelude.{◌==◌, ℕ, Bool, List, [], ◌∷◌, nat_le, codes, Option, Some, None, if◌then◌else◌}
 use Rattle.acs_lex.specs.declared.token.TokenForm.{TokenForm}
 use Rattle.acs_lex.specs.declared.token.TokenForm.TheVariants.{Word, Variable, Literal, Sign}
 use Rattle.acs_lex.specs.declared.token.Token.{Token}
