@@ -1,0 +1,6 @@
+pub mod ByteLemmas
+pub mod RunLemmas
+pub mod FormLemmas
+pub mod FrontLemmas
+pub mod CutLemmas
+pub mod PlaceLemmas

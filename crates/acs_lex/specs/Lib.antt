@@ -1,0 +1,4 @@
+pub mod Lexical
+pub mod Tokens
+pub mod LexFault
+pub mod Scanning

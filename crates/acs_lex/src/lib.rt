@@ -1,0 +1,17 @@
+//! The scanner of ACS text: its one list of tokens, or the fault that is met first.
+#![tactic(auto)]
+
+mod bytes;
+mod fault;
+mod forms;
+mod laws;
+mod piece;
+mod scanner;
+#[cfg(test)]
+mod tests;
+mod token;
+
+pub use fault::LexErr;
+pub use laws::{token_laws, tokens_or_fault};
+pub use scanner::scan;
+pub use token::{MAX_LITERAL, MAX_WORD, Token, TokenForm, Tokens};

@@ -1,0 +1,13 @@
+// What stands at the front of a text.
+
+use crate::fault::LexErr;
+use crate::token::Token;
+
+/// What stands at the front of a text, with what is behind it.
+#[derive(Clone, Copy)]
+pub enum Piece<'a> {
+    End,
+    Gap(&'a [u8]),
+    Token(Token, &'a [u8]),
+    Fault(LexErr),
+}

@@ -1,0 +1,38 @@
+// The scanner.
+ghost use Rattle.std.specs.Prelude.{◌≡◌, ◌<◌, ◌^◌, ◌⊎◌, ℕ, List, length, IfOk, IfErr, All};
+ghost use Rattle.acs_lex.specs.Tokens.{IsCut, InOrder, IsTokenOf};
+ghost use Rattle.acs_lex.specs.LexFault.{MayRefuse, IsExact};
+
+use crate::fault::LexErr;
+use crate::forms::front;
+use crate::piece::Piece;
+use crate::token::Tokens;
+use std::alloc::Global;
+
+/// The tokens of the text in their order, or the fault that is met first from the left
+/// (docs/acs-language.md).
+pub fn scan(alloc: Global, text: &[u8]) -> Result<Tokens, LexErr>
+    requires { length text.now < 2 ^ 32 }
+    ensures ok { IfOk result (IsCut text.now) }
+    ensures err { IfErr result (MayRefuse text.now) }
+    ensures exactly { IsExact text.now result }
+
+    // Where the tokens stand.
+    ensures order { IfOk result (InOrder 0 (length text.now)) }
+    ensures each { IfOk result (All (IsTokenOf text.now)) }
+{
+    let total = text.len() as u32;
+    let mut tokens = Tokens::new(alloc);
+    let mut rest = text;
+    'pieces: loop {
+        match front(total, rest) {
+            Piece::End => return Ok(tokens),
+            Piece::Gap(behind) => rest = behind,
+            Piece::Token(token, behind) => {
+                tokens.push(token).map_err(|_| LexErr::NoMemory)?;
+                rest = behind;
+            }
+            Piece::Fault(err) => return Err(err),
+        }
+    }
+}

@@ -1,0 +1,32 @@
+// The tokens of ACS text.
+
+use desk_common::Items;
+
+/// The most bytes of a word, and of a variable with its ampersand.
+pub const MAX_WORD: usize = 64;
+
+/// The most bytes between the quotes of a literal.
+pub const MAX_LITERAL: usize = 110;
+
+/// The bytes of the longest sign.
+pub const MAX_SIGN: usize = 2;
+
+/// What a token is: a word, a variable, a text between quotes or a sign (docs/acs-language.md, Tokens).
+#[derive(Clone, Copy, Debug, PartialEq, Eq)]
+pub enum TokenForm {
+    Word,
+    Variable,
+    Literal,
+    Sign,
+}
+
+/// A token of a text: its form, the place of its first byte, and the place behind its last.
+#[derive(Clone, Copy, Debug, PartialEq, Eq)]
+pub struct Token {
+    pub form: TokenForm,
+    pub from: u32,
+    pub to: u32,
+}
+
+/// The tokens of a text in their order.
+pub type Tokens = Items<Token>;
