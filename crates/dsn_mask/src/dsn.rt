@@ -31,6 +31,10 @@ impl Model for Dsn {
 }
 
 impl Clone for Dsn {
+    ghost is_clone = { λ x y. y ≡ x };
+
+    ghost is_infallible = { λ _. Unit {0} };
+
     fn clone(&self) -> Result<Self, std::alloc::AllocError> {
         Ok(*self)
     }
