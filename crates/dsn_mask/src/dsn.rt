@@ -12,7 +12,8 @@ use crate::text::Text;
 use crate::{NameErr, Short};
 use std::marker::Model;
 
-/// A data set name: at most 44 bytes, qualifiers of one to eight bytes between full stops.
+/// A data set name: at most 44 bytes, qualifiers of one to eight bytes between full stops
+/// (docs/names.md, "Data set names").
 pub struct Dsn {
     text: Text<44>,
 }
