@@ -12,7 +12,8 @@ use crate::text::Text;
 use crate::{NameErr, Short};
 use std::marker::Model;
 
-/// A data set name: at most 44 bytes, qualifiers of one to eight bytes between full stops.
+/// A data set name: at most 44 bytes, qualifiers of one to eight bytes between full stops
+/// (docs/names.md, "Data set names").
 pub struct Dsn {
     text: Text<44>,
 }
@@ -31,6 +32,10 @@ impl Model for Dsn {
 }
 
 impl Clone for Dsn {
+    ghost is_clone = { λ x y. y ≡ x };
+
+    ghost is_infallible = { λ _. Unit {0} };
+
     fn clone(&self) -> Result<Self, std::alloc::AllocError> {
         Ok(*self)
     }

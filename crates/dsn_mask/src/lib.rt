@@ -1,4 +1,4 @@
-//! Names, volume serials, data set names and short texts.
+//! Names, volume serials, data set names and short texts; docs/names.md has their rules.
 #![tactic(auto)]
 
 mod byte_class;

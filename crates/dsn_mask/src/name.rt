@@ -26,6 +26,10 @@ impl Model for Name {
 }
 
 impl Clone for Name {
+    ghost is_clone = { λ x y. y ≡ x };
+
+    ghost is_infallible = { λ _. Unit {0} };
+
     fn clone(&self) -> Result<Self, std::alloc::AllocError> {
         Ok(*self)
     }

@@ -1,7 +1,8 @@
 //! Why a text is no data set name.
 use thiserror::Error;
 
-/// The first fault of a text, from the left. Places count from 0, qualifiers from 1.
+/// The first fault of a text, from the left. Places count from 0, qualifiers from 1
+/// (docs/names.md, "Data set names").
 #[derive(Clone, Copy, Debug, PartialEq, Eq, Error)]
 pub enum NameErr {
     /// The text has no byte.

@@ -27,6 +27,10 @@ impl<const N: usize> Model for Text<N> {
 }
 
 impl<const N: usize> Clone for Text<N> {
+    ghost is_clone = { λ x y. y ≡ x };
+
+    ghost is_infallible = { λ _. Unit {0} };
+
     fn clone(&self) -> Result<Self, std::alloc::AllocError> {
         Ok(*self)
     }
