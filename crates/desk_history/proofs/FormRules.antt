@@ -33,7 +33,7 @@ alloc-rule : (s : DeskState) (config : Configuration) (alloc : Alloc) (reply : R
 alloc-rule s config alloc reply after active free decided =
     let Named : Bool → Type 0 = λ used. MatchBool used (Refuses s NameInUse reply after) (FindsNoVolume s config alloc reply after ⊎ Allocates s config alloc reply after) in
     let Active : Option Configuration → Type 0 = λ a. MatchOption a (Refuses s NoConfig reply after)
-        (λ c. MatchBool (is_catalogued alloc.dsn s.sets) (Refuses s NameInUse reply after) (FindsNoVolume s c alloc reply after ⊎ Allocates s c alloc reply after)) in
+    (λ c. MatchBool (is_catalogued alloc.dsn s.sets) (Refuses s NameInUse reply after) (FindsNoVolume s c alloc reply after ⊎ Allocates s c alloc reply after)) in
     subst Active (sym active) (subst Named (sym free) decided)
 
 pub short-rule : (s : DeskState) (form : DeckForm) (alloc : Alloc) (granted : ℕ) → s.active ≡ Some (configuration_of form) → IsPacked s

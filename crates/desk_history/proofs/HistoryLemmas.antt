@@ -94,13 +94,13 @@ alloc-activations_at : (s : DeskState) (config : Configuration) (alloc : Alloc) 
 alloc-activations_at s config alloc reply after true refuses = refuse-activations s NameInUse reply after refuses
 alloc-activations_at s config alloc reply after false rule =
     elim rule [
-      inl none ↦ refuse-activations s NoVolume reply after none.refuses
+      | inl none ↦ refuse-activations s NoVolume reply after none.refuses
       | inr allocates ↦ omega (arith, ap (λ (x : DeskState). x.activations) allocates.after_is)
     ]
 
 alloc-activations : (s : DeskState) (alloc : Alloc) (reply : Reply) (after : DeskState) (active : Option Configuration)
     → MatchOption active (Refuses s NoConfig reply after)
-      (λ config. MatchBool (is_catalogued alloc.dsn s.sets) (Refuses s NameInUse reply after) (FindsNoVolume s config alloc reply after ⊎ Allocates s config alloc reply after))
+    (λ config. MatchBool (is_catalogued alloc.dsn s.sets) (Refuses s NameInUse reply after) (FindsNoVolume s config alloc reply after ⊎ Allocates s config alloc reply after))
     → after.activations ≤ s.activations + 1
 alloc-activations s alloc reply after None refuses = refuse-activations s NoConfig reply after refuses
 alloc-activations s alloc reply after (Some config) rule = alloc-activations_at s config alloc reply after (is_catalogued alloc.dsn s.sets) rule
@@ -111,7 +111,7 @@ deck-activations : (s : DeskState) (deck : List ℕ) (reply : Reply) (after : De
 deck-activations s deck reply after (Some config) refuses = refuse-activations s _ reply after refuses
 deck-activations s deck reply after None rule =
     elim rule [
-      inl refused ↦ refuse-activations s (Deck refused.fault) reply after refused.refuses
+      | inl refused ↦ refuse-activations s (Deck refused.fault) reply after refused.refuses
       | inr activates ↦ omega (arith, ap (λ (x : DeskState). x.activations) activates.after_is)
     ]
 

@@ -49,6 +49,9 @@ step-inside front rest e legal =
     let parts = Leads-split [] front (e ∷ rest) start_state legal.0 legal.1 in
     (parts.0, parts.2.0, parts.1, parts.2.1)
 
+pub place-counted : (front rest : List Entry) (e : Entry) → IsLegal (front ++ e ∷ rest) → e.answer.place ≡ length front + 1
+place-counted front rest e legal = let parts = step-inside front rest e legal in parts.3.place
+
 pub kept-repeat : (front rest : List Entry) (e kept : Entry) → IsLegal (front ++ e ∷ rest) → kept_for e.request.job e.request.number front ≡ Some kept → IsRepeat kept e
 kept-repeat front rest e kept legal found =
     let parts = step-inside front rest e legal in
@@ -61,13 +64,13 @@ granted_at : (s : DeskState) (config : Configuration) (alloc : Alloc) (set : Dat
 granted_at s config alloc set after true refuses = absurd (cc refuses.reply_is)
 granted_at s config alloc set after false rule =
     elim rule [
-      inl none ↦ absurd (cc none.refuses.reply_is)
+      | inl none ↦ absurd (cc none.refuses.reply_is)
       | inr allocates ↦ let same : allocates.set ≡ set = cc allocates.reply_is in subst (IsLawfulGrant s config alloc) same allocates.lawful
     ]
 
 granted-alloc : (s : DeskState) (alloc : Alloc) (set : DataSet) (after : DeskState) (active : Option Configuration) → s.active ≡ active
     → MatchOption active (Refuses s NoConfig (Granted set) after)
-      (λ config. MatchBool (is_catalogued alloc.dsn s.sets) (Refuses s NameInUse (Granted set) after) (FindsNoVolume s config alloc (Granted set) after ⊎ Allocates s config alloc (Granted set) after))
+    (λ config. MatchBool (is_catalogued alloc.dsn s.sets) (Refuses s NameInUse (Granted set) after) (FindsNoVolume s config alloc (Granted set) after ⊎ Allocates s config alloc (Granted set) after))
     → (config : Configuration) × (s.active ≡ Some config) × IsLawfulGrant s config alloc set
 granted-alloc s alloc set after None is refuses = absurd (cc refuses.reply_is)
 granted-alloc s alloc set after (Some config) is rule = (config, is, granted_at s config alloc set after (is_catalogued alloc.dsn s.sets) rule)

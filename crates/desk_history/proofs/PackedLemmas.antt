@@ -89,15 +89,15 @@ alloc-packed_at : (s : DeskState) (config : Configuration) (alloc : Alloc) (repl
 alloc-packed_at s config alloc reply after true active stacked rule packed = refuse-packed s NameInUse reply after rule packed
 alloc-packed_at s config alloc reply after false active stacked rule packed =
     elim rule [
-      inl none ↦ refuse-packed s NoVolume reply after none.refuses packed
+      | inl none ↦ refuse-packed s NoVolume reply after none.refuses packed
       | inr allocates ↦
-        let grown : IsPacked (catalogued s allocates.set) = rw active (stacked-grant s config alloc allocates.set stacked allocates.lawful) in
-        subst IsPacked (sym allocates.after_is) grown
+          let grown : IsPacked (catalogued s allocates.set) = rw active (stacked-grant s config alloc allocates.set stacked allocates.lawful) in
+          subst IsPacked (sym allocates.after_is) grown
     ]
 
 alloc-packed : (s : DeskState) (alloc : Alloc) (reply : Reply) (after : DeskState) (active : Option Configuration) → s.active ≡ active
     → MatchOption active (Refuses s NoConfig reply after)
-      (λ config. MatchBool (is_catalogued alloc.dsn s.sets) (Refuses s NameInUse reply after) (FindsNoVolume s config alloc reply after ⊎ Allocates s config alloc reply after))
+    (λ config. MatchBool (is_catalogued alloc.dsn s.sets) (Refuses s NameInUse reply after) (FindsNoVolume s config alloc reply after ⊎ Allocates s config alloc reply after))
     → IsPacked s → IsPacked after
 alloc-packed s alloc reply after None is rule packed = refuse-packed s NoConfig reply after rule packed
 alloc-packed s alloc reply after (Some config) is rule packed =
@@ -110,7 +110,7 @@ deck-packed s deck reply after (Some config) is rule packed = refuse-packed s _ 
 deck-packed s deck reply after None is rule packed =
     let empty : s.sets ≡ [] = rw is at packed in
     elim rule [
-      inl refused ↦ refuse-packed s (Deck refused.fault) reply after refused.refuses packed
+      | inl refused ↦ refuse-packed s (Deck refused.fault) reply after refused.refuses packed
       | inr activates ↦ activate-packed s deck reply after empty activates
     ]
 
@@ -165,4 +165,4 @@ short-rejected s config alloc stacked short =
     let volume = stacked.volume in
     let all : extents_on volume.volser s.sets ≡ extents_of s.sets = stack-filter volume.volser 0 (extents_of s.sets) stacked.mark stacked.stack in
     rw (candidates-stacked config s.sets stacked)
-      (rw all (grant-short volume.volser (extents_of s.sets) stacked.mark volume.tracks alloc.space.primary stacked.stack stacked.within short), tt)
+    (rw all (grant-short volume.volser (extents_of s.sets) stacked.mark volume.tracks alloc.space.primary stacked.stack stacked.within short), tt)

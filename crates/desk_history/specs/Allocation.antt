@@ -56,4 +56,4 @@ abbrev pub AllocRule : DeskState → Alloc → Reply → DeskState → Type 0
 AllocRule s alloc reply after =
     MatchOption s.active (Refuses s NoConfig reply after)
     (λ config. MatchBool (is_catalogued alloc.dsn s.sets) (Refuses s NameInUse reply after)
-        (FindsNoVolume s config alloc reply after ⊎ Allocates s config alloc reply after))
+    (FindsNoVolume s config alloc reply after ⊎ Allocates s config alloc reply after))

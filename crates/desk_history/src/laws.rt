@@ -1,5 +1,5 @@
 //! What holds of each legal history.
-ghost use Rattle.std.specs.Prelude.{◌≡◌, ◌++◌, ◌∷◌, List, Some};
+ghost use Rattle.std.specs.Prelude.{◌≡◌, ◌+◌, ◌++◌, ◌∷◌, List, Some, length};
 ghost use Rattle.sms_construct.specs.declared.data_set.DataSet.{DataSet};
 ghost use Rattle.sms_construct.specs.declared.entry.Entry.{Entry};
 ghost use Rattle.sms_construct.specs.declared.reply.Reply.TheVariants.{Granted};
@@ -12,6 +12,11 @@ ghost use Rattle.desk_history.specs.Tracks.{NoTrackTwice};
 /// At no time in a legal history does a track belong to two extents.
 pub fn tracks_held_once()
     ensures { (front : List Entry) (s : DeskState) → Reaches front s → NoTrackTwice (extents_of s.sets) }
+{}
+
+/// In a legal history each entry has the place at which it stands, counted from 1.
+pub fn places_in_order()
+    ensures { (front rest : List Entry) (entry : Entry) → IsLegal (front ++ entry ∷ rest) → entry.answer.place ≡ length front + 1 }
 {}
 
 /// In a legal history a number that came before gets its kept reply.

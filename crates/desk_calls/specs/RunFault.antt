@@ -1,0 +1,79 @@
+-- How a run ends: each status and its cause.
+use Rattle.std.specs.Prelude.{◌≡◌, ◌≤◌, ◌<◌, List, ℕ, [], ◌∷◌, length, codes, Option, IfSome, Err}
+use Rattle.std.specs.Io.KnownBytes.{Appends, IsAtEnd}
+use Rattle.desk_common.specs.Causes.{Rose}
+use Rattle.desk_common.specs.Fronts.{IsProperPrefix}
+use Rattle.sms_script.specs.declared.script_err.ScriptErr.{ScriptErr}
+use Rattle.sms_script.specs.declared.script_err.ScriptErr.TheVariants.{OpenBlock, NoMemory as NoMemoryForScript, NotBuilt}
+use Rattle.sms_script.specs.Script.{script_of}
+use Rattle.desk_calls.specs.Headline.{IsAnswered}
+use Rattle.desk_calls.specs.declared.status.RunStatus.{RunStatus}
+use Rattle.desk_calls.specs.declared.status.RunStatus.TheVariants.{Done, BadWords, ReadFault, WriteFault, Script, TooLong, NoMemory}
+
+-- the lists of words that ask for a run: the one word `run`
+abbrev pub AreRunWords : List (List ℕ) → Type 0
+AreRunWords words = words ≡ codes "run" ∷ []
+
+-- what is told of the source and the sink at one moment
+pub record Observed : Type 0 where
+  pub left : Option (List ℕ)
+  pub read_faults : ℕ
+  pub taken : Option (List ℕ)
+  pub write_faults : ℕ
+
+-- the sink was not written to
+pub record IsUnwritten (old new : Observed) : Type 0 where
+  pub taken : new.taken ≡ old.taken
+  pub write_faults : new.write_faults ≡ old.write_faults
+
+-- the source was read to its end and gave these bytes; where it tells its bytes, they are those
+pub record WasRead (old new : Observed) (bytes : List ℕ) : Type 0 where
+  pub told : IfSome old.left (λ left. bytes ≡ left)
+  pub end : IsAtEnd new.left
+  pub within : length bytes ≤ 16777216
+
+-- the script was answered, and the sink took the whole text
+pub record IsDone (old new : Observed) : Type 0 where
+  pub bytes : List ℕ
+  pub text : List ℕ
+  pub read : WasRead old new bytes
+  pub answered : IsAnswered bytes text
+  pub written : Appends old.taken new.taken text
+
+-- the script was answered, and the sink took a proper front of the text before its count of faults rose
+pub record IsCutOff (old new : Observed) : Type 0 where
+  pub bytes : List ℕ
+  pub text : List ℕ
+  pub front : List ℕ
+  pub read : WasRead old new bytes
+  pub answered : IsAnswered bytes text
+  pub proper : IsProperPrefix front text
+  pub written : Appends old.taken new.taken front
+  pub rose : Rose old.write_faults new.write_faults
+
+-- the bytes that were read have this fault as a script, and nothing was run
+pub record IsFaulty (old new : Observed) (err : ScriptErr) : Type 0 where
+  pub bytes : List ℕ
+  pub read : WasRead old new bytes
+  pub fault : script_of bytes ≡ Err err
+  pub unwritten : IsUnwritten old new
+
+-- the count of the source's faults rose, and nothing was run
+pub record IsUnread (old new : Observed) : Type 0 where
+  pub rose : Rose old.read_faults new.read_faults
+  pub unwritten : IsUnwritten old new
+
+-- more bytes came than a script may have, and nothing was run
+pub record IsTooLong (old new : Observed) : Type 0 where
+  pub longer : IfSome old.left (λ left. 16777216 < length left)
+  pub unwritten : IsUnwritten old new
+
+-- what each status says of what was observed before and after
+abbrev pub Ends : Observed → Observed → RunStatus → Type 0
+Ends old new Done = IsDone old new
+Ends old new BadWords = new ≡ old
+Ends old new ReadFault = IsUnread old new
+Ends old new WriteFault = IsCutOff old new
+Ends old new (Script err) = IsFaulty old new err
+Ends old new TooLong = IsTooLong old new
+Ends old new NoMemory = IsUnwritten old new

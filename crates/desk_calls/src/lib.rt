@@ -1,0 +1,12 @@
+//! The top calls of the desk.
+#![tactic(auto)]
+
+mod answering;
+mod desk;
+mod script_run;
+mod status;
+mod words;
+
+pub use desk::{MAX_SCRIPT, desk_main};
+pub use script_run::run_script;
+pub use status::RunStatus;

@@ -1,0 +1,21 @@
+//! The help and the version of the program.
+
+const HELP: &str = "smsctl - the allocation desk
+
+smsctl run        answer the script on standard input
+smsctl --help     this text
+smsctl --version  the version
+
+docs/script.md has the script's lines, the answers and the exit statuses.
+";
+
+const VERSION: &str = "smsctl 0.1.0\n";
+
+/// The text that the words ask for, if they ask for one.
+pub fn text_for(words: &[String]) -> Option<&'static str> {
+    match words {
+        [word] if word.as_str() == "--help" => Some(HELP),
+        [word] if word.as_str() == "--version" => Some(VERSION),
+        _ => None,
+    }
+}

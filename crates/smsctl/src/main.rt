@@ -1,0 +1,50 @@
+//! The desk as a program: it answers the script on standard input.
+#![tactic(auto)]
+
+mod help;
+mod words;
+
+use desk_calls::{RunStatus, desk_main};
+use sms_base::{StdSink, StdSource};
+use sms_script::ScriptErr;
+use std::io::{self, Write};
+use std::process::ExitCode;
+use words::{Words, read_words};
+
+fn main(rt: HostRuntime) -> ExitCode {
+    let status = match read_words(&rt) {
+        Words::Faulty => RunStatus::BadWords,
+        Words::NoMemory => RunStatus::NoMemory,
+        Words::Read(words) => match help::text_for(&words) {
+            Some(text) => show(&rt, text),
+            None => answer(&rt, &words),
+        },
+    };
+    report(&rt, status);
+    ExitCode::from(status.code())
+}
+
+// Answers the script on standard input.
+fn answer(rt: &HostRuntime, words: &[String]) -> RunStatus {
+    let mut src = StdSource::new(rt.reader());
+    let mut out = StdSink::new(io::writer(rt));
+    desk_main(rt.alloc(), words, &mut src, &mut out)
+}
+
+// Writes a text to standard output.
+fn show(rt: &HostRuntime, text: &str) -> RunStatus {
+    match rt.print(text) {
+        Ok(()) => RunStatus::Done,
+        Err(_) => RunStatus::WriteFault,
+    }
+}
+
+// Says a status other than 0 on standard error, with the script's fault.
+fn report(rt: &HostRuntime, status: RunStatus) {
+    let code = status.code();
+    let _ = match status {
+        RunStatus::Done => Ok(()),
+        RunStatus::Script(fault) => eprintln!(rt; "smsctl: status {code} {fault}"),
+        _ => eprintln!(rt; "smsctl: status {code}"),
+    };
+}
