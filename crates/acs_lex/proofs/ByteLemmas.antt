@@ -23,7 +23,7 @@ false_of_not : (v : Bool) → not v ≡ true → v ≡ false
 false_of_not true e = clash (sym e)
 false_of_not false e = refl
 
-same_of : (m n : ℕ) → (m == n) ≡ true → m ≡ n
+pub same_of : (m n : ℕ) → (m == n) ≡ true → m ≡ n
 same_of m n e = grind (arith, nat_tests)
 
 fails_at : (test : ℕ → Bool) (x b : ℕ) → not (test x) ≡ true → (rest : Bool) → (rest ≡ true → test b ≡ false) → (v : Bool) → (x == b) ≡ v → (v || rest) ≡ true → test b ≡ false

@@ -8,7 +8,8 @@ use Rattle.acs_lex.specs.Lexical.{IsGap}
 use Rattle.acs_lex.specs.Tokens.{IsToken, CutsInto, nothing_left, after_gap, after_token, IsCut}
 use Rattle.acs_lex.specs.LexFault.{StopsBy, FirstStopsBy, here, behind_gap, behind_token, IsFirstLexFault, MayRefuse, IsExact}
 use Rattle.acs_lex.specs.Scanning.{Front, Ends, Skips, Takes, Fails, front}
-use Rattle.acs_lex.proofs.FrontLemmas.{Stands, front_stands, stands_front, gap_shorter, token_shorter}
+use Rattle.acs_lex.proofs.FrontLemmas.{Stands, front_stands}
+use Rattle.acs_lex.proofs.OneFrontLemmas.{stands_front, gap_shorter, token_shorter}
 
 -- one thing stands at the front of a text
 
@@ -121,9 +122,6 @@ pub record FrontCut (total : ℕ) (text rest : List ℕ) (tokens : List Token) :
   pub cut : (others : List Token) → CutsInto total rest others → CutsInto total text (tokens ++ others)
   pub fault : (err : LexErr) → FirstStopsBy total rest err → FirstStopsBy total text err
 
-pub front_cut : (total : ℕ) (text : List ℕ) → FrontCut total text text []
-front_cut total text = record { cut = λ others d. d; fault = λ err d. d }
-
 stands_as : (total : ℕ) (text : List ℕ) (x : Front) → x ≡ front total text → Stands total text x
 stands_as total text x e = subst (λ z. Stands total text z) (sym e) (front_stands total text)
 
@@ -176,6 +174,3 @@ exact_fault text err a = record {
   cut = λ others d. absurd (never_both d a);
   fault = λ other d. inl (ap Err (fault_once a d));
 }
-
-pub exact_memory : (text : List ℕ) → IsExact text (Err NoMemory)
-exact_memory text = record { cut = λ tokens d. inr refl; fault = λ err d. inr refl }

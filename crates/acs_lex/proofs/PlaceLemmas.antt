@@ -10,7 +10,7 @@ use Rattle.acs_lex.specs.Lexical.{Runs, stop, on, IsForm, word, variable, litera
 use Rattle.acs_lex.specs.Tokens.{IsLongest, size_of, token_at, token, CutsInto, nothing_left, after_gap, after_token, IsCut, InOrder, token_text, IsTokenOf}
 use Rattle.acs_lex.proofs.RunLemmas.{runs_shorter}
 use Rattle.acs_lex.proofs.FormLemmas.{form_shorter}
-use Rattle.acs_lex.proofs.FrontLemmas.{gap_shorter}
+use Rattle.acs_lex.proofs.OneFrontLemmas.{gap_shorter}
 
 -- the tokens in order
 

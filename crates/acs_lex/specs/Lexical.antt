@@ -18,11 +18,11 @@ is_line_end byte = among (10 ∷ 13 ∷ []) byte
 abbrev pub is_blank : ℕ → Bool
 is_blank byte = among (32 ∷ 9 ∷ 10 ∷ 13 ∷ []) byte
 
--- a byte of a name: a letter of either case, a digit or _
+-- a byte of a name: a letter, the same in either case, a digit or _
 abbrev pub is_name_byte : ℕ → Bool
 is_name_byte byte = is_ascii_alphanumeric byte || among (codes "_") byte
 
--- a byte of a word: a letter of either case, a digit or one of these
+-- a byte of a word: a letter, the same in either case, a digit or one of these
 abbrev pub is_word_byte : ℕ → Bool
 is_word_byte byte = is_ascii_alphanumeric byte || among (codes "#@$-._%*") byte
 

@@ -49,7 +49,7 @@ InOrder from to (one ∷ tokens) = (from ≤ one.from) × (one.from < one.to) ×
 abbrev pub token_text : List ℕ → Token → List ℕ
 token_text text one = slice_range text one.from one.to
 
--- its text with the letters in upper case, as every form but a literal is read
+-- its text with the letters in upper case, as all tokens but literals are read
 abbrev pub upper_text : List ℕ → Token → List ℕ
 upper_text text one = str_to_ascii_uppercase (token_text text one)
 
