@@ -1,13 +1,13 @@
-// A library with one function.
+//! Tests of the desk across its crates.
 #![tactic(auto)]
 
-ghost use Rattle.std.specs.Prelude.{◌≡◌};
-ghost use Rattle.desk_tests.specs.Echo.{echo_of};
-
-// The `ensures` clause is the contract: what `echo` returns is `echo_of` of its argument, a definition
-// in `specs/Echo.antt`, which a caller's clause can cite too.
-pub fn echo(x: usize) -> usize
-    ensures { result ≡ echo_of x }
-{
-    x
-}
+#[cfg(test)]
+mod decks;
+#[cfg(test)]
+mod first_path;
+#[cfg(test)]
+mod hostile;
+#[cfg(test)]
+mod repeats;
+#[cfg(test)]
+mod running;
