@@ -1,6 +1,9 @@
 //! The commands that the lines of a script write.
-ghost use Rattle.std.specs.Prelude.{◌≡◌, map, IfOk};
-ghost use Rattle.sms_script.specs.Commands.{activate_of, admin, alloc_of, command_in, command_of, is_admin, job_of, number_in};
+ghost use Rattle.std.specs.Prelude.{◌≡◌, ◌∷◌, [], map, IfOk, OnOk};
+ghost use Rattle.std.specs.Char.{to_ascii_uppercase};
+ghost use Rattle.desk_common.specs.Words.{words_of};
+ghost use Rattle.sms_script.specs.Commands.{activate_of, admin, alloc_of, alloc_with, command_in, command_of, is_admin, job_of, number_in, space_in};
+ghost use Rattle.dsn_mask.specs.DataSetName.{dsn_of};
 
 use crate::number::read_number;
 use crate::operand::read_space;
@@ -32,10 +35,25 @@ pub fn read_command(
     if text.len() > MAX_LINE {
         return Ok(None);
     }
+    upper_case(buffer, text)?;
+    read_upper(alloc, buffer)
+}
+
+// Fills the buffer with the text, its letters in upper case.
+fn upper_case(buffer: &mut Vec<u8>, text: &[u8]) -> Result<(), AllocError>
+    ensures { OnOk result (buffer.new.items ≡ map to_ascii_uppercase text.now) }
+{
     buffer.clear();
     buffer.extend_from_slice(text)?;
     buffer.make_ascii_uppercase();
-    let words = words(alloc, b" ", buffer)?;
+    Ok(())
+}
+
+// The command that the words of the text write, if any.
+fn read_upper(alloc: Global, text: &[u8]) -> Result<Option<Command>, AllocError>
+    ensures { IfOk result (λ command. command ≡ command_in (words_of (32 ∷ []) text.now)) }
+{
+    let words = words(alloc, b" ", text)?;
     Ok(read_words(&words))
 }
 
@@ -77,21 +95,24 @@ fn read_activate(job: &[u8], number: &[u8], operands: &[&[u8]]) -> Option<Comman
 fn read_alloc(job: &[u8], number: &[u8], operands: &[&[u8]]) -> Option<Command>
     ensures { result ≡ alloc_of job.now number.now (map (λ word. word.now) operands.now) }
 {
-    let [dsn, operand] = operands else {
+    let [dsn, operand, others @ ..] = operands else {
         return None;
     };
-    match (
-        read_job(job),
-        read_request_number(number),
-        Dsn::parse(dsn),
-        read_space(operand),
-    ) {
-        (Some(job), Some(number), Ok(dsn), Some(space)) => {
-            let op = Op::Alloc(Alloc { dsn, space });
-            Some(Command::Whole(Request { job, number, op }))
-        }
-        _ => None,
+    if !others.is_empty() {
+        return None;
     }
+    read_allocation(job, number, dsn, operand)
+}
+
+fn read_allocation(job: &[u8], number: &[u8], dsn: &[u8], operand: &[u8]) -> Option<Command>
+    ensures { result ≡ alloc_with (job_of job.now) (number_in number.now) (dsn_of dsn.now) (space_in operand.now) }
+{
+    let job = read_job(job)?;
+    let number = read_request_number(number)?;
+    let dsn = Dsn::parse(dsn).ok()?;
+    let space = read_space(operand)?;
+    let op = Op::Alloc(Alloc { dsn, space });
+    Some(Command::Whole(Request { job, number, op }))
 }
 
 // A job is any name but the administrator's.

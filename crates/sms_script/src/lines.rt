@@ -1,6 +1,6 @@
 //! The lines of a text.
 ghost use Rattle.std.specs.Prelude.{◌≡◌, ◌≢◌, ◌≤◌, ◌<◌, ◌∷◌, ◌++◌, ℕ, length, slice_index};
-ghost use Rattle.sms_script.specs.Lines.{is_block_end, is_skipped, lines_of, text_of_line};
+ghost use Rattle.sms_script.specs.Lines.{is_blank, is_block_end, is_comment, is_skipped, lines_of, text_of_line};
 
 use crate::parts::before_last;
 
@@ -47,7 +47,21 @@ pub fn line_text(line: &[u8]) -> &[u8]
 pub fn is_skipped(text: &[u8]) -> bool
     ensures { result ≡ is_skipped text.now }
 {
-    matches!(text, [b'*', ..]) || text.iter().all(|byte| *byte == b' ')
+    is_comment(text) || is_blank(text)
+}
+
+// The first byte is an asterisk.
+fn is_comment(text: &[u8]) -> bool
+    ensures { result ≡ is_comment text.now }
+{
+    matches!(text, [b'*', ..])
+}
+
+// Only spaces, or nothing.
+fn is_blank(text: &[u8]) -> bool
+    ensures { result ≡ is_blank text.now }
+{
+    text.iter().all(|byte| *byte == b' ')
 }
 
 /// The line that ends a deck block.

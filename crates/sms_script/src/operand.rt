@@ -1,5 +1,5 @@
 //! The operands of ALLOC.
-ghost use Rattle.std.specs.Prelude.{◌≡◌, Some};
+ghost use Rattle.std.specs.Prelude.{◌≡◌, ◌==◌, ◌<◌, Some, IfSome, length, position};
 ghost use Rattle.sms_script.specs.Numbers.{number_of};
 ghost use Rattle.sms_script.specs.Commands.{space_in, space_with, tracks_in};
 
@@ -23,7 +23,7 @@ fn read_tracks(bytes: &[u8]) -> Option<Space>
     let Some(listed) = in_parentheses(bytes) else {
         return read_quantity(bytes);
     };
-    match listed.iter().position(|byte| *byte == b',') {
+    match first_comma(listed) {
         Some(comma) => read_quantities(&listed[..comma], &listed[comma + 1..]),
         None => read_quantity(listed),
     }
@@ -39,4 +39,12 @@ fn read_quantities(primary: &[u8], secondary: &[u8]) -> Option<Space>
     ensures { result ≡ space_with (number_of primary.now) (number_of secondary.now) }
 {
     Space::new(read_number(primary)?, read_number(secondary)?)
+}
+
+// The place of the first comma, if there is one.
+fn first_comma(bytes: &[u8]) -> Option<usize>
+    ensures place { result ≡ position (λ byte. byte == 44) bytes.now }
+    ensures within { IfSome result (λ place. place < length bytes.now) }
+{
+    bytes.iter().position(|byte| *byte == b',')
 }

@@ -30,8 +30,7 @@ fn push_end(alloc: Global, text: &mut Vec<u8>, entries: u64, items: u64) -> Resu
     ensures { OnOk result (text.new.items ≡ text.old.items ++ end_text entries items) }
 {
     text.extend_from_slice(b"END ")?;
-    push_number(alloc, text, entries)?;
-    text.extend_from_slice(b" ")?;
+    push_figure(alloc, text, entries)?;
     push_number(alloc, text, items)?;
     text.extend_from_slice(b"\n")
 }
@@ -57,17 +56,24 @@ fn push_head(
 ) -> Result<(), AllocError>
     ensures { OnOk result (text.new.items ≡ text.old.items ++ head_text item.now answer.now) }
 {
-    push_number(alloc, text, u64::from(item.line))?;
-    text.extend_from_slice(b" ")?;
-    push_number(alloc, text, answer.place)?;
-    text.extend_from_slice(b" ")?;
-    push_number(alloc, text, answer.first)?;
-    text.extend_from_slice(b" ")?;
-    text.extend_from_slice(item.request.job.bytes())?;
-    text.extend_from_slice(b" ")?;
-    push_number(alloc, text, u64::from(item.request.number.get()))?;
-    text.extend_from_slice(b" ")?;
+    push_places(alloc, text, item.line, answer)?;
+    push_word(text, item.request.job.bytes())?;
+    push_figure(alloc, text, u64::from(item.request.number.get()))?;
     push_reply(alloc, text, &answer.reply)
+}
+
+// The line of an item, and the places of its entry and of the first reply.
+fn push_places(
+    alloc: Global,
+    text: &mut Vec<u8>,
+    line: u32,
+    answer: &Answer,
+) -> Result<(), AllocError>
+    ensures { OnOk result (text.new.items ≡ text.old.items ++ (decimal line ++ 32 ∷ (decimal answer.now.place ++ 32 ∷ (decimal answer.now.first ++ 32 ∷ [])))) }
+{
+    push_figure(alloc, text, u64::from(line))?;
+    push_figure(alloc, text, answer.place)?;
+    push_figure(alloc, text, answer.first)
 }
 
 fn push_reply(alloc: Global, text: &mut Vec<u8>, reply: &Reply) -> Result<(), AllocError>
@@ -129,23 +135,20 @@ fn push_class(text: &mut Vec<u8>, set: &DataSet) -> Result<(), AllocError>
     ensures { OnOk result (text.new.items ≡ text.old.items ++ indented (class_text set.now)) }
 {
     text.extend_from_slice(b"  CLASS ")?;
-    push_name(text, &set.dataclas)?;
-    text.extend_from_slice(b" ")?;
-    text.extend_from_slice(set.storclas.bytes())?;
-    text.extend_from_slice(b" ")?;
-    push_name(text, &set.mgmtclas)?;
-    text.extend_from_slice(b" ")?;
+    push_word(text, name_bytes(&set.dataclas))?;
+    push_word(text, set.storclas.bytes())?;
+    push_word(text, name_bytes(&set.mgmtclas))?;
     text.extend_from_slice(set.group.bytes())?;
     text.extend_from_slice(b"\n")
 }
 
 // A name, or a hyphen for none.
-fn push_name(text: &mut Vec<u8>, name: &Option<Name>) -> Result<(), AllocError>
-    ensures { OnOk result (text.new.items ≡ text.old.items ++ name_text name.now) }
+fn name_bytes(name: &Option<Name>) -> &[u8]
+    ensures { result.now ≡ name_text name.now }
 {
     match name {
-        Some(name) => text.extend_from_slice(name.bytes()),
-        None => text.extend_from_slice(b"-"),
+        Some(name) => name.bytes(),
+        None => b"-",
     }
 }
 
@@ -162,12 +165,26 @@ fn push_extent(alloc: Global, text: &mut Vec<u8>, extent: &Extent) -> Result<(),
     ensures { OnOk result (text.new.items ≡ text.old.items ++ indented (extent_text extent.now)) }
 {
     text.extend_from_slice(b"  EXTENT ")?;
-    text.extend_from_slice(extent.volser.bytes())?;
-    text.extend_from_slice(b" ")?;
-    push_number(alloc, text, u64::from(extent.start))?;
-    text.extend_from_slice(b" ")?;
+    push_word(text, extent.volser.bytes())?;
+    push_figure(alloc, text, u64::from(extent.start))?;
     push_number(alloc, text, u64::from(extent.length))?;
     text.extend_from_slice(b"\n")
+}
+
+// A word and a blank.
+fn push_word(text: &mut Vec<u8>, word: &[u8]) -> Result<(), AllocError>
+    ensures { OnOk result (text.new.items ≡ text.old.items ++ word.now ++ 32 ∷ []) }
+{
+    text.extend_from_slice(word)?;
+    text.extend_from_slice(b" ")
+}
+
+// A number and a blank.
+fn push_figure(alloc: Global, text: &mut Vec<u8>, number: u64) -> Result<(), AllocError>
+    ensures { OnOk result (text.new.items ≡ text.old.items ++ decimal number ++ 32 ∷ []) }
+{
+    push_number(alloc, text, number)?;
+    text.extend_from_slice(b" ")
 }
 
 fn push_number(alloc: Global, text: &mut Vec<u8>, number: u64) -> Result<(), AllocError>

@@ -72,22 +72,38 @@ fn read_next<'a>(
             passed: line,
         });
     }
-    let Ok(command) = read_command(alloc, buffer, text) else {
-        return Err(ScriptErr::NoMemory);
-    };
+    match read_command(alloc, buffer, text) {
+        Ok(Some(command)) => take_command(alloc, line, command, rest),
+        Ok(None) => Err(ScriptErr::NotBuilt(line)),
+        Err(_) => Err(ScriptErr::NoMemory),
+    }
+}
+
+// What the command of this line gives, with the text behind it.
+fn take_command<'a>(
+    alloc: Global,
+    line: u32,
+    command: Command,
+    text: &'a [u8],
+) -> Result<Next<'a>, ScriptErr>
+    requires { line + length text.now < 2 ^ 32 }
+    ensures next { IfOk result (λ next. with_command line (Some command) (deck_of (lines_of text.entry.now)) (λ inside. script_from inside (line + 1) (lines_of text.entry.now)) ≡ behind (option_to_list next.item) (script_from false (next.passed + 1) (lines_of next.rest.now))) }
+    ensures fewer { IfOk result (λ next. next.passed + length next.rest.now ≤ line + length text.entry.now) }
+    ensures shorter { IfOk result (λ next. length next.rest.now ≤ length text.entry.now) }
+    ensures refused { IfErr result (IsRefusal (with_command line (Some command) (deck_of (lines_of text.entry.now)) (λ inside. script_from inside (line + 1) (lines_of text.entry.now)))) }
+{
     match command {
-        None => Err(ScriptErr::NotBuilt(line)),
-        Some(Command::Whole(request)) => Ok(Next {
+        Command::Whole(request) => Ok(Next {
             item: Some(Item { line, request }),
-            rest,
+            rest: text,
             passed: line,
         }),
-        Some(Command::Activate(number)) => read_activation(alloc, line, number, rest),
+        Command::Activate(number) => take_deck(alloc, line, number, text),
     }
 }
 
 // The activation of the deck whose block stands at the front of the text, behind the ACTIVATE of this line.
-fn read_activation<'a>(
+fn take_deck<'a>(
     alloc: Global,
     line: u32,
     number: RequestNumber,
@@ -96,6 +112,7 @@ fn read_activation<'a>(
     requires { line + length text.now < 2 ^ 32 }
     ensures next { IfOk result (λ next. with_command line (Some (Command.Activate number)) (deck_of (lines_of text.entry.now)) (λ inside. script_from inside (line + 1) (lines_of text.entry.now)) ≡ behind (option_to_list next.item) (script_from false (next.passed + 1) (lines_of next.rest.now))) }
     ensures fewer { IfOk result (λ next. next.passed + length next.rest.now ≤ line + length text.entry.now) }
+    ensures shorter { IfOk result (λ next. length next.rest.now ≤ length text.entry.now) }
     ensures refused { IfErr result (IsRefusal (with_command line (Some (Command.Activate number)) (deck_of (lines_of text.entry.now)) (λ inside. script_from inside (line + 1) (lines_of text.entry.now)))) }
 {
     let Some(block) = deck_block(text) else {
