@@ -1,0 +1,4 @@
+mod NumberLemmas
+mod LineLemmas
+mod DeckLemmas
+mod WordLemmas

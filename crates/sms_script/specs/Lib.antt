@@ -1,0 +1,7 @@
+pub mod Parts
+pub mod Lines
+pub mod Numbers
+pub mod Commands
+pub mod Script
+pub mod FaultText
+pub mod AnswerText
