@@ -1,7 +1,6 @@
 //! From the bytes of a script to the text of its answers.
-ghost use Rattle.std.specs.Prelude.{◌≡◌, ◌<◌, ◌^◌, Err, length, IfOk};
-ghost use Rattle.sms_script.specs.declared.script_err.ScriptErr.{ScriptErr as ScriptFault};
-ghost use Rattle.sms_script.specs.Script.{script_of};
+ghost use Rattle.std.specs.Prelude.{◌≡◌, ◌<◌, ◌^◌, length, IfOk, IfErr};
+ghost use Rattle.sms_script.specs.Script.{IsRefusal, script_of};
 ghost use Rattle.desk_calls.specs.Headline.{IsAnswered};
 
 use crate::script_run::run_script;
@@ -14,7 +13,7 @@ use std::alloc::Global;
 pub fn answer_text(alloc: Global, bytes: &[u8]) -> Result<Vec<u8>, ScriptErr>
     requires { length bytes.now < 2 ^ 32 }
     ensures answered { IfOk result (λ text. IsAnswered bytes.now text.items) }
-    ensures fault { (fault : ScriptFault) → result ≡ Err fault → (fault ≡ ScriptErr.NoMemory → ⊥) → script_of bytes.now ≡ Err fault }
+    ensures refused { IfErr result (IsRefusal (script_of bytes.now)) }
 {
     let script = match read_script(alloc, bytes) {
         Ok(script) => script,

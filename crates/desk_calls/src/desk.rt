@@ -14,7 +14,12 @@ pub const MAX_SCRIPT: usize = 16_777_216;
 
 /// Runs the desk as the words of the command line ask: reads a script from the source to its end, answers it
 /// on an empty desk, and writes the text of the answers to the sink.
-pub fn desk_main<S: Source, K: Sink>(alloc: Global, words: &[String], src: &mut S, out: &mut K) -> RunStatus
+pub fn desk_main<S: Source, K: Sink>(
+    alloc: Global,
+    words: &[String],
+    src: &mut S,
+    out: &mut K,
+) -> RunStatus
     ensures words { result ≡ RunStatus.BadWords ↔ (AreRunWords (map string_bytes words.now) → ⊥) }
     ensures ends { Ends
         (record { left = S.left src.old; read_faults = S.read_faults src.old; taken = K.taken out.old; write_faults = K.write_faults out.old })

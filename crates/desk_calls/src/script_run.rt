@@ -11,7 +11,11 @@ use sms_script::Item;
 use std::alloc::{AllocError, Global};
 
 /// Answers each item of the script in its order. Where memory for the list of answers is wanting, the first items were answered.
-pub fn run_script(alloc: Global, script: &[Item], mut core: Core) -> (Result<Items<Answer>, AllocError>, Core)
+pub fn run_script(
+    alloc: Global,
+    script: &[Item],
+    mut core: Core,
+) -> (Result<Items<Answer>, AllocError>, Core)
     ensures answered { IfOk result.0 (λ answers. AnswersInOrder script.now answers core result.1) }
     ensures partly { OnErr result.0 ((done : List AnswerOf) × (length done ≤ length script.now) × (result.1 ≡ core ++ entries_of done script.now)) }
     ensures legal { IsLegal result.1 }

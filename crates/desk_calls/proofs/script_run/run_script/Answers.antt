@@ -14,7 +14,7 @@ returns-then-is_err-clause-partly c =
     let less : length answers < length c.args.script.now = omega arith in (
       answers ++ answer ∷ [],
       omega (arith, length-append answers (answer ∷ [])),
-      entered-push answers c.args.script.now answer c.item-item.result _ _ _ less here c.loop-item.invariant.once c.step-answer.ensures.journal,
+      entered-push answers c.args.script.now answer c.item-item.result _ _ _ less here c.loop-item.invariant.once c.step-answer.ensures.enters.journal,
     )
 
 -- the next item is answered
@@ -27,6 +27,6 @@ loop-item-preserved c =
     let grown : c.push.new.self ≡ answers ++ answer ∷ [] = search rules in
     rw grown (record {
       each = omega (arith, length-append answers (answer ∷ []));
-      once = entered-push answers c.args.script.now answer c.item-item.result _ _ _ less here c.loop-item.invariant.once c.step-answer.ensures.journal;
-      refused = refused-push answers answer c.loop-item.invariant.refused c.step-answer.ensures.no_place;
+      once = entered-push answers c.args.script.now answer c.item-item.result _ _ _ less here c.loop-item.invariant.once c.step-answer.ensures.enters.journal;
+      refused = refused-push answers answer c.loop-item.invariant.refused c.step-answer.ensures.enters.no_place;
     })
