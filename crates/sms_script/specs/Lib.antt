@@ -3,5 +3,6 @@ pub mod Lines
 pub mod Numbers
 pub mod Commands
 pub mod Script
+pub mod Reading
 pub mod FaultText
 pub mod AnswerText

@@ -48,8 +48,3 @@ abbrev pub IsRefusal : Result (List Item) ScriptErr → ScriptErr → Type 0
 IsRefusal script (OpenBlock line) = script ≡ Err (OpenBlock line)
 IsRefusal script (NotBuilt line) = script ≡ Err (NotBuilt line)
 IsRefusal script NoMemory = Unit {0}
-
--- items before those of a script
-abbrev pub behind : List Item → Result (List Item) ScriptErr → Result (List Item) ScriptErr
-behind items (Ok others) = Ok (items ++ others)
-behind items (Err fault) = Err fault

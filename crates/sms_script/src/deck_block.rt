@@ -1,5 +1,5 @@
 //! Deck blocks.
-ghost use Rattle.std.specs.Prelude.{◌≡◌, ◌≤◌, ◌<◌, ◌+◌, ◌^◌, ℕ, length, true, false, None, Some, MatchOption};
+ghost use Rattle.std.specs.Prelude.{◌≡◌, ◌≤◌, ◌<◌, ◌+◌, ◌^◌, ℕ, length, true, false, None, Some, IfSome, MatchOption};
 ghost use Rattle.sms_script.specs.Lines.{lines_of};
 ghost use Rattle.sms_script.specs.Script.{deck_of, script_from};
 
@@ -17,9 +17,9 @@ pub struct DeckBlock<'a> {
 pub fn deck_block(text: &[u8]) -> Option<DeckBlock<'_>>
     requires { length text.now < 2 ^ 32 }
     ensures deck { MatchOption result (deck_of (lines_of text.entry.now) ≡ None) (λ block. deck_of (lines_of text.entry.now) ≡ Some block.deck.now) }
-    ensures rest { MatchOption result (Unit {0}) (λ block. (line : ℕ) → script_from true line (lines_of text.entry.now) ≡ script_from false (line + block.lines) (lines_of block.rest.now)) }
-    ensures shorter { MatchOption result (Unit {0}) (λ block. length block.rest.now ≤ length text.entry.now) }
-    ensures fits { MatchOption result (Unit {0}) (λ block. block.lines + length block.rest.now ≤ length text.entry.now) }
+    ensures rest { IfSome result (λ block. (line : ℕ) → script_from true line (lines_of text.entry.now) ≡ script_from false (line + block.lines) (lines_of block.rest.now)) }
+    ensures shorter { IfSome result (λ block. length block.rest.now ≤ length text.entry.now) }
+    ensures fits { IfSome result (λ block. block.lines + length block.rest.now ≤ length text.entry.now) }
 {
     let mut rest = text;
     let mut lines: u32 = 0;

@@ -5,6 +5,7 @@ mod command;
 mod deck_block;
 mod item;
 mod lines;
+mod next;
 mod number;
 mod operand;
 mod parts;
@@ -16,3 +17,6 @@ pub use item::{Item, Script};
 pub use printing::print;
 pub use reading::read_script;
 pub use script_err::ScriptErr;
+
+#[cfg(test)]
+mod tests;

@@ -1,18 +1,20 @@
 //! Reading a script.
-ghost use Rattle.std.specs.Prelude.{◌≡◌, ◌≤◌, ◌<◌, ◌+◌, ◌^◌, Ok, Some, false, length, IfOk, IfErr, option_to_list};
-ghost use Rattle.sms_script.specs.Lines.{lines_of};
-ghost use Rattle.sms_script.specs.Script.{IsRefusal, behind, deck_of, script_from, script_of, with_command};
+ghost use Rattle.std.specs.Prelude.{◌≡◌, ◌≤◌, ◌<◌, ◌+◌, ◌^◌, Ok, Some, length, IfOk, IfErr};
+ghost use Rattle.sms_script.specs.Script.{IsRefusal, script_of};
+ghost use Rattle.sms_script.specs.Reading.{script_after, script_at, script_behind};
 
 use crate::command::{Command, admin, read_command};
 use crate::deck_block::deck_block;
 use crate::item::{Item, Script};
 use crate::lines::{first_line, is_skipped, line_text};
+use crate::next::Next;
 use crate::script_err::ScriptErr;
 use desk_common::Items;
 use sms_construct::{Op, Request, RequestNumber};
 use std::alloc::Global;
 
-/// The script that the bytes write, or its first fault. Want of memory is answered at any line.
+/// The script that the bytes write, or its first fault (docs/script.md). It walks once over the text and
+/// copies only the decks.
 pub fn read_script(alloc: Global, bytes: &[u8]) -> Result<Script, ScriptErr>
     requires { length bytes.now < 2 ^ 32 }
     ensures script { IfOk result (λ items. script_of bytes.now ≡ Ok items) }
@@ -23,12 +25,11 @@ pub fn read_script(alloc: Global, bytes: &[u8]) -> Result<Script, ScriptErr>
     let mut rest = bytes;
     let mut passed = 0;
     while !rest.is_empty() {
-        let next = read_next(alloc, &mut buffer, passed, rest)?;
         let Next {
             item,
             rest: behind,
             passed: count,
-        } = next;
+        } = read_next(alloc, &mut buffer, passed, rest)?;
         if let Some(item) = item {
             if items.push(item).is_err() {
                 return Err(ScriptErr::NoMemory);
@@ -40,14 +41,6 @@ pub fn read_script(alloc: Global, bytes: &[u8]) -> Result<Script, ScriptErr>
     Ok(items)
 }
 
-// The item that the first line of a text gives, if any, what is behind the lines that it takes, and the number of lines up to there.
-#[derive(Drop)]
-struct Next<'a> {
-    item: Option<Item>,
-    rest: &'a [u8],
-    passed: u32,
-}
-
 // What the first line of a text gives, which is no line of a deck block.
 fn read_next<'a>(
     alloc: Global,
@@ -57,10 +50,10 @@ fn read_next<'a>(
 ) -> Result<Next<'a>, ScriptErr>
     requires some { 0 < length text.now }
     requires fits { passed + length text.now < 2 ^ 32 }
-    ensures next { IfOk result (λ next. script_from false (passed + 1) (lines_of text.entry.now) ≡ behind (option_to_list next.item) (script_from false (next.passed + 1) (lines_of next.rest.now))) }
+    ensures next { IfOk result (λ next. script_behind passed text.entry.now ≡ script_after next.item next.passed next.rest.now) }
     ensures fewer { IfOk result (λ next. next.passed + length next.rest.now ≤ passed + length text.entry.now) }
     ensures shorter { IfOk result (λ next. length next.rest.now < length text.entry.now) }
-    ensures refused { IfErr result (IsRefusal (script_from false (passed + 1) (lines_of text.entry.now))) }
+    ensures refused { IfErr result (IsRefusal (script_behind passed text.entry.now)) }
 {
     let (first, rest) = first_line(text);
     let line = passed + 1;
@@ -87,10 +80,10 @@ fn take_command<'a>(
     text: &'a [u8],
 ) -> Result<Next<'a>, ScriptErr>
     requires { line + length text.now < 2 ^ 32 }
-    ensures next { IfOk result (λ next. with_command line (Some command) (deck_of (lines_of text.entry.now)) (λ inside. script_from inside (line + 1) (lines_of text.entry.now)) ≡ behind (option_to_list next.item) (script_from false (next.passed + 1) (lines_of next.rest.now))) }
+    ensures next { IfOk result (λ next. script_at line (Some command) text.entry.now ≡ script_after next.item next.passed next.rest.now) }
     ensures fewer { IfOk result (λ next. next.passed + length next.rest.now ≤ line + length text.entry.now) }
     ensures shorter { IfOk result (λ next. length next.rest.now ≤ length text.entry.now) }
-    ensures refused { IfErr result (IsRefusal (with_command line (Some command) (deck_of (lines_of text.entry.now)) (λ inside. script_from inside (line + 1) (lines_of text.entry.now)))) }
+    ensures refused { IfErr result (IsRefusal (script_at line (Some command) text.entry.now)) }
 {
     match command {
         Command::Whole(request) => Ok(Next {
@@ -110,10 +103,10 @@ fn take_deck<'a>(
     text: &'a [u8],
 ) -> Result<Next<'a>, ScriptErr>
     requires { line + length text.now < 2 ^ 32 }
-    ensures next { IfOk result (λ next. with_command line (Some (Command.Activate number)) (deck_of (lines_of text.entry.now)) (λ inside. script_from inside (line + 1) (lines_of text.entry.now)) ≡ behind (option_to_list next.item) (script_from false (next.passed + 1) (lines_of next.rest.now))) }
+    ensures next { IfOk result (λ next. script_at line (Some (Command.Activate number)) text.entry.now ≡ script_after next.item next.passed next.rest.now) }
     ensures fewer { IfOk result (λ next. next.passed + length next.rest.now ≤ line + length text.entry.now) }
     ensures shorter { IfOk result (λ next. length next.rest.now ≤ length text.entry.now) }
-    ensures refused { IfErr result (IsRefusal (with_command line (Some (Command.Activate number)) (deck_of (lines_of text.entry.now)) (λ inside. script_from inside (line + 1) (lines_of text.entry.now)))) }
+    ensures refused { IfErr result (IsRefusal (script_at line (Some (Command.Activate number)) text.entry.now)) }
 {
     let Some(block) = deck_block(text) else {
         return Err(ScriptErr::OpenBlock(line));
@@ -126,8 +119,9 @@ fn take_deck<'a>(
         number,
         op: Op::Activate(deck),
     };
+    let item = Some(Item { line, request });
     Ok(Next {
-        item: Some(Item { line, request }),
+        item,
         rest: block.rest,
         passed: line + block.lines,
     })
