@@ -38,11 +38,11 @@ fn other_words_are_refused_and_nothing_is_read(rt: HostRuntime) -> Result<(), Fa
 fn each_failing_read_is_a_read_fault_and_nothing_is_written(rt: HostRuntime) -> Result<(), Fail> {
     let alloc = rt.alloc();
     // 31 bytes in pieces of 16: two reads give bytes, and the third finds the end
-    for call in 1..=3 {
+    for call in 1..=3u64 {
         let Outcome { status, text } = run_over(
             alloc,
             b"JOB1 1 ALLOC A.B SPACE=(TRK,1)\n",
-            vec![in alloc; call as u64]?,
+            vec![in alloc; call]?,
             Vec::new(alloc),
             100,
         )?;
@@ -66,7 +66,7 @@ fn each_failing_write_leaves_the_front_that_was_taken(rt: HostRuntime) -> Result
     let alloc = rt.alloc();
     let whole = b"1 1 1 JOB1 1 R12 NO CONFIGURATION\nEND 1 1\n";
     // 42 bytes in pieces of 7
-    for call in 1..=6 {
+    for call in 1..=6usize {
         let Outcome { status, text } = run_over(
             alloc,
             b"JOB1 1 ALLOC A.B SPACE=(TRK,1)\n",

@@ -83,8 +83,9 @@ fn push_case(
     alloc: Global,
     script: &mut Vec<u8>,
     wanted: &mut Vec<u8>,
-    number: u32,
+    number: u16,
 ) -> Result<(), Fail> {
+    let number = u32::from(number);
     let tracks = number % 7 + 1;
     let start = number / 7 * 28 + (number % 7) * (number % 7 + 1) / 2;
     let repeats = number / 2;
