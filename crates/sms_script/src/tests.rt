@@ -184,7 +184,7 @@ fn a_command_line_has_at_most_4096_bytes_before_its_line_end(rt: HostRuntime) ->
         ("", 5000, "\n", ""),
     ] {
         let mut text = Vec::from_slice(rt.alloc(), front.as_bytes())?;
-        while text.len() < length {
+        for _ in front.len()..length {
             text.push(b' ')?;
         }
         text.extend_from_slice(line_end.as_bytes())?;
