@@ -6,9 +6,7 @@ use Rattle.desk_common.specs.Words.{words_of}
 use Rattle.dsn_mask.specs.Name.{name_of}
 use Rattle.dsn_mask.specs.DataSetName.{dsn_of}
 use Rattle.sms_construct.specs.Quantities.{Quantities, request_number_of, space_of}
-use Rattle.sms_construct.specs.declared.request.Alloc.{Alloc}
 use Rattle.sms_construct.specs.declared.request.Op.TheVariants.{Alloc as AllocOp}
-use Rattle.sms_construct.specs.declared.request.Request.{Request}
 use Rattle.sms_script.specs.Parts.{behind_front, in_parentheses}
 use Rattle.sms_script.specs.Numbers.{number_of}
 use Rattle.sms_script.specs.declared.command.Command.{Command}

@@ -184,7 +184,7 @@ fn a_command_line_has_at_most_4096_bytes_before_its_line_end(rt: HostRuntime) ->
         ("", 5000, "\n", ""),
     ] {
         let mut text = Vec::from_slice(rt.alloc(), front.as_bytes())?;
-        while text.len() < length {
+        for _ in front.len()..length {
             text.push(b' ')?;
         }
         text.extend_from_slice(line_end.as_bytes())?;
@@ -298,7 +298,7 @@ fn no_items_are_printed_as_the_last_line_alone(rt: HostRuntime) -> Result<(), Fa
 fn the_items_stand_in_the_order_of_their_lines(rt: HostRuntime) -> Result<(), Fail> {
     let alloc = rt.alloc();
     let text =
-        b"SMSADMIN 1 ACTIVATE\nversion = 1\n./END\nJOB1 1 ALLOC PAY.MASTER SPACE=(TRK,(10,5))\n";
+        b"SMSADMIN 1 ACTIVATE\nversion = 1\n[storclass.SC1]\n[storgroup.SG1.volume.VOL001]\ntracks = 100\n[routine]\nstorclass = \"PROC STORCLAS SET &STORCLAS = 'SC1' END\"\nstorgroup = \"PROC STORGRP SET &STORGRP = 'SG1' END\"\n./END\nJOB1 1 ALLOC PAY.MASTER SPACE=(TRK,(10,5))\n";
     let script = read(alloc, text).map_err(|_| "script")?;
     let mut answers = Vec::new(alloc);
     answers.push(Answer {
@@ -313,7 +313,7 @@ fn the_items_stand_in_the_order_of_their_lines(rt: HostRuntime) -> Result<(), Fa
     })?;
     assert_eq!(rt; script.len(), answers.len());
     let found = print(alloc, script.as_slice(), &answers, 2)?;
-    let wanted = "1 1 1 SMSADMIN 1 A04 ACTIVATED 1\n4 2 2 JOB1 1 R18 NO VOLUME\nEND 2 2\n";
+    let wanted = "1 1 1 SMSADMIN 1 A04 ACTIVATED 1\n10 2 2 JOB1 1 R18 NO VOLUME\nEND 2 2\n";
     assert_eq!(rt; found.as_slice(), wanted.as_bytes());
     Ok(())
 }

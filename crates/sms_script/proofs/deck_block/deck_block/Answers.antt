@@ -1,6 +1,6 @@
 use Rattle.std.proofs.Common.{◌≡◌, ◌+◌, false, sym, ◌∙◌, arith}
 use Rattle.sms_script.specs.Lines.{lines_of, is_block_end}
-use Rattle.sms_script.specs.Script.{deck_of, script_from}
+use Rattle.sms_script.specs.Script.{deck_of}
 use Rattle.sms_script.proofs.DeckLemmas.{deck_goes_on, parts_go_on, script_goes_on}
 use Rattle.sms_script.proofs.deck_block.deck_block.Goals as goal
 
