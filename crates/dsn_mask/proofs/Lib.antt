@@ -1,6 +1,10 @@
+pub mod ByteTurns
 pub mod Faults
 pub mod Filled
+pub mod Greedy
 pub mod Parsing
 pub mod Pushed
+pub mod QualifierTurns
 pub mod ShortBytes
 pub mod Split
+pub mod Turns

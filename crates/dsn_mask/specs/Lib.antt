@@ -1,4 +1,8 @@
 pub mod DataSetName
+pub mod Fronts
+pub mod Mask
+pub mod MaskFault
+pub mod MaskTest
 pub mod Name
 pub mod NameFault
 pub mod Names
