@@ -6,15 +6,15 @@ use Rattle.dsn_mask.specs.MaskTest.{passes_behind, passes_somewhere, takes_first
 clash : true ≡ false → ⊥
 clash e = cc
 
-left_of_or : (v w : Bool) → v ≡ true → (v || w) ≡ true
+pub left_of_or : (v w : Bool) → v ≡ true → (v || w) ≡ true
 left_of_or v w e = rw e refl
 
-right_of_or : (v w : Bool) → w ≡ true → (v || w) ≡ true
+pub right_of_or : (v w : Bool) → w ≡ true → (v || w) ≡ true
 right_of_or true w e = refl
 right_of_or false w e = e
 
 -- by cases of an or
-by_either : {A : Type 0} (v w : Bool) → (v || w) ≡ true → (v ≡ true → A) → (w ≡ true → A) → A
+pub by_either : {A : Type 0} (v w : Bool) → (v || w) ≡ true → (v ≡ true → A) → (w ≡ true → A) → A
 by_either true w e f g = f refl
 by_either false w e f g = g e
 

@@ -1,7 +1,10 @@
 pub mod ByteTurns
 pub mod Faults
 pub mod Filled
+pub mod Filtering
+pub mod Fitting
 pub mod Greedy
+pub mod MaskFaults
 pub mod Parsing
 pub mod Pushed
 pub mod QualifierTurns

@@ -5,10 +5,10 @@ use Rattle.std.proofs.lemmas.Bool.Decides.{nat_tests}
 use Rattle.dsn_mask.specs.Qualifiers.{qualifiers_of, onto}
 use Rattle.dsn_mask.specs.MaskTest.{is_empty}
 
-differs : (x y : ℕ) → x ≢ y → (x == y) ≡ false
+pub differs : (x y : ℕ) → x ≢ y → (x == y) ≡ false
 differs x y ne = grind (arith, nat_tests)
 
-agrees : (x y : ℕ) → x ≡ y → (x == y) ≡ true
+pub agrees : (x y : ℕ) → x ≡ y → (x == y) ≡ true
 agrees x y e = grind (arith, nat_tests)
 
 pub qualifiers_of-stop : (xs : List ℕ) (n : ℕ) → ((k : ℕ) → k < n → get_or xs k 0 ≢ 46) → n < length xs → get_or xs n 0 ≡ 46

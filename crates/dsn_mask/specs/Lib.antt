@@ -1,4 +1,5 @@
 pub mod DataSetName
+pub mod Filter
 pub mod Fronts
 pub mod Mask
 pub mod MaskFault
