@@ -69,7 +69,7 @@ filter_from value include exclude e =
 filter_passes : (value : List ℕ) (include exclude : List Entry) → PassesFilter value include exclude → passes_filter value include exclude ≡ true
 filter_passes value include exclude p =
     and_true _ _ (elim p.included [
-      inl none ↦ left_of_or (is_empty include) (list_any (entry_fits value) include) (empty_passes include none)
+      | inl none ↦ left_of_or (is_empty include) (list_any (entry_fits value) include) (empty_passes include none)
       | inr some ↦ right_of_or (is_empty include) (list_any (entry_fits value) include) (some_passes value include some)
     ]) (not_true _ (λ h. p.not_excluded (some_fits value exclude h)))
 

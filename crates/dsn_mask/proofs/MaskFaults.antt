@@ -136,7 +136,7 @@ clear_there dotted bytes zero k clear less = absurd (omega arith)
 clear_there dotted bytes (suc n) k clear less =
     let parts = both _ _ clear in
     elim (order_of n k) [
-      inl more ↦ let same : k ≡ n = omega arith in ap (fault_at dotted bytes) same ∙ none_of _ parts.1
+      | inl more ↦ let same : k ≡ n = omega arith in ap (fault_at dotted bytes) same ∙ none_of _ parts.1
       | inr before ↦ clear_there dotted bytes n k parts.0 before
     ]
 
@@ -153,8 +153,7 @@ not_clear dotted bytes at err less found =
 comes_first : (dotted : Bool) (bytes : List ℕ) (at : ℕ) (err other : MaskErr) → 1 ≤ length bytes → length bytes ≤ 64 → is_clear_below dotted bytes at ≡ true → ChosenAt dotted bytes at err → IsFault dotted bytes other → ComesFirst err other
 comes_first dotted bytes at err other some short clear m fault =
     let place : place_of err ≡ at = chosen_place _ _ _ _ at err m in
-    let least : place_of other ≡ at → number_of err ≤ number_of other = λ same. subst (λ n. n ≤ number_of other) (sym (chosen_number _ _ _ _ at err m)) (named_least _ _ _ _ other (named_at dotted bytes at other some short fault same)) in
-    (
+    let least : place_of other ≡ at → number_of err ≤ number_of other = λ same. subst (λ n. n ≤ number_of other) (sym (chosen_number _ _ _ _ at err m)) (named_least _ _ _ _ other (named_at dotted bytes at other some short fault same)) in (
       elim (order_of at (place_of other)) [ inl later ↦ omega arith | inr before ↦ absurd (no_fault_there dotted bytes (place_of other) other some short (clear_there dotted bytes at (place_of other) clear before) fault refl) ],
       λ same. least (sym same ∙ place),
     )

@@ -4,8 +4,6 @@ use Rattle.dsn_mask.specs.MaskTest.{is_two_stars, piece_fits, qualifiers_fit}
 use Rattle.dsn_mask.proofs.Greedy.{Walk, walk_first, walk_star, walk_pair, walk_back, walk_stuck, walk_ends}
 use Rattle.dsn_mask.proofs.Turns.{cost, star_less}
 
-
-
 abbrev pub QualifierWalk : List (List ℕ) → List (List ℕ) → List (List ℕ) → List (List ℕ) → List (List ℕ) → List (List ℕ) → Type 0
 QualifierWalk mask text ps xs qs ys = Walk is_two_stars piece_fits mask text ps xs qs ys
 

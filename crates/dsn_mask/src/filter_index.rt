@@ -46,7 +46,12 @@ fn is_included<L: Ledger>(include: &[Entry], value: &Short, steps: &mut Steps<L>
     include.is_empty() || any_fits(include, value, steps)
 }
 
-fn passes<L: Ledger>(include: &[Entry], exclude: &[Entry], value: &Short, steps: &mut Steps<L>) -> bool
+fn passes<L: Ledger>(
+    include: &[Entry],
+    exclude: &[Entry],
+    value: &Short,
+    steps: &mut Steps<L>,
+) -> bool
     ensures value { result ≡ passes_filter value.now include.now exclude.now }
     ensures counted { steps.old ≤ steps.new }
 {
