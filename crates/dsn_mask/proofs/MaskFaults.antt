@@ -1,6 +1,6 @@
 -- Faults of the texts of masks, and the first of them.
-use Rattle.std.proofs.Common.{Bool, ◌≡◌, ◌≤◌, ◌<◌, ◌+◌, ℕ, zero, suc, true, false, List, [], ◌∷◌, length, get_or, refl, sym, ◌∙◌, ap, subst, arith, inl, inr, ◌⊎◌}
-use Rattle.std.specs.Prelude.{◌&&◌, ◌==◌, not, is_none, Option, Some, None, if◌then◌else◌, nat_le, nat_lt}
+use Rattle.std.proofs.Common.{Bool, ◌≡◌, ◌≤◌, ◌<◌, ℕ, zero, suc, true, false, List, length, get_or, refl, sym, ◌∙◌, ap, subst, arith, inl, inr}
+use Rattle.std.specs.Prelude.{◌&&◌, ◌==◌, is_none, Option, Some, None, if◌then◌else◌}
 use Rattle.std.proofs.lemmas.Bool.{leb-true, ltb-true, eqb-true}
 use Rattle.std.proofs.lemmas.List.{get_or_past}
 use Rattle.dsn_mask.specs.MaskFault.{is_third_star, is_misplaced_pair, is_bad_byte_at, is_stray_stop, IsFault, place_of, number_of, ComesFirst, IsFirstFault, fault_by, fault_at, is_clear_below, has_no_fault}
@@ -134,7 +134,7 @@ none_of (Some err) e = absurd (not_both e)
 clear_there : (dotted : Bool) (bytes : List ℕ) (n k : ℕ) → is_clear_below dotted bytes n ≡ true → k < n → fault_at dotted bytes k ≡ None
 clear_there dotted bytes zero k clear less = absurd (omega arith)
 clear_there dotted bytes (suc n) k clear less =
-    let parts = both _ _ clear in
+    let parts = both (is_clear_below dotted bytes n) (is_none (fault_at dotted bytes n)) clear in
     elim (order_of n k) [
       | inl more ↦ let same : k ≡ n = omega arith in ap (fault_at dotted bytes) same ∙ none_of _ parts.1
       | inr before ↦ clear_there dotted bytes n k parts.0 before

@@ -1,5 +1,5 @@
 -- What a mask fits (docs/acs-language.md, "Masks").
-use Rattle.std.specs.Prelude.{◌≡◌, ◌≢◌, ℕ, List, [], ◌∷◌}
+use Rattle.std.specs.Prelude.{◌≢◌, ℕ, List, [], ◌∷◌}
 use Rattle.dsn_mask.specs.Qualifiers.{qualifiers_of}
 
 -- what is left of a list from some place on
