@@ -8,6 +8,7 @@ use Rattle.dsn_mask.specs.declared.mask_err.MaskErr.TheVariants.{Empty, TooLong,
 abbrev pub is_mask_byte : ℕ → Bool
 is_mask_byte byte = is_name_byte byte || (byte == 45 || (byte == 95 || (byte == 46 || (byte == 37 || byte == 42))))
 
+-- a star (42) stands at the place
 abbrev pub is_star_at : List ℕ → ℕ → Bool
 is_star_at bytes at = slice_index bytes at == 42
 
@@ -31,10 +32,11 @@ opens_qualifier bytes at = at == 0 || slice_index bytes (at - 1) == 46
 abbrev pub closes_qualifier : List ℕ → ℕ → Bool
 closes_qualifier bytes at = at == length bytes || slice_index bytes at == 46
 
--- two stars that may not stand there: between full stops they may be a whole qualifier
+-- two stars that may not stand there; in a dotted text they may be a whole qualifier
 abbrev pub is_misplaced_pair : Bool → List ℕ → ℕ → Bool
 is_misplaced_pair dotted bytes at = is_first_of_two bytes at && not (dotted && (opens_qualifier bytes at && closes_qualifier bytes (at + 2)))
 
+-- a byte that no mask has
 abbrev pub is_bad_byte_at : List ℕ → ℕ → Bool
 is_bad_byte_at bytes at = nat_lt at (length bytes) && not (is_mask_byte (slice_index bytes at))
 
@@ -42,7 +44,7 @@ is_bad_byte_at bytes at = nat_lt at (length bytes) && not (is_mask_byte (slice_i
 abbrev pub is_stray_stop : List ℕ → ℕ → Bool
 is_stray_stop bytes at = slice_index bytes at == 46 && (opens_qualifier bytes at || at + 1 == length bytes)
 
--- a fault of a text. It is dotted where full stops part its qualifiers; else it is one piece, with no stray stop and no good pair of stars
+-- a fault of a text: a dotted one has qualifiers between its full stops, the other is one piece, in which no full stop is stray and no two stars may stand
 abbrev pub IsFault : Bool → List ℕ → MaskErr → Type 0
 IsFault dotted bytes Empty = bytes ≡ []
 IsFault dotted bytes TooLong = 64 < length bytes
@@ -86,9 +88,11 @@ IsMask bytes = (err : MaskErr) → IsFault true bytes err → ⊥
 abbrev pub IsSimple : List ℕ → Type 0
 IsSimple bytes = (err : MaskErr) → IsFault false bytes err → ⊥
 
+-- the first fault of a text that is to be a mask
 abbrev pub IsFirstMaskFault : List ℕ → MaskErr → Type 0
 IsFirstMaskFault bytes err = IsFirstFault true bytes err
 
+-- the first fault of a text that is to be a simple mask
 abbrev pub IsFirstSimpleFault : List ℕ → MaskErr → Type 0
 IsFirstSimpleFault bytes err = IsFirstFault false bytes err
 
@@ -108,6 +112,7 @@ abbrev pub is_clear_below : Bool → List ℕ → ℕ → Bool
 is_clear_below dotted bytes zero = true
 is_clear_below dotted bytes (suc at) = is_clear_below dotted bytes at && is_none (fault_at dotted bytes at)
 
+-- 1 to 64 bytes with no fault at any place
 abbrev pub has_no_fault : Bool → List ℕ → Bool
 has_no_fault dotted bytes = nat_le 1 (length bytes) && (nat_le (length bytes) 64 && is_clear_below dotted bytes (length bytes))
 

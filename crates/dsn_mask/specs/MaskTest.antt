@@ -16,6 +16,7 @@ abbrev pub takes_first : {I : Type 0} → (I → Bool) → (List I → Bool) →
 takes_first one test [] = false
 takes_first one test (item ∷ items) = one item && test items
 
+-- no item is left
 abbrev pub is_empty : {I : Type 0} → List I → Bool
 is_empty [] = true
 is_empty (item ∷ items) = false
@@ -26,9 +27,11 @@ fits_items star takes [] items = is_empty items
 fits_items star takes (symbol ∷ symbols) items =
     if star symbol then passes_somewhere (fits_items star takes symbols) items else takes_first (takes symbol) (fits_items star takes symbols) items
 
+-- `*` (42)
 abbrev pub is_star : ℕ → Bool
 is_star symbol = symbol == 42
 
+-- `%` (37) takes any byte, another symbol its equal
 abbrev pub takes_byte : ℕ → ℕ → Bool
 takes_byte symbol byte = symbol == 37 || symbol == byte
 
@@ -36,6 +39,7 @@ takes_byte symbol byte = symbol == 37 || symbol == byte
 abbrev pub piece_fits : List ℕ → List ℕ → Bool
 piece_fits piece bytes = fits_items is_star takes_byte piece bytes
 
+-- the qualifier `**`
 abbrev pub is_two_stars : List ℕ → Bool
 is_two_stars (first ∷ second ∷ []) = first == 42 && second == 42
 is_two_stars _ = false

@@ -86,10 +86,9 @@ impl Mask {
         self.text.bytes()
     }
 
-    /// Whether the value fits. Each turn goes on by a piece or a byte, or back to the last star, one
-    /// later; earlier stars are never tried again. So with m qualifiers of the mask and n of the value
-    /// there are at most (m + 1) * (n + 1) * (m + 1) comparisons of a piece with a qualifier, and one of
-    /// these takes at most (p + 1) * (q + 1) * (p + 1) turns for p bytes against q.
+    /// Whether the value fits. Where nothing fits any more the match goes on behind the last `**`, one
+    /// qualifier later, and never back to an earlier one. So with s of them m qualifiers against n take
+    /// at most (s + 1) * (m + 1) * (n + 1) turns, each one piece against one qualifier or none.
     pub fn matches(&self, value: &Short) -> bool
         ensures exact { IsTrue result ↔ MaskFits self.now value.now }
         ensures value { result ≡ mask_fits self.now value.now }

@@ -86,8 +86,9 @@ impl Simple {
         self.text.bytes()
     }
 
-    /// Whether the value fits. Only the last star is ever gone back to, so p bytes against q take at most
-    /// (p + 1) * (q + 1) * (p + 1) turns.
+    /// Whether the value fits. Where nothing fits any more the match goes on behind the last `*`, one byte
+    /// later, and never back to an earlier one. So with s of them p bytes against q take at most
+    /// (s + 1) * (p + 1) * (q + 1) turns.
     pub fn matches(&self, value: &Short) -> bool
         ensures exact { IsTrue result ↔ SimpleFits self.now value.now }
         ensures value { result ≡ simple_fits self.now value.now }
