@@ -77,7 +77,7 @@ bad_first_is s n q some bad = with_fault s n q _ (record { place = s; met = bad_
 initial_is_good : (b : ℕ) → is_initial b ≡ true → is_qualifier_byte b ≡ true
 initial_is_good b e = rw e refl
 
-order_of : (i k : ℕ) → (i ≤ k) ⊎ (k < i)
+pub order_of : (i k : ℕ) → (i ≤ k) ⊎ (k < i)
 order_of i k = grind arith
 
 below : (i k : ℕ) (q : List ℕ) → ((j : ℕ) → j < i → is_qualifier_byte (get_or q j 0) ≡ true) → is_qualifier_byte (get_or q k 0) ≡ false → i ≤ k

@@ -1,6 +1,13 @@
+pub mod ByteTurns
 pub mod Faults
 pub mod Filled
+pub mod Filtering
+pub mod Fitting
+pub mod Greedy
+pub mod MaskFaults
 pub mod Parsing
 pub mod Pushed
+pub mod QualifierTurns
 pub mod ShortBytes
 pub mod Split
+pub mod Turns

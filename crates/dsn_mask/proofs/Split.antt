@@ -1,13 +1,14 @@
 -- The first qualifier of a text.
-use Rattle.std.proofs.Common.{◌≡◌, ◌≢◌, ◌<◌, ℕ, zero, suc, true, false, List, [], ◌∷◌, length, get_or, take, drop, refl, arith}
-use Rattle.std.specs.Prelude.{◌==◌}
+use Rattle.std.proofs.Common.{Bool, ◌≡◌, ◌≢◌, ◌<◌, ℕ, zero, suc, true, false, List, [], ◌∷◌, length, get_or, take, drop, refl, arith}
+use Rattle.std.specs.Prelude.{◌==◌, if◌then◌else◌}
 use Rattle.std.proofs.lemmas.Bool.Decides.{nat_tests}
-use Rattle.dsn_mask.specs.Qualifiers.{qualifiers_of}
+use Rattle.dsn_mask.specs.Qualifiers.{qualifiers_of, onto}
+use Rattle.dsn_mask.specs.MaskTest.{is_empty}
 
-differs : (x y : ℕ) → x ≢ y → (x == y) ≡ false
+pub differs : (x y : ℕ) → x ≢ y → (x == y) ≡ false
 differs x y ne = grind (arith, nat_tests)
 
-agrees : (x y : ℕ) → x ≡ y → (x == y) ≡ true
+pub agrees : (x y : ℕ) → x ≡ y → (x == y) ≡ true
 agrees x y e = grind (arith, nat_tests)
 
 pub qualifiers_of-stop : (xs : List ℕ) (n : ℕ) → ((k : ℕ) → k < n → get_or xs k 0 ≢ 46) → n < length xs → get_or xs n 0 ≡ 46
@@ -23,3 +24,16 @@ qualifiers_of-one [] before = refl
 qualifiers_of-one (x ∷ xs) before =
     let rest = qualifiers_of-one xs (λ k lt. before (suc k) (omega arith)) in
     rw (differs x 46 (before 0 (omega arith)), rest) refl
+
+onto-some : (b : ℕ) (qs : List (List ℕ)) → is_empty (onto b qs) ≡ false
+onto-some b [] = refl
+onto-some b (q ∷ qs) = refl
+
+some_at : (b : ℕ) (bs : List ℕ) (stop : Bool) → is_empty (if stop then [] ∷ qualifiers_of bs else onto b (qualifiers_of bs)) ≡ false
+some_at b bs true = refl
+some_at b bs false = onto-some b (qualifiers_of bs)
+
+-- each text has a qualifier
+pub qualifiers_of-some : (xs : List ℕ) → is_empty (qualifiers_of xs) ≡ false
+qualifiers_of-some [] = refl
+qualifiers_of-some (b ∷ bs) = some_at b bs (b == 46)

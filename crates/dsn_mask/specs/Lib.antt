@@ -1,4 +1,9 @@
 pub mod DataSetName
+pub mod Filter
+pub mod Fronts
+pub mod Mask
+pub mod MaskFault
+pub mod MaskTest
 pub mod Name
 pub mod NameFault
 pub mod Names

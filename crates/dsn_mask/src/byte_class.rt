@@ -3,6 +3,7 @@ ghost use Rattle.std.specs.Prelude.{◌≡◌, true};
 ghost use Rattle.std.specs.List.{AllPass, list_all};
 ghost use Rattle.dsn_mask.specs.Name.{is_digit, is_initial, is_name_byte, is_short_byte, is_literal_byte};
 ghost use Rattle.dsn_mask.specs.DataSetName.{is_qualifier_byte};
+ghost use Rattle.dsn_mask.specs.MaskFault.{is_mask_byte};
 
 pub fn is_digit(byte: u8) -> bool
     ensures { result ≡ is_digit byte }
@@ -62,4 +63,10 @@ pub fn is_qualifier_byte(byte: u8) -> bool
     ensures { result ≡ is_qualifier_byte byte }
 {
     is_name_byte(byte) || byte == b'-'
+}
+
+pub fn is_mask_byte(byte: u8) -> bool
+    ensures { result ≡ is_mask_byte byte }
+{
+    is_name_byte(byte) || matches!(byte, b'-' | b'_' | b'.' | b'%' | b'*')
 }

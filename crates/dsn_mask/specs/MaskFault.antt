@@ -1,0 +1,125 @@
+-- The texts of masks, and why a text is none (docs/acs-language.md, "Masks").
+use Rattle.std.specs.Prelude.{◌≡◌, ◌≤◌, ◌<◌, ◌+◌, ◌-◌, ◌==◌, ◌&&◌, ◌||◌, ℕ, zero, suc, Bool, true, false, not, List, [], length, nat_le, nat_lt, slice_index, Option, None, Some, is_none, if◌then◌else◌}
+use Rattle.dsn_mask.specs.Name.{is_name_byte}
+use Rattle.dsn_mask.specs.declared.mask_err.MaskErr.{MaskErr}
+use Rattle.dsn_mask.specs.declared.mask_err.MaskErr.TheVariants.{Empty, TooLong, ThreeStars, StarsNotAlone, BadByte, EmptyPiece}
+
+-- A to Z, 0 to 9, #, @, $, -, _, the full stop, % and *
+abbrev pub is_mask_byte : ℕ → Bool
+is_mask_byte byte = is_name_byte byte || (byte == 45 || (byte == 95 || (byte == 46 || (byte == 37 || byte == 42))))
+
+-- a star (42) stands at the place
+abbrev pub is_star_at : List ℕ → ℕ → Bool
+is_star_at bytes at = slice_index bytes at == 42
+
+-- so many bytes before the place stands a star
+abbrev pub is_star_before : List ℕ → ℕ → ℕ → Bool
+is_star_before bytes at back = nat_le back at && is_star_at bytes (at - back)
+
+-- the third star of a run
+abbrev pub is_third_star : List ℕ → ℕ → Bool
+is_third_star bytes at = is_star_at bytes at && (is_star_before bytes at 1 && (is_star_before bytes at 2 && not (is_star_before bytes at 3)))
+
+-- the first star of a run of exactly two
+abbrev pub is_first_of_two : List ℕ → ℕ → Bool
+is_first_of_two bytes at = is_star_at bytes at && (is_star_at bytes (at + 1) && (not (is_star_at bytes (at + 2)) && not (is_star_before bytes at 1)))
+
+-- at the text's front or behind a full stop
+abbrev pub opens_qualifier : List ℕ → ℕ → Bool
+opens_qualifier bytes at = at == 0 || slice_index bytes (at - 1) == 46
+
+-- at the text's end or before a full stop
+abbrev pub closes_qualifier : List ℕ → ℕ → Bool
+closes_qualifier bytes at = at == length bytes || slice_index bytes at == 46
+
+-- two stars that may not stand there; in a dotted text they may be a whole qualifier
+abbrev pub is_misplaced_pair : Bool → List ℕ → ℕ → Bool
+is_misplaced_pair dotted bytes at = is_first_of_two bytes at && not (dotted && (opens_qualifier bytes at && closes_qualifier bytes (at + 2)))
+
+-- a byte that no mask has
+abbrev pub is_bad_byte_at : List ℕ → ℕ → Bool
+is_bad_byte_at bytes at = nat_lt at (length bytes) && not (is_mask_byte (slice_index bytes at))
+
+-- a full stop that opens the text, follows another or ends the text
+abbrev pub is_stray_stop : List ℕ → ℕ → Bool
+is_stray_stop bytes at = slice_index bytes at == 46 && (opens_qualifier bytes at || at + 1 == length bytes)
+
+-- a fault of a text: a dotted one has qualifiers between its full stops, the other is one piece, in which no full stop is stray and no two stars may stand
+abbrev pub IsFault : Bool → List ℕ → MaskErr → Type 0
+IsFault dotted bytes Empty = bytes ≡ []
+IsFault dotted bytes TooLong = 64 < length bytes
+IsFault dotted bytes (ThreeStars at) = is_third_star bytes at ≡ true
+IsFault dotted bytes (StarsNotAlone at) = is_misplaced_pair dotted bytes at ≡ true
+IsFault dotted bytes (BadByte at) = is_bad_byte_at bytes at ≡ true
+IsFault dotted bytes (EmptyPiece at) = (dotted && is_stray_stop bytes at) ≡ true
+
+-- where a fault is; an empty or too long text has it before all bytes
+abbrev pub place_of : MaskErr → ℕ
+place_of Empty = 0
+place_of TooLong = 0
+place_of (ThreeStars at) = at
+place_of (StarsNotAlone at) = at
+place_of (BadByte at) = at
+place_of (EmptyPiece at) = at
+
+-- the order of the refusals
+abbrev pub number_of : MaskErr → ℕ
+number_of Empty = 1
+number_of TooLong = 2
+number_of (ThreeStars at) = 3
+number_of (StarsNotAlone at) = 4
+number_of (BadByte at) = 5
+number_of (EmptyPiece at) = 6
+
+-- at no later place than another fault, and at one place of no higher number
+abbrev pub ComesFirst : MaskErr → MaskErr → Type 0
+ComesFirst err other = (place_of err ≤ place_of other) × (place_of err ≡ place_of other → number_of err ≤ number_of other)
+
+-- the first of all faults of a text
+pub record IsFirstFault (dotted : Bool) (bytes : List ℕ) (err : MaskErr) : Type 0 where
+  pub met : IsFault dotted bytes err
+  pub first : (other : MaskErr) → IsFault dotted bytes other → ComesFirst err other
+
+-- a mask is a text with no fault, between whose full stops its qualifiers stand
+abbrev pub IsMask : List ℕ → Type 0
+IsMask bytes = (err : MaskErr) → IsFault true bytes err → ⊥
+
+-- a simple mask is a text with no fault, of one piece
+abbrev pub IsSimple : List ℕ → Type 0
+IsSimple bytes = (err : MaskErr) → IsFault false bytes err → ⊥
+
+-- the first fault of a text that is to be a mask
+abbrev pub IsFirstMaskFault : List ℕ → MaskErr → Type 0
+IsFirstMaskFault bytes err = IsFirstFault true bytes err
+
+-- the first fault of a text that is to be a simple mask
+abbrev pub IsFirstSimpleFault : List ℕ → MaskErr → Type 0
+IsFirstSimpleFault bytes err = IsFirstFault false bytes err
+
+-- the same as tests
+
+-- the first that passes of the four tests of a place
+abbrev pub fault_by : Bool → Bool → Bool → Bool → ℕ → Option MaskErr
+fault_by third pair bad stray at =
+    if third then Some (ThreeStars at) else if pair then Some (StarsNotAlone at) else if bad then Some (BadByte at) else if stray then Some (EmptyPiece at) else None
+
+-- the fault at a place, if any
+abbrev pub fault_at : Bool → List ℕ → ℕ → Option MaskErr
+fault_at dotted bytes at = fault_by (is_third_star bytes at) (is_misplaced_pair dotted bytes at) (is_bad_byte_at bytes at) (dotted && is_stray_stop bytes at) at
+
+-- no fault at the first so many places
+abbrev pub is_clear_below : Bool → List ℕ → ℕ → Bool
+is_clear_below dotted bytes zero = true
+is_clear_below dotted bytes (suc at) = is_clear_below dotted bytes at && is_none (fault_at dotted bytes at)
+
+-- 1 to 64 bytes with no fault at any place
+abbrev pub has_no_fault : Bool → List ℕ → Bool
+has_no_fault dotted bytes = nat_le 1 (length bytes) && (nat_le (length bytes) 64 && is_clear_below dotted bytes (length bytes))
+
+-- the mask that the bytes spell, if any
+abbrev pub mask_of : List ℕ → Option (List ℕ)
+mask_of bytes = if has_no_fault true bytes then Some bytes else None
+
+-- the simple mask that the bytes spell, if any
+abbrev pub simple_of : List ℕ → Option (List ℕ)
+simple_of bytes = if has_no_fault false bytes then Some bytes else None
