@@ -1,0 +1,85 @@
+// Names of variables and words.
+ghost use Rattle.std.specs.Prelude.{◌≡◌, ◌≤◌, ◌<◌, length};
+ghost use Rattle.std.specs.Str.{str_to_ascii_uppercase};
+ghost use Rattle.acs_tree.specs.Ident.{IsIdent};
+
+use dsn_mask::Text;
+use std::marker::Model;
+
+/// The most bytes of an Ident.
+pub const MAX_IDENT: usize = 64;
+
+/// At most 64 bytes with no small letter: a word, or a variable without its ampersand.
+pub struct Ident {
+    text: Text<64>,
+}
+
+impl Model for Ident {
+    ghost use Rattle.std.specs.Prelude.{List, ℕ};
+    ghost use Rattle.acs_tree.specs.Ident.{IsIdent};
+
+    ghost Value = { List ℕ };
+
+    ghost view = { λ s. s.text };
+
+    ghost invariant = { λ s. IsIdent s.text };
+
+    ghost inverse = { λ xs. record { text = xs } };
+}
+
+impl Clone for Ident {
+    ghost is_clone = { λ x y. y ≡ x };
+
+    ghost is_infallible = { λ _. Unit {0} };
+
+    fn clone(&self) -> Result<Self, std::alloc::AllocError> {
+        Ok(*self)
+    }
+}
+
+impl Copy for Ident {}
+
+impl PartialEq for Ident {
+    ghost use Rattle.std.specs.Prelude.{nat_eq};
+    ghost use Rattle.std.specs.Cmp.Lexicographic.{pointwise};
+    ghost use Rattle.std.specs.Cmp.Rules.{comparing};
+    ghost use Rattle.std.proofs.Common.{rules};
+
+    ghost eq = { pointwise nat_eq };
+
+    ghost laws = { Prim.search (comparing, rules) };
+
+    fn eq(&self, other: &Ident) -> bool {
+        self.bytes() == other.bytes()
+    }
+}
+
+impl Eq for Ident {
+    ghost use Rattle.std.specs.Cmp.Rules.{comparing};
+    ghost use Rattle.std.proofs.Common.{rules};
+
+    ghost laws = { Prim.search (comparing, rules) };
+}
+
+impl Ident {
+    /// The text with its letters in upper case.
+    pub fn upper(bytes: &[u8]) -> Self
+        requires { length bytes.now ≤ 64 }
+        ensures { result ≡ str_to_ascii_uppercase bytes.now }
+    {
+        let mut upper = [0; MAX_IDENT];
+        let upper = &mut upper[..bytes.len()];
+        upper.copy_from_slice(bytes);
+        upper.make_ascii_uppercase();
+        Ident {
+            text: Text::new(upper),
+        }
+    }
+
+    pub fn bytes(&self) -> &[u8]
+        ensures bytes { result.now ≡ self.now }
+        ensures form { IsIdent self.now }
+    {
+        self.text.bytes()
+    }
+}
