@@ -4,3 +4,4 @@ pub mod PackedLemmas
 pub mod HistoryLemmas
 pub mod LawLemmas
 pub mod FormRules
+pub mod StateLemmas

@@ -9,6 +9,11 @@ ghost use Rattle.desk_history.specs.History.{IsLegal, Reaches};
 ghost use Rattle.desk_history.specs.Grants.{GrantsLawfully};
 ghost use Rattle.desk_history.specs.Tracks.{NoTrackTwice};
 
+/// The entries of a legal history determine the state after it.
+pub fn one_state()
+    ensures { (history : List Entry) (s t : DeskState) → Reaches history s → Reaches history t → s ≡ t }
+{}
+
 /// At no time in a legal history does a track belong to two extents.
 pub fn tracks_held_once()
     ensures { (front : List Entry) (s : DeskState) → Reaches front s → NoTrackTwice (extents_of s.sets) }
