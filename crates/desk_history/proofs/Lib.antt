@@ -5,3 +5,4 @@ pub mod HistoryLemmas
 pub mod LawLemmas
 pub mod FormRules
 pub mod StateLemmas
+pub mod KeptLemmas

@@ -24,10 +24,10 @@ pub fn places_in_order()
     ensures { (front rest : List Entry) (entry : Entry) → IsLegal (front ++ entry ∷ rest) → entry.answer.place ≡ length front + 1 }
 {}
 
-/// In a legal history a number that came before gets its kept reply.
+/// In a legal history a number that came before gets its kept reply, the fresh reply of an earlier entry, or is refused for another op.
 pub fn kept_replies()
     ensures { (front rest : List Entry) (entry kept : Entry) →
-        IsLegal (front ++ entry ∷ rest) → kept_for entry.request.job entry.request.number front ≡ Some kept → IsRepeat kept entry }
+        IsLegal (front ++ entry ∷ rest) → kept_for entry.request.job entry.request.number front ≡ Some kept → IsRepeat kept entry × (kept.answer.first ≡ kept.answer.place) }
 {}
 
 /// In a legal history a grant that isn't a repeat is lawful where it stands.
