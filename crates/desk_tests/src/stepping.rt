@@ -12,10 +12,9 @@ fn a_core_enters_each_request_that_it_answers(rt: HostRuntime) -> Result<(), Fai
     let alloc = rt.alloc();
     let script = read_script(alloc, TWICE).map_err(|_| "script")?;
     let mut core = Core::new(alloc);
-    let mut place = 0;
-    for item in script.as_slice() {
+    for (at, item) in script.as_slice().iter().enumerate() {
         let answer = core.step(&item.request);
-        place += 1;
+        let place = at as u64 + 1;
         assert_eq!(rt; answer.place, place);
         assert_eq!(rt; answer.first, 1);
         assert!(rt; matches!(&answer.reply, Reply::NoConfig));
