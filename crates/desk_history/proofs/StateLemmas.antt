@@ -51,23 +51,23 @@ alloc-one_at : (s : DeskState) (config : Configuration) (alloc : Alloc) (reply :
 alloc-one_at s config alloc reply a b true r r' = both-refuse s NameInUse NameInUse reply a b r r'
 alloc-one_at s config alloc reply a b false r r' =
     elim r [
-      inl none ↦ elim r' [
-        inl none' ↦ both-refuse s NoVolume NoVolume reply a b none.refuses none'.refuses
+      | inl none ↦ elim r' [
+        | inl none' ↦ both-refuse s NoVolume NoVolume reply a b none.refuses none'.refuses
         | inr grants' ↦ absurd (cc (none.refuses.reply_is, grants'.reply_is))
       ]
       | inr grants ↦ elim r' [
-        inl none' ↦ absurd (cc (none'.refuses.reply_is, grants.reply_is))
+        | inl none' ↦ absurd (cc (none'.refuses.reply_is, grants.reply_is))
         | inr grants' ↦
-          let same : grants.set ≡ grants'.set = cc (grants.reply_is, grants'.reply_is) in
-          grants.after_is ∙ ap (catalogued s) same ∙ sym grants'.after_is
+            let same : grants.set ≡ grants'.set = cc (grants.reply_is, grants'.reply_is) in
+            grants.after_is ∙ ap (catalogued s) same ∙ sym grants'.after_is
       ]
     ]
 
 alloc-one : (s : DeskState) (alloc : Alloc) (reply : Reply) (a b : DeskState) (active : Option Configuration)
     → MatchOption active (Refuses s NoConfig reply a)
-      (λ config. MatchBool (is_catalogued alloc.dsn s.sets) (Refuses s NameInUse reply a) (FindsNoVolume s config alloc reply a ⊎ Allocates s config alloc reply a))
+    (λ config. MatchBool (is_catalogued alloc.dsn s.sets) (Refuses s NameInUse reply a) (FindsNoVolume s config alloc reply a ⊎ Allocates s config alloc reply a))
     → MatchOption active (Refuses s NoConfig reply b)
-      (λ config. MatchBool (is_catalogued alloc.dsn s.sets) (Refuses s NameInUse reply b) (FindsNoVolume s config alloc reply b ⊎ Allocates s config alloc reply b))
+    (λ config. MatchBool (is_catalogued alloc.dsn s.sets) (Refuses s NameInUse reply b) (FindsNoVolume s config alloc reply b ⊎ Allocates s config alloc reply b))
     → a ≡ b
 alloc-one s alloc reply a b None r r' = both-refuse s NoConfig NoConfig reply a b r r'
 alloc-one s alloc reply a b (Some config) r r' = alloc-one_at s config alloc reply a b (is_catalogued alloc.dsn s.sets) r r'
@@ -79,15 +79,15 @@ deck-one : (s : DeskState) (deck : List ℕ) (reply : Reply) (a b : DeskState) (
 deck-one s deck reply a b (Some config) r r' = both-refuse s _ _ reply a b r r'
 deck-one s deck reply a b None r r' =
     elim r [
-      inl refused ↦ elim r' [
-        inl refused' ↦ both-refuse s (Deck refused.fault) (Deck refused'.fault) reply a b refused.refuses refused'.refuses
+      | inl refused ↦ elim r' [
+        | inl refused' ↦ both-refuse s (Deck refused.fault) (Deck refused'.fault) reply a b refused.refuses refused'.refuses
         | inr activates' ↦ absurd (cc (refused.refuses.reply_is, activates'.reply_is))
       ]
       | inr activates ↦ elim r' [
-        inl refused' ↦ absurd (cc (refused'.refuses.reply_is, activates.reply_is))
+        | inl refused' ↦ absurd (cc (refused'.refuses.reply_is, activates.reply_is))
         | inr activates' ↦
-          let same = one-configuration deck activates.config activates'.config activates.configures activates'.configures in
-          activates.after_is ∙ ap (activated s) same ∙ sym activates'.after_is
+            let same = one-configuration deck activates.config activates'.config activates.configures activates'.configures in
+            activates.after_is ∙ ap (activated s) same ∙ sym activates'.after_is
       ]
     ]
 
