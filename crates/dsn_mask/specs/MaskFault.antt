@@ -40,7 +40,7 @@ is_bad_byte_at bytes at = nat_lt at (length bytes) && not (is_mask_byte (slice_i
 abbrev pub is_stray_stop : List ℕ → ℕ → Bool
 is_stray_stop bytes at = slice_index bytes at == 46 && (opens_qualifier bytes at || at + 1 == length bytes)
 
--- a fault of a text: a dotted one has qualifiers between its full stops, the other is one piece, in which no full stop is stray and no two stars may stand
+-- a fault of a text that is to be a mask (dotted) or a simple mask
 abbrev pub IsFault : Bool → List ℕ → MaskErr → Type 0
 IsFault dotted bytes Empty = bytes ≡ []
 IsFault dotted bytes TooLong = 64 < length bytes
@@ -49,7 +49,7 @@ IsFault dotted bytes (StarsNotAlone at) = is_misplaced_pair dotted bytes at ≡ 
 IsFault dotted bytes (BadByte at) = is_bad_byte_at bytes at ≡ true
 IsFault dotted bytes (EmptyPiece at) = (dotted && is_stray_stop bytes at) ≡ true
 
--- where a fault is; an empty or too long text has it before all bytes
+-- where a fault is; an empty or too long text has it at place 0, where its number comes first
 abbrev pub place_of : MaskErr → ℕ
 place_of Empty = 0
 place_of TooLong = 0
