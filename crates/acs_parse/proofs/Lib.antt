@@ -1,2 +1,4 @@
 pub mod RunLemmas
 pub mod SoundLemmas
+pub mod WideLemmas
+pub mod FrontLemmas
