@@ -2,3 +2,5 @@ pub mod RunLemmas
 pub mod SoundLemmas
 pub mod WideLemmas
 pub mod FrontLemmas
+pub mod OneTreeLemmas
+pub mod ShapeLemmas

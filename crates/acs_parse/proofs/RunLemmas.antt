@@ -150,7 +150,7 @@ module _ (may : ℕ → Bool) where
   join_rule false x y z e true f = refl
   join_rule false x y z e false f = cc
 
-  not_comma : (kind : ListKind) (t : Symbol) → joins kind t ≡ true → fits want.Comma t ≡ false
+  pub not_comma : (kind : ListKind) (t : Symbol) → joins kind t ≡ true → fits want.Comma t ≡ false
   not_comma list.Values Comma e = cc
   not_comma list.Items Comma e = cc
   not_comma list.Parts Comma e = cc
@@ -266,7 +266,7 @@ module _ (may : ℕ → Bool) where
         runs_index n d (One want.Operator Keep ∷ AnOperand list.Items ∷ k) ∙ runs_one want.Operator Keep (AnOperand list.Items ∷ k) n t ms (fits_operator e) ∙ runs_operand n o k
     runs_prim {n = n} (group {ts = ts} e d) k = opened ATest Open n (ACondition ∷ One want.Close Lower ∷ []) k ts refl e ∙ runs_cond d (One want.Close Lower ∷ k)
 
-  not_filter : {total n : ℕ} {ts rest : List Symbol} {s : Stmt} → IsStmt total may n ts s rest → starts want.FiltList ts ≡ false
+  pub not_filter : {total n : ℕ} {ts rest : List Symbol} {s : Stmt} → IsStmt total may n ts s rest → starts want.FiltList ts ≡ false
   not_filter (set d e ds) = refl
   not_filter (choice e d f g) = refl
   not_filter (pick e d f) = refl

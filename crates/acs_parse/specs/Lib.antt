@@ -4,3 +4,4 @@ pub mod Grammar
 pub mod Places
 pub mod Table
 pub mod Language
+pub mod Reads

@@ -2,12 +2,16 @@
 //! after which no routine can follow (docs/acs-language.md, Grammar).
 #![tactic(auto)]
 
+mod fault;
 mod keyword;
 mod list_kind;
 mod symbol;
+mod tokens;
 mod want;
 
+pub use fault::ParseErr;
 pub use keyword::{sign, word_kind};
 pub use list_kind::ListKind;
 pub use symbol::{Symbol, WordKind};
+pub use tokens::{begins, closed, expect, further, head, list_name, number, opened, operator, place, skip, word};
 pub use want::Want;
