@@ -4,3 +4,5 @@ pub mod WideLemmas
 pub mod FrontLemmas
 pub mod OneTreeLemmas
 pub mod ShapeLemmas
+pub mod ShorterLemmas
+pub mod OperandLemmas

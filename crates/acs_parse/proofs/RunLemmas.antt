@@ -82,7 +82,7 @@ module _ (may : ℕ → Bool) where
   item_no_pass false n t = opens_no_pass n t
 
   -- what a move of the first part makes of the stack
-  moved : (s : Part) (k : List Part) (n : ℕ) (t : Symbol) (ts : List Symbol) (move : Move) → rule may s n t ≡ move
+  pub moved : (s : Part) (k : List Part) (n : ℕ) (t : Symbol) (ts : List Symbol) (move : Move) → rule may s n t ≡ move
       → verdict may (s ∷ k) n (t ∷ ts) ≡ next (after move k (λ m. step may k m t)) (suc (length ts)) (λ j m. verdict may j m ts)
   moved s k n t ts move e = ap (λ x. next (after x k (λ m. step may k m t)) (suc (length ts)) (λ j m. verdict may j m ts)) e
 

@@ -1,14 +1,16 @@
 -- What a reader of the parser says of its answer.
-use Rattle.std.specs.Prelude.{◌≡◌, ◌⊎◌, ℕ, suc, true, false, List, [], ◌∷◌, ◌++◌, length, Result, Ok, Err, Option}
-use Rattle.acs_tree.specs.declared.routine.Compare.{Compare}
+use Rattle.std.specs.Prelude.{◌≡◌, ◌⊎◌, ℕ, suc, Bool, true, false, List, [], ◌∷◌, ◌++◌, length, Result, Ok, Err, Option}
+use Rattle.acs_tree.specs.declared.routine.Operand.{Operand}
 use Rattle.acs_tree.specs.declared.routine.Routine.{Routine}
 use Rattle.acs_parse.specs.declared.list_kind.ListKind.{ListKind}
+use Rattle.acs_parse.specs.declared.list_kind.ListKind.TheVariants as list
 use Rattle.acs_parse.specs.declared.symbol.Symbol.{Symbol}
-use Rattle.acs_parse.specs.declared.symbol.Symbol.TheVariants.{Comma}
+use Rattle.acs_parse.specs.declared.symbol.Symbol.TheVariants.{Open, Close, Comma}
 use Rattle.acs_parse.specs.declared.want.Want.{Want}
 use Rattle.acs_parse.specs.declared.fault.Fault.{Fault}
 use Rattle.acs_parse.specs.declared.fault.Fault.TheVariants.{Unexpected, Ended, Deep, NoMemory}
-use Rattle.acs_parse.specs.Grammar.{joins, limited, IsRoutineOf}
+use Rattle.acs_parse.specs.Grammar.{starts, joins, limited, IsOperands, IsRoutineOf}
+use Rattle.acs_parse.specs.Language.{Takes}
 use Rattle.acs_parse.specs.Table.{Effect, Part, One, start, Verdict, Short, Stop, TooMany, verdict}
 
 abbrev pub Fails : Fault → Verdict → Type 0
@@ -41,9 +43,18 @@ abbrev pub Opens : ℕ → List Symbol → Result ℕ Fault → Type 0
 Opens n ts (Ok m) = (limited n ≡ true) × (m ≡ suc n)
 Opens n ts (Err e) = (limited n ≡ false) × (e ≡ Deep (length ts))
 
+-- the wanted token is passed, or another stands and nothing is
+abbrev pub Skips : Want → List Symbol → List Symbol → Bool → Type 0
+Skips w ts ms true = Takes w ts ms
+Skips w ts ms false = (starts w ts ≡ false) × (ms ≡ ts)
+
 -- the next operand of a list begins here: behind a comma, or at once
 abbrev pub GoesOn : ListKind → List Symbol → List Symbol → Type 0
 GoesOn kind ts behind = (ts ≡ Comma ∷ behind) ⊎ ((t : Symbol) × (ms : List Symbol) × (ts ≡ t ∷ ms) × (joins kind t ≡ true) × (behind ≡ ts))
+
+-- a list of entries in parentheses
+abbrev pub IsEntries : ℕ → List Symbol → List Operand → List Symbol → Type 0
+IsEntries total ts os rest = (ms : List Symbol) × (ts ≡ Open ∷ ms) × IsOperands total list.Entries ms os (Close ∷ rest)
 
 -- the whole of the tokens
 abbrev pub Whole : ℕ → List Symbol → Result Routine Fault → Type 0

@@ -5,6 +5,7 @@
 mod fault;
 mod keyword;
 mod list_kind;
+mod lists;
 mod symbol;
 mod tokens;
 mod want;
@@ -13,5 +14,4 @@ pub use fault::ParseErr;
 pub use keyword::{sign, word_kind};
 pub use list_kind::ListKind;
 pub use symbol::{Symbol, WordKind};
-pub use tokens::{begins, closed, expect, further, head, list_name, number, opened, operator, place, skip, word};
 pub use want::Want;

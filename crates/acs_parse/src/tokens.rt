@@ -1,5 +1,6 @@
-// Readers of one token each.
-ghost use Rattle.std.specs.Prelude.{◌≡◌, ◌-◌, ◌∷◌, ℕ, false, length, MatchOption};
+// Readers of one token each. Each is passed the tokens that are left, and moves on past what it
+// reads.
+ghost use Rattle.std.specs.Prelude.{◌≡◌, ◌∷◌, false, MatchOption};
 ghost use Rattle.acs_parse.specs.declared.symbol.Symbol.{Symbol};
 ghost use Rattle.acs_parse.specs.declared.symbol.Symbol.TheVariants.{Word};
 ghost use Rattle.acs_parse.specs.declared.symbol.WordKind.{WordKind};
@@ -7,7 +8,7 @@ ghost use Rattle.acs_parse.specs.declared.symbol.WordKind.TheVariants as word;
 ghost use Rattle.acs_parse.specs.declared.want.Want.TheVariants as want;
 ghost use Rattle.acs_parse.specs.Grammar.{starts, place_in, back, goes_on, IsOperator, IsListName, IsHead};
 ghost use Rattle.acs_parse.specs.Language.{Takes};
-ghost use Rattle.acs_parse.specs.Reads.{ReadsOne, Opens, GoesOn};
+ghost use Rattle.acs_parse.specs.Reads.{ReadsOne, Opens, Skips, GoesOn};
 
 use crate::fault::Fault;
 use crate::list_kind::ListKind;
@@ -42,24 +43,30 @@ pub fn closed(depth: u32) -> u32
     if depth == 0 { 0 } else { depth - 1 }
 }
 
-/// What is behind the token that is wanted.
-pub fn expect(want: Want, symbols: &[Symbol]) -> Result<&[Symbol], Fault>
-    ensures { ReadsOne (λ rest. Takes want symbols.now rest.now) want symbols.now result }
+/// Moves past the token that is wanted.
+pub fn expect(want: Want, rest: &mut &[Symbol]) -> Result<(), Fault>
+    ensures { ReadsOne (λ _. Takes want rest.old.now rest.new.now) want rest.old.now result }
 {
-    match symbols.split_first() {
+    match rest.split_first() {
         None => Err(Fault::Ended),
-        Some((first, rest)) if want.fits(first) => Ok(rest),
-        Some(_) => Err(Fault::Unexpected(symbols.len())),
+        Some((first, behind)) if want.fits(first) => {
+            *rest = behind;
+            Ok(())
+        }
+        Some(_) => Err(Fault::Unexpected(rest.len())),
     }
 }
 
-/// The same, or None where another token stands.
-pub fn skip(want: Want, symbols: &[Symbol]) -> Option<&[Symbol]>
-    ensures { MatchOption result (starts want symbols.now ≡ false) (λ rest. Takes want symbols.now rest.now) }
+/// Moves past the token if it is the one that is wanted, and tells whether it was.
+pub fn skip(want: Want, rest: &mut &[Symbol]) -> bool
+    ensures { Skips want rest.old.now rest.new.now result }
 {
-    match symbols.split_first() {
-        Some((first, rest)) if want.fits(first) => Some(rest),
-        _ => None,
+    match rest.split_first() {
+        Some((first, behind)) if want.fits(first) => {
+            *rest = behind;
+            true
+        }
+        _ => false,
     }
 }
 
@@ -69,64 +76,88 @@ pub fn begins(want: Want, symbols: &[Symbol]) -> bool
     symbols.first().is_some_and(|first| want.fits(first))
 }
 
-pub fn number(symbols: &[Symbol]) -> Result<(Ident, &[Symbol]), Fault>
-    ensures { ReadsOne (λ x. symbols.now ≡ Word word.Number x.0 ∷ x.1.now) want.Number symbols.now result }
+pub fn number(rest: &mut &[Symbol]) -> Result<Ident, Fault>
+    ensures { ReadsOne (λ text. rest.old.now ≡ Word word.Number text ∷ rest.new.now) want.Number rest.old.now result }
 {
-    match symbols.split_first() {
+    match rest.split_first() {
         None => Err(Fault::Ended),
-        Some((Symbol::Word(WordKind::Number, text), rest)) => Ok((*text, rest)),
-        Some(_) => Err(Fault::Unexpected(symbols.len())),
+        Some((Symbol::Word(WordKind::Number, text), behind)) => {
+            *rest = behind;
+            Ok(*text)
+        }
+        Some(_) => Err(Fault::Unexpected(rest.len())),
     }
 }
 
-pub fn word(symbols: &[Symbol]) -> Result<(Ident, &[Symbol]), Fault>
-    ensures { ReadsOne (λ x. (kind : WordKind) × (symbols.now ≡ Word kind x.0 ∷ x.1.now)) want.Word symbols.now result }
+pub fn word(rest: &mut &[Symbol]) -> Result<Ident, Fault>
+    ensures { ReadsOne (λ text. (kind : WordKind) × (rest.old.now ≡ Word kind text ∷ rest.new.now)) want.Word rest.old.now result }
 {
-    match symbols.split_first() {
+    match rest.split_first() {
         None => Err(Fault::Ended),
-        Some((Symbol::Word(_, text), rest)) => Ok((*text, rest)),
-        Some(_) => Err(Fault::Unexpected(symbols.len())),
+        Some((Symbol::Word(_, text), behind)) => {
+            *rest = behind;
+            Ok(*text)
+        }
+        Some(_) => Err(Fault::Unexpected(rest.len())),
     }
 }
 
 /// The name of a filter list.
 #[tactic(auto, using(crate::proofs::ShapeLemmas::named_word, crate::proofs::ShapeLemmas::named_variable))]
-pub fn list_name(symbols: &[Symbol]) -> Result<(Ident, &[Symbol]), Fault>
-    ensures { ReadsOne (λ x. (t : Symbol) × IsListName t x.0 × (symbols.now ≡ t ∷ x.1.now)) want.Name symbols.now result }
+pub fn list_name(rest: &mut &[Symbol]) -> Result<Ident, Fault>
+    ensures { ReadsOne (λ text. (t : Symbol) × IsListName t text × (rest.old.now ≡ t ∷ rest.new.now)) want.Name rest.old.now result }
 {
-    match symbols.split_first() {
+    match rest.split_first() {
         None => Err(Fault::Ended),
-        Some((Symbol::Word(_, text), rest)) => Ok((*text, rest)),
-        Some((Symbol::Variable(text), rest)) => Ok((*text, rest)),
-        Some(_) => Err(Fault::Unexpected(symbols.len())),
+        Some((Symbol::Word(_, text), behind)) => {
+            *rest = behind;
+            Ok(*text)
+        }
+        Some((Symbol::Variable(text), behind)) => {
+            *rest = behind;
+            Ok(*text)
+        }
+        Some(_) => Err(Fault::Unexpected(rest.len())),
     }
 }
 
 /// The name at the head of a routine.
 #[tactic(auto, using(crate::proofs::ShapeLemmas::headed_word, crate::proofs::ShapeLemmas::headed_variable, crate::proofs::ShapeLemmas::number_heads_nothing))]
-pub fn head(symbols: &[Symbol]) -> Result<(Ident, &[Symbol]), Fault>
-    ensures { ReadsOne (λ x. (t : Symbol) × IsHead t x.0 × (symbols.now ≡ t ∷ x.1.now)) want.Head symbols.now result }
+pub fn head(rest: &mut &[Symbol]) -> Result<Ident, Fault>
+    ensures { ReadsOne (λ text. (t : Symbol) × IsHead t text × (rest.old.now ≡ t ∷ rest.new.now)) want.Head rest.old.now result }
 {
-    if begins(Want::Number, symbols) {
-        return Err(Fault::Unexpected(symbols.len()));
+    if begins(Want::Number, rest) {
+        return Err(Fault::Unexpected(rest.len()));
     }
-    match symbols.split_first() {
+    match rest.split_first() {
         None => Err(Fault::Ended),
-        Some((Symbol::Word(_, text), rest)) => Ok((*text, rest)),
-        Some((Symbol::Variable(text), rest)) => Ok((*text, rest)),
-        Some(_) => Err(Fault::Unexpected(symbols.len())),
+        Some((Symbol::Word(_, text), behind)) => {
+            *rest = behind;
+            Ok(*text)
+        }
+        Some((Symbol::Variable(text), behind)) => {
+            *rest = behind;
+            Ok(*text)
+        }
+        Some(_) => Err(Fault::Unexpected(rest.len())),
     }
 }
 
 #[tactic(auto, using(crate::proofs::ShapeLemmas::operator_sign, crate::proofs::ShapeLemmas::operator_word))]
-pub fn operator(symbols: &[Symbol]) -> Result<(Compare, &[Symbol]), Fault>
-    ensures { ReadsOne (λ x. (t : Symbol) × IsOperator t x.0 × (symbols.now ≡ t ∷ x.1.now)) want.Operator symbols.now result }
+pub fn operator(rest: &mut &[Symbol]) -> Result<Compare, Fault>
+    ensures { ReadsOne (λ op. (t : Symbol) × IsOperator t op × (rest.old.now ≡ t ∷ rest.new.now)) want.Operator rest.old.now result }
 {
-    match symbols.split_first() {
+    match rest.split_first() {
         None => Err(Fault::Ended),
-        Some((Symbol::Operator(op), rest)) => Ok((*op, rest)),
-        Some((Symbol::Word(WordKind::Compare(op), _), rest)) => Ok((*op, rest)),
-        Some(_) => Err(Fault::Unexpected(symbols.len())),
+        Some((Symbol::Operator(op), behind)) => {
+            *rest = behind;
+            Ok(*op)
+        }
+        Some((Symbol::Word(WordKind::Compare(op), _), behind)) => {
+            *rest = behind;
+            Ok(*op)
+        }
+        Some(_) => Err(Fault::Unexpected(rest.len())),
     }
 }
 
