@@ -100,22 +100,9 @@ operand_variable_fails e kind {name} {ts} {a} q t h n =
         ap (λ x. verdict limited (AnOperand kind ∷ k) n x) q ∙ moved limited (AnOperand kind) k n (Variable name) a (Read n (OrIndex ∷ [])) (ap (λ b. cond b (Read n (OrIndex ∷ [])) Refuse) t) ∙ ap (λ x. verdict limited (ARef ∷ k) n x) (sym q) in
     λ k. along e (g k) (h n k)
 
--- the operands so far
-pub record ListTurn (total : ℕ) (kind : ListKind) (ts rest : List Symbol) (list : List Operand) : Type 0 where
-  pub done : (os : List Operand) (r : List Symbol) → IsFurther total kind rest os r → IsOperands total kind ts (list ++ os) r
-  pub same : (n : ℕ) (k : List Part) → verdict limited (AnOperand kind ∷ MoreOperands kind ∷ k) n ts ≡ verdict limited (MoreOperands kind ∷ k) n rest
-  pub shorter : length rest < length ts
-
 empty_right : {A : Type 0} (xs : List A) → xs ++ [] ≡ xs
 empty_right [] = refl
 empty_right (x ∷ xs) = ap (λ z. x ∷ z) (empty_right xs)
-
-pub list_first : {total : ℕ} {kind : ListKind} {ts rest : List Symbol} {o : Operand} → IsOperand total kind ts o rest → ListTurn total kind ts rest (o ∷ [])
-list_first {kind = kind} {rest = rest} {o = o} d = record {
-  done = λ os r ds. operands d ds;
-  same = λ n k. runs_operand limited n d (MoreOperands kind ∷ k);
-  shorter = operand_shorter d;
-}
 
 further_of : {total : ℕ} {kind : ListKind} {ts behind left r : List Symbol} {o : Operand} {os : List Operand} → GoesOn kind ts behind → IsOperand total kind behind o left
     → IsFurther total kind left os r → IsFurther total kind ts (o ∷ os) r
@@ -133,13 +120,23 @@ pub further_within : (kind : ListKind) {ts behind : List Symbol} → GoesOn kind
 further_within kind (inl e) = omega (arith, ap length e)
 further_within kind (inr q) = omega (arith, ap length q.4)
 
+-- the operands so far
+pub record ListTurn (total : ℕ) (kind : ListKind) (ts rest : List Symbol) (list : List Operand) : Type 0 where
+  pub done : (os : List Operand) (r : List Symbol) → IsFurther total kind rest os r → IsOperands total kind ts (list ++ os) r
+  pub same : (n : ℕ) (k : List Part) → verdict limited (AnOperand kind ∷ MoreOperands kind ∷ k) n ts ≡ verdict limited (MoreOperands kind ∷ k) n rest
+
+pub list_first : {total : ℕ} {kind : ListKind} {ts rest : List Symbol} {o : Operand} → IsOperand total kind ts o rest → ListTurn total kind ts rest (o ∷ [])
+list_first {kind = kind} {rest = rest} {o = o} d = record {
+  done = λ os r ds. operands d ds;
+  same = λ n k. runs_operand limited n d (MoreOperands kind ∷ k);
+}
+
 pub list_turn : {total : ℕ} {kind : ListKind} {ts rest behind left : List Symbol} {list : List Operand} {o : Operand} → ListTurn total kind ts rest list → GoesOn kind rest behind
     → IsOperand total kind behind o left → ListTurn total kind ts left (list ++ o ∷ [])
 list_turn {total} {kind} {ts} {rest} {behind} {left} {list} {o} t g d = record {
   done = λ os r ds.
       subst (λ xs. IsOperands total kind ts xs r) (sym (append_assoc list (o ∷ []) os)) (t.done (o ∷ os) r (further_of g d ds));
   same = λ n k. t.same n k ∙ goes_further kind g n k ∙ runs_operand limited n d (MoreOperands kind ∷ k);
-  shorter = omega (arith, t.shorter, further_within kind g, operand_shorter d);
 }
 
 pub list_over : {total : ℕ} {kind : ListKind} {ts rest : List Symbol} {list : List Operand} → ListTurn total kind ts rest list → goes_on kind rest ≡ false → IsOperands total kind ts list rest
@@ -150,9 +147,7 @@ list_fails_first e kind ts h n k = h n (MoreOperands kind ∷ k)
 
 pub list_fails : (e : Fault) {total : ℕ} {kind : ListKind} {ts rest behind : List Symbol} {list : List Operand} → ListTurn total kind ts rest list → GoesOn kind rest behind
     → ((m : ℕ) → FailsAt e (AnOperand kind ∷ []) m behind) → (n : ℕ) → FailsAt e (AnOperand kind ∷ MoreOperands kind ∷ []) n ts
-list_fails e {kind = kind} {ts = ts} {behind = behind} t g h n =
-    let go : Goes (AnOperand kind ∷ MoreOperands kind ∷ []) n ts (AnOperand kind ∷ MoreOperands kind ∷ []) n behind = λ k. t.same n k ∙ goes_further kind g n k in
-    λ k. along e (go k) (h n (MoreOperands kind ∷ k))
+list_fails e {kind = kind} t g h n k = along e (t.same n k ∙ goes_further kind g n k) (h n (MoreOperands kind ∷ k))
 
 pub entries_at : {total : ℕ} {ts a b rest : List Symbol} {os : List Operand} → Takes want.Open ts a → IsOperands total list.Entries a os b → Takes want.Close b rest → IsEntries total ts os rest
 entries_at {total} {ts} {a} {b} {rest} {os} p d q = (a, takes_open p, subst (λ r. IsOperands total list.Entries a os r) (takes_close q) d)

@@ -11,7 +11,7 @@ use crate::list_kind::ListKind;
 use crate::symbol::{Symbol, WordKind};
 use crate::tokens::{expect, further, list_name, number, place, skip, word};
 use crate::want::Want;
-use acs_tree::{Form, Ident, Operand, OperandForm, Operands, Ref, Stmt};
+use acs_tree::{Form, Ident, Operand, OperandForm, Operands, Ref, Stmt, with_operand};
 use std::alloc::Global;
 
 /// A variable and its index.
@@ -80,13 +80,12 @@ pub fn operand(total: u32, kind: ListKind, rest: &mut &[Symbol]) -> Result<Opera
 pub fn operands(alloc: Global, total: u32, kind: ListKind, rest: &mut &[Symbol]) -> Result<Operands, Fault>
     ensures { Reads (λ list. IsOperands total kind rest.old.now list rest.new.now) (AnOperand kind ∷ MoreOperands kind ∷ []) rest.old.now result }
 {
-    let mut list = Operands::new(alloc);
     let first = operand(total, kind, rest)?;
-    list.push(first)?;
+    let mut list = with_operand(Operands::new(alloc), first)?;
     'more: while let Some(behind) = further(kind, rest) {
         *rest = behind;
         let next = operand(total, kind, rest)?;
-        list.push(next)?;
+        list = with_operand(list, next)?;
     }
     Ok(list)
 }
