@@ -345,7 +345,7 @@ module _ (may : ℕ → Bool) where
   stays (t ∷ p) ys k n h = stays_at p ys (suc (length p)) (suc (length (p ++ ys))) (step may k n t) (stays p ys) h
 
   -- the whole of a routine
-  from_start : (total : ℕ) (ts : List Symbol) (m : ℕ) → Seq total may start 0 ts m [] → (tree : Routine) × IsRoutineOf total may ts tree
+  pub from_start : (total : ℕ) (ts : List Symbol) (m : ℕ) → Seq total may start 0 ts m [] → (tree : Routine) × IsRoutineOf total may ts tree
   from_start total ts m q =
       let proc = is_proc q.2.0.0 q.2.0.1 in
       let num = q.3 in
@@ -363,7 +363,7 @@ module _ (may : ℕ → Bool) where
   unfolding sample
   ready_start = (tt, (fresh_end _, (tt, (tt, tt))))
 
-  begins : (p : List Symbol) → is_over (verdict may start 0 p) ≡ false → Begins may p
+  pub begins : (p : List Symbol) → is_over (verdict may start 0 p) ≡ false → Begins may p
   unfolding Completable
   begins p h =
       let q = alive p start 0 ready_start h in
@@ -372,7 +372,7 @@ module _ (may : ℕ → Bool) where
       let r = from_start total (p ++ q.0) s.0 s.1 in
       (q.0, r.0, r.1)
 
-  begins_not : (p : List Symbol) → is_over (verdict may start 0 p) ≡ true → Begins may p → ⊥
+  pub begins_not : (p : List Symbol) → is_over (verdict may start 0 p) ≡ true → Begins may p → ⊥
   begins_not p h b =
       let e = stays p b.0 start 0 h in
       let f = ap is_over (runs_routine may b.2) in

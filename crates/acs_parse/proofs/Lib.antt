@@ -6,3 +6,5 @@ pub mod OneTreeLemmas
 pub mod ShapeLemmas
 pub mod ShorterLemmas
 pub mod OperandLemmas
+pub mod CondLemmas
+pub mod ExactLemmas

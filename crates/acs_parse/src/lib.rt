@@ -2,8 +2,10 @@
 //! after which no routine can follow (docs/acs-language.md, Grammar).
 #![tactic(auto)]
 
+mod conditions;
 mod fault;
 mod keyword;
+mod laws;
 mod list_kind;
 mod lists;
 mod symbol;
@@ -12,6 +14,7 @@ mod want;
 
 pub use fault::ParseErr;
 pub use keyword::{sign, word_kind};
+pub use laws::{one_answer, one_tree};
 pub use list_kind::ListKind;
 pub use symbol::{Symbol, WordKind};
 pub use want::Want;

@@ -80,6 +80,8 @@ pub fn operand(total: u32, kind: ListKind, rest: &mut &[Symbol]) -> Result<Opera
 pub fn operands(alloc: Global, total: u32, kind: ListKind, rest: &mut &[Symbol]) -> Result<Operands, Fault>
     ensures { Reads (λ list. IsOperands total kind rest.old.now list rest.new.now) (AnOperand kind ∷ MoreOperands kind ∷ []) rest.old.now result }
 {
+    // The check has to see the types inside the list's items.
+    let _seen: Option<(OperandForm, Ref)> = None;
     let first = operand(total, kind, rest)?;
     let mut list = with_operand(Operands::new(alloc), first)?;
     'more: while let Some(behind) = further(kind, rest) {
