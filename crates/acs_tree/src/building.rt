@@ -9,19 +9,13 @@ impl Cond {
     pub fn and(alloc: Global, left: Cond, right: Cond) -> Result<Cond, AllocError>
         ensures { IfOk result (λ both. both ≡ Cond.And left right) }
     {
-        Ok(Cond::And(
-            Boxed::new(alloc, left)?,
-            Boxed::new(alloc, right)?,
-        ))
+        Ok(Cond::And(Boxed::new(alloc, left)?, Boxed::new(alloc, right)?))
     }
 
     pub fn or(alloc: Global, left: Cond, right: Cond) -> Result<Cond, AllocError>
         ensures { IfOk result (λ either. either ≡ Cond.Or left right) }
     {
-        Ok(Cond::Or(
-            Boxed::new(alloc, left)?,
-            Boxed::new(alloc, right)?,
-        ))
+        Ok(Cond::Or(Boxed::new(alloc, left)?, Boxed::new(alloc, right)?))
     }
 }
 
@@ -40,12 +34,14 @@ pub fn with_operand(list: Operands, operand: Operand) -> Result<Operands, AllocE
     // Each part is named: the check has to see the types inside an operand where one is moved.
     let Operand { at, form } = operand;
     let form = match form {
-        OperandForm::Var(Ref {
-            at,
-            name,
-            index,
-            index_at,
-        }) => OperandForm::Var(Ref {
+        OperandForm::Var(
+            Ref {
+                at,
+                name,
+                index,
+                index_at,
+            },
+        ) => OperandForm::Var(Ref {
             at,
             name,
             index,
