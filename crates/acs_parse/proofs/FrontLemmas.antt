@@ -1,11 +1,9 @@
 -- Which tokens begin a routine, and which place the table's answer tells.
-use Rattle.std.proofs.Common.{◌≡◌, ◌&&◌, ℕ, suc, ◌+◌, ◌<◌, ◌≤◌, Bool, true, false, cond, List, [], ◌∷◌, ◌++◌, length, take, refl, ap, sym, ◌∙◌, subst, arith, append_assoc}
-use Rattle.std.specs.Prelude.{◌||◌, Option, Some, None}
+use Rattle.std.proofs.Common.{◌≡◌, ℕ, suc, ◌+◌, ◌<◌, ◌≤◌, Bool, true, false, cond, List, [], ◌∷◌, ◌++◌, length, take, refl, ap, sym, ◌∙◌, subst, arith, append_assoc}
+use Rattle.std.specs.Prelude.{None}
 use Rattle.acs_tree.specs.declared.routine.Compare.TheVariants.{Eq}
 use Rattle.acs_tree.specs.declared.routine.Cond.{Cond}
-use Rattle.acs_tree.specs.declared.routine.Cond.TheVariants as condition
 use Rattle.acs_tree.specs.declared.routine.Operand.{Operand}
-use Rattle.acs_tree.specs.declared.routine.Ref.{Ref}
 use Rattle.acs_tree.specs.declared.routine.When.{When}
 use Rattle.acs_tree.specs.declared.routine.Stmt.{Stmt}
 use Rattle.acs_tree.specs.declared.routine.Routine.{Routine}
@@ -17,8 +15,8 @@ use Rattle.acs_parse.specs.declared.symbol.Symbol.TheVariants.{Word, Variable, L
 use Rattle.acs_parse.specs.declared.want.Want.{Want}
 use Rattle.acs_parse.specs.declared.want.Want.TheVariants as want
 use Rattle.acs_parse.specs.Wants.{fits}
-use Rattle.acs_parse.specs.Grammar.{starts, takes_words, takes_variables, joins, goes_on, back, limited, unlimited, by_sign, no_index, IsRef, ref, IsOperand, literal, variable, no_further, operands, no_exclude, IsLists, excluding, no_code, IsCond, cond_of, no_or, IsConj, conj_of, no_and, IsPrim, test, IsStmt, exit, no_branch, IsChoice, by_condition, IsWhen, when_any, when_holds, no_when, IsBlock, end_of, item_statement, no_number, IsRoutineOf, routine, IsRoutine, IsHead, IsOrNumber}
-use Rattle.acs_parse.specs.Table.{Effect, Keep, Lower, To, effect, Part, One, OrNumber, ABlock, AnItem, AStatement, Lists, OrExclude, OrBranch, AChoice, AWhen, MoreWhens, ACondition, MoreOrs, AConjunct, MoreAnds, ATest, AnOperand, MoreOperands, ARef, OrIndex, OrCode, Back, Move, Read, Full, Pass, Refuse, followed, gate, entries, when_parts, opens, item_opens, test_opens, operand_opens, list_opens, choice_opens, rule, start, Step, Go, No, Many, after, step, all_empty, Complete, Short, Stop, TooMany, next, verdict, is_over}
+use Rattle.acs_parse.specs.Grammar.{starts, takes_words, takes_variables, joins, goes_on, back, limited, unlimited, by_sign, no_index, ref, literal, no_further, operands, no_exclude, IsLists, excluding, no_code, IsCond, cond_of, no_or, IsConj, conj_of, no_and, IsPrim, test, IsStmt, exit, no_branch, by_condition, IsWhen, when_any, when_holds, no_when, IsBlock, end_of, item_statement, no_number, IsRoutineOf, routine, IsOrNumber}
+use Rattle.acs_parse.specs.Table.{effect, Part, One, OrNumber, ABlock, AnItem, AStatement, Lists, OrExclude, OrBranch, AChoice, AWhen, MoreWhens, ACondition, MoreOrs, AConjunct, MoreAnds, ATest, AnOperand, MoreOperands, ARef, OrIndex, OrCode, Back, Move, Read, Full, Pass, Refuse, followed, entries, when_parts, opens, item_opens, test_opens, operand_opens, list_opens, choice_opens, rule, start, Step, Go, No, Many, after, step, all_empty, Complete, Short, Stop, TooMany, next, verdict, is_over}
 use Rattle.acs_parse.specs.Language.{Lang, Seq}
 use Rattle.acs_parse.specs.Places.{Begins, IsFirstWrong, IsTooDeep, EndsEarly}
 use Rattle.acs_parse.proofs.RunLemmas.{runs_routine}
@@ -237,7 +235,7 @@ module _ (may : ℕ → Bool) where
   keeps (AnOperand kind) n t = keeps_operand kind n t
   keeps (MoreOperands kind) n t = keeps_row (MoreOperands kind) _ _ (fits want.Comma t) (λ k h r. (h.0, (h, r)))
       (keeps_row (MoreOperands kind) _ _ (joins kind t)
-          (keeps_followed (MoreOperands kind) (AnOperand kind) (operand_opens kind n t) (MoreOperands kind ∷ []) (keeps_operand kind n t) (λ k h r. (h.0, (h, r)))) tt)
+      (keeps_followed (MoreOperands kind) (AnOperand kind) (operand_opens kind n t) (MoreOperands kind ∷ []) (keeps_operand kind n t) (λ k h r. (h.0, (h, r)))) tt)
   keeps ARef n t = keeps_row ARef _ _ (fits want.Variable t) (λ k h r. (h, r)) tt
   keeps OrIndex n t = keeps_row OrIndex _ _ (fits want.Open t) (λ k h r. (tt, (tt, r))) tt
   keeps OrCode n t = keeps_row OrCode _ _ (fits want.Code t) (λ k h r. (tt, (tt, (tt, r)))) tt

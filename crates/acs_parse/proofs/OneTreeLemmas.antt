@@ -1,6 +1,6 @@
 -- Tokens have at most one tree, and it ends at one place.
-use Rattle.std.proofs.Common.{◌≡◌, ℕ, suc, Bool, true, false, List, [], ◌∷◌, length, refl, ap, sym, ◌∙◌, subst}
-use Rattle.std.specs.Prelude.{◌||◌, Option, Some, None}
+use Rattle.std.proofs.Common.{◌≡◌, ℕ, Bool, true, false, List, ◌∷◌, length, refl, ap, sym, ◌∙◌, subst}
+use Rattle.std.specs.Prelude.{◌||◌, Option, Some}
 use Rattle.acs_tree.specs.declared.routine.Compare.{Compare}
 use Rattle.acs_tree.specs.declared.routine.Ref.{Ref}
 use Rattle.acs_tree.specs.declared.routine.Operand.{Operand}
@@ -10,18 +10,17 @@ use Rattle.acs_tree.specs.declared.routine.Cond.TheVariants as condition
 use Rattle.acs_tree.specs.declared.routine.WhenTest.{WhenTest}
 use Rattle.acs_tree.specs.declared.routine.WhenTest.TheVariants as when_test
 use Rattle.acs_tree.specs.declared.routine.When.{When}
-use Rattle.acs_tree.specs.declared.routine.Form.TheVariants as form
 use Rattle.acs_tree.specs.declared.routine.Stmt.{Stmt}
 use Rattle.acs_tree.specs.declared.routine.Routine.{Routine}
 use Rattle.acs_parse.specs.declared.list_kind.ListKind.{ListKind}
 use Rattle.acs_parse.specs.declared.list_kind.ListKind.TheVariants as list
 use Rattle.acs_parse.specs.declared.symbol.WordKind.TheVariants as word
 use Rattle.acs_parse.specs.declared.symbol.Symbol.{Symbol}
-use Rattle.acs_parse.specs.declared.symbol.Symbol.TheVariants.{Word, Variable, Literal, Open, Close, Comma}
+use Rattle.acs_parse.specs.declared.symbol.Symbol.TheVariants.{Word, Variable, Open, Comma}
 use Rattle.acs_parse.specs.declared.want.Want.{Want}
 use Rattle.acs_parse.specs.declared.want.Want.TheVariants as want
 use Rattle.acs_parse.specs.Wants.{fits}
-use Rattle.acs_parse.specs.Grammar.{starts, place_in, placed, operand_at, when_at, joins, goes_on, back, IsOperator, by_sign, by_word, IsListName, named_by_word, named_by_variable, IsHead, headed_by_word, headed_by_variable, IsIndex, no_index, index, IsRef, ref, IsOperand, literal, word_of, variable, IsFurther, no_further, after_comma, joined, IsOperands, operands, IsExclude, no_exclude, exclude, IsLists, including, excluding, IsFilter, filter, IsCode, no_code, code, IsCond, cond_of, IsOrs, no_or, or_more, IsConj, conj_of, IsAnds, no_and, and_more, IsPrim, test, group, IsStmt, set, choice, pick, group_of, write, exit, IsBranch, no_branch, branch, IsChoice, by_value, by_condition, IsWhen, when_any, when_holds, IsWhens, no_when, more_whens, IsBlock, end_of, then_more, IsItem, item_filter, item_statement, IsOrNumber, no_number, number, IsRoutineOf, routine, IsRoutine}
+use Rattle.acs_parse.specs.Grammar.{operand_at, when_at, joins, back, IsOperator, by_sign, by_word, IsListName, named_by_word, named_by_variable, IsHead, headed_by_word, headed_by_variable, IsIndex, no_index, index, IsRef, ref, IsOperand, literal, word_of, variable, IsFurther, no_further, after_comma, joined, IsOperands, operands, IsExclude, no_exclude, exclude, IsLists, including, excluding, IsFilter, filter, IsCode, no_code, code, IsCond, cond_of, IsOrs, no_or, or_more, IsConj, conj_of, IsAnds, no_and, and_more, IsPrim, test, group, IsStmt, set, choice, pick, group_of, write, exit, IsBranch, no_branch, branch, IsChoice, by_value, by_condition, IsWhen, when_any, when_holds, IsWhens, no_when, more_whens, IsBlock, end_of, then_more, IsItem, item_filter, item_statement, IsOrNumber, no_number, number, IsRoutineOf, routine, IsRoutine}
 use Rattle.acs_parse.proofs.RunLemmas.{item_not_end, not_filter, not_comma}
 
 clash : {b : Bool} → b ≡ true → b ≡ false → ⊥

@@ -1,28 +1,26 @@
 -- What the readers of operands and lists give, and where they fail.
-use Rattle.std.proofs.Common.{◌≡◌, ◌<◌, ◌≤◌, ◌⊎◌, inl, inr, ℕ, suc, Bool, true, false, cond, List, [], ◌∷◌, ◌++◌, length, refl, ap, sym, ◌∙◌, subst, arith, append_assoc}
+use Rattle.std.proofs.Common.{◌≡◌, ◌≤◌, inl, inr, ℕ, true, false, cond, List, [], ◌∷◌, ◌++◌, length, refl, ap, sym, ◌∙◌, subst, arith, append_assoc}
 use Rattle.std.specs.Prelude.{Option, Some, None}
 use Rattle.acs_tree.specs.declared.routine.Ref.{Ref}
 use Rattle.acs_tree.specs.declared.routine.OperandForm.TheVariants as operand
 use Rattle.acs_tree.specs.declared.routine.Operand.{Operand}
 use Rattle.acs_tree.specs.declared.routine.Form.TheVariants as form
-use Rattle.acs_tree.specs.declared.routine.Stmt.{Stmt}
 use Rattle.acs_parse.specs.declared.list_kind.ListKind.{ListKind}
 use Rattle.acs_parse.specs.declared.list_kind.ListKind.TheVariants as list
 use Rattle.acs_parse.specs.declared.symbol.WordKind.{WordKind}
 use Rattle.acs_parse.specs.declared.symbol.WordKind.TheVariants as word
 use Rattle.acs_parse.specs.declared.symbol.Symbol.{Symbol}
-use Rattle.acs_parse.specs.declared.symbol.Symbol.TheVariants.{Word, Variable, Literal, Open, Close, Comma}
+use Rattle.acs_parse.specs.declared.symbol.Symbol.TheVariants.{Word, Variable, Literal, Open, Close}
 use Rattle.acs_parse.specs.declared.want.Want.{Want}
 use Rattle.acs_parse.specs.declared.want.Want.TheVariants as want
 use Rattle.acs_parse.specs.declared.fault.Fault.{Fault}
 use Rattle.acs_parse.specs.Wants.{fits}
-use Rattle.acs_parse.specs.Grammar.{starts, place_in, placed, operand_at, takes_words, takes_variables, joins, goes_on, limited, IsListName, IsIndex, no_index, index, IsRef, ref, IsOperand, literal, word_of, variable, IsFurther, no_further, after_comma, joined, IsOperands, operands, IsExclude, no_exclude, exclude, IsLists, including, excluding, IsFilter, filter, IsCode, no_code, code}
+use Rattle.acs_parse.specs.Grammar.{starts, place_in, placed, operand_at, takes_words, takes_variables, goes_on, limited, IsListName, IsIndex, no_index, index, IsRef, ref, IsOperand, literal, word_of, variable, IsFurther, no_further, after_comma, joined, IsOperands, operands, IsExclude, no_exclude, exclude, IsLists, including, excluding, IsFilter, filter, IsCode, no_code, code}
 use Rattle.acs_parse.specs.Table.{Effect, Keep, effect, Part, One, AnItem, Lists, OrExclude, AnOperand, MoreOperands, ARef, OrIndex, OrCode, Read, Refuse, Pass, entries, Verdict, verdict}
 use Rattle.acs_parse.specs.Language.{Takes}
 use Rattle.acs_parse.specs.Reads.{Fails, FailsAt, GoesOn, IsEntries}
-use Rattle.acs_parse.proofs.RunLemmas.{moved, taken, runs_one, runs_index, runs_operand, runs_operands, runs_exclude, fits_name, joins_as_operand}
+use Rattle.acs_parse.proofs.RunLemmas.{moved, taken, runs_one, runs_operand, runs_operands, fits_name, joins_as_operand}
 use Rattle.acs_parse.proofs.SoundLemmas.{is_open, is_close, is_exclude, is_code}
-use Rattle.acs_parse.proofs.ShorterLemmas.{operand_shorter}
 
 -- the table goes from some parts at some tokens to others
 abbrev pub Goes : List Part → ℕ → List Symbol → List Part → ℕ → List Symbol → Type 0
@@ -69,7 +67,7 @@ pub ref_at : {total at i_at : ℕ} {name : List ℕ} {i : Option (List ℕ)} {ts
     → IsRef total ts (record { at = at; name = name; index = i; index_at = i_at }) rest
 ref_at {total} {at} {i_at} {name} {i} {ts} {a} {rest} e f d =
     subst (λ x. IsRef total ts (record { at = x; name = name; index = i; index_at = i_at }) rest) (sym f)
-        (subst (λ x. IsRef total x (record { at = place_in total x; name = name; index = i; index_at = i_at }) rest) (sym e) (ref d))
+    (subst (λ x. IsRef total x (record { at = place_in total x; name = name; index = i; index_at = i_at }) rest) (sym e) (ref d))
 
 pub ref_index_fails : (e : Fault) {name : List ℕ} {ts a : List Symbol} → ts ≡ Variable name ∷ a → ((m : ℕ) → FailsAt e (OrIndex ∷ []) m a) → (n : ℕ) → FailsAt e (ARef ∷ []) n ts
 ref_index_fails e {name} {ts} {a} q h n =
@@ -90,14 +88,14 @@ pub operand_variable : {total at : ℕ} {kind : ListKind} {name : List ℕ} {r :
     → IsRef total ts r rest → IsOperand total kind ts (record { at = at; form = operand.Var r }) rest
 operand_variable {total} {at} {kind} {name} {r} {ts} {a} {rest} e g f d =
     subst (λ x. IsOperand total kind ts (record { at = x; form = operand.Var r }) rest) (sym f)
-        (subst (λ x. IsOperand total kind x (operand_at total x (operand.Var r)) rest) (sym e) (variable g (subst (λ x. IsRef total x r rest) e d)))
+    (subst (λ x. IsOperand total kind x (operand_at total x (operand.Var r)) rest) (sym e) (variable g (subst (λ x. IsRef total x r rest) e d)))
 
 -- a variable is wanted where it stands
 pub operand_variable_fails : (e : Fault) (kind : ListKind) {name : List ℕ} {ts a : List Symbol} → ts ≡ Variable name ∷ a → takes_variables kind ≡ true
     → ((m : ℕ) → FailsAt e (ARef ∷ []) m ts) → (n : ℕ) → FailsAt e (AnOperand kind ∷ []) n ts
 operand_variable_fails e kind {name} {ts} {a} q t h n =
     let g : Goes (AnOperand kind ∷ []) n ts (ARef ∷ []) n ts = λ k.
-        ap (λ x. verdict limited (AnOperand kind ∷ k) n x) q ∙ moved limited (AnOperand kind) k n (Variable name) a (Read n (OrIndex ∷ [])) (ap (λ b. cond b (Read n (OrIndex ∷ [])) Refuse) t) ∙ ap (λ x. verdict limited (ARef ∷ k) n x) (sym q) in
+    ap (λ x. verdict limited (AnOperand kind ∷ k) n x) q ∙ moved limited (AnOperand kind) k n (Variable name) a (Read n (OrIndex ∷ [])) (ap (λ b. cond b (Read n (OrIndex ∷ [])) Refuse) t) ∙ ap (λ x. verdict limited (ARef ∷ k) n x) (sym q) in
     λ k. along e (g k) (h n k)
 
 empty_right : {A : Type 0} (xs : List A) → xs ++ [] ≡ xs
@@ -223,9 +221,9 @@ filter_at {total} {at} {name_at} {name} {ts} {a} {b} {rest} {os} {xs} p q f g d 
     let w = takes_filter p in
     let e : ts ≡ Word word.FiltList w.0 ∷ q.0 ∷ b = w.1 ∙ ap (λ x. Word word.FiltList w.0 ∷ x) q.2 in
     let c : IsFilter total ts (placed total ts (form.Filt name (place_in total (q.0 ∷ b)) os xs)) rest =
-        subst (λ x. IsFilter total x (placed total x (form.Filt name (place_in total (q.0 ∷ b)) os xs)) rest) (sym e) (filter q.1 d) in
+    subst (λ x. IsFilter total x (placed total x (form.Filt name (place_in total (q.0 ∷ b)) os xs)) rest) (sym e) (filter q.1 d) in
     let i : IsFilter total ts (placed total ts (form.Filt name name_at os xs)) rest =
-        subst (λ x. IsFilter total ts (placed total ts (form.Filt name x os xs)) rest) (sym (f ∙ ap (λ x. place_in total x) q.2)) c in
+    subst (λ x. IsFilter total ts (placed total ts (form.Filt name x os xs)) rest) (sym (f ∙ ap (λ x. place_in total x) q.2)) c in
     subst (λ x. IsFilter total ts (record { at = x; form = form.Filt name name_at os xs }) rest) (sym g) i
 
 goes_filter : (n : ℕ) {ts a : List Symbol} → Takes want.FiltList ts a → Goes (AnItem true ∷ []) n ts (One want.Name Keep ∷ Lists ∷ []) n a
@@ -238,7 +236,7 @@ pub filter_lists_fails : (e : Fault) {name : List ℕ} {ts a b : List Symbol} �
     → ((m : ℕ) → FailsAt e (Lists ∷ []) m b) → (n : ℕ) → FailsAt e (AnItem true ∷ []) n ts
 filter_lists_fails e {ts = ts} {a = a} {b = b} p q h n =
     let g : Goes (AnItem true ∷ []) n ts (Lists ∷ []) n b = λ k.
-        goes_filter n p k ∙ ap (λ x. verdict limited (One want.Name Keep ∷ Lists ∷ k) n x) q.2 ∙ runs_one limited want.Name Keep (Lists ∷ k) n q.0 b (fits_name q.1) in
+    goes_filter n p k ∙ ap (λ x. verdict limited (One want.Name Keep ∷ Lists ∷ k) n x) q.2 ∙ runs_one limited want.Name Keep (Lists ∷ k) n q.0 b (fits_name q.1) in
     λ k. along e (g k) (h n k)
 
 pub code_none : {total : ℕ} {ts : List Symbol} → starts want.Code ts ≡ false → IsCode total ts None ts
@@ -254,7 +252,7 @@ code_some {total} {at} {text} {ts} {a} {b} {d} {rest} p q f r s =
     let g : b ≡ Word r.0 text ∷ Close ∷ rest = r.1 ∙ ap (λ x. Word r.0 text ∷ x) (takes_close s) in
     let e : ts ≡ Word word.Code w.0 ∷ Open ∷ Word r.0 text ∷ Close ∷ rest = w.1 ∙ ap (λ x. Word word.Code w.0 ∷ x) (takes_open q ∙ ap (λ x. Open ∷ x) g) in
     let c : IsCode total ts (Some (operand_at total (Word r.0 text ∷ Close ∷ rest) (operand.Word text))) rest =
-        subst (λ x. IsCode total x (Some (operand_at total (Word r.0 text ∷ Close ∷ rest) (operand.Word text))) rest) (sym e) code in
+    subst (λ x. IsCode total x (Some (operand_at total (Word r.0 text ∷ Close ∷ rest) (operand.Word text))) rest) (sym e) code in
     subst (λ x. IsCode total ts (Some (record { at = x; form = operand.Word text })) rest) (sym (f ∙ ap (λ x. place_in total x) g)) c
 
 goes_code : (n : ℕ) {ts a : List Symbol} → Takes want.Code ts a → Goes (OrCode ∷ []) n ts (One want.Open Keep ∷ One want.Word Keep ∷ One want.Close Keep ∷ []) n a
@@ -272,7 +270,7 @@ pub code_close_fails : (e : Fault) {text : List ℕ} {ts a b d : List Symbol} �
     → ((f : Effect) (m : ℕ) → FailsAt e (One want.Close f ∷ []) m d) → (n : ℕ) → FailsAt e (OrCode ∷ []) n ts
 code_close_fails e {ts = ts} {b = b} {d = d} p q r h n =
     let g : Goes (OrCode ∷ []) n ts (One want.Close Keep ∷ []) n d = λ k.
-        goes_code n p k ∙ ap (λ x. verdict limited (One want.Open Keep ∷ One want.Word Keep ∷ One want.Close Keep ∷ k) n x) (takes_open q) ∙ ap (λ x. verdict limited (One want.Word Keep ∷ One want.Close Keep ∷ k) n x) r.1 in
+    goes_code n p k ∙ ap (λ x. verdict limited (One want.Open Keep ∷ One want.Word Keep ∷ One want.Close Keep ∷ k) n x) (takes_open q) ∙ ap (λ x. verdict limited (One want.Word Keep ∷ One want.Close Keep ∷ k) n x) r.1 in
     λ k. along e (g k) (h Keep n k)
 
 -- where FILTLIST stands it is read
@@ -281,5 +279,5 @@ filter_word_fails e [] q h n k = let no : ⊥ = cc in absurd no
 filter_word_fails e (t ∷ ts) q h n k =
     let w = filter_word t q in
     let g : verdict limited (AnItem true ∷ k) n (t ∷ ts) ≡ verdict limited (One want.FiltList Keep ∷ One want.Name Keep ∷ Lists ∷ k) n (t ∷ ts) =
-        ap (λ x. verdict limited (AnItem true ∷ k) n (x ∷ ts)) w.1 ∙ ap (λ x. verdict limited (One want.FiltList Keep ∷ One want.Name Keep ∷ Lists ∷ k) n (x ∷ ts)) (sym w.1) in
+    ap (λ x. verdict limited (AnItem true ∷ k) n (x ∷ ts)) w.1 ∙ ap (λ x. verdict limited (One want.FiltList Keep ∷ One want.Name Keep ∷ Lists ∷ k) n (x ∷ ts)) (sym w.1) in
     along e g (h Keep n (One want.Name Keep ∷ Lists ∷ k))

@@ -1,5 +1,5 @@
 -- What is left is shorter.
-use Rattle.std.proofs.Common.{◌≡◌, ◌<◌, ◌≤◌, ℕ, Bool, List, ◌∷◌, length, arith, ap}
+use Rattle.std.proofs.Common.{◌<◌, ◌≤◌, ℕ, Bool, List, length, arith, ap}
 use Rattle.std.specs.Prelude.{Option}
 use Rattle.acs_tree.specs.declared.routine.Ref.{Ref}
 use Rattle.acs_tree.specs.declared.routine.Operand.{Operand}

@@ -1,9 +1,8 @@
 -- Each row of the table is right.
-use Rattle.std.proofs.Common.{◌≡◌, ◌&&◌, ℕ, suc, Bool, true, false, cond, List, [], ◌∷◌, ◌++◌, refl, ap, sym, ◌∙◌, subst}
+use Rattle.std.proofs.Common.{◌≡◌, ℕ, suc, Bool, true, false, cond, List, [], ◌∷◌, ◌++◌, refl, ap, sym, ◌∙◌, subst}
 use Rattle.std.specs.Prelude.{◌||◌, Option, Some, None}
 use Rattle.acs_tree.specs.declared.routine.Compare.{Compare}
 use Rattle.acs_tree.specs.declared.routine.Ref.{Ref}
-use Rattle.acs_tree.specs.declared.routine.OperandForm.TheVariants as operand
 use Rattle.acs_tree.specs.declared.routine.Operand.{Operand}
 use Rattle.acs_tree.specs.declared.routine.Cond.{Cond}
 use Rattle.acs_tree.specs.declared.routine.Cond.TheVariants as condition
@@ -18,9 +17,9 @@ use Rattle.acs_parse.specs.declared.symbol.Symbol.TheVariants.{Word, Variable, L
 use Rattle.acs_parse.specs.declared.want.Want.{Want}
 use Rattle.acs_parse.specs.declared.want.Want.TheVariants as want
 use Rattle.acs_parse.specs.Wants.{fits}
-use Rattle.acs_parse.specs.Grammar.{starts, place_in, takes_words, takes_variables, joins, goes_on, back, IsOperator, by_sign, by_word, IsListName, named_by_word, named_by_variable, IsHead, headed_by_word, headed_by_variable, IsIndex, no_index, index, IsRef, ref, IsOperand, literal, word_of, variable, IsFurther, no_further, after_comma, joined, IsOperands, operands, IsExclude, no_exclude, exclude, IsLists, including, excluding, IsFilter, filter, IsCode, no_code, code, IsCond, cond_of, IsOrs, no_or, or_more, IsConj, conj_of, IsAnds, no_and, and_more, IsPrim, test, group, IsStmt, set, choice, pick, group_of, write, exit, IsBranch, no_branch, branch, IsChoice, by_value, by_condition, IsWhen, when_any, when_holds, IsWhens, no_when, more_whens, IsBlock, end_of, then_more, IsItem, item_filter, item_statement, IsOrNumber, no_number, number}
-use Rattle.acs_parse.specs.Table.{Effect, Keep, Lower, To, effect, Part, One, OrNumber, ABlock, AnItem, AStatement, Lists, OrExclude, OrBranch, AChoice, AWhen, MoreWhens, ACondition, MoreOrs, AConjunct, MoreAnds, ATest, AnOperand, MoreOperands, ARef, OrIndex, OrCode, Back, Move, Read, Full, Pass, Refuse, followed, gate, entries, when_parts, opens, item_opens, test_opens, operand_opens, list_opens, choice_opens, rule, Step, Go, after, step}
-use Rattle.acs_parse.specs.Language.{Takes, Lang, Seq, Holds}
+use Rattle.acs_parse.specs.Grammar.{takes_words, takes_variables, joins, back, IsOperator, by_sign, by_word, IsListName, named_by_word, named_by_variable, IsHead, headed_by_word, headed_by_variable, IsIndex, no_index, index, IsRef, ref, IsOperand, literal, word_of, variable, IsFurther, no_further, after_comma, joined, IsOperands, operands, IsExclude, no_exclude, exclude, IsLists, including, excluding, filter, IsCode, no_code, code, IsCond, cond_of, IsOrs, no_or, or_more, IsConj, conj_of, IsAnds, no_and, and_more, IsPrim, test, group, IsStmt, set, choice, pick, group_of, write, exit, IsBranch, no_branch, branch, IsChoice, by_value, by_condition, IsWhen, when_any, when_holds, IsWhens, no_when, more_whens, IsBlock, end_of, then_more, IsItem, item_filter, item_statement, IsOrNumber, no_number, number}
+use Rattle.acs_parse.specs.Table.{Effect, Keep, Lower, To, Part, One, OrNumber, ABlock, AnItem, AStatement, Lists, OrExclude, OrBranch, AChoice, AWhen, MoreWhens, ACondition, MoreOrs, AConjunct, MoreAnds, ATest, AnOperand, MoreOperands, ARef, OrIndex, OrCode, Back, Move, Read, Full, Pass, Refuse, followed, entries, when_parts, opens, item_opens, test_opens, operand_opens, list_opens, choice_opens, rule, Step, Go, after, step}
+use Rattle.acs_parse.specs.Language.{Takes, Seq, Holds}
 
 -- what a wanted token is
 
@@ -152,7 +151,7 @@ module _ (total : ℕ) (may : ℕ → Bool) where
       let b = q.3 in
       let en = end_at b.1 b.3.1 b.3.2.0 in
       let o : IsBranch total may want.Otherwise (suc n) q.1 b.2.0 (Word word.End en.0 ∷ b.3.1) =
-          subst (λ r. IsBranch total may want.Otherwise (suc n) q.1 b.2.0 r) en.1 (subst (λ x. IsBranch total may want.Otherwise x q.1 b.2.0 b.1) (sym q.2.3) b.2.1) in
+      subst (λ r. IsBranch total may want.Otherwise (suc n) q.1 b.2.0 r) en.1 (subst (λ x. IsBranch total may want.Otherwise x q.1 b.2.0 b.1) (sym q.2.3) b.2.1) in
       let f : n ≡ m = ap back (q.2.3 ∙ b.2.2) ∙ b.3.2.1 ∙ b.3.3.0 in
       stmt_to n m _ (Word word.Select a ∷ ms) b.3.1 rest (pick e q.2.2 o) b.3.3.1 f)
   holds_statement n (Word word.Do a) = gate_at AStatement n (Word word.Do a) (ABlock false ∷ Back ∷ []) (may n) (λ e m ms rest q.
@@ -236,9 +235,9 @@ module _ (total : ℕ) (may : ℕ → Bool) where
   holds_exclude : (n : ℕ) (t : Symbol) → Holds total may OrExclude n t (rule may OrExclude n t)
   holds_exclude n t = row_at OrExclude n t _ _ (fits want.Exclude t)
       (λ e m ms rest q.
-          let w = is_exclude t e in
-          let r = exclude_row n m w.0 ms rest q in
-          (r.0, subst (λ x. IsExclude total (x ∷ ms) r.0 rest) (sym w.1) r.1, r.2))
+      let w = is_exclude t e in
+      let r = exclude_row n m w.0 ms rest q in
+      (r.0, subst (λ x. IsExclude total (x ∷ ms) r.0 rest) (sym w.1) r.1, r.2))
       (λ e ms. ([], no_exclude e, refl))
 
   holds_branch : (w : Want) (n : ℕ) (t : Symbol) → Holds total may (OrBranch w) n t (rule may (OrBranch w) n t)
@@ -264,7 +263,7 @@ module _ (total : ℕ) (may : ℕ → Bool) where
       let k = c.3 in
       let s = k.3 in
       let d : IsCond total may n q.1 c.2.0 c.0 (Close ∷ k.1) =
-          subst (λ x. IsCond total may x q.1 c.2.0 c.0 (Close ∷ k.1)) (sym q.2.1) (subst (λ r. IsCond total may q.0 q.1 c.2.0 c.0 r) (closes_at c.1 k.1 k.2.0) c.2.1) in
+      subst (λ x. IsCond total may x q.1 c.2.0 c.0 (Close ∷ k.1)) (sym q.2.1) (subst (λ r. IsCond total may q.0 q.1 c.2.0 c.0 r) (closes_at c.1 k.1 k.2.0) c.2.1) in
       let body : IsStmt total may n k.1 s.2.0 rest = subst (λ x. IsStmt total may x k.1 s.2.0 rest) (sym k.2.1) (subst (λ r. IsStmt total may k.0 k.1 s.2.0 r) s.3.1 s.2.1) in
       let i : (w : When) × IsWhen total may false n (Word word.When a ∷ Open ∷ q.1) w rest = (_, when_holds d body) in
       let j = subst (λ x. (w : When) × IsWhen total may false n (Word word.When a ∷ x) w rest) (sym (opens_at ms q.1 q.2.0)) i in
@@ -273,9 +272,9 @@ module _ (total : ℕ) (may : ℕ → Bool) where
   holds_when : (b : Bool) (n : ℕ) (t : Symbol) → Holds total may (AWhen b) n t (rule may (AWhen b) n t)
   holds_when b n t = row_at (AWhen b) n t _ _ (fits want.When t)
       (λ e m ms rest q.
-          let w = is_when t e in
-          let r = when_row b n m w.0 ms rest q in
-          (r.0, subst (λ x. IsWhen total may b n (x ∷ ms) r.0 rest) (sym w.1) r.1, r.2))
+      let w = is_when t e in
+      let r = when_row b n m w.0 ms rest q in
+      (r.0, subst (λ x. IsWhen total may b n (x ∷ ms) r.0 rest) (sym w.1) r.1, r.2))
       (λ e. tt)
 
   whens_row : (b : Bool) (n m : ℕ) (a : List ℕ) (ms rest : List Symbol) → Seq total may (when_parts b n ++ MoreWhens b ∷ []) n ms m rest
@@ -290,9 +289,9 @@ module _ (total : ℕ) (may : ℕ → Bool) where
   holds_whens : (b : Bool) (n : ℕ) (t : Symbol) → Holds total may (MoreWhens b) n t (rule may (MoreWhens b) n t)
   holds_whens b n t = row_at (MoreWhens b) n t _ _ (fits want.When t)
       (λ e m ms rest q.
-          let w = is_when t e in
-          let r = whens_row b n m w.0 ms rest q in
-          (r.0 ∷ r.1, subst (λ x. IsWhens total may b n (x ∷ ms) (r.0 ∷ r.1) rest) (sym w.1) (more_whens r.3 r.4), r.5))
+      let w = is_when t e in
+      let r = whens_row b n m w.0 ms rest q in
+      (r.0 ∷ r.1, subst (λ x. IsWhens total may b n (x ∷ ms) (r.0 ∷ r.1) rest) (sym w.1) (more_whens r.3 r.4), r.5))
       (λ e ms. ([], no_when e, refl))
 
   choice_row : (n m : ℕ) (ms rest : List Symbol) → Seq total may (ARef ∷ One want.Close Keep ∷ AWhen true ∷ MoreWhens true ∷ []) n ms m rest
@@ -320,13 +319,13 @@ module _ (total : ℕ) (may : ℕ → Bool) where
       (i.0, subst (λ r. IsOperand total kind (Literal text ∷ ms) i.0 r) q.1 i.1, q.0)
   holds_operand kind n (Word form text) = row_at (AnOperand kind) n (Word form text) _ _ (takes_words kind)
       (λ e m ms rest q.
-          let i : (o : Operand) × IsOperand total kind (Word form text ∷ ms) o ms = (_, word_of e) in
-          (i.0, subst (λ r. IsOperand total kind (Word form text ∷ ms) i.0 r) q.1 i.1, q.0))
+      let i : (o : Operand) × IsOperand total kind (Word form text ∷ ms) o ms = (_, word_of e) in
+      (i.0, subst (λ r. IsOperand total kind (Word form text ∷ ms) i.0 r) q.1 i.1, q.0))
       (λ e. tt)
   holds_operand kind n (Variable name) = row_at (AnOperand kind) n (Variable name) _ _ (takes_variables kind)
       (λ e m ms rest q.
-          let d : IsIndex total ms q.2.0 q.2.1 rest = subst (λ r. IsIndex total ms q.2.0 q.2.1 r) q.3.1 q.2.2 in
-          (_, variable e (ref d), q.2.3 ∙ q.3.0))
+      let d : IsIndex total ms q.2.0 q.2.1 rest = subst (λ r. IsIndex total ms q.2.0 q.2.1 r) q.3.1 q.2.2 in
+      (_, variable e (ref d), q.2.3 ∙ q.3.0))
       (λ e. tt)
   holds_operand kind n _ = tt
 
@@ -348,32 +347,32 @@ module _ (total : ℕ) (may : ℕ → Bool) where
   holds_further : (kind : ListKind) (n : ℕ) (t : Symbol) → Holds total may (MoreOperands kind) n t (rule may (MoreOperands kind) n t)
   holds_further kind n t = row_at (MoreOperands kind) n t _ _ (fits want.Comma t)
       (λ e m ms rest q.
-          let os = q.3 in
-          let d : IsFurther total kind (Comma ∷ ms) (q.2.0 ∷ os.2.0) rest = subst (λ r. IsFurther total kind (Comma ∷ ms) (q.2.0 ∷ os.2.0) r) os.3.1 (after_comma q.2.1 os.2.1) in
-          (q.2.0 ∷ os.2.0, subst (λ x. IsFurther total kind (x ∷ ms) (q.2.0 ∷ os.2.0) rest) (sym (is_comma t e)) d, q.2.2 ∙ os.2.2 ∙ os.3.0))
+      let os = q.3 in
+      let d : IsFurther total kind (Comma ∷ ms) (q.2.0 ∷ os.2.0) rest = subst (λ r. IsFurther total kind (Comma ∷ ms) (q.2.0 ∷ os.2.0) r) os.3.1 (after_comma q.2.1 os.2.1) in
+      (q.2.0 ∷ os.2.0, subst (λ x. IsFurther total kind (x ∷ ms) (q.2.0 ∷ os.2.0) rest) (sym (is_comma t e)) d, q.2.2 ∙ os.2.2 ∙ os.3.0))
       (λ e. row_at (MoreOperands kind) n t _ _ (joins kind t)
-          (λ f. joined_from kind n t (operand_opens kind n t) f (holds_operand kind n t))
-          (λ f ms. ([], no_further (neither (fits want.Comma t) (joins kind t) e f), refl)))
+      (λ f. joined_from kind n t (operand_opens kind n t) f (holds_operand kind n t))
+      (λ f ms. ([], no_further (neither (fits want.Comma t) (joins kind t) e f), refl)))
 
   holds_ref : (n : ℕ) (t : Symbol) → Holds total may ARef n t (rule may ARef n t)
   holds_ref n t = row_at ARef n t _ _ (fits want.Variable t)
       (λ e m ms rest q.
-          let v = is_variable t e in
-          let d : IsIndex total ms q.2.0 q.2.1 rest = subst (λ r. IsIndex total ms q.2.0 q.2.1 r) q.3.1 q.2.2 in
-          let i : (r : Ref) × IsRef total (Variable v.0 ∷ ms) r rest = (_, ref d) in
-          let j = subst (λ x. (r : Ref) × IsRef total (x ∷ ms) r rest) (sym v.1) i in
-          (j.0, j.1, q.2.3 ∙ q.3.0))
+      let v = is_variable t e in
+      let d : IsIndex total ms q.2.0 q.2.1 rest = subst (λ r. IsIndex total ms q.2.0 q.2.1 r) q.3.1 q.2.2 in
+      let i : (r : Ref) × IsRef total (Variable v.0 ∷ ms) r rest = (_, ref d) in
+      let j = subst (λ x. (r : Ref) × IsRef total (x ∷ ms) r rest) (sym v.1) i in
+      (j.0, j.1, q.2.3 ∙ q.3.0))
       (λ e. tt)
 
   holds_index : (n : ℕ) (t : Symbol) → Holds total may OrIndex n t (rule may OrIndex n t)
   holds_index n t = row_at OrIndex n t _ _ (fits want.Open t)
       (λ e m ms rest q.
-          let w = number_at ms q.1 q.2.0 in
-          let f : ms ≡ Word word.Number w.0 ∷ Close ∷ rest = w.1 ∙ ap (λ x. Word word.Number w.0 ∷ x) (closes_at q.1 q.3.1 q.3.2.0 ∙ ap (λ x. Close ∷ x) q.3.3.1) in
-          let i : (i : Option (List ℕ)) × (at : ℕ) × IsIndex total (Open ∷ Word word.Number w.0 ∷ Close ∷ rest) i at rest = (_, _, index) in
-          let j = subst (λ x. (i : Option (List ℕ)) × (at : ℕ) × IsIndex total (Open ∷ x) i at rest) (sym f) i in
-          let k = subst (λ x. (i : Option (List ℕ)) × (at : ℕ) × IsIndex total (x ∷ ms) i at rest) (sym (is_open t e)) j in
-          (k.0, k.1, k.2, q.2.1 ∙ q.3.2.1 ∙ q.3.3.0))
+      let w = number_at ms q.1 q.2.0 in
+      let f : ms ≡ Word word.Number w.0 ∷ Close ∷ rest = w.1 ∙ ap (λ x. Word word.Number w.0 ∷ x) (closes_at q.1 q.3.1 q.3.2.0 ∙ ap (λ x. Close ∷ x) q.3.3.1) in
+      let i : (i : Option (List ℕ)) × (at : ℕ) × IsIndex total (Open ∷ Word word.Number w.0 ∷ Close ∷ rest) i at rest = (_, _, index) in
+      let j = subst (λ x. (i : Option (List ℕ)) × (at : ℕ) × IsIndex total (Open ∷ x) i at rest) (sym f) i in
+      let k = subst (λ x. (i : Option (List ℕ)) × (at : ℕ) × IsIndex total (x ∷ ms) i at rest) (sym (is_open t e)) j in
+      (k.0, k.1, k.2, q.2.1 ∙ q.3.2.1 ∙ q.3.3.0))
       (λ e ms. (None, 0, no_index e, refl))
 
   code_row : (n m : ℕ) (t : Symbol) (ms rest : List Symbol) → fits want.Code t ≡ true → Seq total may (One want.Open Keep ∷ One want.Word Keep ∷ One want.Close Keep ∷ []) n ms m rest
@@ -384,7 +383,7 @@ module _ (total : ℕ) (may : ℕ → Bool) where
       let c = b.3 in
       let v = word_at q.1 b.1 b.2.0 in
       let f : ms ≡ Open ∷ Word v.0 v.1 ∷ Close ∷ rest =
-          opens_at ms q.1 q.2.0 ∙ ap (λ x. Open ∷ x) (v.2 ∙ ap (λ x. Word v.0 v.1 ∷ x) (closes_at b.1 c.1 c.2.0 ∙ ap (λ x. Close ∷ x) c.3.1)) in
+      opens_at ms q.1 q.2.0 ∙ ap (λ x. Open ∷ x) (v.2 ∙ ap (λ x. Word v.0 v.1 ∷ x) (closes_at b.1 c.1 c.2.0 ∙ ap (λ x. Close ∷ x) c.3.1)) in
       let i : (o : Option Operand) × IsCode total (Word word.Code w.0 ∷ Open ∷ Word v.0 v.1 ∷ Close ∷ rest) o rest = (_, code) in
       let j = subst (λ x. (o : Option Operand) × IsCode total (Word word.Code w.0 ∷ x) o rest) (sym f) i in
       let k = subst (λ x. (o : Option Operand) × IsCode total (x ∷ ms) o rest) (sym w.1) j in
@@ -440,28 +439,28 @@ module _ (total : ℕ) (may : ℕ → Bool) where
   holds_ors : (n : ℕ) (t : Symbol) → Holds total may MoreOrs n t (rule may MoreOrs n t)
   holds_ors n t = row_at MoreOrs n t _ _ (fits want.Or t)
       (λ f. gate_at MoreOrs n t (AConjunct ∷ MoreOrs ∷ []) (may n) (λ e m ms rest q x.
-          let y = q.2 in
-          let o = q.3 in
-          let c = o.2 (condition.Or x y.0) in
-          let i : IsOrs total may n x (t ∷ ms) c.0 o.0 o.1 = or_more f e y.1 c.1 in
-          (c.0, subst (λ z. IsOrs total may n x (t ∷ ms) c.0 z rest) o.3.0 (subst (λ r. IsOrs total may n x (t ∷ ms) c.0 o.0 r) o.3.1 i))))
+      let y = q.2 in
+      let o = q.3 in
+      let c = o.2 (condition.Or x y.0) in
+      let i : IsOrs total may n x (t ∷ ms) c.0 o.0 o.1 = or_more f e y.1 c.1 in
+      (c.0, subst (λ z. IsOrs total may n x (t ∷ ms) c.0 z rest) o.3.0 (subst (λ r. IsOrs total may n x (t ∷ ms) c.0 o.0 r) o.3.1 i))))
       (λ f ms x. (x, no_or f))
 
   holds_ands : (n : ℕ) (t : Symbol) → Holds total may MoreAnds n t (rule may MoreAnds n t)
   holds_ands n t = row_at MoreAnds n t _ _ (fits want.And t)
       (λ f. gate_at MoreAnds n t (ATest ∷ MoreAnds ∷ []) (may n) (λ e m ms rest q x.
-          let y = q.2 in
-          let o = q.3 in
-          let c = o.2 (condition.And x y.0) in
-          let i : IsAnds total may n x (t ∷ ms) c.0 o.0 o.1 = and_more f e y.1 c.1 in
-          (c.0, subst (λ z. IsAnds total may n x (t ∷ ms) c.0 z rest) o.3.0 (subst (λ r. IsAnds total may n x (t ∷ ms) c.0 o.0 r) o.3.1 i))))
+      let y = q.2 in
+      let o = q.3 in
+      let c = o.2 (condition.And x y.0) in
+      let i : IsAnds total may n x (t ∷ ms) c.0 o.0 o.1 = and_more f e y.1 c.1 in
+      (c.0, subst (λ z. IsAnds total may n x (t ∷ ms) c.0 z rest) o.3.0 (subst (λ r. IsAnds total may n x (t ∷ ms) c.0 o.0 r) o.3.1 i))))
       (λ f ms x. (x, no_and f))
 
   holds_number : (n : ℕ) (t : Symbol) → Holds total may OrNumber n t (rule may OrNumber n t)
   holds_number n t = row_at OrNumber n t _ _ (fits want.Number t)
       (λ e m ms rest q.
-          let w = is_number t e in
-          (subst (λ x. IsOrNumber (x ∷ ms) rest) (sym w.1) (subst (λ r. IsOrNumber (Word word.Number w.0 ∷ ms) r) q.1 number), q.0))
+      let w = is_number t e in
+      (subst (λ x. IsOrNumber (x ∷ ms) rest) (sym w.1) (subst (λ r. IsOrNumber (Word word.Number w.0 ∷ ms) r) q.1 number), q.0))
       (λ e ms. (no_number e, refl))
 
   holds_one : (w : Want) (f : Effect) (n : ℕ) (t : Symbol) → Holds total may (One w f) n t (rule may (One w f) n t)

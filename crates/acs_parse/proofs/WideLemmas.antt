@@ -1,14 +1,13 @@
 -- Without the limit the table does the same, and goes on where the limit stops it.
-use Rattle.std.proofs.Common.{◌≡◌, ℕ, suc, Bool, true, false, cond, List, [], ◌∷◌, ◌++◌, refl, ap, sym, subst}
+use Rattle.std.proofs.Common.{◌≡◌, ℕ, Bool, true, false, cond, List, [], ◌∷◌, ◌++◌, refl, ap, sym, subst}
 use Rattle.acs_parse.specs.declared.list_kind.ListKind.{ListKind}
 use Rattle.acs_parse.specs.declared.symbol.WordKind.TheVariants as word
 use Rattle.acs_parse.specs.declared.symbol.Symbol.{Symbol}
 use Rattle.acs_parse.specs.declared.symbol.Symbol.TheVariants.{Word, Variable, Literal, Open}
-use Rattle.acs_parse.specs.declared.want.Want.{Want}
 use Rattle.acs_parse.specs.declared.want.Want.TheVariants as want
 use Rattle.acs_parse.specs.Wants.{fits}
 use Rattle.acs_parse.specs.Grammar.{limited, unlimited, takes_words, takes_variables, joins}
-use Rattle.acs_parse.specs.Table.{Part, One, OrNumber, ABlock, AnItem, AStatement, Lists, OrExclude, OrBranch, AChoice, AWhen, MoreWhens, ACondition, MoreOrs, AConjunct, MoreAnds, ATest, AnOperand, MoreOperands, ARef, OrIndex, OrCode, Back, Move, Read, Full, Pass, Refuse, followed, gate, opens, item_opens, test_opens, operand_opens, rule, Step, Go, No, Many, after, step}
+use Rattle.acs_parse.specs.Table.{Part, One, OrNumber, ABlock, AnItem, AStatement, Lists, OrExclude, OrBranch, AChoice, AWhen, MoreWhens, ACondition, MoreOrs, AConjunct, MoreAnds, ATest, AnOperand, MoreOperands, ARef, OrIndex, OrCode, Back, Move, Read, Full, Pass, Refuse, followed, opens, item_opens, test_opens, operand_opens, rule, Step, Go, No, Many, after, step}
 
 abbrev WideMove : Move → Move → Type 0
 WideMove Full x = (p : ℕ) × (new : List Part) × (x ≡ Read p new)

@@ -141,14 +141,14 @@ pub data IsFilter (total : ℕ) : List Symbol → Stmt → List Symbol → Type 
   filter : {a name : List ℕ} {t : Symbol} {ts rest : List Symbol} {os xs : List Operand}
       → IsListName t name → IsLists total ts os xs rest
       → IsFilter total (Word word.FiltList a ∷ t ∷ ts)
-          (placed total (Word word.FiltList a ∷ t ∷ ts) (form.Filt name (place_in total (t ∷ ts)) os xs)) rest
+      (placed total (Word word.FiltList a ∷ t ∷ ts) (form.Filt name (place_in total (t ∷ ts)) os xs)) rest
 
 -- the code of an EXIT, or none
 pub data IsCode (total : ℕ) : List Symbol → Option Operand → List Symbol → Type 0 where
   no_code : {rest : List Symbol} → starts want.Code rest ≡ false → IsCode total rest None rest
   code : {a text : List ℕ} {kind : WordKind} {rest : List Symbol}
       → IsCode total (Word word.Code a ∷ Open ∷ Word kind text ∷ Close ∷ rest)
-          (Some (operand_at total (Word kind text ∷ Close ∷ rest) (operand.Word text))) rest
+      (Some (operand_at total (Word kind text ∷ Close ∷ rest) (operand.Word text))) rest
 
 -- one that was open is closed
 abbrev pub back : ℕ → ℕ
@@ -226,11 +226,11 @@ mutual
     when_any : {n : ℕ} {a : List ℕ} {ts ms rest : List Symbol} {os : List Operand} {s : Stmt}
         → IsOperands total list.Items ts os (Close ∷ ms) → IsStmt total may n ms s rest
         → IsWhen total may true n (Word word.When a ∷ Open ∷ ts)
-            (when_at total (Word word.When a ∷ Open ∷ ts) (when_test.Any os) s) rest
+        (when_at total (Word word.When a ∷ Open ∷ ts) (when_test.Any os) s) rest
     when_holds : {n m : ℕ} {a : List ℕ} {ts ms rest : List Symbol} {c : Cond} {s : Stmt}
         → IsCond total may n ts c m (Close ∷ ms) → IsStmt total may n ms s rest
         → IsWhen total may false n (Word word.When a ∷ Open ∷ ts)
-            (when_at total (Word word.When a ∷ Open ∷ ts) (when_test.Holds c) s) rest
+        (when_at total (Word word.When a ∷ Open ∷ ts) (when_test.Holds c) s) rest
 
   -- the branches behind the first
   pub data IsWhens (total : ℕ) (may : ℕ → Bool) : Bool → ℕ → List Symbol → List When → List Symbol → Type 0 where

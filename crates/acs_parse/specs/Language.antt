@@ -9,7 +9,7 @@ use Rattle.acs_parse.specs.declared.symbol.Symbol.{Symbol}
 use Rattle.acs_parse.specs.declared.want.Want.{Want}
 use Rattle.acs_parse.specs.Wants.{fits}
 use Rattle.acs_parse.specs.Grammar.{back, IsIndex, IsRef, IsOperand, IsFurther, IsExclude, IsLists, IsCode, IsCond, IsOrs, IsConj, IsAnds, IsPrim, IsStmt, IsBranch, IsChoice, IsWhen, IsWhens, IsBlock, IsItem, IsOrNumber}
-use Rattle.acs_parse.specs.Table.{Effect, effect, Part, One, OrNumber, ABlock, AnItem, AStatement, Lists, OrExclude, OrBranch, AChoice, AWhen, MoreWhens, ACondition, MoreOrs, AConjunct, MoreAnds, ATest, AnOperand, MoreOperands, ARef, OrIndex, OrCode, Back, Move, Read, Full, Pass, Refuse}
+use Rattle.acs_parse.specs.Table.{effect, Part, One, OrNumber, ABlock, AnItem, AStatement, Lists, OrExclude, OrBranch, AChoice, AWhen, MoreWhens, ACondition, MoreOrs, AConjunct, MoreAnds, ATest, AnOperand, MoreOperands, ARef, OrIndex, OrCode, Back, Move, Read, Full, Pass, Refuse}
 
 -- the tokens begin with the one that is wanted
 abbrev pub Takes : Want → List Symbol → List Symbol → Type 0

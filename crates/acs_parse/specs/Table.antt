@@ -1,6 +1,6 @@
 -- What is still to be read, as a stack of parts that one token changes, and how many are open. It is
 -- the means of the parser: what is promised stands in Grammar and Places.
-use Rattle.std.specs.Prelude.{◌&&◌, ◌||◌, ℕ, suc, Bool, true, false, cond, List, [], ◌∷◌, ◌++◌, length}
+use Rattle.std.specs.Prelude.{◌&&◌, ℕ, suc, Bool, true, false, cond, List, [], ◌∷◌, ◌++◌, length}
 use Rattle.acs_parse.specs.declared.list_kind.ListKind.{ListKind}
 use Rattle.acs_parse.specs.declared.list_kind.ListKind.TheVariants as list
 use Rattle.acs_parse.specs.declared.symbol.WordKind.TheVariants as word

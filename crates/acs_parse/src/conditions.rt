@@ -18,7 +18,12 @@ use std::alloc::Global;
 /// A condition, whose parts an OR joins.
 #[cycle(cond)]
 #[tactic(auto, using(crate::proofs::CondLemmas::or_first, crate::proofs::CondLemmas::or_over, crate::proofs::CondLemmas::or_fails_first, crate::proofs::CondLemmas::or_deep, crate::proofs::CondLemmas::or_word_fails, crate::proofs::CondLemmas::or_fails))]
-pub fn cond(alloc: Global, total: u32, depth: u32, rest: &mut &[Symbol]) -> Result<(Cond, u32), Fault>
+pub fn cond(
+    alloc: Global,
+    total: u32,
+    depth: u32,
+    rest: &mut &[Symbol],
+) -> Result<(Cond, u32), Fault>
     ensures { Parses (λ x. IsCond total limited depth rest.old.now x.0 x.1 rest.new.now) (ACondition ∷ []) depth rest.old.now result }
 {
     let (mut found, mut count) = conj(alloc, total, depth, rest)?;

@@ -77,7 +77,12 @@ pub fn operand(total: u32, kind: ListKind, rest: &mut &[Symbol]) -> Result<Opera
 
 /// A list of such operands, at least one.
 #[tactic(auto, using(crate::proofs::OperandLemmas::list_first, crate::proofs::OperandLemmas::list_turn, crate::proofs::OperandLemmas::list_over, crate::proofs::OperandLemmas::list_fails_first, crate::proofs::OperandLemmas::list_fails))]
-pub fn operands(alloc: Global, total: u32, kind: ListKind, rest: &mut &[Symbol]) -> Result<Operands, Fault>
+pub fn operands(
+    alloc: Global,
+    total: u32,
+    kind: ListKind,
+    rest: &mut &[Symbol],
+) -> Result<Operands, Fault>
     ensures { Reads (λ list. IsOperands total kind rest.old.now list rest.new.now) (AnOperand kind ∷ MoreOperands kind ∷ []) rest.old.now result }
 {
     // The check has to see the types inside the list's items.
