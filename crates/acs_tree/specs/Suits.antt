@@ -248,9 +248,13 @@ range_token (Literal text) = None
 range_token (Word word) = None
 range_token (Var ref) = token_if (is_out_of_range ref) ref.index_at
 
--- a word beside a variable that is compared with masks: for the whole data set name a mask, else a simple mask
+-- a mask that suits that variable: of the whole data set name one of qualifiers, of another a simple one
+abbrev pub is_mask_beside : Ref → List ℕ → Bool
+is_mask_beside ref word = if is_whole_name ref then is_mask word else is_simple word
+
+-- a word that is no suitable mask beside a variable that is compared with masks
 abbrev pub is_bad_mask : Option Ref → List ℕ → Bool
-is_bad_mask left word = is_left_with (λ ref. takes_masks ref && not (if is_whole_name ref then is_mask word else is_simple word)) left
+is_bad_mask left word = is_left_with (λ ref. takes_masks ref && not (is_mask_beside ref word)) left
 
 -- a list with a word that is no simple mask, where only simple masks are compared
 abbrev pub is_bad_list : List Stmt → Option Ref → Ref → Bool

@@ -1,0 +1,15 @@
+//! The checks of an ACS routine (docs/acs-language.md, Checks).
+#![tactic(auto)]
+
+mod check_name;
+mod checker;
+mod first_fault;
+mod lists;
+mod nodes;
+mod numbers;
+mod operands;
+mod references;
+mod statements;
+
+pub use acs_tree::CheckErr;
+pub use checker::check;
