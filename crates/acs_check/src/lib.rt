@@ -3,6 +3,7 @@
 
 mod check_name;
 mod checker;
+mod earlier;
 mod first_fault;
 mod lists;
 mod nodes;

@@ -1,9 +1,8 @@
-// Filter lists, found by their names among the statements that stand before.
+// Filter lists and their entries.
 ghost use Rattle.std.specs.Prelude.{◌≡◌};
-ghost use Rattle.acs_tree.specs.Suits.{is_mask, is_simple, is_list_named, is_list, is_list_ref, is_simple_entry, are_simple, is_simple_form, is_simple_list};
+ghost use Rattle.acs_tree.specs.Suits.{is_mask, is_simple, is_list_named, is_simple_entry, are_simple, is_simple_form, is_simple_statement};
 
-use crate::references::is_known;
-use acs_tree::{Form, Ident, Operand, OperandForm, Ref, Stmt};
+use acs_tree::{Form, Ident, Operand, OperandForm, Stmt};
 use dsn_mask::{Mask, Simple};
 
 pub fn is_mask(word: &Ident) -> bool
@@ -18,26 +17,13 @@ pub fn is_simple(word: &Ident) -> bool
     Simple::parse(word.bytes()).is_ok()
 }
 
-fn is_list_named(name: &Ident, statement: &Stmt) -> bool
+pub fn is_list_named(name: &Ident, statement: &Stmt) -> bool
     ensures { result ≡ is_list_named name.now statement.now }
 {
     match &statement.form {
         Form::Filt { name: other, .. } => other == name,
         _ => false,
     }
-}
-
-/// Whether one of the statements is a filter list of that name.
-pub fn is_list(before: &[Stmt], name: &Ident) -> bool
-    ensures { result ≡ is_list before.now name.now }
-{
-    before.iter().any(|statement| is_list_named(name, statement))
-}
-
-pub fn is_list_ref(before: &[Stmt], reference: &Ref) -> bool
-    ensures { result ≡ is_list_ref before.now reference.now }
-{
-    !is_known(reference) && reference.index.is_none() && is_list(before, &reference.name)
 }
 
 fn is_simple_entry(form: &OperandForm) -> bool
@@ -66,11 +52,8 @@ fn is_simple_form(form: &Form) -> bool
     }
 }
 
-/// Whether each filter list of that name has simple masks alone.
-pub fn is_simple_list(before: &[Stmt], name: &Ident) -> bool
-    ensures { result ≡ is_simple_list before.now name.now }
+pub fn is_simple_statement(statement: &Stmt) -> bool
+    ensures { result ≡ is_simple_statement statement.now }
 {
-    before
-        .iter()
-        .all(|statement| !is_list_named(name, statement) || is_simple_form(&statement.form))
+    is_simple_form(&statement.form)
 }

@@ -1,22 +1,22 @@
 // The first fault so far, with those of one node.
-ghost use Rattle.std.specs.Prelude.{◌≡◌, ◌==◌, ◌||◌, [], Some, if◌then◌else◌, length};
+ghost use Rattle.std.specs.Prelude.{◌≡◌, ◌==◌, ◌||◌, ◌&&◌, not, [], Some, if◌then◌else◌, length};
 ghost use Rattle.acs_tree.specs.Nodes.{Head, ListName, Entry, Target, Value, Part, Left, Order, Right, Code};
 ghost use Rattle.acs_tree.specs.Sound.{fault};
-ghost use Rattle.acs_tree.specs.Suits.{is_order, range_token, token_if, token_of, is_bad_list, is_bad_mask, is_group_list, is_among, is_literal_with, is_word_with, is_var_with};
+ghost use Rattle.acs_tree.specs.Suits.{is_order, range_token, token_if, token_of, is_bad_list, is_bad_mask, is_listed, is_plain_unknown, is_group_list, is_among, is_literal_with, is_word_with, is_var_with};
 ghost use Rattle.acs_check.specs.Walk.{least, met};
 
 use crate::check_name::CheckName;
+use crate::earlier::Earlier;
 use crate::first_fault::{matters, note};
-use crate::lists::is_list;
 use crate::operands::{
-    is_bad_value, is_exit_code, is_misindexed_form, is_misplaced, is_no_entry, is_one_too_many,
-    is_read_early, is_too_great, is_unknown, is_unknown_indexed, is_unknown_list, is_word, is_unsuited,
+    is_bad_value, is_exit_code, is_listed, is_misindexed_form, is_misplaced, is_plain_unknown, is_no_entry, is_one_too_many,
+    is_read_early, is_too_great, is_unknown, is_unknown_indexed, is_word, is_unsuited,
     is_unsuited_value, token_of,
 };
 use crate::references::{
     is_counted, is_known, is_misindexed, is_name_of, is_out_of_range, is_set_later,
 };
-use acs_tree::{CheckErr, Compare, Ident, Kind, Operand, OperandForm, Ref, Stmt, Variable};
+use acs_tree::{CheckErr, Compare, Ident, Kind, Operand, OperandForm, Ref, Variable};
 
 /// The first fault so far.
 pub type Best = Option<CheckErr>;
@@ -27,14 +27,14 @@ pub fn head(kind: Kind, name: &Ident, at: u32, best: Best) -> Best
     note(best, CheckName::WrongHead, !is_name_of(kind, name), at)
 }
 
-pub fn list_name(kind: Kind, before: &[Stmt], name: &Ident, at: u32, best: Best) -> Best
+pub fn list_name(kind: Kind, before: &Earlier<'_>, name: &Ident, at: u32, best: Best) -> Best
     ensures { result ≡ met kind before.now best (ListName name.now at) }
 {
-    let taken = Variable::named(name).is_some() || is_list(before, name);
+    let taken = Variable::named(name).is_some() || before.is_list(name);
     note(best, CheckName::ListNameTaken, taken, at)
 }
 
-pub fn entry(kind: Kind, before: &[Stmt], count: usize, entry: &Operand, best: Best) -> Best
+pub fn entry(kind: Kind, before: &Earlier<'_>, count: usize, entry: &Operand, best: Best) -> Best
     ensures { result ≡ met kind before.now best (Entry count entry.now) }
 {
     let at = token_of(entry);
@@ -42,7 +42,7 @@ pub fn entry(kind: Kind, before: &[Stmt], count: usize, entry: &Operand, best: B
     note(best, CheckName::TooManyEntries, count == 255, at)
 }
 
-pub fn target(kind: Kind, before: &[Stmt], target: &Ref, best: Best) -> Best
+pub fn target(kind: Kind, before: &Earlier<'_>, target: &Ref, best: Best) -> Best
     ensures { result ≡ met kind before.now best (Target target.now) }
 {
     let known = is_known(target);
@@ -92,7 +92,7 @@ fn too_many(target: &Ref, before: &[Operand], value: &Operand, best: Best) -> Be
 /// A value of a SET, the values before it, and the values behind it.
 pub fn value(
     kind: Kind,
-    lists: &[Stmt],
+    lists: &Earlier<'_>,
     target: &Ref,
     before: &[Operand],
     value: &Operand,
@@ -110,7 +110,7 @@ pub fn value(
     note(best, CheckName::ReadTooEarly, is_read_early(kind, form), at)
 }
 
-pub fn part(kind: Kind, before: &[Stmt], part: &Operand, best: Best) -> Best
+pub fn part(kind: Kind, before: &Earlier<'_>, part: &Operand, best: Best) -> Best
     ensures { result ≡ met kind before.now best (Part part.now) }
 {
     let at = token_of(part);
@@ -122,7 +122,7 @@ pub fn part(kind: Kind, before: &[Stmt], part: &Operand, best: Best) -> Best
     note(best, CheckName::ReadTooEarly, is_read_early(kind, form), at)
 }
 
-pub fn left(kind: Kind, before: &[Stmt], left: &Ref, best: Best) -> Best
+pub fn left(kind: Kind, before: &Earlier<'_>, left: &Ref, best: Best) -> Best
     ensures { result ≡ met kind before.now best (Left left.now) }
 {
     let at = left.at;
@@ -138,28 +138,30 @@ fn is_order(op: Compare) -> bool
     !matches!(op, Compare::Eq | Compare::Ne)
 }
 
-pub fn order(kind: Kind, before: &[Stmt], left: &Ref, op: Compare, at: u32, best: Best) -> Best
+pub fn order(kind: Kind, before: &Earlier<'_>, left: &Ref, op: Compare, at: u32, best: Best) -> Best
     ensures { result ≡ met kind before.now best (Order left.now op at) }
 {
     note(best, CheckName::OrderOfTexts, is_order(op) && !is_counted(left), at)
 }
 
-// What can't be the first fault isn't looked at: no list is longer than its 255 entries and its uses.
-fn misplaced(before: &[Stmt], left: &Option<Ref>, right: &Operand, best: Best) -> Best
-    ensures { result ≡ least best (fault 9 (token_if (is_word_with (is_bad_mask left.now) right.now.form || is_var_with (is_bad_list before.now left.now) right.now.form) (token_of right.now))) }
+fn misplaced(
+    before: &Earlier<'_>,
+    listed: bool,
+    left: &Option<Ref>,
+    right: &Operand,
+    best: Best,
+) -> Best
+    requires { listed ≡ is_listed before.now right.now.form }
+    ensures { result ≡ least best (fault 9 (token_if (is_word_with (is_bad_mask left.now) right.now.form || is_bad_list before.now left.now right.now.form) (token_of right.now))) }
 {
-    let at = token_of(right);
-    if !matters(best, CheckName::MaskMisplaced, at) {
-        return best;
-    }
-    let broken = is_misplaced(before, left, &right.form);
-    note(best, CheckName::MaskMisplaced, broken, at)
+    let broken = is_misplaced(before, listed, left, &right.form);
+    note(best, CheckName::MaskMisplaced, broken, token_of(right))
 }
 
 /// An operand and what it is compared with.
 pub fn right(
     kind: Kind,
-    before: &[Stmt],
+    before: &Earlier<'_>,
     left: &Option<Ref>,
     right: &Operand,
     best: Best,
@@ -168,15 +170,23 @@ pub fn right(
 {
     let at = token_of(right);
     let form = &right.form;
+    let listed = is_listed(before, form);
     let best = note(best, CheckName::UnknownVariable, is_unknown_indexed(form), at);
-    let best = note(best, CheckName::UnknownList, is_unknown_list(before, form), at);
-    let best = note(best, CheckName::KindMismatch, is_unsuited(before, left, form), at);
+    let best = unlisted(listed, right, best);
+    let best = note(best, CheckName::KindMismatch, is_unsuited(listed, left, form), at);
     let best = value_range(is_too_great(left, form), at, form, best);
-    let best = misplaced(before, left, right, best);
+    let best = misplaced(before, listed, left, right, best);
     note(best, CheckName::ReadTooEarly, is_read_early(kind, form), at)
 }
 
-pub fn code(kind: Kind, before: &[Stmt], code: &Operand, best: Best) -> Best
+fn unlisted(listed: bool, right: &Operand, best: Best) -> Best
+    ensures { result ≡ least best (fault 4 (token_if (is_plain_unknown right.now.form && not listed) (token_of right.now))) }
+{
+    let broken = is_plain_unknown(&right.form) && !listed;
+    note(best, CheckName::UnknownList, broken, token_of(right))
+}
+
+pub fn code(kind: Kind, before: &Earlier<'_>, code: &Operand, best: Best) -> Best
     ensures { result ≡ met kind before.now best (Code code.now) }
 {
     note(best, CheckName::BadExitCode, !is_exit_code(&code.form), token_of(code))

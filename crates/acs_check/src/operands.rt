@@ -2,16 +2,17 @@
 ghost use Rattle.std.specs.Prelude.{◌≡◌, ◌&&◌, ◌||◌, ◌==◌, not, is_some, is_none, true, length, if◌then◌else◌};
 ghost use Rattle.std.specs.Str.{bytes_eq};
 ghost use Rattle.acs_tree.specs.Numbers.{is_number, is_size, is_fit_number, is_fit_size, is_between};
-ghost use Rattle.acs_tree.specs.Suits.{is_known, passes, is_mask, is_list, token_by, token_of, is_var_with, is_word_with, is_literal_with, is_left_with, suits_text, suits_volumes, suits_number, suits_size, suits_kind, suits, suits_set, is_misindexed, is_set_later, is_bad_literal, is_too_great, takes_masks, is_whole_name, is_number_variable, is_size_variable, is_mask_beside, is_bad_mask, is_bad_list, is_among, is_group_list};
+ghost use Rattle.acs_tree.specs.Suits.{is_known, passes, is_mask, is_listed, is_plain_unknown, is_simple_list, takes_simple, token_by, token_of, is_var_with, is_word_with, is_literal_with, is_left_with, suits_text, suits_volumes, suits_number, suits_size, suits_kind, suits, suits_set, is_misindexed, is_set_later, is_bad_literal, is_too_great, takes_masks, is_whole_name, is_number_variable, is_size_variable, is_mask_beside, is_bad_mask, is_bad_list, is_among, is_group_list};
 ghost use Rattle.acs_tree.specs.Variables.{variable_of};
 
-use crate::lists::{is_list, is_list_ref, is_mask, is_simple, is_simple_list};
+use crate::earlier::Earlier;
+use crate::lists::{is_mask, is_simple};
 use crate::numbers::{is_between, is_fit_number, is_fit_size, is_number, is_size};
 use crate::references::{
     is_group_list, is_known, is_misindexed, is_number_variable, is_set_later, is_size_variable,
     is_text, is_whole_name, takes_masks,
 };
-use acs_tree::{Ident, Kind, Operand, OperandForm, Ref, Stmt, Variable, VariableKind};
+use acs_tree::{Ident, Kind, Operand, OperandForm, Ref, Variable, VariableKind};
 use dsn_mask::{Lit, Name};
 
 /// The token of an operand: of a variable, the variable's.
@@ -24,21 +25,21 @@ pub fn token_of(operand: &Operand) -> u32
     }
 }
 
-fn suits_text(before: &[Stmt], form: &OperandForm) -> bool
-    ensures { result ≡ suits_text before.now form.now }
+fn suits_text(listed: bool, form: &OperandForm) -> bool
+    ensures { result ≡ suits_text listed form.now }
 {
     match form {
         OperandForm::Literal(_) | OperandForm::Word(_) => true,
-        OperandForm::Var(reference) => is_list_ref(before, reference) || is_text(reference),
+        OperandForm::Var(reference) => listed || is_text(reference),
     }
 }
 
-fn suits_volumes(before: &[Stmt], form: &OperandForm) -> bool
-    ensures { result ≡ suits_volumes before.now form.now }
+fn suits_volumes(listed: bool, form: &OperandForm) -> bool
+    ensures { result ≡ suits_volumes listed form.now }
 {
     match form {
         OperandForm::Literal(_) | OperandForm::Word(_) => true,
-        OperandForm::Var(reference) => is_list_ref(before, reference),
+        OperandForm::Var(_) => listed,
     }
 }
 
@@ -62,32 +63,32 @@ fn suits_size(form: &OperandForm) -> bool
     }
 }
 
-fn suits_kind(before: &[Stmt], form: &OperandForm, kind: VariableKind) -> bool
-    ensures { result ≡ suits_kind before.now form.now kind }
+fn suits_kind(listed: bool, form: &OperandForm, kind: VariableKind) -> bool
+    ensures { result ≡ suits_kind listed form.now kind }
 {
     match kind {
-        VariableKind::Text | VariableKind::Groups => suits_text(before, form),
-        VariableKind::Volumes => suits_volumes(before, form),
+        VariableKind::Text | VariableKind::Groups => suits_text(listed, form),
+        VariableKind::Volumes => suits_volumes(listed, form),
         VariableKind::Number => suits_number(form),
         VariableKind::Size => suits_size(form),
     }
 }
 
-fn suits_variable(before: &[Stmt], left: &Ref, form: &OperandForm) -> bool
-    ensures { result ≡ passes (λ variable. suits_kind before.now form.now variable.kind) (variable_of left.now.name) }
+fn suits_variable(listed: bool, left: &Ref, form: &OperandForm) -> bool
+    ensures { result ≡ passes (λ variable. suits_kind listed form.now variable.kind) (variable_of left.now.name) }
 {
     match Variable::named(&left.name) {
         None => false,
-        Some(variable) => suits_kind(before, form, variable.kind),
+        Some(variable) => suits_kind(listed, form, variable.kind),
     }
 }
 
-fn suits(before: &[Stmt], left: &Option<Ref>, form: &OperandForm) -> bool
-    ensures { result ≡ suits before.now left.now form.now }
+fn suits(listed: bool, left: &Option<Ref>, form: &OperandForm) -> bool
+    ensures { result ≡ suits listed left.now form.now }
 {
     match left {
         None => false,
-        Some(left) => suits_variable(before, left, form),
+        Some(left) => suits_variable(listed, left, form),
     }
 }
 
@@ -119,16 +120,23 @@ pub fn is_unknown_indexed(form: &OperandForm) -> bool
     }
 }
 
-pub fn is_unknown_list(before: &[Stmt], form: &OperandForm) -> bool
-    ensures { result ≡ is_var_with (λ ref. not (is_known ref) && (is_none ref.index && not (is_list before.now ref.name))) form.now }
+/// Whether it names an earlier filter list.
+pub fn is_listed(before: &Earlier<'_>, form: &OperandForm) -> bool
+    ensures { result ≡ is_listed before.now form.now }
 {
     match form {
         OperandForm::Literal(_) | OperandForm::Word(_) => false,
-        OperandForm::Var(reference) => {
-            !is_known(reference)
-                && reference.index.is_none()
-                && !is_list(before, &reference.name)
-        }
+        OperandForm::Var(reference) => before.is_list_ref(reference),
+    }
+}
+
+/// Whether it is a name without an index that is no variable's.
+pub fn is_plain_unknown(form: &OperandForm) -> bool
+    ensures { result ≡ is_plain_unknown form.now }
+{
+    match form {
+        OperandForm::Literal(_) | OperandForm::Word(_) => false,
+        OperandForm::Var(reference) => !is_known(reference) && reference.index.is_none(),
     }
 }
 
@@ -142,11 +150,11 @@ pub fn is_misindexed_form(form: &OperandForm) -> bool
     }
 }
 
-/// Whether the operand may not be compared with that left side.
-pub fn is_unsuited(before: &[Stmt], left: &Option<Ref>, form: &OperandForm) -> bool
-    ensures { result ≡ (not (suits before.now left.now form.now) || is_var_with is_misindexed form.now) }
+/// Whether the operand, which is listed or not, may not be compared with that left side.
+pub fn is_unsuited(listed: bool, left: &Option<Ref>, form: &OperandForm) -> bool
+    ensures { result ≡ (not (suits listed left.now form.now) || is_var_with is_misindexed form.now) }
 {
-    !suits(before, left, form) || is_misindexed_form(form)
+    !suits(listed, left, form) || is_misindexed_form(form)
 }
 
 /// Whether the operand may not be a value of a SET.
@@ -237,7 +245,7 @@ fn is_bad_mask(left: &Option<Ref>, word: &Ident) -> bool
 }
 
 fn takes_simple(left: &Option<Ref>) -> bool
-    ensures { result ≡ is_left_with (λ ref. takes_masks ref && not (is_whole_name ref)) left.now }
+    ensures { result ≡ takes_simple left.now }
 {
     match left {
         None => false,
@@ -245,23 +253,35 @@ fn takes_simple(left: &Option<Ref>) -> bool
     }
 }
 
-fn is_bad_list(before: &[Stmt], left: &Option<Ref>, reference: &Ref) -> bool
-    ensures { result ≡ is_bad_list before.now left.now reference.now }
+fn is_mixed(before: &Earlier<'_>, form: &OperandForm) -> bool
+    ensures { result ≡ is_var_with (λ ref. not (is_simple_list before.now ref.name)) form.now }
 {
-    takes_simple(left)
-        && is_list_ref(before, reference)
-        && !is_simple_list(before, &reference.name)
+    match form {
+        OperandForm::Literal(_) | OperandForm::Word(_) => false,
+        OperandForm::Var(reference) => !before.is_simple_list(&reference.name),
+    }
+}
+
+fn is_bad_word(left: &Option<Ref>, form: &OperandForm) -> bool
+    ensures { result ≡ is_word_with (is_bad_mask left.now) form.now }
+{
+    match form {
+        OperandForm::Literal(_) | OperandForm::Var(_) => false,
+        OperandForm::Word(word) => is_bad_mask(left, word),
+    }
 }
 
 /// Whether it is a word that is no suitable mask, or a list with such a word.
-pub fn is_misplaced(before: &[Stmt], left: &Option<Ref>, form: &OperandForm) -> bool
-    ensures { result ≡ (is_word_with (is_bad_mask left.now) form.now || is_var_with (is_bad_list before.now left.now) form.now) }
+pub fn is_misplaced(
+    before: &Earlier<'_>,
+    listed: bool,
+    left: &Option<Ref>,
+    form: &OperandForm,
+) -> bool
+    requires { listed ≡ is_listed before.now form.now }
+    ensures { result ≡ (is_word_with (is_bad_mask left.now) form.now || is_bad_list before.now left.now form.now) }
 {
-    match form {
-        OperandForm::Literal(_) => false,
-        OperandForm::Word(word) => is_bad_mask(left, word),
-        OperandForm::Var(reference) => is_bad_list(before, left, reference),
-    }
+    is_bad_word(left, form) || (listed && takes_simple(left) && is_mixed(before, form))
 }
 
 /// Whether an entry of a filter list is neither a literal nor a mask.

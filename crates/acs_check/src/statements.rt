@@ -4,11 +4,12 @@ ghost use Rattle.acs_tree.specs.Nodes.{Left, Order, Part, Right, entries_behind,
 ghost use Rattle.acs_check.specs.Parts.{nodes_of_block, nodes_of_branch, nodes_of_branches, nodes_of_form, nodes_of_optional};
 ghost use Rattle.acs_check.specs.Walk.{walked};
 
+use crate::earlier::Earlier;
 use crate::nodes::{Best, code, entry, left, list_name, order, part, right, target, value};
 use acs_tree::{Compare, Cond, Form, Kind, Operand, Ref, Stmt, When, WhenTest};
 use desk_common::Boxed;
 
-fn entries(kind: Kind, before: &[Stmt], entries: &[Operand], best: Best) -> Best
+fn entries(kind: Kind, before: &Earlier<'_>, entries: &[Operand], best: Best) -> Best
     ensures { result ≡ walked kind before.now best (entries_behind 0 entries.now) }
 {
     let mut best = best;
@@ -21,7 +22,7 @@ fn entries(kind: Kind, before: &[Stmt], entries: &[Operand], best: Best) -> Best
 #[tactic(auto, using(crate::proofs::WalkLemmas::walked_append))]
 fn filter_list(
     kind: Kind,
-    before: &[Stmt],
+    before: &Earlier<'_>,
     include: &[Operand],
     exclude: &[Operand],
     best: Best,
@@ -32,7 +33,7 @@ fn filter_list(
     entries(kind, before, exclude, best)
 }
 
-fn values(kind: Kind, before: &[Stmt], target: &Ref, values: &[Operand], best: Best) -> Best
+fn values(kind: Kind, before: &Earlier<'_>, target: &Ref, values: &[Operand], best: Best) -> Best
     ensures { result ≡ walked kind before.now best (values_behind target.now [] values.now) }
 {
     let mut best = best;
@@ -51,7 +52,7 @@ fn values(kind: Kind, before: &[Stmt], target: &Ref, values: &[Operand], best: B
     best
 }
 
-fn parts(kind: Kind, before: &[Stmt], parts: &[Operand], best: Best) -> Best
+fn parts(kind: Kind, before: &Earlier<'_>, parts: &[Operand], best: Best) -> Best
     ensures { result ≡ walked kind before.now best (map Part parts.now) }
 {
     let mut best = best;
@@ -63,7 +64,7 @@ fn parts(kind: Kind, before: &[Stmt], parts: &[Operand], best: Best) -> Best
 
 fn items(
     kind: Kind,
-    before: &[Stmt],
+    before: &Earlier<'_>,
     subject: &Option<Ref>,
     items: &[Operand],
     best: Best,
@@ -77,7 +78,7 @@ fn items(
     best
 }
 
-fn exit_code(kind: Kind, before: &[Stmt], exit: &Option<Operand>, best: Best) -> Best
+fn exit_code(kind: Kind, before: &Earlier<'_>, exit: &Option<Operand>, best: Best) -> Best
     ensures { result ≡ walked kind before.now best (nodes_of_code exit.now) }
 {
     match exit {
@@ -86,7 +87,7 @@ fn exit_code(kind: Kind, before: &[Stmt], exit: &Option<Operand>, best: Best) ->
     }
 }
 
-fn subject(kind: Kind, before: &[Stmt], subject: &Option<Ref>, best: Best) -> Best
+fn subject(kind: Kind, before: &Earlier<'_>, subject: &Option<Ref>, best: Best) -> Best
     ensures { result ≡ walked kind before.now best (nodes_of_subject subject.now) }
 {
     match subject {
@@ -96,7 +97,7 @@ fn subject(kind: Kind, before: &[Stmt], subject: &Option<Ref>, best: Best) -> Be
 }
 
 #[tactic(auto, using(crate::proofs::FoldLemmas::cond_and, crate::proofs::FoldLemmas::cond_or, crate::proofs::FoldLemmas::cond_test, crate::proofs::WalkLemmas::walked_append))]
-fn condition(kind: Kind, before: &[Stmt], cond: &Cond, best: Best) -> Best
+fn condition(kind: Kind, before: &Earlier<'_>, cond: &Cond, best: Best) -> Best
     ensures { result ≡ walked kind before.now best (nodes_of_cond cond.now) }
 {
     match cond {
@@ -119,7 +120,7 @@ fn condition(kind: Kind, before: &[Stmt], cond: &Cond, best: Best) -> Best
 
 fn test(
     kind: Kind,
-    before: &[Stmt],
+    before: &Earlier<'_>,
     reference: &Ref,
     op: Compare,
     op_at: u32,
@@ -136,7 +137,7 @@ fn test(
 
 fn when_test(
     kind: Kind,
-    before: &[Stmt],
+    before: &Earlier<'_>,
     compared: &Option<Ref>,
     test: &WhenTest,
     best: Best,
@@ -151,7 +152,7 @@ fn when_test(
 
 #[cycle(walk)]
 #[tactic(auto, using(crate::proofs::FoldLemmas::of_form, crate::proofs::FoldLemmas::form_filt, crate::proofs::FoldLemmas::form_put, crate::proofs::FoldLemmas::form_if, crate::proofs::FoldLemmas::form_pick, crate::proofs::FoldLemmas::form_do, crate::proofs::FoldLemmas::form_write, crate::proofs::FoldLemmas::form_exit, crate::proofs::WalkLemmas::walked_append))]
-pub fn statement(current: &Stmt, kind: Kind, before: &[Stmt], best: Best) -> Best
+pub fn statement(current: &Stmt, kind: Kind, before: &Earlier<'_>, best: Best) -> Best
     ensures { result ≡ walked kind before.now best (nodes_of current.now) }
 {
     match &current.form {
@@ -192,7 +193,7 @@ pub fn statement(current: &Stmt, kind: Kind, before: &[Stmt], best: Best) -> Bes
 }
 
 #[cycle(walk)]
-fn optional(other: &Option<Boxed<Stmt>>, kind: Kind, before: &[Stmt], best: Best) -> Best
+fn optional(other: &Option<Boxed<Stmt>>, kind: Kind, before: &Earlier<'_>, best: Best) -> Best
     ensures { result ≡ walked kind before.now best (nodes_of_optional other.now) }
 {
     match other {
@@ -202,7 +203,7 @@ fn optional(other: &Option<Boxed<Stmt>>, kind: Kind, before: &[Stmt], best: Best
 }
 
 #[cycle(walk)]
-fn block(body: &[Stmt], kind: Kind, before: &[Stmt], best: Best) -> Best
+fn block(body: &[Stmt], kind: Kind, before: &Earlier<'_>, best: Best) -> Best
     ensures { result ≡ walked kind before.now best (nodes_of_block body.now) }
 {
     let mut best = best;
@@ -217,7 +218,7 @@ fn branches(
     whens: &[When],
     compared: &Option<Ref>,
     kind: Kind,
-    before: &[Stmt],
+    before: &Earlier<'_>,
     best: Best,
 ) -> Best
     ensures { result ≡ walked kind before.now best (nodes_of_branches compared.now whens.now) }

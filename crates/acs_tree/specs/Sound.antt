@@ -7,7 +7,7 @@ use Rattle.acs_tree.specs.declared.routine.Routine.{Routine}
 use Rattle.acs_tree.specs.declared.routine.Stmt.{Stmt}
 use Rattle.acs_tree.specs.Nodes.{Node, Head, ListName, Entry, Target, Value, Part, Left, Order, Right, Code, nodes_of}
 use Rattle.acs_tree.specs.Numbers.{is_between}
-use Rattle.acs_tree.specs.Suits.{is_known, is_counted, is_group_list, is_misindexed, is_out_of_range, is_set_later, is_mask, is_list, token_of, is_var_with, is_word_with, is_literal_with, suits, suits_set, is_order, token_if, is_bad_literal, is_too_great, range_token, is_bad_mask, is_bad_list, is_among}
+use Rattle.acs_tree.specs.Suits.{is_known, is_counted, is_group_list, is_misindexed, is_out_of_range, is_set_later, is_mask, is_list, token_of, is_var_with, is_word_with, is_literal_with, is_listed, is_plain_unknown, suits, suits_set, is_order, token_if, is_bad_literal, is_too_great, range_token, is_bad_mask, is_bad_list, is_among}
 use Rattle.acs_tree.specs.Variables.{variable_of, name_of}
 
 -- the checks: each gives the token at which a node breaks it, if it does
@@ -33,7 +33,7 @@ not_settable kind _ = None
 
 -- 4: on the right an unknown variable, without an index, that names no earlier list
 abbrev pub unknown_list : List Stmt → Node → Option ℕ
-unknown_list before (Right left right) = token_if (is_var_with (λ ref. not (is_known ref) && (is_none ref.index && not (is_list before ref.name))) right.form) (token_of right)
+unknown_list before (Right left right) = token_if (is_plain_unknown right.form && not (is_listed before right.form)) (token_of right)
 unknown_list before _ = None
 
 -- 5: a list's name is that of a variable or of an earlier list
@@ -47,7 +47,7 @@ kind_mismatch before (Target target) = token_if (is_misindexed target) target.at
 kind_mismatch before (Value target earlier value behind) = token_if (not (suits_set target value.form) || is_var_with is_misindexed value.form) (token_of value)
 kind_mismatch before (Part part) = token_if (is_word_with (λ word. true) part.form || is_var_with is_misindexed part.form) (token_of part)
 kind_mismatch before (Left left) = token_if (is_misindexed left) left.at
-kind_mismatch before (Right left right) = token_if (not (suits before left right.form) || is_var_with is_misindexed right.form) (token_of right)
+kind_mismatch before (Right left right) = token_if (not (suits (is_listed before right.form) left right.form) || is_var_with is_misindexed right.form) (token_of right)
 kind_mismatch before _ = None
 
 -- 7: a comparison by order whose left side is no number and no size
@@ -67,7 +67,7 @@ value_out_of_range _ = None
 -- 9: a word that is no suitable mask; a list entry that is neither a literal nor a mask; a list with a word that isn't simple, where it must be
 abbrev pub mask_misplaced : List Stmt → Node → Option ℕ
 mask_misplaced before (Entry count entry) = token_if (is_word_with (λ word. not (is_mask word)) entry.form || is_var_with (λ ref. true) entry.form) (token_of entry)
-mask_misplaced before (Right left right) = token_if (is_word_with (is_bad_mask left) right.form || is_var_with (is_bad_list before left) right.form) (token_of right)
+mask_misplaced before (Right left right) = token_if (is_word_with (is_bad_mask left) right.form || is_bad_list before left right.form) (token_of right)
 mask_misplaced before _ = None
 
 -- 10: the 256th entry of an INCLUDE or an EXCLUDE

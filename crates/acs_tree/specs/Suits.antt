@@ -139,13 +139,17 @@ is_simple_entry (Var ref) = true
 abbrev pub are_simple : List Operand → Bool
 are_simple entries = list_all (λ entry. is_simple_entry entry.form) entries
 
+-- what a filter list has are literals and simple masks; another statement has none that isn't
 abbrev pub is_simple_form : Form → Bool
 is_simple_form (Filt name name_at include exclude) = are_simple include && are_simple exclude
 is_simple_form _ = true
 
+abbrev pub is_simple_statement : Stmt → Bool
+is_simple_statement statement = is_simple_form statement.form
+
 -- each filter list of that name among the statements has simple masks alone
 abbrev pub is_simple_list : List Stmt → List ℕ → Bool
-is_simple_list before name = list_all (λ statement. not (is_list_named name statement) || is_simple_form statement.form) before
+is_simple_list before name = list_all (λ statement. not (is_list_named name statement) || is_simple_statement statement) before
 
 -- operands
 
@@ -181,17 +185,25 @@ abbrev pub is_left_with : (Ref → Bool) → Option Ref → Bool
 is_left_with test None = false
 is_left_with test (Some left) = test left
 
--- what suits a text variable; the group list counts as one
-abbrev pub suits_text : List Stmt → OperandForm → Bool
-suits_text before (Literal text) = true
-suits_text before (Word word) = true
-suits_text before (Var ref) = is_list_ref before ref || is_text ref
+-- the operand names an earlier filter list
+abbrev pub is_listed : List Stmt → OperandForm → Bool
+is_listed before form = is_var_with (is_list_ref before) form
+
+-- the operand is a name without an index that is no variable's
+abbrev pub is_plain_unknown : OperandForm → Bool
+is_plain_unknown form = is_var_with (λ ref. not (is_known ref) && is_none ref.index) form
+
+-- what suits a text variable; the group list counts as one. In these `listed` says that the operand names a filter list
+abbrev pub suits_text : Bool → OperandForm → Bool
+suits_text listed (Literal text) = true
+suits_text listed (Word word) = true
+suits_text listed (Var ref) = listed || is_text ref
 
 -- what suits the volumes
-abbrev pub suits_volumes : List Stmt → OperandForm → Bool
-suits_volumes before (Literal text) = true
-suits_volumes before (Word word) = true
-suits_volumes before (Var ref) = is_list_ref before ref
+abbrev pub suits_volumes : Bool → OperandForm → Bool
+suits_volumes listed (Literal text) = true
+suits_volumes listed (Word word) = true
+suits_volumes listed (Var ref) = listed
 
 -- what suits a number
 abbrev pub suits_number : OperandForm → Bool
@@ -205,16 +217,16 @@ suits_size (Literal text) = false
 suits_size (Word word) = is_size word
 suits_size (Var ref) = is_size_variable ref
 
-abbrev pub suits_kind : List Stmt → OperandForm → VariableKind → Bool
-suits_kind before form Text = suits_text before form
-suits_kind before form Groups = suits_text before form
-suits_kind before form Volumes = suits_volumes before form
-suits_kind before form Number = suits_number form
-suits_kind before form Size = suits_size form
+abbrev pub suits_kind : Bool → OperandForm → VariableKind → Bool
+suits_kind listed form Text = suits_text listed form
+suits_kind listed form Groups = suits_text listed form
+suits_kind listed form Volumes = suits_volumes listed form
+suits_kind listed form Number = suits_number form
+suits_kind listed form Size = suits_size form
 
 -- the operand may be compared with that left side
-abbrev pub suits : List Stmt → Option Ref → OperandForm → Bool
-suits before left form = is_left_with (λ ref. passes (λ variable. suits_kind before form variable.kind) (variable_of ref.name)) left
+abbrev pub suits : Bool → Option Ref → OperandForm → Bool
+suits listed left form = is_left_with (λ ref. passes (λ variable. suits_kind listed form variable.kind) (variable_of ref.name)) left
 
 -- the operand may be a value of SET: of the group list a literal, of another variable a literal or a text variable
 abbrev pub suits_set : Ref → OperandForm → Bool
@@ -256,9 +268,13 @@ is_mask_beside ref word = if is_whole_name ref then is_mask word else is_simple 
 abbrev pub is_bad_mask : Option Ref → List ℕ → Bool
 is_bad_mask left word = is_left_with (λ ref. takes_masks ref && not (is_mask_beside ref word)) left
 
--- a list with a word that is no simple mask, where only simple masks are compared
-abbrev pub is_bad_list : List Stmt → Option Ref → Ref → Bool
-is_bad_list before left ref = is_left_with (λ ref. takes_masks ref && not (is_whole_name ref)) left && (is_list_ref before ref && not (is_simple_list before ref.name))
+-- a left side that is compared with simple masks
+abbrev pub takes_simple : Option Ref → Bool
+takes_simple left = is_left_with (λ ref. takes_masks ref && not (is_whole_name ref)) left
+
+-- the operand is a filter list with a word that is no simple mask, where only simple masks are compared
+abbrev pub is_bad_list : List Stmt → Option Ref → OperandForm → Bool
+is_bad_list before left form = is_listed before form && (takes_simple left && is_var_with (λ ref. not (is_simple_list before ref.name)) form)
 
 -- the text is among the literals
 abbrev pub is_among : List Operand → List ℕ → Bool
