@@ -1,5 +1,5 @@
 -- What the walk comes to is the first fault of the routine.
-use Rattle.std.proofs.Common.{◌≡◌, ◌≤◌, ◌<◌, ◌+◌, ℕ, List, [], ◌∷◌, ◌++◌, refl, sym, ◌∙◌, ap, subst, arith, append_assoc, ◌⊎◌, inl, inr}
+use Rattle.std.proofs.Common.{◌≡◌, List, [], ◌∷◌, ◌++◌, refl, sym, ◌∙◌, ap, subst, arith, append_assoc, ◌⊎◌, inl, inr}
 use Rattle.std.specs.Prelude.{Option, Some, None}
 use Rattle.acs_tree.specs.declared.check_err.CheckErr.{CheckErr}
 use Rattle.acs_tree.specs.declared.kind.Kind.{Kind}
@@ -7,8 +7,8 @@ use Rattle.acs_tree.specs.declared.routine.Routine.{Routine}
 use Rattle.acs_tree.specs.declared.routine.Stmt.{Stmt}
 use Rattle.acs_tree.specs.Nodes.{Node, Head, nodes_of}
 use Rattle.acs_tree.specs.Sound.{faults_at, Among, here, there, Stands, at_head, in_body, IsFault, broken, ComesFirst, IsFirstFault, IsSound}
-use Rattle.acs_check.specs.Walk.{least, met, passed, faults_in, faults_behind, faults_of, first_fault_of}
-use Rattle.acs_check.proofs.LeastLemmas.{least_append, Behind, In, IsLeast, LeastOf, least_is}
+use Rattle.acs_check.specs.Walk.{least, met, faults_in, faults_behind, faults_of, first_fault_of}
+use Rattle.acs_check.proofs.LeastLemmas.{least_append, Behind, In, LeastOf, least_is}
 use Rattle.acs_check.proofs.WalkLemmas.{passed_least}
 
 -- where a fault stands
@@ -85,7 +85,7 @@ met_at : (routine : Routine) (kind : Kind) (f : CheckErr) (before : List Stmt) (
 met_at routine kind f _ _ at_head d = among_left (faults_behind kind [] routine.body) d
 met_at routine kind f before node (in_body statement behind e m) d =
     among_right (faults_at kind [] (Head routine.head routine.head_at))
-        (subst (λ z. Among f (faults_behind kind [] z)) (sym e) (in_behind kind f [] before statement behind (in_nodes kind before f node (nodes_of statement) m d)))
+    (subst (λ z. Among f (faults_behind kind [] z)) (sym e) (in_behind kind f [] before statement behind (in_nodes kind before f node (nodes_of statement) m d)))
 
 met_by : (routine : Routine) (kind : Kind) (f : CheckErr) → IsFault routine kind f → Among f (faults_of routine kind)
 met_by routine kind f (broken before node s d) = met_at routine kind f before node s d
@@ -137,7 +137,7 @@ pub none_found : (routine : Routine) (kind : Kind) (r : Option CheckErr) → r �
 none_found routine kind r e h = subst (λ z. Answers routine kind z) h (answers routine kind r e)
 
 fields : (f g : CheckErr) → f.at ≡ g.at → f.number ≡ g.number → f ≡ g
-fields f g a b = let e : record {number = f.number; at = f.at} ≡ record {number = g.number; at = g.at} = cc in e
+fields f g a b = let e : record { number = f.number; at = f.at } ≡ record { number = g.number; at = g.at } = cc in e
 
 pub one_first : (routine : Routine) (kind : Kind) (f g : CheckErr) → IsFirstFault routine kind f → IsFirstFault routine kind g → f ≡ g
 one_first routine kind f g a b =

@@ -1,13 +1,10 @@
 -- The least of many faults is the first of them.
-use Rattle.std.proofs.Common.{◌≡◌, ◌≢◌, ◌≤◌, ◌<◌, ◌+◌, ◌-◌, ℕ, zero, suc, Bool, true, false, List, [], ◌∷◌, ◌++◌, length, take, drop, refl, sym, ◌∙◌, ap, subst, arith, append_assoc, ◌⊎◌, inl, inr}
+use Rattle.std.proofs.Common.{◌≡◌, ◌≢◌, ◌≤◌, ◌<◌, ℕ, Bool, true, false, List, [], ◌∷◌, ◌++◌, refl, sym, ◌∙◌, subst, arith, ◌⊎◌, inl, inr}
 use Rattle.std.specs.Prelude.{◌==◌, ◌&&◌, ◌||◌, nat_lt, Option, Some, None, if◌then◌else◌}
 use Rattle.std.proofs.lemmas.Bool.Decides.{nat_tests}
 use Rattle.acs_tree.specs.declared.check_err.CheckErr.{CheckErr}
-use Rattle.acs_tree.specs.declared.kind.Kind.{Kind}
-use Rattle.acs_tree.specs.declared.routine.Stmt.{Stmt}
-use Rattle.acs_tree.specs.Nodes.{Node}
-use Rattle.acs_tree.specs.Sound.{Among, here, there, faults_at}
-use Rattle.acs_check.specs.Walk.{precedes, better, matters, least, faults_in}
+use Rattle.acs_tree.specs.Sound.{Among, here, there}
+use Rattle.acs_check.specs.Walk.{precedes, better, least}
 
 differs : (x y : ℕ) → x ≢ y → (x == y) ≡ false
 differs x y ne = grind (arith, nat_tests)

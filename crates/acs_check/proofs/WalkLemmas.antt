@@ -1,6 +1,6 @@
 -- Nodes that are walked in parts.
-use Rattle.std.proofs.Common.{◌≡◌, ◌<◌, ◌+◌, ℕ, suc, List, [], ◌∷◌, ◌++◌, length, take, drop, drop-cons, get_or, refl, sym, ◌∙◌, ap, subst, arith, append_assoc}
-use Rattle.std.specs.Prelude.{Option, Some, None}
+use Rattle.std.proofs.Common.{◌≡◌, ◌<◌, ◌+◌, ℕ, suc, List, [], ◌∷◌, ◌++◌, length, drop, drop-cons, get_or, refl, sym, ◌∙◌, ap, arith}
+use Rattle.std.specs.Prelude.{Option}
 use Rattle.acs_tree.specs.declared.check_err.CheckErr.{CheckErr}
 use Rattle.acs_tree.specs.declared.kind.Kind.{Kind}
 use Rattle.acs_tree.specs.declared.routine.Stmt.{Stmt}
@@ -38,13 +38,13 @@ pub walk_if : (kind : Kind) (before : List Stmt) (best : Option CheckErr) (cond 
     → walked kind before (walked kind before (walked kind before best (nodes_of_cond cond)) (nodes_of first)) (nodes_of_optional other) ≡ walked kind before best (nodes_of_form (If cond first other))
 walk_if kind before best cond first other =
     sym (ap (walked kind before best) (form_if cond first other) ∙ walked_append kind before best (nodes_of_cond cond) (nodes_of first ++ nodes_of_optional other)
-        ∙ walked_append kind before (walked kind before best (nodes_of_cond cond)) (nodes_of first) (nodes_of_optional other))
+    ∙ walked_append kind before (walked kind before best (nodes_of_cond cond)) (nodes_of first) (nodes_of_optional other))
 
 pub walk_pick : (kind : Kind) (before : List Stmt) (best : Option CheckErr) (subject : Option Ref) (whens : List When) (other : Option Stmt)
     → walked kind before (walked kind before (walked kind before best (nodes_of_subject subject)) (nodes_of_branches subject whens)) (nodes_of_optional other) ≡ walked kind before best (nodes_of_form (Pick subject whens other))
 walk_pick kind before best subject whens other =
     sym (ap (walked kind before best) (form_pick subject whens other) ∙ walked_append kind before best (nodes_of_subject subject) (nodes_of_branches subject whens ++ nodes_of_optional other)
-        ∙ walked_append kind before (walked kind before best (nodes_of_subject subject)) (nodes_of_branches subject whens) (nodes_of_optional other))
+    ∙ walked_append kind before (walked kind before best (nodes_of_subject subject)) (nodes_of_branches subject whens) (nodes_of_optional other))
 
 pub block_turn : (kind : Kind) (before : List Stmt) (best : Option CheckErr) (s : Stmt) (body : List Stmt) (i : ℕ) → i < length body → s ≡ get_or body i s
     → walked kind before (walked kind before best (nodes_of s)) (nodes_of_block (drop (i + 1) body)) ≡ walked kind before best (nodes_of_block (drop i body))
@@ -86,5 +86,5 @@ pub branch_at : (kind : Kind) (before : List Stmt) (best : Option CheckErr) (sub
     → walked kind before s2 (nodes_of_branches subject (drop (i + 1) whens)) ≡ walked kind before best (nodes_of_branches subject (drop i whens))
 branch_at kind before best subject when whens i {s1} {s2} {w} h e ew e1 e2 =
     ap (λ z. walked kind before z (nodes_of_branches subject (drop (i + 1) whens)))
-        (e2 ∙ ap (λ z. walked kind before s1 (nodes_of z)) ew ∙ ap (λ z. walked kind before z (nodes_of (out-When when).body)) e1)
+    (e2 ∙ ap (λ z. walked kind before s1 (nodes_of z)) ew ∙ ap (λ z. walked kind before z (nodes_of (out-When when).body)) e1)
     ∙ branches_turn kind before best subject when whens i h e

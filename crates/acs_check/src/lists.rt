@@ -46,7 +46,9 @@ fn is_simple_form(form: &Form) -> bool
 {
     match form {
         Form::Filt {
-            include, exclude, ..
+            include,
+            exclude,
+            ..
         } => are_simple(include.as_slice()) && are_simple(exclude.as_slice()),
         _ => true,
     }

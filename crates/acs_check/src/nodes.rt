@@ -9,9 +9,9 @@ use crate::check_name::CheckName;
 use crate::earlier::Earlier;
 use crate::first_fault::{matters, note};
 use crate::operands::{
-    is_bad_value, is_exit_code, is_listed, is_misindexed_form, is_misplaced, is_plain_unknown, is_no_entry, is_one_too_many,
-    is_read_early, is_too_great, is_unknown, is_unknown_indexed, is_word, is_unsuited,
-    is_unsuited_value, token_of,
+    is_bad_value, is_exit_code, is_listed, is_misindexed_form, is_misplaced, is_no_entry,
+    is_one_too_many, is_plain_unknown, is_read_early, is_too_great, is_unknown, is_unknown_indexed,
+    is_unsuited, is_unsuited_value, is_word, token_of,
 };
 use crate::references::{
     is_counted, is_known, is_misindexed, is_name_of, is_out_of_range, is_set_later,
@@ -49,8 +49,18 @@ pub fn target(kind: Kind, before: &Earlier<'_>, target: &Ref, best: Best) -> Bes
     let foreign = known && !is_name_of(kind, &target.name);
     let best = note(best, CheckName::UnknownVariable, !known, target.at);
     let best = note(best, CheckName::NotSettable, foreign, target.at);
-    let best = note(best, CheckName::KindMismatch, is_misindexed(target), target.at);
-    note(best, CheckName::ValueOutOfRange, is_out_of_range(target), target.index_at)
+    let best = note(
+        best,
+        CheckName::KindMismatch,
+        is_misindexed(target),
+        target.at,
+    );
+    note(
+        best,
+        CheckName::ValueOutOfRange,
+        is_out_of_range(target),
+        target.index_at,
+    )
 }
 
 fn range(form: &OperandForm, best: Best) -> Best
@@ -104,7 +114,12 @@ pub fn value(
     let at = token_of(value);
     let form = &value.form;
     let best = note(best, CheckName::UnknownVariable, is_unknown(form), at);
-    let best = note(best, CheckName::KindMismatch, is_unsuited_value(target, form), at);
+    let best = note(
+        best,
+        CheckName::KindMismatch,
+        is_unsuited_value(target, form),
+        at,
+    );
     let best = value_range(is_bad_value(before, behind, form), at, form, best);
     let best = too_many(target, before, value, best);
     note(best, CheckName::ReadTooEarly, is_read_early(kind, form), at)
@@ -128,7 +143,12 @@ pub fn left(kind: Kind, before: &Earlier<'_>, left: &Ref, best: Best) -> Best
     let at = left.at;
     let best = note(best, CheckName::UnknownVariable, !is_known(left), at);
     let best = note(best, CheckName::KindMismatch, is_misindexed(left), at);
-    let best = note(best, CheckName::ValueOutOfRange, is_out_of_range(left), left.index_at);
+    let best = note(
+        best,
+        CheckName::ValueOutOfRange,
+        is_out_of_range(left),
+        left.index_at,
+    );
     note(best, CheckName::ReadTooEarly, is_set_later(kind, left), at)
 }
 
@@ -141,7 +161,12 @@ fn is_order(op: Compare) -> bool
 pub fn order(kind: Kind, before: &Earlier<'_>, left: &Ref, op: Compare, at: u32, best: Best) -> Best
     ensures { result ≡ met kind before.now best (Order left.now op at) }
 {
-    note(best, CheckName::OrderOfTexts, is_order(op) && !is_counted(left), at)
+    note(
+        best,
+        CheckName::OrderOfTexts,
+        is_order(op) && !is_counted(left),
+        at,
+    )
 }
 
 fn misplaced(
@@ -171,9 +196,19 @@ pub fn right(
     let at = token_of(right);
     let form = &right.form;
     let listed = is_listed(before, form);
-    let best = note(best, CheckName::UnknownVariable, is_unknown_indexed(form), at);
+    let best = note(
+        best,
+        CheckName::UnknownVariable,
+        is_unknown_indexed(form),
+        at,
+    );
     let best = unlisted(listed, right, best);
-    let best = note(best, CheckName::KindMismatch, is_unsuited(listed, left, form), at);
+    let best = note(
+        best,
+        CheckName::KindMismatch,
+        is_unsuited(listed, left, form),
+        at,
+    );
     let best = value_range(is_too_great(left, form), at, form, best);
     let best = misplaced(before, listed, left, right, best);
     note(best, CheckName::ReadTooEarly, is_read_early(kind, form), at)
@@ -189,5 +224,10 @@ fn unlisted(listed: bool, right: &Operand, best: Best) -> Best
 pub fn code(kind: Kind, before: &Earlier<'_>, code: &Operand, best: Best) -> Best
     ensures { result ≡ met kind before.now best (Code code.now) }
 {
-    note(best, CheckName::BadExitCode, !is_exit_code(&code.form), token_of(code))
+    note(
+        best,
+        CheckName::BadExitCode,
+        !is_exit_code(&code.form),
+        token_of(code),
+    )
 }

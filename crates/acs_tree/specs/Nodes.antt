@@ -43,12 +43,13 @@ abbrev pub values_behind : Ref → List Operand → List Operand → List Node
 values_behind target before [] = []
 values_behind target before (value ∷ behind) = Value target before value behind ∷ values_behind target (before ++ value ∷ []) behind
 
--- the nodes of a condition
+-- the nodes of a condition, from those of the conditions in it
 abbrev pub cond_step : Cond-F (List Node) → List Node
 cond_step (Cond-F.And one two) = one ++ two
 cond_step (Cond-F.Or one two) = one ++ two
 cond_step (Cond-F.Test left op op_at right) = Left left ∷ Order left op op_at ∷ Right (Some left) right ∷ []
 
+-- the nodes of a condition
 abbrev pub nodes_of_cond : Cond → List Node
 nodes_of_cond = fold-Cond (List Node) cond_step
 
@@ -57,10 +58,12 @@ abbrev pub nodes_of_test : WhenTest → Option Ref → List Node
 nodes_of_test (Any items) subject = map (Right subject) items
 nodes_of_test (Holds cond) subject = nodes_of_cond cond
 
+-- the node of what a SELECT compares, if it compares something
 abbrev pub nodes_of_subject : Option Ref → List Node
 nodes_of_subject None = []
 nodes_of_subject (Some subject) = Left subject ∷ []
 
+-- the node of an exit code, if there is one
 abbrev pub nodes_of_code : Option Operand → List Node
 nodes_of_code None = []
 nodes_of_code (Some code) = Code code ∷ []
@@ -80,7 +83,7 @@ abbrev pub branches_of : Option Ref → List (Option Ref → List Node) → List
 branches_of subject [] = []
 branches_of subject (branch ∷ branches) = branch subject ++ branches_of subject branches
 
--- the nodes of a statement, from those of the statements in it
+-- the nodes of what a statement is, from those of the statements in it
 abbrev pub form_step : Form-F (List Node) (List Node) (Option Ref → List Node) → List Node
 form_step (Form-F.Filt name name_at include exclude) = ListName name name_at ∷ (entries_behind 0 include ++ entries_behind 0 exclude)
 form_step (Form-F.Put target values) = Target target ∷ values_behind target [] values
@@ -90,9 +93,11 @@ form_step (Form-F.Do body) = joined body
 form_step (Form-F.Write parts) = map Part parts
 form_step (Form-F.Exit code) = nodes_of_code code
 
+-- the nodes of a statement, from those of what it is
 abbrev pub stmt_step : Stmt-F (List Node) (List Node) (Option Ref → List Node) → List Node
 stmt_step statement = statement.form
 
+-- the nodes of a WHEN, from those of the statement in it; they depend on what the SELECT compares
 abbrev pub when_step : When-F (List Node) (List Node) (Option Ref → List Node) → Option Ref → List Node
 when_step branch subject = nodes_of_test branch.test subject ++ branch.body
 

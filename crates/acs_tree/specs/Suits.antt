@@ -33,14 +33,17 @@ abbrev pub passes : (Variable → Bool) → Option Variable → Bool
 passes test None = false
 passes test (Some variable) = test variable
 
+-- one text
 abbrev pub is_text_kind : VariableKind → Bool
 is_text_kind Text = true
 is_text_kind _ = false
 
+-- a number
 abbrev pub is_number_kind : VariableKind → Bool
 is_number_kind Number = true
 is_number_kind _ = false
 
+-- a number of KB
 abbrev pub is_size_kind : VariableKind → Bool
 is_size_kind Size = true
 is_size_kind _ = false
@@ -53,9 +56,11 @@ is_counted_kind kind = is_number_kind kind || is_size_kind kind
 abbrev pub is_text : Ref → Bool
 is_text ref = passes (λ variable. is_text_kind variable.kind) (variable_of ref.name)
 
+-- a variable that holds a number
 abbrev pub is_number_variable : Ref → Bool
 is_number_variable ref = passes (λ variable. is_number_kind variable.kind) (variable_of ref.name)
 
+-- a variable that holds a size
 abbrev pub is_size_variable : Ref → Bool
 is_size_variable ref = passes (λ variable. is_size_kind variable.kind) (variable_of ref.name)
 
@@ -81,6 +86,7 @@ is_misindexed_by Never index = is_some index
 is_misindexed_by (Maybe most) index = false
 is_misindexed_by (Always most) index = is_none index
 
+-- the variable has an index that it does not take, or lacks one
 abbrev pub is_misindexed : Ref → Bool
 is_misindexed ref = passes (λ variable. is_misindexed_by variable.indexing ref.index) (variable_of ref.name)
 
@@ -89,11 +95,13 @@ abbrev pub is_past : ℕ → Option (List ℕ) → Bool
 is_past most None = false
 is_past most (Some index) = not (is_between 1 most index)
 
+-- an index past the range that the variable takes
 abbrev pub is_out_of_range_by : Indexing → Option (List ℕ) → Bool
 is_out_of_range_by Never index = false
 is_out_of_range_by (Maybe most) index = is_past most index
 is_out_of_range_by (Always most) index = is_past most index
 
+-- the variable has an index out of its range
 abbrev pub is_out_of_range : Ref → Bool
 is_out_of_range ref = passes (λ variable. is_out_of_range_by variable.indexing ref.index) (variable_of ref.name)
 
@@ -102,23 +110,26 @@ abbrev pub is_later : Kind → Option Kind → Bool
 is_later kind None = false
 is_later kind (Some setter) = nat_lt (rank_of kind) (rank_of setter)
 
+-- a variable that a later routine sets
 abbrev pub is_set_later : Kind → Ref → Bool
 is_set_later kind ref = passes (λ variable. is_later kind variable.set_by) (variable_of ref.name)
 
 -- filter lists
 
--- a word that is a mask, a simple mask
+-- a word that is a mask
 abbrev pub is_mask : List ℕ → Bool
 is_mask word = is_some (mask_of word)
 
+-- a word that is a simple mask
 abbrev pub is_simple : List ℕ → Bool
 is_simple word = is_some (simple_of word)
 
--- the statement is a filter list of that name
+-- a filter list of that name
 abbrev pub is_list_form : List ℕ → Form → Bool
 is_list_form name (Filt other other_at include exclude) = bytes_eq other name
 is_list_form name _ = false
 
+-- the statement is a filter list of that name
 abbrev pub is_list_named : List ℕ → Stmt → Bool
 is_list_named name statement = is_list_form name statement.form
 
@@ -136,14 +147,16 @@ is_simple_entry (Literal text) = true
 is_simple_entry (Word word) = is_simple word
 is_simple_entry (Var ref) = true
 
+-- literals and simple masks alone
 abbrev pub are_simple : List Operand → Bool
 are_simple entries = list_all (λ entry. is_simple_entry entry.form) entries
 
--- what a filter list has are literals and simple masks; another statement has none that isn't
+-- no filter list, or one of literals and simple masks
 abbrev pub is_simple_form : Form → Bool
 is_simple_form (Filt name name_at include exclude) = are_simple include && are_simple exclude
 is_simple_form _ = true
 
+-- the statement is no filter list, or one of literals and simple masks
 abbrev pub is_simple_statement : Stmt → Bool
 is_simple_statement statement = is_simple_form statement.form
 
@@ -153,12 +166,13 @@ is_simple_list before name = list_all (λ statement. not (is_list_named name sta
 
 -- operands
 
--- the token of an operand: of a variable, the variable's
+-- the token of what stands at this token: of a variable, the variable's own
 abbrev pub token_by : ℕ → OperandForm → ℕ
 token_by at (Literal text) = at
 token_by at (Word word) = at
 token_by at (Var ref) = ref.at
 
+-- the token of an operand
 abbrev pub token_of : Operand → ℕ
 token_of operand = token_by operand.at operand.form
 
@@ -193,7 +207,7 @@ is_listed before form = is_var_with (is_list_ref before) form
 abbrev pub is_plain_unknown : OperandForm → Bool
 is_plain_unknown form = is_var_with (λ ref. not (is_known ref) && is_none ref.index) form
 
--- what suits a text variable; the group list counts as one. In these `listed` says that the operand names a filter list
+-- what suits a text variable; here and below `listed` says that the operand names an earlier filter list
 abbrev pub suits_text : Bool → OperandForm → Bool
 suits_text listed (Literal text) = true
 suits_text listed (Word word) = true
@@ -217,6 +231,7 @@ suits_size (Literal text) = false
 suits_size (Word word) = is_size word
 suits_size (Var ref) = is_size_variable ref
 
+-- what suits a variable of that kind; the group list counts as a text
 abbrev pub suits_kind : Bool → OperandForm → VariableKind → Bool
 suits_kind listed form Text = suits_text listed form
 suits_kind listed form Groups = suits_text listed form

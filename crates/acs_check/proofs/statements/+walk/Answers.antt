@@ -1,5 +1,5 @@
 use Rattle.std.proofs.Common.{◌∙◌, ◌+◌, ap, drop}
-use Rattle.acs_check.specs.Parts.{nodes_of_block, nodes_of_branches}
+use Rattle.acs_check.specs.Parts.{nodes_of_block}
 use Rattle.acs_check.specs.Walk.{walked}
 use Rattle.acs_check.proofs.WalkLemmas.{block_turn, if_at, pick_at, branch_at}
 use Rattle.acs_check.proofs.statements.+walk.Goals as goal
