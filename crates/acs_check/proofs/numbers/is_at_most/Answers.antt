@@ -1,0 +1,12 @@
+use Rattle.std.proofs.Common.{arith}
+use Rattle.std.proofs.lemmas.Grind.{common_steps}
+use Rattle.acs_check.proofs.NumberLemmas.{value_past}
+use Rattle.acs_check.proofs.numbers.is_at_most.Goals as goal
+
+pub returns-then-digit-most : goal.returns-then-digit-most
+returns-then-digit-most c =
+    value_past c.digits.value c.args.most c.in-Some.first.now c.in-Some.behind.now c.digits.rest.now c.args.digits.now c.digits.invariant.0 (grind (arith, common_steps)) (omega arith)
+
+pub returns-then-value-most : goal.returns-then-value-most
+returns-then-value-most c =
+    value_past c.digits.value c.args.most c.in-Some.first.now c.in-Some.behind.now c.digits.rest.now c.args.digits.now c.digits.invariant.0 (grind (arith, common_steps)) (omega arith)

@@ -1,0 +1,10 @@
+use Rattle.std.proofs.Common.{◌≡◌, drop}
+use Rattle.acs_check.specs.Parts.{nodes_of_block, nodes_of_branches}
+use Rattle.acs_check.specs.Walk.{walked}
+use Rattle.acs_check.proofs.statements.+walk.Given as goal
+
+abbrev pub invariant-block-statements : goal.invariant-block-statements
+invariant-block-statements l = walked l.kind l.before l.best (nodes_of_block (drop l.inner-index l.body)) ≡ walked l.kind l.before l.initial.best (nodes_of_block l.body)
+
+abbrev pub invariant-branches-branches : goal.invariant-branches-branches
+invariant-branches-branches l = walked l.kind l.before l.best (nodes_of_branches l.compared (drop l.branch-index l.whens)) ≡ walked l.kind l.before l.initial.best (nodes_of_branches l.compared l.whens)

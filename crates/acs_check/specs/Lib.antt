@@ -1,0 +1,3 @@
+pub mod CheckNumber
+pub mod Walk
+pub mod Parts

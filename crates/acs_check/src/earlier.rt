@@ -1,0 +1,97 @@
+// The statements of a routine's body that stand before another, in which filter lists are found by
+// their names.
+ghost use Rattle.std.specs.Prelude.{◌≡◌, ◌<◌, length, map, take, slice_index_or};
+ghost use Rattle.acs_tree.specs.declared.routine.Stmt.{Stmt};
+ghost use Rattle.acs_tree.specs.Suits.{is_list, is_list_ref, is_simple_list, is_simple_statement};
+
+use crate::lists::{is_list_named, is_simple_statement};
+use crate::references::is_known;
+use acs_tree::{Ident, Ref, Stmt};
+use std::marker::Model;
+
+/// Statements, and of the first of them whether each has simple masks alone, so that the words of a
+/// list are looked at once and not at each of its uses.
+#[derive(Drop)]
+pub struct Earlier<'a> {
+    statements: &'a [Stmt],
+    marks: &'a [bool],
+}
+
+impl<'a> Model for Earlier<'a> {
+    ghost use Rattle.std.specs.Prelude.{List, ◌≡◌, length, map, take};
+    ghost use Rattle.acs_tree.specs.declared.routine.Stmt.{Stmt};
+    ghost use Rattle.acs_tree.specs.contracts.routine.Form as form;
+    ghost use Rattle.std.specs.Coded.{codes};
+
+    ghost Value = { List Stmt };
+
+    ghost coded = { Prim.hlevel (codes, form.the_row.coded) };
+
+    ghost use Rattle.acs_tree.specs.Suits.{is_simple_statement};
+
+    ghost view = { λ s. s.statements.now };
+
+    ghost invariant = { λ s. s.marks.now ≡ map is_simple_statement (take (length s.marks.now) s.statements.now) };
+}
+
+impl<'a> Earlier<'a> {
+    pub fn new(statements: &'a [Stmt], marks: &'a [bool]) -> Self
+        requires { marks.now ≡ map is_simple_statement (take (length marks.now) statements.now) }
+        ensures { result ≡ statements.now }
+    {
+        Earlier { statements, marks }
+    }
+
+    /// Whether one of the statements is a filter list of that name.
+    pub fn is_list(&self, name: &Ident) -> bool
+        ensures { result ≡ is_list self.now name.now }
+    {
+        is_list(self.statements, name)
+    }
+
+    /// Whether it is no variable, but names one of the filter lists, with no index.
+    pub fn is_list_ref(&self, reference: &Ref) -> bool
+        ensures { result ≡ is_list_ref self.now reference.now }
+    {
+        !is_known(reference) && reference.index.is_none() && self.is_list(&reference.name)
+    }
+
+    /// Whether each filter list of that name has simple masks alone.
+    pub fn is_simple_list(&self, name: &Ident) -> bool
+        ensures { result ≡ is_simple_list self.now name.now }
+    {
+        is_simple_list(self.statements, self.marks, name)
+    }
+}
+
+fn is_list(statements: &[Stmt], name: &Ident) -> bool
+    ensures { result ≡ is_list statements.now name.now }
+{
+    statements
+        .iter()
+        .any(|statement| is_list_named(name, statement))
+}
+
+fn is_marked(statements: &[Stmt], marks: &[bool], index: usize) -> bool
+    requires marked { marks.now ≡ map is_simple_statement (take (length marks.now) statements.now) }
+    requires inside { index < length statements.now }
+    ensures { (statement : Stmt) → statement ≡ slice_index_or statements.now index statement → result ≡ is_simple_statement statement }
+{
+    if index < marks.len() {
+        marks[index]
+    } else {
+        is_simple_statement(&statements[index])
+    }
+}
+
+fn is_simple_list(statements: &[Stmt], marks: &[bool], name: &Ident) -> bool
+    requires { marks.now ≡ map is_simple_statement (take (length marks.now) statements.now) }
+    ensures { result ≡ is_simple_list statements.now name.now }
+{
+    for index in 0..statements.len() {
+        if is_list_named(name, &statements[index]) && !is_marked(statements, marks, index) {
+            return false;
+        }
+    }
+    true
+}

@@ -1,0 +1,16 @@
+//! The checks of an ACS routine (docs/acs-language.md, Checks).
+#![tactic(auto)]
+
+mod check_name;
+mod checker;
+mod earlier;
+mod first_fault;
+mod lists;
+mod nodes;
+mod numbers;
+mod operands;
+mod references;
+mod statements;
+
+pub use acs_tree::CheckErr;
+pub use checker::check;

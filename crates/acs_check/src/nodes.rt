@@ -1,0 +1,233 @@
+// The first fault so far, with those of one node.
+ghost use Rattle.std.specs.Prelude.{◌≡◌, ◌==◌, ◌||◌, ◌&&◌, not, [], Some, if◌then◌else◌, length};
+ghost use Rattle.acs_tree.specs.Nodes.{Head, ListName, Entry, Target, Value, Part, Left, Order, Right, Code};
+ghost use Rattle.acs_tree.specs.Sound.{fault};
+ghost use Rattle.acs_tree.specs.Suits.{is_order, range_token, token_if, token_of, is_bad_list, is_bad_mask, is_listed, is_plain_unknown, is_group_list, is_among, is_literal_with, is_word_with, is_var_with};
+ghost use Rattle.acs_check.specs.Walk.{least, met};
+
+use crate::check_name::CheckName;
+use crate::earlier::Earlier;
+use crate::first_fault::{matters, note};
+use crate::operands::{
+    is_bad_value, is_exit_code, is_listed, is_misindexed_form, is_misplaced, is_no_entry,
+    is_one_too_many, is_plain_unknown, is_read_early, is_too_great, is_unknown, is_unknown_indexed,
+    is_unsuited, is_unsuited_value, is_word, token_of,
+};
+use crate::references::{
+    is_counted, is_known, is_misindexed, is_name_of, is_out_of_range, is_set_later,
+};
+use acs_tree::{CheckErr, Compare, Ident, Kind, Operand, OperandForm, Ref, Variable};
+
+/// The first fault so far.
+pub type Best = Option<CheckErr>;
+
+pub fn head(kind: Kind, name: &Ident, at: u32, best: Best) -> Best
+    ensures { result ≡ met kind [] best (Head name.now at) }
+{
+    note(best, CheckName::WrongHead, !is_name_of(kind, name), at)
+}
+
+pub fn list_name(kind: Kind, before: &Earlier<'_>, name: &Ident, at: u32, best: Best) -> Best
+    ensures { result ≡ met kind before.now best (ListName name.now at) }
+{
+    let taken = Variable::named(name).is_some() || before.is_list(name);
+    note(best, CheckName::ListNameTaken, taken, at)
+}
+
+pub fn entry(kind: Kind, before: &Earlier<'_>, count: usize, entry: &Operand, best: Best) -> Best
+    ensures { result ≡ met kind before.now best (Entry count entry.now) }
+{
+    let at = token_of(entry);
+    let best = note(best, CheckName::MaskMisplaced, is_no_entry(&entry.form), at);
+    note(best, CheckName::TooManyEntries, count == 255, at)
+}
+
+pub fn target(kind: Kind, before: &Earlier<'_>, target: &Ref, best: Best) -> Best
+    ensures { result ≡ met kind before.now best (Target target.now) }
+{
+    let known = is_known(target);
+    let foreign = known && !is_name_of(kind, &target.name);
+    let best = note(best, CheckName::UnknownVariable, !known, target.at);
+    let best = note(best, CheckName::NotSettable, foreign, target.at);
+    let best = note(
+        best,
+        CheckName::KindMismatch,
+        is_misindexed(target),
+        target.at,
+    );
+    note(
+        best,
+        CheckName::ValueOutOfRange,
+        is_out_of_range(target),
+        target.index_at,
+    )
+}
+
+fn range(form: &OperandForm, best: Best) -> Best
+    ensures { result ≡ least best (fault 8 (range_token form.now)) }
+{
+    match form {
+        OperandForm::Literal(_) | OperandForm::Word(_) => best,
+        OperandForm::Var(reference) => note(
+            best,
+            CheckName::ValueOutOfRange,
+            is_out_of_range(reference),
+            reference.index_at,
+        ),
+    }
+}
+
+fn value_range(bad: bool, at: u32, form: &OperandForm, best: Best) -> Best
+    ensures { result ≡ least best (fault 8 (if bad then Some at else range_token form.now)) }
+{
+    if bad {
+        note(best, CheckName::ValueOutOfRange, true, at)
+    } else {
+        range(form, best)
+    }
+}
+
+// What can't be the first fault isn't looked at: a long SET is gone through once.
+fn too_many(target: &Ref, before: &[Operand], value: &Operand, best: Best) -> Best
+    ensures { result ≡ least best (fault 11 (token_if (if is_group_list target.now then length before.now == 15 || is_literal_with (is_among before.now) value.now.form else length before.now == 1) (token_of value.now))) }
+{
+    let at = token_of(value);
+    if !matters(best, CheckName::TooManyValues, at) {
+        return best;
+    }
+    let broken = is_one_too_many(target, before, &value.form);
+    note(best, CheckName::TooManyValues, broken, at)
+}
+
+/// A value of a SET, the values before it, and the values behind it.
+pub fn value(
+    kind: Kind,
+    lists: &Earlier<'_>,
+    target: &Ref,
+    before: &[Operand],
+    value: &Operand,
+    behind: &[Operand],
+    best: Best,
+) -> Best
+    ensures { result ≡ met kind lists.now best (Value target.now before.now value.now behind.now) }
+{
+    let at = token_of(value);
+    let form = &value.form;
+    let best = note(best, CheckName::UnknownVariable, is_unknown(form), at);
+    let best = note(
+        best,
+        CheckName::KindMismatch,
+        is_unsuited_value(target, form),
+        at,
+    );
+    let best = value_range(is_bad_value(before, behind, form), at, form, best);
+    let best = too_many(target, before, value, best);
+    note(best, CheckName::ReadTooEarly, is_read_early(kind, form), at)
+}
+
+pub fn part(kind: Kind, before: &Earlier<'_>, part: &Operand, best: Best) -> Best
+    ensures { result ≡ met kind before.now best (Part part.now) }
+{
+    let at = token_of(part);
+    let form = &part.form;
+    let unsuited = is_word(form) || is_misindexed_form(form);
+    let best = note(best, CheckName::UnknownVariable, is_unknown(form), at);
+    let best = note(best, CheckName::KindMismatch, unsuited, at);
+    let best = range(form, best);
+    note(best, CheckName::ReadTooEarly, is_read_early(kind, form), at)
+}
+
+pub fn left(kind: Kind, before: &Earlier<'_>, left: &Ref, best: Best) -> Best
+    ensures { result ≡ met kind before.now best (Left left.now) }
+{
+    let at = left.at;
+    let best = note(best, CheckName::UnknownVariable, !is_known(left), at);
+    let best = note(best, CheckName::KindMismatch, is_misindexed(left), at);
+    let best = note(
+        best,
+        CheckName::ValueOutOfRange,
+        is_out_of_range(left),
+        left.index_at,
+    );
+    note(best, CheckName::ReadTooEarly, is_set_later(kind, left), at)
+}
+
+fn is_order(op: Compare) -> bool
+    ensures { result ≡ is_order op }
+{
+    !matches!(op, Compare::Eq | Compare::Ne)
+}
+
+pub fn order(kind: Kind, before: &Earlier<'_>, left: &Ref, op: Compare, at: u32, best: Best) -> Best
+    ensures { result ≡ met kind before.now best (Order left.now op at) }
+{
+    note(
+        best,
+        CheckName::OrderOfTexts,
+        is_order(op) && !is_counted(left),
+        at,
+    )
+}
+
+fn misplaced(
+    before: &Earlier<'_>,
+    listed: bool,
+    left: &Option<Ref>,
+    right: &Operand,
+    best: Best,
+) -> Best
+    requires { listed ≡ is_listed before.now right.now.form }
+    ensures { result ≡ least best (fault 9 (token_if (is_word_with (is_bad_mask left.now) right.now.form || is_bad_list before.now left.now right.now.form) (token_of right.now))) }
+{
+    let broken = is_misplaced(before, listed, left, &right.form);
+    note(best, CheckName::MaskMisplaced, broken, token_of(right))
+}
+
+/// An operand and what it is compared with.
+pub fn right(
+    kind: Kind,
+    before: &Earlier<'_>,
+    left: &Option<Ref>,
+    right: &Operand,
+    best: Best,
+) -> Best
+    ensures { result ≡ met kind before.now best (Right left.now right.now) }
+{
+    let at = token_of(right);
+    let form = &right.form;
+    let listed = is_listed(before, form);
+    let best = note(
+        best,
+        CheckName::UnknownVariable,
+        is_unknown_indexed(form),
+        at,
+    );
+    let best = unlisted(listed, right, best);
+    let best = note(
+        best,
+        CheckName::KindMismatch,
+        is_unsuited(listed, left, form),
+        at,
+    );
+    let best = value_range(is_too_great(left, form), at, form, best);
+    let best = misplaced(before, listed, left, right, best);
+    note(best, CheckName::ReadTooEarly, is_read_early(kind, form), at)
+}
+
+fn unlisted(listed: bool, right: &Operand, best: Best) -> Best
+    ensures { result ≡ least best (fault 4 (token_if (is_plain_unknown right.now.form && not listed) (token_of right.now))) }
+{
+    let broken = is_plain_unknown(&right.form) && !listed;
+    note(best, CheckName::UnknownList, broken, token_of(right))
+}
+
+pub fn code(kind: Kind, before: &Earlier<'_>, code: &Operand, best: Best) -> Best
+    ensures { result ≡ met kind before.now best (Code code.now) }
+{
+    note(
+        best,
+        CheckName::BadExitCode,
+        !is_exit_code(&code.form),
+        token_of(code),
+    )
+}

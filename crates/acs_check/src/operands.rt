@@ -1,0 +1,343 @@
+// What the checks ask of an operand (docs/acs-language.md, Kinds that suit).
+ghost use Rattle.std.specs.Prelude.{◌≡◌, ◌&&◌, ◌||◌, ◌==◌, not, is_some, is_none, true, length, if◌then◌else◌};
+ghost use Rattle.std.specs.Str.{bytes_eq};
+ghost use Rattle.acs_tree.specs.Numbers.{is_number, is_size, is_fit_number, is_fit_size, is_between};
+ghost use Rattle.acs_tree.specs.Suits.{is_known, passes, is_mask, is_listed, is_plain_unknown, is_simple_list, takes_simple, token_by, token_of, is_var_with, is_word_with, is_literal_with, is_left_with, suits_text, suits_volumes, suits_number, suits_size, suits_kind, suits, suits_set, is_misindexed, is_set_later, is_bad_literal, is_too_great, takes_masks, is_whole_name, is_number_variable, is_size_variable, is_mask_beside, is_bad_mask, is_bad_list, is_among, is_group_list};
+ghost use Rattle.acs_tree.specs.Variables.{variable_of};
+
+use crate::earlier::Earlier;
+use crate::lists::{is_mask, is_simple};
+use crate::numbers::{is_between, is_fit_number, is_fit_size, is_number, is_size};
+use crate::references::{
+    is_group_list, is_known, is_misindexed, is_number_variable, is_set_later, is_size_variable,
+    is_text, is_whole_name, takes_masks,
+};
+use acs_tree::{Ident, Kind, Operand, OperandForm, Ref, Variable, VariableKind};
+use dsn_mask::{Lit, Name};
+
+/// The token of an operand: of a variable, the variable's.
+pub fn token_of(operand: &Operand) -> u32
+    ensures { result ≡ token_of operand.now }
+{
+    match &operand.form {
+        OperandForm::Literal(_) | OperandForm::Word(_) => operand.at,
+        OperandForm::Var(reference) => reference.at,
+    }
+}
+
+fn suits_text(listed: bool, form: &OperandForm) -> bool
+    ensures { result ≡ suits_text listed form.now }
+{
+    match form {
+        OperandForm::Literal(_) | OperandForm::Word(_) => true,
+        OperandForm::Var(reference) => listed || is_text(reference),
+    }
+}
+
+fn suits_volumes(listed: bool, form: &OperandForm) -> bool
+    ensures { result ≡ suits_volumes listed form.now }
+{
+    match form {
+        OperandForm::Literal(_) | OperandForm::Word(_) => true,
+        OperandForm::Var(_) => listed,
+    }
+}
+
+fn suits_number(form: &OperandForm) -> bool
+    ensures { result ≡ suits_number form.now }
+{
+    match form {
+        OperandForm::Literal(_) => false,
+        OperandForm::Word(word) => is_number(word.bytes()),
+        OperandForm::Var(reference) => is_number_variable(reference),
+    }
+}
+
+fn suits_size(form: &OperandForm) -> bool
+    ensures { result ≡ suits_size form.now }
+{
+    match form {
+        OperandForm::Literal(_) => false,
+        OperandForm::Word(word) => is_size(word.bytes()),
+        OperandForm::Var(reference) => is_size_variable(reference),
+    }
+}
+
+fn suits_kind(listed: bool, form: &OperandForm, kind: VariableKind) -> bool
+    ensures { result ≡ suits_kind listed form.now kind }
+{
+    match kind {
+        VariableKind::Text | VariableKind::Groups => suits_text(listed, form),
+        VariableKind::Volumes => suits_volumes(listed, form),
+        VariableKind::Number => suits_number(form),
+        VariableKind::Size => suits_size(form),
+    }
+}
+
+fn suits_variable(listed: bool, left: &Ref, form: &OperandForm) -> bool
+    ensures { result ≡ passes (λ variable. suits_kind listed form.now variable.kind) (variable_of left.now.name) }
+{
+    match Variable::named(&left.name) {
+        None => false,
+        Some(variable) => suits_kind(listed, form, variable.kind),
+    }
+}
+
+fn suits(listed: bool, left: &Option<Ref>, form: &OperandForm) -> bool
+    ensures { result ≡ suits listed left.now form.now }
+{
+    match left {
+        None => false,
+        Some(left) => suits_variable(listed, left, form),
+    }
+}
+
+fn suits_set(target: &Ref, form: &OperandForm) -> bool
+    ensures { result ≡ suits_set target.now form.now }
+{
+    match form {
+        OperandForm::Literal(_) => true,
+        OperandForm::Word(_) => false,
+        OperandForm::Var(reference) => !is_group_list(target) && is_text(reference),
+    }
+}
+
+pub fn is_unknown(form: &OperandForm) -> bool
+    ensures { result ≡ is_var_with (λ ref. not (is_known ref)) form.now }
+{
+    match form {
+        OperandForm::Literal(_) | OperandForm::Word(_) => false,
+        OperandForm::Var(reference) => !is_known(reference),
+    }
+}
+
+pub fn is_unknown_indexed(form: &OperandForm) -> bool
+    ensures { result ≡ is_var_with (λ ref. not (is_known ref) && is_some ref.index) form.now }
+{
+    match form {
+        OperandForm::Literal(_) | OperandForm::Word(_) => false,
+        OperandForm::Var(reference) => !is_known(reference) && reference.index.is_some(),
+    }
+}
+
+/// Whether it names an earlier filter list.
+pub fn is_listed(before: &Earlier<'_>, form: &OperandForm) -> bool
+    ensures { result ≡ is_listed before.now form.now }
+{
+    match form {
+        OperandForm::Literal(_) | OperandForm::Word(_) => false,
+        OperandForm::Var(reference) => before.is_list_ref(reference),
+    }
+}
+
+/// Whether it is a name without an index that is no variable's.
+pub fn is_plain_unknown(form: &OperandForm) -> bool
+    ensures { result ≡ is_plain_unknown form.now }
+{
+    match form {
+        OperandForm::Literal(_) | OperandForm::Word(_) => false,
+        OperandForm::Var(reference) => !is_known(reference) && reference.index.is_none(),
+    }
+}
+
+/// Whether the variable has an index that it doesn't take, or lacks one.
+pub fn is_misindexed_form(form: &OperandForm) -> bool
+    ensures { result ≡ is_var_with is_misindexed form.now }
+{
+    match form {
+        OperandForm::Literal(_) | OperandForm::Word(_) => false,
+        OperandForm::Var(reference) => is_misindexed(reference),
+    }
+}
+
+/// Whether the operand, which is listed or not, may not be compared with that left side.
+pub fn is_unsuited(listed: bool, left: &Option<Ref>, form: &OperandForm) -> bool
+    ensures { result ≡ (not (suits listed left.now form.now) || is_var_with is_misindexed form.now) }
+{
+    !suits(listed, left, form) || is_misindexed_form(form)
+}
+
+/// Whether the operand may not be a value of a SET.
+pub fn is_unsuited_value(target: &Ref, form: &OperandForm) -> bool
+    ensures { result ≡ (not (suits_set target.now form.now) || is_var_with is_misindexed form.now) }
+{
+    !suits_set(target, form) || is_misindexed_form(form)
+}
+
+pub fn is_read_early(kind: Kind, form: &OperandForm) -> bool
+    ensures { result ≡ is_var_with (is_set_later kind) form.now }
+{
+    match form {
+        OperandForm::Literal(_) | OperandForm::Word(_) => false,
+        OperandForm::Var(reference) => is_set_later(kind, reference),
+    }
+}
+
+pub fn is_word(form: &OperandForm) -> bool
+    ensures { result ≡ is_word_with (λ word. true) form.now }
+{
+    matches!(form, OperandForm::Word(_))
+}
+
+fn is_bad_literal(before: &[Operand], behind: &[Operand], text: &Lit) -> bool
+    ensures { result ≡ is_bad_literal before.now behind.now text.now }
+{
+    if text.bytes().is_empty() {
+        !before.is_empty() || !behind.is_empty()
+    } else {
+        Name::new(text.bytes()).is_none()
+    }
+}
+
+/// Whether it is a literal that no SET takes.
+pub fn is_bad_value(before: &[Operand], behind: &[Operand], form: &OperandForm) -> bool
+    ensures { result ≡ is_literal_with (is_bad_literal before.now behind.now) form.now }
+{
+    match form {
+        OperandForm::Literal(text) => is_bad_literal(before, behind, text),
+        OperandForm::Word(_) | OperandForm::Var(_) => false,
+    }
+}
+
+fn is_great_beside(left: &Ref, word: &[u8]) -> bool
+    ensures { result ≡ ((is_number_variable left.now && (is_number word.now && not (is_fit_number word.now))) || (is_size_variable left.now && (is_size word.now && not (is_fit_size word.now)))) }
+{
+    (is_number_variable(left) && is_number(word) && !is_fit_number(word))
+        || (is_size_variable(left) && is_size(word) && !is_fit_size(word))
+}
+
+fn is_great_word(left: &Option<Ref>, word: &[u8]) -> bool
+    ensures { result ≡ is_too_great left.now word.now }
+{
+    match left {
+        None => false,
+        Some(left) => is_great_beside(left, word),
+    }
+}
+
+/// Whether it is a number beside a number, or a size beside a size, that is too great.
+pub fn is_too_great(left: &Option<Ref>, form: &OperandForm) -> bool
+    ensures { result ≡ is_word_with (is_too_great left.now) form.now }
+{
+    match form {
+        OperandForm::Word(word) => is_great_word(left, word.bytes()),
+        OperandForm::Literal(_) | OperandForm::Var(_) => false,
+    }
+}
+
+fn is_mask_beside(left: &Ref, word: &Ident) -> bool
+    ensures { result ≡ is_mask_beside left.now word.now }
+{
+    if is_whole_name(left) {
+        is_mask(word)
+    } else {
+        is_simple(word)
+    }
+}
+
+fn is_bad_mask(left: &Option<Ref>, word: &Ident) -> bool
+    ensures { result ≡ is_bad_mask left.now word.now }
+{
+    match left {
+        None => false,
+        Some(left) => takes_masks(left) && !is_mask_beside(left, word),
+    }
+}
+
+fn takes_simple(left: &Option<Ref>) -> bool
+    ensures { result ≡ takes_simple left.now }
+{
+    match left {
+        None => false,
+        Some(left) => takes_masks(left) && !is_whole_name(left),
+    }
+}
+
+fn is_mixed(before: &Earlier<'_>, form: &OperandForm) -> bool
+    ensures { result ≡ is_var_with (λ ref. not (is_simple_list before.now ref.name)) form.now }
+{
+    match form {
+        OperandForm::Literal(_) | OperandForm::Word(_) => false,
+        OperandForm::Var(reference) => !before.is_simple_list(&reference.name),
+    }
+}
+
+fn is_bad_word(left: &Option<Ref>, form: &OperandForm) -> bool
+    ensures { result ≡ is_word_with (is_bad_mask left.now) form.now }
+{
+    match form {
+        OperandForm::Literal(_) | OperandForm::Var(_) => false,
+        OperandForm::Word(word) => is_bad_mask(left, word),
+    }
+}
+
+/// Whether it is a word that is no suitable mask, or a list with such a word.
+pub fn is_misplaced(
+    before: &Earlier<'_>,
+    listed: bool,
+    left: &Option<Ref>,
+    form: &OperandForm,
+) -> bool
+    requires { listed ≡ is_listed before.now form.now }
+    ensures { result ≡ (is_word_with (is_bad_mask left.now) form.now || is_bad_list before.now left.now form.now) }
+{
+    is_bad_word(left, form) || (listed && takes_simple(left) && is_mixed(before, form))
+}
+
+/// Whether an entry of a filter list is neither a literal nor a mask.
+pub fn is_no_entry(form: &OperandForm) -> bool
+    ensures { result ≡ (is_word_with (λ word. not (is_mask word)) form.now || is_var_with (λ ref. true) form.now) }
+{
+    match form {
+        OperandForm::Literal(_) => false,
+        OperandForm::Word(word) => !is_mask(word),
+        OperandForm::Var(_) => true,
+    }
+}
+
+fn is_same_literal(text: &Lit, form: &OperandForm) -> bool
+    ensures { result ≡ is_literal_with (λ other. bytes_eq other text.now) form.now }
+{
+    match form {
+        OperandForm::Literal(other) => other == text,
+        OperandForm::Word(_) | OperandForm::Var(_) => false,
+    }
+}
+
+fn is_among(operands: &[Operand], text: &Lit) -> bool
+    ensures { result ≡ is_among operands.now text.now }
+{
+    operands
+        .iter()
+        .any(|operand| is_same_literal(text, &operand.form))
+}
+
+fn is_repeated(before: &[Operand], form: &OperandForm) -> bool
+    ensures { result ≡ is_literal_with (is_among before.now) form.now }
+{
+    match form {
+        OperandForm::Literal(text) => is_among(before, text),
+        OperandForm::Word(_) | OperandForm::Var(_) => false,
+    }
+}
+
+/// Whether it is a value too many, or a storage group that stands already before it.
+pub fn is_one_too_many(target: &Ref, before: &[Operand], form: &OperandForm) -> bool
+    ensures { result ≡ (if is_group_list target.now then length before.now == 15 || is_literal_with (is_among before.now) form.now else length before.now == 1) }
+{
+    if is_group_list(target) {
+        before.len() == 15 || is_repeated(before, form)
+    } else {
+        before.len() == 1
+    }
+}
+
+/// Whether it is an exit code: a number from 0 to 65,535.
+pub fn is_exit_code(form: &OperandForm) -> bool
+    ensures { result ≡ is_word_with (is_between 0 65535) form.now }
+{
+    match form {
+        OperandForm::Word(word) => is_between(0, 65535, word.bytes()),
+        OperandForm::Literal(_) | OperandForm::Var(_) => false,
+    }
+}
