@@ -4,7 +4,6 @@ use Rattle.std.specs.Io.KnownBytes.{Appends, Consumes, IsAtEnd}
 use Rattle.desk_common.specs.Causes.{Rose}
 use Rattle.desk_common.specs.Fronts.{IsProperPrefix}
 use Rattle.sms_script.specs.declared.script_err.ScriptErr.{ScriptErr}
-use Rattle.sms_script.specs.declared.script_err.ScriptErr.TheVariants.{OpenBlock, NoMemory as NoMemoryForScript, NotBuilt}
 use Rattle.sms_script.specs.Script.{script_of}
 use Rattle.desk_calls.specs.Headline.{IsAnswered}
 use Rattle.desk_calls.specs.declared.status.RunStatus.{RunStatus}

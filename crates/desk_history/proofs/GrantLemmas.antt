@@ -1,19 +1,12 @@
 -- What the gap rule grants above a stack.
-use Rattle.std.proofs.Common.{◌≡◌, ◌≤◌, ◌<◌, ℕ, zero, suc, ◌+◌, ◌-◌, Bool, true, false, List, [], ◌∷◌, ◌++◌, Option, None, Some, refl, sym, ap, ◌∙◌, subst, arith}
-use Rattle.std.specs.Prelude.{nat_le, find, if◌then◌else◌, option_map, Contains, bytes_eq}
-use Rattle.std.specs.List.{AllByRecursion}
+use Rattle.std.proofs.Common.{◌≡◌, ◌≤◌, ◌<◌, ℕ, zero, suc, ◌+◌, ◌-◌, Bool, true, false, List, [], ◌∷◌, None, Some, refl, arith}
+use Rattle.std.specs.Prelude.{nat_le}
 use Rattle.std.proofs.lemmas.Bool.Decides.{nat_tests}
-use Rattle.std.proofs.lemmas.Slice.Eq.{bytes_eq-Decides}
-use Rattle.sms_construct.specs.declared.data_set.DataSet.{DataSet}
 use Rattle.sms_construct.specs.declared.extent.Extent.{Extent}
-use Rattle.sms_construct.specs.declared.volume.VolumeDef.{VolumeDef}
-use Rattle.desk_history.specs.Configuration.{Configuration, candidates_of}
-use Rattle.desk_history.specs.State.{DeskState, extents_of, extents_on}
 use Rattle.desk_history.specs.Gaps.{Gap, gaps_of}
-use Rattle.desk_history.specs.GapRule.{front_of, grant_of, taken_from}
-use Rattle.desk_history.specs.Allocation.{grant_on}
+use Rattle.desk_history.specs.GapRule.{grant_of}
 use Rattle.desk_history.specs.Stack.{IsStack}
-use Rattle.desk_history.proofs.StackLemmas.{stack-filter, stack-mark, gaps_of-full, gaps_of-stack, gap_from}
+use Rattle.desk_history.proofs.StackLemmas.{gaps_of-full, gaps_of-stack, gap_from}
 
 grant_of-none : (need : ℕ) → grant_of [] need 0 ≡ None
 grant_of-none need = refl

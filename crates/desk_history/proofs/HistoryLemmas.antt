@@ -1,5 +1,5 @@
 -- What one more entry does to a history.
-use Rattle.std.proofs.Common.{◌≡◌, ◌≤◌, ◌<◌, ℕ, ◌+◌, Bool, true, false, List, [], ◌∷◌, ◌++◌, length, Option, None, Some, inl, inr, codes, refl, sym, ap, ◌∙◌, subst, arith, append_assoc, append-nil, length-append}
+use Rattle.std.proofs.Common.{◌≡◌, ◌≤◌, ℕ, ◌+◌, Bool, true, false, List, [], ◌∷◌, ◌++◌, length, Option, None, Some, inl, inr, codes, refl, sym, ap, ◌∙◌, subst, arith, append_assoc, append-nil, length-append}
 use Rattle.std.specs.Prelude.{find, MatchOption, MatchBool, ◌⊎◌}
 use Rattle.sms_construct.specs.declared.entry.Entry.{Entry}
 use Rattle.sms_construct.specs.declared.fault.Fault.TheVariants.{NotBuilt}
@@ -14,8 +14,8 @@ use Rattle.desk_history.specs.Refusal.{Refuses}
 use Rattle.desk_history.specs.Activation.{Activates, RefusesDeck}
 use Rattle.desk_history.specs.Allocation.{Allocates, FindsNoVolume}
 use Rattle.desk_history.specs.Stack.{IsPacked}
-use Rattle.desk_history.specs.Step.{is_entered, is_of, kept_for, IsStep, IsFresh, IsRepeat, Rule}
-use Rattle.desk_history.specs.History.{Leads, Reaches, IsLegal}
+use Rattle.desk_history.specs.Step.{is_entered, kept_for, IsStep, IsFresh, IsRepeat, Rule}
+use Rattle.desk_history.specs.History.{Leads, Reaches}
 use Rattle.desk_history.proofs.PackedLemmas.{rule-packed}
 
 -- one more step

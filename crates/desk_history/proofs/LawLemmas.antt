@@ -1,13 +1,12 @@
 -- What holds of each legal history.
-use Rattle.std.proofs.Common.{◌≡◌, ◌≤◌, ◌<◌, ℕ, zero, suc, ◌+◌, Bool, true, false, List, [], ◌∷◌, ◌++◌, length, Option, None, Some, inl, inr, codes, refl, sym, ap, ◌∙◌, subst, arith}
-use Rattle.std.specs.Prelude.{find, MatchOption, MatchBool, ◌⊎◌}
+use Rattle.std.proofs.Common.{◌≡◌, ◌≤◌, ℕ, ◌+◌, Bool, true, false, List, [], ◌∷◌, ◌++◌, length, Option, None, Some, inl, inr, codes, refl, subst, arith}
+use Rattle.std.specs.Prelude.{MatchOption, MatchBool, ◌⊎◌}
 use Rattle.std.specs.List.{AllByRecursion}
 use Rattle.sms_construct.specs.declared.data_set.DataSet.{DataSet}
 use Rattle.sms_construct.specs.declared.entry.Entry.{Entry}
 use Rattle.sms_construct.specs.declared.extent.Extent.{Extent}
 use Rattle.sms_construct.specs.declared.fault.Fault.TheVariants.{NotBuilt}
-use Rattle.sms_construct.specs.declared.reply.Reply.{Reply}
-use Rattle.sms_construct.specs.declared.reply.Reply.TheVariants.{Granted, NoConfig, NameInUse, NoVolume, Deck}
+use Rattle.sms_construct.specs.declared.reply.Reply.TheVariants.{Granted, NoConfig, NameInUse, Deck}
 use Rattle.sms_construct.specs.declared.request.Alloc.{Alloc}
 use Rattle.sms_construct.specs.declared.request.Op.{Op}
 use Rattle.sms_construct.specs.declared.request.Op.TheVariants.{Alloc as AllocOp, Activate}
@@ -17,9 +16,9 @@ use Rattle.desk_history.specs.Refusal.{Refuses}
 use Rattle.desk_history.specs.Activation.{Activates, RefusesDeck}
 use Rattle.desk_history.specs.Allocation.{Allocates, FindsNoVolume, IsLawfulGrant}
 use Rattle.desk_history.specs.Step.{is_of, kept_for, IsStep, IsFresh, IsRepeat, Rule}
-use Rattle.desk_history.specs.History.{Leads, Reaches, IsLegal}
+use Rattle.desk_history.specs.History.{Reaches, IsLegal}
 use Rattle.desk_history.specs.Grants.{GrantsLawfully}
-use Rattle.desk_history.specs.Stack.{IsStack, IsStacked, IsPacked}
+use Rattle.desk_history.specs.Stack.{IsStack, IsStacked}
 use Rattle.desk_history.specs.Tracks.{AreApart, NoTrackTwice}
 use Rattle.desk_history.proofs.HistoryLemmas.{Leads-split, Reaches-packed, find-stands}
 

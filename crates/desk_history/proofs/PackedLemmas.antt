@@ -1,6 +1,6 @@
 -- A step keeps the data sets in one stack.
-use Rattle.std.proofs.Common.{◌≡◌, ◌≤◌, ◌<◌, ℕ, zero, suc, ◌+◌, ◌-◌, Bool, true, false, List, [], ◌∷◌, ◌++◌, length, get_or, Option, None, Some, Ok, Err, map, codes, inl, inr, refl, sym, ap, ◌∙◌, subst, arith, append-nil, append_assoc}
-use Rattle.std.specs.Prelude.{bytes_eq, filter, flat_map, Contains, MatchOption, MatchBool, ◌⊎◌}
+use Rattle.std.proofs.Common.{◌≡◌, ◌≤◌, ◌<◌, ℕ, zero, suc, ◌+◌, Bool, true, false, List, [], ◌∷◌, ◌++◌, get_or, Option, None, Some, codes, inl, inr, refl, sym, ap, ◌∙◌, subst, arith}
+use Rattle.std.specs.Prelude.{bytes_eq, filter, Contains, MatchOption, MatchBool, ◌⊎◌}
 use Rattle.std.specs.List.{list_any}
 use Rattle.std.proofs.lemmas.Slice.Eq.{bytes_eq-Decides}
 use Rattle.std.proofs.lemmas.List.{flat_map_more}
@@ -15,15 +15,15 @@ use Rattle.sms_construct.specs.declared.reply.Reply.TheVariants.{NoConfig, NameI
 use Rattle.sms_construct.specs.declared.fault.Fault.TheVariants.{NotBuilt}
 use Rattle.sms_construct.specs.declared.status.Status.TheVariants.{Enable}
 use Rattle.desk_history.specs.Configuration.{Configuration, candidates_of}
-use Rattle.desk_history.specs.State.{DeskState, extents_of, extents_on, tracks_of, activated, catalogued, is_catalogued}
-use Rattle.desk_history.specs.Gaps.{Gap, gaps_of}
+use Rattle.desk_history.specs.State.{DeskState, extents_of, extents_on, tracks_of, catalogued, is_catalogued}
+use Rattle.desk_history.specs.Gaps.{gaps_of}
 use Rattle.desk_history.specs.GapRule.{grant_of}
-use Rattle.desk_history.specs.DeckForm.{DeckForm, Configures, configuration_of}
+use Rattle.desk_history.specs.DeckForm.{configuration_of}
 use Rattle.desk_history.specs.Refusal.{Refuses}
-use Rattle.desk_history.specs.Activation.{Activates, RefusesDeck, ActivateRule}
-use Rattle.desk_history.specs.Allocation.{Allocates, FindsNoVolume, AllocRule, AreRejected, IsLawfulGrant, data_set_of, grant_on}
+use Rattle.desk_history.specs.Activation.{Activates, RefusesDeck}
+use Rattle.desk_history.specs.Allocation.{Allocates, FindsNoVolume, AreRejected, IsLawfulGrant, grant_on}
 use Rattle.desk_history.specs.Step.{Rule}
-use Rattle.desk_history.specs.Stack.{IsStack, IsStacked, IsPacked}
+use Rattle.desk_history.specs.Stack.{IsStacked, IsPacked}
 use Rattle.desk_history.proofs.StackLemmas.{stack-push, stack-filter, stack-tracks, tracks_of-append, gap_from}
 use Rattle.desk_history.proofs.GrantLemmas.{grant-is, grant-fits, grant-short}
 

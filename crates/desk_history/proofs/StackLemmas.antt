@@ -1,18 +1,14 @@
 -- Tracks of a stack of extents, and the gap above it.
-use Rattle.std.proofs.Common.{◌≡◌, ◌≤◌, ◌<◌, ℕ, zero, suc, ◌+◌, ◌-◌, Bool, true, false, List, [], ◌∷◌, ◌++◌, Option, None, Some, refl, sym, ap, ◌∙◌, inl, inr, arith, append-nil, zero-add, add-zero}
-use Rattle.std.specs.Prelude.{bytes_eq, filter, flat_map, not, ◌&&◌, ◌==◌, nat_le, nat_lt, min, find, if◌then◌else◌}
-use Rattle.std.specs.List.{AllByRecursion}
+use Rattle.std.proofs.Common.{◌≡◌, ◌≤◌, ◌<◌, ℕ, zero, suc, ◌+◌, ◌-◌, Bool, true, false, List, [], ◌∷◌, ◌++◌, refl, sym, ap, ◌∙◌, arith, zero-add, add-zero}
+use Rattle.std.specs.Prelude.{bytes_eq, filter, not, ◌&&◌, ◌==◌, nat_le, nat_lt}
 use Rattle.std.proofs.lemmas.Bool.Decides.{nat_tests}
 use Rattle.std.proofs.lemmas.Slice.Eq.{bytes_eq-Decides}
 use Rattle.std.proofs.lemmas.List.Sums.{sum_by-append}
 use Rattle.std.proofs.lemmas.List.Elements.{filter-append}
-use Rattle.sms_construct.specs.declared.data_set.DataSet.{DataSet}
 use Rattle.sms_construct.specs.declared.extent.Extent.{Extent}
-use Rattle.desk_history.specs.State.{extents_of, tracks_of}
-use Rattle.desk_history.specs.Gaps.{Gap, tracks_from, is_free, free_tracks, before_gaps, runs_of, gaps_of}
-use Rattle.desk_history.specs.GapRule.{front_of, grant_of, longest_first, taken_from, whole_or_parts, pieces_allowed}
+use Rattle.desk_history.specs.State.{tracks_of}
+use Rattle.desk_history.specs.Gaps.{Gap, tracks_from, is_free, free_tracks, runs_of, gaps_of}
 use Rattle.desk_history.specs.Stack.{IsStack}
-use Rattle.desk_history.specs.Tracks.{AreApart, NoTrackTwice}
 
 -- the mark is the sum of the tracks
 pub stack-mark : (volser : List ℕ) (track : ℕ) (es : List Extent) (mark : ℕ) → IsStack volser track es mark → track ≤ mark

@@ -1,23 +1,21 @@
 -- A history leads to one state.
-use Rattle.std.proofs.Common.{◌≡◌, ℕ, Bool, true, false, List, [], ◌∷◌, ◌++◌, Option, None, Some, codes, pos, inl, inr, refl, sym, ap, ◌∙◌, subst}
+use Rattle.std.proofs.Common.{◌≡◌, ℕ, Bool, true, false, List, [], ◌∷◌, ◌++◌, Option, None, Some, codes, inl, inr, sym, ap, ◌∙◌, subst}
 use Rattle.std.specs.Prelude.{MatchOption, MatchBool, ◌⊎◌}
-use Rattle.toml.specs.Data.{Data, integer, table, Members, no_members, get_member}
-use Rattle.toml.specs.Parse.{parse_document}
-use Rattle.sms_construct.specs.declared.data_set.DataSet.{DataSet}
+use Rattle.toml.specs.Data.{Members}
 use Rattle.sms_construct.specs.declared.entry.Entry.{Entry}
 use Rattle.sms_construct.specs.declared.fault.Fault.TheVariants.{NotBuilt}
 use Rattle.sms_construct.specs.declared.reply.Reply.{Reply}
-use Rattle.sms_construct.specs.declared.reply.Reply.TheVariants.{NoConfig, NameInUse, NoVolume, Deck, Granted, Activated}
+use Rattle.sms_construct.specs.declared.reply.Reply.TheVariants.{NoConfig, NameInUse, NoVolume, Deck}
 use Rattle.sms_construct.specs.declared.request.Alloc.{Alloc}
 use Rattle.sms_construct.specs.declared.request.Op.{Op}
 use Rattle.sms_construct.specs.declared.request.Op.TheVariants.{Alloc as AllocOp, Activate}
 use Rattle.desk_history.specs.Configuration.{Configuration}
-use Rattle.desk_history.specs.DeckForm.{DeckForm, sole_key, HasForm, HasClass, HasVolume, Configures, configuration_of}
+use Rattle.desk_history.specs.DeckForm.{DeckForm, HasForm, Configures, configuration_of}
 use Rattle.desk_history.specs.State.{DeskState, start_state, activated, catalogued, is_catalogued}
 use Rattle.desk_history.specs.Refusal.{Refuses}
 use Rattle.desk_history.specs.Activation.{Activates, RefusesDeck}
 use Rattle.desk_history.specs.Allocation.{Allocates, FindsNoVolume}
-use Rattle.desk_history.specs.Step.{IsStep, IsFresh, IsRepeat, Rule, kept_for}
+use Rattle.desk_history.specs.Step.{IsFresh, IsRepeat, Rule, kept_for}
 use Rattle.desk_history.specs.History.{Leads, Reaches}
 
 abbrev pub form_with : List ℕ → List ℕ → List ℕ → ℕ → DeckForm

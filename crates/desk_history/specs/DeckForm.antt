@@ -1,5 +1,5 @@
 -- The one form of a deck that is built so far (docs/rules.md, "Decks").
-use Rattle.std.specs.Prelude.{ℕ, ◌≡◌, ◌≤◌, ◌+◌, List, [], ◌∷◌, ◌++◌, Option, Some, Result, Ok, Err, IsUtf8, codes, pos}
+use Rattle.std.specs.Prelude.{ℕ, ◌≡◌, ◌≤◌, ◌+◌, List, [], ◌∷◌, ◌++◌, Some, IsUtf8, codes, pos}
 use Rattle.toml.specs.Data.{Data, string, integer, table, Members, no_members, member, get_member}
 use Rattle.toml.specs.Parse.{parse_document}
 use Rattle.desk_common.specs.Words.{words_of}

@@ -1,5 +1,5 @@
 -- The routines of a deck of the form.
-use Rattle.std.proofs.Common.{◌≡◌, Bool, true, List, ℕ, codes, Some, sym, ◌∙◌, subst, ap}
+use Rattle.std.proofs.Common.{◌≡◌, Bool, List, ℕ, codes, Some, sym, ◌∙◌, subst, ap}
 use Rattle.std.specs.Prelude.{IsTrue, ◌↔◌}
 use Rattle.toml.specs.Data.{Data, Members, table, as_table, get_member}
 use Rattle.desk_history.specs.DeckForm.{HasRoutines, SetsName, key_count}

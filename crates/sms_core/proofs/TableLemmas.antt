@@ -1,6 +1,6 @@
 -- A map of values beside the members that it stands for.
-use Rattle.std.proofs.Common.{◌≡◌, ℕ, ◌+◌, zero, suc, List, [], ◌∷◌, length, slice_get, Option, Some, None, String, Global, string_bytes, refl, ap, sym, ◌∙◌, arith}
-use Rattle.toml.specs.Data.{Data, Members, no_members, member, table, string, integer, float, boolean, datetime, array, as_table, as_str, as_integer}
+use Rattle.std.proofs.Common.{◌≡◌, ℕ, List, [], ◌∷◌, length, slice_get, Some, None, String, Global, string_bytes, refl, ap, sym, ◌∙◌, arith}
+use Rattle.toml.specs.Data.{Data, Members, no_members, member, table, string, integer, float, boolean, datetime, array, as_table}
 use Rattle.toml.specs.View.{view, members_view}
 use Rattle.toml.specs.declared.value.Value.{Value}
 use Rattle.toml.proofs.Views.{Entry}

@@ -1,5 +1,4 @@
-use Rattle.std.proofs.Common.{◌≡◌, List, rules, ap}
-use Rattle.sms_construct.specs.declared.entry.Entry.{Entry}
+use Rattle.std.proofs.Common.{rules}
 use Rattle.desk_history.specs.History.{IsLegal}
 use Rattle.desk_calls.proofs.answering.answer_text.Goals as goal
 

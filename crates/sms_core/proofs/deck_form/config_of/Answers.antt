@@ -1,5 +1,5 @@
-use Rattle.std.proofs.Common.{refl, rules, ◌∙◌}
-use Rattle.desk_history.specs.DeckForm.{DeckForm, HasForm}
+use Rattle.std.proofs.Common.{refl, rules}
+use Rattle.desk_history.specs.DeckForm.{DeckForm}
 use Rattle.sms_core.proofs.deck_form.config_of.Goals as goal
 
 pub returns : goal.returns

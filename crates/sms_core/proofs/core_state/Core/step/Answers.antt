@@ -1,7 +1,4 @@
-use Rattle.std.proofs.Common.{◌≡◌, ◌<◌, ◌+◌, ◌^◌, List, [], ◌∷◌, ◌++◌, length, rules, arith, ap, sym, ◌∙◌}
-use Rattle.sms_construct.specs.declared.entry.Entry.{Entry}
-use Rattle.desk_history.specs.State.{DeskState}
-use Rattle.desk_history.specs.Step.{IsStep}
+use Rattle.std.proofs.Common.{◌≡◌, ◌<◌, ◌+◌, ◌^◌, [], ◌∷◌, ◌++◌, length, rules, arith}
 use Rattle.desk_history.specs.History.{Reaches}
 use Rattle.desk_history.proofs.HistoryLemmas.{step-packed, Reaches-push, Reaches-activations}
 use Rattle.sms_core.specs.Effect.{state_with}

@@ -1,5 +1,5 @@
-use Rattle.std.proofs.Common.{◌≡◌, ◌≤◌, arith, ap}
-use Rattle.desk_history.specs.State.{DeskState, catalogued, extents_of, tracks_of}
+use Rattle.std.proofs.Common.{arith, ap}
+use Rattle.desk_history.specs.State.{catalogued, extents_of, tracks_of}
 use Rattle.desk_history.specs.Stack.{IsPacked}
 use Rattle.desk_history.proofs.FormRules.{catalogued-total}
 use Rattle.sms_core.specs.Running.{RunningView}

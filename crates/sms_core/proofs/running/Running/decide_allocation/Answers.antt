@@ -3,8 +3,7 @@ use Rattle.sms_construct.specs.declared.data_set.DataSet.{DataSet}
 use Rattle.sms_construct.specs.declared.extent.Extent.{Extent}
 use Rattle.desk_history.specs.Configuration.{Configuration}
 use Rattle.desk_history.specs.DeckForm.{DeckForm, configuration_of}
-use Rattle.desk_history.specs.State.{DeskState, catalogued, extents_of, tracks_of, is_catalogued}
-use Rattle.desk_history.specs.Stack.{IsPacked}
+use Rattle.desk_history.specs.State.{extents_of, tracks_of, is_catalogued}
 use Rattle.desk_history.proofs.FormRules.{short-rule, grant-rule}
 use Rattle.desk_history.proofs.PackedLemmas.{packed-total}
 use Rattle.sms_core.specs.Running.{RunningView}
