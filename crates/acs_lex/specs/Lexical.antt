@@ -2,7 +2,6 @@
 use Rattle.std.specs.Prelude.{◌≡◌, ◌-◌, ◌==◌, ℕ, Bool, true, false, not, ◌&&◌, ◌||◌, nat_le, List, [], ◌∷◌, codes}
 use Rattle.std.specs.List.{list_any}
 use Rattle.std.specs.Char.{is_ascii_alphanumeric}
-use Rattle.acs_lex.specs.declared.token.TheConstants.{MAX_WORD, MAX_LITERAL, MAX_SIGN}
 use Rattle.acs_lex.specs.declared.token.TokenForm.{TokenForm}
 use Rattle.acs_lex.specs.declared.token.TokenForm.TheVariants.{Word, Variable, Literal, Sign}
 
@@ -81,10 +80,10 @@ counted_bytes _ bytes = bytes
 
 -- the most bytes that may count
 abbrev pub most_bytes : TokenForm → ℕ
-most_bytes Word = MAX_WORD
-most_bytes Variable = MAX_WORD
-most_bytes Literal = MAX_LITERAL
-most_bytes Sign = MAX_SIGN
+most_bytes Word = 64
+most_bytes Variable = 64
+most_bytes Literal = 110
+most_bytes Sign = 2
 
 -- the text goes on, behind a comment's first two bytes, to its first end, and what is behind that
 pub data IsCommentTail : List ℕ → List ℕ → Type 0 where

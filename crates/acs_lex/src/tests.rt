@@ -8,7 +8,7 @@ use std::test::Fail;
 type Wanted = Result<&'static [(TokenForm, u32, u32)], LexErr>;
 
 /// A text, and its tokens or its fault.
-const TEXTS: [(&[u8], Wanted); 46] = [
+const TEXTS: [(&[u8], Wanted); 51] = [
     // blanks and comments
     (b"", Ok(&[])),
     (b" \t\r\n/* A */ ", Ok(&[])),
@@ -37,6 +37,14 @@ const TEXTS: [(&[u8], Wanted); 46] = [
     (b"A\x80", Err(BadByte(1))),
     (b"A!", Err(BadByte(1))),
     (b"\x00", Err(BadByte(0))),
+    (b"A\x0b", Err(BadByte(1))),
+    (b"\x0c", Err(BadByte(0))),
+    (
+        b"A'B'&C",
+        Ok(&[(Word, 0, 1), (Literal, 1, 4), (Variable, 4, 6)]),
+    ),
+    (b"&/**/A", Err(BadByte(0))),
+    (b">/**/=", Ok(&[(Sign, 0, 1), (Sign, 5, 6)])),
     // signs
     (b"&&&A", Ok(&[(Sign, 0, 2), (Variable, 2, 4)])),
     (b"&&&", Err(BadByte(2))),

@@ -2,7 +2,7 @@
 use Rattle.std.specs.Prelude.{◌&&◌, ◌||◌, ℕ, Bool, true, false, not, List, [], ◌∷◌, nat_lt, codes, Option, Some, None, is_some, is_none, if◌then◌else◌}
 use Rattle.std.specs.List.{list_all, list_any}
 use Rattle.std.specs.Str.{bytes_eq}
-use Rattle.dsn_mask.specs.MaskFault.{mask_of, simple_of}
+use Rattle.dsn_mask.specs.MaskText.{mask_of, simple_of}
 use Rattle.dsn_mask.specs.Name.{name_of as construct_of}
 use Rattle.acs_tree.specs.declared.kind.Kind.{Kind}
 use Rattle.acs_tree.specs.declared.routine.Compare.{Compare}

@@ -1,6 +1,7 @@
 //! The tree of an ACS routine (docs/acs-language.md, Tree).
 #![tactic(auto)]
 
+mod building;
 mod check_err;
 mod checked;
 mod ident;
@@ -9,6 +10,7 @@ mod routine;
 mod variable;
 mod variables;
 
+pub use building::{with_operand, with_stmt, with_when};
 pub use check_err::CheckErr;
 pub use checked::Checked;
 pub use ident::{Ident, MAX_IDENT};

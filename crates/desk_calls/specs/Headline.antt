@@ -14,6 +14,7 @@ use Rattle.sms_script.specs.Script.{script_of}
 use Rattle.sms_script.specs.AnswerText.{text_of}
 use Rattle.desk_calls.specs.Run.{AnswersInOrder}
 
+-- the text is that of the answers to the script in these bytes, and they are those of one legal history
 pub record IsAnswered (bytes text : List ℕ) : Type 0 where
   pub items : List Item
   pub answers : List Answer
@@ -33,6 +34,7 @@ pub record IsAnswered (bytes text : List ℕ) : Type 0 where
       → entry.answer.reply ≡ Granted set → entry.answer.first ≡ entry.answer.place → GrantsLawfully front entry.request.op set
   -- no track of two data sets: at no time does a track belong to two extents
   pub tracks : (front rest : List Entry) (s : DeskState) → history ≡ front ++ rest → Reaches front s → NoTrackTwice (extents_of s.sets)
-  -- kept replies: a number that came before gets its kept reply, or is refused for another op
-  pub kept : (front rest : List Entry) (entry first : Entry) → history ≡ front ++ entry ∷ rest
-      → kept_for entry.request.job entry.request.number front ≡ Some first → IsRepeat first entry
+  -- kept replies: a number that came before gets its kept reply, the fresh one of an earlier entry, or is refused for another op
+  pub kept : (front rest : List Entry) (entry earlier : Entry) → history ≡ front ++ entry ∷ rest
+      → kept_for entry.request.job entry.request.number front ≡ Some earlier
+      → IsRepeat earlier entry × (earlier.answer.first ≡ earlier.answer.place)

@@ -1,6 +1,6 @@
 -- How a run ends: each status and its cause.
-use Rattle.std.specs.Prelude.{◌≡◌, ◌≤◌, ◌<◌, List, ℕ, [], ◌∷◌, length, codes, Option, IfSome, Err}
-use Rattle.std.specs.Io.KnownBytes.{Appends, IsAtEnd}
+use Rattle.std.specs.Prelude.{◌≡◌, ◌≤◌, ◌<◌, Bool, true, false, List, ℕ, [], ◌∷◌, length, codes, Option, IfSome, Err}
+use Rattle.std.specs.Io.KnownBytes.{Appends, Consumes, IsAtEnd}
 use Rattle.desk_common.specs.Causes.{Rose}
 use Rattle.desk_common.specs.Fronts.{IsProperPrefix}
 use Rattle.sms_script.specs.declared.script_err.ScriptErr.{ScriptErr}
@@ -41,7 +41,7 @@ pub record IsDone (old new : Observed) : Type 0 where
   pub written : Appends old.taken new.taken text
 
 -- the script was answered, and the sink took a proper front of the text before its count of faults rose
-pub record IsCutOff (old new : Observed) : Type 0 where
+pub record HasWriteFault (old new : Observed) : Type 0 where
   pub bytes : List ℕ
   pub text : List ℕ
   pub front : List ℕ
@@ -58,9 +58,10 @@ pub record IsFaulty (old new : Observed) (err : ScriptErr) : Type 0 where
   pub fault : script_of bytes ≡ Err err
   pub unwritten : IsUnwritten old new
 
--- the count of the source's faults rose, and nothing was run
-pub record IsUnread (old new : Observed) : Type 0 where
+-- the count of the source's faults rose before more bytes came than a script may have, and nothing was run
+pub record HasReadFault (old new : Observed) : Type 0 where
   pub rose : Rose old.read_faults new.read_faults
+  pub within : (front : List ℕ) × (length front ≤ 16777216) × Consumes old.left new.left front
   pub unwritten : IsUnwritten old new
 
 -- more bytes came than a script may have, and nothing was run
@@ -68,12 +69,18 @@ pub record IsTooLong (old new : Observed) : Type 0 where
   pub longer : IfSome old.left (λ left. 16777216 < length left)
   pub unwritten : IsUnwritten old new
 
+-- the statuses with which nothing is written
+abbrev pub leaves_sink : RunStatus → Bool
+leaves_sink Done = false
+leaves_sink WriteFault = false
+leaves_sink status = true
+
 -- what each status says of what was observed before and after
 abbrev pub Ends : Observed → Observed → RunStatus → Type 0
 Ends old new Done = IsDone old new
 Ends old new BadWords = new ≡ old
-Ends old new ReadFault = IsUnread old new
-Ends old new WriteFault = IsCutOff old new
+Ends old new ReadFault = HasReadFault old new
+Ends old new WriteFault = HasWriteFault old new
 Ends old new (Script err) = IsFaulty old new err
 Ends old new TooLong = IsTooLong old new
 Ends old new NoMemory = IsUnwritten old new

@@ -19,7 +19,7 @@ pub fn answer_text(alloc: Global, bytes: &[u8]) -> Result<Vec<u8>, ScriptErr>
         Ok(script) => script,
         Err(fault) => return Err(fault),
     };
-    let (answers, core) = run_script(alloc, script.as_slice(), Core::new(alloc));
+    let (answers, core) = run_script(alloc, &script, Core::new(alloc));
     let Ok(answers) = answers else {
         return Err(ScriptErr::NoMemory);
     };
@@ -28,7 +28,7 @@ pub fn answer_text(alloc: Global, bytes: &[u8]) -> Result<Vec<u8>, ScriptErr>
     tracks_held_once();
     kept_replies();
     let entries = core.journal().len() as u64;
-    match print(alloc, script.as_slice(), answers.as_slice(), entries) {
+    match print(alloc, &script, answers.as_slice(), entries) {
         Ok(text) => Ok(text),
         Err(_) => Err(ScriptErr::NoMemory),
     }

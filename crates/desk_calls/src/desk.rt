@@ -1,6 +1,6 @@
 //! The top call of the desk.
-ghost use Rattle.std.specs.Prelude.{◌≡◌, ◌↔◌, map, string_bytes};
-ghost use Rattle.desk_calls.specs.RunFault.{AreRunWords, Ends, Observed};
+ghost use Rattle.std.specs.Prelude.{◌≡◌, ◌↔◌, true, map, string_bytes};
+ghost use Rattle.desk_calls.specs.RunFault.{AreRunWords, Ends, Observed, leaves_sink};
 
 use crate::answering::answer_text;
 use crate::status::RunStatus;
@@ -20,7 +20,9 @@ pub fn desk_main<S: Source, K: Sink>(
     src: &mut S,
     out: &mut K,
 ) -> RunStatus
+    ensures unread { result ≡ RunStatus.BadWords → src.new ≡ src.old }
     ensures words { result ≡ RunStatus.BadWords ↔ (AreRunWords (map string_bytes words.now) → ⊥) }
+    ensures unwritten { leaves_sink result ≡ true → out.new ≡ out.old }
     ensures ends { Ends
         (record { left = S.left src.old; read_faults = S.read_faults src.old; taken = K.taken out.old; write_faults = K.write_faults out.old })
         (record { left = S.left src.new; read_faults = S.read_faults src.new; taken = K.taken out.new; write_faults = K.write_faults out.new })
@@ -35,6 +37,7 @@ pub fn desk_main<S: Source, K: Sink>(
 // Answers the script of the source.
 fn run<S: Source, K: Sink>(alloc: Global, src: &mut S, out: &mut K) -> RunStatus
     ensures words { result ≡ RunStatus.BadWords → ⊥ }
+    ensures unwritten { leaves_sink result ≡ true → out.new ≡ out.old }
     ensures ends { Ends
         (record { left = S.left src.old; read_faults = S.read_faults src.old; taken = K.taken out.old; write_faults = K.write_faults out.old })
         (record { left = S.left src.new; read_faults = S.read_faults src.new; taken = K.taken out.new; write_faults = K.write_faults out.new })

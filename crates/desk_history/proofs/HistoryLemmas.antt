@@ -55,14 +55,9 @@ find-stands p before (x ∷ h) s t kept leads found =
     find-stands_at p before s leads.0 x h kept (p x) refl leads.1 found (λ later. find-stands p (before ++ x ∷ []) h leads.0 t kept leads.2 later)
 
 -- a repeat of an entered entry is entered
-repeat-entered_at : (kept e : Entry) (b : Bool) → is_entered e.answer.reply ≡ b → IsRepeat kept e → is_entered kept.answer.reply ≡ true → b ≡ true
-repeat-entered_at kept e true is repeat entered = refl
-repeat-entered_at kept e false is repeat entered =
-    let differ : e.request.op ≡ kept.request.op → ⊥ = λ same. cc (ap is_entered (repeat.same same).0) in
-    absurd (cc (ap is_entered (repeat.other differ).0))
-
 pub repeat-entered : (kept e : Entry) → IsRepeat kept e → is_entered kept.answer.reply ≡ true → is_entered e.answer.reply ≡ true
-repeat-entered kept e repeat entered = repeat-entered_at kept e (is_entered e.answer.reply) refl repeat entered
+repeat-entered kept e repeat entered =
+    elim repeat [ inl same ↦ ap is_entered same.reply_is ∙ entered | inr other ↦ ap is_entered other.reply_is ]
 
 -- a step keeps the data sets in one stack
 step-packed_at : (before : List Entry) (s t : DeskState) (e : Entry) (o : Option Entry) → MatchOption o (IsFresh s e t) (λ kept. IsRepeat kept e × (t ≡ s)) → IsPacked s → IsPacked t

@@ -93,8 +93,7 @@ granted-step front s t e set None is reaches place fresh granted first =
     granted-rule front s e.request.op set t reaches (rw granted at fresh.rule)
 granted-step front s t e set (Some kept) is reaches place repeat granted first =
     let stands = find-stands (is_of e.request.job e.request.number) [] front start_state s kept reaches is in
-    let differ : e.request.op ≡ kept.request.op → ⊥ = λ same. omega (arith, (repeat.0.same same).1, stands.0) in
-    absurd (cc (granted, (repeat.0.other differ).0))
+    elim repeat.0 [ inl same ↦ absurd (omega (arith, same.first_is, stands.0)) | inr other ↦ absurd (cc (granted, other.reply_is)) ]
 
 pub granted-lawfully : (front rest : List Entry) (e : Entry) (set : DataSet) → IsLegal (front ++ e ∷ rest) → e.answer.reply ≡ Granted set → e.answer.first ≡ e.answer.place
     → GrantsLawfully front e.request.op set

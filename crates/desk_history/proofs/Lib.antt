@@ -4,3 +4,5 @@ pub mod PackedLemmas
 pub mod HistoryLemmas
 pub mod LawLemmas
 pub mod FormRules
+pub mod StateLemmas
+pub mod KeptLemmas

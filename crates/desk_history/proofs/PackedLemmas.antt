@@ -38,7 +38,7 @@ contains-sole p volume found true is (suc k, less, here) = absurd (let short : s
 contains-sole p volume found false is (k, less, here) = absurd (let short : k < 0 = rw is at less in omega arith)
 
 -- the candidates of a configuration of one volume
-pub candidate-sole : (config : Configuration) (volume found : VolumeDef) → config.volumes ≡ volume ∷ [] → Contains (candidates_of config) found → found ≡ volume
+pub candidate-sole : (config : Configuration) (volume found : VolumeDef) → config.volumes ≡ volume ∷ [] → Contains (candidates_of config config.listed) found → found ≡ volume
 candidate-sole config volume found sole contains =
     contains-sole (λ v. list_any (λ group. bytes_eq group v.group) config.listed) volume found _ refl
     (subst (λ (vs : List VolumeDef). Contains (filter (λ v. list_any (λ group. bytes_eq group v.group) config.listed) vs) found) sole contains)
@@ -136,7 +136,7 @@ pub packed-total : (s : DeskState) → IsPacked s → tracks_of (extents_of s.se
 packed-total s packed = total-small s.sets s.active packed
 
 -- the candidates of a configuration with a stack: its one volume
-pub candidates-stacked : (config : Configuration) (sets : List DataSet) (stacked : IsStacked config sets) → candidates_of config ≡ stacked.volume ∷ []
+pub candidates-stacked : (config : Configuration) (sets : List DataSet) (stacked : IsStacked config sets) → candidates_of config config.listed ≡ stacked.volume ∷ []
 candidates-stacked config sets stacked =
     let listed : bytes_eq stacked.volume.group stacked.volume.group ≡ true = (bytes_eq-Decides stacked.volume.group stacked.volume.group).1 refl in
     rw (stacked.sole, stacked.listed, listed) refl

@@ -6,7 +6,7 @@ use Rattle.sms_construct.specs.declared.request.Alloc.{Alloc}
 use Rattle.sms_construct.specs.declared.volume.VolumeDef.{VolumeDef}
 use Rattle.sms_construct.specs.declared.reply.Reply.{Reply}
 use Rattle.sms_construct.specs.declared.reply.Reply.TheVariants.{Granted, NameInUse, NoConfig, NoVolume}
-use Rattle.desk_history.specs.Configuration.{Configuration, candidates_of}
+use Rattle.desk_history.specs.Configuration.{Configuration, candidates_of, classes_of}
 use Rattle.desk_history.specs.State.{DeskState, is_catalogued, extents_on, catalogued}
 use Rattle.desk_history.specs.Gaps.{Gap, gaps_of}
 use Rattle.desk_history.specs.GapRule.{grant_of}
@@ -18,14 +18,14 @@ grant_on s volume need = grant_of (gaps_of volume.tracks (extents_on volume.vols
 
 -- each candidate is rejected, since the gap rule gives no grant on it
 abbrev pub AreRejected : DeskState → Configuration → Alloc → Type 0
-AreRejected s config alloc = AllByRecursion (λ volume. grant_on s volume alloc.space.primary ≡ None) (candidates_of config)
+AreRejected s config alloc = AllByRecursion (λ volume. grant_on s volume alloc.space.primary ≡ None) (candidates_of config (classes_of config alloc).groups)
 
 -- the new data set with these pieces of the volume
 abbrev pub data_set_of : Configuration → Alloc → VolumeDef → List Gap → DataSet
 data_set_of config alloc volume pieces = record {
   dsn = alloc.dsn;
   dataclas = None;
-  storclas = config.storclas;
+  storclas = (classes_of config alloc).storclas;
   mgmtclas = None;
   group = volume.group;
   extents = map (λ piece. record { volser = volume.volser; start = piece.start; length = piece.tracks }) pieces;
@@ -35,7 +35,7 @@ data_set_of config alloc volume pieces = record {
 pub record IsLawfulGrant (s : DeskState) (config : Configuration) (alloc : Alloc) (set : DataSet) : Type 0 where
   pub volume : VolumeDef
   pub pieces : List Gap
-  pub candidate : Contains (candidates_of config) volume
+  pub candidate : Contains (candidates_of config (classes_of config alloc).groups) volume
   pub granted : grant_on s volume alloc.space.primary ≡ Some pieces
   pub set_is : set ≡ data_set_of config alloc volume pieces
 

@@ -6,6 +6,7 @@ use Rattle.desk_history.specs.Gaps.{Gap}
 abbrev pub comes_first : Gap → Gap → Bool
 comes_first gap other = nat_lt other.tracks gap.tracks || (other.tracks == gap.tracks && nat_le gap.start other.start)
 
+-- a gap put at its place among gaps that stand longest first
 abbrev pub put_in_order : Gap → List Gap → List Gap
 put_in_order gap [] = gap ∷ []
 put_in_order gap (other ∷ gaps) = if comes_first gap other then gap ∷ other ∷ gaps else other ∷ put_in_order gap gaps

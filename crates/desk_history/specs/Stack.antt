@@ -1,4 +1,5 @@
 -- Where the extents lie as long as no track is freed: one behind the other from the first track on.
+-- This is no demand on the desk but a fact that its proofs keep.
 use Rattle.std.specs.Prelude.{ℕ, ◌≡◌, ◌≤◌, ◌+◌, List, [], ◌∷◌, MatchOption}
 use Rattle.sms_construct.specs.declared.data_set.DataSet.{DataSet}
 use Rattle.sms_construct.specs.declared.extent.Extent.{Extent}

@@ -5,6 +5,7 @@ use Rattle.sms_construct.specs.declared.extent.Extent.{Extent}
 use Rattle.sms_construct.specs.declared.data_set.DataSet.{DataSet}
 use Rattle.desk_history.specs.Configuration.{Configuration, StatusRow, deck_statuses}
 
+-- the state of the desk
 pub record DeskState : Type 0 where
   -- how many activations there were
   pub activations : ℕ

@@ -1,5 +1,5 @@
 -- One event of the desk: what an entry may be after the entries before it, and what it does.
-use Rattle.std.specs.Prelude.{ℕ, Bool, true, false, ◌≡◌, ◌+◌, ◌==◌, ◌&&◌, List, Option, length, bytes_eq, find, MatchOption}
+use Rattle.std.specs.Prelude.{ℕ, Bool, true, false, ◌≡◌, ◌+◌, ◌==◌, ◌&&◌, ◌⊎◌, List, Option, length, bytes_eq, find, MatchOption}
 use Rattle.sms_construct.specs.declared.entry.Entry.{Entry}
 use Rattle.sms_construct.specs.declared.reply.Reply.{Reply}
 use Rattle.sms_construct.specs.declared.reply.Reply.TheVariants.{Reused, Memory}
@@ -32,10 +32,21 @@ pub record IsFresh (s : DeskState) (e : Entry) (after : DeskState) : Type 0 wher
   pub first : e.answer.first ≡ e.answer.place
   pub rule : Rule s e.request.op e.answer.reply after
 
--- the number has a kept reply: an equal op gets it, another op is refused with its place
-pub record IsRepeat (kept e : Entry) : Type 0 where
-  pub same : e.request.op ≡ kept.request.op → (e.answer.reply ≡ kept.answer.reply) × (e.answer.first ≡ kept.answer.place)
-  pub other : (e.request.op ≡ kept.request.op → ⊥) → (e.answer.reply ≡ Reused kept.answer.place) × (e.answer.first ≡ e.answer.place)
+-- the op is equal: the answer is the kept reply, and the place at which it was given
+pub record RepeatsReply (kept e : Entry) : Type 0 where
+  pub same : e.request.op ≡ kept.request.op
+  pub reply_is : e.answer.reply ≡ kept.answer.reply
+  pub first_is : e.answer.first ≡ kept.answer.place
+
+-- the op is another: the number is refused, and the place of the kept reply told
+pub record ReusesNumber (kept e : Entry) : Type 0 where
+  pub other : e.request.op ≡ kept.request.op → ⊥
+  pub reply_is : e.answer.reply ≡ Reused kept.answer.place
+  pub first_is : e.answer.first ≡ e.answer.place
+
+-- the number has a kept reply
+abbrev pub IsRepeat : Entry → Entry → Type 0
+IsRepeat kept e = RepeatsReply kept e ⊎ ReusesNumber kept e
 
 -- the entry is lawful after these entries, which left the desk in the state s, and leaves it in the state after
 pub record IsStep (before : List Entry) (s : DeskState) (e : Entry) (after : DeskState) : Type 0 where

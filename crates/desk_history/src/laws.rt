@@ -9,6 +9,11 @@ ghost use Rattle.desk_history.specs.History.{IsLegal, Reaches};
 ghost use Rattle.desk_history.specs.Grants.{GrantsLawfully};
 ghost use Rattle.desk_history.specs.Tracks.{NoTrackTwice};
 
+/// The entries of a legal history determine the state after it.
+pub fn one_state()
+    ensures { (history : List Entry) (s t : DeskState) → Reaches history s → Reaches history t → s ≡ t }
+{}
+
 /// At no time in a legal history does a track belong to two extents.
 pub fn tracks_held_once()
     ensures { (front : List Entry) (s : DeskState) → Reaches front s → NoTrackTwice (extents_of s.sets) }
@@ -19,10 +24,10 @@ pub fn places_in_order()
     ensures { (front rest : List Entry) (entry : Entry) → IsLegal (front ++ entry ∷ rest) → entry.answer.place ≡ length front + 1 }
 {}
 
-/// In a legal history a number that came before gets its kept reply.
+/// In a legal history a number that came before gets its kept reply, the fresh reply of an earlier entry, or is refused for another op.
 pub fn kept_replies()
     ensures { (front rest : List Entry) (entry kept : Entry) →
-        IsLegal (front ++ entry ∷ rest) → kept_for entry.request.job entry.request.number front ≡ Some kept → IsRepeat kept entry }
+        IsLegal (front ++ entry ∷ rest) → kept_for entry.request.job entry.request.number front ≡ Some kept → IsRepeat kept entry × (kept.answer.first ≡ kept.answer.place) }
 {}
 
 /// In a legal history a grant that isn't a repeat is lawful where it stands.

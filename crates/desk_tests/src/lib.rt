@@ -11,3 +11,5 @@ mod hostile;
 mod repeats;
 #[cfg(test)]
 mod running;
+#[cfg(test)]
+mod stepping;

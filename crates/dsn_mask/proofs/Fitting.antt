@@ -59,7 +59,7 @@ piece_law piece bytes false e = (λ h. absurd (not_both h), λ f. absurd (not_bo
 
 -- qualifiers
 
-are_stars : (p : List ℕ) → is_two_stars p ≡ true → p ≡ two_stars
+pub are_stars : (p : List ℕ) → is_two_stars p ≡ true → p ≡ two_stars
 are_stars [] e = absurd (not_both e)
 are_stars (a ∷ []) e = absurd (not_both e)
 are_stars (a ∷ b ∷ []) e = let parts = both _ _ e in rw (eqb-true a 42 parts.0, eqb-true b 42 parts.1) refl

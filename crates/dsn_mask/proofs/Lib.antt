@@ -5,9 +5,12 @@ pub mod Filtering
 pub mod Fitting
 pub mod Greedy
 pub mod MaskFaults
+pub mod MaskPlaces
+pub mod MaskTexts
 pub mod Parsing
 pub mod Pushed
 pub mod QualifierTurns
 pub mod ShortBytes
 pub mod Split
+pub mod StarRuns
 pub mod Turns

@@ -131,7 +131,7 @@ none_of : (found : Option MaskErr) → is_none found ≡ true → found ≡ None
 none_of None e = refl
 none_of (Some err) e = absurd (not_both e)
 
-clear_there : (dotted : Bool) (bytes : List ℕ) (n k : ℕ) → is_clear_below dotted bytes n ≡ true → k < n → fault_at dotted bytes k ≡ None
+pub clear_there : (dotted : Bool) (bytes : List ℕ) (n k : ℕ) → is_clear_below dotted bytes n ≡ true → k < n → fault_at dotted bytes k ≡ None
 clear_there dotted bytes zero k clear less = absurd (omega arith)
 clear_there dotted bytes (suc n) k clear less =
     let parts = both (is_clear_below dotted bytes n) (is_none (fault_at dotted bytes n)) clear in
@@ -140,7 +140,7 @@ clear_there dotted bytes (suc n) k clear less =
       | inr before ↦ clear_there dotted bytes n k parts.0 before
     ]
 
-false_if : (b : Bool) → (b ≡ true → ⊥) → b ≡ false
+pub false_if : (b : Bool) → (b ≡ true → ⊥) → b ≡ false
 false_if true no_way = absurd (no_way refl)
 false_if false no_way = refl
 
@@ -166,7 +166,7 @@ first_is dotted bytes at err some short less clear found =
 
 -- a text with no fault at its places has none
 
-byte_within : (bytes : List ℕ) (k n : ℕ) → 0 < n → (get_or bytes k 0 == n) ≡ true → k < length bytes
+pub byte_within : (bytes : List ℕ) (k n : ℕ) → 0 < n → (get_or bytes k 0 == n) ≡ true → k < length bytes
 byte_within bytes k n some e =
     elim (order_of (length bytes) k) [ inr less ↦ less | inl past ↦ let none : get_or bytes k 0 ≡ 0 = get_or_past bytes k 0 past in let same : get_or bytes k 0 ≡ n = eqb-true _ _ e in absurd (omega arith) ]
 

@@ -4,6 +4,7 @@ pub mod Fronts
 pub mod Mask
 pub mod MaskFault
 pub mod MaskTest
+pub mod MaskText
 pub mod Name
 pub mod NameFault
 pub mod Names

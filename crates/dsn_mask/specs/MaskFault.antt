@@ -1,12 +1,8 @@
--- The texts of masks, and why a text is none (docs/acs-language.md, "Masks").
+-- Why a text is no mask (docs/acs-language.md, "Masks").
 use Rattle.std.specs.Prelude.{◌≡◌, ◌≤◌, ◌<◌, ◌+◌, ◌-◌, ◌==◌, ◌&&◌, ◌||◌, ℕ, zero, suc, Bool, true, false, not, List, [], length, nat_le, nat_lt, slice_index, Option, None, Some, is_none, if◌then◌else◌}
-use Rattle.dsn_mask.specs.Name.{is_name_byte}
+use Rattle.dsn_mask.specs.MaskText.{is_mask_byte}
 use Rattle.dsn_mask.specs.declared.mask_err.MaskErr.{MaskErr}
 use Rattle.dsn_mask.specs.declared.mask_err.MaskErr.TheVariants.{Empty, TooLong, ThreeStars, StarsNotAlone, BadByte, EmptyPiece}
-
--- A to Z, 0 to 9, #, @, $, -, _, the full stop, % and *
-abbrev pub is_mask_byte : ℕ → Bool
-is_mask_byte byte = is_name_byte byte || (byte == 45 || (byte == 95 || (byte == 46 || (byte == 37 || byte == 42))))
 
 -- a star (42) stands at the place
 abbrev pub is_star_at : List ℕ → ℕ → Bool
@@ -44,7 +40,7 @@ is_bad_byte_at bytes at = nat_lt at (length bytes) && not (is_mask_byte (slice_i
 abbrev pub is_stray_stop : List ℕ → ℕ → Bool
 is_stray_stop bytes at = slice_index bytes at == 46 && (opens_qualifier bytes at || at + 1 == length bytes)
 
--- a fault of a text: a dotted one has qualifiers between its full stops, the other is one piece, in which no full stop is stray and no two stars may stand
+-- a fault of a text that is to be a mask (dotted) or a simple mask
 abbrev pub IsFault : Bool → List ℕ → MaskErr → Type 0
 IsFault dotted bytes Empty = bytes ≡ []
 IsFault dotted bytes TooLong = 64 < length bytes
@@ -53,7 +49,7 @@ IsFault dotted bytes (StarsNotAlone at) = is_misplaced_pair dotted bytes at ≡ 
 IsFault dotted bytes (BadByte at) = is_bad_byte_at bytes at ≡ true
 IsFault dotted bytes (EmptyPiece at) = (dotted && is_stray_stop bytes at) ≡ true
 
--- where a fault is; an empty or too long text has it before all bytes
+-- where a fault is; an empty or too long text has it at place 0, where its number comes first
 abbrev pub place_of : MaskErr → ℕ
 place_of Empty = 0
 place_of TooLong = 0
@@ -79,14 +75,6 @@ ComesFirst err other = (place_of err ≤ place_of other) × (place_of err ≡ pl
 pub record IsFirstFault (dotted : Bool) (bytes : List ℕ) (err : MaskErr) : Type 0 where
   pub met : IsFault dotted bytes err
   pub first : (other : MaskErr) → IsFault dotted bytes other → ComesFirst err other
-
--- a mask is a text with no fault, between whose full stops its qualifiers stand
-abbrev pub IsMask : List ℕ → Type 0
-IsMask bytes = (err : MaskErr) → IsFault true bytes err → ⊥
-
--- a simple mask is a text with no fault, of one piece
-abbrev pub IsSimple : List ℕ → Type 0
-IsSimple bytes = (err : MaskErr) → IsFault false bytes err → ⊥
 
 -- the first fault of a text that is to be a mask
 abbrev pub IsFirstMaskFault : List ℕ → MaskErr → Type 0
@@ -115,11 +103,3 @@ is_clear_below dotted bytes (suc at) = is_clear_below dotted bytes at && is_none
 -- 1 to 64 bytes with no fault at any place
 abbrev pub has_no_fault : Bool → List ℕ → Bool
 has_no_fault dotted bytes = nat_le 1 (length bytes) && (nat_le (length bytes) 64 && is_clear_below dotted bytes (length bytes))
-
--- the mask that the bytes spell, if any
-abbrev pub mask_of : List ℕ → Option (List ℕ)
-mask_of bytes = if has_no_fault true bytes then Some bytes else None
-
--- the simple mask that the bytes spell, if any
-abbrev pub simple_of : List ℕ → Option (List ℕ)
-simple_of bytes = if has_no_fault false bytes then Some bytes else None

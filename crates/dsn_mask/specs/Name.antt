@@ -22,19 +22,19 @@ is_short_byte byte = nat_le 33 byte && (nat_le byte 126 && not (byte == 39))
 abbrev pub is_literal_byte : ℕ → Bool
 is_literal_byte byte = byte == 32 || is_short_byte byte
 
--- one to eight bytes, the first no digit
+-- one to eight of A to Z, 0 to 9, #, $ and @, the first no digit
 abbrev pub IsName : List ℕ → Type 0
 IsName bytes = (1 ≤ length bytes) × (length bytes ≤ 8) × (is_initial (slice_index bytes 0) ≡ true) × AllPass is_name_byte bytes
 
--- one to six bytes
+-- one to six of A to Z, 0 to 9, #, $ and @
 abbrev pub IsVolser : List ℕ → Type 0
 IsVolser bytes = (1 ≤ length bytes) × (length bytes ≤ 6) × AllPass is_name_byte bytes
 
--- at most 44 bytes; the empty one is the null value
+-- at most 44 printed bytes, none a blank or a quote; the empty text is the null value
 abbrev pub IsShort : List ℕ → Type 0
 IsShort bytes = (length bytes ≤ 44) × AllPass is_short_byte bytes
 
--- at most 110 bytes
+-- at most 110 printed bytes or blanks, none a quote
 abbrev pub IsLiteral : List ℕ → Type 0
 IsLiteral bytes = (length bytes ≤ 110) × AllPass is_literal_byte bytes
 

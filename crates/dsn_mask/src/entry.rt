@@ -1,6 +1,6 @@
 //! Entries of filter lists.
-ghost use Rattle.std.specs.Prelude.{◌≡◌, ◌≤◌, ◌↔◌, IsTrue};
-ghost use Rattle.dsn_mask.specs.Filter.{entry_fits};
+ghost use Rattle.std.specs.Prelude.{◌≡◌, ◌+◌, ◌↔◌, IsTrue};
+ghost use Rattle.dsn_mask.specs.Filter.{comparisons_of, entry_fits};
 
 use crate::steps::Steps;
 use crate::{Lit, Mask, Short, Simple};
@@ -33,7 +33,7 @@ impl Entry {
     // Comparing a quoted entry is a step.
     pub(crate) fn fits<L: Ledger>(&self, value: &Short, steps: &mut Steps<L>) -> bool
         ensures fits { result ≡ entry_fits value.now self.now }
-        ensures counted { steps.old ≤ steps.new }
+        ensures counted { steps.new ≡ steps.old + comparisons_of self.now }
     {
         match self {
             Entry::Quoted(literal) => {

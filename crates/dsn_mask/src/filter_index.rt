@@ -71,7 +71,8 @@ impl FilterIndex {
         })
     }
 
-    /// Whether the value passes the lists. The steps are the comparisons with quoted entries.
+    /// Whether the value passes the lists. Each comparison with a quoted entry is meant to be one step; the clauses
+    /// say that the count never falls.
     pub fn has<L: Ledger>(&self, value: &Short, steps: &mut Steps<L>) -> bool
         ensures exact { IsTrue result ↔ PassesFilter value.now self.now.include self.now.exclude }
         ensures value { result ≡ passes_filter value.now self.now.include self.now.exclude }

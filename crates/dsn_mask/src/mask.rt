@@ -2,7 +2,8 @@
 ghost use Rattle.std.specs.Prelude.{◌≡◌, ◌↔◌, IsTrue, Err, MatchResult};
 ghost use Rattle.std.specs.Result.{result_ok};
 ghost use Rattle.dsn_mask.specs.Mask.{MaskFits};
-ghost use Rattle.dsn_mask.specs.MaskFault.{IsMask, IsFirstMaskFault, mask_of};
+ghost use Rattle.dsn_mask.specs.MaskFault.{IsFirstMaskFault};
+ghost use Rattle.dsn_mask.specs.MaskText.{IsMask, mask_of};
 ghost use Rattle.dsn_mask.specs.MaskTest.{mask_fits};
 
 use crate::mask_fault::first_fault;
@@ -19,7 +20,7 @@ pub struct Mask {
 
 impl Model for Mask {
     ghost use Rattle.std.specs.Prelude.{List, ℕ};
-    ghost use Rattle.dsn_mask.specs.MaskFault.{IsMask};
+    ghost use Rattle.dsn_mask.specs.MaskText.{IsMask};
 
     ghost Value = { List ℕ };
 

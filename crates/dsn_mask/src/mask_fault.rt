@@ -1,6 +1,6 @@
 //! The first fault of a text that is to be a mask.
 ghost use Rattle.std.specs.Prelude.{◌≡◌, ◌≤◌, ◌<◌, ◌+◌, ◌&&◌, Some, None, ℕ, true, false, length, MatchOption};
-ghost use Rattle.dsn_mask.specs.MaskFault.{is_mask_byte, is_star_at, is_star_before, is_third_star, is_first_of_two, opens_qualifier, closes_qualifier, is_misplaced_pair, is_stray_stop, fault_at, is_clear_below, has_no_fault, IsFirstFault};
+ghost use Rattle.dsn_mask.specs.MaskFault.{is_star_at, is_star_before, is_third_star, is_first_of_two, opens_qualifier, closes_qualifier, is_misplaced_pair, is_stray_stop, fault_at, has_no_fault, IsFirstFault};
 
 use crate::MaskErr;
 use crate::byte_class::is_mask_byte;

@@ -2,7 +2,8 @@
 ghost use Rattle.std.specs.Prelude.{◌≡◌, ◌↔◌, IsTrue, Err, MatchResult};
 ghost use Rattle.std.specs.Result.{result_ok};
 ghost use Rattle.dsn_mask.specs.Mask.{SimpleFits};
-ghost use Rattle.dsn_mask.specs.MaskFault.{IsSimple, IsFirstSimpleFault, simple_of};
+ghost use Rattle.dsn_mask.specs.MaskFault.{IsFirstSimpleFault};
+ghost use Rattle.dsn_mask.specs.MaskText.{IsSimple, simple_of};
 ghost use Rattle.dsn_mask.specs.MaskTest.{simple_fits};
 
 use crate::mask_fault::first_fault;
@@ -19,7 +20,7 @@ pub struct Simple {
 
 impl Model for Simple {
     ghost use Rattle.std.specs.Prelude.{List, ℕ};
-    ghost use Rattle.dsn_mask.specs.MaskFault.{IsSimple};
+    ghost use Rattle.dsn_mask.specs.MaskText.{IsSimple};
 
     ghost Value = { List ℕ };
 

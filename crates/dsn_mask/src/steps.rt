@@ -5,7 +5,7 @@ use std::marker::Model;
 use std::sync::ledger::{Blank, Book, Ledger, Share};
 
 /// How many steps were taken, as contracts count them; nothing is counted when the program runs. In
-/// this crate a step is one comparison of a value with a quoted entry. A caller that needs no bound
+/// this crate a step is meant to be one comparison of a value with a quoted entry. A caller that needs no bound
 /// hands in a counter of its own, over `Blank::new(1)`.
 #[derive(Drop)]
 pub struct Steps<L: Ledger> {

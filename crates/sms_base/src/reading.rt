@@ -18,6 +18,9 @@ pub fn read_all<S: Source>(alloc: Global, src: &mut S, limit: usize) -> Result<V
     ensures later { S.read_faults src.old ≤ S.read_faults src.new }
     ensures failed { IsErrOf result ReadEnd.Failed
         → Rose (S.read_faults src.old) (S.read_faults src.new) }
+    ensures failed_within { IsErrOf result ReadEnd.Failed
+        → (front : List ℕ) × (length front ≤ limit)
+        × Consumes (S.left src.old) (S.left src.new) front }
     ensures too_long { IsErrOf result ReadEnd.TooLong
         → IfSome (S.left src.old) (λ left. limit < length left) }
     ensures one_more { IsErrOf result ReadEnd.TooLong

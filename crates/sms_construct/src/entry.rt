@@ -3,6 +3,7 @@ ghost use Rattle.std.specs.Prelude.{◌≡◌, IfOk};
 
 use crate::reply::Reply;
 use crate::request::Request;
+use desk_common::Items;
 use std::alloc::{AllocError, Global};
 
 /// A reply with its place in the journal, and the place whose reply this is: its own, or for a repeated
@@ -26,9 +27,15 @@ impl Answer {
     }
 }
 
+/// The answers to the items of a script, in its order.
+pub type Answers = Items<Answer>;
+
 /// A request with its answer: one event of the desk.
 #[derive(Drop)]
 pub struct Entry {
     pub request: Request,
     pub answer: Answer,
 }
+
+/// All events of a desk, in their order.
+pub type Journal = Items<Entry>;

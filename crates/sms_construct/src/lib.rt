@@ -16,7 +16,7 @@ mod target;
 mod volume;
 
 pub use data_set::DataSet;
-pub use entry::{Answer, Entry};
+pub use entry::{Answer, Answers, Entry, Journal};
 pub use extent::{Extent, Extents};
 pub use fault::Fault;
 pub use path::Path;

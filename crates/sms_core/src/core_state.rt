@@ -5,7 +5,8 @@ ghost use Rattle.sms_core.specs.Core.{Enters};
 
 use crate::running::Running;
 use crate::stepping::{Prepared, prepare};
-use sms_construct::{Answer, Entry, Reply, Request};
+use desk_common::Items;
+use sms_construct::{Answer, Entry, Journal, Reply, Request};
 use std::alloc::Global;
 use std::marker::Model;
 
@@ -72,12 +73,12 @@ impl Core {
     }
 
     /// The journal, when the desk closes.
-    pub fn into_parts(self) -> Vec<Entry>
-        ensures entries { result.items ≡ self }
+    pub fn into_parts(self) -> Journal
+        ensures entries { result ≡ self }
         ensures legal { IsLegal self }
     {
         let Core { journal, .. } = self;
-        journal
+        Items::from_vec(journal)
     }
 }
 

@@ -24,20 +24,21 @@ abbrev pub with_first : ℕ → Request → Result (List Item) ScriptErr → Res
 with_first line request (Ok items) = Ok (record { line = line; request = request } ∷ items)
 with_first line request (Err fault) = Err fault
 
--- what a command line gives, with what the lines behind it give: as lines of their own, or as those of a deck block
+-- no command: a fault. A request: it, and then what the lines behind it give. ACTIVATE: the activation of its deck, and then
+-- what the lines behind the ./END give; without an ./END, a fault
 abbrev pub with_command : ℕ → Option Command → Option (List ℕ) → (Bool → Result (List Item) ScriptErr) → Result (List Item) ScriptErr
 with_command line None deck others = Err (NotBuilt line)
 with_command line (Some (Whole request)) deck others = with_first line request (others false)
 with_command line (Some (Activate number)) None others = Err (OpenBlock line)
 with_command line (Some (Activate number)) (Some deck) others = with_first line (activation number deck) (others true)
 
--- the items of the lines from this number on, or the first fault; the first of them may stand inside of a deck block
+-- the items of the lines from this number on, or the first fault; the first of them may stand in a deck block
 abbrev pub script_from : Bool → ℕ → List (List ℕ) → Result (List Item) ScriptErr
-script_from inside line [] = Ok []
+script_from in_block line [] = Ok []
 script_from true line (first ∷ lines) = script_from (not (is_block_end first)) (line + 1) lines
 script_from false line (first ∷ lines) =
     if is_skipped (text_of_line first) then script_from false (line + 1) lines
-    else with_command line (command_of (text_of_line first)) (deck_of lines) (λ inside. script_from inside (line + 1) lines)
+    else with_command line (command_of (text_of_line first)) (deck_of lines) (λ in_block. script_from in_block (line + 1) lines)
 
 -- the items of a script, or its first fault
 abbrev pub script_of : List ℕ → Result (List Item) ScriptErr

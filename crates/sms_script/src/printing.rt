@@ -3,7 +3,7 @@ ghost use Rattle.std.specs.Prelude.{◌≡◌, ◌++◌, ◌∷◌, [], length, 
 ghost use Rattle.sms_script.specs.FaultText.{fault_text};
 ghost use Rattle.sms_script.specs.AnswerText.{class_text, end_text, extent_text, further_lines, head_text, indented, item_text, name_text, reply_text, text_of};
 
-use crate::item::Item;
+use crate::item::{Item, Script};
 use dsn_mask::Name;
 use sms_construct::{Answer, DataSet, Extent, Fault, Reply};
 use std::alloc::{AllocError, Global};
@@ -11,18 +11,30 @@ use std::alloc::{AllocError, Global};
 /// The lines of all items, each with its answer, and the last line with the number of entries of the desk.
 pub fn print(
     alloc: Global,
-    script: &[Item],
+    script: &Script,
     answers: &[Answer],
     entries: u64,
 ) -> Result<Vec<u8>, AllocError>
     requires { length answers.now ≡ length script.now }
     ensures { IfOk result (λ text. text.items ≡ text_of script.now answers.now entries) }
 {
+    print_items(alloc, script.as_slice(), answers, entries)
+}
+
+fn print_items(
+    alloc: Global,
+    items: &[Item],
+    answers: &[Answer],
+    entries: u64,
+) -> Result<Vec<u8>, AllocError>
+    requires { length answers.now ≡ length items.now }
+    ensures { IfOk result (λ text. text.items ≡ text_of items.now answers.now entries) }
+{
     let mut text = Vec::new(alloc);
-    for (at, item) in script.iter().enumerate() {
+    for (at, item) in items.iter().enumerate() {
         push_item(alloc, &mut text, item, &answers[at])?;
     }
-    push_end(alloc, &mut text, entries, script.len() as u64)?;
+    push_end(alloc, &mut text, entries, items.len() as u64)?;
     Ok(text)
 }
 

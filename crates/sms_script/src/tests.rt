@@ -229,7 +229,7 @@ fn printed(alloc: Global, reply: Reply) -> Result<Vec<u8>, Fail> {
     if script.len() != answers.len() {
         return Ok(Vec::new(alloc));
     }
-    Ok(print(alloc, script.as_slice(), &answers, 31)?)
+    Ok(print(alloc, &script, &answers, 31)?)
 }
 
 #[test]
@@ -289,7 +289,7 @@ fn each_reply_has_its_text(rt: HostRuntime) -> Result<(), Fail> {
 
 #[test]
 fn no_items_are_printed_as_the_last_line_alone(rt: HostRuntime) -> Result<(), Fail> {
-    let found = print(rt.alloc(), &[], &[], 0)?;
+    let found = print(rt.alloc(), &Items::new(rt.alloc()), &[], 0)?;
     assert_eq!(rt; found.as_slice(), b"END 0 0\n".as_slice());
     Ok(())
 }
@@ -312,7 +312,7 @@ fn the_items_stand_in_the_order_of_their_lines(rt: HostRuntime) -> Result<(), Fa
         reply: Reply::NoVolume,
     })?;
     assert_eq!(rt; script.len(), answers.len());
-    let found = print(alloc, script.as_slice(), &answers, 2)?;
+    let found = print(alloc, &script, &answers, 2)?;
     let wanted = "1 1 1 SMSADMIN 1 A04 ACTIVATED 1\n10 2 2 JOB1 1 R18 NO VOLUME\nEND 2 2\n";
     assert_eq!(rt; found.as_slice(), wanted.as_bytes());
     Ok(())

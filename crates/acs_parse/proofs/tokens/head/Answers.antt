@@ -1,0 +1,7 @@
+use Rattle.std.proofs.Common.{arith}
+use Rattle.std.proofs.lemmas.Grind.{common_steps}
+use Rattle.acs_parse.proofs.ShapeLemmas.{headed_word}
+use Rattle.acs_parse.proofs.tokens.head.Goals as goal
+
+pub returns-in-Some-Word-default : goal.returns-in-Some-Word-default
+returns-in-Some-Word-default c = headed_word {kind = c.in-Some-Word-default.field-0-0-0} (grind (arith, common_steps)) (grind (arith, common_steps))

@@ -1,0 +1,7 @@
+pub mod Symbols
+pub mod Wants
+pub mod Grammar
+pub mod Places
+pub mod Table
+pub mod Language
+pub mod Reads

@@ -1,0 +1,62 @@
+-- What a reader of the parser says of its answer.
+use Rattle.std.specs.Prelude.{◌≡◌, ◌⊎◌, ℕ, suc, Bool, true, false, List, [], ◌∷◌, ◌++◌, length, Result, Ok, Err}
+use Rattle.acs_tree.specs.declared.routine.Operand.{Operand}
+use Rattle.acs_tree.specs.declared.routine.Routine.{Routine}
+use Rattle.acs_parse.specs.declared.list_kind.ListKind.{ListKind}
+use Rattle.acs_parse.specs.declared.list_kind.ListKind.TheVariants as list
+use Rattle.acs_parse.specs.declared.symbol.Symbol.{Symbol}
+use Rattle.acs_parse.specs.declared.symbol.Symbol.TheVariants.{Open, Close, Comma}
+use Rattle.acs_parse.specs.declared.want.Want.{Want}
+use Rattle.acs_parse.specs.declared.fault.Fault.{Fault}
+use Rattle.acs_parse.specs.declared.fault.Fault.TheVariants.{Unexpected, Ended, Deep, NoMemory}
+use Rattle.acs_parse.specs.Grammar.{starts, joins, limited, IsOperands, IsRoutineOf}
+use Rattle.acs_parse.specs.Language.{Takes}
+use Rattle.acs_parse.specs.Table.{Effect, Part, One, start, Verdict, Short, Stop, TooMany, verdict}
+
+abbrev pub Fails : Fault → Verdict → Type 0
+Fails (Unexpected left) v = v ≡ Stop left
+Fails Ended v = v ≡ Short
+Fails (Deep left) v = v ≡ TooMany left
+Fails NoMemory v = Unit {0}
+
+-- the table fails so at these parts, whatever is to be read behind them
+abbrev pub FailsAt : Fault → List Part → ℕ → List Symbol → Type 0
+FailsAt e s n ts = (k : List Part) → Fails e (verdict limited (s ++ k) n ts)
+
+-- it read what it says, or the table fails there too
+abbrev pub Parses : {X : Type 0} → (X → Type 0) → List Part → ℕ → List Symbol → Result X Fault → Type 0
+Parses P s n ts (Ok x) = P x
+Parses P s n ts (Err e) = FailsAt e s n ts
+
+-- the same, however many are open
+abbrev pub Reads : {X : Type 0} → (X → Type 0) → List Part → List Symbol → Result X Fault → Type 0
+Reads P s ts (Ok x) = P x
+Reads P s ts (Err e) = (n : ℕ) → FailsAt e s n ts
+
+-- the same for one token, whatever it does to the number that are open
+abbrev pub ReadsOne : {X : Type 0} → (X → Type 0) → Want → List Symbol → Result X Fault → Type 0
+ReadsOne P w ts (Ok x) = P x
+ReadsOne P w ts (Err e) = (f : Effect) (n : ℕ) → FailsAt e (One w f ∷ []) n ts
+
+-- one more opens where n are open, or one too many at these tokens
+abbrev pub Opens : ℕ → List Symbol → Result ℕ Fault → Type 0
+Opens n ts (Ok m) = (limited n ≡ true) × (m ≡ suc n)
+Opens n ts (Err e) = (limited n ≡ false) × (e ≡ Deep (length ts))
+
+-- the wanted token is passed, or another stands and nothing is
+abbrev pub Skips : Want → List Symbol → List Symbol → Bool → Type 0
+Skips w ts ms true = Takes w ts ms
+Skips w ts ms false = (starts w ts ≡ false) × (ms ≡ ts)
+
+-- the next operand of a list begins here: behind a comma, or at once
+abbrev pub GoesOn : ListKind → List Symbol → List Symbol → Type 0
+GoesOn kind ts behind = (ts ≡ Comma ∷ behind) ⊎ ((t : Symbol) × (ms : List Symbol) × (ts ≡ t ∷ ms) × (joins kind t ≡ true) × (behind ≡ ts))
+
+-- a list of entries in parentheses
+abbrev pub IsEntries : ℕ → List Symbol → List Operand → List Symbol → Type 0
+IsEntries total ts os rest = (ms : List Symbol) × (ts ≡ Open ∷ ms) × IsOperands total list.Entries ms os (Close ∷ rest)
+
+-- the whole of the tokens
+abbrev pub Whole : ℕ → List Symbol → Result Routine Fault → Type 0
+Whole total ts (Ok tree) = IsRoutineOf total limited ts tree
+Whole total ts (Err e) = Fails e (verdict limited start 0 ts)

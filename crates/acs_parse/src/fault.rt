@@ -1,0 +1,39 @@
+// Why tokens are no routine.
+ghost use Rattle.std.specs.Prelude.{◌≡◌};
+
+use std::alloc::{AllocError, AllocFailed};
+use thiserror::Error;
+
+/// Why a list of tokens has no tree, with the place of the token that shows it, counted from 0
+/// (docs/acs-language.md, Places of faults).
+#[derive(Clone, Copy, Debug, PartialEq, Eq, Error)]
+pub enum ParseErr {
+    #[error("token {0} can't follow the tokens before it")]
+    Unexpected(u32),
+    #[error("the routine ends too early")]
+    Ended,
+    #[error("token {0} opens the 201st nesting")]
+    Deep(u32),
+    #[error("out of memory")]
+    NoMemory,
+}
+
+/// Why reading ended. A number says how many tokens were left, the one that shows the fault among
+/// them.
+#[derive(Clone, Copy)]
+pub enum Fault {
+    Unexpected(usize),
+    Ended,
+    Deep(usize),
+    NoMemory,
+}
+
+impl From<AllocError> for Fault {
+    ghost use Rattle.acs_parse.specs.declared.fault.Fault.TheVariants.{NoMemory};
+
+    ghost from_gives = { λ _ e. e ≡ NoMemory };
+
+    fn from(_error: AllocError) -> Fault {
+        Fault::NoMemory
+    }
+}

@@ -1,0 +1,20 @@
+//! The parser of ACS routines: the one tree of a list of tokens, or the place of the first token
+//! after which no routine can follow (docs/acs-language.md, Grammar).
+#![tactic(auto)]
+
+mod conditions;
+mod fault;
+mod keyword;
+mod laws;
+mod list_kind;
+mod lists;
+mod symbol;
+mod tokens;
+mod want;
+
+pub use fault::ParseErr;
+pub use keyword::{sign, word_kind};
+pub use laws::{one_answer, one_tree};
+pub use list_kind::ListKind;
+pub use symbol::{Symbol, WordKind};
+pub use want::Want;

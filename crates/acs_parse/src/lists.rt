@@ -1,0 +1,178 @@
+// Readers of variables, operands and lists. Each is passed the tokens that are left, and moves on
+// past what it reads.
+ghost use Rattle.std.specs.Prelude.{◌≡◌, ◌∷◌, [], true};
+ghost use Rattle.acs_parse.specs.declared.want.Want.TheVariants as want;
+ghost use Rattle.acs_parse.specs.Grammar.{starts, IsIndex, IsRef, IsOperand, IsOperands, IsExclude, IsLists, IsFilter, IsCode};
+ghost use Rattle.acs_parse.specs.Table.{AnOperand, MoreOperands, ARef, OrIndex, OrCode, Lists, OrExclude, AnItem, entries};
+ghost use Rattle.acs_parse.specs.Reads.{Reads, IsEntries};
+
+use crate::fault::Fault;
+use crate::list_kind::ListKind;
+use crate::symbol::{Symbol, WordKind};
+use crate::tokens::{expect, further, list_name, number, place, skip, word};
+use crate::want::Want;
+use acs_tree::{Form, Ident, Operand, OperandForm, Operands, Ref, Stmt, with_operand};
+use std::alloc::Global;
+
+/// A variable and its index.
+#[tactic(auto, using(crate::proofs::OperandLemmas::ref_at, crate::proofs::OperandLemmas::ref_index_fails))]
+pub fn variable(total: u32, rest: &mut &[Symbol]) -> Result<Ref, Fault>
+    ensures { Reads (λ found. IsRef total rest.old.now found rest.new.now) (ARef ∷ []) rest.old.now result }
+{
+    let at = place(total, rest);
+    match rest.split_first() {
+        None => Err(Fault::Ended),
+        Some((Symbol::Variable(name), behind)) => {
+            *rest = behind;
+            let (index, index_at) = index(total, rest)?;
+            Ok(Ref {
+                at,
+                name: *name,
+                index,
+                index_at,
+            })
+        }
+        Some(_) => Err(Fault::Unexpected(rest.len())),
+    }
+}
+
+#[tactic(auto, using(crate::proofs::OperandLemmas::index_none, crate::proofs::OperandLemmas::index_some, crate::proofs::OperandLemmas::index_number_fails, crate::proofs::OperandLemmas::index_close_fails))]
+fn index(total: u32, rest: &mut &[Symbol]) -> Result<(Option<Ident>, u32), Fault>
+    ensures { Reads (λ x. IsIndex total rest.old.now x.0 x.1 rest.new.now) (OrIndex ∷ []) rest.old.now result }
+{
+    if !skip(Want::Open, rest) {
+        return Ok((None, 0));
+    }
+    let at = place(total, rest);
+    let text = number(rest)?;
+    expect(Want::Close, rest)?;
+    Ok((Some(text), at))
+}
+
+/// An operand of such a list.
+#[tactic(auto, using(crate::proofs::OperandLemmas::operand_literal, crate::proofs::OperandLemmas::operand_word, crate::proofs::OperandLemmas::operand_variable, crate::proofs::OperandLemmas::operand_variable_fails))]
+pub fn operand(total: u32, kind: ListKind, rest: &mut &[Symbol]) -> Result<Operand, Fault>
+    ensures { Reads (λ found. IsOperand total kind rest.old.now found rest.new.now) (AnOperand kind ∷ []) rest.old.now result }
+{
+    let at = place(total, rest);
+    match rest.split_first() {
+        None => Err(Fault::Ended),
+        Some((Symbol::Literal(text), behind)) => {
+            *rest = behind;
+            let form = OperandForm::Literal(*text);
+            Ok(Operand { at, form })
+        }
+        Some((Symbol::Word(_, text), behind)) if kind.takes_words() => {
+            *rest = behind;
+            let form = OperandForm::Word(*text);
+            Ok(Operand { at, form })
+        }
+        Some((Symbol::Variable(_), _)) if kind.takes_variables() => {
+            let form = OperandForm::Var(variable(total, rest)?);
+            Ok(Operand { at, form })
+        }
+        Some(_) => Err(Fault::Unexpected(rest.len())),
+    }
+}
+
+/// A list of such operands, at least one.
+#[tactic(auto, using(crate::proofs::OperandLemmas::list_first, crate::proofs::OperandLemmas::list_turn, crate::proofs::OperandLemmas::list_over, crate::proofs::OperandLemmas::list_fails_first, crate::proofs::OperandLemmas::list_fails))]
+pub fn operands(
+    alloc: Global,
+    total: u32,
+    kind: ListKind,
+    rest: &mut &[Symbol],
+) -> Result<Operands, Fault>
+    ensures { Reads (λ list. IsOperands total kind rest.old.now list rest.new.now) (AnOperand kind ∷ MoreOperands kind ∷ []) rest.old.now result }
+{
+    // The check has to see the types inside the list's items.
+    let _seen: Option<(OperandForm, Ref)> = None;
+    let first = operand(total, kind, rest)?;
+    let mut list = with_operand(Operands::new(alloc), first)?;
+    'more: while let Some(behind) = further(kind, rest) {
+        *rest = behind;
+        let next = operand(total, kind, rest)?;
+        list = with_operand(list, next)?;
+    }
+    Ok(list)
+}
+
+/// Entries in parentheses.
+#[tactic(auto, using(crate::proofs::OperandLemmas::entries_at, crate::proofs::OperandLemmas::entries_open_fails, crate::proofs::OperandLemmas::entries_list_fails, crate::proofs::OperandLemmas::entries_close_fails))]
+fn entries(alloc: Global, total: u32, rest: &mut &[Symbol]) -> Result<Operands, Fault>
+    ensures { Reads (λ list. IsEntries total rest.old.now list rest.new.now) entries rest.old.now result }
+{
+    expect(Want::Open, rest)?;
+    let list = operands(alloc, total, ListKind::Entries, rest)?;
+    expect(Want::Close, rest)?;
+    Ok(list)
+}
+
+#[tactic(auto, using(crate::proofs::OperandLemmas::exclude_none, crate::proofs::OperandLemmas::exclude_some, crate::proofs::OperandLemmas::exclude_fails))]
+fn exclude(alloc: Global, total: u32, rest: &mut &[Symbol]) -> Result<Operands, Fault>
+    ensures { Reads (λ list. IsExclude total rest.old.now list rest.new.now) (OrExclude ∷ []) rest.old.now result }
+{
+    if !skip(Want::Exclude, rest) {
+        return Ok(Operands::new(alloc));
+    }
+    let list = entries(alloc, total, rest)?;
+    Ok(list)
+}
+
+/// The entries of INCLUDE and those of EXCLUDE.
+#[tactic(auto, using(crate::proofs::OperandLemmas::lists_including, crate::proofs::OperandLemmas::lists_excluding, crate::proofs::OperandLemmas::include_fails, crate::proofs::OperandLemmas::include_exclude_fails, crate::proofs::OperandLemmas::excluding_fails))]
+fn lists(alloc: Global, total: u32, rest: &mut &[Symbol]) -> Result<(Operands, Operands), Fault>
+    ensures { Reads (λ x. IsLists total rest.old.now x.0 x.1 rest.new.now) (Lists ∷ []) rest.old.now result }
+{
+    match rest.split_first() {
+        None => Err(Fault::Ended),
+        Some((Symbol::Word(WordKind::Include, _), behind)) => {
+            *rest = behind;
+            let include = entries(alloc, total, rest)?;
+            let exclude = exclude(alloc, total, rest)?;
+            Ok((include, exclude))
+        }
+        Some((Symbol::Word(WordKind::Exclude, _), behind)) => {
+            *rest = behind;
+            let exclude = entries(alloc, total, rest)?;
+            Ok((Operands::new(alloc), exclude))
+        }
+        Some(_) => Err(Fault::Unexpected(rest.len())),
+    }
+}
+
+/// A filter list, where its word stands.
+#[tactic(auto, using(crate::proofs::OperandLemmas::filter_at, crate::proofs::OperandLemmas::filter_word_fails, crate::proofs::OperandLemmas::filter_name_fails, crate::proofs::OperandLemmas::filter_lists_fails))]
+pub fn filter_list(alloc: Global, total: u32, rest: &mut &[Symbol]) -> Result<Stmt, Fault>
+    requires { starts want.FiltList rest.old.now ≡ true }
+    ensures { Reads (λ found. IsFilter total rest.old.now found rest.new.now) (AnItem true ∷ []) rest.old.now result }
+{
+    let at = place(total, rest);
+    expect(Want::FiltList, rest)?;
+    let name_at = place(total, rest);
+    let name = list_name(rest)?;
+    let (include, exclude) = lists(alloc, total, rest)?;
+    let form = Form::Filt {
+        name,
+        name_at,
+        include,
+        exclude,
+    };
+    Ok(Stmt { at, form })
+}
+
+/// The code of an EXIT, if it has one.
+#[tactic(auto, using(crate::proofs::OperandLemmas::code_none, crate::proofs::OperandLemmas::code_some, crate::proofs::OperandLemmas::code_open_fails, crate::proofs::OperandLemmas::code_word_fails, crate::proofs::OperandLemmas::code_close_fails))]
+pub fn exit_code(total: u32, rest: &mut &[Symbol]) -> Result<Option<Operand>, Fault>
+    ensures { Reads (λ found. IsCode total rest.old.now found rest.new.now) (OrCode ∷ []) rest.old.now result }
+{
+    if !skip(Want::Code, rest) {
+        return Ok(None);
+    }
+    expect(Want::Open, rest)?;
+    let at = place(total, rest);
+    let text = word(rest)?;
+    expect(Want::Close, rest)?;
+    let form = OperandForm::Word(text);
+    Ok(Some(Operand { at, form }))
+}
