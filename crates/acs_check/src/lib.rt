@@ -14,3 +14,6 @@ mod statements;
 
 pub use acs_tree::CheckErr;
 pub use checker::check;
+
+#[cfg(test)]
+mod tests;
