@@ -5,7 +5,7 @@ ghost use Rattle.acs_check.specs.CheckNumber.{number_of};
 /// The thirteen checks (docs/acs-language.md, Checks).
 #[derive(Clone, Copy)]
 pub enum CheckName {
-    /// The head is another kind's.
+    /// The head is not the name of the kind's variable.
     WrongHead,
     /// An unknown variable.
     UnknownVariable,

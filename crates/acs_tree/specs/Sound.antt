@@ -12,7 +12,7 @@ use Rattle.acs_tree.specs.Variables.{variable_of, name_of}
 
 -- the checks: each gives the token at which a node breaks it, if it does
 
--- 1: the head is another kind's
+-- 1: the head is not the name of the kind's variable
 abbrev pub wrong_head : Kind → Node → Option ℕ
 wrong_head kind (Head name at) = token_if (not (bytes_eq name (name_of kind))) at
 wrong_head kind _ = None
