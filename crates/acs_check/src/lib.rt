@@ -16,4 +16,8 @@ pub use acs_tree::CheckErr;
 pub use checker::check;
 
 #[cfg(test)]
+mod test_rows;
+#[cfg(test)]
+mod test_trees;
+#[cfg(test)]
 mod tests;
