@@ -1,7 +1,7 @@
 -- The answers exclude one another, and one of them is right.
 use Rattle.std.proofs.Common.{◌≡◌, ℕ, zero, suc, ◌+◌, ◌-◌, ◌<◌, ◌≤◌, Bool, true, false, cond, ◌&&◌, List, [], ◌∷◌, ◌++◌, length, take, drop, refl, ap, sym, ◌∙◌, subst, arith, append_assoc}
 use Rattle.acs_tree.specs.declared.routine.Routine.{Routine}
-use Rattle.acs_parse.specs.declared.symbol.Symbol.{Symbol}
+use Rattle.acs_symbol.specs.declared.symbol.Symbol.{Symbol}
 use Rattle.acs_parse.specs.Grammar.{limited, unlimited, back, IsRoutine, no_number, no_exclude, no_branch, no_when, no_or, no_and, no_further, no_index, no_code}
 use Rattle.acs_parse.specs.Places.{Begins, IsFirstWrong, IsTooDeep, HasAnswer, tree, wrong, deep, early}
 use Rattle.acs_parse.specs.Table.{Part, OrNumber, OrExclude, OrBranch, MoreWhens, MoreOrs, MoreAnds, MoreOperands, OrIndex, OrCode, Back, start, Step, Go, No, Many, step, may_be_empty, all_empty, Verdict, Complete, Short, Stop, TooMany, next, verdict, is_over}

@@ -7,10 +7,10 @@ use Rattle.acs_tree.specs.declared.routine.Operand.{Operand}
 use Rattle.acs_tree.specs.declared.routine.Form.TheVariants as form
 use Rattle.acs_parse.specs.declared.list_kind.ListKind.{ListKind}
 use Rattle.acs_parse.specs.declared.list_kind.ListKind.TheVariants as list
-use Rattle.acs_parse.specs.declared.symbol.WordKind.{WordKind}
-use Rattle.acs_parse.specs.declared.symbol.WordKind.TheVariants as word
-use Rattle.acs_parse.specs.declared.symbol.Symbol.{Symbol}
-use Rattle.acs_parse.specs.declared.symbol.Symbol.TheVariants.{Word, Variable, Literal, Open, Close}
+use Rattle.acs_symbol.specs.declared.symbol.WordKind.{WordKind}
+use Rattle.acs_symbol.specs.declared.symbol.WordKind.TheVariants as word
+use Rattle.acs_symbol.specs.declared.symbol.Symbol.{Symbol}
+use Rattle.acs_symbol.specs.declared.symbol.Symbol.TheVariants.{Word, Variable, Literal, Open, Close}
 use Rattle.acs_parse.specs.declared.want.Want.{Want}
 use Rattle.acs_parse.specs.declared.want.Want.TheVariants as want
 use Rattle.acs_parse.specs.declared.fault.Fault.{Fault}

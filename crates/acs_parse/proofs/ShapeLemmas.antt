@@ -1,10 +1,10 @@
 -- The rules of the grammar, for tokens that are known by an equation.
 use Rattle.std.proofs.Common.{◌≡◌, ℕ, suc, true, false, cond, List, [], ◌∷◌, length, refl, ap, subst}
 use Rattle.acs_tree.specs.declared.routine.Compare.{Compare}
-use Rattle.acs_parse.specs.declared.symbol.WordKind.{WordKind}
-use Rattle.acs_parse.specs.declared.symbol.WordKind.TheVariants as word
-use Rattle.acs_parse.specs.declared.symbol.Symbol.{Symbol}
-use Rattle.acs_parse.specs.declared.symbol.Symbol.TheVariants.{Word, Variable, Operator}
+use Rattle.acs_symbol.specs.declared.symbol.WordKind.{WordKind}
+use Rattle.acs_symbol.specs.declared.symbol.WordKind.TheVariants as word
+use Rattle.acs_symbol.specs.declared.symbol.Symbol.{Symbol}
+use Rattle.acs_symbol.specs.declared.symbol.Symbol.TheVariants.{Word, Variable, Operator}
 use Rattle.acs_parse.specs.declared.want.Want.{Want}
 use Rattle.acs_parse.specs.declared.want.Want.TheVariants as want
 use Rattle.acs_parse.specs.Wants.{fits}

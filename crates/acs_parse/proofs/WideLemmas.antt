@@ -1,9 +1,9 @@
 -- Without the limit the table does the same, and goes on where the limit stops it.
 use Rattle.std.proofs.Common.{◌≡◌, ℕ, Bool, true, false, cond, List, [], ◌∷◌, ◌++◌, refl, ap, sym, subst}
 use Rattle.acs_parse.specs.declared.list_kind.ListKind.{ListKind}
-use Rattle.acs_parse.specs.declared.symbol.WordKind.TheVariants as word
-use Rattle.acs_parse.specs.declared.symbol.Symbol.{Symbol}
-use Rattle.acs_parse.specs.declared.symbol.Symbol.TheVariants.{Word, Variable, Literal, Open}
+use Rattle.acs_symbol.specs.declared.symbol.WordKind.TheVariants as word
+use Rattle.acs_symbol.specs.declared.symbol.Symbol.{Symbol}
+use Rattle.acs_symbol.specs.declared.symbol.Symbol.TheVariants.{Word, Variable, Literal, Open}
 use Rattle.acs_parse.specs.declared.want.Want.TheVariants as want
 use Rattle.acs_parse.specs.Wants.{fits}
 use Rattle.acs_parse.specs.Grammar.{limited, unlimited, takes_words, takes_variables, joins}

@@ -5,7 +5,7 @@ use Rattle.acs_tree.specs.declared.routine.Operand.{Operand}
 use Rattle.acs_tree.specs.declared.routine.Cond.{Cond}
 use Rattle.acs_tree.specs.declared.routine.When.{When}
 use Rattle.acs_tree.specs.declared.routine.Stmt.{Stmt}
-use Rattle.acs_parse.specs.declared.symbol.Symbol.{Symbol}
+use Rattle.acs_symbol.specs.declared.symbol.Symbol.{Symbol}
 use Rattle.acs_parse.specs.declared.want.Want.{Want}
 use Rattle.acs_parse.specs.Wants.{fits}
 use Rattle.acs_parse.specs.Grammar.{back, IsIndex, IsRef, IsOperand, IsFurther, IsExclude, IsLists, IsCode, IsCond, IsOrs, IsConj, IsAnds, IsPrim, IsStmt, IsBranch, IsChoice, IsWhen, IsWhens, IsBlock, IsItem, IsOrNumber}

@@ -1,4 +1,3 @@
-pub mod Symbols
 pub mod Wants
 pub mod Grammar
 pub mod Places

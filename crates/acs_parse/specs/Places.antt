@@ -2,7 +2,7 @@
 -- (docs/acs-language.md, Places of faults).
 use Rattle.std.specs.Prelude.{ℕ, ◌<◌, ◌+◌, Bool, List, ◌++◌, length, take}
 use Rattle.acs_tree.specs.declared.routine.Routine.{Routine}
-use Rattle.acs_parse.specs.declared.symbol.Symbol.{Symbol}
+use Rattle.acs_symbol.specs.declared.symbol.Symbol.{Symbol}
 use Rattle.acs_parse.specs.Grammar.{limited, unlimited, IsRoutine}
 
 -- the tokens are the front of some routine's tokens; no more is open than may be

@@ -4,8 +4,8 @@ use Rattle.acs_tree.specs.declared.routine.Operand.{Operand}
 use Rattle.acs_tree.specs.declared.routine.Routine.{Routine}
 use Rattle.acs_parse.specs.declared.list_kind.ListKind.{ListKind}
 use Rattle.acs_parse.specs.declared.list_kind.ListKind.TheVariants as list
-use Rattle.acs_parse.specs.declared.symbol.Symbol.{Symbol}
-use Rattle.acs_parse.specs.declared.symbol.Symbol.TheVariants.{Open, Close, Comma}
+use Rattle.acs_symbol.specs.declared.symbol.Symbol.{Symbol}
+use Rattle.acs_symbol.specs.declared.symbol.Symbol.TheVariants.{Open, Close, Comma}
 use Rattle.acs_parse.specs.declared.want.Want.{Want}
 use Rattle.acs_parse.specs.declared.fault.Fault.{Fault}
 use Rattle.acs_parse.specs.declared.fault.Fault.TheVariants.{Unexpected, Ended, Deep, NoMemory}

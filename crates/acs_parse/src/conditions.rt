@@ -9,9 +9,9 @@ ghost use Rattle.acs_parse.specs.Reads.{Reads, Parses};
 use crate::fault::Fault;
 use crate::list_kind::ListKind;
 use crate::lists::{operand, variable};
-use crate::symbol::Symbol;
 use crate::tokens::{begins, closed, expect, opened, operator, place};
 use crate::want::Want;
+use acs_symbol::Symbol;
 use acs_tree::Cond;
 use std::alloc::Global;
 

@@ -1,7 +1,7 @@
 // The laws of the grammar and of the places of faults.
 ghost use Rattle.std.specs.Prelude.{◌≡◌, ℕ, Bool, List};
 ghost use Rattle.acs_tree.specs.declared.routine.Routine.{Routine};
-ghost use Rattle.acs_parse.specs.declared.symbol.Symbol.{Symbol};
+ghost use Rattle.acs_symbol.specs.declared.symbol.Symbol.{Symbol};
 ghost use Rattle.acs_parse.specs.Grammar.{limited, IsRoutine};
 ghost use Rattle.acs_parse.specs.Places.{IsFirstWrong, IsTooDeep, EndsEarly, HasAnswer};
 

@@ -4,17 +4,13 @@
 
 mod conditions;
 mod fault;
-mod keyword;
 mod laws;
 mod list_kind;
 mod lists;
-mod symbol;
 mod tokens;
 mod want;
 
 pub use fault::ParseErr;
-pub use keyword::{sign, word_kind};
 pub use laws::{one_answer, one_tree};
 pub use list_kind::ListKind;
-pub use symbol::{Symbol, WordKind};
 pub use want::Want;

@@ -2,7 +2,7 @@
 ghost use Rattle.std.specs.Prelude.{◌≡◌};
 ghost use Rattle.acs_parse.specs.Grammar.{takes_words, takes_variables, joins, may_begin};
 
-use crate::symbol::Symbol;
+use acs_symbol::Symbol;
 
 /// A list: the values of SET, the items of a WHEN, the parts of a WRITE, or the entries of a filter
 /// list (docs/acs-language.md, Grammar).

@@ -8,9 +8,9 @@ ghost use Rattle.acs_parse.specs.Reads.{Reads, IsEntries};
 
 use crate::fault::Fault;
 use crate::list_kind::ListKind;
-use crate::symbol::{Symbol, WordKind};
 use crate::tokens::{expect, further, list_name, number, place, skip, word};
 use crate::want::Want;
+use acs_symbol::{Symbol, WordKind};
 use acs_tree::{Form, Ident, Operand, OperandForm, Operands, Ref, Stmt, with_operand};
 use std::alloc::Global;
 

@@ -1,10 +1,10 @@
 // Readers of one token each. Each is passed the tokens that are left, and moves on past what it
 // reads.
 ghost use Rattle.std.specs.Prelude.{◌≡◌, ◌∷◌, false, MatchOption};
-ghost use Rattle.acs_parse.specs.declared.symbol.Symbol.{Symbol};
-ghost use Rattle.acs_parse.specs.declared.symbol.Symbol.TheVariants.{Word};
-ghost use Rattle.acs_parse.specs.declared.symbol.WordKind.{WordKind};
-ghost use Rattle.acs_parse.specs.declared.symbol.WordKind.TheVariants as word;
+ghost use Rattle.acs_symbol.specs.declared.symbol.Symbol.{Symbol};
+ghost use Rattle.acs_symbol.specs.declared.symbol.Symbol.TheVariants.{Word};
+ghost use Rattle.acs_symbol.specs.declared.symbol.WordKind.{WordKind};
+ghost use Rattle.acs_symbol.specs.declared.symbol.WordKind.TheVariants as word;
 ghost use Rattle.acs_parse.specs.declared.want.Want.TheVariants as want;
 ghost use Rattle.acs_parse.specs.Grammar.{starts, place_in, back, goes_on, IsOperator, IsListName, IsHead};
 ghost use Rattle.acs_parse.specs.Language.{Takes};
@@ -12,8 +12,8 @@ ghost use Rattle.acs_parse.specs.Reads.{ReadsOne, Opens, Skips, GoesOn};
 
 use crate::fault::Fault;
 use crate::list_kind::ListKind;
-use crate::symbol::{Symbol, WordKind};
 use crate::want::Want;
+use acs_symbol::{Symbol, WordKind};
 use acs_tree::{Compare, Ident};
 
 /// The most constructs that may be open at once (docs/acs-language.md, Nesting).

@@ -2,7 +2,7 @@
 ghost use Rattle.std.specs.Prelude.{◌≡◌};
 ghost use Rattle.acs_parse.specs.Wants.{fits};
 
-use crate::symbol::{Symbol, WordKind};
+use acs_symbol::{Symbol, WordKind};
 use acs_tree::Compare;
 
 /// A token that the grammar names: a keyword, a sign, or any token of a kind.

@@ -1,8 +1,8 @@
 use Rattle.std.proofs.Common.{◌≡◌, ◌∷◌, arith}
 use Rattle.std.proofs.lemmas.Grind.{common_steps}
 use Rattle.std.proofs.lemmas.Result.{err_from_is_err_and}
-use Rattle.acs_parse.specs.declared.symbol.WordKind.TheVariants as word
-use Rattle.acs_parse.specs.declared.symbol.Symbol.TheVariants.{Word}
+use Rattle.acs_symbol.specs.declared.symbol.WordKind.TheVariants as word
+use Rattle.acs_symbol.specs.declared.symbol.Symbol.TheVariants.{Word}
 use Rattle.acs_parse.proofs.OperandLemmas.{include_exclude_fails}
 use Rattle.acs_parse.proofs.lists.lists.Goals as goal
 

@@ -2,7 +2,7 @@
 ghost use Rattle.std.specs.Prelude.{◌≡◌};
 ghost use Rattle.std.specs.List.{list_all};
 ghost use Rattle.dsn_mask.specs.Name.{is_digit};
-ghost use Rattle.acs_parse.specs.Symbols.{number_kind, compare_kind, inner_kind, word_kind, sign_of};
+ghost use Rattle.acs_symbol.specs.Symbols.{number_kind, compare_kind, inner_kind, word_kind, sign_of};
 
 use crate::symbol::{Symbol, WordKind};
 use acs_tree::Compare;

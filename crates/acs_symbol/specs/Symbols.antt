@@ -8,10 +8,10 @@ use Rattle.acs_lex.specs.declared.token.TokenForm.TheVariants as token_form
 use Rattle.acs_lex.specs.declared.token.Token.{Token}
 use Rattle.acs_lex.specs.Tokens.{token_text, upper_text}
 use Rattle.acs_tree.specs.declared.routine.Compare.TheVariants.{Eq, Ne, Gt, Lt, Ge, Le, Ng, Nl}
-use Rattle.acs_parse.specs.declared.symbol.WordKind.{WordKind}
-use Rattle.acs_parse.specs.declared.symbol.WordKind.TheVariants as word
-use Rattle.acs_parse.specs.declared.symbol.Symbol.{Symbol}
-use Rattle.acs_parse.specs.declared.symbol.Symbol.TheVariants.{Word, Variable, Literal, AndSign, OrSign, Open, Close, Comma, Operator}
+use Rattle.acs_symbol.specs.declared.symbol.WordKind.{WordKind}
+use Rattle.acs_symbol.specs.declared.symbol.WordKind.TheVariants as word
+use Rattle.acs_symbol.specs.declared.symbol.Symbol.{Symbol}
+use Rattle.acs_symbol.specs.declared.symbol.Symbol.TheVariants.{Word, Variable, Literal, AndSign, OrSign, Open, Close, Comma, Operator}
 
 -- a word that is no keyword
 abbrev pub number_kind : List ℕ → WordKind
