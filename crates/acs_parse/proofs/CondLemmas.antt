@@ -62,7 +62,7 @@ deep_at s w new k m [] r e f = cc
 deep_at s w new k m (t ∷ ts) r e f =
     moved limited s k m t ts Full (r t ∙ ap (λ b. cond b (gate limited m new) (Pass m)) e ∙ ap (λ b. cond b (Read (suc m) new) Full) f)
 
-fails_deep : (e : Fault) {l : ℕ} {v : Verdict} → e ≡ Deep l → v ≡ TooMany l → Fails e v
+pub fails_deep : (e : Fault) {l : ℕ} {v : Verdict} → e ≡ Deep l → v ≡ TooMany l → Fails e v
 fails_deep e {l} {v} f g = subst (λ x. Fails x v) (sym f) g
 
 pub and_deep : (e : Fault) {total n m : ℕ} {ts rest : List Symbol} {x : Cond} → AndTurn total n ts x m rest → starts want.And rest ≡ true → (limited m ≡ false) × (e ≡ Deep (length rest)) → FailsAt e (AConjunct ∷ []) n ts

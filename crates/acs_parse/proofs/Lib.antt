@@ -7,4 +7,6 @@ pub mod ShapeLemmas
 pub mod ShorterLemmas
 pub mod OperandLemmas
 pub mod CondLemmas
+pub mod StatementLemmas
+pub mod SelectLemmas
 pub mod ExactLemmas

@@ -98,7 +98,7 @@ operand_variable_fails e kind {name} {ts} {a} q t h n =
     ap (λ x. verdict limited (AnOperand kind ∷ k) n x) q ∙ moved limited (AnOperand kind) k n (Variable name) a (Read n (OrIndex ∷ [])) (ap (λ b. cond b (Read n (OrIndex ∷ [])) Refuse) t) ∙ ap (λ x. verdict limited (ARef ∷ k) n x) (sym q) in
     λ k. along e (g k) (h n k)
 
-empty_right : {A : Type 0} (xs : List A) → xs ++ [] ≡ xs
+pub empty_right : {A : Type 0} (xs : List A) → xs ++ [] ≡ xs
 empty_right [] = refl
 empty_right (x ∷ xs) = ap (λ z. x ∷ z) (empty_right xs)
 
@@ -207,7 +207,7 @@ excluding_fails e {ts = ts} {a = a} q h n =
     let g : Goes (Lists ∷ []) n ts entries n a = λ k. ap (λ x. verdict limited (Lists ∷ k) n x) q in
     λ k. along e (g k) (h n k)
 
-filter_word : (t : Symbol) → fits want.FiltList t ≡ true → (text : List ℕ) × (t ≡ Word word.FiltList text)
+pub filter_word : (t : Symbol) → fits want.FiltList t ≡ true → (text : List ℕ) × (t ≡ Word word.FiltList text)
 filter_word (Word word.FiltList text) e = (text, refl)
 filter_word _ e = let no : ⊥ = cc in absurd no
 

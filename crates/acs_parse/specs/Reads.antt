@@ -1,17 +1,24 @@
 -- What a reader of the parser says of its answer.
 use Rattle.std.specs.Prelude.{◌≡◌, ◌⊎◌, ℕ, suc, Bool, true, false, List, [], ◌∷◌, ◌++◌, length, Result, Ok, Err}
 use Rattle.acs_tree.specs.declared.routine.Operand.{Operand}
+use Rattle.acs_tree.specs.declared.routine.Cond.{Cond}
+use Rattle.acs_tree.specs.declared.routine.WhenTest.{WhenTest}
+use Rattle.acs_tree.specs.declared.routine.WhenTest.TheVariants.{Any, Holds}
+use Rattle.acs_tree.specs.declared.routine.When.{When}
+use Rattle.acs_tree.specs.declared.routine.Form.{Form}
 use Rattle.acs_tree.specs.declared.routine.Routine.{Routine}
 use Rattle.acs_parse.specs.declared.list_kind.ListKind.{ListKind}
 use Rattle.acs_parse.specs.declared.list_kind.ListKind.TheVariants as list
 use Rattle.acs_symbol.specs.declared.symbol.Symbol.{Symbol}
-use Rattle.acs_symbol.specs.declared.symbol.Symbol.TheVariants.{Open, Close, Comma}
+use Rattle.acs_symbol.specs.declared.symbol.WordKind.{WordKind}
+use Rattle.acs_symbol.specs.declared.symbol.Symbol.TheVariants.{Word, Open, Close, Comma}
 use Rattle.acs_parse.specs.declared.want.Want.{Want}
+use Rattle.acs_parse.specs.declared.want.Want.TheVariants as want
 use Rattle.acs_parse.specs.declared.fault.Fault.{Fault}
 use Rattle.acs_parse.specs.declared.fault.Fault.TheVariants.{Unexpected, Ended, Deep, NoMemory}
-use Rattle.acs_parse.specs.Grammar.{starts, joins, limited, IsOperands, IsRoutineOf}
+use Rattle.acs_parse.specs.Grammar.{starts, placed, joins, limited, IsOperands, IsCond, IsStmt, IsWhen, IsWhens, IsRoutineOf}
 use Rattle.acs_parse.specs.Language.{Takes}
-use Rattle.acs_parse.specs.Table.{Effect, Part, One, start, Verdict, Short, Stop, TooMany, verdict}
+use Rattle.acs_parse.specs.Table.{Effect, Keep, To, Part, One, ACondition, AnOperand, MoreOperands, start, Verdict, Short, Stop, TooMany, verdict}
 
 abbrev pub Fails : Fault → Verdict → Type 0
 Fails (Unexpected left) v = v ≡ Stop left
@@ -55,6 +62,28 @@ GoesOn kind ts behind = (ts ≡ Comma ∷ behind) ⊎ ((t : Symbol) × (ms : Lis
 -- a list of entries in parentheses
 abbrev pub IsEntries : ℕ → List Symbol → List Operand → List Symbol → Type 0
 IsEntries total ts os rest = (ms : List Symbol) × (ts ≡ Open ∷ ms) × IsOperands total list.Entries ms os (Close ∷ rest)
+
+-- what a statement with this word is, by the tokens behind the word
+abbrev pub IsBehind : ℕ → WordKind → ℕ → List Symbol → Form → List Symbol → Type 0
+IsBehind total kind n ts form rest = (a : List ℕ) → IsStmt total limited n (Word kind a ∷ ts) (placed total (Word kind a ∷ ts) form) rest
+
+-- the same where the word opens one more, so that this many are open behind it
+abbrev pub IsInside : ℕ → WordKind → ℕ → List Symbol → Form → List Symbol → Type 0
+IsInside total kind inner ts form rest = (n : ℕ) → limited n ≡ true → inner ≡ suc n → IsBehind total kind n ts form rest
+
+-- the branches of a SELECT, at least one
+abbrev pub IsBranches : ℕ → Bool → ℕ → List Symbol → List When → List Symbol → Type 0
+IsBranches total b n ts list rest = (w : When) × (ws : List When) × (ms : List Symbol) × IsWhen total limited b n ts w ms × IsWhens total limited b n ms ws rest × (list ≡ w ∷ ws)
+
+-- what stands behind a WHEN in parentheses: items, or a condition
+pub data IsTest (total : ℕ) : Bool → ℕ → List Symbol → WhenTest → List Symbol → Type 0 where
+  any_of : {n : ℕ} {ts rest : List Symbol} {os : List Operand} → IsOperands total list.Items ts os (Close ∷ rest) → IsTest total true n (Open ∷ ts) (Any os) rest
+  holding : {n m : ℕ} {ts rest : List Symbol} {c : Cond} → IsCond total limited n ts c m (Close ∷ rest) → IsTest total false n (Open ∷ ts) (Holds c) rest
+
+-- the parts of the same
+abbrev pub test_parts : Bool → ℕ → List Part
+test_parts true n = One want.Open Keep ∷ AnOperand list.Items ∷ MoreOperands list.Items ∷ One want.Close Keep ∷ []
+test_parts false n = One want.Open Keep ∷ ACondition ∷ One want.Close (To n) ∷ []
 
 -- the whole of the tokens
 abbrev pub Whole : ℕ → List Symbol → Result Routine Fault → Type 0

@@ -7,6 +7,7 @@ mod fault;
 mod laws;
 mod list_kind;
 mod lists;
+mod statements;
 mod tokens;
 mod want;
 

@@ -1,0 +1,46 @@
+use Rattle.std.proofs.Common.{length, ◌+◌, ◌*◌}
+use Rattle.acs_parse.proofs.StatementLemmas.{BlockTurn}
+use Rattle.acs_parse.proofs.SelectLemmas.{WhenTurn}
+use Rattle.acs_parse.proofs.statements.+statement.Given as goal
+
+abbrev pub invariant-branches-whens : goal.invariant-branches-whens
+invariant-branches-whens l = WhenTurn l.fn.total l.fn.depth l.fn.compares l.fn.rest.now l.rest.now l.found
+
+abbrev pub decreases-branches-whens : goal.decreases-branches-whens
+decreases-branches-whens l = length l.rest.now
+
+abbrev pub invariant-block-items : goal.invariant-block-items
+invariant-block-items l = BlockTurn l.fn.total l.fn.depth l.fn.is_whole l.fn.rest.now l.rest.now l.found
+
+abbrev pub decreases-block-items : goal.decreases-block-items
+decreases-block-items l = length l.rest.now
+
+abbrev pub decreases-statement : goal.decreases-statement
+decreases-statement l = 4 * length l.rest.now.now
+
+abbrev pub decreases-conditional : goal.decreases-conditional
+decreases-conditional l = 4 * length l.rest.now.now
+
+abbrev pub decreases-branch : goal.decreases-branch
+decreases-branch l = 4 * length l.rest.now.now
+
+abbrev pub decreases-when : goal.decreases-when
+decreases-when l = 4 * length l.rest.now.now
+
+abbrev pub decreases-branches : goal.decreases-branches
+decreases-branches l = 4 * length l.rest.now.now + 1
+
+abbrev pub decreases-choice : goal.decreases-choice
+decreases-choice l = 4 * length l.rest.now.now + 2
+
+abbrev pub decreases-selection : goal.decreases-selection
+decreases-selection l = 4 * length l.rest.now.now + 3
+
+abbrev pub decreases-item : goal.decreases-item
+decreases-item l = 4 * length l.rest.now.now + 1
+
+abbrev pub decreases-block : goal.decreases-block
+decreases-block l = 4 * length l.rest.now.now + 2
+
+abbrev pub decreases-group : goal.decreases-group
+decreases-group l = 4 * length l.rest.now.now + 3
