@@ -6,6 +6,8 @@ mod keyword;
 mod laws;
 mod reading;
 mod symbol;
+#[cfg(test)]
+mod tests;
 
 pub use keyword::{sign, word_kind};
 pub use laws::token_count;
