@@ -1,5 +1,5 @@
 // The tokens of a text, each with its text.
-ghost use Rattle.std.specs.Prelude.{◌≡◌, ◌≤◌, ◌<◌, [], ℕ, List, length, slice_range, All, IfOk};
+ghost use Rattle.std.specs.Prelude.{◌≡◌, ◌≤◌, ◌<◌, [], length, slice_range, All, IfOk};
 ghost use Rattle.std.specs.Str.{str_to_ascii_uppercase};
 ghost use Rattle.acs_lex.specs.declared.token.TokenForm.TheVariants as token_form;
 ghost use Rattle.acs_lex.specs.Lexical.{IsForm};
@@ -43,7 +43,8 @@ pub fn symbol(text: &[u8], token: &Token) -> Symbol
 
 fn word(bytes: &[u8]) -> Symbol
     requires { length bytes.now ≤ 64 }
-    ensures { let upper = str_to_ascii_uppercase bytes.now in result ≡ Symbol.Word (word_kind upper) upper }
+    ensures { let upper = str_to_ascii_uppercase bytes.now in
+        result ≡ Symbol.Word (word_kind upper) upper }
 {
     let upper = Ident::upper(bytes);
     Symbol::Word(word_kind(upper.bytes()), upper)
@@ -52,7 +53,8 @@ fn word(bytes: &[u8]) -> Symbol
 fn variable(bytes: &[u8]) -> Symbol
     requires some { 0 < length bytes.now }
     requires fits { length bytes.now ≤ 64 }
-    ensures { let upper = str_to_ascii_uppercase bytes.now in result ≡ Symbol.Variable (slice_range upper 1 (length upper)) }
+    ensures { let upper = str_to_ascii_uppercase bytes.now in
+        result ≡ Symbol.Variable (slice_range upper 1 (length upper)) }
 {
     Symbol::Variable(Ident::upper(&bytes[1..]))
 }
