@@ -3,7 +3,13 @@
 #![tactic(auto)]
 
 mod keyword;
+mod laws;
+mod reading;
 mod symbol;
+#[cfg(test)]
+mod tests;
 
 pub use keyword::{sign, word_kind};
+pub use laws::token_count;
+pub use reading::symbols;
 pub use symbol::{Symbol, WordKind};

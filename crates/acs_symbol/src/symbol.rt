@@ -4,7 +4,7 @@ use dsn_mask::Lit;
 
 /// What a word can be besides a name, by its text: a keyword, a comparison, digits alone, or
 /// nothing else.
-#[derive(Clone, Copy)]
+#[derive(Clone, Copy, Debug, PartialEq, Eq)]
 pub enum WordKind {
     Proc,
     FiltList,
