@@ -10,3 +10,4 @@ pub mod CondLemmas
 pub mod StatementLemmas
 pub mod SelectLemmas
 pub mod ExactLemmas
+pub mod RoutineLemmas

@@ -1,6 +1,7 @@
 pub mod Wants
 pub mod Grammar
 pub mod Places
+pub mod ParseFault
 pub mod Table
 pub mod Language
 pub mod Reads

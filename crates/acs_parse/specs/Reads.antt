@@ -1,5 +1,5 @@
 -- What a reader of the parser says of its answer.
-use Rattle.std.specs.Prelude.{◌≡◌, ◌⊎◌, ℕ, suc, Bool, true, false, List, [], ◌∷◌, ◌++◌, length, Result, Ok, Err}
+use Rattle.std.specs.Prelude.{◌≡◌, ◌⊎◌, ◌-◌, ℕ, suc, Bool, true, false, List, [], ◌∷◌, ◌++◌, length, Result, Ok, Err}
 use Rattle.acs_tree.specs.declared.routine.Operand.{Operand}
 use Rattle.acs_tree.specs.declared.routine.Cond.{Cond}
 use Rattle.acs_tree.specs.declared.routine.WhenTest.{WhenTest}
@@ -14,6 +14,8 @@ use Rattle.acs_symbol.specs.declared.symbol.WordKind.{WordKind}
 use Rattle.acs_symbol.specs.declared.symbol.Symbol.TheVariants.{Word, Open, Close, Comma}
 use Rattle.acs_parse.specs.declared.want.Want.{Want}
 use Rattle.acs_parse.specs.declared.want.Want.TheVariants as want
+use Rattle.acs_parse.specs.declared.fault.ParseErr.{ParseErr}
+use Rattle.acs_parse.specs.declared.fault.ParseErr.TheVariants as answer
 use Rattle.acs_parse.specs.declared.fault.Fault.{Fault}
 use Rattle.acs_parse.specs.declared.fault.Fault.TheVariants.{Unexpected, Ended, Deep, NoMemory}
 use Rattle.acs_parse.specs.Grammar.{starts, placed, joins, limited, IsOperands, IsCond, IsStmt, IsWhen, IsWhens, IsRoutineOf}
@@ -89,3 +91,10 @@ test_parts false n = One want.Open Keep ∷ ACondition ∷ One want.Close (To n)
 abbrev pub Whole : ℕ → List Symbol → Result Routine Fault → Type 0
 Whole total ts (Ok tree) = IsRoutineOf total limited ts tree
 Whole total ts (Err e) = Fails e (verdict limited start 0 ts)
+
+-- the fault with its place, of so many tokens in all
+abbrev pub told : ℕ → Fault → ParseErr
+told total (Unexpected left) = answer.Unexpected (total - left)
+told total Ended = answer.Ended
+told total (Deep left) = answer.Deep (total - left)
+told total NoMemory = answer.NoMemory

@@ -1,5 +1,6 @@
 // Why tokens are no routine.
-ghost use Rattle.std.specs.Prelude.{◌≡◌};
+ghost use Rattle.std.specs.Prelude.{◌≡◌, ◌-◌};
+ghost use Rattle.acs_parse.specs.Reads.{told};
 
 use std::alloc::{AllocError, AllocFailed};
 use thiserror::Error;
@@ -26,6 +27,27 @@ pub enum Fault {
     Ended,
     Deep(usize),
     NoMemory,
+}
+
+impl Fault {
+    /// The same with the place of the token, of so many in all.
+    pub fn told(self, total: u32) -> ParseErr
+        ensures { result ≡ told total self }
+    {
+        match self {
+            Fault::Unexpected(left) => ParseErr::Unexpected(place_before(total, left)),
+            Fault::Ended => ParseErr::Ended,
+            Fault::Deep(left) => ParseErr::Deep(place_before(total, left)),
+            Fault::NoMemory => ParseErr::NoMemory,
+        }
+    }
+}
+
+/// The place before which so many of all tokens stand behind.
+fn place_before(total: u32, left: usize) -> u32
+    ensures { result ≡ total - left }
+{
+    (total as usize).saturating_sub(left) as u32
 }
 
 impl From<AllocError> for Fault {

@@ -1,0 +1,75 @@
+// The parser.
+ghost use Rattle.std.specs.Prelude.{◌≡◌, ℕ, length, IfOk, IfErr};
+ghost use Rattle.acs_lex.specs.declared.token.Token.{Token};
+ghost use Rattle.acs_lex.specs.Tokens.{IsCut, InOrder};
+ghost use Rattle.acs_symbol.specs.Symbols.{symbols_of};
+ghost use Rattle.acs_parse.specs.Grammar.{limited, IsRoutine};
+ghost use Rattle.acs_parse.specs.ParseFault.{MayRefuse, IsExact};
+ghost use Rattle.acs_parse.specs.Reads.{Whole, told};
+
+use crate::fault::{Fault, ParseErr};
+use crate::statements::block;
+use crate::tokens::{expect, head, place, skip};
+use crate::want::Want;
+use acs_lex::Tokens;
+use acs_symbol::{Symbol, symbols};
+use acs_tree::Routine;
+use std::alloc::Global;
+
+/// The tree of the routine that the text's tokens are. The places of the tree and of a refusal are
+/// those of tokens, counted from 0 (docs/acs-language.md, Grammar, Nesting and Places of faults).
+#[tactic(auto, using(crate::proofs::RoutineLemmas::tokens_in_text, crate::proofs::RoutineLemmas::tokens_in_order, crate::proofs::RoutineLemmas::as_many, crate::proofs::RoutineLemmas::exact_memory))]
+pub fn parse(alloc: Global, text: &[u8], tokens: &Tokens) -> Result<Routine, ParseErr>
+    requires { IsCut text.now tokens.now }
+    ensures ok { IfOk result (IsRoutine limited (symbols_of text.now tokens.now)) }
+    ensures err { IfErr result (MayRefuse (symbols_of text.now tokens.now)) }
+    ensures exactly { IsExact (symbols_of text.now tokens.now) result }
+{
+    let total = count(tokens);
+    let symbols = symbols(alloc, text, tokens).map_err(|_| ParseErr::NoMemory)?;
+    parse_symbols(alloc, total, symbols.as_slice())
+}
+
+/// The number of tokens of a text. It fits, since each has a byte of its own and all their places fit.
+fn count(tokens: &Tokens) -> u32
+    requires { (n : ℕ) × InOrder 0 n tokens.now }
+    ensures { result ≡ length tokens.now }
+{
+    match tokens.as_slice().last() {
+        None => 0,
+        Some(last) => tokens.len().min(last.to as usize) as u32,
+    }
+}
+
+#[tactic(auto, using(crate::proofs::RoutineLemmas::right_tree, crate::proofs::RoutineLemmas::exact_tree, crate::proofs::RoutineLemmas::right_fault, crate::proofs::RoutineLemmas::exact_fault))]
+fn parse_symbols(alloc: Global, total: u32, symbols: &[Symbol]) -> Result<Routine, ParseErr>
+    requires { total ≡ length symbols.now }
+    ensures ok { IfOk result (IsRoutine limited symbols.now) }
+    ensures err { IfErr result (MayRefuse symbols.now) }
+    ensures exactly { IsExact symbols.now result }
+{
+    match routine(alloc, total, symbols) {
+        Ok(found) => Ok(found),
+        Err(fault) => Err(fault.told(total)),
+    }
+}
+
+#[tactic(auto, using(crate::proofs::RoutineLemmas::number_at, crate::proofs::RoutineLemmas::whole_at, crate::proofs::RoutineLemmas::whole_proc_fails, crate::proofs::RoutineLemmas::whole_head_fails, crate::proofs::RoutineLemmas::whole_body_fails, crate::proofs::RoutineLemmas::whole_rest_fails))]
+fn routine(alloc: Global, total: u32, symbols: &[Symbol]) -> Result<Routine, Fault>
+    ensures { Whole total symbols.now result }
+{
+    let mut rest = symbols;
+    expect(Want::Proc, &mut rest)?;
+    let _numbered = skip(Want::Number, &mut rest);
+    let head_at = place(total, rest);
+    let head = head(&mut rest)?;
+    let body = block(alloc, total, 0, true, &mut rest)?;
+    match rest.split_first() {
+        None => Ok(Routine {
+            head,
+            head_at,
+            body,
+        }),
+        Some(_) => Err(Fault::Unexpected(rest.len())),
+    }
+}
