@@ -1,6 +1,6 @@
 -- What the readers of the whole give, and which answers are right.
-use Rattle.std.proofs.Common.{◌≡◌, ◌⊎◌, inl, inr, ◌≤◌, ◌<◌, ◌+◌, ◌-◌, ℕ, zero, suc, Bool, true, false, List, [], ◌∷◌, ◌++◌, length, map, refl, ap, sym, ◌∙◌, subst, arith}
-use Rattle.std.specs.Prelude.{Option, Some, None, Result, Ok, Err, All, slice_get}
+use Rattle.std.proofs.Common.{◌≡◌, inl, inr, ◌≤◌, ◌+◌, ◌-◌, ℕ, zero, suc, Bool, true, false, List, [], ◌∷◌, length, refl, ap, sym, ◌∙◌, subst, arith}
+use Rattle.std.specs.Prelude.{Option, Some, None, Ok, Err, All, slice_get}
 use Rattle.acs_lex.specs.declared.token.Token.{Token}
 use Rattle.acs_lex.specs.Tokens.{IsCut, InOrder, IsTokenOf}
 use Rattle.acs_lex.proofs.PlaceLemmas.{cut_in_order, cut_of_tokens}
@@ -9,19 +9,18 @@ use Rattle.acs_tree.specs.declared.routine.Routine.{Routine}
 use Rattle.acs_symbol.specs.declared.symbol.WordKind.TheVariants as word
 use Rattle.acs_symbol.specs.declared.symbol.Symbol.{Symbol}
 use Rattle.acs_symbol.specs.declared.symbol.Symbol.TheVariants.{Word}
-use Rattle.acs_symbol.specs.Symbols.{symbol_of, symbols_of}
+use Rattle.acs_symbol.specs.Symbols.{symbols_of}
 use Rattle.acs_parse.specs.declared.want.Want.TheVariants as want
 use Rattle.acs_parse.specs.declared.fault.ParseErr.{ParseErr}
 use Rattle.acs_parse.specs.declared.fault.ParseErr.TheVariants as answer
 use Rattle.acs_parse.specs.declared.fault.Fault.{Fault}
 use Rattle.acs_parse.specs.declared.fault.Fault.TheVariants.{Unexpected, Ended, Deep, NoMemory}
 use Rattle.acs_parse.specs.Wants.{fits}
-use Rattle.acs_parse.specs.Grammar.{starts, place_in, limited, IsHead, IsBlock, IsOrNumber, no_number, number, IsRoutineOf, routine, IsRoutine}
-use Rattle.acs_parse.specs.Places.{IsFirstWrong, IsTooDeep, EndsEarly}
+use Rattle.acs_parse.specs.Grammar.{place_in, limited, IsHead, IsBlock, IsOrNumber, no_number, number, IsRoutineOf, routine, IsRoutine}
 use Rattle.acs_parse.specs.ParseFault.{IsParseFault, unexpected, ended, deep, MayRefuse, IsExact}
-use Rattle.acs_parse.specs.Table.{Effect, Keep, Part, One, OrNumber, ABlock, start, Stop, verdict}
+use Rattle.acs_parse.specs.Table.{Effect, Keep, One, OrNumber, ABlock, start, Stop, verdict}
 use Rattle.acs_parse.specs.Language.{Takes}
-use Rattle.acs_parse.specs.Reads.{Fails, FailsAt, Skips, Whole, told}
+use Rattle.acs_parse.specs.Reads.{Fails, FailsAt, Skips, told}
 use Rattle.acs_parse.proofs.RunLemmas.{runs_one, runs_number, runs_block, fits_head}
 use Rattle.acs_parse.proofs.FrontLemmas.{first_wrong, too_deep, ends_early, stop_within, deep_within}
 use Rattle.acs_parse.proofs.OneTreeLemmas.{one_tree}

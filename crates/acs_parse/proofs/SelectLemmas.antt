@@ -1,5 +1,5 @@
 -- What the readers of SELECT and its branches give, and where they fail.
-use Rattle.std.proofs.Common.{◌≡◌, ◌≤◌, ◌<◌, ℕ, suc, Bool, true, false, cond, List, [], ◌∷◌, ◌++◌, length, refl, ap, sym, ◌∙◌, subst, arith, append_assoc}
+use Rattle.std.proofs.Common.{◌≡◌, ◌<◌, ℕ, suc, Bool, true, false, cond, List, [], ◌∷◌, ◌++◌, length, refl, ap, sym, ◌∙◌, subst, arith, append_assoc}
 use Rattle.std.specs.Prelude.{Option, Some, None}
 use Rattle.acs_tree.specs.declared.routine.Ref.{Ref}
 use Rattle.acs_tree.specs.declared.routine.Operand.{Operand}
@@ -13,14 +13,14 @@ use Rattle.acs_tree.specs.declared.routine.Stmt.{Stmt}
 use Rattle.acs_parse.specs.declared.list_kind.ListKind.TheVariants as list
 use Rattle.acs_symbol.specs.declared.symbol.WordKind.TheVariants as word
 use Rattle.acs_symbol.specs.declared.symbol.Symbol.{Symbol}
-use Rattle.acs_symbol.specs.declared.symbol.Symbol.TheVariants.{Word, Open, Close}
+use Rattle.acs_symbol.specs.declared.symbol.Symbol.TheVariants.{Word, Open}
 use Rattle.acs_parse.specs.declared.want.Want.TheVariants as want
 use Rattle.acs_parse.specs.declared.fault.Fault.{Fault}
 use Rattle.acs_parse.specs.Wants.{fits}
 use Rattle.acs_parse.specs.Grammar.{starts, place_in, placed, when_at, limited, IsRef, IsOperands, IsCond, IsStmt, pick, IsBranch, IsChoice, by_value, by_condition, IsWhen, when_any, when_holds, IsWhens, no_when, more_whens}
-use Rattle.acs_parse.specs.Table.{Effect, Keep, Lower, To, effect, Part, One, AStatement, OrBranch, AChoice, AWhen, MoreWhens, ACondition, AnOperand, MoreOperands, ARef, Move, Read, Refuse, when_parts, Step, after, next, step, Verdict, verdict}
+use Rattle.acs_parse.specs.Table.{Effect, Keep, Lower, To, Part, One, AStatement, OrBranch, AChoice, AWhen, MoreWhens, ACondition, AnOperand, MoreOperands, ARef, Read, Refuse, when_parts, Step, after, next, step, Verdict, verdict}
 use Rattle.acs_parse.specs.Language.{Takes}
-use Rattle.acs_parse.specs.Reads.{Fails, FailsAt, IsInside, IsBranches, IsTest, any_of, holding, test_parts}
+use Rattle.acs_parse.specs.Reads.{FailsAt, IsInside, IsBranches, IsTest, any_of, holding, test_parts}
 use Rattle.acs_parse.proofs.RunLemmas.{runs_ref, runs_operands, runs_cond, runs_branch, runs_choice, runs_when, whens_as_when}
 use Rattle.acs_parse.proofs.SoundLemmas.{is_when}
 use Rattle.acs_parse.proofs.ShorterLemmas.{when_shorter, operands_shorter, cond_shorter}

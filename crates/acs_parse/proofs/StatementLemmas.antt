@@ -1,5 +1,5 @@
 -- What the readers of statements and blocks give, and where they fail.
-use Rattle.std.proofs.Common.{◌≡◌, ◌≤◌, ◌<◌, ℕ, suc, Bool, true, false, cond, ◌&&◌, List, [], ◌∷◌, ◌++◌, length, refl, ap, sym, ◌∙◌, subst, arith, append_assoc}
+use Rattle.std.proofs.Common.{◌≡◌, ◌≤◌, ℕ, suc, Bool, true, false, cond, ◌&&◌, List, [], ◌∷◌, ◌++◌, length, refl, ap, sym, ◌∙◌, subst, arith, append_assoc}
 use Rattle.std.specs.Prelude.{Option, Some, None}
 use Rattle.acs_tree.specs.declared.routine.Ref.{Ref}
 use Rattle.acs_tree.specs.declared.routine.Operand.{Operand}
@@ -16,11 +16,10 @@ use Rattle.acs_parse.specs.declared.want.Want.{Want}
 use Rattle.acs_parse.specs.declared.want.Want.TheVariants as want
 use Rattle.acs_parse.specs.declared.fault.Fault.{Fault}
 use Rattle.acs_parse.specs.declared.fault.Fault.TheVariants.{Deep}
-use Rattle.acs_parse.specs.Wants.{fits}
 use Rattle.acs_parse.specs.Grammar.{starts, place_in, placed, limited, IsRef, IsOperands, IsFilter, IsCode, IsCond, IsStmt, set, choice, group_of, write, exit, IsBranch, no_branch, branch, IsBlock, end_of, then_more, IsItem, item_filter, item_statement}
-use Rattle.acs_parse.specs.Table.{Effect, Keep, Lower, To, effect, Part, One, ABlock, AnItem, AStatement, OrBranch, AChoice, ACondition, AnOperand, MoreOperands, ARef, OrCode, Back, Read, Full, Pass, gate, rule, TooMany, verdict}
+use Rattle.acs_parse.specs.Table.{Effect, Keep, Lower, To, Part, One, ABlock, AnItem, AStatement, OrBranch, AChoice, ACondition, AnOperand, MoreOperands, ARef, OrCode, Back, Read, Full, Pass, gate, rule, TooMany, verdict}
 use Rattle.acs_parse.specs.Language.{Takes}
-use Rattle.acs_parse.specs.Reads.{Fails, FailsAt, IsBehind, IsInside}
+use Rattle.acs_parse.specs.Reads.{FailsAt, IsBehind, IsInside}
 use Rattle.acs_parse.proofs.RunLemmas.{moved, taken, opened, runs_ref, runs_cond, runs_stmt, runs_item, block_as_item, item_as_statement}
 use Rattle.acs_parse.proofs.SoundLemmas.{is_then, is_end}
 use Rattle.acs_parse.proofs.ShorterLemmas.{item_shorter}

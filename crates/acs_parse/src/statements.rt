@@ -15,18 +15,15 @@ use crate::lists::{exit_code, filter_list, operands, variable};
 use crate::tokens::{begins, expect, opened, place, skip};
 use crate::want::Want;
 use acs_symbol::{Symbol, WordKind};
-use acs_tree::{Block, Cond, Form, Operand, OperandForm, Ref, Stmt, When, WhenTest, Whens, with_stmt, with_when};
+use acs_tree::{
+    Block, Cond, Form, Operand, OperandForm, Ref, Stmt, When, WhenTest, Whens, with_stmt, with_when,
+};
 use std::alloc::Global;
 
 /// A statement.
 #[cycle(statement)]
 #[tactic(auto, using(crate::proofs::StatementLemmas::stmt_behind, crate::proofs::StatementLemmas::stmt_inside, crate::proofs::StatementLemmas::set_fails, crate::proofs::StatementLemmas::write_fails, crate::proofs::StatementLemmas::exit_fails, crate::proofs::StatementLemmas::if_fails, crate::proofs::StatementLemmas::select_fails, crate::proofs::StatementLemmas::do_fails, crate::proofs::StatementLemmas::if_deep, crate::proofs::StatementLemmas::select_deep, crate::proofs::StatementLemmas::do_deep))]
-pub fn statement(
-    alloc: Global,
-    total: u32,
-    depth: u32,
-    rest: &mut &[Symbol],
-) -> Result<Stmt, Fault>
+pub fn statement(alloc: Global, total: u32, depth: u32, rest: &mut &[Symbol]) -> Result<Stmt, Fault>
     ensures { Parses (λ found. IsStmt total limited depth rest.old.now found rest.new.now) (AStatement ∷ []) depth rest.old.now result }
 {
     let at = place(total, rest);
@@ -101,12 +98,7 @@ fn ending(total: u32, rest: &mut &[Symbol]) -> Result<Form, Fault>
 /// What stands behind IF.
 #[cycle(statement)]
 #[tactic(auto, using(crate::proofs::StatementLemmas::if_at, crate::proofs::StatementLemmas::if_cond_fails, crate::proofs::StatementLemmas::if_then_fails, crate::proofs::StatementLemmas::if_yes_fails, crate::proofs::StatementLemmas::if_no_fails))]
-fn conditional(
-    alloc: Global,
-    total: u32,
-    depth: u32,
-    rest: &mut &[Symbol],
-) -> Result<Form, Fault>
+fn conditional(alloc: Global, total: u32, depth: u32, rest: &mut &[Symbol]) -> Result<Form, Fault>
     ensures { Parses (λ form. IsInside total word.If depth rest.old.now form rest.new.now) (ACondition ∷ One want.Then (To depth) ∷ AStatement ∷ OrBranch want.Else ∷ Back ∷ []) depth rest.old.now result }
 {
     let (test, _) = cond(alloc, total, depth, rest)?;
