@@ -117,12 +117,12 @@ right_fault NoMemory ts q h = tt
 pub right_tree : {ts : List Symbol} {total : ℕ} {tree : Routine} → total ≡ length ts → IsRoutineOf total limited ts tree → IsRoutine limited ts tree
 right_tree {ts} {total} {tree} q d = subst (λ n. IsRoutineOf n limited ts tree) q d
 
-no_fault : {ts : List Symbol} {tree : Routine} {err : ParseErr} → IsRoutine limited ts tree → IsParseFault ts err → ⊥
+pub no_fault : {ts : List Symbol} {tree : Routine} {err : ParseErr} → IsRoutine limited ts tree → IsParseFault ts err → ⊥
 no_fault {ts} {tree} d (unexpected {k = k} w) = no_wrong ts k (whole ts tree d) w
 no_fault {ts} {tree} d (ended w) = w.no_routine tree d
 no_fault {ts} {tree} d (deep {k = k} w) = no_deep ts k (whole ts tree d) w
 
-one_fault : {ts : List Symbol} {one two : ParseErr} → IsParseFault ts one → IsParseFault ts two → one ≡ two
+pub one_fault : {ts : List Symbol} {one two : ParseErr} → IsParseFault ts one → IsParseFault ts two → one ≡ two
 one_fault {ts} (unexpected {k = j} v) (unexpected {k = k} w) = ap (λ x. answer.Unexpected x) (one_wrong ts j k v w)
 one_fault {ts} (unexpected {k = j} v) (ended w) = absurd (no_wrong ts j w.begins v)
 one_fault {ts} (unexpected {k = j} v) (deep {k = k} w) = absurd (apart ts j k v w)
