@@ -1,8 +1,9 @@
 -- How a run ends: each status and its cause.
-use Rattle.std.specs.Prelude.{◌≡◌, ◌≤◌, ◌<◌, Bool, true, false, List, ℕ, [], ◌∷◌, length, codes, Option, IfSome, Err}
-use Rattle.std.specs.Io.KnownBytes.{Appends, Consumes, IsAtEnd}
+use Rattle.std.specs.Prelude.{◌≡◌, Bool, true, false, List, ℕ, [], ◌∷◌, codes, Err}
+use Rattle.std.specs.Io.KnownBytes.{Appends}
 use Rattle.desk_common.specs.Causes.{Rose}
 use Rattle.desk_common.specs.Fronts.{IsProperPrefix}
+use Rattle.sms_base.specs.Observed.{Observed, IsUnwritten, WasRead, HasReadFault, IsTooLong}
 use Rattle.sms_script.specs.declared.script_err.ScriptErr.{ScriptErr}
 use Rattle.sms_script.specs.Script.{script_of}
 use Rattle.desk_calls.specs.Headline.{IsAnswered}
@@ -13,29 +14,15 @@ use Rattle.desk_calls.specs.declared.status.RunStatus.TheVariants.{Done, BadWord
 abbrev pub AreRunWords : List (List ℕ) → Type 0
 AreRunWords words = words ≡ codes "run" ∷ []
 
--- what is told of the source and the sink at one moment
-pub record Observed : Type 0 where
-  pub left : Option (List ℕ)
-  pub read_faults : ℕ
-  pub taken : Option (List ℕ)
-  pub write_faults : ℕ
-
--- the sink was not written to
-pub record IsUnwritten (old new : Observed) : Type 0 where
-  pub taken : new.taken ≡ old.taken
-  pub write_faults : new.write_faults ≡ old.write_faults
-
--- the source was read to its end and gave these bytes; where it tells its bytes, they are those
-pub record WasRead (old new : Observed) (bytes : List ℕ) : Type 0 where
-  pub told : IfSome old.left (λ left. bytes ≡ left)
-  pub end : IsAtEnd new.left
-  pub within : length bytes ≤ 16777216
+-- the most bytes of a script
+abbrev pub most_bytes : ℕ
+most_bytes = 16777216
 
 -- the script was answered, and the sink took the whole text
 pub record IsDone (old new : Observed) : Type 0 where
   pub bytes : List ℕ
   pub text : List ℕ
-  pub read : WasRead old new bytes
+  pub read : WasRead most_bytes old new bytes
   pub answered : IsAnswered bytes text
   pub written : Appends old.taken new.taken text
 
@@ -44,7 +31,7 @@ pub record HasWriteFault (old new : Observed) : Type 0 where
   pub bytes : List ℕ
   pub text : List ℕ
   pub front : List ℕ
-  pub read : WasRead old new bytes
+  pub read : WasRead most_bytes old new bytes
   pub answered : IsAnswered bytes text
   pub proper : IsProperPrefix front text
   pub written : Appends old.taken new.taken front
@@ -53,19 +40,8 @@ pub record HasWriteFault (old new : Observed) : Type 0 where
 -- the bytes that were read have this fault as a script, and nothing was run
 pub record IsFaulty (old new : Observed) (err : ScriptErr) : Type 0 where
   pub bytes : List ℕ
-  pub read : WasRead old new bytes
+  pub read : WasRead most_bytes old new bytes
   pub fault : script_of bytes ≡ Err err
-  pub unwritten : IsUnwritten old new
-
--- the count of the source's faults rose before more bytes came than a script may have, and nothing was run
-pub record HasReadFault (old new : Observed) : Type 0 where
-  pub rose : Rose old.read_faults new.read_faults
-  pub within : (front : List ℕ) × (length front ≤ 16777216) × Consumes old.left new.left front
-  pub unwritten : IsUnwritten old new
-
--- more bytes came than a script may have, and nothing was run
-pub record IsTooLong (old new : Observed) : Type 0 where
-  pub longer : IfSome old.left (λ left. 16777216 < length left)
   pub unwritten : IsUnwritten old new
 
 -- the statuses with which nothing is written
@@ -78,8 +54,8 @@ leaves_sink status = true
 abbrev pub Ends : Observed → Observed → RunStatus → Type 0
 Ends old new Done = IsDone old new
 Ends old new BadWords = new ≡ old
-Ends old new ReadFault = HasReadFault old new
+Ends old new ReadFault = HasReadFault most_bytes old new
 Ends old new WriteFault = HasWriteFault old new
 Ends old new (Script err) = IsFaulty old new err
-Ends old new TooLong = IsTooLong old new
+Ends old new TooLong = IsTooLong most_bytes old new
 Ends old new NoMemory = IsUnwritten old new

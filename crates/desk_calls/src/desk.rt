@@ -1,6 +1,7 @@
 //! The top call of the desk.
 ghost use Rattle.std.specs.Prelude.{◌≡◌, ◌↔◌, true, map, string_bytes};
-ghost use Rattle.desk_calls.specs.RunFault.{AreRunWords, Ends, Observed, leaves_sink};
+ghost use Rattle.sms_base.specs.Observed.{Observed};
+ghost use Rattle.desk_calls.specs.RunFault.{AreRunWords, Ends, leaves_sink};
 
 use crate::answering::answer_text;
 use crate::status::RunStatus;

@@ -1,4 +1,4 @@
-//! Sources and sinks of bytes, each with a count of its faults.
+//! Sources and sinks of bytes, each with a count of its faults, and the words of a command line.
 #![tactic(auto)]
 
 mod mem_sink;
@@ -8,6 +8,7 @@ mod sink;
 mod source;
 mod std_sink;
 mod std_source;
+mod words;
 mod writing;
 
 pub use mem_sink::MemSink;
@@ -17,6 +18,7 @@ pub use sink::Sink;
 pub use source::{Failed, ReadEnd, Source};
 pub use std_sink::StdSink;
 pub use std_source::StdSource;
+pub use words::{Words, read_words};
 pub use writing::write_all;
 
 #[cfg(test)]

@@ -2,14 +2,12 @@
 #![tactic(auto)]
 
 mod help;
-mod words;
 
 use desk_calls::{RunStatus, desk_main};
-use sms_base::{StdSink, StdSource};
+use sms_base::{StdSink, StdSource, Words, read_words};
 use sms_script::ScriptErr;
 use std::io::{self, Write};
 use std::process::ExitCode;
-use words::{Words, read_words};
 
 fn main(rt: HostRuntime) -> ExitCode {
     let status = match read_words(&rt) {
