@@ -2,7 +2,7 @@
 ghost use Rattle.std.specs.Prelude.{◌≡◌, ◌≤◌, ◌<◌, ◌+◌, [], Err, Ok, MatchResult, length, map, take};
 ghost use Rattle.acs_tree.specs.declared.check_err.CheckErr.{CheckErr};
 ghost use Rattle.acs_tree.specs.Sound.{IsFirstFault, IsSound};
-ghost use Rattle.acs_tree.specs.Suits.{is_simple_statement};
+ghost use Rattle.acs_tree.specs.FilterLists.{is_simple_statement};
 ghost use Rattle.acs_check.specs.Walk.{first_fault_of, passed};
 
 use crate::earlier::Earlier;
