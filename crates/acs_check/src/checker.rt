@@ -20,6 +20,7 @@ fn mark_next(body: &[Stmt], marks: &mut [bool], marked: usize) -> usize
     requires room { marked ≤ length marks.old }
     ensures marks { take result marks.new ≡ map is_simple_statement (take result body.now) }
     ensures one { result ≤ marked + 1 }
+    ensures next { marked < length marks.old → result ≡ marked + 1 }
     ensures room { result ≤ length marks.new }
 {
     if marked == marks.len() {
