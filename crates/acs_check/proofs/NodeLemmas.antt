@@ -1,7 +1,8 @@
 -- The faults of nodes with many checks, one check after another.
 use Rattle.std.proofs.Common.{◌≡◌, ◌<◌, ◌+◌, ℕ, suc, List, ◌∷◌, length, drop, drop-cons, get_or, sym, ◌∙◌, ap, arith}
 use Rattle.std.specs.Prelude.{◌&&◌, ◌||◌, Bool, not, is_some, if◌then◌else◌, Option, Some}
-use Rattle.acs_tree.specs.Suits.{token_of, token_if, is_listed, is_plain_unknown, is_var_with, is_word_with, is_known, is_misindexed, is_too_great, is_set_later, suits, range_token}
+use Rattle.acs_tree.specs.References.{is_known, is_misindexed, is_set_later}
+use Rattle.acs_tree.specs.Suits.{token_of, token_if, is_listed, is_plain_unknown, is_var_with, is_word_with, is_too_great, suits, range_token}
 use Rattle.acs_tree.specs.declared.check_err.CheckErr.{CheckErr}
 use Rattle.acs_tree.specs.declared.kind.Kind.{Kind}
 use Rattle.acs_tree.specs.declared.routine.Operand.{Operand}

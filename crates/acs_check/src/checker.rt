@@ -2,7 +2,7 @@
 ghost use Rattle.std.specs.Prelude.{◌≡◌, ◌≤◌, ◌<◌, ◌+◌, [], Err, Ok, MatchResult, length, map, take};
 ghost use Rattle.acs_tree.specs.declared.check_err.CheckErr.{CheckErr};
 ghost use Rattle.acs_tree.specs.Sound.{IsFirstFault, IsSound};
-ghost use Rattle.acs_tree.specs.Suits.{is_simple_statement};
+ghost use Rattle.acs_tree.specs.FilterLists.{is_simple_statement};
 ghost use Rattle.acs_check.specs.Walk.{first_fault_of, passed};
 
 use crate::earlier::Earlier;
@@ -20,6 +20,7 @@ fn mark_next(body: &[Stmt], marks: &mut [bool], marked: usize) -> usize
     requires room { marked ≤ length marks.old }
     ensures marks { take result marks.new ≡ map is_simple_statement (take result body.now) }
     ensures one { result ≤ marked + 1 }
+    ensures next { marked < length marks.old → result ≡ marked + 1 }
     ensures room { result ≤ length marks.new }
 {
     if marked == marks.len() {

@@ -2,7 +2,7 @@
 // their names.
 ghost use Rattle.std.specs.Prelude.{◌≡◌, ◌<◌, length, map, take, slice_index_or};
 ghost use Rattle.acs_tree.specs.declared.routine.Stmt.{Stmt};
-ghost use Rattle.acs_tree.specs.Suits.{is_list, is_list_ref, is_simple_list, is_simple_statement};
+ghost use Rattle.acs_tree.specs.FilterLists.{is_list, is_list_ref, is_simple_list, is_simple_statement};
 
 use crate::lists::{is_list_named, is_simple_statement};
 use crate::references::is_known;
@@ -27,7 +27,7 @@ impl<'a> Model for Earlier<'a> {
 
     ghost coded = { Prim.hlevel (codes, form.the_row.coded) };
 
-    ghost use Rattle.acs_tree.specs.Suits.{is_simple_statement};
+    ghost use Rattle.acs_tree.specs.FilterLists.{is_simple_statement};
 
     ghost view = { λ s. s.statements.now };
 

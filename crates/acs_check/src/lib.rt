@@ -16,8 +16,20 @@ pub use acs_tree::CheckErr;
 pub use checker::check;
 
 #[cfg(test)]
-mod test_rows;
+mod test_comparisons;
+#[cfg(test)]
+mod test_faults;
+#[cfg(test)]
+mod test_indexes;
+#[cfg(test)]
+mod test_inside;
+#[cfg(test)]
+mod test_lists;
+#[cfg(test)]
+mod test_sets;
 #[cfg(test)]
 mod test_trees;
+#[cfg(test)]
+mod test_variables;
 #[cfg(test)]
 mod tests;

@@ -1,36 +1,38 @@
+// Statements built by hand. Each is told its first token; the others follow as in a text, with a
+// comma between any two entries, values or items.
 use acs_tree::{Compare, Cond, Form, Ident, Operand, OperandForm, Ref, Stmt, When, WhenTest};
 use desk_common::{Boxed, Items};
 use dsn_mask::Lit;
 use std::alloc::{AllocError, Global};
 
 /// A literal, a word, a variable, or a variable and its index.
-#[derive(Clone, Copy)]
+#[derive(Clone, Copy, Debug)]
 pub(crate) enum Text {
-    Quoted(&'static [u8]),
-    Word(&'static [u8]),
-    Var(&'static [u8]),
-    Indexed(&'static [u8], &'static [u8]),
+    Quoted(&'static str),
+    Word(&'static str),
+    Var(&'static str),
+    Indexed(&'static str, &'static str),
 }
 
 use Text::{Indexed, Quoted, Var, Word};
 
-pub(crate) fn ident(bytes: &[u8]) -> Ident {
-    if bytes.len() <= 64 {
-        Ident::upper(bytes)
+pub(crate) fn ident(text: &str) -> Ident {
+    if text.len() <= 64 {
+        Ident::upper(text.as_bytes())
     } else {
         Ident::upper(b"")
     }
 }
 
-fn literal(bytes: &[u8]) -> OperandForm {
-    match Lit::new(bytes) {
+fn literal(text: &str) -> OperandForm {
+    match Lit::new(text.as_bytes()) {
         Some(text) => OperandForm::Literal(text),
         None => OperandForm::Word(Ident::upper(b"")),
     }
 }
 
 /// A variable whose first token is at this place.
-fn reference(at: u32, name: &[u8], index: Option<&[u8]>) -> Ref {
+fn reference(at: u32, name: &str, index: Option<&str>) -> Ref {
     match index {
         None => Ref {
             at,
@@ -47,14 +49,14 @@ fn reference(at: u32, name: &[u8], index: Option<&[u8]>) -> Ref {
     }
 }
 
-fn variable(at: u32, text: Text) -> Ref {
+pub(crate) fn variable(at: u32, text: Text) -> Ref {
     match text {
         Quoted(name) | Word(name) | Var(name) => reference(at, name, None),
         Indexed(name, index) => reference(at, name, Some(index)),
     }
 }
 
-fn operand(at: u32, text: Text) -> Operand {
+pub(crate) fn operand(at: u32, text: Text) -> Operand {
     let form = match text {
         Quoted(bytes) => literal(bytes),
         Word(bytes) => OperandForm::Word(ident(bytes)),
@@ -109,25 +111,43 @@ fn push(items: &mut Items<Operand>, operand: Operand) -> Result<(), AllocError> 
     items.push(Operand { at, form })
 }
 
-fn exit(at: u32) -> Stmt {
+/// `EXIT`.
+pub(crate) fn exit(at: u32) -> Stmt {
     Stmt {
         at,
         form: Form::Exit { code: None },
     }
 }
 
-/// `FILTLIST F INCLUDE(..)`, its entries parted by commas.
+/// `EXIT CODE(code)`.
+pub(crate) fn exit_code(at: u32, code: Text) -> Stmt {
+    Stmt {
+        at,
+        form: Form::Exit {
+            code: Some(operand(at.saturating_add(3), code)),
+        },
+    }
+}
+
+/// `FILTLIST name INCLUDE(entry) EXCLUDE(entry)`, where either may be missing.
 pub(crate) fn list(
     alloc: Global,
     at: u32,
-    name: &[u8],
-    entries: &[Text],
+    name: &str,
+    include: &[Text],
+    exclude: &[Text],
 ) -> Result<Stmt, AllocError> {
+    let first = at.saturating_add(4);
+    let second = if include.is_empty() {
+        first
+    } else {
+        first.saturating_add(4)
+    };
     let form = Form::Filt {
         name: ident(name),
         name_at: at.saturating_add(1),
-        include: operands(alloc, at.saturating_add(4), 1, entries)?,
-        exclude: Items::new(alloc),
+        include: operands(alloc, first, 1, include)?,
+        exclude: operands(alloc, second, 1, exclude)?,
     };
     Ok(Stmt { at, form })
 }
@@ -147,6 +167,34 @@ pub(crate) fn set(
     Ok(Stmt { at, form })
 }
 
+/// `left op right`.
+pub(crate) fn comparison(at: u32, left: Text, op: Compare, right: Text) -> Cond {
+    let op_at = behind(at, left);
+    Cond::Test {
+        left: variable(at, left),
+        op,
+        op_at,
+        right: operand(op_at.saturating_add(1), right),
+    }
+}
+
+/// `IF cond THEN yes ELSE no`.
+pub(crate) fn conditional(
+    alloc: Global,
+    at: u32,
+    cond: Cond,
+    yes: Stmt,
+    no: Option<Stmt>,
+) -> Result<Stmt, AllocError> {
+    let no = match no {
+        None => None,
+        Some(no) => Some(Boxed::new(alloc, no)?),
+    };
+    let yes = Boxed::new(alloc, yes)?;
+    let form = Form::If { cond, yes, no };
+    Ok(Stmt { at, form })
+}
+
 /// `IF left op right THEN EXIT`.
 pub(crate) fn compare(
     alloc: Global,
@@ -155,22 +203,17 @@ pub(crate) fn compare(
     op: Compare,
     right: Text,
 ) -> Result<Stmt, AllocError> {
-    let first = at.saturating_add(1);
-    let op_at = behind(first, left);
-    let second = op_at.saturating_add(1);
-    let cond = Cond::Test {
-        left: variable(first, left),
-        op,
-        op_at,
-        right: operand(second, right),
-    };
-    let yes = Boxed::new(alloc, exit(behind(second, right).saturating_add(1)))?;
-    let form = Form::If {
-        cond,
-        yes,
-        no: None,
-    };
-    Ok(Stmt { at, form })
+    let cond = comparison(at.saturating_add(1), left, op, right);
+    conditional(alloc, at, cond, exit(at.saturating_add(20)), None)
+}
+
+/// `WHEN (test) body`.
+pub(crate) fn when(alloc: Global, at: u32, test: WhenTest, body: Stmt) -> Result<When, AllocError> {
+    Ok(When {
+        at,
+        test,
+        body: Boxed::new(alloc, body)?,
+    })
 }
 
 /// `SELECT (subject) WHEN (items) EXIT END`.
@@ -182,12 +225,9 @@ pub(crate) fn select(
 ) -> Result<Stmt, AllocError> {
     let first = at.saturating_add(2);
     let when_at = behind(first, subject).saturating_add(1);
+    let test = WhenTest::Any(operands(alloc, when_at.saturating_add(2), 1, items)?);
     let mut whens = Items::new(alloc);
-    whens.push(When {
-        at: when_at,
-        test: WhenTest::Any(operands(alloc, when_at.saturating_add(2), 1, items)?),
-        body: Boxed::new(alloc, exit(when_at.saturating_add(100)))?,
-    })?;
+    whens.push(when(alloc, when_at, test, exit(when_at.saturating_add(100)))?)?;
     let form = Form::Pick {
         subject: Some(variable(first, subject)),
         whens,
@@ -202,12 +242,12 @@ pub(crate) fn write(alloc: Global, at: u32, parts: &[Text]) -> Result<Stmt, Allo
     Ok(Stmt { at, form })
 }
 
-/// `EXIT CODE(code)`.
-pub(crate) fn exit_code(at: u32, code: Text) -> Stmt {
-    Stmt {
+/// `DO statement END`.
+pub(crate) fn block(alloc: Global, at: u32, statement: Stmt) -> Result<Stmt, AllocError> {
+    let mut body = Items::new(alloc);
+    body.push(statement)?;
+    Ok(Stmt {
         at,
-        form: Form::Exit {
-            code: Some(operand(at.saturating_add(3), code)),
-        },
-    }
+        form: Form::Do(body),
+    })
 }

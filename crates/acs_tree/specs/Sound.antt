@@ -5,9 +5,11 @@ use Rattle.acs_tree.specs.declared.check_err.CheckErr.{CheckErr}
 use Rattle.acs_tree.specs.declared.kind.Kind.{Kind}
 use Rattle.acs_tree.specs.declared.routine.Routine.{Routine}
 use Rattle.acs_tree.specs.declared.routine.Stmt.{Stmt}
+use Rattle.acs_tree.specs.FilterLists.{is_mask, is_list}
 use Rattle.acs_tree.specs.Nodes.{Node, Head, ListName, Entry, Target, Value, Part, Left, Order, Right, Code, nodes_of}
 use Rattle.acs_tree.specs.Numbers.{is_between}
-use Rattle.acs_tree.specs.Suits.{is_known, is_counted, is_group_list, is_misindexed, is_out_of_range, is_set_later, is_mask, is_list, token_of, is_var_with, is_word_with, is_literal_with, is_listed, is_plain_unknown, suits, suits_set, is_order, token_if, is_bad_literal, is_too_great, range_token, is_bad_mask, is_bad_list, is_among}
+use Rattle.acs_tree.specs.References.{is_known, is_counted, is_group_list, is_misindexed, is_out_of_range, is_set_later}
+use Rattle.acs_tree.specs.Suits.{token_of, is_var_with, is_word_with, is_literal_with, is_listed, is_plain_unknown, suits, suits_set, is_order, token_if, is_bad_literal, is_too_great, range_token, is_bad_mask, is_bad_list, is_among}
 use Rattle.acs_tree.specs.Variables.{variable_of, name_of}
 
 -- the checks: each gives the token at which a node breaks it, if it does

@@ -1,170 +1,21 @@
--- What the checks ask of variables, filter lists and operands (docs/acs-language.md, Kinds that suit).
-use Rattle.std.specs.Prelude.{◌&&◌, ◌||◌, ℕ, Bool, true, false, not, List, [], ◌∷◌, nat_lt, codes, Option, Some, None, is_some, is_none, if◌then◌else◌}
-use Rattle.std.specs.List.{list_all, list_any}
+-- What the checks ask of operands (docs/acs-language.md, Kinds that suit).
+use Rattle.std.specs.Prelude.{◌&&◌, ◌||◌, ℕ, Bool, true, false, not, List, [], ◌∷◌, Option, Some, None, is_none, if◌then◌else◌}
+use Rattle.std.specs.List.{list_any}
 use Rattle.std.specs.Str.{bytes_eq}
-use Rattle.dsn_mask.specs.MaskText.{mask_of, simple_of}
 use Rattle.dsn_mask.specs.Name.{name_of as construct_of}
-use Rattle.acs_tree.specs.declared.kind.Kind.{Kind}
 use Rattle.acs_tree.specs.declared.routine.Compare.{Compare}
 use Rattle.acs_tree.specs.declared.routine.Compare.TheVariants.{Eq, Ne}
-use Rattle.acs_tree.specs.declared.routine.Form.{Form}
-use Rattle.acs_tree.specs.declared.routine.Form.TheBlock.{Filt}
 use Rattle.acs_tree.specs.declared.routine.Operand.{Operand}
 use Rattle.acs_tree.specs.declared.routine.OperandForm.{OperandForm}
 use Rattle.acs_tree.specs.declared.routine.OperandForm.TheVariants.{Literal, Word, Var}
 use Rattle.acs_tree.specs.declared.routine.Ref.{Ref}
 use Rattle.acs_tree.specs.declared.routine.Stmt.{Stmt}
-use Rattle.acs_tree.specs.declared.variable.Indexing.{Indexing}
-use Rattle.acs_tree.specs.declared.variable.Indexing.TheVariants.{Never, Maybe, Always}
-use Rattle.acs_tree.specs.declared.variable.Variable.{Variable}
 use Rattle.acs_tree.specs.declared.variable.VariableKind.{VariableKind}
 use Rattle.acs_tree.specs.declared.variable.VariableKind.TheVariants.{Text, Number, Size, Volumes, Groups}
-use Rattle.acs_tree.specs.Numbers.{is_number, is_between, is_size, is_fit_number, is_fit_size}
-use Rattle.acs_tree.specs.Variables.{variable_of, rank_of}
-
--- variables
-
--- the name is that of a variable
-abbrev pub is_known : Ref → Bool
-is_known ref = is_some (variable_of ref.name)
-
--- there is such a variable and it passes the test
-abbrev pub passes : (Variable → Bool) → Option Variable → Bool
-passes test None = false
-passes test (Some variable) = test variable
-
--- one text
-abbrev pub is_text_kind : VariableKind → Bool
-is_text_kind Text = true
-is_text_kind _ = false
-
--- a number
-abbrev pub is_number_kind : VariableKind → Bool
-is_number_kind Number = true
-is_number_kind _ = false
-
--- a number of KB
-abbrev pub is_size_kind : VariableKind → Bool
-is_size_kind Size = true
-is_size_kind _ = false
-
--- what is compared by order
-abbrev pub is_counted_kind : VariableKind → Bool
-is_counted_kind kind = is_number_kind kind || is_size_kind kind
-
--- a variable that holds one text
-abbrev pub is_text : Ref → Bool
-is_text ref = passes (λ variable. is_text_kind variable.kind) (variable_of ref.name)
-
--- a variable that holds a number
-abbrev pub is_number_variable : Ref → Bool
-is_number_variable ref = passes (λ variable. is_number_kind variable.kind) (variable_of ref.name)
-
--- a variable that holds a size
-abbrev pub is_size_variable : Ref → Bool
-is_size_variable ref = passes (λ variable. is_size_kind variable.kind) (variable_of ref.name)
-
--- a variable that is compared by order
-abbrev pub is_counted : Ref → Bool
-is_counted ref = passes (λ variable. is_counted_kind variable.kind) (variable_of ref.name)
-
--- a variable that is compared with masks: of texts, of volumes or of groups
-abbrev pub takes_masks : Ref → Bool
-takes_masks ref = passes (λ variable. not (is_counted_kind variable.kind)) (variable_of ref.name)
-
--- the whole data set name, which is compared with masks of qualifiers
-abbrev pub is_whole_name : Ref → Bool
-is_whole_name ref = bytes_eq ref.name (codes "DSN") && is_none ref.index
-
--- &STORGRP, which takes several values
-abbrev pub is_group_list : Ref → Bool
-is_group_list ref = bytes_eq ref.name (codes "STORGRP")
-
--- an index on a variable that takes none, or none on one that needs it
-abbrev pub is_misindexed_by : Indexing → Option (List ℕ) → Bool
-is_misindexed_by Never index = is_some index
-is_misindexed_by (Maybe most) index = false
-is_misindexed_by (Always most) index = is_none index
-
--- the variable has an index that it does not take, or lacks one
-abbrev pub is_misindexed : Ref → Bool
-is_misindexed ref = passes (λ variable. is_misindexed_by variable.indexing ref.index) (variable_of ref.name)
-
--- an index that is no number from 1 to the most
-abbrev pub is_past : ℕ → Option (List ℕ) → Bool
-is_past most None = false
-is_past most (Some index) = not (is_between 1 most index)
-
--- an index past the range that the variable takes
-abbrev pub is_out_of_range_by : Indexing → Option (List ℕ) → Bool
-is_out_of_range_by Never index = false
-is_out_of_range_by (Maybe most) index = is_past most index
-is_out_of_range_by (Always most) index = is_past most index
-
--- the variable has an index out of its range
-abbrev pub is_out_of_range : Ref → Bool
-is_out_of_range ref = passes (λ variable. is_out_of_range_by variable.indexing ref.index) (variable_of ref.name)
-
--- set by a routine that runs later than one of that kind
-abbrev pub is_later : Kind → Option Kind → Bool
-is_later kind None = false
-is_later kind (Some setter) = nat_lt (rank_of kind) (rank_of setter)
-
--- a variable that a later routine sets
-abbrev pub is_set_later : Kind → Ref → Bool
-is_set_later kind ref = passes (λ variable. is_later kind variable.set_by) (variable_of ref.name)
-
--- filter lists
-
--- a word that is a mask
-abbrev pub is_mask : List ℕ → Bool
-is_mask word = is_some (mask_of word)
-
--- a word that is a simple mask
-abbrev pub is_simple : List ℕ → Bool
-is_simple word = is_some (simple_of word)
-
--- a filter list of that name
-abbrev pub is_list_form : List ℕ → Form → Bool
-is_list_form name (Filt other other_at include exclude) = bytes_eq other name
-is_list_form name _ = false
-
--- the statement is a filter list of that name
-abbrev pub is_list_named : List ℕ → Stmt → Bool
-is_list_named name statement = is_list_form name statement.form
-
--- one of the statements is a filter list of that name
-abbrev pub is_list : List Stmt → List ℕ → Bool
-is_list before name = list_any (is_list_named name) before
-
--- no variable, but the name of an earlier filter list, with no index
-abbrev pub is_list_ref : List Stmt → Ref → Bool
-is_list_ref before ref = not (is_known ref) && (is_none ref.index && is_list before ref.name)
-
--- an entry that is compared with any text: a literal or a simple mask
-abbrev pub is_simple_entry : OperandForm → Bool
-is_simple_entry (Literal text) = true
-is_simple_entry (Word word) = is_simple word
-is_simple_entry (Var ref) = true
-
--- literals and simple masks alone
-abbrev pub are_simple : List Operand → Bool
-are_simple entries = list_all (λ entry. is_simple_entry entry.form) entries
-
--- no filter list, or one of literals and simple masks
-abbrev pub is_simple_form : Form → Bool
-is_simple_form (Filt name name_at include exclude) = are_simple include && are_simple exclude
-is_simple_form _ = true
-
--- the statement is no filter list, or one of literals and simple masks
-abbrev pub is_simple_statement : Stmt → Bool
-is_simple_statement statement = is_simple_form statement.form
-
--- each filter list of that name among the statements has simple masks alone
-abbrev pub is_simple_list : List Stmt → List ℕ → Bool
-is_simple_list before name = list_all (λ statement. not (is_list_named name statement) || is_simple_statement statement) before
-
--- operands
+use Rattle.acs_tree.specs.FilterLists.{is_mask, is_simple, is_list_ref, is_simple_list}
+use Rattle.acs_tree.specs.Numbers.{is_number, is_size, is_fit_number, is_fit_size}
+use Rattle.acs_tree.specs.References.{is_known, passes, is_text, is_number_variable, is_size_variable, takes_masks, is_whole_name, is_group_list, is_out_of_range}
+use Rattle.acs_tree.specs.Variables.{variable_of}
 
 -- the token of what stands at this token: of a variable, the variable's own
 abbrev pub token_by : ℕ → OperandForm → ℕ

@@ -1,5 +1,5 @@
 use Rattle.std.proofs.Common.{◌≡◌, drop}
-use Rattle.acs_tree.specs.Suits.{is_simple_list}
+use Rattle.acs_tree.specs.FilterLists.{is_simple_list}
 use Rattle.acs_check.proofs.earlier.is_simple_list.Given as goal
 
 abbrev pub invariant-loop-index : goal.invariant-loop-index
