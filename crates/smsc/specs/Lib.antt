@@ -1,0 +1,3 @@
+pub mod ExitStatus
+pub mod ToolText
+pub mod ToolEnds

@@ -1,0 +1,52 @@
+//! The translator as a program: it translates the routine on standard input.
+#![tactic(auto)]
+
+mod answering;
+mod help;
+mod status;
+#[cfg(test)]
+mod tests;
+mod tool;
+mod words;
+
+use sms_base::{StdSink, StdSource, Words, read_words};
+use status::ToolStatus;
+use std::io::{self, Write};
+use std::process::ExitCode;
+use tool::smsc_main;
+
+fn main(rt: HostRuntime) -> ExitCode {
+    let status = match read_words(&rt) {
+        Words::Faulty => ToolStatus::BadWords,
+        Words::NoMemory => ToolStatus::NoMemory,
+        Words::Read(words) => match help::text_for(&words) {
+            Some(text) => show(&rt, text),
+            None => answer(&rt, &words),
+        },
+    };
+    report(&rt, status);
+    ExitCode::from(status.code())
+}
+
+// Answers what is on standard input.
+fn answer(rt: &HostRuntime, words: &[String]) -> ToolStatus {
+    let mut src = StdSource::new(rt.reader());
+    let mut out = StdSink::new(io::writer(rt));
+    smsc_main(rt.alloc(), words, &mut src, &mut out)
+}
+
+// Writes a text to standard output.
+fn show(rt: &HostRuntime, text: &str) -> ToolStatus {
+    match rt.print(text) {
+        Ok(()) => ToolStatus::Done,
+        Err(_) => ToolStatus::WriteFault,
+    }
+}
+
+// Says a status other than 0 and 1 on standard error.
+fn report(rt: &HostRuntime, status: ToolStatus) {
+    let code = status.code();
+    if code > 1 {
+        let _ = eprintln!(rt; "smsc: status {code}");
+    }
+}
