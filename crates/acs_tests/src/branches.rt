@@ -82,7 +82,7 @@ fn a_fault_in_any_statement_is_found(rt: HostRuntime) -> Result<(), Fail> {
     compare_all(&rt, rt.alloc(), &STATEMENTS)
 }
 
-const CONDITIONS: [Row; 13] = [
+const CONDITIONS: [Row; 14] = [
     (
         StorClas,
         "PROC STORCLAS IF &HLQ = 'A' AND &LLQ GT 'B' THEN EXIT END",
@@ -132,6 +132,11 @@ const CONDITIONS: [Row; 13] = [
         StorClas,
         "PROC STORCLAS SELECT (&HLQ) WHEN ('A', 'B') EXIT WHEN ('C', 'D' A**) EXIT END END",
         C(9, 18),
+    ),
+    (
+        StorClas,
+        "PROC STORCLAS SELECT/* one */(&HLQ)WHEN('A')EXIT/* ( */WHEN('B',A**)EXIT END END",
+        C(9, 15),
     ),
     (
         StorClas,

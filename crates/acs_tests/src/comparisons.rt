@@ -4,9 +4,14 @@ use crate::texts::{Row, compare_all};
 use acs_tree::Kind::{StorClas, StorGrp};
 use std::test::Fail;
 
-const TEXTS: [Row; 13] = [
+const TEXTS: [Row; 14] = [
     (StorClas, "PROC STORCLAS IF &HLQ = 'A' THEN EXIT END", Sound),
     (StorClas, "PROC STORCLAS IF &HLQ NE '' THEN EXIT END", Sound),
+    (
+        StorClas,
+        "PROC STORCLAS IF &HLQ = 'a b' THEN EXIT END",
+        Sound,
+    ),
     (StorClas, "PROC STORCLAS IF &HLQ = A* THEN EXIT END", Sound),
     (StorClas, "PROC STORCLAS IF &HLQ = 10 THEN EXIT END", Sound),
     (

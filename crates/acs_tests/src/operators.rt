@@ -1,8 +1,8 @@
 //! The comparisons and what they compare.
 use crate::answer::Answer::{self, C, Sound};
 use crate::answer::answer_of;
-use crate::texts::text_of;
-use acs_tree::Kind::StorGrp;
+use crate::texts::{Row, compare_all};
+use acs_tree::Kind::{StorClas, StorGrp};
 use std::alloc::Global;
 use std::process::Abort;
 use std::test::Fail;
@@ -31,6 +31,45 @@ const SIDES: [(&str, &str, Answer); 14] = [
     ("&STORGRP", "'A'", C(7, 4)),
 ];
 
+const ORDERS_OF_TEXTS: [Row; 8] = [
+    (
+        StorClas,
+        "PROC STORCLAS IF &DSN GT 'A' THEN EXIT END",
+        C(7, 4),
+    ),
+    (
+        StorClas,
+        "proc storclas if &dsn gt 'A' then exit end",
+        C(7, 4),
+    ),
+    (StorClas, "PROC STORCLAS IF &HLQ>3 THEN EXIT END", C(7, 4)),
+    (
+        StorClas,
+        "PROC STORCLAS IF &HLQ>=&NQUAL THEN EXIT END",
+        C(7, 4),
+    ),
+    (
+        StorClas,
+        "PROC STORCLAS IF &DSN(1)^<'A' THEN EXIT END",
+        C(7, 7),
+    ),
+    (
+        StorClas,
+        "PROC STORCLAS IF &MSVGP NL '' THEN EXIT END",
+        C(7, 4),
+    ),
+    (
+        StorClas,
+        "PROC STORCLAS SELECT WHEN (&HLQ LE 'A') EXIT END END",
+        C(7, 6),
+    ),
+    (
+        StorClas,
+        "PROC STORCLAS IF &NQUAL > 3 AND &ANYVOL < 'A' THEN EXIT END",
+        C(7, 8),
+    ),
+];
+
 #[test]
 fn all_kinds_are_compared_for_equality(rt: HostRuntime) -> Result<(), Fail> {
     for (left, right, _) in SIDES {
@@ -47,6 +86,11 @@ fn numbers_and_sizes_are_compared_by_order(rt: HostRuntime) -> Result<(), Fail> 
     Ok(())
 }
 
+#[test]
+fn texts_are_not_compared_by_order(rt: HostRuntime) -> Result<(), Fail> {
+    compare_all(&rt, rt.alloc(), &ORDERS_OF_TEXTS)
+}
+
 fn compare(
     rt: &impl Abort,
     alloc: Global,
@@ -56,20 +100,9 @@ fn compare(
     wanted: Answer,
 ) -> Result<(), Fail> {
     for operator in operators {
-        let text = text_of(
-            alloc,
-            &[
-                ("PROC STORGRP IF ", 1),
-                (left, 1),
-                (" ", 1),
-                (operator, 1),
-                (" ", 1),
-                (right, 1),
-                (" THEN EXIT END", 1),
-            ],
-        )?;
-        let answer = answer_of(rt, alloc, StorGrp, &text)?;
-        assert_eq!(rt; answer, wanted, "{left} {operator} {right}");
+        let text = format!(in alloc; "PROC STORGRP IF {left} {operator} {right} THEN EXIT END")?;
+        let answer = answer_of(rt, alloc, StorGrp, text.as_bytes())?;
+        assert_eq!(rt; answer, wanted, "{text}");
     }
     Ok(())
 }

@@ -58,7 +58,7 @@ PROC STORGRP
 END
 ";
 
-const ROUTINES: [Row; 16] = [
+const ROUTINES: [Row; 14] = [
     (DataClas, DATA_CLASS, Sound),
     (StorClas, STORAGE_CLASS, Sound),
     (MgmtClas, MANAGEMENT_CLASS, Sound),
@@ -84,12 +84,6 @@ const ROUTINES: [Row; 16] = [
         "PROC DATACLAS WRITE 'NO ' &JOB EXIT CODE(12) END",
         Sound,
     ),
-    (
-        StorClas,
-        "PROC STORCLAS IF &DSN GT 'A' THEN EXIT END",
-        C(7, 4),
-    ),
-    (StorClas, "PROC STORCLAS SET &DATACLAS = 'A' END", C(3, 3)),
     (
         StorClas,
         "PROC STORCLAS WRITE 'STORCLAS' SET &STORCLAS = '' END",
