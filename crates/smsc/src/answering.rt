@@ -1,6 +1,6 @@
 //! From the bytes of a routine to the text of the answer.
 ghost use Rattle.std.specs.Prelude.{◌≡◌, ◌<◌, ◌^◌, ◌++◌, length, decimal, IfOk, OnOk};
-ghost use Rattle.smsc.specs.ToolText.{letter_of, translated_text, fault_text, IsAnswer};
+ghost use Rattle.smsc.specs.ToolText.{letter_of, translated_text, fault_text, IsAnswer, TellsFault};
 
 use crate::status::ToolStatus;
 use acs_translate::{RoutineFault, Stage, TranslateErr, translate};
@@ -9,24 +9,30 @@ use std::alloc::{AllocError, Global};
 
 /// The answer to the bytes as a routine of this kind: its status and its text.
 #[tactic(auto, using(crate::proofs::AnswerLemmas::done, crate::proofs::AnswerLemmas::found))]
-pub fn answer(
-    alloc: Global,
-    kind: Kind,
-    bytes: &[u8],
-) -> Result<(ToolStatus, Vec<u8>), AllocError>
+pub fn answer(alloc: Global, kind: Kind, bytes: &[u8]) -> Result<(ToolStatus, Vec<u8>), AllocError>
     requires { length bytes.now < 2 ^ 32 }
     ensures { IfOk result (λ found. IsAnswer bytes.now kind found.0 found.1.items) }
 {
-    match translate(alloc, bytes, kind) {
-        Ok((_, count)) => {
-            let text = translated_text(alloc, kind, count)?;
-            Ok((ToolStatus::Done, text))
+    let (_routine, count) = match translate(alloc, bytes, kind) {
+        Ok(found) => found,
+        Err(err) => {
+            let (status, text) = refusal(alloc, err)?;
+            return Ok((status, text));
         }
-        Err(TranslateErr::Fault(fault)) => {
+    };
+    let text = translated_text(alloc, kind, count)?;
+    Ok((ToolStatus::Done, text))
+}
+
+fn refusal(alloc: Global, err: TranslateErr) -> Result<(ToolStatus, Vec<u8>), AllocError>
+    ensures { IfOk result (λ found. TellsFault err found.0 found.1.items) }
+{
+    match err {
+        TranslateErr::Fault(fault) => {
             let text = fault_text(alloc, &fault)?;
             Ok((ToolStatus::FaultFound, text))
         }
-        Err(TranslateErr::NoMemory) => Err(AllocError),
+        TranslateErr::NoMemory => Err(AllocError),
     }
 }
 

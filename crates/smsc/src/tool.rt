@@ -38,7 +38,7 @@ pub fn smsc_main<S: Source, K: Sink>(
 }
 
 // Answers the routine of the source.
-#[tactic(auto, using(crate::proofs::AnswerLemmas::answered))]
+#[tactic(auto, using(crate::proofs::AnswerLemmas::answered, crate::proofs::AnswerLemmas::never_bad_words, crate::proofs::AnswerLemmas::never_silent))]
 fn answer_source<S: Source, K: Sink>(
     alloc: Global,
     kind: Kind,

@@ -6,7 +6,6 @@ ghost use Rattle.smsc.specs.ToolEnds.{AreTranslateWords};
 use acs_tree::Kind;
 
 /// The kind of routine that the words ask to translate, if they do.
-#[tactic(auto, using(crate::proofs::WordLemmas::asked, crate::proofs::WordLemmas::not_asked))]
 pub fn kind_asked(words: &[String]) -> Option<Kind>
     ensures { MatchOption result
         ((kind : Kind) → AreTranslateWords (map string_bytes words.now) kind → ⊥)

@@ -1,0 +1,211 @@
+use crate::status::ToolStatus::{self, BadWords, Done, FaultFound, ReadFault, TooLong, WriteFault};
+use crate::tool::smsc_main;
+use sms_base::{MemSink, MemSource};
+use std::alloc::Global;
+use std::test::Fail;
+
+/// The most bytes that a test's run may write.
+const ROOM: usize = 100;
+
+/// How a run ended, and what it wrote.
+#[derive(Drop)]
+struct Outcome {
+    status: ToolStatus,
+    text: Vec<u8>,
+}
+
+/// The kind, the routine, the status and the text that is printed.
+const ROUTINES: [(&str, &[u8], ToolStatus, &[u8]); 19] = [
+    (
+        "STORCLAS",
+        b"PROC STORCLAS SELECT WHEN (&HLQ = 'A') SET &STORCLAS = 'SC1' WHEN (&DSN = A.**) EXIT CODE(8) END END",
+        Done,
+        b"TRANSLATED STORCLAS 26\n",
+    ),
+    (
+        "DATACLAS",
+        b"PROC DATACLAS END",
+        Done,
+        b"TRANSLATED DATACLAS 3\n",
+    ),
+    (
+        "MGMTCLAS",
+        b"PROC &MGMTCLAS END",
+        Done,
+        b"TRANSLATED MGMTCLAS 3\n",
+    ),
+    (
+        "STORGRP",
+        b"proc 1 storgrp /* X */ end",
+        Done,
+        b"TRANSLATED STORGRP 4\n",
+    ),
+    ("STORCLAS", b"PROC /* X", FaultFound, b"FAULT L1 5\n"),
+    ("STORCLAS", b"PROC 'X", FaultFound, b"FAULT L2 5\n"),
+    ("STORCLAS", b"PROC !", FaultFound, b"FAULT L3 5\n"),
+    (
+        "STORCLAS",
+        b"A2345678901234567890123456789012345678901234567890123456789012345",
+        FaultFound,
+        b"FAULT L4 0\n",
+    ),
+    (
+        "STORCLAS",
+        b"PROC STORCLAS SET &STORCLAS 'A' END",
+        FaultFound,
+        b"FAULT P1 4\n",
+    ),
+    (
+        "STORCLAS",
+        b"PROC STORCLAS SET",
+        FaultFound,
+        b"FAULT P2 3\n",
+    ),
+    ("STORCLAS", b"", FaultFound, b"FAULT P2 0\n"),
+    ("STORCLAS", b" /* */ ", FaultFound, b"FAULT P2 0\n"),
+    (
+        "STORCLAS",
+        b"PROC STORCLAS SET &DATACLAS = 'A' END",
+        FaultFound,
+        b"FAULT C3 3\n",
+    ),
+    (
+        "STORCLAS",
+        b"PROC STORCLAS IF &DSN GT 'A' THEN EXIT END",
+        FaultFound,
+        b"FAULT C7 4\n",
+    ),
+    (
+        "STORCLAS",
+        b"PROC STORCLAS EXIT CODE(65536) END",
+        FaultFound,
+        b"FAULT C12 5\n",
+    ),
+    (
+        "STORCLAS",
+        b"PROC STORCLAS IF &MGMTCLAS = 'A' THEN EXIT END",
+        FaultFound,
+        b"FAULT C13 3\n",
+    ),
+    (
+        "DATACLAS",
+        b"PROC STORCLAS END",
+        FaultFound,
+        b"FAULT C1 1\n",
+    ),
+    // the scanner's fault comes first, then the parser's
+    (
+        "DATACLAS",
+        b"PROC STORCLAS SET 'A",
+        FaultFound,
+        b"FAULT L2 18\n",
+    ),
+    (
+        "DATACLAS",
+        b"PROC STORCLAS SET A",
+        FaultFound,
+        b"FAULT P1 3\n",
+    ),
+];
+
+/// Words that ask for nothing.
+const BAD_WORDS: [&[&str]; 10] = [
+    &[],
+    &["translate"],
+    &["STORCLAS"],
+    &["translate", "storclas"],
+    &["translate", "STORCLASS"],
+    &["translate", "STORCLA"],
+    &["translate", ""],
+    &["TRANSLATE", "STORCLAS"],
+    &["translate", "STORCLAS", "STORCLAS"],
+    &["STORCLAS", "translate"],
+];
+
+#[test]
+fn each_routine_is_translated_or_told_its_fault(rt: HostRuntime) -> Result<(), Fail> {
+    for (kind, routine, status, text) in ROUTINES {
+        let outcome = run(rt.alloc(), &["translate", kind], routine, ROOM)?;
+        assert_eq!(rt; outcome.status, status, "at {routine:?}");
+        assert_eq!(rt; outcome.text.as_slice(), text, "at {routine:?}");
+    }
+    Ok(())
+}
+
+#[test]
+fn other_words_are_bad(rt: HostRuntime) -> Result<(), Fail> {
+    for words in BAD_WORDS {
+        let outcome = run(rt.alloc(), words, b"PROC STORCLAS END", ROOM)?;
+        assert_eq!(rt; outcome.status, BadWords);
+        assert_eq!(rt; outcome.text.len(), 0);
+    }
+    Ok(())
+}
+
+#[test]
+fn a_routine_of_65536_bytes_is_read_and_no_longer_one(rt: HostRuntime) -> Result<(), Fail> {
+    for (blanks, status, text) in [
+        (65_519, Done, b"TRANSLATED STORCLAS 3\n".as_slice()),
+        (65_520, TooLong, b"".as_slice()),
+    ] {
+        let mut routine = b"PROC STORCLAS END".to_vec(rt.alloc())?;
+        for _ in 0..blanks {
+            routine.push(b' ')?;
+        }
+        let outcome = run(rt.alloc(), &["translate", "STORCLAS"], &routine, ROOM)?;
+        assert_eq!(rt; outcome.status, status);
+        assert_eq!(rt; outcome.text.as_slice(), text);
+    }
+    Ok(())
+}
+
+#[test]
+fn a_fault_of_the_source_or_the_sink_is_told(rt: HostRuntime) -> Result<(), Fail> {
+    let alloc = rt.alloc();
+    let routine = b"PROC STORCLAS END";
+    let unread = run_over(alloc, routine, vec![in alloc; 1u64]?, Vec::new(alloc), ROOM)?;
+    assert_eq!(rt; unread.status, ReadFault);
+    assert_eq!(rt; unread.text.len(), 0);
+    let unwritten = run_over(alloc, routine, Vec::new(alloc), vec![in alloc; 2u64]?, ROOM)?;
+    assert_eq!(rt; unwritten.status, WriteFault);
+    assert_eq!(rt; unwritten.text.as_slice(), b"TRANSLA".as_slice());
+    Ok(())
+}
+
+fn run(alloc: Global, words: &[&str], input: &[u8], room: usize) -> Result<Outcome, Fail> {
+    let mut all = Vec::new(alloc);
+    for word in words {
+        all.push(String::from_str(alloc, word)?)?;
+    }
+    run_words(alloc, &all, input, Vec::new(alloc), Vec::new(alloc), room)
+}
+
+/// Translates over a source and a sink that fail at the calls with these numbers.
+fn run_over(
+    alloc: Global,
+    input: &[u8],
+    reads: Vec<u64>,
+    writes: Vec<u64>,
+    room: usize,
+) -> Result<Outcome, Fail> {
+    let words = vec![in alloc;
+        String::from_str(alloc, "translate")?,
+        String::from_str(alloc, "STORCLAS")?,
+    ]?;
+    run_words(alloc, &words, input, reads, writes, room)
+}
+
+fn run_words(
+    alloc: Global,
+    words: &[String],
+    input: &[u8],
+    reads: Vec<u64>,
+    writes: Vec<u64>,
+    room: usize,
+) -> Result<Outcome, Fail> {
+    let mut src = MemSource::new(input.to_vec(alloc)?, 16, reads);
+    let mut out = MemSink::new(vec![in alloc; 0; room]?, 7, writes);
+    let status = smsc_main(alloc, words, &mut src, &mut out);
+    let text = out.taken().to_vec(alloc)?;
+    Ok(Outcome { status, text })
+}
