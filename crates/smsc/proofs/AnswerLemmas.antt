@@ -1,5 +1,5 @@
 -- What an answer says of the status and the sink.
-use Rattle.std.proofs.Common.{◌≡◌, Bool, true, false, List, ℕ, refl, sym, ap, ◌∙◌, subst}
+use Rattle.std.proofs.Common.{◌≡◌, true, List, ℕ, sym, subst}
 use Rattle.std.specs.Io.KnownBytes.{Appends}
 use Rattle.acs_tree.specs.declared.kind.Kind.{Kind}
 use Rattle.acs_tree.specs.declared.routine.Routine.{Routine}
@@ -7,8 +7,8 @@ use Rattle.acs_translate.specs.declared.fault.TranslateErr.{TranslateErr}
 use Rattle.acs_translate.specs.declared.fault.TranslateErr.TheVariants.{Fault, NoMemory}
 use Rattle.acs_translate.specs.Translation.{IsTranslated, MayRefuse}
 use Rattle.sms_base.specs.Observed.{Observed, WasRead}
-use Rattle.smsc.specs.ToolText.{translated_text, fault_text, IsAnswer, translated, faulty, TellsFault}
-use Rattle.smsc.specs.ToolEnds.{most_bytes, IsAnswered, Ends, leaves_sink}
+use Rattle.smsc.specs.ToolText.{translated_text, IsAnswer, translated, faulty, TellsFault}
+use Rattle.smsc.specs.ToolEnds.{most_bytes, Ends, leaves_sink}
 use Rattle.smsc.specs.declared.status.ToolStatus.{ToolStatus}
 use Rattle.smsc.specs.declared.status.ToolStatus.TheVariants.{Done, FaultFound, BadWords}
 
