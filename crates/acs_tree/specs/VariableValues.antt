@@ -95,15 +95,19 @@ default_rows defaults =
     (codes "DEF_STORCLAS", Text defaults.storclas) ∷
     (codes "DEF_MGMTCLAS", Text defaults.mgmtclas) ∷ []
 
--- numbers and sizes
-abbrev pub amount_rows : Amounts → List ValueRow
-amount_rows amounts =
+-- numbers, of which two are always 0
+abbrev pub number_rows : Amounts → List ValueRow
+number_rows amounts =
     (codes "RETPD", Number amounts.retpd) ∷
     (codes "BLKSIZE", Number amounts.blksize) ∷
-    (codes "SIZE", Size amounts.size) ∷
-    (codes "MAXSIZE", Size amounts.maxsize) ∷
     (codes "FILENUM", Number 0) ∷
     (codes "MEMNQUAL", Number 0) ∷ []
+
+-- sizes in KB
+abbrev pub size_rows : Amounts → List ValueRow
+size_rows amounts =
+    (codes "SIZE", Size amounts.size) ∷
+    (codes "MAXSIZE", Size amounts.maxsize) ∷ []
 
 -- the volumes that the request names
 abbrev pub volume_rows : List (List ℕ) → List ValueRow
@@ -127,16 +131,17 @@ value_rows index input values =
     read_write_rows values ++ (
     origin_rows input.origin ++ (
     attribute_rows input.attributes ++ (
-    amount_rows input.amounts ++ (
+    number_rows input.amounts ++ (
+    size_rows input.amounts ++ (
     volume_rows input.volumes ++ (
     accounting_rows input.accounting index ++ (
     environment_rows input.environment ++
-    default_rows input.defaults)))))))
+    default_rows input.defaults))))))))
 
 -- the row of that name
 abbrev pub held_by : List ValueRow → List ℕ → Option Value
 held_by [] name = None
-held_by (row ∷ rows) name = if bytes_eq row.0 name then Some row.1 else held_by rows name
+held_by (row ∷ rows) name = if bytes_eq name row.0 then Some row.1 else held_by rows name
 
 -- a variable that is always null is in no row, and a name that no variable has is null too
 abbrev pub or_null_value : Option Value → Value

@@ -1,0 +1,2 @@
+pub mod QualifierLemmas
+pub mod RowLemmas
