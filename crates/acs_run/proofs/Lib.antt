@@ -1,2 +1,4 @@
 pub mod QualifierLemmas
 pub mod RowLemmas
+pub mod CutLemmas
+pub mod LineLemmas

@@ -2,6 +2,8 @@
 #![tactic(auto)]
 
 mod compare;
+mod draft;
+mod line;
 mod short;
 mod value;
 mod values;
