@@ -119,12 +119,12 @@ fn branch(
     lists: &[FilterList],
     subject: &Option<Ref>,
     arm: &When,
-    end: u64,
+    behind: u64,
 ) -> Result<(), AllocError>
-    ensures { OnOk result ((other : Mean) (rest : List Instr) → end ≡ length rest → Does kind (filters_of lists.now) other rest code.old → Does kind (filters_of lists.now) (first_of subject.now (arm_of kind lists.now arm.now ∷ []) other) rest code.new) }
+    ensures { OnOk result ((other : Mean) (rest : List Instr) → behind ≡ length rest → Does kind (filters_of lists.now) other rest code.old → Does kind (filters_of lists.now) (first_of subject.now (arm_of kind lists.now arm.now ∷ []) other) rest code.new) }
 {
     let fails = code.place();
-    jump(code, end)?;
+    jump(code, behind)?;
     statement(alloc, code, kind, lists, arm.body.get())?;
     let fork = Fork {
         holds: code.place(),

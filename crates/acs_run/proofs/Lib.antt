@@ -2,3 +2,5 @@ pub mod QualifierLemmas
 pub mod RowLemmas
 pub mod CutLemmas
 pub mod LineLemmas
+pub mod StepLemmas
+pub mod TraceLemmas

@@ -3,7 +3,7 @@ use Rattle.std.proofs.Common.{◌≡◌, ℕ, Bool, true, false, List, [], ◌�
 use Rattle.std.specs.Prelude.{Option, Some, None, bytes_eq, if◌then◌else◌}
 use Rattle.acs_tree.specs.declared.input.Input.{Input}
 use Rattle.acs_tree.specs.declared.values.Values.{Values}
-use Rattle.acs_tree.specs.VariableValues.{Value, ValueRow, Text, held_by, name_rows, or_null_value, read_write_rows, value_rows, variable_value}
+use Rattle.acs_tree.specs.VariableValues.{Value, ValueRow, held_by, name_rows, or_null_value, read_write_rows, variable_value}
 use Rattle.dsn_mask.specs.Filter.{FilterLists}
 use Rattle.acs_tree.specs.Compares.{text_equals}
 use Rattle.acs_code.specs.Machine.{filter_comparand}
