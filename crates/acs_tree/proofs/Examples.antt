@@ -9,28 +9,20 @@ use Rattle.acs_tree.specs.declared.kind.Kind.TheVariants.{StorClas, StorGrp}
 use Rattle.acs_tree.specs.declared.routine.Operand.{Operand}
 use Rattle.acs_tree.specs.declared.routine.OperandForm.TheVariants.{Literal, Word, Var}
 use Rattle.acs_tree.specs.declared.routine.Ref.{Ref}
-use Rattle.acs_tree.specs.declared.values.Values.{Values}
 use Rattle.acs_tree.specs.declared.ending.Ending.TheVariants.{Falls, Exit}
 use Rattle.acs_tree.specs.Comparands.{filter_of, size_of}
 use Rattle.acs_tree.specs.Conditions.{comparison, equals_any}
+use Rattle.acs_tree.specs.Inputs.{bare_input, no_values}
 use Rattle.acs_tree.specs.Meaning.{line_of, first_of, sets, nothing, in_turn, writes, Arm}
 use Rattle.acs_tree.specs.Outcome.{exits}
 use Rattle.acs_tree.specs.Variables.{variable_of}
 use Rattle.acs_tree.specs.VariableValues.{Text, Number, variable_value}
 
--- no class and no group
-abbrev no_values : Values
-no_values = record { dataclas = []; storclas = []; mgmtclas = []; groups = [] }
-
--- a request for a data set A.B, of two volumes
+-- a request of JOB1 for a data set A.B, on two volumes
 abbrev ab : Input
-ab = record {
-  dsn = codes "A.B";
+ab = record (bare_input (codes "A.B")) {
   origin = record { job = codes "JOB1"; user = []; group = []; pgm = []; dd = []; applic = [] };
   accounting = record { acct_job = codes "A1" ∷ codes "A2" ∷ []; acct_step = [] };
-  attributes = record { unit = []; dsorg = []; recorg = []; dsntype = []; dstype = codes "PERM"; dsowner = []; expdt = [] };
-  environment = record { acsenvir = codes "ALLOC"; xmode = codes "BATCH"; sysname = []; sysplex = [] };
-  defaults = record { dataclas = []; storclas = []; mgmtclas = [] };
   amounts = record { retpd = 7; blksize = 0; size = 56; maxsize = 886 };
   volumes = codes "V1" ∷ codes "V2" ∷ [];
 }

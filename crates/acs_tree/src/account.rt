@@ -1,7 +1,7 @@
 //! The accounting of a job or of a step.
 ghost use Rattle.std.specs.Prelude.{◌≡◌, ◌≤◌, ◌<◌, ◌↔◌, ◌∷◌, ◌++◌, [], IsTrue, length};
-ghost use Rattle.acs_tree.specs.AccountFields.{filler};
 
+use crate::texts::null;
 use dsn_mask::Short;
 use std::marker::Model;
 
@@ -17,7 +17,6 @@ pub struct Account {
 impl Model for Account {
     ghost use Rattle.std.specs.Prelude.{List, ℕ, length, take, ◌≡◌, ◌≤◌};
     ghost use Rattle.acs_tree.specs.Lists.{filled};
-    ghost use Rattle.acs_tree.specs.AccountFields.{filler};
 
     ghost Value = { List (List ℕ) };
 
@@ -71,7 +70,7 @@ impl Account {
         ensures { result ≡ [] }
     {
         Account {
-            items: [unused(); 8],
+            items: [null(); 8],
             count: 0,
         }
     }
@@ -105,11 +104,4 @@ impl Account {
     {
         self == other
     }
-}
-
-// The null text, which stands in unused places.
-fn unused() -> Short
-    ensures { result ≡ filler }
-{
-    Short::new(b"").unwrap()
 }

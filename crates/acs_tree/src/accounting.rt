@@ -1,5 +1,5 @@
 // The accounting of a job and of its step.
-ghost use Rattle.std.specs.Prelude.{◌≡◌, ◌↔◌, IsTrue};
+ghost use Rattle.std.specs.Prelude.{◌≡◌, ◌↔◌, [], IsTrue};
 
 use crate::account::Account;
 
@@ -11,6 +11,15 @@ pub struct Accounting {
 }
 
 impl Accounting {
+    pub(crate) fn new() -> Self
+        ensures { result ≡ record { acct_job = []; acct_step = [] } }
+    {
+        Accounting {
+            acct_job: Account::new(),
+            acct_step: Account::new(),
+        }
+    }
+
     pub(crate) fn equals(&self, other: &Self) -> bool
         ensures { IsTrue result ↔ (self.now ≡ other.now) }
     {

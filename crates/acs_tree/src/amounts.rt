@@ -11,6 +11,17 @@ pub struct Amounts {
 }
 
 impl Amounts {
+    pub(crate) fn new() -> Self
+        ensures { result ≡ record { retpd = 0; blksize = 0; size = 0; maxsize = 0 } }
+    {
+        Amounts {
+            retpd: 0,
+            blksize: 0,
+            size: 0,
+            maxsize: 0,
+        }
+    }
+
     pub(crate) fn equals(&self, other: &Self) -> bool
         ensures { IsTrue result ↔ (self.now ≡ other.now) }
     {

@@ -1,6 +1,7 @@
 // The classes that a request names as defaults.
-ghost use Rattle.std.specs.Prelude.{◌≡◌, ◌↔◌, IsTrue};
+ghost use Rattle.std.specs.Prelude.{◌≡◌, ◌↔◌, [], IsTrue};
 
+use crate::texts::null;
 use dsn_mask::Short;
 
 /// The classes that a request names as defaults: the variables of these names behind `DEF_`.
@@ -12,6 +13,16 @@ pub struct Defaults {
 }
 
 impl Defaults {
+    pub(crate) fn new() -> Self
+        ensures { result ≡ record { dataclas = []; storclas = []; mgmtclas = [] } }
+    {
+        Defaults {
+            dataclas: null(),
+            storclas: null(),
+            mgmtclas: null(),
+        }
+    }
+
     pub(crate) fn equals(&self, other: &Self) -> bool
         ensures { IsTrue result ↔ (self.now ≡ other.now) }
     {

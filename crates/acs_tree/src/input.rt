@@ -1,5 +1,6 @@
 // What the read-only variables hold.
 ghost use Rattle.std.specs.Prelude.{◌≡◌, ◌↔◌, IsTrue};
+ghost use Rattle.acs_tree.specs.Inputs.{bare_input};
 
 use crate::accounting::Accounting;
 use crate::amounts::Amounts;
@@ -26,6 +27,22 @@ pub struct Input {
 }
 
 impl Input {
+    /// What a request gives that names a data set and gives nothing else.
+    pub fn new(dsn: Dsn) -> Self
+        ensures { result ≡ bare_input dsn }
+    {
+        Input {
+            dsn,
+            origin: Origin::new(),
+            accounting: Accounting::new(),
+            attributes: Attributes::new(),
+            environment: Environment::new(),
+            defaults: Defaults::new(),
+            amounts: Amounts::new(),
+            volumes: Volumes::new(),
+        }
+    }
+
     /// Whether all parts of the two are equal.
     pub fn equals(&self, other: &Self) -> bool
         ensures { IsTrue result ↔ (self.now ≡ other.now) }

@@ -20,6 +20,7 @@ mod more;
 mod origin;
 mod routine;
 mod slate;
+mod texts;
 mod values;
 mod variable;
 mod variables;
