@@ -17,6 +17,7 @@ pub struct Account {
 impl Model for Account {
     ghost use Rattle.std.specs.Prelude.{List, ℕ, length, take, ◌≡◌, ◌≤◌};
     ghost use Rattle.acs_tree.specs.Lists.{filled};
+    ghost use Rattle.acs_tree.specs.AccountFields.{filler};
 
     ghost Value = { List (List ℕ) };
 
