@@ -1,1 +1,4 @@
 pub mod UpperLemmas
+pub mod PushLemmas
+pub mod SlateLemmas
+pub mod Examples

@@ -1,25 +1,56 @@
 //! The tree of an ACS routine (docs/acs-language.md, Tree).
 #![tactic(auto)]
 
+mod account;
+mod accounting;
+mod amounts;
+mod attributes;
 mod building;
 mod check_err;
 mod checked;
+mod defaults;
+mod ending;
+mod environment;
+mod filter_list;
 mod ident;
+mod input;
 mod kind;
+mod line;
+mod more;
+mod origin;
 mod routine;
+mod slate;
+mod texts;
+mod values;
 mod variable;
 mod variables;
+mod volumes;
 
+pub use account::{Account, MAX_FIELDS};
+pub use accounting::Accounting;
+pub use amounts::Amounts;
+pub use attributes::Attributes;
 pub use building::{with_operand, with_stmt, with_when};
 pub use check_err::CheckErr;
 pub use checked::Checked;
+pub use defaults::Defaults;
+pub use ending::Ending;
+pub use environment::Environment;
+pub use filter_list::FilterList;
 pub use ident::{Ident, MAX_IDENT};
+pub use input::Input;
 pub use kind::Kind;
+pub use line::Line;
+pub use more::More;
+pub use origin::Origin;
 pub use routine::{
     Block, Compare, Cond, Form, Operand, OperandForm, Operands, Ref, Routine, Stmt, When, WhenTest,
     Whens,
 };
+pub use slate::{MAX_LINES, Slate};
+pub use values::Values;
 pub use variable::{Indexing, Variable, VariableKind};
+pub use volumes::{MAX_VOLUMES, Volumes};
 
 #[cfg(test)]
 mod tests;

@@ -1,0 +1,8 @@
+pub mod NumberLemmas
+pub mod GroupLemmas
+pub mod ListLemmas
+pub mod Pieces
+pub mod ConditionLemmas
+pub mod StatementLemmas
+pub mod SetLemmas
+pub mod Places

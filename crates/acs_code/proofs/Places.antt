@@ -1,0 +1,115 @@
+-- From places told from the end to places told from the front.
+use Rattle.std.proofs.Common.{◌≡◌, ◌≤◌, ◌+◌, ◌-◌, ℕ, zero, suc, Bool, true, false, List, [], ◌∷◌, length, Some, refl, sym, ap, ◌∙◌, subst, ⊎_elim, arith}
+use Rattle.std.specs.Prelude.{if◌then◌else◌, map, slice_get}
+use Rattle.std.proofs.lemmas.Bool.{lt-ltb, le-ltb, cases_lt}
+use Rattle.std.proofs.lemmas.List.{length-map, append-nil}
+use Rattle.dsn_mask.specs.Filter.{FilterLists}
+use Rattle.acs_tree.specs.declared.ending.Ending.{Ending}
+use Rattle.acs_tree.specs.declared.ending.Ending.TheVariants.{Falls, Exit as ExitWith}
+use Rattle.acs_tree.specs.declared.filter_list.FilterList.{FilterList}
+use Rattle.acs_tree.specs.declared.input.Input.{Input}
+use Rattle.acs_tree.specs.declared.kind.Kind.{Kind}
+use Rattle.acs_tree.specs.declared.routine.Stmt.{Stmt}
+use Rattle.acs_tree.specs.declared.values.Values.{Values}
+use Rattle.acs_tree.specs.CheckedRoutine.{CheckedRoutine}
+use Rattle.acs_tree.specs.Comparands.{lists_of}
+use Rattle.acs_tree.specs.Meaning.{in_turn, meaning, with_class}
+use Rattle.acs_tree.specs.Outcome.{Outcome, behind, falls, then_do}
+use Rattle.acs_code.specs.declared.instr.Instr.{Instr}
+use Rattle.acs_code.specs.declared.instr.Instr.TheVariants.{Test, Jump, SetClass, SetGroups, Write, Exit}
+use Rattle.acs_code.specs.Machine.{CodeParts, act, part_class, parts_line, probe_holds, run_from, running}
+use Rattle.acs_code.specs.Stands.{Goes, GoesForward, StandsFor}
+use Rattle.acs_code.specs.Upward.{leap, placed, AreBelow, Below, Does, filters_of}
+
+module _ (kind : Kind) (filters : List FilterLists) (input : Input) where
+  -- what is to be shown of the rest
+  abbrev SameRun : ℕ → ℕ → List Instr → Type 0
+  SameRun n at is = (left : ℕ) (values : Values) → left ≤ length is → run_from kind filters input at (n - left) (map (placed n) is) values ≡ leap kind filters input left is values
+
+  same_act : (f n at : ℕ) (i : Instr) (is : List Instr) (values : Values) → Below f (length is) i → at + suc (length is) ≡ n → SameRun n (suc at) is
+      → act kind filters input (placed n i) (λ to. run_from kind filters input (suc at) to (map (placed n) is)) (suc at) values ≡ act kind filters input i (λ to. leap kind filters input to is) (length is) values
+  same_act f n at (Test p a b) is values below e same = split (probe_holds filters p input values)
+    where
+      split : (c : Bool) → run_from kind filters input (suc at) (if c then n - a else n - b) (map (placed n) is) values ≡ leap kind filters input (if c then a else b) is values
+      split true = same a values below.0
+      split false = same b values below.1
+  same_act f n at (Jump to) is values below e same = same to values below
+  same_act f n at (SetClass p) is values below e same =
+      let here : suc at ≡ n - length is = omega (arith, e) in
+      let new = with_class kind (part_class p input values) values in
+      ap (λ k. run_from kind filters input (suc at) k (map (placed n) is) new) here ∙ same (length is) new (omega arith)
+  same_act f n at (SetGroups groups) is values below e same =
+      let here : suc at ≡ n - length is = omega (arith, e) in
+      let new : Values = record values { groups = groups } in
+      ap (λ k. run_from kind filters input (suc at) k (map (placed n) is) new) here ∙ same (length is) new (omega arith)
+  same_act f n at (Write parts) is values below e same =
+      let here : suc at ≡ n - length is = omega (arith, e) in
+      ap (behind (parts_line parts input values ∷ [])) (ap (λ k. run_from kind filters input (suc at) k (map (placed n) is) values) here ∙ same (length is) values (omega arith))
+  same_act f n at (Exit code) is values below e same = refl
+
+  pub same_run : (f n at : ℕ) (is : List Instr) → AreBelow f is → at + length is ≡ n → SameRun n at is
+  same_run f n at [] h e left values g = refl
+  same_run f n at (i ∷ is) h e left values g =
+      let rest : SameRun n (suc at) is = same_run f n (suc at) is h.1 (omega (arith, e)) in
+      let ends = act kind filters input (placed n i) (λ to. run_from kind filters input (suc at) to (map (placed n) is)) (suc at) values in
+      let goes = run_from kind filters input (suc at) (n - left) (map (placed n) is) values in
+      let acts = act kind filters input i (λ to. leap kind filters input to is) (length is) values in
+      let leaps = leap kind filters input left is values in
+      ⊎_elim (λ here. ap (λ b. if b then goes else ends) (le-ltb at (n - left) (omega (arith, e, here))) ∙ same_act f n at i is values h.0 e rest ∙ sym (ap (λ b. if b then acts else leaps) (lt-ltb (length is) left here)))
+      (λ there. ap (λ b. if b then goes else ends) (lt-ltb at (n - left) (omega (arith, e, there))) ∙ rest left values there ∙ sym (ap (λ b. if b then acts else leaps) (le-ltb (length is) left there)))
+      (cases_lt (length is) left)
+
+  -- running from the front
+  pub same_start : (f : ℕ) (is : List Instr) (values : Values) → AreBelow f is → run_from kind filters input 0 0 (map (placed (length is)) is) values ≡ leap kind filters input (length is) is values
+  same_start f is values h =
+      let none : 0 ≡ length is - length is = omega arith in
+      ap (λ k. run_from kind filters input 0 k (map (placed (length is)) is) values) none ∙ same_run f (length is) 0 is h (omega arith) (length is) values (omega arith)
+
+-- each instruction goes forward
+goes_placed : (f n place : ℕ) (i : Instr) (is : List Instr) → Below f (length is) i → place + suc (length is) ≡ n → Goes f n place (placed n i)
+goes_placed f n place (Test p a b) is h e = (omega (arith, e, h.0), omega (arith, e), omega (arith, e, h.1), omega (arith, e), h.2)
+goes_placed f n place (Jump to) is h e = (omega (arith, e, h), omega (arith, e))
+goes_placed f n place (SetClass p) is h e = tt
+goes_placed f n place (SetGroups groups) is h e = tt
+goes_placed f n place (Write parts) is h e = tt
+goes_placed f n place (Exit code) is h e = tt
+
+goes_all : (f n at : ℕ) (is : List Instr) → AreBelow f is → at + length is ≡ n → (k : ℕ) (i : Instr) → slice_get (map (placed n) is) k ≡ Some i → Goes f n (at + k) i
+goes_all f n at [] h e k i g = cc
+goes_all f n at (j ∷ is) h e zero i g =
+    let same : placed n j ≡ i = cc in
+    let here : at ≡ at + 0 = omega arith in
+    subst (λ p. Goes f n p i) here (subst (λ x. Goes f n at x) same (goes_placed f n at j is h.0 (omega (arith, e))))
+goes_all f n at (j ∷ is) h e (suc k) i g =
+    let there : suc at + k ≡ at + suc k = omega arith in
+    subst (λ p. Goes f n p i) there (goes_all f n (suc at) is h.1 (omega (arith, e)) k i g)
+
+then_falls : (v : Values) (lines : List (List ℕ)) (e : Ending) → let o : Outcome = record { values = v; lines = lines; ending = e } in then_do o falls ≡ o
+then_falls v lines Falls = ap (λ l. record { values = v; lines = l; ending = Falls }) (append-nil lines)
+then_falls v lines (ExitWith n) = refl
+
+module _ (routine : CheckedRoutine) (code : List Instr) (kind : Kind) (lists : List FilterList) (body : List Stmt) where
+  -- the whole code
+  pub stands_all : (made : CodeParts) (rest : List Instr) → kind ≡ routine.kind → body ≡ routine.tree.body → lists ≡ lists_of body → made ≡ record { kind = kind; instrs = map (placed (length code)) code; filters = filters_of lists } → rest ≡ []
+      → Does kind (filters_of lists) (in_turn (map (meaning kind lists) body)) rest code → StandsFor made routine
+  stands_all made rest ek eb el em er d = record {
+    kind = ap (λ (m : CodeParts). m.kind) em ∙ ek;
+    means = λ input values.
+        let d0 = subst (λ r. Does kind (filters_of lists) (in_turn (map (meaning kind lists) body)) r code) er d in
+        let o = in_turn (map (meaning kind lists) body) input values in
+        ap (λ m. running m input values) em ∙ same_start kind (filters_of lists) input (length (filters_of lists)) code values (d0.over.below tt) ∙ d0.does input values ∙ then_falls o.values o.lines o.ending
+        ∙ ap (λ ls. in_turn (map (meaning kind ls) body) input values) el ∙ ap (λ k. in_turn (map (meaning k (lists_of body)) body) input values) ek
+        ∙ ap (λ b. in_turn (map (meaning routine.kind (lists_of b)) b) input values) eb;
+  }
+
+  pub forward_all : (made : CodeParts) (rest : List Instr) → made ≡ record { kind = kind; instrs = map (placed (length code)) code; filters = filters_of lists } → rest ≡ []
+      → Does kind (filters_of lists) (in_turn (map (meaning kind lists) body)) rest code → GoesForward made
+  forward_all made rest em er d = subst GoesForward (sym em) (λ place i g.
+      let d0 = subst (λ r. Does kind (filters_of lists) (in_turn (map (meaning kind lists) body)) r code) er d in
+      let all = goes_all (length (filters_of lists)) (length code) 0 code (d0.over.below tt) (omega arith) place i g in
+      let here : 0 + place ≡ place = omega arith in
+      let long : length code ≡ length (map (placed (length code)) code) = sym (length-map code (placed (length code))) in
+      subst (λ n. Goes (length (filters_of lists)) n place i) long (subst (λ p. Goes (length (filters_of lists)) (length code) p i) here all))
+
+pub same_parts : (kind : Kind) {instrs instrs' : List Instr} {filters filters' : List FilterLists} → instrs ≡ instrs' → filters ≡ filters' → let parts : CodeParts = record { kind = kind; instrs = instrs; filters = filters } in parts ≡ record { kind = kind; instrs = instrs'; filters = filters' }
+same_parts kind p q = cc

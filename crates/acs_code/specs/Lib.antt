@@ -1,0 +1,6 @@
+pub mod Machine
+pub mod Stands
+pub mod Upward
+pub mod Arms
+pub mod Digits
+pub mod Rights

@@ -1,0 +1,64 @@
+//! The code of a routine.
+ghost use Rattle.std.specs.Prelude.{◌≡◌};
+ghost use Rattle.acs_code.specs.Stands.{GoesForward};
+
+use crate::instr::{Filters, Instr, Instrs};
+use acs_tree::Kind;
+use dsn_mask::FilterIndex;
+use std::marker::Model;
+
+/// A compiled routine. Each instruction goes on at a later place, or ends the run.
+#[derive(Drop)]
+pub struct Code {
+    kind: Kind,
+    instrs: Instrs,
+    filters: Filters,
+}
+
+impl Model for Code {
+    ghost use Rattle.acs_code.specs.Machine.{CodeParts};
+    ghost use Rattle.acs_code.specs.Stands.{GoesForward};
+    ghost use Rattle.acs_code.specs.contracts.instr.Instr as instr;
+    ghost use Rattle.dsn_mask.specs.contracts.entry.Entry as entry;
+    ghost use Rattle.std.specs.Coded.{codes};
+
+    ghost Value = { CodeParts };
+
+    ghost coded = { Prim.hlevel (codes, instr.the_row.coded, entry.the_row.coded) };
+
+    ghost view = { λ s. record { kind = s.kind; instrs = s.instrs; filters = s.filters } };
+
+    ghost invariant = { λ s. GoesForward (record { kind = s.kind; instrs = s.instrs; filters = s.filters }) };
+}
+
+impl Code {
+    pub(crate) fn seal(kind: Kind, instrs: Instrs, filters: Filters) -> Self
+        requires { GoesForward (record { kind = kind; instrs = instrs; filters = filters }) }
+        ensures { result ≡ record { kind = kind; instrs = instrs; filters = filters } }
+    {
+        Code {
+            kind,
+            instrs,
+            filters,
+        }
+    }
+
+    pub fn kind(&self) -> Kind
+        ensures { result ≡ self.now.kind }
+    {
+        self.kind
+    }
+
+    pub fn instrs(&self) -> &[Instr]
+        ensures instrs { result.now ≡ self.now.instrs }
+        ensures forward { GoesForward self.now }
+    {
+        self.instrs.as_slice()
+    }
+
+    pub fn filters(&self) -> &[FilterIndex]
+        ensures { result.now ≡ self.now.filters }
+    {
+        self.filters.as_slice()
+    }
+}

@@ -1,0 +1,26 @@
+//! From a routine to its code.
+ghost use Rattle.std.specs.Prelude.{IfOk};
+ghost use Rattle.acs_code.specs.Stands.{GoesForward, StandsFor};
+
+use crate::blocks::block;
+use crate::code::Code;
+use crate::filters::{filters, lists};
+use crate::upward::Upward;
+use acs_tree::Checked;
+use std::alloc::{AllocError, Global};
+
+/// The code of a routine: for every input and start values it comes to what the routine means, and each
+/// of its instructions goes on at a later place.
+pub fn compile(alloc: Global, checked: &Checked) -> Result<Code, AllocError>
+    ensures stands { IfOk result (λ code. StandsFor code checked.now) }
+    ensures forward { IfOk result (λ code. GoesForward code) }
+{
+    let kind = checked.kind();
+    let body = checked.tree().body.as_slice();
+    let lists = lists(alloc, body)?;
+    let mut code = Upward::new(alloc);
+    block(alloc, &mut code, kind, lists.as_slice(), body)?;
+    let instrs = code.finish(alloc)?;
+    let filters = filters(alloc, lists)?;
+    Ok(Code::seal(kind, instrs, filters))
+}

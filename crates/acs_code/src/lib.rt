@@ -1,0 +1,29 @@
+//! The code of a routine, and the compiler that makes it (docs/acs-language.md, Code).
+#![tactic(auto)]
+
+mod blocks;
+mod code;
+mod compiler;
+mod conditions;
+mod filters;
+mod fork;
+mod instr;
+mod jumps;
+mod numbers;
+mod part;
+mod parts;
+mod probe;
+mod right;
+mod rights;
+mod sets;
+mod slot;
+mod upward;
+mod writes;
+
+pub use code::Code;
+pub use compiler::compile;
+pub use instr::{Filters, Instr, Instrs, Parts};
+pub use part::Part;
+pub use probe::Probe;
+pub use right::Right;
+pub use slot::Slot;

@@ -1,0 +1,108 @@
+// Words that are numbers, sizes, indexes or codes.
+ghost use Rattle.std.specs.Prelude.{◌≡◌, ◌<◌, IfSome};
+ghost use Rattle.std.specs.List.{list_all};
+ghost use Rattle.dsn_mask.specs.Name.{is_digit};
+ghost use Rattle.acs_tree.specs.Comparands.{number_of, size_of};
+ghost use Rattle.acs_tree.specs.Meaning.{code_from};
+ghost use Rattle.acs_tree.specs.Numbers.{kilobytes_in, is_number};
+ghost use Rattle.acs_tree.specs.VariableValues.{index_of};
+ghost use Rattle.acs_code.specs.Digits.{fit_value};
+
+use acs_tree::{Ident, OperandForm};
+
+fn is_digit(byte: u8) -> bool
+    ensures { result ≡ is_digit byte }
+{
+    b'0' <= byte && byte <= b'9'
+}
+
+fn are_digits(word: &[u8]) -> bool
+    ensures { result ≡ list_all is_digit word.now }
+{
+    word.iter().all(|byte| is_digit(*byte))
+}
+
+fn is_number(word: &[u8]) -> bool
+    ensures { result ≡ is_number word.now }
+{
+    word.len() > 0 && are_digits(word)
+}
+
+// The value of digits, if it is not too great.
+fn fit_value(digits: &[u8]) -> Option<u64>
+    ensures { result ≡ fit_value digits.now }
+{
+    let mut rest = digits;
+    let mut value: u64 = 0;
+    'digits: while let Some((first, behind)) = rest.split_first() {
+        let digit = first.saturating_sub(b'0') as u64;
+        if value > (u64::MAX - digit) / 10 {
+            return None;
+        }
+        value = 10 * value + digit;
+        rest = behind;
+    }
+    Some(value)
+}
+
+/// The number that a word is, if it is not too great.
+pub fn number(word: &[u8]) -> Option<u64>
+    ensures { result ≡ number_of word.now }
+{
+    if is_number(word) {
+        fit_value(word)
+    } else {
+        None
+    }
+}
+
+fn kilobytes_in(unit: &[u8]) -> Option<u64>
+    ensures value { result ≡ kilobytes_in unit.now }
+    ensures positive { IfSome result (λ kilobytes. 0 < kilobytes) }
+{
+    if unit == b"KB".as_slice() {
+        Some(1)
+    } else if unit == b"MB".as_slice() {
+        Some(1024)
+    } else if unit == b"GB".as_slice() {
+        Some(1048576)
+    } else {
+        None
+    }
+}
+
+/// The size that a word is, in KB, if it is not too great.
+pub fn size(word: &[u8]) -> Option<u64>
+    ensures { result ≡ size_of word.now }
+{
+    let (digits, unit) = word.split_at(word.len().saturating_sub(2));
+    let kilobytes = kilobytes_in(unit)?;
+    let count = number(digits)?;
+    count.checked_mul(kilobytes)
+}
+
+/// The index of a variable: 0 where there is none, and 255 where it is no number from 1 to 254.
+pub fn index(index: &Option<Ident>) -> u8
+    ensures { result ≡ index_of index.now }
+{
+    match index {
+        None => 0,
+        Some(word) => match number(word.bytes()) {
+            Some(number) if 1 <= number && number <= 254 => number as u8,
+            _ => 255,
+        },
+    }
+}
+
+/// The number of a code: 0 where it is none.
+pub fn code(form: &OperandForm) -> u16
+    ensures { result ≡ code_from form.now }
+{
+    match form {
+        OperandForm::Word(word) => match number(word.bytes()) {
+            Some(number) if number <= 65535 => number as u16,
+            _ => 0,
+        },
+        _ => 0,
+    }
+}

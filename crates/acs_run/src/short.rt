@@ -1,0 +1,56 @@
+// Names, volume serials and qualifiers as values.
+ghost use Rattle.std.specs.Prelude.{◌≡◌, ◌≤◌, [], length};
+ghost use Rattle.dsn_mask.specs.Name.{IsShort};
+ghost use Rattle.dsn_mask.specs.Qualifiers.{qualifiers_of};
+ghost use Rattle.acs_tree.specs.VariableValues.{text_at};
+
+use dsn_mask::{Dsn, Name, Short, Volser};
+
+pub fn null() -> Short
+    ensures { result ≡ [] }
+{
+    Short::new(b"").unwrap()
+}
+
+fn short(bytes: &[u8]) -> Short
+    requires { IsShort bytes.now }
+    ensures { result ≡ bytes.now }
+{
+    Short::new(bytes).unwrap()
+}
+
+pub fn of_name(name: &Name) -> Short
+    ensures { result ≡ name.now }
+{
+    short(name.bytes())
+}
+
+pub fn of_volser(volser: &Volser) -> Short
+    ensures { result ≡ volser.now }
+{
+    short(volser.bytes())
+}
+
+/// The qualifier of that number, counted from 1, or null.
+
+pub fn qualifier(dsn: &Dsn, number: usize) -> Short
+    requires { 1 ≤ number }
+    ensures { result ≡ text_at (qualifiers_of dsn.now) number }
+{
+    let _form = dsn.bytes();
+    match dsn.qualifier(number) {
+        None => null(),
+        Some(bytes) => short(bytes),
+    }
+}
+
+pub fn last_qualifier(dsn: &Dsn) -> Short
+    ensures { result ≡ text_at (qualifiers_of dsn.now) (length (qualifiers_of dsn.now)) }
+{
+    let count = dsn.count();
+    if count == 0 {
+        null()
+    } else {
+        qualifier(dsn, count)
+    }
+}

@@ -1,0 +1,127 @@
+-- What stands on the right of a comparison (docs/acs-language.md, Meaning).
+use Rattle.std.specs.Prelude.{◌*◌, ◌&&◌, ℕ, Bool, true, false, List, [], ◌∷◌, Option, Some, None, if◌then◌else◌}
+use Rattle.std.specs.Option.{option_map}
+use Rattle.std.specs.Str.{bytes_eq}
+use Rattle.dsn_mask.specs.Filter.{FilterLists}
+use Rattle.dsn_mask.specs.MaskText.{mask_of, simple_of}
+use Rattle.dsn_mask.specs.declared.entry.Entry.{Entry}
+use Rattle.dsn_mask.specs.declared.entry.Entry.TheVariants as entry
+use Rattle.acs_tree.specs.declared.filter_list.FilterList.{FilterList}
+use Rattle.acs_tree.specs.declared.routine.Form.{Form}
+use Rattle.acs_tree.specs.declared.routine.Form.TheBlock.{Filt}
+use Rattle.acs_tree.specs.declared.routine.Operand.{Operand}
+use Rattle.acs_tree.specs.declared.routine.OperandForm.{OperandForm}
+use Rattle.acs_tree.specs.declared.routine.OperandForm.TheVariants as operand
+use Rattle.acs_tree.specs.declared.routine.Ref.{Ref}
+use Rattle.acs_tree.specs.declared.routine.Stmt.{Stmt}
+use Rattle.acs_tree.specs.declared.variable.Variable.{Variable}
+use Rattle.acs_tree.specs.declared.variable.VariableKind.{VariableKind}
+use Rattle.acs_tree.specs.declared.variable.VariableKind.TheVariants as kind
+use Rattle.acs_tree.specs.Numbers.{value_of, digits_of, unit_of, kilobytes_in, is_number, is_size, is_fit_number, is_fit_size}
+use Rattle.acs_tree.specs.References.{is_known, is_whole_name}
+use Rattle.acs_tree.specs.VariableValues.{index_of}
+use Rattle.acs_tree.specs.Variables.{variable_of}
+
+-- what a variable is compared with
+pub data Comparand : Type 0 where
+  -- a text
+  Literal : List ℕ → Comparand
+  -- a mask of qualifiers
+  Dots : List ℕ → Comparand
+  -- a simple mask
+  Plain : List ℕ → Comparand
+  -- a filter list
+  Filter : FilterLists → Comparand
+  -- the variable of that name and that index
+  Var : List ℕ → ℕ → Comparand
+  -- a number, or a size in KB
+  Number : ℕ → Comparand
+  -- what no check lets through: it equals nothing, and is neither more nor less
+  Nothing : Comparand
+
+-- filter lists
+
+-- an entry of a filter list, as it is compared with the whole data set name or with another text; what is no such mask is left out
+abbrev pub entry_of : Bool → OperandForm → Option Entry
+entry_of whole (operand.Literal text) = Some (entry.Quoted text)
+entry_of whole (operand.Word word) = if whole then option_map entry.Dots (mask_of word) else option_map entry.Plain (simple_of word)
+entry_of whole (operand.Var ref) = None
+
+-- one more entry in front, if there is one
+abbrev pub with_entry : Option Entry → List Entry → List Entry
+with_entry None entries = entries
+with_entry (Some entry) entries = entry ∷ entries
+
+-- the entries of an INCLUDE or an EXCLUDE
+abbrev pub entries_of : Bool → List Operand → List Entry
+entries_of whole [] = []
+entries_of whole (operand ∷ operands) = with_entry (entry_of whole operand.form) (entries_of whole operands)
+
+-- INCLUDE and EXCLUDE
+abbrev pub filter_of : Bool → List Operand → List Operand → FilterLists
+filter_of whole include exclude = record { include = entries_of whole include; exclude = entries_of whole exclude }
+
+-- the filter list that a statement is, before others
+abbrev pub with_list : Form → List FilterList → List FilterList
+with_list (Filt name name_at include exclude) lists = record { name = name; dotted = filter_of true include exclude; plain = filter_of false include exclude } ∷ lists
+with_list _ lists = lists
+
+-- the filter lists that stand directly in a body
+abbrev pub lists_of : List Stmt → List FilterList
+lists_of [] = []
+lists_of (statement ∷ statements) = with_list statement.form (lists_of statements)
+
+-- the filter list of that name, as it is compared with the whole data set name or with another text
+abbrev pub list_named : Bool → List FilterList → List ℕ → Comparand
+list_named whole [] name = Nothing
+list_named whole (list ∷ lists) name = if bytes_eq list.name name then Filter (if whole then list.dotted else list.plain) else list_named whole lists name
+
+-- words
+
+-- what is there, if anything is
+abbrev pub comparand_or : {A : Type 0} → (A → Comparand) → Option A → Comparand
+comparand_or make None = Nothing
+comparand_or make (Some found) = make found
+
+-- a number that is not too great
+abbrev pub number_of : List ℕ → Option ℕ
+number_of word = if is_number word && is_fit_number word then Some (value_of word) else None
+
+-- so many of a unit, in KB
+abbrev pub times : ℕ → Option ℕ → Option ℕ
+times count None = None
+times count (Some kilobytes) = Some (count * kilobytes)
+
+-- a size that is not too great, in KB
+abbrev pub size_of : List ℕ → Option ℕ
+size_of word = if is_size word && is_fit_size word then times (value_of (digits_of word)) (kilobytes_in (unit_of word)) else None
+
+-- a mask beside the whole data set name, a simple mask beside another text
+abbrev pub mask_comparand : Bool → List ℕ → Comparand
+mask_comparand whole word = if whole then comparand_or Dots (mask_of word) else comparand_or Plain (simple_of word)
+
+-- a word beside a variable of that kind
+abbrev pub word_beside : VariableKind → Bool → List ℕ → Comparand
+word_beside kind.Text whole word = mask_comparand whole word
+word_beside kind.Volumes whole word = mask_comparand whole word
+word_beside kind.Groups whole word = mask_comparand whole word
+word_beside kind.Number whole word = comparand_or Number (number_of word)
+word_beside kind.Size whole word = comparand_or Number (size_of word)
+
+-- a word beside that variable, if there is one
+abbrev pub word_comparand : Option Variable → Bool → List ℕ → Comparand
+word_comparand None whole word = Nothing
+word_comparand (Some variable) whole word = word_beside variable.kind whole word
+
+-- a variable, or the filter list of that name where there is no such variable
+abbrev pub name_comparand : List FilterList → Bool → Ref → Comparand
+name_comparand lists whole ref = if is_known ref then Var ref.name (index_of ref.index) else list_named whole lists ref.name
+
+-- an operand beside a variable
+abbrev pub form_comparand : List FilterList → Ref → OperandForm → Comparand
+form_comparand lists left (operand.Literal text) = Literal text
+form_comparand lists left (operand.Word word) = word_comparand (variable_of left.name) (is_whole_name left) word
+form_comparand lists left (operand.Var ref) = name_comparand lists (is_whole_name left) ref
+
+abbrev pub comparand_of : List FilterList → Ref → Operand → Comparand
+comparand_of lists left operand = form_comparand lists left operand.form

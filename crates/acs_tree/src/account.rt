@@ -1,0 +1,108 @@
+//! The accounting of a job or of a step.
+ghost use Rattle.std.specs.Prelude.{◌≡◌, ◌≤◌, ◌<◌, ◌↔◌, ◌∷◌, ◌++◌, [], IsTrue, length};
+
+use crate::texts::null;
+use dsn_mask::Short;
+use std::marker::Model;
+
+/// The most fields of an accounting.
+pub const MAX_FIELDS: usize = 8;
+
+/// At most 8 texts, in their order.
+pub struct Account {
+    items: [Short; 8],
+    count: usize,
+}
+
+impl Model for Account {
+    ghost use Rattle.std.specs.Prelude.{List, ℕ, length, take, ◌≡◌, ◌≤◌};
+    ghost use Rattle.acs_tree.specs.Lists.{filled};
+    ghost use Rattle.acs_tree.specs.AccountFields.{filler};
+
+    ghost Value = { List (List ℕ) };
+
+    ghost view = { λ s. take s.count s.items };
+
+    ghost invariant = { λ s. (s.count ≡ length (take s.count s.items)) × (s.items ≡ filled 8 filler (take s.count s.items)) × (length (take s.count s.items) ≤ 8) };
+
+    ghost inverse = { λ xs. record { items = filled 8 filler xs; count = length xs } };
+
+    ghost use Rattle.acs_tree.specs.AccountFields.{fields_back};
+
+    ghost inverse_ok = { λ a h. fields_back a h.0 h.1 };
+}
+
+impl Clone for Account {
+    ghost is_clone = { λ x y. y ≡ x };
+
+    ghost is_infallible = { λ _. Unit {0} };
+
+    fn clone(&self) -> Result<Self, std::alloc::AllocError> {
+        Ok(*self)
+    }
+}
+
+impl Copy for Account {}
+
+impl PartialEq for Account {
+    ghost use Rattle.std.specs.Prelude.{nat_eq};
+    ghost use Rattle.std.specs.Cmp.Lexicographic.{pointwise};
+    ghost use Rattle.std.specs.Cmp.Rules.{comparing};
+    ghost use Rattle.std.proofs.Common.{rules};
+
+    ghost eq = { pointwise (pointwise nat_eq) };
+
+    ghost laws = { Prim.search (comparing, rules) };
+
+    fn eq(&self, other: &Account) -> bool {
+        self.as_slice() == other.as_slice()
+    }
+}
+
+impl Eq for Account {
+    ghost use Rattle.std.specs.Cmp.Rules.{comparing};
+    ghost use Rattle.std.proofs.Common.{rules};
+
+    ghost laws = { Prim.search (comparing, rules) };
+}
+
+impl Account {
+    pub fn new() -> Self
+        ensures { result ≡ [] }
+    {
+        Account {
+            items: [null(); 8],
+            count: 0,
+        }
+    }
+
+    pub fn as_slice(&self) -> &[Short]
+        ensures items { result.now ≡ self.now }
+        ensures few { length self.now ≤ 8 }
+    {
+        &self.items[..self.count]
+    }
+
+    /// No more can be added.
+    pub fn is_full(&self) -> bool
+        ensures { IsTrue result ↔ (length self.now ≡ 8) }
+    {
+        self.count == 8
+    }
+
+    /// Adds one behind the others.
+    pub fn push(&mut self, item: Short)
+        requires { length self.old < 8 }
+        ensures { self.new ≡ self.old ++ item ∷ [] }
+    {
+        self.items[self.count] = item;
+        self.count += 1;
+    }
+
+    /// The same ones in the same order.
+    pub fn equals(&self, other: &Account) -> bool
+        ensures { IsTrue result ↔ (self.now ≡ other.now) }
+    {
+        self == other
+    }
+}

@@ -1,0 +1,131 @@
+//! What routines write.
+ghost use Rattle.std.specs.Prelude.{◌≡◌, IfOk, length};
+ghost use Rattle.acs_tree.specs.Slates.{blank, count_of, more_of, same_kind, with_line, IsSlate};
+ghost use Rattle.acs_tree.specs.Variables.{rank_of};
+
+use crate::kind::Kind;
+use crate::line::Line;
+use crate::more::More;
+use dsn_mask::Lit;
+use std::alloc::{AllocError, Global};
+use std::marker::Model;
+
+/// The most lines that are kept of one kind of routine.
+pub const MAX_LINES: usize = 64;
+
+const ROOM: usize = 256;
+
+/// The lines that the routines of a request wrote: at most 64 of each kind, and how many others there were.
+/// All room is taken when it is made.
+#[derive(Drop)]
+pub struct Slate {
+    room: Vec<Line>,
+    count: usize,
+    more: More,
+}
+
+impl Model for Slate {
+    ghost use Rattle.std.specs.Prelude.{length, take, ◌≡◌, ◌≤◌};
+    ghost use Rattle.acs_tree.specs.Slates.{SlateLines, IsSlate};
+
+    ghost Value = { SlateLines };
+
+    ghost view = { λ s. record { lines = take s.count s.room.items; more = s.more } };
+
+    ghost invariant = { λ s. (length s.room.items ≡ 256) × (s.count ≤ 256) × IsSlate (record { lines = take s.count s.room.items; more = s.more }) };
+}
+
+impl Slate {
+    pub fn new(alloc: Global) -> Result<Self, AllocError>
+        ensures { IfOk result (λ slate. slate ≡ blank) }
+    {
+        Ok(Slate {
+            room: unwritten(alloc)?,
+            count: 0,
+            more: More {
+                dataclas: 0,
+                storclas: 0,
+                mgmtclas: 0,
+                storgrp: 0,
+            },
+        })
+    }
+
+    pub fn clear(&mut self)
+        ensures { self.new ≡ blank }
+    {
+        self.count = 0;
+        self.more = More {
+            dataclas: 0,
+            storclas: 0,
+            mgmtclas: 0,
+            storgrp: 0,
+        };
+    }
+
+    /// The lines that were kept, in the order in which they were written.
+    pub fn lines(&self) -> &[Line]
+        ensures lines { result.now ≡ self.now.lines }
+        ensures form { IsSlate self.now }
+    {
+        &self.room[..self.count]
+    }
+
+    /// How many further lines of that kind were written; a greater number than 32 bits hold is the greatest
+    /// that they hold.
+    pub fn more(&self, kind: Kind) -> u32
+        ensures { result ≡ more_of kind self.now.more }
+    {
+        self.more.of(kind)
+    }
+
+    /// Keeps a line of that kind, or counts it where 64 of the kind are kept.
+    pub fn write(&mut self, kind: Kind, text: Lit)
+        ensures { self.new ≡ with_line kind text self.old }
+    {
+        if count_of(self.lines(), kind) < MAX_LINES {
+            self.room[self.count] = Line { kind, text };
+            self.count += 1;
+        } else {
+            self.more = self.more.counted(kind);
+        }
+    }
+}
+
+// Room for all lines, with empty lines in it.
+fn unwritten(alloc: Global) -> Result<Vec<Line>, AllocError>
+    ensures { IfOk result (λ room. length room.items ≡ 256) }
+{
+    let mut room = Vec::with_capacity(alloc, ROOM)?;
+    for _ in 0..ROOM {
+        room.push(Line {
+            kind: Kind::DataClas,
+            text: Lit::new(b"").unwrap(),
+        })?;
+    }
+    Ok(room)
+}
+
+fn rank_of(kind: Kind) -> u8
+    ensures { result ≡ rank_of kind }
+{
+    kind as u8
+}
+
+fn same_kind(one: Kind, other: Kind) -> bool
+    ensures { result ≡ same_kind one other }
+{
+    rank_of(one) == rank_of(other)
+}
+
+fn count_of(lines: &[Line], kind: Kind) -> usize
+    ensures { result ≡ count_of kind lines.now }
+{
+    let mut count = 0;
+    for line in lines {
+        if same_kind(line.kind, kind) {
+            count += 1;
+        }
+    }
+    count
+}

@@ -1,0 +1,115 @@
+//! The volumes that a request names.
+ghost use Rattle.std.specs.Prelude.{◌≡◌, ◌≤◌, ◌<◌, ◌↔◌, ◌∷◌, ◌++◌, [], IsTrue, length};
+ghost use Rattle.acs_tree.specs.VolumesFields.{filler};
+
+use dsn_mask::Volser;
+use std::marker::Model;
+
+/// The most volumes that a request can name.
+pub const MAX_VOLUMES: usize = 59;
+
+/// At most 59 volume serials, in their order.
+pub struct Volumes {
+    items: [Volser; 59],
+    count: usize,
+}
+
+impl Model for Volumes {
+    ghost use Rattle.std.specs.Prelude.{List, ℕ, length, take, ◌≡◌, ◌≤◌};
+    ghost use Rattle.acs_tree.specs.Lists.{filled};
+    ghost use Rattle.acs_tree.specs.VolumesFields.{filler};
+
+    ghost Value = { List (List ℕ) };
+
+    ghost view = { λ s. take s.count s.items };
+
+    ghost invariant = { λ s. (s.count ≡ length (take s.count s.items)) × (s.items ≡ filled 59 filler (take s.count s.items)) × (length (take s.count s.items) ≤ 59) };
+
+    ghost inverse = { λ xs. record { items = filled 59 filler xs; count = length xs } };
+
+    ghost use Rattle.acs_tree.specs.VolumesFields.{fields_back};
+
+    ghost inverse_ok = { λ a h. fields_back a h.0 h.1 };
+}
+
+impl Clone for Volumes {
+    ghost is_clone = { λ x y. y ≡ x };
+
+    ghost is_infallible = { λ _. Unit {0} };
+
+    fn clone(&self) -> Result<Self, std::alloc::AllocError> {
+        Ok(*self)
+    }
+}
+
+impl Copy for Volumes {}
+
+impl PartialEq for Volumes {
+    ghost use Rattle.std.specs.Prelude.{nat_eq};
+    ghost use Rattle.std.specs.Cmp.Lexicographic.{pointwise};
+    ghost use Rattle.std.specs.Cmp.Rules.{comparing};
+    ghost use Rattle.std.proofs.Common.{rules};
+
+    ghost eq = { pointwise (pointwise nat_eq) };
+
+    ghost laws = { Prim.search (comparing, rules) };
+
+    fn eq(&self, other: &Volumes) -> bool {
+        self.as_slice() == other.as_slice()
+    }
+}
+
+impl Eq for Volumes {
+    ghost use Rattle.std.specs.Cmp.Rules.{comparing};
+    ghost use Rattle.std.proofs.Common.{rules};
+
+    ghost laws = { Prim.search (comparing, rules) };
+}
+
+impl Volumes {
+    pub fn new() -> Self
+        ensures { result ≡ [] }
+    {
+        Volumes {
+            items: [unused(); 59],
+            count: 0,
+        }
+    }
+
+    pub fn as_slice(&self) -> &[Volser]
+        ensures items { result.now ≡ self.now }
+        ensures few { length self.now ≤ 59 }
+    {
+        &self.items[..self.count]
+    }
+
+    /// No more can be added.
+    pub fn is_full(&self) -> bool
+        ensures { IsTrue result ↔ (length self.now ≡ 59) }
+    {
+        self.count == 59
+    }
+
+    /// Adds one behind the others.
+    pub fn push(&mut self, item: Volser)
+        requires { length self.old < 59 }
+        ensures { self.new ≡ self.old ++ item ∷ [] }
+    {
+        self.items[self.count] = item;
+        self.count += 1;
+    }
+
+    /// The same ones in the same order.
+    pub fn equals(&self, other: &Volumes) -> bool
+        ensures { IsTrue result ↔ (self.now ≡ other.now) }
+    {
+        self == other
+    }
+}
+
+// The serial A, which stands in unused places.
+fn unused() -> Volser
+    ensures { result ≡ filler }
+{
+    Volser::new(b"A").unwrap()
+}
