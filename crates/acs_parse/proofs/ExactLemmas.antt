@@ -1,5 +1,5 @@
 -- The answers exclude one another, and one of them is right.
-use Rattle.std.proofs.Common.{◌≡◌, ℕ, zero, suc, ◌+◌, ◌-◌, ◌<◌, ◌≤◌, Bool, true, false, cond, ◌&&◌, List, [], ◌∷◌, ◌++◌, length, take, drop, refl, ap, sym, ◌∙◌, subst, arith, append_assoc}
+use Rattle.std.proofs.Common.{◌≡◌, ◌⊎◌, inl, inr, ℕ, zero, suc, ◌+◌, ◌-◌, ◌<◌, ◌≤◌, Bool, true, false, cond, ◌&&◌, List, [], ◌∷◌, ◌++◌, length, take, drop, refl, ap, sym, ◌∙◌, subst, arith, append_assoc}
 use Rattle.acs_tree.specs.declared.routine.Routine.{Routine}
 use Rattle.acs_symbol.specs.declared.symbol.Symbol.{Symbol}
 use Rattle.acs_parse.specs.Grammar.{limited, unlimited, back, IsRoutine, no_number, no_exclude, no_branch, no_when, no_or, no_and, no_further, no_index, no_code}
@@ -24,6 +24,16 @@ take_less (suc m) (suc n) (x ∷ xs) h = ap (λ z. x ∷ z) (take_less m n xs (o
 empty_right : (xs : List Symbol) → xs ++ [] ≡ xs
 empty_right [] = refl
 empty_right (x ∷ xs) = ap (λ z. x ∷ z) (empty_right xs)
+
+short : (k : ℕ) (xs : List Symbol) → length (take k xs) ≤ k
+short zero xs = omega arith
+short (suc k) [] = omega arith
+short (suc k) (x ∷ xs) = omega (arith, short k xs)
+
+no_longer : (k : ℕ) (xs : List Symbol) → length (take k xs) ≤ length xs
+no_longer zero xs = omega arith
+no_longer (suc k) [] = omega arith
+no_longer (suc k) (x ∷ xs) = omega (arith, no_longer k xs)
 
 front : (may : ℕ → Bool) (n : ℕ) (xs : List Symbol) → Begins may xs → Begins may (take n xs)
 front may n xs b =
@@ -137,3 +147,25 @@ answer_at ts (TooMany n) e = let le = deep_within ts n e in let f : (length ts -
 
 pub some_answer : (ts : List Symbol) → HasAnswer ts
 some_answer ts = answer_at ts (verdict limited start 0 ts) refl
+
+front_at : (ts : List Symbol) (k : ℕ) → Begins unlimited (take k ts) → HasAnswer (take k ts) → Begins limited (take k ts) ⊎ ((j : ℕ) × (j < k) × IsTooDeep ts j)
+front_at ts k b (tree found d) = inl (whole (take k ts) found d)
+front_at ts k b (wrong j w) = absurd (w.wrong (front unlimited (j + 1) (take k ts) b))
+front_at ts k b (early e) = inl e.begins
+front_at ts k b (deep j d) =
+    let less : j < k = omega (arith, d.within, short k ts) in
+    let here : take j (take k ts) ≡ take j ts = take_less j k ts (omega arith) in
+    let next : take (j + 1) (take k ts) ≡ take (j + 1) ts = take_less (j + 1) k ts (omega arith) in
+    inr (
+      j,
+      less,
+      record {
+        within = omega (arith, d.within, no_longer k ts);
+        before = subst (Begins limited) here d.before;
+        goes_on = subst (Begins unlimited) next d.goes_on;
+        deep = λ h. d.deep (subst (Begins limited) (sym next) h);
+      },
+    )
+
+pub limited_front : (ts : List Symbol) (k : ℕ) → Begins unlimited (take k ts) → Begins limited (take k ts) ⊎ ((j : ℕ) × (j < k) × IsTooDeep ts j)
+limited_front ts k b = front_at ts k b (some_answer (take k ts))

@@ -221,7 +221,7 @@ mutual
         → IsWhen total may false n (Word word.When a ∷ ts) w ns → IsWhens total may false n ns ws rest
         → IsChoice total may n (Word word.When a ∷ ts) None (w ∷ ws) rest
 
-  -- one branch; the first tells whether the SELECT has a subject
+  -- one branch; the Bool tells whether the SELECT has a subject
   pub data IsWhen (total : ℕ) (may : ℕ → Bool) : Bool → ℕ → List Symbol → When → List Symbol → Type 0 where
     when_any : {n : ℕ} {a : List ℕ} {ts ms rest : List Symbol} {os : List Operand} {s : Stmt}
         → IsOperands total list.Items ts os (Close ∷ ms) → IsStmt total may n ms s rest

@@ -1,4 +1,5 @@
--- The tokens that stand for a part of the table, and when a row of it is right.
+-- The tokens that stand for a part of the table, and when a row of it is right. It serves the proofs
+-- alone.
 use Rattle.std.specs.Prelude.{◌≡◌, ℕ, Bool, true, List, [], ◌∷◌, Option}
 use Rattle.acs_tree.specs.declared.routine.Ref.{Ref}
 use Rattle.acs_tree.specs.declared.routine.Operand.{Operand}

@@ -9,7 +9,7 @@ use Rattle.acs_parse.specs.Grammar.{limited, unlimited, IsRoutine}
 abbrev pub Begins : (ℕ → Bool) → List Symbol → Type 0
 Begins may ts = (others : List Symbol) × (tree : Routine) × IsRoutine may (ts ++ others) tree
 
--- the first k tokens begin some routine, and the first k + 1 begin none
+-- the first k tokens begin some routine within the limit, and the first k + 1 begin none, however deep
 pub record IsFirstWrong (ts : List Symbol) (k : ℕ) : Type 0 where
   pub within : k < length ts
   pub before : Begins limited (take k ts)
@@ -23,7 +23,7 @@ pub record IsTooDeep (ts : List Symbol) (k : ℕ) : Type 0 where
   pub goes_on : Begins unlimited (take (k + 1) ts)
   pub deep : Begins limited (take (k + 1) ts) → ⊥
 
--- the tokens begin some routine, and are none
+-- the tokens begin some routine within the limit, and are none within it
 pub record EndsEarly (ts : List Symbol) : Type 0 where
   pub begins : Begins limited ts
   pub no_routine : (tree : Routine) → IsRoutine limited ts tree → ⊥

@@ -1,4 +1,5 @@
--- What a reader of the parser says of its answer.
+-- What a reader of the parser says of its answer. It is the means of the parser: what is promised
+-- stands in Grammar, Places and ParseFault.
 use Rattle.std.specs.Prelude.{◌≡◌, ◌⊎◌, ◌-◌, ℕ, suc, Bool, true, false, List, [], ◌∷◌, ◌++◌, length, Result, Ok, Err}
 use Rattle.acs_tree.specs.declared.routine.Operand.{Operand}
 use Rattle.acs_tree.specs.declared.routine.Cond.{Cond}
@@ -22,6 +23,7 @@ use Rattle.acs_parse.specs.Grammar.{starts, placed, joins, limited, IsOperands, 
 use Rattle.acs_parse.specs.Language.{Takes}
 use Rattle.acs_parse.specs.Table.{Effect, Keep, To, Part, One, ACondition, AnOperand, MoreOperands, start, Verdict, Short, Stop, TooMany, verdict}
 
+-- the table ends in the same way
 abbrev pub Fails : Fault → Verdict → Type 0
 Fails (Unexpected left) v = v ≡ Stop left
 Fails Ended v = v ≡ Short

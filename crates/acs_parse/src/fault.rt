@@ -5,8 +5,8 @@ ghost use Rattle.acs_parse.specs.Reads.{told};
 use std::alloc::{AllocError, AllocFailed};
 use thiserror::Error;
 
-/// Why a list of tokens has no tree, with the place of the token that shows it, counted from 0
-/// (docs/acs-language.md, Places of faults).
+/// Why a list of tokens has no tree: the place of the token that shows it, counted from 0, or that
+/// the tokens end too early (docs/acs-language.md, Places of faults).
 #[derive(Clone, Copy, Debug, PartialEq, Eq, Error)]
 pub enum ParseErr {
     #[error("token {0} can't follow the tokens before it")]
@@ -43,7 +43,7 @@ impl Fault {
     }
 }
 
-/// The place before which so many of all tokens stand behind.
+/// The place of the token at which so many of all tokens are left.
 fn place_before(total: u32, left: usize) -> u32
     ensures { result ≡ total - left }
 {

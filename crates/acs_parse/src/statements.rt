@@ -15,9 +15,7 @@ use crate::lists::{exit_code, filter_list, operands, variable};
 use crate::tokens::{begins, expect, opened, place, skip};
 use crate::want::Want;
 use acs_symbol::{Symbol, WordKind};
-use acs_tree::{
-    Block, Cond, Form, Operand, OperandForm, Ref, Stmt, When, WhenTest, Whens, with_stmt, with_when,
-};
+use acs_tree::{Block, Form, Ref, Stmt, When, WhenTest, Whens, with_stmt, with_when};
 use std::alloc::Global;
 
 /// A statement.
@@ -149,7 +147,7 @@ fn selection(alloc: Global, total: u32, depth: u32, rest: &mut &[Symbol]) -> Res
     Ok(Form::selection(alloc, subject, whens, other)?)
 }
 
-/// What a SELECT compares, if it compares something, and its branches.
+/// What a SELECT has_subject, if it has_subject something, and its branches.
 #[cycle(statement)]
 #[tactic(auto, using(crate::proofs::SelectLemmas::choice_by_value, crate::proofs::SelectLemmas::choice_by_condition, crate::proofs::SelectLemmas::choice_ref_fails, crate::proofs::SelectLemmas::choice_close_fails, crate::proofs::SelectLemmas::choice_values_fail, crate::proofs::SelectLemmas::choice_conditions_fail))]
 fn choice(
@@ -184,15 +182,15 @@ fn branches(
     alloc: Global,
     total: u32,
     depth: u32,
-    compares: bool,
+    has_subject: bool,
     rest: &mut &[Symbol],
 ) -> Result<Whens, Fault>
-    ensures { Parses (λ found. IsBranches total compares depth rest.old.now found rest.new.now) (AWhen compares ∷ MoreWhens compares ∷ []) depth rest.old.now result }
+    ensures { Parses (λ found. IsBranches total has_subject depth rest.old.now found rest.new.now) (AWhen has_subject ∷ MoreWhens has_subject ∷ []) depth rest.old.now result }
 {
-    let first = when(alloc, total, depth, compares, rest)?;
+    let first = when(alloc, total, depth, has_subject, rest)?;
     let mut found = with_when(Whens::new(alloc), first)?;
     'whens: while begins(Want::When, rest) {
-        let next = when(alloc, total, depth, compares, rest)?;
+        let next = when(alloc, total, depth, has_subject, rest)?;
         found = with_when(found, next)?;
     }
     Ok(found)
@@ -205,14 +203,14 @@ fn when(
     alloc: Global,
     total: u32,
     depth: u32,
-    compares: bool,
+    has_subject: bool,
     rest: &mut &[Symbol],
 ) -> Result<When, Fault>
-    ensures { Parses (λ found. IsWhen total limited compares depth rest.old.now found rest.new.now) (AWhen compares ∷ []) depth rest.old.now result }
+    ensures { Parses (λ found. IsWhen total limited has_subject depth rest.old.now found rest.new.now) (AWhen has_subject ∷ []) depth rest.old.now result }
 {
     let at = place(total, rest);
     expect(Want::When, rest)?;
-    let test = when_test(alloc, total, depth, compares, rest)?;
+    let test = when_test(alloc, total, depth, has_subject, rest)?;
     let body = statement(alloc, total, depth, rest)?;
     Ok(When::new(alloc, at, test, body)?)
 }
@@ -224,14 +222,14 @@ pub fn block(
     alloc: Global,
     total: u32,
     depth: u32,
-    is_whole: bool,
+    is_routine: bool,
     rest: &mut &[Symbol],
 ) -> Result<Block, Fault>
-    ensures { Parses (λ found. IsBlock total limited is_whole depth rest.old.now found rest.new.now) (ABlock is_whole ∷ []) depth rest.old.now result }
+    ensures { Parses (λ found. IsBlock total limited is_routine depth rest.old.now found rest.new.now) (ABlock is_routine ∷ []) depth rest.old.now result }
 {
     let mut found = Block::new(alloc);
     'items: while !skip(Want::End, rest) {
-        let next = item(alloc, total, depth, is_whole, rest)?;
+        let next = item(alloc, total, depth, is_routine, rest)?;
         found = with_stmt(found, next)?;
     }
     Ok(found)
@@ -243,12 +241,12 @@ fn item(
     alloc: Global,
     total: u32,
     depth: u32,
-    is_whole: bool,
+    is_routine: bool,
     rest: &mut &[Symbol],
 ) -> Result<Stmt, Fault>
-    ensures { Parses (λ found. IsItem total limited is_whole depth rest.old.now found rest.new.now) (AnItem is_whole ∷ []) depth rest.old.now result }
+    ensures { Parses (λ found. IsItem total limited is_routine depth rest.old.now found rest.new.now) (AnItem is_routine ∷ []) depth rest.old.now result }
 {
-    if is_whole && begins(Want::FiltList, rest) {
+    if is_routine && begins(Want::FiltList, rest) {
         let found = filter_list(alloc, total, rest)?;
         Ok(found)
     } else {
@@ -257,18 +255,18 @@ fn item(
     }
 }
 
-/// What stands behind WHEN in parentheses: items, or a condition where the SELECT compares nothing.
+/// What stands behind WHEN in parentheses: items, or a condition where the SELECT has_subject nothing.
 #[tactic(auto, using(crate::proofs::SelectLemmas::test_of_items, crate::proofs::SelectLemmas::test_of_condition, crate::proofs::SelectLemmas::test_items_fail, crate::proofs::SelectLemmas::test_condition_fails))]
 fn when_test(
     alloc: Global,
     total: u32,
     depth: u32,
-    compares: bool,
+    has_subject: bool,
     rest: &mut &[Symbol],
 ) -> Result<WhenTest, Fault>
-    ensures { Parses (λ test. IsTest total compares depth rest.old.now test rest.new.now) (test_parts compares depth) depth rest.old.now result }
+    ensures { Parses (λ test. IsTest total has_subject depth rest.old.now test rest.new.now) (test_parts has_subject depth) depth rest.old.now result }
 {
-    if compares {
+    if has_subject {
         let test = items_test(alloc, total, rest)?;
         Ok(test)
     } else {

@@ -159,7 +159,7 @@ pub const BRANCHES: [Row; 27] = [
     (b"PROC S SELECT WHEN (&A = B) EXIT END", Err(Ended)),
 ];
 
-pub const NESTINGS: [LongRow; 25] = [
+pub const NESTINGS: [LongRow; 26] = [
     (
         &[(b"PROC STORCLAS ", 1), (b"DO ", 200), (b"END ", 201)],
         Ok(()),
@@ -316,6 +316,16 @@ pub const NESTINGS: [LongRow; 25] = [
             (b"END ", 102),
         ],
         Ok(()),
+    ),
+    (
+        &[
+            (b"PROC S ", 1),
+            (b"DO ", 100),
+            (b"IF ", 1),
+            (b"(", 100),
+            (b"&A = B", 1),
+        ],
+        Err(Deep(202)),
     ),
     // what is closed is not counted
     (&[(b"PROC S ", 1), (b"DO END ", 300), (b"END", 1)], Ok(())),

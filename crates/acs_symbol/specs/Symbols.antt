@@ -17,7 +17,7 @@ use Rattle.acs_symbol.specs.declared.symbol.Symbol.TheVariants.{Word, Variable, 
 abbrev pub number_kind : List ℕ → WordKind
 number_kind text = if list_all is_digit text then word.Number else word.Other
 
--- EQ, NE, GT, LT, GE, LE, NG, NL
+-- EQ, NE, GT, LT, GE, LE, NG, NL, and else a word that is no keyword
 abbrev pub compare_kind : List ℕ → WordKind
 compare_kind text =
     if bytes_eq text (codes "EQ") then word.Compare Eq else
@@ -30,7 +30,7 @@ compare_kind text =
     if bytes_eq text (codes "NL") then word.Compare Nl else
     number_kind text
 
--- the words that stand inside a statement
+-- the words that stand inside a statement, and else a comparison or a word that is no keyword
 abbrev pub inner_kind : List ℕ → WordKind
 inner_kind text =
     if bytes_eq text (codes "THEN") then word.Then else
@@ -58,7 +58,7 @@ word_kind text =
     if bytes_eq text (codes "EXIT") then word.Exit else
     inner_kind text
 
--- the sign with this text: one of the scanner's
+-- the sign with this text: one of the scanner's; what is none of the others is the comma
 abbrev pub sign_of : List ℕ → Symbol
 sign_of text =
     if bytes_eq text (codes "&&") then AndSign else

@@ -9,7 +9,6 @@ mod symbol;
 #[cfg(test)]
 mod tests;
 
-pub use keyword::{sign, word_kind};
 pub use laws::token_count;
 pub use reading::symbols;
 pub use symbol::{Symbol, WordKind};

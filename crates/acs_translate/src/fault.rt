@@ -1,4 +1,5 @@
 // Why a text is no routine of a kind.
+use thiserror::Error;
 
 /// The part of the translator that met a fault: the scanner, the parser or the checks.
 #[derive(Clone, Copy, Debug, PartialEq, Eq)]
@@ -19,8 +20,10 @@ pub struct RoutineFault {
 }
 
 /// Why a text was not translated.
-#[derive(Clone, Copy, Debug, PartialEq, Eq)]
+#[derive(Clone, Copy, Debug, PartialEq, Eq, Error)]
 pub enum TranslateErr {
+    #[error("the routine has a fault")]
     Fault(RoutineFault),
+    #[error("out of memory")]
     NoMemory,
 }

@@ -1,7 +1,5 @@
 // From a text to a checked routine.
 ghost use Rattle.std.specs.Prelude.{◌≡◌, ◌<◌, ◌^◌, length, IfOk, IfErr};
-ghost use Rattle.acs_lex.specs.Tokens.{IsCut};
-ghost use Rattle.acs_lex.specs.LexFault.{IsFirstLexFault};
 ghost use Rattle.acs_translate.specs.Translation.{IsTranslated, MayRefuse, IsExact, lex_err, parse_err, check_fault};
 
 use crate::fault::{RoutineFault, Stage, TranslateErr};

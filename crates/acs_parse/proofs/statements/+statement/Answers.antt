@@ -58,7 +58,7 @@ selection-branch-alloc-requires t c = (omega (arith, choice_shorter c.in_ok-subj
 pub when-returns-in_err-test : goal.when-returns-in_err-test
 when-returns-in_err-test t c =
     let p = err_from_is_err_and c.from_residual-in_err-test.result c.from_residual-in_err-test.ensures.1 in
-    rw (p.1, p.2) (when_test_fails c.in_err-test.field-0.0 c.args.depth c.args.compares c.in_ok-expect.ensures c.in_err-test.ensures)
+    rw (p.1, p.2) (when_test_fails c.in_err-test.field-0.0 c.args.depth c.args.has_subject c.in_ok-expect.ensures c.in_err-test.ensures)
 
 pub when-statement-requires : goal.when-statement-requires
 when-statement-requires t c = (omega (arith, takes_shorter want.When c.in_ok-expect.ensures, test_shorter c.in_ok-test.ensures), tt)

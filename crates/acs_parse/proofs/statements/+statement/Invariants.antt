@@ -4,13 +4,13 @@ use Rattle.acs_parse.proofs.SelectLemmas.{WhenTurn}
 use Rattle.acs_parse.proofs.statements.+statement.Given as goal
 
 abbrev pub invariant-branches-whens : goal.invariant-branches-whens
-invariant-branches-whens l = WhenTurn l.fn.total l.fn.depth l.fn.compares l.fn.rest.now l.rest.now l.found
+invariant-branches-whens l = WhenTurn l.fn.total l.fn.depth l.fn.has_subject l.fn.rest.now l.rest.now l.found
 
 abbrev pub decreases-branches-whens : goal.decreases-branches-whens
 decreases-branches-whens l = length l.rest.now
 
 abbrev pub invariant-block-items : goal.invariant-block-items
-invariant-block-items l = BlockTurn l.fn.total l.fn.depth l.fn.is_whole l.fn.rest.now l.rest.now l.found
+invariant-block-items l = BlockTurn l.fn.total l.fn.depth l.fn.is_routine l.fn.rest.now l.rest.now l.found
 
 abbrev pub decreases-block-items : goal.decreases-block-items
 decreases-block-items l = length l.rest.now
