@@ -6,3 +6,4 @@ pub mod ConditionLemmas
 pub mod StatementLemmas
 pub mod SetLemmas
 pub mod Places
+pub mod StepLemmas

@@ -2,7 +2,6 @@
 ghost use Rattle.std.specs.Prelude.{◌≡◌, ◌<◌, [], true, false, List, length, Contains, MatchOption, OnOk};
 ghost use Rattle.dsn_mask.specs.Filter.{FilterLists};
 ghost use Rattle.acs_tree.specs.Meaning.{class_set, groups_behind, groups_set, is_new_group, kind_set, sets, with_group};
-ghost use Rattle.acs_tree.specs.Variables.{name_of};
 ghost use Rattle.acs_tree.specs.declared.kind.Kind.{Kind};
 ghost use Rattle.acs_code.specs.Upward.{Does};
 
@@ -22,7 +21,7 @@ pub fn set(
 ) -> Result<(), AllocError>
     ensures { OnOk result ((filters : List FilterLists) → Does kind filters (sets kind target.now values.now) code.old code.new) }
 {
-    if target.name.bytes() == kind_name(kind) {
+    if target.name.bytes() == kind.name() {
         set_kind(code, kind, values)
     } else {
         Ok(())
@@ -51,18 +50,6 @@ fn set_groups(code: &mut Upward, values: &[Operand]) -> Result<(), AllocError>
     ensures { OnOk result ((kind : Kind) (filters : List FilterLists) → Does kind filters (groups_set values.now) code.old code.new) }
 {
     code.put(Instr::SetGroups(groups(values)))
-}
-
-/// The name of the variable that a routine of that kind sets.
-pub fn kind_name(kind: Kind) -> &'static [u8]
-    ensures { result.now ≡ name_of kind }
-{
-    match kind {
-        Kind::DataClas => b"DATACLAS",
-        Kind::StorClas => b"STORCLAS",
-        Kind::MgmtClas => b"MGMTCLAS",
-        Kind::StorGrp => b"STORGRP",
-    }
 }
 
 // The most groups that one SET can name.
