@@ -14,6 +14,8 @@ mod entries;
 #[cfg(test)]
 mod forms;
 #[cfg(test)]
+mod given;
+#[cfg(test)]
 mod heads;
 #[cfg(test)]
 mod indexes;
@@ -28,10 +30,18 @@ mod operators;
 #[cfg(test)]
 mod order;
 #[cfg(test)]
+mod questions;
+#[cfg(test)]
 mod routines;
 #[cfg(test)]
+mod running;
+#[cfg(test)]
 mod sets;
+#[cfg(test)]
+mod statements;
 #[cfg(test)]
 mod texts;
 #[cfg(test)]
 mod variables;
+#[cfg(test)]
+mod written;
