@@ -1,6 +1,6 @@
 //! Runs of statements.
-use crate::given::Given::{Data, Dsn, Management, Storage};
-use crate::running::{Run, compare_runs};
+use crate::run_input::Given::{Data, Dsn, Management, Storage};
+use crate::runs::{Run, compare_runs};
 use acs_tree::Ending::{Exit, Falls};
 use acs_tree::Kind::{DataClas, MgmtClas, StorClas};
 use std::test::Fail;

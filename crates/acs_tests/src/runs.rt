@@ -1,5 +1,5 @@
 //! Comparing runs with what they are wanted to come to.
-use crate::given::{Given, input_of, values_of};
+use crate::run_input::{Given, input_of, values_of};
 use crate::texts::text_of;
 use acs_code::{Code, compile};
 use acs_run::run;
@@ -23,14 +23,21 @@ pub type Run = (
 /// A condition, what a run is given, and whether the condition holds.
 pub type Question = (&'static str, &'static [Given], bool);
 
+/// The same behind filter lists.
+pub type Listed = (&'static str, &'static str, &'static [Given], bool);
+
+/// A routine for storage groups, what its run is given, and how it ends.
+pub type Ended = (&'static str, &'static [Given], Ending);
+
 /// The parts of a WRITE, what a run is given, and the line.
 pub type Written = (&'static str, &'static [Given], &'static str);
 
-/// A kind, a text in pieces, each so many times, how many lines are kept, the text of each kept line in
-/// pieces, and how many lines more there are.
+/// A kind, a text in pieces, each so many times, what a run is given, how many lines are kept, the text of
+/// each kept line in pieces, and how many lines more there are.
 pub type LongRun = (
     Kind,
     &'static [(&'static str, usize)],
+    &'static [Given],
     usize,
     &'static [(&'static str, usize)],
     u32,
@@ -49,23 +56,53 @@ pub fn compare_runs(rt: &impl Abort, alloc: Global, rows: &[Run]) -> Result<(), 
 
 pub fn compare_questions(rt: &impl Abort, alloc: Global, rows: &[Question]) -> Result<(), Fail> {
     for (condition, given, holds) in rows {
-        let ended = answer_to(rt, alloc, condition, given)?;
-        assert_eq!(rt; ended == Ending::Exit(1), *holds, "{condition}");
-        assert_eq!(rt; ended == Ending::Falls, !*holds, "{condition}");
+        compare_question(rt, alloc, "", condition, given, *holds)?;
     }
     Ok(())
 }
 
-fn answer_to(
+pub fn compare_listed(rt: &impl Abort, alloc: Global, rows: &[Listed]) -> Result<(), Fail> {
+    for (lists, condition, given, holds) in rows {
+        compare_question(rt, alloc, lists, condition, given, *holds)?;
+    }
+    Ok(())
+}
+
+fn compare_question(
     rt: &impl Abort,
     alloc: Global,
+    lists: &str,
     condition: &str,
     given: &[Given],
-) -> Result<Ending, Fail> {
-    let text = format!(in alloc; "PROC STORGRP IF {condition} THEN EXIT CODE(1) END")?;
+    holds: bool,
+) -> Result<(), Fail> {
+    let text = format!(in alloc; "PROC STORGRP {lists} IF {condition} THEN EXIT CODE(1) END")?;
+    let ending = if holds {
+        Ending::Exit(1)
+    } else {
+        Ending::Falls
+    };
+    compare_ending(rt, alloc, &text, given, ending)
+}
+
+pub fn compare_endings(rt: &impl Abort, alloc: Global, rows: &[Ended]) -> Result<(), Fail> {
+    for (text, given, ending) in rows {
+        compare_ending(rt, alloc, text, given, *ending)?;
+    }
+    Ok(())
+}
+
+fn compare_ending(
+    rt: &impl Abort,
+    alloc: Global,
+    text: &str,
+    given: &[Given],
+    ending: Ending,
+) -> Result<(), Fail> {
     let code = code_of(rt, alloc, Kind::StorGrp, text.as_bytes())?;
     let (_, _, ended) = run_of(rt, alloc, &code, given)?;
-    Ok(ended)
+    assert_eq!(rt; ended, ending, "{text}");
+    Ok(())
 }
 
 pub fn compare_written(rt: &impl Abort, alloc: Global, rows: &[Written]) -> Result<(), Fail> {
@@ -79,11 +116,11 @@ pub fn compare_written(rt: &impl Abort, alloc: Global, rows: &[Written]) -> Resu
 }
 
 pub fn compare_long_runs(rt: &impl Abort, alloc: Global, rows: &[LongRun]) -> Result<(), Fail> {
-    for (kind, pieces, kept, line, more) in rows {
+    for (kind, pieces, given, kept, line, more) in rows {
         let text = text_of(alloc, pieces)?;
         let line = text_of(alloc, line)?;
         let code = code_of(rt, alloc, *kind, &text)?;
-        let (_, slate, _) = run_of(rt, alloc, &code, &[])?;
+        let (_, slate, _) = run_of(rt, alloc, &code, given)?;
         assert_eq!(rt; slate.lines().len(), *kept, "{pieces:?}");
         assert_eq!(rt; slate.more(*kind), *more, "{pieces:?}");
         compare_each(rt, *kind, &slate, &line);
