@@ -1,10 +1,13 @@
-//! Tests of the language of ACS routines across its crates: what is scanned, parsed and checked.
+//! Tests of the language of ACS routines across its crates: what is scanned, parsed and checked, and what
+//! runs come to.
 #![tactic(auto)]
 
 #[cfg(test)]
 mod answer;
 #[cfg(test)]
 mod branches;
+#[cfg(test)]
+mod choice_runs;
 #[cfg(test)]
 mod codes;
 #[cfg(test)]
@@ -14,13 +17,21 @@ mod entries;
 #[cfg(test)]
 mod forms;
 #[cfg(test)]
+mod group_runs;
+#[cfg(test)]
 mod heads;
 #[cfg(test)]
 mod indexes;
 #[cfg(test)]
+mod line_runs;
+#[cfg(test)]
+mod list_runs;
+#[cfg(test)]
 mod lists;
 #[cfg(test)]
 mod masks;
+#[cfg(test)]
+mod number_runs;
 #[cfg(test)]
 mod numbers;
 #[cfg(test)]
@@ -30,8 +41,18 @@ mod order;
 #[cfg(test)]
 mod routines;
 #[cfg(test)]
+mod run_input;
+#[cfg(test)]
+mod runs;
+#[cfg(test)]
 mod sets;
+#[cfg(test)]
+mod statement_runs;
+#[cfg(test)]
+mod text_runs;
 #[cfg(test)]
 mod texts;
 #[cfg(test)]
 mod variables;
+#[cfg(test)]
+mod volume_runs;

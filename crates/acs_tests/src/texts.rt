@@ -28,7 +28,7 @@ pub fn compare_long(rt: &impl Abort, alloc: Global, rows: &[LongRow]) -> Result<
     Ok(())
 }
 
-fn text_of(alloc: Global, pieces: &[(&str, usize)]) -> Result<Vec<u8>, AllocError> {
+pub fn text_of(alloc: Global, pieces: &[(&str, usize)]) -> Result<Vec<u8>, AllocError> {
     let mut text = Vec::new(alloc);
     for (piece, times) in pieces {
         push_times(&mut text, piece.as_bytes(), *times)?;

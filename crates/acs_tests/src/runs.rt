@@ -1,0 +1,165 @@
+//! Comparing runs with what they are wanted to come to.
+use crate::run_input::{Given, input_of, values_of};
+use crate::texts::text_of;
+use acs_code::{Code, compile};
+use acs_run::run;
+use acs_translate::translate;
+use acs_tree::{Ending, Kind, Slate, Values};
+use std::alloc::{AllocError, Global};
+use std::process::Abort;
+use std::test::Fail;
+
+/// A kind of routine, a text, what its run is given, all that the read-write variables hold afterwards, all
+/// lines, and the ending.
+pub type Run = (
+    Kind,
+    &'static str,
+    &'static [Given],
+    &'static [Given],
+    &'static [&'static str],
+    Ending,
+);
+
+/// A condition, what a run is given, and whether the condition holds.
+pub type Question = (&'static str, &'static [Given], bool);
+
+/// The same behind filter lists.
+pub type Listed = (&'static str, &'static str, &'static [Given], bool);
+
+/// A routine for storage groups, what its run is given, and how it ends.
+pub type Ended = (&'static str, &'static [Given], Ending);
+
+/// The parts of a WRITE, what a run is given, and the line.
+pub type Written = (&'static str, &'static [Given], &'static str);
+
+/// A kind, a text in pieces, each so many times, what a run is given, how many lines are kept, the text of
+/// each kept line in pieces, and how many lines more there are.
+pub type LongRun = (
+    Kind,
+    &'static [(&'static str, usize)],
+    &'static [Given],
+    usize,
+    &'static [(&'static str, usize)],
+    u32,
+);
+
+pub fn compare_runs(rt: &impl Abort, alloc: Global, rows: &[Run]) -> Result<(), Fail> {
+    for (kind, text, given, held, lines, ending) in rows {
+        let code = code_of(rt, alloc, *kind, text.as_bytes())?;
+        let (values, slate, ended) = run_of(rt, alloc, &code, given)?;
+        assert_eq!(rt; ended, *ending, "{text}");
+        assert!(rt; values == values_of(rt, held), "{text}");
+        compare_lines(rt, *kind, &slate, lines, text);
+    }
+    Ok(())
+}
+
+pub fn compare_questions(rt: &impl Abort, alloc: Global, rows: &[Question]) -> Result<(), Fail> {
+    for (condition, given, holds) in rows {
+        compare_question(rt, alloc, "", condition, given, *holds)?;
+    }
+    Ok(())
+}
+
+pub fn compare_listed(rt: &impl Abort, alloc: Global, rows: &[Listed]) -> Result<(), Fail> {
+    for (lists, condition, given, holds) in rows {
+        compare_question(rt, alloc, lists, condition, given, *holds)?;
+    }
+    Ok(())
+}
+
+fn compare_question(
+    rt: &impl Abort,
+    alloc: Global,
+    lists: &str,
+    condition: &str,
+    given: &[Given],
+    holds: bool,
+) -> Result<(), Fail> {
+    let text = format!(in alloc; "PROC STORGRP {lists} IF {condition} THEN EXIT CODE(1) END")?;
+    let ending = if holds {
+        Ending::Exit(1)
+    } else {
+        Ending::Falls
+    };
+    compare_ending(rt, alloc, &text, given, ending)
+}
+
+pub fn compare_endings(rt: &impl Abort, alloc: Global, rows: &[Ended]) -> Result<(), Fail> {
+    for (text, given, ending) in rows {
+        compare_ending(rt, alloc, text, given, *ending)?;
+    }
+    Ok(())
+}
+
+fn compare_ending(
+    rt: &impl Abort,
+    alloc: Global,
+    text: &str,
+    given: &[Given],
+    ending: Ending,
+) -> Result<(), Fail> {
+    let code = code_of(rt, alloc, Kind::StorGrp, text.as_bytes())?;
+    let (_, _, ended) = run_of(rt, alloc, &code, given)?;
+    assert_eq!(rt; ended, ending, "{text}");
+    Ok(())
+}
+
+pub fn compare_written(rt: &impl Abort, alloc: Global, rows: &[Written]) -> Result<(), Fail> {
+    for (parts, given, line) in rows {
+        let text = format!(in alloc; "PROC STORGRP WRITE {parts} END")?;
+        let code = code_of(rt, alloc, Kind::StorGrp, text.as_bytes())?;
+        let (_, slate, _) = run_of(rt, alloc, &code, given)?;
+        compare_lines(rt, Kind::StorGrp, &slate, &[line], parts);
+    }
+    Ok(())
+}
+
+pub fn compare_long_runs(rt: &impl Abort, alloc: Global, rows: &[LongRun]) -> Result<(), Fail> {
+    for (kind, pieces, given, kept, line, more) in rows {
+        let text = text_of(alloc, pieces)?;
+        let line = text_of(alloc, line)?;
+        let code = code_of(rt, alloc, *kind, &text)?;
+        let (_, slate, _) = run_of(rt, alloc, &code, given)?;
+        assert_eq!(rt; slate.lines().len(), *kept, "{pieces:?}");
+        assert_eq!(rt; slate.more(*kind), *more, "{pieces:?}");
+        compare_each(rt, *kind, &slate, &line);
+    }
+    Ok(())
+}
+
+fn code_of(rt: &impl Abort, alloc: Global, kind: Kind, text: &[u8]) -> Result<Code, Fail> {
+    assert!(rt; text.len() < 1 << 32);
+    let (checked, _) = translate(alloc, text, kind)?;
+    Ok(compile(alloc, &checked)?)
+}
+
+fn run_of(
+    rt: &impl Abort,
+    alloc: Global,
+    code: &Code,
+    given: &[Given],
+) -> Result<(Values, Slate, Ending), AllocError> {
+    let mut slate = Slate::new(alloc)?;
+    let mut values = values_of(rt, given);
+    let input = input_of(rt, given);
+    let ending = run(code, &input, &mut values, &mut slate);
+    Ok((values, slate, ending))
+}
+
+fn compare_lines(rt: &impl Abort, kind: Kind, slate: &Slate, wanted: &[&str], text: &str) {
+    let lines = slate.lines();
+    assert_eq!(rt; lines.len(), wanted.len(), "{text}");
+    assert_eq!(rt; slate.more(kind), 0, "{text}");
+    for (line, wanted) in lines.iter().zip(wanted) {
+        assert_eq!(rt; line.kind, kind, "{text}");
+        assert_eq!(rt; line.text.bytes(), wanted.as_bytes(), "{text}");
+    }
+}
+
+fn compare_each(rt: &impl Abort, kind: Kind, slate: &Slate, wanted: &[u8]) {
+    for line in slate.lines() {
+        assert_eq!(rt; line.kind, kind);
+        assert_eq!(rt; line.text.bytes(), wanted);
+    }
+}
