@@ -9,8 +9,9 @@ use Rattle.acs_tree.specs.declared.input.Input.{Input}
 use Rattle.acs_tree.specs.declared.kind.Kind.{Kind}
 use Rattle.acs_tree.specs.declared.values.Values.{Values}
 use Rattle.acs_tree.specs.Conditions as conditions
-use Rattle.acs_tree.specs.Meaning.{choice, nothing, with_class}
-use Rattle.acs_tree.specs.Outcome.{Outcome, Mean, falls, exits, then_do, after, behind}
+use Rattle.acs_tree.specs.Meaning.{choice}
+use Rattle.acs_tree.specs.Outcome.{nothing, Outcome, Mean, falls, exits, then_do, after, behind}
+use Rattle.acs_tree.specs.Setting.{with_class}
 use Rattle.acs_code.specs.declared.instr.Instr.{Instr}
 use Rattle.acs_code.specs.declared.instr.Instr.TheVariants.{Test, Jump, SetClass, SetGroups, Write, Exit}
 use Rattle.acs_code.specs.declared.part.Part.{Part}

@@ -17,8 +17,10 @@ use Rattle.acs_tree.specs.declared.routine.Stmt.{Stmt}
 use Rattle.acs_tree.specs.declared.routine.When.{When, out-When}
 use Rattle.acs_tree.specs.declared.values.Values.{Values}
 use Rattle.acs_tree.specs.Conditions.{holds, when_holds}
-use Rattle.acs_tree.specs.Meaning.{Arm, choice, code_of, first_of, form_step, in_turn, joined, meaning, nothing, perhaps, sets, stmt_step, when_step, writes, written}
-use Rattle.acs_tree.specs.Outcome.{Mean, exits, behind, falls}
+use Rattle.acs_tree.specs.Meaning.{Arm, choice, code_of, first_of, form_step, in_turn, meaning, perhaps, stmt_step, when_step, writes}
+use Rattle.acs_tree.specs.Outcome.{nothing, Mean, exits, behind, falls}
+use Rattle.acs_tree.specs.Setting.{sets}
+use Rattle.acs_tree.specs.Writing.{joined, written}
 use Rattle.acs_code.specs.declared.instr.Instr.{Instr}
 use Rattle.acs_code.specs.declared.instr.Instr.TheVariants.{Jump, Write as WriteInstr}
 use Rattle.acs_code.specs.declared.part.Part.{Part}

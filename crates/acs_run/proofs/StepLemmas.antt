@@ -8,7 +8,7 @@ use Rattle.dsn_mask.specs.Filter.{FilterLists}
 use Rattle.acs_tree.specs.declared.input.Input.{Input}
 use Rattle.acs_tree.specs.declared.kind.Kind.{Kind}
 use Rattle.acs_tree.specs.declared.values.Values.{Values}
-use Rattle.acs_tree.specs.Meaning.{with_class}
+use Rattle.acs_tree.specs.Setting.{with_class}
 use Rattle.acs_tree.specs.Outcome.{Outcome, behind, falls}
 use Rattle.acs_tree.specs.Slates.{SlateLines, with_line}
 use Rattle.acs_code.specs.declared.instr.Instr.{Instr}
