@@ -7,7 +7,7 @@ use Rattle.std.proofs.lemmas.Cmp.{nat_list_eq_equiv}
 use Rattle.std.proofs.lemmas.Map.Views.{list_any-from_Contains, Contains-from_any}
 use Rattle.std.proofs.lemmas.Slice.Eq.{bytes_eq-Decides}
 use Rattle.dsn_mask.specs.Name.{is_name, name_of}
-use Rattle.acs_tree.specs.Meaning.{is_new_group}
+use Rattle.acs_tree.specs.Setting.{is_new_group}
 
 no_truth : (a b : Bool) → a && (b && false) ≡ false
 no_truth true true = refl

@@ -1,5 +1,5 @@
 -- How pieces of code fit together.
-use Rattle.std.proofs.Common.{◌≡◌, ◌≤◌, ◌&&◌, ◌||◌, ℕ, suc, Bool, true, false, List, [], ◌∷◌, ◌++◌, length, refl, sym, ap, ◌∙◌, append_assoc, arith}
+use Rattle.std.proofs.Common.{◌≡◌, ◌≤◌, ◌&&◌, ◌||◌, ℕ, suc, Bool, true, false, List, ◌∷◌, ◌++◌, length, refl, sym, ap, ◌∙◌, append_assoc, arith}
 use Rattle.std.specs.Prelude.{if◌then◌else◌}
 use Rattle.std.proofs.lemmas.Bool.{lt-ltb, le-ltb}
 use Rattle.dsn_mask.specs.Filter.{FilterLists}
@@ -9,13 +9,12 @@ use Rattle.acs_tree.specs.declared.input.Input.{Input}
 use Rattle.acs_tree.specs.declared.kind.Kind.{Kind}
 use Rattle.acs_tree.specs.declared.values.Values.{Values}
 use Rattle.acs_tree.specs.Conditions as conditions
-use Rattle.acs_tree.specs.Meaning.{choice, nothing, with_class}
-use Rattle.acs_tree.specs.Outcome.{Outcome, Mean, falls, exits, then_do, after, behind}
+use Rattle.acs_tree.specs.Meaning.{choice}
+use Rattle.acs_tree.specs.Outcome.{nothing, Outcome, Mean, then_do, after, behind}
 use Rattle.acs_code.specs.declared.instr.Instr.{Instr}
-use Rattle.acs_code.specs.declared.instr.Instr.TheVariants.{Test, Jump, SetClass, SetGroups, Write, Exit}
-use Rattle.acs_code.specs.declared.part.Part.{Part}
+use Rattle.acs_code.specs.declared.instr.Instr.TheVariants.{Test, Jump}
 use Rattle.acs_code.specs.declared.probe.Probe.{Probe}
-use Rattle.acs_code.specs.Machine.{act, part_class, parts_line, probe_holds}
+use Rattle.acs_code.specs.Machine.{act, probe_holds}
 use Rattle.acs_code.specs.Stands.{IsThere}
 use Rattle.acs_code.specs.Upward.{leap, Below, Over, Branches, Does}
 
@@ -75,27 +74,6 @@ module _ (kind : Kind) (filters : List FilterLists) where
 
   -- statements
 
-  pub does_nothing : (rest : List Instr) → Does kind filters nothing rest rest
-  does_nothing rest = record { over = over_self rest; does = λ input values. refl }
-
-  pub does_exit : (code : ℕ) (rest : List Instr) → Does kind filters (λ input values. exits code values) rest (Exit code ∷ rest)
-  does_exit code rest = record { over = over_one (Exit code) rest tt; does = λ input values. at_front input (Exit code) rest values }
-
-  pub does_set : (part : Part) (rest : List Instr) (mean : Mean) → ((input : Input) (values : Values) → mean input values ≡ falls (with_class kind (part_class part input values) values)) → Does kind filters mean rest (SetClass part ∷ rest)
-  does_set part rest mean same = record {
-    over = over_one (SetClass part) rest tt;
-    does = λ input values. at_front input (SetClass part) rest values ∙ ap (λ o. then_do o (λ v. leap kind filters input (length rest) rest v)) (sym (same input values));
-  }
-
-  pub does_groups : (groups : List (List ℕ)) (rest : List Instr) → Does kind filters (λ input values. falls (record values { groups = groups })) rest (SetGroups groups ∷ rest)
-  does_groups groups rest = record { over = over_one (SetGroups groups) rest tt; does = λ input values. at_front input (SetGroups groups) rest values }
-
-  pub does_write : (parts : List Part) (rest : List Instr) (mean : Mean) → ((input : Input) (values : Values) → mean input values ≡ behind (parts_line parts input values ∷ []) (falls values)) → Does kind filters mean rest (Write parts ∷ rest)
-  does_write parts rest mean same = record {
-    over = over_one (Write parts) rest tt;
-    does = λ input values. at_front input (Write parts) rest values ∙ ap (λ o. then_do o (λ v. leap kind filters input (length rest) rest v)) (sym (same input values));
-  }
-
   -- lines before lines
   behind_twice : (xs ys : List (List ℕ)) (o : Outcome) → behind xs (behind ys o) ≡ behind (xs ++ ys) o
   behind_twice xs ys o = ap (λ l. record { values = o.values; lines = l; ending = o.ending }) (sym (append_assoc xs ys o.lines))
@@ -134,17 +112,3 @@ module _ (kind : Kind) (filters : List FilterLists) where
       split : (input : Input) (values : Values) (c : Bool) → leap kind filters input (if c then length body else length old) body values ≡ then_do (if c then m input values else other input values) (λ v. leap kind filters input (length rest) rest v)
       split input values true = whole input values
       split input values false = else_part input values
-
-  -- a jump to the place `length rest`
-  pub jump_there : (rest old : List Instr) → Over kind filters rest old → Does kind filters nothing rest (Jump (length rest) ∷ old)
-  jump_there rest old over = record {
-    over = over_on over (over_one (Jump (length rest)) old over.longer);
-    does = λ input values. at_front input (Jump (length rest)) old values ∙ over.keeps input (length rest) values (omega arith);
-  }
-
-  -- no jump where that place is there
-  pub no_jump : (rest old : List Instr) → length old ≡ length rest → Over kind filters rest old → Does kind filters nothing rest old
-  no_jump rest old e over = record {
-    over = over;
-    does = λ input values. ap (λ n. leap kind filters input n old values) e ∙ over.keeps input (length rest) values (omega arith);
-  }

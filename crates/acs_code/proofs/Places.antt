@@ -13,7 +13,8 @@ use Rattle.acs_tree.specs.declared.routine.Stmt.{Stmt}
 use Rattle.acs_tree.specs.declared.values.Values.{Values}
 use Rattle.acs_tree.specs.CheckedRoutine.{CheckedRoutine}
 use Rattle.acs_tree.specs.Comparands.{lists_of}
-use Rattle.acs_tree.specs.Meaning.{in_turn, meaning, with_class}
+use Rattle.acs_tree.specs.Meaning.{in_turn, meaning}
+use Rattle.acs_tree.specs.Setting.{with_class}
 use Rattle.acs_tree.specs.Outcome.{Outcome, behind, falls, then_do}
 use Rattle.acs_code.specs.declared.instr.Instr.{Instr}
 use Rattle.acs_code.specs.declared.instr.Instr.TheVariants.{Test, Jump, SetClass, SetGroups, Write, Exit}

@@ -6,8 +6,8 @@ use Rattle.acs_tree.specs.declared.kind.Kind.{Kind}
 use Rattle.acs_tree.specs.declared.kind.Kind.TheVariants.{DataClas, StorClas, MgmtClas, StorGrp}
 use Rattle.acs_tree.specs.declared.routine.Operand.{Operand}
 use Rattle.acs_tree.specs.declared.routine.Ref.{Ref}
-use Rattle.acs_tree.specs.Meaning.{class_set, groups_set, kind_set, nothing, sets}
-use Rattle.acs_tree.specs.Outcome.{Mean}
+use Rattle.acs_tree.specs.Outcome.{nothing, Mean}
+use Rattle.acs_tree.specs.Setting.{class_set, groups_set, kind_set, sets}
 use Rattle.acs_tree.specs.Variables.{name_of}
 use Rattle.acs_code.specs.declared.instr.Instr.{Instr}
 use Rattle.acs_code.specs.Upward.{Does}

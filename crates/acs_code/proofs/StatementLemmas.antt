@@ -1,6 +1,6 @@
 -- What each form of statement does, one equation for each, and its code.
 use Rattle.std.proofs.Common.{◌≡◌, ◌<◌, ◌≤◌, ◌+◌, ℕ, suc, List, [], ◌∷◌, ◌++◌, length, map, drop, get_or, Option, Some, None, refl, sym, ap, ◌∙◌, subst, append_assoc, arith}
-use Rattle.std.specs.Prelude.{option_map, take}
+use Rattle.std.specs.Prelude.{option_map}
 use Rattle.std.proofs.Math.Seq.{drop-cons}
 use Rattle.dsn_mask.specs.Filter.{FilterLists}
 use Rattle.acs_tree.specs.declared.filter_list.FilterList.{FilterList}
@@ -10,22 +10,23 @@ use Rattle.acs_tree.specs.declared.routine.Cond.{Cond}
 use Rattle.acs_tree.specs.declared.routine.Form.{Form, roll-Form, map-Form}
 use Rattle.acs_tree.specs.declared.routine.Form.TheOpen.{Form-F}
 use Rattle.acs_tree.specs.declared.routine.Form.TheFolds.{fold-roll-Form, fold_out-Stmt, fold_out-When}
-use Rattle.acs_tree.specs.declared.routine.Form.TheVariants.{Filt, Put, If, Pick, Do, Write, Exit, rolls-Filt, rolls-Put, rolls-If, rolls-Pick, rolls-Do, rolls-Write, rolls-Exit}
+use Rattle.acs_tree.specs.declared.routine.Form.TheVariants.{Put, If, Pick, Write, Exit, rolls-Put, rolls-If, rolls-Pick, rolls-Write, rolls-Exit}
 use Rattle.acs_tree.specs.declared.routine.Operand.{Operand}
 use Rattle.acs_tree.specs.declared.routine.Ref.{Ref}
 use Rattle.acs_tree.specs.declared.routine.Stmt.{Stmt}
 use Rattle.acs_tree.specs.declared.routine.When.{When, out-When}
 use Rattle.acs_tree.specs.declared.values.Values.{Values}
 use Rattle.acs_tree.specs.Conditions.{holds, when_holds}
-use Rattle.acs_tree.specs.Meaning.{Arm, choice, code_of, first_of, form_step, in_turn, joined, meaning, nothing, perhaps, sets, stmt_step, when_step, writes, written}
-use Rattle.acs_tree.specs.Outcome.{Mean, exits, behind, falls}
+use Rattle.acs_tree.specs.Meaning.{Arm, choice, code_of, first_of, form_step, in_turn, meaning, perhaps, stmt_step, when_step, writes}
+use Rattle.acs_tree.specs.Outcome.{nothing, Mean, exits}
+use Rattle.acs_tree.specs.Setting.{sets}
+use Rattle.acs_tree.specs.Writing.{joined, written}
 use Rattle.acs_code.specs.declared.instr.Instr.{Instr}
-use Rattle.acs_code.specs.declared.instr.Instr.TheVariants.{Jump, Write as WriteInstr}
 use Rattle.acs_code.specs.declared.part.Part.{Part}
 use Rattle.acs_code.specs.Arms.{arm_of, form_meaning}
 use Rattle.acs_code.specs.Machine.{part_text, parts_text}
 use Rattle.acs_code.specs.Upward.{Branches, Does, Over, filters_of}
-use Rattle.acs_code.proofs.Pieces.{does_choice, does_then, does_write, jump_there, over_one}
+use Rattle.acs_code.proofs.Pieces.{does_choice, does_then}
 
 -- the parts of a line
 
@@ -49,19 +50,6 @@ parts_turn operands k operand parts new part input values h is en same whole =
     ∙ append_assoc (parts_text parts input values) (part_text part input values ++ []) rest
     ∙ ap (λ t. parts_text parts input values ++ t) (with_none (part_text part input values) rest ∙ ap (λ t. t ++ rest) same ∙ sym split) ∙ whole
 
-pub write_turn : (kind : Kind) (filters : List FilterLists) (operands : List Operand) (parts : List Part) (rest code : List Instr) → ((input : Input) (values : Values) → parts_text parts input values ≡ joined operands input values) → code ≡ WriteInstr parts ∷ rest
-    → Does kind filters (writes operands) rest code
-write_turn kind filters operands parts rest code same e =
-    rw e (does_write kind filters parts rest (writes operands) (λ input values. ap (λ text. behind (take 110 text ∷ []) (falls values)) (sym (same input values))))
-
--- jumps
-
-pub jump_over : (kind : Kind) (filters : List FilterLists) (end : ℕ) (old code : List Instr) → code ≡ Jump end ∷ old → end ≤ length old → Over kind filters old code
-jump_over kind filters end old code e h = rw e (over_one kind filters (Jump end) old h)
-
-pub jump_made : (kind : Kind) (filters : List FilterLists) (end : ℕ) (rest old code : List Instr) → code ≡ Jump end ∷ old → end ≡ length rest → Over kind filters rest old → Does kind filters nothing rest code
-jump_made kind filters end rest old code e here over = rw (e, here) (jump_there kind filters rest old over)
-
 module _ (kind : Kind) (lists : List FilterList) where
   of_form : (s : Stmt) → meaning kind lists s ≡ form_meaning kind lists s.form
   of_form s = fold_out-Stmt Mean Mean Arm (form_step kind lists) stmt_step (when_step lists) s
@@ -71,9 +59,6 @@ module _ (kind : Kind) (lists : List FilterList) where
 
   of_layer : (s : Stmt) (form : Form) (mean : Mean) → s.form ≡ form → form_meaning kind lists form ≡ mean → meaning kind lists s ≡ mean
   of_layer s form mean e f = of_form s ∙ ap (form_meaning kind lists) e ∙ f
-
-  pub means_filt : (s : Stmt) (name : List ℕ) (at : ℕ) (include exclude : List Operand) → s.form ≡ Filt name at include exclude → meaning kind lists s ≡ nothing
-  means_filt s name at include exclude e = of_layer s (Filt name at include exclude) nothing e (layer (Filt name at include exclude) (Form-F.Filt name at include exclude) (rolls-Filt name at include exclude))
 
   pub means_put : (s : Stmt) (target : Ref) (operands : List Operand) → s.form ≡ Put target operands → meaning kind lists s ≡ sets kind target operands
   means_put s target operands e = of_layer s (Put target operands) (sets kind target operands) e (layer (Put target operands) (Form-F.Put target operands) (rolls-Put target operands))
@@ -85,9 +70,6 @@ module _ (kind : Kind) (lists : List FilterList) where
   form_pick : (subject : Option Ref) (whens : List When) (other : Option Stmt) → form_meaning kind lists (Pick subject whens other) ≡ first_of subject (map (arm_of kind lists) whens) (perhaps (option_map (meaning kind lists) other))
   form_pick subject whens None = layer (Pick subject whens None) (Form-F.Pick subject whens None) (rolls-Pick subject whens None)
   form_pick subject whens (Some other) = layer (Pick subject whens (Some other)) (Form-F.Pick subject whens (Some other)) (rolls-Pick subject whens (Some other))
-
-  pub means_do : (s : Stmt) (body : List Stmt) → s.form ≡ Do body → meaning kind lists s ≡ in_turn (map (meaning kind lists) body)
-  means_do s body e = of_layer s (Do body) (in_turn (map (meaning kind lists) body)) e (layer (Do body) (Form-F.Do body) (rolls-Do body))
 
   pub means_write : (s : Stmt) (parts : List Operand) → s.form ≡ Write parts → meaning kind lists s ≡ writes parts
   means_write s parts e = of_layer s (Write parts) (writes parts) e (layer (Write parts) (Form-F.Write parts) (rolls-Write parts))

@@ -8,7 +8,8 @@ use Rattle.acs_tree.specs.declared.values.Values.{Values}
 use Rattle.acs_tree.specs.Comparands as comparand
 use Rattle.acs_tree.specs.Comparands.{Comparand}
 use Rattle.acs_tree.specs.Compares.{compares}
-use Rattle.acs_tree.specs.Meaning.{as_class, printed, text_of, with_class}
+use Rattle.acs_tree.specs.Setting.{as_class, text_of, with_class}
+use Rattle.acs_tree.specs.Writing.{printed}
 use Rattle.acs_tree.specs.Outcome.{Outcome, behind, exits, falls}
 use Rattle.acs_tree.specs.VariableValues.{Value, variable_value}
 use Rattle.acs_code.specs.declared.instr.Instr.{Instr}

@@ -4,7 +4,7 @@ use Rattle.dsn_mask.specs.Filter.{FilterLists}
 use Rattle.acs_tree.specs.declared.input.Input.{Input}
 use Rattle.acs_tree.specs.declared.kind.Kind.{Kind}
 use Rattle.acs_tree.specs.declared.values.Values.{Values}
-use Rattle.acs_tree.specs.Meaning.{with_class}
+use Rattle.acs_tree.specs.Setting.{with_class}
 use Rattle.acs_code.specs.declared.instr.Instr.{Instr}
 use Rattle.acs_code.specs.declared.instr.Instr.TheVariants.{Test, Jump, SetClass, SetGroups, Write, Exit}
 use Rattle.acs_code.specs.Machine.{CodeParts, part_class, probe_holds}

@@ -30,6 +30,7 @@ Below filters left (Test probe yes' no') = (yes' ≤ left) × (no' ≤ left) × 
 Below filters left (Jump to) = to ≤ left
 Below filters left _ = Unit {0}
 
+-- each goes on behind itself
 abbrev pub AreBelow : ℕ → List Instr → Type 0
 AreBelow filters [] = Unit {0}
 AreBelow filters (instr ∷ instrs) = Below filters (length instrs) instr × AreBelow filters instrs

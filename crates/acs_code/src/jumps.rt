@@ -1,8 +1,8 @@
 // Jumps and exits.
 ghost use Rattle.std.specs.Prelude.{◌≡◌, ◌≤◌, List, length, OnOk};
 ghost use Rattle.dsn_mask.specs.Filter.{FilterLists};
-ghost use Rattle.acs_tree.specs.Meaning.{code_of, nothing};
-ghost use Rattle.acs_tree.specs.Outcome.{exits};
+ghost use Rattle.acs_tree.specs.Meaning.{code_of};
+ghost use Rattle.acs_tree.specs.Outcome.{nothing, exits};
 ghost use Rattle.acs_tree.specs.declared.kind.Kind.{Kind};
 ghost use Rattle.acs_code.specs.Upward.{Does, Over};
 ghost use Rattle.acs_code.specs.declared.instr.Instr.{Instr};

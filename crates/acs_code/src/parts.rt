@@ -1,6 +1,7 @@
 // Variables and parts of lines.
 ghost use Rattle.std.specs.Prelude.{◌≡◌, []};
-ghost use Rattle.acs_tree.specs.Meaning.{class_from, written};
+ghost use Rattle.acs_tree.specs.Setting.{class_from};
+ghost use Rattle.acs_tree.specs.Writing.{written};
 ghost use Rattle.acs_tree.specs.VariableValues.{index_of};
 ghost use Rattle.acs_tree.specs.declared.input.Input.{Input};
 ghost use Rattle.acs_tree.specs.declared.values.Values.{Values};

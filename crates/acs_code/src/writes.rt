@@ -1,7 +1,8 @@
 // WRITE.
 ghost use Rattle.std.specs.Prelude.{◌≡◌, List, IfOk, OnOk};
 ghost use Rattle.dsn_mask.specs.Filter.{FilterLists};
-ghost use Rattle.acs_tree.specs.Meaning.{joined, writes};
+ghost use Rattle.acs_tree.specs.Meaning.{writes};
+ghost use Rattle.acs_tree.specs.Writing.{joined};
 ghost use Rattle.acs_tree.specs.declared.input.Input.{Input};
 ghost use Rattle.acs_tree.specs.declared.kind.Kind.{Kind};
 ghost use Rattle.acs_tree.specs.declared.values.Values.{Values};

@@ -9,7 +9,7 @@ use Rattle.std.proofs.lemmas.List.Elements.{All-push}
 use Rattle.std.proofs.Math.ListN.{drop_of_length-le}
 use Rattle.std.proofs.Math.Seq.{drop-cons}
 use Rattle.dsn_mask.specs.Name.{IsName, IsShort, IsVolser, is_literal_byte, is_name_byte, is_short_byte}
-use Rattle.acs_tree.specs.Meaning.{listed}
+use Rattle.acs_tree.specs.Writing.{listed}
 use Rattle.acs_tree.specs.declared.input.Input.{Input}
 use Rattle.acs_tree.specs.declared.values.Values.{Values}
 use Rattle.acs_code.specs.declared.part.Part.{Part}

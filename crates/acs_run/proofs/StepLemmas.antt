@@ -8,7 +8,7 @@ use Rattle.dsn_mask.specs.Filter.{FilterLists}
 use Rattle.acs_tree.specs.declared.input.Input.{Input}
 use Rattle.acs_tree.specs.declared.kind.Kind.{Kind}
 use Rattle.acs_tree.specs.declared.values.Values.{Values}
-use Rattle.acs_tree.specs.Meaning.{with_class}
+use Rattle.acs_tree.specs.Setting.{with_class}
 use Rattle.acs_tree.specs.Outcome.{Outcome, behind, falls}
 use Rattle.acs_tree.specs.Slates.{SlateLines, with_line}
 use Rattle.acs_code.specs.declared.instr.Instr.{Instr}
@@ -73,12 +73,6 @@ same_on kind {o} {p} {t} e = record { values = ap (λ x. x.values) e; ending = a
 
 same_written : (kind : Kind) {o p : Outcome} {t u : SlateLines} {line : List ℕ} → o ≡ behind (line ∷ []) p → u ≡ with_line kind line t → Same kind o p t u
 same_written kind {o} {p} {t} {u} e k = record { values = ap (λ x. x.values) e; ending = ap (λ x. x.ending) e; written = ap (λ x. with_lines kind t x.lines) e ∙ ap (λ x. with_lines kind x p.lines) (sym k) }
-
-pub same_then : {kind : Kind} {o p q : Outcome} {t u w : SlateLines} → Same kind o p t u → Same kind p q u w → Same kind o q t w
-same_then a b = record { values = a.values ∙ b.values; ending = a.ending ∙ b.ending; written = a.written ∙ b.written }
-
-pub same_start : (kind : Kind) (o : Outcome) (t : SlateLines) → Same kind o o t t
-same_start kind o t = same_on kind refl
 
 module _ (code : CodeParts) (input : Input) (place : ℕ) (i : Instr) (values : Values) (slate : SlateLines) (within : place < length code.instrs) (at : i ≡ get_or code.instrs place i) (forward : GoesForward code) where
   goes_here : (j : Instr) → i ≡ j → Goes (length code.filters) (length code.instrs) place j

@@ -7,6 +7,7 @@ use Rattle.acs_tree.specs.VariableValues.{Value, ValueRow, Text, Number, Size, A
 use Rattle.acs_run.specs.declared.value.Value.{Value as Held}
 use Rattle.acs_run.specs.declared.value.Value.TheVariants as held
 
+-- the volumes are the request's, and the groups those of the values so far
 abbrev pub seen : Input → Values → Held → Value
 seen input values (held.Text text) = Text text
 seen input values (held.Number number) = Number number

@@ -1,7 +1,7 @@
 // What SET sets.
 ghost use Rattle.std.specs.Prelude.{◌≡◌};
 ghost use Rattle.acs_code.specs.Machine.{part_class};
-ghost use Rattle.acs_tree.specs.Meaning.{as_class, text_of, with_class};
+ghost use Rattle.acs_tree.specs.Setting.{as_class, text_of, with_class};
 ghost use Rattle.acs_tree.specs.declared.input.Input.{Input};
 ghost use Rattle.acs_tree.specs.declared.values.Values.{Values};
 ghost use Rattle.acs_run.specs.Seen.{seen};

@@ -1,7 +1,7 @@
 // What WRITE writes.
 ghost use Rattle.std.specs.Prelude.{◌≡◌, ◌≤◌, ◌++◌, ◌∷◌, [], codes, decimal, length, take};
 ghost use Rattle.acs_code.specs.Machine.{part_text, parts_line};
-ghost use Rattle.acs_tree.specs.Meaning.{listed, printed};
+ghost use Rattle.acs_tree.specs.Writing.{listed, printed};
 ghost use Rattle.acs_run.specs.Lines.{after_commas};
 ghost use Rattle.acs_run.specs.Seen.{seen};
 

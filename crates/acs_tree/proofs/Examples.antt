@@ -13,8 +13,10 @@ use Rattle.acs_tree.specs.declared.ending.Ending.TheVariants.{Falls, Exit}
 use Rattle.acs_tree.specs.Comparands.{filter_of, size_of}
 use Rattle.acs_tree.specs.Conditions.{comparison, equals_any}
 use Rattle.acs_tree.specs.Inputs.{bare_input, no_values}
-use Rattle.acs_tree.specs.Meaning.{line_of, first_of, sets, nothing, in_turn, writes, Arm}
-use Rattle.acs_tree.specs.Outcome.{exits}
+use Rattle.acs_tree.specs.Meaning.{first_of, in_turn, writes, Arm}
+use Rattle.acs_tree.specs.Outcome.{nothing, exits}
+use Rattle.acs_tree.specs.Setting.{sets}
+use Rattle.acs_tree.specs.Writing.{line_of}
 use Rattle.acs_tree.specs.Variables.{variable_of}
 use Rattle.acs_tree.specs.VariableValues.{Text, Number, variable_value}
 

@@ -123,5 +123,6 @@ form_comparand lists left (operand.Literal text) = Literal text
 form_comparand lists left (operand.Word word) = word_comparand (variable_of left.name) (is_whole_name left) word
 form_comparand lists left (operand.Var ref) = name_comparand lists (is_whole_name left) ref
 
+-- the right side of a comparison beside its left side
 abbrev pub comparand_of : List FilterList → Ref → Operand → Comparand
 comparand_of lists left operand = form_comparand lists left operand.form

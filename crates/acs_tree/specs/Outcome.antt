@@ -35,3 +35,7 @@ after (Exit code) outcome next = outcome
 -- one after the other
 abbrev pub then_do : Outcome → (Values → Outcome) → Outcome
 then_do outcome next = after outcome.ending outcome next
+
+-- nothing is done
+abbrev pub nothing : Mean
+nothing input values = falls values

@@ -1,5 +1,5 @@
 use Rattle.std.proofs.Common.{◌≡◌, [], drop}
-use Rattle.acs_tree.specs.Meaning.{groups_behind}
+use Rattle.acs_tree.specs.Setting.{groups_behind}
 use Rattle.acs_code.proofs.sets.groups.Given as goal
 
 abbrev pub invariant-loop-value : goal.invariant-loop-value

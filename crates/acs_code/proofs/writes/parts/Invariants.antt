@@ -1,7 +1,7 @@
 use Rattle.std.proofs.Common.{◌≡◌, ◌++◌, drop}
 use Rattle.acs_tree.specs.declared.input.Input.{Input}
 use Rattle.acs_tree.specs.declared.values.Values.{Values}
-use Rattle.acs_tree.specs.Meaning.{joined}
+use Rattle.acs_tree.specs.Writing.{joined}
 use Rattle.acs_code.specs.Machine.{parts_text}
 use Rattle.acs_code.proofs.writes.parts.Given as goal
 

@@ -1,6 +1,6 @@
 use Rattle.std.proofs.Common.{◌∙◌, true, false, List, get_or, sym, ap}
 use Rattle.dsn_mask.specs.Filter.{FilterLists}
-use Rattle.acs_tree.specs.Meaning.{with_class}
+use Rattle.acs_tree.specs.Setting.{with_class}
 use Rattle.acs_tree.specs.Slates.{with_line}
 use Rattle.acs_code.specs.Machine.{parts_line, probe_holds}
 use Rattle.acs_run.proofs.StepLemmas.{leads_exit, leads_groups, leads_jump, leads_set, leads_test, leads_write}
