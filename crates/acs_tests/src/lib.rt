@@ -53,6 +53,10 @@ mod text_runs;
 #[cfg(test)]
 mod texts;
 #[cfg(test)]
+mod variable_runs;
+#[cfg(test)]
 mod variables;
 #[cfg(test)]
 mod volume_runs;
+#[cfg(test)]
+mod whole_runs;

@@ -94,7 +94,15 @@ fn a_line_is_its_parts_side_by_side(rt: HostRuntime) -> Result<(), Fail> {
     compare_written(&rt, rt.alloc(), &LINES)
 }
 
-const CUTS: [LongRun; 12] = [
+const CUTS: [LongRun; 13] = [
+    (
+        StorGrp,
+        &[("PROC STORGRP WRITE &ANYVOL END", 1)],
+        &[Volume("V1"); 59],
+        1,
+        &[("V1,", 36), ("V1", 1)],
+        0,
+    ),
     (
         DataClas,
         &[

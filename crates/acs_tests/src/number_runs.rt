@@ -61,7 +61,7 @@ fn not_greater_is_less_or_equal_and_not_less_is_greater_or_equal(
     compare_questions(&rt, rt.alloc(), &ORDERS)
 }
 
-const NUMBERS: [Question; 25] = [
+const NUMBERS: [Question; 26] = [
     ("&RETPD = 0", &[], true),
     ("&RETPD = 1", &[], false),
     ("&BLKSIZE = 0", &[], true),
@@ -87,6 +87,7 @@ const NUMBERS: [Question; 25] = [
     ("&NVOL = 0", &[], true),
     ("&NVOL = 1", &[Volume("VOL001")], true),
     ("&NVOL = 2", &[Volume("VOL001"), Volume("VOL001")], true),
+    ("&NVOL = 59", &[Volume("V1"); 59], true),
     ("&RETPD = &BLKSIZE", &[], true),
     ("&RETPD = &BLKSIZE", &[Blksize(1)], false),
     ("&RETPD GT &BLKSIZE", &[Retpd(2), Blksize(1)], true),

@@ -4,7 +4,7 @@ use crate::texts::{LongRow, Row, compare_all, compare_long};
 use acs_tree::Kind::{DataClas, MgmtClas, StorClas, StorGrp};
 use std::test::Fail;
 
-const DATA_CLASS: &str = "
+pub const DATA_CLASS: &str = "
 PROC &DATACLAS
   FILTLIST TEXTLLQ INCLUDE('JCL','CNTL','LIST')
   FILTLIST BIGPGM INCLUDE(UNLOAD*,'DUMPDB')
@@ -16,7 +16,7 @@ PROC &DATACLAS
 END
 ";
 
-const STORAGE_CLASS: &str = "
+pub const STORAGE_CLASS: &str = "
 PROC 1 STORCLAS
   FILTLIST PRODHLQ INCLUDE('PAY','GL',PROD%) EXCLUDE('PRODX')
   FILTLIST TEMPDS INCLUDE(**.TEMP,**.WORK.**) EXCLUDE(PAY.**)
@@ -40,7 +40,7 @@ PROC 1 STORCLAS
 END
 ";
 
-const MANAGEMENT_CLASS: &str = "
+pub const MANAGEMENT_CLASS: &str = "
 PROC MGMTCLAS
   SELECT
     WHEN (&LLQ = 'TEMP' | &RETPD LE 7 && &RETPD GT 0) SET &MGMTCLAS = 'MCTEMP'
@@ -49,7 +49,7 @@ PROC MGMTCLAS
 END
 ";
 
-const STORAGE_GROUPS: &str = "
+pub const STORAGE_GROUPS: &str = "
 PROC STORGRP
   IF &HLQ = TEST* OR &HLQ = 'DEV' THEN SET &STORGRP = 'SGTEST'
   ELSE

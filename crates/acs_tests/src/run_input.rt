@@ -12,6 +12,22 @@ pub enum Given {
     User(&'static str),
     Pgm(&'static str),
     Unit(&'static str),
+    UserGroup(&'static str),
+    Dd(&'static str),
+    Applic(&'static str),
+    DsOrg(&'static str),
+    RecOrg(&'static str),
+    DsnType(&'static str),
+    DsType(&'static str),
+    Owner(&'static str),
+    Expdt(&'static str),
+    AcsEnvir(&'static str),
+    XMode(&'static str),
+    System(&'static str),
+    Sysplex(&'static str),
+    DefaultData(&'static str),
+    DefaultStorage(&'static str),
+    DefaultManagement(&'static str),
     Size(u64),
     MaxSize(u64),
     Retpd(u32),
@@ -30,6 +46,7 @@ pub fn input_of(rt: &impl Abort, given: &[Given]) -> Input {
     let mut input = Input::new(dsn_of(rt, "A.B"));
     for one in given {
         give(rt, one, &mut input);
+        give_more(rt, one, &mut input);
     }
     input
 }
@@ -48,6 +65,28 @@ fn give(rt: &impl Abort, given: &Given, input: &mut Input) {
         Given::Volume(text) => push_volume(rt, text, &mut input.volumes),
         Given::JobField(text) => push_field(rt, text, &mut input.accounting.acct_job),
         Given::StepField(text) => push_field(rt, text, &mut input.accounting.acct_step),
+        _ => (),
+    }
+}
+
+fn give_more(rt: &impl Abort, given: &Given, input: &mut Input) {
+    match given {
+        Given::UserGroup(text) => input.origin.group = short_of(rt, text),
+        Given::Dd(text) => input.origin.dd = short_of(rt, text),
+        Given::Applic(text) => input.origin.applic = short_of(rt, text),
+        Given::DsOrg(text) => input.attributes.dsorg = short_of(rt, text),
+        Given::RecOrg(text) => input.attributes.recorg = short_of(rt, text),
+        Given::DsnType(text) => input.attributes.dsntype = short_of(rt, text),
+        Given::DsType(text) => input.attributes.dstype = short_of(rt, text),
+        Given::Owner(text) => input.attributes.dsowner = short_of(rt, text),
+        Given::Expdt(text) => input.attributes.expdt = short_of(rt, text),
+        Given::AcsEnvir(text) => input.environment.acsenvir = short_of(rt, text),
+        Given::XMode(text) => input.environment.xmode = short_of(rt, text),
+        Given::System(text) => input.environment.sysname = short_of(rt, text),
+        Given::Sysplex(text) => input.environment.sysplex = short_of(rt, text),
+        Given::DefaultData(text) => input.defaults.dataclas = short_of(rt, text),
+        Given::DefaultStorage(text) => input.defaults.storclas = short_of(rt, text),
+        Given::DefaultManagement(text) => input.defaults.mgmtclas = short_of(rt, text),
         _ => (),
     }
 }

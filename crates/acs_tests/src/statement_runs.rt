@@ -8,7 +8,7 @@ use std::test::Fail;
 const FIRST_MATCH: &str =
     "PROC STORCLAS SELECT WHEN (&HLQ = 'A') SET &STORCLAS = 'SC1' WHEN (&DSN = A.**) EXIT CODE(8) END END";
 
-const FIRST_MATCHES: [Run; 4] = [
+const FIRST_MATCHES: [Run; 5] = [
     (
         StorClas,
         FIRST_MATCH,
@@ -22,6 +22,14 @@ const FIRST_MATCHES: [Run; 4] = [
         StorClas,
         FIRST_MATCH,
         &[Dsn("A.C")],
+        &[Storage("SC1")],
+        &[],
+        Falls,
+    ),
+    (
+        StorClas,
+        FIRST_MATCH,
+        &[Dsn("A")],
         &[Storage("SC1")],
         &[],
         Falls,
@@ -105,7 +113,7 @@ fn a_set_replaces_the_class_of_its_kind(rt: HostRuntime) -> Result<(), Fail> {
     compare_runs(&rt, rt.alloc(), &CLASSES)
 }
 
-const EXITS: [Run; 8] = [
+const EXITS: [Run; 9] = [
     (StorClas, "PROC STORCLAS EXIT END", &[], &[], &[], Exit(0)),
     (
         StorClas,
@@ -162,6 +170,14 @@ const EXITS: [Run; 8] = [
         &[],
         &[],
         Exit(2),
+    ),
+    (
+        StorClas,
+        "PROC STORCLAS SELECT (&HLQ) WHEN ('A') DO WRITE 'ONE' EXIT CODE(7) END OTHERWISE WRITE 'TWO' END WRITE 'THREE' END",
+        &[Dsn("A.B")],
+        &[],
+        &["ONE"],
+        Exit(7),
     ),
 ];
 

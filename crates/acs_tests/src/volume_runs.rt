@@ -37,7 +37,7 @@ fn some_volume_is_equal(rt: HostRuntime) -> Result<(), Fail> {
     compare_questions(&rt, rt.alloc(), &SOME_VOLUME)
 }
 
-const EVERY_VOLUME: [Question; 19] = [
+const EVERY_VOLUME: [Question; 20] = [
     ("&ALLVOL = 'V1'", &[], false),
     ("&ALLVOL NE 'V1'", &[], true),
     ("&ALLVOL = 'V1'", &[Volume("V1")], true),
@@ -49,6 +49,7 @@ const EVERY_VOLUME: [Question; 19] = [
     ("&ALLVOL NE 'V1'", &[Volume("V1"), Volume("V2")], true),
     ("&ALLVOL = 'V1'", &[Volume("V1"), Volume("V1")], true),
     ("&ALLVOL NE 'V1'", &[Volume("V1"), Volume("V1")], false),
+    ("&ALLVOL = 'V1'", &[Volume("V1"); 59], true),
     ("&ALLVOL = V*", &[], false),
     ("&ALLVOL = V*", &[Volume("V1"), Volume("V2")], true),
     ("&ALLVOL = V*", &[Volume("V1"), Volume("W2")], false),
