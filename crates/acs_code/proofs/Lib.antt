@@ -6,4 +6,3 @@ pub mod ConditionLemmas
 pub mod StatementLemmas
 pub mod SetLemmas
 pub mod Places
-pub mod StepLemmas

@@ -4,4 +4,3 @@ pub mod Upward
 pub mod Arms
 pub mod Digits
 pub mod Rights
-pub mod StepCount

@@ -32,7 +32,6 @@ pub fn of_volser(volser: &Volser) -> Short
 }
 
 /// The qualifier of that number, counted from 1, or null.
-
 pub fn qualifier(dsn: &Dsn, number: usize) -> Short
     requires { 1 ≤ number }
     ensures { result ≡ text_at (qualifiers_of dsn.now) number }

@@ -12,8 +12,8 @@ use crate::volumes::Volumes;
 use dsn_mask::Dsn;
 
 /// What the read-only variables hold in a run (docs/acs-language.md, Variables). A text that is not
-/// given is empty and a number 0. `&HLQ`, `&LLQ` and `&NQUAL` are parts of the name, `&NVOL` counts the
-/// volumes, and `&ANYVOL` and `&ALLVOL` are the volumes.
+/// given is empty and a number 0. `&HLQ` and `&LLQ` are parts of the name, `&NQUAL` and `&NVOL` count its
+/// qualifiers and the volumes, and `&ANYVOL` and `&ALLVOL` are the volumes.
 #[derive(Clone, Copy)]
 pub struct Input {
     pub dsn: Dsn,
