@@ -28,15 +28,15 @@ const EXAMPLES: [Run; 8] = [
     (
         StorClas,
         EXAMPLE,
-        &[Dsn("PAY.MASTER.DATA"), Size(12288)],
+        &[Dsn("PAY.MASTER.DATA"), Size(12285)],
         &[Storage("SCPAY")],
-        &["MASTER HAS 12288KB"],
+        &["MASTER HAS 12285KB"],
         Falls,
     ),
     (
         StorClas,
         EXAMPLE,
-        &[Dsn("PAY.OLD.A"), Size(12288)],
+        &[Dsn("PAY.OLD.A"), Size(12285)],
         &[],
         &[],
         Exit(4),
