@@ -15,6 +15,8 @@ mod comparisons;
 #[cfg(test)]
 mod entries;
 #[cfg(test)]
+mod filter_lists;
+#[cfg(test)]
 mod forms;
 #[cfg(test)]
 mod group_runs;
@@ -28,6 +30,10 @@ mod line_runs;
 mod list_runs;
 #[cfg(test)]
 mod lists;
+#[cfg(test)]
+mod mask_fits;
+#[cfg(test)]
+mod mask_forms;
 #[cfg(test)]
 mod masks;
 #[cfg(test)]

@@ -8,8 +8,16 @@ mod first_path;
 #[cfg(test)]
 mod hostile;
 #[cfg(test)]
+mod names;
+#[cfg(test)]
 mod repeats;
+#[cfg(test)]
+mod replies;
 #[cfg(test)]
 mod running;
 #[cfg(test)]
+mod scripts;
+#[cfg(test)]
 mod stepping;
+#[cfg(test)]
+mod streams;

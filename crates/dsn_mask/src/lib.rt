@@ -37,6 +37,3 @@ pub use simple::Simple;
 pub use steps::Steps;
 pub use text::Text;
 pub use volser::Volser;
-
-#[cfg(test)]
-mod tests;

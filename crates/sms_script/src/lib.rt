@@ -17,6 +17,3 @@ pub use item::{Item, Script};
 pub use printing::print;
 pub use reading::read_script;
 pub use script_err::ScriptErr;
-
-#[cfg(test)]
-mod tests;

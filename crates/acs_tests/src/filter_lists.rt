@@ -1,0 +1,116 @@
+//! Which values filter lists pass, by entries built by hand.
+ghost use Rattle.std.specs.Prelude.{◌≡◌, ◌<◌};
+
+use dsn_mask::{Entry, FilterIndex, Lit, Mask, Short, Simple, Steps};
+use std::alloc::Global;
+use std::marker::Brand;
+use std::process::Abort;
+use std::sync::ledger::{Blank, Ledger};
+use std::test::Fail;
+
+/// Entries of INCLUDE and of EXCLUDE, a value, and whether they pass it. A quoted entry is written 'A', a
+/// simple mask =A, any other entry is a mask.
+type Row = (&'static str, &'static str, &'static str, bool);
+
+const INCLUDE: &str = "PAY.** =TEST* 'X!'";
+
+const EXCLUDE: &str = "PAY.OLD.** =*.TMP 'TEST'";
+
+const ROWS: [Row; 15] = [
+    ("'A' 'B'", "'B'", "A", true),
+    ("'A' 'B'", "'B'", "B", false),
+    ("'A' 'B'", "", "C", false),
+    ("", "'B'", "A", true),
+    ("", "'B'", "B", false),
+    ("", "", "", true),
+    ("''", "", "", true),
+    ("'A*'", "", "AB", false),
+    ("'A*'", "", "A*", true),
+    (INCLUDE, EXCLUDE, "PAY.MASTER", true),
+    (INCLUDE, EXCLUDE, "PAY.OLD.A", false),
+    (INCLUDE, EXCLUDE, "PAY.A.TMP", false),
+    (INCLUDE, EXCLUDE, "TEST.A", true),
+    (INCLUDE, EXCLUDE, "TEST", false),
+    (INCLUDE, EXCLUDE, "X!", true),
+];
+
+fn entry(text: &str) -> Option<Entry> {
+    match text.as_bytes() {
+        [b'\'', inside @ .., b'\''] => Some(Entry::Quoted(Lit::new(inside)?)),
+        [b'=', simple @ ..] => Some(Entry::Plain(Simple::parse(simple).ok()?)),
+        mask => Some(Entry::Dots(Mask::parse(mask).ok()?)),
+    }
+}
+
+fn entries(alloc: Global, texts: &str) -> Result<Vec<Entry>, Fail> {
+    let mut list = Vec::new(alloc);
+    for text in texts.split_whitespace() {
+        list.push(entry(text).ok_or("the entry is out of form")?)?;
+    }
+    Ok(list)
+}
+
+/// So many times one entry, and another behind them.
+fn many(alloc: Global, times: usize, one: &str, last: &str) -> Result<Vec<Entry>, Fail> {
+    let one = entry(one).ok_or("the entry is out of form")?;
+    let mut list = vec![in alloc; one; times]?;
+    list.push(entry(last).ok_or("the entry is out of form")?)?;
+    Ok(list)
+}
+
+fn passes(index: &FilterIndex, value: &str) -> Result<bool, Fail> {
+    let value = Short::new(value.as_bytes()).ok_or("the value is out of form")?;
+    Ok(has::<Brand>(index, &value, Blank::new(1)))
+}
+
+fn has<L: Ledger>(index: &FilterIndex, value: &Short, blank: Blank) -> bool
+    requires name { blank.name ≡ L.name }
+    requires parts { blank.parts ≡ L.parts }
+    requires some { 0 < blank.parts }
+{
+    let mut steps = Steps::<L>::new(blank);
+    index.has(value, &mut steps)
+}
+
+fn compare(rt: &impl Abort, alloc: Global, row: &Row) -> Result<(), Fail> {
+    let (include, exclude, value, wanted) = row;
+    let include = entries(alloc, include)?;
+    let exclude = entries(alloc, exclude)?;
+    let index = FilterIndex::build(alloc, &include, &exclude)?;
+    assert_eq!(rt; passes(&index, value)?, *wanted, "{value}");
+    Ok(())
+}
+
+#[test]
+fn exclude_wins_over_include(rt: HostRuntime) -> Result<(), Fail> {
+    for row in &ROWS {
+        compare(&rt, rt.alloc(), row)?;
+    }
+    Ok(())
+}
+
+#[test]
+fn lists_may_have_255_entries_each(rt: HostRuntime) -> Result<(), Fail> {
+    let include = many(rt.alloc(), 254, "'A'", "'B'")?;
+    let exclude = many(rt.alloc(), 254, "'A'", "=C*")?;
+    let index = FilterIndex::build(rt.alloc(), &include, &exclude)?;
+    assert!(rt; passes(&index, "B")? && !passes(&index, "A")?);
+    assert!(rt; !passes(&index, "C")? && !passes(&index, "D")?);
+    Ok(())
+}
+
+#[test]
+fn entries_are_equal_where_kind_and_text_are(rt: HostRuntime) -> Result<(), Fail> {
+    for (one, other, wanted) in [
+        ("'A'", "'A'", true),
+        ("'A'", "'B'", false),
+        ("'A'", "=A", false),
+        ("'A'", "A", false),
+        ("=A", "A", false),
+    ] {
+        let one = entry(one).ok_or("the entry is out of form")?;
+        let other = entry(other).ok_or("the entry is out of form")?;
+        assert_eq!(rt; one.equals(&other), wanted);
+    }
+    Ok(())
+}
