@@ -1,26 +1,8 @@
 // Words that are numbers or sizes (docs/acs-language.md, Kinds that suit).
-ghost use Rattle.std.specs.Prelude.{◌≡◌, ◌<◌, ◌*◌, nat_le, length, IfSome};
-ghost use Rattle.std.specs.List.{list_all};
-ghost use Rattle.dsn_mask.specs.Name.{is_digit};
-ghost use Rattle.acs_tree.specs.Numbers.{is_number, value_of, is_between, kilobytes_in, is_size, is_fit_number, is_fit_size, fits_in};
+ghost use Rattle.std.specs.Prelude.{◌≡◌, nat_le};
+ghost use Rattle.acs_tree.specs.Numbers.{value_of, is_between, is_size, is_fit_number, is_fit_size};
 
-fn is_digit(byte: u8) -> bool
-    ensures { result ≡ is_digit byte }
-{
-    b'0' <= byte && byte <= b'9'
-}
-
-fn are_digits(word: &[u8]) -> bool
-    ensures { result ≡ list_all is_digit word.now }
-{
-    word.iter().all(|byte| is_digit(*byte))
-}
-
-pub fn is_number(word: &[u8]) -> bool
-    ensures { result ≡ is_number word.now }
-{
-    word.len() > 0 && are_digits(word)
-}
+use acs_tree::{is_number, kilobytes_in};
 
 /// Whether the value of the digits, however many they are, is at most this.
 pub fn is_at_most(digits: &[u8], most: u64) -> bool
@@ -46,21 +28,6 @@ pub fn is_between(least: u64, most: u64, word: &[u8]) -> bool
     ensures { result ≡ is_between least most word.now }
 {
     is_number(word) && (least == 0 || !is_at_most(word, least - 1)) && is_at_most(word, most)
-}
-
-fn kilobytes_in(unit: &[u8]) -> Option<u64>
-    ensures value { result ≡ kilobytes_in unit.now }
-    ensures positive { IfSome result (λ kilobytes. 0 < kilobytes) }
-{
-    if unit == b"KB".as_slice() {
-        Some(1)
-    } else if unit == b"MB".as_slice() {
-        Some(1024)
-    } else if unit == b"GB".as_slice() {
-        Some(1048576)
-    } else {
-        None
-    }
 }
 
 pub fn is_size(word: &[u8]) -> bool

@@ -9,12 +9,12 @@ ghost use Rattle.acs_tree.specs.Variables.{variable_of};
 
 use crate::earlier::Earlier;
 use crate::lists::{is_mask, is_simple};
-use crate::numbers::{is_between, is_fit_number, is_fit_size, is_number, is_size};
+use crate::numbers::{is_between, is_fit_number, is_fit_size, is_size};
 use crate::references::{
     is_group_list, is_known, is_misindexed, is_number_variable, is_set_later, is_size_variable,
-    is_text, is_whole_name, takes_masks,
+    is_text, takes_masks,
 };
-use acs_tree::{Ident, Kind, Operand, OperandForm, Ref, Variable, VariableKind};
+use acs_tree::{Ident, Kind, Operand, OperandForm, Ref, Variable, VariableKind, is_number};
 use dsn_mask::{Lit, Name};
 
 /// The token of an operand: of a variable, the variable's.
@@ -230,7 +230,7 @@ pub fn is_too_great(left: &Option<Ref>, form: &OperandForm) -> bool
 fn is_mask_beside(left: &Ref, word: &Ident) -> bool
     ensures { result ≡ is_mask_beside left.now word.now }
 {
-    if is_whole_name(left) {
+    if left.is_whole_name() {
         is_mask(word)
     } else {
         is_simple(word)
@@ -251,7 +251,7 @@ fn takes_simple(left: &Option<Ref>) -> bool
 {
     match left {
         None => false,
-        Some(left) => takes_masks(left) && !is_whole_name(left),
+        Some(left) => takes_masks(left) && !left.is_whole_name(),
     }
 }
 

@@ -1,7 +1,7 @@
 // What the checks ask of a variable (docs/acs-language.md, Variables).
 ghost use Rattle.std.specs.Prelude.{◌≡◌};
 ghost use Rattle.std.specs.Str.{bytes_eq};
-ghost use Rattle.acs_tree.specs.References.{is_known, passes, is_text_kind, is_number_kind, is_size_kind, is_counted_kind, is_text, is_number_variable, is_size_variable, is_counted, takes_masks, is_whole_name, is_group_list, is_misindexed_by, is_misindexed, is_past, is_out_of_range_by, is_out_of_range, is_later, is_set_later};
+ghost use Rattle.acs_tree.specs.References.{is_known, passes, is_text_kind, is_number_kind, is_size_kind, is_counted_kind, is_text, is_number_variable, is_size_variable, is_counted, takes_masks, is_group_list, is_misindexed_by, is_misindexed, is_past, is_out_of_range_by, is_out_of_range, is_later, is_set_later};
 ghost use Rattle.acs_tree.specs.Variables.{name_of, rank_of};
 
 use crate::numbers::is_between;
@@ -80,12 +80,6 @@ pub fn takes_masks(reference: &Ref) -> bool
         None => false,
         Some(variable) => !is_counted_kind(variable.kind),
     }
-}
-
-pub fn is_whole_name(reference: &Ref) -> bool
-    ensures { result ≡ is_whole_name reference.now }
-{
-    reference.name.bytes() == b"DSN".as_slice() && reference.index.is_none()
 }
 
 pub fn is_group_list(reference: &Ref) -> bool

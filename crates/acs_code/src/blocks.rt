@@ -3,7 +3,7 @@ ghost use Rattle.std.specs.Prelude.{◌≡◌, ◌∷◌, [], List, length, map,
 ghost use Rattle.std.specs.Option.{option_map};
 ghost use Rattle.acs_tree.specs.Conditions.{holds};
 ghost use Rattle.acs_tree.specs.Meaning.{choice, first_of, in_turn, meaning, perhaps};
-ghost use Rattle.acs_tree.specs.Outcome.{Mean};
+ghost use Rattle.acs_tree.specs.Outcome.{Effect};
 ghost use Rattle.acs_code.specs.Arms.{arm_of};
 ghost use Rattle.acs_code.specs.Upward.{Does, filters_of};
 ghost use Rattle.acs_code.specs.declared.instr.Instr.{Instr};
@@ -98,7 +98,7 @@ fn conditional(
     cond: &Cond,
     end: u64,
 ) -> Result<(), AllocError>
-    ensures { OnOk result ((other : Mean) (rest : List Instr) → end ≡ length rest → Does kind (filters_of lists.now) other rest code.old → Does kind (filters_of lists.now) (choice (holds lists.now cond.now) (meaning kind lists.now body.now) other) rest code.new) }
+    ensures { OnOk result ((other : Effect) (rest : List Instr) → end ≡ length rest → Does kind (filters_of lists.now) other rest code.old → Does kind (filters_of lists.now) (choice (holds lists.now cond.now) (meaning kind lists.now body.now) other) rest code.new) }
 {
     let fails = code.place();
     jump(code, end)?;
@@ -121,7 +121,7 @@ fn branch(
     arm: &When,
     behind: u64,
 ) -> Result<(), AllocError>
-    ensures { OnOk result ((other : Mean) (rest : List Instr) → behind ≡ length rest → Does kind (filters_of lists.now) other rest code.old → Does kind (filters_of lists.now) (first_of subject.now (arm_of kind lists.now arm.now ∷ []) other) rest code.new) }
+    ensures { OnOk result ((other : Effect) (rest : List Instr) → behind ≡ length rest → Does kind (filters_of lists.now) other rest code.old → Does kind (filters_of lists.now) (first_of subject.now (arm_of kind lists.now arm.now ∷ []) other) rest code.new) }
 {
     let fails = code.place();
     jump(code, behind)?;
@@ -144,7 +144,7 @@ fn branches(
     arms: &[When],
     end: u64,
 ) -> Result<(), AllocError>
-    ensures { OnOk result ((other : Mean) (rest : List Instr) → end ≡ length rest → Does kind (filters_of lists.now) other rest code.old → Does kind (filters_of lists.now) (first_of subject.now (map (arm_of kind lists.now) arms.now) other) rest code.new) }
+    ensures { OnOk result ((other : Effect) (rest : List Instr) → end ≡ length rest → Does kind (filters_of lists.now) other rest code.old → Does kind (filters_of lists.now) (first_of subject.now (map (arm_of kind lists.now) arms.now) other) rest code.new) }
 {
     let mut left = arms.len();
     while left > 0 {

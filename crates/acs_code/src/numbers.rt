@@ -1,32 +1,11 @@
 // Words that are numbers, sizes, indexes or codes.
-ghost use Rattle.std.specs.Prelude.{◌≡◌, ◌<◌, IfSome};
-ghost use Rattle.std.specs.List.{list_all};
-ghost use Rattle.dsn_mask.specs.Name.{is_digit};
+ghost use Rattle.std.specs.Prelude.{◌≡◌};
 ghost use Rattle.acs_tree.specs.Comparands.{number_of, size_of};
 ghost use Rattle.acs_tree.specs.Meaning.{code_from};
-ghost use Rattle.acs_tree.specs.Numbers.{kilobytes_in, is_number};
 ghost use Rattle.acs_tree.specs.VariableValues.{index_of};
 ghost use Rattle.acs_code.specs.Digits.{fit_value};
 
-use acs_tree::{Ident, OperandForm};
-
-fn is_digit(byte: u8) -> bool
-    ensures { result ≡ is_digit byte }
-{
-    b'0' <= byte && byte <= b'9'
-}
-
-fn are_digits(word: &[u8]) -> bool
-    ensures { result ≡ list_all is_digit word.now }
-{
-    word.iter().all(|byte| is_digit(*byte))
-}
-
-fn is_number(word: &[u8]) -> bool
-    ensures { result ≡ is_number word.now }
-{
-    word.len() > 0 && are_digits(word)
-}
+use acs_tree::{Ident, OperandForm, is_number, kilobytes_in};
 
 // The value of digits, if it is not too great.
 fn fit_value(digits: &[u8]) -> Option<u64>
@@ -51,21 +30,6 @@ pub fn number(word: &[u8]) -> Option<u64>
 {
     if is_number(word) {
         fit_value(word)
-    } else {
-        None
-    }
-}
-
-fn kilobytes_in(unit: &[u8]) -> Option<u64>
-    ensures value { result ≡ kilobytes_in unit.now }
-    ensures positive { IfSome result (λ kilobytes. 0 < kilobytes) }
-{
-    if unit == b"KB".as_slice() {
-        Some(1)
-    } else if unit == b"MB".as_slice() {
-        Some(1024)
-    } else if unit == b"GB".as_slice() {
-        Some(1048576)
     } else {
         None
     }

@@ -21,22 +21,15 @@ pub fn right(lists: &[FilterList], left: &Ref, operand: &Operand) -> Option<Righ
     match &operand.form {
         OperandForm::Literal(text) => Some(Right::Literal(*text)),
         OperandForm::Word(word) => word_right(left, word),
-        OperandForm::Var(reference) => name_right(lists, is_whole_name(left), reference),
+        OperandForm::Var(reference) => name_right(lists, left.is_whole_name(), reference),
     }
-}
-
-/// The whole data set name, which is compared with masks of qualifiers.
-fn is_whole_name(reference: &Ref) -> bool
-    ensures { result ≡ is_whole_name reference.now }
-{
-    reference.name.bytes() == b"DSN".as_slice() && reference.index.is_none()
 }
 
 fn word_right(left: &Ref, word: &Ident) -> Option<Right>
     ensures { (filters : List FilterLists) → IsRightIfAny filters (word_comparand (variable_of left.now.name) (is_whole_name left.now) word.now) result }
 {
     let variable = Variable::named(&left.name)?;
-    word_beside(variable.kind, is_whole_name(left), word)
+    word_beside(variable.kind, left.is_whole_name(), word)
 }
 
 fn word_beside(kind: VariableKind, whole: bool, word: &Ident) -> Option<Right>

@@ -17,7 +17,7 @@ use Rattle.acs_code.specs.declared.part.Part.{Part}
 use Rattle.acs_code.specs.declared.probe.Probe.{Probe}
 use Rattle.acs_code.specs.Machine.{CodeParts, act, part_class, parts_line, probe_holds, run_from}
 use Rattle.acs_code.specs.Stands.{Goes, GoesForward}
-use Rattle.acs_run.specs.declared.machine.Next.TheVariants.{On, Over}
+use Rattle.acs_run.specs.declared.machine.Next.TheVariants.{On, Exited}
 use Rattle.acs_run.specs.Steps.{Leads, Same, rest_of, with_lines}
 
 module _ (kind : Kind) (filters : List FilterLists) (input : Input) where
@@ -107,7 +107,7 @@ module _ (code : CodeParts) (input : Input) (place : ℕ) (i : Instr) (values : 
       let r = here (Write parts) k ∙ ap (λ n. behind (parts_line parts input values ∷ []) (rest_of code input n values)) one in
       (omega arith, omega (arith, within), same_written code.kind r e)
 
-  pub leads_exit : (n : ℕ) → i ≡ Exit n → Leads code input place values slate values slate (Over n)
+  pub leads_exit : (n : ℕ) → i ≡ Exit n → Leads code input place values slate values slate (Exited n)
   leads_exit n k =
       let r = here (Exit n) k in
       (ap (λ o. o.values) (sym r), ap (λ o. o.ending) (sym r), ap (λ o. with_lines code.kind slate o.lines) (sym r))

@@ -6,7 +6,6 @@ ghost use Rattle.acs_tree.specs.declared.input.Input.{Input};
 ghost use Rattle.acs_tree.specs.declared.values.Values.{Values};
 ghost use Rattle.acs_run.specs.Seen.{seen};
 
-use crate::short::null;
 use crate::value::Value;
 use crate::values::value;
 use acs_code::Part;
@@ -28,7 +27,7 @@ fn as_class(text: &Lit) -> Short
 {
     match Short::new(text.bytes()) {
         Some(class) => class,
-        None => null(),
+        None => Short::null(),
     }
 }
 
@@ -37,7 +36,7 @@ fn text_of(value: &Value) -> Short
 {
     match value {
         Value::Text(text) => *text,
-        _ => null(),
+        _ => Short::null(),
     }
 }
 

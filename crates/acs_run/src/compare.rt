@@ -9,7 +9,7 @@ ghost use Rattle.acs_tree.specs.Compares.{compares, counted, groups_or_null, is_
 ghost use Rattle.acs_code.specs.Machine.{probe_holds, right_comparand};
 ghost use Rattle.acs_run.specs.Seen.{passes_if_any, seen};
 
-use crate::short::{null, of_name, of_volser};
+use crate::short::{of_name, of_volser};
 use crate::value::Value;
 use crate::values::value;
 use acs_code::{Probe, Right};
@@ -129,7 +129,7 @@ fn any_group(filters: &[FilterIndex], right: &Right, input: &Input, values: &Val
 {
     let groups = values.groups.as_slice();
     if groups.is_empty() {
-        return equals(filters, right, input, values, &null());
+        return equals(filters, right, input, values, &Short::null());
     }
     groups.iter().any(|group| equals(filters, right, input, values, &of_name(group)))
 }

@@ -15,7 +15,7 @@ use acs_tree::{Ending, Input, Slate, Values};
 #[derive(Clone, Copy)]
 pub enum Next {
     On(usize),
-    Over(u16),
+    Exited(u16),
 }
 
 /// Runs a code. Each instruction goes on at a later place, so that at most as many run as the code has.
@@ -31,7 +31,7 @@ pub fn run(code: &Code, input: &Input, values: &mut Values, slate: &mut Slate) -
     while place < end {
         match step(code, input, place, values, slate) {
             Next::On(to) => place = to,
-            Next::Over(number) => return Ending::Exit(number),
+            Next::Exited(number) => return Ending::Exit(number),
         }
     }
     Ending::Falls
@@ -65,6 +65,6 @@ fn step(code: &Code, input: &Input, place: usize, values: &mut Values, slate: &m
             slate.write(code.kind(), line(parts.as_slice(), input, values));
             Next::On(place + 1)
         }
-        Instr::Exit(number) => Next::Over(*number),
+        Instr::Exit(number) => Next::Exited(*number),
     }
 }

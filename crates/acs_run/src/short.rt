@@ -6,12 +6,6 @@ ghost use Rattle.acs_tree.specs.VariableValues.{text_at};
 
 use dsn_mask::{Dsn, Name, Short, Volser};
 
-pub fn null() -> Short
-    ensures { result ≡ [] }
-{
-    Short::new(b"").unwrap()
-}
-
 fn short(bytes: &[u8]) -> Short
     requires { IsShort bytes.now }
     ensures { result ≡ bytes.now }
@@ -38,7 +32,7 @@ pub fn qualifier(dsn: &Dsn, number: usize) -> Short
 {
     let _form = dsn.bytes();
     match dsn.qualifier(number) {
-        None => null(),
+        None => Short::null(),
         Some(bytes) => short(bytes),
     }
 }
@@ -48,7 +42,7 @@ pub fn last_qualifier(dsn: &Dsn) -> Short
 {
     let count = dsn.count();
     if count == 0 {
-        null()
+        Short::null()
     } else {
         qualifier(dsn, count)
     }

@@ -7,7 +7,7 @@ ghost use Rattle.acs_tree.specs.declared.values.Values.{Values};
 ghost use Rattle.acs_tree.specs.VariableValues.{Number, Size, Text, accounting_rows, attribute_rows, default_rows, environment_rows, held_by, name_rows, number_rows, origin_rows, part_of_name, read_write_rows, size_rows, text_at, volume_rows};
 ghost use Rattle.acs_run.specs.Seen.{given_rows, input_rows, seen, text_rows};
 
-use crate::short::{last_qualifier, null, qualifier};
+use crate::short::{last_qualifier, qualifier};
 use crate::value::Value;
 use acs_code::Slot;
 use acs_tree::{
@@ -28,7 +28,7 @@ pub fn value(slot: &Slot, input: &Input, values: &Values) -> Value
     }
     match input_value(input, name, slot.index) {
         Some(value) => value,
-        None => Value::Text(null()),
+        None => Value::Text(Short::null()),
     }
 }
 
@@ -217,7 +217,7 @@ fn field(account: &Account, index: u8) -> Short
 {
     match account.as_slice().get((index as usize).saturating_sub(1)) {
         Some(text) => *text,
-        None => null(),
+        None => Short::null(),
     }
 }
 

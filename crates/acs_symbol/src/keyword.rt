@@ -1,11 +1,9 @@
 // What a word or a sign is, by its text.
 ghost use Rattle.std.specs.Prelude.{◌≡◌};
-ghost use Rattle.std.specs.List.{list_all};
-ghost use Rattle.dsn_mask.specs.Name.{is_digit};
 ghost use Rattle.acs_symbol.specs.Symbols.{number_kind, compare_kind, inner_kind, word_kind, sign_of};
 
 use crate::symbol::{Symbol, WordKind};
-use acs_tree::Compare;
+use acs_tree::{Compare, are_digits};
 
 /// What the word can be besides a name.
 pub fn word_kind(text: &[u8]) -> WordKind
@@ -92,18 +90,6 @@ fn number_kind(text: &[u8]) -> WordKind
     } else {
         WordKind::Other
     }
-}
-
-fn are_digits(text: &[u8]) -> bool
-    ensures { result ≡ list_all is_digit text.now }
-{
-    text.iter().all(|byte| is_digit(*byte))
-}
-
-fn is_digit(byte: u8) -> bool
-    ensures { result ≡ is_digit byte }
-{
-    byte.is_ascii_digit()
 }
 
 /// The sign with this text: one of the scanner's.

@@ -1,7 +1,6 @@
 //! The accounting of a job or of a step.
 ghost use Rattle.std.specs.Prelude.{◌≡◌, ◌≤◌, ◌<◌, ◌↔◌, ◌∷◌, ◌++◌, [], IsTrue, length};
 
-use crate::texts::null;
 use dsn_mask::Short;
 use std::marker::Model;
 
@@ -71,7 +70,7 @@ impl Account {
         ensures { result ≡ [] }
     {
         Account {
-            items: [null(); 8],
+            items: [Short::null(); 8],
             count: 0,
         }
     }

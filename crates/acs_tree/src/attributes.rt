@@ -1,7 +1,6 @@
 // What a data set is to be.
 ghost use Rattle.std.specs.Prelude.{◌≡◌, ◌↔◌, [], codes, IsTrue};
 
-use crate::texts::null;
 use dsn_mask::Short;
 
 /// What a data set is to be: the variables of these names.
@@ -21,13 +20,13 @@ impl Attributes {
         ensures { result ≡ record { unit = []; dsorg = []; recorg = []; dsntype = []; dstype = codes "PERM"; dsowner = []; expdt = [] } }
     {
         Attributes {
-            unit: null(),
-            dsorg: null(),
-            recorg: null(),
-            dsntype: null(),
+            unit: Short::null(),
+            dsorg: Short::null(),
+            recorg: Short::null(),
+            dsntype: Short::null(),
             dstype: Short::new(b"PERM").unwrap(),
-            dsowner: null(),
-            expdt: null(),
+            dsowner: Short::null(),
+            expdt: Short::null(),
         }
     }
 

@@ -1,7 +1,6 @@
 // The classes that a request names as defaults.
 ghost use Rattle.std.specs.Prelude.{◌≡◌, ◌↔◌, [], IsTrue};
 
-use crate::texts::null;
 use dsn_mask::Short;
 
 /// The classes that a request names as defaults: the variables of these names behind `DEF_`.
@@ -17,9 +16,9 @@ impl Defaults {
         ensures { result ≡ record { dataclas = []; storclas = []; mgmtclas = [] } }
     {
         Defaults {
-            dataclas: null(),
-            storclas: null(),
-            mgmtclas: null(),
+            dataclas: Short::null(),
+            storclas: Short::null(),
+            mgmtclas: Short::null(),
         }
     }
 

@@ -1,7 +1,6 @@
 // Where a routine runs.
 ghost use Rattle.std.specs.Prelude.{◌≡◌, ◌↔◌, [], codes, IsTrue};
 
-use crate::texts::null;
 use dsn_mask::Short;
 
 /// Where and for what a routine runs: the variables of these names.
@@ -20,8 +19,8 @@ impl Environment {
         Environment {
             acsenvir: Short::new(b"ALLOC").unwrap(),
             xmode: Short::new(b"BATCH").unwrap(),
-            sysname: null(),
-            sysplex: null(),
+            sysname: Short::null(),
+            sysplex: Short::null(),
         }
     }
 

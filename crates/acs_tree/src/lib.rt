@@ -17,10 +17,10 @@ mod input;
 mod kind;
 mod line;
 mod more;
+mod numbers;
 mod origin;
 mod routine;
 mod slate;
-mod texts;
 mod values;
 mod variable;
 mod variables;
@@ -42,6 +42,7 @@ pub use input::Input;
 pub use kind::Kind;
 pub use line::Line;
 pub use more::More;
+pub use numbers::{are_digits, is_number, kilobytes_in};
 pub use origin::Origin;
 pub use routine::{
     Block, Compare, Cond, Form, Operand, OperandForm, Operands, Ref, Routine, Stmt, When, WhenTest,

@@ -1,7 +1,6 @@
 // Who asks.
 ghost use Rattle.std.specs.Prelude.{◌≡◌, ◌↔◌, [], IsTrue};
 
-use crate::texts::null;
 use dsn_mask::Short;
 
 /// Who asks for a data set, and for what work: the variables of these names.
@@ -20,12 +19,12 @@ impl Origin {
         ensures { result ≡ record { job = []; user = []; group = []; pgm = []; dd = []; applic = [] } }
     {
         Origin {
-            job: null(),
-            user: null(),
-            group: null(),
-            pgm: null(),
-            dd: null(),
-            applic: null(),
+            job: Short::null(),
+            user: Short::null(),
+            group: Short::null(),
+            pgm: Short::null(),
+            dd: Short::null(),
+            applic: Short::null(),
         }
     }
 

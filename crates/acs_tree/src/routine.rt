@@ -1,5 +1,8 @@
 // The tree of a routine. Each `at` is the place of a token, counted from 0
 // (docs/acs-language.md, Tree).
+ghost use Rattle.std.specs.Prelude.{◌≡◌};
+ghost use Rattle.acs_tree.specs.References.{is_whole_name};
+
 use crate::ident::Ident;
 use desk_common::{Boxed, Items};
 use dsn_mask::Lit;
@@ -107,6 +110,15 @@ pub struct Ref {
     pub name: Ident,
     pub index: Option<Ident>,
     pub index_at: u32,
+}
+
+impl Ref {
+    /// Whether this is the whole data set name, which masks of qualifiers are compared with.
+    pub fn is_whole_name(&self) -> bool
+        ensures { result ≡ is_whole_name self.now }
+    {
+        self.name.bytes() == b"DSN".as_slice() && self.index.is_none()
+    }
 }
 
 /// A value of a list, of SET, of WRITE or at the right of a comparison.

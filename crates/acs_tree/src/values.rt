@@ -2,7 +2,6 @@
 ghost use Rattle.std.specs.Prelude.{◌≡◌};
 ghost use Rattle.acs_tree.specs.Inputs.{no_values};
 
-use crate::texts::null;
 use dsn_mask::{Names, Short};
 
 /// What the read-write variables hold: a class each, or null, and the storage groups.
@@ -20,9 +19,9 @@ impl Values {
         ensures { result ≡ no_values }
     {
         Values {
-            dataclas: null(),
-            storclas: null(),
-            mgmtclas: null(),
+            dataclas: Short::null(),
+            storclas: Short::null(),
+            mgmtclas: Short::null(),
             groups: Names::new(),
         }
     }

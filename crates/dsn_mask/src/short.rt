@@ -1,5 +1,5 @@
 //! Short texts.
-ghost use Rattle.std.specs.Prelude.{◌≡◌, MatchOption};
+ghost use Rattle.std.specs.Prelude.{◌≡◌, [], MatchOption};
 ghost use Rattle.dsn_mask.specs.Name.{IsShort, short_of};
 
 use crate::byte_class::are_short_bytes;
@@ -59,6 +59,15 @@ impl Eq for Short {
 }
 
 impl Short {
+    /// The empty value.
+    pub fn null() -> Self
+        ensures { result ≡ [] }
+    {
+        Short {
+            text: Text::new(b""),
+        }
+    }
+
     /// None where the bytes are out of form.
     pub fn new(bytes: &[u8]) -> Option<Self>
         ensures value { result ≡ short_of bytes.now }

@@ -4,6 +4,7 @@ ghost use Rattle.sms_script.specs.FaultText.{fault_text};
 ghost use Rattle.sms_script.specs.AnswerText.{class_text, end_text, extent_text, further_lines, head_text, indented, item_text, name_text, reply_text, text_of};
 
 use crate::item::{Item, Script};
+use desk_common::push_number;
 use dsn_mask::Name;
 use sms_construct::{Answer, DataSet, Extent, Fault, Reply};
 use std::alloc::{AllocError, Global};
@@ -197,11 +198,4 @@ fn push_figure(alloc: Global, text: &mut Vec<u8>, number: u64) -> Result<(), All
 {
     push_number(alloc, text, number)?;
     text.extend_from_slice(b" ")
-}
-
-fn push_number(alloc: Global, text: &mut Vec<u8>, number: u64) -> Result<(), AllocError>
-    ensures { OnOk result (text.new.items ≡ text.old.items ++ decimal number) }
-{
-    let digits = number.to_string(alloc)?;
-    text.extend_from_slice(digits.as_bytes())
 }

@@ -5,6 +5,7 @@ ghost use Rattle.smsc.specs.ToolText.{letter_of, translated_text, fault_text, Is
 use crate::status::ToolStatus;
 use acs_translate::{RoutineFault, Stage, TranslateErr, translate};
 use acs_tree::Kind;
+use desk_common::push_number;
 use std::alloc::{AllocError, Global};
 
 /// The answer to the bytes as a routine of this kind: its status and its text.
@@ -67,11 +68,4 @@ fn letter(stage: Stage) -> &'static [u8]
         Stage::Parser => b"P",
         Stage::Checks => b"C",
     }
-}
-
-fn push_number(alloc: Global, text: &mut Vec<u8>, number: u64) -> Result<(), AllocError>
-    ensures { OnOk result (text.new.items ≡ text.old.items ++ decimal number) }
-{
-    let digits = number.to_string(alloc)?;
-    text.extend_from_slice(digits.as_bytes())
 }

@@ -6,9 +6,9 @@ use Rattle.acs_run.proofs.StepLemmas.{at_end}
 use Rattle.acs_run.proofs.TraceLemmas.{trace_all}
 use Rattle.acs_run.proofs.machine.run.Goals as goal
 
-pub returns-in-Over-clause-lines : goal.returns-in-Over-clause-lines
-returns-in-Over-clause-lines c =
-    c.in-Over.ensures.2 ∙ sym c.loop-place.invariant.1.written
+pub returns-in-Exited-clause-lines : goal.returns-in-Exited-clause-lines
+returns-in-Exited-clause-lines c =
+    c.in-Exited.ensures.2 ∙ sym c.loop-place.invariant.1.written
     ∙ trace_all c.args.code.now.kind c.args.slate.now (running c.args.code.now c.args.input.now c.args.values.now).lines c.lines-written.ensures.form c.requires
 
 pub returns-clause-ending : goal.returns-clause-ending
