@@ -4,11 +4,12 @@ use Rattle.sms_construct.specs.declared.data_set.DataSet.{DataSet}
 use Rattle.sms_construct.specs.declared.entry.Answer.{Answer}
 use Rattle.sms_construct.specs.declared.entry.Entry.{Entry}
 use Rattle.sms_construct.specs.declared.reply.Reply.TheVariants.{Granted}
+use Rattle.desk_history.specs.Configuration.{Configuration}
 use Rattle.desk_history.specs.State.{DeskState, extents_of}
 use Rattle.desk_history.specs.Step.{IsRepeat, kept_for}
 use Rattle.desk_history.specs.History.{IsLegal, Reaches}
 use Rattle.desk_history.specs.Grants.{GrantsLawfully}
-use Rattle.desk_history.specs.Tracks.{NoTrackTwice}
+use Rattle.desk_history.specs.Tracks.{AllInside, NoTrackTwice}
 use Rattle.sms_script.specs.declared.item.Item.{Item}
 use Rattle.sms_script.specs.Script.{script_of}
 use Rattle.sms_script.specs.AnswerText.{text_of}
@@ -34,6 +35,8 @@ pub record IsAnswered (bytes text : List ℕ) : Type 0 where
       → entry.answer.reply ≡ Granted set → entry.answer.first ≡ entry.answer.place → GrantsLawfully front entry.request.op set
   -- no track of two data sets: at no time does a track belong to two extents
   pub tracks : (front rest : List Entry) (s : DeskState) → history ≡ front ++ rest → Reaches front s → NoTrackTwice (extents_of s.sets)
+  -- inside the volumes: at no time does an extent reach past the end of its volume
+  pub inside : (front rest : List Entry) (s : DeskState) (config : Configuration) → history ≡ front ++ rest → Reaches front s → s.active ≡ Some config → AllInside config s.sets
   -- kept replies: a number that came before gets its kept reply, the fresh one of an earlier entry, or is refused for another op
   pub kept : (front rest : List Entry) (entry earlier : Entry) → history ≡ front ++ entry ∷ rest
       → kept_for entry.request.job entry.request.number front ≡ Some earlier

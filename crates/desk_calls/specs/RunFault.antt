@@ -3,7 +3,7 @@ use Rattle.std.specs.Prelude.{◌≡◌, Bool, true, false, List, ℕ, [], ◌�
 use Rattle.std.specs.Io.KnownBytes.{Appends}
 use Rattle.desk_common.specs.Causes.{Rose}
 use Rattle.desk_common.specs.Fronts.{IsProperPrefix}
-use Rattle.sms_base.specs.Observed.{Observed, IsUnwritten, WasRead, HasReadFault, IsTooLong}
+use Rattle.sms_base.specs.Observed.{Observed, IsUnwritten, WasRead, HasReadFault, IsTooLong, IsOutOfMemory}
 use Rattle.sms_script.specs.declared.script_err.ScriptErr.{ScriptErr}
 use Rattle.sms_script.specs.Script.{script_of}
 use Rattle.desk_calls.specs.Headline.{IsAnswered}
@@ -58,4 +58,4 @@ Ends old new ReadFault = HasReadFault most_bytes old new
 Ends old new WriteFault = HasWriteFault old new
 Ends old new (Script err) = IsFaulty old new err
 Ends old new TooLong = IsTooLong most_bytes old new
-Ends old new NoMemory = IsUnwritten old new
+Ends old new NoMemory = IsOutOfMemory most_bytes old new

@@ -4,7 +4,9 @@ ghost use Rattle.sms_script.specs.Script.{IsRefusal, script_of};
 ghost use Rattle.desk_calls.specs.Headline.{IsAnswered};
 
 use crate::script_run::run_script;
-use desk_history::{kept_replies, lawful_grants, places_in_order, tracks_held_once};
+use desk_history::{
+    extents_inside, kept_replies, lawful_grants, places_in_order, tracks_held_once,
+};
 use sms_core::Core;
 use sms_script::{ScriptErr, print, read_script};
 use std::alloc::Global;
@@ -26,6 +28,7 @@ pub fn answer_text(alloc: Global, bytes: &[u8]) -> Result<Vec<u8>, ScriptErr>
     places_in_order();
     lawful_grants();
     tracks_held_once();
+    extents_inside();
     kept_replies();
     let entries = core.journal().len() as u64;
     match print(alloc, &script, answers.as_slice(), entries) {

@@ -4,7 +4,7 @@ ghost use Rattle.desk_common.specs.Words.{is_one_of, without_empty, words_of};
 
 use std::alloc::{AllocError, Global};
 
-/// The words of the text, which any of the blanks part. One more walk over the text, and no copy of it.
+/// The words of the text, which any of the blanks part. One walk over the text, and no copy of it.
 pub fn words<'a>(alloc: Global, blanks: &[u8], text: &'a [u8]) -> Result<Vec<&'a [u8]>, AllocError>
     ensures { IfOk result (λ words. map (λ word. word.now) words.items ≡ words_of blanks.now text.entry.now) }
 {

@@ -3,11 +3,12 @@ ghost use Rattle.std.specs.Prelude.{◌≡◌, ◌+◌, ◌++◌, ◌∷◌, Lis
 ghost use Rattle.sms_construct.specs.declared.data_set.DataSet.{DataSet};
 ghost use Rattle.sms_construct.specs.declared.entry.Entry.{Entry};
 ghost use Rattle.sms_construct.specs.declared.reply.Reply.TheVariants.{Granted};
+ghost use Rattle.desk_history.specs.Configuration.{Configuration};
 ghost use Rattle.desk_history.specs.State.{DeskState, extents_of};
 ghost use Rattle.desk_history.specs.Step.{IsRepeat, kept_for};
 ghost use Rattle.desk_history.specs.History.{IsLegal, Reaches};
 ghost use Rattle.desk_history.specs.Grants.{GrantsLawfully};
-ghost use Rattle.desk_history.specs.Tracks.{NoTrackTwice};
+ghost use Rattle.desk_history.specs.Tracks.{AllInside, NoTrackTwice};
 
 /// The entries of a legal history determine the state after it.
 pub fn one_state()
@@ -17,6 +18,11 @@ pub fn one_state()
 /// At no time in a legal history does a track belong to two extents.
 pub fn tracks_held_once()
     ensures { (front : List Entry) (s : DeskState) → Reaches front s → NoTrackTwice (extents_of s.sets) }
+{}
+
+/// At no time in a legal history does an extent reach past the end of its volume.
+pub fn extents_inside()
+    ensures { (front : List Entry) (s : DeskState) (config : Configuration) → Reaches front s → s.active ≡ Some config → AllInside config s.sets }
 {}
 
 /// In a legal history each entry has the place at which it stands, counted from 1.

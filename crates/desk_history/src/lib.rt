@@ -3,4 +3,6 @@
 
 mod laws;
 
-pub use laws::{kept_replies, lawful_grants, one_state, places_in_order, tracks_held_once};
+pub use laws::{
+    extents_inside, kept_replies, lawful_grants, one_state, places_in_order, tracks_held_once,
+};

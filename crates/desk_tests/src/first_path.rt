@@ -39,6 +39,10 @@ fn faults_of_a_script_have_its_smallest_line(rt: HostRuntime) -> Result<(), Fail
             "SMSADMIN 1 ACTIVATE\nversion = 1\n",
             ScriptErr::OpenBlock(1),
         ),
+        (
+            "SMSADMIN 1 ACTIVATE\nversion = 1\n[storclass.SC1]\n[storgroup.SG1.volume.VOL001]\ntracks = 100\n[routine]\nstorclass = \"PROC STORCLAS SET &STORCLAS = 'SC1' END\"\nstorgroup = \"PROC STORGRP SET &STORGRP = 'SG1' END\"\nJOB1 1 ALLOC PAY.MASTER SPACE=(TRK,(10,5))\n",
+            ScriptErr::OpenBlock(1),
+        ),
         ("* NOTE\n\nSMSADMIN 1 ACTIVATE", ScriptErr::OpenBlock(3)),
         ("SMSADMIN 1 ACTIVATE\n./END \n", ScriptErr::OpenBlock(1)),
         (

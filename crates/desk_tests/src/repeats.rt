@@ -77,8 +77,8 @@ fn an_activation_is_repeated_with_the_same_bytes_alone(rt: HostRuntime) -> Resul
     Ok(())
 }
 
-// Lines for data sets of one to seven tracks in turn, and the answers on a volume of 982,800 tracks by hand-written arithmetic:
-// each block of seven data sets takes 28 tracks. Every third line repeats the one before it.
+/// Lines for data sets of one to seven tracks in turn, and their answers: seven of them take 28 tracks. Every
+/// third line repeats the one before it.
 fn push_case(
     alloc: Global,
     script: &mut Vec<u8>,

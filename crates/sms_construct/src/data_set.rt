@@ -19,6 +19,7 @@ pub struct DataSet {
 }
 
 impl DataSet {
+    /// The same data set, or want of memory.
     pub fn copy(&self, alloc: Global) -> Result<Self, AllocError>
         ensures { IfOk result (λ copy. copy ≡ self.now) }
     {

@@ -16,6 +16,7 @@ pub struct Answer {
 }
 
 impl Answer {
+    /// The same answer, or want of memory.
     pub fn copy(&self, alloc: Global) -> Result<Self, AllocError>
         ensures { IfOk result (λ copy. copy ≡ self.now) }
     {

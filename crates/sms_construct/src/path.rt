@@ -1,12 +1,9 @@
 //! The path of a key in a deck.
-ghost use Rattle.std.specs.Prelude.{◌≡◌, ◌≤◌, length};
+ghost use Rattle.std.specs.Prelude.{◌≡◌, ◌≤◌};
 ghost use Rattle.sms_construct.specs.Path.{IsPath};
 
 use dsn_mask::Text;
 use std::marker::Model;
-
-/// The longest path that is shown, in bytes.
-pub const MAX_PATH: usize = 80;
 
 /// The keys that lead to a place of a deck, joined by full stops, in at most 80 bytes.
 pub struct Path {
@@ -27,6 +24,10 @@ impl Model for Path {
 }
 
 impl Clone for Path {
+    ghost is_clone = { λ x y. y ≡ x };
+
+    ghost is_infallible = { λ _. Unit {0} };
+
     fn clone(&self) -> Result<Self, std::alloc::AllocError> {
         Ok(*self)
     }
@@ -35,6 +36,7 @@ impl Clone for Path {
 impl Copy for Path {}
 
 impl Path {
+    /// The path of these bytes, which are at most 80.
     pub fn new(bytes: &[u8]) -> Self
         requires { IsPath bytes.now }
         ensures { result ≡ bytes.now }
@@ -44,6 +46,7 @@ impl Path {
         }
     }
 
+    /// The bytes of the path.
     pub fn bytes(&self) -> &[u8]
         ensures bytes { result.now ≡ self.now }
         ensures form { IsPath self.now }

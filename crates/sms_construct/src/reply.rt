@@ -27,6 +27,7 @@ pub enum Reply {
 }
 
 impl Reply {
+    /// The same reply, or want of memory.
     pub fn copy(&self, alloc: Global) -> Result<Self, AllocError>
         ensures { IfOk result (λ copy. copy ≡ self.now) }
     {

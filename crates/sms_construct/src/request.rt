@@ -10,7 +10,7 @@ use std::alloc::{AllocError, Global};
 /// The bytes of a deck, as they were sent.
 pub type DeckText = Items<u8>;
 
-/// A new data set.
+/// The name and the space of the data set that is asked for.
 #[derive(Clone, Copy)]
 pub struct Alloc {
     pub dsn: Dsn,
@@ -27,11 +27,12 @@ pub enum Op {
 }
 
 impl Op {
+    /// The same op, or want of memory.
     pub fn copy(&self, alloc: Global) -> Result<Self, AllocError>
         ensures { IfOk result (λ copy. copy ≡ self.now) }
     {
         match self {
-            Op::Alloc(request) => Ok(Op::Alloc(*request)),
+            Op::Alloc(allocation) => Ok(Op::Alloc(*allocation)),
             Op::Activate(deck) => Ok(Op::Activate(Items::from_slice(alloc, deck.as_slice())?)),
         }
     }
@@ -41,7 +42,7 @@ impl Op {
         ensures { IsTrue result ↔ (self.now ≡ other.now) }
     {
         match (self, other) {
-            (Op::Alloc(request), Op::Alloc(other)) => request.equals(other),
+            (Op::Alloc(allocation), Op::Alloc(other)) => allocation.equals(other),
             (Op::Activate(deck), Op::Activate(other)) => deck.as_slice() == other.as_slice(),
             _ => false,
         }
@@ -66,6 +67,7 @@ pub struct Request {
 }
 
 impl Request {
+    /// The same request, or want of memory.
     pub fn copy(&self, alloc: Global) -> Result<Self, AllocError>
         ensures { IfOk result (λ copy. copy ≡ self.now) }
     {

@@ -24,6 +24,10 @@ impl Model for RequestNumber {
 }
 
 impl Clone for RequestNumber {
+    ghost is_clone = { λ x y. y ≡ x };
+
+    ghost is_infallible = { λ _. Unit {0} };
+
     fn clone(&self) -> Result<Self, std::alloc::AllocError> {
         Ok(*self)
     }
@@ -42,6 +46,7 @@ impl RequestNumber {
         Some(RequestNumber { number })
     }
 
+    /// The value of the number.
     pub fn get(&self) -> u32
         ensures value { result ≡ self.now }
         ensures range { IsRequestNumber self.now }

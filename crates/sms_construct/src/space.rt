@@ -28,6 +28,10 @@ impl Model for Space {
 }
 
 impl Clone for Space {
+    ghost is_clone = { λ x y. y ≡ x };
+
+    ghost is_infallible = { λ _. Unit {0} };
+
     fn clone(&self) -> Result<Self, std::alloc::AllocError> {
         Ok(*self)
     }

@@ -15,7 +15,7 @@ use sms_construct::{Alloc, DataSet, DeckText, Extent, Fault, Op, Path, Reply};
 use std::alloc::{AllocError, Global};
 use std::marker::Model;
 
-/// The active configuration and the catalogued data sets, as contracts see them after a history.
+/// The active configuration and the catalogued data sets after a history.
 #[derive(Drop)]
 pub struct Running {
     alloc: Global,
@@ -63,7 +63,7 @@ impl Running {
         ensures { IfOk result (λ made. Rule self.now.state op.now made.reply (state_with self.now.state made.effect)) }
     {
         match op {
-            Op::Alloc(request) => self.decide_allocation(request),
+            Op::Alloc(allocation) => self.decide_allocation(allocation),
             Op::Activate(deck) => self.decide_activation(deck),
         }
     }
@@ -87,17 +87,17 @@ impl Running {
         }
     }
 
-    fn decide_allocation(&self, request: &Alloc) -> Result<Decision, AllocError>
+    fn decide_allocation(&self, allocation: &Alloc) -> Result<Decision, AllocError>
         requires packed { IsPacked self.now.state }
-        ensures { IfOk result (λ made. Rule self.now.state (Op.Alloc request.now) made.reply (state_with self.now.state made.effect)) }
+        ensures { IfOk result (λ made. Rule self.now.state (Op.Alloc allocation.now) made.reply (state_with self.now.state made.effect)) }
     {
         let Some(config) = &self.config else {
             return Ok(Decision::refusal(Reply::NoConfig));
         };
-        if is_in_use(&self.sets, &request.dsn) {
+        if is_in_use(&self.sets, &allocation.dsn) {
             return Ok(Decision::refusal(Reply::NameInUse));
         }
-        let need = request.space.primary();
+        let need = allocation.space.primary();
         if self.granted + u64::from(need) > u64::from(config.tracks) {
             return Ok(Decision::refusal(Reply::NoVolume));
         }
@@ -108,7 +108,7 @@ impl Running {
         };
         let set = new_set(
             self.alloc,
-            request.dsn,
+            allocation.dsn,
             config.storclas,
             config.group,
             extent,

@@ -25,7 +25,8 @@ struct Answered {
     effect: Effect,
 }
 
-/// Prepares the entry of a request behind this journal. All memory that the step wants is taken here.
+/// Prepares the entry of a request behind this journal. Memory for it is taken here, and room in the lists
+/// before.
 pub fn prepare(
     alloc: Global,
     journal: &[Entry],

@@ -33,74 +33,59 @@ fn print_items(
 {
     let mut text = Vec::new(alloc);
     for (at, item) in items.iter().enumerate() {
-        push_item(alloc, &mut text, item, &answers[at])?;
+        push_item(&mut text, item, &answers[at])?;
     }
-    push_end(alloc, &mut text, entries, items.len() as u64)?;
+    push_end(&mut text, entries, items.len() as u64)?;
     Ok(text)
 }
 
-fn push_end(alloc: Global, text: &mut Vec<u8>, entries: u64, items: u64) -> Result<(), AllocError>
+fn push_end(text: &mut Vec<u8>, entries: u64, items: u64) -> Result<(), AllocError>
     ensures { OnOk result (text.new.items ≡ text.old.items ++ end_text entries items) }
 {
     text.extend_from_slice(b"END ")?;
-    push_figure(alloc, text, entries)?;
-    push_number(alloc, text, items)?;
+    push_number_and_blank(text, entries)?;
+    push_number(text, items)?;
     text.extend_from_slice(b"\n")
 }
 
-fn push_item(
-    alloc: Global,
-    text: &mut Vec<u8>,
-    item: &Item,
-    answer: &Answer,
-) -> Result<(), AllocError>
+fn push_item(text: &mut Vec<u8>, item: &Item, answer: &Answer) -> Result<(), AllocError>
     ensures { OnOk result (text.new.items ≡ text.old.items ++ item_text item.now answer.now) }
 {
-    push_head(alloc, text, item, answer)?;
+    push_head(text, item, answer)?;
     text.extend_from_slice(b"\n")?;
-    push_further(alloc, text, &answer.reply)
+    push_further(text, &answer.reply)
 }
 
-fn push_head(
-    alloc: Global,
-    text: &mut Vec<u8>,
-    item: &Item,
-    answer: &Answer,
-) -> Result<(), AllocError>
+fn push_head(text: &mut Vec<u8>, item: &Item, answer: &Answer) -> Result<(), AllocError>
     ensures { OnOk result (text.new.items ≡ text.old.items ++ head_text item.now answer.now) }
 {
-    push_places(alloc, text, item.line, answer)?;
-    push_word(text, item.request.job.bytes())?;
-    push_figure(alloc, text, u64::from(item.request.number.get()))?;
-    push_reply(alloc, text, &answer.reply)
+    push_places(text, item.line, answer)?;
+    push_word_and_blank(text, item.request.job.bytes())?;
+    push_number_and_blank(text, u64::from(item.request.number.get()))?;
+    push_reply(text, &answer.reply)
 }
 
 // The line of an item, and the places of its entry and of the first reply.
-fn push_places(
-    alloc: Global,
-    text: &mut Vec<u8>,
-    line: u32,
-    answer: &Answer,
-) -> Result<(), AllocError>
+fn push_places(text: &mut Vec<u8>, line: u32, answer: &Answer) -> Result<(), AllocError>
     ensures { OnOk result (text.new.items ≡ text.old.items ++ (decimal line ++ 32 ∷ (decimal answer.now.place ++ 32 ∷ (decimal answer.now.first ++ 32 ∷ [])))) }
 {
-    push_figure(alloc, text, u64::from(line))?;
-    push_figure(alloc, text, answer.place)?;
-    push_figure(alloc, text, answer.first)
+    push_number_and_blank(text, u64::from(line))?;
+    push_number_and_blank(text, answer.place)?;
+    push_number_and_blank(text, answer.first)
 }
 
-fn push_reply(alloc: Global, text: &mut Vec<u8>, reply: &Reply) -> Result<(), AllocError>
+fn push_reply(text: &mut Vec<u8>, reply: &Reply) -> Result<(), AllocError>
     ensures { OnOk result (text.new.items ≡ text.old.items ++ reply_text reply.now) }
 {
     match reply {
         Reply::Granted { .. } => text.extend_from_slice(b"A00 GRANTED"),
         Reply::Activated { count } => {
             text.extend_from_slice(b"A04 ACTIVATED ")?;
-            push_number(alloc, text, *count)
+            push_number(text, *count)
         }
         Reply::Reused { first } => {
             text.extend_from_slice(b"R10 REUSED NUMBER ")?;
-            push_number(alloc, text, *first)
+            push_number(text, *first)
         }
         Reply::NoConfig => text.extend_from_slice(b"R12 NO CONFIGURATION"),
         Reply::NameInUse => text.extend_from_slice(b"R13 NAME IN USE"),
@@ -126,13 +111,13 @@ fn push_fault(text: &mut Vec<u8>, fault: &Fault) -> Result<(), AllocError>
 }
 
 // The lines behind the first one.
-fn push_further(alloc: Global, text: &mut Vec<u8>, reply: &Reply) -> Result<(), AllocError>
+fn push_further(text: &mut Vec<u8>, reply: &Reply) -> Result<(), AllocError>
     ensures { OnOk result (text.new.items ≡ text.old.items ++ flat_map indented (further_lines reply.now)) }
 {
     match reply {
         Reply::Granted { set } => {
             push_class(text, set)?;
-            push_extents(alloc, text, set.extents.as_slice())
+            push_extents(text, set.extents.as_slice())
         }
         Reply::Activated { .. }
         | Reply::Reused { .. }
@@ -148,9 +133,9 @@ fn push_class(text: &mut Vec<u8>, set: &DataSet) -> Result<(), AllocError>
     ensures { OnOk result (text.new.items ≡ text.old.items ++ indented (class_text set.now)) }
 {
     text.extend_from_slice(b"  CLASS ")?;
-    push_word(text, name_bytes(&set.dataclas))?;
-    push_word(text, set.storclas.bytes())?;
-    push_word(text, name_bytes(&set.mgmtclas))?;
+    push_word_and_blank(text, name_bytes(&set.dataclas))?;
+    push_word_and_blank(text, set.storclas.bytes())?;
+    push_word_and_blank(text, name_bytes(&set.mgmtclas))?;
     text.extend_from_slice(set.group.bytes())?;
     text.extend_from_slice(b"\n")
 }
@@ -165,27 +150,27 @@ fn name_bytes(name: &Option<Name>) -> &[u8]
     }
 }
 
-fn push_extents(alloc: Global, text: &mut Vec<u8>, extents: &[Extent]) -> Result<(), AllocError>
+fn push_extents(text: &mut Vec<u8>, extents: &[Extent]) -> Result<(), AllocError>
     ensures { OnOk result (text.new.items ≡ text.old.items ++ flat_map indented (map extent_text extents.now)) }
 {
     for extent in extents {
-        push_extent(alloc, text, extent)?;
+        push_extent(text, extent)?;
     }
     Ok(())
 }
 
-fn push_extent(alloc: Global, text: &mut Vec<u8>, extent: &Extent) -> Result<(), AllocError>
+fn push_extent(text: &mut Vec<u8>, extent: &Extent) -> Result<(), AllocError>
     ensures { OnOk result (text.new.items ≡ text.old.items ++ indented (extent_text extent.now)) }
 {
     text.extend_from_slice(b"  EXTENT ")?;
-    push_word(text, extent.volser.bytes())?;
-    push_figure(alloc, text, u64::from(extent.start))?;
-    push_number(alloc, text, u64::from(extent.length))?;
+    push_word_and_blank(text, extent.volser.bytes())?;
+    push_number_and_blank(text, u64::from(extent.start))?;
+    push_number(text, u64::from(extent.length))?;
     text.extend_from_slice(b"\n")
 }
 
 // A word and a blank.
-fn push_word(text: &mut Vec<u8>, word: &[u8]) -> Result<(), AllocError>
+fn push_word_and_blank(text: &mut Vec<u8>, word: &[u8]) -> Result<(), AllocError>
     ensures { OnOk result (text.new.items ≡ text.old.items ++ word.now ++ 32 ∷ []) }
 {
     text.extend_from_slice(word)?;
@@ -193,9 +178,9 @@ fn push_word(text: &mut Vec<u8>, word: &[u8]) -> Result<(), AllocError>
 }
 
 // A number and a blank.
-fn push_figure(alloc: Global, text: &mut Vec<u8>, number: u64) -> Result<(), AllocError>
+fn push_number_and_blank(text: &mut Vec<u8>, number: u64) -> Result<(), AllocError>
     ensures { OnOk result (text.new.items ≡ text.old.items ++ decimal number ++ 32 ∷ []) }
 {
-    push_number(alloc, text, number)?;
+    push_number(text, number)?;
     text.extend_from_slice(b" ")
 }

@@ -13,8 +13,8 @@ use desk_common::Items;
 use sms_construct::{Op, Request, RequestNumber};
 use std::alloc::Global;
 
-/// The script that the bytes write, or its first fault (docs/script.md). It walks once over the text and
-/// copies only the decks.
+/// The script that the bytes write, or its first fault (docs/script.md). It walks once over the text,
+/// and copies the decks, and each command line into one buffer.
 pub fn read_script(alloc: Global, bytes: &[u8]) -> Result<Script, ScriptErr>
     requires { length bytes.now < 2 ^ 32 }
     ensures script { IfOk result (λ items. script_of bytes.now ≡ Ok items) }

@@ -3,7 +3,7 @@ use Rattle.std.specs.Prelude.{◌≡◌, Bool, true, false, List, [], ◌∷◌,
 use Rattle.std.specs.Io.KnownBytes.{Appends}
 use Rattle.desk_common.specs.Causes.{Rose}
 use Rattle.desk_common.specs.Fronts.{IsProperPrefix}
-use Rattle.sms_base.specs.Observed.{Observed, IsUnwritten, WasRead, HasReadFault, IsTooLong}
+use Rattle.sms_base.specs.Observed.{Observed, IsUnwritten, WasRead, HasReadFault, IsTooLong, IsOutOfMemory}
 use Rattle.acs_tree.specs.declared.kind.Kind.{Kind}
 use Rattle.acs_tree.specs.Variables.{name_of}
 use Rattle.smsc.specs.ToolText.{IsAnswer}
@@ -53,4 +53,4 @@ Ends kind old new BadWords = ⊥
 Ends kind old new ReadFault = HasReadFault most_bytes old new
 Ends kind old new WriteFault = HasWriteFault kind old new
 Ends kind old new TooLong = IsTooLong most_bytes old new
-Ends kind old new NoMemory = IsUnwritten old new
+Ends kind old new NoMemory = IsOutOfMemory most_bytes old new

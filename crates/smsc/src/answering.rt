@@ -43,7 +43,7 @@ fn translated_text(alloc: Global, kind: Kind, count: u32) -> Result<Vec<u8>, All
     let mut text = b"TRANSLATED ".to_vec(alloc)?;
     text.extend_from_slice(kind.name())?;
     text.extend_from_slice(b" ")?;
-    push_number(alloc, &mut text, u64::from(count))?;
+    push_number(&mut text, u64::from(count))?;
     text.extend_from_slice(b"\n")?;
     Ok(text)
 }
@@ -53,9 +53,9 @@ fn fault_text(alloc: Global, fault: &RoutineFault) -> Result<Vec<u8>, AllocError
 {
     let mut text = b"FAULT ".to_vec(alloc)?;
     text.extend_from_slice(letter(fault.stage))?;
-    push_number(alloc, &mut text, u64::from(fault.number))?;
+    push_number(&mut text, u64::from(fault.number))?;
     text.extend_from_slice(b" ")?;
-    push_number(alloc, &mut text, u64::from(fault.at))?;
+    push_number(&mut text, u64::from(fault.at))?;
     text.extend_from_slice(b"\n")?;
     Ok(text)
 }

@@ -18,5 +18,6 @@ returns-in-Ok-print-clause-answered c =
       legal = legal;
       grants = λ front rest entry set is granted first. c.lawful_grants.ensures front rest entry set (rw is at legal) granted first;
       tracks = λ front rest s is reaches. c.tracks_held_once.ensures front s reaches;
+      inside = λ front rest s config is reaches active. c.extents_inside.ensures front s config reaches active;
       kept = λ front rest entry first is found. c.kept_replies.ensures front rest entry first (rw is at legal) found;
     }

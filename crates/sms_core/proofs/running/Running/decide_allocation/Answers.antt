@@ -24,10 +24,10 @@ returns-then-self-from c =
     let view : c.self.inside.config ≡ s.active = ap (λ (v : RunningView). v.state.active) c.self.view_is in
     let sets : c.self.inside.sets.items ≡ s.sets = ap (λ (v : RunningView). v.state.sets) c.self.view_is in
     let active : s.active ≡ Some (configuration_of form) = sym view ∙ c.in-Some.is ∙ ap (λ (x : Configuration). Some x) (sym c.config.view_is) in
-    let free : is_catalogued c.args.request.now.dsn s.sets ≡ false = rw (← sets, ← c.deref.ensures.value) (sym c.is_in_use.ensures ∙ c.if-is_in_use.false) in
+    let free : is_catalogued c.args.allocation.now.dsn s.sets ≡ false = rw (← sets, ← c.deref.ensures.value) (sym c.is_in_use.ensures ∙ c.if-is_in_use.false) in
     let total : c.self.inside.granted ≡ tracks_of (extents_of s.sets) = c.self.invariant ∙ ap (λ (x : List DataSet). tracks_of (extents_of x)) sets in
-    let short : form.tracks < c.self.inside.granted + c.args.request.now.space.primary = omega (arith, c.from.ensures, c.from-2.ensures, c.primary-need.ensures.value, c.if-self-from.true) in
-    rw c.refusal-then-self-from.ensures (short-rule s form c.args.request.now c.self.inside.granted active c.requires.packed free total short)
+    let short : form.tracks < c.self.inside.granted + c.args.allocation.now.space.primary = omega (arith, c.from.ensures, c.from-2.ensures, c.primary-need.ensures.value, c.if-self-from.true) in
+    rw c.refusal-then-self-from.ensures (short-rule s form c.args.allocation.now c.self.inside.granted active c.requires.packed free total short)
 
 -- the tracks above the mark are granted
 pub returns : goal.returns
@@ -38,9 +38,9 @@ returns c =
     let view : c.self.inside.config ≡ s.active = ap (λ (v : RunningView). v.state.active) c.self.view_is in
     let sets : c.self.inside.sets.items ≡ s.sets = ap (λ (v : RunningView). v.state.sets) c.self.view_is in
     let active : s.active ≡ Some (configuration_of form) = sym view ∙ c.in-Some.is ∙ ap (λ (x : Configuration). Some x) (sym c.config.view_is) in
-    let free : is_catalogued c.args.request.now.dsn s.sets ≡ false = rw (← sets, ← c.deref.ensures.value) (sym c.is_in_use.ensures ∙ c.if-is_in_use.false) in
+    let free : is_catalogued c.args.allocation.now.dsn s.sets ≡ false = rw (← sets, ← c.deref.ensures.value) (sym c.is_in_use.ensures ∙ c.if-is_in_use.false) in
     let total : c.self.inside.granted ≡ tracks_of (extents_of s.sets) = c.self.invariant ∙ ap (λ (x : List DataSet). tracks_of (extents_of x)) sets in
-    let fits : c.self.inside.granted + c.args.request.now.space.primary ≤ form.tracks = omega (arith, c.from.ensures, c.from-2.ensures, c.primary-need.ensures.value, c.if-self-from.false) in
-    let extent : Extent = record { volser = form.volser; start = c.self.inside.granted; length = c.args.request.now.space.primary } in
+    let fits : c.self.inside.granted + c.args.allocation.now.space.primary ≤ form.tracks = omega (arith, c.from.ensures, c.from-2.ensures, c.primary-need.ensures.value, c.if-self-from.false) in
+    let extent : Extent = record { volser = form.volser; start = c.self.inside.granted; length = c.args.allocation.now.space.primary } in
     rw c.in_ok-copy.ensures
-    (grant-rule s form c.args.request.now c.self.inside.granted c.in_ok-set.set extent active c.requires.packed free total fits c.primary-need.ensures.range.some refl (rw (← c.primary-need.ensures.value) c.in_ok-set.ensures))
+    (grant-rule s form c.args.allocation.now c.self.inside.granted c.in_ok-set.set extent active c.requires.packed free total fits c.primary-need.ensures.range.some refl (rw (← c.primary-need.ensures.value) c.in_ok-set.ensures))
