@@ -16,10 +16,10 @@ use Rattle.acs_parse.specs.Wants.{fits}
 use Rattle.acs_parse.specs.Grammar.{starts, place_in, back, limited, IsOperator, IsIndex, IsRef, ref, IsOperand, IsCond, cond_of, IsOrs, no_or, or_more, IsConj, conj_of, IsAnds, no_and, and_more, IsPrim, test, group}
 use Rattle.acs_parse.specs.Table.{Effect, Keep, Lower, To, Part, One, ACondition, MoreOrs, AConjunct, MoreAnds, ATest, AnOperand, ARef, Read, Full, Pass, gate, rule, TooMany, Verdict, verdict}
 use Rattle.acs_parse.specs.Language.{Takes}
-use Rattle.acs_parse.specs.Reads.{Fails, FailsAt}
+use Rattle.acs_parse.specs.Reads.{Fails, FailsAt, IsCondBefore}
 use Rattle.acs_parse.proofs.RunLemmas.{moved, opened, runs_one, runs_ref, runs_cond, runs_conj, runs_prim, conj_as_test, cond_as_conj, fits_operator}
 use Rattle.acs_parse.proofs.SoundLemmas.{is_variable}
-use Rattle.acs_parse.proofs.ShorterLemmas.{conj_shorter, prim_shorter, takes_shorter}
+use Rattle.acs_parse.proofs.ShorterLemmas.{conj_shorter, prim_shorter, cond_shorter, takes_shorter}
 use Rattle.acs_parse.proofs.OperandLemmas.{along, takes_close}
 
 -- the part of a condition that AND joins, so far
@@ -182,6 +182,19 @@ test_of {total} {n} {at} {b = b} {rest = rest} {op = op} {o = o} (ref {name = na
     let h : at ≡ place_in total (q.0 ∷ b) = f ∙ ap (λ x. place_in total x) q.2 in
     subst (λ x. IsPrim total limited n (Variable name ∷ ts) (condition.Test (record { at = place_in total (Variable name ∷ ts); name = name; index = i; index_at = to }) op x o) n rest) (sym h) (test (ref g) q.1 c)
 
-pub test_at : {total at : ℕ} {ts a b rest : List Symbol} {r : Ref} {op : Compare} {o : Operand} → IsRef total ts r a → ((t : Symbol) × IsOperator t op × (a ≡ t ∷ b)) → at ≡ place_in total a
-    → IsOperand total list.Items b o rest → (n : ℕ) → IsPrim total limited n ts (condition.Test r op at o) n rest
-test_at d q f c n = test_of d q f c
+pub test_at : {total at : ℕ} {ts a b rest : List Symbol} {r : Ref} {op : Compare} {o : Operand} {x : Cond} → IsRef total ts r a → ((t : Symbol) × IsOperator t op × (a ≡ t ∷ b)) → at ≡ place_in total a
+    → IsOperand total list.Items b o rest → x ≡ condition.Test r op at o → (n : ℕ) → IsPrim total limited n ts x n rest
+test_at {total} {at} {ts} {a} {b} {rest} {r} {op} {o} {x} d q f c g n = subst (λ y. IsPrim total limited n ts y n rest) (sym g) (test_of d q f c)
+
+pub cond_then : {total n m : ℕ} (w : Want) {ts a rest : List Symbol} {c : Cond} → IsCond total limited n ts c m a → Takes w a rest → IsCondBefore total w n ts c rest
+cond_then {m = m} w {a = a} d q = (m, a, d, q)
+
+pub before_cond_fails : (e : Fault) (n : ℕ) (w : Want) (ts : List Symbol) → FailsAt e (ACondition ∷ []) n ts → FailsAt e (ACondition ∷ One w (To n) ∷ []) n ts
+before_cond_fails e n w ts h k = h (One w (To n) ∷ k)
+
+pub before_word_fails : (e : Fault) {total n m : ℕ} (w : Want) {ts a : List Symbol} {c : Cond} → IsCond total limited n ts c m a → ((f : Effect) (v : ℕ) → FailsAt e (One w f ∷ []) v a)
+    → FailsAt e (ACondition ∷ One w (To n) ∷ []) n ts
+before_word_fails e {n = n} {m = m} w d h k = along e (runs_cond limited d (One w (To n) ∷ k)) (h (To n) m k)
+
+pub before_shorter : {total n : ℕ} (w : Want) {ts rest : List Symbol} {c : Cond} → IsCondBefore total w n ts c rest → length rest < length ts
+before_shorter w (m, a, d, q) = omega (arith, cond_shorter d, takes_shorter w q)

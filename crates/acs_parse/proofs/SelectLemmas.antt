@@ -7,7 +7,6 @@ use Rattle.acs_tree.specs.declared.routine.Cond.{Cond}
 use Rattle.acs_tree.specs.declared.routine.WhenTest.{WhenTest}
 use Rattle.acs_tree.specs.declared.routine.WhenTest.TheVariants.{Any, Holds}
 use Rattle.acs_tree.specs.declared.routine.When.{When, roll-When}
-use Rattle.acs_tree.specs.declared.routine.Form.{Form}
 use Rattle.acs_tree.specs.declared.routine.Form.TheVariants as form
 use Rattle.acs_tree.specs.declared.routine.Stmt.{Stmt}
 use Rattle.acs_parse.specs.declared.list_kind.ListKind.TheVariants as list
@@ -17,23 +16,23 @@ use Rattle.acs_symbol.specs.declared.symbol.Symbol.TheVariants.{Word, Open}
 use Rattle.acs_parse.specs.declared.want.Want.TheVariants as want
 use Rattle.acs_parse.specs.declared.fault.Fault.{Fault}
 use Rattle.acs_parse.specs.Wants.{fits}
-use Rattle.acs_parse.specs.Grammar.{starts, place_in, placed, when_at, limited, IsRef, IsOperands, IsCond, IsStmt, pick, IsBranch, IsChoice, by_value, by_condition, IsWhen, when_any, when_holds, IsWhens, no_when, more_whens}
+use Rattle.acs_parse.specs.Grammar.{starts, place_in, when_at, limited, IsRef, IsOperands, IsCond, IsStmt, pick, IsBranch, IsChoice, by_value, by_condition, IsWhen, when_any, when_holds, IsWhens, no_when, more_whens}
 use Rattle.acs_parse.specs.Table.{Effect, Keep, Lower, To, Part, One, AStatement, OrBranch, AChoice, AWhen, MoreWhens, ACondition, AnOperand, MoreOperands, ARef, Read, Refuse, when_parts, Step, after, next, step, Verdict, verdict}
 use Rattle.acs_parse.specs.Language.{Takes}
-use Rattle.acs_parse.specs.Reads.{FailsAt, IsInside, IsBranches, IsTest, any_of, holding, test_parts}
+use Rattle.acs_parse.specs.Reads.{FailsAt, IsInside, IsBranches, IsCondBefore, IsOneMore, IsTest, any_of, holding, test_parts}
 use Rattle.acs_parse.proofs.RunLemmas.{runs_ref, runs_operands, runs_cond, runs_branch, runs_choice, runs_when, whens_as_when}
 use Rattle.acs_parse.proofs.SoundLemmas.{is_when}
 use Rattle.acs_parse.proofs.ShorterLemmas.{when_shorter, operands_shorter, cond_shorter}
 use Rattle.acs_parse.proofs.OperandLemmas.{Goes, along, goes_one, takes_open, takes_close, empty_right}
 use Rattle.acs_parse.proofs.StatementLemmas.{takes_end}
 
-pub select_at : {total i : ℕ} {ts a b rest : List Symbol} {r : Option Ref} {ws : List When} {o : Option Stmt} {f : Form} → IsChoice total limited i ts r ws a → IsBranch total limited want.Otherwise i a o b
-    → Takes want.End b rest → f ≡ form.Pick r ws o → IsInside total word.Select i ts f rest
-select_at {total} {i} {ts} {a} {b} {rest} {r} {ws} {o} {f} x y q g n may e w =
+pub select_at : {total i : ℕ} {ts a b rest : List Symbol} {r : Option Ref} {ws : List When} {o : Option Stmt} → IsChoice total limited i ts r ws a → IsBranch total limited want.Otherwise i a o b
+    → Takes want.End b rest → IsInside total word.Select i ts (form.Pick r ws o) rest
+select_at {total} {i} {ts} {a} {b} {rest} {r} {ws} {o} x y q n may e w =
     let v = takes_end q in
     let x : IsChoice total limited (suc n) ts r ws a = subst (λ j. IsChoice total limited j ts r ws a) e x in
     let y : IsBranch total limited want.Otherwise (suc n) a o (Word word.End v.0 ∷ rest) = subst (λ j. IsBranch total limited want.Otherwise j a o (Word word.End v.0 ∷ rest)) e (subst (λ l. IsBranch total limited want.Otherwise i a o l) v.1 y) in
-    subst (λ h. IsStmt total limited n (Word word.Select w ∷ ts) (placed total (Word word.Select w ∷ ts) h) rest) (sym g) (pick may x y)
+    pick may x y
 
 pub select_choice_fails : (e : Fault) (i : ℕ) (ts : List Symbol) → FailsAt e (AChoice ∷ []) i ts → FailsAt e (AChoice ∷ OrBranch want.Otherwise ∷ One want.End Lower ∷ []) i ts
 select_choice_fails e i ts h k = h (OrBranch want.Otherwise ∷ One want.End Lower ∷ k)
@@ -79,14 +78,14 @@ pub record WhenTurn (total n : ℕ) (b : Bool) (ts rest : List Symbol) (list : L
   pub same : (k : List Part) → verdict limited (AWhen b ∷ MoreWhens b ∷ k) n ts ≡ verdict limited (MoreWhens b ∷ k) n rest
   pub shorter : length rest < length ts
 
-pub branches_first : {total n : ℕ} {b : Bool} {ts rest : List Symbol} {list : List When} {w : When} → IsWhen total limited b n ts w rest → list ≡ w ∷ [] → WhenTurn total n b ts rest list
-branches_first {total} {n} {b} {ts} {rest} {list} {w} d g =
+pub branches_first : {total n : ℕ} {b : Bool} {ts rest : List Symbol} {none list : List When} → IsOneMore total b n ts none list rest → none ≡ [] → WhenTurn total n b ts rest list
+branches_first {total} {n} {b} {ts} {rest} {none} {list} (w, d, g) f =
     let turn : WhenTurn total n b ts rest (w ∷ []) = record {
       done = λ ws r ds. (w, ws, rest, d, ds, refl);
       same = λ k. runs_when limited d (MoreWhens b ∷ k);
       shorter = when_shorter d;
     } in
-    subst (λ xs. WhenTurn total n b ts rest xs) (sym g) turn
+    subst (λ xs. WhenTurn total n b ts rest xs) (sym (g ∙ ap (λ xs. xs ++ w ∷ []) f)) turn
 
 whens_more : {total n : ℕ} {b : Bool} {ts ms r : List Symbol} {w : When} {ws : List When} → starts want.When ts ≡ true → IsWhen total limited b n ts w ms → IsWhens total limited b n ms ws r
     → IsWhens total limited b n ts (w ∷ ws) r
@@ -100,9 +99,9 @@ whens_go : (b : Bool) (n : ℕ) (ts : List Symbol) (k : List Part) → starts wa
 whens_go b n [] k e = let no : ⊥ = cc in absurd no
 whens_go b n (t ∷ ts) k e = whens_as_when limited b n t ts k e
 
-pub branches_turn : {total n : ℕ} {b : Bool} {ts rest left : List Symbol} {list longer : List When} {w : When} → WhenTurn total n b ts rest list → starts want.When rest ≡ true
-    → IsWhen total limited b n rest w left → longer ≡ list ++ w ∷ [] → WhenTurn total n b ts left longer
-branches_turn {total} {n} {b} {ts} {rest} {left} {list} {longer} {w} t e d g =
+pub branches_turn : {total n : ℕ} {b : Bool} {ts rest left : List Symbol} {list longer : List When} → WhenTurn total n b ts rest list → starts want.When rest ≡ true
+    → IsOneMore total b n rest list longer left → WhenTurn total n b ts left longer
+branches_turn {total} {n} {b} {ts} {rest} {left} {list} {longer} t e (w, d, g) =
     let turn : WhenTurn total n b ts left (list ++ w ∷ []) = record {
       done = λ ws r ds. subst (λ xs. IsBranches total b n ts xs r) (sym (append_assoc list (w ∷ []) ws)) (t.done (w ∷ ws) r (whens_more e d ds));
       same = λ k. t.same k ∙ whens_go b n rest k e ∙ runs_when limited d (MoreWhens b ∷ k);
@@ -120,18 +119,23 @@ pub branches_fail : (e : Fault) {total n : ℕ} {b : Bool} {ts rest : List Symbo
     → FailsAt e (AWhen b ∷ []) n rest → FailsAt e (AWhen b ∷ MoreWhens b ∷ []) n ts
 branches_fail e {n = n} {b = b} {rest = rest} t s h k = along e (t.same k ∙ whens_go b n rest k s) (h (MoreWhens b ∷ k))
 
-pub when_of : {total at n : ℕ} {b : Bool} {ts a l rest : List Symbol} {test : WhenTest} {s : Stmt} {w : When} → at ≡ place_in total ts → Takes want.When ts a → IsTest total b n a test l
-    → IsStmt total limited n l s rest → w ≡ roll-When (record { at = at; test = test; body = s }) → IsWhen total limited b n ts w rest
-when_of {total = total} {at = at} {n = n} {ts = ts} {rest = rest} {s = s} f q (any_of {ts = ms} {os = os} d) y z =
+when_at_place : {total at n : ℕ} {b : Bool} {ts a l rest : List Symbol} {test : WhenTest} {s : Stmt} → at ≡ place_in total ts → Takes want.When ts a → IsTest total b n a test l
+    → IsStmt total limited n l s rest → IsWhen total limited b n ts (roll-When (record { at = at; test = test; body = s })) rest
+when_at_place {total = total} {at = at} {n = n} {ts = ts} {rest = rest} {s = s} f q (any_of {ts = ms} {os = os} d) y =
     let v = is_when q.0 q.1 in
     let p : ts ≡ Word word.When v.0 ∷ Open ∷ ms = q.2 ∙ ap (λ x. x ∷ Open ∷ ms) v.1 in
     let c : IsWhen total limited true n ts (when_at total ts (Any os) s) rest = subst (λ x. IsWhen total limited true n x (when_at total x (Any os) s) rest) (sym p) (when_any d y) in
-    subst (λ x. IsWhen total limited true n ts x rest) (sym (z ∙ ap (λ x. roll-When (record { at = x; test = Any os; body = s })) f)) c
-when_of {total = total} {at = at} {n = n} {ts = ts} {rest = rest} {s = s} f q (holding {ts = ms} {c = o} d) y z =
+    subst (λ x. IsWhen total limited true n ts x rest) (sym (ap (λ x. roll-When (record { at = x; test = Any os; body = s })) f)) c
+when_at_place {total = total} {at = at} {n = n} {ts = ts} {rest = rest} {s = s} f q (holding {ts = ms} {c = o} d) y =
     let v = is_when q.0 q.1 in
     let p : ts ≡ Word word.When v.0 ∷ Open ∷ ms = q.2 ∙ ap (λ x. x ∷ Open ∷ ms) v.1 in
     let c : IsWhen total limited false n ts (when_at total ts (Holds o) s) rest = subst (λ x. IsWhen total limited false n x (when_at total x (Holds o) s) rest) (sym p) (when_holds d y) in
-    subst (λ x. IsWhen total limited false n ts x rest) (sym (z ∙ ap (λ x. roll-When (record { at = x; test = Holds o; body = s })) f)) c
+    subst (λ x. IsWhen total limited false n ts x rest) (sym (ap (λ x. roll-When (record { at = x; test = Holds o; body = s })) f)) c
+
+-- the branches and one more, whose parts are these
+pub when_of : {total at n : ℕ} {b : Bool} {ts a l rest : List Symbol} {test : WhenTest} {s : Stmt} (list : List When) {longer : List When} → at ≡ place_in total ts → Takes want.When ts a → IsTest total b n a test l
+    → IsStmt total limited n l s rest → longer ≡ list ++ roll-When (record { at = at; test = test; body = s }) ∷ [] → IsOneMore total b n ts list longer rest
+when_of {at = at} {test = test} {s = s} list f q d y g = (roll-When (record { at = at; test = test; body = s }), when_at_place f q d y, g)
 
 word_first : (b : Bool) (n l : ℕ) (new k : List Part) (p q : ℕ → Step) (go : List Part → ℕ → Verdict) → next (after (cond b (Read n new) Refuse) k p) l go ≡ next (after (cond b (Read n []) Refuse) (new ++ k) q) l go
 word_first true n l new k p q go = refl
@@ -162,17 +166,14 @@ when_test_fails e n b q h k = along e (goes_when b n q k) (h (AStatement ∷ k))
 pub when_body_fails : (e : Fault) {total n : ℕ} {b : Bool} {ts a l : List Symbol} {test : WhenTest} → Takes want.When ts a → IsTest total b n a test l → FailsAt e (AStatement ∷ []) n l → FailsAt e (AWhen b ∷ []) n ts
 when_body_fails e {n = n} {b = b} q x h k = along e (goes_when b n q k ∙ runs_test x (AStatement ∷ k)) (h k)
 
-pub test_of_items : {total : ℕ} (n : ℕ) {b : Bool} {ts rest : List Symbol} {test : WhenTest} → b ≡ true → ((m : ℕ) → IsTest total true m ts test rest) → IsTest total b n ts test rest
-test_of_items {total} n {b} {ts} {rest} {test} e d = subst (λ x. IsTest total x n ts test rest) (sym e) (d n)
+pub when_items_fail : (e : Fault) (n : ℕ) {ts a : List Symbol} → Takes want.When ts a → ((m : ℕ) → FailsAt e (test_parts true m) m a) → FailsAt e (AWhen true ∷ []) n ts
+when_items_fail e n q h = when_test_fails e n true q (h n)
 
-pub test_of_condition : {total n : ℕ} {b : Bool} {ts rest : List Symbol} {test : WhenTest} → b ≡ false → IsTest total false n ts test rest → IsTest total b n ts test rest
-test_of_condition {total} {n} {b} {ts} {rest} {test} e d = subst (λ x. IsTest total x n ts test rest) (sym e) d
+pub one_more_of : {total n : ℕ} (b c : Bool) {ts rest : List Symbol} (list longer : List When) → b ≡ c → IsOneMore total c n ts list longer rest → IsOneMore total b n ts list longer rest
+one_more_of {total} {n} b c {ts} {rest} list longer e d = subst (λ x. IsOneMore total x n ts list longer rest) (sym e) d
 
-pub test_items_fail : (e : Fault) (n : ℕ) {b : Bool} (ts : List Symbol) → b ≡ true → ((m : ℕ) → FailsAt e (test_parts true m) m ts) → FailsAt e (test_parts b n) n ts
-test_items_fail e n ts q h = subst (λ x. FailsAt e (test_parts x n) n ts) (sym q) (h n)
-
-pub test_condition_fails : (e : Fault) (n : ℕ) {b : Bool} (ts : List Symbol) → b ≡ false → FailsAt e (test_parts false n) n ts → FailsAt e (test_parts b n) n ts
-test_condition_fails e n ts q h = subst (λ x. FailsAt e (test_parts x n) n ts) (sym q) h
+pub one_more_fails : (e : Fault) (n : ℕ) (b c : Bool) (ts : List Symbol) → b ≡ c → FailsAt e (AWhen c ∷ []) n ts → FailsAt e (AWhen b ∷ []) n ts
+one_more_fails e n b c ts q h = subst (λ x. FailsAt e (AWhen x ∷ []) n ts) (sym q) h
 
 pub items_at : {total : ℕ} {ts a b rest : List Symbol} {os : List Operand} → Takes want.Open ts a → IsOperands total list.Items a os b → Takes want.Close b rest → (n : ℕ) → IsTest total true n ts (Any os) rest
 items_at {total} {ts} {a} {b} {rest} {os} p d q n = subst (λ x. IsTest total true n x (Any os) rest) (sym (takes_open p)) (any_of (subst (λ r. IsOperands total list.Items a os r) (takes_close q) d))
@@ -190,8 +191,8 @@ pub items_close_fails : (e : Fault) {total : ℕ} {ts a b : List Symbol} {os : L
     → ((f : Effect) (m : ℕ) → FailsAt e (One want.Close f ∷ []) m b) → (n : ℕ) → FailsAt e (test_parts true n) n ts
 items_close_fails e p d h n k = along e (goes_items n p k ∙ runs_operands limited n d (One want.Close Keep ∷ k)) (h Keep n k)
 
-pub holds_at : {total n m : ℕ} {ts a b rest : List Symbol} {c : Cond} → Takes want.Open ts a → IsCond total limited n a c m b → Takes want.Close b rest → IsTest total false n ts (Holds c) rest
-holds_at {total} {n} {m} {ts} {a} {b} {rest} {c} p d q = subst (λ x. IsTest total false n x (Holds c) rest) (sym (takes_open p)) (holding (subst (λ r. IsCond total limited n a c m r) (takes_close q) d))
+pub holds_at : {total n : ℕ} {ts a rest : List Symbol} {c : Cond} → Takes want.Open ts a → IsCondBefore total want.Close n a c rest → IsTest total false n ts (Holds c) rest
+holds_at {total} {n} {ts} {a} {rest} {c} p (m, b, d, q) = subst (λ x. IsTest total false n x (Holds c) rest) (sym (takes_open p)) (holding (subst (λ r. IsCond total limited n a c m r) (takes_close q) d))
 
 pub holds_open_fails : (e : Fault) (n : ℕ) (ts : List Symbol) → ((f : Effect) (m : ℕ) → FailsAt e (One want.Open f ∷ []) m ts) → FailsAt e (test_parts false n) n ts
 holds_open_fails e n ts h k = h Keep n (ACondition ∷ One want.Close (To n) ∷ k)
@@ -199,12 +200,8 @@ holds_open_fails e n ts h k = h Keep n (ACondition ∷ One want.Close (To n) ∷
 goes_holds : (n : ℕ) {ts a : List Symbol} → Takes want.Open ts a → Goes (test_parts false n) n ts (ACondition ∷ One want.Close (To n) ∷ []) n a
 goes_holds n p k = ap (λ x. verdict limited (test_parts false n ++ k) n x) (takes_open p)
 
-pub holds_cond_fails : (e : Fault) (n : ℕ) {ts a : List Symbol} → Takes want.Open ts a → FailsAt e (ACondition ∷ []) n a → FailsAt e (test_parts false n) n ts
-holds_cond_fails e n p h k = along e (goes_holds n p k) (h (One want.Close (To n) ∷ k))
-
-pub holds_close_fails : (e : Fault) {total n m : ℕ} {ts a b : List Symbol} {c : Cond} → Takes want.Open ts a → IsCond total limited n a c m b
-    → ((f : Effect) (v : ℕ) → FailsAt e (One want.Close f ∷ []) v b) → FailsAt e (test_parts false n) n ts
-holds_close_fails e {n = n} {m = m} p d h k = along e (goes_holds n p k ∙ runs_cond limited d (One want.Close (To n) ∷ k)) (h (To n) m k)
+pub holds_cond_fails : (e : Fault) (n : ℕ) {ts a : List Symbol} → Takes want.Open ts a → FailsAt e (ACondition ∷ One want.Close (To n) ∷ []) n a → FailsAt e (test_parts false n) n ts
+holds_cond_fails e n p h k = along e (goes_holds n p k) (h k)
 
 pub test_shorter : {total n : ℕ} {b : Bool} {ts rest : List Symbol} {test : WhenTest} → IsTest total b n ts test rest → length rest < length ts
 test_shorter (any_of d) = omega (arith, operands_shorter d)

@@ -1,5 +1,5 @@
 -- What the readers of statements and blocks give, and where they fail.
-use Rattle.std.proofs.Common.{◌≡◌, ◌≤◌, ℕ, suc, Bool, true, false, cond, ◌&&◌, List, [], ◌∷◌, ◌++◌, length, refl, ap, sym, ◌∙◌, subst, arith, append_assoc}
+use Rattle.std.proofs.Common.{◌≡◌, ◌≤◌, ℕ, suc, Bool, true, false, cond, List, [], ◌∷◌, ◌++◌, length, refl, ap, sym, ◌∙◌, subst, arith, append_assoc}
 use Rattle.std.specs.Prelude.{Option, Some, None}
 use Rattle.acs_tree.specs.declared.routine.Ref.{Ref}
 use Rattle.acs_tree.specs.declared.routine.Operand.{Operand}
@@ -19,7 +19,7 @@ use Rattle.acs_parse.specs.declared.fault.Fault.TheVariants.{Deep}
 use Rattle.acs_parse.specs.Grammar.{starts, place_in, placed, limited, IsRef, IsOperands, IsFilter, IsCode, IsCond, IsStmt, set, choice, group_of, write, exit, IsBranch, no_branch, branch, IsBlock, end_of, then_more, IsItem, item_filter, item_statement}
 use Rattle.acs_parse.specs.Table.{Effect, Keep, Lower, To, Part, One, ABlock, AnItem, AStatement, OrBranch, AChoice, ACondition, AnOperand, MoreOperands, ARef, OrCode, Back, Read, Full, Pass, gate, rule, TooMany, verdict}
 use Rattle.acs_parse.specs.Language.{Takes}
-use Rattle.acs_parse.specs.Reads.{FailsAt, IsBehind, IsInside}
+use Rattle.acs_parse.specs.Reads.{FailsAt, IsBehind, IsInside, IsCondBefore, AreArms}
 use Rattle.acs_parse.proofs.RunLemmas.{moved, taken, opened, runs_ref, runs_cond, runs_stmt, runs_item, block_as_item, item_as_statement}
 use Rattle.acs_parse.proofs.SoundLemmas.{is_then, is_end}
 use Rattle.acs_parse.proofs.ShorterLemmas.{item_shorter}
@@ -32,15 +32,17 @@ takes_then {rest = rest} q = let w = is_then q.0 q.1 in (w.0, q.2 ∙ ap (λ x. 
 pub takes_end : {ts rest : List Symbol} → Takes want.End ts rest → (text : List ℕ) × (ts ≡ Word word.End text ∷ rest)
 takes_end {rest = rest} q = let w = is_end q.0 q.1 in (w.0, q.2 ∙ ap (λ x. x ∷ rest) w.1)
 
-pub stmt_behind : {total at : ℕ} (n : ℕ) {kind : WordKind} {w : List ℕ} {ts a rest : List Symbol} {f : Form} → ts ≡ Word kind w ∷ a → at ≡ place_in total ts
-    → ((m : ℕ) → IsBehind total kind m a f rest) → IsStmt total limited n ts (record { at = at; form = f }) rest
-stmt_behind {total} {at} n {kind} {w} {ts} {a} {rest} {f} e g d =
-    subst (λ x. IsStmt total limited n ts (record { at = x; form = f }) rest) (sym g) (subst (λ x. IsStmt total limited n x (placed total x f) rest) (sym e) (d n w))
+pub stmt_behind : {total at : ℕ} (n : ℕ) {kind : WordKind} {w : List ℕ} {ts a rest : List Symbol} {f : Form} {s : Stmt} → ts ≡ Word kind w ∷ a → at ≡ place_in total ts
+    → ((m : ℕ) → IsBehind total kind m a f rest) → s ≡ record { at = at; form = f } → IsStmt total limited n ts s rest
+stmt_behind {total} {at} n {kind} {w} {ts} {a} {rest} {f} {s} e g d h =
+    let c : IsStmt total limited n ts (placed total ts f) rest = subst (λ x. IsStmt total limited n x (placed total x f) rest) (sym e) (d n w) in
+    subst (λ x. IsStmt total limited n ts x rest) (sym h) (subst (λ x. IsStmt total limited n ts (record { at = x; form = f }) rest) (sym g) c)
 
-pub stmt_inside : {total at n i : ℕ} {kind : WordKind} {w : List ℕ} {ts a rest : List Symbol} {f : Form} → ts ≡ Word kind w ∷ a → at ≡ place_in total ts
-    → (limited n ≡ true) × (i ≡ suc n) → IsInside total kind i a f rest → IsStmt total limited n ts (record { at = at; form = f }) rest
-stmt_inside {total} {at} {n} {i} {kind} {w} {ts} {a} {rest} {f} e g o d =
-    subst (λ x. IsStmt total limited n ts (record { at = x; form = f }) rest) (sym g) (subst (λ x. IsStmt total limited n x (placed total x f) rest) (sym e) (d n o.0 o.1 w))
+pub stmt_inside : {total at n i : ℕ} {kind : WordKind} {w : List ℕ} {ts a rest : List Symbol} {f : Form} {s : Stmt} → ts ≡ Word kind w ∷ a → at ≡ place_in total ts
+    → (limited n ≡ true) × (i ≡ suc n) → IsInside total kind i a f rest → s ≡ record { at = at; form = f } → IsStmt total limited n ts s rest
+stmt_inside {total} {at} {n} {i} {kind} {w} {ts} {a} {rest} {f} {s} e g o d h =
+    let c : IsStmt total limited n ts (placed total ts f) rest = subst (λ x. IsStmt total limited n x (placed total x f) rest) (sym e) (d n o.0 o.1 w) in
+    subst (λ x. IsStmt total limited n ts x rest) (sym h) (subst (λ x. IsStmt total limited n ts (record { at = x; form = f }) rest) (sym g) c)
 
 pub set_fails : (e : Fault) (n : ℕ) {w : List ℕ} {ts a : List Symbol} → ts ≡ Word word.Set w ∷ a
     → ((m : ℕ) → FailsAt e (ARef ∷ One want.Equal Keep ∷ AnOperand list.Values ∷ MoreOperands list.Values ∷ []) m a) → FailsAt e (AStatement ∷ []) n ts
@@ -110,33 +112,34 @@ write_at d n w = write d
 pub exit_at : {total : ℕ} {ts rest : List Symbol} {o : Option Operand} → IsCode total ts o rest → (n : ℕ) → IsBehind total word.Exit n ts (form.Exit o) rest
 exit_at d n w = exit d
 
-pub if_at : {total i m : ℕ} {ts a b l rest : List Symbol} {c : Cond} {s : Stmt} {o : Option Stmt} {f : Form} → IsCond total limited i ts c m a → Takes want.Then a b → IsStmt total limited i b s l
-    → IsBranch total limited want.Else i l o rest → f ≡ form.If c s o → IsInside total word.If i ts f rest
-if_at {total} {i} {m} {ts} {a} {b} {l} {rest} {c} {s} {o} {f} x q y z g n may e w =
+pub if_at : {total i : ℕ} {ts b rest : List Symbol} {c : Cond} {s : Stmt} {o : Option Stmt} → IsCondBefore total want.Then i ts c b → AreArms total i b s o rest
+    → IsInside total word.If i ts (form.If c s o) rest
+if_at {total} {i} {ts} {b} {rest} {c} {s} {o} (m, a, x, q) (l, y, z) n may e w =
     let v = takes_then q in
     let x : IsCond total limited (suc n) ts c m (Word word.Then v.0 ∷ b) = subst (λ r. IsCond total limited (suc n) ts c m r) v.1 (subst (λ j. IsCond total limited j ts c m a) e x) in
     let y : IsStmt total limited (suc n) b s l = subst (λ j. IsStmt total limited j b s l) e y in
     let z : IsBranch total limited want.Else (suc n) l o rest = subst (λ j. IsBranch total limited want.Else j l o rest) e z in
-    subst (λ h. IsStmt total limited n (Word word.If w ∷ ts) (placed total (Word word.If w ∷ ts) h) rest) (sym g) (choice may x y z)
+    choice may x y z
 
-pub if_cond_fails : (e : Fault) (i : ℕ) (ts : List Symbol) → FailsAt e (ACondition ∷ []) i ts → FailsAt e (ACondition ∷ One want.Then (To i) ∷ AStatement ∷ OrBranch want.Else ∷ Back ∷ []) i ts
-if_cond_fails e i ts h k = h (One want.Then (To i) ∷ AStatement ∷ OrBranch want.Else ∷ Back ∷ k)
+pub if_test_fails : (e : Fault) (i : ℕ) (ts : List Symbol) → FailsAt e (ACondition ∷ One want.Then (To i) ∷ []) i ts → FailsAt e (ACondition ∷ One want.Then (To i) ∷ AStatement ∷ OrBranch want.Else ∷ Back ∷ []) i ts
+if_test_fails e i ts h k = h (AStatement ∷ OrBranch want.Else ∷ Back ∷ k)
 
-pub if_then_fails : (e : Fault) {total i m : ℕ} {ts a : List Symbol} {c : Cond} → IsCond total limited i ts c m a → ((f : Effect) (v : ℕ) → FailsAt e (One want.Then f ∷ []) v a)
-    → FailsAt e (ACondition ∷ One want.Then (To i) ∷ AStatement ∷ OrBranch want.Else ∷ Back ∷ []) i ts
-if_then_fails e {i = i} {m = m} x h k = along e (runs_cond limited x (One want.Then (To i) ∷ AStatement ∷ OrBranch want.Else ∷ Back ∷ k)) (h (To i) m (AStatement ∷ OrBranch want.Else ∷ Back ∷ k))
-
-goes_then : {total i m : ℕ} {ts a b : List Symbol} {c : Cond} → IsCond total limited i ts c m a → Takes want.Then a b
+goes_then : {total i : ℕ} {ts b : List Symbol} {c : Cond} → IsCondBefore total want.Then i ts c b
     → Goes (ACondition ∷ One want.Then (To i) ∷ AStatement ∷ OrBranch want.Else ∷ Back ∷ []) i ts (AStatement ∷ OrBranch want.Else ∷ Back ∷ []) i b
-goes_then {i = i} {m = m} x q k = runs_cond limited x (One want.Then (To i) ∷ AStatement ∷ OrBranch want.Else ∷ Back ∷ k) ∙ goes_one want.Then (To i) m (AStatement ∷ OrBranch want.Else ∷ Back ∷ []) q k
+goes_then {i = i} (m, a, x, q) k = runs_cond limited x (One want.Then (To i) ∷ AStatement ∷ OrBranch want.Else ∷ Back ∷ k) ∙ goes_one want.Then (To i) m (AStatement ∷ OrBranch want.Else ∷ Back ∷ []) q k
 
-pub if_yes_fails : (e : Fault) {total i m : ℕ} {ts a b : List Symbol} {c : Cond} → IsCond total limited i ts c m a → Takes want.Then a b → FailsAt e (AStatement ∷ []) i b
+pub if_arms_fail : (e : Fault) {total i : ℕ} {ts b : List Symbol} {c : Cond} → IsCondBefore total want.Then i ts c b → FailsAt e (AStatement ∷ OrBranch want.Else ∷ []) i b
     → FailsAt e (ACondition ∷ One want.Then (To i) ∷ AStatement ∷ OrBranch want.Else ∷ Back ∷ []) i ts
-if_yes_fails e x q h k = along e (goes_then x q k) (h (OrBranch want.Else ∷ Back ∷ k))
+if_arms_fail e x h k = along e (goes_then x k) (h (Back ∷ k))
 
-pub if_no_fails : (e : Fault) {total i m : ℕ} {ts a b l : List Symbol} {c : Cond} {s : Stmt} → IsCond total limited i ts c m a → Takes want.Then a b → IsStmt total limited i b s l
-    → FailsAt e (OrBranch want.Else ∷ []) i l → FailsAt e (ACondition ∷ One want.Then (To i) ∷ AStatement ∷ OrBranch want.Else ∷ Back ∷ []) i ts
-if_no_fails e x q y h k = along e (goes_then x q k ∙ runs_stmt limited y (OrBranch want.Else ∷ Back ∷ k)) (h (Back ∷ k))
+pub arms_at : {total i : ℕ} {ts l rest : List Symbol} {s : Stmt} {o : Option Stmt} → IsStmt total limited i ts s l → IsBranch total limited want.Else i l o rest → AreArms total i ts s o rest
+arms_at {l = l} y z = (l, y, z)
+
+pub arms_yes_fails : (e : Fault) (i : ℕ) (ts : List Symbol) → FailsAt e (AStatement ∷ []) i ts → FailsAt e (AStatement ∷ OrBranch want.Else ∷ []) i ts
+arms_yes_fails e i ts h k = h (OrBranch want.Else ∷ k)
+
+pub arms_no_fails : (e : Fault) {total i : ℕ} {ts l : List Symbol} {s : Stmt} → IsStmt total limited i ts s l → FailsAt e (OrBranch want.Else ∷ []) i l → FailsAt e (AStatement ∷ OrBranch want.Else ∷ []) i ts
+arms_no_fails e y h k = along e (runs_stmt limited y (OrBranch want.Else ∷ k)) (h k)
 
 pub branch_none : (total n : ℕ) {w : Want} {ts : List Symbol} → starts w ts ≡ false → IsBranch total limited w n ts None ts
 branch_none total n e = no_branch e
@@ -188,23 +191,25 @@ pub block_fails : (e : Fault) {total n : ℕ} {whole : Bool} {ts rest a : List S
 block_fails e {n = n} {whole = whole} {rest = rest} t q h k =
     along e (t.same k ∙ block_as_item limited whole n rest k q.0 ∙ ap (λ x. verdict limited (AnItem whole ∷ ABlock whole ∷ k) n x) (sym q.1)) (h (ABlock whole ∷ k))
 
-pub item_is_filter : {total : ℕ} (n : ℕ) {whole : Bool} {ts rest : List Symbol} {s : Stmt} → whole ≡ true → starts want.FiltList ts ≡ true → IsFilter total ts s rest → IsItem total limited whole n ts s rest
-item_is_filter n {ts = []} g e d = let no : ⊥ = cc in absurd no
-item_is_filter {total = total} n {whole = whole} {ts = t ∷ ts} {rest = rest} {s = s} g e d =
+pub item_is_filter : {total : ℕ} (n : ℕ) {ts rest : List Symbol} {s : Stmt} → starts want.FiltList ts ≡ true → IsFilter total ts s rest → IsItem total limited true n ts s rest
+item_is_filter n {ts = []} e d = let no : ⊥ = cc in absurd no
+item_is_filter {total = total} n {ts = t ∷ ts} {rest = rest} {s = s} e d =
     let w = filter_word t e in
     let i : IsItem total limited true n (Word word.FiltList w.0 ∷ ts) s rest = item_filter (subst (λ x. IsFilter total (x ∷ ts) s rest) w.1 d) in
-    subst (λ b. IsItem total limited b n (t ∷ ts) s rest) (sym g) (subst (λ x. IsItem total limited true n (x ∷ ts) s rest) (sym w.1) i)
+    subst (λ x. IsItem total limited true n (x ∷ ts) s rest) (sym w.1) i
 
-pub item_filter_fails : (e : Fault) (n : ℕ) {whole : Bool} (ts : List Symbol) → whole ≡ true → ((m : ℕ) → FailsAt e (AnItem true ∷ []) m ts) → FailsAt e (AnItem whole ∷ []) n ts
-item_filter_fails e n ts g h = subst (λ b. FailsAt e (AnItem b ∷ []) n ts) (sym g) (h n)
+pub item_filter_fails : (e : Fault) (n : ℕ) (ts : List Symbol) → ((m : ℕ) → FailsAt e (AnItem true ∷ []) m ts) → FailsAt e (AnItem true ∷ []) n ts
+item_filter_fails e n ts h = h n
 
 pub item_is_statement : {total n : ℕ} (whole : Bool) {ts rest : List Symbol} {s : Stmt} → IsStmt total limited n ts s rest → IsItem total limited whole n ts s rest
 item_is_statement whole d = item_statement d
+
+pub item_fails : (e : Fault) (n : ℕ) (ts : List Symbol) → starts want.FiltList ts ≡ false → FailsAt e (AStatement ∷ []) n ts → FailsAt e (AnItem true ∷ []) n ts
+item_fails e n ts g h k = along e (item_as_statement limited true n ts k g) (h k)
 
 inner_item : (n : ℕ) (ts : List Symbol) (k : List Part) → verdict limited (AnItem false ∷ k) n ts ≡ verdict limited (AStatement ∷ k) n ts
 inner_item n [] k = refl
 inner_item n (t ∷ ts) k = refl
 
-pub item_fails : (e : Fault) (n : ℕ) (whole : Bool) (ts : List Symbol) → (whole && starts want.FiltList ts) ≡ false → FailsAt e (AStatement ∷ []) n ts → FailsAt e (AnItem whole ∷ []) n ts
-item_fails e n true ts g h k = along e (item_as_statement limited true n ts k g) (h k)
-item_fails e n false ts g h k = along e (inner_item n ts k) (h k)
+pub inner_fails : (e : Fault) (n : ℕ) (ts : List Symbol) → FailsAt e (AStatement ∷ []) n ts → FailsAt e (AnItem false ∷ []) n ts
+inner_fails e n ts h k = along e (inner_item n ts k) (h k)

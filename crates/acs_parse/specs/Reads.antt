@@ -1,12 +1,13 @@
 -- What a reader of the parser says of its answer. It is the means of the parser: what is promised
 -- stands in Grammar, Places and ParseFault.
-use Rattle.std.specs.Prelude.{◌≡◌, ◌⊎◌, ◌-◌, ℕ, suc, Bool, true, false, List, [], ◌∷◌, ◌++◌, length, Result, Ok, Err}
+use Rattle.std.specs.Prelude.{◌≡◌, ◌⊎◌, ◌-◌, ℕ, suc, Bool, true, false, List, [], ◌∷◌, ◌++◌, length, Option, Result, Ok, Err}
 use Rattle.acs_tree.specs.declared.routine.Operand.{Operand}
 use Rattle.acs_tree.specs.declared.routine.Cond.{Cond}
 use Rattle.acs_tree.specs.declared.routine.WhenTest.{WhenTest}
 use Rattle.acs_tree.specs.declared.routine.WhenTest.TheVariants.{Any, Holds}
 use Rattle.acs_tree.specs.declared.routine.When.{When}
 use Rattle.acs_tree.specs.declared.routine.Form.{Form}
+use Rattle.acs_tree.specs.declared.routine.Stmt.{Stmt}
 use Rattle.acs_tree.specs.declared.routine.Routine.{Routine}
 use Rattle.acs_parse.specs.declared.list_kind.ListKind.{ListKind}
 use Rattle.acs_parse.specs.declared.list_kind.ListKind.TheVariants as list
@@ -19,7 +20,7 @@ use Rattle.acs_parse.specs.declared.fault.ParseErr.{ParseErr}
 use Rattle.acs_parse.specs.declared.fault.ParseErr.TheVariants as answer
 use Rattle.acs_parse.specs.declared.fault.Fault.{Fault}
 use Rattle.acs_parse.specs.declared.fault.Fault.TheVariants.{Unexpected, Ended, Deep, NoMemory}
-use Rattle.acs_parse.specs.Grammar.{starts, placed, joins, limited, IsOperands, IsCond, IsStmt, IsWhen, IsWhens, IsRoutineOf}
+use Rattle.acs_parse.specs.Grammar.{starts, placed, joins, limited, IsOperands, IsCond, IsStmt, IsBranch, IsWhen, IsWhens, IsRoutineOf}
 use Rattle.acs_parse.specs.Language.{Takes}
 use Rattle.acs_parse.specs.Table.{Effect, Keep, To, Part, One, ACondition, AnOperand, MoreOperands, start, Verdict, Short, Stop, TooMany, verdict}
 
@@ -78,6 +79,18 @@ IsInside total kind inner ts form rest = (n : ℕ) → limited n ≡ true → in
 -- the branches of a SELECT, at least one
 abbrev pub IsBranches : ℕ → Bool → ℕ → List Symbol → List When → List Symbol → Type 0
 IsBranches total b n ts list rest = (w : When) × (ws : List When) × (ms : List Symbol) × IsWhen total limited b n ts w ms × IsWhens total limited b n ms ws rest × (list ≡ w ∷ ws)
+
+-- a condition and the wanted token behind it
+abbrev pub IsCondBefore : ℕ → Want → ℕ → List Symbol → Cond → List Symbol → Type 0
+IsCondBefore total w n ts c rest = (m : ℕ) × (a : List Symbol) × IsCond total limited n ts c m a × Takes w a rest
+
+-- the statements of an IF, with the ELSE's if there is one
+abbrev pub AreArms : ℕ → ℕ → List Symbol → Stmt → Option Stmt → List Symbol → Type 0
+AreArms total n ts s o rest = (ms : List Symbol) × IsStmt total limited n ts s ms × IsBranch total limited want.Else n ms o rest
+
+-- this list of branches and one more, which is read
+abbrev pub IsOneMore : ℕ → Bool → ℕ → List Symbol → List When → List When → List Symbol → Type 0
+IsOneMore total b n ts list longer rest = (w : When) × IsWhen total limited b n ts w rest × (longer ≡ list ++ w ∷ [])
 
 -- what stands behind a WHEN in parentheses: items, or a condition
 pub data IsTest (total : ℕ) : Bool → ℕ → List Symbol → WhenTest → List Symbol → Type 0 where

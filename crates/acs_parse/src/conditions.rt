@@ -3,9 +3,10 @@
 ghost use Rattle.std.specs.Prelude.{◌≡◌, ◌∷◌, [], ℕ, true};
 ghost use Rattle.acs_parse.specs.declared.want.Want.TheVariants as want;
 ghost use Rattle.acs_parse.specs.Grammar.{starts, limited, IsCond, IsConj, IsPrim};
-ghost use Rattle.acs_parse.specs.Table.{ACondition, AConjunct, ATest};
-ghost use Rattle.acs_parse.specs.Reads.{Reads, Parses};
+ghost use Rattle.acs_parse.specs.Table.{To, One, ACondition, AConjunct, ATest};
+ghost use Rattle.acs_parse.specs.Reads.{Reads, Parses, IsCondBefore};
 
+use crate::building::{both, either};
 use crate::fault::Fault;
 use crate::list_kind::ListKind;
 use crate::lists::{operand, variable};
@@ -13,17 +14,18 @@ use crate::tokens::{begins, closed, expect, opened, operator, place};
 use crate::want::Want;
 use acs_symbol::Symbol;
 use acs_tree::Cond;
+use desk_common::Boxed;
 use std::alloc::Global;
 
 /// A condition, whose parts an OR joins.
 #[cycle(cond)]
 #[tactic(auto, using(crate::proofs::CondLemmas::or_first, crate::proofs::CondLemmas::or_over, crate::proofs::CondLemmas::or_fails_first, crate::proofs::CondLemmas::or_deep, crate::proofs::CondLemmas::or_word_fails, crate::proofs::CondLemmas::or_fails))]
-pub fn cond(
+fn cond(
     alloc: Global,
     total: u32,
     depth: u32,
     rest: &mut &[Symbol],
-) -> Result<(Cond, u32), Fault>
+) -> Result<(Boxed<Cond>, u32), Fault>
     ensures { Parses (λ x. IsCond total limited depth rest.old.now x.0 x.1 rest.new.now) (ACondition ∷ []) depth rest.old.now result }
 {
     let (mut found, mut count) = conj(alloc, total, depth, rest)?;
@@ -31,16 +33,37 @@ pub fn cond(
         let inner = opened(count, rest)?;
         expect(Want::Or, rest)?;
         let (right, behind) = conj(alloc, total, inner, rest)?;
-        found = Cond::or(alloc, found, right)?;
+        found = either(alloc, found, right)?;
         count = behind;
     }
     Ok((found, count))
 }
 
+/// A condition and the token that is wanted behind it.
+#[tactic(auto, using(crate::proofs::CondLemmas::cond_then, crate::proofs::CondLemmas::before_cond_fails, crate::proofs::CondLemmas::before_word_fails))]
+pub fn cond_before(
+    alloc: Global,
+    total: u32,
+    depth: u32,
+    want: Want,
+    rest: &mut &[Symbol],
+) -> Result<Boxed<Cond>, Fault>
+    ensures { Parses (λ found. IsCondBefore total want depth rest.old.now found rest.new.now) (ACondition ∷ One want (To depth) ∷ []) depth rest.old.now result }
+{
+    let (found, _) = cond(alloc, total, depth, rest)?;
+    expect(want, rest)?;
+    Ok(found)
+}
+
 /// A part of a condition, whose parts an AND joins.
 #[cycle(cond)]
 #[tactic(auto, using(crate::proofs::CondLemmas::and_first, crate::proofs::CondLemmas::and_over, crate::proofs::CondLemmas::and_fails_first, crate::proofs::CondLemmas::and_deep, crate::proofs::CondLemmas::and_word_fails, crate::proofs::CondLemmas::and_fails))]
-fn conj(alloc: Global, total: u32, depth: u32, rest: &mut &[Symbol]) -> Result<(Cond, u32), Fault>
+fn conj(
+    alloc: Global,
+    total: u32,
+    depth: u32,
+    rest: &mut &[Symbol],
+) -> Result<(Boxed<Cond>, u32), Fault>
     ensures { Parses (λ x. IsConj total limited depth rest.old.now x.0 x.1 rest.new.now) (AConjunct ∷ []) depth rest.old.now result }
 {
     let (mut found, mut count) = prim(alloc, total, depth, rest)?;
@@ -48,7 +71,7 @@ fn conj(alloc: Global, total: u32, depth: u32, rest: &mut &[Symbol]) -> Result<(
         let inner = opened(count, rest)?;
         expect(Want::And, rest)?;
         let (right, behind) = prim(alloc, total, inner, rest)?;
-        found = Cond::and(alloc, found, right)?;
+        found = both(alloc, found, right)?;
         count = behind;
     }
     Ok((found, count))
@@ -57,13 +80,18 @@ fn conj(alloc: Global, total: u32, depth: u32, rest: &mut &[Symbol]) -> Result<(
 /// One comparison, or a condition in parentheses.
 #[cycle(cond)]
 #[tactic(auto, using(crate::proofs::CondLemmas::prim_group, crate::proofs::CondLemmas::prim_deep, crate::proofs::CondLemmas::prim_cond_fails, crate::proofs::CondLemmas::prim_close_fails, crate::proofs::CondLemmas::prim_starts))]
-fn prim(alloc: Global, total: u32, depth: u32, rest: &mut &[Symbol]) -> Result<(Cond, u32), Fault>
+fn prim(
+    alloc: Global,
+    total: u32,
+    depth: u32,
+    rest: &mut &[Symbol],
+) -> Result<(Boxed<Cond>, u32), Fault>
     ensures { Parses (λ x. IsPrim total limited depth rest.old.now x.0 x.1 rest.new.now) (ATest ∷ []) depth rest.old.now result }
 {
     match rest.split_first() {
         None => Err(Fault::Ended),
         Some((Symbol::Variable(_), _)) => {
-            let found = comparison(total, rest)?;
+            let found = comparison(alloc, total, rest)?;
             Ok((found, depth))
         }
         Some((Symbol::Open, behind)) => {
@@ -79,7 +107,8 @@ fn prim(alloc: Global, total: u32, depth: u32, rest: &mut &[Symbol]) -> Result<(
 
 /// A comparison, where its variable stands.
 #[tactic(auto, using(crate::proofs::CondLemmas::test_at, crate::proofs::CondLemmas::test_ref_fails, crate::proofs::CondLemmas::test_operator_fails, crate::proofs::CondLemmas::test_operand_fails))]
-fn comparison(total: u32, rest: &mut &[Symbol]) -> Result<Cond, Fault>
+#[inline(never)]
+fn comparison(alloc: Global, total: u32, rest: &mut &[Symbol]) -> Result<Boxed<Cond>, Fault>
     requires { starts want.Variable rest.old.now ≡ true }
     ensures { Reads (λ found. (n : ℕ) → IsPrim total limited n rest.old.now found n rest.new.now) (ATest ∷ []) rest.old.now result }
 {
@@ -87,10 +116,11 @@ fn comparison(total: u32, rest: &mut &[Symbol]) -> Result<Cond, Fault>
     let op_at = place(total, rest);
     let op = operator(rest)?;
     let right = operand(total, ListKind::Items, rest)?;
-    Ok(Cond::Test {
+    let found = Cond::Test {
         left,
         op,
         op_at,
         right,
-    })
+    };
+    Ok(Boxed::new(alloc, found)?)
 }

@@ -2,12 +2,14 @@
 //! after which no routine can follow (docs/acs-language.md, Grammar).
 #![tactic(auto)]
 
+mod building;
 mod conditions;
 mod fault;
 mod laws;
 mod list_kind;
 mod lists;
 mod parser;
+mod parts;
 mod statements;
 #[cfg(test)]
 mod test_rows;

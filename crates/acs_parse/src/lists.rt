@@ -6,13 +6,27 @@ ghost use Rattle.acs_parse.specs.Grammar.{starts, IsIndex, IsRef, IsOperand, IsO
 ghost use Rattle.acs_parse.specs.Table.{AnOperand, MoreOperands, ARef, OrIndex, OrCode, Lists, OrExclude, AnItem, entries};
 ghost use Rattle.acs_parse.specs.Reads.{Reads, IsEntries};
 
+use crate::building::stmt_of;
 use crate::fault::Fault;
 use crate::list_kind::ListKind;
+use crate::parts::FormParts;
 use crate::tokens::{expect, further, list_name, number, place, skip, word};
 use crate::want::Want;
 use acs_symbol::{Symbol, WordKind};
-use acs_tree::{Form, Ident, Operand, OperandForm, Operands, Ref, Stmt, with_operand};
+use acs_tree::{Ident, Operand, OperandForm, Operands, Ref, Stmt, with_operand};
+use desk_common::Boxed;
 use std::alloc::Global;
+
+/// A variable and its index, in a box.
+#[inline(never)]
+pub fn boxed_variable(alloc: Global, total: u32, rest: &mut &[Symbol]) -> Result<Boxed<Ref>, Fault>
+    ensures { Reads (λ found. IsRef total rest.old.now found rest.new.now) (ARef ∷ []) rest.old.now result }
+{
+    // The check has to see the types inside a variable where one is moved.
+    let _seen: Option<Ident> = None;
+    let found = variable(total, rest)?;
+    Ok(Boxed::new(alloc, found)?)
+}
 
 /// A variable and its index.
 #[tactic(auto, using(crate::proofs::OperandLemmas::ref_at, crate::proofs::OperandLemmas::ref_index_fails))]
@@ -143,36 +157,44 @@ fn lists(alloc: Global, total: u32, rest: &mut &[Symbol]) -> Result<(Operands, O
 
 /// A filter list, where its word stands.
 #[tactic(auto, using(crate::proofs::OperandLemmas::filter_at, crate::proofs::OperandLemmas::filter_word_fails, crate::proofs::OperandLemmas::filter_name_fails, crate::proofs::OperandLemmas::filter_lists_fails))]
-pub fn filter_list(alloc: Global, total: u32, rest: &mut &[Symbol]) -> Result<Stmt, Fault>
+#[inline(never)]
+pub fn filter_list(alloc: Global, total: u32, rest: &mut &[Symbol]) -> Result<Boxed<Stmt>, Fault>
     requires { starts want.FiltList rest.old.now ≡ true }
     ensures { Reads (λ found. IsFilter total rest.old.now found rest.new.now) (AnItem true ∷ []) rest.old.now result }
 {
     let at = place(total, rest);
     expect(Want::FiltList, rest)?;
     let name_at = place(total, rest);
-    let name = list_name(rest)?;
+    let name = Boxed::new(alloc, list_name(rest)?)?;
     let (include, exclude) = lists(alloc, total, rest)?;
-    let form = Form::Filt {
+    let parts = FormParts::Filt {
         name,
         name_at,
         include,
         exclude,
     };
-    Ok(Stmt { at, form })
+    Ok(stmt_of(alloc, at, parts)?)
 }
 
 /// The code of an EXIT, if it has one.
 #[tactic(auto, using(crate::proofs::OperandLemmas::code_none, crate::proofs::OperandLemmas::code_some, crate::proofs::OperandLemmas::code_open_fails, crate::proofs::OperandLemmas::code_word_fails, crate::proofs::OperandLemmas::code_close_fails))]
-pub fn exit_code(total: u32, rest: &mut &[Symbol]) -> Result<Option<Operand>, Fault>
+pub fn exit_code(
+    alloc: Global,
+    total: u32,
+    rest: &mut &[Symbol],
+) -> Result<Option<Boxed<Operand>>, Fault>
     ensures { Reads (λ found. IsCode total rest.old.now found rest.new.now) (OrCode ∷ []) rest.old.now result }
 {
     if !skip(Want::Code, rest) {
         return Ok(None);
     }
     expect(Want::Open, rest)?;
+    // The check has to see the types inside an operand where one is moved.
+    let _seen: Option<Ref> = None;
     let at = place(total, rest);
     let text = word(rest)?;
     expect(Want::Close, rest)?;
     let form = OperandForm::Word(text);
-    Ok(Some(Operand { at, form }))
+    let code = Boxed::new(alloc, Operand { at, form })?;
+    Ok(Some(code))
 }

@@ -8,7 +8,7 @@ ghost use Rattle.acs_parse.specs.ParseFault.{MayRefuse, IsExact};
 ghost use Rattle.acs_parse.specs.Reads.{Whole, told};
 
 use crate::fault::{Fault, ParseErr};
-use crate::statements::block;
+use crate::statements::body;
 use crate::tokens::{expect, head, place, skip};
 use crate::want::Want;
 use acs_lex::Tokens;
@@ -63,7 +63,7 @@ fn routine(alloc: Global, total: u32, symbols: &[Symbol]) -> Result<Routine, Fau
     let _numbered = skip(Want::Number, &mut rest);
     let head_at = place(total, rest);
     let head = head(&mut rest)?;
-    let body = block(alloc, total, 0, true, &mut rest)?;
+    let body = body(alloc, total, &mut rest)?;
     match rest.split_first() {
         None => Ok(Routine {
             head,

@@ -5,23 +5,32 @@ ghost use Rattle.acs_parse.specs.declared.list_kind.ListKind.TheVariants as list
 ghost use Rattle.acs_parse.specs.declared.want.Want.TheVariants as want;
 ghost use Rattle.acs_symbol.specs.declared.symbol.WordKind.TheVariants as word;
 ghost use Rattle.acs_parse.specs.Grammar.{limited, IsStmt, IsBranch, IsChoice, IsWhen, IsBlock, IsItem};
+ghost use Rattle.acs_parse.specs.Parts.{form_of_parts, test_of_parts};
 ghost use Rattle.acs_parse.specs.Table.{Keep, Lower, To, One, ABlock, AnItem, AStatement, OrBranch, AChoice, AWhen, MoreWhens, ACondition, AnOperand, MoreOperands, ARef, OrCode, Back};
-ghost use Rattle.acs_parse.specs.Reads.{Reads, Parses, IsBehind, IsInside, IsBranches, IsTest, test_parts};
+ghost use Rattle.acs_parse.specs.Reads.{Reads, Parses, IsBehind, IsInside, IsBranches, IsTest, IsOneMore, AreArms, test_parts};
 
-use crate::conditions::cond;
+use crate::building::{stmt_of, with_boxed, with_branch};
+use crate::conditions::cond_before;
 use crate::fault::Fault;
 use crate::list_kind::ListKind;
-use crate::lists::{exit_code, filter_list, operands, variable};
+use crate::lists::{boxed_variable, exit_code, filter_list, operands};
+use crate::parts::{FormParts, TestParts, WhenParts};
 use crate::tokens::{begins, expect, opened, place, skip};
 use crate::want::Want;
 use acs_symbol::{Symbol, WordKind};
-use acs_tree::{Block, Form, Ref, Stmt, When, WhenTest, Whens, with_stmt, with_when};
+use acs_tree::{Block, Ref, Stmt, Whens};
+use desk_common::Boxed;
 use std::alloc::Global;
 
 /// A statement.
 #[cycle(statement)]
 #[tactic(auto, using(crate::proofs::StatementLemmas::stmt_behind, crate::proofs::StatementLemmas::stmt_inside, crate::proofs::StatementLemmas::set_fails, crate::proofs::StatementLemmas::write_fails, crate::proofs::StatementLemmas::exit_fails, crate::proofs::StatementLemmas::if_fails, crate::proofs::StatementLemmas::select_fails, crate::proofs::StatementLemmas::do_fails, crate::proofs::StatementLemmas::if_deep, crate::proofs::StatementLemmas::select_deep, crate::proofs::StatementLemmas::do_deep))]
-pub fn statement(alloc: Global, total: u32, depth: u32, rest: &mut &[Symbol]) -> Result<Stmt, Fault>
+pub fn statement(
+    alloc: Global,
+    total: u32,
+    depth: u32,
+    rest: &mut &[Symbol],
+) -> Result<Boxed<Stmt>, Fault>
     ensures { Parses (λ found. IsStmt total limited depth rest.old.now found rest.new.now) (AStatement ∷ []) depth rest.old.now result }
 {
     let at = place(total, rest);
@@ -29,36 +38,36 @@ pub fn statement(alloc: Global, total: u32, depth: u32, rest: &mut &[Symbol]) ->
         None => Err(Fault::Ended),
         Some((Symbol::Word(WordKind::Set, _), behind)) => {
             *rest = behind;
-            let form = assignment(alloc, total, rest)?;
-            Ok(Stmt { at, form })
+            let parts = assignment(alloc, total, rest)?;
+            Ok(stmt_of(alloc, at, parts)?)
         }
         Some((Symbol::Word(WordKind::If, _), behind)) => {
             let inner = opened(depth, rest)?;
             *rest = behind;
-            let form = conditional(alloc, total, inner, rest)?;
-            Ok(Stmt { at, form })
+            let parts = conditional(alloc, total, inner, rest)?;
+            Ok(stmt_of(alloc, at, parts)?)
         }
         Some((Symbol::Word(WordKind::Select, _), behind)) => {
             let inner = opened(depth, rest)?;
             *rest = behind;
-            let form = selection(alloc, total, inner, rest)?;
-            Ok(Stmt { at, form })
+            let parts = selection(alloc, total, inner, rest)?;
+            Ok(stmt_of(alloc, at, parts)?)
         }
         Some((Symbol::Word(WordKind::Do, _), behind)) => {
             let inner = opened(depth, rest)?;
             *rest = behind;
-            let form = group(alloc, total, inner, rest)?;
-            Ok(Stmt { at, form })
+            let parts = group(alloc, total, inner, rest)?;
+            Ok(stmt_of(alloc, at, parts)?)
         }
         Some((Symbol::Word(WordKind::Write, _), behind)) => {
             *rest = behind;
-            let form = written(alloc, total, rest)?;
-            Ok(Stmt { at, form })
+            let parts = written(alloc, total, rest)?;
+            Ok(stmt_of(alloc, at, parts)?)
         }
         Some((Symbol::Word(WordKind::Exit, _), behind)) => {
             *rest = behind;
-            let form = ending(total, rest)?;
-            Ok(Stmt { at, form })
+            let parts = ending(alloc, total, rest)?;
+            Ok(stmt_of(alloc, at, parts)?)
         }
         Some(_) => Err(Fault::Unexpected(rest.len())),
     }
@@ -66,44 +75,63 @@ pub fn statement(alloc: Global, total: u32, depth: u32, rest: &mut &[Symbol]) ->
 
 /// What stands behind SET.
 #[tactic(auto, using(crate::proofs::StatementLemmas::set_at, crate::proofs::StatementLemmas::set_ref_fails, crate::proofs::StatementLemmas::set_equal_fails, crate::proofs::StatementLemmas::set_values_fail))]
-fn assignment(alloc: Global, total: u32, rest: &mut &[Symbol]) -> Result<Form, Fault>
-    ensures { Reads (λ form. (n : ℕ) → IsBehind total word.Set n rest.old.now form rest.new.now) (ARef ∷ One want.Equal Keep ∷ AnOperand list.Values ∷ MoreOperands list.Values ∷ []) rest.old.now result }
+fn assignment(alloc: Global, total: u32, rest: &mut &[Symbol]) -> Result<FormParts, Fault>
+    ensures { Reads (λ parts. (n : ℕ) → IsBehind total word.Set n rest.old.now (form_of_parts parts) rest.new.now) (ARef ∷ One want.Equal Keep ∷ AnOperand list.Values ∷ MoreOperands list.Values ∷ []) rest.old.now result }
 {
-    let target = variable(total, rest)?;
+    let target = boxed_variable(alloc, total, rest)?;
     expect(Want::Equal, rest)?;
     let values = operands(alloc, total, ListKind::Values, rest)?;
-    Ok(Form::Put { target, values })
+    Ok(FormParts::Put { target, values })
 }
 
 /// What stands behind WRITE.
 #[tactic(auto, using(crate::proofs::StatementLemmas::write_at))]
-fn written(alloc: Global, total: u32, rest: &mut &[Symbol]) -> Result<Form, Fault>
-    ensures { Reads (λ form. (n : ℕ) → IsBehind total word.Write n rest.old.now form rest.new.now) (AnOperand list.Parts ∷ MoreOperands list.Parts ∷ []) rest.old.now result }
+fn written(alloc: Global, total: u32, rest: &mut &[Symbol]) -> Result<FormParts, Fault>
+    ensures { Reads (λ parts. (n : ℕ) → IsBehind total word.Write n rest.old.now (form_of_parts parts) rest.new.now) (AnOperand list.Parts ∷ MoreOperands list.Parts ∷ []) rest.old.now result }
 {
     let parts = operands(alloc, total, ListKind::Parts, rest)?;
-    Ok(Form::Write(parts))
+    Ok(FormParts::Write(parts))
 }
 
 /// What stands behind EXIT.
 #[tactic(auto, using(crate::proofs::StatementLemmas::exit_at))]
-fn ending(total: u32, rest: &mut &[Symbol]) -> Result<Form, Fault>
-    ensures { Reads (λ form. (n : ℕ) → IsBehind total word.Exit n rest.old.now form rest.new.now) (OrCode ∷ []) rest.old.now result }
+fn ending(alloc: Global, total: u32, rest: &mut &[Symbol]) -> Result<FormParts, Fault>
+    ensures { Reads (λ parts. (n : ℕ) → IsBehind total word.Exit n rest.old.now (form_of_parts parts) rest.new.now) (OrCode ∷ []) rest.old.now result }
 {
-    let code = exit_code(total, rest)?;
-    Ok(Form::Exit { code })
+    let code = exit_code(alloc, total, rest)?;
+    Ok(FormParts::Exit { code })
 }
 
 /// What stands behind IF.
 #[cycle(statement)]
-#[tactic(auto, using(crate::proofs::StatementLemmas::if_at, crate::proofs::StatementLemmas::if_cond_fails, crate::proofs::StatementLemmas::if_then_fails, crate::proofs::StatementLemmas::if_yes_fails, crate::proofs::StatementLemmas::if_no_fails))]
-fn conditional(alloc: Global, total: u32, depth: u32, rest: &mut &[Symbol]) -> Result<Form, Fault>
-    ensures { Parses (λ form. IsInside total word.If depth rest.old.now form rest.new.now) (ACondition ∷ One want.Then (To depth) ∷ AStatement ∷ OrBranch want.Else ∷ Back ∷ []) depth rest.old.now result }
+#[tactic(auto, using(crate::proofs::StatementLemmas::if_at, crate::proofs::StatementLemmas::if_test_fails, crate::proofs::StatementLemmas::if_arms_fail))]
+fn conditional(
+    alloc: Global,
+    total: u32,
+    depth: u32,
+    rest: &mut &[Symbol],
+) -> Result<FormParts, Fault>
+    ensures { Parses (λ parts. IsInside total word.If depth rest.old.now (form_of_parts parts) rest.new.now) (ACondition ∷ One want.Then (To depth) ∷ AStatement ∷ OrBranch want.Else ∷ Back ∷ []) depth rest.old.now result }
 {
-    let (test, _) = cond(alloc, total, depth, rest)?;
-    expect(Want::Then, rest)?;
+    let cond = cond_before(alloc, total, depth, Want::Then, rest)?;
+    let (yes, no) = arms(alloc, total, depth, rest)?;
+    Ok(FormParts::If { cond, yes, no })
+}
+
+/// The statements of an IF: what it does where the condition holds, and what else.
+#[cycle(statement)]
+#[tactic(auto, using(crate::proofs::StatementLemmas::arms_at, crate::proofs::StatementLemmas::arms_yes_fails, crate::proofs::StatementLemmas::arms_no_fails))]
+fn arms(
+    alloc: Global,
+    total: u32,
+    depth: u32,
+    rest: &mut &[Symbol],
+) -> Result<(Boxed<Stmt>, Option<Boxed<Stmt>>), Fault>
+    ensures { Parses (λ x. AreArms total depth rest.old.now x.0 x.1 rest.new.now) (AStatement ∷ OrBranch want.Else ∷ []) depth rest.old.now result }
+{
     let yes = statement(alloc, total, depth, rest)?;
     let no = branch(alloc, total, depth, Want::Else, rest)?;
-    Ok(Form::conditional(alloc, test, yes, no)?)
+    Ok((yes, no))
 }
 
 /// The statement of an ELSE or an OTHERWISE, if there is one.
@@ -115,7 +143,7 @@ fn branch(
     depth: u32,
     want: Want,
     rest: &mut &[Symbol],
-) -> Result<Option<Stmt>, Fault>
+) -> Result<Option<Boxed<Stmt>>, Fault>
     ensures { Parses (λ found. IsBranch total limited want depth rest.old.now found rest.new.now) (OrBranch want ∷ []) depth rest.old.now result }
 {
     if !skip(want, rest) {
@@ -128,26 +156,35 @@ fn branch(
 /// What stands behind DO.
 #[cycle(statement)]
 #[tactic(auto, using(crate::proofs::StatementLemmas::do_at, crate::proofs::StatementLemmas::do_block_fails))]
-fn group(alloc: Global, total: u32, depth: u32, rest: &mut &[Symbol]) -> Result<Form, Fault>
-    ensures { Parses (λ form. IsInside total word.Do depth rest.old.now form rest.new.now) (ABlock false ∷ Back ∷ []) depth rest.old.now result }
+fn group(alloc: Global, total: u32, depth: u32, rest: &mut &[Symbol]) -> Result<FormParts, Fault>
+    ensures { Parses (λ parts. IsInside total word.Do depth rest.old.now (form_of_parts parts) rest.new.now) (ABlock false ∷ Back ∷ []) depth rest.old.now result }
 {
-    let body = block(alloc, total, depth, false, rest)?;
-    Ok(Form::Do(body))
+    let body = block(alloc, total, depth, rest)?;
+    Ok(FormParts::Do(body))
 }
 
 /// What stands behind SELECT.
 #[cycle(statement)]
 #[tactic(auto, using(crate::proofs::SelectLemmas::select_at, crate::proofs::SelectLemmas::select_choice_fails, crate::proofs::SelectLemmas::select_other_fails, crate::proofs::SelectLemmas::select_end_fails))]
-fn selection(alloc: Global, total: u32, depth: u32, rest: &mut &[Symbol]) -> Result<Form, Fault>
-    ensures { Parses (λ form. IsInside total word.Select depth rest.old.now form rest.new.now) (AChoice ∷ OrBranch want.Otherwise ∷ One want.End Lower ∷ []) depth rest.old.now result }
+fn selection(
+    alloc: Global,
+    total: u32,
+    depth: u32,
+    rest: &mut &[Symbol],
+) -> Result<FormParts, Fault>
+    ensures { Parses (λ parts. IsInside total word.Select depth rest.old.now (form_of_parts parts) rest.new.now) (AChoice ∷ OrBranch want.Otherwise ∷ One want.End Lower ∷ []) depth rest.old.now result }
 {
     let (subject, whens) = choice(alloc, total, depth, rest)?;
     let other = branch(alloc, total, depth, Want::Otherwise, rest)?;
     expect(Want::End, rest)?;
-    Ok(Form::selection(alloc, subject, whens, other)?)
+    Ok(FormParts::Pick {
+        subject,
+        whens,
+        other,
+    })
 }
 
-/// What a SELECT has_subject, if it has_subject something, and its branches.
+/// What a SELECT compares, if it compares something, and its branches.
 #[cycle(statement)]
 #[tactic(auto, using(crate::proofs::SelectLemmas::choice_by_value, crate::proofs::SelectLemmas::choice_by_condition, crate::proofs::SelectLemmas::choice_ref_fails, crate::proofs::SelectLemmas::choice_close_fails, crate::proofs::SelectLemmas::choice_values_fail, crate::proofs::SelectLemmas::choice_conditions_fail))]
 fn choice(
@@ -155,14 +192,14 @@ fn choice(
     total: u32,
     depth: u32,
     rest: &mut &[Symbol],
-) -> Result<(Option<Ref>, Whens), Fault>
+) -> Result<(Option<Boxed<Ref>>, Whens), Fault>
     ensures { Parses (λ x. IsChoice total limited depth rest.old.now x.0 x.1 rest.new.now) (AChoice ∷ []) depth rest.old.now result }
 {
     match rest.split_first() {
         None => Err(Fault::Ended),
         Some((Symbol::Open, behind)) => {
             *rest = behind;
-            let subject = variable(total, rest)?;
+            let subject = boxed_variable(alloc, total, rest)?;
             expect(Want::Close, rest)?;
             let whens = branches(alloc, total, depth, true, rest)?;
             Ok((Some(subject), whens))
@@ -187,115 +224,135 @@ fn branches(
 ) -> Result<Whens, Fault>
     ensures { Parses (λ found. IsBranches total has_subject depth rest.old.now found rest.new.now) (AWhen has_subject ∷ MoreWhens has_subject ∷ []) depth rest.old.now result }
 {
-    let first = when(alloc, total, depth, has_subject, rest)?;
-    let mut found = with_when(Whens::new(alloc), first)?;
+    let mut found = when(alloc, total, depth, has_subject, Whens::new(alloc), rest)?;
     'whens: while begins(Want::When, rest) {
-        let next = when(alloc, total, depth, has_subject, rest)?;
-        found = with_when(found, next)?;
+        found = when(alloc, total, depth, has_subject, found, rest)?;
     }
     Ok(found)
 }
 
-/// A WHEN of a SELECT.
+/// The branches found so far, and a WHEN behind them.
 #[cycle(statement)]
-#[tactic(auto, using(crate::proofs::SelectLemmas::when_of, crate::proofs::SelectLemmas::when_word_fails, crate::proofs::SelectLemmas::when_test_fails, crate::proofs::SelectLemmas::when_body_fails))]
+#[tactic(auto, using(crate::proofs::SelectLemmas::one_more_of, crate::proofs::SelectLemmas::one_more_fails))]
 fn when(
     alloc: Global,
     total: u32,
     depth: u32,
     has_subject: bool,
+    found: Whens,
     rest: &mut &[Symbol],
-) -> Result<When, Fault>
-    ensures { Parses (λ found. IsWhen total limited has_subject depth rest.old.now found rest.new.now) (AWhen has_subject ∷ []) depth rest.old.now result }
+) -> Result<Whens, Fault>
+    ensures { Parses (λ longer. IsOneMore total has_subject depth rest.old.now found longer rest.new.now) (AWhen has_subject ∷ []) depth rest.old.now result }
 {
-    let at = place(total, rest);
-    expect(Want::When, rest)?;
-    let test = when_test(alloc, total, depth, has_subject, rest)?;
-    let body = statement(alloc, total, depth, rest)?;
-    Ok(When::new(alloc, at, test, body)?)
+    if has_subject {
+        let longer = when_value(alloc, total, depth, found, rest)?;
+        Ok(longer)
+    } else {
+        let longer = when_condition(alloc, total, depth, found, rest)?;
+        Ok(longer)
+    }
 }
 
-/// Statements up to their END; filter lists too where the block is the routine's own.
+/// The same where the SELECT compares a variable.
 #[cycle(statement)]
-#[tactic(auto, using(crate::proofs::StatementLemmas::block_first, crate::proofs::StatementLemmas::block_turn, crate::proofs::StatementLemmas::block_over, crate::proofs::StatementLemmas::block_fails))]
-pub fn block(
+#[tactic(auto, using(crate::proofs::SelectLemmas::when_of, crate::proofs::SelectLemmas::when_word_fails, crate::proofs::SelectLemmas::when_items_fail, crate::proofs::SelectLemmas::when_body_fails))]
+fn when_value(
     alloc: Global,
     total: u32,
     depth: u32,
-    is_routine: bool,
+    found: Whens,
     rest: &mut &[Symbol],
-) -> Result<Block, Fault>
-    ensures { Parses (λ found. IsBlock total limited is_routine depth rest.old.now found rest.new.now) (ABlock is_routine ∷ []) depth rest.old.now result }
+) -> Result<Whens, Fault>
+    ensures { Parses (λ longer. IsOneMore total true depth rest.old.now found longer rest.new.now) (AWhen true ∷ []) depth rest.old.now result }
+{
+    let at = place(total, rest);
+    expect(Want::When, rest)?;
+    let test = items_test(alloc, total, rest)?;
+    let body = statement(alloc, total, depth, rest)?;
+    Ok(with_branch(found, WhenParts { at, test, body })?)
+}
+
+/// The same where it compares none.
+#[cycle(statement)]
+#[tactic(auto, using(crate::proofs::SelectLemmas::when_of, crate::proofs::SelectLemmas::when_word_fails, crate::proofs::SelectLemmas::when_test_fails, crate::proofs::SelectLemmas::when_body_fails))]
+fn when_condition(
+    alloc: Global,
+    total: u32,
+    depth: u32,
+    found: Whens,
+    rest: &mut &[Symbol],
+) -> Result<Whens, Fault>
+    ensures { Parses (λ longer. IsOneMore total false depth rest.old.now found longer rest.new.now) (AWhen false ∷ []) depth rest.old.now result }
+{
+    let at = place(total, rest);
+    expect(Want::When, rest)?;
+    let test = condition_test(alloc, total, depth, rest)?;
+    let body = statement(alloc, total, depth, rest)?;
+    Ok(with_branch(found, WhenParts { at, test, body })?)
+}
+
+/// Statements up to their END.
+#[cycle(statement)]
+#[tactic(auto, using(crate::proofs::StatementLemmas::block_first, crate::proofs::StatementLemmas::block_over))]
+fn block(alloc: Global, total: u32, depth: u32, rest: &mut &[Symbol]) -> Result<Block, Fault>
+    ensures { Parses (λ found. IsBlock total limited false depth rest.old.now found rest.new.now) (ABlock false ∷ []) depth rest.old.now result }
 {
     let mut found = Block::new(alloc);
     'items: while !skip(Want::End, rest) {
-        let next = item(alloc, total, depth, is_routine, rest)?;
-        found = with_stmt(found, next)?;
+        let next = statement(alloc, total, depth, rest)?;
+        found = with_boxed(found, next)?;
     }
     Ok(found)
 }
 
-#[cycle(statement)]
-#[tactic(auto, using(crate::proofs::StatementLemmas::item_is_filter, crate::proofs::StatementLemmas::item_filter_fails, crate::proofs::StatementLemmas::item_is_statement, crate::proofs::StatementLemmas::item_fails))]
-fn item(
-    alloc: Global,
-    total: u32,
-    depth: u32,
-    is_routine: bool,
-    rest: &mut &[Symbol],
-) -> Result<Stmt, Fault>
-    ensures { Parses (λ found. IsItem total limited is_routine depth rest.old.now found rest.new.now) (AnItem is_routine ∷ []) depth rest.old.now result }
+/// Statements and filter lists up to the END of the routine.
+#[tactic(auto, using(crate::proofs::StatementLemmas::block_first, crate::proofs::StatementLemmas::block_over))]
+pub fn body(alloc: Global, total: u32, rest: &mut &[Symbol]) -> Result<Block, Fault>
+    ensures { Parses (λ found. IsBlock total limited true 0 rest.old.now found rest.new.now) (ABlock true ∷ []) 0 rest.old.now result }
 {
-    if is_routine && begins(Want::FiltList, rest) {
+    let mut found = Block::new(alloc);
+    'items: while !skip(Want::End, rest) {
+        let next = item(alloc, total, rest)?;
+        found = with_boxed(found, next)?;
+    }
+    Ok(found)
+}
+
+#[tactic(auto, using(crate::proofs::StatementLemmas::item_is_filter, crate::proofs::StatementLemmas::item_filter_fails, crate::proofs::StatementLemmas::item_is_statement, crate::proofs::StatementLemmas::item_fails))]
+fn item(alloc: Global, total: u32, rest: &mut &[Symbol]) -> Result<Boxed<Stmt>, Fault>
+    ensures { Parses (λ found. IsItem total limited true 0 rest.old.now found rest.new.now) (AnItem true ∷ []) 0 rest.old.now result }
+{
+    if begins(Want::FiltList, rest) {
         let found = filter_list(alloc, total, rest)?;
         Ok(found)
     } else {
-        let found = statement(alloc, total, depth, rest)?;
+        let found = statement(alloc, total, 0, rest)?;
         Ok(found)
     }
 }
 
-/// What stands behind WHEN in parentheses: items, or a condition where the SELECT has_subject nothing.
-#[tactic(auto, using(crate::proofs::SelectLemmas::test_of_items, crate::proofs::SelectLemmas::test_of_condition, crate::proofs::SelectLemmas::test_items_fail, crate::proofs::SelectLemmas::test_condition_fails))]
-fn when_test(
-    alloc: Global,
-    total: u32,
-    depth: u32,
-    has_subject: bool,
-    rest: &mut &[Symbol],
-) -> Result<WhenTest, Fault>
-    ensures { Parses (λ test. IsTest total has_subject depth rest.old.now test rest.new.now) (test_parts has_subject depth) depth rest.old.now result }
-{
-    if has_subject {
-        let test = items_test(alloc, total, rest)?;
-        Ok(test)
-    } else {
-        let test = condition_test(alloc, total, depth, rest)?;
-        Ok(test)
-    }
-}
-
+/// Items in parentheses.
 #[tactic(auto, using(crate::proofs::SelectLemmas::items_at, crate::proofs::SelectLemmas::items_open_fails, crate::proofs::SelectLemmas::items_fail, crate::proofs::SelectLemmas::items_close_fails))]
-fn items_test(alloc: Global, total: u32, rest: &mut &[Symbol]) -> Result<WhenTest, Fault>
-    ensures { Reads (λ test. (n : ℕ) → IsTest total true n rest.old.now test rest.new.now) (One want.Open Keep ∷ AnOperand list.Items ∷ MoreOperands list.Items ∷ One want.Close Keep ∷ []) rest.old.now result }
+fn items_test(alloc: Global, total: u32, rest: &mut &[Symbol]) -> Result<TestParts, Fault>
+    ensures { Reads (λ test. (n : ℕ) → IsTest total true n rest.old.now (test_of_parts test) rest.new.now) (One want.Open Keep ∷ AnOperand list.Items ∷ MoreOperands list.Items ∷ One want.Close Keep ∷ []) rest.old.now result }
 {
     expect(Want::Open, rest)?;
     let items = operands(alloc, total, ListKind::Items, rest)?;
     expect(Want::Close, rest)?;
-    Ok(WhenTest::Any(items))
+    Ok(TestParts::Any(items))
 }
 
-#[tactic(auto, using(crate::proofs::SelectLemmas::holds_at, crate::proofs::SelectLemmas::holds_open_fails, crate::proofs::SelectLemmas::holds_cond_fails, crate::proofs::SelectLemmas::holds_close_fails))]
+/// A condition in parentheses.
+#[tactic(auto, using(crate::proofs::SelectLemmas::holds_at, crate::proofs::SelectLemmas::holds_open_fails, crate::proofs::SelectLemmas::holds_cond_fails))]
 fn condition_test(
     alloc: Global,
     total: u32,
     depth: u32,
     rest: &mut &[Symbol],
-) -> Result<WhenTest, Fault>
-    ensures { Parses (λ test. IsTest total false depth rest.old.now test rest.new.now) (test_parts false depth) depth rest.old.now result }
+) -> Result<TestParts, Fault>
+    ensures { Parses (λ test. IsTest total false depth rest.old.now (test_of_parts test) rest.new.now) (test_parts false depth) depth rest.old.now result }
 {
     expect(Want::Open, rest)?;
-    let (test, _) = cond(alloc, total, depth, rest)?;
-    expect(Want::Close, rest)?;
-    Ok(WhenTest::Holds(test))
+    let cond = cond_before(alloc, total, depth, Want::Close, rest)?;
+    Ok(TestParts::Holds(cond))
 }

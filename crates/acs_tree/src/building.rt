@@ -1,10 +1,7 @@
 // Trees built from their parts. Each takes its parts by value and gives the whole.
 ghost use Rattle.std.specs.Prelude.{◌≡◌, ◌++◌, ◌∷◌, [], IfOk};
-ghost use Rattle.acs_tree.specs.declared.routine.When.{roll-When};
 
-use crate::routine::{
-    Block, Cond, Form, Operand, OperandForm, Operands, Ref, Stmt, When, WhenTest, Whens,
-};
+use crate::routine::{Block, Cond, Operand, OperandForm, Operands, Ref, Stmt, When, Whens};
 use desk_common::Boxed;
 use std::alloc::{AllocError, Global};
 
@@ -19,70 +16,6 @@ impl Cond {
         ensures { IfOk result (λ either. either ≡ Cond.Or left right) }
     {
         Ok(Cond::Or(Boxed::new(alloc, left)?, Boxed::new(alloc, right)?))
-    }
-}
-
-impl Stmt {
-    pub fn boxed(self, alloc: Global) -> Result<Boxed<Stmt>, AllocError>
-        ensures { IfOk result (λ held. held ≡ self) }
-    {
-        Boxed::new(alloc, self)
-    }
-}
-
-impl Form {
-    /// An IF, with the statement of its ELSE if it has one.
-    pub fn conditional(
-        alloc: Global,
-        cond: Cond,
-        yes: Stmt,
-        no: Option<Stmt>,
-    ) -> Result<Form, AllocError>
-        ensures { IfOk result (λ form. form ≡ Form.If cond yes no) }
-    {
-        Ok(Form::If {
-            cond,
-            yes: yes.boxed(alloc)?,
-            no: boxed(alloc, no)?,
-        })
-    }
-
-    /// A SELECT, with the statement of its OTHERWISE if it has one.
-    pub fn selection(
-        alloc: Global,
-        subject: Option<Ref>,
-        whens: Whens,
-        other: Option<Stmt>,
-    ) -> Result<Form, AllocError>
-        ensures { IfOk result (λ form. form ≡ Form.Pick subject whens other) }
-    {
-        Ok(Form::Pick {
-            subject,
-            whens,
-            other: boxed(alloc, other)?,
-        })
-    }
-}
-
-impl When {
-    /// A WHEN whose word is the token at this place.
-    pub fn new(alloc: Global, at: u32, test: WhenTest, body: Stmt) -> Result<When, AllocError>
-        ensures { IfOk result (λ branch. branch ≡ roll-When (record { at = at; test = test; body = body })) }
-    {
-        Ok(When {
-            at,
-            test,
-            body: body.boxed(alloc)?,
-        })
-    }
-}
-
-fn boxed(alloc: Global, stmt: Option<Stmt>) -> Result<Option<Boxed<Stmt>>, AllocError>
-    ensures { IfOk result (λ held. held ≡ stmt) }
-{
-    match stmt {
-        None => Ok(None),
-        Some(stmt) => Ok(Some(stmt.boxed(alloc)?)),
     }
 }
 

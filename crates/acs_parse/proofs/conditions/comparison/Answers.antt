@@ -1,5 +1,5 @@
 use Rattle.std.proofs.lemmas.Result.{err_from_is_err_and}
-use Rattle.acs_parse.proofs.CondLemmas.{test_at, test_ref_fails, test_operator_fails, test_operand_fails}
+use Rattle.acs_parse.proofs.CondLemmas.{test_ref_fails, test_operator_fails, test_operand_fails}
 use Rattle.acs_parse.proofs.conditions.comparison.Goals as goal
 
 pub returns-in_err-left : goal.returns-in_err-left
@@ -16,6 +16,3 @@ pub returns-in_err-right : goal.returns-in_err-right
 returns-in_err-right c =
     let p = err_from_is_err_and c.from_residual-in_err-right.result c.from_residual-in_err-right.ensures.1 in
     rw (p.1, p.2) (test_operand_fails c.in_err-right.field-0.0 c.requires c.in_ok-left.ensures c.in_ok-op.ensures c.in_err-right.ensures)
-
-pub returns : goal.returns
-returns c = test_at c.in_ok-left.ensures c.in_ok-op.ensures c.place-op_at.ensures c.in_ok-right.ensures
