@@ -9,10 +9,6 @@ mod list_kind;
 mod lists;
 mod parser;
 mod statements;
-#[cfg(test)]
-mod test_rows;
-#[cfg(test)]
-mod tests;
 mod tokens;
 mod want;
 

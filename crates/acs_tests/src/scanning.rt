@@ -1,14 +1,20 @@
-use crate::LexErr::{BadByte, LongWord, OpenComment, OpenLiteral};
-use crate::TokenForm::{Literal, Sign, Variable, Word};
-use crate::{LexErr, Token, TokenForm, scan};
-use std::alloc::Global;
+//! The tokens of texts.
+use TokenForm::{Literal, Sign, Variable, Word};
+use acs_lex::LexErr::{BadByte, LongWord, OpenComment, OpenLiteral};
+use acs_lex::{LexErr, Token, TokenForm, scan};
+use std::alloc::{AllocError, Global};
 use std::process::Abort;
 use std::test::Fail;
 
 type Wanted = Result<&'static [(TokenForm, u32, u32)], LexErr>;
 
 /// A text, and its tokens or its fault.
-const TEXTS: [(&[u8], Wanted); 51] = [
+type Scanned = (&'static [u8], Wanted);
+
+/// What stands before and behind so many letters, and the tokens or the fault of the whole.
+type LongScanned = (&'static [u8], usize, &'static [u8], Wanted);
+
+const TEXTS: [Scanned; 51] = [
     // blanks and comments
     (b"", Ok(&[])),
     (b" \t\r\n/* A */ ", Ok(&[])),
@@ -76,8 +82,12 @@ const TEXTS: [(&[u8], Wanted); 51] = [
     (b"/* ! '", Err(OpenComment(0))),
 ];
 
-/// What stands before and behind so many letters, and the tokens or the fault of the whole.
-const LONG_TEXTS: [(&[u8], usize, &[u8], Wanted); 14] = [
+#[test]
+fn each_text_has_its_tokens_or_its_first_fault(rt: HostRuntime) {
+    compare_scanned(&rt, rt.alloc(), &TEXTS)
+}
+
+const LONG_TEXTS: [LongScanned; 14] = [
     (b"", 64, b"", Ok(&[(Word, 0, 64)])),
     (b"", 65, b"", Err(LongWord(0))),
     (b"X ", 65, b"", Err(LongWord(2))),
@@ -98,6 +108,11 @@ const LONG_TEXTS: [(&[u8], usize, &[u8], Wanted); 14] = [
         Ok(&[(Sign, 0, 1), (Word, 1, 65), (Sign, 65, 66)]),
     ),
 ];
+
+#[test]
+fn a_token_is_too_long_only_once_it_is_complete(rt: HostRuntime) -> Result<(), Fail> {
+    Ok(compare_long_scanned(&rt, rt.alloc(), &LONG_TEXTS)?)
+}
 
 const FIRST_MATCH: &[u8] =
     b"PROC STORCLAS SELECT WHEN (&HLQ = 'A') SET &STORCLAS = 'SC1' WHEN (&DSN = A.**) EXIT CODE(8) END END";
@@ -132,54 +147,71 @@ const FIRST_MATCH_TOKENS: [(TokenForm, &[u8]); 26] = [
 ];
 
 #[test]
-fn each_text_has_its_tokens_or_its_first_fault(rt: HostRuntime) {
-    for (text, wanted) in TEXTS {
-        compare(&rt, rt.alloc(), text, wanted);
-    }
-}
-
-#[test]
-fn a_token_is_too_long_only_once_it_is_complete(rt: HostRuntime) -> Result<(), Fail> {
-    for (before, letters, behind, wanted) in LONG_TEXTS {
-        let mut text = before.to_vec(rt.alloc())?;
-        for _ in 0..letters {
-            text.push(b'A')?;
-        }
-        text.extend_from_slice(behind)?;
-        compare(&rt, rt.alloc(), &text, wanted);
-    }
-    Ok(())
-}
-
-#[test]
 fn a_routine_has_twenty_six_tokens(rt: HostRuntime) -> Result<(), Fail> {
     let tokens = scan(rt.alloc(), FIRST_MATCH)?;
-    assert_eq!(rt; tokens.len(), FIRST_MATCH_TOKENS.len());
-    for (token, (form, text)) in tokens.as_slice().iter().zip(FIRST_MATCH_TOKENS) {
-        assert_eq!(rt; token.form, form);
-        assert_eq!(rt;
-            FIRST_MATCH.get(token.from as usize..token.to as usize),
-            Some(text)
-        );
+    compare_parts(&rt, tokens.as_slice(), &FIRST_MATCH_TOKENS);
+    Ok(())
+}
+
+fn compare_parts(rt: &impl Abort, tokens: &[Token], wanted: &[(TokenForm, &[u8])]) {
+    assert_eq!(rt; tokens.len(), wanted.len());
+    for (token, (form, text)) in tokens.iter().zip(wanted) {
+        assert_eq!(rt; token.form, *form);
+        let part = FIRST_MATCH.get(token.from as usize..token.to as usize);
+        assert!(rt; part == Some(*text));
+    }
+}
+
+fn compare_scanned(rt: &impl Abort, alloc: Global, rows: &[Scanned]) {
+    for (text, wanted) in rows {
+        compare(rt, alloc, text, *wanted);
+    }
+}
+
+fn compare_long_scanned(
+    rt: &impl Abort,
+    alloc: Global,
+    rows: &[LongScanned],
+) -> Result<(), AllocError> {
+    for (before, letters, behind, wanted) in rows {
+        let text = with_letters(alloc, before, *letters, behind)?;
+        compare(rt, alloc, &text, *wanted);
     }
     Ok(())
+}
+
+fn with_letters(
+    alloc: Global,
+    before: &[u8],
+    letters: usize,
+    behind: &[u8],
+) -> Result<Vec<u8>, AllocError> {
+    let mut text = before.to_vec(alloc)?;
+    for _ in 0..letters {
+        text.push(b'A')?;
+    }
+    text.extend_from_slice(behind)?;
+    Ok(text)
 }
 
 fn compare(rt: &impl Abort, alloc: Global, text: &[u8], wanted: Wanted) {
     assert!(rt; text.len() < 1 << 32);
     match (scan(alloc, text), wanted) {
-        (Ok(tokens), Ok(wanted)) => {
-            assert_eq!(rt; tokens.len(), wanted.len(), "at {text:?}");
-            for (token, (form, from, to)) in tokens.as_slice().iter().zip(wanted) {
-                let wanted = Token {
-                    form: *form,
-                    from: *from,
-                    to: *to,
-                };
-                assert_eq!(rt; *token, wanted, "at {text:?}");
-            }
-        }
+        (Ok(tokens), Ok(wanted)) => compare_tokens(rt, text, tokens.as_slice(), wanted),
         (Err(err), Err(wanted)) => assert_eq!(rt; err, wanted, "at {text:?}"),
         _ => panic!(rt; "at {text:?}"),
+    }
+}
+
+fn compare_tokens(
+    rt: &impl Abort,
+    text: &[u8],
+    tokens: &[Token],
+    wanted: &[(TokenForm, u32, u32)],
+) {
+    assert_eq!(rt; tokens.len(), wanted.len(), "at {text:?}");
+    for (token, (form, from, to)) in tokens.iter().zip(wanted) {
+        let is_equal = token.form == *form && token.from == *from && token.to == *to;
+        assert!(rt; is_equal, "at {text:?}");
     }
 }
