@@ -1,117 +1,100 @@
 //! The tokens of texts.
 use TokenForm::{Literal, Sign, Variable, Word};
-use acs_lex::LexErr::{BadByte, LongWord, OpenComment, OpenLiteral};
-use acs_lex::{LexErr, Token, TokenForm, scan};
+use acs_lex::{Token, TokenForm, scan};
 use std::alloc::{AllocError, Global};
 use std::process::Abort;
 use std::test::Fail;
 
-type Wanted = Result<&'static [(TokenForm, u32, u32)], LexErr>;
-
-/// A text, and its tokens or its fault.
-type Scanned = (&'static [u8], Wanted);
+/// A text, and its tokens with their places, or its fault.
+type Scanned = (&'static [u8], &'static str);
 
 /// What stands before and behind so many letters, and the tokens or the fault of the whole.
-type LongScanned = (&'static [u8], usize, &'static [u8], Wanted);
+type LongScanned = (&'static [u8], usize, &'static [u8], &'static str);
 
 const TEXTS: [Scanned; 51] = [
     // blanks and comments
-    (b"", Ok(&[])),
-    (b" \t\r\n/* A */ ", Ok(&[])),
-    (b"/**/", Ok(&[])),
-    (b"/*/", Err(OpenComment(0))),
-    (b"/***/A", Ok(&[(Word, 5, 6)])),
-    (b"/* /* */ X", Ok(&[(Word, 9, 10)])),
-    (b"/* ' \x80 */X", Ok(&[(Word, 9, 10)])),
-    (b"PROC /* X", Err(OpenComment(5))),
-    (b"*/", Err(BadByte(1))),
-    (b"*/*", Err(OpenComment(1))),
-    (b"/", Err(BadByte(0))),
-    (b"A / B", Err(BadByte(2))),
+    (b"", ""),
+    (b" \t\r\n/* A */ ", ""),
+    (b"/**/", ""),
+    (b"/*/", "OpenComment(0)"),
+    (b"/***/A", "(Word 5 6)"),
+    (b"/* /* */ X", "(Word 9 10)"),
+    (b"/* ' \x80 */X", "(Word 9 10)"),
+    (b"PROC /* X", "OpenComment(5)"),
+    (b"*/", "BadByte(1)"),
+    (b"*/*", "OpenComment(1)"),
+    (b"/", "BadByte(0)"),
+    (b"A / B", "BadByte(2)"),
     // words and variables
-    (b"A*B/*C*/D", Ok(&[(Word, 0, 3), (Word, 8, 9)])),
-    (b"A-B.C_#@$%*9", Ok(&[(Word, 0, 12)])),
-    (b"&A_9.B", Ok(&[(Variable, 0, 4), (Word, 4, 6)])),
-    (b"&_&9", Ok(&[(Variable, 0, 2), (Variable, 2, 4)])),
-    (
-        b"abc &hlq 'abc'",
-        Ok(&[(Word, 0, 3), (Variable, 4, 8), (Literal, 9, 14)]),
-    ),
-    (b"&", Err(BadByte(0))),
-    (b"& A", Err(BadByte(0))),
-    (b"&.A", Err(BadByte(0))),
-    (b"A\x80", Err(BadByte(1))),
-    (b"A!", Err(BadByte(1))),
-    (b"\x00", Err(BadByte(0))),
-    (b"A\x0b", Err(BadByte(1))),
-    (b"\x0c", Err(BadByte(0))),
-    (
-        b"A'B'&C",
-        Ok(&[(Word, 0, 1), (Literal, 1, 4), (Variable, 4, 6)]),
-    ),
-    (b"&/**/A", Err(BadByte(0))),
-    (b">/**/=", Ok(&[(Sign, 0, 1), (Sign, 5, 6)])),
+    (b"A*B/*C*/D", "(Word 0 3)(Word 8 9)"),
+    (b"A-B.C_#@$%*9", "(Word 0 12)"),
+    (b"&A_9.B", "(Variable 0 4)(Word 4 6)"),
+    (b"&_&9", "(Variable 0 2)(Variable 2 4)"),
+    (b"abc &hlq 'abc'", "(Word 0 3)(Variable 4 8)(Literal 9 14)"),
+    (b"&", "BadByte(0)"),
+    (b"& A", "BadByte(0)"),
+    (b"&.A", "BadByte(0)"),
+    (b"A\x80", "BadByte(1)"),
+    (b"A!", "BadByte(1)"),
+    (b"\x00", "BadByte(0)"),
+    (b"A\x0b", "BadByte(1)"),
+    (b"\x0c", "BadByte(0)"),
+    (b"A'B'&C", "(Word 0 1)(Literal 1 4)(Variable 4 6)"),
+    (b"&/**/A", "BadByte(0)"),
+    (b">/**/=", "(Sign 0 1)(Sign 5 6)"),
     // signs
-    (b"&&&A", Ok(&[(Sign, 0, 2), (Variable, 2, 4)])),
-    (b"&&&", Err(BadByte(2))),
-    (b"^", Err(BadByte(0))),
-    (b"^^=", Err(BadByte(0))),
-    (b"^=^>^<", Ok(&[(Sign, 0, 2), (Sign, 2, 4), (Sign, 4, 6)])),
-    (b">=<=", Ok(&[(Sign, 0, 2), (Sign, 2, 4)])),
-    (b"=>", Ok(&[(Sign, 0, 1), (Sign, 1, 2)])),
-    (b"==", Ok(&[(Sign, 0, 1), (Sign, 1, 2)])),
-    (b"<>=", Ok(&[(Sign, 0, 1), (Sign, 1, 3)])),
-    (
-        b"|(),",
-        Ok(&[(Sign, 0, 1), (Sign, 1, 2), (Sign, 2, 3), (Sign, 3, 4)]),
-    ),
+    (b"&&&A", "(Sign 0 2)(Variable 2 4)"),
+    (b"&&&", "BadByte(2)"),
+    (b"^", "BadByte(0)"),
+    (b"^^=", "BadByte(0)"),
+    (b"^=^>^<", "(Sign 0 2)(Sign 2 4)(Sign 4 6)"),
+    (b">=<=", "(Sign 0 2)(Sign 2 4)"),
+    (b"=>", "(Sign 0 1)(Sign 1 2)"),
+    (b"==", "(Sign 0 1)(Sign 1 2)"),
+    (b"<>=", "(Sign 0 1)(Sign 1 3)"),
+    (b"|(),", "(Sign 0 1)(Sign 1 2)(Sign 2 3)(Sign 3 4)"),
     // literals
-    (b"''", Ok(&[(Literal, 0, 2)])),
-    (b"'A''B'", Ok(&[(Literal, 0, 3), (Literal, 3, 6)])),
-    (b"' !\"/*&~'", Ok(&[(Literal, 0, 9)])),
-    (b"'A\nB'", Err(OpenLiteral(0))),
-    (b"'A\rB'", Err(OpenLiteral(0))),
-    (b"X 'A", Err(OpenLiteral(2))),
-    (b"'", Err(OpenLiteral(0))),
-    (b"'A\x7F'", Err(BadByte(2))),
-    (b"'A\x80'", Err(BadByte(2))),
-    (b"'A\tB'", Err(BadByte(2))),
+    (b"''", "(Literal 0 2)"),
+    (b"'A''B'", "(Literal 0 3)(Literal 3 6)"),
+    (b"' !\"/*&~'", "(Literal 0 9)"),
+    (b"'A\nB'", "OpenLiteral(0)"),
+    (b"'A\rB'", "OpenLiteral(0)"),
+    (b"X 'A", "OpenLiteral(2)"),
+    (b"'", "OpenLiteral(0)"),
+    (b"'A\x7F'", "BadByte(2)"),
+    (b"'A\x80'", "BadByte(2)"),
+    (b"'A\tB'", "BadByte(2)"),
     // the fault on the left is told
-    (b"! '", Err(BadByte(0))),
-    (b"' ! \x80 /*", Err(BadByte(4))),
-    (b"/* ! '", Err(OpenComment(0))),
+    (b"! '", "BadByte(0)"),
+    (b"' ! \x80 /*", "BadByte(4)"),
+    (b"/* ! '", "OpenComment(0)"),
 ];
 
 #[test]
-fn each_text_has_its_tokens_or_its_first_fault(rt: HostRuntime) {
+fn each_text_has_its_tokens_or_its_first_fault(rt: HostRuntime) -> Result<(), Fail> {
     compare_scanned(&rt, rt.alloc(), &TEXTS)
 }
 
 const LONG_TEXTS: [LongScanned; 14] = [
-    (b"", 64, b"", Ok(&[(Word, 0, 64)])),
-    (b"", 65, b"", Err(LongWord(0))),
-    (b"X ", 65, b"", Err(LongWord(2))),
-    (b"&", 63, b"", Ok(&[(Variable, 0, 64)])),
-    (b"&", 64, b"", Err(LongWord(0))),
-    (b"'", 110, b"'", Ok(&[(Literal, 0, 112)])),
-    (b"'", 111, b"'", Err(LongWord(0))),
-    (b"'", 111, b"", Err(OpenLiteral(0))),
-    (b"'", 111, b"\n'", Err(OpenLiteral(0))),
-    (b"'", 111, b"\x80'", Err(BadByte(112))),
-    (b"", 65, b"!", Err(LongWord(0))),
-    (b"! ", 65, b"", Err(BadByte(0))),
-    (b"/*", 200, b"*/", Ok(&[])),
-    (
-        b"=",
-        64,
-        b"=",
-        Ok(&[(Sign, 0, 1), (Word, 1, 65), (Sign, 65, 66)]),
-    ),
+    (b"", 64, b"", "(Word 0 64)"),
+    (b"", 65, b"", "LongWord(0)"),
+    (b"X ", 65, b"", "LongWord(2)"),
+    (b"&", 63, b"", "(Variable 0 64)"),
+    (b"&", 64, b"", "LongWord(0)"),
+    (b"'", 110, b"'", "(Literal 0 112)"),
+    (b"'", 111, b"'", "LongWord(0)"),
+    (b"'", 111, b"", "OpenLiteral(0)"),
+    (b"'", 111, b"\n'", "OpenLiteral(0)"),
+    (b"'", 111, b"\x80'", "BadByte(112)"),
+    (b"", 65, b"!", "LongWord(0)"),
+    (b"! ", 65, b"", "BadByte(0)"),
+    (b"/*", 200, b"*/", ""),
+    (b"=", 64, b"=", "(Sign 0 1)(Word 1 65)(Sign 65 66)"),
 ];
 
 #[test]
 fn a_token_is_too_long_only_once_it_is_complete(rt: HostRuntime) -> Result<(), Fail> {
-    Ok(compare_long_scanned(&rt, rt.alloc(), &LONG_TEXTS)?)
+    compare_long_scanned(&rt, rt.alloc(), &LONG_TEXTS)
 }
 
 const FIRST_MATCH: &[u8] =
@@ -162,20 +145,17 @@ fn compare_parts(rt: &impl Abort, tokens: &[Token], wanted: &[(TokenForm, &[u8])
     }
 }
 
-fn compare_scanned(rt: &impl Abort, alloc: Global, rows: &[Scanned]) {
+fn compare_scanned(rt: &impl Abort, alloc: Global, rows: &[Scanned]) -> Result<(), Fail> {
     for (text, wanted) in rows {
-        compare(rt, alloc, text, *wanted);
+        compare(rt, alloc, text, wanted)?;
     }
+    Ok(())
 }
 
-fn compare_long_scanned(
-    rt: &impl Abort,
-    alloc: Global,
-    rows: &[LongScanned],
-) -> Result<(), AllocError> {
+fn compare_long_scanned(rt: &impl Abort, alloc: Global, rows: &[LongScanned]) -> Result<(), Fail> {
     for (before, letters, behind, wanted) in rows {
         let text = with_letters(alloc, before, *letters, behind)?;
-        compare(rt, alloc, &text, *wanted);
+        compare(rt, alloc, &text, wanted)?;
     }
     Ok(())
 }
@@ -194,24 +174,21 @@ fn with_letters(
     Ok(text)
 }
 
-fn compare(rt: &impl Abort, alloc: Global, text: &[u8], wanted: Wanted) {
+fn compare(rt: &impl Abort, alloc: Global, text: &[u8], wanted: &str) -> Result<(), Fail> {
     assert!(rt; text.len() < 1 << 32);
-    match (scan(alloc, text), wanted) {
-        (Ok(tokens), Ok(wanted)) => compare_tokens(rt, text, tokens.as_slice(), wanted),
-        (Err(err), Err(wanted)) => assert_eq!(rt; err, wanted, "at {text:?}"),
-        _ => panic!(rt; "at {text:?}"),
-    }
+    let found = match scan(alloc, text) {
+        Ok(tokens) => listed(alloc, tokens.as_slice())?,
+        Err(err) => format!(in alloc; "{err:?}")?,
+    };
+    assert_eq!(rt; found.as_str(), wanted, "at {text:?}");
+    Ok(())
 }
 
-fn compare_tokens(
-    rt: &impl Abort,
-    text: &[u8],
-    tokens: &[Token],
-    wanted: &[(TokenForm, u32, u32)],
-) {
-    assert_eq!(rt; tokens.len(), wanted.len(), "at {text:?}");
-    for (token, (form, from, to)) in tokens.iter().zip(wanted) {
-        let is_equal = token.form == *form && token.from == *from && token.to == *to;
-        assert!(rt; is_equal, "at {text:?}");
+fn listed(alloc: Global, tokens: &[Token]) -> Result<String, Fail> {
+    let mut all = String::new(alloc);
+    for token in tokens {
+        let Token { form, from, to } = *token;
+        all.push_str(&format!(in alloc; "({form:?} {from} {to})")?)?;
     }
+    Ok(all)
 }
