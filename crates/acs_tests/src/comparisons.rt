@@ -197,6 +197,6 @@ const OTHERS: [Row; 7] = [
 ];
 
 #[test]
-fn what_is_compared_by_order_suits_too(rt: HostRuntime) -> Result<(), Fail> {
+fn other_comparisons_suit_too(rt: HostRuntime) -> Result<(), Fail> {
     compare_all(&rt, rt.alloc(), &OTHERS)
 }

@@ -318,7 +318,7 @@ const OTHER_NAMES: [Part; 4] = [
 ];
 
 #[test]
-fn a_variables_name_is_taken_in_every_kind(rt: HostRuntime) -> Result<(), Fail> {
+fn a_variables_name_is_taken(rt: HostRuntime) -> Result<(), Fail> {
     compare_parts(
         &rt,
         rt.alloc(),

@@ -52,7 +52,7 @@ fn what_is_no_number_is_not_measured(rt: HostRuntime) -> Result<(), Fail> {
     compare_sides(&rt, rt.alloc(), StorClas, &EQUALITIES, &OTHERS)
 }
 
-const ORDERED: [Row; 6] = [
+const OTHER_PLACES: [Row; 6] = [
     (
         StorClas,
         "PROC STORCLAS IF &NQUAL GT 0000000000000000000018446744073709551615 THEN EXIT END",
@@ -87,5 +87,5 @@ const ORDERED: [Row; 6] = [
 
 #[test]
 fn numbers_in_other_places_fit_64_bits(rt: HostRuntime) -> Result<(), Fail> {
-    compare_all(&rt, rt.alloc(), &ORDERED)
+    compare_all(&rt, rt.alloc(), &OTHER_PLACES)
 }
