@@ -7,8 +7,6 @@ mod forms;
 mod laws;
 mod piece;
 mod scanner;
-#[cfg(test)]
-mod tests;
 mod token;
 
 pub use fault::LexErr;

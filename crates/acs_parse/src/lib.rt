@@ -11,10 +11,6 @@ mod lists;
 mod parser;
 mod parts;
 mod statements;
-#[cfg(test)]
-mod test_rows;
-#[cfg(test)]
-mod tests;
 mod tokens;
 mod want;
 

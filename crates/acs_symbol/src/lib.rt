@@ -6,8 +6,6 @@ mod keyword;
 mod laws;
 mod reading;
 mod symbol;
-#[cfg(test)]
-mod tests;
 
 pub use laws::token_count;
 pub use reading::symbols;

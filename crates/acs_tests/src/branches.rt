@@ -1,5 +1,6 @@
 //! Faults deep in a routine.
 use crate::answer::Answer::{C, Sound};
+use crate::parts::{Part, compare_parts};
 use crate::texts::{Row, compare_all};
 use acs_tree::Kind::StorClas;
 use std::test::Fail;
@@ -186,4 +187,46 @@ const LISTS: [Row; 4] = [
 #[test]
 fn a_list_is_known_in_every_later_statement(rt: HostRuntime) -> Result<(), Fail> {
     compare_all(&rt, rt.alloc(), &LISTS)
+}
+
+const INSIDE: [Part; 13] = [
+    ("IF &HLQ = 'A' THEN SET &DATACLAS = 'A'", C(3, 8)),
+    (
+        "IF &HLQ = 'A' THEN EXIT ELSE IF &HLQ = 'A' THEN EXIT ELSE SET &DATACLAS = 'A'",
+        C(3, 17),
+    ),
+    ("DO SET &DATACLAS = 'A' END", C(3, 4)),
+    ("DO EXIT DO SET &DATACLAS = 'A' END END", C(3, 6)),
+    (
+        "SELECT (&HLQ) WHEN ('A') EXIT WHEN ('B') EXIT OTHERWISE EXIT END",
+        Sound,
+    ),
+    (
+        "SELECT (&HLQ) WHEN ('A') EXIT WHEN ('B') EXIT OTHERWISE SET &DATACLAS = 'A' END",
+        C(3, 18),
+    ),
+    (
+        "SELECT (&HLQ) WHEN ('A') EXIT WHEN (&NOSUCH) EXIT END",
+        C(4, 13),
+    ),
+    (
+        "SELECT WHEN (&DSN > 'A') EXIT WHEN (&HLQ = 'A') EXIT END",
+        C(7, 6),
+    ),
+    (
+        "SELECT WHEN (&HLQ = 'A') EXIT WHEN (&DSN > 'A') EXIT END",
+        C(7, 13),
+    ),
+    ("IF &DSN > 'A' AND &HLQ = 'A' THEN EXIT", C(7, 4)),
+    ("IF &HLQ = 'A' AND &DSN > 'A' THEN EXIT", C(7, 8)),
+    ("IF &HLQ = 'A' OR &DSN > 'A' THEN EXIT", C(7, 8)),
+    (
+        "IF &HLQ = 'A' OR &HLQ = 'A' AND &DSN > 'A' THEN EXIT",
+        C(7, 12),
+    ),
+];
+
+#[test]
+fn a_fault_inside_each_form_is_found(rt: HostRuntime) -> Result<(), Fail> {
+    compare_parts(&rt, rt.alloc(), StorClas, ("", ""), &INSIDE)
 }

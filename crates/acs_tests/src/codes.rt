@@ -1,49 +1,42 @@
 //! Codes of EXIT.
 use crate::answer::Answer::{C, Sound};
+use crate::parts::{Part, compare_parts};
 use crate::texts::{Row, compare_all};
 use acs_tree::Kind::{DataClas, StorClas};
 use std::test::Fail;
 
-const CODES: [Row; 21] = [
+const CODES: [Part; 17] = [
+    ("0", Sound),
+    ("65535", Sound),
+    ("0000065535", Sound),
+    ("000000000000000000000000000000", Sound),
+    ("65536", C(12, 5)),
+    ("65537", C(12, 5)),
+    ("131072", C(12, 5)),
+    ("99999", C(12, 5)),
+    ("4294967296", C(12, 5)),
+    ("18446744073709551616", C(12, 5)),
+    ("123456789012345678901234567890", C(12, 5)),
+    ("1A", C(12, 5)),
+    ("A", C(12, 5)),
+    ("-1", C(12, 5)),
+    ("4.5", C(12, 5)),
+    ("8KB", C(12, 5)),
+    ("END", C(12, 5)),
+];
+
+#[test]
+fn a_code_is_a_number_up_to_65535(rt: HostRuntime) -> Result<(), Fail> {
+    compare_parts(&rt, rt.alloc(), StorClas, ("EXIT CODE(", ")"), &CODES)
+}
+
+const EXITS: [Row; 4] = [
     (StorClas, "PROC STORCLAS EXIT END", Sound),
-    (StorClas, "PROC STORCLAS EXIT CODE(0) END", Sound),
     (
         StorClas,
         "PROC STORCLAS EXIT CODE(8) EXIT CODE(12) END",
         Sound,
     ),
-    (StorClas, "PROC STORCLAS EXIT CODE(65535) END", Sound),
-    (StorClas, "PROC STORCLAS EXIT CODE(0000065535) END", Sound),
-    (
-        StorClas,
-        "PROC STORCLAS EXIT CODE(000000000000000000000000000000) END",
-        Sound,
-    ),
-    (StorClas, "PROC STORCLAS EXIT CODE(65536) END", C(12, 5)),
-    (StorClas, "PROC STORCLAS EXIT CODE(65537) END", C(12, 5)),
-    (StorClas, "PROC STORCLAS EXIT CODE(131072) END", C(12, 5)),
-    (StorClas, "PROC STORCLAS EXIT CODE(99999) END", C(12, 5)),
-    (
-        StorClas,
-        "PROC STORCLAS EXIT CODE(4294967296) END",
-        C(12, 5),
-    ),
-    (
-        StorClas,
-        "PROC STORCLAS EXIT CODE(18446744073709551616) END",
-        C(12, 5),
-    ),
-    (
-        StorClas,
-        "PROC STORCLAS EXIT CODE(123456789012345678901234567890) END",
-        C(12, 5),
-    ),
-    (StorClas, "PROC STORCLAS EXIT CODE(1A) END", C(12, 5)),
-    (StorClas, "PROC STORCLAS EXIT CODE(A) END", C(12, 5)),
-    (StorClas, "PROC STORCLAS EXIT CODE(-1) END", C(12, 5)),
-    (StorClas, "PROC STORCLAS EXIT CODE(4.5) END", C(12, 5)),
-    (StorClas, "PROC STORCLAS EXIT CODE(8KB) END", C(12, 5)),
-    (StorClas, "PROC STORCLAS EXIT CODE(END) END", C(12, 5)),
     (
         StorClas,
         "PROC STORCLAS EXIT CODE(8) EXIT CODE(X) END",
@@ -57,6 +50,6 @@ const CODES: [Row; 21] = [
 ];
 
 #[test]
-fn a_code_is_a_number_up_to_65535(rt: HostRuntime) -> Result<(), Fail> {
-    compare_all(&rt, rt.alloc(), &CODES)
+fn each_exit_has_its_own_code(rt: HostRuntime) -> Result<(), Fail> {
+    compare_all(&rt, rt.alloc(), &EXITS)
 }

@@ -102,7 +102,7 @@ const COUNTS: [LongRow; 14] = [
             ("PROC STORCLAS FILTLIST F INCLUDE('A'", 1),
             (",'A'", 254),
             (",'A'", 1),
-            (",'A'", 100),
+            (",'A'", 44),
             (") END", 1),
         ],
         C(10, 516),

@@ -4,7 +4,7 @@ use crate::texts::{Row, compare_all};
 use acs_tree::Kind::{DataClas, MgmtClas, StorClas, StorGrp};
 use std::test::Fail;
 
-const HEADS: [Row; 9] = [
+const HEADS: [Row; 11] = [
     (StorClas, "PROC STORCLAS END", Sound),
     (StorClas, "PROC &STORCLAS END", Sound),
     (StorClas, "proc storclas end", Sound),
@@ -18,6 +18,8 @@ const HEADS: [Row; 9] = [
     (DataClas, "PROC DATACLAS END", Sound),
     (MgmtClas, "PROC &MGMTCLAS END", Sound),
     (StorGrp, "PROC STORGRP END", Sound),
+    (MgmtClas, "PROC MGMTCLAS END", Sound),
+    (StorClas, "PROC storclas END", Sound),
 ];
 
 #[test]
@@ -25,7 +27,7 @@ fn a_head_is_the_variable_that_the_routine_sets(rt: HostRuntime) -> Result<(), F
     compare_all(&rt, rt.alloc(), &HEADS)
 }
 
-const OTHER_HEADS: [Row; 15] = [
+const OTHER_HEADS: [Row; 18] = [
     (StorClas, "PROC MGMTCLAS END", C(1, 1)),
     (StorClas, "PROC &MGMTCLAS END", C(1, 1)),
     (StorClas, "proc mgmtclas end", C(1, 1)),
@@ -41,6 +43,9 @@ const OTHER_HEADS: [Row; 15] = [
     (StorClas, "PROC PROC END", C(1, 1)),
     (StorClas, "PROC DSN END", C(1, 1)),
     (StorClas, "PROC 1A END", C(1, 1)),
+    (DataClas, "PROC STORGRP END", C(1, 1)),
+    (StorGrp, "PROC STORCLAS END", C(1, 1)),
+    (StorClas, "PROC HLQ END", C(1, 1)),
 ];
 
 #[test]

@@ -19,6 +19,8 @@ mod filter_lists;
 #[cfg(test)]
 mod forms;
 #[cfg(test)]
+mod fronts;
+#[cfg(test)]
 mod group_runs;
 #[cfg(test)]
 mod heads;
@@ -26,6 +28,8 @@ mod heads;
 mod indexes;
 #[cfg(test)]
 mod line_runs;
+#[cfg(test)]
+mod lines;
 #[cfg(test)]
 mod list_runs;
 #[cfg(test)]
@@ -37,6 +41,8 @@ mod mask_forms;
 #[cfg(test)]
 mod masks;
 #[cfg(test)]
+mod nestings;
+#[cfg(test)]
 mod number_runs;
 #[cfg(test)]
 mod numbers;
@@ -45,19 +51,35 @@ mod operators;
 #[cfg(test)]
 mod order;
 #[cfg(test)]
+mod parsing;
+#[cfg(test)]
+mod parts;
+#[cfg(test)]
 mod routines;
 #[cfg(test)]
 mod run_input;
 #[cfg(test)]
 mod runs;
 #[cfg(test)]
+mod scanning;
+#[cfg(test)]
 mod sets;
 #[cfg(test)]
+mod shapes;
+#[cfg(test)]
 mod statement_runs;
+#[cfg(test)]
+mod symbols;
 #[cfg(test)]
 mod text_runs;
 #[cfg(test)]
 mod texts;
+#[cfg(test)]
+mod tree_forms;
+#[cfg(test)]
+mod tree_values;
+#[cfg(test)]
+mod trees;
 #[cfg(test)]
 mod variable_runs;
 #[cfg(test)]

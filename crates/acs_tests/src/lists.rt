@@ -1,10 +1,11 @@
 //! Filter lists: their names and where they may be used.
 use crate::answer::Answer::{C, Sound};
+use crate::parts::{Part, compare_parts};
 use crate::texts::{Row, compare_all};
 use acs_tree::Kind::{StorClas, StorGrp};
 use std::test::Fail;
 
-const NAMES: [Row; 16] = [
+const NAMES: [Row; 17] = [
     (StorClas, "PROC STORCLAS FILTLIST F INCLUDE('A') END", Sound),
     (
         StorClas,
@@ -81,6 +82,11 @@ const NAMES: [Row; 16] = [
         "PROC STORCLAS FILTLIST F INCLUDE('A') FILTLIST F INCLUDE('A') FILTLIST F INCLUDE('A') END",
         C(5, 9),
     ),
+    (
+        StorClas,
+        "PROC STORCLAS FILTLIST F INCLUDE('A') FILTLIST f INCLUDE('B') END",
+        C(5, 9),
+    ),
 ];
 
 #[test]
@@ -88,7 +94,7 @@ fn a_lists_name_is_free(rt: HostRuntime) -> Result<(), Fail> {
     compare_all(&rt, rt.alloc(), &NAMES)
 }
 
-const USES: [Row; 22] = [
+const USES: [Row; 21] = [
     (
         StorClas,
         "PROC STORCLAS FILTLIST F INCLUDE('A') IF &HLQ = &F THEN EXIT END",
@@ -156,18 +162,8 @@ const USES: [Row; 22] = [
     ),
     (
         StorClas,
-        "PROC STORCLAS IF &HLQ = &NOSUCH THEN EXIT END",
-        C(4, 5),
-    ),
-    (
-        StorClas,
         "PROC STORCLAS IF &ANYVOL = &NOSUCH THEN EXIT END",
         C(4, 5),
-    ),
-    (
-        StorClas,
-        "PROC STORCLAS SELECT (&HLQ) WHEN ('A', &NOSUCH) EXIT END END",
-        C(4, 10),
     ),
     (
         StorClas,
@@ -198,6 +194,11 @@ const USES: [Row; 22] = [
         StorClas,
         "PROC STORCLAS FILTLIST F INCLUDE('A') IF &HLQ > &F THEN EXIT END",
         C(7, 10),
+    ),
+    (
+        StorClas,
+        "PROC STORCLAS FILTLIST F INCLUDE('A') SELECT (&HLQ) WHEN (&F) EXIT END END",
+        Sound,
     ),
 ];
 
@@ -307,4 +308,73 @@ const SIMPLE_USES: [Row; 19] = [
 #[test]
 fn a_list_beside_another_variable_than_dsn_is_simple(rt: HostRuntime) -> Result<(), Fail> {
     compare_all(&rt, rt.alloc(), &SIMPLE_USES)
+}
+
+const OTHER_NAMES: [Part; 4] = [
+    ("DSNS", Sound),
+    ("hlq", C(5, 3)),
+    ("DATACLAS", C(5, 3)),
+    ("STORGRP", C(5, 3)),
+];
+
+#[test]
+fn a_variables_name_is_taken(rt: HostRuntime) -> Result<(), Fail> {
+    compare_parts(
+        &rt,
+        rt.alloc(),
+        StorClas,
+        ("FILTLIST ", " INCLUDE('A')"),
+        &OTHER_NAMES,
+    )
+}
+
+const COMPARED: [Part; 18] = [
+    ("INCLUDE('A') IF &HLQ = &f", Sound),
+    ("INCLUDE('A') IF &HLQ = &G", C(4, 11)),
+    ("INCLUDE('A') IF &F = &F", C(2, 9)),
+    ("INCLUDE('A') IF &SIZE = &F", C(6, 11)),
+    ("INCLUDE('a b') IF &HLQ = &F", Sound),
+    ("INCLUDE(A*) IF &HLQ = &F", Sound),
+    ("INCLUDE(A.**) IF &ALLVOL = &F", C(9, 11)),
+    ("INCLUDE(A.**) IF &STORCLAS = &F", C(9, 11)),
+    ("INCLUDE(A.**) IF &DSN(2) = &F", C(9, 14)),
+    ("INCLUDE(A**) IF &HLQ = 'A'", C(9, 6)),
+    ("INCLUDE(A..B) IF &HLQ = 'A'", C(9, 6)),
+    ("INCLUDE('A') EXCLUDE(A*) IF &HLQ = &F", Sound),
+    ("INCLUDE('A') EXCLUDE(A.**) IF &DSN = &F", Sound),
+    ("INCLUDE(A.**) EXCLUDE('A') IF &HLQ = &F", C(9, 15)),
+    ("EXCLUDE(A.**) IF &DSN = &F", Sound),
+    ("EXCLUDE(A.**) IF &HLQ = &F", C(9, 11)),
+    ("INCLUDE('A') EXCLUDE(A**) IF &DSN = &F", C(9, 10)),
+    ("EXCLUDE(A**) IF &DSN = &F", C(9, 6)),
+];
+
+#[test]
+fn a_list_is_compared_where_its_words_suit(rt: HostRuntime) -> Result<(), Fail> {
+    compare_parts(
+        &rt,
+        rt.alloc(),
+        StorClas,
+        ("FILTLIST F ", " THEN EXIT"),
+        &COMPARED,
+    )
+}
+
+const GROUPS: [Part; 5] = [
+    ("INCLUDE('SG1') IF &STORGRP = &F", Sound),
+    ("INCLUDE(SG*) IF &STORGRP NE &F", Sound),
+    ("INCLUDE(SG.**) IF &STORGRP = &F", C(9, 11)),
+    ("INCLUDE(SG**) IF &STORGRP = &F", C(9, 6)),
+    ("INCLUDE('SG1') IF &STORGRP > &F", C(7, 10)),
+];
+
+#[test]
+fn the_group_list_is_compared_with_lists(rt: HostRuntime) -> Result<(), Fail> {
+    compare_parts(
+        &rt,
+        rt.alloc(),
+        StorGrp,
+        ("FILTLIST F ", " THEN EXIT"),
+        &GROUPS,
+    )
 }

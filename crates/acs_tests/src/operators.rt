@@ -1,10 +1,8 @@
 //! The comparisons and what they compare.
-use crate::answer::Answer::{self, C, Sound};
-use crate::answer::answer_of;
+use crate::answer::Answer::{C, Sound};
+use crate::parts::{Sides, compare_sides};
 use crate::texts::{Row, compare_all};
 use acs_tree::Kind::{StorClas, StorGrp};
-use std::alloc::Global;
-use std::process::Abort;
 use std::test::Fail;
 
 const EQUALITIES: [&str; 4] = ["EQ", "=", "NE", "^="];
@@ -13,8 +11,29 @@ const ORDERS: [&str; 12] = [
     "GT", ">", "LT", "<", "GE", ">=", "LE", "<=", "NG", "^>", "NL", "^<",
 ];
 
-/// A left and a right side, and what a routine is that compares them by order.
-const SIDES: [(&str, &str, Answer); 14] = [
+const EQUAL: [Sides; 14] = [
+    ("&NQUAL", "3", Sound),
+    ("&RETPD", "&BLKSIZE", Sound),
+    ("&FILENUM", "0", Sound),
+    ("&SIZE", "10KB", Sound),
+    ("&MAXSIZE", "&SIZE", Sound),
+    ("&HLQ", "'A'", Sound),
+    ("&HLQ", "&LLQ", Sound),
+    ("&DSN", "A.**", Sound),
+    ("&DSN(22)", "A*", Sound),
+    ("&ACCT_JOB(8)", "''", Sound),
+    ("&ANYVOL", "'VOL001'", Sound),
+    ("&ALLVOL", "VOL*", Sound),
+    ("&STORCLAS", "'A'", Sound),
+    ("&STORGRP", "'A'", Sound),
+];
+
+#[test]
+fn all_kinds_are_compared_for_equality(rt: HostRuntime) -> Result<(), Fail> {
+    compare_sides(&rt, rt.alloc(), StorGrp, &EQUALITIES, &EQUAL)
+}
+
+const ORDERED: [Sides; 21] = [
     ("&NQUAL", "3", Sound),
     ("&RETPD", "&BLKSIZE", Sound),
     ("&FILENUM", "0", Sound),
@@ -29,7 +48,19 @@ const SIDES: [(&str, &str, Answer); 14] = [
     ("&ALLVOL", "VOL*", C(7, 4)),
     ("&STORCLAS", "'A'", C(7, 4)),
     ("&STORGRP", "'A'", C(7, 4)),
+    ("&BLKSIZE", "&RETPD", Sound),
+    ("&NQUAL", "'A'", C(6, 5)),
+    ("&SIZE", "10", C(6, 5)),
+    ("&HLQ", "&NQUAL", C(7, 4)),
+    ("&DSN(1)", "'A'", C(7, 7)),
+    ("&ANYVOL", "'A'", C(7, 4)),
+    ("&NOSUCH", "'A'", C(2, 3)),
 ];
+
+#[test]
+fn numbers_and_sizes_are_compared_by_order(rt: HostRuntime) -> Result<(), Fail> {
+    compare_sides(&rt, rt.alloc(), StorGrp, &ORDERS, &ORDERED)
+}
 
 const ORDERS_OF_TEXTS: [Row; 8] = [
     (
@@ -71,38 +102,6 @@ const ORDERS_OF_TEXTS: [Row; 8] = [
 ];
 
 #[test]
-fn all_kinds_are_compared_for_equality(rt: HostRuntime) -> Result<(), Fail> {
-    for (left, right, _) in SIDES {
-        compare(&rt, rt.alloc(), left, right, &EQUALITIES, Sound)?;
-    }
-    Ok(())
-}
-
-#[test]
-fn numbers_and_sizes_are_compared_by_order(rt: HostRuntime) -> Result<(), Fail> {
-    for (left, right, wanted) in SIDES {
-        compare(&rt, rt.alloc(), left, right, &ORDERS, wanted)?;
-    }
-    Ok(())
-}
-
-#[test]
 fn texts_are_not_compared_by_order(rt: HostRuntime) -> Result<(), Fail> {
     compare_all(&rt, rt.alloc(), &ORDERS_OF_TEXTS)
-}
-
-fn compare(
-    rt: &impl Abort,
-    alloc: Global,
-    left: &str,
-    right: &str,
-    operators: &[&str],
-    wanted: Answer,
-) -> Result<(), Fail> {
-    for operator in operators {
-        let text = format!(in alloc; "PROC STORGRP IF {left} {operator} {right} THEN EXIT END")?;
-        let answer = answer_of(rt, alloc, StorGrp, text.as_bytes())?;
-        assert_eq!(rt; answer, wanted, "{text}");
-    }
-    Ok(())
 }

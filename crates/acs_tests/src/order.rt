@@ -4,7 +4,7 @@ use crate::texts::{Row, compare_all};
 use acs_tree::Kind::{StorClas, StorGrp};
 use std::test::Fail;
 
-const TOKENS: [Row; 15] = [
+const TOKENS: [Row; 16] = [
     (
         StorClas,
         "PROC STORCLAS IF &DSN GT 'A' THEN SET &DATACLAS = 'A' END",
@@ -76,6 +76,11 @@ const TOKENS: [Row; 15] = [
         "PROC STORGRP SET &STORGRP = 'A', 'a', 'A' END",
         C(8, 7),
     ),
+    (
+        StorClas,
+        "PROC STORCLAS IF &DSN > 'A' THEN EXIT SET &DATACLAS = 'A' END",
+        C(7, 4),
+    ),
 ];
 
 #[test]
@@ -83,7 +88,7 @@ fn the_fault_at_the_smaller_token_is_told(rt: HostRuntime) -> Result<(), Fail> {
     compare_all(&rt, rt.alloc(), &TOKENS)
 }
 
-const NUMBERS: [Row; 15] = [
+const NUMBERS: [Row; 16] = [
     // C2 and C6
     (
         StorClas,
@@ -152,6 +157,12 @@ const NUMBERS: [Row; 15] = [
         StorClas,
         "PROC STORCLAS SET &STORCLAS = 'A', &MGMTCLAS END",
         C(11, 7),
+    ),
+    // C6 and C13, on the right
+    (
+        StorClas,
+        "PROC STORCLAS IF &NQUAL = &MGMTCLAS THEN EXIT END",
+        C(6, 5),
     ),
 ];
 

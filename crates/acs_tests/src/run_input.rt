@@ -1,112 +1,132 @@
-//! What a run is given.
+//! What a run is given: words `NAME=value`, each with what one variable holds, one volume, one field of an
+//! accounting or one group of the list. `VOLUMES=n` stands for n times the volume V1. Without a name the data
+//! set is A.B.
 use acs_tree::{Account, Input, MAX_FIELDS, MAX_VOLUMES, Values, Volumes};
 use dsn_mask::{Dsn, Name, Names, Short, Volser};
 use std::process::Abort;
 
-/// One thing that a run is given: what one read-only variable holds, one volume, one field of an accounting,
-/// or what one read-write variable holds, one group of its list. Without a name the data set is A.B.
-#[derive(Clone, Copy)]
-pub enum Given {
-    Dsn(&'static str),
-    Job(&'static str),
-    User(&'static str),
-    Pgm(&'static str),
-    Unit(&'static str),
-    UserGroup(&'static str),
-    Dd(&'static str),
-    Applic(&'static str),
-    DsOrg(&'static str),
-    RecOrg(&'static str),
-    DsnType(&'static str),
-    DsType(&'static str),
-    Owner(&'static str),
-    Expdt(&'static str),
-    AcsEnvir(&'static str),
-    XMode(&'static str),
-    System(&'static str),
-    Sysplex(&'static str),
-    DefaultData(&'static str),
-    DefaultStorage(&'static str),
-    DefaultManagement(&'static str),
-    Size(u64),
-    MaxSize(u64),
-    Retpd(u32),
-    Blksize(u32),
-    Volume(&'static str),
-    JobField(&'static str),
-    StepField(&'static str),
-    Data(&'static str),
-    Storage(&'static str),
-    Management(&'static str),
-    Group(&'static str),
-}
-
 /// The read-only variables with all that is given.
-pub fn input_of(rt: &impl Abort, given: &[Given]) -> Input {
+pub fn input_of(rt: &impl Abort, given: &str) -> Input {
     let mut input = Input::new(dsn_of(rt, "A.B"));
-    for one in given {
-        give(rt, one, &mut input);
-        give_more(rt, one, &mut input);
+    for word in given.split(' ') {
+        if let Some((name, value)) = word.split_once('=') {
+            give_one(rt, name, value, &mut input);
+        }
     }
     input
 }
 
-fn give(rt: &impl Abort, given: &Given, input: &mut Input) {
-    match given {
-        Given::Dsn(text) => input.dsn = dsn_of(rt, text),
-        Given::Job(text) => input.origin.job = short_of(rt, text),
-        Given::User(text) => input.origin.user = short_of(rt, text),
-        Given::Pgm(text) => input.origin.pgm = short_of(rt, text),
-        Given::Unit(text) => input.attributes.unit = short_of(rt, text),
-        Given::Size(kilobytes) => input.amounts.size = *kilobytes,
-        Given::MaxSize(kilobytes) => input.amounts.maxsize = *kilobytes,
-        Given::Retpd(number) => input.amounts.retpd = *number,
-        Given::Blksize(number) => input.amounts.blksize = *number,
-        Given::Volume(text) => push_volume(rt, text, &mut input.volumes),
-        Given::JobField(text) => push_field(rt, text, &mut input.accounting.acct_job),
-        Given::StepField(text) => push_field(rt, text, &mut input.accounting.acct_step),
-        _ => (),
-    }
+fn give_one(rt: &impl Abort, name: &str, value: &str, input: &mut Input) {
+    let is_known = give_amount(rt, name, value, input)
+        || give_origin(rt, name, value, input)
+        || give_attribute(rt, name, value, input)
+        || give_other(rt, name, value, input)
+        || is_read_write(name);
+    assert!(rt; is_known, "{name}");
 }
 
-fn give_more(rt: &impl Abort, given: &Given, input: &mut Input) {
-    match given {
-        Given::UserGroup(text) => input.origin.group = short_of(rt, text),
-        Given::Dd(text) => input.origin.dd = short_of(rt, text),
-        Given::Applic(text) => input.origin.applic = short_of(rt, text),
-        Given::DsOrg(text) => input.attributes.dsorg = short_of(rt, text),
-        Given::RecOrg(text) => input.attributes.recorg = short_of(rt, text),
-        Given::DsnType(text) => input.attributes.dsntype = short_of(rt, text),
-        Given::DsType(text) => input.attributes.dstype = short_of(rt, text),
-        Given::Owner(text) => input.attributes.dsowner = short_of(rt, text),
-        Given::Expdt(text) => input.attributes.expdt = short_of(rt, text),
-        Given::AcsEnvir(text) => input.environment.acsenvir = short_of(rt, text),
-        Given::XMode(text) => input.environment.xmode = short_of(rt, text),
-        Given::System(text) => input.environment.sysname = short_of(rt, text),
-        Given::Sysplex(text) => input.environment.sysplex = short_of(rt, text),
-        Given::DefaultData(text) => input.defaults.dataclas = short_of(rt, text),
-        Given::DefaultStorage(text) => input.defaults.storclas = short_of(rt, text),
-        Given::DefaultManagement(text) => input.defaults.mgmtclas = short_of(rt, text),
-        _ => (),
+fn give_amount(rt: &impl Abort, name: &str, value: &str, input: &mut Input) -> bool {
+    match name {
+        "SIZE" => input.amounts.size = number_of(rt, value),
+        "MAXSIZE" => input.amounts.maxsize = number_of(rt, value),
+        "RETPD" => input.amounts.retpd = small_of(rt, value),
+        "BLKSIZE" => input.amounts.blksize = small_of(rt, value),
+        _ => return false,
     }
+    true
+}
+
+fn give_origin(rt: &impl Abort, name: &str, value: &str, input: &mut Input) -> bool {
+    let origin = &mut input.origin;
+    match name {
+        "JOB" => origin.job = short_of(rt, value),
+        "USER" => origin.user = short_of(rt, value),
+        "PGM" => origin.pgm = short_of(rt, value),
+        "GROUP" => origin.group = short_of(rt, value),
+        "DD" => origin.dd = short_of(rt, value),
+        "APPLIC" => origin.applic = short_of(rt, value),
+        _ => return false,
+    }
+    true
+}
+
+fn give_attribute(rt: &impl Abort, name: &str, value: &str, input: &mut Input) -> bool {
+    let attributes = &mut input.attributes;
+    match name {
+        "UNIT" => attributes.unit = short_of(rt, value),
+        "DSORG" => attributes.dsorg = short_of(rt, value),
+        "RECORG" => attributes.recorg = short_of(rt, value),
+        "DSNTYPE" => attributes.dsntype = short_of(rt, value),
+        "DSTYPE" => attributes.dstype = short_of(rt, value),
+        "DSOWNER" => attributes.dsowner = short_of(rt, value),
+        "EXPDT" => attributes.expdt = short_of(rt, value),
+        _ => return false,
+    }
+    true
+}
+
+fn give_other(rt: &impl Abort, name: &str, value: &str, input: &mut Input) -> bool {
+    match name {
+        "DSN" => input.dsn = dsn_of(rt, value),
+        "ACSENVIR" => input.environment.acsenvir = short_of(rt, value),
+        "XMODE" => input.environment.xmode = short_of(rt, value),
+        "SYSNAME" => input.environment.sysname = short_of(rt, value),
+        "SYSPLEX" => input.environment.sysplex = short_of(rt, value),
+        "DEF_DATACLAS" => input.defaults.dataclas = short_of(rt, value),
+        "DEF_STORCLAS" => input.defaults.storclas = short_of(rt, value),
+        "DEF_MGMTCLAS" => input.defaults.mgmtclas = short_of(rt, value),
+        _ => return give_listed(rt, name, value, input),
+    }
+    true
+}
+
+fn give_listed(rt: &impl Abort, name: &str, value: &str, input: &mut Input) -> bool {
+    match name {
+        "VOLUME" => push_volume(rt, value, &mut input.volumes),
+        "VOLUMES" => push_volumes(rt, small_of(rt, value), &mut input.volumes),
+        "ACCT_JOB" => push_field(rt, value, &mut input.accounting.acct_job),
+        "ACCT_STEP" => push_field(rt, value, &mut input.accounting.acct_step),
+        _ => return false,
+    }
+    true
+}
+
+fn is_read_write(name: &str) -> bool {
+    matches!(name, "DATACLAS" | "STORCLAS" | "MGMTCLAS" | "STORGRP")
 }
 
 /// The read-write variables with all that is given.
-pub fn values_of(rt: &impl Abort, given: &[Given]) -> Values {
+pub fn values_of(rt: &impl Abort, given: &str) -> Values {
     let mut values = Values::new();
-    for one in given {
-        hold(rt, one, &mut values);
+    for word in given.split(' ') {
+        if let Some((name, value)) = word.split_once('=') {
+            hold(rt, name, value, &mut values);
+        }
     }
     values
 }
 
-fn hold(rt: &impl Abort, given: &Given, values: &mut Values) {
-    match given {
-        Given::Data(text) => values.dataclas = short_of(rt, text),
-        Given::Storage(text) => values.storclas = short_of(rt, text),
-        Given::Management(text) => values.mgmtclas = short_of(rt, text),
-        Given::Group(text) => push_group(rt, text, &mut values.groups),
+fn hold(rt: &impl Abort, name: &str, value: &str, values: &mut Values) {
+    match name {
+        "DATACLAS" => values.dataclas = short_of(rt, value),
+        "STORCLAS" => values.storclas = short_of(rt, value),
+        "MGMTCLAS" => values.mgmtclas = short_of(rt, value),
+        "STORGRP" => push_group(rt, value, &mut values.groups),
         _ => (),
+    }
+}
+
+fn number_of(rt: &impl Abort, text: &str) -> u64 {
+    match text.parse::<u64>() {
+        Ok(number) => number,
+        Err(_) => panic!(rt; "{text}"),
+    }
+}
+
+fn small_of(rt: &impl Abort, text: &str) -> u32 {
+    match text.parse::<u32>() {
+        Ok(number) => number,
+        Err(_) => panic!(rt; "{text}"),
     }
 }
 
@@ -129,6 +149,12 @@ fn push_volume(rt: &impl Abort, text: &str, volumes: &mut Volumes) {
     match Volser::new(text.as_bytes()) {
         Some(volser) => volumes.push(volser),
         None => panic!(rt; "{text}"),
+    }
+}
+
+fn push_volumes(rt: &impl Abort, count: u32, volumes: &mut Volumes) {
+    for _ in 0..count {
+        push_volume(rt, "V1", volumes);
     }
 }
 

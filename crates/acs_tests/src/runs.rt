@@ -1,5 +1,5 @@
 //! Comparing runs with what they are wanted to come to.
-use crate::run_input::{Given, input_of, values_of};
+use crate::run_input::{input_of, values_of};
 use crate::texts::text_of;
 use acs_code::{Code, compile};
 use acs_run::run;
@@ -14,30 +14,30 @@ use std::test::Fail;
 pub type Run = (
     Kind,
     &'static str,
-    &'static [Given],
-    &'static [Given],
+    &'static str,
+    &'static str,
     &'static [&'static str],
     Ending,
 );
 
 /// A condition, what a run is given, and whether the condition holds.
-pub type Question = (&'static str, &'static [Given], bool);
+pub type Question = (&'static str, &'static str, bool);
 
 /// The same behind filter lists.
-pub type Listed = (&'static str, &'static str, &'static [Given], bool);
+pub type Listed = (&'static str, &'static str, &'static str, bool);
 
 /// A routine for storage groups, what its run is given, and how it ends.
-pub type Ended = (&'static str, &'static [Given], Ending);
+pub type Ended = (&'static str, &'static str, Ending);
 
 /// The parts of a WRITE, what a run is given, and the line.
-pub type Written = (&'static str, &'static [Given], &'static str);
+pub type Written = (&'static str, &'static str, &'static str);
 
 /// A kind, a text in pieces, each so many times, what a run is given, how many lines are kept, the text of
 /// each kept line in pieces, and how many lines more there are.
 pub type LongRun = (
     Kind,
     &'static [(&'static str, usize)],
-    &'static [Given],
+    &'static str,
     usize,
     &'static [(&'static str, usize)],
     u32,
@@ -73,7 +73,7 @@ fn compare_question(
     alloc: Global,
     lists: &str,
     condition: &str,
-    given: &[Given],
+    given: &str,
     holds: bool,
 ) -> Result<(), Fail> {
     let text = format!(in alloc; "PROC STORGRP {lists} IF {condition} THEN EXIT CODE(1) END")?;
@@ -96,7 +96,7 @@ fn compare_ending(
     rt: &impl Abort,
     alloc: Global,
     text: &str,
-    given: &[Given],
+    given: &str,
     ending: Ending,
 ) -> Result<(), Fail> {
     let code = code_of(rt, alloc, Kind::StorGrp, text.as_bytes())?;
@@ -138,7 +138,7 @@ fn run_of(
     rt: &impl Abort,
     alloc: Global,
     code: &Code,
-    given: &[Given],
+    given: &str,
 ) -> Result<(Values, Slate, Ending), AllocError> {
     let mut slate = Slate::new(alloc)?;
     let mut values = values_of(rt, given);

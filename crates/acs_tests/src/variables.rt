@@ -1,20 +1,11 @@
 //! Variables that exist, and those that may be read.
 use crate::answer::Answer::{C, Sound};
+use crate::parts::{Held, Read, compare_held, compare_read};
 use crate::texts::{Row, compare_all};
 use acs_tree::Kind::{DataClas, MgmtClas, StorClas, StorGrp};
 use std::test::Fail;
 
-const UNKNOWN: [Row; 20] = [
-    (
-        StorClas,
-        "PROC STORCLAS IF &NOSUCH = 'A' THEN EXIT END",
-        C(2, 3),
-    ),
-    (
-        StorClas,
-        "PROC STORCLAS IF &NOSUCH(1) = 'A' THEN EXIT END",
-        C(2, 3),
-    ),
+const UNKNOWN: [Row; 12] = [
     (
         StorClas,
         "PROC STORCLAS IF &NOSUCH > 1 THEN EXIT END",
@@ -38,11 +29,6 @@ const UNKNOWN: [Row; 20] = [
     (StorClas, "PROC STORCLAS IF &1 = 'A' THEN EXIT END", C(2, 3)),
     (
         StorClas,
-        "PROC STORCLAS IF &HLQ = &NOSUCH(1) THEN EXIT END",
-        C(2, 5),
-    ),
-    (
-        StorClas,
         "PROC STORCLAS IF &HLQ = &NOSUCH(0) THEN EXIT END",
         C(2, 5),
     ),
@@ -59,11 +45,6 @@ const UNKNOWN: [Row; 20] = [
     ),
     (
         StorClas,
-        "PROC STORCLAS SELECT (&NOSUCH) WHEN ('A') EXIT END END",
-        C(2, 4),
-    ),
-    (
-        StorClas,
         "PROC STORCLAS SELECT (&NOSUCH(1)) WHEN (&NOSUCH) EXIT END END",
         C(2, 4),
     ),
@@ -71,18 +52,6 @@ const UNKNOWN: [Row; 20] = [
         StorClas,
         "PROC STORCLAS SELECT (&HLQ) WHEN ('A', &NOSUCH(3)) EXIT END END",
         C(2, 10),
-    ),
-    (StorClas, "PROC STORCLAS SET &NOSUCH = 'A' END", C(2, 3)),
-    (StorClas, "PROC STORCLAS SET &NOSUCH(1) = 'A' END", C(2, 3)),
-    (
-        StorClas,
-        "PROC STORCLAS SET &STORCLAS = &NOSUCH END",
-        C(2, 5),
-    ),
-    (
-        StorClas,
-        "PROC STORCLAS SET &STORCLAS = &NOSUCH(1) END",
-        C(2, 5),
     ),
     (
         StorGrp,
@@ -193,18 +162,100 @@ fn all_variables_are_known(rt: HostRuntime) -> Result<(), Fail> {
     compare_all(&rt, rt.alloc(), &KNOWN)
 }
 
-const READ: [Row; 18] = [
+const HELD: [Held; 4] = [
     (
-        DataClas,
-        "PROC DATACLAS IF &STORCLAS = 'A' THEN EXIT END",
-        C(13, 3),
+        &[
+            "&DSN",
+            "&HLQ",
+            "&LLQ",
+            "&JOB",
+            "&USER",
+            "&GROUP",
+            "&PGM",
+            "&DD",
+            "&UNIT",
+            "&DSORG",
+            "&RECORG",
+            "&DSNTYPE",
+            "&APPLIC",
+            "&EXPDT",
+            "&DSTYPE",
+            "&ACSENVIR",
+            "&XMODE",
+            "&DSOWNER",
+            "&DEF_DATACLAS",
+            "&DEF_STORCLAS",
+            "&DEF_MGMTCLAS",
+            "&SYSNAME",
+            "&SYSPLEX",
+            "&ANYVOL",
+            "&ALLVOL",
+        ],
+        "'A'",
+        C(7, 4),
     ),
     (
-        DataClas,
-        "PROC DATACLAS SELECT (&MGMTCLAS) WHEN ('A') EXIT END END",
-        C(13, 4),
+        &[
+            "&ACSENVR2",
+            "&LABEL",
+            "&LIBNAME",
+            "&MEMN",
+            "&MEMHLQ",
+            "&MEMLLQ",
+            "&MSPARM",
+            "&MSPDEST",
+            "&MSPOLICY",
+            "&MSPOOL",
+            "&MSVGP",
+        ],
+        "'A'",
+        C(7, 4),
     ),
-    (DataClas, "PROC DATACLAS WRITE &STORGRP END", C(13, 3)),
+    (
+        &[
+            "&NQUAL",
+            "&RETPD",
+            "&BLKSIZE",
+            "&NVOL",
+            "&FILENUM",
+            "&MEMNQUAL",
+        ],
+        "1",
+        Sound,
+    ),
+    (&["&SIZE", "&MAXSIZE"], "1KB", Sound),
+];
+
+#[test]
+fn each_variable_holds_what_suits_it(rt: HostRuntime) -> Result<(), Fail> {
+    compare_held(&rt, rt.alloc(), &HELD)
+}
+
+const EARLIER_AND_LATER: [Read; 16] = [
+    (DataClas, "&DATACLAS", false),
+    (DataClas, "&STORCLAS", true),
+    (DataClas, "&MGMTCLAS", true),
+    (DataClas, "&STORGRP", true),
+    (StorClas, "&DATACLAS", false),
+    (StorClas, "&STORCLAS", false),
+    (StorClas, "&MGMTCLAS", true),
+    (StorClas, "&STORGRP", true),
+    (MgmtClas, "&DATACLAS", false),
+    (MgmtClas, "&STORCLAS", false),
+    (MgmtClas, "&MGMTCLAS", false),
+    (MgmtClas, "&STORGRP", true),
+    (StorGrp, "&DATACLAS", false),
+    (StorGrp, "&STORCLAS", false),
+    (StorGrp, "&MGMTCLAS", false),
+    (StorGrp, "&STORGRP", false),
+];
+
+#[test]
+fn what_a_later_routine_sets_is_not_read(rt: HostRuntime) -> Result<(), Fail> {
+    compare_read(&rt, rt.alloc(), &EARLIER_AND_LATER)
+}
+
+const READ: [Row; 15] = [
     (
         DataClas,
         "PROC DATACLAS IF &DATACLAS = '' THEN WRITE &DATACLAS END",
@@ -212,17 +263,7 @@ const READ: [Row; 18] = [
     ),
     (
         StorClas,
-        "PROC STORCLAS IF &MGMTCLAS = 'A' THEN EXIT END",
-        C(13, 3),
-    ),
-    (
-        StorClas,
         "PROC STORCLAS IF &MGMTCLAS > 'A' THEN EXIT END",
-        C(13, 3),
-    ),
-    (
-        StorClas,
-        "PROC STORCLAS IF &STORGRP = 'A' THEN EXIT END",
         C(13, 3),
     ),
     (
@@ -237,33 +278,13 @@ const READ: [Row; 18] = [
     ),
     (
         StorClas,
-        "PROC STORCLAS SELECT (&STORGRP) WHEN ('A') EXIT END END",
-        C(13, 4),
-    ),
-    (
-        StorClas,
         "PROC STORCLAS SELECT (&HLQ) WHEN ('A', &MGMTCLAS) EXIT END END",
         C(13, 10),
-    ),
-    (
-        StorClas,
-        "PROC STORCLAS SET &STORCLAS = &MGMTCLAS END",
-        C(13, 5),
     ),
     (StorClas, "PROC STORCLAS WRITE 'A' &STORGRP END", C(13, 4)),
     (
         StorClas,
         "PROC STORCLAS IF &STORCLAS = &DATACLAS THEN WRITE &DEF_MGMTCLAS END",
-        Sound,
-    ),
-    (
-        MgmtClas,
-        "PROC MGMTCLAS IF &STORGRP = 'A' THEN EXIT END",
-        C(13, 3),
-    ),
-    (
-        MgmtClas,
-        "PROC MGMTCLAS IF &MGMTCLAS = 'A' THEN EXIT END",
         Sound,
     ),
     (
@@ -274,6 +295,36 @@ const READ: [Row; 18] = [
     (
         StorGrp,
         "PROC STORGRP IF &STORGRP = 'A' THEN WRITE &DATACLAS &STORCLAS &MGMTCLAS END",
+        Sound,
+    ),
+    (
+        DataClas,
+        "PROC DATACLAS IF &HLQ = &DATACLAS THEN EXIT END",
+        Sound,
+    ),
+    (
+        DataClas,
+        "PROC DATACLAS IF &HLQ = &STORCLAS THEN EXIT END",
+        C(13, 5),
+    ),
+    (
+        StorClas,
+        "PROC STORCLAS IF &HLQ = &STORCLAS THEN EXIT END",
+        Sound,
+    ),
+    (
+        MgmtClas,
+        "PROC MGMTCLAS IF &HLQ = &MGMTCLAS THEN EXIT END",
+        Sound,
+    ),
+    (
+        MgmtClas,
+        "PROC MGMTCLAS IF &HLQ = &STORGRP THEN EXIT END",
+        C(6, 5),
+    ),
+    (
+        StorGrp,
+        "PROC STORGRP IF &HLQ = &MGMTCLAS THEN EXIT END",
         Sound,
     ),
 ];

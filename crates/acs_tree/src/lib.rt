@@ -52,6 +52,3 @@ pub use slate::{MAX_LINES, Slate};
 pub use values::Values;
 pub use variable::{Indexing, Variable, VariableKind};
 pub use volumes::{MAX_VOLUMES, Volumes};
-
-#[cfg(test)]
-mod tests;

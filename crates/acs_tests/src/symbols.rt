@@ -1,11 +1,14 @@
-use crate::WordKind::{
+//! The symbols of texts.
+use Wanted::{AndSign, Close, Comma, Literal, Open, Operator, OrSign, Variable, Word};
+use acs_lex::scan;
+use acs_symbol::WordKind::{
     And, Code, Do, Else, End, Exclude, Exit, FiltList, If, Include, Number, Or, Other, Otherwise,
     Proc, Select, Set, Then, When, Write,
 };
-use crate::{Symbol, WordKind, symbols};
-use Wanted::{AndSign, Close, Comma, Literal, Open, Operator, OrSign, Variable, Word};
-use acs_lex::scan;
+use acs_symbol::{Symbol, WordKind, symbols};
 use acs_tree::Compare::{self, Eq, Ge, Gt, Le, Lt, Ne, Ng, Nl};
+use std::alloc::Global;
+use std::process::Abort;
 use std::test::Fail;
 
 /// A symbol with its text as bytes.
@@ -23,7 +26,9 @@ enum Wanted {
 }
 
 /// A text, and its symbols.
-const TEXTS: [(&[u8], &[Wanted]); 22] = [
+type Read = (&'static [u8], &'static [Wanted]);
+
+const TEXTS: [Read; 22] = [
     (b"", &[]),
     (b" /* PROC */ ", &[]),
     // words
@@ -151,16 +156,24 @@ const TEXTS: [(&[u8], &[Wanted]); 22] = [
 
 #[test]
 fn each_token_is_read_with_its_text(rt: HostRuntime) -> Result<(), Fail> {
-    for (text, wanted) in TEXTS {
+    compare_read(&rt, rt.alloc(), &TEXTS)
+}
+
+fn compare_read(rt: &impl Abort, alloc: Global, rows: &[Read]) -> Result<(), Fail> {
+    for (text, wanted) in rows {
         assert!(rt; text.len() < 1 << 32);
-        let tokens = scan(rt.alloc(), text)?;
-        let symbols = symbols(rt.alloc(), text, &tokens)?;
-        assert_eq!(rt; symbols.len(), wanted.len(), "at {text:?}");
-        for (symbol, wanted) in symbols.as_slice().iter().zip(wanted) {
-            assert!(rt; is_as_wanted(symbol, *wanted), "at {text:?}");
-        }
+        let tokens = scan(alloc, text)?;
+        let read = symbols(alloc, text, &tokens)?;
+        compare_symbols(rt, text, read.as_slice(), wanted);
     }
     Ok(())
+}
+
+fn compare_symbols(rt: &impl Abort, text: &[u8], read: &[Symbol], wanted: &[Wanted]) {
+    assert_eq!(rt; read.len(), wanted.len(), "at {text:?}");
+    for (symbol, wanted) in read.iter().zip(wanted) {
+        assert!(rt; is_as_wanted(symbol, *wanted), "at {text:?}");
+    }
 }
 
 fn is_as_wanted(symbol: &Symbol, wanted: Wanted) -> bool {

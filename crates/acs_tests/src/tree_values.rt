@@ -1,6 +1,7 @@
+//! A tree is the value of its parts.
 ghost use Rattle.std.specs.Prelude.{◌≡◌, ◌∷◌, [], IfOk};
 
-use crate::{Compare, Cond, Form, Ident, Operand, OperandForm, Ref, Routine, Stmt};
+use acs_tree::{Compare, Cond, Form, Ident, Operand, OperandForm, Ref, Routine, Stmt};
 use desk_common::{Boxed, Items};
 use std::alloc::{AllocError, Global};
 use std::test::Fail;

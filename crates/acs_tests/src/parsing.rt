@@ -1,13 +1,15 @@
-// Texts for the tests.
-use crate::ParseErr::{self, Deep, Ended, Unexpected};
+//! Texts that are routines by the grammar, or have a fault.
+use acs_lex::scan;
+use acs_parse::ParseErr::{self, Ended, Unexpected};
+use acs_parse::parse;
+use std::alloc::Global;
+use std::process::Abort;
+use std::test::Fail;
 
 /// A text, and what its tokens are: a routine or the fault.
-pub type Row = (&'static [u8], Result<(), ParseErr>);
+type Parsed = (&'static [u8], Result<(), ParseErr>);
 
-/// A text as pieces, each so many times, and what the whole is.
-pub type LongRow = (&'static [(&'static [u8], usize)], Result<(), ParseErr>);
-
-pub const HEADS: [Row; 19] = [
+const HEADS: [Parsed; 19] = [
     (b"", Err(Ended)),
     (b" /* PROC */ ", Err(Ended)),
     (b"PROC", Err(Ended)),
@@ -29,7 +31,12 @@ pub const HEADS: [Row; 19] = [
     (b"PROC STORCLAS END X", Err(Unexpected(3))),
 ];
 
-pub const SETS: [Row; 15] = [
+#[test]
+fn a_head_is_a_word_or_a_variable(rt: HostRuntime) -> Result<(), Fail> {
+    compare_parsed(&rt, rt.alloc(), &HEADS)
+}
+
+const SETS: [Parsed; 15] = [
     (b"PROC STORCLAS SET", Err(Ended)),
     (b"PROC STORCLAS SET &STORCLAS 'A' END", Err(Unexpected(4))),
     (b"PROC S SET &STORCLAS = THEN END", Ok(())),
@@ -47,7 +54,12 @@ pub const SETS: [Row; 15] = [
     (b"PROC S SET &STORGRP(1 2) = 'A' END", Err(Unexpected(6))),
 ];
 
-pub const LISTS: [Row; 20] = [
+#[test]
+fn a_set_has_values_with_commas_between(rt: HostRuntime) -> Result<(), Fail> {
+    compare_parsed(&rt, rt.alloc(), &SETS)
+}
+
+const LISTS: [Parsed; 20] = [
     (b"PROC S FILTLIST A INCLUDE(END) END", Ok(())),
     (b"PROC S FILTLIST IF INCLUDE('A') END", Ok(())),
     (b"PROC S FILTLIST &F INCLUDE('A') END", Ok(())),
@@ -85,7 +97,12 @@ pub const LISTS: [Row; 20] = [
     ),
 ];
 
-pub const LINES_AND_EXITS: [Row; 17] = [
+#[test]
+fn a_list_stands_directly_in_the_routine_and_has_entries(rt: HostRuntime) -> Result<(), Fail> {
+    compare_parsed(&rt, rt.alloc(), &LISTS)
+}
+
+const LINES_AND_EXITS: [Parsed; 17] = [
     (b"PROC S EXIT END", Ok(())),
     (b"PROC S IF &A = B THEN EXIT ELSE EXIT END", Ok(())),
     (b"PROC S EXIT CODE(4) END", Ok(())),
@@ -108,7 +125,12 @@ pub const LINES_AND_EXITS: [Row; 17] = [
     (b"PROC S X END", Err(Unexpected(2))),
 ];
 
-pub const BRANCHES: [Row; 27] = [
+#[test]
+fn a_line_has_parts_and_an_exit_may_have_a_code(rt: HostRuntime) -> Result<(), Fail> {
+    compare_parsed(&rt, rt.alloc(), &LINES_AND_EXITS)
+}
+
+const BRANCHES: [Parsed; 27] = [
     (b"PROC S IF B = &A THEN EXIT END", Err(Unexpected(3))),
     (b"PROC S IF &A = B EXIT END", Err(Unexpected(6))),
     (b"PROC S IF &A = B THEN END", Err(Unexpected(7))),
@@ -159,204 +181,24 @@ pub const BRANCHES: [Row; 27] = [
     (b"PROC S SELECT WHEN (&A = B) EXIT END", Err(Ended)),
 ];
 
-pub const NESTINGS: [LongRow; 26] = [
-    (
-        &[(b"PROC STORCLAS ", 1), (b"DO ", 200), (b"END ", 201)],
-        Ok(()),
-    ),
-    (
-        &[(b"PROC STORCLAS ", 1), (b"DO ", 201), (b"END ", 202)],
-        Err(Deep(202)),
-    ),
-    (&[(b"PROC STORCLAS ", 1), (b"DO ", 200)], Err(Ended)),
-    (&[(b"PROC STORCLAS ", 1), (b"DO ", 201)], Err(Deep(202))),
-    // the smaller place is told
-    (
-        &[(b"PROC STORCLAS ) ", 1), (b"DO ", 201)],
-        Err(Unexpected(2)),
-    ),
-    (
-        &[(b"PROC STORCLAS ", 1), (b"DO ", 200), (b") DO", 1)],
-        Err(Unexpected(202)),
-    ),
-    (
-        &[(b"PROC STORCLAS ", 1), (b"DO ", 201), (b")", 1)],
-        Err(Deep(202)),
-    ),
-    // parentheses
-    (
-        &[
-            (b"PROC S IF ", 1),
-            (b"(", 199),
-            (b"&A = B", 1),
-            (b")", 199),
-            (b" THEN EXIT END", 1),
-        ],
-        Ok(()),
-    ),
-    (
-        &[
-            (b"PROC S IF ", 1),
-            (b"(", 200),
-            (b"&A = B", 1),
-            (b")", 200),
-            (b" THEN EXIT END", 1),
-        ],
-        Err(Deep(202)),
-    ),
-    // IF in IF, and ELSE IF
-    (
-        &[(b"PROC S ", 1), (b"IF &A = B THEN ", 200), (b"EXIT END", 1)],
-        Ok(()),
-    ),
-    (
-        &[(b"PROC S ", 1), (b"IF &A = B THEN ", 201), (b"EXIT END", 1)],
-        Err(Deep(1002)),
-    ),
-    (
-        &[
-            (b"PROC S IF &A = B THEN EXIT ", 1),
-            (b"ELSE IF &A = B THEN EXIT ", 199),
-            (b"END", 1),
-        ],
-        Ok(()),
-    ),
-    (
-        &[
-            (b"PROC S IF &A = B THEN EXIT ", 1),
-            (b"ELSE IF &A = B THEN EXIT ", 200),
-            (b"END", 1),
-        ],
-        Err(Deep(1402)),
-    ),
-    // ANDs and ORs of one condition
-    (
-        &[
-            (b"PROC S IF &A = B ", 1),
-            (b"AND &A = B ", 199),
-            (b"THEN EXIT END", 1),
-        ],
-        Ok(()),
-    ),
-    (
-        &[
-            (b"PROC S IF &A = B ", 1),
-            (b"AND &A = B ", 200),
-            (b"THEN EXIT END", 1),
-        ],
-        Err(Deep(802)),
-    ),
-    (
-        &[
-            (b"PROC S IF &A = B ", 1),
-            (b"| &A = B ", 200),
-            (b"THEN EXIT END", 1),
-        ],
-        Err(Deep(802)),
-    ),
-    // an AND in parentheses stays open behind them
-    (
-        &[
-            (b"PROC S IF (&A = B AND &C = D)", 1),
-            (b" OR (&A = B AND &C = D)", 98),
-            (b" THEN EXIT END", 1),
-        ],
-        Ok(()),
-    ),
-    (
-        &[
-            (b"PROC S IF (&A = B AND &C = D)", 1),
-            (b" OR (&A = B AND &C = D)", 99),
-            (b" THEN EXIT END", 1),
-        ],
-        Err(Deep(997)),
-    ),
-    // SELECT, its WHENs and its OTHERWISE
-    (
-        &[
-            (b"PROC S ", 1),
-            (b"SELECT WHEN (&A = B) ", 200),
-            (b"EXIT ", 1),
-            (b"END ", 201),
-        ],
-        Ok(()),
-    ),
-    (
-        &[
-            (b"PROC S ", 1),
-            (b"SELECT (&A) WHEN (B) ", 201),
-            (b"EXIT ", 1),
-            (b"END ", 202),
-        ],
-        Err(Deep(1602)),
-    ),
-    // mixed
-    (
-        &[
-            (b"PROC S ", 1),
-            (b"DO ", 100),
-            (b"IF ", 1),
-            (b"(", 99),
-            (b"&A = B", 1),
-            (b")", 99),
-            (b" THEN EXIT ", 1),
-            (b"END ", 101),
-        ],
-        Ok(()),
-    ),
-    (
-        &[
-            (b"PROC S ", 1),
-            (b"DO ", 100),
-            (b"IF ", 1),
-            (b"(", 99),
-            (b"&A = B", 1),
-            (b")", 99),
-            (b" THEN DO ", 1),
-            (b"END ", 102),
-        ],
-        Ok(()),
-    ),
-    (
-        &[
-            (b"PROC S ", 1),
-            (b"DO ", 100),
-            (b"IF ", 1),
-            (b"(", 100),
-            (b"&A = B", 1),
-        ],
-        Err(Deep(202)),
-    ),
-    // what is closed is not counted
-    (&[(b"PROC S ", 1), (b"DO END ", 300), (b"END", 1)], Ok(())),
-    (
-        &[
-            (b"PROC S ", 1),
-            (b"IF (&A = B) AND &C = D THEN EXIT ", 300),
-            (b"END", 1),
-        ],
-        Ok(()),
-    ),
-    (
-        &[
-            (b"PROC S SELECT ", 1),
-            (b"WHEN (&A = B OR &C = D) EXIT ", 300),
-            (b"END END", 1),
-        ],
-        Ok(()),
-    ),
-];
+#[test]
+fn an_if_has_a_condition_and_a_select_has_branches(rt: HostRuntime) -> Result<(), Fail> {
+    compare_parsed(&rt, rt.alloc(), &BRANCHES)
+}
 
-/// Ten routines of all forms.
-pub const ROUTINES: [&[u8]; 10] = [
-    b"PROC STORCLAS END",
-    b"PROC 1 &STORCLAS FILTLIST F INCLUDE('A', B* C) EXCLUDE(BX) EXIT END",
-    b"PROC STORCLAS FILTLIST &F EXCLUDE('A') IF &HLQ = &F THEN SET &STORCLAS = 'SC1' END",
-    b"PROC STORCLAS IF &SIZE > 10MB AND &DSN(2) = A OR &HLQ ^= B THEN EXIT CODE(8) ELSE DO END END",
-    b"PROC STORCLAS SELECT (&HLQ) WHEN (A, 'B' &F) SET &STORCLAS = '' OTHERWISE EXIT END END",
-    b"PROC STORCLAS SELECT WHEN (&HLQ = A) EXIT WHEN ((&LLQ = B) OR &NQUAL LE 3) WRITE 'X' END END",
-    b"PROC STORGRP SET &STORGRP = 'SG1', 'SG2', 'SG3' WRITE 'GROUPS ', &STORGRP 'OF' &DSN(1) END",
-    b"PROC STORCLAS DO DO WRITE 'A' END IF &A = B THEN IF &C = D THEN EXIT ELSE EXIT ELSE EXIT END END",
-    b"PROC STORCLAS IF ((&A = B)) THEN SELECT (&DSN(1)) WHEN (&HLQ) DO EXIT CODE(1) END END ELSE EXIT END",
-    b"PROC END SET &STORCLAS EQ THEN EXIT CODE(CODE) FILTLIST IF INCLUDE(END) WRITE &SET(1) END",
-];
+fn compare_parsed(rt: &impl Abort, alloc: Global, rows: &[Parsed]) -> Result<(), Fail> {
+    for (text, wanted) in rows {
+        assert!(rt; *wanted == parsed(rt, alloc, text)?, "at {text:?}");
+    }
+    Ok(())
+}
+
+/// Whether the tokens of a text are a routine, or their fault.
+pub fn parsed(rt: &impl Abort, alloc: Global, text: &[u8]) -> Result<Result<(), ParseErr>, Fail> {
+    assert!(rt; text.len() < 1 << 32);
+    let tokens = scan(alloc, text)?;
+    match parse(alloc, text, &tokens) {
+        Ok(_) => Ok(Ok(())),
+        Err(err) => Ok(Err(err)),
+    }
+}

@@ -1,0 +1,141 @@
+//! Comparing texts of which a part or two sides change with what they are wanted to be.
+use crate::answer::Answer::{self, C, Sound};
+use crate::answer::answer_of;
+use acs_tree::Kind;
+use std::alloc::Global;
+use std::process::Abort;
+use std::test::Fail;
+
+/// The part of a routine that changes, and what the routine is.
+pub type Part = (&'static str, Answer);
+
+/// The left and the right side of a comparison, and what a routine is that compares them.
+pub type Sides = (&'static str, &'static str, Answer);
+
+/// The left sides of comparisons, the right side, and what a routine is that compares them by order.
+pub type Held = (&'static [&'static str], &'static str, Answer);
+
+/// A kind of routine, a variable, and whether a later routine sets it.
+pub type Read = (Kind, &'static str, bool);
+
+/// Equal and not equal.
+pub const EQUALITIES: [&str; 2] = ["=", "NE"];
+
+/// The parts stand between `before` and `behind`.
+pub fn compare_parts(
+    rt: &impl Abort,
+    alloc: Global,
+    kind: Kind,
+    (before, behind): (&str, &str),
+    rows: &[Part],
+) -> Result<(), Fail> {
+    for (part, wanted) in rows {
+        compare_part(rt, alloc, kind, before, part, behind, *wanted)?;
+    }
+    Ok(())
+}
+
+fn compare_part(
+    rt: &impl Abort,
+    alloc: Global,
+    kind: Kind,
+    before: &str,
+    part: &str,
+    behind: &str,
+    wanted: Answer,
+) -> Result<(), Fail> {
+    let name = name_of(kind);
+    let text = format!(in alloc; "PROC {name} {before}{part}{behind} END")?;
+    let answer = answer_of(rt, alloc, kind, text.as_bytes())?;
+    assert_eq!(rt; answer, wanted, "{text}");
+    Ok(())
+}
+
+/// Each row is compared by each of the operators.
+pub fn compare_sides(
+    rt: &impl Abort,
+    alloc: Global,
+    kind: Kind,
+    operators: &[&str],
+    rows: &[Sides],
+) -> Result<(), Fail> {
+    for (left, right, wanted) in rows {
+        compare_by(rt, alloc, kind, left, right, operators, *wanted)?;
+    }
+    Ok(())
+}
+
+fn compare_by(
+    rt: &impl Abort,
+    alloc: Global,
+    kind: Kind,
+    left: &str,
+    right: &str,
+    operators: &[&str],
+    wanted: Answer,
+) -> Result<(), Fail> {
+    let name = name_of(kind);
+    for operator in operators {
+        let text = format!(in alloc; "PROC {name} IF {left} {operator} {right} THEN EXIT END")?;
+        let answer = answer_of(rt, alloc, kind, text.as_bytes())?;
+        assert_eq!(rt; answer, wanted, "{text}");
+    }
+    Ok(())
+}
+
+pub fn compare_held(rt: &impl Abort, alloc: Global, rows: &[Held]) -> Result<(), Fail> {
+    for (names, right, ordered) in rows {
+        compare_names(rt, alloc, names, right, *ordered)?;
+    }
+    Ok(())
+}
+
+fn compare_names(
+    rt: &impl Abort,
+    alloc: Global,
+    names: &[&str],
+    right: &str,
+    ordered: Answer,
+) -> Result<(), Fail> {
+    for name in names {
+        compare_by(rt, alloc, Kind::StorClas, name, right, &["="], Sound)?;
+        compare_by(rt, alloc, Kind::StorClas, name, right, &[">"], ordered)?;
+    }
+    Ok(())
+}
+
+pub fn compare_read(rt: &impl Abort, alloc: Global, rows: &[Read]) -> Result<(), Fail> {
+    for (kind, name, is_later) in rows {
+        let (third, fourth) = read_too_early(*is_later);
+        compare_part(rt, alloc, *kind, "IF ", name, " = 'A' THEN EXIT", third)?;
+        compare_part(
+            rt,
+            alloc,
+            *kind,
+            "SELECT (",
+            name,
+            ") WHEN ('A') EXIT END",
+            fourth,
+        )?;
+        compare_part(rt, alloc, *kind, "WRITE ", name, "", third)?;
+    }
+    Ok(())
+}
+
+/// What a routine is that reads a variable at token 3, and at token 4.
+fn read_too_early(is_later: bool) -> (Answer, Answer) {
+    if is_later {
+        (C(13, 3), C(13, 4))
+    } else {
+        (Sound, Sound)
+    }
+}
+
+fn name_of(kind: Kind) -> &'static str {
+    match kind {
+        Kind::DataClas => "DATACLAS",
+        Kind::StorClas => "STORCLAS",
+        Kind::MgmtClas => "MGMTCLAS",
+        Kind::StorGrp => "STORGRP",
+    }
+}
