@@ -95,12 +95,24 @@ fn is_read_write(name: &str) -> bool {
     matches!(name, "DATACLAS" | "STORCLAS" | "MGMTCLAS" | "STORGRP")
 }
 
-/// The read-write variables with all that is given.
+/// The read-write variables with all that is given; the words for others are passed over.
 pub fn values_of(rt: &impl Abort, given: &str) -> Values {
     let mut values = Values::new();
     for word in given.split(' ') {
         if let Some((name, value)) = word.split_once('=') {
             hold(rt, name, value, &mut values);
+        }
+    }
+    values
+}
+
+/// The read-write variables with these words and no others.
+pub fn held_values(rt: &impl Abort, held: &str) -> Values {
+    let mut values = Values::new();
+    for word in held.split_whitespace() {
+        match word.split_once('=') {
+            Some((name, value)) if is_read_write(name) => hold(rt, name, value, &mut values),
+            _ => panic!(rt; "{word}"),
         }
     }
     values

@@ -1,5 +1,5 @@
 //! Comparing runs with what they are wanted to come to.
-use crate::run_input::{input_of, values_of};
+use crate::run_input::{held_values, input_of, values_of};
 use crate::texts::text_of;
 use acs_code::{Code, compile};
 use acs_run::run;
@@ -48,7 +48,7 @@ pub fn compare_runs(rt: &impl Abort, alloc: Global, rows: &[Run]) -> Result<(), 
         let code = code_of(rt, alloc, *kind, text.as_bytes())?;
         let (values, slate, ended) = run_of(rt, alloc, &code, given)?;
         assert_eq!(rt; ended, *ending, "{text}");
-        assert!(rt; values == values_of(rt, held), "{text}");
+        assert!(rt; values == held_values(rt, held), "{text}");
         compare_lines(rt, *kind, &slate, lines, text);
     }
     Ok(())

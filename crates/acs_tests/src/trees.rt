@@ -8,7 +8,7 @@ use acs_tree::{
     Block, Form, Ident, Kind, MAX_IDENT, Operand, OperandForm, Ref, Routine, Stmt, When, WhenTest,
     with_operand, with_when,
 };
-use desk_common::Items;
+use desk_common::{Boxed, Items};
 use dsn_mask::Lit;
 use std::alloc::{AllocError, Global};
 use std::process::Abort;
@@ -187,8 +187,16 @@ fn selection(alloc: Global, operand: Operand) -> Result<Form, AllocError> {
         at: 7,
         form: Form::Exit { code: None },
     };
-    let when = When::new(alloc, 3, test, exit)?;
-    Form::selection(alloc, None, with_when(Items::new(alloc), when)?, None)
+    let when = When {
+        at: 3,
+        test,
+        body: Boxed::new(alloc, exit)?,
+    };
+    Ok(Form::Pick {
+        subject: None,
+        whens: with_when(Items::new(alloc), when)?,
+        other: None,
+    })
 }
 
 fn operand(rt: &impl Abort, text: Text, at: u32) -> Operand {

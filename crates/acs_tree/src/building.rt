@@ -1,23 +1,8 @@
 // Trees built from their parts. Each takes its parts by value and gives the whole.
 ghost use Rattle.std.specs.Prelude.{◌≡◌, ◌++◌, ◌∷◌, [], IfOk};
 
-use crate::routine::{Block, Cond, Operand, OperandForm, Operands, Ref, Stmt, When, Whens};
-use desk_common::Boxed;
-use std::alloc::{AllocError, Global};
-
-impl Cond {
-    pub fn and(alloc: Global, left: Cond, right: Cond) -> Result<Cond, AllocError>
-        ensures { IfOk result (λ both. both ≡ Cond.And left right) }
-    {
-        Ok(Cond::And(Boxed::new(alloc, left)?, Boxed::new(alloc, right)?))
-    }
-
-    pub fn or(alloc: Global, left: Cond, right: Cond) -> Result<Cond, AllocError>
-        ensures { IfOk result (λ either. either ≡ Cond.Or left right) }
-    {
-        Ok(Cond::Or(Boxed::new(alloc, left)?, Boxed::new(alloc, right)?))
-    }
-}
+use crate::routine::{Block, Operand, OperandForm, Operands, Ref, Stmt, When, Whens};
+use std::alloc::AllocError;
 
 /// The list with this operand at its end.
 pub fn with_operand(list: Operands, operand: Operand) -> Result<Operands, AllocError>
