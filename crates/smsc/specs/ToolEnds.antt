@@ -3,7 +3,7 @@ use Rattle.std.specs.Prelude.{◌≡◌, Bool, true, false, List, [], ◌∷◌,
 use Rattle.std.specs.Io.KnownBytes.{Appends}
 use Rattle.desk_common.specs.Causes.{Rose}
 use Rattle.desk_common.specs.Fronts.{IsProperPrefix}
-use Rattle.sms_base.specs.Observed.{Observed, IsUnwritten, WasRead, HasReadFault, IsTooLong, IsOutOfMemory}
+use Rattle.sms_base.specs.Observed.{Observed, WasRead, HasReadFault, IsTooLong, IsOutOfMemory}
 use Rattle.acs_tree.specs.declared.kind.Kind.{Kind}
 use Rattle.acs_tree.specs.Variables.{name_of}
 use Rattle.smsc.specs.ToolText.{IsAnswer}
