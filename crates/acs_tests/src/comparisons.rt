@@ -158,7 +158,12 @@ fn a_select_compares_each_item(rt: HostRuntime) -> Result<(), Fail> {
     compare_parts(&rt, rt.alloc(), StorClas, ("SELECT ", " EXIT END"), &ITEMS)
 }
 
-const OTHERS: [Row; 7] = [
+const OTHERS: [Row; 8] = [
+    (
+        StorClas,
+        "PROC STORCLAS IF &DSN(2) ^= &ACCT_JOB(1) THEN EXIT END",
+        Sound,
+    ),
     (
         StorGrp,
         "PROC STORGRP SELECT (&STORGRP) WHEN ('A', SG*, &HLQ) EXIT END END",

@@ -1,5 +1,5 @@
-//! Tests of the language of ACS routines across its crates: what is scanned, parsed and checked, and what
-//! runs come to.
+//! Tests of the language of ACS routines: masks and filter lists, what is scanned, parsed and checked, and
+//! what runs come to.
 #![tactic(auto)]
 
 #[cfg(test)]

@@ -8,9 +8,10 @@ use std::process::Abort;
 /// The read-only variables with all that is given.
 pub fn input_of(rt: &impl Abort, given: &str) -> Input {
     let mut input = Input::new(dsn_of(rt, "A.B"));
-    for word in given.split(' ') {
-        if let Some((name, value)) = word.split_once('=') {
-            give_one(rt, name, value, &mut input);
+    for word in given.split_whitespace() {
+        match word.split_once('=') {
+            Some((name, value)) => give_one(rt, name, value, &mut input),
+            None => panic!(rt; "{word}"),
         }
     }
     input

@@ -35,7 +35,7 @@ pub record IsAnswered (bytes text : List ℕ) : Type 0 where
       → entry.answer.reply ≡ Granted set → entry.answer.first ≡ entry.answer.place → GrantsLawfully front entry.request.op set
   -- no track of two data sets: at no time does a track belong to two extents
   pub tracks : (front rest : List Entry) (s : DeskState) → history ≡ front ++ rest → Reaches front s → NoTrackTwice (extents_of s.sets)
-  -- inside the volumes: at no time does an extent reach past the end of its volume
+  -- inside the volumes: at each time each extent lies inside a volume of the active configuration
   pub inside : (front rest : List Entry) (s : DeskState) (config : Configuration) → history ≡ front ++ rest → Reaches front s → s.active ≡ Some config → AllInside config s.sets
   -- kept replies: a number that came before gets its kept reply, the fresh one of an earlier entry, or is refused for another op
   pub kept : (front rest : List Entry) (entry earlier : Entry) → history ≡ front ++ entry ∷ rest

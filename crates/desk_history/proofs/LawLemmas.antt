@@ -1,7 +1,9 @@
 -- What holds of each legal history.
 use Rattle.std.proofs.Common.{◌≡◌, ◌≤◌, ℕ, ◌+◌, Bool, true, false, List, [], ◌∷◌, ◌++◌, length, Option, None, Some, inl, inr, codes, refl, sym, subst, arith}
-use Rattle.std.specs.Prelude.{MatchOption, MatchBool, ◌⊎◌}
-use Rattle.std.specs.List.{AllByRecursion}
+use Rattle.std.specs.Prelude.{MatchOption, MatchBool, ◌⊎◌, ◌&&◌, ◌||◌, bytes_eq, nat_le}
+use Rattle.std.proofs.lemmas.Bool.Decides.{nat_tests}
+use Rattle.std.proofs.lemmas.Slice.Eq.{bytes_eq-Decides}
+use Rattle.std.specs.List.{AllByRecursion, list_any}
 use Rattle.sms_construct.specs.declared.data_set.DataSet.{DataSet}
 use Rattle.sms_construct.specs.declared.entry.Entry.{Entry}
 use Rattle.sms_construct.specs.declared.extent.Extent.{Extent}
@@ -12,7 +14,7 @@ use Rattle.sms_construct.specs.declared.request.Op.{Op}
 use Rattle.sms_construct.specs.declared.request.Op.TheVariants.{Alloc as AllocOp, Activate}
 use Rattle.sms_construct.specs.declared.volume.VolumeDef.{VolumeDef}
 use Rattle.desk_history.specs.Configuration.{Configuration}
-use Rattle.desk_history.specs.State.{DeskState, start_state, extents_of, extents_on, is_catalogued}
+use Rattle.desk_history.specs.State.{DeskState, start_state, extents_of, is_catalogued}
 use Rattle.desk_history.specs.Refusal.{Refuses}
 use Rattle.desk_history.specs.Activation.{Activates, RefusesDeck}
 use Rattle.desk_history.specs.Allocation.{Allocates, FindsNoVolume, IsLawfulGrant}
@@ -20,9 +22,9 @@ use Rattle.desk_history.specs.Step.{is_of, kept_for, IsStep, IsFresh, IsRepeat, 
 use Rattle.desk_history.specs.History.{Reaches, IsLegal}
 use Rattle.desk_history.specs.Grants.{GrantsLawfully}
 use Rattle.desk_history.specs.Stack.{IsStack, IsStacked}
-use Rattle.desk_history.specs.Tracks.{AreApart, NoTrackTwice, LiesInside, AllInside}
+use Rattle.desk_history.specs.Tracks.{AreApart, NoTrackTwice, lies_inside, AllInside}
 use Rattle.desk_history.proofs.HistoryLemmas.{Leads-split, Reaches-packed, find-stands}
-use Rattle.desk_history.proofs.StackLemmas.{stack-mark, stack-filter}
+use Rattle.desk_history.proofs.StackLemmas.{stack-mark}
 
 -- an extent below a stack is apart from all of it
 below-apart : (volser : List ℕ) (e : Extent) (track : ℕ) (es : List Extent) (mark : ℕ) → IsStack volser track es mark → e.start + e.length ≤ track → AllByRecursion (AreApart e) es
@@ -44,19 +46,25 @@ packed-apart sets (Some config) stacked = stack-apart stacked.volume.volser 0 (e
 pub tracks-once : (front : List Entry) (s : DeskState) → Reaches front s → NoTrackTwice (extents_of s.sets)
 tracks-once front s reaches = packed-apart s.sets s.active (Reaches-packed front s reaches)
 
+inside-both : (a b : Bool) → a ≡ true → b ≡ true → (a && b || false) ≡ true
+inside-both a b p q = rw (p, q) refl
+
 -- a stack whose mark is inside the volume lies inside it
-stack-inside : (volume : VolumeDef) (track : ℕ) (es : List Extent) (mark : ℕ) → IsStack volume.volser track es mark → mark ≤ volume.tracks → AllByRecursion (LiesInside volume) es
+stack-inside : (volume : VolumeDef) (track : ℕ) (es : List Extent) (mark : ℕ) → IsStack volume.volser track es mark → mark ≤ volume.tracks
+    → AllByRecursion (λ e. list_any (lies_inside e) (volume ∷ []) ≡ true) es
 stack-inside volume track [] mark stack within = tt
 stack-inside volume track (e ∷ es) mark stack within =
     let start : e.start ≡ track = stack.1 in
-    (omega (arith, stack-mark volume.volser (track + e.length) es mark stack.2), stack-inside volume (track + e.length) es mark stack.2 within)
+    let below : track + e.length ≤ mark = stack-mark volume.volser (track + e.length) es mark stack.2 in
+    let on : bytes_eq e.volser volume.volser ≡ true = (bytes_eq-Decides e.volser volume.volser).1 stack.0 in
+    let end : e.start + e.length ≤ volume.tracks = omega arith in
+    let inside : nat_le (e.start + e.length) volume.tracks ≡ true = grind (arith, nat_tests) in
+    (inside-both _ _ on inside, stack-inside volume (track + e.length) es mark stack.2 within)
 
 stacked-inside : (config : Configuration) (sets : List DataSet) → IsStacked config sets → AllInside config sets
 stacked-inside config sets stacked =
-    let on : extents_on stacked.volume.volser sets ≡ extents_of sets = stack-filter stacked.volume.volser 0 (extents_of sets) stacked.mark stacked.stack in
-    let inside : AllByRecursion (LiesInside stacked.volume) (extents_of sets) = stack-inside stacked.volume 0 (extents_of sets) stacked.mark stacked.stack stacked.within in
-    subst (λ (volumes : List VolumeDef). AllByRecursion (λ volume. AllByRecursion (LiesInside volume) (extents_on volume.volser sets)) volumes) (sym stacked.sole)
-    (subst (AllByRecursion (LiesInside stacked.volume)) (sym on) inside, tt)
+    subst (λ (volumes : List VolumeDef). AllByRecursion (λ e. list_any (lies_inside e) volumes ≡ true) (extents_of sets)) (sym stacked.sole)
+    (stack-inside stacked.volume 0 (extents_of sets) stacked.mark stacked.stack stacked.within)
 
 packed-inside : (s : DeskState) (config : Configuration) (active : Option Configuration) → active ≡ Some config → MatchOption active (s.sets ≡ []) (λ config. IsStacked config s.sets) → AllInside config s.sets
 packed-inside s config active is packed = stacked-inside config s.sets (rw is at packed)

@@ -1,11 +1,11 @@
 -- Whose tracks are whose.
-use Rattle.std.specs.Prelude.{◌≡◌, ◌≤◌, ◌+◌, ◌⊎◌, List, [], ◌∷◌}
-use Rattle.std.specs.List.{AllByRecursion}
+use Rattle.std.specs.Prelude.{◌≡◌, ◌≤◌, ◌+◌, ◌⊎◌, ◌&&◌, Bool, true, List, [], ◌∷◌, bytes_eq, nat_le}
+use Rattle.std.specs.List.{AllByRecursion, list_any}
 use Rattle.sms_construct.specs.declared.data_set.DataSet.{DataSet}
 use Rattle.sms_construct.specs.declared.extent.Extent.{Extent}
 use Rattle.sms_construct.specs.declared.volume.VolumeDef.{VolumeDef}
 use Rattle.desk_history.specs.Configuration.{Configuration}
-use Rattle.desk_history.specs.State.{extents_on}
+use Rattle.desk_history.specs.State.{extents_of}
 
 -- no track is in both extents
 abbrev pub AreApart : Extent → Extent → Type 0
@@ -16,10 +16,10 @@ abbrev pub NoTrackTwice : List Extent → Type 0
 NoTrackTwice [] = Unit {0}
 NoTrackTwice (e ∷ es) = AllByRecursion (AreApart e) es × NoTrackTwice es
 
--- the extent ends at the last track of the volume or before
-abbrev pub LiesInside : VolumeDef → Extent → Type 0
-LiesInside volume e = e.start + e.length ≤ volume.tracks
+-- the extent is on this volume, and ends at its last track or before
+abbrev pub lies_inside : Extent → VolumeDef → Bool
+lies_inside e volume = bytes_eq e.volser volume.volser && nat_le (e.start + e.length) volume.tracks
 
--- each extent on a volume of the configuration lies inside it
+-- each extent lies inside a volume of the configuration
 abbrev pub AllInside : Configuration → List DataSet → Type 0
-AllInside config sets = AllByRecursion (λ volume. AllByRecursion (LiesInside volume) (extents_on volume.volser sets)) config.volumes
+AllInside config sets = AllByRecursion (λ e. list_any (lies_inside e) config.volumes ≡ true) (extents_of sets)

@@ -20,7 +20,7 @@ pub fn tracks_held_once()
     ensures { (front : List Entry) (s : DeskState) → Reaches front s → NoTrackTwice (extents_of s.sets) }
 {}
 
-/// At no time in a legal history does an extent reach past the end of its volume.
+/// At each time in a legal history each extent lies inside a volume of the active configuration.
 pub fn extents_inside()
     ensures { (front : List Entry) (s : DeskState) (config : Configuration) → Reaches front s → s.active ≡ Some config → AllInside config s.sets }
 {}

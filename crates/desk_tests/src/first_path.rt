@@ -31,42 +31,45 @@ fn scripts_without_a_command_answer_the_end_line_alone(rt: HostRuntime) -> Resul
     Ok(())
 }
 
+/// Scripts and their faults.
+const FAULTY: [(&str, ScriptErr); 10] = [
+    (
+        "SMSADMIN 1 ACTIVATE\nversion = 1\n",
+        ScriptErr::OpenBlock(1),
+    ),
+    (
+        "SMSADMIN 1 ACTIVATE\nversion = 1\n[storclass.SC1]\n[storgroup.SG1.volume.VOL001]\ntracks = 100\n[routine]\nstorclass = \"PROC STORCLAS SET &STORCLAS = 'SC1' END\"\nstorgroup = \"PROC STORGRP SET &STORGRP = 'SG1' END\"\nJOB1 1 ALLOC PAY.MASTER SPACE=(TRK,(10,5))\n",
+        ScriptErr::OpenBlock(1),
+    ),
+    ("* NOTE\n\nSMSADMIN 1 ACTIVATE", ScriptErr::OpenBlock(3)),
+    ("SMSADMIN 1 ACTIVATE\n./END \n", ScriptErr::OpenBlock(1)),
+    (
+        "JOB1 1 ALLOC A.B SPACE=(TRK,1)\nJOB1 2 ALLOC A.B\n",
+        ScriptErr::NotBuilt(2),
+    ),
+    (
+        "JOB1 1 VARY SMS,VOLUME(VOL001),ENABLE\nSMSADMIN 1 ACTIVATE\n",
+        ScriptErr::NotBuilt(1),
+    ),
+    ("JOB1 0 ALLOC A.B SPACE=(TRK,1)", ScriptErr::NotBuilt(1)),
+    (
+        "JOB1 4294967296 ALLOC A.B SPACE=(TRK,1)",
+        ScriptErr::NotBuilt(1),
+    ),
+    (
+        "JOB1 1 ALLOC ABCDEFGH.ABCDEFGH.ABCDEFGH.ABCDEFGH.ABCDEFGHI SPACE=(TRK,1)",
+        ScriptErr::NotBuilt(1),
+    ),
+    (
+        "JOB1 1 ALLOC ABCDEFGH.ABCDEFGH.ABCDEFGH.ABCDEFGH.ABCDEFG.A SPACE=(TRK,1)",
+        ScriptErr::NotBuilt(1),
+    ),
+];
+
 #[test]
 fn faults_of_a_script_have_its_smallest_line(rt: HostRuntime) -> Result<(), Fail> {
     let alloc = rt.alloc();
-    for (script, fault) in [
-        (
-            "SMSADMIN 1 ACTIVATE\nversion = 1\n",
-            ScriptErr::OpenBlock(1),
-        ),
-        (
-            "SMSADMIN 1 ACTIVATE\nversion = 1\n[storclass.SC1]\n[storgroup.SG1.volume.VOL001]\ntracks = 100\n[routine]\nstorclass = \"PROC STORCLAS SET &STORCLAS = 'SC1' END\"\nstorgroup = \"PROC STORGRP SET &STORGRP = 'SG1' END\"\nJOB1 1 ALLOC PAY.MASTER SPACE=(TRK,(10,5))\n",
-            ScriptErr::OpenBlock(1),
-        ),
-        ("* NOTE\n\nSMSADMIN 1 ACTIVATE", ScriptErr::OpenBlock(3)),
-        ("SMSADMIN 1 ACTIVATE\n./END \n", ScriptErr::OpenBlock(1)),
-        (
-            "JOB1 1 ALLOC A.B SPACE=(TRK,1)\nJOB1 2 ALLOC A.B\n",
-            ScriptErr::NotBuilt(2),
-        ),
-        (
-            "JOB1 1 VARY SMS,VOLUME(VOL001),ENABLE\nSMSADMIN 1 ACTIVATE\n",
-            ScriptErr::NotBuilt(1),
-        ),
-        ("JOB1 0 ALLOC A.B SPACE=(TRK,1)", ScriptErr::NotBuilt(1)),
-        (
-            "JOB1 4294967296 ALLOC A.B SPACE=(TRK,1)",
-            ScriptErr::NotBuilt(1),
-        ),
-        (
-            "JOB1 1 ALLOC ABCDEFGH.ABCDEFGH.ABCDEFGH.ABCDEFGH.ABCDEFGHI SPACE=(TRK,1)",
-            ScriptErr::NotBuilt(1),
-        ),
-        (
-            "JOB1 1 ALLOC ABCDEFGH.ABCDEFGH.ABCDEFGH.ABCDEFGH.ABCDEFG.A SPACE=(TRK,1)",
-            ScriptErr::NotBuilt(1),
-        ),
-    ] {
+    for (script, fault) in FAULTY {
         let Outcome { status, text } = run(alloc, script.as_bytes())?;
         assert_eq!(rt; status, RunStatus::Script(fault), "{script}");
         assert_eq!(rt; status.code(), 5);

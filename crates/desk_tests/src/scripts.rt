@@ -112,7 +112,7 @@ const COMMANDS: [Row; 42] = [
     ),
 ];
 
-/// A front filled up with blanks to a length, its line end, and the same.
+/// A front filled up with blanks to a length, its line end, and its items in words, or its fault.
 const LENGTHS: [(&str, usize, &str, &str); 6] = [
     (COMMAND, 4096, "", ITEM),
     (COMMAND, 4096, "\r\n", ITEM),

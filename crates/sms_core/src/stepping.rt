@@ -25,8 +25,8 @@ struct Answered {
     effect: Effect,
 }
 
-/// Prepares the entry of a request behind this journal. Memory for it is taken here, and room in the lists
-/// before.
+/// Prepares the entry of a request behind this journal, with all memory for it; the caller has taken room in
+/// the lists.
 pub fn prepare(
     alloc: Global,
     journal: &[Entry],

@@ -1,5 +1,5 @@
 //! From the bytes of a routine to the text of the answer.
-ghost use Rattle.std.specs.Prelude.{◌≡◌, ◌<◌, ◌^◌, ◌++◌, length, decimal, IfOk, OnOk};
+ghost use Rattle.std.specs.Prelude.{◌≡◌, ◌<◌, ◌^◌, length, IfOk};
 ghost use Rattle.smsc.specs.ToolText.{letter_of, translated_text, fault_text, IsAnswer, TellsFault};
 
 use crate::status::ToolStatus;
