@@ -10,6 +10,7 @@ use crate::name_fault::first_fault;
 use crate::qualifiers::{count_qualifiers, qualifier_at};
 use crate::text::Text;
 use crate::{NameErr, Short};
+use std::hash::{Hash, Hasher};
 use std::marker::Model;
 
 /// A data set name: at most 44 bytes, qualifiers of one to eight bytes between full stops
@@ -63,6 +64,20 @@ impl Eq for Dsn {
     ghost use Rattle.std.proofs.Common.{rules};
 
     ghost laws = { Prim.search (comparing, rules) };
+}
+
+impl Hash for Dsn {
+    ghost use Rattle.std.specs.Prelude.{[], ◌∷◌};
+    ghost use Rattle.std.specs.Cmp.Rules.{comparing};
+    ghost use Rattle.std.proofs.Common.{rules};
+
+    ghost hash_input = { λ text. text ∷ [] };
+
+    ghost respects_eq = { Prim.search (comparing, rules) };
+
+    fn hash<H: Hasher>(&self, state: &mut H) {
+        state.write(self.bytes());
+    }
 }
 
 impl Dsn {

@@ -5,6 +5,7 @@ ghost use Rattle.dsn_mask.specs.Names.{filler};
 
 use crate::byte_class::{are_name_bytes, is_initial};
 use crate::text::Text;
+use std::hash::{Hash, Hasher};
 use std::marker::Model;
 
 /// A name: one to eight letters, digits, `#`, `@` and `$`, the first no digit.
@@ -57,6 +58,20 @@ impl Eq for Name {
     ghost use Rattle.std.proofs.Common.{rules};
 
     ghost laws = { Prim.search (comparing, rules) };
+}
+
+impl Hash for Name {
+    ghost use Rattle.std.specs.Prelude.{[], ◌∷◌};
+    ghost use Rattle.std.specs.Cmp.Rules.{comparing};
+    ghost use Rattle.std.proofs.Common.{rules};
+
+    ghost hash_input = { λ name. name ∷ [] };
+
+    ghost respects_eq = { Prim.search (comparing, rules) };
+
+    fn hash<H: Hasher>(&self, state: &mut H) {
+        state.write(self.bytes());
+    }
 }
 
 impl Name {

@@ -4,6 +4,7 @@ ghost use Rattle.dsn_mask.specs.Name.{IsVolser, volser_of};
 
 use crate::byte_class::are_name_bytes;
 use crate::text::Text;
+use std::hash::{Hash, Hasher};
 use std::marker::Model;
 
 /// A volume serial: one to six letters, digits, `#`, `@` and `$`.
@@ -56,6 +57,20 @@ impl Eq for Volser {
     ghost use Rattle.std.proofs.Common.{rules};
 
     ghost laws = { Prim.search (comparing, rules) };
+}
+
+impl Hash for Volser {
+    ghost use Rattle.std.specs.Prelude.{[], ◌∷◌};
+    ghost use Rattle.std.specs.Cmp.Rules.{comparing};
+    ghost use Rattle.std.proofs.Common.{rules};
+
+    ghost hash_input = { λ text. text ∷ [] };
+
+    ghost respects_eq = { Prim.search (comparing, rules) };
+
+    fn hash<H: Hasher>(&self, state: &mut H) {
+        state.write(self.bytes());
+    }
 }
 
 impl Volser {
