@@ -1,0 +1,5 @@
+pub mod Tables
+pub mod Told
+pub mod Suits
+pub mod Faults
+pub mod Log

@@ -1,0 +1,51 @@
+//! What a change does to the records.
+ghost use Rattle.std.specs.Prelude.{◌≡◌, IfOk};
+
+use crate::status_row::Statuses;
+use desk_common::{Items, Shared};
+use dsn_mask::{Dsn, Name};
+use sms_construct::{DataSet, Status, Target};
+use std::alloc::{AllocError, Global};
+
+/// What a change does to the tables beside the row of its reply (docs/records.md, "Effects").
+#[derive(Drop)]
+pub enum Effect {
+    /// Nothing more.
+    Nothing,
+    /// The data set takes the place of the one of its name, or is added.
+    PutSet(Shared<DataSet>),
+    /// The data set of this name is dropped.
+    DropSet(Dsn),
+    /// The deck of the request is active: it is added with the number of activations, and these are the statuses
+    /// of all its storage groups and volumes.
+    Activated { count: u64, statuses: Statuses },
+    /// The storage group or the volume has this status.
+    SetStatus { target: Target, status: Status },
+    /// The job's numbers below this floor are refused, and its replies below it dropped.
+    Floor { job: Name, floor: u32 },
+}
+
+impl Effect {
+    /// The same effect, or want of memory.
+    pub fn copy(&self, alloc: Global) -> Result<Self, AllocError>
+        ensures { IfOk result (λ copy. copy ≡ self.now) }
+    {
+        match self {
+            Effect::Nothing => Ok(Effect::Nothing),
+            Effect::PutSet(set) => Ok(Effect::PutSet(set.share()?)),
+            Effect::DropSet(dsn) => Ok(Effect::DropSet(*dsn)),
+            Effect::Activated { count, statuses } => Ok(Effect::Activated {
+                count: *count,
+                statuses: Items::from_slice(alloc, statuses.as_slice())?,
+            }),
+            Effect::SetStatus { target, status } => Ok(Effect::SetStatus {
+                target: *target,
+                status: *status,
+            }),
+            Effect::Floor { job, floor } => Ok(Effect::Floor {
+                job: *job,
+                floor: *floor,
+            }),
+        }
+    }
+}

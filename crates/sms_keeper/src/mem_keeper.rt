@@ -1,0 +1,89 @@
+//! A keeper in memory.
+ghost use Rattle.std.specs.Prelude.{◌≡◌, ◌++◌, ◌∷◌, [], IfOk, OnOk, OnErr};
+ghost use Rattle.sms_keeper.specs.Tables.{rows_after};
+
+use crate::change::Change;
+use crate::keeper::{Keeper, KeeperErr};
+use crate::replay::Replay;
+use crate::rows::Rows;
+use crate::stored::Stored;
+use std::alloc::{AllocError, Global};
+use std::marker::Model;
+
+/// Keeps the records in memory, as the list of the changes that were made; its tables are what these come to. So a
+/// commit takes the same time however many records there are, and it never fails but for want of memory.
+#[derive(Drop)]
+pub struct MemKeeper {
+    alloc: Global,
+    changes: Vec<Change>,
+}
+
+impl Model for MemKeeper {
+    ghost use Rattle.std.specs.Prelude.{List};
+    ghost use Rattle.sms_keeper.specs.declared.change.Change.{Change};
+
+    ghost Value = { List Change };
+
+    ghost view = { λ k. k.changes.items };
+}
+
+impl MemKeeper {
+    /// A keeper with empty tables. It takes no memory.
+    pub fn new(alloc: Global) -> Self
+        ensures { result ≡ [] }
+    {
+        MemKeeper {
+            alloc,
+            changes: Vec::new(alloc),
+        }
+    }
+
+    /// The tables, which are made anew from the changes: a data set that a change puts or drops is looked for among
+    /// all data sets.
+    pub fn rows(&self) -> Result<Rows, AllocError>
+        ensures { IfOk result (λ rows. rows ≡ rows_after self.now) }
+    {
+        let mut replay = Replay::new(self.alloc);
+        for change in &self.changes {
+            replay.make(change)?;
+        }
+        Ok(replay.into_rows())
+    }
+
+    fn push(&mut self, change: &Change) -> Result<(), AllocError>
+        ensures ok { OnOk result (self.new ≡ self.old ++ change.now ∷ []) }
+        ensures err { OnErr result (self.new ≡ self.old) }
+    {
+        let copy = change.copy(self.alloc)?;
+        match self.changes.push(copy) {
+            Ok(()) => Ok(()),
+            Err(_) => Err(AllocError),
+        }
+    }
+}
+
+impl Keeper for MemKeeper {
+    ghost use Rattle.std.specs.Prelude.{Some};
+    ghost use Rattle.sms_keeper.specs.Tables.{rows_after};
+
+    ghost told = { λ k. Some (rows_after k) };
+
+    ghost count = { λ k. 0 };
+
+    fn commit(&mut self, change: &Change) -> Result<(), KeeperErr> {
+        match self.push(change) {
+            Ok(()) => Ok(()),
+            Err(_) => Err(KeeperErr::NoMemory),
+        }
+    }
+
+    fn faults(&self) -> u64 {
+        0
+    }
+}
+
+impl Stored for MemKeeper {
+    fn ready(&mut self) -> Result<(), KeeperErr> {
+        Ok(())
+    }
+}
