@@ -7,7 +7,6 @@ use Rattle.sms_construct.specs.declared.target.Target.TheVariants as targets
 use Rattle.sms_keeper.specs.declared.change.Change.{Change}
 use Rattle.sms_keeper.specs.declared.effect.Effect.{Effect}
 use Rattle.sms_keeper.specs.declared.effect.Effect.TheVariants as effects
-use Rattle.sms_keeper.specs.declared.status_row.StatusRow.{StatusRow}
 use Rattle.std.specs.List.{list_all}
 
 -- the deck of an op that activates one

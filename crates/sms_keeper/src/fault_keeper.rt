@@ -1,8 +1,9 @@
 //! A keeper that fails where it is told to.
-ghost use Rattle.std.specs.Prelude.{◌≡◌, ◌≤◌, ◌↔◌, [], IfOk, OnOk, OnErr, IsErrOf};
+ghost use Rattle.std.specs.Prelude.{◌≡◌, ◌≤◌, ◌↔◌, ◌++◌, ◌∷◌, [], Some, IfOk, OnOk, OnErr, IsErr, IsErrOf, Contains};
 ghost use Rattle.desk_common.specs.Causes.{Rose};
 ghost use Rattle.sms_keeper.specs.Tables.{rows_after};
-ghost use Rattle.sms_keeper.specs.Faults.{fails_at, next_call};
+ghost use Rattle.sms_keeper.specs.Faults.{counted};
+ghost use Rattle.sms_keeper.specs.Told.{Applies, Stays};
 
 use crate::change::Change;
 use crate::keeper::{Keeper, KeeperErr};
@@ -56,7 +57,7 @@ impl FaultKeeper {
         ensures changes { self.new.changes ≡ self.old.changes }
         ensures fails { self.new.fails ≡ self.old.fails }
         ensures calls { self.new.calls ≡ self.old.calls }
-        ensures faults { self.new.faults ≡ next_call self.old.faults }
+        ensures faults { self.new.faults ≡ counted self.old.faults }
         ensures rises { self.old.faults ≤ self.new.faults }
         ensures cause { Rose self.old.faults self.new.faults }
     {
@@ -73,7 +74,17 @@ impl Keeper for FaultKeeper {
 
     ghost count = { λ k. k.faults };
 
-    fn commit(&mut self, change: &Change) -> Result<(), KeeperErr> {
+    fn commit(&mut self, change: &Change) -> Result<(), KeeperErr>
+        ensures applied { OnOk result (Applies change.now (Some (rows_after self.old.changes)) (Some (rows_after self.new.changes))) }
+        ensures kept { OnErr result (Stays (Some (rows_after self.old.changes)) (Some (rows_after self.new.changes))) }
+        ensures cause { IsErrOf result KeeperErr.Failed → Rose self.old.faults self.new.faults }
+        ensures rises { self.old.faults ≤ self.new.faults }
+        ensures fails { IsErrOf result KeeperErr.Failed ↔ Contains self.old.fails (counted self.old.calls) }
+        ensures ok { OnOk result (self.new.changes ≡ self.old.changes ++ change.now ∷ []) }
+        ensures err { OnErr result (self.new.changes ≡ self.old.changes) }
+        ensures calls { self.new.calls ≡ counted self.old.calls }
+        ensures listed { self.new.fails ≡ self.old.fails }
+    {
         self.calls = self.calls.saturating_add(1);
         if self.fails.contains(&self.calls) {
             return self.fail();
@@ -87,7 +98,15 @@ impl Keeper for FaultKeeper {
 }
 
 impl Stored for FaultKeeper {
-    fn ready(&mut self) -> Result<(), KeeperErr> {
+    fn ready(&mut self) -> Result<(), KeeperErr>
+        ensures kept { Stays (Some (rows_after self.old.changes)) (Some (rows_after self.new.changes)) }
+        ensures cause { IsErrOf result KeeperErr.Failed → Rose self.old.faults self.new.faults }
+        ensures rises { self.old.faults ≤ self.new.faults }
+        ensures fails { IsErr result ↔ Contains self.old.fails 0 }
+        ensures changes { self.new.changes ≡ self.old.changes }
+        ensures calls { self.new.calls ≡ self.old.calls }
+        ensures listed { self.new.fails ≡ self.old.fails }
+    {
         if self.fails.contains(&0) {
             return self.fail();
         }

@@ -1,6 +1,7 @@
 //! A keeper in memory.
-ghost use Rattle.std.specs.Prelude.{◌≡◌, ◌++◌, ◌∷◌, [], IfOk, OnOk, OnErr};
+ghost use Rattle.std.specs.Prelude.{◌≡◌, ◌≤◌, ◌++◌, ◌∷◌, [], Some, IfOk, IsOk, OnOk, OnErr, IsErrOf};
 ghost use Rattle.sms_keeper.specs.Tables.{rows_after};
+ghost use Rattle.sms_keeper.specs.Told.{Applies, Stays};
 
 use crate::change::Change;
 use crate::keeper::{Keeper, KeeperErr};
@@ -70,7 +71,14 @@ impl Keeper for MemKeeper {
 
     ghost count = { λ k. 0 };
 
-    fn commit(&mut self, change: &Change) -> Result<(), KeeperErr> {
+    fn commit(&mut self, change: &Change) -> Result<(), KeeperErr>
+        ensures applied { OnOk result (Applies change.now (Some (rows_after self.old)) (Some (rows_after self.new))) }
+        ensures kept { OnErr result (Stays (Some (rows_after self.old)) (Some (rows_after self.new))) }
+        ensures cause { IsErrOf result KeeperErr.Failed → ⊥ }
+        ensures rises { 0 ≤ 0 }
+        ensures ok { OnOk result (self.new ≡ self.old ++ change.now ∷ []) }
+        ensures err { OnErr result (self.new ≡ self.old) }
+    {
         match self.push(change) {
             Ok(()) => Ok(()),
             Err(_) => Err(KeeperErr::NoMemory),
@@ -83,7 +91,13 @@ impl Keeper for MemKeeper {
 }
 
 impl Stored for MemKeeper {
-    fn ready(&mut self) -> Result<(), KeeperErr> {
+    fn ready(&mut self) -> Result<(), KeeperErr>
+        ensures kept { Stays (Some (rows_after self.old)) (Some (rows_after self.new)) }
+        ensures cause { IsErrOf result KeeperErr.Failed → ⊥ }
+        ensures rises { 0 ≤ 0 }
+        ensures ok { IsOk result }
+        ensures unchanged { self.new ≡ self.old }
+    {
         Ok(())
     }
 }

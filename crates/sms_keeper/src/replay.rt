@@ -4,12 +4,14 @@ ghost use Rattle.sms_keeper.specs.Tables.{no_rows, with_change, sets_with, statu
 
 use crate::change::Change;
 use crate::deck_row::DeckRow;
+use crate::effect::Effect;
 use crate::floor::Floor;
 use crate::kept_row::KeptRow;
-use crate::replaying::{add_deck, drop_replies, drop_set, is_below, put_floor, put_set, set_status};
+use crate::replaying::{
+    add_deck, drop_replies, drop_set, is_below, put_floor, put_set, set_status,
+};
 use crate::rows::Rows;
 use crate::status_row::StatusRow;
-use crate::effect::Effect;
 use desk_common::{Items, Shared};
 use sms_construct::{DataSet, Op};
 use std::alloc::{AllocError, Global};

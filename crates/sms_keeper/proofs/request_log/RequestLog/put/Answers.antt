@@ -1,4 +1,4 @@
-use Rattle.std.proofs.Common.{◌≡◌, ap, ◌∙◌, Some, if◌then◌else◌}
+use Rattle.std.proofs.Common.{ap, ◌∙◌, Some, if◌then◌else◌}
 use Rattle.sms_keeper.specs.Log.{LogView, kept_in, same_key}
 use Rattle.sms_keeper.proofs.request_log.RequestLog.put.Goals as goal
 
