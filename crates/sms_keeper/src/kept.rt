@@ -11,6 +11,7 @@ pub struct KeptReply {
 }
 
 /// What is found for a request.
+#[derive(Drop)]
 pub enum Kept<'a> {
     /// The number is fresh.
     New,
