@@ -2,3 +2,4 @@ pub mod UpperLemmas
 pub mod PushLemmas
 pub mod SlateLemmas
 pub mod Examples
+mod NameLemmas

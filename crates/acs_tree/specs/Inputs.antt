@@ -1,7 +1,9 @@
 -- What runs begin with.
-use Rattle.std.specs.Prelude.{ℕ, List, [], codes}
+use Rattle.std.specs.Prelude.{ℕ, ◌*◌, List, [], Option, codes}
+use Rattle.std.specs.Int.{div_ceil}
 use Rattle.acs_tree.specs.declared.input.Input.{Input}
 use Rattle.acs_tree.specs.declared.values.Values.{Values}
+use Rattle.acs_tree.specs.VariableValues.{or_null}
 
 -- a request that names a data set and gives nothing else
 abbrev pub bare_input : List ℕ → Input
@@ -14,6 +16,21 @@ bare_input dsn = record {
   defaults = record { dataclas = []; storclas = []; mgmtclas = [] };
   amounts = record { retpd = 0; blksize = 0; size = 0; maxsize = 0 };
   volumes = [];
+}
+
+-- so many tracks in KB, rounded up: a track holds 56,664 bytes
+abbrev pub kilobytes_of : ℕ → ℕ
+kilobytes_of tracks = div_ceil (tracks * 56664) 1024
+
+-- a request that names a data set and a space of these sizes in KB and gives nothing else
+abbrev pub sized_input : List ℕ → ℕ → ℕ → Input
+sized_input dsn size maxsize = record (bare_input dsn) { amounts = record { retpd = 0; blksize = 0; size = size; maxsize = maxsize } }
+
+-- the input of a request as its routines see it: with its job, and with the system and the sysplex of the configuration
+abbrev pub input_under : Input → List ℕ → Option (List ℕ) → Option (List ℕ) → Input
+input_under input job system sysplex = record input {
+  origin = record input.origin { job = job };
+  environment = record input.environment { sysname = or_null system; sysplex = or_null sysplex };
 }
 
 -- no class and no group

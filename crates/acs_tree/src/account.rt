@@ -10,7 +10,7 @@ pub const MAX_FIELDS: usize = 8;
 /// At most 8 texts, in their order.
 pub struct Account {
     items: [Short; 8],
-    count: usize,
+    count: u8,
 }
 
 impl Model for Account {
@@ -79,7 +79,7 @@ impl Account {
         ensures items { result.now ≡ self.now }
         ensures few { length self.now ≤ 8 }
     {
-        &self.items[..self.count]
+        &self.items[..self.count as usize]
     }
 
     /// No more can be added.
@@ -94,7 +94,7 @@ impl Account {
         requires { length self.old < 8 }
         ensures { self.new ≡ self.old ++ item ∷ [] }
     {
-        self.items[self.count] = item;
+        self.items[self.count as usize] = item;
         self.count += 1;
     }
 

@@ -38,7 +38,7 @@ pub use ending::Ending;
 pub use environment::Environment;
 pub use filter_list::FilterList;
 pub use ident::{Ident, MAX_IDENT};
-pub use input::Input;
+pub use input::{Input, kilobytes_of};
 pub use kind::Kind;
 pub use line::Line;
 pub use more::More;
@@ -48,7 +48,7 @@ pub use routine::{
     Block, Compare, Cond, Form, Operand, OperandForm, Operands, Ref, Routine, Stmt, When, WhenTest,
     Whens,
 };
-pub use slate::{MAX_LINES, Slate};
+pub use slate::{MAX_LINES, Slate, same_kind};
 pub use values::Values;
 pub use variable::{Indexing, Variable, VariableKind};
 pub use volumes::{MAX_VOLUMES, Volumes};

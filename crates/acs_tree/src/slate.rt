@@ -112,7 +112,8 @@ fn rank_of(kind: Kind) -> u8
     kind as u8
 }
 
-fn same_kind(one: Kind, other: Kind) -> bool
+/// Whether the two kinds are one.
+pub fn same_kind(one: Kind, other: Kind) -> bool
     ensures { result ≡ same_kind one other }
 {
     rank_of(one) == rank_of(other)

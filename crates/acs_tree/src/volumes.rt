@@ -11,7 +11,7 @@ pub const MAX_VOLUMES: usize = 59;
 /// At most 59 volume serials, in their order.
 pub struct Volumes {
     items: [Volser; 59],
-    count: usize,
+    count: u8,
 }
 
 impl Model for Volumes {
@@ -80,7 +80,7 @@ impl Volumes {
         ensures items { result.now ≡ self.now }
         ensures few { length self.now ≤ 59 }
     {
-        &self.items[..self.count]
+        &self.items[..self.count as usize]
     }
 
     /// No more can be added.
@@ -95,7 +95,7 @@ impl Volumes {
         requires { length self.old < 59 }
         ensures { self.new ≡ self.old ++ item ∷ [] }
     {
-        self.items[self.count] = item;
+        self.items[self.count as usize] = item;
         self.count += 1;
     }
 

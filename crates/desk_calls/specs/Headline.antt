@@ -4,6 +4,7 @@ use Rattle.sms_construct.specs.declared.data_set.DataSet.{DataSet}
 use Rattle.sms_construct.specs.declared.entry.Answer.{Answer}
 use Rattle.sms_construct.specs.declared.entry.Entry.{Entry}
 use Rattle.sms_construct.specs.declared.reply.Reply.TheVariants.{Granted}
+use Rattle.sms_construct.specs.declared.trace.Trace.{Trace}
 use Rattle.desk_history.specs.Configuration.{Configuration}
 use Rattle.desk_history.specs.State.{DeskState, extents_of}
 use Rattle.desk_history.specs.Step.{IsRepeat, kept_for}
@@ -31,8 +32,8 @@ pub record IsAnswered (bytes text : List ℕ) : Type 0 where
   -- legal history: each entry is a lawful step after those before it
   pub legal : IsLegal history
   -- lawful grants: a fresh grant has the classes and the tracks that the configuration active there gives it
-  pub grants : (front rest : List Entry) (entry : Entry) (set : DataSet) → history ≡ front ++ entry ∷ rest
-      → entry.answer.reply ≡ Granted set → entry.answer.first ≡ entry.answer.place → GrantsLawfully front entry.request.op set
+  pub grants : (front rest : List Entry) (entry : Entry) (set : DataSet) (trace : Trace) → history ≡ front ++ entry ∷ rest
+      → entry.answer.reply ≡ Granted set trace → entry.answer.first ≡ entry.answer.place → GrantsLawfully front entry.request.op set
   -- no track of two data sets: at no time does a track belong to two extents
   pub tracks : (front rest : List Entry) (s : DeskState) → history ≡ front ++ rest → Reaches front s → NoTrackTwice (extents_of s.sets)
   -- inside the volumes: at each time each extent lies inside a volume of the active configuration

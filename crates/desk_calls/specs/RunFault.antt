@@ -1,9 +1,6 @@
 -- How a run ends: each status and its cause.
 use Rattle.std.specs.Prelude.{◌≡◌, Bool, true, false, List, ℕ, [], ◌∷◌, codes, Err}
-use Rattle.std.specs.Io.KnownBytes.{Appends}
-use Rattle.desk_common.specs.Causes.{Rose}
-use Rattle.desk_common.specs.Fronts.{IsProperPrefix}
-use Rattle.sms_base.specs.Observed.{Observed, IsUnwritten, WasRead, HasReadFault, IsTooLong, IsOutOfMemory}
+use Rattle.sms_base.specs.Observed.{Observed, IsUnwritten, WasRead, WasAnswered, HasReadFault, HasWriteFault, IsTooLong, IsOutOfMemory}
 use Rattle.sms_script.specs.declared.script_err.ScriptErr.{ScriptErr}
 use Rattle.sms_script.specs.Script.{script_of}
 use Rattle.desk_calls.specs.Headline.{IsAnswered}
@@ -17,25 +14,6 @@ AreRunWords words = words ≡ codes "run" ∷ []
 -- the most bytes of a script
 abbrev pub most_bytes : ℕ
 most_bytes = 16777216
-
--- the script was answered, and the sink took the whole text
-pub record IsDone (old new : Observed) : Type 0 where
-  pub bytes : List ℕ
-  pub text : List ℕ
-  pub read : WasRead most_bytes old new bytes
-  pub answered : IsAnswered bytes text
-  pub written : Appends old.taken new.taken text
-
--- the script was answered, and the sink took a proper front of the text before its count of faults rose
-pub record HasWriteFault (old new : Observed) : Type 0 where
-  pub bytes : List ℕ
-  pub text : List ℕ
-  pub front : List ℕ
-  pub read : WasRead most_bytes old new bytes
-  pub answered : IsAnswered bytes text
-  pub proper : IsProperPrefix front text
-  pub written : Appends old.taken new.taken front
-  pub rose : Rose old.write_faults new.write_faults
 
 -- the bytes that were read have this fault as a script, and nothing was run
 pub record IsFaulty (old new : Observed) (err : ScriptErr) : Type 0 where
@@ -52,10 +30,10 @@ leaves_sink status = true
 
 -- what each status says of what was observed before and after
 abbrev pub Ends : Observed → Observed → RunStatus → Type 0
-Ends old new Done = IsDone old new
+Ends old new Done = WasAnswered most_bytes IsAnswered old new
 Ends old new BadWords = new ≡ old
 Ends old new ReadFault = HasReadFault most_bytes old new
-Ends old new WriteFault = HasWriteFault old new
+Ends old new WriteFault = HasWriteFault most_bytes IsAnswered old new
 Ends old new (Script err) = IsFaulty old new err
 Ends old new TooLong = IsTooLong most_bytes old new
 Ends old new NoMemory = IsOutOfMemory most_bytes old new

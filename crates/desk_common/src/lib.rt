@@ -1,9 +1,11 @@
-//! The words and the list types that all crates share.
+//! The words, the lists and the shared values of all crates.
 #![tactic(auto)]
 
 mod cutting;
 mod number;
+mod shared;
 
 pub use cutting::words;
 pub use number::push_number;
+pub use shared::Shared;
 pub use sqlite_items::{Boxed, Items};

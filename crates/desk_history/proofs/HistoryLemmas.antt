@@ -5,14 +5,14 @@ use Rattle.sms_construct.specs.declared.entry.Entry.{Entry}
 use Rattle.sms_construct.specs.declared.fault.Fault.TheVariants.{NotBuilt}
 use Rattle.sms_construct.specs.declared.reply.Reply.{Reply}
 use Rattle.sms_construct.specs.declared.reply.Reply.TheVariants.{NoConfig, NameInUse, NoVolume, Deck}
-use Rattle.sms_construct.specs.declared.request.Alloc.{Alloc}
+use Rattle.sms_construct.specs.declared.alloc.Alloc.{Alloc}
 use Rattle.sms_construct.specs.declared.request.Op.{Op}
 use Rattle.sms_construct.specs.declared.request.Op.TheVariants.{Alloc as AllocOp, Activate}
 use Rattle.desk_history.specs.Configuration.{Configuration}
 use Rattle.desk_history.specs.State.{DeskState, start_state, is_catalogued}
 use Rattle.desk_history.specs.Refusal.{Refuses}
 use Rattle.desk_history.specs.Activation.{Activates, RefusesDeck}
-use Rattle.desk_history.specs.Allocation.{Allocates, FindsNoVolume}
+use Rattle.desk_history.specs.Allocation.{Allocates, FindsNoVolume, PlainRule, is_plain, no_trace}
 use Rattle.desk_history.specs.Stack.{IsPacked}
 use Rattle.desk_history.specs.Step.{is_entered, kept_for, IsStep, IsFresh, IsRepeat, Rule}
 use Rattle.desk_history.specs.History.{Leads, Reaches}
@@ -89,16 +89,16 @@ alloc-activations_at : (s : DeskState) (config : Configuration) (alloc : Alloc) 
 alloc-activations_at s config alloc reply after true refuses = refuse-activations s NameInUse reply after refuses
 alloc-activations_at s config alloc reply after false rule =
     elim rule [
-      | inl none ↦ refuse-activations s NoVolume reply after none.refuses
+      | inl none ↦ refuse-activations s (NoVolume no_trace) reply after none.refuses
       | inr allocates ↦ omega (arith, ap (λ (x : DeskState). x.activations) allocates.after_is)
     ]
 
 alloc-activations : (s : DeskState) (alloc : Alloc) (reply : Reply) (after : DeskState) (active : Option Configuration)
     → MatchOption active (Refuses s NoConfig reply after)
-    (λ config. MatchBool (is_catalogued alloc.dsn s.sets) (Refuses s NameInUse reply after) (FindsNoVolume s config alloc reply after ⊎ Allocates s config alloc reply after))
+    (λ config. MatchBool (is_catalogued alloc.input.dsn s.sets) (Refuses s NameInUse reply after) (FindsNoVolume s config alloc reply after ⊎ Allocates s config alloc reply after))
     → after.activations ≤ s.activations + 1
 alloc-activations s alloc reply after None refuses = refuse-activations s NoConfig reply after refuses
-alloc-activations s alloc reply after (Some config) rule = alloc-activations_at s config alloc reply after (is_catalogued alloc.dsn s.sets) rule
+alloc-activations s alloc reply after (Some config) rule = alloc-activations_at s config alloc reply after (is_catalogued alloc.input.dsn s.sets) rule
 
 deck-activations : (s : DeskState) (deck : List ℕ) (reply : Reply) (after : DeskState) (active : Option Configuration)
     → MatchOption active (RefusesDeck s deck reply after ⊎ Activates s deck reply after) (λ _. Refuses s (Deck (NotBuilt (codes "active"))) reply after)
@@ -110,8 +110,13 @@ deck-activations s deck reply after None rule =
       | inr activates ↦ omega (arith, ap (λ (x : DeskState). x.activations) activates.after_is)
     ]
 
+form-activations : (s : DeskState) (alloc : Alloc) (reply : Reply) (after : DeskState) (plain : Bool)
+    → MatchBool plain (PlainRule s alloc reply after) (Refuses s (Deck (NotBuilt (codes "op"))) reply after) → after.activations ≤ s.activations + 1
+form-activations s alloc reply after true rule = alloc-activations s alloc reply after s.active rule
+form-activations s alloc reply after false refuses = refuse-activations s _ reply after refuses
+
 rule-activations : (s : DeskState) (op : Op) (reply : Reply) (after : DeskState) → Rule s op reply after → after.activations ≤ s.activations + 1
-rule-activations s (AllocOp alloc) reply after rule = alloc-activations s alloc reply after s.active rule
+rule-activations s (AllocOp alloc) reply after rule = form-activations s alloc reply after (is_plain alloc) rule
 rule-activations s (Activate deck) reply after rule = deck-activations s deck reply after s.active rule
 
 step-activations_at : (s t : DeskState) (e : Entry) (o : Option Entry) → MatchOption o (IsFresh s e t) (λ kept. IsRepeat kept e × (t ≡ s)) → t.activations ≤ s.activations + 1

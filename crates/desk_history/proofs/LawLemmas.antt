@@ -9,15 +9,16 @@ use Rattle.sms_construct.specs.declared.entry.Entry.{Entry}
 use Rattle.sms_construct.specs.declared.extent.Extent.{Extent}
 use Rattle.sms_construct.specs.declared.fault.Fault.TheVariants.{NotBuilt}
 use Rattle.sms_construct.specs.declared.reply.Reply.TheVariants.{Granted, NoConfig, NameInUse, Deck}
-use Rattle.sms_construct.specs.declared.request.Alloc.{Alloc}
+use Rattle.sms_construct.specs.declared.alloc.Alloc.{Alloc}
 use Rattle.sms_construct.specs.declared.request.Op.{Op}
 use Rattle.sms_construct.specs.declared.request.Op.TheVariants.{Alloc as AllocOp, Activate}
+use Rattle.sms_construct.specs.declared.trace.Trace.{Trace}
 use Rattle.sms_construct.specs.declared.volume.VolumeDef.{VolumeDef}
 use Rattle.desk_history.specs.Configuration.{Configuration}
 use Rattle.desk_history.specs.State.{DeskState, start_state, extents_of, is_catalogued}
 use Rattle.desk_history.specs.Refusal.{Refuses}
 use Rattle.desk_history.specs.Activation.{Activates, RefusesDeck}
-use Rattle.desk_history.specs.Allocation.{Allocates, FindsNoVolume, IsLawfulGrant}
+use Rattle.desk_history.specs.Allocation.{Allocates, FindsNoVolume, IsLawfulGrant, PlainRule, is_plain}
 use Rattle.desk_history.specs.Step.{is_of, kept_for, IsStep, IsFresh, IsRepeat, Rule}
 use Rattle.desk_history.specs.History.{Reaches, IsLegal}
 use Rattle.desk_history.specs.Grants.{GrantsLawfully}
@@ -87,45 +88,51 @@ kept-repeat front rest e kept legal found =
     let answer = rw found at parts.3.answer in answer.0
 
 -- a grant comes by the rule of ALLOC
-granted_at : (s : DeskState) (config : Configuration) (alloc : Alloc) (set : DataSet) (after : DeskState) (used : Bool)
-    → MatchBool used (Refuses s NameInUse (Granted set) after) (FindsNoVolume s config alloc (Granted set) after ⊎ Allocates s config alloc (Granted set) after)
+granted_at : (s : DeskState) (config : Configuration) (alloc : Alloc) (set : DataSet) (trace : Trace) (after : DeskState) (used : Bool)
+    → MatchBool used (Refuses s NameInUse (Granted set trace) after) (FindsNoVolume s config alloc (Granted set trace) after ⊎ Allocates s config alloc (Granted set trace) after)
     → IsLawfulGrant s config alloc set
-granted_at s config alloc set after true refuses = absurd (cc refuses.reply_is)
-granted_at s config alloc set after false rule =
+granted_at s config alloc set trace after true refuses = absurd (cc refuses.reply_is)
+granted_at s config alloc set trace after false rule =
     elim rule [
       | inl none ↦ absurd (cc none.refuses.reply_is)
       | inr allocates ↦ let same : allocates.set ≡ set = cc allocates.reply_is in subst (IsLawfulGrant s config alloc) same allocates.lawful
     ]
 
-granted-alloc : (s : DeskState) (alloc : Alloc) (set : DataSet) (after : DeskState) (active : Option Configuration) → s.active ≡ active
-    → MatchOption active (Refuses s NoConfig (Granted set) after)
-    (λ config. MatchBool (is_catalogued alloc.dsn s.sets) (Refuses s NameInUse (Granted set) after) (FindsNoVolume s config alloc (Granted set) after ⊎ Allocates s config alloc (Granted set) after))
+granted-alloc : (s : DeskState) (alloc : Alloc) (set : DataSet) (trace : Trace) (after : DeskState) (active : Option Configuration) → s.active ≡ active
+    → MatchOption active (Refuses s NoConfig (Granted set trace) after)
+    (λ config. MatchBool (is_catalogued alloc.input.dsn s.sets) (Refuses s NameInUse (Granted set trace) after) (FindsNoVolume s config alloc (Granted set trace) after ⊎ Allocates s config alloc (Granted set trace) after))
     → (config : Configuration) × (s.active ≡ Some config) × IsLawfulGrant s config alloc set
-granted-alloc s alloc set after None is refuses = absurd (cc refuses.reply_is)
-granted-alloc s alloc set after (Some config) is rule = (config, is, granted_at s config alloc set after (is_catalogued alloc.dsn s.sets) rule)
+granted-alloc s alloc set trace after None is refuses = absurd (cc refuses.reply_is)
+granted-alloc s alloc set trace after (Some config) is rule = (config, is, granted_at s config alloc set trace after (is_catalogued alloc.input.dsn s.sets) rule)
 
-activate-grants-none : (s : DeskState) (deck : List ℕ) (set : DataSet) (after : DeskState) (active : Option Configuration)
-    → MatchOption active (RefusesDeck s deck (Granted set) after ⊎ Activates s deck (Granted set) after) (λ _. Refuses s (Deck (NotBuilt (codes "active"))) (Granted set) after) → ⊥
-activate-grants-none s deck set after (Some config) refuses = cc refuses.reply_is
-activate-grants-none s deck set after None rule = elim rule [ inl refused ↦ cc refused.refuses.reply_is | inr activates ↦ cc activates.reply_is ]
+activate-grants-none : (s : DeskState) (deck : List ℕ) (set : DataSet) (trace : Trace) (after : DeskState) (active : Option Configuration)
+    → MatchOption active (RefusesDeck s deck (Granted set trace) after ⊎ Activates s deck (Granted set trace) after) (λ _. Refuses s (Deck (NotBuilt (codes "active"))) (Granted set trace) after) → ⊥
+activate-grants-none s deck set trace after (Some config) refuses = cc refuses.reply_is
+activate-grants-none s deck set trace after None rule = elim rule [ inl refused ↦ cc refused.refuses.reply_is | inr activates ↦ cc activates.reply_is ]
 
-granted-rule : (front : List Entry) (s : DeskState) (op : Op) (set : DataSet) (after : DeskState) → Reaches front s → Rule s op (Granted set) after → GrantsLawfully front op set
-granted-rule front s (AllocOp alloc) set after reaches rule =
-    let found = granted-alloc s alloc set after s.active refl rule in
+granted-form : (s : DeskState) (alloc : Alloc) (set : DataSet) (trace : Trace) (after : DeskState) (plain : Bool)
+    → MatchBool plain (PlainRule s alloc (Granted set trace) after) (Refuses s (Deck (NotBuilt (codes "op"))) (Granted set trace) after)
+    → (config : Configuration) × (s.active ≡ Some config) × IsLawfulGrant s config alloc set
+granted-form s alloc set trace after true rule = granted-alloc s alloc set trace after s.active refl rule
+granted-form s alloc set trace after false refuses = absurd (cc refuses.reply_is)
+
+granted-rule : (front : List Entry) (s : DeskState) (op : Op) (set : DataSet) (trace : Trace) (after : DeskState) → Reaches front s → Rule s op (Granted set trace) after → GrantsLawfully front op set
+granted-rule front s (AllocOp alloc) set trace after reaches rule =
+    let found = granted-form s alloc set trace after (is_plain alloc) rule in
     record { alloc = alloc; state = s; config = found.0; op_is = refl; reaches = reaches; active = found.1; lawful = found.2 }
-granted-rule front s (Activate deck) set after reaches rule = absurd (activate-grants-none s deck set after s.active rule)
+granted-rule front s (Activate deck) set trace after reaches rule = absurd (activate-grants-none s deck set trace after s.active rule)
 
-granted-step : (front : List Entry) (s t : DeskState) (e : Entry) (set : DataSet) (o : Option Entry) → kept_for e.request.job e.request.number front ≡ o → Reaches front s
-    → e.answer.place ≡ length front + 1 → MatchOption o (IsFresh s e t) (λ kept. IsRepeat kept e × (t ≡ s)) → e.answer.reply ≡ Granted set → e.answer.first ≡ e.answer.place
+granted-step : (front : List Entry) (s t : DeskState) (e : Entry) (set : DataSet) (trace : Trace) (o : Option Entry) → kept_for e.request.job e.request.number front ≡ o → Reaches front s
+    → e.answer.place ≡ length front + 1 → MatchOption o (IsFresh s e t) (λ kept. IsRepeat kept e × (t ≡ s)) → e.answer.reply ≡ Granted set trace → e.answer.first ≡ e.answer.place
     → GrantsLawfully front e.request.op set
-granted-step front s t e set None is reaches place fresh granted first =
-    granted-rule front s e.request.op set t reaches (rw granted at fresh.rule)
-granted-step front s t e set (Some kept) is reaches place repeat granted first =
+granted-step front s t e set trace None is reaches place fresh granted first =
+    granted-rule front s e.request.op set trace t reaches (rw granted at fresh.rule)
+granted-step front s t e set trace (Some kept) is reaches place repeat granted first =
     let stands = find-stands (is_of e.request.job e.request.number) [] front start_state s kept reaches is in
     elim repeat.0 [ inl same ↦ absurd (omega (arith, same.first_is, stands.0)) | inr other ↦ absurd (cc (granted, other.reply_is)) ]
 
-pub granted-lawfully : (front rest : List Entry) (e : Entry) (set : DataSet) → IsLegal (front ++ e ∷ rest) → e.answer.reply ≡ Granted set → e.answer.first ≡ e.answer.place
+pub granted-lawfully : (front rest : List Entry) (e : Entry) (set : DataSet) (trace : Trace) → IsLegal (front ++ e ∷ rest) → e.answer.reply ≡ Granted set trace → e.answer.first ≡ e.answer.place
     → GrantsLawfully front e.request.op set
-granted-lawfully front rest e set legal granted first =
+granted-lawfully front rest e set trace legal granted first =
     let parts = step-inside front rest e legal in
-    granted-step front parts.0 parts.1 e set (kept_for e.request.job e.request.number front) refl parts.2 parts.3.place parts.3.answer granted first
+    granted-step front parts.0 parts.1 e set trace (kept_for e.request.job e.request.number front) refl parts.2 parts.3.place parts.3.answer granted first

@@ -7,7 +7,7 @@ use Rattle.std.proofs.lemmas.List.{flat_map_more}
 use Rattle.sms_construct.specs.declared.data_set.DataSet.{DataSet}
 use Rattle.sms_construct.specs.declared.extent.Extent.{Extent}
 use Rattle.sms_construct.specs.declared.volume.VolumeDef.{VolumeDef}
-use Rattle.sms_construct.specs.declared.request.Alloc.{Alloc}
+use Rattle.sms_construct.specs.declared.alloc.Alloc.{Alloc}
 use Rattle.sms_construct.specs.declared.request.Op.{Op}
 use Rattle.sms_construct.specs.declared.request.Op.TheVariants.{Alloc as AllocOp, Activate}
 use Rattle.sms_construct.specs.declared.reply.Reply.{Reply}
@@ -21,7 +21,7 @@ use Rattle.desk_history.specs.GapRule.{grant_of}
 use Rattle.desk_history.specs.DeckForm.{configuration_of}
 use Rattle.desk_history.specs.Refusal.{Refuses}
 use Rattle.desk_history.specs.Activation.{Activates, RefusesDeck}
-use Rattle.desk_history.specs.Allocation.{Allocates, FindsNoVolume, AreRejected, IsLawfulGrant, grant_on}
+use Rattle.desk_history.specs.Allocation.{Allocates, FindsNoVolume, PlainRule, AreRejected, IsLawfulGrant, grant_on, is_plain, need_of, new_data_set, no_trace}
 use Rattle.desk_history.specs.Step.{Rule}
 use Rattle.desk_history.specs.Stack.{IsStacked, IsPacked}
 use Rattle.desk_history.proofs.StackLemmas.{stack-push, stack-filter, stack-tracks, tracks_of-append, gap_from}
@@ -49,15 +49,15 @@ pub stacked-grant : (s : DeskState) (config : Configuration) (alloc : Alloc) (se
 stacked-grant s config alloc set stacked lawful =
     let volume = stacked.volume in
     let same : lawful.volume ≡ volume = candidate-sole config volume lawful.volume stacked.sole lawful.candidate in
-    let on : grant_on s volume alloc.space.primary ≡ Some lawful.pieces = rw same at lawful.granted in
+    let on : grant_on s volume (need_of alloc) ≡ Some lawful.pieces = rw same at lawful.granted in
     let all : extents_on volume.volser s.sets ≡ extents_of s.sets = stack-filter volume.volser 0 (extents_of s.sets) stacked.mark stacked.stack in
-    let granted : grant_of (gaps_of volume.tracks (extents_of s.sets)) alloc.space.primary 0 ≡ Some lawful.pieces = rw all at on in
-    let is = grant-is volume.volser (extents_of s.sets) stacked.mark volume.tracks alloc.space.primary lawful.pieces stacked.stack stacked.within granted in
-    let extent : Extent = record { volser = volume.volser; start = stacked.mark; length = alloc.space.primary } in
+    let granted : grant_of (gaps_of volume.tracks (extents_of s.sets)) (need_of alloc) 0 ≡ Some lawful.pieces = rw all at on in
+    let is = grant-is volume.volser (extents_of s.sets) stacked.mark volume.tracks (need_of alloc) lawful.pieces stacked.stack stacked.within granted in
+    let extent : Extent = record { volser = volume.volser; start = stacked.mark; length = need_of alloc } in
     let extents : set.extents ≡ extent ∷ [] = rw (lawful.set_is, same, is.0) refl in
     record {
       volume = volume;
-      mark = stacked.mark + alloc.space.primary;
+      mark = stacked.mark + need_of alloc;
       sole = stacked.sole;
       listed = stacked.listed;
       stack = rw (extents_of-push s.sets set, extents) (stack-push volume.volser 0 (extents_of s.sets) stacked.mark extent stacked.stack refl refl);
@@ -89,7 +89,7 @@ alloc-packed_at : (s : DeskState) (config : Configuration) (alloc : Alloc) (repl
 alloc-packed_at s config alloc reply after true active stacked rule packed = refuse-packed s NameInUse reply after rule packed
 alloc-packed_at s config alloc reply after false active stacked rule packed =
     elim rule [
-      | inl none ↦ refuse-packed s NoVolume reply after none.refuses packed
+      | inl none ↦ refuse-packed s (NoVolume no_trace) reply after none.refuses packed
       | inr allocates ↦
           let grown : IsPacked (catalogued s allocates.set) = rw active (stacked-grant s config alloc allocates.set stacked allocates.lawful) in
           subst IsPacked (sym allocates.after_is) grown
@@ -97,12 +97,12 @@ alloc-packed_at s config alloc reply after false active stacked rule packed =
 
 alloc-packed : (s : DeskState) (alloc : Alloc) (reply : Reply) (after : DeskState) (active : Option Configuration) → s.active ≡ active
     → MatchOption active (Refuses s NoConfig reply after)
-    (λ config. MatchBool (is_catalogued alloc.dsn s.sets) (Refuses s NameInUse reply after) (FindsNoVolume s config alloc reply after ⊎ Allocates s config alloc reply after))
+    (λ config. MatchBool (is_catalogued alloc.input.dsn s.sets) (Refuses s NameInUse reply after) (FindsNoVolume s config alloc reply after ⊎ Allocates s config alloc reply after))
     → IsPacked s → IsPacked after
 alloc-packed s alloc reply after None is rule packed = refuse-packed s NoConfig reply after rule packed
 alloc-packed s alloc reply after (Some config) is rule packed =
     let stacked : IsStacked config s.sets = rw is at packed in
-    alloc-packed_at s config alloc reply after (is_catalogued alloc.dsn s.sets) is stacked rule packed
+    alloc-packed_at s config alloc reply after (is_catalogued alloc.input.dsn s.sets) is stacked rule packed
 
 deck-packed : (s : DeskState) (deck : List ℕ) (reply : Reply) (after : DeskState) (active : Option Configuration) → s.active ≡ active
     → MatchOption active (RefusesDeck s deck reply after ⊎ Activates s deck reply after) (λ _. Refuses s (Deck (NotBuilt (codes "active"))) reply after) → IsPacked s → IsPacked after
@@ -114,9 +114,14 @@ deck-packed s deck reply after None is rule packed =
       | inr activates ↦ activate-packed s deck reply after empty activates
     ]
 
+form-packed : (s : DeskState) (alloc : Alloc) (reply : Reply) (after : DeskState) (plain : Bool)
+    → MatchBool plain (PlainRule s alloc reply after) (Refuses s (Deck (NotBuilt (codes "op"))) reply after) → IsPacked s → IsPacked after
+form-packed s alloc reply after true rule packed = alloc-packed s alloc reply after s.active refl rule packed
+form-packed s alloc reply after false refuses packed = refuse-packed s _ reply after refuses packed
+
 -- whatever a fresh request does, the data sets stay in one stack
 pub rule-packed : (s : DeskState) (op : Op) (reply : Reply) (after : DeskState) → Rule s op reply after → IsPacked s → IsPacked after
-rule-packed s (AllocOp alloc) reply after rule packed = alloc-packed s alloc reply after s.active refl rule packed
+rule-packed s (AllocOp alloc) reply after rule packed = form-packed s alloc reply after (is_plain alloc) rule packed
 rule-packed s (Activate deck) reply after rule packed = deck-packed s deck reply after s.active refl rule packed
 
 -- one more data set adds its tracks
@@ -143,26 +148,26 @@ candidates-stacked config sets stacked =
 
 -- what fits above the mark is a lawful grant
 pub grant-lawful : (s : DeskState) (config : Configuration) (alloc : Alloc) (set : DataSet) (stacked : IsStacked config s.sets) (extent : Extent)
-    → 1 ≤ alloc.space.primary → stacked.mark + alloc.space.primary ≤ stacked.volume.tracks
-    → extent ≡ record { volser = stacked.volume.volser; start = stacked.mark; length = alloc.space.primary }
-    → set ≡ record { dsn = alloc.dsn; dataclas = None; storclas = config.storclas; mgmtclas = None; group = stacked.volume.group; extents = extent ∷ [] }
+    → 1 ≤ need_of alloc → stacked.mark + need_of alloc ≤ stacked.volume.tracks
+    → extent ≡ record { volser = stacked.volume.volser; start = stacked.mark; length = need_of alloc }
+    → set ≡ new_data_set alloc config.storclas stacked.volume.group (extent ∷ [])
     → IsLawfulGrant s config alloc set
 grant-lawful s config alloc set stacked extent some fits extent_is set_is =
     let volume = stacked.volume in
     let all : extents_on volume.volser s.sets ≡ extents_of s.sets = stack-filter volume.volser 0 (extents_of s.sets) stacked.mark stacked.stack in
     record {
       volume = volume;
-      pieces = gap_from stacked.mark alloc.space.primary ∷ [];
+      pieces = gap_from stacked.mark (need_of alloc) ∷ [];
       candidate = rw (candidates-stacked config s.sets stacked) (0, omega arith, refl);
-      granted = rw all (grant-fits volume.volser (extents_of s.sets) stacked.mark volume.tracks alloc.space.primary stacked.stack fits some);
+      granted = rw all (grant-fits volume.volser (extents_of s.sets) stacked.mark volume.tracks (need_of alloc) stacked.stack fits some);
       set_is = set_is ∙ rw extent_is refl;
     }
 
 -- where it doesn't fit the one candidate is rejected
-pub short-rejected : (s : DeskState) (config : Configuration) (alloc : Alloc) (stacked : IsStacked config s.sets) → stacked.volume.tracks < stacked.mark + alloc.space.primary
+pub short-rejected : (s : DeskState) (config : Configuration) (alloc : Alloc) (stacked : IsStacked config s.sets) → stacked.volume.tracks < stacked.mark + need_of alloc
     → AreRejected s config alloc
 short-rejected s config alloc stacked short =
     let volume = stacked.volume in
     let all : extents_on volume.volser s.sets ≡ extents_of s.sets = stack-filter volume.volser 0 (extents_of s.sets) stacked.mark stacked.stack in
     rw (candidates-stacked config s.sets stacked)
-    (rw all (grant-short volume.volser (extents_of s.sets) stacked.mark volume.tracks alloc.space.primary stacked.stack stacked.within short), tt)
+    (rw all (grant-short volume.volser (extents_of s.sets) stacked.mark volume.tracks (need_of alloc) stacked.stack stacked.within short), tt)

@@ -6,7 +6,7 @@ use Rattle.sms_construct.specs.declared.entry.Entry.{Entry}
 use Rattle.sms_construct.specs.declared.fault.Fault.TheVariants.{NotBuilt}
 use Rattle.sms_construct.specs.declared.reply.Reply.{Reply}
 use Rattle.sms_construct.specs.declared.reply.Reply.TheVariants.{NoConfig, NameInUse, NoVolume, Deck}
-use Rattle.sms_construct.specs.declared.request.Alloc.{Alloc}
+use Rattle.sms_construct.specs.declared.alloc.Alloc.{Alloc}
 use Rattle.sms_construct.specs.declared.request.Op.{Op}
 use Rattle.sms_construct.specs.declared.request.Op.TheVariants.{Alloc as AllocOp, Activate}
 use Rattle.desk_history.specs.Configuration.{Configuration}
@@ -14,7 +14,7 @@ use Rattle.desk_history.specs.DeckForm.{DeckForm, HasForm, Configures, configura
 use Rattle.desk_history.specs.State.{DeskState, start_state, activated, catalogued, is_catalogued}
 use Rattle.desk_history.specs.Refusal.{Refuses}
 use Rattle.desk_history.specs.Activation.{Activates, RefusesDeck}
-use Rattle.desk_history.specs.Allocation.{Allocates, FindsNoVolume}
+use Rattle.desk_history.specs.Allocation.{Allocates, FindsNoVolume, PlainRule, is_plain, no_trace}
 use Rattle.desk_history.specs.Step.{IsFresh, IsRepeat, Rule, kept_for}
 use Rattle.desk_history.specs.History.{Leads, Reaches}
 
@@ -50,7 +50,7 @@ alloc-one_at s config alloc reply a b true r r' = both-refuse s NameInUse NameIn
 alloc-one_at s config alloc reply a b false r r' =
     elim r [
       | inl none ↦ elim r' [
-        | inl none' ↦ both-refuse s NoVolume NoVolume reply a b none.refuses none'.refuses
+        | inl none' ↦ both-refuse s (NoVolume no_trace) (NoVolume no_trace) reply a b none.refuses none'.refuses
         | inr grants' ↦ absurd (cc (none.refuses.reply_is, grants'.reply_is))
       ]
       | inr grants ↦ elim r' [
@@ -63,12 +63,12 @@ alloc-one_at s config alloc reply a b false r r' =
 
 alloc-one : (s : DeskState) (alloc : Alloc) (reply : Reply) (a b : DeskState) (active : Option Configuration)
     → MatchOption active (Refuses s NoConfig reply a)
-    (λ config. MatchBool (is_catalogued alloc.dsn s.sets) (Refuses s NameInUse reply a) (FindsNoVolume s config alloc reply a ⊎ Allocates s config alloc reply a))
+    (λ config. MatchBool (is_catalogued alloc.input.dsn s.sets) (Refuses s NameInUse reply a) (FindsNoVolume s config alloc reply a ⊎ Allocates s config alloc reply a))
     → MatchOption active (Refuses s NoConfig reply b)
-    (λ config. MatchBool (is_catalogued alloc.dsn s.sets) (Refuses s NameInUse reply b) (FindsNoVolume s config alloc reply b ⊎ Allocates s config alloc reply b))
+    (λ config. MatchBool (is_catalogued alloc.input.dsn s.sets) (Refuses s NameInUse reply b) (FindsNoVolume s config alloc reply b ⊎ Allocates s config alloc reply b))
     → a ≡ b
 alloc-one s alloc reply a b None r r' = both-refuse s NoConfig NoConfig reply a b r r'
-alloc-one s alloc reply a b (Some config) r r' = alloc-one_at s config alloc reply a b (is_catalogued alloc.dsn s.sets) r r'
+alloc-one s alloc reply a b (Some config) r r' = alloc-one_at s config alloc reply a b (is_catalogued alloc.input.dsn s.sets) r r'
 
 deck-one : (s : DeskState) (deck : List ℕ) (reply : Reply) (a b : DeskState) (active : Option Configuration)
     → MatchOption active (RefusesDeck s deck reply a ⊎ Activates s deck reply a) (λ _. Refuses s (Deck (NotBuilt (codes "active"))) reply a)
@@ -89,8 +89,14 @@ deck-one s deck reply a b None r r' =
       ]
     ]
 
+form-one : (s : DeskState) (alloc : Alloc) (reply : Reply) (a b : DeskState) (plain : Bool)
+    → MatchBool plain (PlainRule s alloc reply a) (Refuses s (Deck (NotBuilt (codes "op"))) reply a)
+    → MatchBool plain (PlainRule s alloc reply b) (Refuses s (Deck (NotBuilt (codes "op"))) reply b) → a ≡ b
+form-one s alloc reply a b true r r' = alloc-one s alloc reply a b s.active r r'
+form-one s alloc reply a b false r r' = both-refuse s _ _ reply a b r r'
+
 rule-one : (s : DeskState) (op : Op) (reply : Reply) (a b : DeskState) → Rule s op reply a → Rule s op reply b → a ≡ b
-rule-one s (AllocOp alloc) reply a b r r' = alloc-one s alloc reply a b s.active r r'
+rule-one s (AllocOp alloc) reply a b r r' = form-one s alloc reply a b (is_plain alloc) r r'
 rule-one s (Activate deck) reply a b r r' = deck-one s deck reply a b s.active r r'
 
 step-one_at : (s : DeskState) (e : Entry) (a b : DeskState) (o : Option Entry) → MatchOption o (IsFresh s e a) (λ kept. IsRepeat kept e × (a ≡ s))

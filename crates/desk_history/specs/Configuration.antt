@@ -4,7 +4,7 @@ use Rattle.std.specs.List.{list_any}
 use Rattle.sms_construct.specs.declared.status.Status.{Status}
 use Rattle.sms_construct.specs.declared.target.Target.{Target}
 use Rattle.sms_construct.specs.declared.target.Target.TheVariants.{Group, Volume}
-use Rattle.sms_construct.specs.declared.request.Alloc.{Alloc}
+use Rattle.sms_construct.specs.declared.alloc.Alloc.{Alloc}
 use Rattle.sms_construct.specs.declared.storage_group.StorGroup.{StorGroup}
 use Rattle.sms_construct.specs.declared.volume.VolumeDef.{VolumeDef}
 

@@ -1,11 +1,11 @@
 -- The one form of a deck that is built so far (docs/rules.md, "Decks").
-use Rattle.std.specs.Prelude.{ℕ, ◌≡◌, ◌≤◌, ◌+◌, List, [], ◌∷◌, ◌++◌, Some, IsUtf8, codes, pos}
+use Rattle.std.specs.Prelude.{ℕ, ◌≡◌, ◌≤◌, ◌+◌, List, [], ◌∷◌, ◌++◌, false, Some, IsUtf8, codes, pos}
 use Rattle.toml.specs.Data.{Data, string, integer, table, Members, no_members, member, get_member}
 use Rattle.toml.specs.Parse.{parse_document}
 use Rattle.desk_common.specs.Words.{words_of}
 use Rattle.dsn_mask.specs.Name.{IsName, IsVolser}
 use Rattle.sms_construct.specs.declared.fault.Fault.{Fault}
-use Rattle.sms_construct.specs.declared.fault.Fault.TheVariants.{NotBuilt, NotToml}
+use Rattle.sms_construct.specs.declared.fault.Fault.TheVariants.{NotBuilt, NotToml, UnknownKey, Missing, BadValue, BadName, TwoGroups, Routine, Unassigned, TooMany}
 use Rattle.sms_construct.specs.declared.status.Status.TheVariants.{Enable}
 use Rattle.desk_history.specs.Configuration.{Configuration}
 
@@ -81,7 +81,7 @@ abbrev pub configuration_of : DeckForm → Configuration
 configuration_of form = record {
   storclas = form.storclas;
   listed = form.group ∷ [];
-  groups = record { name = form.group; status = Enable } ∷ [];
+  groups = record { name = form.group; status = Enable; high = 85; low = 1; overflow = false } ∷ [];
   volumes = record { volser = form.volser; group = form.group; status = Enable; tracks = form.tracks } ∷ [];
 }
 
@@ -104,7 +104,15 @@ pub record IsOtherForm (bytes : List ℕ) : Type 0 where
   pub means : MeansTable bytes top
   pub other : (form : DeckForm) → HasForm top form → ⊥
 
--- the fault of a deck
+-- the fault of a deck: the others aren't built
 abbrev pub HasFault : List ℕ → Fault → Type 0
 HasFault bytes NotToml = (top : Members) → MeansTable bytes top → ⊥
 HasFault bytes (NotBuilt path) = (path ≡ codes "deck") × IsOtherForm bytes
+HasFault bytes (UnknownKey path) = ⊥
+HasFault bytes (Missing path) = ⊥
+HasFault bytes (BadValue path) = ⊥
+HasFault bytes (BadName path) = ⊥
+HasFault bytes (TwoGroups volser) = ⊥
+HasFault bytes (Routine kind fault) = ⊥
+HasFault bytes (Unassigned kind name) = ⊥
+HasFault bytes (TooMany path) = ⊥

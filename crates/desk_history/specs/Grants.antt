@@ -2,7 +2,7 @@
 use Rattle.std.specs.Prelude.{◌≡◌, List, Some}
 use Rattle.sms_construct.specs.declared.data_set.DataSet.{DataSet}
 use Rattle.sms_construct.specs.declared.entry.Entry.{Entry}
-use Rattle.sms_construct.specs.declared.request.Alloc.{Alloc as Allocation}
+use Rattle.sms_construct.specs.declared.alloc.Alloc.{Alloc as Allocation}
 use Rattle.sms_construct.specs.declared.request.Op.{Op}
 use Rattle.sms_construct.specs.declared.request.Op.TheVariants.{Alloc}
 use Rattle.desk_history.specs.Configuration.{Configuration}

@@ -1,8 +1,11 @@
 -- One event of the desk: what an entry may be after the entries before it, and what it does.
 use Rattle.std.specs.Prelude.{ℕ, Bool, true, false, ◌≡◌, ◌+◌, ◌==◌, ◌&&◌, ◌⊎◌, List, Option, length, bytes_eq, find, MatchOption}
+use Rattle.sms_construct.specs.Fate.{fate_of}
 use Rattle.sms_construct.specs.declared.entry.Entry.{Entry}
+use Rattle.sms_construct.specs.declared.fate.Fate.{Fate}
+use Rattle.sms_construct.specs.declared.fate.Fate.TheVariants.{NoEntry, Unkept, Kept}
 use Rattle.sms_construct.specs.declared.reply.Reply.{Reply}
-use Rattle.sms_construct.specs.declared.reply.Reply.TheVariants.{Reused, Memory}
+use Rattle.sms_construct.specs.declared.reply.Reply.TheVariants.{Reused}
 use Rattle.sms_construct.specs.declared.request.Op.{Op}
 use Rattle.sms_construct.specs.declared.request.Op.TheVariants.{Alloc, Activate}
 use Rattle.desk_history.specs.State.{DeskState}
@@ -22,10 +25,15 @@ is_of job number e = bytes_eq e.request.job job && (e.request.number == number)
 abbrev pub kept_for : List ℕ → ℕ → List Entry → Option Entry
 kept_for job number before = find (is_of job number) before
 
--- a reply that comes with an entry: any but want of memory
+-- a reply of this fate comes with an entry
+abbrev pub makes_entry : Fate → Bool
+makes_entry NoEntry = false
+makes_entry Unkept = true
+makes_entry Kept = true
+
+-- a reply that comes with an entry
 abbrev pub is_entered : Reply → Bool
-is_entered Memory = false
-is_entered reply = true
+is_entered reply = makes_entry (fate_of reply)
 
 -- the number is new: the reply is by the rule of its op
 pub record IsFresh (s : DeskState) (e : Entry) (after : DeskState) : Type 0 where

@@ -3,6 +3,7 @@ ghost use Rattle.std.specs.Prelude.{◌≡◌, ◌+◌, ◌++◌, ◌∷◌, Lis
 ghost use Rattle.sms_construct.specs.declared.data_set.DataSet.{DataSet};
 ghost use Rattle.sms_construct.specs.declared.entry.Entry.{Entry};
 ghost use Rattle.sms_construct.specs.declared.reply.Reply.TheVariants.{Granted};
+ghost use Rattle.sms_construct.specs.declared.trace.Trace.{Trace};
 ghost use Rattle.desk_history.specs.Configuration.{Configuration};
 ghost use Rattle.desk_history.specs.State.{DeskState, extents_of};
 ghost use Rattle.desk_history.specs.Step.{IsRepeat, kept_for};
@@ -38,6 +39,6 @@ pub fn kept_replies()
 
 /// In a legal history a grant that isn't a repeat is lawful where it stands.
 pub fn lawful_grants()
-    ensures { (front rest : List Entry) (entry : Entry) (set : DataSet) →
-        IsLegal (front ++ entry ∷ rest) → entry.answer.reply ≡ Granted set → entry.answer.first ≡ entry.answer.place → GrantsLawfully front entry.request.op set }
+    ensures { (front rest : List Entry) (entry : Entry) (set : DataSet) (trace : Trace) →
+        IsLegal (front ++ entry ∷ rest) → entry.answer.reply ≡ Granted set trace → entry.answer.first ≡ entry.answer.place → GrantsLawfully front entry.request.op set }
 {}

@@ -2,6 +2,8 @@
 #![tactic(auto)]
 
 #[cfg(test)]
+mod constructs;
+#[cfg(test)]
 mod decks;
 #[cfg(test)]
 mod first_path;

@@ -162,15 +162,19 @@ fn show_op(alloc: Global, shown: &mut Vec<u8>, op: &Op) -> Result<(), AllocError
     match op {
         Op::Alloc(request) => {
             shown.extend_from_slice(b" ALLOC ")?;
-            shown.extend_from_slice(request.dsn.text().bytes())?;
+            let request = request.get();
+            shown.extend_from_slice(request.dsn().text().bytes())?;
+            let Some(space) = request.space else {
+                return Ok(());
+            };
             shown.extend_from_slice(b" ")?;
-            shown.extend_from_slice(request.space.primary().to_string(alloc)?.as_bytes())?;
+            shown.extend_from_slice(space.primary().to_string(alloc)?.as_bytes())?;
             shown.extend_from_slice(b" ")?;
-            shown.extend_from_slice(request.space.secondary().to_string(alloc)?.as_bytes())
+            shown.extend_from_slice(space.secondary().to_string(alloc)?.as_bytes())
         }
         Op::Activate(deck) => {
             shown.extend_from_slice(b" ACTIVATE ")?;
-            shown.extend_from_slice(deck.as_slice())
+            shown.extend_from_slice(deck.get().as_slice())
         }
     }
 }

@@ -3,10 +3,10 @@ ghost use Rattle.std.specs.Prelude.{◌≡◌, ◌≤◌, length};
 
 use std::marker::Model;
 
-/// At most `N` bytes.
+/// At most `N` bytes, and at most 255.
 pub struct Text<const N: usize> {
     buffer: [u8; N],
-    count: usize,
+    count: u8,
 }
 
 impl<const N: usize> Model for Text<N> {
@@ -40,20 +40,21 @@ impl<const N: usize> Copy for Text<N> {}
 
 impl<const N: usize> Text<N> {
     pub fn new(bytes: &[u8]) -> Self
-        requires { length bytes.now ≤ N }
+        requires fits { length bytes.now ≤ N }
+        requires small { length bytes.now ≤ 255 }
         ensures { result ≡ bytes.now }
     {
         let mut buffer = [0; N];
         buffer[..bytes.len()].copy_from_slice(bytes);
         Text {
             buffer,
-            count: bytes.len(),
+            count: bytes.len() as u8,
         }
     }
 
     pub fn bytes(&self) -> &[u8]
         ensures { result.now ≡ self.now }
     {
-        &self.buffer[..self.count]
+        &self.buffer[..self.count as usize]
     }
 }

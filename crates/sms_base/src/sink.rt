@@ -1,8 +1,9 @@
 //! Where bytes go.
-ghost use Rattle.std.specs.Prelude.{◌≡◌, ◌≤◌, ◌<◌, List, ℕ, None, length, IfOk};
+ghost use Rattle.std.specs.Prelude.{◌≡◌, ◌≤◌, ◌<◌, List, ℕ, length, IfOk};
 ghost use Rattle.std.specs.declared.option.Option.{Option};
 ghost use Rattle.std.specs.Io.KnownBytes.{WriteAppends};
 ghost use Rattle.desk_common.specs.Causes.{HasCause};
+ghost use Rattle.sms_base.specs.Beside.{Beside, no_half};
 
 use crate::source::Failed;
 
@@ -14,8 +15,8 @@ pub trait Sink {
     /// How often a write has failed.
     ghost write_faults: { Self → ℕ };
 
-    /// What a write never changes, where there is such a thing.
-    ghost beside_writing: { Self → Option (List ℕ) } = { λ _. None };
+    /// The other half of a link, which a write never changes.
+    ghost beside_writing: { Self → Beside } = { λ _. no_half };
 
     /// Takes bytes from the front of the piece, and answers how many.
     fn write(&mut self, piece: &[u8]) -> Result<usize, Failed>

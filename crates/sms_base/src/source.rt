@@ -1,9 +1,10 @@
 //! Where bytes come from.
-ghost use Rattle.std.specs.Prelude.{◌≡◌, List, ℕ, None};
+ghost use Rattle.std.specs.Prelude.{◌≡◌, List, ℕ};
 ghost use Rattle.std.specs.declared.option.Option.{Option};
 ghost use Rattle.std.specs.Io.{ReadsAtMost};
 ghost use Rattle.std.specs.Io.KnownBytes.{ReadConsumes};
 ghost use Rattle.desk_common.specs.Causes.{HasCause};
+ghost use Rattle.sms_base.specs.Beside.{Beside, no_half};
 
 use thiserror::Error;
 
@@ -31,8 +32,8 @@ pub trait Source {
     /// How often a read has failed.
     ghost read_faults: { Self → ℕ };
 
-    /// What a read never changes, where there is such a thing.
-    ghost beside_reading: { Self → Option (List ℕ) } = { λ _. None };
+    /// The other half of a link, which a read never changes.
+    ghost beside_reading: { Self → Beside } = { λ _. no_half };
 
     /// Reads the next bytes into the front of the buffer, and answers how many. A read of none into
     /// a buffer that isn't empty is the end of the input.

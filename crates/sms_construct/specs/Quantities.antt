@@ -1,5 +1,8 @@
--- The ranges of the numbers that a request holds.
-use Rattle.std.specs.Prelude.{ℕ, ◌≤◌, ◌&&◌, nat_le, Option, Some, None, if◌then◌else◌}
+-- The quantities that a request holds: their ranges, and tracks in KB.
+use Rattle.std.specs.Prelude.{ℕ, ◌≤◌, ◌+◌, ◌*◌, ◌&&◌, nat_le, Option, Some, None, if◌then◌else◌}
+use Rattle.acs_tree.specs.Inputs.{kilobytes_of}
+use Rattle.sms_construct.specs.declared.unit.Unit.{Unit as UnitOf}
+use Rattle.sms_construct.specs.declared.unit.Unit.TheVariants.{Trk, Cyl}
 
 -- a request number is 1 to 4,294,967,295
 abbrev pub IsRequestNumber : ℕ → Type 0
@@ -9,8 +12,17 @@ IsRequestNumber number = (1 ≤ number) × (number ≤ 4294967295)
 abbrev pub request_number_of : ℕ → Option ℕ
 request_number_of number = if nat_le 1 number && nat_le number 4294967295 then Some number else None
 
--- the quantities of a SPACE operand, in tracks
+-- a volume count is 1 to 59
+abbrev pub IsVolumeCount : ℕ → Type 0
+IsVolumeCount count = (1 ≤ count) × (count ≤ 59)
+
+-- the number as a volume count, where it is one
+abbrev pub volume_count_of : ℕ → Option ℕ
+volume_count_of count = if nat_le 1 count && nat_le count 59 then Some count else None
+
+-- the quantities of a SPACE operand, in its unit
 pub record Quantities : Type 0 where
+  pub unit : UnitOf
   pub primary : ℕ
   pub secondary : ℕ
 
@@ -21,7 +33,28 @@ pub record IsSpace (q : Quantities) : Type 0 where
   pub secondary : q.secondary ≤ 16777215
 
 -- the space of two quantities, where both are in range
-abbrev pub space_of : ℕ → ℕ → Option Quantities
-space_of primary secondary =
+abbrev pub space_of : UnitOf → ℕ → ℕ → Option Quantities
+space_of unit primary secondary =
     if nat_le 1 primary && (nat_le primary 16777215 && nat_le secondary 16777215)
-    then Some (record { primary = primary; secondary = secondary }) else None
+    then Some (record { unit = unit; primary = primary; secondary = secondary }) else None
+
+-- the tracks of a unit: a cylinder has 15
+abbrev pub tracks_in : UnitOf → ℕ
+tracks_in Trk = 1
+tracks_in Cyl = 15
+
+-- the primary quantity in tracks
+abbrev pub primary_tracks_of : Quantities → ℕ
+primary_tracks_of q = q.primary * tracks_in q.unit
+
+-- the secondary quantity in tracks
+abbrev pub secondary_tracks_of : Quantities → ℕ
+secondary_tracks_of q = q.secondary * tracks_in q.unit
+
+-- the size of the primary quantity in KB, which routines see as &SIZE
+abbrev pub size_in_kilobytes : Quantities → ℕ
+size_in_kilobytes q = kilobytes_of (primary_tracks_of q)
+
+-- the size with 15 secondary quantities in KB, which routines see as &MAXSIZE
+abbrev pub most_in_kilobytes : Quantities → ℕ
+most_in_kilobytes q = kilobytes_of (primary_tracks_of q + 15 * secondary_tracks_of q)

@@ -2,6 +2,8 @@
 ghost use Rattle.std.specs.Prelude.{◌≡◌, IfOk};
 
 use crate::extent::Extents;
+use crate::unit::Unit;
+use crate::volume_count::VolumeCount;
 use desk_common::Items;
 use dsn_mask::{Dsn, Name};
 use std::alloc::{AllocError, Global};
@@ -15,11 +17,26 @@ pub struct DataSet {
     pub storclas: Name,
     pub mgmtclas: Option<Name>,
     pub group: Name,
+    /// The unit in which its space was asked for.
+    pub unit: Unit,
+    /// The secondary quantity, in tracks.
+    pub secondary: u32,
+    /// The number of volumes on which it may be.
+    pub volumes: VolumeCount,
+    /// The day on which it was allocated, as its request says.
+    pub day: u32,
+    /// Its retention period in days, if its request names one.
+    pub retpd: Option<u32>,
+    /// The tracks that it uses.
+    pub used: u32,
     pub extents: Extents,
 }
 
+/// Catalogued data sets.
+pub type DataSets = Items<DataSet>;
+
 impl DataSet {
-    /// The same data set, or want of memory.
+    /// The same data set with extents of its own, or want of memory.
     pub fn copy(&self, alloc: Global) -> Result<Self, AllocError>
         ensures { IfOk result (λ copy. copy ≡ self.now) }
     {
@@ -30,6 +47,12 @@ impl DataSet {
             storclas: self.storclas,
             mgmtclas: self.mgmtclas,
             group: self.group,
+            unit: self.unit,
+            secondary: self.secondary,
+            volumes: self.volumes,
+            day: self.day,
+            retpd: self.retpd,
+            used: self.used,
             extents,
         })
     }

@@ -1,39 +1,42 @@
 //! What a job asks.
 ghost use Rattle.std.specs.Prelude.{◌≡◌, ◌↔◌, IsTrue, IfOk};
+ghost use Rattle.sms_construct.specs.Requests.{plain_alloc};
 
+use crate::alloc::Alloc;
 use crate::request_number::RequestNumber;
 use crate::space::Space;
-use desk_common::Items;
+use desk_common::{Items, Shared};
 use dsn_mask::{Dsn, Name};
 use std::alloc::{AllocError, Global};
 
-/// The bytes of a deck, as they were sent.
-pub type DeckText = Items<u8>;
+/// The bytes of a deck, as they were sent. All copies of a request share them.
+pub type DeckText = Shared<Items<u8>>;
 
-/// The name and the space of the data set that is asked for.
-#[derive(Clone, Copy)]
-pub struct Alloc {
-    pub dsn: Dsn,
-    pub space: Space,
-}
-
-/// What a request asks of the desk.
+/// What a request asks of the desk. All copies of a request share what it holds.
 #[derive(Drop)]
 pub enum Op {
     /// Allocate a new data set.
-    Alloc(Alloc),
+    Alloc(Shared<Alloc>),
     /// Make the configuration of this deck the active one.
     Activate(DeckText),
 }
 
 impl Op {
-    /// The same op, or want of memory.
-    pub fn copy(&self, alloc: Global) -> Result<Self, AllocError>
+    /// An ALLOC that names a data set and a space and nothing else.
+    pub fn plain(alloc: Global, dsn: Dsn, space: Space) -> Result<Self, AllocError>
+        ensures { IfOk result (λ op. op ≡ Op.Alloc (plain_alloc dsn space)) }
+    {
+        Ok(Op::Alloc(Alloc::plain(alloc, dsn, space)?))
+    }
+
+    /// The same op, which shares what it holds. It takes no memory; `AllocError` comes only where no further
+    /// owner can be counted.
+    pub fn copy(&self) -> Result<Self, AllocError>
         ensures { IfOk result (λ copy. copy ≡ self.now) }
     {
         match self {
-            Op::Alloc(allocation) => Ok(Op::Alloc(*allocation)),
-            Op::Activate(deck) => Ok(Op::Activate(Items::from_slice(alloc, deck.as_slice())?)),
+            Op::Alloc(allocation) => Ok(Op::Alloc(allocation.share()?)),
+            Op::Activate(deck) => Ok(Op::Activate(deck.share()?)),
         }
     }
 
@@ -42,19 +45,12 @@ impl Op {
         ensures { IsTrue result ↔ (self.now ≡ other.now) }
     {
         match (self, other) {
-            (Op::Alloc(allocation), Op::Alloc(other)) => allocation.equals(other),
-            (Op::Activate(deck), Op::Activate(other)) => deck.as_slice() == other.as_slice(),
-            _ => false,
+            (Op::Alloc(allocation), Op::Alloc(other)) => allocation.get().equals(other.get()),
+            (Op::Activate(deck), Op::Activate(other)) => {
+                deck.get().as_slice() == other.get().as_slice()
+            }
+            (Op::Alloc(_), Op::Activate(_)) | (Op::Activate(_), Op::Alloc(_)) => false,
         }
-    }
-}
-
-impl Alloc {
-    /// Whether all fields of the two are equal.
-    pub fn equals(&self, other: &Self) -> bool
-        ensures { IsTrue result ↔ (self.now ≡ other.now) }
-    {
-        self.dsn == other.dsn && self.space == other.space
     }
 }
 
@@ -67,14 +63,15 @@ pub struct Request {
 }
 
 impl Request {
-    /// The same request, or want of memory.
-    pub fn copy(&self, alloc: Global) -> Result<Self, AllocError>
+    /// The same request, which shares what its op holds. It takes no memory; `AllocError` comes only where no
+    /// further owner can be counted.
+    pub fn copy(&self) -> Result<Self, AllocError>
         ensures { IfOk result (λ copy. copy ≡ self.now) }
     {
         Ok(Request {
             job: self.job,
             number: self.number,
-            op: self.op.copy(alloc)?,
+            op: self.op.copy()?,
         })
     }
 }

@@ -13,7 +13,6 @@ use std::marker::Model;
 /// The desk's core, which contracts see as its journal.
 #[derive(Drop)]
 pub struct Core {
-    alloc: Global,
     journal: Vec<Entry>,
     state: Running,
 }
@@ -36,7 +35,6 @@ impl Core {
         ensures { result ≡ [] }
     {
         Core {
-            alloc,
             journal: Vec::new(alloc),
             state: Running::new(alloc),
         }
@@ -57,7 +55,7 @@ impl Core {
         if self.journal.reserve(1).is_err() || self.state.reserve().is_err() {
             return want_of_memory();
         }
-        let Ok(prepared) = prepare(self.alloc, &self.journal, &self.state, request) else {
+        let Ok(prepared) = prepare(&self.journal, &self.state, request) else {
             return want_of_memory();
         };
         let Prepared {
@@ -66,9 +64,7 @@ impl Core {
             effect,
         } = prepared;
         self.state.apply(effect);
-        if self.journal.push(entry).is_err() {
-            unreachable!();
-        }
+        self.journal.push_reserved(entry);
         answer
     }
 

@@ -1,5 +1,6 @@
 //! The state that the desk runs on.
-ghost use Rattle.std.specs.Prelude.{◌≡◌, ◌+◌, ◌<◌, ◌^◌, ◌∷◌, [], None, IfOk, OnOk};
+ghost use Rattle.std.specs.Prelude.{◌≡◌, ◌+◌, ◌<◌, ◌^◌, ◌∷◌, [], true, false, Some, IfOk, MatchOption, OnOk};
+ghost use Rattle.desk_history.specs.Allocation.{is_plain, new_data_set, no_trace};
 ghost use Rattle.desk_history.specs.State.{start_state, is_catalogued, tracks_of};
 ghost use Rattle.desk_history.specs.Stack.{IsPacked};
 ghost use Rattle.desk_history.specs.Step.{Rule};
@@ -9,9 +10,12 @@ use crate::config::Config;
 use crate::decision::Decision;
 use crate::deck_reader::{DeckErr, read_deck};
 use crate::effect::Effect;
-use desk_common::Items;
+use acs_tree::More;
+use desk_common::{Items, Shared};
 use dsn_mask::{Dsn, Name};
-use sms_construct::{Alloc, DataSet, DeckText, Extent, Fault, Op, Path, Reply};
+use sms_construct::{
+    Alloc, DataSet, Extent, Fault, Op, Path, Reply, Space, Trace, Unit, VolumeCount,
+};
 use std::alloc::{AllocError, Global};
 use std::marker::Model;
 
@@ -63,12 +67,12 @@ impl Running {
         ensures { IfOk result (λ made. Rule self.now.state op.now made.reply (state_with self.now.state made.effect)) }
     {
         match op {
-            Op::Alloc(allocation) => self.decide_allocation(allocation),
-            Op::Activate(deck) => self.decide_activation(deck),
+            Op::Alloc(allocation) => self.decide_allocation(allocation.get()),
+            Op::Activate(deck) => self.decide_activation(deck.get()),
         }
     }
 
-    fn decide_activation(&self, deck: &DeckText) -> Result<Decision, AllocError>
+    fn decide_activation(&self, deck: &Items<u8>) -> Result<Decision, AllocError>
         requires few { self.now.state.activations + 1 < 2 ^ 64 }
         ensures { IfOk result (λ made. Rule self.now.state (Op.Activate deck.now) made.reply (state_with self.now.state made.effect)) }
     {
@@ -91,15 +95,30 @@ impl Running {
         requires packed { IsPacked self.now.state }
         ensures { IfOk result (λ made. Rule self.now.state (Op.Alloc allocation.now) made.reply (state_with self.now.state made.effect)) }
     {
+        match plain_space(allocation) {
+            Some(space) => self.decide_plain(allocation, &space),
+            None => Ok(Decision::refusal(Reply::Deck(Fault::NotBuilt(Path::new(b"op"))))),
+        }
+    }
+
+    // The reply to an ALLOC that is built, for its space.
+    fn decide_plain(&self, allocation: &Alloc, space: &Space) -> Result<Decision, AllocError>
+        requires packed { IsPacked self.now.state }
+        requires plain { is_plain allocation.now ≡ true }
+        requires space { allocation.now.space ≡ Some space.now }
+        ensures { IfOk result (λ made. Rule self.now.state (Op.Alloc allocation.now) made.reply (state_with self.now.state made.effect)) }
+    {
         let Some(config) = &self.config else {
             return Ok(Decision::refusal(Reply::NoConfig));
         };
-        if is_in_use(&self.sets, &allocation.dsn) {
+        if is_in_use(&self.sets, &allocation.dsn()) {
             return Ok(Decision::refusal(Reply::NameInUse));
         }
-        let need = allocation.space.primary();
+        let need = space.primary_tracks();
         if self.granted + u64::from(need) > u64::from(config.tracks) {
-            return Ok(Decision::refusal(Reply::NoVolume));
+            return Ok(Decision::refusal(Reply::NoVolume {
+                trace: no_trace(self.alloc)?,
+            }));
         }
         let extent = Extent {
             volser: config.volser,
@@ -108,15 +127,14 @@ impl Running {
         };
         let set = new_set(
             self.alloc,
-            allocation.dsn,
+            allocation,
+            space,
             config.storclas,
             config.group,
             extent,
         )?;
         Ok(Decision {
-            reply: Reply::Granted {
-                set: set.copy(self.alloc)?,
-            },
+            reply: granted(self.alloc, &set)?,
             effect: Effect::Catalogue(set),
         })
     }
@@ -136,9 +154,7 @@ impl Running {
             }
             Effect::Catalogue(set) => {
                 self.granted += count_tracks(set.extents.as_slice());
-                if self.sets.push(set).is_err() {
-                    unreachable!();
-                }
+                self.sets.push_reserved(set);
             }
         }
     }
@@ -151,29 +167,71 @@ fn is_in_use(sets: &[DataSet], dsn: &Dsn) -> bool
     sets.iter().any(|set| set.dsn == *dsn)
 }
 
-// A data set of this storage class and group that lies in one extent.
+// The space of an ALLOC that is built: in tracks, and no class is named.
+fn plain_space(allocation: &Alloc) -> Option<Space>
+    ensures { MatchOption result (is_plain allocation.now ≡ false)
+        (λ space. (is_plain allocation.now ≡ true) × (allocation.now.space ≡ Some space)) }
+{
+    if allocation.dataclas.is_some()
+        || allocation.storclas.is_some()
+        || allocation.mgmtclas.is_some()
+    {
+        return None;
+    }
+    let space = allocation.space?;
+    match space.unit() {
+        Unit::Trk => Some(space),
+        Unit::Cyl => None,
+    }
+}
+
+// The reply that the data set was allocated.
+fn granted(alloc: Global, set: &DataSet) -> Result<Reply, AllocError>
+    ensures { IfOk result (λ reply. reply ≡ Reply.Granted set.now no_trace) }
+{
+    let set = Shared::new(alloc, set.copy(alloc)?)?;
+    let trace = no_trace(alloc)?;
+    Ok(Reply::Granted { set, trace })
+}
+
+// The trace of routines that wrote nothing.
+fn no_trace(alloc: Global) -> Result<Shared<Trace>, AllocError>
+    ensures { IfOk result (λ trace. trace ≡ no_trace) }
+{
+    let lines = Items::new(alloc);
+    let more = More {
+        dataclas: 0,
+        storclas: 0,
+        mgmtclas: 0,
+        storgrp: 0,
+    };
+    Shared::new(alloc, Trace { lines, more })
+}
+
+// The data set of an ALLOC for this space, in this storage class and group, that lies in one extent.
 fn new_set(
     alloc: Global,
-    dsn: Dsn,
+    allocation: &Alloc,
+    space: &Space,
     storclas: Name,
     group: Name,
     extent: Extent,
 ) -> Result<DataSet, AllocError>
-    ensures { IfOk result (λ set. set ≡ record {
-      dsn = dsn;
-      dataclas = None;
-      storclas = storclas;
-      mgmtclas = None;
-      group = group;
-      extents = extent ∷ [];
-    }) }
+    requires { allocation.now.space ≡ Some space.now }
+    ensures { IfOk result (λ set. set ≡ new_data_set allocation.now storclas group (extent ∷ [])) }
 {
     Ok(DataSet {
-        dsn,
+        dsn: allocation.dsn(),
         dataclas: None,
         storclas,
         mgmtclas: None,
         group,
+        unit: Unit::Trk,
+        secondary: space.secondary_tracks(),
+        volumes: allocation.volumes.unwrap_or(VolumeCount::one()),
+        day: allocation.day,
+        retpd: allocation.retpd,
+        used: 0,
         extents: Items::from_slice(alloc, &[extent])?,
     })
 }

@@ -8,7 +8,7 @@ ghost use Rattle.sms_core.specs.Effect.{state_with};
 use crate::effect::Effect;
 use crate::running::Running;
 use sms_construct::{Answer, Entry, Reply, Request};
-use std::alloc::{AllocError, Global};
+use std::alloc::AllocError;
 
 /// The entry of a request, the answer to hand out, and what it does to the state.
 #[derive(Drop)]
@@ -28,7 +28,6 @@ struct Answered {
 /// Prepares the entry of a request behind this journal, with all memory for it; the caller has taken room in
 /// the lists.
 pub fn prepare(
-    alloc: Global,
     journal: &[Entry],
     state: &Running,
     request: &Request,
@@ -39,11 +38,11 @@ pub fn prepare(
     ensures answer { IfOk result (λ made. made.answer ≡ made.entry.answer) }
     ensures step { IfOk result (λ made. IsStep journal.now state.now.state made.entry (state_with state.now.state made.effect)) }
 {
-    let Answered { answer, effect } = answer_to(alloc, journal, state, request)?;
+    let Answered { answer, effect } = answer_to(journal, state, request)?;
     Ok(Prepared {
         entry: Entry {
-            request: request.copy(alloc)?,
-            answer: answer.copy(alloc)?,
+            request: request.copy()?,
+            answer: answer.copy()?,
         },
         answer,
         effect,
@@ -51,12 +50,7 @@ pub fn prepare(
 }
 
 // The answer to a request: the kept reply of its number, or what its op gives.
-fn answer_to(
-    alloc: Global,
-    journal: &[Entry],
-    state: &Running,
-    request: &Request,
-) -> Result<Answered, AllocError>
+fn answer_to(journal: &[Entry], state: &Running, request: &Request) -> Result<Answered, AllocError>
     requires reaches { Reaches journal.now state.now.state }
     requires few { length journal.now + 1 < 2 ^ 64 }
     ensures { IfOk result (λ made. IsStep journal.now state.now.state (record { request = request.now; answer = made.answer }) (state_with state.now.state made.effect)) }
@@ -64,7 +58,7 @@ fn answer_to(
     let place = journal.len() as u64 + 1;
     if let Some(kept) = find_kept(journal, request) {
         return Ok(Answered {
-            answer: repeat_of(alloc, kept, request, place)?,
+            answer: repeat_of(kept, request, place)?,
             effect: Effect::Nothing,
         });
     }
@@ -88,12 +82,7 @@ fn find_kept<'a>(journal: &'a [Entry], request: &Request) -> Option<&'a Entry>
 }
 
 // The answer to a request whose number has a kept reply.
-fn repeat_of(
-    alloc: Global,
-    kept: &Entry,
-    request: &Request,
-    place: u64,
-) -> Result<Answer, AllocError>
+fn repeat_of(kept: &Entry, request: &Request, place: u64) -> Result<Answer, AllocError>
     ensures place { IfOk result (λ answer. answer.place ≡ place) }
     ensures repeat { IfOk result (λ answer. IsRepeat kept.now (record { request = request.now; answer = answer })) }
 {
@@ -101,7 +90,7 @@ fn repeat_of(
         return Ok(Answer {
             place,
             first: kept.answer.place,
-            reply: kept.answer.reply.copy(alloc)?,
+            reply: kept.answer.reply.copy()?,
         });
     }
     Ok(Answer {

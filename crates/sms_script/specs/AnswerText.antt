@@ -1,51 +1,111 @@
 -- Answers as text.
-use Rattle.std.specs.Prelude.{ℕ, List, [], ◌∷◌, ◌++◌, Option, None, Some, decimal, codes, flat_map, length, map}
-use Rattle.std.specs.List.{join_with_byte}
-use Rattle.sms_construct.specs.declared.entry.Answer.{Answer}
+use Rattle.std.specs.Prelude.{ℕ, List, [], ◌∷◌, ◌++◌, decimal, codes, flat_map, length, map}
+use Rattle.acs_tree.specs.Variables.{name_of}
 use Rattle.sms_construct.specs.declared.data_set.DataSet.{DataSet}
-use Rattle.sms_construct.specs.declared.extent.Extent.{Extent}
+use Rattle.sms_construct.specs.declared.entry.Answer.{Answer}
 use Rattle.sms_construct.specs.declared.reply.Reply.{Reply}
-use Rattle.sms_construct.specs.declared.reply.Reply.TheVariants.{Granted, Activated, Reused, NoConfig, NameInUse, NoVolume, Deck, Memory}
+use Rattle.sms_construct.specs.declared.reply.Reply.TheVariants.{Granted, NotManaged, Extended, Deleted, Activated, Varied, Shown, Purged, Noted, Released, Reused, Below, NoConfig, NameInUse, Exit, UnknownClass, NoQuantity, NoGroup, NoVolume, NotFound, NoExtend, Deck, VolumeInUse, UnknownName, JournalFull, PastGrant, KeeperFault, Memory}
+use Rattle.sms_construct.specs.declared.trace.Trace.{Trace}
+use Rattle.sms_construct.specs.declared.view.View.{View}
+use Rattle.sms_construct.specs.declared.view.View.TheVariants.{Group, Volume, Set}
+use Rattle.sms_construct.specs.declared.why_no_extend.WhyNoExtend.{WhyNoExtend}
+use Rattle.sms_construct.specs.declared.why_no_extend.WhyNoExtend.TheVariants.{Secondary, Room}
 use Rattle.sms_script.specs.FaultText.{fault_text}
+use Rattle.sms_script.specs.NameText.{spaced, status_text, target_text, class_text, extent_text}
+use Rattle.sms_script.specs.TraceText.{trace_lines}
 use Rattle.sms_script.specs.declared.item.Item.{Item}
 
--- the words with a blank between each two
-abbrev pub spaced : List (List ℕ) → List ℕ
-spaced words = join_with_byte 32 words
+-- what a DISPLAY shows, in one line
+abbrev pub view_text : View → List ℕ
+view_text (Group name status volumes capacity free) =
+    spaced (codes "STORGRP" ∷ name ∷ status_text status ∷ decimal volumes ∷ decimal capacity ∷ decimal free ∷ [])
+view_text (Volume row) =
+    spaced (codes "VOLUME" ∷ row.volser ∷ row.group ∷ status_text row.status ∷ decimal row.capacity ∷ decimal row.free ∷ decimal row.extents ∷ [])
+view_text (Set set) = spaced (codes "SET" ∷ set.dsn ∷ [])
+
+-- why a data set isn't extended
+abbrev pub why_text : WhyNoExtend → List ℕ
+why_text Secondary = codes "R20 NO EXTEND SECONDARY"
+why_text Room = codes "R20 NO EXTEND ROOM"
 
 -- the code of a reply, its words and its figures
 abbrev pub reply_text : Reply → List ℕ
-reply_text (Granted set) = codes "A00 GRANTED"
+reply_text (Granted set trace) = codes "A00 GRANTED"
+reply_text (NotManaged trace) = codes "A01 NOT MANAGED"
+reply_text (Extended added) = codes "A02 EXTENDED"
+reply_text (Deleted tracks) = codes "A03 DELETED " ++ decimal tracks
 reply_text (Activated count) = codes "A04 ACTIVATED " ++ decimal count
+reply_text (Varied target status) = spaced (codes "A05 VARIED" ∷ target_text target ∷ status_text status ∷ [])
+reply_text (Shown view) = codes "A06 " ++ view_text view
+reply_text (Purged job floor) = spaced (codes "A07 PURGED" ∷ job ∷ decimal floor ∷ [])
+reply_text Noted = codes "A08 NOTED"
+reply_text (Released tracks) = codes "A09 RELEASED " ++ decimal tracks
 reply_text (Reused first) = codes "R10 REUSED NUMBER " ++ decimal first
+reply_text (Below floor) = codes "R11 PURGED NUMBER " ++ decimal floor
 reply_text NoConfig = codes "R12 NO CONFIGURATION"
 reply_text NameInUse = codes "R13 NAME IN USE"
-reply_text NoVolume = codes "R18 NO VOLUME"
+reply_text (Exit kind code trace) = spaced (codes "R14 EXIT" ∷ name_of kind ∷ decimal code ∷ [])
+reply_text (UnknownClass kind name trace) = spaced (codes "R15 UNKNOWN CLASS" ∷ name_of kind ∷ name ∷ [])
+reply_text (NoQuantity trace) = codes "R16 NO QUANTITY"
+reply_text (NoGroup trace) = codes "R17 NO STORAGE GROUP"
+reply_text (NoVolume trace) = codes "R18 NO VOLUME"
+reply_text NotFound = codes "R19 NOT FOUND"
+reply_text (NoExtend why) = why_text why
 reply_text (Deck fault) = codes "R21 DECK " ++ fault_text fault
+reply_text (VolumeInUse volser) = codes "R22 VOLUME IN USE " ++ volser
+reply_text UnknownName = codes "R23 UNKNOWN NAME"
+reply_text JournalFull = codes "R24 JOURNAL FULL"
+reply_text (PastGrant granted) = codes "R25 PAST GRANT " ++ decimal granted
+reply_text KeeperFault = codes "F30 KEEPER"
 reply_text Memory = codes "M31 MEMORY"
 
--- a name, or a hyphen for none
-abbrev pub name_text : Option (List ℕ) → List ℕ
-name_text None = codes "-"
-name_text (Some name) = name
+-- the tracks that a data set uses
+abbrev pub used_text : ℕ → List ℕ
+used_text used = codes "USED " ++ decimal used
 
--- the classes of a data set and its storage group
-abbrev pub class_text : DataSet → List ℕ
-class_text set = spaced (codes "CLASS" ∷ name_text set.dataclas ∷ set.storclas ∷ name_text set.mgmtclas ∷ set.group ∷ [])
+-- the lines of a data set that is shown
+abbrev pub shown_lines : DataSet → List (List ℕ)
+shown_lines set = class_text set ∷ used_text set.used ∷ map extent_text set.extents
 
--- the tracks of an extent
-abbrev pub extent_text : Extent → List ℕ
-extent_text extent = spaced (codes "EXTENT" ∷ extent.volser ∷ decimal extent.start ∷ decimal extent.length ∷ [])
+-- the lines behind the first one of a view
+abbrev pub view_lines : View → List (List ℕ)
+view_lines (Group name status volumes capacity free) = []
+view_lines (Volume row) = []
+view_lines (Set set) = shown_lines set
+
+-- the lines of a data set that was allocated, and what its routines wrote
+abbrev pub granted_lines : DataSet → Trace → List (List ℕ)
+granted_lines set trace = class_text set ∷ (map extent_text set.extents ++ trace_lines trace)
 
 -- the lines behind the first one of a reply
 abbrev pub further_lines : Reply → List (List ℕ)
-further_lines (Granted set) = class_text set ∷ map extent_text set.extents
+further_lines (Granted set trace) = granted_lines set trace
+further_lines (NotManaged trace) = trace_lines trace
+further_lines (Extended added) = map extent_text added
+further_lines (Deleted tracks) = []
 further_lines (Activated count) = []
+further_lines (Varied target status) = []
+further_lines (Shown view) = view_lines view
+further_lines (Purged job floor) = []
+further_lines Noted = []
+further_lines (Released tracks) = []
 further_lines (Reused first) = []
+further_lines (Below floor) = []
 further_lines NoConfig = []
 further_lines NameInUse = []
-further_lines NoVolume = []
+further_lines (Exit kind code trace) = trace_lines trace
+further_lines (UnknownClass kind name trace) = trace_lines trace
+further_lines (NoQuantity trace) = trace_lines trace
+further_lines (NoGroup trace) = trace_lines trace
+further_lines (NoVolume trace) = trace_lines trace
+further_lines NotFound = []
+further_lines (NoExtend why) = []
 further_lines (Deck fault) = []
+further_lines (VolumeInUse volser) = []
+further_lines UnknownName = []
+further_lines JournalFull = []
+further_lines (PastGrant granted) = []
+further_lines KeeperFault = []
 further_lines Memory = []
 
 -- a further line: two spaces before it, and LF behind it

@@ -6,7 +6,9 @@ use Rattle.desk_common.specs.Words.{words_of}
 use Rattle.dsn_mask.specs.Name.{name_of}
 use Rattle.dsn_mask.specs.DataSetName.{dsn_of}
 use Rattle.sms_construct.specs.Quantities.{Quantities, request_number_of, space_of}
+use Rattle.sms_construct.specs.Requests.{plain_alloc}
 use Rattle.sms_construct.specs.declared.request.Op.TheVariants.{Alloc as AllocOp}
+use Rattle.sms_construct.specs.declared.unit.Unit.TheVariants.{Trk}
 use Rattle.sms_script.specs.Parts.{behind_front, in_parentheses}
 use Rattle.sms_script.specs.Numbers.{number_of}
 use Rattle.sms_script.specs.declared.command.Command.{Command}
@@ -27,9 +29,9 @@ job_of word = if is_admin word then None else name_of word
 abbrev pub number_in : List ℕ → Option ℕ
 number_in word = option_and_then request_number_of (number_of word)
 
--- the space of two quantities, where both are there and in range
+-- the space of two quantities in tracks, where both are there and in range
 abbrev pub space_with : Option ℕ → Option ℕ → Option Quantities
-space_with (Some primary) (Some secondary) = space_of primary secondary
+space_with (Some primary) (Some secondary) = space_of Trk primary secondary
 space_with (Some primary) None = None
 space_with None secondary = None
 
@@ -55,7 +57,7 @@ space_in operand =
 -- job number ALLOC dsn SPACE=(TRK,..), where each part is in form
 abbrev pub alloc_with : Option (List ℕ) → Option ℕ → Option (List ℕ) → Option Quantities → Option Command
 alloc_with (Some job) (Some number) (Some dsn) (Some space) =
-    Some (Whole (record { job = job; number = number; op = AllocOp (record { dsn = dsn; space = space }) }))
+    Some (Whole (record { job = job; number = number; op = AllocOp (plain_alloc dsn space) }))
 alloc_with job number dsn space = None
 
 -- the words around ALLOC

@@ -4,5 +4,7 @@ pub mod Numbers
 pub mod Commands
 pub mod Script
 pub mod Reading
+pub mod NameText
 pub mod FaultText
+pub mod TraceText
 pub mod AnswerText

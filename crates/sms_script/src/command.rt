@@ -9,7 +9,7 @@ use crate::number::read_number;
 use crate::operand::read_space;
 use desk_common::words;
 use dsn_mask::{Dsn, Name};
-use sms_construct::{Alloc, Op, Request, RequestNumber};
+use sms_construct::{Op, Request, RequestNumber};
 use std::alloc::{AllocError, Global};
 
 /// The longest command line, in bytes.
@@ -54,7 +54,7 @@ fn read_upper(alloc: Global, text: &[u8]) -> Result<Option<Command>, AllocError>
     ensures { IfOk result (λ command. command ≡ command_in (words_of (32 ∷ []) text.now)) }
 {
     let words = words(alloc, b" ", text)?;
-    Ok(read_words(&words))
+    read_words(alloc, &words)
 }
 
 /// The job of the administrator's commands.
@@ -67,18 +67,18 @@ pub fn admin() -> Name
     name
 }
 
-fn read_words(words: &[&[u8]]) -> Option<Command>
-    ensures { result ≡ command_in (map (λ word. word.now) words.now) }
+fn read_words(alloc: Global, words: &[&[u8]]) -> Result<Option<Command>, AllocError>
+    ensures { IfOk result (λ command. command ≡ command_in (map (λ word. word.now) words.now)) }
 {
     let [job, number, verb, operands @ ..] = words else {
-        return None;
+        return Ok(None);
     };
     if *verb == b"ACTIVATE".as_slice() {
-        read_activate(job, number, operands)
+        Ok(read_activate(job, number, operands))
     } else if *verb == b"ALLOC".as_slice() {
-        read_alloc(job, number, operands)
+        read_alloc(alloc, job, number, operands)
     } else {
-        None
+        Ok(None)
     }
 }
 
@@ -92,27 +92,40 @@ fn read_activate(job: &[u8], number: &[u8], operands: &[&[u8]]) -> Option<Comman
     Some(Command::Activate(number))
 }
 
-fn read_alloc(job: &[u8], number: &[u8], operands: &[&[u8]]) -> Option<Command>
-    ensures { result ≡ alloc_of job.now number.now (map (λ word. word.now) operands.now) }
+fn read_alloc(
+    alloc: Global,
+    job: &[u8],
+    number: &[u8],
+    operands: &[&[u8]],
+) -> Result<Option<Command>, AllocError>
+    ensures { IfOk result (λ command. command ≡ alloc_of job.now number.now (map (λ word. word.now) operands.now)) }
 {
     let [dsn, operand, others @ ..] = operands else {
-        return None;
+        return Ok(None);
     };
     if !others.is_empty() {
-        return None;
+        return Ok(None);
     }
-    read_allocation(job, number, dsn, operand)
+    read_allocation(alloc, job, number, dsn, operand)
 }
 
-fn read_allocation(job: &[u8], number: &[u8], dsn: &[u8], operand: &[u8]) -> Option<Command>
-    ensures { result ≡ alloc_with (job_of job.now) (number_in number.now) (dsn_of dsn.now) (space_in operand.now) }
+fn read_allocation(
+    alloc: Global,
+    job: &[u8],
+    number: &[u8],
+    dsn: &[u8],
+    operand: &[u8],
+) -> Result<Option<Command>, AllocError>
+    ensures { IfOk result (λ command. command ≡ alloc_with (job_of job.now) (number_in number.now) (dsn_of dsn.now) (space_in operand.now)) }
 {
-    let job = read_job(job)?;
-    let number = read_request_number(number)?;
-    let dsn = Dsn::parse(dsn).ok()?;
-    let space = read_space(operand)?;
-    let op = Op::Alloc(Alloc { dsn, space });
-    Some(Command::Whole(Request { job, number, op }))
+    let (Some(job), Some(number)) = (read_job(job), read_request_number(number)) else {
+        return Ok(None);
+    };
+    let (Some(dsn), Some(space)) = (Dsn::parse(dsn).ok(), read_space(operand)) else {
+        return Ok(None);
+    };
+    let op = Op::plain(alloc, dsn, space)?;
+    Ok(Some(Command::Whole(Request { job, number, op })))
 }
 
 // A job is any name but the administrator's.

@@ -3,6 +3,8 @@
 
 mod command;
 mod deck_block;
+mod fault_text;
+mod further_text;
 mod item;
 mod lines;
 mod next;
@@ -10,8 +12,11 @@ mod number;
 mod operand;
 mod parts;
 mod printing;
+mod pushing;
 mod reading;
+mod reply_text;
 mod script_err;
+mod trace_text;
 
 pub use item::{Item, Script};
 pub use printing::print;

@@ -5,7 +5,7 @@ ghost use Rattle.sms_script.specs.Commands.{space_in, space_with, tracks_in};
 
 use crate::number::read_number;
 use crate::parts::{behind_front, in_parentheses};
-use sms_construct::Space;
+use sms_construct::{Space, Unit};
 
 /// The space that the operand SPACE=(TRK,..) asks for, if it is one.
 pub fn read_space(operand: &[u8]) -> Option<Space>
@@ -32,13 +32,13 @@ fn read_tracks(bytes: &[u8]) -> Option<Space>
 fn read_quantity(primary: &[u8]) -> Option<Space>
     ensures { result ≡ space_with (number_of primary.now) (Some 0) }
 {
-    Space::new(read_number(primary)?, 0)
+    Space::new(Unit::Trk, read_number(primary)?, 0)
 }
 
 fn read_quantities(primary: &[u8], secondary: &[u8]) -> Option<Space>
     ensures { result ≡ space_with (number_of primary.now) (number_of secondary.now) }
 {
-    Space::new(read_number(primary)?, read_number(secondary)?)
+    Space::new(Unit::Trk, read_number(primary)?, read_number(secondary)?)
 }
 
 // The place of the first comma, if there is one.

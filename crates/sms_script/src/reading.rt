@@ -9,9 +9,9 @@ use crate::item::{Item, Script};
 use crate::lines::{first_line, is_skipped, line_text};
 use crate::next::Next;
 use crate::script_err::ScriptErr;
-use desk_common::Items;
-use sms_construct::{Op, Request, RequestNumber};
-use std::alloc::Global;
+use desk_common::{Items, Shared};
+use sms_construct::{DeckText, Op, Request, RequestNumber};
+use std::alloc::{AllocError, Global};
 
 /// The script that the bytes write, or its first fault (docs/script.md). It walks once over the text,
 /// and copies the decks, and each command line into one buffer.
@@ -111,7 +111,7 @@ fn take_deck<'a>(
     let Some(block) = deck_block(text) else {
         return Err(ScriptErr::OpenBlock(line));
     };
-    let Ok(deck) = Items::from_slice(alloc, block.deck) else {
+    let Ok(deck) = shared_deck(alloc, block.deck) else {
         return Err(ScriptErr::NoMemory);
     };
     let request = Request {
@@ -125,4 +125,11 @@ fn take_deck<'a>(
         rest: block.rest,
         passed: line + block.lines,
     })
+}
+
+// The bytes of a deck, which all copies of its request share.
+fn shared_deck(alloc: Global, bytes: &[u8]) -> Result<DeckText, AllocError>
+    ensures { IfOk result (λ deck. deck ≡ bytes.now) }
+{
+    Shared::new(alloc, Items::from_slice(alloc, bytes)?)
 }

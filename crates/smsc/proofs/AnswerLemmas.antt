@@ -19,9 +19,9 @@ pub found : {bytes text : List ℕ} {kind : Kind} {status : ToolStatus} (err : T
 found {bytes} {text} {kind} {status} (Fault fault) d e = subst (λ x. IsAnswer bytes kind x text) (sym e.0) (subst (λ x. IsAnswer bytes kind FaultFound x) (sym e.1) (faulty fault d))
 found NoMemory d e = absurd e
 
-pub answered : {bytes text : List ℕ} {kind : Kind} {status : ToolStatus} (old new : Observed) → IsAnswer bytes kind status text → WasRead most_bytes old new bytes → Appends old.taken new.taken text → Ends kind old new status
-answered {bytes = bytes} old new (translated tree count d) r w = record { bytes = bytes; text = _; read = r; answer = translated tree count d; written = w }
-answered {bytes = bytes} old new (faulty fault d) r w = record { bytes = bytes; text = _; read = r; answer = faulty fault d; written = w }
+pub answered : {bytes text : List ℕ} {kind : Kind} {status : ToolStatus} (old new : Observed) → IsAnswer bytes kind status text → WasRead most_bytes old new bytes → Appends old.taken new.taken text → new.write_faults ≡ old.write_faults → Ends kind old new status
+answered {bytes = bytes} old new (translated tree count d) r w f = record { bytes = bytes; text = _; read = r; answer = translated tree count d; written = w; write_faults = f }
+answered {bytes = bytes} old new (faulty fault d) r w f = record { bytes = bytes; text = _; read = r; answer = faulty fault d; written = w; write_faults = f }
 
 pub never_bad_words : {bytes text : List ℕ} {kind : Kind} {status : ToolStatus} → IsAnswer bytes kind status text → status ≡ BadWords → ⊥
 never_bad_words (translated tree count d) e = cc

@@ -28,5 +28,5 @@ invariant_of-self-2 c =
     let journal = c.deref.result.now in
     let reaches : Reaches journal state = rw (c.deref.ensures.value, c.reserve.ensures.items, c.reserve-else-is_err.ensures.state) c.self.invariant in
     let entry = c.in-Ok.prepared.entry in
-    let grown : c.push.new.self.items ≡ c.reserve.new.self.items ++ entry ∷ [] = search rules in
+    let grown : c.push_reserved.new.self.items ≡ c.reserve.new.self.items ++ entry ∷ [] = search rules in
     rw (grown, ← c.deref.ensures.value, c.apply.ensures) (Reaches-push journal state (state_with state c.in-Ok.prepared.effect) entry reaches c.in-Ok.ensures.step)

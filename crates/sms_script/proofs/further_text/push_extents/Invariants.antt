@@ -1,7 +1,8 @@
 use Rattle.std.proofs.Common.{◌≡◌, ◌++◌, take, map}
 use Rattle.std.specs.Prelude.{flat_map}
-use Rattle.sms_script.specs.AnswerText.{extent_text, indented}
-use Rattle.sms_script.proofs.printing.push_extents.Given as goal
+use Rattle.sms_script.specs.AnswerText.{indented}
+use Rattle.sms_script.specs.NameText.{extent_text}
+use Rattle.sms_script.proofs.further_text.push_extents.Given as goal
 
 -- the lines of the extents so far
 abbrev pub invariant-loop-extent : goal.invariant-loop-extent

@@ -1,0 +1,199 @@
+//! Constructs and requests: their sizes, ranges and equality.
+use acs_tree::{Input, kilobytes_of};
+use desk_common::{Items, Shared};
+use dsn_mask::{Dsn, Name, Short};
+use sms_construct::{
+    Action, Alloc, Answer, Entry, Fate, Op, Path, Reply, Request, RequestNumber, Space, Status,
+    Unit, VolumeCount,
+};
+use std::alloc::Global;
+use std::mem::size_of;
+use std::process::Abort;
+use std::test::Fail;
+
+/// What of a request an ALLOC of a test has besides its name and its space.
+#[derive(Clone, Copy)]
+enum Part {
+    None,
+    Account,
+    DataClass,
+    Cylinders,
+    Volumes,
+    Day,
+}
+
+/// An ALLOC of A.B for one track that has a part more or another.
+fn allocation(alloc: Global, part: Part) -> Result<Op, Fail> {
+    let mut input = Input::new(Dsn::parse(b"A.B").map_err(|_| "dsn")?);
+    let mut space = Space::new(Unit::Trk, 1, 1).ok_or("space")?;
+    let mut dataclas = None;
+    let mut volumes = None;
+    let mut day = 0;
+    match part {
+        Part::None => {}
+        Part::Account => {
+            let mut account = input.accounting.acct_job;
+            if account.is_full() {
+                return Err("account")?;
+            }
+            account.push(Short::new(b"D87").ok_or("account")?);
+            input.accounting.acct_job = account;
+        }
+        Part::DataClass => dataclas = Name::new(b"DC1"),
+        Part::Cylinders => space = Space::new(Unit::Cyl, 1, 1).ok_or("space")?,
+        Part::Volumes => volumes = VolumeCount::new(2),
+        Part::Day => day = 1,
+    }
+    let allocation = Alloc {
+        input,
+        space: Some(space),
+        dataclas,
+        storclas: None,
+        mgmtclas: None,
+        volumes,
+        day,
+        retpd: None,
+    };
+    Ok(Op::Alloc(Shared::new(alloc, allocation)?))
+}
+
+#[test]
+fn ops_are_equal_where_all_their_fields_are(rt: HostRuntime) -> Result<(), Fail> {
+    let alloc = rt.alloc();
+    let plain = allocation(alloc, Part::None)?;
+    assert!(rt; plain.equals(&allocation(alloc, Part::None)?));
+    assert!(rt; plain.copy()?.equals(&plain));
+    for part in [
+        Part::Account,
+        Part::DataClass,
+        Part::Cylinders,
+        Part::Volumes,
+        Part::Day,
+    ] {
+        let other = allocation(alloc, part)?;
+        assert!(rt; !plain.equals(&other));
+        assert!(rt; !other.equals(&plain));
+        assert!(rt; other.copy()?.equals(&other));
+    }
+    let deck = Op::Activate(Shared::new(alloc, Items::from_slice(alloc, b"version = 1")?)?);
+    let other = Op::Activate(Shared::new(alloc, Items::from_slice(alloc, b"version = 2")?)?);
+    assert!(rt; !plain.equals(&deck));
+    assert!(rt; !deck.equals(&other));
+    assert!(rt; deck.copy()?.equals(&deck));
+    Ok(())
+}
+
+#[test]
+fn tracks_are_rounded_up_to_kilobytes(rt: HostRuntime) -> Result<(), Fail> {
+    for (tracks, kilobytes) in [
+        (0, 0),
+        (1, 56),
+        (15, 831),
+        (16, 886),
+        (128, 7083),
+        (4_294_967_295, 237_666_041_801),
+    ] {
+        assert_eq!(rt; kilobytes_of(tracks), kilobytes, "{tracks}");
+    }
+    for (unit, primary, secondary, size, most) in [
+        (Unit::Trk, 1, 1, 56, 886),
+        (Unit::Cyl, 1, 0, 831, 831),
+        (Unit::Trk, 16, 0, 886, 886),
+    ] {
+        let space = Space::new(unit, primary, secondary).ok_or("space")?;
+        assert_eq!(rt; space.kilobytes(), size);
+        assert_eq!(rt; space.most_kilobytes(), most);
+    }
+    Ok(())
+}
+
+#[test]
+fn types_keep_their_ranges(rt: HostRuntime) -> Result<(), Fail> {
+    for (primary, secondary, lawful) in [
+        (0, 0, false),
+        (1, 0, true),
+        (16_777_215, 16_777_215, true),
+        (16_777_216, 0, false),
+        (1, 16_777_216, false),
+    ] {
+        assert_eq!(rt; Space::new(Unit::Cyl, primary, secondary).is_some(), lawful);
+    }
+    for (count, lawful) in [(0, false), (1, true), (59, true), (60, false), (255, false)] {
+        assert_eq!(rt; VolumeCount::new(count).is_some(), lawful, "{count}");
+    }
+    for (number, lawful) in [(0, false), (1, true), (4_294_967_295, true)] {
+        assert_eq!(rt; RequestNumber::new(number).is_some(), lawful, "{number}");
+    }
+    Ok(())
+}
+
+#[test]
+fn an_action_gives_its_status(rt: HostRuntime) -> Result<(), Fail> {
+    for (action, status) in [
+        (Action::Enable, Status::Enable),
+        (Action::Disable, Status::DisAll),
+        (Action::DisableNew, Status::DisNew),
+        (Action::Quiesce, Status::QuiAll),
+        (Action::QuiesceNew, Status::QuiNew),
+    ] {
+        assert_eq!(rt; action.status(), status);
+    }
+    for (reply, fate) in [
+        (Reply::JournalFull, Fate::NoEntry),
+        (Reply::Memory, Fate::NoEntry),
+        (Reply::Reused { first: 1 }, Fate::Unkept),
+        (Reply::Below { floor: 1 }, Fate::Unkept),
+        (Reply::KeeperFault, Fate::Unkept),
+        (Reply::NotFound, Fate::Kept),
+    ] {
+        assert_eq!(rt; reply.fate(), fate);
+    }
+    Ok(())
+}
+
+fn compare_path(rt: &impl Abort, path: Path, key: &[u8], wanted: &[u8]) {
+    assert_eq!(rt; path.below(key).bytes(), wanted);
+}
+
+#[test]
+fn a_path_is_cut_to_eighty_bytes(rt: HostRuntime) -> Result<(), Fail> {
+    let eighty = [b'K'; 80];
+    let top = Path::top();
+    compare_path(&rt, top, b"version", b"version");
+    compare_path(
+        &rt,
+        top.below(b"routine"),
+        b"storclass",
+        b"routine.storclass",
+    );
+    compare_path(&rt, top, &[b'K'; 81], &eighty);
+    compare_path(&rt, top.below(&eighty), b"high", &eighty);
+    compare_path(&rt, top, &[b'A', b' ', 0xC3, 0xA4, 127, b'~'], b"A????~");
+    let long = top.below(&[b'K'; 79]).below(b"high");
+    assert_eq!(rt; long.bytes().len(), 80);
+    assert_eq!(rt; long.bytes().last(), Some(&b'.'));
+    Ok(())
+}
+
+#[test]
+fn the_input_of_a_run_has_the_job_and_the_system(rt: HostRuntime) -> Result<(), Fail> {
+    let input = Input::new(Dsn::parse(b"A.B").map_err(|_| "dsn")?);
+    let job = Name::new(b"PAYROLL").ok_or("job")?;
+    let system = Name::new(b"SYSA");
+    let under = input.under(&job, system, None);
+    assert_eq!(rt; under.origin.job.bytes(), b"PAYROLL".as_slice());
+    assert_eq!(rt; under.environment.sysname.bytes(), b"SYSA".as_slice());
+    assert_eq!(rt; under.environment.sysplex.bytes(), b"".as_slice());
+    assert!(rt; under.dsn == input.dsn);
+    assert!(rt; under.attributes == input.attributes);
+    Ok(())
+}
+
+#[test]
+fn requests_and_entries_are_small(rt: HostRuntime) -> Result<(), Fail> {
+    assert!(rt; size_of::<Input>() <= 2200);
+    assert!(rt; size_of::<Request>() <= 300);
+    assert!(rt; size_of::<Answer>() <= 300);
+    assert!(rt; size_of::<Entry>() <= 300);
+    Ok(())
+}
