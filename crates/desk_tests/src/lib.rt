@@ -8,6 +8,8 @@ mod first_path;
 #[cfg(test)]
 mod hostile;
 #[cfg(test)]
+mod listing;
+#[cfg(test)]
 mod names;
 #[cfg(test)]
 mod repeats;

@@ -1,7 +1,7 @@
 -- The choice among the views that were looked at so far.
-use Rattle.std.proofs.Common.{◌≡◌, refl, sym, ap, ◌∙◌, ℕ, ◌+◌, ◌<◌, ◌≤◌, ◌++◌, ◌∷◌, Bool, true, false, List, [], length, take, get_or, slice_index_or, add-one, arith}
-use Rattle.std.specs.Prelude.{not, ◌&&◌, ◌||◌, nat_lt, Option, Some, None, slice_get}
-use Rattle.std.specs.List.{list_all, list_any}
+use Rattle.std.proofs.Common.{◌≡◌, refl, sym, ap, ◌∙◌, ℕ, ◌+◌, ◌<◌, ◌≤◌, ◌++◌, ◌∷◌, Bool, true, false, List, [], length, take, slice_index_or, add-one, arith}
+use Rattle.std.specs.Prelude.{nat_lt, Option, Some, None, slice_get}
+use Rattle.std.specs.List.{list_any}
 use Rattle.std.proofs.lemmas.Bool.Decides.{nat_tests}
 use Rattle.std.proofs.lemmas.List.Folds.{list_any-append, list_all-append}
 use Rattle.std.proofs.Math.Seq.{take-suc}
@@ -11,7 +11,7 @@ use Rattle.volume_lists.specs.declared.lists.Listing.TheVariants.{Primary, Secon
 use Rattle.volume_lists.specs.declared.view.VolView.{VolView}
 use Rattle.volume_lists.specs.declared.view.Want.{Want}
 use Rattle.volume_lists.specs.Listing.{listing_of}
-use Rattle.volume_lists.specs.Choice.{rank_of, is_rejected, is_earlier, AllRejected, IsChoice, MayChoose}
+use Rattle.volume_lists.specs.Choice.{rank_of, is_rejected, AllRejected, IsChoice}
 
 -- how early the list of a view is looked at
 abbrev pub rank_at : Want → VolView → ℕ

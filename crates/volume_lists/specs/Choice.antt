@@ -1,5 +1,5 @@
 -- Which candidate volume may be chosen (docs/rules.md, "The lists").
-use Rattle.std.specs.Prelude.{◌≡◌, ℕ, Bool, true, false, not, nat_lt, List, Option, Some, None, MatchOption, slice_get}
+use Rattle.std.specs.Prelude.{◌≡◌, ℕ, Bool, true, false, nat_lt, List, Option, Some, MatchOption, slice_get}
 use Rattle.std.specs.List.{list_all, list_any}
 use Rattle.volume_lists.specs.declared.lists.Listing.{Listing}
 use Rattle.volume_lists.specs.declared.lists.Listing.TheVariants.{Primary, Secondary, Tertiary, Rejected}

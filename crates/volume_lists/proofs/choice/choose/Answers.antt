@@ -1,5 +1,4 @@
-use Rattle.std.proofs.Common.{◌≡◌, sym, ap, ◌∙◌, ◌+◌, take, arith}
-use Rattle.std.specs.Prelude.{nat_lt}
+use Rattle.std.proofs.Common.{◌≡◌, sym, ap, ◌∙◌, take, arith}
 use Rattle.std.proofs.lemmas.Bool.Decides.{nat_tests}
 use Rattle.volume_lists.specs.Choice.{rank_of}
 use Rattle.volume_lists.proofs.Choosing.{rank_at, one-more, there-it-is, leads-on, leads-still}
@@ -17,8 +16,13 @@ loop-position-preserved c =
     let rank : rank_at want view ≡ c.rank-rank.result = sym (c.rank-rank.ensures ∙ ap rank_of c.listing.ensures) in
     let there = there-it-is views c.loop-position.position view less c.index-views-position.is in
     rw (one-more views c.loop-position.position view less c.index-views-position.is)
-      (elim c.if-rank-least.branch [
-        then-rank-least w ↦ record { leads = rw (w.chosen-is, w.least-is)
-            (leads-on views seen want c.loop-position.position c.loop-position.least c.rank-rank.result c.loop-position.chosen view there leads rank w.if-rank-least.true) }
-      | else-rank-least w ↦ record { leads = rw (w.chosen-is, w.least-is)
-            (leads-still views seen want c.loop-position.least c.loop-position.chosen view leads (grind (arith, nat_tests, rank, w.if-rank-least.false))) } ])
+    (elim c.if-rank-least.branch [
+      | then-rank-least w ↦ record {
+        leads = rw (w.chosen-is, w.least-is)
+            (leads-on views seen want c.loop-position.position c.loop-position.least c.rank-rank.result c.loop-position.chosen view there leads rank w.if-rank-least.true);
+      }
+      | else-rank-least w ↦ record {
+        leads = rw (w.chosen-is, w.least-is)
+            (leads-still views seen want c.loop-position.least c.loop-position.chosen view leads (grind (arith, nat_tests, rank, w.if-rank-least.false)));
+      }
+    ])

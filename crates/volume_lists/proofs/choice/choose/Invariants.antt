@@ -1,4 +1,4 @@
-use Rattle.std.proofs.Common.{◌≡◌, ◌≤◌, take}
+use Rattle.std.proofs.Common.{take}
 use Rattle.volume_lists.proofs.Choosing.{Leads}
 use Rattle.volume_lists.proofs.choice.choose.Given as goal
 
