@@ -1,0 +1,41 @@
+//! How a seat comes to its turn.
+ghost use Rattle.std.specs.Prelude.{◌≡◌, ℕ, false, ◌+◌, ◌-◌, ◌%◌, ◌<◌, ◌≤◌, List, [], ◌∷◌, ◌++◌, Some, None, IfOk, IfErr, IfSome, IfNone, All, length, map, vec_len, vec_capacity, slice_index_or};
+ghost use Rattle.turn_lock.specs.Contract.{part_of, seen, mine, taken, mine_at, numbers, IsOf, IsTurnOf, MayGive, AreAll, IsNew, AreNumbered, Stands};
+ghost use Rattle.turn_lock.specs.Rule.{AllFit, AreBelow, copies};
+ghost use Rattle.turn_lock.specs.Steps.{newcomer, idle, parts_from, giving, IsWaiting, HasTaken, remainder, guest};
+ghost use Rattle.turn_lock.specs.Views.{StartsWith, made_by, own, IsMine, AreUnsigned, IsAlone, later, size, IsBy};
+
+use crate::journaled::Journaled;
+use crate::lock::TurnLock;
+use crate::seat::{Held, Seat};
+use crate::steps::{Draw, Look};
+
+impl<T: Journaled<E> + Drop, E> TurnLock<T, E> {
+    pub(crate) fn draw(&self, seat: Seat<T, E>) -> (u64, Held<T, E>)
+        requires { seat.held.table_id ≡ self.now.table.shared.table_id }
+        ensures same { result.1.table_id ≡ self.now.table.shared.table_id }
+        ensures drew { (k : ℕ) × (result.1.me ≡ (record seat.held.me.0 { ticket = Some k }, [])) × (k % 18446744073709551616 ≡ result.0) }
+    {
+        let Seat {
+            number: _,
+            mut held,
+        } = seat;
+        let ticket = self.table.shared.fetch_add::<Draw>(&mut held, 0, 1);
+        (ticket, held)
+    }
+
+    // One look: the value, where the ticket is served.
+    pub(crate) fn look(&self, held: &mut Held<T, E>, ticket: u64) -> Option<T>
+        requires lock { held.old.table_id ≡ self.now.table.shared.table_id }
+        requires waits { IsWaiting held.old.me ticket }
+        ensures same { held.new.table_id ≡ held.old.table_id }
+        ensures none { IfNone result (held.new.me ≡ held.old.me) }
+        ensures some { IfSome result (λ y. HasTaken T.journal held.old.me held.new.me y) }
+    {
+        let serving = self.table.shared.load::<Look<T, E>>(held, 1);
+        if serving != ticket {
+            return None;
+        }
+        self.table.shared.exchange(held, 0, None)
+    }
+}
