@@ -13,6 +13,7 @@ mod space;
 mod status;
 mod storage_group;
 mod target;
+mod unit;
 mod volume;
 
 pub use data_set::DataSet;
@@ -27,4 +28,5 @@ pub use space::Space;
 pub use status::Status;
 pub use storage_group::StorGroup;
 pub use target::Target;
+pub use unit::Unit;
 pub use volume::VolumeDef;

@@ -1,0 +1,11 @@
+pub mod Lines
+pub mod GapLines
+pub mod ExtentLines
+pub mod Cuts
+pub mod Kept
+pub mod ExtentLists
+pub mod Longest
+pub mod Swaps
+pub mod Granted
+pub mod GrantedExtents
+pub mod Alike

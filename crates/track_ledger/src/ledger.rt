@@ -1,0 +1,252 @@
+//! The tracks of one volume.
+ghost use Rattle.std.specs.Prelude.{◌≡◌, ℕ, ◌+◌, ◌-◌, ◌<◌, ◌≤◌, ◌^◌, ◌∷◌, ◌++◌, [], length, slice_index_or, slice_set, is_some, IfOk, IfSome, List, OnOk};
+ghost use Rattle.std.specs.List.{All, remove};
+ghost use Rattle.track_ledger.specs.Need.{IsNeed, granted_for};
+ghost use Rattle.track_ledger.specs.GapRule.{pieces_allowed};
+ghost use Rattle.track_ledger.specs.Grants.{IsGrant};
+ghost use Rattle.track_ledger.specs.Extents.{LiesInside, NoTrackTwice, AllInside, granted_to, pieces_of, released, tracks_held, trimmed};
+
+use crate::gap_rule::grant_of_gaps;
+use crate::gaps::{give_piece, take_piece};
+use crate::owned_extent::OwnedExtent;
+use crate::need::{unit_tracks, Need};
+use crate::piece::Piece;
+use desk_common::Items;
+use dsn_mask::Dsn;
+use std::alloc::{AllocError, Global};
+use std::marker::Model;
+
+/// The extents on one volume of so many tracks, in the order in which they were granted, and the gaps between them.
+#[derive(Drop)]
+pub struct Ledger {
+    capacity: u32,
+    extents: Vec<OwnedExtent>,
+    gaps: Vec<Piece>,
+}
+
+impl Model for Ledger {
+    ghost use Rattle.track_ledger.specs.Ledger.{LedgerView, ledger_view, IsKept};
+
+    ghost Value = { LedgerView };
+
+    ghost view = { λ l. ledger_view l.capacity l.extents l.gaps };
+
+    ghost invariant = { λ l. IsKept l.capacity l.extents l.gaps };
+}
+
+impl Ledger {
+    /// The ledger of a volume whose tracks are all free.
+    pub fn new(alloc: Global, capacity: u32) -> Result<Self, AllocError>
+        requires { 0 < capacity }
+        ensures capacity { IfOk result (λ ledger. ledger.capacity ≡ capacity) }
+        ensures extents { IfOk result (λ ledger. ledger.extents ≡ []) }
+    {
+        let mut gaps = Vec::with_capacity(alloc, 1)?;
+        if gaps
+            .push(Piece {
+                start: 0,
+                length: capacity,
+            })
+            .is_err()
+        {
+            return Err(AllocError);
+        }
+        Ok(Ledger {
+            capacity,
+            extents: Vec::new(alloc),
+            gaps,
+        })
+    }
+
+    /// How many extents there are.
+    pub fn extents(&self) -> u32
+        ensures { result ≡ length self.now.extents }
+    {
+        self.extents.len() as u32
+    }
+
+    /// How many tracks the extents hold.
+    pub fn granted(&self) -> u64
+        ensures sum { result ≡ tracks_held self.now.extents }
+        ensures within { result ≤ self.now.capacity }
+    {
+        count_tracks(&self.extents)
+    }
+
+    /// How many tracks are free.
+    pub fn free(&self) -> u64
+        ensures { result + tracks_held self.now.extents ≡ self.now.capacity }
+    {
+        u64::from(self.capacity) - self.granted()
+    }
+
+    /// Whether the gap rule grants the need.
+    pub fn fits(&self, need: &Need) -> bool
+        requires { IsNeed need.now }
+        ensures { result ≡ is_some (granted_for self.now need.now) }
+    {
+        grant_of_gaps(&self.gaps, unit_tracks(need.unit), need.tracks, need.held).is_some()
+    }
+
+    /// What the gap rule grants, or `None` where it grants nothing.
+    pub fn plan(&self, alloc: Global, need: &Need) -> Result<Option<Items<Piece>>, AllocError>
+        requires { IsNeed need.now }
+        ensures rule { IfOk result (λ pieces. pieces ≡ granted_for self.now need.now) }
+        ensures grant { IfOk result (λ found. IfSome found (λ pieces. IsGrant self.now.capacity (pieces_of self.now.extents) need.now.tracks (pieces_allowed need.now.held) pieces)) }
+        ensures installs { IfOk result (λ found. IfSome found (λ pieces. (owner : List ℕ) → NoTrackTwice (self.now.extents ++ granted_to owner pieces))) }
+    {
+        match grant_of_gaps(&self.gaps, unit_tracks(need.unit), need.tracks, need.held) {
+            Some(pieces) => Ok(Some(Items::from_slice(alloc, pieces.as_slice())?)),
+            None => Ok(None),
+        }
+    }
+
+    /// Makes room for so many extents more.
+    pub fn reserve(&mut self, extents: usize) -> Result<(), AllocError>
+        ensures room { OnOk result (extents ≤ self.new.spare) }
+        ensures capacity { self.new.capacity ≡ self.old.capacity }
+        ensures extents { self.new.extents ≡ self.old.extents }
+    {
+        self.extents.reserve(extents)?;
+        let wanted = self.extents.len() + extents + 1;
+        if wanted > self.gaps.len() {
+            self.gaps.reserve(wanted - self.gaps.len())?;
+        }
+        Ok(())
+    }
+
+    /// The owner holds these pieces too.
+    pub fn install(&mut self, owner: &Dsn, pieces: &[Piece])
+        requires room { length pieces.now ≤ self.old.spare }
+        requires inside { All (LiesInside self.old.capacity) pieces.now }
+        requires once { NoTrackTwice (self.old.extents ++ granted_to owner.now pieces.now) }
+        ensures capacity { self.new.capacity ≡ self.old.capacity }
+        ensures extents { self.new.extents ≡ self.old.extents ++ granted_to owner.now pieces.now }
+        ensures room { self.old.spare ≤ self.new.spare + length pieces.now }
+    {
+        for piece in pieces {
+            self.push_extent(OwnedExtent {
+                owner: *owner,
+                piece: *piece,
+            });
+        }
+    }
+
+    /// Frees what the owner holds behind its first tracks, in the order of its extents; answers the tracks freed.
+    pub fn trim(&mut self, owner: &Dsn, keep: u64) -> u64
+        ensures capacity { self.new.capacity ≡ self.old.capacity }
+        ensures extents { self.new.extents ≡ trimmed owner.now keep self.old.extents }
+        ensures freed { result + tracks_held self.new.extents ≡ tracks_held self.old.extents }
+        ensures room { self.old.spare ≤ self.new.spare }
+    {
+        let before = self.granted();
+        let mut left = keep;
+        let mut index = 0;
+        'walk: while index < self.extents.len() {
+            let extent = self.extents[index];
+            let length = u64::from(extent.piece.length);
+            if extent.owner != *owner {
+                index += 1;
+            } else if left == 0 {
+                self.remove_extent(index);
+            } else if left < length {
+                self.cut_extent(index, extent, left as u32);
+                left = 0;
+                index += 1;
+            } else {
+                left -= length;
+                index += 1;
+            }
+        }
+        before - self.granted()
+    }
+
+    /// Frees all that the owner holds; answers the tracks freed.
+    pub fn release(&mut self, owner: &Dsn) -> u64
+        ensures capacity { self.new.capacity ≡ self.old.capacity }
+        ensures extents { self.new.extents ≡ released owner.now self.old.extents }
+        ensures freed { result + tracks_held self.new.extents ≡ tracks_held self.old.extents }
+        ensures room { self.old.spare ≤ self.new.spare }
+    {
+        self.trim(owner, 0)
+    }
+
+    /// The volume has so many tracks from now on.
+    pub fn grow(&mut self, capacity: u32)
+        requires { self.old.capacity ≤ capacity }
+        ensures capacity { self.new.capacity ≡ capacity }
+        ensures extents { self.new.extents ≡ self.old.extents }
+        ensures room { self.old.spare ≤ self.new.spare }
+    {
+        if self.capacity < capacity {
+            give_piece(
+                &mut self.gaps,
+                Piece {
+                    start: self.capacity,
+                    length: capacity - self.capacity,
+                },
+            );
+            self.capacity = capacity;
+        }
+    }
+
+    // One extent more.
+    fn push_extent(&mut self, extent: OwnedExtent)
+        requires room { 0 < self.old.spare }
+        requires inside { LiesInside self.old.capacity extent.piece }
+        requires once { NoTrackTwice (self.old.extents ++ extent ∷ []) }
+        ensures capacity { self.new.capacity ≡ self.old.capacity }
+        ensures extents { self.new.extents ≡ self.old.extents ++ extent ∷ [] }
+        ensures spare { self.old.spare ≤ self.new.spare + 1 }
+    {
+        take_piece(&mut self.gaps, extent.piece);
+        if self.extents.push(extent).is_err() {
+            unreachable!();
+        }
+    }
+
+    // Without the extent at a place.
+    fn remove_extent(&mut self, index: usize)
+        requires { index < length self.old.extents }
+        ensures capacity { self.new.capacity ≡ self.old.capacity }
+        ensures extents { self.new.extents ≡ remove self.old.extents index }
+        ensures spare { self.new.spare ≡ self.old.spare + 1 }
+    {
+        let extent = self.extents.remove(index);
+        give_piece(&mut self.gaps, extent.piece);
+    }
+
+    // The extent at a place keeps its first tracks alone.
+    fn cut_extent(&mut self, index: usize, extent: OwnedExtent, keep: u32)
+        requires at { index < length self.old.extents }
+        requires extent { extent ≡ slice_index_or self.old.extents index extent }
+        requires some { 0 < keep }
+        requires less { keep < extent.piece.length }
+        ensures capacity { self.new.capacity ≡ self.old.capacity }
+        ensures extents { self.new.extents ≡ slice_set self.old.extents index (record { owner = extent.owner; piece = record { start = extent.piece.start; length = keep } }) }
+        ensures spare { self.new.spare ≡ self.old.spare }
+    {
+        self.extents[index] = OwnedExtent {
+            owner: extent.owner,
+            piece: Piece {
+                start: extent.piece.start,
+                length: keep,
+            },
+        };
+        give_piece(
+            &mut self.gaps,
+            Piece {
+                start: extent.piece.start + keep,
+                length: extent.piece.length - keep,
+            },
+        );
+    }
+}
+
+// The tracks that the extents hold together.
+fn count_tracks(extents: &[OwnedExtent]) -> u64
+    requires { tracks_held extents.now < 2 ^ 64 }
+    ensures { result ≡ tracks_held extents.now }
+{
+    extents.iter().map(|extent| u64::from(extent.piece.length)).sum()
+}
