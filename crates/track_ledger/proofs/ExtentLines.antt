@@ -8,10 +8,10 @@ use Rattle.std.proofs.lemmas.List.Elements.{All-head, All-tail}
 use Rattle.track_ledger.specs.declared.owned_extent.OwnedExtent.{OwnedExtent}
 use Rattle.track_ledger.specs.declared.piece.Piece.{Piece}
 use Rattle.track_ledger.specs.Gaps.{holds, is_free}
-use Rattle.track_ledger.specs.GapChanges.{gaps_without, gaps_with}
+use Rattle.track_ledger.specs.GapChanges.{AreInOrder, gaps_without, gaps_with}
 use Rattle.track_ledger.specs.Extents.{pieces_of, holders, NoTrackTwice, LiesInside, AllInside, tracks_held, gaps_between}
 use Rattle.track_ledger.proofs.Lines.{IsLine, line-agree, line-extend, runs-of-line, line-of-runs, piece_of}
-use Rattle.track_ledger.proofs.GapLines.{DiffersIn, taken-line, given-line, taken-sum, count-taken, line-inside}
+use Rattle.track_ledger.proofs.GapLines.{DiffersIn, taken-line, given-line, taken-sum, count-taken, line-inside, line-order}
 
 -- whether a track is in a piece
 in-piece : (piece : Piece) (t : ℕ) → piece.start ≤ t → t < piece.start + piece.length → holds piece t ≡ true
@@ -185,6 +185,10 @@ held-within capacity extents some once inside = omega (arith, gaps-sum capacity 
 -- each gap lies inside the volume
 pub gaps-inside : (capacity : ℕ) (extents : List OwnedExtent) → All (LiesInside capacity) (gaps_between capacity extents)
 gaps-inside capacity extents = line-inside _ 0 capacity _ (gaps-line capacity extents)
+
+-- the gaps of a volume stand in order
+pub gaps-order : (capacity : ℕ) (extents : List OwnedExtent) → AreInOrder (gaps_between capacity extents)
+gaps-order capacity extents = line-order _ 0 capacity _ (gaps-line capacity extents)
 
 -- what is added makes tracks held
 pub once-less : (piece : Piece) (less more : List OwnedExtent) → Adds piece less more → NoTrackTwice more → NoTrackTwice less

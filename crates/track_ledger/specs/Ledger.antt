@@ -3,7 +3,7 @@ use Rattle.std.specs.Prelude.{ℕ, ◌≡◌, ◌-◌, ◌<◌, ◌^◌, min, Li
 use Rattle.std.specs.declared.alloc.Global.{Global}
 use Rattle.track_ledger.specs.declared.owned_extent.OwnedExtent.{OwnedExtent}
 use Rattle.track_ledger.specs.declared.piece.Piece.{Piece}
-use Rattle.track_ledger.specs.Extents.{NoTrackTwice, AllInside, gaps_between}
+use Rattle.track_ledger.specs.Extents.{NoTrackTwice, AllInside, gaps_between, tracks_held}
 
 pub record LedgerView : Type 0 where
   pub capacity : ℕ
@@ -18,11 +18,12 @@ ledger_view capacity extents gaps = record {
   spare = min (vec_capacity extents) (vec_capacity gaps - 1) - length extents.items;
 }
 
--- the extents lie inside and no track is held twice; the gaps are those between them, and one more finds room than there are extents
-pub record IsKept (capacity : ℕ) (extents : Vec OwnedExtent Global) (gaps : Vec Piece Global) : Type 0 where
+-- the extents lie inside, no track is held twice, `granted` is their sum; the gaps are those between them, and one more finds room than there are extents
+pub record IsKept (capacity granted : ℕ) (extents : Vec OwnedExtent Global) (gaps : Vec Piece Global) : Type 0 where
   pub some : 0 < capacity
   pub fits : capacity < 2 ^ 32
   pub inside : AllInside capacity extents.items
   pub once : NoTrackTwice extents.items
+  pub sum : granted ≡ tracks_held extents.items
   pub gaps_are : gaps.items ≡ gaps_between capacity extents.items
   pub room : length extents.items < vec_capacity gaps

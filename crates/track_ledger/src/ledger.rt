@@ -4,23 +4,26 @@ ghost use Rattle.std.specs.List.{All, remove};
 ghost use Rattle.track_ledger.specs.Need.{IsNeed, granted_for};
 ghost use Rattle.track_ledger.specs.GapRule.{pieces_allowed};
 ghost use Rattle.track_ledger.specs.Grants.{IsGrant};
-ghost use Rattle.track_ledger.specs.Extents.{LiesInside, NoTrackTwice, AllInside, granted_to, pieces_of, released, tracks_held, trimmed};
+ghost use Rattle.track_ledger.specs.Extents.{LiesInside, NoTrackTwice, granted_to, pieces_of, released, tracks_held, trimmed};
 
 use crate::gap_rule::grant_of_gaps;
 use crate::gaps::{give_piece, take_piece};
+use crate::need::{Need, tracks_of};
 use crate::owned_extent::OwnedExtent;
-use crate::need::{unit_tracks, Need};
 use crate::piece::Piece;
 use desk_common::Items;
 use dsn_mask::Dsn;
 use std::alloc::{AllocError, Global};
 use std::marker::Model;
 
-/// The extents on one volume of so many tracks, in the order in which they were granted, and the gaps between them.
+/// The tracks of one volume: which data set holds which of them, and which are free (docs/rules.md, "The tracks of a volume").
+/// Its extents stand in the order in which they were installed, and so do those of each data set.
 #[derive(Drop)]
 pub struct Ledger {
     capacity: u32,
+    granted: u64,
     extents: Vec<OwnedExtent>,
+    // by start
     gaps: Vec<Piece>,
 }
 
@@ -31,34 +34,33 @@ impl Model for Ledger {
 
     ghost view = { λ l. ledger_view l.capacity l.extents l.gaps };
 
-    ghost invariant = { λ l. IsKept l.capacity l.extents l.gaps };
+    ghost invariant = { λ l. IsKept l.capacity l.granted l.extents l.gaps };
 }
 
 impl Ledger {
-    /// The ledger of a volume whose tracks are all free.
+    /// The ledger of a volume of so many tracks, which are all free.
     pub fn new(alloc: Global, capacity: u32) -> Result<Self, AllocError>
         requires { 0 < capacity }
         ensures capacity { IfOk result (λ ledger. ledger.capacity ≡ capacity) }
         ensures extents { IfOk result (λ ledger. ledger.extents ≡ []) }
     {
         let mut gaps = Vec::with_capacity(alloc, 1)?;
-        if gaps
-            .push(Piece {
-                start: 0,
-                length: capacity,
-            })
-            .is_err()
-        {
+        let whole = Piece {
+            start: 0,
+            length: capacity,
+        };
+        if gaps.push(whole).is_err() {
             return Err(AllocError);
         }
         Ok(Ledger {
             capacity,
+            granted: 0,
             extents: Vec::new(alloc),
             gaps,
         })
     }
 
-    /// How many extents there are.
+    /// How many extents there are. Takes the same time whatever their number, as `granted` and `free` do.
     pub fn extents(&self) -> u32
         ensures { result ≡ length self.now.extents }
     {
@@ -70,7 +72,7 @@ impl Ledger {
         ensures sum { result ≡ tracks_held self.now.extents }
         ensures within { result ≤ self.now.capacity }
     {
-        count_tracks(&self.extents)
+        self.granted
     }
 
     /// How many tracks are free.
@@ -80,42 +82,43 @@ impl Ledger {
         u64::from(self.capacity) - self.granted()
     }
 
-    /// Whether the gap rule grants the need.
+    /// Whether the gap rule grants the need. Takes no memory.
     pub fn fits(&self, need: &Need) -> bool
         requires { IsNeed need.now }
         ensures { result ≡ is_some (granted_for self.now need.now) }
     {
-        grant_of_gaps(&self.gaps, unit_tracks(need.unit), need.tracks, need.held).is_some()
+        grant_of_gaps(&self.gaps, tracks_of(need.unit), need.tracks, need.held).is_some()
     }
 
-    /// What the gap rule grants, or `None` where it grants nothing.
+    /// What the gap rule grants, in the order taken, or `None` where it grants nothing; `install` may follow.
     pub fn plan(&self, alloc: Global, need: &Need) -> Result<Option<Items<Piece>>, AllocError>
         requires { IsNeed need.now }
         ensures rule { IfOk result (λ pieces. pieces ≡ granted_for self.now need.now) }
         ensures grant { IfOk result (λ found. IfSome found (λ pieces. IsGrant self.now.capacity (pieces_of self.now.extents) need.now.tracks (pieces_allowed need.now.held) pieces)) }
         ensures installs { IfOk result (λ found. IfSome found (λ pieces. (owner : List ℕ) → NoTrackTwice (self.now.extents ++ granted_to owner pieces))) }
     {
-        match grant_of_gaps(&self.gaps, unit_tracks(need.unit), need.tracks, need.held) {
+        match grant_of_gaps(&self.gaps, tracks_of(need.unit), need.tracks, need.held) {
             Some(pieces) => Ok(Some(Items::from_slice(alloc, pieces.as_slice())?)),
             None => Ok(None),
         }
     }
 
-    /// Makes room for so many extents more.
-    pub fn reserve(&mut self, extents: usize) -> Result<(), AllocError>
-        ensures room { OnOk result (extents ≤ self.new.spare) }
+    /// Makes room for so many extents more, so that they can be installed without memory.
+    pub fn reserve(&mut self, more: usize) -> Result<(), AllocError>
+        ensures room { OnOk result (more ≤ self.new.spare) }
+        ensures kept { self.old.spare ≤ self.new.spare }
         ensures capacity { self.new.capacity ≡ self.old.capacity }
         ensures extents { self.new.extents ≡ self.old.extents }
     {
-        self.extents.reserve(extents)?;
-        let wanted = self.extents.len() + extents + 1;
-        if wanted > self.gaps.len() {
-            self.gaps.reserve(wanted - self.gaps.len())?;
+        self.extents.reserve(more)?;
+        let gaps = self.extents.len() + more + 1;
+        if gaps > self.gaps.len() {
+            self.gaps.reserve(gaps - self.gaps.len())?;
         }
         Ok(())
     }
 
-    /// The owner holds these pieces too.
+    /// The owner holds these pieces too, behind those that it held, in this order. Takes no memory and can't fail.
     pub fn install(&mut self, owner: &Dsn, pieces: &[Piece])
         requires room { length pieces.now ≤ self.old.spare }
         requires inside { All (LiesInside self.old.capacity) pieces.now }
@@ -132,7 +135,8 @@ impl Ledger {
         }
     }
 
-    /// Frees what the owner holds behind its first tracks, in the order of its extents; answers the tracks freed.
+    /// Frees what the owner holds behind its first so many tracks, in the order of its extents; answers the tracks freed.
+    /// Takes no memory.
     pub fn trim(&mut self, owner: &Dsn, keep: u64) -> u64
         ensures capacity { self.new.capacity ≡ self.old.capacity }
         ensures extents { self.new.extents ≡ trimmed owner.now keep self.old.extents }
@@ -161,7 +165,7 @@ impl Ledger {
         before - self.granted()
     }
 
-    /// Frees all that the owner holds; answers the tracks freed.
+    /// Frees all that the owner holds, which may be nothing; answers the tracks freed. Takes no memory.
     pub fn release(&mut self, owner: &Dsn) -> u64
         ensures capacity { self.new.capacity ≡ self.old.capacity }
         ensures extents { self.new.extents ≡ released owner.now self.old.extents }
@@ -171,7 +175,7 @@ impl Ledger {
         self.trim(owner, 0)
     }
 
-    /// The volume has so many tracks from now on.
+    /// The volume has so many tracks from now on; those added are free.
     pub fn grow(&mut self, capacity: u32)
         requires { self.old.capacity ≤ capacity }
         ensures capacity { self.new.capacity ≡ capacity }
@@ -179,13 +183,11 @@ impl Ledger {
         ensures room { self.old.spare ≤ self.new.spare }
     {
         if self.capacity < capacity {
-            give_piece(
-                &mut self.gaps,
-                Piece {
-                    start: self.capacity,
-                    length: capacity - self.capacity,
-                },
-            );
+            let added = Piece {
+                start: self.capacity,
+                length: capacity - self.capacity,
+            };
+            give_piece(&mut self.gaps, added);
             self.capacity = capacity;
         }
     }
@@ -200,6 +202,7 @@ impl Ledger {
         ensures spare { self.old.spare ≤ self.new.spare + 1 }
     {
         take_piece(&mut self.gaps, extent.piece);
+        self.granted += u64::from(extent.piece.length);
         if self.extents.push(extent).is_err() {
             unreachable!();
         }
@@ -213,6 +216,7 @@ impl Ledger {
         ensures spare { self.new.spare ≡ self.old.spare + 1 }
     {
         let extent = self.extents.remove(index);
+        self.granted -= u64::from(extent.piece.length);
         give_piece(&mut self.gaps, extent.piece);
     }
 
@@ -233,20 +237,11 @@ impl Ledger {
                 length: keep,
             },
         };
-        give_piece(
-            &mut self.gaps,
-            Piece {
-                start: extent.piece.start + keep,
-                length: extent.piece.length - keep,
-            },
-        );
+        let freed = Piece {
+            start: extent.piece.start + keep,
+            length: extent.piece.length - keep,
+        };
+        self.granted -= u64::from(freed.length);
+        give_piece(&mut self.gaps, freed);
     }
-}
-
-// The tracks that the extents hold together.
-fn count_tracks(extents: &[OwnedExtent]) -> u64
-    requires { tracks_held extents.now < 2 ^ 64 }
-    ensures { result ≡ tracks_held extents.now }
-{
-    extents.iter().map(|extent| u64::from(extent.piece.length)).sum()
 }

@@ -13,7 +13,7 @@ pub struct Need {
 }
 
 /// The tracks of a unit.
-pub fn unit_tracks(unit: Unit) -> u32
+pub fn tracks_of(unit: Unit) -> u32
     ensures value { result ≡ tracks_in unit }
     ensures some { 0 < result }
     ensures small { result ≤ 315 }

@@ -4,8 +4,11 @@ use Rattle.std.specs.List.{remove}
 use Rattle.std.proofs.lemmas.Grind.{common_steps}
 use Rattle.std.proofs.lemmas.List.Edits.{length-remove}
 use Rattle.track_ledger.proofs.ExtentLines.{adds-remove}
-use Rattle.track_ledger.proofs.Kept.{given-small, given-room, given-kept, remove-inside, extent-inside}
+use Rattle.track_ledger.proofs.Kept.{given-small, given-room, given-kept, remove-inside, extent-inside, held-without, kept-order}
 use Rattle.track_ledger.proofs.ledger.Ledger.remove_extent.Goals as goal
+
+pub give_piece-requires-clause-order : goal.give_piece-requires-clause-order
+give_piece-requires-clause-order c = kept-order c.self.inside.capacity c.self.inside.extents.items c.self.inside.gaps.items c.self.invariant.gaps_are
 
 pub give_piece-requires-clause-inside : goal.give_piece-requires-clause-inside
 give_piece-requires-clause-inside c =
@@ -33,5 +36,5 @@ invariant_of-self c =
     let i = c.self.invariant in
     let is = c.remove-extent.ensures.value in
     let less : c.args.index < length c.self.inside.extents.items = grind (arith, common_steps) in
-    given-kept c.self.inside.capacity c.self.inside.extents c.remove-extent.new.self c.self.inside.gaps c.give_piece.new.gaps (remove extents c.args.index) extent.piece i (adds-remove extents c.args.index extent less is)
-    (extent-inside _ extents c.args.index extent i.inside less is) (remove-inside _ extents c.args.index i.inside) (omega (arith, length-remove extents c.args.index less)) c.give_piece.ensures.room c.remove-extent.ensures.items c.give_piece.ensures.items
+    given-kept c.self.inside.capacity c.self.inside.granted _ c.self.inside.extents c.remove-extent.new.self c.self.inside.gaps c.give_piece.new.gaps (remove extents c.args.index) extent.piece i (adds-remove extents c.args.index extent less is)
+    (extent-inside _ extents c.args.index extent i.inside less is) (remove-inside _ extents c.args.index i.inside) (held-without extents c.args.index extent less is) (omega (arith, i.sum, held-without extents c.args.index extent less is)) (omega (arith, length-remove extents c.args.index less)) c.give_piece.ensures.room c.remove-extent.ensures.items c.give_piece.ensures.items
