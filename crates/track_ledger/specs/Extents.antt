@@ -1,21 +1,17 @@
 -- The extents of a volume, in the order in which they were granted.
 use Rattle.std.specs.Prelude.{ℕ, ◌+◌, ◌-◌, ◌<◌, ◌≤◌, min, not, List, [], ◌∷◌, map, filter, bytes_eq, nat_lt, if◌then◌else◌}
-use Rattle.std.specs.List.{All, count_by, sum_by}
+use Rattle.std.specs.List.{All, sum_by}
 use Rattle.track_ledger.specs.declared.owned_extent.OwnedExtent.{OwnedExtent}
 use Rattle.track_ledger.specs.declared.piece.Piece.{Piece}
-use Rattle.track_ledger.specs.Gaps.{holds, gaps_of}
+use Rattle.track_ledger.specs.Gaps.{gaps_of, times_held}
 
 -- the pieces that are held
 abbrev pub pieces_of : List OwnedExtent → List Piece
 pieces_of extents = map (λ extent. extent.piece) extents
 
--- how many of the extents hold the track
-abbrev pub holders : List OwnedExtent → ℕ → ℕ
-holders extents track = count_by (λ extent. holds extent.piece track) extents
-
 -- no track is held twice
 abbrev pub NoTrackTwice : List OwnedExtent → Type 0
-NoTrackTwice extents = (track : ℕ) → holders extents track ≤ 1
+NoTrackTwice extents = (track : ℕ) → times_held (pieces_of extents) track ≤ 1
 
 -- the piece isn't empty and ends below the capacity
 abbrev pub LiesInside : ℕ → Piece → Type 0

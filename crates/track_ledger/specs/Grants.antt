@@ -1,14 +1,9 @@
 -- What a grant is to the volume that gives it.
-use Rattle.std.specs.Prelude.{ℕ, ◌≡◌, ◌+◌, ◌≤◌, List, [], ◌∷◌, length, if◌then◌else◌}
+use Rattle.std.specs.Prelude.{ℕ, ◌≡◌, ◌+◌, ◌≤◌, List, length}
 use Rattle.std.specs.List.{All, sum_by}
 use Rattle.track_ledger.specs.declared.piece.Piece.{Piece}
-use Rattle.track_ledger.specs.Gaps.{holds}
+use Rattle.track_ledger.specs.Gaps.{times_held}
 use Rattle.track_ledger.specs.Extents.{LiesInside}
-
--- how many of the pieces hold the track
-abbrev pub times_held : List Piece → ℕ → ℕ
-times_held [] track = 0
-times_held (piece ∷ pieces) track = (if holds piece track then 1 else 0) + times_held pieces track
 
 -- pieces that a volume may give beside those it holds: inside it, of tracks held once at most, of just the need, at most so many
 pub record IsGrant (capacity : ℕ) (held : List Piece) (need most : ℕ) (pieces : List Piece) : Type 0 where

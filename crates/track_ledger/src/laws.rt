@@ -4,11 +4,11 @@ ghost use Rattle.track_ledger.specs.declared.need.Need.{Need};
 ghost use Rattle.track_ledger.specs.declared.owned_extent.OwnedExtent.{OwnedExtent};
 ghost use Rattle.track_ledger.specs.declared.piece.Piece.{Piece};
 ghost use Rattle.track_ledger.specs.GapRule.{grant_of, pieces_allowed};
-ghost use Rattle.track_ledger.specs.Gaps.{gaps_of, unit_gaps};
-ghost use Rattle.track_ledger.specs.Grants.{IsGrant, times_held};
+ghost use Rattle.track_ledger.specs.Gaps.{gaps_of, times_held, unit_gaps};
+ghost use Rattle.track_ledger.specs.Grants.{IsGrant};
 ghost use Rattle.track_ledger.specs.Ledger.{LedgerView};
 ghost use Rattle.track_ledger.specs.Need.{granted_for, tracks_in};
-ghost use Rattle.track_ledger.specs.Extents.{front_pieces, holders, owned_by, pieces_of, trimmed};
+ghost use Rattle.track_ledger.specs.Extents.{front_pieces, owned_by, pieces_of, trimmed};
 
 /// What the gap rule grants lies inside the volume, on tracks that nobody holds, is of just the need and has few pieces.
 pub fn grants_fit()
@@ -18,7 +18,7 @@ pub fn grants_fit()
 
 /// A ledger grants what the gap rule grants beside any pieces that hold each track as often.
 pub fn grants_alike()
-    ensures { (ledger : LedgerView) (need : Need) (capacity : ℕ) (pieces : List Piece) → ledger.capacity ≡ capacity → ((track : ℕ) → holders ledger.extents track ≡ times_held pieces track) →
+    ensures { (ledger : LedgerView) (need : Need) (capacity : ℕ) (pieces : List Piece) → ledger.capacity ≡ capacity → ((track : ℕ) → times_held (pieces_of ledger.extents) track ≡ times_held pieces track) →
         granted_for ledger need ≡ grant_of (unit_gaps (tracks_in need.unit) (gaps_of capacity pieces)) need.tracks need.held }
 {}
 

@@ -1,6 +1,6 @@
 use Rattle.std.proofs.Common.{ltb, arith, rules, ◌+◌}
 use Rattle.std.proofs.lemmas.List.Sorted.{IsPartitionPoint-from_clause, IsPartitionedBy-ltb}
-use Rattle.track_ledger.proofs.Cuts.{first-reaching}
+use Rattle.track_ledger.proofs.PlaceLemmas.{first-reaching}
 use Rattle.track_ledger.proofs.gaps.first_reaching.Goals as goal
 
 pub returns : goal.returns

@@ -2,9 +2,9 @@ use Rattle.std.proofs.Common.{arith, ◌≡◌, ◌<◌, ◌+◌, ◌-◌, lengt
 use Rattle.track_ledger.specs.Ledger.{LedgerView}
 use Rattle.track_ledger.specs.declared.owned_extent.OwnedExtent.{OwnedExtent}
 use Rattle.std.specs.Prelude.{vec_capacity}
-use Rattle.track_ledger.proofs.Lines.{piece_of}
-use Rattle.track_ledger.proofs.ExtentLines.{adds-cut}
-use Rattle.track_ledger.proofs.Kept.{given-small, given-room, given-kept, cut-inside, cut-piece, extent-inside, cut_to, held-cut, kept-order}
+use Rattle.track_ledger.proofs.LineLemmas.{piece_of}
+use Rattle.track_ledger.proofs.HolderLemmas.{adds-cut}
+use Rattle.track_ledger.proofs.KeptLemmas.{given-small, given-room, given-kept, cut-inside, cut-piece, extent-inside, cut_to, held-cut, kept-order}
 use Rattle.track_ledger.proofs.ledger.Ledger.cut_extent.Goals as goal
 
 pub overflow_add-freed : goal.overflow_add-freed

@@ -1,5 +1,5 @@
 use Rattle.std.proofs.Common.{◌∙◌}
-use Rattle.track_ledger.proofs.Kept.{small-gaps}
+use Rattle.track_ledger.proofs.KeptLemmas.{small-gaps}
 use Rattle.track_ledger.proofs.ledger.Ledger.fits.Goals as goal
 
 pub grant_of_gaps-requires-clause-fits : goal.grant_of_gaps-requires-clause-fits

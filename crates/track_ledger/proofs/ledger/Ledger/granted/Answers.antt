@@ -1,6 +1,6 @@
 use Rattle.std.proofs.Common.{arith, ◌≡◌, ap}
 use Rattle.track_ledger.specs.Ledger.{LedgerView}
-use Rattle.track_ledger.proofs.ExtentLines.{held-within}
+use Rattle.track_ledger.proofs.HolderLemmas.{held-within}
 use Rattle.track_ledger.proofs.ledger.Ledger.granted.Goals as goal
 
 pub returns-clause-within : goal.returns-clause-within

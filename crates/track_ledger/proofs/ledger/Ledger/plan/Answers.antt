@@ -3,8 +3,8 @@ use Rattle.std.specs.Prelude.{Some}
 use Rattle.track_ledger.specs.Ledger.{LedgerView}
 use Rattle.track_ledger.specs.Need.{granted_for}
 use Rattle.track_ledger.specs.Extents.{NoTrackTwice}
-use Rattle.track_ledger.proofs.Kept.{small-gaps}
-use Rattle.track_ledger.proofs.GrantedExtents.{granted-for-is, grant-installs}
+use Rattle.track_ledger.proofs.KeptLemmas.{small-gaps}
+use Rattle.track_ledger.proofs.InstallLemmas.{granted-for-is, grant-installs}
 use Rattle.track_ledger.proofs.ledger.Ledger.plan.Goals as goal
 
 pub grant_of_gaps-requires-clause-fits : goal.grant_of_gaps-requires-clause-fits

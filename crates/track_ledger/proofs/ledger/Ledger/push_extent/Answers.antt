@@ -4,8 +4,8 @@ use Rattle.std.proofs.lemmas.Grind.{common_steps}
 use Rattle.track_ledger.specs.declared.owned_extent.OwnedExtent.{OwnedExtent}
 use Rattle.track_ledger.specs.Extents.{LiesInside, NoTrackTwice}
 use Rattle.track_ledger.specs.Ledger.{LedgerView}
-use Rattle.track_ledger.proofs.ExtentLines.{held-within}
-use Rattle.track_ledger.proofs.Kept.{small-gaps, push-room, push-kept, kept-order}
+use Rattle.track_ledger.proofs.HolderLemmas.{held-within}
+use Rattle.track_ledger.proofs.KeptLemmas.{small-gaps, push-room, push-kept, kept-order}
 use Rattle.track_ledger.proofs.ledger.Ledger.push_extent.Goals as goal
 
 pub overflow_add-self : goal.overflow_add-self

@@ -3,8 +3,8 @@ use Rattle.std.specs.Prelude.{vec_capacity}
 use Rattle.std.specs.List.{remove}
 use Rattle.std.proofs.lemmas.Grind.{common_steps}
 use Rattle.std.proofs.lemmas.List.Edits.{length-remove}
-use Rattle.track_ledger.proofs.ExtentLines.{adds-remove}
-use Rattle.track_ledger.proofs.Kept.{given-small, given-room, given-kept, remove-inside, extent-inside, held-without, kept-order}
+use Rattle.track_ledger.proofs.HolderLemmas.{adds-remove}
+use Rattle.track_ledger.proofs.KeptLemmas.{given-small, given-room, given-kept, remove-inside, extent-inside, held-without, kept-order}
 use Rattle.track_ledger.proofs.ledger.Ledger.remove_extent.Goals as goal
 
 pub give_piece-requires-clause-order : goal.give_piece-requires-clause-order

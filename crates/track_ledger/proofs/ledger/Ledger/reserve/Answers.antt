@@ -1,5 +1,5 @@
 use Rattle.std.proofs.Common.{arith, refl}
-use Rattle.track_ledger.proofs.Kept.{kept-more}
+use Rattle.track_ledger.proofs.KeptLemmas.{kept-more}
 use Rattle.track_ledger.proofs.ledger.Ledger.reserve.Goals as goal
 
 pub invariant_of-self : goal.invariant_of-self

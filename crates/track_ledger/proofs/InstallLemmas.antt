@@ -7,22 +7,17 @@ use Rattle.track_ledger.specs.declared.need.Need.{Need}
 use Rattle.sms_construct.specs.declared.unit.Unit.{Unit as SpaceUnit}
 use Rattle.sms_construct.specs.declared.unit.Unit.TheVariants.{Trk, Cyl}
 use Rattle.track_ledger.specs.declared.piece.Piece.{Piece}
-use Rattle.track_ledger.specs.Gaps.{holds}
+use Rattle.track_ledger.specs.Gaps.{holds, times_held}
 use Rattle.track_ledger.specs.GapRule.{pieces_allowed}
-use Rattle.track_ledger.specs.Grants.{times_held, IsGrant}
+use Rattle.track_ledger.specs.Grants.{IsGrant}
 use Rattle.track_ledger.specs.Ledger.{LedgerView}
 use Rattle.track_ledger.specs.Need.{IsNeed, granted_for, tracks_in}
-use Rattle.track_ledger.specs.Extents.{pieces_of, holders, NoTrackTwice, granted_to}
-use Rattle.track_ledger.proofs.Granted.{grant-is}
+use Rattle.track_ledger.specs.Extents.{pieces_of, NoTrackTwice, granted_to}
+use Rattle.track_ledger.proofs.GrantLemmas.{grant-is}
 
 pub times-held-append : (a b : List Piece) (t : ℕ) → times_held (a ++ b) t ≡ times_held a t + times_held b t
 times-held-append [] b t = omega arith
 times-held-append (p ∷ a) b t = omega (arith, times-held-append a b t)
-
--- extents hold what their pieces hold
-pub holders-times : (extents : List OwnedExtent) (t : ℕ) → holders extents t ≡ times_held (pieces_of extents) t
-holders-times [] t = refl
-holders-times (extent ∷ extents) t = omega (arith, sum_by-cons (λ (r : OwnedExtent). cond (holds r.piece t) 1 0) extent extents, holders-times extents t)
 
 granted-pieces : (extents : List OwnedExtent) (owner : List ℕ) (pieces : List Piece) (t : ℕ) → times_held (pieces_of (extents ++ granted_to owner pieces)) t ≡ times_held (pieces_of extents) t + times_held pieces t
 granted-pieces [] owner [] t = refl
@@ -37,13 +32,13 @@ unit-some Cyl = omega arith
 pub granted-for-is : (ledger : LedgerView) (need : Need) (pieces : List Piece) → IsNeed need → NoTrackTwice ledger.extents → granted_for ledger need ≡ Some pieces
     → IsGrant ledger.capacity (pieces_of ledger.extents) need.tracks (pieces_allowed need.held) pieces
 granted-for-is ledger need pieces is once found =
-    grant-is ledger.capacity (tracks_in need.unit) (pieces_of ledger.extents) need.tracks need.held pieces (unit-some need.unit) is.0 (λ t. omega (arith, once t, holders-times ledger.extents t)) found
+    grant-is ledger.capacity (tracks_in need.unit) (pieces_of ledger.extents) need.tracks need.held pieces (unit-some need.unit) is.0 once found
 
 -- and no track is held twice when its pieces are the owner's
 pub grant-installs : (capacity : ℕ) (extents : List OwnedExtent) (need most : ℕ) (pieces : List Piece) (owner : List ℕ) → IsGrant capacity (pieces_of extents) need most pieces
     → NoTrackTwice (extents ++ granted_to owner pieces)
 grant-installs capacity extents need most pieces owner grant t =
-    omega (arith, grant.once t, granted-pieces extents owner pieces t, holders-times (extents ++ granted_to owner pieces) t)
+    omega (arith, grant.once t, granted-pieces extents owner pieces t)
 
 pub found-grant : (ledger : LedgerView) (need : Need) (found : Option (List Piece)) → IsNeed need → NoTrackTwice ledger.extents → found ≡ granted_for ledger need
     → IfSome found (λ (pieces : List Piece). IsGrant ledger.capacity (pieces_of ledger.extents) need.tracks (pieces_allowed need.held) pieces)

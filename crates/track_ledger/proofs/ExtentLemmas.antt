@@ -9,7 +9,8 @@ use Rattle.std.proofs.Math.Seq.{drop-append_seam, take-append_seam}
 use Rattle.track_ledger.specs.declared.owned_extent.OwnedExtent.{OwnedExtent}
 use Rattle.track_ledger.specs.declared.piece.Piece.{Piece}
 use Rattle.track_ledger.specs.Gaps.{holds}
-use Rattle.track_ledger.specs.Extents.{NoTrackTwice, granted_to, holders, released, trimmed, tracks_held}
+use Rattle.track_ledger.proofs.HolderLemmas.{holders, holders-sum}
+use Rattle.track_ledger.specs.Extents.{NoTrackTwice, granted_to, released, trimmed, tracks_held}
 
 granted-append : (owner : List ℕ) (xs ys : List Piece) → granted_to owner (xs ++ ys) ≡ granted_to owner xs ++ granted_to owner ys
 granted-append owner [] ys = refl
@@ -34,7 +35,7 @@ once-part extents owner pieces i piece less is once =
     ∙ sym (append_assoc extents (granted_to owner front) (granted_to owner back)) in
     let part : NoTrackTwice (extents ++ granted_to owner front) = λ t.
     let f : OwnedExtent → ℕ = λ (r : OwnedExtent). cond (holds r.piece t) 1 0 in
-    let all = subst (λ (l : List OwnedExtent). holders l t ≤ 1) whole (once t) in omega (arith, all, sum_by-append f (extents ++ granted_to owner front) (granted_to owner back)) in
+    let all = subst (λ (l : List OwnedExtent). holders l t ≤ 1) whole (once t) in omega (arith, all, holders-sum (extents ++ granted_to owner front) t, holders-sum ((extents ++ granted_to owner front) ++ granted_to owner back) t, sum_by-append f (extents ++ granted_to owner front) (granted_to owner back)) in
     subst NoTrackTwice (sym (granted-more extents owner pieces i piece less is)) part
 
 drop-at : (xs : List OwnedExtent) (i : ℕ) (extent : OwnedExtent) → i < length xs → extent ≡ get_or xs i extent → drop i xs ≡ extent ∷ drop (i + 1) xs

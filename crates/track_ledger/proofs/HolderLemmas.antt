@@ -7,11 +7,11 @@ use Rattle.std.proofs.lemmas.List.Sums.{sum_by-cons, sum_by_push, sum_by-set, su
 use Rattle.std.proofs.lemmas.List.Elements.{All-head, All-tail}
 use Rattle.track_ledger.specs.declared.owned_extent.OwnedExtent.{OwnedExtent}
 use Rattle.track_ledger.specs.declared.piece.Piece.{Piece}
-use Rattle.track_ledger.specs.Gaps.{holds, is_free}
+use Rattle.track_ledger.specs.Gaps.{holds, is_free, times_held}
 use Rattle.track_ledger.specs.GapChanges.{AreInOrder, gaps_without, gaps_with}
-use Rattle.track_ledger.specs.Extents.{pieces_of, holders, NoTrackTwice, LiesInside, AllInside, tracks_held, gaps_between}
-use Rattle.track_ledger.proofs.Lines.{IsLine, line-agree, line-extend, runs-of-line, line-of-runs, piece_of}
-use Rattle.track_ledger.proofs.GapLines.{DiffersIn, taken-line, given-line, taken-sum, count-taken, line-inside, line-order}
+use Rattle.track_ledger.specs.Extents.{pieces_of, NoTrackTwice, LiesInside, AllInside, tracks_held, gaps_between}
+use Rattle.track_ledger.proofs.LineLemmas.{IsLine, line-agree, line-extend, runs-of-line, line-of-runs, piece_of}
+use Rattle.track_ledger.proofs.GapLemmas.{DiffersIn, taken-line, given-line, taken-sum, count-taken, line-inside, line-order}
 
 -- whether a track is in a piece
 in-piece : (piece : Piece) (t : ℕ) → piece.start ≤ t → t < piece.start + piece.length → holds piece t ≡ true
@@ -39,12 +39,20 @@ free-step : (b : Bool) (n : ℕ) → (not b && nat_eq n 0) ≡ nat_eq (cond b 1 
 free-step true n = let off : nat_eq (1 + n) 0 ≡ false = grind (arith, nat_tests) in sym off
 free-step false n = ap (λ m. nat_eq m 0) (omega arith)
 
+-- how many of the extents hold the track
+abbrev pub holders : List OwnedExtent → ℕ → ℕ
+holders extents track = times_held (pieces_of extents) track
+
+-- as a sum over the extents
+pub holders-sum : (extents : List OwnedExtent) (t : ℕ) → holders extents t ≡ sum_by (λ (r : OwnedExtent). cond (holds r.piece t) 1 0) extents
+holders-sum [] t = refl
+holders-sum (extent ∷ extents) t = omega (arith, sum_by-cons (λ (r : OwnedExtent). cond (holds r.piece t) 1 0) extent extents, holders-sum extents t)
+
 -- a track is free where no extent holds it
 pub free-is : (extents : List OwnedExtent) (t : ℕ) → is_free (pieces_of extents) t ≡ nat_eq (holders extents t) 0
 free-is [] t = refl
 free-is (extent ∷ extents) t =
     ap (λ b. not (holds extent.piece t) && b) (free-is extents t) ∙ free-step (holds extent.piece t) (holders extents t)
-    ∙ ap (λ n. nat_eq n 0) (sym (sum_by-cons (λ (r : OwnedExtent). cond (holds r.piece t) 1 0) extent extents))
 
 -- the one list of extents holds the tracks of the other and those of the piece
 abbrev pub Adds : Piece → List OwnedExtent → List OwnedExtent → Type 0
@@ -110,11 +118,14 @@ gaps-given capacity piece less more adds once inside =
 
 -- three ways to add a piece
 pub adds-push : (extents : List OwnedExtent) (extent : OwnedExtent) → Adds extent.piece extents (extents ++ extent ∷ [])
-adds-push extents extent t = sum_by_push (λ (r : OwnedExtent). cond (holds r.piece t) 1 0) extents extent
+adds-push extents extent t =
+    omega (arith, holders-sum (extents ++ extent ∷ []) t, holders-sum extents t, sum_by_push (λ (r : OwnedExtent). cond (holds r.piece t) 1 0) extents extent)
 
 pub adds-remove : (extents : List OwnedExtent) (i : ℕ) (extent : OwnedExtent) → i < length extents → extent ≡ get_or extents i extent → Adds extent.piece (remove extents i) extents
 adds-remove extents i extent less is t =
-    sym (sum_by-remove (λ (r : OwnedExtent). cond (holds r.piece t) 1 0) extents i extent less) ∙ ap (λ (r : OwnedExtent). holders (remove extents i) t + cond (holds r.piece t) 1 0) (sym is)
+    let f : OwnedExtent → ℕ = λ (r : OwnedExtent). cond (holds r.piece t) 1 0 in
+    let same : f (get_or extents i extent) ≡ mark extent.piece t = ap f (sym is) in
+    omega (arith, holders-sum extents t, holders-sum (remove extents i) t, sum_by-remove f extents i extent less, same)
 
 -- the front and the back of a piece
 mark-cut : (start front back t : ℕ) → mark (piece_of start (front + back)) t ≡ mark (piece_of start front) t + mark (piece_of (start + front) back) t
@@ -129,7 +140,7 @@ adds-cut extents i extent cut keep less is le to t =
     let now : f cut ≡ mark (piece_of extent.piece.start keep) t = ap (λ (p : Piece). mark p t) to in
     let parts = mark-cut extent.piece.start keep (extent.piece.length - keep) t in
     let whole : mark (piece_of extent.piece.start (keep + (extent.piece.length - keep))) t ≡ mark extent.piece t = ap (λ n. mark (piece_of extent.piece.start n) t) (omega arith) in
-    omega (arith, sums, was, now, parts, whole)
+    omega (arith, sums, was, now, parts, whole, holders-sum extents t, holders-sum (set extents i cut) t)
 
 -- an empty volume is one gap
 pub gaps-none : (capacity : ℕ) → 0 < capacity → gaps_between capacity [] ≡ piece_of 0 capacity ∷ []
@@ -146,7 +157,8 @@ gaps-none capacity some = line-gaps capacity [] _ (
 )
 
 tail-once : (extent : OwnedExtent) (extents : List OwnedExtent) → NoTrackTwice (extent ∷ extents) → NoTrackTwice extents
-tail-once extent extents once t = omega (arith, once t, sum_by-cons (λ (r : OwnedExtent). cond (holds r.piece t) 1 0) extent extents)
+tail-once extent extents once t =
+    let all : mark extent.piece t + holders extents t ≤ 1 = once t in omega (arith, all)
 
 inside-head : (capacity : ℕ) (extent : OwnedExtent) (extents : List OwnedExtent) → AllInside capacity (extent ∷ extents) → LiesInside capacity extent.piece
 inside-head capacity extent extents inside = All-head (λ (r : OwnedExtent). LiesInside capacity r.piece) extent extents inside
@@ -155,7 +167,8 @@ inside-tail : (capacity : ℕ) (extent : OwnedExtent) (extents : List OwnedExten
 inside-tail capacity extent extents inside = All-tail (λ (r : OwnedExtent). LiesInside capacity r.piece) extent extents inside
 
 adds-cons : (extent : OwnedExtent) (extents : List OwnedExtent) → Adds extent.piece extents (extent ∷ extents)
-adds-cons extent extents t = omega (arith, sum_by-cons (λ (r : OwnedExtent). cond (holds r.piece t) 1 0) extent extents)
+adds-cons extent extents t =
+    let all : holders (extent ∷ extents) t ≡ mark extent.piece t + holders extents t = refl in omega (arith, all)
 
 -- there is at most one gap more than extents
 pub gaps-count : (capacity : ℕ) (extents : List OwnedExtent) → 0 < capacity → NoTrackTwice extents → AllInside capacity extents → length (gaps_between capacity extents) ≤ length extents + 1

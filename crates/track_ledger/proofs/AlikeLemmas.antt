@@ -4,15 +4,13 @@ use Rattle.std.specs.Prelude.{min, bytes_eq, nat_eq, nat_lt}
 use Rattle.track_ledger.specs.declared.owned_extent.OwnedExtent.{OwnedExtent}
 use Rattle.track_ledger.specs.declared.need.Need.{Need}
 use Rattle.track_ledger.specs.declared.piece.Piece.{Piece}
-use Rattle.track_ledger.specs.Gaps.{is_free, gaps_of, unit_gaps}
+use Rattle.track_ledger.specs.Gaps.{is_free, gaps_of, unit_gaps, times_held}
 use Rattle.track_ledger.specs.GapRule.{grant_of}
-use Rattle.track_ledger.specs.Grants.{times_held}
 use Rattle.track_ledger.specs.Ledger.{LedgerView}
 use Rattle.track_ledger.specs.Need.{granted_for, tracks_in}
-use Rattle.track_ledger.specs.Extents.{pieces_of, holders, owned_by, trimmed, front_pieces}
-use Rattle.track_ledger.proofs.Lines.{line-agree, line-of-runs, runs-of-line}
-use Rattle.track_ledger.proofs.Granted.{free-times}
-use Rattle.track_ledger.proofs.GrantedExtents.{holders-times}
+use Rattle.track_ledger.specs.Extents.{pieces_of, owned_by, trimmed, front_pieces}
+use Rattle.track_ledger.proofs.LineLemmas.{line-agree, line-of-runs, runs-of-line}
+use Rattle.track_ledger.proofs.GrantLemmas.{free-times}
 
 -- pieces that hold each track as often leave the same gaps
 pub gaps-alike : (capacity : ℕ) (a b : List Piece) → ((t : ℕ) → times_held b t ≡ times_held a t) → gaps_of capacity b ≡ gaps_of capacity a
@@ -22,10 +20,10 @@ gaps-alike capacity a b same =
     runs-of-line (is_free b) capacity 0 capacity (gaps_of capacity a) (omega arith) (line-agree (is_free a) (is_free b) 0 capacity (gaps_of capacity a) (λ t low high. free t) line)
 
 -- so the ledger grants what the gap rule grants beside them
-pub granted-alike : (ledger : LedgerView) (need : Need) (capacity : ℕ) (pieces : List Piece) → ledger.capacity ≡ capacity → ((t : ℕ) → holders ledger.extents t ≡ times_held pieces t)
+pub granted-alike : (ledger : LedgerView) (need : Need) (capacity : ℕ) (pieces : List Piece) → ledger.capacity ≡ capacity → ((t : ℕ) → times_held (pieces_of ledger.extents) t ≡ times_held pieces t)
     → granted_for ledger need ≡ grant_of (unit_gaps (tracks_in need.unit) (gaps_of capacity pieces)) need.tracks need.held
 granted-alike ledger need capacity pieces large same =
-    let gaps : gaps_of ledger.capacity (pieces_of ledger.extents) ≡ gaps_of ledger.capacity pieces = gaps-alike ledger.capacity pieces (pieces_of ledger.extents) (λ t. sym (holders-times ledger.extents t) ∙ same t) in
+    let gaps : gaps_of ledger.capacity (pieces_of ledger.extents) ≡ gaps_of ledger.capacity pieces = gaps-alike ledger.capacity pieces (pieces_of ledger.extents) same in
     let moved : gaps_of ledger.capacity pieces ≡ gaps_of capacity pieces = ap (λ n. gaps_of n pieces) large in
     ap (λ (l : List Piece). grant_of (unit_gaps (tracks_in need.unit) l) need.tracks need.held) (gaps ∙ moved)
 

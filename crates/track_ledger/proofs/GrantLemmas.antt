@@ -7,12 +7,12 @@ use Rattle.std.proofs.lemmas.List.Sums.{sum_by-cons}
 use Rattle.std.proofs.lemmas.List.Elements.{All-nil, All-cons, All-head, All-tail}
 use Rattle.std.proofs.Math.Nat.{div-mul-le_self, lt-div-mul-add}
 use Rattle.track_ledger.specs.declared.piece.Piece.{Piece}
-use Rattle.track_ledger.specs.Gaps.{holds, is_free, gaps_of, whole_units, unit_gaps}
+use Rattle.track_ledger.specs.Gaps.{holds, is_free, gaps_of, whole_units, unit_gaps, times_held}
 use Rattle.track_ledger.specs.GapRule.{comes_first, put_in_order, longest_first, front_of, taken_from, pieces_allowed, whole_or_parts, grant_of}
-use Rattle.track_ledger.specs.Grants.{times_held, IsGrant}
+use Rattle.track_ledger.specs.Grants.{IsGrant}
 use Rattle.track_ledger.specs.Extents.{LiesInside}
-use Rattle.track_ledger.proofs.Lines.{IsLine, line-of-runs}
-use Rattle.track_ledger.proofs.GapLines.{line-inside}
+use Rattle.track_ledger.proofs.LineLemmas.{IsLine, line-of-runs}
+use Rattle.track_ledger.proofs.GapLemmas.{line-inside}
 
 -- 1 where it holds
 abbrev pub one_if : Bool → ℕ

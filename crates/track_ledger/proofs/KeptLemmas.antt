@@ -10,9 +10,9 @@ use Rattle.track_ledger.specs.declared.piece.Piece.{Piece}
 use Rattle.track_ledger.specs.GapChanges.{AreInOrder, gaps_without, gaps_with}
 use Rattle.track_ledger.specs.Extents.{NoTrackTwice, LiesInside, AllInside, gaps_between, tracks_held}
 use Rattle.track_ledger.specs.Ledger.{IsKept}
-use Rattle.track_ledger.proofs.Lines.{piece_of}
-use Rattle.track_ledger.proofs.ExtentLines.{gaps-order, Adds, adds-push, gaps-none, gaps-count, gaps-taken, gaps-given, gaps-inside, gaps-grown, once-less}
-use Rattle.track_ledger.proofs.Cuts.{IsSmall}
+use Rattle.track_ledger.proofs.LineLemmas.{piece_of}
+use Rattle.track_ledger.proofs.HolderLemmas.{gaps-order, Adds, adds-push, gaps-none, gaps-count, gaps-taken, gaps-given, gaps-inside, gaps-grown, once-less}
+use Rattle.track_ledger.proofs.PlaceLemmas.{IsSmall}
 
 -- a extent lies inside
 abbrev pub ExtentInside : ℕ → OwnedExtent → Type 0
