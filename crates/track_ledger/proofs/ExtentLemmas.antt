@@ -47,12 +47,6 @@ more-at : (xs : List OwnedExtent) (i : ℕ) (extent : OwnedExtent) (rest : List 
 more-at xs i extent rest less is =
     rw (take_more xs i extent less) (ap (λ (r : OwnedExtent). take i xs ++ (r ∷ rest)) is ∙ sym (append_assoc (take i xs) (get_or xs i extent ∷ []) rest))
 
--- the steps of a walk that trims
-pub trim-other : (owner : List ℕ) (left i : ℕ) (extents : List OwnedExtent) (extent : OwnedExtent) → i < length extents → extent ≡ get_or extents i extent → bytes_eq extent.owner owner ≡ false
-    → take i extents ++ trimmed owner left (drop i extents) ≡ take (i + 1) extents ++ trimmed owner left (drop (i + 1) extents)
-trim-other owner left i extents extent less is off =
-    let here = drop-at extents i extent less is in rw (here, off) (more-at extents i extent _ less is)
-
 pub trim-gone : (owner : List ℕ) (i : ℕ) (extents more : List OwnedExtent) (extent : OwnedExtent) → i < length extents → extent ≡ get_or extents i extent → bytes_eq extent.owner owner ≡ true → more ≡ remove extents i
     → take i extents ++ trimmed owner 0 (drop i extents) ≡ take i more ++ trimmed owner 0 (drop i more)
 trim-gone owner i extents more extent less is on out =
@@ -63,27 +57,6 @@ trim-gone owner i extents more extent less is on out =
     let front : take i more ≡ take i extents = ap (take i) out ∙ subst (λ k. take k (take i extents ++ rest) ≡ take i extents) n (take-append_seam (take i extents) rest) in
     let back : drop i more ≡ drop (i + 1) extents = ap (drop i) out ∙ subst (λ k. drop k (take i extents ++ rest) ≡ rest) n (drop-append_seam (take i extents) rest) ∙ ap (λ k. drop k extents) one in
     rw (here, on, front, back) refl
-
-pub trim-cut : (owner : List ℕ) (left i : ℕ) (extents more : List OwnedExtent) (extent : OwnedExtent) → i < length extents → extent ≡ get_or extents i extent → bytes_eq extent.owner owner ≡ true → 0 < left → left < extent.piece.length
-    → more ≡ set extents i (record { owner = extent.owner; piece = record { start = extent.piece.start; length = left } })
-    → take i extents ++ trimmed owner left (drop i extents) ≡ take (i + 1) more ++ trimmed owner 0 (drop (i + 1) more)
-trim-cut owner left i extents more extent less is on some short out =
-    let here = drop-at extents i extent less is in
-    let cut : OwnedExtent = record { owner = extent.owner; piece = record { start = extent.piece.start; length = left } } in
-    let test : nat_lt 0 left ≡ true = grind (arith, nat_tests) in
-    let least : min left extent.piece.length ≡ left = omega arith in
-    let none : left - extent.piece.length ≡ 0 = omega arith in
-    let front : take (i + 1) more ≡ take i extents ++ cut ∷ [] = ap (take (i + 1)) out ∙ take_more_set extents i cut less in
-    let back : drop (i + 1) more ≡ drop (i + 1) extents = ap (drop (i + 1)) out ∙ drop-set-lt (i + 1) extents i cut (omega arith) in
-    rw (here, on, test, least, none, front, back) (sym (append_assoc (take i extents) (cut ∷ []) _))
-
-pub trim-kept : (owner : List ℕ) (left i : ℕ) (extents : List OwnedExtent) (extent : OwnedExtent) → i < length extents → extent ≡ get_or extents i extent → bytes_eq extent.owner owner ≡ true → 0 < left → extent.piece.length ≤ left
-    → take i extents ++ trimmed owner left (drop i extents) ≡ take (i + 1) extents ++ trimmed owner (left - extent.piece.length) (drop (i + 1) extents)
-trim-kept owner left i extents extent less is on some long =
-    let here = drop-at extents i extent less is in
-    let test : nat_lt 0 left ≡ true = grind (arith, nat_tests) in
-    let least : min left extent.piece.length ≡ extent.piece.length = omega arith in
-    rw (here, on, test, least) (more-at extents i extent _ less is)
 
 released-step : (owner : List ℕ) (extent : OwnedExtent) (extents : List OwnedExtent) (b : Bool) → bytes_eq extent.owner owner ≡ b → trimmed owner 0 extents ≡ released owner extents → trimmed owner 0 (extent ∷ extents) ≡ released owner (extent ∷ extents)
 released-step owner extent extents true is rest = rw is rest

@@ -242,8 +242,3 @@ extents-count capacity (extent ∷ extents) inside =
     let some = head.0 in
     let rest = extents-count capacity extents (inside-tail capacity extent extents inside) in
     let held = sum_by-cons (λ (r : OwnedExtent). r.piece.length) extent extents in grind (arith, rest, held)
-
--- the order of the extents doesn't matter to the gaps
-pub gaps-same : (capacity : ℕ) (extents others : List OwnedExtent) → ((t : ℕ) → holders others t ≡ holders extents t) → gaps_between capacity others ≡ gaps_between capacity extents
-gaps-same capacity extents others same =
-    line-gaps capacity others _ (line-agree (is_free (pieces_of extents)) (is_free (pieces_of others)) 0 capacity _ (λ t a b. same-free extents others t (same t)) (gaps-line capacity extents))

@@ -15,10 +15,6 @@ use Rattle.track_ledger.specs.Need.{IsNeed, granted_for, tracks_in}
 use Rattle.track_ledger.specs.Extents.{pieces_of, NoTrackTwice, granted_to}
 use Rattle.track_ledger.proofs.GrantLemmas.{grant-is}
 
-pub times-held-append : (a b : List Piece) (t : ℕ) → times_held (a ++ b) t ≡ times_held a t + times_held b t
-times-held-append [] b t = omega arith
-times-held-append (p ∷ a) b t = omega (arith, times-held-append a b t)
-
 granted-pieces : (extents : List OwnedExtent) (owner : List ℕ) (pieces : List Piece) (t : ℕ) → times_held (pieces_of (extents ++ granted_to owner pieces)) t ≡ times_held (pieces_of extents) t + times_held pieces t
 granted-pieces [] owner [] t = refl
 granted-pieces [] owner (piece ∷ pieces) t = omega (arith, granted-pieces [] owner pieces t)
@@ -39,8 +35,3 @@ pub grant-installs : (capacity : ℕ) (extents : List OwnedExtent) (need most : 
     → NoTrackTwice (extents ++ granted_to owner pieces)
 grant-installs capacity extents need most pieces owner grant t =
     omega (arith, grant.once t, granted-pieces extents owner pieces t)
-
-pub found-grant : (ledger : LedgerView) (need : Need) (found : Option (List Piece)) → IsNeed need → NoTrackTwice ledger.extents → found ≡ granted_for ledger need
-    → IfSome found (λ (pieces : List Piece). IsGrant ledger.capacity (pieces_of ledger.extents) need.tracks (pieces_allowed need.held) pieces)
-found-grant ledger need None is once e = tt
-found-grant ledger need (Some pieces) is once e = granted-for-is ledger need pieces is once (sym e)
