@@ -133,7 +133,7 @@ put-inside_at : (P : Piece → Type 0) (gap other : Piece) (gaps : List Piece) (
 put-inside_at P gap other gaps true is here there rest put = rw is (All-cons P gap (other ∷ gaps) here (All-cons P other gaps there rest))
 put-inside_at P gap other gaps false is here there rest put = rw is (All-cons P other (put_in_order gap gaps) there put)
 
-put-inside : (P : Piece → Type 0) (gap : Piece) (gaps : List Piece) → P gap → All P gaps → All P (put_in_order gap gaps)
+pub put-inside : (P : Piece → Type 0) (gap : Piece) (gaps : List Piece) → P gap → All P gaps → All P (put_in_order gap gaps)
 put-inside P gap [] here rest = All-cons P gap [] here rest
 put-inside P gap (other ∷ gaps) here rest =
     let more = All-tail P other gaps rest in

@@ -9,3 +9,4 @@ pub mod OrderLemmas
 pub mod GrantLemmas
 pub mod InstallLemmas
 pub mod AlikeLemmas
+pub mod ShortGapLemmas

@@ -71,13 +71,15 @@ impl Ledger {
     pub fn granted(&self) -> u64
         ensures sum { result ≡ tracks_held self.now.extents }
         ensures within { result ≤ self.now.capacity }
+        ensures range { self.now.capacity < 2 ^ 32 }
     {
         self.granted
     }
 
     /// How many tracks are free.
     pub fn free(&self) -> u64
-        ensures { result + tracks_held self.now.extents ≡ self.now.capacity }
+        ensures rest { result + tracks_held self.now.extents ≡ self.now.capacity }
+        ensures range { self.now.capacity < 2 ^ 32 }
     {
         u64::from(self.capacity) - self.granted()
     }
