@@ -12,6 +12,8 @@ mod hostile;
 #[cfg(test)]
 mod keeping;
 #[cfg(test)]
+mod ledger;
+#[cfg(test)]
 mod listing;
 #[cfg(test)]
 mod names;

@@ -1,0 +1,12 @@
+pub mod LineLemmas
+pub mod GapLemmas
+pub mod HolderLemmas
+pub mod PlaceLemmas
+pub mod KeptLemmas
+pub mod ExtentLemmas
+pub mod LongestLemmas
+pub mod OrderLemmas
+pub mod GrantLemmas
+pub mod InstallLemmas
+pub mod AlikeLemmas
+pub mod ShortGapLemmas
