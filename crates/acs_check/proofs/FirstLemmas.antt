@@ -1,12 +1,14 @@
 -- What the walk comes to is the first fault of the routine.
 use Rattle.std.proofs.Common.{◌≡◌, List, [], ◌∷◌, ◌++◌, refl, sym, ◌∙◌, ap, subst, arith, append_assoc, ◌⊎◌, inl, inr}
 use Rattle.std.specs.Prelude.{Option, Some, None}
+use Rattle.desk_common.specs.Exact.{NotBehind, IsFirst}
+use Rattle.desk_common.proofs.ExactLemmas.{first_at_one}
 use Rattle.acs_tree.specs.declared.check_err.CheckErr.{CheckErr}
 use Rattle.acs_tree.specs.declared.kind.Kind.{Kind}
 use Rattle.acs_tree.specs.declared.routine.Routine.{Routine}
 use Rattle.acs_tree.specs.declared.routine.Stmt.{Stmt}
 use Rattle.acs_tree.specs.Nodes.{Node, Head, nodes_of}
-use Rattle.acs_tree.specs.Sound.{faults_at, Among, here, there, Stands, at_head, in_body, IsFault, broken, ComesFirst, IsFirstFault, IsSound}
+use Rattle.acs_tree.specs.Sound.{faults_at, Among, here, there, Stands, at_head, in_body, IsFault, broken, place_of, IsFirstFault, IsSound}
 use Rattle.acs_check.specs.Walk.{least, met, faults_in, faults_behind, faults_of, first_fault_of}
 use Rattle.acs_check.proofs.LeastLemmas.{least_append, Behind, In, LeastOf, least_is}
 use Rattle.acs_check.proofs.WalkLemmas.{passed_least}
@@ -108,7 +110,7 @@ first_is_least routine kind =
     passed_least kind [] (met kind [] None (Head routine.head routine.head_at)) routine.body
     ∙ sym (least_append None (faults_at kind [] (Head routine.head routine.head_at)) (faults_behind kind [] routine.body))
 
-comes_first : (f g : CheckErr) → Behind g f → ComesFirst f g
+comes_first : (f g : CheckErr) → Behind g f → NotBehind (place_of f) (place_of g)
 comes_first f g (inl h) = (omega arith, λ e. absurd (omega (arith, e, h)))
 comes_first f g (inr h) = (omega (arith, h.0), λ e. h.1)
 
@@ -141,8 +143,5 @@ fields f g a b = let e : record { number = f.number; at = f.at } ≡ record { nu
 
 pub one_first : (routine : Routine) (kind : Kind) (f g : CheckErr) → IsFirstFault routine kind f → IsFirstFault routine kind g → f ≡ g
 one_first routine kind f g a b =
-    let p = a.first g b.met in
-    let q = b.first f a.met in
-    let e : f.at ≡ g.at = omega (arith, p.0, q.0) in
-    let n : f.number ≡ g.number = omega (arith, p.1 e, q.1 (sym e)) in
-    fields f g e n
+    let p = first_at_one a b in
+    fields f g p.0 p.1

@@ -1,7 +1,8 @@
 // The checks of a whole routine.
-ghost use Rattle.std.specs.Prelude.{◌≡◌, ◌≤◌, ◌<◌, ◌+◌, [], Err, Ok, MatchResult, length, map, take};
-ghost use Rattle.acs_tree.specs.declared.check_err.CheckErr.{CheckErr};
-ghost use Rattle.acs_tree.specs.Sound.{IsFirstFault, IsSound};
+ghost use Rattle.std.specs.Prelude.{◌≡◌, ◌≤◌, ◌<◌, ◌+◌, [], None, IfErr, IfOk, length, map, take};
+ghost use Rattle.desk_common.specs.Exact.{IsExact};
+ghost use Rattle.acs_tree.specs.Sound.{IsFirstFault};
+ghost use Rattle.acs_tree.specs.CheckedRoutine.{IsCheckedOf};
 ghost use Rattle.acs_tree.specs.FilterLists.{is_simple_statement};
 ghost use Rattle.acs_check.specs.Walk.{first_fault_of, passed};
 
@@ -54,9 +55,9 @@ fn first_fault(tree: &Routine, kind: Kind) -> Best
 /// The routine as a checked one of that kind, or its first broken check. Filter lists are looked up
 /// by name among the statements of the body that stand before.
 pub fn check(tree: Routine, kind: Kind) -> Result<Checked, CheckErr>
-    ensures exact { MatchResult result (λ checked. IsSound tree kind × (checked ≡ record { tree = tree; kind = kind })) (λ err. IsFirstFault tree kind err) }
-    ensures sound { IsSound tree kind → result ≡ Ok (record { tree = tree; kind = kind }) }
-    ensures refused { (err : CheckErr) → IsFirstFault tree kind err → result ≡ Err err }
+    ensures ok { IfOk result (IsCheckedOf tree kind) }
+    ensures err { IfErr result (IsFirstFault tree kind) }
+    ensures exactly { IsExact (IsCheckedOf tree kind) (IsFirstFault tree kind) None result }
 {
     match first_fault(&tree, kind) {
         Some(err) => Err(err),

@@ -1,6 +1,7 @@
 -- When a routine is sound (docs/acs-language.md, Checks).
-use Rattle.std.specs.Prelude.{◌≡◌, ◌≤◌, ◌==◌, ◌&&◌, ◌||◌, ℕ, true, not, List, [], ◌∷◌, ◌++◌, length, Option, Some, None, is_some, if◌then◌else◌}
+use Rattle.std.specs.Prelude.{◌≡◌, ◌==◌, ◌&&◌, ◌||◌, ℕ, true, not, List, [], ◌∷◌, ◌++◌, length, Option, Some, None, is_some, if◌then◌else◌}
 use Rattle.std.specs.Str.{bytes_eq}
+use Rattle.desk_common.specs.Exact.{Place, IsFirst}
 use Rattle.acs_tree.specs.declared.check_err.CheckErr.{CheckErr}
 use Rattle.acs_tree.specs.declared.kind.Kind.{Kind}
 use Rattle.acs_tree.specs.declared.routine.Routine.{Routine}
@@ -135,14 +136,13 @@ pub data Stands (routine : Routine) : List Stmt → Node → Type 0 where
 pub data IsFault (routine : Routine) (kind : Kind) (err : CheckErr) : Type 0 where
   broken : (before : List Stmt) (node : Node) → Stands routine before node → Among err (faults_at kind before node) → IsFault routine kind err
 
--- at no later token than another fault, and at one token of no higher number
-abbrev pub ComesFirst : CheckErr → CheckErr → Type 0
-ComesFirst err other = (err.at ≤ other.at) × (err.at ≡ other.at → err.number ≤ other.number)
+-- at the token, by the number of the check
+abbrev pub place_of : CheckErr → Place
+place_of err = record { at = err.at; rank = err.number }
 
--- the first of all faults
-pub record IsFirstFault (routine : Routine) (kind : Kind) (err : CheckErr) : Type 0 where
-  pub met : IsFault routine kind err
-  pub first : (other : CheckErr) → IsFault routine kind other → ComesFirst err other
+-- the first of all faults: at one token the one with the lowest number
+abbrev pub IsFirstFault : Routine → Kind → CheckErr → Type 0
+IsFirstFault routine kind err = IsFirst (IsFault routine kind) place_of err
 
 -- no check is broken at any node
 abbrev pub IsSound : Routine → Kind → Type 0

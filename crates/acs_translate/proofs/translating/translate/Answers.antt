@@ -19,4 +19,4 @@ returns-in-Err-parse-clause-err c =
 
 pub returns-clause-err : goal.returns-clause-err
 returns-clause-err c =
-    subst (λ x. MayRefuse c.args.text.now c.args.kind x) (sym c.told_by_checks.ensures) (right_check c.in-Ok.ensures.ok c.in-Ok-parse.ensures.ok c.in-Err-check.ensures.exact)
+    subst (λ x. MayRefuse c.args.text.now c.args.kind x) (sym c.told_by_checks.ensures) (right_check c.in-Ok.ensures.ok c.in-Ok-parse.ensures.ok c.in-Err-check.ensures.err)
