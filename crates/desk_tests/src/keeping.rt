@@ -25,7 +25,13 @@ fn request(alloc: Global, job: &str, number: u32, deck: &str) -> Result<Request,
 }
 
 // What a log answers, in a word: new, the same at a place, another at a place, or below a floor.
-fn found(alloc: Global, log: &RequestLog, job: &str, number: u32, deck: &str) -> Result<String, AllocError> {
+fn found(
+    alloc: Global,
+    log: &RequestLog,
+    job: &str,
+    number: u32,
+    deck: &str,
+) -> Result<String, AllocError> {
     let asked = request(alloc, job, number, deck)?;
     match log.lookup(&asked) {
         Kept::New => format!(in alloc; "new"),
@@ -35,7 +41,13 @@ fn found(alloc: Global, log: &RequestLog, job: &str, number: u32, deck: &str) ->
     }
 }
 
-fn keep(alloc: Global, log: &mut RequestLog, job: &str, number: u32, place: u64) -> Result<(), AllocError> {
+fn keep(
+    alloc: Global,
+    log: &mut RequestLog,
+    job: &str,
+    number: u32,
+    place: u64,
+) -> Result<(), AllocError> {
     let asked = request(alloc, job, number, "A")?;
     log.reserve()?;
     log.keep(asked, place, Reply::Noted);
@@ -79,7 +91,11 @@ fn a_log_finds_the_first_reply_of_a_number_or_the_floor(rt: HostRuntime) -> Resu
         ("JOB3", 2, "A", "same 7"),
         ("JOB4", 1, "A", "new"),
     ] {
-        assert_eq!(rt; found(alloc, &log, job, number, deck)?.as_str(), wanted, "{job} {number}");
+        assert_eq!(rt;
+            found(alloc, &log, job, number, deck)?.as_str(),
+            wanted,
+            "{job} {number}"
+        );
     }
     Ok(())
 }
@@ -95,7 +111,11 @@ fn a_log_finds_each_of_many_replies(rt: HostRuntime) -> Result<(), Fail> {
     purge(&mut log, "JOB1", 3000)?;
     let mut wrong = 0;
     for number in 1..3001 {
-        let wanted = if number < 3000 { "below 3000" } else { "same 1" };
+        let wanted = if number < 3000 {
+            "below 3000"
+        } else {
+            "same 1"
+        };
         if found(alloc, &log, "JOB1", number, "A")?.as_str() != wanted {
             wrong = number;
         }
@@ -108,9 +128,11 @@ fn a_log_finds_each_of_many_replies(rt: HostRuntime) -> Result<(), Fail> {
 }
 
 fn data_set(alloc: Global, name: &str, used: u32) -> Result<Effect, AllocError> {
-    let (Ok(dsn), Some(storclas), Some(group)) =
-        (Dsn::parse(name.as_bytes()), Name::new(b"SC1"), Name::new(b"SG1"))
-    else {
+    let (Ok(dsn), Some(storclas), Some(group)) = (
+        Dsn::parse(name.as_bytes()),
+        Name::new(b"SC1"),
+        Name::new(b"SG1"),
+    ) else {
         return Err(AllocError);
     };
     let set = DataSet {
@@ -163,7 +185,12 @@ fn floor(job: &str, floor: u32) -> Result<Effect, AllocError> {
 }
 
 // What the keeper answers to a change with this effect: made, failed or no memory.
-fn commit<K: Keeper>(alloc: Global, keeper: &mut K, number: u32, effect: Effect) -> Result<bool, AllocError> {
+fn commit<K: Keeper>(
+    alloc: Global,
+    keeper: &mut K,
+    number: u32,
+    effect: Effect,
+) -> Result<bool, AllocError> {
     let change = Change {
         place: u64::from(number),
         request: request(alloc, "JOB1", number, "DECK")?,
@@ -194,7 +221,11 @@ fn tell(alloc: Global, rows: &Rows) -> Result<String, AllocError> {
         text.push_str(format!(in alloc; "{} ", set.get().used)?.as_str())?;
     }
     for row in rows.statuses.as_slice() {
-        let word = if row.status == Status::Enable { "E " } else { "D " };
+        let word = if row.status == Status::Enable {
+            "E "
+        } else {
+            "D "
+        };
         text.push_str(word)?;
     }
     for row in rows.floors.as_slice() {
@@ -222,7 +253,12 @@ fn each_effect_on_the_tables(rt: HostRuntime) -> Result<(), Fail> {
         (4, data_set(alloc, "A.B", 3)?, [2, 4, 0, 0, 0], "2 3 "),
         (5, drop_set("A.D")?, [2, 5, 0, 0, 0], "2 3 "),
         (6, drop_set("A.C")?, [1, 6, 0, 0, 0], "3 "),
-        (7, activated(alloc, 1, &["V1", "V2"])?, [1, 7, 1, 2, 0], "3 E E "),
+        (
+            7,
+            activated(alloc, 1, &["V1", "V2"])?,
+            [1, 7, 1, 2, 0],
+            "3 E E ",
+        ),
         (8, status, [1, 8, 1, 2, 0], "3 E D "),
         (9, stray, [1, 9, 1, 2, 0], "3 E D "),
         (10, activated(alloc, 2, &["V3"])?, [1, 10, 2, 1, 0], "3 E "),
@@ -253,7 +289,11 @@ fn a_faulty_keeper_fails_the_listed_commits(rt: HostRuntime) -> Result<(), Fail>
         (5, false, 3, 2),
         (6, true, 3, 3),
     ] {
-        assert_eq!(rt; commit(alloc, &mut keeper, number, Effect::Nothing)?, made, "{number}");
+        assert_eq!(rt;
+            commit(alloc, &mut keeper, number, Effect::Nothing)?,
+            made,
+            "{number}"
+        );
         assert_eq!(rt; keeper.faults(), faults, "{number}");
         assert_eq!(rt; keeper.rows()?.replies.len(), replies, "{number}");
     }
