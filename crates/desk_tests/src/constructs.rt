@@ -1,5 +1,5 @@
 //! Constructs and requests: their sizes, ranges and equality.
-use acs_tree::{Input, kilobytes_of};
+use acs_tree::{Account, Input, kilobytes_of};
 use desk_common::{Items, Shared};
 use dsn_mask::{Dsn, Name, Short};
 use sms_construct::{
@@ -22,6 +22,13 @@ enum Part {
     Day,
 }
 
+/// The accounting of one department.
+fn account() -> Result<Account, Fail> {
+    let mut account = Account::new();
+    account.push(Short::new(b"D87").ok_or("account")?);
+    Ok(account)
+}
+
 /// An ALLOC of A.B for one track that has a part more or another.
 fn allocation(alloc: Global, part: Part) -> Result<Op, Fail> {
     let mut input = Input::new(Dsn::parse(b"A.B").map_err(|_| "dsn")?);
@@ -31,14 +38,7 @@ fn allocation(alloc: Global, part: Part) -> Result<Op, Fail> {
     let mut day = 0;
     match part {
         Part::None => {}
-        Part::Account => {
-            let mut account = input.accounting.acct_job;
-            if account.is_full() {
-                return Err("account")?;
-            }
-            account.push(Short::new(b"D87").ok_or("account")?);
-            input.accounting.acct_job = account;
-        }
+        Part::Account => input.accounting.acct_job = account()?,
         Part::DataClass => dataclas = Name::new(b"DC1"),
         Part::Cylinders => space = Space::new(Unit::Cyl, 1, 1).ok_or("space")?,
         Part::Volumes => volumes = VolumeCount::new(2),
