@@ -350,7 +350,8 @@ fn ten_thousand_extents_side_by_side(rt: HostRuntime) -> Result<(), Fail> {
         (Step::Tracks("X", 5, 0), "0 1, 2 1, 4 1, 6 1, 8 1"),
         (Step::Cylinders("Y", 15, 0), "none"),
         (Step::Trim("H", 1), "4999"),
-        (Step::Tracks("Z", 9_990, 0), "10 9990"),
+        (Step::Tracks("Z", 9_991, 0), "9 9991"),
+        (Step::Totals, "3 9997 7"),
     ] {
         let answer = answer_of(alloc, &mut ledger, step)?;
         assert_eq!(rt; answer.as_str(), wanted, "{wanted}");
