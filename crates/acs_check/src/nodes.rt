@@ -14,9 +14,7 @@ use crate::operands::{
     is_one_too_many, is_plain_unknown, is_read_early, is_too_great, is_unknown, is_unknown_indexed,
     is_unsuited, is_unsuited_value, is_word, token_of,
 };
-use crate::references::{
-    is_counted, is_known, is_misindexed, is_name_of, is_out_of_range, is_set_later,
-};
+use crate::references::{is_counted, is_known, is_misindexed, is_out_of_range, is_set_later};
 use acs_tree::{CheckErr, Compare, Ident, Kind, Operand, OperandForm, Ref, Variable};
 
 /// The first fault so far.
@@ -25,7 +23,7 @@ pub type Best = Option<CheckErr>;
 pub fn head(kind: Kind, name: &Ident, at: u32, best: Best) -> Best
     ensures { result ≡ met kind [] best (Head name.now at) }
 {
-    note(best, CheckName::WrongHead, !is_name_of(kind, name), at)
+    note(best, CheckName::WrongHead, name.bytes() != kind.name(), at)
 }
 
 pub fn list_name(kind: Kind, before: &Earlier<'_>, name: &Ident, at: u32, best: Best) -> Best
@@ -47,7 +45,7 @@ pub fn target(kind: Kind, before: &Earlier<'_>, target: &Ref, best: Best) -> Bes
     ensures { result ≡ met kind before.now best (Target target.now) }
 {
     let known = is_known(target);
-    let foreign = known && !is_name_of(kind, &target.name);
+    let foreign = known && target.name.bytes() != kind.name();
     let best = note(best, CheckName::UnknownVariable, !known, target.at);
     let best = note(best, CheckName::NotSettable, foreign, target.at);
     let best = note(

@@ -135,23 +135,12 @@ pub fn is_out_of_range(reference: &Ref) -> bool
     }
 }
 
-fn rank_of(kind: Kind) -> u8
-    ensures { result ≡ rank_of kind }
-{
-    match kind {
-        Kind::DataClas => 0,
-        Kind::StorClas => 1,
-        Kind::MgmtClas => 2,
-        Kind::StorGrp => 3,
-    }
-}
-
 fn is_later(kind: Kind, set_by: Option<Kind>) -> bool
     ensures { result ≡ is_later kind set_by }
 {
     match set_by {
         None => false,
-        Some(setter) => rank_of(kind) < rank_of(setter),
+        Some(setter) => kind.rank() < setter.rank(),
     }
 }
 
@@ -162,17 +151,4 @@ pub fn is_set_later(kind: Kind, reference: &Ref) -> bool
         None => false,
         Some(variable) => is_later(kind, variable.set_by),
     }
-}
-
-/// Whether the name is that of the variable which a routine of that kind sets.
-pub fn is_name_of(kind: Kind, name: &Ident) -> bool
-    ensures { result ≡ bytes_eq name.now (name_of kind) }
-{
-    let wanted = match kind {
-        Kind::DataClas => b"DATACLAS".as_slice(),
-        Kind::StorClas => b"STORCLAS".as_slice(),
-        Kind::MgmtClas => b"MGMTCLAS".as_slice(),
-        Kind::StorGrp => b"STORGRP".as_slice(),
-    };
-    name.bytes() == wanted
 }

@@ -172,19 +172,23 @@ pub fn statement(current: &Stmt, kind: Kind, before: &Earlier<'_>, best: Best) -
             let best = target(kind, before, reference, best);
             values(kind, before, reference, operands.as_slice(), best)
         }
-        Form::If { cond, yes, no } => {
+        Form::If {
+            cond,
+            yes,
+            otherwise,
+        } => {
             let best = condition(kind, before, cond, best);
             let best = statement(yes.get(), kind, before, best);
-            optional(no, kind, before, best)
+            optional(otherwise, kind, before, best)
         }
         Form::Pick {
             subject: compared,
             whens,
-            other,
+            otherwise,
         } => {
             let best = subject(kind, before, compared, best);
             let best = branches(whens.as_slice(), compared, kind, before, best);
-            optional(other, kind, before, best)
+            optional(otherwise, kind, before, best)
         }
         Form::Do(body) => block(body.as_slice(), kind, before, best),
         Form::Write(operands) => parts(kind, before, operands.as_slice(), best),
@@ -193,12 +197,12 @@ pub fn statement(current: &Stmt, kind: Kind, before: &Earlier<'_>, best: Best) -
 }
 
 #[cycle(walk)]
-fn optional(other: &Option<Boxed<Stmt>>, kind: Kind, before: &Earlier<'_>, best: Best) -> Best
-    ensures { result ≡ walked kind before.now best (nodes_of_optional other.now) }
+fn optional(otherwise: &Option<Boxed<Stmt>>, kind: Kind, before: &Earlier<'_>, best: Best) -> Best
+    ensures { result ≡ walked kind before.now best (nodes_of_optional otherwise.now) }
 {
-    match other {
+    match otherwise {
         None => best,
-        Some(other) => statement(other.get(), kind, before, best),
+        Some(inner) => statement(inner.get(), kind, before, best),
     }
 }
 

@@ -10,7 +10,7 @@ use Rattle.acs_tree.specs.declared.kind.Kind.{Kind}
 use Rattle.acs_tree.specs.declared.values.Values.{Values}
 use Rattle.acs_tree.specs.Conditions as conditions
 use Rattle.acs_tree.specs.Meaning.{choice}
-use Rattle.acs_tree.specs.Outcome.{nothing, Outcome, Effect, then_do, after, behind}
+use Rattle.acs_tree.specs.Outcome.{nothing, Outcome, Action, then_do, after, behind}
 use Rattle.acs_code.specs.declared.instr.Instr.{Instr}
 use Rattle.acs_code.specs.declared.instr.Instr.TheVariants.{Test, Jump}
 use Rattle.acs_code.specs.declared.probe.Probe.{Probe}
@@ -89,14 +89,14 @@ module _ (kind : Kind) (filters : List FilterLists) where
   then_twice : (o : Outcome) (f g : Values → Outcome) → then_do o (λ v. then_do (f v) g) ≡ then_do (then_do o f) g
   then_twice o f g = then_parts o.values o.lines o.ending f g
 
-  pub does_then : {m n : Effect} {rest mid code : List Instr} → Does kind filters n rest mid → Does kind filters m mid code → Does kind filters (λ input values. then_do (m input values) (n input)) rest code
+  pub does_then : {m n : Action} {rest mid code : List Instr} → Does kind filters n rest mid → Does kind filters m mid code → Does kind filters (λ input values. then_do (m input values) (n input)) rest code
   does_then {m} {n} {rest} {mid} {code} second first = record {
     over = over_on second.over first.over;
     does = λ input values. first.does input values ∙ ap (then_do (m input values)) (λ i v. second.does input v i) ∙ then_twice (m input values) (n input) (λ v. leap kind filters input (length rest) rest v);
   }
 
   -- behind the body a jump to what follows, and in front of all a condition
-  pub does_choice : {test : conditions.Test} {m other : Effect} {rest old jumped body code : List Instr} → Does kind filters other rest old → Over kind filters old jumped → Does kind filters nothing rest jumped
+  pub does_choice : {test : conditions.Test} {m other : Action} {rest old jumped body code : List Instr} → Does kind filters other rest old → Over kind filters old jumped → Does kind filters nothing rest jumped
       → Does kind filters m jumped body → Branches kind filters test (length body) (length old) body code → Does kind filters (choice test m other) rest code
   does_choice {test} {m} {other} {rest} {old} {jumped} {body} {code} behind_all over there first cond = record {
     over = over_on behind_all.over (over_on over (over_on first.over cond.over));

@@ -6,7 +6,7 @@ use Rattle.acs_tree.specs.declared.kind.Kind.{Kind}
 use Rattle.acs_tree.specs.declared.kind.Kind.TheVariants.{DataClas, StorClas, MgmtClas, StorGrp}
 use Rattle.acs_tree.specs.declared.routine.Operand.{Operand}
 use Rattle.acs_tree.specs.declared.routine.Ref.{Ref}
-use Rattle.acs_tree.specs.Outcome.{nothing, Effect}
+use Rattle.acs_tree.specs.Outcome.{nothing, Action}
 use Rattle.acs_tree.specs.Setting.{class_set, groups_set, kind_set, sets}
 use Rattle.acs_tree.specs.Variables.{name_of}
 use Rattle.acs_code.specs.declared.instr.Instr.{Instr}
@@ -24,7 +24,7 @@ of_class kind operands (inr (inr e)) = rw e refl
 
 pub class_turn : (kind : Kind) (operands : List Operand) {rest code : List Instr} → (kind ≡ DataClas) ⊎ ((kind ≡ StorClas) ⊎ (kind ≡ MgmtClas)) → ((filters : List FilterLists) → Does kind filters (class_set kind operands) rest code)
     → (filters : List FilterLists) → Does kind filters (kind_set kind operands) rest code
-class_turn kind operands {rest} {code} e made filters = subst (λ (mean : Effect). Does kind filters mean rest code) (of_class kind operands e) (made filters)
+class_turn kind operands {rest} {code} e made filters = subst (λ (action : Action). Does kind filters action rest code) (of_class kind operands e) (made filters)
 
 pub groups_turn : (kind : Kind) (operands : List Operand) {rest code : List Instr} → kind ≡ StorGrp → ((k : Kind) (filters : List FilterLists) → Does k filters (groups_set operands) rest code)
     → (filters : List FilterLists) → Does kind filters (kind_set kind operands) rest code

@@ -18,7 +18,7 @@ use Rattle.acs_tree.specs.declared.routine.When.{When, out-When}
 use Rattle.acs_tree.specs.declared.values.Values.{Values}
 use Rattle.acs_tree.specs.Conditions.{holds, when_holds}
 use Rattle.acs_tree.specs.Meaning.{Arm, choice, code_of, first_of, form_step, in_turn, meaning, perhaps, stmt_step, when_step, writes}
-use Rattle.acs_tree.specs.Outcome.{nothing, Effect, exits}
+use Rattle.acs_tree.specs.Outcome.{nothing, Action, exits}
 use Rattle.acs_tree.specs.Setting.{sets}
 use Rattle.acs_tree.specs.Writing.{joined, written}
 use Rattle.acs_code.specs.declared.instr.Instr.{Instr}
@@ -52,13 +52,13 @@ parts_turn operands k operand parts new part input values h is en same whole =
 
 module _ (kind : Kind) (lists : List FilterList) where
   of_form : (s : Stmt) → meaning kind lists s ≡ form_meaning kind lists s.form
-  of_form s = fold_out-Stmt Effect Effect Arm (form_step kind lists) stmt_step (when_step lists) s
+  of_form s = fold_out-Stmt Action Action Arm (form_step kind lists) stmt_step (when_step lists) s
 
-  layer : (form : Form) (parts : Form-F Form Stmt When) → roll-Form parts ≡ form → form_meaning kind lists form ≡ form_step kind lists (map-Form Form Stmt When Effect Effect Arm (form_meaning kind lists) (meaning kind lists) (arm_of kind lists) parts)
-  layer form parts e = ap (form_meaning kind lists) (sym e) ∙ fold-roll-Form Effect Effect Arm (form_step kind lists) stmt_step (when_step lists) parts
+  layer : (form : Form) (parts : Form-F Form Stmt When) → roll-Form parts ≡ form → form_meaning kind lists form ≡ form_step kind lists (map-Form Form Stmt When Action Action Arm (form_meaning kind lists) (meaning kind lists) (arm_of kind lists) parts)
+  layer form parts e = ap (form_meaning kind lists) (sym e) ∙ fold-roll-Form Action Action Arm (form_step kind lists) stmt_step (when_step lists) parts
 
-  of_layer : (s : Stmt) (form : Form) (mean : Effect) → s.form ≡ form → form_meaning kind lists form ≡ mean → meaning kind lists s ≡ mean
-  of_layer s form mean e f = of_form s ∙ ap (form_meaning kind lists) e ∙ f
+  of_layer : (s : Stmt) (form : Form) (action : Action) → s.form ≡ form → form_meaning kind lists form ≡ action → meaning kind lists s ≡ action
+  of_layer s form action e f = of_form s ∙ ap (form_meaning kind lists) e ∙ f
 
   pub means_put : (s : Stmt) (target : Ref) (operands : List Operand) → s.form ≡ Put target operands → meaning kind lists s ≡ sets kind target operands
   means_put s target operands e = of_layer s (Put target operands) (sets kind target operands) e (layer (Put target operands) (Form-F.Put target operands) (rolls-Put target operands))
@@ -78,7 +78,7 @@ module _ (kind : Kind) (lists : List FilterList) where
   means_exit s code e = of_layer s (Exit code) (λ input values. exits (code_of code) values) e (layer (Exit code) (Form-F.Exit code) (rolls-Exit code))
 
   means_when : (w : When) → arm_of kind lists w ≡ record { test = λ subject. when_holds lists subject (out-When w).test; body = meaning kind lists (out-When w).body }
-  means_when w = fold_out-When Effect Effect Arm (form_step kind lists) stmt_step (when_step lists) w
+  means_when w = fold_out-When Action Action Arm (form_step kind lists) stmt_step (when_step lists) w
 
   -- code of statements, from that of what they are made of
 
@@ -98,12 +98,12 @@ module _ (kind : Kind) (lists : List FilterList) where
       rw (drop-cons body k s h, sym is) (does_then kind (filters_of lists) d' f)
 
   pub if_turn : (s : Stmt) (cond : Cond) (first given : Stmt) (other : Option Stmt) {end : ℕ} {rest mid code : List Instr} → s.form ≡ If cond first other → given ≡ first → end ≡ length rest → Does kind (filters_of lists) (perhaps (option_map (meaning kind lists) other)) rest mid
-      → ((mean : Effect) (r : List Instr) → end ≡ length r → Does kind (filters_of lists) mean r mid → Does kind (filters_of lists) (choice (holds lists cond) (meaning kind lists given) mean) r code) → Does kind (filters_of lists) (meaning kind lists s) rest code
+      → ((action : Action) (r : List Instr) → end ≡ length r → Does kind (filters_of lists) action r mid → Does kind (filters_of lists) (choice (holds lists cond) (meaning kind lists given) action) r code) → Does kind (filters_of lists) (meaning kind lists s) rest code
   if_turn s cond first given other {end} {rest} {mid} {code} e p h d f =
       rw (of_layer s (If cond first other) _ e (form_if cond first other), sym p) (f (perhaps (option_map (meaning kind lists) other)) rest h d)
 
   pub pick_turn : (s : Stmt) (subject : Option Ref) (whens given : List When) (other : Option Stmt) {end : ℕ} {rest mid code : List Instr} → s.form ≡ Pick subject whens other → given ≡ whens → end ≡ length rest → Does kind (filters_of lists) (perhaps (option_map (meaning kind lists) other)) rest mid
-      → ((mean : Effect) (r : List Instr) → end ≡ length r → Does kind (filters_of lists) mean r mid → Does kind (filters_of lists) (first_of subject (map (arm_of kind lists) given) mean) r code) → Does kind (filters_of lists) (meaning kind lists s) rest code
+      → ((action : Action) (r : List Instr) → end ≡ length r → Does kind (filters_of lists) action r mid → Does kind (filters_of lists) (first_of subject (map (arm_of kind lists) given) action) r code) → Does kind (filters_of lists) (meaning kind lists s) rest code
   pick_turn s subject whens given other {end} {rest} {mid} {code} e p h d f =
       rw (of_layer s (Pick subject whens other) _ e (form_pick subject whens other), sym p) (f (perhaps (option_map (meaning kind lists) other)) rest h d)
 
@@ -113,7 +113,7 @@ module _ (kind : Kind) (lists : List FilterList) where
       → ((k : Kind) (f : List FilterLists) (rest : List Instr) → end ≡ length rest → Over k f rest old → Does k f nothing rest jumped)
       → Does kind (filters_of lists) (meaning kind lists body) jumped behind
       → Branches kind (filters_of lists) (holds lists cond) holds_at fails_at behind code
-      → (other : Effect) (rest : List Instr) → end ≡ length rest → Does kind (filters_of lists) other rest old → Does kind (filters_of lists) (choice (holds lists cond) (meaning kind lists body) other) rest code
+      → (other : Action) (rest : List Instr) → end ≡ length rest → Does kind (filters_of lists) other rest old → Does kind (filters_of lists) (choice (holds lists cond) (meaning kind lists body) other) rest code
   conditional_turn cond body {end} {holds_at} {fails_at} {old} {jumped} {behind} {code} ef eh over there first branches other rest e d =
       let branches' = subst (λ n. Branches kind (filters_of lists) (holds lists cond) n (length old) behind code) eh (subst (λ n. Branches kind (filters_of lists) (holds lists cond) holds_at n behind code) ef branches) in
       does_choice kind (filters_of lists) d (over kind (filters_of lists) (omega (arith, e, d.over.longer))) (there kind (filters_of lists) rest e d.over) first branches'
@@ -124,14 +124,14 @@ module _ (kind : Kind) (lists : List FilterList) where
       → ((k : Kind) (f : List FilterLists) (rest : List Instr) → end ≡ length rest → Over k f rest old → Does k f nothing rest jumped)
       → Does kind (filters_of lists) (meaning kind lists given) jumped behind
       → Branches kind (filters_of lists) (when_holds lists subject (out-When w).test) holds_at fails_at behind code
-      → (other : Effect) (rest : List Instr) → end ≡ length rest → Does kind (filters_of lists) other rest old → Does kind (filters_of lists) (first_of subject (arm_of kind lists w ∷ []) other) rest code
+      → (other : Action) (rest : List Instr) → end ≡ length rest → Does kind (filters_of lists) other rest old → Does kind (filters_of lists) (first_of subject (arm_of kind lists w ∷ []) other) rest code
   branch_turn subject w given {end} {holds_at} {fails_at} {old} {jumped} {behind} {code} eb ef eh over there first branches other rest e d =
       let test = when_holds lists subject (out-When w).test in
       let branches' = subst (λ n. Branches kind (filters_of lists) test n (length old) behind code) eh (subst (λ n. Branches kind (filters_of lists) test holds_at n behind code) ef branches) in
       rw (means_when w, sym eb) (does_choice kind (filters_of lists) d (over kind (filters_of lists) (omega (arith, e, d.over.longer))) (there kind (filters_of lists) rest e d.over) first branches')
 
   -- one WHEN more in front
-  pub branches_turn : (subject : Option Ref) (arms : List When) (left k : ℕ) (w : When) (other : Effect) (rest code : List Instr) → left ≡ suc k → k < length arms → w ≡ get_or arms k w
+  pub branches_turn : (subject : Option Ref) (arms : List When) (left k : ℕ) (w : When) (other : Action) (rest code : List Instr) → left ≡ suc k → k < length arms → w ≡ get_or arms k w
       → Does kind (filters_of lists) (first_of subject (arm_of kind lists w ∷ []) (first_of subject (map (arm_of kind lists) (drop left arms)) other)) rest code
       → Does kind (filters_of lists) (first_of subject (map (arm_of kind lists) (drop k arms)) other) rest code
   branches_turn subject arms left k w other rest code e h is d =

@@ -1,6 +1,7 @@
 -- What running a code does (docs/acs-language.md, Code).
 use Rattle.std.specs.Prelude.{ℕ, suc, Bool, List, [], ◌∷◌, ◌++◌, Option, Some, None, nat_lt, take, if◌then◌else◌}
 use Rattle.std.specs.List.{slice_get}
+use Rattle.desk_common.specs.Limits.{most_literal_bytes}
 use Rattle.dsn_mask.specs.Filter.{FilterLists}
 use Rattle.acs_tree.specs.declared.input.Input.{Input}
 use Rattle.acs_tree.specs.declared.kind.Kind.{Kind}
@@ -46,9 +47,9 @@ abbrev pub parts_text : List Part → Input → Values → List ℕ
 parts_text [] input values = []
 parts_text (part ∷ parts) input values = part_text part input values ++ parts_text parts input values
 
--- a line is cut to 110 bytes
+-- a line is cut to as many bytes as a literal may have
 abbrev pub parts_line : List Part → Input → Values → List ℕ
-parts_line parts input values = take 110 (parts_text parts input values)
+parts_line parts input values = take most_literal_bytes (parts_text parts input values)
 
 -- the filter list, if there is one
 abbrev pub filter_comparand : Option FilterLists → Comparand

@@ -6,7 +6,7 @@ use Rattle.acs_tree.specs.declared.input.Input.{Input}
 use Rattle.acs_tree.specs.declared.kind.Kind.{Kind}
 use Rattle.acs_tree.specs.declared.values.Values.{Values}
 use Rattle.acs_tree.specs.Conditions as conditions
-use Rattle.acs_tree.specs.Outcome.{Effect, Outcome, falls, then_do}
+use Rattle.acs_tree.specs.Outcome.{Action, Outcome, falls, then_do}
 use Rattle.acs_code.specs.declared.instr.Instr.{Instr}
 use Rattle.acs_code.specs.declared.instr.Instr.TheVariants.{Test, Jump, SetClass, SetGroups, Write, Exit}
 use Rattle.acs_code.specs.Machine.{act}
@@ -47,9 +47,9 @@ pub record Branches (kind : Kind) (filters : List FilterLists) (test : condition
   pub goes : (input : Input) (values : Values) → leap kind filters input (length code) code values ≡ leap kind filters input (if test input values then one else other) rest values
 
 -- the code of a statement: it does what the statement does, and then what was there
-pub record Does (kind : Kind) (filters : List FilterLists) (mean : Effect) (rest code : List Instr) : Type 0 where
+pub record Does (kind : Kind) (filters : List FilterLists) (action : Action) (rest code : List Instr) : Type 0 where
   pub over : Over kind filters rest code
-  pub does : (input : Input) (values : Values) → leap kind filters input (length code) code values ≡ then_do (mean input values) (λ after. leap kind filters input (length rest) rest after)
+  pub does : (input : Input) (values : Values) → leap kind filters input (length code) code values ≡ then_do (action input values) (λ after. leap kind filters input (length rest) rest after)
 
 -- the same instruction by places from the front, in a code of so many instructions
 abbrev pub placed : ℕ → Instr → Instr

@@ -3,7 +3,7 @@ ghost use Rattle.std.specs.Prelude.{◌≡◌, ◌∷◌, [], List, length, map,
 ghost use Rattle.std.specs.Option.{option_map};
 ghost use Rattle.acs_tree.specs.Conditions.{holds};
 ghost use Rattle.acs_tree.specs.Meaning.{choice, first_of, in_turn, meaning, perhaps};
-ghost use Rattle.acs_tree.specs.Outcome.{Effect};
+ghost use Rattle.acs_tree.specs.Outcome.{Action};
 ghost use Rattle.acs_code.specs.Arms.{arm_of};
 ghost use Rattle.acs_code.specs.Upward.{Does, filters_of};
 ghost use Rattle.acs_code.specs.declared.instr.Instr.{Instr};
@@ -31,18 +31,22 @@ fn statement(
     match &stmt.form {
         Form::Filt { .. } => Ok(()),
         Form::Put { target, values } => set(code, kind, target, values.as_slice()),
-        Form::If { cond, yes, no } => {
+        Form::If {
+            cond,
+            yes,
+            otherwise,
+        } => {
             let end = code.place();
-            optional(alloc, code, kind, lists, no)?;
+            optional(alloc, code, kind, lists, otherwise)?;
             conditional(alloc, code, kind, lists, yes.get(), cond, end)
         }
         Form::Pick {
             subject,
             whens,
-            other,
+            otherwise,
         } => {
             let end = code.place();
-            optional(alloc, code, kind, lists, other)?;
+            optional(alloc, code, kind, lists, otherwise)?;
             branches(alloc, code, kind, lists, subject, whens.as_slice(), end)
         }
         Form::Do(body) => block(alloc, code, kind, lists, body.as_slice()),
@@ -77,11 +81,11 @@ fn optional(
     code: &mut Upward,
     kind: Kind,
     lists: &[FilterList],
-    other: &Option<Boxed<Stmt>>,
+    otherwise: &Option<Boxed<Stmt>>,
 ) -> Result<(), AllocError>
-    ensures { OnOk result (Does kind (filters_of lists.now) (perhaps (option_map (meaning kind lists.now) other.now)) code.old code.new) }
+    ensures { OnOk result (Does kind (filters_of lists.now) (perhaps (option_map (meaning kind lists.now) otherwise.now)) code.old code.new) }
 {
-    match other {
+    match otherwise {
         None => Ok(()),
         Some(stmt) => statement(alloc, code, kind, lists, stmt.get()),
     }
@@ -98,7 +102,7 @@ fn conditional(
     cond: &Cond,
     end: u64,
 ) -> Result<(), AllocError>
-    ensures { OnOk result ((other : Effect) (rest : List Instr) → end ≡ length rest → Does kind (filters_of lists.now) other rest code.old → Does kind (filters_of lists.now) (choice (holds lists.now cond.now) (meaning kind lists.now body.now) other) rest code.new) }
+    ensures { OnOk result ((other : Action) (rest : List Instr) → end ≡ length rest → Does kind (filters_of lists.now) other rest code.old → Does kind (filters_of lists.now) (choice (holds lists.now cond.now) (meaning kind lists.now body.now) other) rest code.new) }
 {
     let fails = code.place();
     jump(code, end)?;
@@ -121,7 +125,7 @@ fn branch(
     arm: &When,
     behind: u64,
 ) -> Result<(), AllocError>
-    ensures { OnOk result ((other : Effect) (rest : List Instr) → behind ≡ length rest → Does kind (filters_of lists.now) other rest code.old → Does kind (filters_of lists.now) (first_of subject.now (arm_of kind lists.now arm.now ∷ []) other) rest code.new) }
+    ensures { OnOk result ((other : Action) (rest : List Instr) → behind ≡ length rest → Does kind (filters_of lists.now) other rest code.old → Does kind (filters_of lists.now) (first_of subject.now (arm_of kind lists.now arm.now ∷ []) other) rest code.new) }
 {
     let fails = code.place();
     jump(code, behind)?;
@@ -144,7 +148,7 @@ fn branches(
     arms: &[When],
     end: u64,
 ) -> Result<(), AllocError>
-    ensures { OnOk result ((other : Effect) (rest : List Instr) → end ≡ length rest → Does kind (filters_of lists.now) other rest code.old → Does kind (filters_of lists.now) (first_of subject.now (map (arm_of kind lists.now) arms.now) other) rest code.new) }
+    ensures { OnOk result ((other : Action) (rest : List Instr) → end ≡ length rest → Does kind (filters_of lists.now) other rest code.old → Does kind (filters_of lists.now) (first_of subject.now (map (arm_of kind lists.now) arms.now) other) rest code.new) }
 {
     let mut left = arms.len();
     while left > 0 {

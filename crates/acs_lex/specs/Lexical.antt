@@ -2,6 +2,7 @@
 use Rattle.std.specs.Prelude.{◌≡◌, ◌-◌, ◌==◌, ℕ, Bool, true, false, not, ◌&&◌, ◌||◌, nat_le, List, [], ◌∷◌, codes}
 use Rattle.std.specs.List.{list_any}
 use Rattle.std.specs.Char.{is_ascii_alphanumeric}
+use Rattle.desk_common.specs.Limits.{most_literal_bytes, most_word_bytes}
 use Rattle.acs_lex.specs.declared.token.TokenForm.{TokenForm}
 use Rattle.acs_lex.specs.declared.token.TokenForm.TheVariants.{Word, Variable, Literal, Sign}
 
@@ -80,9 +81,9 @@ counted_bytes _ bytes = bytes
 
 -- the most bytes that may count
 abbrev pub most_bytes : TokenForm → ℕ
-most_bytes Word = 64
-most_bytes Variable = 64
-most_bytes Literal = 110
+most_bytes Word = most_word_bytes
+most_bytes Variable = most_word_bytes
+most_bytes Literal = most_literal_bytes
 most_bytes Sign = 2
 
 -- the text goes on, behind a comment's first two bytes, to its first end, and what is behind that

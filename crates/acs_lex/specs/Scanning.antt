@@ -1,6 +1,7 @@
 -- One step over a text as a function. It is the means of the scanner: what is promised stands in
--- Tokens and LexFault. In it 47 is a slash and 42 an asterisk.
+-- Tokens and LexFault. In it 47 is a slash.
 use Rattle.std.specs.Prelude.{◌==◌, ℕ, Bool, List, [], ◌∷◌, nat_le, codes, Option, Some, None, if◌then◌else◌}
+use Rattle.desk_common.specs.Bytes.{star}
 use Rattle.acs_lex.specs.declared.token.TokenForm.{TokenForm}
 use Rattle.acs_lex.specs.declared.token.TokenForm.TheVariants.{Word, Variable, Literal, Sign}
 use Rattle.acs_lex.specs.declared.token.Token.{Token}
@@ -56,7 +57,7 @@ comment_front total text (Some rest) = Skips rest
 abbrev pub slash_front : ℕ → List ℕ → List ℕ → Front
 slash_front total text [] = bad_front total text
 slash_front total text (b ∷ bytes) =
-    if 42 == b then comment_front total text (after_comment bytes) else bad_front total text
+    if star == b then comment_front total text (after_comment bytes) else bad_front total text
 
 -- at the first byte behind a quote that may not stand between quotes
 abbrev pub literal_front : ℕ → List ℕ → List ℕ → Front

@@ -3,6 +3,7 @@
 -- place follows from what is left. `may n` says whether one more may open where n are open
 -- (docs/acs-language.md, Nesting); each n is how many are open.
 use Rattle.std.specs.Prelude.{◌≡◌, ◌-◌, ◌||◌, ℕ, suc, zero, Bool, true, false, List, [], ◌∷◌, length, nat_lt, Option, Some, None}
+use Rattle.desk_common.specs.Limits.{most_nestings}
 use Rattle.acs_tree.specs.declared.routine.Compare.{Compare}
 use Rattle.acs_tree.specs.declared.routine.Ref.{Ref}
 use Rattle.acs_tree.specs.declared.routine.OperandForm.{OperandForm}
@@ -260,9 +261,9 @@ pub data IsRoutineOf (total : ℕ) (may : ℕ → Bool) : List Symbol → Routin
       → IsBlock total may true 0 ms ss []
       → IsRoutineOf total may (Word word.Proc a ∷ ts) (record { head = name; head_at = place_in total (t ∷ ms); body = ss })
 
--- one more may open: at most 200 are open at once
+-- one more may open beside so many
 abbrev pub limited : ℕ → Bool
-limited n = nat_lt n 200
+limited n = nat_lt n most_nestings
 
 abbrev pub unlimited : ℕ → Bool
 unlimited n = true

@@ -42,19 +42,23 @@ fn form_of(parts: FormParts) -> Form
             target: target.into_inner(),
             values,
         },
-        FormParts::If { cond, yes, no } => Form::If {
+        FormParts::If {
+            cond,
+            yes,
+            otherwise,
+        } => Form::If {
             cond: cond.into_inner(),
             yes,
-            no,
+            otherwise,
         },
         FormParts::Pick {
             subject,
             whens,
-            other,
+            otherwise,
         } => Form::Pick {
             subject: unboxed(subject),
             whens,
-            other,
+            otherwise,
         },
         FormParts::Do(body) => Form::Do(body),
         FormParts::Write(parts) => Form::Write(parts),

@@ -19,12 +19,12 @@ pub enum FormParts {
     If {
         cond: Boxed<Cond>,
         yes: Boxed<Stmt>,
-        no: Option<Boxed<Stmt>>,
+        otherwise: Option<Boxed<Stmt>>,
     },
     Pick {
         subject: Option<Boxed<Ref>>,
         whens: Whens,
-        other: Option<Boxed<Stmt>>,
+        otherwise: Option<Boxed<Stmt>>,
     },
     Do(Block),
     Write(Operands),

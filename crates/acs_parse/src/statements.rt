@@ -114,8 +114,12 @@ fn conditional(
     ensures { Parses (λ parts. IsInside total word.If depth rest.old.now (form_of_parts parts) rest.new.now) (ACondition ∷ One want.Then (To depth) ∷ AStatement ∷ OrBranch want.Else ∷ Back ∷ []) depth rest.old.now result }
 {
     let cond = cond_before(alloc, total, depth, Want::Then, rest)?;
-    let (yes, no) = arms(alloc, total, depth, rest)?;
-    Ok(FormParts::If { cond, yes, no })
+    let (yes, otherwise) = arms(alloc, total, depth, rest)?;
+    Ok(FormParts::If {
+        cond,
+        yes,
+        otherwise,
+    })
 }
 
 /// The statements of an IF: what it does where the condition holds, and what else.
@@ -130,8 +134,8 @@ fn arms(
     ensures { Parses (λ x. AreArms total depth rest.old.now x.0 x.1 rest.new.now) (AStatement ∷ OrBranch want.Else ∷ []) depth rest.old.now result }
 {
     let yes = statement(alloc, total, depth, rest)?;
-    let no = branch(alloc, total, depth, Want::Else, rest)?;
-    Ok((yes, no))
+    let otherwise = branch(alloc, total, depth, Want::Else, rest)?;
+    Ok((yes, otherwise))
 }
 
 /// The statement of an ELSE or an OTHERWISE, if there is one.
@@ -175,12 +179,12 @@ fn selection(
     ensures { Parses (λ parts. IsInside total word.Select depth rest.old.now (form_of_parts parts) rest.new.now) (AChoice ∷ OrBranch want.Otherwise ∷ One want.End Lower ∷ []) depth rest.old.now result }
 {
     let (subject, whens) = choice(alloc, total, depth, rest)?;
-    let other = branch(alloc, total, depth, Want::Otherwise, rest)?;
+    let otherwise = branch(alloc, total, depth, Want::Otherwise, rest)?;
     expect(Want::End, rest)?;
     Ok(FormParts::Pick {
         subject,
         whens,
-        other,
+        otherwise,
     })
 }
 

@@ -3,4 +3,4 @@ pub mod RowLemmas
 pub mod CutLemmas
 pub mod LineLemmas
 pub mod StepLemmas
-pub mod TraceLemmas
+pub mod KeptLemmas

@@ -1,8 +1,8 @@
 //! The machine.
 ghost use Rattle.std.specs.Prelude.{◌≡◌, ◌<◌, length};
 ghost use Rattle.acs_code.specs.Machine.{running};
-ghost use Rattle.acs_tree.specs.Slates.{count_of, with_trace};
-ghost use Rattle.acs_tree.specs.Trace.{trace_of};
+ghost use Rattle.acs_tree.specs.Slates.{KeepsOtherKinds, count_of, with_kept_lines};
+ghost use Rattle.acs_tree.specs.KeptLines.{kept_lines_of};
 ghost use Rattle.acs_run.specs.Steps.{Leads};
 
 use crate::classes::{class, set_class};
@@ -23,7 +23,8 @@ pub fn run(code: &Code, input: &Input, values: &mut Values, slate: &mut Slate) -
     requires { count_of code.now.kind slate.old.lines ≡ 0 }
     ensures ending { result ≡ (running code.now input.now values.old).ending }
     ensures values { values.new ≡ (running code.now input.now values.old).values }
-    ensures lines { slate.new ≡ with_trace code.now.kind (trace_of (running code.now input.now values.old).lines) slate.old }
+    ensures other_kinds { KeepsOtherKinds code.now.kind slate.old slate.new }
+    ensures lines { slate.new ≡ with_kept_lines code.now.kind (kept_lines_of (running code.now input.now values.old).lines) slate.old }
 {
     let _written = slate.lines();
     let end = code.instrs().len();

@@ -76,11 +76,11 @@ fn shape_of(form: &Form) -> Shape {
         Form::Pick {
             subject,
             whens,
-            other,
+            otherwise,
         } => Shape::Select {
             subject_at: place_of(subject),
             branches: whens.len(),
-            has_otherwise: other.is_some(),
+            has_otherwise: otherwise.is_some(),
         },
         Form::Write(parts) => Shape::Line { parts: parts.len() },
         Form::Exit { code: Some(code) } => Shape::Exit { code_at: code.at },

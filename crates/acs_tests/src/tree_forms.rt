@@ -47,10 +47,14 @@ fn branches_of<'t>(rt: &impl Abort, stmt: &'t Stmt) -> (&'t Stmt, Option<&'t Stm
     match &stmt.form {
         Form::If {
             yes,
-            no: Some(no),
+            otherwise: Some(otherwise),
             ..
-        } => (yes.get(), Some(no.get())),
-        Form::If { yes, no: None, .. } => (yes.get(), None),
+        } => (yes.get(), Some(otherwise.get())),
+        Form::If {
+            yes,
+            otherwise: None,
+            ..
+        } => (yes.get(), None),
         _ => panic!(rt; "no IF"),
     }
 }

@@ -50,7 +50,7 @@ fn conditional(alloc: Global, name: Ident) -> Result<Routine, AllocError>
         at: 7,
         form: Form::Exit { code: None },
     };
-    let no = Stmt {
+    let otherwise = Stmt {
         at: 9,
         form: Form::Do(Items::new(alloc)),
     };
@@ -60,7 +60,7 @@ fn conditional(alloc: Global, name: Ident) -> Result<Routine, AllocError>
         form: Form::If {
             cond,
             yes: Boxed::new(alloc, yes)?,
-            no: Some(Boxed::new(alloc, no)?),
+            otherwise: Some(Boxed::new(alloc, otherwise)?),
         },
     })?;
     Ok(Routine {

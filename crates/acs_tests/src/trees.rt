@@ -195,7 +195,7 @@ fn selection(alloc: Global, operand: Operand) -> Result<Form, AllocError> {
     Ok(Form::Pick {
         subject: None,
         whens: with_when(Items::new(alloc), when)?,
-        other: None,
+        otherwise: None,
     })
 }
 

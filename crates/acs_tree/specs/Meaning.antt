@@ -12,12 +12,12 @@ use Rattle.acs_tree.specs.declared.routine.Stmt.{Stmt, fold-Stmt}
 use Rattle.acs_tree.specs.Comparands.{lists_of}
 use Rattle.acs_tree.specs.Conditions.{Test, holds, when_holds}
 use Rattle.acs_tree.specs.Numbers.{is_between, value_of}
-use Rattle.acs_tree.specs.Outcome.{Effect, falls, exits, behind, nothing, then_do}
+use Rattle.acs_tree.specs.Outcome.{Action, falls, exits, behind, nothing, then_do}
 use Rattle.acs_tree.specs.Setting.{sets}
 use Rattle.acs_tree.specs.Writing.{line_of}
 
 -- WRITE
-abbrev pub writes : List Operand → Effect
+abbrev pub writes : List Operand → Action
 writes parts input values = behind (line_of parts input values ∷ []) (falls values)
 
 -- the number of a code; what is no code counts as 0
@@ -32,31 +32,31 @@ code_of None = 0
 code_of (Some code) = code_from code.form
 
 -- what is done, if anything
-abbrev pub perhaps : Option Effect → Effect
+abbrev pub perhaps : Option Action → Action
 perhaps None = nothing
-perhaps (Some mean) = mean
+perhaps (Some action) = action
 
 -- IF
-abbrev pub choice : Test → Effect → Effect → Effect
+abbrev pub choice : Test → Action → Action → Action
 choice test first other input values = if test input values then first input values else other input values
 
 -- one after another
-abbrev pub in_turn : List Effect → Effect
+abbrev pub in_turn : List Action → Action
 in_turn [] = nothing
-in_turn (mean ∷ means) = λ input values. then_do (mean input values) (in_turn means input)
+in_turn (action ∷ actions) = λ input values. then_do (action input values) (in_turn actions input)
 
 -- a WHEN: what it asks, which depends on the variable of its SELECT, and what is done
 pub record Arm : Type 0 where
   pub test : Option Ref → Test
-  pub body : Effect
+  pub body : Action
 
 -- SELECT: the first WHEN that holds and no later one, and with none the other
-abbrev pub first_of : Option Ref → List Arm → Effect → Effect
+abbrev pub first_of : Option Ref → List Arm → Action → Action
 first_of subject [] other = other
 first_of subject (arm ∷ arms) other = choice (arm.test subject) arm.body (first_of subject arms other)
 
 -- what a statement does, from what those in it do; a filter list does nothing by itself
-abbrev pub form_step : Kind → List FilterList → Form-F Effect Effect Arm → Effect
+abbrev pub form_step : Kind → List FilterList → Form-F Action Action Arm → Action
 form_step kind lists (Form-F.Filt name name_at include exclude) = nothing
 form_step kind lists (Form-F.Put target operands) = sets kind target operands
 form_step kind lists (Form-F.If cond first other) = choice (holds lists cond) first (perhaps other)
@@ -66,17 +66,17 @@ form_step kind lists (Form-F.Write parts) = writes parts
 form_step kind lists (Form-F.Exit code) = λ input values. exits (code_of code) values
 
 -- what a statement does, from what its form does
-abbrev pub stmt_step : Stmt-F Effect Effect Arm → Effect
+abbrev pub stmt_step : Stmt-F Action Action Arm → Action
 stmt_step statement = statement.form
 
 -- what a WHEN asks and does, from what its statement does
-abbrev pub when_step : List FilterList → When-F Effect Effect Arm → Arm
+abbrev pub when_step : List FilterList → When-F Action Action Arm → Arm
 when_step lists branch = record { test = λ subject. when_holds lists subject branch.test; body = branch.body }
 
 -- what a statement does in a routine of that kind with those filter lists
-abbrev pub meaning : Kind → List FilterList → Stmt → Effect
-meaning kind lists = fold-Stmt Effect Effect Arm (form_step kind lists) stmt_step (when_step lists)
+abbrev pub meaning : Kind → List FilterList → Stmt → Action
+meaning kind lists = fold-Stmt Action Action Arm (form_step kind lists) stmt_step (when_step lists)
 
 -- what a routine of that kind means: its body, with its own filter lists
-abbrev pub meaning_of : Routine → Kind → Effect
+abbrev pub meaning_of : Routine → Kind → Action
 meaning_of routine kind = in_turn (map (meaning kind (lists_of routine.body)) routine.body)

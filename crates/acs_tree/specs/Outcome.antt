@@ -12,8 +12,8 @@ pub record Outcome : Type 0 where
   pub ending : Ending
 
 -- what a statement does with an input and the values so far
-abbrev pub Effect : Type 0
-Effect = Input → Values → Outcome
+abbrev pub Action : Type 0
+Action = Input → Values → Outcome
 
 -- the end is reached and nothing was written
 abbrev pub falls : Values → Outcome
@@ -37,5 +37,5 @@ abbrev pub then_do : Outcome → (Values → Outcome) → Outcome
 then_do outcome next = after outcome.ending outcome next
 
 -- nothing is done
-abbrev pub nothing : Effect
+abbrev pub nothing : Action
 nothing input values = falls values

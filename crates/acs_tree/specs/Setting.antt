@@ -11,7 +11,7 @@ use Rattle.acs_tree.specs.declared.routine.OperandForm.{OperandForm}
 use Rattle.acs_tree.specs.declared.routine.OperandForm.TheVariants.{Literal, Word, Var}
 use Rattle.acs_tree.specs.declared.routine.Ref.{Ref}
 use Rattle.acs_tree.specs.declared.values.Values.{Values}
-use Rattle.acs_tree.specs.Outcome.{Effect, falls, nothing}
+use Rattle.acs_tree.specs.Outcome.{Action, falls, nothing}
 use Rattle.acs_tree.specs.VariableValues.{Value, Text, variable_value, index_of}
 use Rattle.acs_tree.specs.Variables.{name_of}
 
@@ -38,7 +38,7 @@ with_class MgmtClas class values = record values { mgmtclas = class }
 with_class StorGrp class values = values
 
 -- SET of a class takes the first value
-abbrev pub class_set : Kind → List Operand → Effect
+abbrev pub class_set : Kind → List Operand → Action
 class_set kind [] input values = falls values
 class_set kind (value ∷ more) input values = falls (with_class kind (class_from value.form input values) values)
 
@@ -58,16 +58,16 @@ groups_behind groups [] = groups
 groups_behind groups (value ∷ values) = groups_behind (with_group groups value.form) values
 
 -- SET of the group list replaces it; '' is no name, so that it empties the list
-abbrev pub groups_set : List Operand → Effect
+abbrev pub groups_set : List Operand → Action
 groups_set operands input values = falls (record values { groups = groups_behind [] operands })
 
 -- SET of the variable of a kind
-abbrev pub kind_set : Kind → List Operand → Effect
+abbrev pub kind_set : Kind → List Operand → Action
 kind_set DataClas operands = class_set DataClas operands
 kind_set StorClas operands = class_set StorClas operands
 kind_set MgmtClas operands = class_set MgmtClas operands
 kind_set StorGrp operands = groups_set operands
 
 -- SET in a routine of that kind; a routine sets the variable of its kind alone
-abbrev pub sets : Kind → Ref → List Operand → Effect
+abbrev pub sets : Kind → Ref → List Operand → Action
 sets kind target operands = if bytes_eq target.name (name_of kind) then kind_set kind operands else nothing

@@ -1,10 +1,11 @@
 -- A slate: the lines of the routines of a request.
-use Rattle.std.specs.Prelude.{◌≡◌, ◌≤◌, ◌<◌, ◌==◌, ◌+◌, ◌-◌, ◌^◌, ◌++◌, ℕ, suc, Bool, List, [], ◌∷◌, map, min, nat_lt, if◌then◌else◌}
+use Rattle.std.specs.Prelude.{◌≡◌, ◌≤◌, ◌<◌, ◌==◌, ◌+◌, ◌-◌, ◌^◌, ◌++◌, ℕ, suc, Bool, false, List, [], ◌∷◌, filter, map, min, nat_lt, if◌then◌else◌}
+use Rattle.desk_common.specs.Limits.{most_lines}
 use Rattle.acs_tree.specs.declared.kind.Kind.{Kind}
 use Rattle.acs_tree.specs.declared.kind.Kind.TheVariants.{DataClas, StorClas, MgmtClas, StorGrp}
 use Rattle.acs_tree.specs.declared.line.Line.{Line}
 use Rattle.acs_tree.specs.declared.more.More.{More}
-use Rattle.acs_tree.specs.Trace.{Trace}
+use Rattle.acs_tree.specs.KeptLines.{KeptLines}
 use Rattle.acs_tree.specs.Variables.{rank_of}
 
 -- the lines that are kept, in the order in which they were written, and how many others there are of each kind
@@ -47,18 +48,27 @@ blank = record { lines = []; more = record { dataclas = 0; storclas = 0; mgmtcla
 abbrev pub one_more : ℕ → ℕ
 one_more count = min (count + 1) (2 ^ 32 - 1)
 
--- one more line of that kind: kept while there are fewer than 64, and else counted
+-- one more line of that kind: kept while there is room for one of that kind, and else counted
 abbrev pub with_line : Kind → List ℕ → SlateLines → SlateLines
 with_line kind text slate =
-    if nat_lt (count_of kind slate.lines) 64
+    if nat_lt (count_of kind slate.lines) most_lines
     then record slate { lines = slate.lines ++ line kind text ∷ [] }
     else record slate { more = with_more kind (one_more (more_of kind slate.more)) slate.more }
 
 -- the lines of a run of that kind
-abbrev pub with_trace : Kind → Trace → SlateLines → SlateLines
-with_trace kind trace slate = record { lines = slate.lines ++ map (line kind) trace.kept; more = with_more kind trace.more slate.more }
+abbrev pub with_kept_lines : Kind → KeptLines → SlateLines → SlateLines
+with_kept_lines kind lines slate = record { lines = slate.lines ++ map (line kind) lines.kept; more = with_more kind lines.more slate.more }
 
--- of each kind at most 64 lines are kept, and others are counted only where there are 64
+-- the lines of that kind
+abbrev pub lines_of : Kind → List Line → List Line
+lines_of kind lines = filter (λ line. same_kind line.kind kind) lines
+
+-- of each other kind the slate has the same lines as before, and the same number of others
+pub record KeepsOtherKinds (kind : Kind) (before now : SlateLines) : Type 0 where
+  pub lines : (other : Kind) → same_kind kind other ≡ false → lines_of other now.lines ≡ lines_of other before.lines
+  pub more : (other : Kind) → same_kind kind other ≡ false → more_of other now.more ≡ more_of other before.more
+
+-- of each kind no more lines are kept than may be, and others are counted only where so many are kept
 pub record IsSlate (slate : SlateLines) : Type 0 where
-  pub few : (kind : Kind) → count_of kind slate.lines ≤ 64
-  pub full : (kind : Kind) → 0 < more_of kind slate.more → count_of kind slate.lines ≡ 64
+  pub few : (kind : Kind) → count_of kind slate.lines ≤ most_lines
+  pub full : (kind : Kind) → 0 < more_of kind slate.more → count_of kind slate.lines ≡ most_lines

@@ -1,6 +1,8 @@
 -- What WRITE writes (docs/acs-language.md, Meaning).
 use Rattle.std.specs.Prelude.{◌++◌, ℕ, List, [], ◌∷◌, take, codes, decimal}
 use Rattle.std.specs.List.{join_with_byte}
+use Rattle.desk_common.specs.Limits.{most_literal_bytes}
+use Rattle.desk_common.specs.Bytes.{comma}
 use Rattle.acs_tree.specs.declared.input.Input.{Input}
 use Rattle.acs_tree.specs.declared.routine.Operand.{Operand}
 use Rattle.acs_tree.specs.declared.routine.OperandForm.{OperandForm}
@@ -10,7 +12,7 @@ use Rattle.acs_tree.specs.VariableValues.{Value, Text, Number, Size, AnyOf, AllO
 
 -- names with commas between them
 abbrev pub listed : List (List ℕ) → List ℕ
-listed names = join_with_byte 44 names
+listed names = join_with_byte comma names
 
 -- a value as WRITE writes it
 abbrev pub printed : Value → List ℕ
@@ -32,6 +34,6 @@ abbrev pub joined : List Operand → Input → Values → List ℕ
 joined [] input values = []
 joined (part ∷ parts) input values = written part.form input values ++ joined parts input values
 
--- a line is cut to 110 bytes
+-- a line is cut to as many bytes as a literal may have
 abbrev pub line_of : List Operand → Input → Values → List ℕ
-line_of parts input values = take 110 (joined parts input values)
+line_of parts input values = take most_literal_bytes (joined parts input values)

@@ -1,7 +1,7 @@
 // The four kinds of routine.
 ghost use Rattle.std.specs.Prelude.{◌≡◌, MatchOption};
 ghost use Rattle.acs_tree.specs.declared.kind.Kind.{Kind as KindOf};
-ghost use Rattle.acs_tree.specs.Variables.{name_of};
+ghost use Rattle.acs_tree.specs.Variables.{name_of, rank_of};
 
 /// What a routine chooses: a data class, a storage class, a management class or storage groups.
 #[derive(Clone, Copy, Debug, PartialEq, Eq)]
@@ -23,6 +23,13 @@ impl Kind {
             Kind::MgmtClas => b"MGMTCLAS",
             Kind::StorGrp => b"STORGRP",
         }
+    }
+
+    /// The order in which the routines run, from 0.
+    pub fn rank(self) -> u8
+        ensures { result ≡ rank_of self }
+    {
+        self as u8
     }
 
     /// The kind whose routines set the variable of that name.

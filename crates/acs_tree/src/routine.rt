@@ -43,12 +43,12 @@ pub enum Form {
     If {
         cond: Cond,
         yes: Boxed<Stmt>,
-        no: Option<Boxed<Stmt>>,
+        otherwise: Option<Boxed<Stmt>>,
     },
     Pick {
         subject: Option<Ref>,
         whens: Whens,
-        other: Option<Boxed<Stmt>>,
+        otherwise: Option<Boxed<Stmt>>,
     },
     Do(Block),
     Write(Operands),

@@ -1,7 +1,6 @@
 //! What routines write.
 ghost use Rattle.std.specs.Prelude.{◌≡◌, IfOk, length};
 ghost use Rattle.acs_tree.specs.Slates.{blank, count_of, more_of, same_kind, with_line, IsSlate};
-ghost use Rattle.acs_tree.specs.Variables.{rank_of};
 
 use crate::kind::Kind;
 use crate::line::Line;
@@ -106,17 +105,11 @@ fn unwritten(alloc: Global) -> Result<Vec<Line>, AllocError>
     Ok(room)
 }
 
-fn rank_of(kind: Kind) -> u8
-    ensures { result ≡ rank_of kind }
-{
-    kind as u8
-}
-
 /// Whether the two kinds are one.
 pub fn same_kind(one: Kind, other: Kind) -> bool
     ensures { result ≡ same_kind one other }
 {
-    rank_of(one) == rank_of(other)
+    one.rank() == other.rank()
 }
 
 fn count_of(lines: &[Line], kind: Kind) -> usize

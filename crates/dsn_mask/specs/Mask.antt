@@ -1,5 +1,6 @@
 -- What a mask fits (docs/acs-language.md, "Masks").
 use Rattle.std.specs.Prelude.{◌≢◌, ℕ, List, [], ◌∷◌}
+use Rattle.desk_common.specs.Bytes.{star}
 use Rattle.dsn_mask.specs.Qualifiers.{qualifiers_of}
 
 -- what is left of a list from some place on
@@ -7,16 +8,16 @@ pub data IsSuffix {I : Type 0} : List I → List I → Type 0 where
   whole : {items : List I} → IsSuffix items items
   behind : {item : I} {rest items : List I} → IsSuffix rest items → IsSuffix rest (item ∷ items)
 
--- a piece against bytes: `*` (42) stands for zero or more bytes, `%` (37) for one, another byte for itself
+-- a piece against bytes: a star stands for zero or more bytes, `%` (37) for one, another byte for itself
 pub data PieceFits : List ℕ → List ℕ → Type 0 where
   no_bytes : PieceFits [] []
-  any_bytes : {piece rest bytes : List ℕ} → IsSuffix rest bytes → PieceFits piece rest → PieceFits (42 ∷ piece) bytes
+  any_bytes : {piece rest bytes : List ℕ} → IsSuffix rest bytes → PieceFits piece rest → PieceFits (star ∷ piece) bytes
   any_byte : {byte : ℕ} {piece bytes : List ℕ} → PieceFits piece bytes → PieceFits (37 ∷ piece) (byte ∷ bytes)
-  same_byte : {byte : ℕ} {piece bytes : List ℕ} → byte ≢ 42 → byte ≢ 37 → PieceFits piece bytes → PieceFits (byte ∷ piece) (byte ∷ bytes)
+  same_byte : {byte : ℕ} {piece bytes : List ℕ} → byte ≢ star → byte ≢ 37 → PieceFits piece bytes → PieceFits (byte ∷ piece) (byte ∷ bytes)
 
 -- the qualifier `**`
 abbrev pub two_stars : List ℕ
-two_stars = 42 ∷ 42 ∷ []
+two_stars = star ∷ star ∷ []
 
 -- the qualifiers of a mask against those of a value: `**` stands for zero or more of them, another piece for one that it fits
 pub data QualifiersFit : List (List ℕ) → List (List ℕ) → Type 0 where

@@ -1,12 +1,14 @@
 -- Why a text is no mask (docs/acs-language.md, "Masks").
 use Rattle.std.specs.Prelude.{◌≡◌, ◌≤◌, ◌<◌, ◌+◌, ◌-◌, ◌==◌, ◌&&◌, ◌||◌, ℕ, zero, suc, Bool, true, false, not, List, [], length, nat_le, nat_lt, slice_index, Option, None, Some, is_none, if◌then◌else◌}
+use Rattle.desk_common.specs.Limits.{most_word_bytes}
+use Rattle.desk_common.specs.Bytes.{full_stop, star}
 use Rattle.dsn_mask.specs.MaskText.{is_mask_byte}
 use Rattle.dsn_mask.specs.declared.mask_err.MaskErr.{MaskErr}
 use Rattle.dsn_mask.specs.declared.mask_err.MaskErr.TheVariants.{Empty, TooLong, ThreeStars, StarsNotAlone, BadByte, EmptyPiece}
 
--- a star (42) stands at the place
+-- a star stands at the place
 abbrev pub is_star_at : List ℕ → ℕ → Bool
-is_star_at bytes at = slice_index bytes at == 42
+is_star_at bytes at = slice_index bytes at == star
 
 -- so many bytes before the place stands a star
 abbrev pub is_star_before : List ℕ → ℕ → ℕ → Bool
@@ -22,11 +24,11 @@ is_first_of_two bytes at = is_star_at bytes at && (is_star_at bytes (at + 1) && 
 
 -- at the text's front or behind a full stop
 abbrev pub opens_qualifier : List ℕ → ℕ → Bool
-opens_qualifier bytes at = at == 0 || slice_index bytes (at - 1) == 46
+opens_qualifier bytes at = at == 0 || slice_index bytes (at - 1) == full_stop
 
 -- at the text's end or before a full stop
 abbrev pub closes_qualifier : List ℕ → ℕ → Bool
-closes_qualifier bytes at = at == length bytes || slice_index bytes at == 46
+closes_qualifier bytes at = at == length bytes || slice_index bytes at == full_stop
 
 -- two stars that may not stand there; in a dotted text they may be a whole qualifier
 abbrev pub is_misplaced_pair : Bool → List ℕ → ℕ → Bool
@@ -38,12 +40,12 @@ is_bad_byte_at bytes at = nat_lt at (length bytes) && not (is_mask_byte (slice_i
 
 -- a full stop that opens the text, follows another or ends the text
 abbrev pub is_stray_stop : List ℕ → ℕ → Bool
-is_stray_stop bytes at = slice_index bytes at == 46 && (opens_qualifier bytes at || at + 1 == length bytes)
+is_stray_stop bytes at = slice_index bytes at == full_stop && (opens_qualifier bytes at || at + 1 == length bytes)
 
 -- a fault of a text that is to be a mask (dotted) or a simple mask
 abbrev pub IsFault : Bool → List ℕ → MaskErr → Type 0
 IsFault dotted bytes Empty = bytes ≡ []
-IsFault dotted bytes TooLong = 64 < length bytes
+IsFault dotted bytes TooLong = most_word_bytes < length bytes
 IsFault dotted bytes (ThreeStars at) = is_third_star bytes at ≡ true
 IsFault dotted bytes (StarsNotAlone at) = is_misplaced_pair dotted bytes at ≡ true
 IsFault dotted bytes (BadByte at) = is_bad_byte_at bytes at ≡ true
@@ -102,4 +104,4 @@ is_clear_below dotted bytes (suc at) = is_clear_below dotted bytes at && is_none
 
 -- 1 to 64 bytes with no fault at any place
 abbrev pub has_no_fault : Bool → List ℕ → Bool
-has_no_fault dotted bytes = nat_le 1 (length bytes) && (nat_le (length bytes) 64 && is_clear_below dotted bytes (length bytes))
+has_no_fault dotted bytes = nat_le 1 (length bytes) && (nat_le (length bytes) most_word_bytes && is_clear_below dotted bytes (length bytes))

@@ -1,5 +1,6 @@
 -- What a mask fits, as tests that compute.
 use Rattle.std.specs.Prelude.{ℕ, Bool, true, false, List, [], ◌∷◌, ◌==◌, ◌&&◌, ◌||◌, if◌then◌else◌}
+use Rattle.desk_common.specs.Bytes.{star}
 use Rattle.dsn_mask.specs.Qualifiers.{qualifiers_of}
 
 -- the test passes at what is behind some item
@@ -27,9 +28,9 @@ fits_items star takes [] items = is_empty items
 fits_items star takes (symbol ∷ symbols) items =
     if star symbol then passes_somewhere (fits_items star takes symbols) items else takes_first (takes symbol) (fits_items star takes symbols) items
 
--- `*` (42)
+-- a star
 abbrev pub is_star : ℕ → Bool
-is_star symbol = symbol == 42
+is_star symbol = symbol == star
 
 -- `%` (37) takes any byte, another symbol its equal
 abbrev pub takes_byte : ℕ → ℕ → Bool
@@ -41,7 +42,7 @@ piece_fits piece bytes = fits_items is_star takes_byte piece bytes
 
 -- the qualifier `**`
 abbrev pub is_two_stars : List ℕ → Bool
-is_two_stars (first ∷ second ∷ []) = first == 42 && second == 42
+is_two_stars (first ∷ second ∷ []) = first == star && second == star
 is_two_stars _ = false
 
 -- the pieces of a mask fit the qualifiers

@@ -1,23 +1,25 @@
 -- The texts of masks (docs/acs-language.md, "Masks").
 use Rattle.std.specs.Prelude.{◌≡◌, ◌==◌, ◌&&◌, ◌||◌, ℕ, Bool, true, false, not, List, [], ◌∷◌, Option, None, Some, length, nat_le, if◌then◌else◌}
 use Rattle.std.specs.List.{list_all}
+use Rattle.desk_common.specs.Limits.{most_word_bytes}
+use Rattle.desk_common.specs.Bytes.{full_stop, star}
 use Rattle.dsn_mask.specs.Name.{is_name_byte}
 use Rattle.dsn_mask.specs.Qualifiers.{qualifiers_of}
 use Rattle.dsn_mask.specs.MaskTest.{is_empty, is_two_stars}
 
 -- A to Z, 0 to 9, #, @, $, -, _, the full stop, % and *
 abbrev pub is_mask_byte : ℕ → Bool
-is_mask_byte byte = is_name_byte byte || (byte == 45 || (byte == 95 || (byte == 46 || (byte == 37 || byte == 42))))
+is_mask_byte byte = is_name_byte byte || (byte == 45 || (byte == 95 || (byte == full_stop || (byte == 37 || byte == star))))
 
--- `*` (42) is the first byte
+-- a star is the first byte
 abbrev pub begins_with_star : List ℕ → Bool
 begins_with_star [] = false
-begins_with_star (byte ∷ bytes) = byte == 42
+begins_with_star (byte ∷ bytes) = byte == star
 
 -- no two stars stand side by side
 abbrev pub are_stars_apart : List ℕ → Bool
 are_stars_apart [] = true
-are_stars_apart (byte ∷ bytes) = not (byte == 42 && begins_with_star bytes) && are_stars_apart bytes
+are_stars_apart (byte ∷ bytes) = not (byte == star && begins_with_star bytes) && are_stars_apart bytes
 
 -- bytes of masks, no two stars side by side
 abbrev pub is_piece : List ℕ → Bool
@@ -29,11 +31,11 @@ is_mask_qualifier qualifier = is_two_stars qualifier || (not (is_empty qualifier
 
 -- 1 to 64 bytes, each qualifier in form
 abbrev pub is_mask : List ℕ → Bool
-is_mask bytes = nat_le 1 (length bytes) && (nat_le (length bytes) 64 && list_all is_mask_qualifier (qualifiers_of bytes))
+is_mask bytes = nat_le 1 (length bytes) && (nat_le (length bytes) most_word_bytes && list_all is_mask_qualifier (qualifiers_of bytes))
 
 -- 1 to 64 bytes of one piece
 abbrev pub is_simple : List ℕ → Bool
-is_simple bytes = nat_le 1 (length bytes) && (nat_le (length bytes) 64 && is_piece bytes)
+is_simple bytes = nat_le 1 (length bytes) && (nat_le (length bytes) most_word_bytes && is_piece bytes)
 
 -- a mask of data set names
 abbrev pub IsMask : List ℕ → Type 0

@@ -1,6 +1,8 @@
 -- Names, volume serials, values and literals, as lists of bytes.
 use Rattle.std.specs.Prelude.{◌≡◌, ◌≤◌, ◌==◌, ◌&&◌, ◌||◌, ℕ, Bool, true, List, Option, None, Some, length, nat_le, not, slice_index, if◌then◌else◌}
 use Rattle.std.specs.List.{AllPass, list_all}
+use Rattle.desk_common.specs.Limits.{most_literal_bytes}
+use Rattle.desk_common.specs.Bytes.{quote}
 
 -- 0 to 9
 abbrev pub is_digit : ℕ → Bool
@@ -16,7 +18,7 @@ is_name_byte byte = is_initial byte || is_digit byte
 
 -- a printed byte but the blank and the quote
 abbrev pub is_short_byte : ℕ → Bool
-is_short_byte byte = nat_le 33 byte && (nat_le byte 126 && not (byte == 39))
+is_short_byte byte = nat_le 33 byte && (nat_le byte 126 && not (byte == quote))
 
 -- a printed byte but the quote
 abbrev pub is_literal_byte : ℕ → Bool
@@ -36,7 +38,7 @@ IsShort bytes = (length bytes ≤ 44) × AllPass is_short_byte bytes
 
 -- at most 110 printed bytes or blanks, none a quote
 abbrev pub IsLiteral : List ℕ → Type 0
-IsLiteral bytes = (length bytes ≤ 110) × AllPass is_literal_byte bytes
+IsLiteral bytes = (length bytes ≤ most_literal_bytes) × AllPass is_literal_byte bytes
 
 -- the same as tests
 
@@ -50,7 +52,7 @@ abbrev pub is_short : List ℕ → Bool
 is_short bytes = nat_le (length bytes) 44 && list_all is_short_byte bytes
 
 abbrev pub is_literal : List ℕ → Bool
-is_literal bytes = nat_le (length bytes) 110 && list_all is_literal_byte bytes
+is_literal bytes = nat_le (length bytes) most_literal_bytes && list_all is_literal_byte bytes
 
 -- the name that the bytes spell, if any
 abbrev pub name_of : List ℕ → Option (List ℕ)

@@ -17,8 +17,8 @@ branches-branches-preserved t c =
 
 pub statement-returns-in-If : goal.statement-returns-in-If
 statement-returns-in-If t c =
-    if_at c.args.kind c.args.before.now c.args.best c.args.current.now c.in-If.cond c.in-If.yes c.in-If.no c.in-If.is c.get.ensures c.condition-best.ensures c.statement-best.ensures c.optional.ensures
+    if_at c.args.kind c.args.before.now c.args.best c.args.current.now c.in-If.cond c.in-If.yes c.in-If.otherwise c.in-If.is c.get.ensures c.condition-best.ensures c.statement-best.ensures c.optional.ensures
 
 pub statement-returns-in-Pick : goal.statement-returns-in-Pick
 statement-returns-in-Pick t c =
-    pick_at c.args.kind c.args.before.now c.args.best c.args.current.now c.in-Pick.compared c.in-Pick.whens c.in-Pick.other c.in-Pick.is c.as_slice-in-Pick.ensures c.subject-best.ensures c.branches-best.ensures c.optional-in-Pick.ensures
+    pick_at c.args.kind c.args.before.now c.args.best c.args.current.now c.in-Pick.compared c.in-Pick.whens c.in-Pick.otherwise c.in-Pick.is c.as_slice-in-Pick.ensures c.subject-best.ensures c.branches-best.ensures c.optional-in-Pick.ensures

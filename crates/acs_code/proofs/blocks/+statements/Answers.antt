@@ -45,8 +45,8 @@ statement-returns-in-Exit t c =
 
 pub statement-returns-in_ok-optional-in-If : goal.statement-returns-in_ok-optional-in-If
 statement-returns-in_ok-optional-in-If t c =
-    on_ok_weaker _ (if_turn c.args.kind c.args.lists.now c.args.stmt.now c.in-If.cond c.in-If.yes c.get.result.now c.in-If.no c.in-If.is c.get.ensures c.place-end.ensures c.in_ok-optional-in-If.ensures) c.conditional.ensures
+    on_ok_weaker _ (if_turn c.args.kind c.args.lists.now c.args.stmt.now c.in-If.cond c.in-If.yes c.get.result.now c.in-If.otherwise c.in-If.is c.get.ensures c.place-end.ensures c.in_ok-optional-in-If.ensures) c.conditional.ensures
 
 pub statement-returns-in_ok-optional-in-Pick : goal.statement-returns-in_ok-optional-in-Pick
 statement-returns-in_ok-optional-in-Pick t c =
-    on_ok_weaker _ (pick_turn c.args.kind c.args.lists.now c.args.stmt.now c.in-Pick.subject c.in-Pick.whens c.as_slice-in-Pick.result.now c.in-Pick.other c.in-Pick.is c.as_slice-in-Pick.ensures c.place-end-in-Pick.ensures c.in_ok-optional-in-Pick.ensures) c.branches.ensures
+    on_ok_weaker _ (pick_turn c.args.kind c.args.lists.now c.args.stmt.now c.in-Pick.subject c.in-Pick.whens c.as_slice-in-Pick.result.now c.in-Pick.otherwise c.in-Pick.is c.as_slice-in-Pick.ensures c.place-end-in-Pick.ensures c.in_ok-optional-in-Pick.ensures) c.branches.ensures

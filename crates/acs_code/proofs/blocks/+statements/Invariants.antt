@@ -1,13 +1,13 @@
 use Rattle.std.proofs.Common.{◌≡◌, ◌≤◌, List, length, map, drop}
 use Rattle.acs_tree.specs.Meaning.{first_of, in_turn, meaning}
-use Rattle.acs_tree.specs.Outcome.{Effect}
+use Rattle.acs_tree.specs.Outcome.{Action}
 use Rattle.acs_code.specs.Arms.{arm_of}
 use Rattle.acs_code.specs.Upward.{Does, filters_of}
 use Rattle.acs_code.specs.declared.instr.Instr.{Instr}
 use Rattle.acs_code.proofs.blocks.+statements.Given as goal
 
 abbrev pub invariant-branches-loop-left : goal.invariant-branches-loop-left
-invariant-branches-loop-left l = (l.left ≤ length l.arms) × ((other : Effect) (rest : List Instr) → l.end ≡ length rest → Does l.kind (filters_of l.lists) other rest l.initial.code → Does l.kind (filters_of l.lists) (first_of l.subject (map (arm_of l.kind l.lists) (drop l.left l.arms)) other) rest l.code)
+invariant-branches-loop-left l = (l.left ≤ length l.arms) × ((other : Action) (rest : List Instr) → l.end ≡ length rest → Does l.kind (filters_of l.lists) other rest l.initial.code → Does l.kind (filters_of l.lists) (first_of l.subject (map (arm_of l.kind l.lists) (drop l.left l.arms)) other) rest l.code)
 
 abbrev pub decreases-branches-loop-left : goal.decreases-branches-loop-left
 decreases-branches-loop-left l = l.left

@@ -3,13 +3,13 @@ use Rattle.acs_tree.specs.Outcome.{Outcome}
 use Rattle.acs_code.specs.Machine.{running}
 use Rattle.acs_run.specs.Steps.{with_lines}
 use Rattle.acs_run.proofs.StepLemmas.{at_end}
-use Rattle.acs_run.proofs.TraceLemmas.{trace_all}
+use Rattle.acs_run.proofs.KeptLemmas.{all_at_once, keeps_other_kinds}
 use Rattle.acs_run.proofs.machine.run.Goals as goal
 
 pub returns-in-Exited-clause-lines : goal.returns-in-Exited-clause-lines
 returns-in-Exited-clause-lines c =
     c.in-Exited.ensures.2 ∙ sym c.loop-place.invariant.1.written
-    ∙ trace_all c.args.code.now.kind c.args.slate.now (running c.args.code.now c.args.input.now c.args.values.now).lines c.lines-written.ensures.form c.requires
+    ∙ all_at_once c.args.code.now.kind c.args.slate.now (running c.args.code.now c.args.input.now c.args.values.now).lines c.lines-written.ensures.form c.requires
 
 pub returns-clause-ending : goal.returns-clause-ending
 returns-clause-ending c =
@@ -28,4 +28,10 @@ returns-clause-lines c =
     let long : length c.instrs-end.result.now ≡ length c.args.code.now.instrs = ap length c.instrs-end.ensures.instrs in
     let past = at_end c.args.code.now.kind c.args.code.now.filters c.args.input.now 0 c.loop-place.place c.args.code.now.instrs c.loop-place.values (omega (arith, c.loop-place-test.false, long)) in
     sym (ap (λ (o : Outcome). with_lines c.args.code.now.kind c.loop-place.slate o.lines) past) ∙ sym c.loop-place.invariant.1.written
-    ∙ trace_all c.args.code.now.kind c.args.slate.now (running c.args.code.now c.args.input.now c.args.values.now).lines c.lines-written.ensures.form c.requires
+    ∙ all_at_once c.args.code.now.kind c.args.slate.now (running c.args.code.now c.args.input.now c.args.values.now).lines c.lines-written.ensures.form c.requires
+
+pub returns-in-Exited-clause-other_kinds : goal.returns-in-Exited-clause-other_kinds
+returns-in-Exited-clause-other_kinds c = keeps_other_kinds _ _ (returns-in-Exited-clause-lines c)
+
+pub returns-clause-other_kinds : goal.returns-clause-other_kinds
+returns-clause-other_kinds c = keeps_other_kinds _ _ (returns-clause-lines c)

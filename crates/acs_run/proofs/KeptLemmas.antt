@@ -1,14 +1,15 @@
 -- Line by line is all at once.
-use Rattle.std.proofs.Common.{◌≡◌, ◌≤◌, ◌+◌, ◌-◌, ℕ, suc, Bool, true, false, List, [], ◌∷◌, ◌++◌, length, map, take, refl, sym, ap, ◌∙◌, ⊎_elim, append_assoc, arith}
-use Rattle.std.specs.Prelude.{◌^◌, min, if◌then◌else◌}
+use Rattle.std.proofs.Common.{◌≡◌, ◌≤◌, ◌+◌, ◌-◌, ℕ, suc, Bool, true, false, List, [], ◌∷◌, ◌++◌, length, map, take, refl, sym, subst, ap, ◌∙◌, ⊎_elim, append_assoc, arith}
+use Rattle.std.specs.Prelude.{◌^◌, cond, min, if◌then◌else◌}
 use Rattle.std.proofs.lemmas.Bool.{cases_lt, lt-ltb, le-ltb}
 use Rattle.std.proofs.lemmas.List.{append-nil, take_all}
+use Rattle.std.proofs.lemmas.List.Elements.{filter-append}
 use Rattle.acs_tree.specs.declared.kind.Kind.{Kind}
 use Rattle.acs_tree.specs.declared.kind.Kind.TheVariants.{DataClas, StorClas, MgmtClas, StorGrp}
 use Rattle.acs_tree.specs.declared.line.Line.{Line}
 use Rattle.acs_tree.specs.declared.more.More.{More}
-use Rattle.acs_tree.specs.Slates.{IsSlate, SlateLines, count_of, line, more_of, one_more, same_kind, with_more, with_trace}
-use Rattle.acs_tree.specs.Trace.{trace_of}
+use Rattle.acs_tree.specs.Slates.{IsSlate, KeepsOtherKinds, SlateLines, count_of, line, lines_of, more_of, one_more, same_kind, with_more, with_kept_lines}
+use Rattle.acs_tree.specs.KeptLines.{KeptLines, kept_lines_of}
 use Rattle.acs_run.specs.Steps.{with_lines}
 
 same_self : (kind : Kind) → same_kind kind kind ≡ true
@@ -87,8 +88,46 @@ keeps_all kind count kept more (text ∷ lines) h few none = ⊎_elim
     (cases_lt count 64)
 
 -- a run on a slate that has no line of its kind
-pub trace_all : (kind : Kind) (slate : SlateLines) (lines : List (List ℕ)) → IsSlate slate → count_of kind slate.lines ≡ 0 → with_lines kind slate lines ≡ with_trace kind (trace_of lines) slate
-trace_all kind slate lines is empty = keeps_all kind 0 slate.lines slate.more lines empty (omega arith) none
+pub all_at_once : (kind : Kind) (slate : SlateLines) (lines : List (List ℕ)) → IsSlate slate → count_of kind slate.lines ≡ 0 → with_lines kind slate lines ≡ with_kept_lines kind (kept_lines_of lines) slate
+all_at_once kind slate lines is empty = keeps_all kind 0 slate.lines slate.more lines empty (omega arith) none
   where
     none : more_of kind slate.more ≡ 0
     none = ⊎_elim (λ some. absurd (omega (arith, empty, is.full kind some))) (λ no_more. omega (arith, no_more)) (cases_lt 0 (more_of kind slate.more))
+
+-- the lines of the other kinds
+
+no_way : true ≡ false → ⊥
+no_way e = cc
+
+none_of_other : (kind other : Kind) (texts : List (List ℕ)) → same_kind kind other ≡ false → lines_of other (map (line kind) texts) ≡ []
+none_of_other kind other [] e = refl
+none_of_other kind other (text ∷ texts) e = ap (λ b. cond b (line kind text ∷ lines_of other (map (line kind) texts)) (lines_of other (map (line kind) texts))) e ∙ none_of_other kind other texts e
+
+more_of_other : (kind other : Kind) (n : ℕ) (more : More) → same_kind kind other ≡ false → more_of other (with_more kind n more) ≡ more_of other more
+more_of_other DataClas DataClas n more e = absurd (no_way e)
+more_of_other DataClas StorClas n more e = refl
+more_of_other DataClas MgmtClas n more e = refl
+more_of_other DataClas StorGrp n more e = refl
+more_of_other StorClas DataClas n more e = refl
+more_of_other StorClas StorClas n more e = absurd (no_way e)
+more_of_other StorClas MgmtClas n more e = refl
+more_of_other StorClas StorGrp n more e = refl
+more_of_other MgmtClas DataClas n more e = refl
+more_of_other MgmtClas StorClas n more e = refl
+more_of_other MgmtClas MgmtClas n more e = absurd (no_way e)
+more_of_other MgmtClas StorGrp n more e = refl
+more_of_other StorGrp DataClas n more e = refl
+more_of_other StorGrp StorClas n more e = refl
+more_of_other StorGrp MgmtClas n more e = refl
+more_of_other StorGrp StorGrp n more e = absurd (no_way e)
+
+kept_of_other : (kind : Kind) (lines : KeptLines) (slate : SlateLines) → KeepsOtherKinds kind slate (with_kept_lines kind lines slate)
+kept_of_other kind lines slate = record {
+  lines = λ other e.
+      filter-append (λ (l : Line). same_kind l.kind other) slate.lines (map (line kind) lines.kept) ∙ ap (λ more. lines_of other slate.lines ++ more) (none_of_other kind other lines.kept e)
+      ∙ append-nil (lines_of other slate.lines);
+  more = λ other e. more_of_other kind other lines.more slate.more e;
+}
+
+pub keeps_other_kinds : (kind : Kind) (lines : KeptLines) {before now : SlateLines} → now ≡ with_kept_lines kind lines before → KeepsOtherKinds kind before now
+keeps_other_kinds kind lines {before} e = subst (λ slate. KeepsOtherKinds kind before slate) (sym e) (kept_of_other kind lines before)
