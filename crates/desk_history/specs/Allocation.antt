@@ -7,34 +7,35 @@ use Rattle.sms_construct.specs.declared.volume.VolumeDef.{VolumeDef}
 use Rattle.sms_construct.specs.declared.reply.Reply.{Reply}
 use Rattle.sms_construct.specs.declared.reply.Reply.TheVariants.{Granted, NameInUse, NoConfig, NoVolume}
 use Rattle.desk_history.specs.Configuration.{Configuration, candidates_of, classes_of}
-use Rattle.desk_history.specs.State.{DeskState, is_catalogued, extents_on, catalogued}
-use Rattle.desk_history.specs.Gaps.{Gap, gaps_of}
-use Rattle.desk_history.specs.GapRule.{grant_of}
+use Rattle.desk_history.specs.State.{DeskState, is_catalogued, extents_on, pieces_in, catalogued}
+use Rattle.track_ledger.specs.declared.piece.Piece.{Piece}
+use Rattle.track_ledger.specs.Gaps.{gaps_of}
+use Rattle.track_ledger.specs.GapRule.{grant_of}
 use Rattle.desk_history.specs.Refusal.{Refuses}
 
 -- what the gap rule grants on a volume to a new data set that needs so many tracks
-abbrev pub grant_on : DeskState → VolumeDef → ℕ → Option (List Gap)
-grant_on s volume need = grant_of (gaps_of volume.tracks (extents_on volume.volser s.sets)) need 0
+abbrev pub grant_on : DeskState → VolumeDef → ℕ → Option (List Piece)
+grant_on s volume need = grant_of (gaps_of volume.tracks (pieces_in (extents_on volume.volser s.sets))) need 0
 
 -- each candidate is rejected, since the gap rule gives no grant on it
 abbrev pub AreRejected : DeskState → Configuration → Alloc → Type 0
 AreRejected s config alloc = AllByRecursion (λ volume. grant_on s volume alloc.space.primary ≡ None) (candidates_of config (classes_of config alloc).groups)
 
 -- the new data set with these pieces of the volume
-abbrev pub data_set_of : Configuration → Alloc → VolumeDef → List Gap → DataSet
+abbrev pub data_set_of : Configuration → Alloc → VolumeDef → List Piece → DataSet
 data_set_of config alloc volume pieces = record {
   dsn = alloc.dsn;
   dataclas = None;
   storclas = (classes_of config alloc).storclas;
   mgmtclas = None;
   group = volume.group;
-  extents = map (λ piece. record { volser = volume.volser; start = piece.start; length = piece.tracks }) pieces;
+  extents = map (λ piece. record { volser = volume.volser; start = piece.start; length = piece.length }) pieces;
 }
 
 -- a candidate grants the primary quantity by the gap rule, and the data set has the classes that the configuration gives
 pub record IsLawfulGrant (s : DeskState) (config : Configuration) (alloc : Alloc) (set : DataSet) : Type 0 where
   pub volume : VolumeDef
-  pub pieces : List Gap
+  pub pieces : List Piece
   pub candidate : Contains (candidates_of config (classes_of config alloc).groups) volume
   pub granted : grant_on s volume alloc.space.primary ≡ Some pieces
   pub set_is : set ≡ data_set_of config alloc volume pieces
