@@ -15,9 +15,9 @@ use Rattle.sms_construct.specs.declared.reply.Reply.TheVariants.{NoConfig, NameI
 use Rattle.sms_construct.specs.declared.fault.Fault.TheVariants.{NotBuilt}
 use Rattle.sms_construct.specs.declared.status.Status.TheVariants.{Enable}
 use Rattle.desk_history.specs.Configuration.{Configuration, candidates_of}
-use Rattle.desk_history.specs.State.{DeskState, extents_of, extents_on, tracks_of, catalogued, is_catalogued}
-use Rattle.desk_history.specs.Gaps.{gaps_of}
-use Rattle.desk_history.specs.GapRule.{grant_of}
+use Rattle.desk_history.specs.State.{DeskState, extents_of, extents_on, pieces_in, tracks_of, catalogued, is_catalogued}
+use Rattle.track_ledger.specs.Gaps.{gaps_of}
+use Rattle.track_ledger.specs.GapRule.{grant_of}
 use Rattle.desk_history.specs.DeckForm.{configuration_of}
 use Rattle.desk_history.specs.Refusal.{Refuses}
 use Rattle.desk_history.specs.Activation.{Activates, RefusesDeck}
@@ -51,7 +51,7 @@ stacked-grant s config alloc set stacked lawful =
     let same : lawful.volume ≡ volume = candidate-sole config volume lawful.volume stacked.sole lawful.candidate in
     let on : grant_on s volume (need_of alloc) ≡ Some lawful.pieces = rw same at lawful.granted in
     let all : extents_on volume.volser s.sets ≡ extents_of s.sets = stack-filter volume.volser 0 (extents_of s.sets) stacked.mark stacked.stack in
-    let granted : grant_of (gaps_of volume.tracks (extents_of s.sets)) (need_of alloc) 0 ≡ Some lawful.pieces = rw all at on in
+    let granted : grant_of (gaps_of volume.tracks (pieces_in (extents_of s.sets))) (need_of alloc) 0 ≡ Some lawful.pieces = rw all at on in
     let is = grant-is volume.volser (extents_of s.sets) stacked.mark volume.tracks (need_of alloc) lawful.pieces stacked.stack stacked.within granted in
     let extent : Extent = record { volser = volume.volser; start = stacked.mark; length = need_of alloc } in
     let extents : set.extents ≡ extent ∷ [] = rw (lawful.set_is, same, is.0) refl in

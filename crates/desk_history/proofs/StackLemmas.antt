@@ -6,8 +6,9 @@ use Rattle.std.proofs.lemmas.Slice.Eq.{bytes_eq-Decides}
 use Rattle.std.proofs.lemmas.List.Sums.{sum_by-append}
 use Rattle.std.proofs.lemmas.List.Elements.{filter-append}
 use Rattle.sms_construct.specs.declared.extent.Extent.{Extent}
-use Rattle.desk_history.specs.State.{tracks_of}
-use Rattle.desk_history.specs.Gaps.{Gap, tracks_from, is_free, free_tracks, runs_of, gaps_of}
+use Rattle.desk_history.specs.State.{pieces_in, tracks_of}
+use Rattle.track_ledger.specs.declared.piece.Piece.{Piece}
+use Rattle.track_ledger.specs.Gaps.{tracks_from, is_free, free_tracks, runs_of, gaps_of}
 use Rattle.desk_history.specs.Stack.{IsStack}
 
 -- the mark is the sum of the tracks
@@ -53,14 +54,14 @@ second-false : (a b : Bool) → b ≡ false → (a && b) ≡ false
 second-false true b off = off
 second-false false b off = refl
 
-free-below : (volser : List ℕ) (track : ℕ) (es : List Extent) (mark t : ℕ) → IsStack volser track es mark → t < track → is_free es t ≡ true
+free-below : (volser : List ℕ) (track : ℕ) (es : List Extent) (mark t : ℕ) → IsStack volser track es mark → t < track → is_free (pieces_in es) t ≡ true
 free-below volser track [] mark t stack less = refl
 free-below volser track (e ∷ es) mark t stack less =
     let start : e.start ≡ track = stack.1 in
     both-true _ _ (left-before e.start e.length t (omega arith)) (free-below volser (track + e.length) es mark t stack.2 (omega arith))
 
 -- the tracks above the mark are free
-free-above : (volser : List ℕ) (track : ℕ) (es : List Extent) (mark t : ℕ) → IsStack volser track es mark → mark ≤ t → is_free es t ≡ true
+free-above : (volser : List ℕ) (track : ℕ) (es : List Extent) (mark t : ℕ) → IsStack volser track es mark → mark ≤ t → is_free (pieces_in es) t ≡ true
 free-above volser track [] mark t stack le = refl
 free-above volser track (e ∷ es) mark t stack le =
     let start : e.start ≡ track = stack.1 in
@@ -69,26 +70,26 @@ free-above volser track (e ∷ es) mark t stack le =
 
 -- those below it are not
 held-at : (volser : List ℕ) (track : ℕ) (e : Extent) (es : List Extent) (mark t : ℕ) (inside : Bool) → inside ≡ nat_lt t (track + e.length)
-    → e.start ≡ track → track ≤ t → (track + e.length ≤ t → is_free es t ≡ false) → is_free (e ∷ es) t ≡ false
+    → e.start ≡ track → track ≤ t → (track + e.length ≤ t → is_free (pieces_in es) t ≡ false) → is_free (pieces_in (e ∷ es)) t ≡ false
 held-at volser track e es mark t true is start le rest =
     let less : t < track + e.length = grind (arith, nat_tests) in
     rw (held-inside e.start e.length t (omega arith) (omega arith)) refl
 held-at volser track e es mark t false is start le rest =
     let past : track + e.length ≤ t = grind (arith, nat_tests) in second-false _ _ (rest past)
 
-held-below : (volser : List ℕ) (track : ℕ) (es : List Extent) (mark t : ℕ) → IsStack volser track es mark → track ≤ t → t < mark → is_free es t ≡ false
+held-below : (volser : List ℕ) (track : ℕ) (es : List Extent) (mark t : ℕ) → IsStack volser track es mark → track ≤ t → t < mark → is_free (pieces_in es) t ≡ false
 held-below volser track [] mark t stack le less = absurd (let same : mark ≡ track = stack in omega arith)
 held-below volser track (e ∷ es) mark t stack le less =
     held-at volser track e es mark t (nat_lt t (track + e.length)) refl stack.1 le (λ past. held-below volser (track + e.length) es mark t stack.2 past less)
 
 -- no track below the mark is free
-none-free : (volser : List ℕ) (es : List Extent) (mark track count : ℕ) → IsStack volser 0 es mark → track + count ≤ mark → filter (is_free es) (tracks_from track count) ≡ []
+none-free : (volser : List ℕ) (es : List Extent) (mark track count : ℕ) → IsStack volser 0 es mark → track + count ≤ mark → filter (is_free (pieces_in es)) (tracks_from track count) ≡ []
 none-free volser es mark track zero stack le = refl
 none-free volser es mark track (suc count) stack le =
     rw (held-below volser 0 es mark track stack (omega arith) (omega arith)) (none-free volser es mark (track + 1) count stack (omega arith))
 
 -- all tracks from the mark on are
-all-free : (volser : List ℕ) (es : List Extent) (mark track count : ℕ) → IsStack volser 0 es mark → mark ≤ track → filter (is_free es) (tracks_from track count) ≡ tracks_from track count
+all-free : (volser : List ℕ) (es : List Extent) (mark track count : ℕ) → IsStack volser 0 es mark → mark ≤ track → filter (is_free (pieces_in es)) (tracks_from track count) ≡ tracks_from track count
 all-free volser es mark track zero stack le = refl
 all-free volser es mark track (suc count) stack le =
     rw (free-above volser 0 es mark track stack le) (ap (λ ts. track ∷ ts) (all-free volser es mark (track + 1) count stack (omega arith)))
@@ -101,16 +102,16 @@ tracks_from-add track (suc m) n =
     rw more (ap (λ ts. track ∷ ts) (rw (← shift) (tracks_from-add (track + 1) m n)))
 
 free_tracks-stack : (volser : List ℕ) (es : List Extent) (mark capacity : ℕ) → IsStack volser 0 es mark → mark ≤ capacity
-    → free_tracks capacity es ≡ tracks_from mark (capacity - mark)
+    → free_tracks capacity (pieces_in es) ≡ tracks_from mark (capacity - mark)
 free_tracks-stack volser es mark capacity stack le =
     let whole : capacity ≡ mark + (capacity - mark) = omega arith in
     let cut : tracks_from 0 capacity ≡ tracks_from 0 mark ++ tracks_from mark (capacity - mark) =
     ap (tracks_from 0) whole ∙ tracks_from-add 0 mark (capacity - mark) ∙ ap (λ t. tracks_from 0 mark ++ tracks_from t (capacity - mark)) (zero-add mark) in
-    ap (filter (is_free es)) cut ∙ filter-append (is_free es) (tracks_from 0 mark) _
+    ap (filter (is_free (pieces_in es))) cut ∙ filter-append (is_free (pieces_in es)) (tracks_from 0 mark) _
     ∙ rw (none-free volser es mark 0 mark stack (omega arith)) (all-free volser es mark mark (capacity - mark) stack (omega arith))
 
-abbrev pub gap_from : ℕ → ℕ → Gap
-gap_from start tracks = record { start = start; tracks = tracks }
+abbrev pub gap_from : ℕ → ℕ → Piece
+gap_from start tracks = record { start = start; length = tracks }
 
 -- neighbouring tracks are one run
 runs_of-tracks : (track count : ℕ) → runs_of (tracks_from track (suc count)) ≡ gap_from track (suc count) ∷ []
@@ -121,13 +122,13 @@ runs_of-tracks track (suc count) =
     rw (runs_of-tracks (track + 1) count, meets, more) refl
 
 -- the gaps of a volume with a stack: what lies above the mark
-pub gaps_of-full : (volser : List ℕ) (es : List Extent) (mark : ℕ) → IsStack volser 0 es mark → gaps_of mark es ≡ []
+pub gaps_of-full : (volser : List ℕ) (es : List Extent) (mark : ℕ) → IsStack volser 0 es mark → gaps_of mark (pieces_in es) ≡ []
 gaps_of-full volser es mark stack =
     let none : mark - mark ≡ 0 = omega arith in
     ap runs_of (free_tracks-stack volser es mark mark stack (omega arith) ∙ ap (tracks_from mark) none)
 
 pub gaps_of-stack : (volser : List ℕ) (es : List Extent) (mark capacity rest : ℕ) → IsStack volser 0 es mark → capacity ≡ mark + suc rest
-    → gaps_of capacity es ≡ gap_from mark (suc rest) ∷ []
+    → gaps_of capacity (pieces_in es) ≡ gap_from mark (suc rest) ∷ []
 gaps_of-stack volser es mark capacity rest stack is =
     let left : capacity - mark ≡ suc rest = omega arith in
     ap runs_of (free_tracks-stack volser es mark capacity stack (omega arith) ∙ ap (tracks_from mark) left) ∙ runs_of-tracks mark rest

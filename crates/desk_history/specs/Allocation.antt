@@ -13,9 +13,10 @@ use Rattle.sms_construct.specs.declared.trace.Trace.{Trace}
 use Rattle.sms_construct.specs.declared.unit.Unit.{Unit}
 use Rattle.sms_construct.specs.declared.unit.Unit.TheVariants.{Trk, Cyl}
 use Rattle.desk_history.specs.Configuration.{Configuration, candidates_of, classes_of}
-use Rattle.desk_history.specs.State.{DeskState, is_catalogued, extents_on, catalogued}
-use Rattle.desk_history.specs.Gaps.{Gap, gaps_of}
-use Rattle.desk_history.specs.GapRule.{grant_of}
+use Rattle.desk_history.specs.State.{DeskState, is_catalogued, extents_on, pieces_in, catalogued}
+use Rattle.track_ledger.specs.declared.piece.Piece.{Piece}
+use Rattle.track_ledger.specs.Gaps.{gaps_of}
+use Rattle.track_ledger.specs.GapRule.{grant_of}
 use Rattle.desk_history.specs.Refusal.{Refuses}
 
 -- the unit of tracks
@@ -56,8 +57,8 @@ abbrev pub no_trace : Trace
 no_trace = record { lines = []; more = record { dataclas = 0; storclas = 0; mgmtclas = 0; storgrp = 0 } }
 
 -- what the gap rule grants on a volume to a new data set that needs so many tracks
-abbrev pub grant_on : DeskState → VolumeDef → ℕ → Option (List Gap)
-grant_on s volume need = grant_of (gaps_of volume.tracks (extents_on volume.volser s.sets)) need 0
+abbrev pub grant_on : DeskState → VolumeDef → ℕ → Option (List Piece)
+grant_on s volume need = grant_of (gaps_of volume.tracks (pieces_in (extents_on volume.volser s.sets))) need 0
 
 -- each candidate is rejected, since the gap rule gives no grant on it
 abbrev pub AreRejected : DeskState → Configuration → Alloc → Type 0
@@ -81,14 +82,14 @@ new_data_set alloc storclas group extents = record {
 }
 
 -- the new data set with these pieces of the volume
-abbrev pub data_set_of : Configuration → Alloc → VolumeDef → List Gap → DataSet
+abbrev pub data_set_of : Configuration → Alloc → VolumeDef → List Piece → DataSet
 data_set_of config alloc volume pieces =
-    new_data_set alloc (classes_of config alloc).storclas volume.group (map (λ piece. record { volser = volume.volser; start = piece.start; length = piece.tracks }) pieces)
+    new_data_set alloc (classes_of config alloc).storclas volume.group (map (λ piece. record { volser = volume.volser; start = piece.start; length = piece.length }) pieces)
 
 -- a candidate grants the primary quantity by the gap rule, and the data set has the classes that the configuration gives
 pub record IsLawfulGrant (s : DeskState) (config : Configuration) (alloc : Alloc) (set : DataSet) : Type 0 where
   pub volume : VolumeDef
-  pub pieces : List Gap
+  pub pieces : List Piece
   pub candidate : Contains (candidates_of config (classes_of config alloc).groups) volume
   pub granted : grant_on s volume (need_of alloc) ≡ Some pieces
   pub set_is : set ≡ data_set_of config alloc volume pieces

@@ -1,7 +1,5 @@
 pub mod Configuration
 pub mod State
-pub mod Gaps
-pub mod GapRule
 pub mod DeckForm
 pub mod Refusal
 pub mod Activation
@@ -11,6 +9,8 @@ pub mod History
 pub mod Tracks
 pub mod Stack
 pub mod Grants
+pub use Rattle.track_ledger.specs.Gaps
+pub use Rattle.track_ledger.specs.GapRule
 pub use Rattle.desk_common.specs.Words
 pub use Rattle.dsn_mask.specs.Name
 pub use Rattle.sms_construct.specs.Path

@@ -1,8 +1,9 @@
 -- What stands between two entries of the journal. There are no totals: tracks are counted over the extents.
-use Rattle.std.specs.Prelude.{ℕ, ◌+◌, Bool, List, [], ◌∷◌, ◌++◌, Option, None, Some, bytes_eq, filter, flat_map, sum_by}
+use Rattle.std.specs.Prelude.{ℕ, ◌+◌, Bool, List, [], ◌∷◌, ◌++◌, Option, None, Some, bytes_eq, filter, flat_map, map, sum_by}
 use Rattle.std.specs.List.{list_any}
 use Rattle.sms_construct.specs.declared.extent.Extent.{Extent}
 use Rattle.sms_construct.specs.declared.data_set.DataSet.{DataSet}
+use Rattle.track_ledger.specs.declared.piece.Piece.{Piece}
 use Rattle.desk_history.specs.Configuration.{Configuration, StatusRow, deck_statuses}
 
 -- the state of the desk
@@ -31,6 +32,10 @@ extents_of sets = flat_map (λ set. set.extents) sets
 -- the extents that lie on a volume
 abbrev pub extents_on : List ℕ → List DataSet → List Extent
 extents_on volser sets = filter (λ extent. bytes_eq extent.volser volser) (extents_of sets)
+
+-- extents as pieces of their volume
+abbrev pub pieces_in : List Extent → List Piece
+pieces_in extents = map (λ extent. record { start = extent.start; length = extent.length }) extents
 
 -- the tracks that some extents hold together
 abbrev pub tracks_of : List Extent → ℕ
