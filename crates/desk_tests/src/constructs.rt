@@ -57,24 +57,31 @@ fn allocation(alloc: Global, part: Part) -> Result<Op, Fail> {
     Ok(Op::Alloc(Shared::new(alloc, allocation)?))
 }
 
+/// Compares an ALLOC that has this part more or another with the plain one.
+fn compare_part(rt: &impl Abort, alloc: Global, plain: &Op, part: Part) -> Result<(), Fail> {
+    let other = allocation(alloc, part)?;
+    assert!(rt; !plain.equals(&other));
+    assert!(rt; !other.equals(plain));
+    assert!(rt; other.copy()?.equals(&other));
+    Ok(())
+}
+
 #[test]
 fn ops_are_equal_where_all_their_fields_are(rt: HostRuntime) -> Result<(), Fail> {
     let alloc = rt.alloc();
     let plain = allocation(alloc, Part::None)?;
     assert!(rt; plain.equals(&allocation(alloc, Part::None)?));
     assert!(rt; plain.copy()?.equals(&plain));
-    for part in [
-        Part::Account,
-        Part::DataClass,
-        Part::Cylinders,
-        Part::Volumes,
-        Part::Day,
-    ] {
-        let other = allocation(alloc, part)?;
-        assert!(rt; !plain.equals(&other));
-        assert!(rt; !other.equals(&plain));
-        assert!(rt; other.copy()?.equals(&other));
-    }
+    compare_part(&rt, alloc, &plain, Part::Account)?;
+    compare_part(&rt, alloc, &plain, Part::DataClass)?;
+    compare_part(&rt, alloc, &plain, Part::Cylinders)?;
+    compare_part(&rt, alloc, &plain, Part::Volumes)?;
+    compare_part(&rt, alloc, &plain, Part::Day)?;
+    compare_decks(&rt, alloc, &plain)
+}
+
+/// Compares two decks, and one of them with an ALLOC.
+fn compare_decks(rt: &impl Abort, alloc: Global, plain: &Op) -> Result<(), Fail> {
     let deck = Op::Activate(Shared::new(alloc, Items::from_slice(alloc, b"version = 1")?)?);
     let other = Op::Activate(Shared::new(alloc, Items::from_slice(alloc, b"version = 2")?)?);
     assert!(rt; !plain.equals(&deck));
@@ -138,16 +145,21 @@ fn an_action_gives_its_status(rt: HostRuntime) -> Result<(), Fail> {
     ] {
         assert_eq!(rt; action.status(), status);
     }
-    for (reply, fate) in [
-        (Reply::JournalFull, Fate::NoEntry),
-        (Reply::Memory, Fate::NoEntry),
-        (Reply::Reused { first: 1 }, Fate::Unkept),
-        (Reply::Below { floor: 1 }, Fate::Unkept),
-        (Reply::KeeperFault, Fate::Unkept),
-        (Reply::NotFound, Fate::Kept),
-    ] {
-        assert_eq!(rt; reply.fate(), fate);
-    }
+    Ok(())
+}
+
+fn compare_fate(rt: &impl Abort, reply: Reply, fate: Fate) {
+    assert_eq!(rt; reply.fate(), fate);
+}
+
+#[test]
+fn a_reply_has_its_fate(rt: HostRuntime) -> Result<(), Fail> {
+    compare_fate(&rt, Reply::JournalFull, Fate::NoEntry);
+    compare_fate(&rt, Reply::Memory, Fate::NoEntry);
+    compare_fate(&rt, Reply::Reused { first: 1 }, Fate::Unkept);
+    compare_fate(&rt, Reply::Below { floor: 1 }, Fate::Unkept);
+    compare_fate(&rt, Reply::KeeperFault, Fate::Unkept);
+    compare_fate(&rt, Reply::NotFound, Fate::Kept);
     Ok(())
 }
 

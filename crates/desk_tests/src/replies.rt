@@ -103,170 +103,234 @@ fn compare(rt: &impl Abort, alloc: Global, reply: Reply, wanted: &str) -> Result
 
 const EXTENTS: &str = "\n  EXTENT VOL001 0 10\n  EXTENT VOL001 25 4294967295";
 
+/// Compares the text of a grant to a data set with this management class, which no routine wrote of.
+fn compare_grant(
+    rt: &impl Abort,
+    alloc: Global,
+    management: Option<Name>,
+    wanted: &str,
+) -> Result<(), Fail> {
+    let set = data_set(alloc, management)?;
+    let trace = no_trace(alloc)?;
+    let wanted = format!(in alloc; "{wanted}{EXTENTS}")?;
+    compare(rt, alloc, Reply::Granted { set, trace }, wanted.as_str())
+}
+
+/// Compares the text of an extension.
+fn compare_extension(rt: &impl Abort, alloc: Global) -> Result<(), Fail> {
+    let added = Shared::new(alloc, extents(alloc)?)?;
+    let wanted = format!(in alloc; "A02 EXTENDED{EXTENTS}")?;
+    compare(rt, alloc, Reply::Extended { added }, wanted.as_str())
+}
+
+/// Compares the text of a data set that is shown.
+fn compare_shown_set(rt: &impl Abort, alloc: Global) -> Result<(), Fail> {
+    let set = data_set(alloc, None)?;
+    let wanted = format!(in alloc; "A06 SET PAY.MASTER\n  CLASS - SC1 - SG1\n  USED 7{EXTENTS}")?;
+    compare(rt, alloc, Reply::Shown(View::Set(set)), wanted.as_str())
+}
+
 #[test]
 fn a_data_set_is_told_with_its_classes_and_extents(rt: HostRuntime) -> Result<(), Fail> {
     let alloc = rt.alloc();
-    for (management, trace, wanted) in [
-        (None, no_trace(alloc)?, "A00 GRANTED\n  CLASS - SC1 - SG1"),
-        (
-            Some(name(b"MC#")?),
-            no_trace(alloc)?,
-            "A00 GRANTED\n  CLASS - SC1 MC# SG1",
-        ),
-    ] {
-        let set = data_set(alloc, management)?;
-        let wanted = format!(in alloc; "{wanted}{EXTENTS}")?;
-        compare(&rt, alloc, Reply::Granted { set, trace }, wanted.as_str())?;
+    compare_grant(&rt, alloc, None, "A00 GRANTED\n  CLASS - SC1 - SG1")?;
+    let class = Name::new(b"MC#");
+    compare_grant(&rt, alloc, class, "A00 GRANTED\n  CLASS - SC1 MC# SG1")?;
+    compare_extension(&rt, alloc)?;
+    compare_shown_set(&rt, alloc)
+}
+
+const LINES: &str = "  WRITE DATACLAS NO JOB1\n  WRITE STORCLAS HLQ PAY\n  WRITE STORCLAS ";
+
+const COUNTS: &str = "  MORE STORCLAS 4294967295\n  MORE STORGRP 1";
+
+/// A trace with these lines, or with these counts.
+fn trace_of(alloc: Global, has_lines: bool) -> Result<Shared<Trace>, Fail> {
+    if has_lines {
+        full_trace(alloc)
+    } else {
+        counted_trace(alloc)
     }
-    let added = Shared::new(alloc, extents(alloc)?)?;
-    let wanted = format!(in alloc; "A02 EXTENDED{EXTENTS}")?;
-    compare(&rt, alloc, Reply::Extended { added }, wanted.as_str())?;
-    let shown = Reply::Shown(View::Set(data_set(alloc, None)?));
-    let wanted = format!(in alloc; "A06 SET PAY.MASTER\n  CLASS - SC1 - SG1\n  USED 7{EXTENTS}")?;
-    compare(&rt, alloc, shown, wanted.as_str())
+}
+
+/// Compares the text of a reply, which has these lines of a trace behind it.
+fn compare_traced(
+    rt: &impl Abort,
+    alloc: Global,
+    reply: Reply,
+    first: &str,
+    lines: &str,
+) -> Result<(), Fail> {
+    let wanted = format!(in alloc; "{first}\n{lines}")?;
+    compare(rt, alloc, reply, wanted.as_str())
+}
+
+/// Compares the texts of the replies to failed runs of routines.
+fn compare_failed_runs(rt: &impl Abort, alloc: Global) -> Result<(), Fail> {
+    let kind = Kind::DataClas;
+    let code = 65_535;
+    let trace = trace_of(alloc, true)?;
+    let reply = Reply::Exit { kind, code, trace };
+    compare_traced(rt, alloc, reply, "R14 EXIT DATACLAS 65535", LINES)?;
+    let kind = Kind::MgmtClas;
+    let name = Short::new(b"SC9").ok_or("class")?;
+    let trace = trace_of(alloc, false)?;
+    let reply = Reply::UnknownClass { kind, name, trace };
+    compare_traced(rt, alloc, reply, "R15 UNKNOWN CLASS MGMTCLAS SC9", COUNTS)
 }
 
 #[test]
 fn a_trace_is_told_kind_by_kind(rt: HostRuntime) -> Result<(), Fail> {
     let alloc = rt.alloc();
-    let lines = "  WRITE DATACLAS NO JOB1\n  WRITE STORCLAS HLQ PAY\n  WRITE STORCLAS ";
-    let counts = "  MORE STORCLAS 4294967295\n  MORE STORGRP 1";
-    for (reply, first, further) in [
-        (
-            Reply::NotManaged {
-                trace: full_trace(alloc)?,
-            },
-            "A01 NOT MANAGED",
-            lines,
-        ),
-        (
-            Reply::Exit {
-                kind: Kind::DataClas,
-                code: 65_535,
-                trace: full_trace(alloc)?,
-            },
-            "R14 EXIT DATACLAS 65535",
-            lines,
-        ),
-        (
-            Reply::UnknownClass {
-                kind: Kind::MgmtClas,
-                name: Short::new(b"SC9").ok_or("class")?,
-                trace: counted_trace(alloc)?,
-            },
-            "R15 UNKNOWN CLASS MGMTCLAS SC9",
-            counts,
-        ),
-        (
-            Reply::NoQuantity {
-                trace: counted_trace(alloc)?,
-            },
-            "R16 NO QUANTITY",
-            counts,
-        ),
-        (
-            Reply::NoGroup {
-                trace: full_trace(alloc)?,
-            },
-            "R17 NO STORAGE GROUP",
-            lines,
-        ),
-        (
-            Reply::NoVolume {
-                trace: counted_trace(alloc)?,
-            },
-            "R18 NO VOLUME",
-            counts,
-        ),
-    ] {
-        let wanted = format!(in alloc; "{first}\n{further}")?;
-        compare(&rt, alloc, reply, wanted.as_str())?;
-    }
-    Ok(())
+    let trace = trace_of(alloc, true)?;
+    compare_traced(
+        &rt,
+        alloc,
+        Reply::NotManaged { trace },
+        "A01 NOT MANAGED",
+        LINES,
+    )?;
+    compare_failed_runs(&rt, alloc)?;
+    let trace = trace_of(alloc, false)?;
+    compare_traced(
+        &rt,
+        alloc,
+        Reply::NoQuantity { trace },
+        "R16 NO QUANTITY",
+        COUNTS,
+    )?;
+    let trace = trace_of(alloc, true)?;
+    compare_traced(
+        &rt,
+        alloc,
+        Reply::NoGroup { trace },
+        "R17 NO STORAGE GROUP",
+        LINES,
+    )?;
+    let trace = trace_of(alloc, false)?;
+    compare_traced(
+        &rt,
+        alloc,
+        Reply::NoVolume { trace },
+        "R18 NO VOLUME",
+        COUNTS,
+    )?;
+    let trace = no_trace(alloc)?;
+    compare(&rt, alloc, Reply::NoVolume { trace }, "R18 NO VOLUME")
 }
 
 #[test]
-fn each_other_reply_has_its_line(rt: HostRuntime) -> Result<(), Fail> {
+fn a_status_is_told_by_its_word(rt: HostRuntime) -> Result<(), Fail> {
+    let alloc = rt.alloc();
+    let target = Target::Volume(volser()?);
+    for (status, wanted) in [
+        (Status::Enable, "A05 VARIED VOL001 ENABLE"),
+        (Status::NotCon, "A05 VARIED VOL001 NOTCON"),
+        (Status::DisAll, "A05 VARIED VOL001 DISALL"),
+        (Status::DisNew, "A05 VARIED VOL001 DISNEW"),
+        (Status::QuiAll, "A05 VARIED VOL001 QUIALL"),
+        (Status::QuiNew, "A05 VARIED VOL001 QUINEW"),
+    ] {
+        compare(&rt, alloc, Reply::Varied { target, status }, wanted)?;
+    }
+    let target = Target::Group(name(b"SG1")?);
+    let status = Status::Enable;
+    compare(
+        &rt,
+        alloc,
+        Reply::Varied { target, status },
+        "A05 VARIED SG1 ENABLE",
+    )
+}
+
+#[test]
+fn a_group_and_a_volume_are_shown_in_one_line(rt: HostRuntime) -> Result<(), Fail> {
     let alloc = rt.alloc();
     let group = name(b"SG1")?;
-    let volser = volser()?;
-    let status = Status::QuiNew;
-    let capacity = 1_006_387_200;
     let row = VolRow {
-        volser,
+        volser: volser()?,
         group,
         status: Status::Enable,
         capacity: 31,
         free: 2,
-        extents: 2,
+        extents: 3,
     };
-    let whole = View::Group {
+    let shown = Reply::Shown(View::Volume(row));
+    compare(&rt, alloc, shown, "A06 VOLUME VOL001 SG1 ENABLE 31 2 3")?;
+    let shown = Reply::Shown(View::Group {
         name: group,
-        status,
+        status: Status::QuiNew,
         volumes: 256,
-        capacity,
+        capacity: 1_006_387_200,
         free: 9,
-    };
-    for (reply, wanted) in [
-        (Reply::Deleted { tracks: 10 }, "A03 DELETED 10"),
-        (Reply::Activated { count: 200 }, "A04 ACTIVATED 200"),
-        (
-            Reply::Varied {
-                target: Target::Group(group),
-                status,
-            },
-            "A05 VARIED SG1 QUINEW",
-        ),
-        (
-            Reply::Varied {
-                target: Target::Volume(volser),
-                status: Status::DisNew,
-            },
-            "A05 VARIED VOL001 DISNEW",
-        ),
-        (
-            Reply::Shown(whole),
-            "A06 STORGRP SG1 QUINEW 256 1006387200 9",
-        ),
-        (
-            Reply::Shown(View::Volume(row)),
-            "A06 VOLUME VOL001 SG1 ENABLE 31 2 2",
-        ),
-        (
-            Reply::Purged {
-                job: name(b"JOB1")?,
-                floor: 6,
-            },
-            "A07 PURGED JOB1 6",
-        ),
-        (Reply::Noted, "A08 NOTED"),
-        (Reply::Released { tracks: 0 }, "A09 RELEASED 0"),
-        (Reply::Reused { first: 4 }, "R10 REUSED NUMBER 4"),
-        (Reply::Below { floor: 6 }, "R11 PURGED NUMBER 6"),
-        (Reply::NoConfig, "R12 NO CONFIGURATION"),
-        (Reply::NameInUse, "R13 NAME IN USE"),
-        (
-            Reply::NoVolume {
-                trace: no_trace(alloc)?,
-            },
-            "R18 NO VOLUME",
-        ),
-        (Reply::NotFound, "R19 NOT FOUND"),
-        (
-            Reply::NoExtend(WhyNoExtend::Secondary),
-            "R20 NO EXTEND SECONDARY",
-        ),
-        (Reply::NoExtend(WhyNoExtend::Room), "R20 NO EXTEND ROOM"),
-        (Reply::VolumeInUse(volser), "R22 VOLUME IN USE VOL001"),
-        (Reply::UnknownName, "R23 UNKNOWN NAME"),
-        (Reply::JournalFull, "R24 JOURNAL FULL"),
-        (Reply::PastGrant { granted: 3 }, "R25 PAST GRANT 3"),
-        (Reply::KeeperFault, "F30 KEEPER"),
-        (Reply::Memory, "M31 MEMORY"),
-    ] {
-        compare(&rt, alloc, reply, wanted)?;
-    }
-    Ok(())
+    });
+    compare(&rt, alloc, shown, "A06 STORGRP SG1 QUINEW 256 1006387200 9")
+}
+
+#[test]
+fn each_reply_to_an_operator_has_its_line(rt: HostRuntime) -> Result<(), Fail> {
+    let alloc = rt.alloc();
+    let job = name(b"JOB1")?;
+    let volser = volser()?;
+    compare(
+        &rt,
+        alloc,
+        Reply::Activated { count: 200 },
+        "A04 ACTIVATED 200",
+    )?;
+    compare(
+        &rt,
+        alloc,
+        Reply::Purged { job, floor: 6 },
+        "A07 PURGED JOB1 6",
+    )?;
+    compare(&rt, alloc, Reply::Below { floor: 6 }, "R11 PURGED NUMBER 6")?;
+    compare(
+        &rt,
+        alloc,
+        Reply::VolumeInUse(volser),
+        "R22 VOLUME IN USE VOL001",
+    )?;
+    compare(&rt, alloc, Reply::UnknownName, "R23 UNKNOWN NAME")?;
+    compare(&rt, alloc, Reply::JournalFull, "R24 JOURNAL FULL")?;
+    compare(&rt, alloc, Reply::KeeperFault, "F30 KEEPER")?;
+    compare(&rt, alloc, Reply::Memory, "M31 MEMORY")
+}
+
+#[test]
+fn each_reply_of_a_data_set_has_its_line(rt: HostRuntime) -> Result<(), Fail> {
+    let alloc = rt.alloc();
+    let secondary = WhyNoExtend::Secondary;
+    compare(&rt, alloc, Reply::Deleted { tracks: 10 }, "A03 DELETED 10")?;
+    compare(&rt, alloc, Reply::Noted, "A08 NOTED")?;
+    compare(&rt, alloc, Reply::Released { tracks: 0 }, "A09 RELEASED 0")?;
+    compare(
+        &rt,
+        alloc,
+        Reply::Reused { first: 4 },
+        "R10 REUSED NUMBER 4",
+    )?;
+    compare(&rt, alloc, Reply::NoConfig, "R12 NO CONFIGURATION")?;
+    compare(&rt, alloc, Reply::NameInUse, "R13 NAME IN USE")?;
+    compare(&rt, alloc, Reply::NotFound, "R19 NOT FOUND")?;
+    compare(
+        &rt,
+        alloc,
+        Reply::NoExtend(secondary),
+        "R20 NO EXTEND SECONDARY",
+    )?;
+    compare(
+        &rt,
+        alloc,
+        Reply::NoExtend(WhyNoExtend::Room),
+        "R20 NO EXTEND ROOM",
+    )?;
+    compare(
+        &rt,
+        alloc,
+        Reply::PastGrant { granted: 3 },
+        "R25 PAST GRANT 3",
+    )
 }
 
 #[test]
@@ -278,32 +342,39 @@ fn each_fault_of_a_deck_shows_what_it_is_about(rt: HostRuntime) -> Result<(), Fa
         number: 1,
         at: 4,
     };
+    let class = name(b"SC9")?;
+    let volser = volser()?;
     for (fault, wanted) in [
-        (Fault::NotBuilt(Path::new(b"active")), "K0 active"),
-        (Fault::NotToml, "K1"),
+        (Fault::NotBuilt(Path::new(b"active")), "R21 DECK K0 active"),
+        (Fault::NotToml, "R21 DECK K1"),
         (
             Fault::UnknownKey(path.below(b"color")),
-            "K2 storgroup.SG1.color",
+            "R21 DECK K2 storgroup.SG1.color",
         ),
         (
             Fault::Missing(path.below(b"device")),
-            "K3 storgroup.SG1.device",
+            "R21 DECK K3 storgroup.SG1.device",
         ),
         (
             Fault::BadValue(path.below(b"high")),
-            "K4 storgroup.SG1.high",
+            "R21 DECK K4 storgroup.SG1.high",
         ),
-        (Fault::BadName(path.below(b"A B")), "K5 storgroup.SG1.A?B"),
-        (Fault::TwoGroups(volser()?), "K6 VOL001"),
-        (Fault::Routine(Kind::StorClas, fault), "K7 STORCLAS P1 4"),
         (
-            Fault::Unassigned(Kind::StorClas, name(b"SC9")?),
-            "K8 STORCLAS SC9",
+            Fault::BadName(path.below(b"A B")),
+            "R21 DECK K5 storgroup.SG1.A?B",
         ),
-        (Fault::TooMany(Path::top().below(b"volume")), "K9 volume"),
+        (Fault::TwoGroups(volser), "R21 DECK K6 VOL001"),
+        (
+            Fault::Routine(Kind::StorClas, fault),
+            "R21 DECK K7 STORCLAS P1 4",
+        ),
+        (
+            Fault::Unassigned(Kind::StorClas, class),
+            "R21 DECK K8 STORCLAS SC9",
+        ),
+        (Fault::TooMany(path), "R21 DECK K9 storgroup.SG1"),
     ] {
-        let wanted = format!(in alloc; "R21 DECK {wanted}")?;
-        compare(&rt, alloc, Reply::Deck(fault), wanted.as_str())?;
+        compare(&rt, alloc, Reply::Deck(fault), wanted)?;
     }
     Ok(())
 }
