@@ -1,13 +1,12 @@
 -- What the gap rule grants of a ledger's gaps can be installed.
-use Rattle.std.proofs.Common.{◌≡◌, ◌<◌, ℕ, ◌+◌, cond, List, [], ◌∷◌, ◌++◌, sym, refl, arith}
-use Rattle.std.specs.Prelude.{Option, None, Some, IfSome}
-use Rattle.std.proofs.lemmas.List.Sums.{sum_by-cons}
+use Rattle.std.proofs.Common.{◌≡◌, ◌<◌, ℕ, ◌+◌, List, [], ◌∷◌, ◌++◌, refl, arith}
+use Rattle.std.specs.Prelude.{Some}
 use Rattle.track_ledger.specs.declared.owned_extent.OwnedExtent.{OwnedExtent}
 use Rattle.track_ledger.specs.declared.need.Need.{Need}
 use Rattle.sms_construct.specs.declared.unit.Unit.{Unit as SpaceUnit}
 use Rattle.sms_construct.specs.declared.unit.Unit.TheVariants.{Trk, Cyl}
 use Rattle.track_ledger.specs.declared.piece.Piece.{Piece}
-use Rattle.track_ledger.specs.Gaps.{holds, times_held}
+use Rattle.track_ledger.specs.Gaps.{times_held}
 use Rattle.track_ledger.specs.GapRule.{pieces_allowed}
 use Rattle.track_ledger.specs.Grants.{IsGrant}
 use Rattle.track_ledger.specs.Ledger.{LedgerView}

@@ -1,15 +1,15 @@
 -- A gap that is shorter than each of the five longest so far changes nothing.
-use Rattle.std.proofs.Common.{◌≡◌, ◌≤◌, ◌<◌, ℕ, zero, suc, ◌+◌, ◌-◌, Bool, true, false, List, [], ◌∷◌, ◌++◌, length, get_or, take, drop, append-nil, refl, sym, ap, ◌∙◌, subst, arith}
-use Rattle.std.specs.Prelude.{None, Some, find, nat_le, nat_lt}
+use Rattle.std.proofs.Common.{◌≡◌, ◌≤◌, ◌<◌, ℕ, zero, suc, ◌+◌, Bool, true, false, List, [], ◌∷◌, ◌++◌, length, get_or, take, drop, refl, sym, ap, ◌∙◌, subst, arith}
+use Rattle.std.specs.Prelude.{find, nat_le, nat_lt}
 use Rattle.std.specs.List.{All}
 use Rattle.std.proofs.lemmas.Bool.Decides.{nat_tests}
-use Rattle.std.proofs.lemmas.List.Elements.{All-nil, All-cons, All-head, All-tail, All-weaker, All-get_or, All-take}
+use Rattle.std.proofs.lemmas.List.Elements.{All-nil, All-cons, All-weaker, All-get_or, All-take}
 use Rattle.std.proofs.Math.Seq.{take-append_seam}
 use Rattle.track_ledger.specs.declared.piece.Piece.{Piece}
 use Rattle.track_ledger.specs.Gaps.{whole_units, unit_gaps}
 use Rattle.track_ledger.specs.GapRule.{comes_first, put_in_order, longest_first}
 use Rattle.track_ledger.proofs.GrantLemmas.{units-low, units-high, put-inside}
-use Rattle.track_ledger.proofs.LongestLemmas.{take-put, longest-more, longest-same, holding-none, holding-short}
+use Rattle.track_ledger.proofs.LongestLemmas.{longest-more, longest-same, holding-none, holding-short}
 
 -- no gap is longer than one before it
 abbrev pub Descends : List Piece → Type 0

@@ -1,4 +1,4 @@
-use Rattle.std.proofs.Common.{ltb, arith, rules, ◌+◌}
+use Rattle.std.proofs.Common.{ltb, rules, ◌+◌}
 use Rattle.std.proofs.lemmas.List.Sorted.{IsPartitionPoint-from_clause, IsPartitionedBy-ltb}
 use Rattle.track_ledger.proofs.PlaceLemmas.{first-reaching}
 use Rattle.track_ledger.proofs.gaps.first_reaching.Goals as goal

@@ -1,6 +1,6 @@
 use Rattle.std.proofs.Common.{◌<◌, ◌≤◌, ◌+◌, length, arith}
 use Rattle.std.proofs.lemmas.Grind.{common_steps}
-use Rattle.track_ledger.proofs.PlaceLemmas.{joined-small, widened, widened-apart, widened-end}
+use Rattle.track_ledger.proofs.PlaceLemmas.{joined-small, widened-apart, widened-end}
 use Rattle.track_ledger.proofs.gaps.widen_at.Goals as goal
 use Rattle.track_ledger.proofs.gaps.widen_at.Goals.{then-next-len+else-end-from, else-next-len}
 
