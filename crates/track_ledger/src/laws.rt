@@ -12,8 +12,8 @@ ghost use Rattle.track_ledger.specs.Extents.{front_pieces, owned_by, pieces_of, 
 
 /// What the gap rule grants lies inside the volume, on tracks that nobody holds, is of just the need and has few pieces.
 pub fn grants_fit()
-    ensures { (capacity size need held : ℕ) (pieces granted : List Piece) → 0 < size → 0 < need → ((track : ℕ) → times_held pieces track ≤ 1) →
-        grant_of (unit_gaps size (gaps_of capacity pieces)) need held ≡ Some granted → IsGrant capacity pieces need (pieces_allowed held) granted }
+    ensures { (capacity multiple need held : ℕ) (pieces granted : List Piece) → 0 < multiple → 0 < need → ((track : ℕ) → times_held pieces track ≤ 1) →
+        grant_of (unit_gaps multiple (gaps_of capacity pieces)) need held ≡ Some granted → IsGrant capacity pieces need (pieces_allowed held) granted }
 {}
 
 /// A ledger grants what the gap rule grants beside any pieces that hold each track as often.

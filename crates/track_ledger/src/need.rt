@@ -4,7 +4,8 @@ ghost use Rattle.track_ledger.specs.Need.{tracks_in};
 
 use sms_construct::Unit;
 
-/// So many tracks in a unit, for a data set that holds so many extents on the volume.
+/// What a data set asks of a volume: so many tracks, at least 1 and a multiple of 15 for CYL.
+/// `held` counts the extents that it holds there, at most 16.
 #[derive(Clone, Copy)]
 pub struct Need {
     pub unit: Unit,
