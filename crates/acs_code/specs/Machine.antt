@@ -78,7 +78,7 @@ act kind filters input (SetGroups groups) next past values = next past (record v
 act kind filters input (Write parts) next past values = behind (parts_line parts input values ∷ []) (next past values)
 act kind filters input (Exit code) next past values = exits code values
 
--- running from the place `go`, where the rest of the code begins at the place `at`; the instructions before `go` are passed, and past the end the run falls through
+-- running from the place `go`, where the rest of the code begins at the place `at`; the instructions before `go` are passed, a `go` that lies behind runs the next instruction, and past the end the run falls through
 abbrev pub run_from : Kind → List FilterLists → Input → ℕ → ℕ → List Instr → Values → Outcome
 run_from kind filters input at go [] values = falls values
 run_from kind filters input at go (instr ∷ instrs) values =

@@ -1,5 +1,6 @@
 //! Which values filter lists pass, by entries built by hand.
-ghost use Rattle.std.specs.Prelude.{◌≡◌, ◌<◌};
+ghost use Rattle.std.specs.Prelude.{◌≡◌, ◌<◌, ◌≤◌, ◌+◌, [], length};
+ghost use Rattle.dsn_mask.specs.Quoted.{texts_of};
 
 use dsn_mask::{Entry, FilterIndex, Lit, Mask, Short, Simple, Steps};
 use std::alloc::Global;
@@ -16,7 +17,7 @@ const INCLUDE: &str = "PAY.** =TEST* 'X!'";
 
 const EXCLUDE: &str = "PAY.OLD.** =*.TMP 'TEST'";
 
-const ROWS: [Row; 15] = [
+const ROWS: [Row; 23] = [
     ("'A' 'B'", "'B'", "A", true),
     ("'A' 'B'", "'B'", "B", false),
     ("'A' 'B'", "", "C", false),
@@ -32,6 +33,14 @@ const ROWS: [Row; 15] = [
     (INCLUDE, EXCLUDE, "TEST.A", true),
     (INCLUDE, EXCLUDE, "TEST", false),
     (INCLUDE, EXCLUDE, "X!", true),
+    ("'A' 'A' 'A'", "", "A", true),
+    ("'A' 'A' 'A'", "", "B", false),
+    ("=A* B.**", "", "A1", true),
+    ("=A* B.**", "", "C", false),
+    ("'ABC' 'A' 'AB'", "", "AB", true),
+    ("'ABC' 'A' 'AB'", "", "ABCD", false),
+    ("'ABC' 'AB'", "", "A", false),
+    ("'ABC' 'AB'", "'AB' 'A'", "ABC", true),
 ];
 
 fn entry(text: &str) -> Option<Entry> {
@@ -111,6 +120,75 @@ fn entries_are_equal_where_kind_and_text_are(rt: HostRuntime) -> Result<(), Fail
         let one = entry(one).ok_or("the entry is out of form")?;
         let other = entry(other).ok_or("the entry is out of form")?;
         assert_eq!(rt; one.equals(&other), wanted);
+    }
+    Ok(())
+}
+
+// 255 quoted entries and no EXCLUDE.
+fn has_in_8_steps<L: Ledger>(index: &FilterIndex, value: &Short, steps: &mut Steps<L>) -> bool
+    requires few { length (texts_of index.now.include) ≤ 255 }
+    requires none { index.now.exclude ≡ [] }
+    ensures { steps.new ≤ steps.old + 8 }
+{
+    index.has(value, steps)
+}
+
+#[tactic(auto, using(crate::proofs::StepLemmas::few_texts))]
+fn passes_in_8_steps<L: Ledger>(
+    alloc: Global,
+    include: &[Entry],
+    value: &Short,
+    blank: Blank,
+) -> Result<bool, Fail>
+    requires few { length include.now ≤ 255 }
+    requires name { blank.name ≡ L.name }
+    requires parts { blank.parts ≡ L.parts }
+    requires some { 0 < blank.parts }
+{
+    let index = FilterIndex::build(alloc, include, &[])?;
+    let mut steps = Steps::<L>::new(blank);
+    Ok(has_in_8_steps(&index, value, &mut steps))
+}
+
+fn passes_alone(alloc: Global, include: &[Entry], value: &str) -> Result<bool, Fail>
+    requires { length include.now ≤ 255 }
+{
+    let value = Short::new(value.as_bytes()).ok_or("the value is out of form")?;
+    passes_in_8_steps::<Brand>(alloc, include, &value, Blank::new(1))
+}
+
+/// T000 to T254, in another order than that of their bytes.
+fn different(alloc: Global) -> Result<Vec<Entry>, Fail> {
+    let mut list = Vec::new(alloc);
+    for place in 0..255usize {
+        let number = (place * 7) % 255;
+        let digit = |power: usize| b'0' + (number / power % 10) as u8;
+        let text = [b'T', digit(100), digit(10), digit(1)];
+        list.push(Entry::Quoted(Lit::new(&text).ok_or("the text is out of form")?))?;
+    }
+    Ok(list)
+}
+
+#[test]
+fn one_of_255_texts_is_found_in_8_comparisons(rt: HostRuntime) -> Result<(), Fail> {
+    let include = different(rt.alloc())?;
+    if include.len() > 255 {
+        return Err("the list is too long".into());
+    }
+    for (value, wanted) in [
+        ("T000", true),
+        ("T127", true),
+        ("T254", true),
+        ("T255", false),
+        ("T12", false),
+        ("T1270", false),
+        ("", false),
+    ] {
+        assert_eq!(rt;
+            passes_alone(rt.alloc(), &include, value)?,
+            wanted,
+            "{value}"
+        );
     }
     Ok(())
 }

@@ -37,25 +37,25 @@ is_list before name = list_any (is_list_named name) before
 abbrev pub is_list_ref : List Stmt → Ref → Bool
 is_list_ref before ref = not (is_known ref) && (is_none ref.index && is_list before ref.name)
 
--- an entry that is compared with any text: a literal or a simple mask
+-- an entry that is no word, or a word that is a simple mask
 abbrev pub is_simple_entry : OperandForm → Bool
 is_simple_entry (Literal text) = true
 is_simple_entry (Word word) = is_simple word
 is_simple_entry (Var ref) = true
 
--- literals and simple masks alone
+-- each word among the entries is a simple mask
 abbrev pub are_simple : List Operand → Bool
 are_simple entries = list_all (λ entry. is_simple_entry entry.form) entries
 
--- no filter list, or one of literals and simple masks
+-- no filter list, or one whose words are simple masks
 abbrev pub is_simple_form : Form → Bool
 is_simple_form (Filt name name_at include exclude) = are_simple include && are_simple exclude
 is_simple_form _ = true
 
--- the statement is no filter list, or one of literals and simple masks
+-- the statement is no filter list, or one whose words are simple masks
 abbrev pub is_simple_statement : Stmt → Bool
 is_simple_statement statement = is_simple_form statement.form
 
--- each filter list of that name among the statements has simple masks alone
+-- in each filter list of that name among the statements the words are simple masks
 abbrev pub is_simple_list : List Stmt → List ℕ → Bool
 is_simple_list before name = list_all (λ statement. not (is_list_named name statement) || is_simple_statement statement) before

@@ -49,10 +49,10 @@ abbrev pub fits_in : Option ℕ → ℕ → Bool
 fits_in None count = false
 fits_in (Some kilobytes) count = nat_le (count * kilobytes) greatest
 
--- a number that isn't too great
+-- the value of these digits isn't too great
 abbrev pub is_fit_number : List ℕ → Bool
 is_fit_number word = nat_le (value_of word) greatest
 
--- a size that counted in KB isn't too great
+-- the digits of this size, counted in KB by its unit, aren't too great
 abbrev pub is_fit_size : List ℕ → Bool
 is_fit_size word = fits_in (kilobytes_in (unit_of word)) (value_of (digits_of word))

@@ -77,12 +77,12 @@ is_misindexed_by (Always most) index = is_none index
 abbrev pub is_misindexed : Ref → Bool
 is_misindexed ref = passes (λ variable. is_misindexed_by variable.indexing ref.index) (variable_of ref.name)
 
--- an index that is no number from 1 to the most
+-- there is an index, and it is no number from 1 to the most
 abbrev pub is_past : ℕ → Option (List ℕ) → Bool
 is_past most None = false
 is_past most (Some index) = not (is_between 1 most index)
 
--- an index past the range that the variable takes
+-- the variable takes an index, and the one that stands there is no number of its range
 abbrev pub is_out_of_range_by : Indexing → Option (List ℕ) → Bool
 is_out_of_range_by Never index = false
 is_out_of_range_by (Maybe most) index = is_past most index

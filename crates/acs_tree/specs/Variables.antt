@@ -13,7 +13,7 @@ use Rattle.acs_tree.specs.declared.variable.VariableKind.TheVariants.{Text, Numb
 abbrev pub Row : Type 0
 Row = List ℕ × Variable
 
--- a variable that the request gives
+-- a variable that no routine sets, since the request determines it
 abbrev pub given : VariableKind → Indexing → Variable
 given kind indexing = record { kind = kind; indexing = indexing; set_by = None; is_empty = false }
 

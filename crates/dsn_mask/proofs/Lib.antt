@@ -4,6 +4,7 @@ pub mod Filled
 pub mod Filtering
 pub mod Fitting
 pub mod Greedy
+pub mod Halving
 pub mod MaskFaults
 pub mod MaskPlaces
 pub mod MaskTexts

@@ -22,12 +22,6 @@ pub record FilterLists : Type 0 where
   pub include : List Entry
   pub exclude : List Entry
 
--- the comparisons that holding an entry against a value takes: one of a quoted entry
-abbrev pub comparisons_of : Entry → ℕ
-comparisons_of (Quoted literal) = 1
-comparisons_of (Dots mask) = 0
-comparisons_of (Plain simple) = 0
-
 -- the same as tests
 
 abbrev pub entry_fits : List ℕ → Entry → Bool

@@ -10,5 +10,6 @@ pub mod NameFault
 pub mod Names
 pub mod NamesFields
 pub mod Qualifiers
+pub mod Quoted
 pub mod Text
 pub mod TextFields

@@ -24,9 +24,9 @@ is_empty (item ∷ items) = false
 
 -- symbols against items: a star stands for zero or more items, another symbol for one item that it takes
 abbrev pub fits_items : {S I : Type 0} → (S → Bool) → (S → I → Bool) → List S → List I → Bool
-fits_items star takes [] items = is_empty items
-fits_items star takes (symbol ∷ symbols) items =
-    if star symbol then passes_somewhere (fits_items star takes symbols) items else takes_first (takes symbol) (fits_items star takes symbols) items
+fits_items is_any takes [] items = is_empty items
+fits_items is_any takes (symbol ∷ symbols) items =
+    if is_any symbol then passes_somewhere (fits_items is_any takes symbols) items else takes_first (takes symbol) (fits_items is_any takes symbols) items
 
 -- a star
 abbrev pub is_star : ℕ → Bool

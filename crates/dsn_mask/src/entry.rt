@@ -1,10 +1,8 @@
 //! Entries of filter lists.
-ghost use Rattle.std.specs.Prelude.{◌≡◌, ◌+◌, ◌↔◌, IsTrue};
-ghost use Rattle.dsn_mask.specs.Filter.{comparisons_of, entry_fits};
+ghost use Rattle.std.specs.Prelude.{◌≡◌, ◌↔◌, IsTrue};
+ghost use Rattle.dsn_mask.specs.Quoted.{fits_as_mask, is_quoted};
 
-use crate::steps::Steps;
 use crate::{Lit, Mask, Short, Simple};
-use std::sync::ledger::Ledger;
 
 /// An entry of a filter list (docs/acs-language.md, "Filter lists").
 #[derive(Clone, Copy)]
@@ -30,16 +28,18 @@ impl Entry {
         }
     }
 
-    // Comparing a quoted entry is a step.
-    pub(crate) fn fits<L: Ledger>(&self, value: &Short, steps: &mut Steps<L>) -> bool
-        ensures fits { result ≡ entry_fits value.now self.now }
-        ensures counted { steps.new ≡ steps.old + comparisons_of self.now }
+    pub(crate) fn is_quoted(&self) -> bool
+        ensures { result ≡ is_quoted self.now }
+    {
+        matches!(self, Entry::Quoted(_))
+    }
+
+    /// Whether it is a mask that the value fits.
+    pub(crate) fn fits_as_mask(&self, value: &Short) -> bool
+        ensures { result ≡ fits_as_mask value.now self.now }
     {
         match self {
-            Entry::Quoted(literal) => {
-                steps.tick();
-                literal.bytes() == value.bytes()
-            }
+            Entry::Quoted(_) => false,
             Entry::Dots(mask) => mask.matches(value),
             Entry::Plain(simple) => simple.matches(value),
         }

@@ -17,6 +17,7 @@ mod name_fault;
 mod names;
 mod piece;
 mod qualifiers;
+mod quoted;
 mod short;
 mod simple;
 mod steps;

@@ -14,8 +14,16 @@ use Rattle.volume_lists.specs.Choice.{MayChoose, AllRejected}
 -- an empty volume of 100 tracks and this status, one of two in a group of this status, threshold 85
 abbrev volume : Status → Status → VolView
 volume group status = record {
-  volser = codes "VOL001"; group = codes "SG1"; group_status = group; status = status; overflow = false;
-  high = 85; capacity = 100; granted = 0; group_volumes = 2; fits = true;
+  volser = codes "VOL001";
+  group = codes "SG1";
+  group_status = group;
+  status = status;
+  overflow = false;
+  high = 85;
+  capacity = 100;
+  granted = 0;
+  group_volumes = 2;
+  fits = true;
 }
 
 -- so many tracks on so many volumes
