@@ -12,6 +12,8 @@ mod hostile;
 #[cfg(test)]
 mod keeping;
 #[cfg(test)]
+mod kept_replies;
+#[cfg(test)]
 mod ledger;
 #[cfg(test)]
 mod listing;
