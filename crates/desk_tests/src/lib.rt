@@ -10,8 +10,6 @@ mod first_path;
 #[cfg(test)]
 mod hostile;
 #[cfg(test)]
-mod keeping;
-#[cfg(test)]
 mod kept_replies;
 #[cfg(test)]
 mod ledger;
