@@ -1,8 +1,8 @@
 //! A keeper that fails where it is told to.
 ghost use Rattle.std.specs.Prelude.{◌≡◌, ◌≤◌, ◌↔◌, ◌++◌, ◌∷◌, [], Some, IfOk, OnOk, OnErr, IsErr, IsErrOf, Contains};
-ghost use Rattle.desk_common.specs.Causes.{Rose};
+ghost use Rattle.desk_common.specs.Causes.{Rose, counted};
 ghost use Rattle.sms_keeper.specs.Tables.{rows_after};
-ghost use Rattle.sms_keeper.specs.Faults.{counted, faults_counted};
+ghost use Rattle.sms_keeper.specs.Faults.{faults_counted};
 ghost use Rattle.sms_keeper.specs.Told.{Applies, Stays};
 
 use crate::change::Change;
