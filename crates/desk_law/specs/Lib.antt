@@ -1,0 +1,15 @@
+pub mod State
+pub mod Extents
+pub mod Volumes
+pub mod Statuses
+pub mod Replies
+pub mod Classification
+pub mod Candidates
+pub mod Allocation
+pub mod Extension
+pub mod Deletion
+pub mod Usage
+pub mod Releasing
+pub mod Varying
+pub mod Display
+pub mod Purging
