@@ -24,11 +24,11 @@ data_class_of config name = find (λ class. bytes_eq class.name name) config.dat
 
 -- the space that the request names, else the one of its data class
 abbrev pub space_of : Alloc → Option DataClass → Option Quantities
-space_of alloc class = option_or alloc.space (option_and_then class (λ class. class.space))
+space_of alloc class = option_or alloc.space (option_and_then (λ class. class.space) class)
 
 -- the number of volumes that the request names, else the one of its data class, else 1
 abbrev pub volume_count_of : Alloc → Option DataClass → ℕ
-volume_count_of alloc class = unwrap_or (option_or alloc.volumes (option_and_then class (λ class. class.volumes))) 1
+volume_count_of alloc class = unwrap_or (option_or alloc.volumes (option_and_then (λ class. class.volumes) class)) 1
 
 -- what a new data set is to get
 pub record Wish : Type 0 where

@@ -1,3 +1,4 @@
+pub mod Limits
 pub mod State
 pub mod Extents
 pub mod Volumes
@@ -13,3 +14,10 @@ pub mod Releasing
 pub mod Varying
 pub mod Display
 pub mod Purging
+pub mod Activation
+pub mod Kept
+pub mod Rule
+pub mod Step
+pub mod History
+pub mod Records
+pub mod Lawful
