@@ -6,3 +6,9 @@ pub mod FrontLemmas
 pub mod AscendLemmas
 pub mod PlaceLemmas
 pub mod GrantLemmas
+pub mod StatusLemmas
+pub mod LineLemmas
+pub mod AllocationLemmas
+pub mod ExtensionLemmas
+pub mod DeckLemmas
+pub mod RuleLemmas

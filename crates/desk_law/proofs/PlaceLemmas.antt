@@ -1,6 +1,6 @@
 -- What stands at a position of a list, and what passes a test.
 use Rattle.std.proofs.Common.{◌≡◌, ℕ, zero, suc, Bool, true, false, List, [], ◌∷◌, refl, subst}
-use Rattle.std.specs.Prelude.{Some, filter, slice_get}
+use Rattle.std.specs.Prelude.{Some, filter, find, slice_get}
 use Rattle.std.specs.List.{AllByRecursion}
 
 -- what holds of each holds at a position
@@ -31,3 +31,15 @@ filter-passes p (x ∷ xs) = filter-passes-at p x xs _ refl (filter-passes p xs)
 pub each-both : {X : Type 0} (A B C : X → Type 0) (xs : List X) → ((x : X) → A x → B x → C x) → AllByRecursion A xs → AllByRecursion B xs → AllByRecursion C xs
 each-both A B C [] step a b = tt
 each-both A B C (x ∷ xs) step a b = (step x a.0 b.0, each-both A B C xs step a.1 b.1)
+
+find-each-at : {X : Type 0} (P : X → Type 0) (p : X → Bool) (x : X) (xs : List X) (found : X) (b : Bool) → p x ≡ b → P x → (find p xs ≡ Some found → P found) → find p (x ∷ xs) ≡ Some found → P found
+find-each-at P p x xs found true is here rest there =
+    let now : Some x ≡ Some found = rw is at there in
+    let same : x ≡ found = cc in subst P same here
+find-each-at P p x xs found false is here rest there =
+    let now : find p xs ≡ Some found = rw is at there in rest now
+
+-- what holds of each holds of what is found
+pub find-each : {X : Type 0} (P : X → Type 0) (p : X → Bool) (xs : List X) (found : X) → AllByRecursion P xs → find p xs ≡ Some found → P found
+find-each P p [] found all there = absurd cc
+find-each P p (x ∷ xs) found all there = find-each-at P p x xs found _ refl all.0 (λ e. find-each P p xs found all.1 e) there

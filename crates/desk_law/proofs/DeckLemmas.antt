@@ -1,0 +1,7 @@
+-- What the law needs of decks.
+use Rattle.std.proofs.Common.{ℕ, List}
+use Rattle.sms_construct.specs.Configuration.{Configuration, IsConfiguration}
+use Rattle.sms_deck.specs.Reading.{Configures}
+
+pub configures-is : (deck : List ℕ) (config : Configuration) → Configures deck config → IsConfiguration config
+configures-is deck config configures = configures.is
