@@ -1,7 +1,10 @@
 -- What the law needs of decks.
-use Rattle.std.proofs.Common.{ℕ, List}
+use Rattle.std.proofs.Common.{◌≡◌, ℕ, List}
 use Rattle.sms_construct.specs.Configuration.{Configuration, IsConfiguration}
 use Rattle.sms_deck.specs.Reading.{Configures}
 
 pub configures-is : (deck : List ℕ) (config : Configuration) → Configures deck config → IsConfiguration config
 configures-is deck config configures = configures.is
+
+pub one-configuration : (deck : List ℕ) (config other : Configuration) → Configures deck config → Configures deck other → config ≡ other
+one-configuration deck config other one two = TODO

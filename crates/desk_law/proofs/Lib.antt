@@ -12,3 +12,4 @@ pub mod AllocationLemmas
 pub mod ExtensionLemmas
 pub mod DeckLemmas
 pub mod RuleLemmas
+pub mod StepLemmas

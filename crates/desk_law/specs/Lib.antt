@@ -21,3 +21,5 @@ pub mod Step
 pub mod History
 pub mod Records
 pub mod Lawful
+pub mod Changes
+pub mod Grants
