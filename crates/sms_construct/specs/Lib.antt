@@ -1,3 +1,4 @@
+pub mod Configuration
 pub mod Fate
 pub mod Path
 pub mod Quantities
