@@ -1,11 +1,13 @@
 -- How the tables of a deck are laid out, and the first fault of a table (docs/deck.md, "Order of faults").
-use Rattle.std.specs.Prelude.{ℕ, ◌+◌, List, [], ◌∷◌, Bool, false, Option, None, Some, is_some, bytes_eq, nat_le, map, if◌then◌else◌}
+use Rattle.std.specs.Prelude.{ℕ, ◌+◌, List, [], ◌∷◌, Bool, false, Option, None, Some, is_some, bytes_eq, nat_le, map, Result, Ok, Err, if◌then◌else◌}
 use Rattle.std.specs.List.{list_any}
 use Rattle.std.specs.Option.{option_or, option_and_then}
 use Rattle.toml.specs.Data.{Data, Members, no_members, member, get_member, as_table}
 use Rattle.sms_construct.specs.declared.fault.Fault.{Fault}
 use Rattle.sms_construct.specs.declared.fault.Fault.TheVariants.{UnknownKey, Missing, BadValue, BadName, TooMany}
 use Rattle.sms_construct.specs.Path.{below}
+use Rattle.sms_deck.specs.declared.value_form.ValueForm.{ValueForm}
+use Rattle.sms_deck.specs.Values.{has_form}
 
 -- the first fault of a table at a path, if it has one
 abbrev pub Walk : Type 0
@@ -38,6 +40,11 @@ table_at key keys = or_empty (option_and_then as_table (get_member key keys))
 abbrev pub key_count : Members → ℕ
 key_count no_members = 0
 key_count (member key value others) = key_count others + 1
+
+-- the fault with which a check ends, if it ends with one
+abbrev pub fault_told : Result (Unit {0}) Fault → Option Fault
+fault_told (Ok done) = None
+fault_told (Err fault) = Some fault
 
 -- tables with fixed keys
 
@@ -94,9 +101,9 @@ names limit is_name walk path keys =
 abbrev pub no_walk : Walk
 no_walk path keys = None
 
--- a key whose value is right by itself
-abbrev pub plain : List ℕ → (Data → Bool) → Row
-plain key test = record { key = key; is_needed = λ keys. false; is_right = λ keys value. test value; walk = no_walk }
+-- a key whose value has a form
+abbrev pub plain : List ℕ → ValueForm → Row
+plain key form = record { key = key; is_needed = λ keys. false; is_right = λ keys value. has_form form value; walk = no_walk }
 
 -- a key whose value is a table
 abbrev pub inner : List ℕ → Walk → Row

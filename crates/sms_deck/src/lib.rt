@@ -1,13 +1,16 @@
-// A library with one function.
+//! Decks: from the bytes to a configuration, or its first fault (docs/deck.md).
 #![tactic(auto)]
 
-ghost use Rattle.std.specs.Prelude.{◌≡◌};
-ghost use Rattle.sms_deck.specs.Echo.{echo_of};
+mod construct_tables;
+mod deck_err;
+mod limits;
+mod place;
+mod rows;
+mod space_text;
+mod top_table;
+mod value_form;
+mod values;
+mod volume_table;
 
-// The `ensures` clause is the contract: what `echo` returns is `echo_of` of its argument, a definition
-// in `specs/Echo.antt`, which a caller's clause can cite too.
-pub fn echo(x: usize) -> usize
-    ensures { result ≡ echo_of x }
-{
-    x
-}
+pub use deck_err::DeckErr;
+pub use limits::{MAX_DECK, MAX_ROUTINE};
