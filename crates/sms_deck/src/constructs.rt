@@ -17,7 +17,9 @@ use crate::values::{
 };
 use desk_common::Items;
 use dsn_mask::{Name, Volser};
-use sms_construct::{DataClass, MgmtClass, Status, StorClass, StorGroup, VolumeCount, VolumeDef};
+use sms_construct::{
+    DataClass, MgmtClass, Space, Status, StorClass, StorGroup, VolumeCount, VolumeDef,
+};
 use std::alloc::{AllocError, Global};
 use toml::Table;
 
@@ -51,17 +53,12 @@ fn volume_count(keys: &Table) -> Option<VolumeCount>
     }
 }
 
-fn data_class(name: Name, keys: &Table) -> DataClass
-    ensures { result ≡ data_class_of name (table_view keys.now) }
+fn space(keys: &Table) -> Option<Space>
+    ensures { result ≡ read_at space_in (codes "space") (table_view keys.now) }
 {
-    let space = match value_at(keys, "space") {
+    match value_at(keys, "space") {
         Some(value) => space_in(value),
         None => None,
-    };
-    DataClass {
-        name,
-        space,
-        volumes: volume_count(keys),
     }
 }
 
@@ -166,7 +163,13 @@ pub fn data_classes(alloc: Global, table: &Table) -> Result<Items<DataClass>, Al
     for (name, value) in table {
         if let Some(name) = Name::new(name.as_bytes()) {
             if let Some(keys) = value.as_table() {
-                classes.push(data_class(name, keys))?;
+                let space: Option<Space> = space(keys);
+                let volumes: Option<VolumeCount> = volume_count(keys);
+                classes.push(DataClass {
+                    name,
+                    space,
+                    volumes,
+                })?;
             }
         }
     }

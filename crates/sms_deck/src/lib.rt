@@ -2,7 +2,9 @@
 #![tactic(auto)]
 
 mod construct_tables;
+mod constructs;
 mod deck_err;
+mod laws;
 mod limits;
 mod place;
 mod rows;
@@ -13,4 +15,5 @@ mod values;
 mod volume_table;
 
 pub use deck_err::DeckErr;
+pub use laws::one_reading;
 pub use limits::{MAX_DECK, MAX_ROUTINE};

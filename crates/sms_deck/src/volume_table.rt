@@ -8,9 +8,7 @@ ghost use Rattle.sms_deck.specs.Limits.{most_group_volumes};
 ghost use Rattle.sms_deck.specs.Tables.{device_row, volume_walk};
 
 use crate::limits::{MAX_CYLINDERS, MAX_GROUP_VOLUMES, MAX_TRACKS};
-use crate::rows::{
-    check_keys, check_row, check_size, count_keys, has_either, has_key, value_at,
-};
+use crate::rows::{check_keys, check_row, check_size, count_keys, has_either, has_key, value_at};
 use crate::value_form::ValueForm;
 use dsn_mask::Volser;
 use sms_construct::{Fault, Path};
