@@ -7,7 +7,7 @@ use Rattle.sms_construct.specs.declared.reply.Reply.{Reply}
 use Rattle.sms_construct.specs.declared.reply.Reply.TheVariants.{NoConfig, NameInUse, NoVolume, Deck}
 use Rattle.sms_construct.specs.declared.alloc.Alloc.{Alloc}
 use Rattle.sms_construct.specs.declared.request.Op.{Op}
-use Rattle.sms_construct.specs.declared.request.Op.TheVariants.{Alloc as AllocOp, Activate}
+use Rattle.sms_construct.specs.declared.request.Op.TheVariants.{Alloc as AllocOp, Activate, Extend, Delete, Used, Release, Display, Vary, Purge}
 use Rattle.desk_history.specs.Configuration.{Configuration}
 use Rattle.desk_history.specs.State.{DeskState, start_state, is_catalogued}
 use Rattle.desk_history.specs.Refusal.{Refuses}
@@ -118,6 +118,13 @@ form-activations s alloc reply after false refuses = refuse-activations s _ repl
 rule-activations : (s : DeskState) (op : Op) (reply : Reply) (after : DeskState) → Rule s op reply after → after.activations ≤ s.activations + 1
 rule-activations s (AllocOp alloc) reply after rule = form-activations s alloc reply after (is_plain alloc) rule
 rule-activations s (Activate deck) reply after rule = deck-activations s deck reply after s.active rule
+rule-activations s (Extend dsn) reply after rule = refuse-activations s _ reply after rule
+rule-activations s (Delete dsn) reply after rule = refuse-activations s _ reply after rule
+rule-activations s (Used dsn tracks) reply after rule = refuse-activations s _ reply after rule
+rule-activations s (Release dsn) reply after rule = refuse-activations s _ reply after rule
+rule-activations s (Display target) reply after rule = refuse-activations s _ reply after rule
+rule-activations s (Vary target action) reply after rule = refuse-activations s _ reply after rule
+rule-activations s (Purge job floor) reply after rule = refuse-activations s _ reply after rule
 
 step-activations_at : (s t : DeskState) (e : Entry) (o : Option Entry) → MatchOption o (IsFresh s e t) (λ kept. IsRepeat kept e × (t ≡ s)) → t.activations ≤ s.activations + 1
 step-activations_at s t e None fresh = rule-activations s e.request.op e.answer.reply t fresh.rule

@@ -11,7 +11,7 @@ use Rattle.sms_construct.specs.declared.fault.Fault.TheVariants.{NotBuilt}
 use Rattle.sms_construct.specs.declared.reply.Reply.TheVariants.{Granted, NoConfig, NameInUse, Deck}
 use Rattle.sms_construct.specs.declared.alloc.Alloc.{Alloc}
 use Rattle.sms_construct.specs.declared.request.Op.{Op}
-use Rattle.sms_construct.specs.declared.request.Op.TheVariants.{Alloc as AllocOp, Activate}
+use Rattle.sms_construct.specs.declared.request.Op.TheVariants.{Alloc as AllocOp, Activate, Extend, Delete, Used, Release, Display, Vary, Purge}
 use Rattle.sms_construct.specs.declared.trace.Trace.{Trace}
 use Rattle.sms_construct.specs.declared.volume.VolumeDef.{VolumeDef}
 use Rattle.desk_history.specs.Configuration.{Configuration}
@@ -121,6 +121,13 @@ granted-rule front s (AllocOp alloc) set trace after reaches rule =
     let found = granted-form s alloc set trace after (is_plain alloc) rule in
     record { alloc = alloc; state = s; config = found.0; op_is = refl; reaches = reaches; active = found.1; lawful = found.2 }
 granted-rule front s (Activate deck) set trace after reaches rule = absurd (activate-grants-none s deck set trace after s.active rule)
+granted-rule front s (Extend dsn) set trace after reaches rule = absurd (cc rule.reply_is)
+granted-rule front s (Delete dsn) set trace after reaches rule = absurd (cc rule.reply_is)
+granted-rule front s (Used dsn tracks) set trace after reaches rule = absurd (cc rule.reply_is)
+granted-rule front s (Release dsn) set trace after reaches rule = absurd (cc rule.reply_is)
+granted-rule front s (Display target) set trace after reaches rule = absurd (cc rule.reply_is)
+granted-rule front s (Vary target action) set trace after reaches rule = absurd (cc rule.reply_is)
+granted-rule front s (Purge job floor) set trace after reaches rule = absurd (cc rule.reply_is)
 
 granted-step : (front : List Entry) (s t : DeskState) (e : Entry) (set : DataSet) (trace : Trace) (o : Option Entry) → kept_for e.request.job e.request.number front ≡ o → Reaches front s
     → e.answer.place ≡ length front + 1 → MatchOption o (IsFresh s e t) (λ kept. IsRepeat kept e × (t ≡ s)) → e.answer.reply ≡ Granted set trace → e.answer.first ≡ e.answer.place

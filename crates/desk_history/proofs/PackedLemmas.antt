@@ -9,7 +9,7 @@ use Rattle.sms_construct.specs.declared.extent.Extent.{Extent}
 use Rattle.sms_construct.specs.declared.volume.VolumeDef.{VolumeDef}
 use Rattle.sms_construct.specs.declared.alloc.Alloc.{Alloc}
 use Rattle.sms_construct.specs.declared.request.Op.{Op}
-use Rattle.sms_construct.specs.declared.request.Op.TheVariants.{Alloc as AllocOp, Activate}
+use Rattle.sms_construct.specs.declared.request.Op.TheVariants.{Alloc as AllocOp, Activate, Extend, Delete, Used, Release, Display, Vary, Purge}
 use Rattle.sms_construct.specs.declared.reply.Reply.{Reply}
 use Rattle.sms_construct.specs.declared.reply.Reply.TheVariants.{NoConfig, NameInUse, NoVolume, Deck}
 use Rattle.sms_construct.specs.declared.fault.Fault.TheVariants.{NotBuilt}
@@ -123,6 +123,13 @@ form-packed s alloc reply after false refuses packed = refuse-packed s _ reply a
 pub rule-packed : (s : DeskState) (op : Op) (reply : Reply) (after : DeskState) → Rule s op reply after → IsPacked s → IsPacked after
 rule-packed s (AllocOp alloc) reply after rule packed = form-packed s alloc reply after (is_plain alloc) rule packed
 rule-packed s (Activate deck) reply after rule packed = deck-packed s deck reply after s.active refl rule packed
+rule-packed s (Extend dsn) reply after rule packed = refuse-packed s _ reply after rule packed
+rule-packed s (Delete dsn) reply after rule packed = refuse-packed s _ reply after rule packed
+rule-packed s (Used dsn tracks) reply after rule packed = refuse-packed s _ reply after rule packed
+rule-packed s (Release dsn) reply after rule packed = refuse-packed s _ reply after rule packed
+rule-packed s (Display target) reply after rule packed = refuse-packed s _ reply after rule packed
+rule-packed s (Vary target action) reply after rule packed = refuse-packed s _ reply after rule packed
+rule-packed s (Purge job floor) reply after rule packed = refuse-packed s _ reply after rule packed
 
 -- one more data set adds its tracks
 pub total-push : (sets : List DataSet) (set : DataSet) → tracks_of (extents_of (sets ++ set ∷ [])) ≡ tracks_of (extents_of sets) + tracks_of set.extents

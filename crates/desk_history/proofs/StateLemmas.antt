@@ -8,7 +8,7 @@ use Rattle.sms_construct.specs.declared.reply.Reply.{Reply}
 use Rattle.sms_construct.specs.declared.reply.Reply.TheVariants.{NoConfig, NameInUse, NoVolume, Deck}
 use Rattle.sms_construct.specs.declared.alloc.Alloc.{Alloc}
 use Rattle.sms_construct.specs.declared.request.Op.{Op}
-use Rattle.sms_construct.specs.declared.request.Op.TheVariants.{Alloc as AllocOp, Activate}
+use Rattle.sms_construct.specs.declared.request.Op.TheVariants.{Alloc as AllocOp, Activate, Extend, Delete, Used, Release, Display, Vary, Purge}
 use Rattle.desk_history.specs.Configuration.{Configuration}
 use Rattle.desk_history.specs.DeckForm.{DeckForm, HasForm, Configures, configuration_of}
 use Rattle.desk_history.specs.State.{DeskState, start_state, activated, catalogued, is_catalogued}
@@ -98,6 +98,13 @@ form-one s alloc reply a b false r r' = both-refuse s _ _ reply a b r r'
 rule-one : (s : DeskState) (op : Op) (reply : Reply) (a b : DeskState) → Rule s op reply a → Rule s op reply b → a ≡ b
 rule-one s (AllocOp alloc) reply a b r r' = form-one s alloc reply a b (is_plain alloc) r r'
 rule-one s (Activate deck) reply a b r r' = deck-one s deck reply a b s.active r r'
+rule-one s (Extend dsn) reply a b r r' = both-refuse s _ _ reply a b r r'
+rule-one s (Delete dsn) reply a b r r' = both-refuse s _ _ reply a b r r'
+rule-one s (Used dsn tracks) reply a b r r' = both-refuse s _ _ reply a b r r'
+rule-one s (Release dsn) reply a b r r' = both-refuse s _ _ reply a b r r'
+rule-one s (Display target) reply a b r r' = both-refuse s _ _ reply a b r r'
+rule-one s (Vary target action) reply a b r r' = both-refuse s _ _ reply a b r r'
+rule-one s (Purge job floor) reply a b r r' = both-refuse s _ _ reply a b r r'
 
 step-one_at : (s : DeskState) (e : Entry) (a b : DeskState) (o : Option Entry) → MatchOption o (IsFresh s e a) (λ kept. IsRepeat kept e × (a ≡ s))
     → MatchOption o (IsFresh s e b) (λ kept. IsRepeat kept e × (b ≡ s)) → a ≡ b

@@ -1,21 +1,34 @@
 -- One event of the desk: what an entry may be after the entries before it, and what it does.
-use Rattle.std.specs.Prelude.{ℕ, Bool, true, false, ◌≡◌, ◌+◌, ◌==◌, ◌&&◌, ◌⊎◌, List, Option, length, bytes_eq, find, MatchOption}
+use Rattle.std.specs.Prelude.{ℕ, Bool, true, false, ◌≡◌, ◌+◌, ◌==◌, ◌&&◌, ◌⊎◌, List, Option, length, bytes_eq, find, MatchOption, codes}
 use Rattle.sms_construct.specs.Fate.{fate_of}
 use Rattle.sms_construct.specs.declared.entry.Entry.{Entry}
 use Rattle.sms_construct.specs.declared.fate.Fate.{Fate}
 use Rattle.sms_construct.specs.declared.fate.Fate.TheVariants.{NoEntry, Unkept, Kept}
+use Rattle.sms_construct.specs.declared.fault.Fault.TheVariants.{NotBuilt}
 use Rattle.sms_construct.specs.declared.reply.Reply.{Reply}
-use Rattle.sms_construct.specs.declared.reply.Reply.TheVariants.{Reused}
+use Rattle.sms_construct.specs.declared.reply.Reply.TheVariants.{Deck, Reused}
 use Rattle.sms_construct.specs.declared.request.Op.{Op}
-use Rattle.sms_construct.specs.declared.request.Op.TheVariants.{Alloc, Activate}
+use Rattle.sms_construct.specs.declared.request.Op.TheVariants.{Alloc, Activate, Extend, Delete, Used, Release, Display, Vary, Purge}
 use Rattle.desk_history.specs.State.{DeskState}
 use Rattle.desk_history.specs.Allocation.{AllocRule}
 use Rattle.desk_history.specs.Activation.{ActivateRule}
+use Rattle.desk_history.specs.Refusal.{Refuses}
+
+-- an op that is not built
+abbrev pub RefusesOp : DeskState → Reply → DeskState → Type 0
+RefusesOp s reply after = Refuses s (Deck (NotBuilt (codes "op"))) reply after
 
 -- the reply to a fresh request of this op, and the state after it
 abbrev pub Rule : DeskState → Op → Reply → DeskState → Type 0
 Rule s (Alloc alloc) reply after = AllocRule s alloc reply after
 Rule s (Activate deck) reply after = ActivateRule s deck reply after
+Rule s (Extend dsn) reply after = RefusesOp s reply after
+Rule s (Delete dsn) reply after = RefusesOp s reply after
+Rule s (Used dsn tracks) reply after = RefusesOp s reply after
+Rule s (Release dsn) reply after = RefusesOp s reply after
+Rule s (Display target) reply after = RefusesOp s reply after
+Rule s (Vary target action) reply after = RefusesOp s reply after
+Rule s (Purge job floor) reply after = RefusesOp s reply after
 
 -- the entry's request has this job and number
 abbrev pub is_of : List ℕ → ℕ → Entry → Bool

@@ -4,7 +4,7 @@ use desk_common::{Items, Shared};
 use dsn_mask::{Dsn, Name, Short};
 use sms_construct::{
     Action, Alloc, Answer, Entry, Fate, Op, Path, Reply, Request, RequestNumber, Space, Status,
-    Unit, VolumeCount,
+    Target, Unit, VolumeCount,
 };
 use std::alloc::Global;
 use std::mem::size_of;
@@ -88,6 +88,60 @@ fn compare_decks(rt: &impl Abort, alloc: Global, plain: &Op) -> Result<(), Fail>
     assert!(rt; !deck.equals(&other));
     assert!(rt; deck.copy()?.equals(&deck));
     Ok(())
+}
+
+/// Compares an op with its copy, and with another.
+fn compare_ops(rt: &impl Abort, op: &Op, other: &Op) -> Result<(), Fail> {
+    assert!(rt; op.copy()?.equals(op));
+    assert!(rt; !op.equals(other));
+    assert!(rt; !other.equals(op));
+    Ok(())
+}
+
+#[test]
+fn each_op_is_equal_to_its_copy_and_to_no_other(rt: HostRuntime) -> Result<(), Fail> {
+    let dsn = Dsn::parse(b"A.B").map_err(|_| "dsn")?;
+    let job = Name::new(b"PAYROLL").ok_or("job")?;
+    let one = RequestNumber::new(1).ok_or("number")?;
+    let group = Target::Group(job);
+    let set = Target::Set(dsn);
+    let action = Action::Quiesce;
+    let vary = Op::Vary {
+        target: group,
+        action,
+    };
+    compare_ops(&rt, &Op::Extend(dsn), &Op::Delete(dsn))?;
+    compare_ops(&rt, &Op::Delete(dsn), &Op::Release(dsn))?;
+    compare_ops(
+        &rt,
+        &Op::Used { dsn, tracks: 1 },
+        &Op::Used { dsn, tracks: 2 },
+    )?;
+    compare_ops(&rt, &Op::Release(dsn), &Op::Extend(dsn))?;
+    compare_ops(&rt, &Op::Display(group), &Op::Display(set))?;
+    compare_ops(
+        &rt,
+        &vary,
+        &Op::Vary {
+            target: set,
+            action,
+        },
+    )?;
+    compare_ops(
+        &rt,
+        &vary,
+        &Op::Vary {
+            target: group,
+            action: Action::Enable,
+        },
+    )?;
+    compare_ops(&rt, &Op::Purge { job, floor: one }, &vary)?;
+    let two = RequestNumber::new(2).ok_or("number")?;
+    compare_ops(
+        &rt,
+        &Op::Purge { job, floor: one },
+        &Op::Purge { job, floor: two },
+    )
 }
 
 #[test]

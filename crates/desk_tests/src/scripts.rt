@@ -176,6 +176,7 @@ fn show_op(alloc: Global, shown: &mut Vec<u8>, op: &Op) -> Result<(), AllocError
             shown.extend_from_slice(b" ACTIVATE ")?;
             shown.extend_from_slice(deck.get().as_slice())
         }
+        _ => Ok(()),
     }
 }
 

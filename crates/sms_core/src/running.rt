@@ -1,5 +1,5 @@
 //! The state that the desk runs on.
-ghost use Rattle.std.specs.Prelude.{◌≡◌, ◌+◌, ◌<◌, ◌^◌, ◌∷◌, [], true, false, Some, IfOk, MatchOption, OnOk};
+ghost use Rattle.std.specs.Prelude.{◌≡◌, ◌+◌, ◌<◌, ◌^◌, ◌∷◌, [], true, false, codes, Some, IfOk, MatchOption, OnOk};
 ghost use Rattle.desk_history.specs.Allocation.{is_plain, new_data_set, no_trace};
 ghost use Rattle.desk_history.specs.State.{start_state, is_catalogued, tracks_of};
 ghost use Rattle.desk_history.specs.Stack.{IsPacked};
@@ -69,6 +69,13 @@ impl Running {
         match op {
             Op::Alloc(allocation) => self.decide_allocation(allocation.get()),
             Op::Activate(deck) => self.decide_activation(deck.get()),
+            Op::Extend(_)
+            | Op::Delete(_)
+            | Op::Used { .. }
+            | Op::Release(_)
+            | Op::Display(_)
+            | Op::Vary { .. }
+            | Op::Purge { .. } => Ok(not_built()),
         }
     }
 
@@ -97,7 +104,7 @@ impl Running {
     {
         match plain_space(allocation) {
             Some(space) => self.decide_plain(allocation, &space),
-            None => Ok(Decision::refusal(Reply::Deck(Fault::NotBuilt(Path::new(b"op"))))),
+            None => Ok(not_built()),
         }
     }
 
@@ -158,6 +165,13 @@ impl Running {
             }
         }
     }
+}
+
+// The answer to a request that is not built.
+fn not_built() -> Decision
+    ensures { result ≡ record { reply = Reply.Deck (Fault.NotBuilt (codes "op")); effect = Effect.Nothing } }
+{
+    Decision::refusal(Reply::Deck(Fault::NotBuilt(Path::new(b"op"))))
 }
 
 // Whether a data set of this name is catalogued.

@@ -13,6 +13,13 @@ use Rattle.std.specs.List.{list_all}
 abbrev pub deck_of : Op → Option (List ℕ)
 deck_of (ops.Alloc alloc) = None
 deck_of (ops.Activate deck) = Some deck
+deck_of (ops.Extend dsn) = None
+deck_of (ops.Delete dsn) = None
+deck_of (ops.Used dsn tracks) = None
+deck_of (ops.Release dsn) = None
+deck_of (ops.Display target) = None
+deck_of (ops.Vary target action) = None
+deck_of (ops.Purge job floor) = None
 
 -- a storage group or a volume, which have a status
 abbrev pub has_status : Target → Bool
