@@ -1,0 +1,19 @@
+//! Decks: from the bytes to a configuration, or its first fault (docs/deck.md).
+#![tactic(auto)]
+
+mod construct_tables;
+mod constructs;
+mod deck_err;
+mod laws;
+mod limits;
+mod place;
+mod rows;
+mod space_text;
+mod top_table;
+mod value_form;
+mod values;
+mod volume_table;
+
+pub use deck_err::DeckErr;
+pub use laws::one_reading;
+pub use limits::{MAX_DECK, MAX_ROUTINE};
