@@ -13,3 +13,8 @@ pub mod ExtensionLemmas
 pub mod DeckLemmas
 pub mod RuleLemmas
 pub mod StepLemmas
+pub mod HistoryLemmas
+pub mod SumLemmas
+pub mod VolumeLemmas
+pub mod FloorLemmas
+pub mod AnswerLemmas
