@@ -18,3 +18,5 @@ pub mod SumLemmas
 pub mod VolumeLemmas
 pub mod FloorLemmas
 pub mod AnswerLemmas
+pub mod QuietLemmas
+pub mod GrantedLemmas
