@@ -20,3 +20,4 @@ pub mod FloorLemmas
 pub mod AnswerLemmas
 pub mod QuietLemmas
 pub mod GrantedLemmas
+pub mod ActivationLemmas
