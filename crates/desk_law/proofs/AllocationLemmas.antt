@@ -16,7 +16,7 @@ use Rattle.desk_law.specs.State.{DeskState, set_named}
 use Rattle.desk_law.specs.Replies.{found_or, ◌⊳◌}
 use Rattle.desk_law.specs.Volumes.{tracks_of, volumes_in}
 use Rattle.desk_law.specs.Classification.{Classes, classes_of, trace_of, went_through}
-use Rattle.desk_law.specs.Allocation.{Wish, alloc_case, candidates_of, data_class_of, new_set, space_of, volume_count_of, want_of, AllocRule, GrantsOn}
+use Rattle.desk_law.specs.Allocation.{Wish, alloc_case, candidates_of, data_class_of, new_set, space_case, space_of, want_of, wish_with, AllocRule, GrantsOn}
 use Rattle.desk_law.specs.Rule.{IsSoundAlloc}
 use Rattle.desk_law.specs.Lawful.{IsLawful}
 use Rattle.desk_law.proofs.AscendLemmas.{volumes-once}
@@ -68,11 +68,6 @@ class-is : (config : Configuration) (name : List ℕ) → IsConfiguration config
 class-is config name is =
     if-found IsDataClass (data_class_of config name) (λ c found. find-each IsDataClass (λ (k : DataClass). bytes_eq k.name name) config.data_classes c is.classes found)
 
--- the wish that the lines of ALLOC come to
-abbrev pub wish_with : Alloc → Configuration → Classes → Quantities → Wish
-wish_with alloc config classes space =
-    record { config = config; classes = classes; space = space; volumes = volume_count_of alloc (data_class_of config classes.values.dataclas) }
-
 wish-is-with : (s : DeskState) (alloc : Alloc) (config : Configuration) (classes : Classes) (space : Quantities) → IsLawful s → IsSoundAlloc alloc → s.active ≡ Some config
     → space_of alloc (data_class_of config classes.values.dataclas) ≡ Some space → IsWish s (wish_with alloc config classes space)
 wish-is-with s alloc config classes space lawful sound active found =
@@ -84,16 +79,11 @@ wish-is-with s alloc config classes space lawful sound active found =
       volumes = count-is alloc.volumes (data_class_of config classes.values.dataclas) sound.volumes class;
     }
 
--- the lines behind the classification
-abbrev pub rest-of : Alloc → Configuration → Classes → Result Wish Reply
-rest-of alloc config classes =
-    found_or (replies.NoQuantity (trace_of classes)) (space_of alloc (data_class_of config classes.values.dataclas)) ⊳ λ space. Ok (wish_with alloc config classes space)
-
 pub wish-is : (s : DeskState) (job : List ℕ) (alloc : Alloc) (wish : Wish) → IsLawful s → IsSoundAlloc alloc → alloc_case s job alloc ≡ Ok wish → IsWish s wish
 wish-is s job alloc wish lawful sound is =
     after-line _ _ wish (IsWish s wish) is (λ config e1 e2.
     after-line _ _ wish (IsWish s wish) e2 (λ u e3 e4.
-    after-line (went_through (classes_of config job alloc)) (rest-of alloc config) wish (IsWish s wish) e4 (λ classes e5 e6.
+    after-line (went_through (classes_of config job alloc)) (space_case alloc config) wish (IsWish s wish) e4 (λ classes e5 e6.
     after-line (found_or (replies.NoQuantity (trace_of classes)) (space_of alloc (data_class_of config classes.values.dataclas))) (λ (space : Quantities). Ok (wish_with alloc config classes space)) wish (IsWish s wish) e6 (λ space e7 e8.
     subst (IsWish s) (last-line (wish_with alloc config classes space) wish e8)
     (wish-is-with s alloc config classes space lawful sound (found-line replies.NoConfig s.active config e1)

@@ -21,3 +21,5 @@ pub mod AnswerLemmas
 pub mod QuietLemmas
 pub mod GrantedLemmas
 pub mod ActivationLemmas
+pub mod ExampleDecks
+pub mod ClassificationExamples

@@ -17,12 +17,11 @@ use Rattle.desk_law.specs.declared.stop.Stop.{Stop}
 use Rattle.desk_law.specs.declared.stop.Stop.TheVariants as stops
 use Rattle.desk_law.specs.Classification.{Classes, answer_of, classes_of, trace_of, went_through}
 use Rattle.desk_law.specs.Replies.{found_or, reply_if, ◌⊳◌}
-use Rattle.desk_law.specs.Allocation.{Wish, alloc_case, data_class_of, space_of}
+use Rattle.desk_law.specs.Allocation.{Wish, alloc_case, data_class_of, space_case, space_of, wish_with}
 use Rattle.desk_law.specs.Extension.{extend_case}
 use Rattle.desk_law.specs.Usage.{used_case}
 use Rattle.desk_law.specs.Display.{reply_for_none, view_of_target}
 use Rattle.desk_law.specs.Changes.{may_change}
-use Rattle.desk_law.proofs.AllocationLemmas.{rest-of, wish_with}
 
 -- each answer of the lines changes nothing
 abbrev pub AreQuiet : {A : Type 0} → Result A Reply → Type 0
@@ -53,7 +52,7 @@ quiet-answer (stops.Exit kind code) classes y is = subst (λ (r : Reply). may_ch
 quiet-answer (stops.Unknown kind name) classes y is = subst (λ (r : Reply). may_change r ≡ false) (same-error (replies.UnknownClass kind name (trace_of classes)) y is) refl
 quiet-answer stops.NoGroup classes y is = subst (λ (r : Reply). may_change r ≡ false) (same-error (replies.NoGroup (trace_of classes)) y is) refl
 
-rest-quiet : (alloc : Alloc) (config : Configuration) (classes : Classes) → AreQuiet (rest-of alloc config classes)
+rest-quiet : (alloc : Alloc) (config : Configuration) (classes : Classes) → AreQuiet (space_case alloc config classes)
 rest-quiet alloc config classes =
     quiet-after (found_or (replies.NoQuantity (trace_of classes)) (space_of alloc (data_class_of config classes.values.dataclas))) (λ (space : Quantities). Ok (wish_with alloc config classes space))
     (quiet-found _ _ refl) (λ space. quiet-ok (wish_with alloc config classes space))
@@ -62,7 +61,7 @@ pub alloc-quiet : (s : DeskState) (job : List ℕ) (alloc : Alloc) → AreQuiet 
 alloc-quiet s job alloc =
     quiet-after _ _ (quiet-found replies.NoConfig s.active refl) (λ config.
     quiet-after _ _ (quiet-if replies.NameInUse (is_some (set_named alloc.input.dsn s.sets)) refl) (λ u.
-    quiet-after (went_through (classes_of config job alloc)) (rest-of alloc config) (quiet-answer (classes_of config job alloc).stop (classes_of config job alloc)) (λ classes. rest-quiet alloc config classes)))
+    quiet-after (went_through (classes_of config job alloc)) (space_case alloc config) (quiet-answer (classes_of config job alloc).stop (classes_of config job alloc)) (λ classes. rest-quiet alloc config classes)))
 
 pub extend-quiet : (s : DeskState) (dsn : List ℕ) → AreQuiet (extend_case s dsn)
 extend-quiet s dsn =

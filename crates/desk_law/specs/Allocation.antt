@@ -37,14 +37,23 @@ pub record Wish : Type 0 where
   pub space : Quantities
   pub volumes : ℕ
 
+-- what a new data set is to get when the classification came to these classes and the request or its data class names this space
+abbrev pub wish_with : Alloc → Configuration → Classes → Quantities → Wish
+wish_with alloc config classes space =
+    record { config = config; classes = classes; space = space; volumes = volume_count_of alloc (data_class_of config classes.values.dataclas) }
+
+-- the lines behind the classification: there is no space
+abbrev pub space_case : Alloc → Configuration → Classes → Result Wish Reply
+space_case alloc config classes =
+    found_or (replies.NoQuantity (trace_of classes)) (space_of alloc (data_class_of config classes.values.dataclas)) ⊳ λ space. Ok (wish_with alloc config classes space)
+
 -- the lines of ALLOC up to the choice of a volume: no configuration; the name is in use; the classification stops; no space
 abbrev pub alloc_case : DeskState → List ℕ → Alloc → Result Wish Reply
 alloc_case s job alloc =
     found_or replies.NoConfig s.active ⊳ λ config.
     reply_if replies.NameInUse (is_some (set_named alloc.input.dsn s.sets)) ⊳ λ _.
     went_through (classes_of config job alloc) ⊳ λ classes.
-    found_or (replies.NoQuantity (trace_of classes)) (space_of alloc (data_class_of config classes.values.dataclas)) ⊳ λ space.
-    Ok (record { config = config; classes = classes; space = space; volumes = volume_count_of alloc (data_class_of config classes.values.dataclas) })
+    space_case alloc config classes
 
 -- what is asked of the volumes
 abbrev pub want_of : Wish → Want

@@ -1,11 +1,10 @@
 -- What the routines of a configuration give a new data set (docs/rules.md, "Classification").
-use Rattle.std.specs.Prelude.{ℕ, ◌==◌, Bool, true, false, List, [], ◌∷◌, Option, None, Some, unwrap_or, Result, Ok, Err, if◌then◌else◌}
+use Rattle.std.specs.Prelude.{ℕ, ◌==◌, Bool, true, false, List, [], ◌∷◌, Option, None, Some, option_map, unwrap_or, Result, Ok, Err, if◌then◌else◌}
 use Rattle.std.specs.Option.{option_or}
-use Rattle.acs_tree.specs.CheckedRoutine.{CheckedRoutine}
 use Rattle.acs_tree.specs.Inputs.{input_under}
 use Rattle.acs_tree.specs.KeptLines.{kept_lines_of}
 use Rattle.acs_tree.specs.Meaning.{meaning_of}
-use Rattle.acs_tree.specs.Outcome.{Outcome}
+use Rattle.acs_tree.specs.Outcome.{Action, Outcome}
 use Rattle.acs_tree.specs.Slates.{SlateLines, blank, with_kept_lines}
 use Rattle.acs_tree.specs.declared.ending.Ending.{Ending}
 use Rattle.acs_tree.specs.declared.ending.Ending.TheVariants as endings
@@ -63,14 +62,22 @@ after_run kind before outcome = record {
   ending = outcome.ending;
 }
 
--- the routine is run on what the ones before it left; a missing one leaves everything
-abbrev pub run_of : Option CheckedRoutine → Input → Kind → Progress → Progress
+-- what the routine of a kind means, where there is one
+abbrev pub Meanings : Type 0
+Meanings = Kind → Option Action
+
+-- the routines of a configuration mean what their trees mean
+abbrev pub meanings_of : Configuration → Meanings
+meanings_of config kind = option_map (λ routine. meaning_of routine.tree kind) (routine_of kind config.routines)
+
+-- a routine is run on what the ones before it left; a missing one leaves everything
+abbrev pub run_of : Option Action → Input → Kind → Progress → Progress
 run_of None input kind before = record { values = before.values; written = before.written; ending = endings.Falls }
-run_of (Some routine) input kind before = after_run kind before (meaning_of routine.tree kind input before.values)
+run_of (Some action) input kind before = after_run kind before (action input before.values)
 
 -- the routine of that kind is run
-abbrev pub run : Configuration → Input → Kind → Progress → Progress
-run config input kind before = run_of (routine_of kind config.routines) input kind before
+abbrev pub run : Meanings → Input → Kind → Progress → Progress
+run meanings input kind before = run_of (meanings kind) input kind before
 
 -- a routine that ends with another code than 0 stops all
 abbrev pub exit_stop : Kind → Ending → Option Stop
@@ -111,19 +118,19 @@ abbrev pub end_with_groups : List (List ℕ) → Progress → Classes
 end_with_groups [] progress = ends stops.NoGroup progress
 end_with_groups (group ∷ groups) progress = ends stops.Done progress
 
--- the four routines, one after the other
-abbrev pub classes_under : Configuration → Input → Progress → Classes
-classes_under config input start =
-    after_class config DataClas (run config input DataClas start) (λ first.
-    after_class config StorClas (run config input StorClas first) (λ second.
+-- the four routines, one after the other, in a configuration with these constructs
+abbrev pub classes_under : Configuration → Meanings → Input → Progress → Classes
+classes_under config meanings input start =
+    after_class config DataClas (run meanings input DataClas start) (λ first.
+    after_class config StorClas (run meanings input StorClas first) (λ second.
     if_managed second (λ managed.
-    after_class config MgmtClas (run config input MgmtClas managed) (λ third.
-    let last = run config input StorGrp third in
+    after_class config MgmtClas (run meanings input MgmtClas managed) (λ third.
+    let last = run meanings input StorGrp third in
     unless_stopped (exit_stop StorGrp last.ending) last (λ listed. end_with_groups listed.values.groups listed)))))
 
 -- what the routines of a configuration give an ALLOC of a job
 abbrev pub classes_of : Configuration → List ℕ → Alloc → Classes
-classes_of config job alloc = classes_under config (input_under alloc.input job config.system config.sysplex) (begin alloc)
+classes_of config job alloc = classes_under config (meanings_of config) (input_under alloc.input job config.system config.sysplex) (begin alloc)
 
 -- the lines that were written, as a reply shows them
 abbrev pub trace_of : Classes → Trace
