@@ -23,3 +23,5 @@ pub mod GrantedLemmas
 pub mod ActivationLemmas
 pub mod ExampleDecks
 pub mod ClassificationExamples
+pub mod AllocationExamples
+pub mod OperationExamples
