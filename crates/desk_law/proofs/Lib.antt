@@ -25,3 +25,4 @@ pub mod ExampleDecks
 pub mod ClassificationExamples
 pub mod AllocationExamples
 pub mod OperationExamples
+pub mod StepExamples
