@@ -1,6 +1,6 @@
 -- Whole histories at worked examples.
 use Rattle.std.proofs.Common.{◌≡◌, ◌≤◌, ℕ, true, false, List, [], ◌∷◌, refl, ap, arith, inl, inr}
-use Rattle.std.specs.Prelude.{codes, Some, None}
+use Rattle.std.specs.Prelude.{bytes_eq, codes, Some, None}
 use Rattle.sms_construct.specs.Quantities.{IsSpace}
 use Rattle.sms_construct.specs.declared.alloc.Alloc.{Alloc}
 use Rattle.sms_construct.specs.declared.entry.Entry.{Entry}
@@ -43,7 +43,7 @@ asked _ = []
 
 other-name : asks_for (codes "A.C") ≡ asks_for (codes "A.B") → ⊥
 other-name e =
-    let names : codes "A.C" ≡ codes "A.B" = ap asked e in absurd cc
+    let bad : true ≡ false = ap (λ (op : Op). bytes_eq (codes "A.C") (asked op)) e in absurd cc
 
 numbers-reach : Reaches empty_opening numbers new_desk
 numbers-reach = (
