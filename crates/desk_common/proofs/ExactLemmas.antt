@@ -1,5 +1,5 @@
 -- How an answer is shown to be exact: there is one thing at most, one fault at most, and never both.
-use Rattle.std.proofs.Common.{◌≡◌, ◌≤◌, ℕ, ◌⊎◌, inl, inr, refl, ap, sym, arith}
+use Rattle.std.proofs.Common.{◌≡◌, ◌≤◌, inl, inr, refl, ap, sym, arith}
 use Rattle.std.specs.Prelude.{Option, Some, Ok, Err}
 use Rattle.desk_common.specs.Exact.{Place, NotBehind, IsFirst, MayRefuse, IsExact}
 

@@ -10,6 +10,8 @@ mod first_path;
 #[cfg(test)]
 mod hostile;
 #[cfg(test)]
+mod keeping;
+#[cfg(test)]
 mod kept_replies;
 #[cfg(test)]
 mod ledger;
@@ -29,3 +31,5 @@ mod scripts;
 mod stepping;
 #[cfg(test)]
 mod streams;
+#[cfg(test)]
+mod turns;

@@ -4,7 +4,6 @@ ghost use Rattle.dsn_mask.specs.Name.{IsLiteral, literal_of};
 
 use crate::byte_class::are_literal_bytes;
 use crate::text::Text;
-use std::cmp::Ordering;
 use std::marker::Model;
 
 /// A literal: at most 110 printed bytes with no quote.
@@ -57,42 +56,6 @@ impl Eq for Lit {
     ghost use Rattle.std.proofs.Common.{rules};
 
     ghost laws = { Prim.search (comparing, rules) };
-}
-
-impl Ord for Lit {
-    ghost use Rattle.std.specs.Ordering.{nat_cmp};
-    ghost use Rattle.std.specs.Cmp.Lexicographic.{slice_cmp};
-    ghost use Rattle.std.specs.Cmp.Rules.{comparing};
-    ghost use Rattle.std.proofs.Common.{rules};
-
-    ghost cmp = { slice_cmp nat_cmp };
-
-    ghost total = { Prim.search (comparing, rules) };
-
-    ghost matches_partial_cmp = { Prim.search (comparing, rules) };
-
-    ghost matches_eq = { Prim.search (comparing, rules) };
-
-    fn cmp(&self, other: &Lit) -> Ordering {
-        self.bytes().cmp(other.bytes())
-    }
-}
-
-impl PartialOrd for Lit {
-    ghost use Rattle.std.specs.Cmp.{partial_order_from_own_ties};
-    ghost use Rattle.std.specs.Ordering.{as_partial_cmp, nat_cmp};
-    ghost use Rattle.std.specs.Cmp.Lexicographic.{slice_cmp};
-    ghost use Rattle.std.specs.Cmp.Rules.{comparing};
-    ghost use Rattle.std.proofs.Common.{rules};
-
-    ghost partial_cmp = { as_partial_cmp (slice_cmp nat_cmp) };
-
-    ghost laws = { partial_order_from_own_ties (Prim.search (comparing, rules))
-        (Prim.search (comparing, rules)) };
-
-    fn partial_cmp(&self, other: &Lit) -> Option<Ordering> {
-        Some(self.cmp(other))
-    }
 }
 
 impl Lit {

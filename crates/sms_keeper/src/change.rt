@@ -1,5 +1,6 @@
 //! What one answered request changes.
-ghost use Rattle.std.specs.Prelude.{◌≡◌, IfOk};
+ghost use Rattle.std.specs.Prelude.{◌≡◌, ◌↔◌, IfOk, IsTrue};
+ghost use Rattle.sms_keeper.specs.Suits.{Suits};
 
 use crate::effect::Effect;
 use sms_construct::{Reply, Request};
@@ -15,6 +16,14 @@ pub struct Change {
 }
 
 impl Change {
+    /// Whether a keeper takes the change: an activation comes with a request for one, and a status is that of a
+    /// storage group or a volume.
+    pub fn suits(&self) -> bool
+        ensures { IsTrue result ↔ Suits self.now }
+    {
+        self.effect.suits(&self.request.op)
+    }
+
     /// The same change, which shares what request, reply and effect hold, or want of memory.
     pub fn copy(&self, alloc: Global) -> Result<Self, AllocError>
         ensures { IfOk result (λ copy. copy ≡ self.now) }

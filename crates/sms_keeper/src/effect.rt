@@ -1,10 +1,12 @@
 //! What a change does to the records.
-ghost use Rattle.std.specs.Prelude.{◌≡◌, IfOk};
+ghost use Rattle.std.specs.Prelude.{◌≡◌, ◌↔◌, IfOk, IsTrue};
+ghost use Rattle.std.specs.List.{list_all};
+ghost use Rattle.sms_keeper.specs.Suits.{SuitsOp, has_status};
 
-use crate::status_row::Statuses;
+use crate::status_row::{StatusRow, Statuses};
 use desk_common::{Items, Shared};
 use dsn_mask::{Dsn, Name};
-use sms_construct::{DataSet, Status, Target};
+use sms_construct::{DataSet, Op, Status, Target};
 use std::alloc::{AllocError, Global};
 
 /// What a change does to the tables beside the row of its reply (docs/records.md, "Effects").
@@ -25,7 +27,36 @@ pub enum Effect {
     Floor { job: Name, floor: u32 },
 }
 
+// Whether the target is a storage group or a volume.
+fn has_status(target: &Target) -> bool
+    ensures { result ≡ has_status target.now }
+{
+    match target {
+        Target::Group(_) | Target::Volume(_) => true,
+        Target::Set(_) => false,
+    }
+}
+
+fn have_status(rows: &[StatusRow]) -> bool
+    ensures { result ≡ list_all (λ row. has_status row.target) rows.now }
+{
+    rows.iter().all(|row| has_status(&row.target))
+}
+
 impl Effect {
+    /// Whether a change with this op may have the effect.
+    pub(crate) fn suits(&self, op: &Op) -> bool
+        ensures { IsTrue result ↔ SuitsOp op.now self.now }
+    {
+        match self {
+            Effect::Activated { statuses, .. } => {
+                matches!(op, Op::Activate(_)) && have_status(statuses.as_slice())
+            }
+            Effect::SetStatus { target, .. } => has_status(target),
+            Effect::Nothing | Effect::PutSet(_) | Effect::DropSet(_) | Effect::Floor { .. } => true,
+        }
+    }
+
     /// The same effect, or want of memory.
     pub fn copy(&self, alloc: Global) -> Result<Self, AllocError>
         ensures { IfOk result (λ copy. copy ≡ self.now) }

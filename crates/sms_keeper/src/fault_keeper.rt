@@ -1,8 +1,8 @@
 //! A keeper that fails where it is told to.
 ghost use Rattle.std.specs.Prelude.{◌≡◌, ◌≤◌, ◌↔◌, ◌++◌, ◌∷◌, [], Some, IfOk, OnOk, OnErr, IsErr, IsErrOf, Contains};
-ghost use Rattle.desk_common.specs.Causes.{Rose};
+ghost use Rattle.desk_common.specs.Causes.{Rose, counted};
 ghost use Rattle.sms_keeper.specs.Tables.{rows_after};
-ghost use Rattle.sms_keeper.specs.Faults.{counted};
+ghost use Rattle.sms_keeper.specs.Faults.{faults_counted};
 ghost use Rattle.sms_keeper.specs.Told.{Applies, Stays};
 
 use crate::change::Change;
@@ -80,6 +80,7 @@ impl Keeper for FaultKeeper {
         ensures cause { IsErrOf result KeeperErr.Failed → Rose self.old.faults self.new.faults }
         ensures rises { self.old.faults ≤ self.new.faults }
         ensures fails { IsErrOf result KeeperErr.Failed ↔ Contains self.old.fails (counted self.old.calls) }
+        ensures faults { self.new.faults ≡ faults_counted self.old.faults result }
         ensures ok { OnOk result (self.new.changes ≡ self.old.changes ++ change.now ∷ []) }
         ensures err { OnErr result (self.new.changes ≡ self.old.changes) }
         ensures calls { self.new.calls ≡ counted self.old.calls }
@@ -102,7 +103,9 @@ impl Stored for FaultKeeper {
         ensures kept { Stays (Some (rows_after self.old.changes)) (Some (rows_after self.new.changes)) }
         ensures cause { IsErrOf result KeeperErr.Failed → Rose self.old.faults self.new.faults }
         ensures rises { self.old.faults ≤ self.new.faults }
-        ensures fails { IsErr result ↔ Contains self.old.fails 0 }
+        ensures err { IsErr result ↔ Contains self.old.fails 0 }
+        ensures fails { IsErrOf result KeeperErr.Failed ↔ Contains self.old.fails 0 }
+        ensures faults { self.new.faults ≡ faults_counted self.old.faults result }
         ensures changes { self.new.changes ≡ self.old.changes }
         ensures calls { self.new.calls ≡ self.old.calls }
         ensures listed { self.new.fails ≡ self.old.fails }

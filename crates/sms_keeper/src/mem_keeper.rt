@@ -11,8 +11,8 @@ use crate::stored::Stored;
 use std::alloc::{AllocError, Global};
 use std::marker::Model;
 
-/// Keeps the records in memory, as the list of the changes that were made; its tables are what these come to. So a
-/// commit takes the same time however many records there are, and it never fails but for want of memory.
+/// Keeps the records in memory, as the list of the changes that were made; its tables are what these come to. So on
+/// average a commit takes the same time however many records there are, and it never fails but for want of memory.
 #[derive(Drop)]
 pub struct MemKeeper {
     alloc: Global,

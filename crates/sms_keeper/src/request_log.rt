@@ -71,10 +71,12 @@ impl RequestLog {
     }
 
     /// Takes room for one more reply and one more floor, so that one `keep` and one `purge` can follow, in either
-    /// order.
+    /// order. Where memory is wanting, there is at least the room that there was.
     pub fn reserve(&mut self) -> Result<(), AllocError>
         ensures reply_room { OnOk result (0 < self.new.reply_room) }
         ensures floor_room { OnOk result (0 < self.new.floor_room) }
+        ensures replies { self.old.reply_room ≤ self.new.reply_room }
+        ensures purges { self.old.floor_room ≤ self.new.floor_room }
         ensures kept { (key : RequestKey) → kept_in key self.new.kept ≡ kept_in key self.old.kept }
         ensures floors { (job : List ℕ) → floor_in job self.new.floors ≡ floor_in job self.old.floors }
     {

@@ -205,9 +205,7 @@ impl Ledger {
     {
         take_piece(&mut self.gaps, extent.piece);
         self.granted += u64::from(extent.piece.length);
-        if self.extents.push(extent).is_err() {
-            unreachable!();
-        }
+        self.extents.push_reserved(extent);
     }
 
     // Without the extent at a place.

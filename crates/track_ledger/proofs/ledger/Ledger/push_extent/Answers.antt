@@ -34,16 +34,16 @@ invariant_of-self c =
     let extents_are : c.args.self.now.extents ≡ c.self.inside.extents.items = ap (λ (v : LedgerView). v.extents) (sym c.self.view_is) in
     let spare_is : c.args.self.now.spare ≡ min (vec_capacity c.self.inside.extents) (vec_capacity c.self.inside.gaps - 1) - length c.self.inside.extents.items = ap (λ (v : LedgerView). v.spare) (sym c.self.view_is) in
     let room : length c.self.inside.extents.items + 1 < vec_capacity c.take_piece.new.gaps = omega (arith, spare_is, c.requires.room, c.take_piece.ensures.room) in
-    let items : c.push.new.self.items ≡ c.self.inside.extents.items ++ c.args.extent ∷ [] = grind (arith, common_steps) in
-    push-kept c.self.inside.capacity c.self.inside.granted _ c.self.inside.extents c.push.new.self c.self.inside.gaps c.take_piece.new.gaps c.args.extent c.self.invariant (subst (λ n. LiesInside n c.args.extent.piece) capacity_is c.requires.inside)
+    let items : c.push_reserved.new.self.items ≡ c.self.inside.extents.items ++ c.args.extent ∷ [] = grind (arith, common_steps) in
+    push-kept c.self.inside.capacity c.self.inside.granted _ c.self.inside.extents c.push_reserved.new.self c.self.inside.gaps c.take_piece.new.gaps c.args.extent c.self.invariant (subst (λ n. LiesInside n c.args.extent.piece) capacity_is c.requires.inside)
     (subst (λ (l : List OwnedExtent). NoTrackTwice (l ++ c.args.extent ∷ [])) extents_are c.requires.once) (omega arith) room items c.take_piece.ensures.items
 
 pub returns-clause-spare : goal.returns-clause-spare
 returns-clause-spare c =
     let spare_is : c.args.self.now.spare ≡ min (vec_capacity c.self.inside.extents) (vec_capacity c.self.inside.gaps - 1) - length c.self.inside.extents.items = ap (λ (v : LedgerView). v.spare) (sym c.self.view_is) in
-    let items : c.push.new.self.items ≡ c.self.inside.extents.items ++ c.args.extent ∷ [] = grind (arith, common_steps) in
-    let count : length c.push.new.self.items ≡ length c.self.inside.extents.items + 1 = ap (λ (l : List OwnedExtent). length l) items ∙ length-append c.self.inside.extents.items (c.args.extent ∷ []) in
-    let more = c.push.ensures.capacity in
+    let items : c.push_reserved.new.self.items ≡ c.self.inside.extents.items ++ c.args.extent ∷ [] = grind (arith, common_steps) in
+    let count : length c.push_reserved.new.self.items ≡ length c.self.inside.extents.items + 1 = ap (λ (l : List OwnedExtent). length l) items ∙ length-append c.self.inside.extents.items (c.args.extent ∷ []) in
+    let more = c.push_reserved.ensures.capacity in
     let less = c.requires.room in
     let kept = c.take_piece.ensures.room in
     omega (arith, spare_is, count, less, kept, more)
