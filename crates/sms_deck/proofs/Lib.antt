@@ -1,5 +1,10 @@
+pub mod AssignedLemmas
+pub mod LookupLemmas
+pub mod NameLemmas
 pub mod NumberLemmas
 pub mod OutcomeLemmas
+pub mod PlaceLemmas
 pub mod ReadingLemmas
+pub mod SortedLemmas
 pub mod TableLemmas
 pub mod WordLemmas

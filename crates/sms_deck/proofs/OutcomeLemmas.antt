@@ -29,10 +29,13 @@ use Rattle.acs_translate.specs.declared.fault.Stage.TheVariants.{Scanner, Parser
 use Rattle.acs_translate.specs.declared.fault.RoutineFault.{RoutineFault}
 use Rattle.acs_translate.specs.declared.fault.TranslateErr.{TranslateErr}
 use Rattle.acs_translate.specs.declared.fault.TranslateErr.TheVariants as told
-use Rattle.acs_translate.specs.Translation.{IsTranslated, fault_of, lex_err, parse_err, check_fault, IsRoutineFault, in_text, in_tokens, in_tree, IsExact}
+use Rattle.acs_translate.specs.Translation.{IsTranslated, fault_of, lex_err, parse_err, check_fault, IsRoutineFault, in_text, in_tokens, in_tree, IsExact, MayRefuse as TranslateMayRefuse}
 use Rattle.acs_translate.proofs.TranslateLemmas.{exact, exact_lex, exact_parse, exact_check}
 use Rattle.sms_deck.specs.Limits.{most_routine_bytes}
-use Rattle.sms_deck.specs.Outcomes.{Outcome, Absent, Long, Sound, Faulty, IsSource, IsFaulty, ComesTo, Outcomes, AreOutcomes, source_of}
+use Rattle.sms_deck.specs.Outcomes.{Outcome, Absent, Long, Sound, Faulty, IsSource, IsFaulty, ComesTo, Outcomes, AreOutcomes, TellsSource, outcome_from, sound_in, source_fault, source_of, told_as}
+use Rattle.sms_deck.specs.Reading.{TellsSources}
+use Rattle.sms_deck.specs.declared.deck_err.DeckErr.{DeckErr}
+use Rattle.sms_deck.specs.declared.deck_err.DeckErr.TheVariants.{Fault as Faulted, NoMemory}
 use Rattle.toml.specs.Data.{Members}
 use Rattle.acs_tree.specs.declared.kind.Kind.TheVariants.{DataClas, StorClas, MgmtClas, StorGrp}
 
@@ -194,3 +197,60 @@ one_outcomes {top} one two a b =
     (one_outcome StorClas (source_of StorClas top) one.storclas two.storclas a.storclas b.storclas)
     (one_outcome MgmtClas (source_of MgmtClas top) one.mgmtclas two.mgmtclas a.mgmtclas b.mgmtclas)
     (one_outcome StorGrp (source_of StorGrp top) one.storgrp two.storgrp a.storgrp b.storgrp)
+
+-- how the texts are read
+
+pub comes_none : (kind : Kind) {source : Option (List ℕ)} → None ≡ source → ComesTo kind source Absent
+comes_none kind e = subst (λ s. ComesTo kind s Absent) e tt
+
+pub comes_long : (kind : Kind) {source : Option (List ℕ)} {text : List ℕ} → Some text ≡ source → most_routine_bytes < length text → ComesTo kind source Long
+comes_long kind e long = subst (λ s. ComesTo kind s Long) e long
+
+pub comes_sound : (kind : Kind) {source : Option (List ℕ)} {text : List ℕ} {routine : CheckedRoutine} {count : ℕ} → Some text ≡ source → length text ≤ most_routine_bytes
+    → IsTranslated text kind routine.tree count → routine.kind ≡ kind → ComesTo kind source (Sound routine)
+comes_sound kind {routine = routine} {count = count} e fits t k = subst (λ s. ComesTo kind s (Sound routine)) e (record { fits = fits; tokens = count; translated = t; kind_is = k })
+
+tells_at : (kind : Kind) (text : List ℕ) (err : TranslateErr) → length text ≤ most_routine_bytes → TranslateMayRefuse text kind err → TellsSource kind (Some text) (told_as kind err)
+tells_at kind text (told.Fault fault) fits d = let f : IsFaulty kind text fault = record { fits = fits; faulty = d } in (Faulty fault, f, refl)
+tells_at kind text told.NoMemory fits d = tt
+
+pub tells_refusal : (kind : Kind) {source : Option (List ℕ)} {text : List ℕ} (err : TranslateErr) {result : DeckErr} → Some text ≡ source → length text ≤ most_routine_bytes
+    → TranslateMayRefuse text kind err → result ≡ told_as kind err → TellsSource kind source result
+tells_refusal kind {source} {text} err e fits d r = subst (λ z. TellsSource kind source z) (sym r) (subst (λ s. TellsSource kind s (told_as kind err)) e (tells_at kind text err fits d))
+
+pub quiet : (kind : Kind) (routine : Option CheckedRoutine) → source_fault kind (outcome_from routine) ≡ None
+quiet kind None = refl
+quiet kind (Some routine) = refl
+
+pub sound_from : (routine : Option CheckedRoutine) → sound_in (outcome_from routine) ≡ routine
+sound_from None = refl
+sound_from (Some routine) = refl
+
+abbrev Reads : Kind → Members → Option CheckedRoutine → Type 0
+Reads kind top routine = ComesTo kind (source_of kind top) (outcome_from routine)
+
+pub tells_dataclas : (top : Members) (err : DeckErr) → TellsSource DataClas (source_of DataClas top) err → TellsSources top err
+tells_dataclas top (Faulted fault) d =
+    let s = some_outcome StorClas (source_of StorClas top) in
+    let m = some_outcome MgmtClas (source_of MgmtClas top) in
+    let g = some_outcome StorGrp (source_of StorGrp top) in
+    (record { dataclas = d.0; storclas = s.0; mgmtclas = m.0; storgrp = g.0 }, record { dataclas = d.1; storclas = s.1; mgmtclas = m.1; storgrp = g.1 }, rw d.2 refl)
+tells_dataclas top NoMemory d = tt
+
+pub tells_storclas : (top : Members) (a : Option CheckedRoutine) (err : DeckErr) → Reads DataClas top a → TellsSource StorClas (source_of StorClas top) err → TellsSources top err
+tells_storclas top a (Faulted fault) r d =
+    let m = some_outcome MgmtClas (source_of MgmtClas top) in
+    let g = some_outcome StorGrp (source_of StorGrp top) in
+    (record { dataclas = outcome_from a; storclas = d.0; mgmtclas = m.0; storgrp = g.0 }, record { dataclas = r; storclas = d.1; mgmtclas = m.1; storgrp = g.1 }, rw (quiet DataClas a, d.2) refl)
+tells_storclas top a NoMemory r d = tt
+
+pub tells_mgmtclas : (top : Members) (a b : Option CheckedRoutine) (err : DeckErr) → Reads DataClas top a → Reads StorClas top b → TellsSource MgmtClas (source_of MgmtClas top) err → TellsSources top err
+tells_mgmtclas top a b (Faulted fault) r s d =
+    let g = some_outcome StorGrp (source_of StorGrp top) in
+    (record { dataclas = outcome_from a; storclas = outcome_from b; mgmtclas = d.0; storgrp = g.0 }, record { dataclas = r; storclas = s; mgmtclas = d.1; storgrp = g.1 }, rw (quiet DataClas a, quiet StorClas b, d.2) refl)
+tells_mgmtclas top a b NoMemory r s d = tt
+
+pub tells_storgrp : (top : Members) (a b c : Option CheckedRoutine) (err : DeckErr) → Reads DataClas top a → Reads StorClas top b → Reads MgmtClas top c → TellsSource StorGrp (source_of StorGrp top) err → TellsSources top err
+tells_storgrp top a b c (Faulted fault) r s m d =
+    (record { dataclas = outcome_from a; storclas = outcome_from b; mgmtclas = outcome_from c; storgrp = d.0 }, record { dataclas = r; storclas = s; mgmtclas = m; storgrp = d.1 }, rw (quiet DataClas a, quiet StorClas b, quiet MgmtClas c, d.2) refl)
+tells_storgrp top a b c NoMemory r s m d = tt

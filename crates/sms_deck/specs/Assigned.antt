@@ -1,12 +1,16 @@
 -- The constructs that a routine sets by name.
-use Rattle.std.specs.Prelude.{ℕ, List, [], ◌∷◌, ◌++◌, Option, Some, None}
+use Rattle.std.specs.Prelude.{ℕ, List, [], ◌∷◌, ◌++◌, not, Option, Some, None, find}
 use Rattle.std.specs.List.{cons_option}
+use Rattle.toml.specs.Data.{Members}
 use Rattle.dsn_mask.specs.Name.{name_of}
+use Rattle.acs_tree.specs.declared.routine.Form.{Form, fold-Form}
 use Rattle.acs_tree.specs.declared.routine.Form.TheOpen.{Form-F, Stmt-F, When-F}
 use Rattle.acs_tree.specs.declared.routine.Operand.{Operand}
 use Rattle.acs_tree.specs.declared.routine.OperandForm.{OperandForm}
 use Rattle.acs_tree.specs.declared.routine.OperandForm.TheVariants.{Literal, Word, Var}
 use Rattle.acs_tree.specs.declared.routine.Stmt.{Stmt, fold-Stmt}
+use Rattle.acs_tree.specs.declared.routine.When.{When, fold-When}
+use Rattle.sms_deck.specs.Layout.{has}
 
 -- the name that a literal spells; the literal '' spells none
 abbrev pub literal_name : OperandForm → Option (List ℕ)
@@ -55,3 +59,23 @@ assigned_in = fold-Stmt (List (List ℕ)) (List (List ℕ)) (List (List ℕ)) fo
 abbrev pub assigned_by : List Stmt → List (List ℕ)
 assigned_by [] = []
 assigned_by (statement ∷ statements) = assigned_in statement ++ assigned_by statements
+
+-- the first of the names that the table of constructs hasn't
+abbrev pub first_unknown : Members → List (List ℕ) → Option (List ℕ)
+first_unknown constructs names = find (λ name. not (has name constructs)) names
+
+-- the names in parts of a statement
+
+abbrev pub assigned_in_form : Form → List (List ℕ)
+assigned_in_form = fold-Form (List (List ℕ)) (List (List ℕ)) (List (List ℕ)) form_step stmt_step when_step
+
+abbrev pub assigned_in_branch : When → List (List ℕ)
+assigned_in_branch = fold-When (List (List ℕ)) (List (List ℕ)) (List (List ℕ)) form_step stmt_step when_step
+
+abbrev pub assigned_in_branches : List When → List (List ℕ)
+assigned_in_branches [] = []
+assigned_in_branches (branch ∷ branches) = assigned_in_branch branch ++ assigned_in_branches branches
+
+abbrev pub assigned_in_other : Option Stmt → List (List ℕ)
+assigned_in_other None = []
+assigned_in_other (Some statement) = assigned_in statement

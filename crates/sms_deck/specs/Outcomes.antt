@@ -1,5 +1,5 @@
 -- What comes of the texts of a deck's routines.
-use Rattle.std.specs.Prelude.{◌≡◌, ◌≤◌, ◌<◌, ℕ, List, length, not, Option, Some, None, codes, find}
+use Rattle.std.specs.Prelude.{◌≡◌, ◌≤◌, ◌<◌, ℕ, List, length, Option, Some, None, codes}
 use Rattle.std.specs.Option.{option_and_then, option_map}
 use Rattle.toml.specs.Data.{Members, get_member, as_str}
 use Rattle.acs_tree.specs.declared.kind.Kind.{Kind}
@@ -8,6 +8,8 @@ use Rattle.acs_tree.specs.CheckedRoutine.{CheckedRoutine}
 use Rattle.acs_translate.specs.declared.fault.RoutineFault.{RoutineFault}
 use Rattle.acs_translate.specs.declared.fault.Stage.{Stage as StageOf}
 use Rattle.acs_translate.specs.declared.fault.Stage.TheVariants as met_by
+use Rattle.acs_translate.specs.declared.fault.TranslateErr.{TranslateErr}
+use Rattle.acs_translate.specs.declared.fault.TranslateErr.TheVariants as translate
 use Rattle.acs_translate.specs.Translation.{IsTranslated, IsRoutineFault}
 use Rattle.sms_construct.specs.declared.fault.Fault.{Fault}
 use Rattle.sms_construct.specs.declared.fault.Fault.TheVariants.{Routine, TooMany, Unassigned}
@@ -16,10 +18,12 @@ use Rattle.sms_construct.specs.declared.stage.Stage.TheVariants.{Scanner, Parser
 use Rattle.sms_construct.specs.declared.text_fault.TextFault.{TextFault}
 use Rattle.sms_construct.specs.Configuration.{Routines}
 use Rattle.sms_construct.specs.Path.{below}
+use Rattle.sms_deck.specs.declared.deck_err.DeckErr.{DeckErr}
+use Rattle.sms_deck.specs.declared.deck_err.DeckErr.TheVariants.{Fault as Faulted, NoMemory}
 use Rattle.sms_deck.specs.Limits.{most_routine_bytes}
-use Rattle.sms_deck.specs.Layout.{has, table_at}
+use Rattle.sms_deck.specs.Layout.{table_at}
 use Rattle.sms_deck.specs.Tables.{key_of}
-use Rattle.sms_deck.specs.Assigned.{assigned_by}
+use Rattle.sms_deck.specs.Assigned.{assigned_by, first_unknown}
 
 -- the text of the routine of a kind
 abbrev pub source_of : Kind → Members → Option (List ℕ)
@@ -78,6 +82,20 @@ sound_in Long = None
 sound_in (Sound routine) = Some routine
 sound_in (Faulty fault) = None
 
+-- the outcome of a text that has no fault
+abbrev pub outcome_from : Option CheckedRoutine → Outcome
+outcome_from None = Absent
+outcome_from (Some routine) = Sound routine
+
+-- the outcomes of texts that have no faults
+abbrev pub outcomes_from : Routines → Outcomes
+outcomes_from routines = record {
+  dataclas = outcome_from routines.dataclas;
+  storclas = outcome_from routines.storclas;
+  mgmtclas = outcome_from routines.mgmtclas;
+  storgrp = outcome_from routines.storgrp;
+}
+
 -- the routines of the outcomes
 abbrev pub routines_in : Outcomes → Routines
 routines_in outcomes = record {
@@ -104,9 +122,19 @@ source_fault kind Long = Some (TooMany (below (codes "routine") (key_of kind)))
 source_fault kind (Sound routine) = None
 source_fault kind (Faulty fault) = Some (Routine kind (text_fault_of fault))
 
+-- the translator's refusal as that of a deck
+abbrev pub told_as : Kind → TranslateErr → DeckErr
+told_as kind (translate.Fault fault) = Faulted (Routine kind (text_fault_of fault))
+told_as kind translate.NoMemory = NoMemory
+
+-- the refusal of a text that tells its fault
+abbrev pub TellsSource : Kind → Option (List ℕ) → DeckErr → Type 0
+TellsSource kind source (Faulted fault) = (outcome : Outcome) × ComesTo kind source outcome × (source_fault kind outcome ≡ Some fault)
+TellsSource kind source NoMemory = Unit {0}
+
 -- the first name that a routine sets and that is no construct of its kind
 abbrev pub unassigned_in : Kind → Members → CheckedRoutine → Option (List ℕ)
-unassigned_in kind top routine = find (λ name. not (has name (table_at (key_of kind) top))) (assigned_by routine.tree.body)
+unassigned_in kind top routine = first_unknown (table_at (key_of kind) top) (assigned_by routine.tree.body)
 
 -- the fault of a routine that sets what is no construct of its kind
 abbrev pub assigned_fault : Kind → Members → Option CheckedRoutine → Option Fault

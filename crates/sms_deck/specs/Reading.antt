@@ -34,22 +34,25 @@ sources_fault outcomes = first_of (
     source_fault DataClas outcomes.dataclas ∷ source_fault StorClas outcomes.storclas
     ∷ source_fault MgmtClas outcomes.mgmtclas ∷ source_fault StorGrp outcomes.storgrp ∷ [])
 
+-- the refusal of the texts that tells their first fault
+abbrev pub TellsSources : Members → DeckErr → Type 0
+TellsSources top (Faulted fault) = (outcomes : Outcomes) × AreOutcomes top outcomes × (sources_fault outcomes ≡ Some fault)
+TellsSources top NoMemory = Unit {0}
+
 -- the first fault of what the routines set
 abbrev pub assigned_faults : Members → Routines → Option Fault
 assigned_faults top routines = first_of (
     assigned_fault DataClas top routines.dataclas ∷ assigned_fault StorClas top routines.storclas
     ∷ assigned_fault MgmtClas top routines.mgmtclas ∷ assigned_fault StorGrp top routines.storgrp ∷ [])
 
--- the first fault of a deck's table, whose routines come to this: of the tables, of the number of volumes, of a volume
--- in two storage groups, of the routines as texts, and of what they set
+-- the first fault of a deck's tables: of their keys and names, of the number of volumes, of a volume in two storage groups
+abbrev pub form_fault : Members → Option Fault
+form_fault top = first_of (tables_fault top ∷ total_fault top ∷ twice_fault top ∷ [])
+
+-- the first fault of a deck's table, whose routines come to this: of the tables, of the routines as texts, and of
+-- what they set
 abbrev pub fault_of : Members → Outcomes → Option Fault
-fault_of top outcomes = first_of (
-    tables_fault top
-    ∷ total_fault top
-    ∷ twice_fault top
-    ∷ sources_fault outcomes
-    ∷ assigned_faults top (routines_in outcomes)
-    ∷ [])
+fault_of top outcomes = first_of (form_fault top ∷ sources_fault outcomes ∷ assigned_faults top (routines_in outcomes) ∷ [])
 
 -- the configuration of a deck with this table and these routines
 abbrev pub configuration_of : List ℕ → Members → Routines → Configuration
@@ -103,3 +106,22 @@ HasFirstFault bytes fault = IsTooLong bytes fault ⊎ (IsNotToml bytes fault ⊎
 abbrev pub TellsFirstFault : List ℕ → DeckErr → Type 0
 TellsFirstFault bytes (Faulted fault) = HasFirstFault bytes fault
 TellsFirstFault bytes NoMemory = ⊥
+
+-- how the parts of a deck are read
+
+-- the refusal of a deck's tables that tells their first fault
+abbrev pub TellsForm : Members → DeckErr → Type 0
+TellsForm top (Faulted fault) = form_fault top ≡ Some fault
+TellsForm top NoMemory = Unit {0}
+
+-- the refusal of a deck's table that tells its first fault
+abbrev pub TellsTable : Members → DeckErr → Type 0
+TellsTable top (Faulted fault) = (outcomes : Outcomes) × AreOutcomes top outcomes × (fault_of top outcomes ≡ Some fault)
+TellsTable top NoMemory = Unit {0}
+
+-- the table has no fault, and this is its configuration
+pub record IsRead (bytes : List ℕ) (top : Members) (config : Configuration) : Type 0 where
+  pub outcomes : Outcomes
+  pub read : AreOutcomes top outcomes
+  pub faultless : fault_of top outcomes ≡ None
+  pub config_is : config ≡ configuration_of bytes top (routines_in outcomes)

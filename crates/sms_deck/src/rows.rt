@@ -2,12 +2,12 @@
 ghost use Rattle.std.specs.Prelude.{◌≡◌, ◌&&◌, ◌||◌, not, map, bytes_eq, option_map, Option, None, Some, if◌then◌else◌};
 ghost use Rattle.std.specs.List.{list_any};
 ghost use Rattle.std.specs.Option.{option_and_then};
-ghost use Rattle.toml.specs.Data.{get_member, as_table};
+ghost use Rattle.toml.specs.Data.{get_member, as_table, no_members};
 ghost use Rattle.toml.specs.View.{table_view, view};
 ghost use Rattle.sms_construct.specs.Path.{below};
 ghost use Rattle.sms_construct.specs.declared.fault.Fault.TheVariants.{BadValue};
 ghost use Rattle.sms_deck.specs.Values.{has_form};
-ghost use Rattle.sms_deck.specs.Layout.{fault_told, has, key_count, plain, row_fault, unknown_fault};
+ghost use Rattle.sms_deck.specs.Layout.{fault_told, has, key_count, plain, row_fault, table_at, unknown_fault};
 
 use crate::value_form::ValueForm;
 use sms_construct::{Fault, Path};
@@ -27,6 +27,17 @@ pub fn find_table<'a>(keys: &'a Table, key: &str) -> Option<&'a Table>
     match value_at(keys, key) {
         Some(value) => value.as_table(),
         None => None,
+    }
+}
+
+/// The table at a key, or this empty one.
+pub fn table_or<'a>(keys: &'a Table, key: &str, none: &'a Table) -> &'a Table
+    requires { table_view none.now ≡ no_members }
+    ensures { table_view result.now ≡ table_at key.now (table_view keys.entry.now) }
+{
+    match find_table(keys, key) {
+        Some(table) => table,
+        None => none,
     }
 }
 
