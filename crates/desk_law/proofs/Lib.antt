@@ -26,3 +26,4 @@ pub mod ClassificationExamples
 pub mod AllocationExamples
 pub mod OperationExamples
 pub mod StepExamples
+pub mod ActiveLemmas

@@ -1,7 +1,10 @@
 pub mod AssignedLemmas
+pub mod ConfigurationLemmas
+pub mod EitherLemmas
 pub mod LookupLemmas
 pub mod NameLemmas
 pub mod NumberLemmas
+pub mod OrderLemmas
 pub mod OutcomeLemmas
 pub mod PlaceLemmas
 pub mod ReadingLemmas
