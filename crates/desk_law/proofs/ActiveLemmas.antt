@@ -27,6 +27,7 @@ use Rattle.desk_law.specs.Rule.{Rule}
 use Rattle.desk_law.specs.Step.{IsBelow, IsFault, IsFresh, IsRepeat, IsStep}
 use Rattle.desk_law.specs.History.{Leads, Reaches, WasActive}
 use Rattle.desk_law.proofs.LineLemmas.{on-bool, on-option, on-result}
+use Rattle.desk_law.proofs.StepLemmas.{step-one}
 
 -- the same configuration is active, or there was one activation more
 abbrev Follows : DeskState → DeskState → Type 0
@@ -126,9 +127,35 @@ leads-grow : (o : Opening) (before : List Entry) (s : DeskState) (es : List Entr
 leads-grow o before s [] after is = (let same = ap (λ (t : DeskState). t.activations) is in omega (arith, same), λ e. ap (λ (t : DeskState). t.active) is)
 leads-grow o before s (e ∷ es) after leads = grows-step s leads.0 after (step-follows o before s e leads.0 leads.1) (leads-grow o (before ++ e ∷ []) leads.0 es after leads.2)
 
+-- one of two states came of the other
+abbrev AreInLine : DeskState → DeskState → Type 0
+AreInLine t u = Grows t u ⊎ Grows u t
+
+front-head : (e f : Entry) (a b : List Entry) → e ∷ a ≡ f ∷ b → (e ≡ f) × (a ≡ b)
+front-head e f a b is = (cc, cc)
+
 -- two fronts of one list: one goes on as the other
-two-fronts : (o : Opening) (before : List Entry) (s : DeskState) (a b more rest : List Entry) (t u : DeskState) → a ++ more ≡ b ++ rest → Leads o before s a t → Leads o before s b u
-    → ((t2 u2 : DeskState) → Grows t2 u2 → t ≡ t2 → u ≡ u2 → Grows t u) → (Grows t u) ⊎ (Grows u t)
-two-fronts o before s [] b more rest t u is one two step = inl (subst (λ (x : DeskState). Grows x u) (sym one) (leads-grow o before s b u two))
-two-fronts o before s (e ∷ a) [] more rest t u is one two step = inr (subst (λ (x : DeskState). Grows x t) (sym two) (leads-grow o before s (e ∷ a) t one))
-two-fronts o before s (e ∷ a) (f ∷ b) more rest t u is one two step = TODO
+two-fronts : (o : Opening) (before : List Entry) (s : DeskState) (a b more rest : List Entry) (t u : DeskState) → a ++ more ≡ b ++ rest → Leads o before s a t → Leads o before s b u → AreInLine t u
+two-fronts o before s [] b more rest t u is one two = inl (subst (λ (x : DeskState). Grows x u) (sym one) (leads-grow o before s b u two))
+two-fronts o before s (e ∷ a) [] more rest t u is one two = inr (subst (λ (x : DeskState). Grows x t) (sym two) (leads-grow o before s (e ∷ a) t one))
+two-fronts o before s (e ∷ a) (f ∷ b) more rest t u is one two =
+    let heads = front-head e f (a ++ more) (b ++ rest) is in
+    let moved : IsStep o before s e two.0 = subst (λ (x : Entry). IsStep o before s x two.0) (sym heads.0) two.1 in
+    let same : one.0 ≡ two.0 = step-one o before s e one.0 two.0 one.1 moved in
+    let tail : Leads o (before ++ e ∷ []) one.0 b u =
+    subst (λ (x : DeskState). Leads o (before ++ e ∷ []) x b u) (sym same) (subst (λ (x : Entry). Leads o (before ++ x ∷ []) two.0 b u) (sym heads.0) two.2) in
+    two-fronts o (before ++ e ∷ []) one.0 a b more rest t u heads.1 one.2 tail
+
+same-some : (x y : Configuration) → Some x ≡ Some y → x ≡ y
+same-some x y is = cc
+
+in-line-active : (t u : DeskState) (n : ℕ) (x y : Configuration) → AreInLine t u → t.activations ≡ n → u.activations ≡ n → t.active ≡ Some x → u.active ≡ Some y → x ≡ y
+in-line-active t u n x y (inl grows) a b p q = same-some x y (sym p ∙ (sym (grows.1 (b ∙ sym a)) ∙ q))
+in-line-active t u n x y (inr grows) a b p q = same-some x y (sym p ∙ (grows.1 (a ∙ sym b) ∙ q))
+
+-- after so many activations one configuration is active
+pub active-once : (o : Opening) (h : List Entry) (n : ℕ) (x y : Configuration) → WasActive o h n x → WasActive o h n y → x ≡ y
+active-once o h n x y one two =
+    in-line-active one.state two.state n x y
+    (two-fronts o [] (start_of o) one.front two.front one.rest two.rest one.state two.state (sym one.whole ∙ two.whole) one.reaches two.reaches)
+    one.counted two.counted one.active two.active

@@ -111,6 +111,11 @@ pub fn was_active_stays()
     ensures { (o : Opening) (history more : List Entry) (count : ℕ) (config : Configuration) → WasActive o history count config → WasActive o (history ++ more) count config }
 {}
 
+/// After so many activations one configuration is active.
+pub fn was_active_once()
+    ensures { (o : Opening) (history : List Entry) (count : ℕ) (config other : Configuration) → WasActive o history count config → WasActive o history count other → config ≡ other }
+{}
+
 /// Where the opening's rows have places before its first entry, there were as many activations as decks that the opening has and that entries activated.
 pub fn activations_are_counted()
     ensures { (o : Opening) (history : List Entry) (s : DeskState) → AllByRecursion (λ row. row.place ≤ o.base) o.rows.replies → Reaches o history s → s.activations ≡ length o.rows.decks + length (decks_of history) }

@@ -2,7 +2,7 @@
 ghost use Rattle.std.specs.Prelude.{◌≡◌, IfSome, MatchOption, None, bytes_eq, find, option_map};
 ghost use Rattle.std.specs.Option.{option_copied};
 ghost use Rattle.acs_code.specs.Stands.{StandsFor};
-ghost use Rattle.sms_construct.specs.Configuration.{IsConfiguration, has_construct, routine_of};
+ghost use Rattle.sms_construct.specs.Configuration.{Configuration, has_construct, routine_of};
 
 use crate::compiled::Compiled;
 use crate::lookups::{has_data_class, has_group, has_management_class, has_storage_class};
@@ -34,7 +34,7 @@ pub struct Config {
 
 impl Model for Config {
     ghost use Rattle.acs_tree.specs.contracts.routine.Form as form;
-    ghost use Rattle.sms_construct.specs.Configuration.{Configuration, IsConfiguration, Routines};
+    ghost use Rattle.sms_construct.specs.Configuration.{Configuration, Routines};
     ghost use Rattle.std.specs.Coded.{codes};
 
     ghost Value = { Configuration };
@@ -57,8 +57,7 @@ impl Model for Config {
 impl Config {
     /// The bytes of the deck.
     pub fn deck(&self) -> &[u8]
-        ensures deck { result.now ≡ self.now.deck }
-        ensures form { IsConfiguration self.now }
+        ensures { result.now ≡ self.now.deck }
     {
         self.deck.get().as_slice()
     }
