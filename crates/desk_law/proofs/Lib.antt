@@ -27,3 +27,4 @@ pub mod AllocationExamples
 pub mod OperationExamples
 pub mod StepExamples
 pub mod ActiveLemmas
+pub mod RuleExamples

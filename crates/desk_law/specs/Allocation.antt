@@ -90,11 +90,14 @@ pub record GrantsOn (s : DeskState) (alloc : Alloc) (wish : Wish) (volume : Volu
   pub granted : grant_on s volume wish.space.unit (primary_tracks_of wish.space) 0 ≡ Some pieces
   pub makes : Makes (with_set s (new_set alloc wish volume pieces)) (replies.Granted (new_set alloc wish volume pieces) (trace_of wish.classes)) reply after
 
--- where no line answers, a volume that may be chosen grants the space, or none can
+-- a volume that may be chosen grants the space, or none can
+abbrev pub GrantRule : DeskState → Alloc → Wish → Reply → DeskState → Type 0
+GrantRule s alloc wish reply after =
+    Chosen s wish.space.unit (want_of wish) (candidates_of wish)
+    (Leaves s (replies.NoVolume (trace_of wish.classes)) reply after)
+    (λ volume. GrantsOn s alloc wish volume reply after)
+
+-- the first line that answers, or else the grant
 abbrev pub AllocRule : DeskState → List ℕ → Alloc → Reply → DeskState → Type 0
 AllocRule s job alloc reply after =
-    MatchResult (alloc_case s job alloc)
-    (λ wish. Chosen s wish.space.unit (want_of wish) (candidates_of wish)
-    (Leaves s (replies.NoVolume (trace_of wish.classes)) reply after)
-    (λ volume. GrantsOn s alloc wish volume reply after))
-    (λ answer. Leaves s answer reply after)
+    MatchResult (alloc_case s job alloc) (λ wish. GrantRule s alloc wish reply after) (λ answer. Leaves s answer reply after)
