@@ -4,10 +4,11 @@ ghost use Rattle.dsn_mask.specs.Name.{IsVolser, volser_of};
 
 use crate::byte_class::are_name_bytes;
 use crate::text::Text;
+use std::cmp::Ordering;
 use std::hash::{Hash, Hasher};
 use std::marker::Model;
 
-/// A volume serial: one to six letters, digits, `#`, `@` and `$`.
+/// A volume serial: one to six letters, digits, `#`, `@` and `$`, in the order of the bytes.
 pub struct Volser {
     text: Text<6>,
 }
@@ -70,6 +71,42 @@ impl Hash for Volser {
 
     fn hash<H: Hasher>(&self, state: &mut H) {
         state.write(self.bytes());
+    }
+}
+
+impl Ord for Volser {
+    ghost use Rattle.std.specs.Ordering.{nat_cmp};
+    ghost use Rattle.std.specs.Cmp.Lexicographic.{slice_cmp};
+    ghost use Rattle.std.specs.Cmp.Rules.{comparing};
+    ghost use Rattle.std.proofs.Common.{rules};
+
+    ghost cmp = { slice_cmp nat_cmp };
+
+    ghost total = { Prim.search (comparing, rules) };
+
+    ghost matches_partial_cmp = { Prim.search (comparing, rules) };
+
+    ghost matches_eq = { Prim.search (comparing, rules) };
+
+    fn cmp(&self, other: &Volser) -> Ordering {
+        self.bytes().cmp(other.bytes())
+    }
+}
+
+impl PartialOrd for Volser {
+    ghost use Rattle.std.specs.Cmp.{partial_order_from_own_ties};
+    ghost use Rattle.std.specs.Ordering.{as_partial_cmp, nat_cmp};
+    ghost use Rattle.std.specs.Cmp.Lexicographic.{slice_cmp};
+    ghost use Rattle.std.specs.Cmp.Rules.{comparing};
+    ghost use Rattle.std.proofs.Common.{rules};
+
+    ghost partial_cmp = { as_partial_cmp (slice_cmp nat_cmp) };
+
+    ghost laws = { partial_order_from_own_ties (Prim.search (comparing, rules))
+        (Prim.search (comparing, rules)) };
+
+    fn partial_cmp(&self, other: &Volser) -> Option<Ordering> {
+        Some(self.cmp(other))
     }
 }
 

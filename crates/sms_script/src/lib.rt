@@ -19,6 +19,7 @@ mod script_err;
 mod trace_text;
 
 pub use item::{Item, Script};
+pub use fault_text::push_fault;
 pub use printing::print;
 pub use reading::read_script;
 pub use script_err::ScriptErr;

@@ -7,7 +7,8 @@ use Rattle.track_ledger.specs.declared.piece.Piece.{Piece}
 use Rattle.track_ledger.specs.Gaps.{is_free, gaps_of, unit_gaps, times_held}
 use Rattle.track_ledger.specs.GapRule.{grant_of}
 use Rattle.track_ledger.specs.Ledger.{LedgerView}
-use Rattle.track_ledger.specs.Need.{granted_for, tracks_in}
+use Rattle.sms_construct.specs.Quantities.{tracks_in}
+use Rattle.track_ledger.specs.Need.{granted_for}
 use Rattle.track_ledger.specs.Extents.{pieces_of, owned_by, trimmed, front_pieces}
 use Rattle.track_ledger.proofs.LineLemmas.{line-agree, line-of-runs, runs-of-line}
 use Rattle.track_ledger.proofs.GrantLemmas.{free-times}

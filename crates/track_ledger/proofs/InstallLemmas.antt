@@ -10,7 +10,8 @@ use Rattle.track_ledger.specs.Gaps.{times_held}
 use Rattle.track_ledger.specs.GapRule.{pieces_allowed}
 use Rattle.track_ledger.specs.Grants.{IsGrant}
 use Rattle.track_ledger.specs.Ledger.{LedgerView}
-use Rattle.track_ledger.specs.Need.{IsNeed, granted_for, tracks_in}
+use Rattle.sms_construct.specs.Quantities.{tracks_in}
+use Rattle.track_ledger.specs.Need.{IsNeed, granted_for}
 use Rattle.track_ledger.specs.Extents.{pieces_of, NoTrackTwice, granted_to}
 use Rattle.track_ledger.proofs.GrantLemmas.{grant-is}
 

@@ -1,18 +1,12 @@
 -- What a data set needs of a volume, and what is granted.
 use Rattle.std.specs.Prelude.{ℕ, ◌≡◌, ◌≤◌, ◌<◌, ◌%◌, List, Option}
 use Rattle.track_ledger.specs.declared.need.Need.{Need}
-use Rattle.sms_construct.specs.declared.unit.Unit.{Unit as SpaceUnit}
-use Rattle.sms_construct.specs.declared.unit.Unit.TheVariants.{Trk, Cyl}
+use Rattle.sms_construct.specs.Quantities.{tracks_in}
 use Rattle.track_ledger.specs.declared.piece.Piece.{Piece}
 use Rattle.track_ledger.specs.Gaps.{unit_gaps}
 use Rattle.track_ledger.specs.GapRule.{grant_of}
 use Rattle.track_ledger.specs.Ledger.{LedgerView}
 use Rattle.track_ledger.specs.Extents.{gaps_between}
-
--- the tracks of a unit
-abbrev pub tracks_in : SpaceUnit → ℕ
-tracks_in Trk = 1
-tracks_in Cyl = 15
 
 -- at least one track, in whole units, and at most 16 extents
 abbrev pub IsNeed : Need → Type 0

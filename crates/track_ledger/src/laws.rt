@@ -7,7 +7,8 @@ ghost use Rattle.track_ledger.specs.GapRule.{grant_of, pieces_allowed};
 ghost use Rattle.track_ledger.specs.Gaps.{gaps_of, times_held, unit_gaps};
 ghost use Rattle.track_ledger.specs.Grants.{IsGrant};
 ghost use Rattle.track_ledger.specs.Ledger.{LedgerView};
-ghost use Rattle.track_ledger.specs.Need.{granted_for, tracks_in};
+ghost use Rattle.sms_construct.specs.Quantities.{tracks_in};
+ghost use Rattle.track_ledger.specs.Need.{granted_for};
 ghost use Rattle.track_ledger.specs.Extents.{front_pieces, owned_by, pieces_of, trimmed};
 
 /// What the gap rule grants lies inside the volume, on tracks that nobody holds, is of just the need and has few pieces.

@@ -1,6 +1,6 @@
 //! What a data set needs of a volume.
 ghost use Rattle.std.specs.Prelude.{◌≡◌, ◌<◌, ◌≤◌};
-ghost use Rattle.track_ledger.specs.Need.{tracks_in};
+ghost use Rattle.sms_construct.specs.Quantities.{tracks_in};
 
 use sms_construct::Unit;
 

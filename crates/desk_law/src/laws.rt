@@ -1,0 +1,122 @@
+// What holds of each legal history.
+ghost use Rattle.std.specs.Prelude.{◌≡◌, ◌+◌, ◌≤◌, ◌<◌, ◌++◌, [], ◌∷◌, ◌⊎◌, ℕ, true, false, List, Some, None, length, nat_lt, slice_get};
+ghost use Rattle.std.specs.List.{AllByRecursion};
+ghost use Rattle.sms_construct.specs.Configuration.{Configuration};
+ghost use Rattle.sms_construct.specs.declared.data_set.DataSet.{DataSet};
+ghost use Rattle.sms_construct.specs.declared.entry.Entry.{Entry};
+ghost use Rattle.sms_construct.specs.declared.extent.Extent.{Extent};
+ghost use Rattle.sms_construct.specs.declared.reply.Reply.TheVariants.{Granted, Below};
+ghost use Rattle.sms_construct.specs.declared.trace.Trace.{Trace};
+ghost use Rattle.sms_construct.specs.declared.volume.VolumeDef.{VolumeDef};
+ghost use Rattle.sms_keeper.specs.declared.kept_row.KeptRow.{KeptRow};
+ghost use Rattle.track_ledger.specs.Extents.{front_pieces};
+ghost use Rattle.track_ledger.specs.Gaps.{free_tracks, times_held};
+ghost use Rattle.desk_law.specs.State.{DeskState, Opening};
+ghost use Rattle.desk_law.specs.Extents.{front_tracks, granted_on, held_on, pieces_on, tracks_of_pieces};
+ghost use Rattle.desk_law.specs.Volumes.{free_on};
+ghost use Rattle.desk_law.specs.Changes.{may_change};
+ghost use Rattle.desk_law.specs.Kept.{floor_of, kept_for};
+ghost use Rattle.desk_law.specs.Step.{IsFresh, IsStep, RepeatsReply, ReusesNumber};
+ghost use Rattle.desk_law.specs.History.{IsLegal, Reaches, WasActive};
+ghost use Rattle.desk_law.specs.Grants.{GrantsLawfully, WasGranted};
+ghost use Rattle.desk_law.specs.Records.{decks_of, empty_opening};
+ghost use Rattle.desk_law.specs.Lawful.{IsLawful, IsLawfulOpening};
+
+/// The entries of a legal history determine the state after it.
+pub fn one_state()
+    ensures { (o : Opening) (history : List Entry) (s t : DeskState) → Reaches o history s → Reaches o history t → s ≡ t }
+{}
+
+/// Each entry of a legal history is a step after those before it.
+pub fn each_entry_is_a_step()
+    ensures { (o : Opening) (front rest : List Entry) (entry : Entry) → IsLegal o (front ++ entry ∷ rest) →
+        (s : DeskState) × (after : DeskState) × Reaches o front s × IsStep o front s entry after × Reaches o (front ++ entry ∷ []) after }
+{}
+
+/// In a legal history each entry has the place at which it stands, counted on from the opening's.
+pub fn places_in_order()
+    ensures { (o : Opening) (front rest : List Entry) (entry : Entry) → IsLegal o (front ++ entry ∷ rest) → entry.answer.place ≡ o.base + length front + 1 }
+{}
+
+/// A reply that comes with no change leaves the state: refusals, repeats, what is shown, a floor, a fault of the keeper.
+pub fn refusals_change_nothing()
+    ensures { (o : Opening) (before : List Entry) (s after : DeskState) (entry : Entry) → IsStep o before s entry after → may_change entry.answer.reply ≡ false → after ≡ s }
+{}
+
+/// A repeated reply leaves the state too.
+pub fn repeats_change_nothing()
+    ensures { (o : Opening) (before : List Entry) (s after : DeskState) (entry : Entry) → IsStep o before s entry after → (entry.answer.first ≡ entry.answer.place → ⊥) → after ≡ s }
+{}
+
+/// A new desk begins in a lawful state.
+pub fn empty_is_lawful()
+    ensures { IsLawfulOpening empty_opening }
+{}
+
+/// From a lawful opening each legal history leads to a lawful state.
+pub fn lawful_always()
+    ensures { (o : Opening) (history : List Entry) (s : DeskState) → IsLawfulOpening o → Reaches o history s → IsLawful s }
+{}
+
+/// In a lawful state the granted and the free tracks of each active volume are its tracks, and the free ones are those that no data set holds.
+pub fn tracks_add_up()
+    ensures sum { (s : DeskState) (config : Configuration) (volume : VolumeDef) (position : ℕ) → IsLawful s → s.active ≡ Some config → slice_get config.volumes position ≡ Some volume →
+        granted_on s volume.volser + free_on s volume ≡ volume.tracks }
+    ensures free { (s : DeskState) (config : Configuration) (volume : VolumeDef) (position : ℕ) → IsLawful s → s.active ≡ Some config → slice_get config.volumes position ≡ Some volume →
+        free_on s volume ≡ length (free_tracks volume.tracks (held_on s volume.volser)) }
+{}
+
+/// In a lawful state no track of a volume is held by two data sets.
+pub fn to_no_other()
+    ensures { (s : DeskState) (front middle rest : List DataSet) (set other : DataSet) (volser : List ℕ) (track : ℕ) → IsLawful s → s.sets ≡ front ++ set ∷ (middle ++ other ∷ rest) →
+        times_held (pieces_on volser set.extents) track + times_held (pieces_on volser other.extents) track ≤ 1 }
+{}
+
+/// The first tracks of a data set are, on each volume, the first of its tracks there: what a release leaves is what trims leave.
+pub fn release_by_volume()
+    ensures { (volser : List ℕ) (keep : ℕ) (extents : List Extent) → AllByRecursion (λ e. 0 < e.length) extents →
+        pieces_on volser (front_tracks keep extents) ≡ front_pieces (tracks_of_pieces (pieces_on volser (front_tracks keep extents))) (pieces_on volser extents) }
+{}
+
+/// In a legal history each grant, also a repeated one, is that of the opening or of an entry that was lawful where it stands.
+pub fn lawful_grants()
+    ensures kept { (o : Opening) (front rest : List Entry) (entry : Entry) (set : DataSet) (trace : Trace) →
+        IsLegal o (front ++ entry ∷ rest) → entry.answer.reply ≡ Granted set trace → WasGranted o front entry set trace }
+    ensures fresh { (o : Opening) (front rest : List Entry) (entry : Entry) (set : DataSet) (trace : Trace) →
+        IsLegal o (front ++ entry ∷ rest) → entry.answer.reply ≡ Granted set trace → kept_for o front entry.request.job entry.request.number ≡ None → GrantsLawfully o front entry.request set trace }
+{}
+
+/// In a legal history a number below the floor of its job is refused, a kept one gets its reply or is refused for another op, and each other is fresh.
+pub fn kept_replies()
+    ensures below { (o : Opening) (front rest : List Entry) (entry : Entry) → IsLegal o (front ++ entry ∷ rest) → nat_lt entry.request.number (floor_of o front entry.request.job) ≡ true →
+        entry.answer.reply ≡ Below (floor_of o front entry.request.job) }
+    ensures kept { (o : Opening) (front rest : List Entry) (entry : Entry) (row : KeptRow) → IsLegal o (front ++ entry ∷ rest) → nat_lt entry.request.number (floor_of o front entry.request.job) ≡ false →
+        kept_for o front entry.request.job entry.request.number ≡ Some row → RepeatsReply row entry ⊎ ReusesNumber row entry }
+    ensures fresh { (o : Opening) (front rest : List Entry) (entry : Entry) → IsLegal o (front ++ entry ∷ rest) → nat_lt entry.request.number (floor_of o front entry.request.job) ≡ false →
+        kept_for o front entry.request.job entry.request.number ≡ None → (s : DeskState) × (after : DeskState) × Reaches o front s × IsFresh (floor_of o front) s entry after }
+{}
+
+/// A floor never falls.
+pub fn floors_never_fall()
+    ensures { (o : Opening) (front more : List Entry) (job : List ℕ) → floor_of o front job ≤ floor_of o (front ++ more) job }
+{}
+
+/// What a history keeps for a number stays.
+pub fn kept_replies_stay()
+    ensures { (o : Opening) (front more : List Entry) (job : List ℕ) (number : ℕ) (row : KeptRow) → kept_for o front job number ≡ Some row → kept_for o (front ++ more) job number ≡ Some row }
+{}
+
+/// What was active stays so, however long the history grows.
+pub fn was_active_stays()
+    ensures { (o : Opening) (history more : List Entry) (count : ℕ) (config : Configuration) → WasActive o history count config → WasActive o (history ++ more) count config }
+{}
+
+/// After so many activations one configuration is active.
+pub fn was_active_once()
+    ensures { (o : Opening) (history : List Entry) (count : ℕ) (config other : Configuration) → WasActive o history count config → WasActive o history count other → config ≡ other }
+{}
+
+/// Where the opening's rows have places before its first entry, there were as many activations as decks that the opening has and that entries activated.
+pub fn activations_are_counted()
+    ensures { (o : Opening) (history : List Entry) (s : DeskState) → AllByRecursion (λ row. row.place ≤ o.base) o.rows.replies → Reaches o history s → s.activations ≡ length o.rows.decks + length (decks_of history) }
+{}

@@ -1,0 +1,234 @@
+-- What holds of each configuration that a deck gives.
+use Rattle.std.proofs.Common.{◌≡◌, ◌≤◌, ◌<◌, ◌+◌, ◌*◌, take, drop, ◌||◌, ℕ, Bool, true, false, List, [], ◌∷◌, ◌++◌, map, bytes_eq, refl, sym, ap, ◌∙◌, subst, arith}
+use Rattle.std.specs.Prelude.{Option, Some, None, ◌&&◌, ◌==◌, nat_le, IfSome, unwrap_or, position, pos, codes, if◌then◌else◌}
+use Rattle.std.specs.Option.{option_and_then, option_or}
+use Rattle.std.specs.BTreeMap.{insert_entry}
+use Rattle.std.specs.List.{AllByRecursion, list_any}
+use Rattle.std.specs.Ordering.{nat_cmp, match_ordering}
+use Rattle.std.specs.declared.cmp.Ordering.{Ordering}
+use Rattle.std.specs.declared.cmp.Ordering.TheVariants.{Less, Equal, Greater}
+use Rattle.std.specs.Cmp.Lexicographic.{slice_cmp}
+use Rattle.std.proofs.lemmas.Bool.Decides.{nat_tests}
+use Rattle.std.proofs.lemmas.Slice.Eq.{bytes_eq-Decides}
+use Rattle.toml.specs.Data.{Data, string, integer, Members, no_members, member, get_member, as_table, as_str, members_are_sorted}
+use Rattle.desk_common.specs.Limits.{most_tracks}
+use Rattle.dsn_mask.specs.Name.{name_of, volser_of}
+use Rattle.acs_tree.specs.declared.kind.Kind.{Kind}
+use Rattle.acs_tree.specs.declared.kind.Kind.TheVariants.{DataClas, StorClas, MgmtClas, StorGrp}
+use Rattle.sms_construct.specs.declared.unit.Unit.{Unit as UnitOf}
+use Rattle.sms_construct.specs.declared.unit.Unit.TheVariants.{Trk, Cyl}
+use Rattle.sms_construct.specs.declared.volume.VolumeDef.{VolumeDef}
+use Rattle.sms_construct.specs.declared.storage_group.StorGroup.{StorGroup}
+use Rattle.sms_construct.specs.Quantities.{IsSpace, IsVolumeCount, Quantities, space_of}
+use Rattle.sms_construct.specs.Configuration.{Configuration, IsConfiguration, IsDataClass, names_of, has_construct, are_ascending, routine_of}
+use Rattle.sms_deck.specs.declared.place.Place.{Place}
+use Rattle.sms_deck.specs.Limits.{most_cylinders}
+use Rattle.sms_deck.specs.SpaceText.{number_of, behind_front, in_parentheses, space_with, list_of_quantities, quantities_in, behind_unit, in_unit, space_text}
+use Rattle.sms_deck.specs.Values.{devices, meaning_in, word_in, integer_in, space_in}
+use Rattle.sms_deck.specs.Layout.{table_at}
+use Rattle.sms_deck.specs.Constructs.{with_named, named, data_class_of, storage_class_of, management_class_of, group_of, size_of, tracks_of, volume_of, group_volumes, all_volumes}
+use Rattle.sms_deck.specs.Places.{Places, has_place, put_volume, put_volumes, groups_in, places_of, volumes_in}
+use Rattle.sms_deck.specs.Outcomes.{Outcome, Absent, Long, Sound, Faulty, ComesTo, Outcomes, AreOutcomes, routines_in, sound_in, source_of}
+use Rattle.sms_deck.specs.Reading.{Configures, configuration_of}
+use Rattle.sms_deck.proofs.OrderLemmas.{ascending, names_ascend, inner_sorted, lined_volumes, volsers_ascend}
+use Rattle.sms_deck.proofs.SortedLemmas.{document_ascends}
+
+-- options that hold something
+
+then_if : {A B : Type 0} (f : A → Option B) (P : B → Type 0) → ((x : A) → IfSome (f x) P) → (o : Option A) → IfSome (option_and_then f o) P
+then_if f P h None = tt
+then_if f P h (Some x) = h x
+
+or_if : {A : Type 0} (P : A → Type 0) (o p : Option A) → IfSome o P → IfSome p P → IfSome (option_or o p) P
+or_if P None p a b = b
+or_if P (Some x) p a b = a
+
+test_if : {A : Type 0} (P : A → Type 0) (b : Bool) (x : A) → (b ≡ true → P x) → IfSome (if b then Some x else None) P
+test_if P true x h = h refl
+test_if P false x h = tt
+
+-- integers and spaces
+
+abbrev IsWithin : ℕ → ℕ → ℕ → Type 0
+IsWithin least most number = (least ≤ number) × (number ≤ most)
+
+within : (least most number : ℕ) → (nat_le least number && nat_le number most) ≡ true → IsWithin least most number
+within least most number e = (grind (arith, nat_tests), grind (arith, nat_tests))
+
+integer_within : (least most : ℕ) (value : Data) → IfSome (integer_in least most value) (IsWithin least most)
+integer_within least most (integer (pos number)) = test_if (IsWithin least most) (nat_le least number && nat_le number most) number (within least most number)
+integer_within least most _ = tt
+
+is_space : (unit : UnitOf) (primary secondary : ℕ) → (nat_le 1 primary && (nat_le primary 16777215 && nat_le secondary 16777215)) ≡ true → IsSpace (record { unit = unit; primary = primary; secondary = secondary })
+is_space unit primary secondary e = record { some = grind (arith, nat_tests); primary = grind (arith, nat_tests); secondary = grind (arith, nat_tests) }
+
+with_is_space : (unit : UnitOf) (primary secondary : Option ℕ) → IfSome (space_with unit primary secondary) IsSpace
+with_is_space unit (Some primary) (Some secondary) =
+    test_if IsSpace (nat_le 1 primary && (nat_le primary 16777215 && nat_le secondary 16777215)) (record { unit = unit; primary = primary; secondary = secondary }) (is_space unit primary secondary)
+with_is_space unit (Some primary) None = tt
+with_is_space unit None secondary = tt
+
+list_is_space : (unit : UnitOf) (bytes : List ℕ) (comma : Option ℕ) → IfSome (list_of_quantities unit bytes comma) IsSpace
+list_is_space unit bytes None = with_is_space unit (number_of bytes) (Some 0)
+list_is_space unit bytes (Some comma) = with_is_space unit (number_of (take comma bytes)) (number_of (drop (comma + 1) bytes))
+
+quantities_are_space : (unit : UnitOf) (bytes : List ℕ) (listed : Option (List ℕ)) → IfSome (quantities_in unit bytes listed) IsSpace
+quantities_are_space unit bytes None = with_is_space unit (number_of bytes) (Some 0)
+quantities_are_space unit bytes (Some listed) = list_is_space unit listed (position (λ byte. byte == 44) listed)
+
+unit_is_space : (unit : UnitOf) (bytes : List ℕ) → IfSome (behind_unit unit bytes) IsSpace
+unit_is_space unit bytes = quantities_are_space unit bytes (in_parentheses bytes)
+
+in_unit_is_space : (bytes : List ℕ) → IfSome (in_unit bytes) IsSpace
+in_unit_is_space bytes =
+    or_if IsSpace (option_and_then (behind_unit Trk) (behind_front (codes "TRK,") bytes)) (option_and_then (behind_unit Cyl) (behind_front (codes "CYL,") bytes))
+    (then_if (behind_unit Trk) IsSpace (unit_is_space Trk) (behind_front (codes "TRK,") bytes)) (then_if (behind_unit Cyl) IsSpace (unit_is_space Cyl) (behind_front (codes "CYL,") bytes))
+
+value_is_space : (value : Data) → IfSome (space_in value) IsSpace
+value_is_space value = then_if space_text IsSpace (λ text. then_if in_unit IsSpace in_unit_is_space (in_parentheses text)) (as_str value)
+
+-- tracks
+
+device_test : (a b : Bool) → IfSome (if a then Some 50085 else if b then Some 150255 else None) (λ tracks. 0 < tracks)
+device_test true b = omega arith
+device_test false true = omega arith
+device_test false false = tt
+
+device_has_tracks : (value : Data) → IfSome (word_in devices value) (λ tracks. 0 < tracks)
+device_has_tracks value = then_if (meaning_in devices) (λ tracks. 0 < tracks) (λ text. device_test (bytes_eq text (codes "3390-3")) (bytes_eq text (codes "3390-9"))) (as_str value)
+
+one_or_more : (tracks : Option ℕ) (most : ℕ) → IfSome tracks (IsWithin 1 most) → 0 < unwrap_or tracks 1
+one_or_more None most a = omega arith
+one_or_more (Some tracks) most a = omega (arith, a.0)
+
+size_is_some : (device cylinders tracks : Option ℕ) → IfSome device (λ n. 0 < n) → IfSome cylinders (IsWithin 1 most_cylinders) → IfSome tracks (IsWithin 1 most_tracks) → 0 < size_of device cylinders tracks
+size_is_some (Some device) cylinders tracks a b c = a
+size_is_some None (Some cylinders) tracks a b c = omega (arith, b.0)
+size_is_some None None tracks a b c = one_or_more tracks most_tracks c
+
+has_tracks : (keys : Members) → 0 < tracks_of keys
+has_tracks keys =
+    size_is_some (option_and_then (word_in devices) (get_member (codes "device") keys)) (option_and_then (integer_in 1 most_cylinders) (get_member (codes "cylinders") keys)) (option_and_then (integer_in 1 most_tracks) (get_member (codes "tracks") keys))
+    (then_if (word_in devices) (λ n. 0 < n) device_has_tracks (get_member (codes "device") keys))
+    (then_if (integer_in 1 most_cylinders) (IsWithin 1 most_cylinders) (integer_within 1 most_cylinders) (get_member (codes "cylinders") keys))
+    (then_if (integer_in 1 most_tracks) (IsWithin 1 most_tracks) (integer_within 1 most_tracks) (get_member (codes "tracks") keys))
+
+-- what holds of all that is built
+
+all_append : {A : Type 0} (P : A → Type 0) (xs ys : List A) → AllByRecursion P xs → AllByRecursion P ys → AllByRecursion P (xs ++ ys)
+all_append P [] ys a b = b
+all_append P (x ∷ xs) ys a b = (a.0, all_append P xs ys a.1 b)
+
+all_weaker : {A : Type 0} (P Q : A → Type 0) (xs : List A) → ((x : A) → P x → Q x) → AllByRecursion P xs → AllByRecursion Q xs
+all_weaker P Q [] h a = tt
+all_weaker P Q (x ∷ xs) h a = (h x a.0, all_weaker P Q xs h a.1)
+
+all_with : {X : Type 0} (P : X → Type 0) (build : List ℕ → Members → X) → ((name : List ℕ) (keys : Members) → P (build name keys)) → (o : Option (List ℕ)) (t : Option Members) (items : List X)
+    → AllByRecursion P items → AllByRecursion P (with_named build o t items)
+all_with P build h None t items a = a
+all_with P build h (Some name) None items a = a
+all_with P build h (Some name) (Some keys) items a = (h name keys, a)
+
+all_named : {X : Type 0} (P : X → Type 0) (reading : List ℕ → Option (List ℕ)) (build : List ℕ → Members → X) → ((name : List ℕ) (keys : Members) → P (build name keys)) → (ms : Members)
+    → AllByRecursion P (named reading build ms)
+all_named P reading build h no_members = tt
+all_named P reading build h (member l d ms) = all_with P build h (reading l) (as_table d) (named reading build ms) (all_named P reading build h ms)
+
+all_placed : (P : VolumeDef → Type 0) (o : Ordering) (k l : List ℕ) (p q : Place) (es rest : Places) → P p.volume → P q.volume → AllByRecursion P (volumes_in es) → AllByRecursion P (volumes_in rest)
+    → AllByRecursion P (volumes_in (match_ordering o ((k, p) ∷ (l, q) ∷ es) ((l, p) ∷ es) ((l, q) ∷ rest)))
+all_placed P Less k l p q es rest a b c d = (a, (b, c))
+all_placed P Equal k l p q es rest a b c d = (a, c)
+all_placed P Greater k l p q es rest a b c d = (b, d)
+
+all_insert : (P : VolumeDef → Type 0) (k : List ℕ) (p : Place) (es : Places) → P p.volume → AllByRecursion P (volumes_in es) → AllByRecursion P (volumes_in (insert_entry (slice_cmp nat_cmp) es k p))
+all_insert P k p [] a b = (a, tt)
+all_insert P k p (e ∷ es) a b = all_placed P (slice_cmp nat_cmp k e.0) k e.0 p e.1 es (insert_entry (slice_cmp nat_cmp) es k p) a b.0 b.1 (all_insert P k p es a b.1)
+
+all_put : (P : VolumeDef → Type 0) (places : Places) (volumes : List VolumeDef) → AllByRecursion P volumes → AllByRecursion P (volumes_in places) → AllByRecursion P (volumes_in (put_volumes places volumes))
+all_put P places [] a b = b
+all_put P places (volume ∷ volumes) a b =
+    all_put P (put_volume places volume) volumes a.1 (all_insert P volume.volser (record { volume = volume; is_twice = has_place volume.volser places }) places a.0 b)
+
+-- the volumes
+
+group_has_tracks : (o : Option (List ℕ)) (t : Option Members) → AllByRecursion (λ volume. 0 < volume.tracks) (group_volumes o t)
+group_has_tracks None t = tt
+group_has_tracks (Some group) None = tt
+group_has_tracks (Some group) (Some keys) = all_named (λ volume. 0 < volume.tracks) volser_of (volume_of group) (λ volser inner. has_tracks inner) (table_at (codes "volume") keys)
+
+all_have_tracks : (ms : Members) → AllByRecursion (λ volume. 0 < volume.tracks) (all_volumes ms)
+all_have_tracks no_members = tt
+all_have_tracks (member l d ms) = all_append (λ volume. 0 < volume.tracks) (group_volumes (name_of l) (as_table d)) (all_volumes ms) (group_has_tracks (name_of l) (as_table d)) (all_have_tracks ms)
+
+abbrev IsAmong : List StorGroup → VolumeDef → Type 0
+IsAmong groups volume = list_any (bytes_eq volume.group) (map (λ group. group.name) groups) ≡ true
+
+same_bytes : (xs : List ℕ) → bytes_eq xs xs ≡ true
+same_bytes xs = (bytes_eq-Decides xs xs).1 refl
+
+or_left : (a b : Bool) → a ≡ true → (a || b) ≡ true
+or_left a b e = rw e refl
+
+or_right : (a b : Bool) → b ≡ true → (a || b) ≡ true
+or_right true b e = refl
+or_right false b e = e
+
+group_is_among : (o : Option (List ℕ)) (t : Option Members) (items : List StorGroup) → AllByRecursion (IsAmong (with_named group_of o t items)) (group_volumes o t)
+group_is_among None t items = tt
+group_is_among (Some group) None items = tt
+group_is_among (Some group) (Some keys) items =
+    all_named (IsAmong (group_of group keys ∷ items)) volser_of (volume_of group)
+    (λ volser inner. or_left (bytes_eq group group) (list_any (bytes_eq group) (map (λ g. g.name) items)) (same_bytes group)) (table_at (codes "volume") keys)
+
+still_among : (o : Option (List ℕ)) (t : Option Members) (items : List StorGroup) (volume : VolumeDef) → IsAmong items volume → IsAmong (with_named group_of o t items) volume
+still_among None t items volume a = a
+still_among (Some group) None items volume a = a
+still_among (Some group) (Some keys) items volume a = or_right (bytes_eq volume.group group) (list_any (bytes_eq volume.group) (map (λ g. g.name) items)) a
+
+all_are_among : (ms : Members) → AllByRecursion (IsAmong (named name_of group_of ms)) (all_volumes ms)
+all_are_among no_members = tt
+all_are_among (member l d ms) =
+    all_append (IsAmong (with_named group_of (name_of l) (as_table d) (named name_of group_of ms))) (group_volumes (name_of l) (as_table d)) (all_volumes ms) (group_is_among (name_of l) (as_table d) (named name_of group_of ms))
+    (all_weaker (IsAmong (named name_of group_of ms)) (IsAmong (with_named group_of (name_of l) (as_table d) (named name_of group_of ms))) (all_volumes ms) (still_among (name_of l) (as_table d) (named name_of group_of ms)) (all_are_among ms))
+
+-- the classes
+
+is_data_class : (name : List ℕ) (keys : Members) → IsDataClass (data_class_of name keys)
+is_data_class name keys = record {
+  space = then_if space_in IsSpace value_is_space (get_member (codes "space") keys);
+  volumes = then_if (integer_in 1 59) IsVolumeCount (integer_within 1 59) (get_member (codes "volcount") keys);
+}
+
+construct_names : (bytes : List ℕ) (top : Members) (outcomes : Outcomes) → members_are_sorted top ≡ true → (kind : Kind) → are_ascending (names_of kind (configuration_of bytes top (routines_in outcomes))) ≡ true
+construct_names bytes top outcomes s DataClas = ascending _ (names_ascend (λ class. class.name) data_class_of (λ name keys. refl) (table_at (codes "dataclass") top) (inner_sorted (codes "dataclass") top s))
+construct_names bytes top outcomes s StorClas = ascending _ (names_ascend (λ class. class.name) storage_class_of (λ name keys. refl) (table_at (codes "storclass") top) (inner_sorted (codes "storclass") top s))
+construct_names bytes top outcomes s MgmtClas = ascending _ (names_ascend (λ class. class.name) management_class_of (λ name keys. refl) (table_at (codes "mgmtclass") top) (inner_sorted (codes "mgmtclass") top s))
+construct_names bytes top outcomes s StorGrp = ascending _ (names_ascend (λ group. group.name) group_of (λ name keys. refl) (groups_in top) (inner_sorted (codes "storgroup") top s))
+
+-- the routines
+
+sound_kind : (kind : Kind) (source : Option (List ℕ)) (outcome : Outcome) → ComesTo kind source outcome → IfSome (sound_in outcome) (λ routine. routine.kind ≡ kind)
+sound_kind kind source Absent c = tt
+sound_kind kind source Long c = tt
+sound_kind kind None (Sound routine) c = absurd c
+sound_kind kind (Some text) (Sound routine) c = c.kind_is
+sound_kind kind source (Faulty fault) c = tt
+
+kinds_of : {top : Members} (outcomes : Outcomes) → AreOutcomes top outcomes → (kind : Kind) → IfSome (routine_of kind (routines_in outcomes)) (λ routine. routine.kind ≡ kind)
+kinds_of {top} outcomes a DataClas = sound_kind DataClas (source_of DataClas top) outcomes.dataclas a.dataclas
+kinds_of {top} outcomes a StorClas = sound_kind StorClas (source_of StorClas top) outcomes.storclas a.storclas
+kinds_of {top} outcomes a MgmtClas = sound_kind MgmtClas (source_of MgmtClas top) outcomes.mgmtclas a.mgmtclas
+kinds_of {top} outcomes a StorGrp = sound_kind StorGrp (source_of StorGrp top) outcomes.storgrp a.storgrp
+
+is_configuration : (bytes : List ℕ) (top : Members) (outcomes : Outcomes) → members_are_sorted top ≡ true → AreOutcomes top outcomes → IsConfiguration (configuration_of bytes top (routines_in outcomes))
+is_configuration bytes top outcomes s a = record {
+  names = construct_names bytes top outcomes s;
+  volsers = ascending _ (volsers_ascend (places_of top) (lined_volumes [] (all_volumes (groups_in top)) tt));
+  grouped = all_put (IsAmong (named name_of group_of (groups_in top))) [] (all_volumes (groups_in top)) (all_are_among (groups_in top)) tt;
+  tracks = all_put (λ volume. 0 < volume.tracks) [] (all_volumes (groups_in top)) (all_have_tracks (groups_in top)) tt;
+  classes = all_named IsDataClass name_of data_class_of is_data_class (table_at (codes "dataclass") top);
+  kinds = kinds_of outcomes a;
+}
+
+pub configured : {bytes : List ℕ} {config : Configuration} → Configures bytes config → IsConfiguration config
+configured {bytes} c = subst IsConfiguration (sym c.config_is) (is_configuration bytes c.top c.outcomes (document_ascends bytes c.top c.means.document) c.read)

@@ -1,0 +1,13 @@
+pub mod AssignedLemmas
+pub mod ConfigurationLemmas
+pub mod EitherLemmas
+pub mod LookupLemmas
+pub mod NameLemmas
+pub mod NumberLemmas
+pub mod OrderLemmas
+pub mod OutcomeLemmas
+pub mod PlaceLemmas
+pub mod ReadingLemmas
+pub mod SortedLemmas
+pub mod TableLemmas
+pub mod WordLemmas

@@ -1,0 +1,12 @@
+use Rattle.std.proofs.Common.{◌≡◌}
+use Rattle.toml.specs.View.{table_view, members_view}
+use Rattle.dsn_mask.specs.Name.{is_name}
+use Rattle.sms_deck.specs.Layout.{each_fault}
+use Rattle.sms_deck.specs.Tables.{construct_walk}
+use Rattle.sms_deck.proofs.construct_tables.check_each.Given as goal
+
+abbrev pub invariant-loop-name : goal.invariant-loop-name
+invariant-loop-name l =
+    (goal.iterator-loop-name).can_next l.name-iterator
+    × (goal.iterator-loop-name).is_finite l.name-iterator
+    × (each_fault is_name (construct_walk l.fn.kind) l.fn.path (table_view l.fn.constructs) ≡ each_fault is_name (construct_walk l.fn.kind) l.fn.path (members_view l.name-iterator))

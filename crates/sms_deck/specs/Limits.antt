@@ -1,0 +1,30 @@
+-- The limits of a deck (docs/deck.md, "Limits").
+use Rattle.std.specs.Prelude.{ℕ}
+
+-- the bytes of a deck
+abbrev pub most_deck_bytes : ℕ
+most_deck_bytes = 262144
+
+-- the bytes of a routine's text
+abbrev pub most_routine_bytes : ℕ
+most_routine_bytes = 65536
+
+-- the classes of one kind
+abbrev pub most_classes : ℕ
+most_classes = 256
+
+-- the storage groups
+abbrev pub most_groups : ℕ
+most_groups = 64
+
+-- the volumes of a storage group
+abbrev pub most_group_volumes : ℕ
+most_group_volumes = 256
+
+-- the volumes of a deck, each counted where it stands
+abbrev pub most_volumes : ℕ
+most_volumes = 1024
+
+-- the cylinders of a volume
+abbrev pub most_cylinders : ℕ
+most_cylinders = 65520

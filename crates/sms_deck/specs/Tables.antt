@@ -1,0 +1,113 @@
+-- The tables of a deck and their keys (docs/deck.md, "Keys"): a row is a key with the values that are right there.
+use Rattle.std.specs.Prelude.{ℕ, List, [], ◌∷◌, Bool, true, ◌&&◌, ◌||◌, not, Option, codes}
+use Rattle.std.specs.Option.{option_and_then, unwrap_or}
+use Rattle.toml.specs.Data.{Members, get_member, as_bool, as_str}
+use Rattle.desk_common.specs.Limits.{most_tracks}
+use Rattle.dsn_mask.specs.Name.{is_name, is_volser}
+use Rattle.acs_tree.specs.declared.kind.Kind.{Kind}
+use Rattle.acs_tree.specs.declared.kind.Kind.TheVariants.{DataClas, StorClas, MgmtClas, StorGrp}
+use Rattle.sms_construct.specs.declared.fault.Fault.{Fault}
+use Rattle.sms_deck.specs.Limits.{most_classes, most_groups, most_group_volumes, most_cylinders}
+use Rattle.sms_deck.specs.Layout.{Walk, Row, has, fixed_keys, names, plain, inner}
+use Rattle.sms_deck.specs.declared.value_form.ValueForm.TheVariants.{Integer, Text, Flag, ConstructName, SpaceText, Pool, GroupStatus, VolumeStatus, Device, Release}
+use Rattle.sms_deck.specs.Values.{integer_in, has_form}
+
+-- a volume: its device, its cylinders or its tracks, just one of the three, and its status
+
+abbrev pub device_row : Row
+device_row = record (plain (codes "device") Device) { is_needed = λ keys. not (has (codes "cylinders") keys || has (codes "tracks") keys) }
+
+abbrev pub cylinders_row : Row
+cylinders_row = record (plain (codes "cylinders") (Integer 1 most_cylinders)) { is_right = λ keys value. not (has (codes "device") keys) && has_form (Integer 1 most_cylinders) value }
+
+abbrev pub tracks_row : Row
+tracks_row = record (plain (codes "tracks") (Integer 1 most_tracks)) { is_right = λ keys value. not (has (codes "device") keys || has (codes "cylinders") keys) && has_form (Integer 1 most_tracks) value }
+
+abbrev pub volume_rows : List Row
+volume_rows = device_row ∷ cylinders_row ∷ tracks_row ∷ plain (codes "status") VolumeStatus ∷ []
+
+abbrev pub volume_walk : Walk
+volume_walk = fixed_keys volume_rows
+
+-- a storage group
+
+-- the high threshold of a storage group
+abbrev pub high_of : Members → ℕ
+high_of keys = unwrap_or (option_and_then (integer_in 1 100) (get_member (codes "high") keys)) 85
+
+-- the low threshold is at most the high one
+abbrev pub low_row : Row
+low_row = record (plain (codes "low") (Integer 0 100)) { is_right = λ keys value. has_form (Integer 0 (high_of keys)) value }
+
+abbrev pub group_rows : List Row
+group_rows =
+    plain (codes "type") Pool
+    ∷ plain (codes "status") GroupStatus
+    ∷ plain (codes "high") (Integer 1 100)
+    ∷ low_row
+    ∷ plain (codes "overflow") Flag
+    ∷ inner (codes "volume") (names most_group_volumes is_volser volume_walk)
+    ∷ []
+
+-- the classes
+
+abbrev pub data_class_rows : List Row
+data_class_rows = plain (codes "space") SpaceText ∷ plain (codes "volcount") (Integer 1 59) ∷ []
+
+abbrev pub management_class_rows : List Row
+management_class_rows = plain (codes "expire_after") (Integer 0 9999) ∷ plain (codes "release") Release ∷ []
+
+-- the constructs of a kind and the routine of that kind stand under one key
+abbrev pub key_of : Kind → List ℕ
+key_of DataClas = codes "dataclass"
+key_of StorClas = codes "storclass"
+key_of MgmtClas = codes "mgmtclass"
+key_of StorGrp = codes "storgroup"
+
+-- the keys of a construct; a storage class has none
+abbrev pub construct_rows : Kind → List Row
+construct_rows DataClas = data_class_rows
+construct_rows StorClas = []
+construct_rows MgmtClas = management_class_rows
+construct_rows StorGrp = group_rows
+
+abbrev pub construct_walk : Kind → Walk
+construct_walk kind = fixed_keys (construct_rows kind)
+
+-- how many constructs of a kind there may be
+abbrev pub most_constructs : Kind → ℕ
+most_constructs DataClas = most_classes
+most_constructs StorClas = most_classes
+most_constructs MgmtClas = most_classes
+most_constructs StorGrp = most_groups
+
+-- the top table
+
+abbrev pub constructs_row : Kind → Row
+constructs_row kind = inner (key_of kind) (names (most_constructs kind) is_name (construct_walk kind))
+
+-- the text of a routine
+abbrev pub source_row : Kind → Row
+source_row kind = plain (key_of kind) Text
+
+abbrev pub routine_walk : Walk
+routine_walk = fixed_keys (source_row DataClas ∷ source_row StorClas ∷ source_row MgmtClas ∷ source_row StorGrp ∷ [])
+
+abbrev pub version_row : Row
+version_row = record (plain (codes "version") (Integer 1 1)) { is_needed = λ keys. true }
+
+abbrev pub top_rows : List Row
+top_rows =
+    version_row
+    ∷ plain (codes "system") ConstructName
+    ∷ plain (codes "sysplex") ConstructName
+    ∷ constructs_row DataClas ∷ constructs_row StorClas ∷ constructs_row MgmtClas ∷ constructs_row StorGrp
+    ∷ inner (codes "routine") routine_walk
+    ∷ []
+
+abbrev pub top_walk : Walk
+top_walk = fixed_keys top_rows
+
+-- the first fault of the top table and of those inside
+abbrev pub tables_fault : Members → Option Fault
+tables_fault = top_walk []

@@ -1,0 +1,70 @@
+-- What single values of a deck mean (docs/deck.md, "Keys").
+use Rattle.std.specs.Prelude.{ℕ, ◌&&◌, List, [], ◌∷◌, Bool, true, false, Option, None, Some, bytes_eq, codes, is_some, nat_le, pos, if◌then◌else◌}
+use Rattle.std.specs.Option.{option_and_then}
+use Rattle.toml.specs.Data.{Data, integer, as_bool, as_str}
+use Rattle.dsn_mask.specs.Name.{name_of}
+use Rattle.sms_construct.specs.declared.status.Status.{Status}
+use Rattle.sms_construct.specs.declared.status.Status.TheVariants.{Enable, NotCon, DisAll, DisNew, QuiAll, QuiNew}
+use Rattle.sms_construct.specs.Quantities.{Quantities}
+use Rattle.sms_deck.specs.declared.value_form.ValueForm.{ValueForm}
+use Rattle.sms_deck.specs.declared.value_form.ValueForm.TheVariants.{Integer, Text, Flag, ConstructName, SpaceText, Pool, GroupStatus, VolumeStatus, Device, Release}
+use Rattle.sms_deck.specs.SpaceText.{space_text}
+
+-- words, each with what it stands for
+abbrev pub Words : Type 0 → Type 0
+Words X = List (List ℕ × X)
+
+-- what a text stands for, if it is one of the words
+abbrev pub meaning_in : {X : Type 0} → Words X → List ℕ → Option X
+meaning_in [] text = None
+meaning_in (word ∷ words) text = if bytes_eq text word.0 then Some word.1 else meaning_in words text
+
+-- the statuses of a volume
+abbrev pub volume_statuses : Words Status
+volume_statuses = (codes "ENABLE", Enable) ∷ (codes "DISALL", DisAll) ∷ (codes "DISNEW", DisNew) ∷ (codes "QUIALL", QuiAll) ∷ (codes "QUINEW", QuiNew) ∷ []
+
+-- the statuses of a storage group
+abbrev pub group_statuses : Words Status
+group_statuses = (codes "NOTCON", NotCon) ∷ volume_statuses
+
+-- the devices, with their tracks
+abbrev pub devices : Words ℕ
+devices = (codes "3390-3", 50085) ∷ (codes "3390-9", 150255) ∷ []
+
+-- whether unused space is released
+abbrev pub releases : Words Bool
+releases = (codes "YES", true) ∷ (codes "NO", false) ∷ []
+
+-- the one type of a storage group
+abbrev pub pool : Words Bool
+pool = (codes "POOL", true) ∷ []
+
+-- what a value stands for, if it is one of the words
+abbrev pub word_in : {X : Type 0} → Words X → Data → Option X
+word_in words value = option_and_then (meaning_in words) (as_str value)
+
+-- the integer of the range, if the value is one
+abbrev pub integer_in : ℕ → ℕ → Data → Option ℕ
+integer_in least most (integer (pos number)) = if nat_le least number && nat_le number most then Some number else None
+integer_in least most _ = None
+
+-- the construct name, if the value is one
+abbrev pub name_in : Data → Option (List ℕ)
+name_in value = option_and_then name_of (as_str value)
+
+-- the space, if the value is the text of one
+abbrev pub space_in : Data → Option Quantities
+space_in value = option_and_then space_text (as_str value)
+
+-- the value has the form
+abbrev pub has_form : ValueForm → Data → Bool
+has_form (Integer least most) value = is_some (integer_in least most value)
+has_form Text value = is_some (as_str value)
+has_form Flag value = is_some (as_bool value)
+has_form ConstructName value = is_some (name_in value)
+has_form SpaceText value = is_some (space_in value)
+has_form Pool value = is_some (word_in pool value)
+has_form GroupStatus value = is_some (word_in group_statuses value)
+has_form VolumeStatus value = is_some (word_in volume_statuses value)
+has_form Device value = is_some (word_in devices value)
+has_form Release value = is_some (word_in releases value)

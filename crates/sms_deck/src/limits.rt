@@ -1,0 +1,25 @@
+//! The limits of a deck (docs/deck.md, "Limits").
+
+/// The most bytes of a deck.
+pub const MAX_DECK: usize = 262_144;
+
+/// The most bytes of a routine's text.
+pub const MAX_ROUTINE: usize = 65_536;
+
+/// The most classes of one kind.
+pub const MAX_CLASSES: usize = 256;
+
+/// The most storage groups.
+pub const MAX_GROUPS: usize = 64;
+
+/// The most volumes of a storage group.
+pub const MAX_GROUP_VOLUMES: usize = 256;
+
+/// The most volumes of a deck.
+pub const MAX_DECK_VOLUMES: usize = 1_024;
+
+/// The most cylinders of a volume.
+pub const MAX_CYLINDERS: u32 = 65_520;
+
+/// The most tracks of a volume.
+pub const MAX_TRACKS: u32 = 982_800;

@@ -1,0 +1,47 @@
+// The forms of values in a deck.
+ghost use Rattle.std.specs.Prelude.{◌≡◌};
+ghost use Rattle.toml.specs.View.{view};
+ghost use Rattle.sms_deck.specs.Values.{has_form};
+
+use crate::values::{
+    device_in, group_status_in, integer_in, is_pool, name_in, release_in, space_in,
+    volume_status_in,
+};
+use toml::Value;
+
+/// The form that a key's value must have (docs/deck.md, "Keys").
+#[derive(Clone, Copy)]
+pub enum ValueForm {
+    /// An integer from the first to the second number.
+    Integer(u32, u32),
+    Text,
+    /// True or false.
+    Flag,
+    ConstructName,
+    SpaceText,
+    Pool,
+    GroupStatus,
+    VolumeStatus,
+    Device,
+    Release,
+}
+
+impl ValueForm {
+    /// Whether the value has the form.
+    pub fn fits(self, value: &Value) -> bool
+        ensures { result ≡ has_form self (view value.now) }
+    {
+        match self {
+            ValueForm::Integer(least, most) => integer_in(value, least, most).is_some(),
+            ValueForm::Text => value.is_str(),
+            ValueForm::Flag => value.is_bool(),
+            ValueForm::ConstructName => name_in(value).is_some(),
+            ValueForm::SpaceText => space_in(value).is_some(),
+            ValueForm::Pool => is_pool(value),
+            ValueForm::GroupStatus => group_status_in(value).is_some(),
+            ValueForm::VolumeStatus => volume_status_in(value).is_some(),
+            ValueForm::Device => device_in(value).is_some(),
+            ValueForm::Release => release_in(value).is_some(),
+        }
+    }
+}
