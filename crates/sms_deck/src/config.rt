@@ -52,6 +52,18 @@ impl Model for Config {
       volumes = s.volumes;
       routines = record { dataclas = s.dataclas; storclas = s.storclas; mgmtclas = s.mgmtclas; storgrp = s.storgrp };
     } };
+
+    ghost invariant = { λ s. IsConfiguration (record {
+      deck = s.deck;
+      system = s.system;
+      sysplex = s.sysplex;
+      data_classes = s.data_classes;
+      storage_classes = s.storage_classes;
+      management_classes = s.management_classes;
+      groups = s.groups;
+      volumes = s.volumes;
+      routines = record { dataclas = s.dataclas; storclas = s.storclas; mgmtclas = s.mgmtclas; storgrp = s.storgrp };
+    }) };
 }
 
 impl Config {
