@@ -20,7 +20,7 @@ use Rattle.sms_construct.specs.declared.unit.Unit.TheVariants.{Trk, Cyl}
 use Rattle.sms_construct.specs.declared.volume.VolumeDef.{VolumeDef}
 use Rattle.sms_construct.specs.declared.storage_group.StorGroup.{StorGroup}
 use Rattle.sms_construct.specs.Quantities.{IsSpace, IsVolumeCount, Quantities, space_of}
-use Rattle.sms_construct.specs.Configuration.{Configuration, IsConfiguration, IsDataClass, names_of, has_construct, are_ascending, routine_of}
+use Rattle.sms_construct.specs.Configuration.{Configuration, IsConfiguration, IsDataClass, Routines, names_of, has_construct, are_ascending, routine_of}
 use Rattle.sms_deck.specs.declared.place.Place.{Place}
 use Rattle.sms_deck.specs.Limits.{most_cylinders}
 use Rattle.sms_deck.specs.SpaceText.{number_of, behind_front, in_parentheses, space_with, list_of_quantities, quantities_in, behind_unit, in_unit, space_text}
@@ -28,9 +28,10 @@ use Rattle.sms_deck.specs.Values.{devices, meaning_in, word_in, integer_in, spac
 use Rattle.sms_deck.specs.Layout.{table_at}
 use Rattle.sms_deck.specs.Constructs.{with_named, named, data_class_of, storage_class_of, management_class_of, group_of, size_of, tracks_of, volume_of, group_volumes, all_volumes}
 use Rattle.sms_deck.specs.Places.{Places, has_place, put_volume, put_volumes, groups_in, places_of, volumes_in}
-use Rattle.sms_deck.specs.Outcomes.{Outcome, Absent, Long, Sound, Faulty, ComesTo, Outcomes, AreOutcomes, routines_in, sound_in, source_of}
-use Rattle.sms_deck.specs.Reading.{Configures, configuration_of}
+use Rattle.sms_deck.specs.Outcomes.{Outcome, Absent, Long, Sound, Faulty, ComesTo, Outcomes, AreOutcomes, outcomes_from, routines_in, sound_in, source_of}
+use Rattle.sms_deck.specs.Reading.{Configures, MeansTable, configuration_of}
 use Rattle.sms_deck.proofs.OrderLemmas.{ascending, names_ascend, inner_sorted, lined_volumes, volsers_ascend}
+use Rattle.sms_deck.proofs.ReadingLemmas.{back_from_outcomes}
 use Rattle.sms_deck.proofs.SortedLemmas.{document_ascends}
 
 -- options that hold something
@@ -232,3 +233,7 @@ is_configuration bytes top outcomes s a = record {
 
 pub configured : {bytes : List ℕ} {config : Configuration} → Configures bytes config → IsConfiguration config
 configured {bytes} c = subst IsConfiguration (sym c.config_is) (is_configuration bytes c.top c.outcomes (document_ascends bytes c.top c.means.document) c.read)
+
+pub lawful : {bytes : List ℕ} {top : Members} (routines : Routines) → MeansTable bytes top → AreOutcomes top (outcomes_from routines) → IsConfiguration (configuration_of bytes top routines)
+lawful {bytes} {top} routines m a =
+    subst (λ r. IsConfiguration (configuration_of bytes top r)) (back_from_outcomes routines) (is_configuration bytes top (outcomes_from routines) (document_ascends bytes top m.document) a)

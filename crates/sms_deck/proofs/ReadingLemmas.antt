@@ -86,7 +86,7 @@ exact (Err err) c d = right_err err d
 none_of_sources : (routines : Routines) → sources_fault (outcomes_from routines) ≡ None
 none_of_sources routines = rw (quiet DataClas routines.dataclas, quiet StorClas routines.storclas, quiet MgmtClas routines.mgmtclas, quiet StorGrp routines.storgrp) refl
 
-back_from_outcomes : (routines : Routines) → routines_in (outcomes_from routines) ≡ routines
+pub back_from_outcomes : (routines : Routines) → routines_in (outcomes_from routines) ≡ routines
 back_from_outcomes routines =
     let a = sound_from routines.dataclas in
     let b = sound_from routines.storclas in

@@ -2,7 +2,7 @@
 ghost use Rattle.std.specs.Prelude.{◌≡◌, IfSome, MatchOption, None, bytes_eq, find, option_map};
 ghost use Rattle.std.specs.Option.{option_copied};
 ghost use Rattle.acs_code.specs.Stands.{StandsFor};
-ghost use Rattle.sms_construct.specs.Configuration.{Configuration, has_construct, routine_of};
+ghost use Rattle.sms_construct.specs.Configuration.{IsConfiguration, has_construct, routine_of};
 
 use crate::compiled::Compiled;
 use crate::lookups::{has_data_class, has_group, has_management_class, has_storage_class};
@@ -34,7 +34,7 @@ pub struct Config {
 
 impl Model for Config {
     ghost use Rattle.acs_tree.specs.contracts.routine.Form as form;
-    ghost use Rattle.sms_construct.specs.Configuration.{Configuration, Routines};
+    ghost use Rattle.sms_construct.specs.Configuration.{Configuration, IsConfiguration, Routines};
     ghost use Rattle.std.specs.Coded.{codes};
 
     ghost Value = { Configuration };
@@ -52,12 +52,25 @@ impl Model for Config {
       volumes = s.volumes;
       routines = record { dataclas = s.dataclas; storclas = s.storclas; mgmtclas = s.mgmtclas; storgrp = s.storgrp };
     } };
+
+    ghost invariant = { λ s. IsConfiguration (record {
+      deck = s.deck;
+      system = s.system;
+      sysplex = s.sysplex;
+      data_classes = s.data_classes;
+      storage_classes = s.storage_classes;
+      management_classes = s.management_classes;
+      groups = s.groups;
+      volumes = s.volumes;
+      routines = record { dataclas = s.dataclas; storclas = s.storclas; mgmtclas = s.mgmtclas; storgrp = s.storgrp };
+    }) };
 }
 
 impl Config {
     /// The bytes of the deck.
     pub fn deck(&self) -> &[u8]
-        ensures { result.now ≡ self.now.deck }
+        ensures deck { result.now ≡ self.now.deck }
+        ensures form { IsConfiguration self.now }
     {
         self.deck.get().as_slice()
     }

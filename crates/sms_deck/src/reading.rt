@@ -3,10 +3,11 @@ ghost use Rattle.std.specs.Prelude.{◌≡◌, ◌≤◌, None, Some, IfErr, IfO
 ghost use Rattle.toml.specs.Data.{no_members};
 ghost use Rattle.toml.specs.View.{table_view};
 ghost use Rattle.desk_common.specs.Exact.{IsExact, MayRefuse};
+ghost use Rattle.sms_construct.specs.Configuration.{IsConfiguration};
 ghost use Rattle.sms_deck.specs.Limits.{most_deck_bytes};
 ghost use Rattle.sms_deck.specs.Layout.{table_at};
 ghost use Rattle.sms_deck.specs.Places.{groups_in, places_of};
-ghost use Rattle.sms_deck.specs.Reading.{Configures, IsRead, TellsFirstFault, TellsForm, TellsTable, configuration_of, form_fault};
+ghost use Rattle.sms_deck.specs.Reading.{Configures, IsRead, MeansTable, TellsFirstFault, TellsForm, TellsTable, configuration_of, form_fault};
 
 use crate::compiled::Compiled;
 use crate::config::Config;
@@ -67,6 +68,7 @@ fn build(
 ) -> Result<Config, AllocError>
     requires none { table_view none.now ≡ no_members }
     requires places { places.now.entries ≡ places_of (table_view top.now) }
+    requires form { IsConfiguration (configuration_of deck.now (table_view top.now) sources) }
     ensures { IfOk result (λ config. config ≡ configuration_of deck.now (table_view top.now) sources) }
 {
     let Sources {
@@ -93,6 +95,7 @@ fn build(
 
 // The configuration of the deck with this table, or the table's first fault.
 fn read_table(alloc: Global, deck: &DeckText, top: &Table) -> Result<Config, DeckErr>
+    requires { MeansTable deck.now (table_view top.now) }
     ensures ok { IfOk result (IsRead deck.now (table_view top.now)) }
     ensures err { IfErr result (TellsTable (table_view top.now)) }
 {

@@ -1,3 +1,4 @@
 pub mod ExitStatus
+pub mod Tasks
 pub mod ToolText
 pub mod ToolEnds

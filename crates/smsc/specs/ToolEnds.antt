@@ -1,23 +1,15 @@
 -- How a call of the translator ends: each status and its cause (docs/tool.md).
-use Rattle.std.specs.Prelude.{◌≡◌, Bool, true, false, List, [], ◌∷◌, ℕ, codes}
+use Rattle.std.specs.Prelude.{Bool, true, false, List, ℕ}
 use Rattle.sms_base.specs.Observed.{Observed, WasAnswered, HasReadFault, HasWriteFault, IsTooLong, IsOutOfMemory}
-use Rattle.acs_tree.specs.declared.kind.Kind.{Kind}
-use Rattle.acs_tree.specs.Variables.{name_of}
+use Rattle.smsc.specs.Tasks.{most_bytes}
 use Rattle.smsc.specs.ToolText.{IsAnswer}
 use Rattle.smsc.specs.declared.status.ToolStatus.{ToolStatus}
 use Rattle.smsc.specs.declared.status.ToolStatus.TheVariants.{Done, FaultFound, BadWords, ReadFault, WriteFault, TooLong, NoMemory}
-
--- the words that ask for a translation: `translate` and the name of the kind
-abbrev pub AreTranslateWords : List (List ℕ) → Kind → Type 0
-AreTranslateWords words kind = words ≡ codes "translate" ∷ name_of kind ∷ []
-
--- the most bytes of a routine
-abbrev pub most_bytes : ℕ
-most_bytes = 65536
+use Rattle.smsc.specs.declared.task.Task.{Task}
 
 -- the text answers these bytes, whatever its status
-abbrev pub HasAnswer : Kind → List ℕ → List ℕ → Type 0
-HasAnswer kind bytes text = (status : ToolStatus) × IsAnswer bytes kind status text
+abbrev pub HasAnswer : Task → List ℕ → List ℕ → Type 0
+HasAnswer task bytes text = (status : ToolStatus) × IsAnswer bytes task status text
 
 -- the statuses with which nothing is written
 abbrev pub leaves_sink : ToolStatus → Bool
@@ -26,12 +18,12 @@ leaves_sink FaultFound = false
 leaves_sink WriteFault = false
 leaves_sink status = true
 
--- what each status of a translation says of what was observed before and after
-abbrev pub Ends : Kind → Observed → Observed → ToolStatus → Type 0
-Ends kind old new Done = WasAnswered most_bytes (λ bytes text. IsAnswer bytes kind Done text) old new
-Ends kind old new FaultFound = WasAnswered most_bytes (λ bytes text. IsAnswer bytes kind FaultFound text) old new
-Ends kind old new BadWords = ⊥
-Ends kind old new ReadFault = HasReadFault most_bytes old new
-Ends kind old new WriteFault = HasWriteFault most_bytes (HasAnswer kind) old new
-Ends kind old new TooLong = IsTooLong most_bytes old new
-Ends kind old new NoMemory = IsOutOfMemory most_bytes old new
+-- what each status of a task says of what was observed before and after
+abbrev pub Ends : Task → Observed → Observed → ToolStatus → Type 0
+Ends task old new Done = WasAnswered (most_bytes task) (λ bytes text. IsAnswer bytes task Done text) old new
+Ends task old new FaultFound = WasAnswered (most_bytes task) (λ bytes text. IsAnswer bytes task FaultFound text) old new
+Ends task old new BadWords = ⊥
+Ends task old new ReadFault = HasReadFault (most_bytes task) old new
+Ends task old new WriteFault = HasWriteFault (most_bytes task) (HasAnswer task) old new
+Ends task old new TooLong = IsTooLong (most_bytes task) old new
+Ends task old new NoMemory = IsOutOfMemory (most_bytes task) old new

@@ -1,18 +1,78 @@
-//! From the bytes of a routine to the text of the answer.
+//! From the bytes of the input to the text of the answer.
 ghost use Rattle.std.specs.Prelude.{◌≡◌, ◌<◌, ◌^◌, length, IfOk};
-ghost use Rattle.smsc.specs.ToolText.{letter_of, translated_text, fault_text, IsAnswer, TellsFault};
+ghost use Rattle.sms_deck.specs.Reading.{HasFirstFault};
+ghost use Rattle.smsc.specs.ToolText.{letter_of, translated_text, fault_text, refused_text, valid_text, IsAnswer, TellsFault};
+ghost use Rattle.smsc.specs.declared.task.Task.TheVariants.{Translate, Validate};
 
 use crate::status::ToolStatus;
+use crate::task::Task;
 use acs_translate::{RoutineFault, Stage, TranslateErr, translate};
 use acs_tree::Kind;
-use desk_common::push_number;
+use desk_common::{Items, Shared, push_number};
+use sms_construct::Fault;
+use sms_deck::{DeckErr, read_deck};
+use sms_script::push_fault;
 use std::alloc::{AllocError, Global};
 
-/// The answer to the bytes as a routine of this kind: its status and its text.
+/// The answer to the bytes: its status and its text.
+pub fn answer(
+    alloc: Global,
+    task: Task,
+    bytes: Vec<u8>,
+) -> Result<(ToolStatus, Vec<u8>), AllocError>
+    requires { length bytes.items < 2 ^ 32 }
+    ensures { IfOk result (λ found. IsAnswer bytes.items task found.0 found.1.items) }
+{
+    match task {
+        Task::Translate(kind) => translated(alloc, kind, &bytes),
+        Task::Validate => validated(alloc, bytes),
+    }
+}
+
+// The answer to a deck.
+#[tactic(auto, using(crate::proofs::AnswerLemmas::validated, crate::proofs::AnswerLemmas::deck_refused))]
+fn validated(alloc: Global, bytes: Vec<u8>) -> Result<(ToolStatus, Vec<u8>), AllocError>
+    ensures { IfOk result (λ found. IsAnswer bytes.items Validate found.0 found.1.items) }
+{
+    let deck = Shared::new(alloc, Items::from_vec(bytes))?;
+    match read_deck(alloc, &deck) {
+        Ok(config) => {
+            let text = valid_text(alloc, config.groups().len(), config.volumes().len())?;
+            Ok((ToolStatus::Done, text))
+        }
+        Err(DeckErr::Fault(fault)) => {
+            let text = refused_text(alloc, &fault)?;
+            Ok((ToolStatus::FaultFound, text))
+        }
+        Err(DeckErr::NoMemory) => Err(AllocError),
+    }
+}
+
+fn valid_text(alloc: Global, groups: usize, volumes: usize) -> Result<Vec<u8>, AllocError>
+    ensures { IfOk result (λ text. text.items ≡ valid_text groups volumes) }
+{
+    let mut text = b"VALID ".to_vec(alloc)?;
+    push_number(&mut text, groups as u64)?;
+    text.extend_from_slice(b" ")?;
+    push_number(&mut text, volumes as u64)?;
+    text.extend_from_slice(b"\n")?;
+    Ok(text)
+}
+
+fn refused_text(alloc: Global, fault: &Fault) -> Result<Vec<u8>, AllocError>
+    ensures { IfOk result (λ text. text.items ≡ refused_text fault.now) }
+{
+    let mut text = b"FAULT ".to_vec(alloc)?;
+    push_fault(&mut text, fault)?;
+    text.extend_from_slice(b"\n")?;
+    Ok(text)
+}
+
+// The answer to a routine of this kind.
 #[tactic(auto, using(crate::proofs::AnswerLemmas::done, crate::proofs::AnswerLemmas::found))]
-pub fn answer(alloc: Global, kind: Kind, bytes: &[u8]) -> Result<(ToolStatus, Vec<u8>), AllocError>
+fn translated(alloc: Global, kind: Kind, bytes: &[u8]) -> Result<(ToolStatus, Vec<u8>), AllocError>
     requires { length bytes.now < 2 ^ 32 }
-    ensures { IfOk result (λ found. IsAnswer bytes.now kind found.0 found.1.items) }
+    ensures { IfOk result (λ found. IsAnswer bytes.now (Translate kind) found.0 found.1.items) }
 {
     let (_routine, count) = match translate(alloc, bytes, kind) {
         Ok(found) => found,

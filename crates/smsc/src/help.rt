@@ -3,6 +3,7 @@
 const HELP: &str = "smsc - the translator of ACS routines
 
 smsc translate KIND  translate the routine on standard input
+smsc validate        validate the deck on standard input
 smsc --help          this text
 smsc --version       the version
 

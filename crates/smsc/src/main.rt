@@ -1,9 +1,10 @@
-//! The translator as a program: it translates the routine on standard input.
+//! The translator as a program: it translates the routine, or validates the deck, on standard input.
 #![tactic(auto)]
 
 mod answering;
 mod help;
 mod status;
+mod task;
 #[cfg(test)]
 mod tests;
 mod tool;

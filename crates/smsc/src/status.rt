@@ -15,7 +15,7 @@ pub enum ToolStatus {
     ReadFault,
     /// The text couldn't be written; its front may have been.
     WriteFault,
-    /// The input has more than 65,536 bytes.
+    /// The input has more bytes than it may: a routine 65,536, and a deck's input 16,777,216.
     TooLong,
     /// Memory was wanting; nothing was written.
     NoMemory,

@@ -108,8 +108,33 @@ const ROUTINES: [(&str, &[u8], ToolStatus, &[u8]); 19] = [
     ),
 ];
 
+/// The deck, the status and the text that is printed.
+const DECKS: [(&[u8], ToolStatus, &[u8]); 6] = [
+    (b"version = 1", Done, b"VALID 0 0\n"),
+    (
+        b"version = 1\n[storgroup.SG1.volume.VOL001]\ntracks = 100",
+        Done,
+        b"VALID 1 1\n",
+    ),
+    (b"", FaultFound, b"FAULT K3 version\n"),
+    (b"version =", FaultFound, b"FAULT K1\n"),
+    (
+        b"version = 1\n[routine]\nstorclass = \"PROC STORCLAS SET &STORCLAS 'A' END\"",
+        FaultFound,
+        b"FAULT K7 STORCLAS P1 4\n",
+    ),
+    (
+        b"version = 1\n[routine]\nstorclass = \"PROC STORCLAS SET &STORCLAS = 'SC9' END\"",
+        FaultFound,
+        b"FAULT K8 STORCLAS SC9\n",
+    ),
+];
+
 /// Words that ask for nothing.
-const BAD_WORDS: [&[&str]; 10] = [
+const BAD_WORDS: [&[&str]; 13] = [
+    &["Validate"],
+    &["validate", "STORCLAS"],
+    &["validat"],
     &[],
     &["translate"],
     &["STORCLAS"],
@@ -128,6 +153,16 @@ fn each_routine_is_translated_or_told_its_fault(rt: HostRuntime) -> Result<(), F
         let outcome = run(rt.alloc(), &["translate", kind], routine, ROOM)?;
         assert_eq!(rt; outcome.status, status, "at {routine:?}");
         assert_eq!(rt; outcome.text.as_slice(), text, "at {routine:?}");
+    }
+    Ok(())
+}
+
+#[test]
+fn each_deck_is_valid_or_told_its_fault(rt: HostRuntime) -> Result<(), Fail> {
+    for (deck, status, text) in DECKS {
+        let outcome = run(rt.alloc(), &["validate"], deck, ROOM)?;
+        assert_eq!(rt; outcome.status, status, "at {deck:?}");
+        assert_eq!(rt; outcome.text.as_slice(), text, "at {deck:?}");
     }
     Ok(())
 }
