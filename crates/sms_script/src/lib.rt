@@ -1,14 +1,17 @@
 //! The text of a script, and of its answers.
 #![tactic(auto)]
 
+mod allocation;
 mod command;
 mod deck_block;
 mod fault_text;
 mod further_text;
 mod item;
 mod lines;
+mod lists;
 mod next;
 mod number;
+mod op;
 mod operand;
 mod parts;
 mod printing;
@@ -16,9 +19,13 @@ mod pushing;
 mod reading;
 mod reply_text;
 mod script_err;
+mod targets;
 mod trace_text;
+mod value;
+mod verb;
 
-pub use item::{Item, Script};
+pub use item::{Item, Phase, Script};
+pub use op::read_op;
 pub use printing::print;
 pub use reading::read_script;
 pub use script_err::ScriptErr;

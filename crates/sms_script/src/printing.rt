@@ -1,9 +1,10 @@
 //! Answers as text.
 ghost use Rattle.std.specs.Prelude.{◌≡◌, ◌++◌, ◌∷◌, [], length, IfOk, OnOk, decimal};
-ghost use Rattle.sms_script.specs.AnswerText.{end_text, head_text, item_text, text_of};
+ghost use Rattle.sms_script.specs.Script.{items_of};
+ghost use Rattle.sms_script.specs.AnswerText.{end_text, head_text, item_text, items_text, text_of};
 
 use crate::further_text::push_further;
-use crate::item::{Item, Script};
+use crate::item::{Item, Phase, Script};
 use crate::pushing::{push_number_and_blank, push_word_and_blank};
 use crate::reply_text::push_reply;
 use desk_common::push_number;
@@ -17,27 +18,36 @@ pub fn print(
     answers: &[Answer],
     entries: u64,
 ) -> Result<Vec<u8>, AllocError>
-    requires { length answers.now ≡ length script.now }
+    requires { length answers.now ≡ length (items_of script.now) }
     ensures { IfOk result (λ text. text.items ≡ text_of script.now answers.now entries) }
 {
-    print_items(alloc, script.as_slice(), answers, entries)
+    let mut text = Vec::new(alloc);
+    push_phases(&mut text, script.as_slice(), answers)?;
+    push_end(&mut text, entries, answers.len() as u64)?;
+    Ok(text)
 }
 
-fn print_items(
-    alloc: Global,
-    items: &[Item],
-    answers: &[Answer],
-    entries: u64,
-) -> Result<Vec<u8>, AllocError>
-    requires { length answers.now ≡ length items.now }
-    ensures { IfOk result (λ text. text.items ≡ text_of items.now answers.now entries) }
+fn push_phases(text: &mut Vec<u8>, phases: &[Phase], answers: &[Answer]) -> Result<(), AllocError>
+    requires { length answers.now ≡ length (items_of phases.now) }
+    ensures { OnOk result (text.new.items ≡ text.old.items ++ items_text (items_of phases.now) answers.now) }
 {
-    let mut text = Vec::new(alloc);
-    for (at, item) in items.iter().enumerate() {
-        push_item(&mut text, item, &answers[at])?;
+    let mut rest = answers;
+    for phase in phases {
+        let (answers, others) = rest.split_at(phase.len());
+        push_items(text, phase.as_slice(), answers)?;
+        rest = others;
     }
-    push_end(&mut text, entries, items.len() as u64)?;
-    Ok(text)
+    Ok(())
+}
+
+fn push_items(text: &mut Vec<u8>, items: &[Item], answers: &[Answer]) -> Result<(), AllocError>
+    requires { length answers.now ≡ length items.now }
+    ensures { OnOk result (text.new.items ≡ text.old.items ++ items_text items.now answers.now) }
+{
+    for (at, item) in items.iter().enumerate() {
+        push_item(text, item, &answers[at])?;
+    }
+    Ok(())
 }
 
 fn push_end(text: &mut Vec<u8>, entries: u64, items: u64) -> Result<(), AllocError>
