@@ -2,6 +2,8 @@
 #![tactic(auto)]
 
 #[cfg(test)]
+mod commands;
+#[cfg(test)]
 mod constructs;
 #[cfg(test)]
 mod decks;
@@ -18,13 +20,19 @@ mod listing;
 #[cfg(test)]
 mod names;
 #[cfg(test)]
+mod phases;
+#[cfg(test)]
 mod repeats;
 #[cfg(test)]
 mod replies;
 #[cfg(test)]
+mod reports;
+#[cfg(test)]
 mod running;
 #[cfg(test)]
 mod scripts;
+#[cfg(test)]
+mod shown;
 #[cfg(test)]
 mod stepping;
 #[cfg(test)]

@@ -27,5 +27,6 @@ mod verb;
 pub use item::{Item, Phase, Script};
 pub use op::read_op;
 pub use printing::print;
+pub use pushing::status_bytes;
 pub use reading::read_script;
 pub use script_err::ScriptErr;
