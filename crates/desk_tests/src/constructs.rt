@@ -102,8 +102,22 @@ fn used(dsn: Dsn, tracks: u32) -> Op {
     Op::Used { dsn, tracks }
 }
 
-fn vary(target: Target, action: Action) -> Op {
+fn vary_group(group: Name, action: Action) -> Op {
+    let target = Target::Group(group);
     Op::Vary { target, action }
+}
+
+fn vary_set(dsn: Dsn, action: Action) -> Op {
+    let target = Target::Set(dsn);
+    Op::Vary { target, action }
+}
+
+fn display_group(group: Name) -> Op {
+    Op::Display(Target::Group(group))
+}
+
+fn display_set(dsn: Dsn) -> Op {
+    Op::Display(Target::Set(dsn))
 }
 
 fn purge(job: Name, floor: RequestNumber) -> Op {
@@ -116,24 +130,22 @@ fn each_op_is_equal_to_its_copy_and_to_no_other(rt: HostRuntime) -> Result<(), F
     let job = Name::new(b"PAYROLL").ok_or("job")?;
     let one = RequestNumber::new(1).ok_or("number")?;
     let two = RequestNumber::new(2).ok_or("number")?;
-    let group = Target::Group(job);
-    let set = Target::Set(dsn);
     compare_ops(&rt, Op::Extend(dsn), Op::Delete(dsn))?;
     compare_ops(&rt, Op::Delete(dsn), Op::Release(dsn))?;
     compare_ops(&rt, used(dsn, 1), used(dsn, 2))?;
     compare_ops(&rt, Op::Release(dsn), Op::Extend(dsn))?;
-    compare_ops(&rt, Op::Display(group), Op::Display(set))?;
+    compare_ops(&rt, display_group(job), display_set(dsn))?;
     compare_ops(
         &rt,
-        vary(group, Action::Quiesce),
-        vary(set, Action::Quiesce),
+        vary_group(job, Action::Quiesce),
+        vary_set(dsn, Action::Quiesce),
     )?;
     compare_ops(
         &rt,
-        vary(group, Action::Quiesce),
-        vary(group, Action::Enable),
+        vary_group(job, Action::Quiesce),
+        vary_group(job, Action::Enable),
     )?;
-    compare_ops(&rt, purge(job, one), vary(group, Action::Enable))?;
+    compare_ops(&rt, purge(job, one), vary_group(job, Action::Enable))?;
     compare_ops(&rt, purge(job, one), purge(job, two))
 }
 

@@ -8,6 +8,8 @@ mod constructs;
 #[cfg(test)]
 mod decks;
 #[cfg(test)]
+mod examples;
+#[cfg(test)]
 mod first_path;
 #[cfg(test)]
 mod hostile;

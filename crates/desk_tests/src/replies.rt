@@ -7,7 +7,7 @@ use sms_construct::{
     Answer, DataSet, Extent, Extents, Fault, Path, Reply, Stage, Status, Target, TextFault, Trace,
     Unit, View, VolRow, VolumeCount, WhyNoExtend,
 };
-use sms_script::print;
+use sms_script::{answer_lines, print, view_lines};
 use std::alloc::Global;
 use std::process::Abort;
 use std::test::Fail;
@@ -379,6 +379,30 @@ fn each_fault_of_a_deck_shows_what_it_is_about(rt: HostRuntime) -> Result<(), Fa
     ] {
         compare(&rt, alloc, Reply::Deck(fault), wanted)?;
     }
+    Ok(())
+}
+
+#[test]
+fn the_lines_of_an_answer_are_its_reply_and_what_stands_behind(
+    rt: HostRuntime,
+) -> Result<(), Fail> {
+    let alloc = rt.alloc();
+    let answer = Answer {
+        place: 1,
+        first: 1,
+        reply: Reply::Extended {
+            added: Shared::new(alloc, extents(alloc)?)?,
+        },
+    };
+    let lines = answer_lines(alloc, &answer)?;
+    assert_eq!(rt; lines.len(), 3);
+    let view = View::Set(data_set(alloc, None)?);
+    let lines = view_lines(alloc, &view)?;
+    let Some(first) = lines.get(0) else {
+        return Err(Fail::from("lines"));
+    };
+    assert_eq!(rt; first.as_slice(), b"SET PAY.MASTER".as_slice());
+    assert_eq!(rt; lines.len(), 5);
     Ok(())
 }
 

@@ -109,6 +109,10 @@ further_lines (PastGrant granted) = []
 further_lines KeeperFault = []
 further_lines Memory = []
 
+-- the lines of an answer: its reply, and what stands behind that
+abbrev pub answer_lines : Answer → List (List ℕ)
+answer_lines answer = reply_text answer.reply ∷ further_lines answer.reply
+
 -- a further line: two spaces before it, and LF behind it
 abbrev pub indented : List ℕ → List ℕ
 indented line = codes "  " ++ line ++ 10 ∷ []

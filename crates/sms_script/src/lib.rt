@@ -20,13 +20,15 @@ mod reading;
 mod reply_text;
 mod script_err;
 mod targets;
+mod text_lines;
 mod trace_text;
 mod value;
 mod verb;
 
 pub use item::{Item, Phase, Script};
 pub use op::read_op;
-pub use printing::print;
+pub use printing::{answer_lines, print, view_lines};
 pub use pushing::status_bytes;
 pub use reading::read_script;
 pub use script_err::ScriptErr;
+pub use text_lines::TextLines;
