@@ -12,21 +12,21 @@ use Rattle.desk_history.specs.History.{IsLegal, Reaches}
 use Rattle.desk_history.specs.Grants.{GrantsLawfully}
 use Rattle.desk_history.specs.Tracks.{AllInside, NoTrackTwice}
 use Rattle.sms_script.specs.declared.item.Item.{Item}
-use Rattle.sms_script.specs.Script.{script_of}
+use Rattle.sms_script.specs.Script.{items_of, script_of}
 use Rattle.sms_script.specs.AnswerText.{text_of}
 use Rattle.desk_calls.specs.Run.{AnswersInOrder}
 
 -- the text is that of the answers to the script in these bytes, and they are those of one legal history
 pub record IsAnswered (bytes text : List ℕ) : Type 0 where
-  pub items : List Item
+  pub phases : List (List Item)
   pub answers : List Answer
   pub history : List Entry
-  -- whole input: the bytes are the script of these items
-  pub script : script_of bytes ≡ Ok items
+  -- whole input: the bytes are the script of these phases
+  pub script : script_of bytes ≡ Ok phases
   -- whole output: the text is that of the answers, with the number of entries
-  pub printed : text ≡ text_of items answers (length history)
+  pub printed : text ≡ text_of phases answers (length history)
   -- one history, each request once: each item has its answer, and the entries of the answers make the history in script order
-  pub once : AnswersInOrder items answers [] history
+  pub once : AnswersInOrder (items_of phases) answers [] history
   -- each entry has the place at which it stands, counted from 1
   pub places : (front rest : List Entry) (entry : Entry) → history ≡ front ++ entry ∷ rest → entry.answer.place ≡ length front + 1
   -- legal history: each entry is a lawful step after those before it

@@ -1,5 +1,5 @@
 -- What the answers to the items of a script enter.
-use Rattle.std.specs.Prelude.{◌≡◌, List, [], ◌∷◌, ◌++◌, length, false}
+use Rattle.std.specs.Prelude.{ℕ, ◌≡◌, ◌≤◌, List, [], ◌∷◌, ◌++◌, length, false}
 use Rattle.std.specs.List.{AllByRecursion}
 use Rattle.sms_construct.specs.declared.entry.Answer.{Answer}
 use Rattle.sms_construct.specs.declared.entry.Entry.{Entry}
@@ -22,3 +22,17 @@ pub record AnswersInOrder (items : List Item) (answers : List Answer) (old new :
   pub each : length answers ≡ length items
   pub once : new ≡ old ++ entries_of answers items
   pub refused : AllByRecursion HasNoPlace answers
+
+-- so many of the items have their answers, behind those before them
+pub record AnswersFront (items : List Item) (count : ℕ) (before after : List Answer) (old new : List Entry) : Type 0 where
+  pub answers : List Answer
+  pub behind : after ≡ before ++ answers
+  pub counted : length answers ≡ count
+  pub once : new ≡ old ++ entries_of answers items
+  pub refused : AllByRecursion HasNoPlace answers
+
+-- the first items were answered
+pub record AnswersPartly (items : List Item) (old new : List Entry) : Type 0 where
+  pub done : List Answer
+  pub few : length done ≤ length items
+  pub entered : new ≡ old ++ entries_of done items

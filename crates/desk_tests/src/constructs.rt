@@ -91,11 +91,37 @@ fn compare_decks(rt: &impl Abort, alloc: Global, plain: &Op) -> Result<(), Fail>
 }
 
 /// Compares an op with its copy, and with another.
-fn compare_ops(rt: &impl Abort, op: &Op, other: &Op) -> Result<(), Fail> {
-    assert!(rt; op.copy()?.equals(op));
-    assert!(rt; !op.equals(other));
-    assert!(rt; !other.equals(op));
+fn compare_ops(rt: &impl Abort, op: Op, other: Op) -> Result<(), Fail> {
+    assert!(rt; op.copy()?.equals(&op));
+    assert!(rt; !op.equals(&other));
+    assert!(rt; !other.equals(&op));
     Ok(())
+}
+
+fn used(dsn: Dsn, tracks: u32) -> Op {
+    Op::Used { dsn, tracks }
+}
+
+fn vary_group(group: Name, action: Action) -> Op {
+    let target = Target::Group(group);
+    Op::Vary { target, action }
+}
+
+fn vary_set(dsn: Dsn, action: Action) -> Op {
+    let target = Target::Set(dsn);
+    Op::Vary { target, action }
+}
+
+fn display_group(group: Name) -> Op {
+    Op::Display(Target::Group(group))
+}
+
+fn display_set(dsn: Dsn) -> Op {
+    Op::Display(Target::Set(dsn))
+}
+
+fn purge(job: Name, floor: RequestNumber) -> Op {
+    Op::Purge { job, floor }
 }
 
 #[test]
@@ -103,45 +129,24 @@ fn each_op_is_equal_to_its_copy_and_to_no_other(rt: HostRuntime) -> Result<(), F
     let dsn = Dsn::parse(b"A.B").map_err(|_| "dsn")?;
     let job = Name::new(b"PAYROLL").ok_or("job")?;
     let one = RequestNumber::new(1).ok_or("number")?;
-    let group = Target::Group(job);
-    let set = Target::Set(dsn);
-    let action = Action::Quiesce;
-    let vary = Op::Vary {
-        target: group,
-        action,
-    };
-    compare_ops(&rt, &Op::Extend(dsn), &Op::Delete(dsn))?;
-    compare_ops(&rt, &Op::Delete(dsn), &Op::Release(dsn))?;
-    compare_ops(
-        &rt,
-        &Op::Used { dsn, tracks: 1 },
-        &Op::Used { dsn, tracks: 2 },
-    )?;
-    compare_ops(&rt, &Op::Release(dsn), &Op::Extend(dsn))?;
-    compare_ops(&rt, &Op::Display(group), &Op::Display(set))?;
-    compare_ops(
-        &rt,
-        &vary,
-        &Op::Vary {
-            target: set,
-            action,
-        },
-    )?;
-    compare_ops(
-        &rt,
-        &vary,
-        &Op::Vary {
-            target: group,
-            action: Action::Enable,
-        },
-    )?;
-    compare_ops(&rt, &Op::Purge { job, floor: one }, &vary)?;
     let two = RequestNumber::new(2).ok_or("number")?;
+    compare_ops(&rt, Op::Extend(dsn), Op::Delete(dsn))?;
+    compare_ops(&rt, Op::Delete(dsn), Op::Release(dsn))?;
+    compare_ops(&rt, used(dsn, 1), used(dsn, 2))?;
+    compare_ops(&rt, Op::Release(dsn), Op::Extend(dsn))?;
+    compare_ops(&rt, display_group(job), display_set(dsn))?;
     compare_ops(
         &rt,
-        &Op::Purge { job, floor: one },
-        &Op::Purge { job, floor: two },
-    )
+        vary_group(job, Action::Quiesce),
+        vary_set(dsn, Action::Quiesce),
+    )?;
+    compare_ops(
+        &rt,
+        vary_group(job, Action::Quiesce),
+        vary_group(job, Action::Enable),
+    )?;
+    compare_ops(&rt, purge(job, one), vary_group(job, Action::Enable))?;
+    compare_ops(&rt, purge(job, one), purge(job, two))
 }
 
 #[test]

@@ -44,25 +44,25 @@ const FAULTY: [(&str, ScriptErr); 10] = [
     ("* NOTE\n\nSMSADMIN 1 ACTIVATE", ScriptErr::OpenBlock(3)),
     ("SMSADMIN 1 ACTIVATE\n./END \n", ScriptErr::OpenBlock(1)),
     (
-        "JOB1 1 ALLOC A.B SPACE=(TRK,1)\nJOB1 2 ALLOC A.B\n",
-        ScriptErr::NotBuilt(2),
+        "JOB1 1 ALLOC A.B SPACE=(TRK,1)\nJOB1 2 ALLOC\n",
+        ScriptErr::BadLine(2),
     ),
     (
         "JOB1 1 VARY SMS,VOLUME(VOL001),ENABLE\nSMSADMIN 1 ACTIVATE\n",
-        ScriptErr::NotBuilt(1),
+        ScriptErr::BadLine(1),
     ),
-    ("JOB1 0 ALLOC A.B SPACE=(TRK,1)", ScriptErr::NotBuilt(1)),
+    ("JOB1 0 ALLOC A.B SPACE=(TRK,1)", ScriptErr::BadLine(1)),
     (
         "JOB1 4294967296 ALLOC A.B SPACE=(TRK,1)",
-        ScriptErr::NotBuilt(1),
+        ScriptErr::BadLine(1),
     ),
     (
         "JOB1 1 ALLOC ABCDEFGH.ABCDEFGH.ABCDEFGH.ABCDEFGH.ABCDEFGHI SPACE=(TRK,1)",
-        ScriptErr::NotBuilt(1),
+        ScriptErr::BadLine(1),
     ),
     (
         "JOB1 1 ALLOC ABCDEFGH.ABCDEFGH.ABCDEFGH.ABCDEFGH.ABCDEFG.A SPACE=(TRK,1)",
-        ScriptErr::NotBuilt(1),
+        ScriptErr::BadLine(1),
     ),
 ];
 

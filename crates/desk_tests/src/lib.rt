@@ -2,6 +2,8 @@
 #![tactic(auto)]
 
 #[cfg(test)]
+mod commands;
+#[cfg(test)]
 mod constructs;
 #[cfg(test)]
 mod deck_faults;
@@ -11,6 +13,8 @@ mod deck_limits;
 mod deck_readings;
 #[cfg(test)]
 mod decks;
+#[cfg(test)]
+mod examples;
 #[cfg(test)]
 mod first_path;
 #[cfg(test)]
@@ -26,13 +30,19 @@ mod listing;
 #[cfg(test)]
 mod names;
 #[cfg(test)]
+mod phases;
+#[cfg(test)]
 mod repeats;
 #[cfg(test)]
 mod replies;
 #[cfg(test)]
+mod reports;
+#[cfg(test)]
 mod running;
 #[cfg(test)]
 mod scripts;
+#[cfg(test)]
+mod shown;
 #[cfg(test)]
 mod stepping;
 #[cfg(test)]

@@ -7,7 +7,7 @@ use sms_construct::{
     Answer, DataSet, Extent, Extents, Fault, Path, Reply, Stage, Status, Target, TextFault, Trace,
     Unit, View, VolRow, VolumeCount, WhyNoExtend,
 };
-use sms_script::print;
+use sms_script::{answer_lines, print, view_lines};
 use std::alloc::Global;
 use std::process::Abort;
 use std::test::Fail;
@@ -87,7 +87,10 @@ fn printed(alloc: Global, reply: Reply) -> Result<Vec<u8>, Fail> {
         first: 4,
         reply,
     })?;
-    if script.len() != answers.len() {
+    let [phase] = script.as_slice() else {
+        return Ok(Vec::new(alloc));
+    };
+    if phase.len() != answers.len() {
         return Ok(Vec::new(alloc));
     }
     Ok(print(alloc, &script, &answers, 31)?)
@@ -380,6 +383,30 @@ fn each_fault_of_a_deck_shows_what_it_is_about(rt: HostRuntime) -> Result<(), Fa
 }
 
 #[test]
+fn the_lines_of_an_answer_are_its_reply_and_what_stands_behind(
+    rt: HostRuntime,
+) -> Result<(), Fail> {
+    let alloc = rt.alloc();
+    let answer = Answer {
+        place: 1,
+        first: 1,
+        reply: Reply::Extended {
+            added: Shared::new(alloc, extents(alloc)?)?,
+        },
+    };
+    let lines = answer_lines(alloc, &answer)?;
+    assert_eq!(rt; lines.len(), 3);
+    let view = View::Set(data_set(alloc, None)?);
+    let lines = view_lines(alloc, &view)?;
+    let Some(first) = lines.get(0) else {
+        return Err(Fail::from("lines"));
+    };
+    assert_eq!(rt; first.as_slice(), b"SET PAY.MASTER".as_slice());
+    assert_eq!(rt; lines.len(), 5);
+    Ok(())
+}
+
+#[test]
 fn no_items_are_printed_as_the_last_line_alone(rt: HostRuntime) -> Result<(), Fail> {
     let found = print(rt.alloc(), &Items::new(rt.alloc()), &[], 0)?;
     assert_eq!(rt; found.as_slice(), b"END 0 0\n".as_slice());
@@ -404,7 +431,10 @@ fn the_items_stand_in_the_order_of_their_lines(rt: HostRuntime) -> Result<(), Fa
             trace: no_trace(alloc)?,
         },
     })?;
-    assert_eq!(rt; script.len(), answers.len());
+    let [phase] = script.as_slice() else {
+        return Err(Fail::from("phases"));
+    };
+    assert_eq!(rt; phase.len(), answers.len());
     let found = print(alloc, &script, &answers, 2)?;
     let wanted = b"1 1 1 SMSADMIN 1 A04 ACTIVATED 1\n4 2 2 JOB1 1 R18 NO VOLUME\nEND 2 2\n";
     assert_eq!(rt; found.as_slice(), wanted.as_slice());

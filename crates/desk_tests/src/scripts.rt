@@ -1,27 +1,26 @@
 //! Scripts as they are read.
-use desk_common::Items;
-use sms_construct::Op;
-use sms_script::{Item, Script, ScriptErr, read_script};
+use crate::shown::push_op;
+use sms_script::{Item, Phase, Script, ScriptErr, read_script};
 use std::alloc::{AllocError, Global};
 use std::process::Abort;
 use std::test::Fail;
 
 /// A text and its items in words, or its fault.
-type Row = (&'static str, &'static str);
+pub type Row = (&'static str, &'static str);
 
 const TEXTS: [Row; 16] = [
     ("", ""),
     ("\r\n   \r\n* JOB1 1 NONSENSE\r\n\n*\n ", ""),
     ("*", ""),
-    ("\r", "S9 1"),
-    (" * a blank before the asterisk\n", "S9 1"),
+    ("\r", "S1 1"),
+    (" * a blank before the asterisk\n", "S1 1"),
     (
         "SMSADMIN 1 ACTIVATE\nversion = 1\n./END\nJOB1 1 ALLOC PAY.MASTER SPACE=(TRK,(10,5))\n",
-        "1 SMSADMIN 1 ACTIVATE version = 1\n;4 JOB1 1 ALLOC PAY.MASTER 10 5;",
+        "1 SMSADMIN 1 ACTIVATE version = 1\n;4 JOB1 1 ALLOC PAY.MASTER TRK 10 5 SIZE=554 MAXSIZE=4704;",
     ),
     (
         "\n  smsadmin   1   activate  \r\nKey = 'Text'\r\n./END\r\n\r\n job1 1 alloc  pay.master   space=(trk,(10,5)) ",
-        "2 SMSADMIN 1 ACTIVATE Key = 'Text'\r\n;6 JOB1 1 ALLOC PAY.MASTER 10 5;",
+        "2 SMSADMIN 1 ACTIVATE Key = 'Text'\r\n;6 JOB1 1 ALLOC PAY.MASTER TRK 10 5 SIZE=554 MAXSIZE=4704;",
     ),
     ("SMSADMIN 1 ACTIVATE\n./END", "1 SMSADMIN 1 ACTIVATE ;"),
     ("SMSADMIN 1 ACTIVATE\n", "S2 1"),
@@ -34,97 +33,58 @@ const TEXTS: [Row; 16] = [
         "SMSADMIN 1 ACTIVATE\n./END \n* text\nJOB1 1 NONSENSE\r\n./END\n",
         "1 SMSADMIN 1 ACTIVATE ./END \n* text\nJOB1 1 NONSENSE\r\n;",
     ),
-    ("JOB1 1 NONSENSE\nSMSADMIN 1 ACTIVATE\n", "S9 1"),
+    ("JOB1 1 NONSENSE\nSMSADMIN 1 ACTIVATE\n", "S1 1"),
     ("SMSADMIN 1 ACTIVATE\nJOB1 1 NONSENSE\n", "S2 1"),
-    ("SMSADMIN 1 ACTIVATE\n\n\n./END\nJOB1 1 NONSENSE\n", "S9 5"),
-    ("./END\n", "S9 1"),
+    ("SMSADMIN 1 ACTIVATE\n\n\n./END\nJOB1 1 NONSENSE\n", "S1 5"),
+    ("./END\n", "S1 1"),
 ];
 
-const COMMANDS: [Row; 42] = [
+const COMMANDS: [Row; 24] = [
+    ("JOB1 1 ALLOC A.B SPACE=(TRK,10)", ITEM),
+    ("job1 1 alloc a.b space=(trk,10)", ITEM),
+    ("  JOB1   1 ALLOC  A.B   SPACE=(TRK,10)  ", ITEM),
+    ("JOB1 1 ALLOC A.B SPACE=(TRK,10)\r\n", ITEM),
+    ("JOB1 0000000001 ALLOC A.B SPACE=(TRK,10)", ITEM),
+    ("JOB1 00000000001 ALLOC A.B SPACE=(TRK,10)", "S1 1"),
+    ("JOB1 0 ALLOC A.B SPACE=(TRK,10)", "S1 1"),
     (
-        "JOB1 1 ALLOC A.B SPACE=(TRK,10)",
-        "1 JOB1 1 ALLOC A.B 10 0;",
+        "JOB1 4294967295 DELETE A.B",
+        "1 JOB1 4294967295 DELETE A.B;",
     ),
+    ("JOB1 4294967296 DELETE A.B", "S1 1"),
+    ("JOB1 9999999999 DELETE A.B", "S1 1"),
+    ("JOB1 +1 DELETE A.B", "S1 1"),
+    ("1JOB 1 DELETE A.B", "S1 1"),
+    ("JOB1 1 ACTIVATE\n./END\n", "S1 1"),
+    ("SMSADMIN 1 ACTIVATE NOW\n./END\n", "S1 1"),
+    ("SMSADMIN 0 ACTIVATE\n./END\n", "S1 1"),
+    ("SMSADMIN 1\n", "S1 1"),
+    ("JOB1\t1\tDELETE\tA.B", "S1 1"),
+    ("JOB1 1 DELETE\rA.B", "S1 1"),
+    ("JOB1 1 DELETE A.B\r\r\n", "S1 1"),
+    ("JOB1 1 DELETE A.B\r", "S1 1"),
     (
-        "JOB1 1 ALLOC A.B SPACE=(TRK,(10))",
-        "1 JOB1 1 ALLOC A.B 10 0;",
+        "SMSADMIN 1 V SMS,VOLUME(V1),ENABLE",
+        "1 SMSADMIN 1 VARY VOLUME V1 ENABLE;",
     ),
-    (
-        "JOB1 1 ALLOC A.B SPACE=(TRK,(10,0))",
-        "1 JOB1 1 ALLOC A.B 10 0;",
-    ),
-    (
-        "job1 1 alloc a.b space=(trk,(10,5))",
-        "1 JOB1 1 ALLOC A.B 10 5;",
-    ),
-    ("JOB1 1 ALLOC A.B SPACE=(TRK,10,5)", "S9 1"),
-    ("JOB1 1 ALLOC A.B SPACE=(TRK,(10,))", "S9 1"),
-    ("JOB1 1 ALLOC A.B SPACE=(TRK,(,5))", "S9 1"),
-    ("JOB1 1 ALLOC A.B SPACE=(TRK,())", "S9 1"),
-    ("JOB1 1 ALLOC A.B SPACE=(TRK,(1,2,3))", "S9 1"),
-    ("JOB1 1 ALLOC A.B SPACE=(TRK,(10)", "S9 1"),
-    ("JOB1 1 ALLOC A.B SPACE=(TRK,10", "S9 1"),
-    ("JOB1 1 ALLOC A.B SPACE=(TRK)", "S9 1"),
-    ("JOB1 1 ALLOC A.B SPACE=(CYL,10)", "S9 1"),
-    ("JOB1 1 ALLOC A.B SPACE=(TRK, 10)", "S9 1"),
-    ("JOB1 1 ALLOC A.B SPACE=(TRK,0)", "S9 1"),
-    (
-        "JOB1 1 ALLOC A.B SPACE=(TRK,(16777215,16777215))",
-        "1 JOB1 1 ALLOC A.B 16777215 16777215;",
-    ),
-    ("JOB1 1 ALLOC A.B SPACE=(TRK,16777216)", "S9 1"),
-    ("JOB1 1 ALLOC A.B SPACE=(TRK,(1,16777216))", "S9 1"),
-    (
-        "JOB1 1 ALLOC A.B SPACE=(TRK,0000000010)",
-        "1 JOB1 1 ALLOC A.B 10 0;",
-    ),
-    ("JOB1 1 ALLOC A.B SPACE=(TRK,00000000010)", "S9 1"),
-    ("JOB1 1 ALLOC A.B", "S9 1"),
-    ("JOB1 1 ALLOC A.B SPACE=(TRK,10) VOLCNT=1", "S9 1"),
-    ("JOB1 1 ALLOC", "S9 1"),
-    ("JOB1 1 ALLOC A..B SPACE=(TRK,10)", "S9 1"),
-    ("JOB1 0 ALLOC A.B SPACE=(TRK,10)", "S9 1"),
-    (
-        "JOB1 4294967295 ALLOC A.B SPACE=(TRK,10)",
-        "1 JOB1 4294967295 ALLOC A.B 10 0;",
-    ),
-    ("JOB1 4294967296 ALLOC A.B SPACE=(TRK,10)", "S9 1"),
-    ("JOB1 9999999999 ALLOC A.B SPACE=(TRK,10)", "S9 1"),
-    (
-        "JOB1 0000000001 ALLOC A.B SPACE=(TRK,10)",
-        "1 JOB1 1 ALLOC A.B 10 0;",
-    ),
-    ("JOB1 00000000001 ALLOC A.B SPACE=(TRK,10)", "S9 1"),
-    ("JOB1 +1 ALLOC A.B SPACE=(TRK,10)", "S9 1"),
-    ("1JOB 1 ALLOC A.B SPACE=(TRK,10)", "S9 1"),
-    ("SMSADMIN 1 ALLOC A.B SPACE=(TRK,10)", "S9 1"),
-    ("JOB1 1 ACTIVATE\n./END\n", "S9 1"),
-    ("SMSADMIN 1 ACTIVATE NOW\n./END\n", "S9 1"),
-    ("SMSADMIN 0 ACTIVATE\n./END\n", "S9 1"),
-    ("SMSADMIN 1\n", "S9 1"),
-    ("JOB1\t1\tALLOC\tA.B\tSPACE=(TRK,10)", "S9 1"),
-    ("JOB1 1 ALLOC A.B\rSPACE=(TRK,10)", "S9 1"),
-    ("JOB1 1 ALLOC A.B SPACE=(TRK,10)\r\r\n", "S9 1"),
-    ("JOB1 1 ALLOC A.B SPACE=(TRK,10)\r", "S9 1"),
-    (
-        "JOB1 1 ALLOC A.B SPACE=(TRK,10)\r\n",
-        "1 JOB1 1 ALLOC A.B 10 0;",
-    ),
+    ("SMSADMIN 2 D SET(A.B)", "1 SMSADMIN 2 DISPLAY SET A.B;"),
+    ("JOB1 2 D SET(A.B)", "1 JOB1 2 DISPLAY SET A.B;"),
+    ("JOB1 2 PURGE JOB1 5", "S1 1"),
 ];
 
 /// A front filled up with blanks to a length, its line end, and its items in words, or its fault.
 const LENGTHS: [(&str, usize, &str, &str); 6] = [
     (COMMAND, 4096, "", ITEM),
     (COMMAND, 4096, "\r\n", ITEM),
-    (COMMAND, 4097, "", "S9 1"),
-    (COMMAND, 4097, "\n", "S9 1"),
+    (COMMAND, 4097, "", "S1 1"),
+    (COMMAND, 4097, "\n", "S1 1"),
     ("*", 5000, "\n", ""),
     ("", 5000, "\n", ""),
 ];
 
 const COMMAND: &str = "JOB1 1 ALLOC A.B SPACE=(TRK,10)";
 
-const ITEM: &str = "1 JOB1 1 ALLOC A.B 10 0;";
+const ITEM: &str = "1 JOB1 1 ALLOC A.B TRK 10 0 SIZE=554 MAXSIZE=554;";
 
 /// Reads a text of a test, which is far from the greatest length.
 pub fn read(alloc: Global, text: &[u8]) -> Result<Script, ScriptErr> {
@@ -134,18 +94,31 @@ pub fn read(alloc: Global, text: &[u8]) -> Result<Script, ScriptErr> {
     read_script(alloc, text)
 }
 
-/// The items in words: line, job, number, op, and the parts of the op; or the fault.
-fn shown(alloc: Global, text: &[u8]) -> Result<Vec<u8>, AllocError> {
+/// The items in words: line, job, number and op, with a bar between two phases; or the fault.
+pub fn shown(alloc: Global, text: &[u8]) -> Result<Vec<u8>, AllocError> {
     let mut shown = Vec::new(alloc);
     match read(alloc, text) {
-        Ok(items) => {
-            for item in items.as_slice() {
-                show_item(alloc, &mut shown, item)?;
-            }
-        }
+        Ok(script) => push_script(alloc, &mut shown, &script)?,
         Err(err) => shown.extend_from_slice(err.to_string(alloc)?.as_bytes())?,
     }
     Ok(shown)
+}
+
+fn push_script(alloc: Global, shown: &mut Vec<u8>, script: &Script) -> Result<(), AllocError> {
+    for (at, phase) in script.as_slice().iter().enumerate() {
+        if at > 0 {
+            shown.extend_from_slice(b"|")?;
+        }
+        push_phase(alloc, shown, phase)?;
+    }
+    Ok(())
+}
+
+fn push_phase(alloc: Global, shown: &mut Vec<u8>, phase: &Phase) -> Result<(), AllocError> {
+    for item in phase.as_slice() {
+        show_item(alloc, shown, item)?;
+    }
+    Ok(())
 }
 
 fn show_item(alloc: Global, shown: &mut Vec<u8>, item: &Item) -> Result<(), AllocError> {
@@ -154,33 +127,11 @@ fn show_item(alloc: Global, shown: &mut Vec<u8>, item: &Item) -> Result<(), Allo
     shown.extend_from_slice(item.request.job.bytes())?;
     shown.extend_from_slice(b" ")?;
     shown.extend_from_slice(item.request.number.get().to_string(alloc)?.as_bytes())?;
-    show_op(alloc, shown, &item.request.op)?;
+    push_op(shown, &item.request.op)?;
     shown.extend_from_slice(b";")
 }
 
-fn show_op(alloc: Global, shown: &mut Vec<u8>, op: &Op) -> Result<(), AllocError> {
-    match op {
-        Op::Alloc(request) => {
-            shown.extend_from_slice(b" ALLOC ")?;
-            let request = request.get();
-            shown.extend_from_slice(request.dsn().text().bytes())?;
-            let Some(space) = request.space else {
-                return Ok(());
-            };
-            shown.extend_from_slice(b" ")?;
-            shown.extend_from_slice(space.primary().to_string(alloc)?.as_bytes())?;
-            shown.extend_from_slice(b" ")?;
-            shown.extend_from_slice(space.secondary().to_string(alloc)?.as_bytes())
-        }
-        Op::Activate(deck) => {
-            shown.extend_from_slice(b" ACTIVATE ")?;
-            shown.extend_from_slice(deck.get().as_slice())
-        }
-        _ => Ok(()),
-    }
-}
-
-fn compare_all(rt: &impl Abort, alloc: Global, rows: &[Row]) -> Result<(), Fail> {
+pub fn compare_all(rt: &impl Abort, alloc: Global, rows: &[Row]) -> Result<(), Fail> {
     for (text, wanted) in rows {
         let found = shown(alloc, text.as_bytes())?;
         assert_eq!(rt; found.as_slice(), wanted.as_bytes(), "{text}");

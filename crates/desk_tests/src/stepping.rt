@@ -12,7 +12,10 @@ fn a_core_enters_each_request_that_it_answers(rt: HostRuntime) -> Result<(), Fai
     let alloc = rt.alloc();
     let script = read_script(alloc, TWICE).map_err(|_| "script")?;
     let mut core = Core::new(alloc);
-    for (at, item) in script.as_slice().iter().enumerate() {
+    let [phase] = script.as_slice() else {
+        return Err(Fail::from("phases"));
+    };
+    for (at, item) in phase.as_slice().iter().enumerate() {
         let answer = core.step(&item.request);
         let place = at as u64 + 1;
         assert_eq!(rt; answer.place, place);

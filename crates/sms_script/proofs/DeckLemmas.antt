@@ -42,9 +42,9 @@ parts_go_on text rest line behind parts cut =
     let front = take (length text - length rest) text in
     rest_shrinks text front line behind (parts ∙ ap (λ (r : List ℕ). front ++ r) cut)
 
--- the items are those of the lines behind it
-pub script_goes_on : (script : Result (List Item) ScriptErr) (rest line behind : List ℕ) (number next : ℕ) → next ≡ number + 1 → lines_of rest ≡ line ∷ lines_of behind → is_block_end line ≡ false
-    → script ≡ script_from true number (lines_of rest) → script ≡ script_from true next (lines_of behind)
-script_goes_on script rest line behind number next e lines more so_far =
-    so_far ∙ ap (λ (ls : List (List ℕ)). script_from true number ls) lines ∙ ap (λ (end : Bool). script_from (not end) (number + 1) (lines_of behind)) more
-    ∙ ap (λ (n : ℕ). script_from true n (lines_of behind)) (sym e)
+-- the phases are those of the lines behind it
+pub script_goes_on : (script : Result (List (List Item)) ScriptErr) (rest line behind : List ℕ) (count number next : ℕ) → next ≡ number + 1 → lines_of rest ≡ line ∷ lines_of behind → is_block_end line ≡ false
+    → script ≡ script_from true count number (lines_of rest) → script ≡ script_from true count next (lines_of behind)
+script_goes_on script rest line behind count number next e lines more so_far =
+    so_far ∙ ap (λ (ls : List (List ℕ)). script_from true count number ls) lines ∙ ap (λ (end : Bool). script_from (not end) count (number + 1) (lines_of behind)) more
+    ∙ ap (λ (n : ℕ). script_from true count n (lines_of behind)) (sym e)

@@ -1,4 +1,7 @@
 mod NumberLemmas
 mod LineLemmas
 mod DeckLemmas
-mod WordLemmas
+mod PhaseLemmas
+mod PieceLemmas
+mod ListLemmas
+mod PhaseTextLemmas

@@ -4,10 +4,10 @@ use Rattle.std.specs.Prelude.{◌==◌}
 use Rattle.std.proofs.lemmas.Bool.Decides.{nat_tests}
 use Rattle.sms_script.specs.Lines.{lines_of}
 
-differs : (x y : ℕ) → x ≢ y → (x == y) ≡ false
+pub differs : (x y : ℕ) → x ≢ y → (x == y) ≡ false
 differs x y ne = grind (arith, nat_tests)
 
-agrees : (x y : ℕ) → x ≡ y → (x == y) ≡ true
+pub agrees : (x y : ℕ) → x ≡ y → (x == y) ≡ true
 agrees x y e = grind (arith, nat_tests)
 
 pub first_line_is : (text : List ℕ) (n : ℕ) → ((k : ℕ) → k < n → get_or text k 0 ≢ 10) → n < length text → get_or text n 0 ≡ 10

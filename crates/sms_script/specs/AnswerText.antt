@@ -12,6 +12,7 @@ use Rattle.sms_construct.specs.declared.why_no_extend.WhyNoExtend.{WhyNoExtend}
 use Rattle.sms_construct.specs.declared.why_no_extend.WhyNoExtend.TheVariants.{Secondary, Room}
 use Rattle.sms_script.specs.FaultText.{fault_text}
 use Rattle.sms_script.specs.NameText.{spaced, status_text, target_text, class_text, extent_text}
+use Rattle.sms_script.specs.Script.{items_of}
 use Rattle.sms_script.specs.TraceText.{trace_lines}
 use Rattle.sms_script.specs.declared.item.Item.{Item}
 
@@ -108,6 +109,10 @@ further_lines (PastGrant granted) = []
 further_lines KeeperFault = []
 further_lines Memory = []
 
+-- the lines of an answer: its reply, and what stands behind that
+abbrev pub answer_lines : Answer → List (List ℕ)
+answer_lines answer = reply_text answer.reply ∷ further_lines answer.reply
+
 -- a further line: two spaces before it, and LF behind it
 abbrev pub indented : List ℕ → List ℕ
 indented line = codes "  " ++ line ++ 10 ∷ []
@@ -132,5 +137,5 @@ abbrev pub end_text : ℕ → ℕ → List ℕ
 end_text entries items = spaced (codes "END" ∷ decimal entries ∷ decimal items ∷ []) ++ 10 ∷ []
 
 -- the text of a run
-abbrev pub text_of : List Item → List Answer → ℕ → List ℕ
-text_of items answers entries = items_text items answers ++ end_text entries (length items)
+abbrev pub text_of : List (List Item) → List Answer → ℕ → List ℕ
+text_of phases answers entries = items_text (items_of phases) answers ++ end_text entries (length (items_of phases))

@@ -1,6 +1,10 @@
+pub mod Found
 pub mod Parts
 pub mod Lines
 pub mod Numbers
+pub mod Values
+pub mod Operands
+pub mod Ops
 pub mod Commands
 pub mod Script
 pub mod Reading

@@ -16,9 +16,13 @@ write_text line = spaced (codes "WRITE" ∷ name_of line.kind ∷ line.text ∷ 
 abbrev pub written_by : Kind → Line → List (List ℕ)
 written_by kind line = if same_kind line.kind kind then write_text line ∷ [] else []
 
--- how many further lines a routine of this kind wrote, if it wrote any
+-- how many further lines a routine of this kind wrote
+abbrev pub more_text : Kind → ℕ → List ℕ
+more_text kind count = spaced (codes "MORE" ∷ name_of kind ∷ decimal count ∷ [])
+
+-- the same, if it wrote any
 abbrev pub more_lines : Kind → ℕ → List (List ℕ)
-more_lines kind count = if count == 0 then [] else spaced (codes "MORE" ∷ name_of kind ∷ decimal count ∷ []) ∷ []
+more_lines kind count = if count == 0 then [] else more_text kind count ∷ []
 
 -- the lines of one kind of routine
 abbrev pub kind_lines : Kind → Trace → List (List ℕ)

@@ -1,28 +1,29 @@
 //! The lines behind the first one of an answer.
-ghost use Rattle.std.specs.Prelude.{◌≡◌, ◌++◌, flat_map, map, OnOk};
-ghost use Rattle.sms_script.specs.AnswerText.{further_lines, granted_lines, indented, shown_lines, used_text, view_lines};
+ghost use Rattle.std.specs.Prelude.{◌≡◌, ◌++◌, map, IfOk, OnOk};
+ghost use Rattle.sms_script.specs.AnswerText.{further_lines, granted_lines, shown_lines, used_text, view_lines};
 ghost use Rattle.sms_script.specs.NameText.{class_text, extent_text};
 
 use crate::pushing::{name_bytes, push_number_and_blank, push_word_and_blank};
+use crate::text_lines::{TextLines, push_line};
 use crate::trace_text::push_trace;
 use desk_common::push_number;
 use sms_construct::{DataSet, Extent, Reply, Trace, View};
-use std::alloc::AllocError;
+use std::alloc::{AllocError, Global};
 
-/// Puts the lines behind the first one of a reply behind a text.
-pub fn push_further(text: &mut Vec<u8>, reply: &Reply) -> Result<(), AllocError>
-    ensures { OnOk result (text.new.items ≡ text.old.items ++ flat_map indented (further_lines reply.now)) }
+/// Puts the lines behind the first one of a reply behind others.
+pub fn push_further(alloc: Global, lines: &mut TextLines, reply: &Reply) -> Result<(), AllocError>
+    ensures { OnOk result (lines.new ≡ lines.old ++ further_lines reply.now) }
 {
     match reply {
-        Reply::Granted { set, trace } => push_granted(text, set.get(), trace.get()),
-        Reply::Extended { added } => push_extents(text, added.get().as_slice()),
-        Reply::Shown(view) => push_view_lines(text, view),
-        Reply::NotManaged { trace } => push_trace(text, trace.get()),
-        Reply::Exit { trace, .. } => push_trace(text, trace.get()),
-        Reply::UnknownClass { trace, .. } => push_trace(text, trace.get()),
-        Reply::NoQuantity { trace } => push_trace(text, trace.get()),
-        Reply::NoGroup { trace } => push_trace(text, trace.get()),
-        Reply::NoVolume { trace } => push_trace(text, trace.get()),
+        Reply::Granted { set, trace } => push_granted(alloc, lines, set.get(), trace.get()),
+        Reply::Extended { added } => push_extents(alloc, lines, added.get().as_slice()),
+        Reply::Shown(view) => push_view_lines(alloc, lines, view),
+        Reply::NotManaged { trace } => push_trace(alloc, lines, trace.get()),
+        Reply::Exit { trace, .. } => push_trace(alloc, lines, trace.get()),
+        Reply::UnknownClass { trace, .. } => push_trace(alloc, lines, trace.get()),
+        Reply::NoQuantity { trace } => push_trace(alloc, lines, trace.get()),
+        Reply::NoGroup { trace } => push_trace(alloc, lines, trace.get()),
+        Reply::NoVolume { trace } => push_trace(alloc, lines, trace.get()),
         Reply::Deleted { .. }
         | Reply::Activated { .. }
         | Reply::Varied { .. }
@@ -46,66 +47,72 @@ pub fn push_further(text: &mut Vec<u8>, reply: &Reply) -> Result<(), AllocError>
 }
 
 // The lines of a data set that was allocated, and what its routines wrote.
-fn push_granted(text: &mut Vec<u8>, set: &DataSet, trace: &Trace) -> Result<(), AllocError>
-    ensures { OnOk result (text.new.items ≡ text.old.items ++ flat_map indented (granted_lines set.now trace.now)) }
+fn push_granted(
+    alloc: Global,
+    lines: &mut TextLines,
+    set: &DataSet,
+    trace: &Trace,
+) -> Result<(), AllocError>
+    ensures { OnOk result (lines.new ≡ lines.old ++ granted_lines set.now trace.now) }
 {
-    push_class(text, set)?;
-    push_extents(text, set.extents.as_slice())?;
-    push_trace(text, trace)
+    push_line(lines, class_text(alloc, set)?)?;
+    push_extents(alloc, lines, set.extents.as_slice())?;
+    push_trace(alloc, lines, trace)
 }
 
-fn push_view_lines(text: &mut Vec<u8>, view: &View) -> Result<(), AllocError>
-    ensures { OnOk result (text.new.items ≡ text.old.items ++ flat_map indented (view_lines view.now)) }
+/// Puts the lines behind the first one of a view behind others.
+pub fn push_view_lines(alloc: Global, lines: &mut TextLines, view: &View) -> Result<(), AllocError>
+    ensures { OnOk result (lines.new ≡ lines.old ++ view_lines view.now) }
 {
     match view {
-        View::Set(set) => push_set_lines(text, set.get()),
+        View::Set(set) => push_set_lines(alloc, lines, set.get()),
         View::Group { .. } | View::Volume(_) => Ok(()),
     }
 }
 
 // The lines of a data set that is shown.
-fn push_set_lines(text: &mut Vec<u8>, set: &DataSet) -> Result<(), AllocError>
-    ensures { OnOk result (text.new.items ≡ text.old.items ++ flat_map indented (shown_lines set.now)) }
+fn push_set_lines(alloc: Global, lines: &mut TextLines, set: &DataSet) -> Result<(), AllocError>
+    ensures { OnOk result (lines.new ≡ lines.old ++ shown_lines set.now) }
 {
-    push_class(text, set)?;
-    push_used(text, set.used)?;
-    push_extents(text, set.extents.as_slice())
+    push_line(lines, class_text(alloc, set)?)?;
+    push_line(lines, used_text(alloc, set.used)?)?;
+    push_extents(alloc, lines, set.extents.as_slice())
 }
 
-fn push_used(text: &mut Vec<u8>, used: u32) -> Result<(), AllocError>
-    ensures { OnOk result (text.new.items ≡ text.old.items ++ indented (used_text used)) }
+fn used_text(alloc: Global, used: u32) -> Result<Vec<u8>, AllocError>
+    ensures { IfOk result (λ text. text.items ≡ used_text used) }
 {
-    text.extend_from_slice(b"  USED ")?;
-    push_number(text, u64::from(used))?;
-    text.extend_from_slice(b"\n")
+    let mut text = Vec::from_slice(alloc, b"USED ")?;
+    push_number(&mut text, u64::from(used))?;
+    Ok(text)
 }
 
-fn push_class(text: &mut Vec<u8>, set: &DataSet) -> Result<(), AllocError>
-    ensures { OnOk result (text.new.items ≡ text.old.items ++ indented (class_text set.now)) }
+fn class_text(alloc: Global, set: &DataSet) -> Result<Vec<u8>, AllocError>
+    ensures { IfOk result (λ text. text.items ≡ class_text set.now) }
 {
-    text.extend_from_slice(b"  CLASS ")?;
-    push_word_and_blank(text, name_bytes(&set.dataclas))?;
-    push_word_and_blank(text, set.storclas.bytes())?;
-    push_word_and_blank(text, name_bytes(&set.mgmtclas))?;
+    let mut text = Vec::from_slice(alloc, b"CLASS ")?;
+    push_word_and_blank(&mut text, name_bytes(&set.dataclas))?;
+    push_word_and_blank(&mut text, set.storclas.bytes())?;
+    push_word_and_blank(&mut text, name_bytes(&set.mgmtclas))?;
     text.extend_from_slice(set.group.bytes())?;
-    text.extend_from_slice(b"\n")
+    Ok(text)
 }
 
-fn push_extents(text: &mut Vec<u8>, extents: &[Extent]) -> Result<(), AllocError>
-    ensures { OnOk result (text.new.items ≡ text.old.items ++ flat_map indented (map extent_text extents.now)) }
+fn push_extents(alloc: Global, lines: &mut TextLines, extents: &[Extent]) -> Result<(), AllocError>
+    ensures { OnOk result (lines.new ≡ lines.old ++ map extent_text extents.now) }
 {
     for extent in extents {
-        push_extent(text, extent)?;
+        push_line(lines, extent_text(alloc, extent)?)?;
     }
     Ok(())
 }
 
-fn push_extent(text: &mut Vec<u8>, extent: &Extent) -> Result<(), AllocError>
-    ensures { OnOk result (text.new.items ≡ text.old.items ++ indented (extent_text extent.now)) }
+fn extent_text(alloc: Global, extent: &Extent) -> Result<Vec<u8>, AllocError>
+    ensures { IfOk result (λ text. text.items ≡ extent_text extent.now) }
 {
-    text.extend_from_slice(b"  EXTENT ")?;
-    push_word_and_blank(text, extent.volser.bytes())?;
-    push_number_and_blank(text, u64::from(extent.start))?;
-    push_number(text, u64::from(extent.length))?;
-    text.extend_from_slice(b"\n")
+    let mut text = Vec::from_slice(alloc, b"EXTENT ")?;
+    push_word_and_blank(&mut text, extent.volser.bytes())?;
+    push_number_and_blank(&mut text, u64::from(extent.start))?;
+    push_number(&mut text, u64::from(extent.length))?;
+    Ok(text)
 }

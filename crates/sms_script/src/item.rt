@@ -9,5 +9,8 @@ pub struct Item {
     pub request: Request,
 }
 
-/// The requests of a script, in the order of their lines.
-pub type Script = Items<Item>;
+/// The requests between two SYNC lines, in the order of their lines.
+pub type Phase = Items<Item>;
+
+/// The phases of a script in their order: one more than it has SYNC lines.
+pub type Script = Items<Phase>;

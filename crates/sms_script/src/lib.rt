@@ -1,14 +1,17 @@
 //! The text of a script, and of its answers.
 #![tactic(auto)]
 
+mod allocation;
 mod command;
 mod deck_block;
 mod fault_text;
 mod further_text;
 mod item;
 mod lines;
+mod lists;
 mod next;
 mod number;
+mod op;
 mod operand;
 mod parts;
 mod printing;
@@ -16,10 +19,17 @@ mod pushing;
 mod reading;
 mod reply_text;
 mod script_err;
+mod targets;
+mod text_lines;
 mod trace_text;
+mod value;
+mod verb;
 
-pub use item::{Item, Script};
 pub use fault_text::push_fault;
-pub use printing::print;
+pub use item::{Item, Phase, Script};
+pub use op::read_op;
+pub use printing::{answer_lines, print, view_lines};
+pub use pushing::status_bytes;
 pub use reading::read_script;
 pub use script_err::ScriptErr;
+pub use text_lines::TextLines;

@@ -1,50 +1,212 @@
-//! The operands of ALLOC.
-ghost use Rattle.std.specs.Prelude.{◌≡◌, ◌==◌, ◌<◌, Some, IfSome, length, position};
-ghost use Rattle.sms_script.specs.Numbers.{number_of};
-ghost use Rattle.sms_script.specs.Commands.{space_in, space_with, tracks_in};
+//! The operands of a command, by their keys.
+ghost use Rattle.std.specs.Prelude.{◌≡◌, ◌∷◌, [], true, map, MatchOption};
+ghost use Rattle.std.specs.List.{list_all, list_any};
+ghost use Rattle.dsn_mask.specs.Name.{name_of};
+ghost use Rattle.sms_script.specs.Operands.{are_many, given, given_or_none, has_key, is_operand, values_of};
+ghost use Rattle.sms_script.specs.Values.{account_of, count_of, date_of, name_value_of, number_to, plain_of, space_in, volumes_of};
 
-use crate::number::read_number;
-use crate::parts::{behind_front, in_parentheses};
-use sms_construct::{Space, Unit};
+use crate::lists::{read_account, read_volumes};
+use crate::parts::behind_front;
+use crate::value::{
+    read_count, read_date, read_name_value, read_number_to, read_plain, read_space,
+};
+use acs_tree::{Account, Volumes};
+use dsn_mask::{Name, Short};
+use sms_construct::{Space, VolumeCount};
 
-/// The space that the operand SPACE=(TRK,..) asks for, if it is one.
-pub fn read_space(operand: &[u8]) -> Option<Space>
-    ensures { result ≡ space_in operand.now }
+const KEYS: [&[u8]; 28] = [
+    b"SPACE=",
+    b"DATACLAS=",
+    b"STORCLAS=",
+    b"MGMTCLAS=",
+    b"DEFDC=",
+    b"DEFSC=",
+    b"DEFMC=",
+    b"VOL=",
+    b"VOLCNT=",
+    b"USER=",
+    b"GROUP=",
+    b"PGM=",
+    b"DD=",
+    b"UNIT=",
+    b"DSORG=",
+    b"RECORG=",
+    b"DSNTYPE=",
+    b"DSTYPE=",
+    b"ACSENVIR=",
+    b"XMODE=",
+    b"APPLIC=",
+    b"OWNER=",
+    b"ACCT=",
+    b"STEPACCT=",
+    b"RETPD=",
+    b"EXPDT=",
+    b"BLKSIZE=",
+    b"DAY=",
+];
+
+/// Whether each of the words has one of the keys.
+pub fn are_operands(mut words: &[&[u8]]) -> bool
+    ensures { result ≡ list_all is_operand (map (λ word. word.now) words.entry.now) }
 {
-    let value = behind_front(b"SPACE=", operand)?;
-    let inner = in_parentheses(value)?;
-    read_tracks(behind_front(b"TRK,", inner)?)
+    while let [word, others @ ..] = words {
+        if !is_operand(word) {
+            return false;
+        }
+        words = others;
+    }
+    true
 }
 
-// What stands behind the unit of tracks.
-fn read_tracks(bytes: &[u8]) -> Option<Space>
-    ensures { result ≡ tracks_in bytes.now }
+fn is_operand(word: &[u8]) -> bool
+    ensures { result ≡ is_operand word.now }
 {
-    let Some(listed) = in_parentheses(bytes) else {
-        return read_quantity(bytes);
+    has_any(word, &KEYS)
+}
+
+fn has_any(word: &[u8], mut keys: &[&[u8]]) -> bool
+    ensures { result ≡ list_any (has_key word.now) (map (λ key. key.now) keys.entry.now) }
+{
+    while let [key, others @ ..] = keys {
+        if has_key(word, key) {
+            return true;
+        }
+        keys = others;
+    }
+    false
+}
+
+fn has_key(word: &[u8], key: &[u8]) -> bool
+    ensures { result ≡ has_key word.now key.now }
+{
+    behind_front(key, word).is_some()
+}
+
+// The value behind the first of these words that has the key, and the words behind that.
+fn first_value<'a, 'b>(key: &[u8], words: &'b [&'a [u8]]) -> Option<(&'a [u8], &'b [&'a [u8]])>
+    ensures { MatchOption result (values_of key.now (map (λ word. word.now) words.entry.now) ≡ [])
+        (λ found. values_of key.now (map (λ word. word.now) words.entry.now) ≡ found.0.now ∷ values_of key.now (map (λ word. word.now) found.1.now)) }
+{
+    let mut rest = words;
+    while let [word, others @ ..] = rest {
+        if let Some(value) = behind_front(key, word) {
+            return Some((value, others));
+        }
+        rest = others;
+    }
+    None
+}
+
+// The value of a key, if one of the words has it; `None` where two have it.
+fn only_value<'a>(key: &[u8], words: &[&'a [u8]]) -> Option<Option<&'a [u8]>>
+    ensures { MatchOption result (are_many (values_of key.now (map (λ word. word.now) words.now)) ≡ true)
+        (λ only. MatchOption only (values_of key.now (map (λ word. word.now) words.now) ≡ []) (λ value. values_of key.now (map (λ word. word.now) words.now) ≡ value.now ∷ [])) }
+{
+    let Some((value, others)) = first_value(key, words) else {
+        return Some(None);
     };
-    match first_comma(listed) {
-        Some(comma) => read_quantities(&listed[..comma], &listed[comma + 1..]),
-        None => read_quantity(listed),
+    match first_value(key, others) {
+        Some(_) => None,
+        None => Some(Some(value)),
     }
 }
 
-fn read_quantity(primary: &[u8]) -> Option<Space>
-    ensures { result ≡ space_with (number_of primary.now) (Some 0) }
+/// A text of at most 8 bytes; the default where none has the key.
+pub fn word_at(key: &[u8], default: Short, words: &[&[u8]]) -> Option<Short>
+    ensures { result ≡ given key.now (plain_of 8) default (map (λ word. word.now) words.now) }
 {
-    Space::new(Unit::Trk, read_number(primary)?, 0)
+    match only_value(key, words)? {
+        Some(value) => read_plain(8, value),
+        None => Some(default),
+    }
 }
 
-fn read_quantities(primary: &[u8], secondary: &[u8]) -> Option<Space>
-    ensures { result ≡ space_with (number_of primary.now) (number_of secondary.now) }
+/// A name as a value of routines; null where none has the key.
+pub fn name_value_at(key: &[u8], words: &[&[u8]]) -> Option<Short>
+    ensures { result ≡ given key.now name_value_of [] (map (λ word. word.now) words.now) }
 {
-    Space::new(Unit::Trk, read_number(primary)?, read_number(secondary)?)
+    match only_value(key, words)? {
+        Some(value) => read_name_value(value),
+        None => Some(Short::null()),
+    }
 }
 
-// The place of the first comma, if there is one.
-fn first_comma(bytes: &[u8]) -> Option<usize>
-    ensures place { result ≡ position (λ byte. byte == 44) bytes.now }
-    ensures within { IfSome result (λ place. place < length bytes.now) }
+/// Seven digits; null where none has the key.
+pub fn date_at(key: &[u8], words: &[&[u8]]) -> Option<Short>
+    ensures { result ≡ given key.now date_of [] (map (λ word. word.now) words.now) }
 {
-    bytes.iter().position(|byte| *byte == b',')
+    match only_value(key, words)? {
+        Some(value) => read_date(value),
+        None => Some(Short::null()),
+    }
+}
+
+/// Up to 8 texts; none where none has the key.
+pub fn account_at(key: &[u8], words: &[&[u8]]) -> Option<Account>
+    ensures { result ≡ given key.now account_of [] (map (λ word. word.now) words.now) }
+{
+    match only_value(key, words)? {
+        Some(value) => read_account(value),
+        None => Some(Account::new()),
+    }
+}
+
+/// Up to 59 volumes; none where none has the key.
+pub fn volumes_at(key: &[u8], words: &[&[u8]]) -> Option<Volumes>
+    ensures { result ≡ given key.now volumes_of [] (map (λ word. word.now) words.now) }
+{
+    match only_value(key, words)? {
+        Some(value) => read_volumes(value),
+        None => Some(Volumes::new()),
+    }
+}
+
+/// A number up to this one; 0 where none has the key.
+pub fn number_at(key: &[u8], most: u32, words: &[&[u8]]) -> Option<u32>
+    ensures { result ≡ given key.now (number_to most) 0 (map (λ word. word.now) words.now) }
+{
+    match only_value(key, words)? {
+        Some(value) => read_number_to(most, value),
+        None => Some(0),
+    }
+}
+
+/// A number up to this one, if a word has the key.
+pub fn some_number_at(key: &[u8], most: u32, words: &[&[u8]]) -> Option<Option<u32>>
+    ensures { result ≡ given_or_none key.now (number_to most) (map (λ word. word.now) words.now) }
+{
+    match only_value(key, words)? {
+        Some(value) => Some(Some(read_number_to(most, value)?)),
+        None => Some(None),
+    }
+}
+
+/// A name, if a word has the key.
+pub fn name_at(key: &[u8], words: &[&[u8]]) -> Option<Option<Name>>
+    ensures { result ≡ given_or_none key.now name_of (map (λ word. word.now) words.now) }
+{
+    match only_value(key, words)? {
+        Some(value) => Some(Some(Name::new(value)?)),
+        None => Some(None),
+    }
+}
+
+/// A space, if a word has the key.
+pub fn space_at(key: &[u8], words: &[&[u8]]) -> Option<Option<Space>>
+    ensures { result ≡ given_or_none key.now space_in (map (λ word. word.now) words.now) }
+{
+    match only_value(key, words)? {
+        Some(value) => Some(Some(read_space(value)?)),
+        None => Some(None),
+    }
+}
+
+/// A volume count, if a word has the key.
+pub fn count_at(key: &[u8], words: &[&[u8]]) -> Option<Option<VolumeCount>>
+    ensures { result ≡ given_or_none key.now count_of (map (λ word. word.now) words.now) }
+{
+    match only_value(key, words)? {
+        Some(value) => Some(Some(read_count(value)?)),
+        None => Some(None),
+    }
 }

@@ -1,7 +1,9 @@
 //! Parts of a text.
-ghost use Rattle.std.specs.Prelude.{◌≡◌};
+ghost use Rattle.std.specs.Prelude.{◌≡◌, ◌≢◌, ◌==◌, ◌≤◌, ◌<◌, ◌∷◌, [], ℕ, IfSome, length, position, slice_index};
 ghost use Rattle.std.specs.Option.{option_copied};
-ghost use Rattle.sms_script.specs.Parts.{behind_front, before_last, in_parentheses};
+ghost use Rattle.desk_common.specs.Bytes.{comma};
+ghost use Rattle.desk_common.specs.Words.{pieces_of};
+ghost use Rattle.sms_script.specs.Parts.{before_end, before_last, behind_front, in_call, in_parentheses, pieces_behind};
 
 /// What is behind this front, if it stands there.
 pub fn behind_front<'a>(front: &[u8], bytes: &'a [u8]) -> Option<&'a [u8]>
@@ -28,4 +30,56 @@ pub fn in_parentheses(bytes: &[u8]) -> Option<&[u8]>
     ensures { option_copied result ≡ in_parentheses bytes.entry.now }
 {
     before_last(b')', behind_front(b"(", bytes)?)
+}
+
+/// What is before this end, if it stands there.
+pub fn before_end<'a>(end: &[u8], bytes: &'a [u8]) -> Option<&'a [u8]>
+    ensures { option_copied result ≡ before_end end.now bytes.entry.now }
+{
+    if bytes.len() < end.len() || &bytes[bytes.len() - end.len()..] != end {
+        return None;
+    }
+    Some(&bytes[..bytes.len() - end.len()])
+}
+
+/// What stands in parentheses behind a word, if it does.
+pub fn in_call<'a>(word: &[u8], bytes: &'a [u8]) -> Option<&'a [u8]>
+    ensures { option_copied result ≡ in_call word.now bytes.entry.now }
+{
+    in_parentheses(behind_front(word, bytes)?)
+}
+
+/// The place of the first such byte, if there is one.
+pub fn place_of(byte: u8, bytes: &[u8]) -> Option<usize>
+    ensures place { result ≡ position (λ other. other == byte) bytes.now }
+    ensures within { IfSome result (λ place. place < length bytes.now) }
+{
+    bytes.iter().position(|other| *other == byte)
+}
+
+/// The piece before the first comma, and what is behind that, if there is one.
+pub fn first_piece(text: &[u8]) -> (&[u8], Option<&[u8]>)
+    ensures pieces { pieces_of (comma ∷ []) text.entry.now ≡ result.0.now ∷ pieces_behind (option_copied result.1) }
+    ensures shorter { IfSome result.1 (λ rest. length rest.now < length text.entry.now) }
+{
+    let count = piece_len(text);
+    if count < text.len() {
+        (&text[..count], Some(&text[count + 1..]))
+    } else {
+        (text, None)
+    }
+}
+
+// The number of bytes before the first comma.
+fn piece_len(text: &[u8]) -> usize
+    ensures within { result ≤ length text.now }
+    ensures before { (k : ℕ) → k < result → slice_index text.now k ≢ comma }
+    ensures found { result < length text.now → slice_index text.now result ≡ comma }
+{
+    for (at, byte) in text.iter().enumerate() {
+        if *byte == b',' {
+            return at;
+        }
+    }
+    text.len()
 }

@@ -1,14 +1,40 @@
 //! Answers as text.
-ghost use Rattle.std.specs.Prelude.{◌≡◌, ◌++◌, ◌∷◌, [], length, IfOk, OnOk, decimal};
-ghost use Rattle.sms_script.specs.AnswerText.{end_text, head_text, item_text, text_of};
+ghost use Rattle.std.specs.Prelude.{◌≡◌, ◌++◌, ◌∷◌, [], flat_map, length, IfOk, OnOk, decimal};
+ghost use Rattle.sms_script.specs.Script.{items_of};
+ghost use Rattle.sms_script.specs.AnswerText.{answer_lines, end_text, further_lines, head_text, indented, item_text, items_text, text_of, view_lines, view_text};
 
-use crate::further_text::push_further;
-use crate::item::{Item, Script};
+use crate::further_text::{push_further, push_view_lines};
+use crate::item::{Item, Phase, Script};
 use crate::pushing::{push_number_and_blank, push_word_and_blank};
-use crate::reply_text::push_reply;
-use desk_common::push_number;
-use sms_construct::Answer;
+use crate::reply_text::{push_reply, push_view};
+use crate::text_lines::{TextLines, push_line};
+use desk_common::{Items, push_number};
+use sms_construct::{Answer, Reply, View};
 use std::alloc::{AllocError, Global};
+
+/// The lines of an answer: its reply, and what stands behind that (docs/script.md, "Answers").
+pub fn answer_lines(alloc: Global, answer: &Answer) -> Result<TextLines, AllocError>
+    ensures { IfOk result (λ lines. lines ≡ answer_lines answer.now) }
+{
+    let mut first = Vec::new(alloc);
+    push_reply(&mut first, &answer.reply)?;
+    let mut lines = Items::new(alloc);
+    push_line(&mut lines, first)?;
+    push_further(alloc, &mut lines, &answer.reply)?;
+    Ok(lines)
+}
+
+/// The lines of a view, as an answer shows it without its code.
+pub fn view_lines(alloc: Global, view: &View) -> Result<TextLines, AllocError>
+    ensures { IfOk result (λ lines. lines ≡ view_text view.now ∷ view_lines view.now) }
+{
+    let mut first = Vec::new(alloc);
+    push_view(&mut first, view)?;
+    let mut lines = Items::new(alloc);
+    push_line(&mut lines, first)?;
+    push_view_lines(alloc, &mut lines, view)?;
+    Ok(lines)
+}
 
 /// The lines of all items, each with its answer, and the last line with the number of entries of the desk.
 pub fn print(
@@ -17,27 +43,46 @@ pub fn print(
     answers: &[Answer],
     entries: u64,
 ) -> Result<Vec<u8>, AllocError>
-    requires { length answers.now ≡ length script.now }
+    requires { length answers.now ≡ length (items_of script.now) }
     ensures { IfOk result (λ text. text.items ≡ text_of script.now answers.now entries) }
 {
-    print_items(alloc, script.as_slice(), answers, entries)
+    let mut text = Vec::new(alloc);
+    push_phases(alloc, &mut text, script.as_slice(), answers)?;
+    push_end(&mut text, entries, answers.len() as u64)?;
+    Ok(text)
 }
 
-fn print_items(
+fn push_phases(
     alloc: Global,
+    text: &mut Vec<u8>,
+    phases: &[Phase],
+    answers: &[Answer],
+) -> Result<(), AllocError>
+    requires { length answers.now ≡ length (items_of phases.now) }
+    ensures { OnOk result (text.new.items ≡ text.old.items ++ items_text (items_of phases.now) answers.now) }
+{
+    let mut rest = answers;
+    for phase in phases {
+        let (answers, others) = rest.split_at(phase.len());
+        push_items(alloc, text, phase.as_slice(), answers)?;
+        rest = others;
+    }
+    Ok(())
+}
+
+fn push_items(
+    alloc: Global,
+    text: &mut Vec<u8>,
     items: &[Item],
     answers: &[Answer],
-    entries: u64,
-) -> Result<Vec<u8>, AllocError>
+) -> Result<(), AllocError>
     requires { length answers.now ≡ length items.now }
-    ensures { IfOk result (λ text. text.items ≡ text_of items.now answers.now entries) }
+    ensures { OnOk result (text.new.items ≡ text.old.items ++ items_text items.now answers.now) }
 {
-    let mut text = Vec::new(alloc);
     for (at, item) in items.iter().enumerate() {
-        push_item(&mut text, item, &answers[at])?;
+        push_item(alloc, text, item, &answers[at])?;
     }
-    push_end(&mut text, entries, items.len() as u64)?;
-    Ok(text)
+    Ok(())
 }
 
 fn push_end(text: &mut Vec<u8>, entries: u64, items: u64) -> Result<(), AllocError>
@@ -49,12 +94,44 @@ fn push_end(text: &mut Vec<u8>, entries: u64, items: u64) -> Result<(), AllocErr
     text.extend_from_slice(b"\n")
 }
 
-fn push_item(text: &mut Vec<u8>, item: &Item, answer: &Answer) -> Result<(), AllocError>
+fn push_item(
+    alloc: Global,
+    text: &mut Vec<u8>,
+    item: &Item,
+    answer: &Answer,
+) -> Result<(), AllocError>
     ensures { OnOk result (text.new.items ≡ text.old.items ++ item_text item.now answer.now) }
 {
     push_head(text, item, answer)?;
     text.extend_from_slice(b"\n")?;
-    push_further(text, &answer.reply)
+    let lines = further_of(alloc, &answer.reply)?;
+    push_indented(text, lines.as_slice())
+}
+
+fn further_of(alloc: Global, reply: &Reply) -> Result<TextLines, AllocError>
+    ensures { IfOk result (λ lines. lines ≡ further_lines reply.now) }
+{
+    let mut lines = Items::new(alloc);
+    push_further(alloc, &mut lines, reply)?;
+    Ok(lines)
+}
+
+// Each line with two spaces before it, and LF behind it.
+fn push_indented(text: &mut Vec<u8>, lines: &[Items<u8>]) -> Result<(), AllocError>
+    ensures { OnOk result (text.new.items ≡ text.old.items ++ flat_map indented lines.now) }
+{
+    for line in lines {
+        push_one(text, line.as_slice())?;
+    }
+    Ok(())
+}
+
+fn push_one(text: &mut Vec<u8>, line: &[u8]) -> Result<(), AllocError>
+    ensures { OnOk result (text.new.items ≡ text.old.items ++ indented line.now) }
+{
+    text.extend_from_slice(b"  ")?;
+    text.extend_from_slice(line)?;
+    text.extend_from_slice(b"\n")
 }
 
 fn push_head(text: &mut Vec<u8>, item: &Item, answer: &Answer) -> Result<(), AllocError>

@@ -41,7 +41,7 @@ pub fn name_bytes(name: &Option<Name>) -> &[u8]
     }
 }
 
-/// The word of a status.
+/// The word of a status (docs/script.md, "Answers").
 pub fn status_bytes(status: Status) -> &'static [u8]
     ensures { result.now ≡ status_text status }
 {

@@ -82,7 +82,8 @@ fn why_bytes(why: WhyNoExtend) -> &'static [u8]
     }
 }
 
-fn push_view(text: &mut Vec<u8>, view: &View) -> Result<(), AllocError>
+/// Puts what a DISPLAY shows behind a text, in one line.
+pub fn push_view(text: &mut Vec<u8>, view: &View) -> Result<(), AllocError>
     ensures { OnOk result (text.new.items ≡ text.old.items ++ view_text view.now) }
 {
     match view {

@@ -1,69 +1,90 @@
 //! The lines of a trace.
-ghost use Rattle.std.specs.Prelude.{◌≡◌, ◌++◌, flat_map, OnOk};
+ghost use Rattle.std.specs.Prelude.{◌≡◌, ◌++◌, flat_map, OnOk, IfOk};
 ghost use Rattle.acs_tree.specs.Slates.{more_of};
-ghost use Rattle.sms_script.specs.AnswerText.{indented};
-ghost use Rattle.sms_script.specs.TraceText.{kind_lines, more_lines, trace_lines, write_text, written_by};
+ghost use Rattle.sms_script.specs.TraceText.{kind_lines, more_lines, more_text, trace_lines, write_text, written_by};
 
 use crate::pushing::push_word_and_blank;
+use crate::text_lines::{TextLines, push_line};
 use acs_tree::{Kind, Line, same_kind};
 use desk_common::push_number;
 use sms_construct::Trace;
-use std::alloc::AllocError;
+use std::alloc::{AllocError, Global};
 
-/// Puts the lines of a trace behind a text: kind by kind what its routine wrote, and how much more it wrote.
-pub fn push_trace(text: &mut Vec<u8>, trace: &Trace) -> Result<(), AllocError>
-    ensures { OnOk result (text.new.items ≡ text.old.items ++ flat_map indented (trace_lines trace.now)) }
+/// Puts the lines of a trace behind others: kind by kind what its routine wrote, and how much more it wrote.
+pub fn push_trace(alloc: Global, lines: &mut TextLines, trace: &Trace) -> Result<(), AllocError>
+    ensures { OnOk result (lines.new ≡ lines.old ++ trace_lines trace.now) }
 {
-    push_kind(text, Kind::DataClas, trace)?;
-    push_kind(text, Kind::StorClas, trace)?;
-    push_kind(text, Kind::MgmtClas, trace)?;
-    push_kind(text, Kind::StorGrp, trace)
+    push_kind(alloc, lines, Kind::DataClas, trace)?;
+    push_kind(alloc, lines, Kind::StorClas, trace)?;
+    push_kind(alloc, lines, Kind::MgmtClas, trace)?;
+    push_kind(alloc, lines, Kind::StorGrp, trace)
 }
 
-fn push_kind(text: &mut Vec<u8>, kind: Kind, trace: &Trace) -> Result<(), AllocError>
-    ensures { OnOk result (text.new.items ≡ text.old.items ++ flat_map indented (kind_lines kind trace.now)) }
+fn push_kind(
+    alloc: Global,
+    lines: &mut TextLines,
+    kind: Kind,
+    trace: &Trace,
+) -> Result<(), AllocError>
+    ensures { OnOk result (lines.new ≡ lines.old ++ kind_lines kind trace.now) }
 {
-    push_lines(text, kind, trace.lines.as_slice())?;
-    push_more(text, kind, trace.more.of(kind))
+    push_written(alloc, lines, kind, trace.lines.as_slice())?;
+    push_more(alloc, lines, kind, trace.more.of(kind))
 }
 
-fn push_lines(text: &mut Vec<u8>, kind: Kind, lines: &[Line]) -> Result<(), AllocError>
-    ensures { OnOk result (text.new.items ≡ text.old.items ++ flat_map indented (flat_map (written_by kind) lines.now)) }
+fn push_written(
+    alloc: Global,
+    lines: &mut TextLines,
+    kind: Kind,
+    written: &[Line],
+) -> Result<(), AllocError>
+    ensures { OnOk result (lines.new ≡ lines.old ++ flat_map (written_by kind) written.now) }
 {
-    for line in lines {
-        push_line_of(text, kind, line)?;
+    for line in written {
+        push_line_of(alloc, lines, kind, line)?;
     }
     Ok(())
 }
 
 // The line, if a routine of this kind wrote it.
-fn push_line_of(text: &mut Vec<u8>, kind: Kind, line: &Line) -> Result<(), AllocError>
-    ensures { OnOk result (text.new.items ≡ text.old.items ++ flat_map indented (written_by kind line.now)) }
+fn push_line_of(
+    alloc: Global,
+    lines: &mut TextLines,
+    kind: Kind,
+    line: &Line,
+) -> Result<(), AllocError>
+    ensures { OnOk result (lines.new ≡ lines.old ++ written_by kind line.now) }
 {
     if same_kind(line.kind, kind) {
-        push_line(text, line)
+        push_line(lines, write_text(alloc, line)?)
     } else {
         Ok(())
     }
 }
 
-fn push_line(text: &mut Vec<u8>, line: &Line) -> Result<(), AllocError>
-    ensures { OnOk result (text.new.items ≡ text.old.items ++ indented (write_text line.now)) }
+fn write_text(alloc: Global, line: &Line) -> Result<Vec<u8>, AllocError>
+    ensures { IfOk result (λ text. text.items ≡ write_text line.now) }
 {
-    text.extend_from_slice(b"  WRITE ")?;
-    push_word_and_blank(text, line.kind.name())?;
+    let mut text = Vec::from_slice(alloc, b"WRITE ")?;
+    push_word_and_blank(&mut text, line.kind.name())?;
     text.extend_from_slice(line.text.bytes())?;
-    text.extend_from_slice(b"\n")
+    Ok(text)
 }
 
-fn push_more(text: &mut Vec<u8>, kind: Kind, count: u32) -> Result<(), AllocError>
-    ensures { OnOk result (text.new.items ≡ text.old.items ++ flat_map indented (more_lines kind count)) }
+fn push_more(alloc: Global, lines: &mut TextLines, kind: Kind, count: u32) -> Result<(), AllocError>
+    ensures { OnOk result (lines.new ≡ lines.old ++ more_lines kind count) }
 {
     if count == 0 {
         return Ok(());
     }
-    text.extend_from_slice(b"  MORE ")?;
-    push_word_and_blank(text, kind.name())?;
-    push_number(text, u64::from(count))?;
-    text.extend_from_slice(b"\n")
+    push_line(lines, more_text(alloc, kind, count)?)
+}
+
+fn more_text(alloc: Global, kind: Kind, count: u32) -> Result<Vec<u8>, AllocError>
+    ensures { IfOk result (λ text. text.items ≡ more_text kind count) }
+{
+    let mut text = Vec::from_slice(alloc, b"MORE ")?;
+    push_word_and_blank(&mut text, kind.name())?;
+    push_number(&mut text, u64::from(count))?;
+    Ok(text)
 }

@@ -8,7 +8,7 @@ returns-in-Ok-print-clause-answered c =
     let history = c.run_script-answers.result.1 in
     let legal : IsLegal history = c.run_script-answers.ensures.legal in
     record {
-      items = c.in-Ok.script;
+      phases = c.in-Ok.script;
       answers = c.in-Ok-answers.answers;
       history = history;
       script = c.in-Ok.ensures.script;

@@ -17,6 +17,6 @@ loop-rest-preserved c =
       within = omega (arith, said.shorter);
       parts = parts_go_on text rest line behind before.parts said.parts;
       deck = deck_goes_on text rest line behind (deck_of (lines_of text)) before.parts said.parts said.lines more before.deck;
-      script = λ number. script_goes_on _ rest line behind (number + c.loop-rest.lines) (number + (c.loop-rest.lines + 1)) (omega arith) said.lines more (before.script number);
+      script = λ count number. script_goes_on _ rest line behind count (number + c.loop-rest.lines) (number + (c.loop-rest.lines + 1)) (omega arith) said.lines more (before.script count number);
       few = omega (arith, said.shorter, before.few);
     }

@@ -10,7 +10,7 @@ invariant-loop-rest l = record {
   within : length l.rest ≤ length l.text;
   parts : l.text ≡ take (length l.text - length l.rest) l.text ++ l.rest;
   deck : deck_of (lines_of l.text) ≡ option_map (λ deck. take (length l.text - length l.rest) l.text ++ deck) (deck_of (lines_of l.rest));
-  script : (line : ℕ) → script_from true line (lines_of l.text) ≡ script_from true (line + l.lines) (lines_of l.rest);
+  script : (count line : ℕ) → script_from true count line (lines_of l.text) ≡ script_from true count (line + l.lines) (lines_of l.rest);
   few : l.lines + length l.rest ≤ length l.text;
 }
 

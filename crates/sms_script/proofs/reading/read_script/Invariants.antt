@@ -3,11 +3,12 @@ use Rattle.sms_script.specs.Script.{script_of}
 use Rattle.sms_script.specs.Reading.{after, script_behind}
 use Rattle.sms_script.proofs.reading.read_script.Given as goal
 
--- the items so far, and those of the rest
+-- the phases and the items so far, and the script of the rest
 abbrev pub invariant-loop-rest : goal.invariant-loop-rest
 invariant-loop-rest l = record {
-  script : after l.items (script_behind l.passed l.rest) ≡ script_of l.bytes;
-  few : l.passed + length l.rest ≤ length l.bytes;
+  script : after l.phases l.phase (script_behind l.passed l.rest) ≡ script_of l.bytes;
+  few : l.passed.lines + length l.rest ≤ length l.bytes;
+  commands : l.passed.commands ≤ 100000;
 }
 
 abbrev pub decreases-loop-rest : goal.decreases-loop-rest

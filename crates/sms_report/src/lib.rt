@@ -1,0 +1,6 @@
+//! Reports of the desk.
+#![tactic(auto)]
+
+mod csv_text;
+
+pub use csv_text::volumes_csv;

@@ -1,0 +1,151 @@
+-- The operands of ALLOC (docs/script.md, "Operands"): which stand in a line, and what each gives.
+use Rattle.std.specs.Prelude.{ℕ, Bool, true, false, List, [], ◌∷◌, Option, None, Some, is_some, codes, option_map, unwrap_or, if◌then◌else◌}
+use Rattle.std.specs.List.{filter_map, list_all, list_any}
+use Rattle.std.specs.Option.{option_and_then}
+use Rattle.acs_tree.specs.declared.accounting.Accounting.{Accounting}
+use Rattle.acs_tree.specs.declared.amounts.Amounts.{Amounts}
+use Rattle.acs_tree.specs.declared.attributes.Attributes.{Attributes}
+use Rattle.acs_tree.specs.declared.defaults.Defaults.{Defaults}
+use Rattle.acs_tree.specs.declared.environment.Environment.{Environment}
+use Rattle.acs_tree.specs.declared.input.Input.{Input}
+use Rattle.acs_tree.specs.declared.origin.Origin.{Origin}
+use Rattle.dsn_mask.specs.Name.{name_of}
+use Rattle.sms_construct.specs.declared.alloc.Alloc.{Alloc}
+use Rattle.sms_construct.specs.Quantities.{Quantities, size_in_kilobytes, most_in_kilobytes}
+use Rattle.sms_script.specs.Found.{◌⊳◌}
+use Rattle.sms_script.specs.Parts.{behind_front}
+use Rattle.sms_script.specs.Values.{number_to, space_in, plain_of, name_value_of, date_of, volumes_of, account_of, count_of}
+
+-- the keys of the operands
+abbrev pub keys : List (List ℕ)
+keys =
+    codes "SPACE=" ∷ codes "DATACLAS=" ∷ codes "STORCLAS=" ∷ codes "MGMTCLAS=" ∷ codes "DEFDC=" ∷ codes "DEFSC=" ∷ codes "DEFMC=" ∷ codes "VOL=" ∷ codes "VOLCNT="
+    ∷ codes "USER=" ∷ codes "GROUP=" ∷ codes "PGM=" ∷ codes "DD=" ∷ codes "UNIT=" ∷ codes "DSORG=" ∷ codes "RECORG=" ∷ codes "DSNTYPE=" ∷ codes "DSTYPE="
+    ∷ codes "ACSENVIR=" ∷ codes "XMODE=" ∷ codes "APPLIC=" ∷ codes "OWNER=" ∷ codes "ACCT=" ∷ codes "STEPACCT=" ∷ codes "RETPD=" ∷ codes "EXPDT=" ∷ codes "BLKSIZE="
+    ∷ codes "DAY=" ∷ []
+
+-- the word has this key
+abbrev pub has_key : List ℕ → List ℕ → Bool
+has_key word key = is_some (behind_front key word)
+
+-- the word has one of the keys
+abbrev pub is_operand : List ℕ → Bool
+is_operand word = list_any (has_key word) keys
+
+-- the values that stand behind a key
+abbrev pub values_of : List ℕ → List (List ℕ) → List (List ℕ)
+values_of key operands = filter_map (behind_front key) operands
+
+-- there are two values or more
+abbrev pub are_many : List (List ℕ) → Bool
+are_many [] = false
+are_many (value ∷ []) = false
+are_many (value ∷ other ∷ values) = true
+
+-- what is read in the first value, or the default where there is none
+abbrev pub first_or : {V : Type 0} → (List ℕ → Option V) → V → List (List ℕ) → Option V
+first_or read default [] = Some default
+first_or read default (value ∷ values) = read value
+
+-- what is read in the only value, or the default where there is none; nothing where there are two
+abbrev pub only_one : {V : Type 0} → (List ℕ → Option V) → V → List (List ℕ) → Option V
+only_one read default values = if are_many values then None else first_or read default values
+
+-- what the operand of this key gives
+abbrev pub given : {V : Type 0} → List ℕ → (List ℕ → Option V) → V → List (List ℕ) → Option V
+given key read default operands = only_one read default (values_of key operands)
+
+-- what an operand gives that may be missing
+abbrev pub given_or_none : {V : Type 0} → List ℕ → (List ℕ → Option V) → List (List ℕ) → Option (Option V)
+given_or_none key read operands = given key (λ value. option_map (λ v. Some v) (read value)) None operands
+
+-- who asks for the data set, and for what
+abbrev pub origin_in : List (List ℕ) → Option Origin
+origin_in operands =
+    given (codes "USER=") (plain_of 8) [] operands ⊳ λ user.
+    given (codes "GROUP=") (plain_of 8) [] operands ⊳ λ group.
+    given (codes "PGM=") (plain_of 8) [] operands ⊳ λ pgm.
+    given (codes "DD=") (plain_of 8) [] operands ⊳ λ dd.
+    given (codes "APPLIC=") (plain_of 8) [] operands ⊳ λ applic.
+    Some (record { job = []; user = user; group = group; pgm = pgm; dd = dd; applic = applic })
+
+-- the accounting of the job and of the step
+abbrev pub accounting_in : List (List ℕ) → Option Accounting
+accounting_in operands =
+    given (codes "ACCT=") account_of [] operands ⊳ λ acct_job.
+    given (codes "STEPACCT=") account_of [] operands ⊳ λ acct_step.
+    Some (record { acct_job = acct_job; acct_step = acct_step })
+
+-- the attributes of the data set
+abbrev pub attributes_in : List (List ℕ) → Option Attributes
+attributes_in operands =
+    given (codes "UNIT=") (plain_of 8) [] operands ⊳ λ unit.
+    given (codes "DSORG=") (plain_of 8) [] operands ⊳ λ dsorg.
+    given (codes "RECORG=") (plain_of 8) [] operands ⊳ λ recorg.
+    given (codes "DSNTYPE=") (plain_of 8) [] operands ⊳ λ dsntype.
+    given (codes "DSTYPE=") (plain_of 8) (codes "PERM") operands ⊳ λ dstype.
+    given (codes "OWNER=") (plain_of 8) [] operands ⊳ λ dsowner.
+    given (codes "EXPDT=") date_of [] operands ⊳ λ expdt.
+    Some (record { unit = unit; dsorg = dsorg; recorg = recorg; dsntype = dsntype; dstype = dstype; dsowner = dsowner; expdt = expdt })
+
+-- where the request runs; the system joins later
+abbrev pub environment_in : List (List ℕ) → Option Environment
+environment_in operands =
+    given (codes "ACSENVIR=") (plain_of 8) (codes "ALLOC") operands ⊳ λ acsenvir.
+    given (codes "XMODE=") (plain_of 8) (codes "BATCH") operands ⊳ λ xmode.
+    Some (record { acsenvir = acsenvir; xmode = xmode; sysname = []; sysplex = [] })
+
+-- the classes that are the job's defaults
+abbrev pub defaults_in : List (List ℕ) → Option Defaults
+defaults_in operands =
+    given (codes "DEFDC=") name_value_of [] operands ⊳ λ dataclas.
+    given (codes "DEFSC=") name_value_of [] operands ⊳ λ storclas.
+    given (codes "DEFMC=") name_value_of [] operands ⊳ λ mgmtclas.
+    Some (record { dataclas = dataclas; storclas = storclas; mgmtclas = mgmtclas })
+
+-- the sizes of a space in KB; 0 without one
+abbrev pub size_of : Option Quantities → ℕ
+size_of None = 0
+size_of (Some space) = size_in_kilobytes space
+
+abbrev pub maxsize_of : Option Quantities → ℕ
+maxsize_of None = 0
+maxsize_of (Some space) = most_in_kilobytes space
+
+-- the numbers that routines see
+abbrev pub amounts_of : Option ℕ → ℕ → Option Quantities → Amounts
+amounts_of retpd blksize space = record { retpd = unwrap_or retpd 0; blksize = blksize; size = size_of space; maxsize = maxsize_of space }
+
+-- the input that an ALLOC gives its routines; the job and the system join later
+abbrev pub input_in : List ℕ → Option ℕ → Option Quantities → List (List ℕ) → Option Input
+input_in dsn retpd space operands =
+    origin_in operands ⊳ λ origin.
+    accounting_in operands ⊳ λ accounting.
+    attributes_in operands ⊳ λ attributes.
+    environment_in operands ⊳ λ environment.
+    defaults_in operands ⊳ λ defaults.
+    given (codes "BLKSIZE=") (number_to 2147483647) 0 operands ⊳ λ blksize.
+    given (codes "VOL=") volumes_of [] operands ⊳ λ volumes.
+    Some (record {
+      dsn = dsn;
+      origin = origin;
+      accounting = accounting;
+      attributes = attributes;
+      environment = environment;
+      defaults = defaults;
+      amounts = amounts_of retpd blksize space;
+      volumes = volumes;
+    })
+
+-- what the operands of an ALLOC of this data set ask for
+abbrev pub request_in : List ℕ → List (List ℕ) → Option Alloc
+request_in dsn operands =
+    given_or_none (codes "SPACE=") space_in operands ⊳ λ space.
+    given_or_none (codes "DATACLAS=") name_of operands ⊳ λ dataclas.
+    given_or_none (codes "STORCLAS=") name_of operands ⊳ λ storclas.
+    given_or_none (codes "MGMTCLAS=") name_of operands ⊳ λ mgmtclas.
+    given_or_none (codes "VOLCNT=") count_of operands ⊳ λ volumes.
+    given (codes "DAY=") (number_to 9999999) 0 operands ⊳ λ day.
+    given_or_none (codes "RETPD=") (number_to 9999) operands ⊳ λ retpd.
+    input_in dsn retpd space operands ⊳ λ input.
+    Some (record { input = input; space = space; dataclas = dataclas; storclas = storclas; mgmtclas = mgmtclas; volumes = volumes; day = day; retpd = retpd })
