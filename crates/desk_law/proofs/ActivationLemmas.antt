@@ -96,17 +96,17 @@ alloc-counts s job alloc reply deck after rule =
     (λ wish e chosen. choice wish chosen)
     (λ answer e leaves. counts-left s answer reply deck after (alloc-quiet s job alloc answer e) leaves)
   where
-  choice : (wish : Wish) → Chosen s wish.space.unit (want_of wish) (candidates_of wish) (Leaves s (replies.NoVolume (trace_of wish.classes)) reply after) (λ volume. GrantsOn s alloc wish volume reply after) → Counts s reply deck after
-  choice wish (inl rejected) = counts-left s _ reply deck after refl rejected.1
-  choice wish (inr one) = counts-made s _ _ reply deck after (plus-none s.activations) one.does.makes
+    choice : (wish : Wish) → Chosen s wish.space.unit (want_of wish) (candidates_of wish) (Leaves s (replies.NoVolume (trace_of wish.classes)) reply after) (λ volume. GrantsOn s alloc wish volume reply after) → Counts s reply deck after
+    choice wish (inl rejected) = counts-left s _ reply deck after refl rejected.1
+    choice wish (inr one) = counts-made s _ _ reply deck after (plus-none s.activations) one.does.makes
 
 further-counts : (s : DeskState) (set : DataSet) (reply : Reply) (deck : Option (List ℕ)) (after : DeskState) → FurtherRule s set reply after → Counts s reply deck after
 further-counts s set reply deck after rule =
     on-bool (nat_lt (length (volumes_of set.extents)) set.volumes) _ _ (Counts s reply deck after) rule (λ e chosen. choice chosen) (λ e leaves. counts-left s _ reply deck after refl leaves)
   where
-  choice : Chosen s set.unit (want_more set) (others_of s set (first_volume s set.extents)) (Leaves s (replies.NoExtend reasons.Room) reply after) (λ volume. ExtendsOn s set volume reply after) → Counts s reply deck after
-  choice (inl rejected) = counts-left s _ reply deck after refl rejected.1
-  choice (inr one) = counts-made s _ _ reply deck after (plus-none s.activations) one.does.extends
+    choice : Chosen s set.unit (want_more set) (others_of s set (first_volume s set.extents)) (Leaves s (replies.NoExtend reasons.Room) reply after) (λ volume. ExtendsOn s set volume reply after) → Counts s reply deck after
+    choice (inl rejected) = counts-left s _ reply deck after refl rejected.1
+    choice (inr one) = counts-made s _ _ reply deck after (plus-none s.activations) one.does.extends
 
 extend-counts : (s : DeskState) (dsn : List ℕ) (reply : Reply) (deck : Option (List ℕ)) (after : DeskState) → ExtendRule s dsn reply after → Counts s reply deck after
 extend-counts s dsn reply deck after rule =
@@ -169,9 +169,9 @@ one-earlier false e last le = (le, tt)
 rows-one : (e : Entry) → rows_of (e ∷ []) ≡ rows_of_entry e
 rows-one e = append-none (rows_of_entry e)
   where
-  append-none : (l : List KeptRow) → l ++ [] ≡ l
-  append-none [] = refl
-  append-none (x ∷ l) = ap (λ (m : List KeptRow). x ∷ m) (append-none l)
+    append-none : (l : List KeptRow) → l ++ [] ≡ l
+    append-none [] = refl
+    append-none (x ∷ l) = ap (λ (m : List KeptRow). x ∷ m) (append-none l)
 
 earlier-push : (o : Opening) (before : List Entry) (e : Entry) → e.answer.place ≡ o.base + length before + 1 → AreEarlier (o.base + length before) (all_rows o before)
     → AreEarlier (o.base + length (before ++ e ∷ [])) (all_rows o (before ++ e ∷ []))
@@ -209,19 +209,19 @@ quiet-counts s e after is quiet = no-decks s e after is (quiet-entry (nat_eq e.a
 fresh-counts : (old_floor : List ℕ → ℕ) (s : DeskState) (e : Entry) (after : DeskState) → IsFresh old_floor s e after → after.activations ≡ s.activations + length (decks_of_entry e)
 fresh-counts old_floor s e after fresh = cases fresh.answer
   where
-  cases : IsFault s e after ⊎ Rule old_floor s e.request.job e.request.op e.answer.reply after → after.activations ≡ s.activations + length (decks_of_entry e)
-  cases (inl fault) = quiet-counts s e after fault.after_is (ap may_change fault.reply_is)
-  cases (inr rule) =
-      let counts = rule-counts old_floor s e.request.job e.request.op e.answer.reply after rule in
-      let own : length (decks_of_entry e) ≡ length (decks_told e.answer.reply (deck_of e.request.op)) = ap length (own-decks e fresh.first_is) in
-      omega (arith, counts, own)
+    cases : IsFault s e after ⊎ Rule old_floor s e.request.job e.request.op e.answer.reply after → after.activations ≡ s.activations + length (decks_of_entry e)
+    cases (inl fault) = quiet-counts s e after fault.after_is (ap may_change fault.reply_is)
+    cases (inr rule) =
+        let counts = rule-counts old_floor s e.request.job e.request.op e.answer.reply after rule in
+        let own : length (decks_of_entry e) ≡ length (decks_told e.answer.reply (deck_of e.request.op)) = ap length (own-decks e fresh.first_is) in
+        omega (arith, counts, own)
 
 repeat-counts : (last : ℕ) (kept : KeptRow) (s : DeskState) (e : Entry) (after : DeskState) → kept.place ≤ last → e.answer.place ≡ last + 1 → IsRepeat kept s e after → after.activations ≡ s.activations + length (decks_of_entry e)
 repeat-counts last kept s e after le place repeat = cases repeat.answer
   where
-  cases : RepeatsReply kept e ⊎ ReusesNumber kept e → after.activations ≡ s.activations + length (decks_of_entry e)
-  cases (inl repeats) = no-decks s e after repeat.after_is (repeat-decks e (let first = repeats.first_is in omega (arith, le, place, first)))
-  cases (inr reuses) = quiet-counts s e after repeat.after_is (ap may_change reuses.reply_is)
+    cases : RepeatsReply kept e ⊎ ReusesNumber kept e → after.activations ≡ s.activations + length (decks_of_entry e)
+    cases (inl repeats) = no-decks s e after repeat.after_is (repeat-decks e (let first = repeats.first_is in omega (arith, le, place, first)))
+    cases (inr reuses) = quiet-counts s e after repeat.after_is (ap may_change reuses.reply_is)
 
 step-counts : (o : Opening) (before : List Entry) (s : DeskState) (e : Entry) (after : DeskState) → AreEarlier (o.base + length before) (all_rows o before) → IsStep o before s e after
     → after.activations ≡ s.activations + length (decks_of_entry e)
@@ -247,6 +247,6 @@ pub reaches-counts : (o : Opening) (h : List Entry) (s : DeskState) → AreEarli
 reaches-counts o h s earlier leads =
     leads-counts o [] (start_of o) h s (subst (AreEarlier (o.base + 0)) (sym (append-none o.rows.replies)) (earlier-up o.base (o.base + 0) o.rows.replies (omega arith) earlier)) leads
   where
-  append-none : (l : List KeptRow) → l ++ [] ≡ l
-  append-none [] = refl
-  append-none (x ∷ l) = ap (λ (m : List KeptRow). x ∷ m) (append-none l)
+    append-none : (l : List KeptRow) → l ++ [] ≡ l
+    append-none [] = refl
+    append-none (x ∷ l) = ap (λ (m : List KeptRow). x ∷ m) (append-none l)

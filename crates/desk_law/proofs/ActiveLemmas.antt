@@ -43,17 +43,17 @@ alloc-follows : (s : DeskState) (job : List ℕ) (alloc : Alloc) (reply : Reply)
 alloc-follows s job alloc reply after rule =
     on-result (alloc_case s job alloc) _ _ (Follows s after) rule (λ wish e chosen. choice wish chosen) (λ answer e leaves. follows-left s answer reply after leaves)
   where
-  choice : (wish : Wish) → Chosen s wish.space.unit (want_of wish) (candidates_of wish) (Leaves s (replies.NoVolume (trace_of wish.classes)) reply after) (λ volume. GrantsOn s alloc wish volume reply after) → Follows s after
-  choice wish (inl rejected) = follows-left s _ reply after rejected.1
-  choice wish (inr one) = follows-made s _ _ reply after refl refl one.does.makes
+    choice : (wish : Wish) → Chosen s wish.space.unit (want_of wish) (candidates_of wish) (Leaves s (replies.NoVolume (trace_of wish.classes)) reply after) (λ volume. GrantsOn s alloc wish volume reply after) → Follows s after
+    choice wish (inl rejected) = follows-left s _ reply after rejected.1
+    choice wish (inr one) = follows-made s _ _ reply after refl refl one.does.makes
 
 further-follows : (s : DeskState) (set : DataSet) (reply : Reply) (after : DeskState) → FurtherRule s set reply after → Follows s after
 further-follows s set reply after rule =
     on-bool (nat_lt (length (volumes_of set.extents)) set.volumes) _ _ (Follows s after) rule (λ e chosen. choice chosen) (λ e leaves. follows-left s _ reply after leaves)
   where
-  choice : Chosen s set.unit (want_more set) (others_of s set (first_volume s set.extents)) (Leaves s (replies.NoExtend reasons.Room) reply after) (λ volume. ExtendsOn s set volume reply after) → Follows s after
-  choice (inl rejected) = follows-left s _ reply after rejected.1
-  choice (inr one) = follows-made s _ _ reply after refl refl one.does.extends
+    choice : Chosen s set.unit (want_more set) (others_of s set (first_volume s set.extents)) (Leaves s (replies.NoExtend reasons.Room) reply after) (λ volume. ExtendsOn s set volume reply after) → Follows s after
+    choice (inl rejected) = follows-left s _ reply after rejected.1
+    choice (inr one) = follows-made s _ _ reply after refl refl one.does.extends
 
 extend-follows : (s : DeskState) (dsn : List ℕ) (reply : Reply) (after : DeskState) → ExtendRule s dsn reply after → Follows s after
 extend-follows s dsn reply after rule =
@@ -100,9 +100,9 @@ same-follows s after is = inl (ap (λ (t : DeskState). t.active) is, ap (λ (t :
 fresh-follows : (old_floor : List ℕ → ℕ) (s : DeskState) (e : Entry) (after : DeskState) → IsFresh old_floor s e after → Follows s after
 fresh-follows old_floor s e after fresh = cases fresh.answer
   where
-  cases : IsFault s e after ⊎ Rule old_floor s e.request.job e.request.op e.answer.reply after → Follows s after
-  cases (inl fault) = same-follows s after fault.after_is
-  cases (inr rule) = rule-follows old_floor s e.request.job e.request.op e.answer.reply after rule
+    cases : IsFault s e after ⊎ Rule old_floor s e.request.job e.request.op e.answer.reply after → Follows s after
+    cases (inl fault) = same-follows s after fault.after_is
+    cases (inr rule) = rule-follows old_floor s e.request.job e.request.op e.answer.reply after rule
 
 step-follows : (o : Opening) (before : List Entry) (s : DeskState) (e : Entry) (after : DeskState) → IsStep o before s e after → Follows s after
 step-follows o before s e after step =

@@ -16,11 +16,11 @@ use Rattle.volume_lists.specs.Choice.{MayChoose}
 use Rattle.volume_lists.specs.Listing.{listing_of}
 use Rattle.volume_lists.specs.declared.lists.Listing.TheVariants.{Primary, Rejected, Secondary, Tertiary}
 use Rattle.volume_lists.specs.declared.lists.Why.TheVariants as reasons_of
-use Rattle.desk_law.specs.State.{DeskState, with_set, with_status}
+use Rattle.desk_law.specs.State.{DeskState, with_status}
 use Rattle.desk_law.specs.Candidates.{grant_on, view_of}
 use Rattle.desk_law.specs.Classification.{Classes}
 use Rattle.desk_law.specs.Allocation.{Wish, alloc_case, candidates_of, new_set, space_case, want_of, wish_with}
-use Rattle.desk_law.specs.Extension.{extend_case, extended, first_volume, growth_on, last_volume, others_of, want_more}
+use Rattle.desk_law.specs.Extension.{extend_case, first_volume, growth_on, last_volume, others_of}
 use Rattle.desk_law.specs.declared.stop.Stop.TheVariants as stops
 use Rattle.desk_law.proofs.ExampleDecks.{asks, asks_class, asks_nothing, data_set, deck_with, desk_under, desk_with, extent, group, new_desk, one, piece, two, volume}
 
@@ -182,3 +182,51 @@ volume_disabled = refl
 
 volume_disabled_for_new : growth (with_status (desk_with (one 100) (data_set 5 1 (extent (codes "VOL001") 0 10 ∷ []))) (Volume (codes "VOL001")) DisNew) ≡ true
 volume_disabled_for_new = refl
+
+-- The gaps 10 tracks at 0, 20 at 15, 20 at 40 and 15 at 65 of 80 tracks.
+abbrev uneven : DeskState
+uneven = desk_with (one 80) (data_set 0 1 (extent (codes "VOL001") 10 5 ∷ extent (codes "VOL001") 35 5 ∷ extent (codes "VOL001") 60 5 ∷ []))
+
+-- the lowest gap that holds the whole need
+lowest_whole : grant_on uneven (volume (codes "VOL001") 80 Enable) Trk 15 0 ≡ Some (piece 15 15 ∷ [])
+lowest_whole = refl
+
+-- else the longest first, of equal ones the lower, and the last one cut
+longest_first_cut : grant_on uneven (volume (codes "VOL001") 80 Enable) Trk 25 0 ≡ Some (piece 15 20 ∷ piece 40 5 ∷ [])
+longest_first_cut = refl
+
+all_four : grant_on uneven (volume (codes "VOL001") 80 Enable) Trk 60 0 ≡ Some (piece 15 20 ∷ piece 40 20 ∷ piece 65 15 ∷ piece 0 5 ∷ [])
+all_four = refl
+
+too_little : grant_on uneven (volume (codes "VOL001") 80 Enable) Trk 66 0 ≡ None
+too_little = refl
+
+-- a data set with 14 extents there may get two pieces
+two_pieces : grant_on uneven (volume (codes "VOL001") 80 Enable) Trk 40 14 ≡ Some (piece 15 20 ∷ piece 40 20 ∷ [])
+two_pieces = refl
+
+no_third : grant_on uneven (volume (codes "VOL001") 80 Enable) Trk 41 14 ≡ None
+no_third = refl
+
+-- a gap of 29 tracks at 46 holds one cylinder, at 60
+cylinder_inside : grant_on (desk_with (one 75) (data_set 0 1 (extent (codes "VOL001") 0 46 ∷ []))) (volume (codes "VOL001") 75 Enable) Cyl 15 0 ≡ Some (piece 60 15 ∷ [])
+cylinder_inside = refl
+
+-- an overflow group is secondary
+abbrev spill : Configuration
+spill = record { deck = []; system = None; sysplex = None; data_classes = []; storage_classes = []; management_classes = []; groups = group (codes "SG1") 85 true ∷ []; volumes = (one 100).volumes; routines = (one 100).routines }
+
+overflow : map (λ v. listing_of v (want_of (wish spill 10 1))) (map (view_of (desk_under spill) Trk 10) spill.volumes) ≡ Secondary ∷ []
+overflow = refl
+
+-- tracks that are granted already count for the threshold
+granted_before : map (λ v. listing_of v (want_of (wish (one 100) 10 1))) (map (view_of (desk_with (one 100) (data_set 0 1 (extent (codes "VOL001") 0 80 ∷ []))) Trk 10) (one 100).volumes) ≡ Secondary ∷ []
+granted_before = refl
+
+-- a volume of a storage group that isn't listed is no candidate
+not_listed : candidates_of (record (wish two 10 1) { classes = record { values = record { dataclas = []; storclas = codes "SC1"; mgmtclas = []; groups = codes "SG2" ∷ [] }; written = blank; stop = stops.Done } }) ≡ []
+not_listed = refl
+
+-- the request's own number of volumes comes before that of the data class
+own_count : space_case (record (asks Trk 10 5) { volumes = Some 7 }) (one 100) (gave (codes "DC1")) ≡ Ok (record { config = one 100; classes = gave (codes "DC1"); space = record { unit = Trk; primary = 10; secondary = 5 }; volumes = 7 })
+own_count = refl

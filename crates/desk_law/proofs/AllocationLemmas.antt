@@ -52,9 +52,9 @@ class-count-is : (class : Option DataClass) → IfSome class IsDataClass → 1 �
 class-count-is None is = omega arith
 class-count-is (Some c) is = count-or-one c.volumes is.volumes
   where
-  count-or-one : (o : Option ℕ) → IfSome o IsVolumeCount → 1 ≤ unwrap_or o 1
-  count-or-one None is = omega arith
-  count-or-one (Some n) is = is.0
+    count-or-one : (o : Option ℕ) → IfSome o IsVolumeCount → 1 ≤ unwrap_or o 1
+    count-or-one None is = omega arith
+    count-or-one (Some n) is = is.0
 
 count-is : (own : Option ℕ) (class : Option DataClass) → IfSome own IsVolumeCount → IfSome class IsDataClass → 1 ≤ unwrap_or (option_or own (option_and_then (λ (c : DataClass). c.volumes) class)) 1
 count-is None class own_is class_is = class-count-is class class_is

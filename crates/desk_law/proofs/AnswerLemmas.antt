@@ -23,9 +23,9 @@ option-some : {A : Type 0} (o : Option A) (x : A) (P : Type 0) (Q : A → Type 0
 option-some None x P Q rule is = absurd cc
 option-some (Some y) x P Q rule is = subst-some y x P Q rule is
   where
-  subst-some : {A : Type 0} (y x : A) (P : Type 0) (Q : A → Type 0) → Q y → Some y ≡ Some x → Q x
-  subst-some y x P Q rule is =
-      let same : y ≡ x = cc in rw same at rule
+    subst-some : {A : Type 0} (y x : A) (P : Type 0) (Q : A → Type 0) → Q y → Some y ≡ Some x → Q x
+    subst-some y x P Q rule is =
+        let same : y ≡ x = cc in rw same at rule
 
 pub step-below : (o : Opening) (before : List Entry) (s : DeskState) (e : Entry) (after : DeskState) → IsStep o before s e after → nat_lt e.request.number (floor_of o before e.request.job) ≡ true
     → IsBelow (floor_of o before e.request.job) s e after

@@ -62,7 +62,7 @@ exit_of_groups = refl
 exit_zero : (under (each (Some (writes_and_ends [] 0)) (Some (sets_class StorClas (codes "SC1"))) None (Some (sets_groups (codes "SG1" ∷ []))))).stop ≡ stops.Done
 exit_zero = refl
 
--- a class that the configuration doesn't have: the code comes before it, and a missing routine is no excuse
+-- a class that the configuration doesn't have; a missing routine is no excuse
 unknown_data_class : (under (each (Some (sets_class DataClas (codes "DC9"))) None None None)).stop ≡ stops.Unknown DataClas (codes "DC9")
 unknown_data_class = refl
 
@@ -89,3 +89,12 @@ more_lines = refl
 -- routines see the job of the request
 sees_the_job : (input_under (bare_input (codes "A.B")) (codes "JOB1") (Some (codes "SYSA")) None).origin.job ≡ codes "JOB1"
 sees_the_job = refl
+
+-- the code comes before the class
+code_first : (under (each (Some (λ input values. exits 8 (with_class DataClas (codes "DC9") values))) None None None)).stop ≡ stops.Exit DataClas 8
+code_first = refl
+
+-- the lines of the first two routines, where the second leaves no storage class
+first_two : (trace_of (under (each (Some (writes_and_ends (codes "DATACLAS" ∷ []) 0)) (Some (writes_and_ends (codes "STORCLAS" ∷ []) 0)) (Some (writes_and_ends (codes "MGMTCLAS" ∷ []) 0)) (Some (writes_and_ends (codes "STORGRP" ∷ []) 0))))).lines
+    ≡ record { kind = DataClas; text = codes "DATACLAS" } ∷ record { kind = StorClas; text = codes "STORCLAS" } ∷ []
+first_two = refl

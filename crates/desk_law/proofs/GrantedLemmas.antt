@@ -58,22 +58,22 @@ alloc-granted s job alloc reply after set trace is rule =
     (λ wish e chosen. choice wish e chosen)
     (λ answer e leaves. left-no-grant s answer reply after set trace is (alloc-quiet s job alloc answer e) leaves)
   where
-  choice : (wish : Wish) → alloc_case s job alloc ≡ Ok wish → Chosen s wish.space.unit (want_of wish) (candidates_of wish) (Leaves s (replies.NoVolume (trace_of wish.classes)) reply after) (λ volume. GrantsOn s alloc wish volume reply after)
-      → IsLawfulGrant s job alloc set trace
-  choice wish e (inl rejected) = left-no-grant s _ reply after set trace is refl rejected.1
-  choice wish e (inr one) =
-      let same = made-granted (new_set alloc wish one.volume one.does.pieces) set (trace_of wish.classes) trace (sym one.does.makes.reply_is ∙ is) in record {
-        wish = wish;
-        case = e;
-        position = one.position;
-        may = one.may;
-        volume = one.volume;
-        there = one.there;
-        pieces = one.does.pieces;
-        granted = one.does.granted;
-        set_is = same.0;
-        trace_is = same.1;
-      }
+    choice : (wish : Wish) → alloc_case s job alloc ≡ Ok wish → Chosen s wish.space.unit (want_of wish) (candidates_of wish) (Leaves s (replies.NoVolume (trace_of wish.classes)) reply after) (λ volume. GrantsOn s alloc wish volume reply after)
+        → IsLawfulGrant s job alloc set trace
+    choice wish e (inl rejected) = left-no-grant s _ reply after set trace is refl rejected.1
+    choice wish e (inr one) =
+        let same = made-granted (new_set alloc wish one.volume one.does.pieces) set (trace_of wish.classes) trace (sym one.does.makes.reply_is ∙ is) in record {
+          wish = wish;
+          case = e;
+          position = one.position;
+          may = one.may;
+          volume = one.volume;
+          there = one.there;
+          pieces = one.does.pieces;
+          granted = one.does.granted;
+          set_is = same.0;
+          trace_is = same.1;
+        }
 
 -- what is made otherwise is no grant
 made-no-grant : {C : Type 0} (next : DeskState) (answer reply : Reply) (after : DeskState) (set : DataSet) (trace : Trace) → reply ≡ replies.Granted set trace → (answer ≡ replies.Granted set trace → ⊥) → Makes next answer reply after → C
@@ -83,9 +83,9 @@ further-no-grant : {C : Type 0} (s : DeskState) (set : DataSet) (reply : Reply) 
 further-no-grant {C} s set reply after granted trace is rule =
     on-bool (nat_lt (length (volumes_of set.extents)) set.volumes) _ _ C rule (λ e chosen. choice chosen) (λ e leaves. left-no-grant s _ reply after granted trace is refl leaves)
   where
-  choice : Chosen s set.unit (want_more set) (others_of s set (first_volume s set.extents)) (Leaves s (replies.NoExtend reasons.Room) reply after) (λ volume. ExtendsOn s set volume reply after) → C
-  choice (inl rejected) = left-no-grant s _ reply after granted trace is refl rejected.1
-  choice (inr one) = made-no-grant _ _ reply after granted trace is (λ e. cc) one.does.extends
+    choice : Chosen s set.unit (want_more set) (others_of s set (first_volume s set.extents)) (Leaves s (replies.NoExtend reasons.Room) reply after) (λ volume. ExtendsOn s set volume reply after) → C
+    choice (inl rejected) = left-no-grant s _ reply after granted trace is refl rejected.1
+    choice (inr one) = made-no-grant _ _ reply after granted trace is (λ e. cc) one.does.extends
 
 activate-no-grant : {C : Type 0} (s : DeskState) (deck : List ℕ) (reply : Reply) (after : DeskState) (set : DataSet) (trace : Trace) → reply ≡ replies.Granted set trace → ActivateRule s deck reply after → C
 activate-no-grant s deck reply after set trace is (inl refused) = left-no-grant s _ reply after set trace is refl refused.leaves
@@ -130,12 +130,12 @@ fresh-granted : (o : Opening) (front : List Entry) (s : DeskState) (e : Entry) (
     → IsFresh (floor_of o front) s e after → GrantsLawfully o front e.request set trace
 fresh-granted o front s e after set trace reaches is fresh = cases fresh.answer
   where
-  cases : IsFault s e after ⊎ Rule (floor_of o front) s e.request.job e.request.op e.answer.reply after → GrantsLawfully o front e.request set trace
-  cases (inl fault) =
-      let bad : replies.Granted set trace ≡ replies.KeeperFault = sym is ∙ fault.reply_is in absurd cc
-  cases (inr rule) =
-      let grant = rule-granted (floor_of o front) s e.request.job e.request.op e.answer.reply after set trace is rule in
-      record { alloc = grant.0; op_is = grant.1; state = s; reaches = reaches; lawful = grant.2 }
+    cases : IsFault s e after ⊎ Rule (floor_of o front) s e.request.job e.request.op e.answer.reply after → GrantsLawfully o front e.request set trace
+    cases (inl fault) =
+        let bad : replies.Granted set trace ≡ replies.KeeperFault = sym is ∙ fault.reply_is in absurd cc
+    cases (inr rule) =
+        let grant = rule-granted (floor_of o front) s e.request.job e.request.op e.answer.reply after set trace is rule in
+        record { alloc = grant.0; op_is = grant.1; state = s; reaches = reaches; lawful = grant.2 }
 
 not-below-at : (o : Opening) (front : List Entry) (s : DeskState) (e : Entry) (after : DeskState) (set : DataSet) (trace : Trace) (b : Bool) → nat_lt e.request.number (floor_of o front e.request.job) ≡ b
     → IsStep o front s e after → e.answer.reply ≡ replies.Granted set trace → nat_lt e.request.number (floor_of o front e.request.job) ≡ false
@@ -216,36 +216,36 @@ entry-row : (b : Bool) (e : Entry) (p : KeptRow → Bool) (row : KeptRow) → fi
 entry-row true e p row is = absurd cc
 entry-row false e p row is = entry-row-at (p (row_of_entry e)) refl
   where
-  entry-row-at : (c : Bool) → p (row_of_entry e) ≡ c → row ≡ row_of_entry e
-  entry-row-at true test =
-      let now : Some (row_of_entry e) ≡ Some row = rw test at is in cc
-  entry-row-at false test =
-      let now : None ≡ Some row = rw test at is in absurd cc
+    entry-row-at : (c : Bool) → p (row_of_entry e) ≡ c → row ≡ row_of_entry e
+    entry-row-at true test =
+        let now : Some (row_of_entry e) ≡ Some row = rw test at is in cc
+    entry-row-at false test =
+        let now : None ≡ Some row = rw test at is in absurd cc
 
 row-entry : (p : KeptRow → Bool) (rows : List KeptRow) (es : List Entry) (row : KeptRow) → find p rows ≡ None → find p (rows_of es) ≡ Some row → IsRowOf p rows es row
 row-entry p rows [] row missing is = absurd cc
 row-entry p rows (e ∷ es) row missing is =
     row-entry-at p rows e es row missing (found-parts p (rows_of_entry e) (rows_of es) row is) (λ gone rest. row-entry p (rows ++ rows_of_entry e) es row (none-in-both p rows (rows_of_entry e) missing gone) rest)
   where
-  row-entry-at : (p : KeptRow → Bool) (rows : List KeptRow) (e : Entry) (es : List Entry) (row : KeptRow) → find p rows ≡ None → FoundIn p (rows_of_entry e) (rows_of es) row
-      → (find p (rows_of_entry e) ≡ None → find p (rows_of es) ≡ Some row → IsRowOf p (rows ++ rows_of_entry e) es row) → IsRowOf p rows (e ∷ es) row
-  row-entry-at p rows e es row missing (inl here) rest = record {
-    mid = [];
-    one = e;
-    behind = es;
-    stands = refl;
-    row_is = entry-row (is_fault e.answer.reply) e p row here;
-    first = subst (λ (l : List KeptRow). find p l ≡ None) (sym (append-none rows)) missing;
-  }
-  row-entry-at p rows e es row missing (inr there) rest =
-      let found = rest there.0 there.1 in record {
-        mid = e ∷ found.mid;
-        one = found.one;
-        behind = found.behind;
-        stands = ap (λ (l : List Entry). e ∷ l) found.stands;
-        row_is = found.row_is;
-        first = subst (λ (l : List KeptRow). find p l ≡ None) (append-three rows (rows_of_entry e) (rows_of found.mid)) found.first;
-      }
+    row-entry-at : (p : KeptRow → Bool) (rows : List KeptRow) (e : Entry) (es : List Entry) (row : KeptRow) → find p rows ≡ None → FoundIn p (rows_of_entry e) (rows_of es) row
+        → (find p (rows_of_entry e) ≡ None → find p (rows_of es) ≡ Some row → IsRowOf p (rows ++ rows_of_entry e) es row) → IsRowOf p rows (e ∷ es) row
+    row-entry-at p rows e es row missing (inl here) rest = record {
+      mid = [];
+      one = e;
+      behind = es;
+      stands = refl;
+      row_is = entry-row (is_fault e.answer.reply) e p row here;
+      first = subst (λ (l : List KeptRow). find p l ≡ None) (sym (append-none rows)) missing;
+    }
+    row-entry-at p rows e es row missing (inr there) rest =
+        let found = rest there.0 there.1 in record {
+          mid = e ∷ found.mid;
+          one = found.one;
+          behind = found.behind;
+          stands = ap (λ (l : List Entry). e ∷ l) found.stands;
+          row_is = found.row_is;
+          first = subst (λ (l : List KeptRow). find p l ≡ None) (append-three rows (rows_of_entry e) (rows_of found.mid)) found.first;
+        }
 
 both-parts : (a b : Bool) → (a && b) ≡ true → (a ≡ true) × (b ≡ true)
 both-parts true b is = (refl, is)
@@ -298,30 +298,30 @@ kept-granted o front rest entry set trace row legal is found (inl repeats) =
     let passes = found-passes (is_reply_of entry.request.job entry.request.number) (all_rows o front) row found in
     place reply passes (found-parts (is_reply_of entry.request.job entry.request.number) o.rows.replies (rows_of front) row found)
   where
-  place : row.reply ≡ replies.Granted set trace → is_reply_of entry.request.job entry.request.number row ≡ true
-      → FoundIn (is_reply_of entry.request.job entry.request.number) o.rows.replies (rows_of front) row → WasGranted o front entry set trace
-  place reply passes (inl opened) = inl (record { row = row; kept = opened; op_is = repeats.same; reply_is = reply; first_is = repeats.first_is })
-  place reply passes (inr later) = inr (entered-by o front rest entry set trace row legal repeats reply passes (row-entry (is_reply_of entry.request.job entry.request.number) o.rows.replies front row later.0 later.1))
+    place : row.reply ≡ replies.Granted set trace → is_reply_of entry.request.job entry.request.number row ≡ true
+        → FoundIn (is_reply_of entry.request.job entry.request.number) o.rows.replies (rows_of front) row → WasGranted o front entry set trace
+    place reply passes (inl opened) = inl (record { row = row; kept = opened; op_is = repeats.same; reply_is = reply; first_is = repeats.first_is })
+    place reply passes (inr later) = inr (entered-by o front rest entry set trace row legal repeats reply passes (row-entry (is_reply_of entry.request.job entry.request.number) o.rows.replies front row later.0 later.1))
 
 pub was-granted : (o : Opening) (front rest : List Entry) (entry : Entry) (set : DataSet) (trace : Trace) → IsLegal o (front ++ entry ∷ rest) → entry.answer.reply ≡ replies.Granted set trace
     → WasGranted o front entry set trace
 was-granted o front rest entry set trace legal is = by_kept (kept_for o front entry.request.job entry.request.number) refl
   where
-  by_kept : (k : Option KeptRow) → kept_for o front entry.request.job entry.request.number ≡ k → WasGranted o front entry set trace
-  by_kept None missing =
-      let grant = stands-granted o front entry set trace (legal-stands o front rest entry legal) is missing in
-      inr (record {
-        before = front;
-        one = entry;
-        behind = [];
-        stands = refl;
-        job_is = refl;
-        number_is = refl;
-        op_is = refl;
-        first_is = grant.0;
-        lawful = grant.1;
-      })
-  by_kept (Some row) found =
-      let there = legal-stands o front rest entry legal in
-      let repeat = step-kept o front there.state entry there.after row there.step (not-below o front there.state entry there.after set trace there.step is) found in
-      kept-granted o front rest entry set trace row legal is found repeat.answer
+    by_kept : (k : Option KeptRow) → kept_for o front entry.request.job entry.request.number ≡ k → WasGranted o front entry set trace
+    by_kept None missing =
+        let grant = stands-granted o front entry set trace (legal-stands o front rest entry legal) is missing in
+        inr (record {
+          before = front;
+          one = entry;
+          behind = [];
+          stands = refl;
+          job_is = refl;
+          number_is = refl;
+          op_is = refl;
+          first_is = grant.0;
+          lawful = grant.1;
+        })
+    by_kept (Some row) found =
+        let there = legal-stands o front rest entry legal in
+        let repeat = step-kept o front there.state entry there.after row there.step (not-below o front there.state entry there.after set trace there.step is) found in
+        kept-granted o front rest entry set trace row legal is found repeat.answer

@@ -39,9 +39,9 @@ stands o before s [] rest entry t leads = record {
   step = subst (λ (l : List Entry). IsStep o l s entry leads.0) (sym (behind-none before)) leads.1;
 }
   where
-  behind-none : (l : List Entry) → l ++ [] ≡ l
-  behind-none [] = refl
-  behind-none (x ∷ l) = ap (λ (m : List Entry). x ∷ m) (behind-none l)
+    behind-none : (l : List Entry) → l ++ [] ≡ l
+    behind-none [] = refl
+    behind-none (x ∷ l) = ap (λ (m : List Entry). x ∷ m) (behind-none l)
 stands o before s (e ∷ front) rest entry t leads =
     let there = stands o (before ++ e ∷ []) leads.0 front rest entry t leads.2 in record {
       state = there.state;
@@ -59,9 +59,9 @@ leads-push o before s [] entry state after leads step = (
   refl,
 )
   where
-  behind-none : (l : List Entry) → l ++ [] ≡ l
-  behind-none [] = refl
-  behind-none (x ∷ l) = ap (λ (m : List Entry). x ∷ m) (behind-none l)
+    behind-none : (l : List Entry) → l ++ [] ≡ l
+    behind-none [] = refl
+    behind-none (x ∷ l) = ap (λ (m : List Entry). x ∷ m) (behind-none l)
 leads-push o before s (e ∷ front) entry state after leads step =
     (leads.0, leads.1, leads-push o (before ++ e ∷ []) leads.0 front entry state after leads.2 (subst (λ (l : List Entry). IsStep o l state entry after) (sym (push-front before e front)) step))
 

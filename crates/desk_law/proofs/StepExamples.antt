@@ -9,6 +9,7 @@ use Rattle.sms_construct.specs.declared.reply.Reply.TheVariants as replies
 use Rattle.sms_construct.specs.declared.request.Op.{Op}
 use Rattle.sms_construct.specs.declared.request.Op.TheVariants as ops
 use Rattle.sms_construct.specs.declared.unit.Unit.TheVariants.{Trk}
+use Rattle.desk_law.specs.State.{Opening}
 use Rattle.desk_law.specs.Kept.{floor_of, kept_for}
 use Rattle.desk_law.specs.Records.{decks_of, empty_opening}
 use Rattle.desk_law.specs.Rule.{IsSoundAlloc}
@@ -48,24 +49,59 @@ other-name e =
 numbers-reach : Reaches empty_opening numbers new_desk
 numbers-reach = (
   new_desk,
-  record { few = omega arith; few_activations = λ e. absurd cc; number = (omega arith, omega arith); sound = sound (codes "A.B"); place = refl; entered = refl;
-    answer = record { first_is = refl; answer = inr (record { reply_is = refl; after_is = refl }) } },
+  record {
+    few = omega arith;
+    few_activations = λ e. absurd cc;
+    number = (omega arith, omega arith);
+    sound = sound (codes "A.B");
+    place = refl;
+    entered = refl;
+    answer = record { first_is = refl; answer = inr (record { reply_is = refl; after_is = refl }) };
+  },
   (
     new_desk,
-    record { few = omega arith; few_activations = λ e. absurd cc; number = (omega arith, omega arith); sound = sound (codes "A.C"); place = refl; entered = refl;
-      answer = record { answer = inr (record { other = other-name; reply_is = refl; first_is = refl }); after_is = refl } },
+    record {
+      few = omega arith;
+      few_activations = λ e. absurd cc;
+      number = (omega arith, omega arith);
+      sound = sound (codes "A.C");
+      place = refl;
+      entered = refl;
+      answer = record { answer = inr (record { other = other-name; reply_is = refl; first_is = refl }); after_is = refl };
+    },
     (
       new_desk,
-      record { few = omega arith; few_activations = λ e. absurd cc; number = (omega arith, omega arith); sound = (omega arith, omega arith); place = refl; entered = refl;
-        answer = record { first_is = refl; answer = inr (record { reply_is = refl; after_is = refl }) } },
+      record {
+        few = omega arith;
+        few_activations = λ e. absurd cc;
+        number = (omega arith, omega arith);
+        sound = (omega arith, omega arith);
+        place = refl;
+        entered = refl;
+        answer = record { first_is = refl; answer = inr (record { reply_is = refl; after_is = refl }) };
+      },
       (
         new_desk,
-        record { few = omega arith; few_activations = λ e. absurd cc; number = (omega arith, omega arith); sound = sound (codes "A.B"); place = refl; entered = refl;
-          answer = record { reply_is = refl; first_is = refl; after_is = refl } },
+        record {
+          few = omega arith;
+          few_activations = λ e. absurd cc;
+          number = (omega arith, omega arith);
+          sound = sound (codes "A.B");
+          place = refl;
+          entered = refl;
+          answer = record { reply_is = refl; first_is = refl; after_is = refl };
+        },
         (
           new_desk,
-          record { few = omega arith; few_activations = λ e. absurd cc; number = (omega arith, omega arith); sound = (omega arith, omega arith); place = refl; entered = refl;
-            answer = record { first_is = refl; answer = inr (record { reply_is = refl; after_is = refl }) } },
+          record {
+            few = omega arith;
+            few_activations = λ e. absurd cc;
+            number = (omega arith, omega arith);
+            sound = (omega arith, omega arith);
+            place = refl;
+            entered = refl;
+            answer = record { first_is = refl; answer = inr (record { reply_is = refl; after_is = refl }) };
+          },
           refl,
         ),
       ),
@@ -83,12 +119,26 @@ refused_twice =
 refused-twice-reaches : Reaches empty_opening refused_twice new_desk
 refused-twice-reaches = (
   new_desk,
-  record { few = omega arith; few_activations = λ e. absurd cc; number = (omega arith, omega arith); sound = sound (codes "A.B"); place = refl; entered = refl;
-    answer = record { first_is = refl; answer = inr (record { reply_is = refl; after_is = refl }) } },
+  record {
+    few = omega arith;
+    few_activations = λ e. absurd cc;
+    number = (omega arith, omega arith);
+    sound = sound (codes "A.B");
+    place = refl;
+    entered = refl;
+    answer = record { first_is = refl; answer = inr (record { reply_is = refl; after_is = refl }) };
+  },
   (
     new_desk,
-    record { few = omega arith; few_activations = λ e. absurd cc; number = (omega arith, omega arith); sound = sound (codes "A.B"); place = refl; entered = refl;
-      answer = record { answer = inl (record { same = refl; reply_is = refl; first_is = refl }); after_is = refl } },
+    record {
+      few = omega arith;
+      few_activations = λ e. absurd cc;
+      number = (omega arith, omega arith);
+      sound = sound (codes "A.B");
+      place = refl;
+      entered = refl;
+      answer = record { answer = inl (record { same = refl; reply_is = refl; first_is = refl }); after_is = refl };
+    },
     refl,
   ),
 )
@@ -113,3 +163,74 @@ activated_twice = entry (codes "SMSADMIN") 1 (ops.Activate (codes "D")) 1 1 (rep
 
 one_deck : decks_of activated_twice ≡ record { count = 1; bytes = codes "D" } ∷ []
 one_deck = refl
+
+-- an opening with a floor and a kept reply, whose places end at 7
+abbrev opened : Opening
+opened = record {
+  rows = record {
+    sets = [];
+    replies = record { job = codes "JOB1"; number = 9; place = 7; request = record { job = codes "JOB1"; number = 9; op = asks_for (codes "A.B") }; reply = replies.NoConfig } ∷ [];
+    decks = [];
+    statuses = [];
+    floors = record { job = codes "JOB1"; floor = 4 } ∷ [];
+  };
+  config = None;
+  base = 7;
+}
+
+-- its floor stands, and a greater one that was answered since
+opened_floor : floor_of opened [] (codes "JOB1") ≡ 4
+opened_floor = refl
+
+later_floor : floor_of opened numbers (codes "JOB1") ≡ 6
+later_floor = refl
+
+-- its reply is kept, and repeated with its place
+opened-reaches : Reaches opened (entry (codes "JOB1") 9 (asks_for (codes "A.B")) 8 7 replies.NoConfig ∷ []) new_desk
+opened-reaches = (
+  new_desk,
+  record {
+    few = omega arith;
+    few_activations = λ e. absurd cc;
+    number = (omega arith, omega arith);
+    sound = sound (codes "A.B");
+    place = refl;
+    entered = refl;
+    answer = record { answer = inl (record { same = refl; reply_is = refl; first_is = refl }); after_is = refl };
+  },
+  refl,
+)
+
+-- a fault of the keeper is an entry, and the same request is fresh behind it
+abbrev fault_and_retry : List Entry
+fault_and_retry =
+    entry (codes "JOB1") 1 (asks_for (codes "A.B")) 1 1 replies.KeeperFault
+    ∷ entry (codes "JOB1") 1 (asks_for (codes "A.B")) 2 2 replies.NoConfig
+    ∷ []
+
+fault-and-retry-reaches : Reaches empty_opening fault_and_retry new_desk
+fault-and-retry-reaches = (
+  new_desk,
+  record {
+    few = omega arith;
+    few_activations = λ e. absurd cc;
+    number = (omega arith, omega arith);
+    sound = sound (codes "A.B");
+    place = refl;
+    entered = refl;
+    answer = record { first_is = refl; answer = inl (record { reply_is = refl; after_is = refl }) };
+  },
+  (
+    new_desk,
+    record {
+      few = omega arith;
+      few_activations = λ e. absurd cc;
+      number = (omega arith, omega arith);
+      sound = sound (codes "A.B");
+      place = refl;
+      entered = refl;
+      answer = record { first_is = refl; answer = inr (record { reply_is = refl; after_is = refl }) };
+    },
+    refl,
+  ),
+)

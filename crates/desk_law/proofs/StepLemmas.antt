@@ -52,17 +52,17 @@ alloc-still : (s : DeskState) (job : List ℕ) (alloc : Alloc) (reply : Reply) (
 alloc-still s job alloc reply after rule =
     on-result (alloc_case s job alloc) _ _ (Still s reply after) rule (λ wish e chosen. choice wish chosen) (λ answer e leaves. still-left s answer reply after leaves)
   where
-  choice : (wish : Wish) → Chosen s wish.space.unit (want_of wish) (candidates_of wish) (Leaves s (replies.NoVolume (trace_of wish.classes)) reply after) (λ volume. GrantsOn s alloc wish volume reply after) → Still s reply after
-  choice wish (inl rejected) = still-left s _ reply after rejected.1
-  choice wish (inr one) = still-made s _ _ reply after refl one.does.makes
+    choice : (wish : Wish) → Chosen s wish.space.unit (want_of wish) (candidates_of wish) (Leaves s (replies.NoVolume (trace_of wish.classes)) reply after) (λ volume. GrantsOn s alloc wish volume reply after) → Still s reply after
+    choice wish (inl rejected) = still-left s _ reply after rejected.1
+    choice wish (inr one) = still-made s _ _ reply after refl one.does.makes
 
 further-still : (s : DeskState) (set : DataSet) (reply : Reply) (after : DeskState) → FurtherRule s set reply after → Still s reply after
 further-still s set reply after rule =
     on-bool (nat_lt (length (volumes_of set.extents)) set.volumes) _ _ (Still s reply after) rule (λ e chosen. choice chosen) (λ e leaves. still-left s _ reply after leaves)
   where
-  choice : Chosen s set.unit (want_more set) (others_of s set (first_volume s set.extents)) (Leaves s (replies.NoExtend reasons.Room) reply after) (λ volume. ExtendsOn s set volume reply after) → Still s reply after
-  choice (inl rejected) = still-left s _ reply after rejected.1
-  choice (inr one) = still-made s _ _ reply after refl one.does.extends
+    choice : Chosen s set.unit (want_more set) (others_of s set (first_volume s set.extents)) (Leaves s (replies.NoExtend reasons.Room) reply after) (λ volume. ExtendsOn s set volume reply after) → Still s reply after
+    choice (inl rejected) = still-left s _ reply after rejected.1
+    choice (inr one) = still-made s _ _ reply after refl one.does.extends
 
 extend-still : (s : DeskState) (dsn : List ℕ) (reply : Reply) (after : DeskState) → ExtendRule s dsn reply after → Still s reply after
 extend-still s dsn reply after rule =
@@ -106,9 +106,9 @@ rule-still old_floor s job (ops.Purge other floor) reply after rule = still-left
 fresh-still : (old_floor : List ℕ → ℕ) (s : DeskState) (e : Entry) (after : DeskState) → IsFresh old_floor s e after → Still s e.answer.reply after
 fresh-still old_floor s e after fresh = cases fresh.answer
   where
-  cases : IsFault s e after ⊎ Rule old_floor s e.request.job e.request.op e.answer.reply after → Still s e.answer.reply after
-  cases (inl fault) = λ quiet. fault.after_is
-  cases (inr rule) = rule-still old_floor s e.request.job e.request.op e.answer.reply after rule
+    cases : IsFault s e after ⊎ Rule old_floor s e.request.job e.request.op e.answer.reply after → Still s e.answer.reply after
+    cases (inl fault) = λ quiet. fault.after_is
+    cases (inr rule) = rule-still old_floor s e.request.job e.request.op e.answer.reply after rule
 
 pub step-still : (o : Opening) (before : List Entry) (s : DeskState) (e : Entry) (after : DeskState) → IsStep o before s e after → may_change e.answer.reply ≡ false → after ≡ s
 step-still o before s e after step =
@@ -154,26 +154,26 @@ alloc-one : (s : DeskState) (job : List ℕ) (alloc : Alloc) (reply : Reply) (af
 alloc-one s job alloc reply after other one two =
     two-results (alloc_case s job alloc) _ _ _ _ (after ≡ other) one two (λ wish a b. choice wish a b) (λ answer a b. two-left s answer answer reply reply after other a b)
   where
-  choice : (wish : Wish) → Chosen s wish.space.unit (want_of wish) (candidates_of wish) (Leaves s (replies.NoVolume (trace_of wish.classes)) reply after) (λ volume. GrantsOn s alloc wish volume reply after)
-      → Chosen s wish.space.unit (want_of wish) (candidates_of wish) (Leaves s (replies.NoVolume (trace_of wish.classes)) reply other) (λ volume. GrantsOn s alloc wish volume reply other) → after ≡ other
-  choice wish (inl a) (inl b) = two-left s _ _ reply reply after other a.1 b.1
-  choice wish (inl a) (inr b) = left-and-made s _ _ _ reply after other refl refl a.1 b.does.makes
-  choice wish (inr a) (inl b) = left-and-made s _ _ _ reply other after refl refl b.1 a.does.makes
-  choice wish (inr a) (inr b) =
-    let same = granted-same _ _ _ _ (sym a.does.makes.reply_is ∙ b.does.makes.reply_is) in
-    a.does.makes.after_is ∙ (ap (with_set s) same ∙ sym b.does.makes.after_is)
+    choice : (wish : Wish) → Chosen s wish.space.unit (want_of wish) (candidates_of wish) (Leaves s (replies.NoVolume (trace_of wish.classes)) reply after) (λ volume. GrantsOn s alloc wish volume reply after)
+        → Chosen s wish.space.unit (want_of wish) (candidates_of wish) (Leaves s (replies.NoVolume (trace_of wish.classes)) reply other) (λ volume. GrantsOn s alloc wish volume reply other) → after ≡ other
+    choice wish (inl a) (inl b) = two-left s _ _ reply reply after other a.1 b.1
+    choice wish (inl a) (inr b) = left-and-made s _ _ _ reply after other refl refl a.1 b.does.makes
+    choice wish (inr a) (inl b) = left-and-made s _ _ _ reply other after refl refl b.1 a.does.makes
+    choice wish (inr a) (inr b) =
+        let same = granted-same _ _ _ _ (sym a.does.makes.reply_is ∙ b.does.makes.reply_is) in
+        a.does.makes.after_is ∙ (ap (with_set s) same ∙ sym b.does.makes.after_is)
 
 further-one : (s : DeskState) (set : DataSet) (reply : Reply) (after other : DeskState) → FurtherRule s set reply after → FurtherRule s set reply other → after ≡ other
 further-one s set reply after other one two =
     two-bools (nat_lt (length (volumes_of set.extents)) set.volumes) _ _ _ _ (after ≡ other) one two (λ a b. choice a b) (λ a b. two-left s _ _ reply reply after other a b)
   where
-  choice : Chosen s set.unit (want_more set) (others_of s set (first_volume s set.extents)) (Leaves s (replies.NoExtend reasons.Room) reply after) (λ volume. ExtendsOn s set volume reply after) → Chosen s set.unit (want_more set) (others_of s set (first_volume s set.extents)) (Leaves s (replies.NoExtend reasons.Room) reply other) (λ volume. ExtendsOn s set volume reply other) → after ≡ other
-  choice (inl a) (inl b) = two-left s _ _ reply reply after other a.1 b.1
-  choice (inl a) (inr b) = left-and-made s _ _ _ reply after other refl refl a.1 b.does.extends
-  choice (inr a) (inl b) = left-and-made s _ _ _ reply other after refl refl b.1 a.does.extends
-  choice (inr a) (inr b) =
-    let same = extended-same _ _ (sym a.does.extends.reply_is ∙ b.does.extends.reply_is) in
-    a.does.extends.after_is ∙ (ap (λ (es : List Extent). with_set s (extended set es)) same ∙ sym b.does.extends.after_is)
+    choice : Chosen s set.unit (want_more set) (others_of s set (first_volume s set.extents)) (Leaves s (replies.NoExtend reasons.Room) reply after) (λ volume. ExtendsOn s set volume reply after) → Chosen s set.unit (want_more set) (others_of s set (first_volume s set.extents)) (Leaves s (replies.NoExtend reasons.Room) reply other) (λ volume. ExtendsOn s set volume reply other) → after ≡ other
+    choice (inl a) (inl b) = two-left s _ _ reply reply after other a.1 b.1
+    choice (inl a) (inr b) = left-and-made s _ _ _ reply after other refl refl a.1 b.does.extends
+    choice (inr a) (inl b) = left-and-made s _ _ _ reply other after refl refl b.1 a.does.extends
+    choice (inr a) (inr b) =
+        let same = extended-same _ _ (sym a.does.extends.reply_is ∙ b.does.extends.reply_is) in
+        a.does.extends.after_is ∙ (ap (λ (es : List Extent). with_set s (extended set es)) same ∙ sym b.does.extends.after_is)
 
 extend-one : (s : DeskState) (dsn : List ℕ) (reply : Reply) (after other : DeskState) → ExtendRule s dsn reply after → ExtendRule s dsn reply other → after ≡ other
 extend-one s dsn reply after other one two =
@@ -227,11 +227,11 @@ rule-one old_floor s job (ops.Purge name floor) reply after other one two = two-
 fresh-one : (old_floor : List ℕ → ℕ) (s : DeskState) (e : Entry) (after other : DeskState) → IsFresh old_floor s e after → IsFresh old_floor s e other → after ≡ other
 fresh-one old_floor s e after other one two = cases one.answer two.answer
   where
-  cases : IsFault s e after ⊎ Rule old_floor s e.request.job e.request.op e.answer.reply after → IsFault s e other ⊎ Rule old_floor s e.request.job e.request.op e.answer.reply other → after ≡ other
-  cases (inl a) (inl b) = a.after_is ∙ sym b.after_is
-  cases (inl a) (inr b) = a.after_is ∙ sym (rule-still old_floor s e.request.job e.request.op e.answer.reply other b (ap may_change a.reply_is))
-  cases (inr a) (inl b) = rule-still old_floor s e.request.job e.request.op e.answer.reply after a (ap may_change b.reply_is) ∙ sym b.after_is
-  cases (inr a) (inr b) = rule-one old_floor s e.request.job e.request.op e.answer.reply after other a b
+    cases : IsFault s e after ⊎ Rule old_floor s e.request.job e.request.op e.answer.reply after → IsFault s e other ⊎ Rule old_floor s e.request.job e.request.op e.answer.reply other → after ≡ other
+    cases (inl a) (inl b) = a.after_is ∙ sym b.after_is
+    cases (inl a) (inr b) = a.after_is ∙ sym (rule-still old_floor s e.request.job e.request.op e.answer.reply other b (ap may_change a.reply_is))
+    cases (inr a) (inl b) = rule-still old_floor s e.request.job e.request.op e.answer.reply after a (ap may_change b.reply_is) ∙ sym b.after_is
+    cases (inr a) (inr b) = rule-one old_floor s e.request.job e.request.op e.answer.reply after other a b
 
 -- a step leads to one state
 pub step-one : (o : Opening) (before : List Entry) (s : DeskState) (e : Entry) (after other : DeskState) → IsStep o before s e after → IsStep o before s e other → after ≡ other

@@ -19,10 +19,11 @@ use Rattle.desk_law.specs.Volumes.{tracks_of, volumes_in}
 abbrev pub first_barred : DeskState → Configuration → Option VolumeDef
 first_barred s config = find (λ volume. is_used volume.volser (extents_of s.sets) && nat_lt (tracks_of volume.volser config.volumes) volume.tracks) (volumes_in s.active)
 
--- a storage group, and a volume, with its present status, and with that of the deck where it has none
+-- a storage group with its present status, and with that of the deck where it has none
 abbrev pub row_of_group : List StatusRow → StorGroup → StatusRow
 row_of_group present group = record { target = targets.Group group.name; status = status_in present (targets.Group group.name) group.status }
 
+-- a volume likewise
 abbrev pub row_of_volume : List StatusRow → VolumeDef → StatusRow
 row_of_volume present volume = record { target = targets.Volume volume.volser; status = status_in present (targets.Volume volume.volser) volume.status }
 

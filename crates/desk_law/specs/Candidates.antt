@@ -19,11 +19,12 @@ use Rattle.desk_law.specs.Volumes.{group_named, volumes_of_group}
 abbrev pub grant_on : DeskState → VolumeDef → SpaceUnit → ℕ → ℕ → Option (List Piece)
 grant_on s volume unit need held = grant_of (unit_gaps (tracks_in unit) (gaps_of volume.tracks (held_on s volume.volser))) need held
 
--- whether the storage group is an overflow group, and its high threshold
+-- whether the storage group is an overflow group
 abbrev pub is_overflow : Option StorGroup → Bool
 is_overflow None = false
 is_overflow (Some group) = group.overflow
 
+-- its high threshold
 abbrev pub high_of : Option StorGroup → ℕ
 high_of None = 0
 high_of (Some group) = group.high

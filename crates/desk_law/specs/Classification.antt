@@ -144,5 +144,6 @@ answer_of (stops.Exit kind code) classes = Err (replies.Exit kind code (trace_of
 answer_of (stops.Unknown kind name) classes = Err (replies.UnknownClass kind name (trace_of classes))
 answer_of stops.NoGroup classes = Err (replies.NoGroup (trace_of classes))
 
+-- the same of what the classification came to
 abbrev pub went_through : Classes → Result Classes Reply
 went_through classes = answer_of classes.stop classes

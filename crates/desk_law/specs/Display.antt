@@ -17,8 +17,8 @@ use Rattle.desk_law.specs.Volumes.{free_on, group_named, volume_named, volumes_o
 use Rattle.desk_law.specs.Replies.{found_or, Leaves}
 
 -- a volume with its status, its tracks, those that are free, and the number of extents on it
-abbrev pub row_of_volume : DeskState → VolumeDef → VolRow
-row_of_volume s volume = record {
+abbrev pub shown_volume : DeskState → VolumeDef → VolRow
+shown_volume s volume = record {
   volser = volume.volser;
   group = volume.group;
   status = volume_status s volume.volser;
@@ -35,7 +35,7 @@ view_of_group s group = views.Group group.name (group_status s group.name) (leng
 -- what is shown of a target, if it is there
 abbrev pub view_of_target : DeskState → Target → Option View
 view_of_target s (targets.Group name) = option_map (view_of_group s) (group_named s name)
-view_of_target s (targets.Volume volser) = option_map (λ volume. views.Volume (row_of_volume s volume)) (volume_named s volser)
+view_of_target s (targets.Volume volser) = option_map (λ volume. views.Volume (shown_volume s volume)) (volume_named s volser)
 view_of_target s (targets.Set dsn) = option_map views.Set (set_named dsn s.sets)
 
 -- the reply where it isn't

@@ -50,6 +50,7 @@ want_more set = record { need = set.secondary; volumes = set.volumes }
 abbrev pub extended : DataSet → List Extent → DataSet
 extended set added = with_extents set set.used (set.extents ++ added)
 
+-- the data set has them from now on
 abbrev pub Extends : DeskState → DataSet → List Extent → Reply → DeskState → Type 0
 Extends s set added reply after = Makes (with_set s (extended set added)) (replies.Extended added) reply after
 

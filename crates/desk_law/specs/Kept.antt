@@ -105,6 +105,7 @@ is_fault replies.Memory = false
 abbrev pub rows_of_entry : Entry → List KeptRow
 rows_of_entry entry = if is_fault entry.answer.reply then [] else row_of_entry entry ∷ []
 
+-- the rows of entries
 abbrev pub rows_of : List Entry → List KeptRow
 rows_of [] = []
 rows_of (entry ∷ entries) = rows_of_entry entry ++ rows_of entries
