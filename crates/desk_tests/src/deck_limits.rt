@@ -4,17 +4,17 @@ use desk_common::push_number;
 use std::alloc::Global;
 use std::test::Fail;
 
-/// So many times a text, a number from 1 on, and another text.
+/// So many times a text, a number from the first one on, and another text.
 fn push_numbered(
     text: &mut Vec<u8>,
     before: &[u8],
     behind: &[u8],
-    from: u64,
+    first: u64,
     count: u64,
 ) -> Result<(), Fail> {
-    for number in from..from + count {
+    for further in 0..count {
         text.extend_from_slice(before)?;
-        push_number(text, number)?;
+        push_number(text, first.wrapping_add(further))?;
         text.extend_from_slice(behind)?;
     }
     Ok(())
@@ -61,25 +61,31 @@ fn groups_of(alloc: Global, groups: &[(u64, u64)]) -> Result<Vec<u8>, Fail> {
 fn volumes_of_several_groups(rt: HostRuntime) -> Result<(), Fail> {
     let alloc = rt.alloc();
     let four = groups_of(alloc, &[(256, 100), (256, 400), (256, 700), (256, 1000)])?;
-    assert!(rt; told(alloc, &four)?.as_slice() == b"VALID 4 1024");
-    let five = groups_of(alloc, &[(256, 100), (256, 400), (256, 700), (256, 1000), (1, 1)])?;
-    assert!(rt; told(alloc, &five)?.as_slice() == b"K9 volume");
+    assert!(rt; told(alloc, &four)?.as_slice() == b"VALID 4 1024".as_slice());
+    let five = groups_of(
+        alloc,
+        &[(256, 100), (256, 400), (256, 700), (256, 1000), (1, 1)],
+    )?;
+    assert!(rt; told(alloc, &five)?.as_slice() == b"K9 volume".as_slice());
     // each place counts, and the number comes before a serial that stands twice
-    let again = groups_of(alloc, &[(256, 100), (256, 400), (256, 700), (256, 1000), (1, 100)])?;
-    assert!(rt; told(alloc, &again)?.as_slice() == b"K9 volume");
+    let again = groups_of(
+        alloc,
+        &[(256, 100), (256, 400), (256, 700), (256, 1000), (1, 100)],
+    )?;
+    assert!(rt; told(alloc, &again)?.as_slice() == b"K9 volume".as_slice());
     let twice = groups_of(alloc, &[(3, 20), (3, 22), (3, 10), (3, 12)])?;
-    assert!(rt; told(alloc, &twice)?.as_slice() == b"K6 V12");
+    assert!(rt; told(alloc, &twice)?.as_slice() == b"K6 V12".as_slice());
     let thrice = groups_of(alloc, &[(2, 8), (1, 9), (2, 9)])?;
-    assert!(rt; told(alloc, &thrice)?.as_slice() == b"K6 V9");
+    assert!(rt; told(alloc, &thrice)?.as_slice() == b"K6 V9".as_slice());
     let apart = groups_of(alloc, &[(3, 20), (3, 30), (3, 10)])?;
-    assert!(rt; told(alloc, &apart)?.as_slice() == b"VALID 3 9");
+    assert!(rt; told(alloc, &apart)?.as_slice() == b"VALID 3 9".as_slice());
     Ok(())
 }
 
 /// A deck of so many bytes, which ends in a comment.
 fn deck_of_length(alloc: Global, length: usize) -> Result<Vec<u8>, Fail> {
     let mut deck = b"version = 1 #".to_vec(alloc)?;
-    while deck.len() < length {
+    for _ in deck.len()..length {
         deck.push(b' ')?;
     }
     Ok(deck)
@@ -98,10 +104,14 @@ fn deck_with_routine(alloc: Global, length: usize) -> Result<Vec<u8>, Fail> {
 #[test]
 fn long_decks_and_long_routines(rt: HostRuntime) -> Result<(), Fail> {
     let alloc = rt.alloc();
-    assert!(rt; told(alloc, &deck_of_length(alloc, 262_144)?)?.as_slice() == b"VALID 0 0");
-    assert!(rt; told(alloc, &deck_of_length(alloc, 262_145)?)?.as_slice() == b"K9 deck");
-    assert!(rt; told(alloc, &deck_with_routine(alloc, 65_536)?)?.as_slice() == b"VALID 0 0");
+    assert!(rt;
+        told(alloc, &deck_of_length(alloc, 262_144)?)?.as_slice() == b"VALID 0 0".as_slice()
+    );
+    assert!(rt; told(alloc, &deck_of_length(alloc, 262_145)?)?.as_slice() == b"K9 deck".as_slice());
+    assert!(rt;
+        told(alloc, &deck_with_routine(alloc, 65_536)?)?.as_slice() == b"VALID 0 0".as_slice()
+    );
     let long = deck_with_routine(alloc, 65_537)?;
-    assert!(rt; told(alloc, &long)?.as_slice() == b"K9 routine.storclass");
+    assert!(rt; told(alloc, &long)?.as_slice() == b"K9 routine.storclass".as_slice());
     Ok(())
 }

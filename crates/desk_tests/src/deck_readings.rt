@@ -3,6 +3,7 @@ use crate::deck_faults::{config_of, told};
 use acs_tree::Kind;
 use dsn_mask::{Name, Short};
 use sms_construct::{Status, Unit};
+use sms_deck::Config;
 use std::test::Fail;
 
 /// The ordinary deck of docs/deck.md.
@@ -91,17 +92,17 @@ fn short(bytes: &[u8]) -> Result<Short, Fail> {
 #[test]
 fn the_ordinary_deck(rt: HostRuntime) -> Result<(), Fail> {
     let alloc = rt.alloc();
-    assert!(rt; told(alloc, ORDINARY.as_bytes())?.as_slice() == b"VALID 3 3");
+    assert!(rt; told(alloc, ORDINARY.as_bytes())?.as_slice() == b"VALID 3 3".as_slice());
     let config = config_of(alloc, ORDINARY.as_bytes())?;
     assert!(rt; config.deck() == ORDINARY.as_bytes());
-    assert!(rt; config.system().ok_or("system")?.bytes() == b"SYSA");
-    assert!(rt; config.sysplex().ok_or("sysplex")?.bytes() == b"PLEX1");
+    assert!(rt; config.system().ok_or("system")?.bytes() == b"SYSA".as_slice());
+    assert!(rt; config.sysplex().ok_or("sysplex")?.bytes() == b"PLEX1".as_slice());
     for (at, group, overflow) in [
         (0, b"SGPROD".as_slice(), false),
         (1, b"SGSPILL", true),
         (2, b"SGTEST", false),
     ] {
-        let found = config.groups()[at];
+        let found = config.groups().get(at).ok_or("group")?;
         assert!(rt; found.name.bytes() == group);
         assert_eq!(rt; found.overflow, overflow);
         assert_eq!(rt; found.high, 85);
@@ -113,7 +114,7 @@ fn the_ordinary_deck(rt: HostRuntime) -> Result<(), Fail> {
         (1, b"SPL001", b"SGSPILL", 150_255),
         (2, b"TST001", b"SGTEST", 50_085),
     ] {
-        let found = config.volumes()[at];
+        let found = config.volumes().get(at).ok_or("volume")?;
         assert!(rt; found.volser.bytes() == volser);
         assert!(rt; found.group.bytes() == group);
         assert_eq!(rt; found.tracks, tracks);
@@ -153,21 +154,37 @@ fn classes_by_name(rt: HostRuntime) -> Result<(), Fail> {
     Ok(())
 }
 
-#[test]
-fn routines_by_kind(rt: HostRuntime) -> Result<(), Fail> {
-    let alloc = rt.alloc();
-    let config = config_of(alloc, ORDINARY.as_bytes())?;
-    let one = config_of(
-        alloc,
-        b"version = 1\n[routine]\nmgmtclass = 'PROC MGMTCLAS EXIT END'",
-    )?;
-    for kind in [Kind::DataClas, Kind::StorClas, Kind::MgmtClas, Kind::StorGrp] {
-        assert_eq!(rt; config.source(kind).ok_or("source")?.kind(), kind);
-        assert_eq!(rt; config.code(kind).ok_or("code")?.kind(), kind);
-        let is_there = kind == Kind::MgmtClas;
-        assert_eq!(rt; one.source(kind).is_some(), is_there);
-        assert_eq!(rt; one.code(kind).is_some(), is_there);
+/// Whether there is a routine of the kind, and its code.
+fn has_routine(config: &Config, kind: Kind) -> bool {
+    match (config.source(kind), config.code(kind)) {
+        (Some(source), Some(code)) => source.kind() == kind && code.kind() == kind,
+        _ => false,
     }
-    assert_eq!(rt; one.code(Kind::MgmtClas).ok_or("code")?.instrs().len(), 1);
+}
+
+/// Whether there is neither a routine of the kind nor code.
+fn has_none(config: &Config, kind: Kind) -> bool {
+    config.source(kind).is_none() && config.code(kind).is_none()
+}
+
+const ONE_ROUTINE: &[u8] = b"version = 1\n[routine]\nmgmtclass = 'PROC MGMTCLAS EXIT END'";
+
+#[test]
+fn all_four_routines(rt: HostRuntime) -> Result<(), Fail> {
+    let config = config_of(rt.alloc(), ORDINARY.as_bytes())?;
+    assert!(rt; has_routine(&config, Kind::DataClas));
+    assert!(rt; has_routine(&config, Kind::StorClas));
+    assert!(rt; has_routine(&config, Kind::MgmtClas));
+    assert!(rt; has_routine(&config, Kind::StorGrp));
+    Ok(())
+}
+
+#[test]
+fn one_routine_alone(rt: HostRuntime) -> Result<(), Fail> {
+    let config = config_of(rt.alloc(), ONE_ROUTINE)?;
+    assert!(rt; has_none(&config, Kind::DataClas));
+    assert!(rt; has_none(&config, Kind::StorClas));
+    assert!(rt; has_routine(&config, Kind::MgmtClas));
+    assert!(rt; has_none(&config, Kind::StorGrp));
     Ok(())
 }
