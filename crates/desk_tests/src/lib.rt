@@ -4,12 +4,6 @@
 #[cfg(test)]
 mod constructs;
 #[cfg(test)]
-mod deck_faults;
-#[cfg(test)]
-mod deck_limits;
-#[cfg(test)]
-mod deck_readings;
-#[cfg(test)]
 mod decks;
 #[cfg(test)]
 mod first_path;
