@@ -6,12 +6,6 @@ mod commands;
 #[cfg(test)]
 mod constructs;
 #[cfg(test)]
-mod deck_faults;
-#[cfg(test)]
-mod deck_limits;
-#[cfg(test)]
-mod deck_readings;
-#[cfg(test)]
 mod decks;
 #[cfg(test)]
 mod examples;

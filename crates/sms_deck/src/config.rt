@@ -1,5 +1,5 @@
 //! The configuration that a deck defines.
-ghost use Rattle.std.specs.Prelude.{◌≡◌, IfSome, MatchOption, None, bytes_eq, find, option_map};
+ghost use Rattle.std.specs.Prelude.{◌≡◌, MatchOption, None, bytes_eq, find, option_map};
 ghost use Rattle.std.specs.Option.{option_copied};
 ghost use Rattle.acs_code.specs.Stands.{StandsFor};
 ghost use Rattle.sms_construct.specs.Configuration.{IsConfiguration, has_construct, routine_of};
@@ -162,7 +162,7 @@ impl Config {
 
     /// The code of the routine of a kind, if there is one: what `compile` gives for it.
     pub fn code(&self, kind: Kind) -> Option<&Code>
-        ensures { MatchOption (routine_of kind self.now.routines) (option_map (λ c. c.now) result ≡ None) (λ routine. IfSome result (λ code. StandsFor code.now routine)) }
+        ensures { MatchOption (routine_of kind self.now.routines) (option_map (λ c. c.now) result ≡ None) (λ routine. MatchOption result ⊥ (λ code. StandsFor code.now routine)) }
     {
         match self.compiled(kind) {
             Some(compiled) => Some(compiled.code()),
