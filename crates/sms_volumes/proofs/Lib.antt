@@ -1,0 +1,9 @@
+pub mod UsedLemmas
+pub mod CountingLemmas
+pub mod NamedLemmas
+pub mod LedgerLemmas
+pub mod ViewLemmas
+pub mod ChangeLemmas
+pub mod RunningLemmas
+pub mod VaryLemmas
+pub mod ZipLemmas

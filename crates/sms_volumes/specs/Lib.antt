@@ -1,0 +1,4 @@
+pub mod Holding
+pub mod Viewing
+pub mod Changing
+pub mod Next

@@ -1,0 +1,14 @@
+//! The volumes of the active configuration: their statuses, their tracks, and which of them may be chosen.
+#![tactic(auto)]
+
+mod active_group;
+mod active_volume;
+mod active_volumes;
+mod candidates;
+mod changing;
+mod viewing;
+
+pub use active_group::ActiveGroup;
+pub use active_volume::ActiveVolume;
+pub use active_volumes::ActiveVolumes;
+pub use candidates::Candidates;
