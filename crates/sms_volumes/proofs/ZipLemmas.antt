@@ -1,5 +1,5 @@
 -- Lists of which each element became another.
-use Rattle.std.proofs.Common.{◌≡◌, ◌<◌, ℕ, zero, suc, ◌+◌, List, [], ◌∷◌, ◌++◌, length, get_or, set, take, drop, refl, sym, ap, ◌∙◌, subst, arith}
+use Rattle.std.proofs.Common.{◌≡◌, ◌<◌, ℕ, zero, suc, ◌+◌, List, [], ◌∷◌, ◌++◌, length, map, get_or, set, take, drop, refl, sym, ap, ◌∙◌, subst, arith}
 use Rattle.std.specs.List.{AllZip}
 
 -- the front of the list has been gone over, the rest is as it was
@@ -74,3 +74,11 @@ refilled {X = X} (x ∷ old) (y ∷ new) len same is =
 
 pub written-back : {X : Type 0} (R : X → X → Type 0) (old new : List X) (len : ℕ) → length old ≡ len → AllZip R old new → AllZip R old (take len (new ++ drop (length new) old))
 written-back R old new len is zip = subst (AllZip R old) (sym (refilled old new len (zip-length R old new zip) is)) zip
+
+-- each became its image
+pub mapped-over : {X : Type 0} (f : X → X) (xs ys : List X) → AllZip (λ x y. y ≡ f x) xs ys → ys ≡ map f xs
+mapped-over f [] [] zip = refl
+mapped-over f [] (y ∷ ys) zip = absurd zip
+mapped-over f (x ∷ xs) [] zip = absurd zip
+mapped-over f (x ∷ xs) (y ∷ ys) zip =
+    let here = zip.0 in let rest = mapped-over f xs ys zip.1 in rw (here, rest) refl

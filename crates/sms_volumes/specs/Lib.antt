@@ -1,4 +1,5 @@
 pub mod Holding
 pub mod Viewing
 pub mod Changing
+pub mod Varied
 pub mod Next

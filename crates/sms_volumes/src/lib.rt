@@ -6,6 +6,7 @@ mod active_volume;
 mod active_volumes;
 mod candidates;
 mod changing;
+mod varying;
 mod viewing;
 
 pub use active_group::ActiveGroup;
