@@ -1,6 +1,6 @@
 -- The running volumes stand for the state again when a data set was put or dropped.
-use Rattle.std.proofs.Common.{◌≡◌, ◌≤◌, ◌<◌, ℕ, zero, suc, ◌+◌, Bool, true, false, cond, List, [], ◌∷◌, ◌++◌, length, map, refl, sym, ap, ◌∙◌, subst, arith}
-use Rattle.std.specs.Prelude.{Option, None, Some, bytes_eq, filter, find, slice_get, slice_set}
+use Rattle.std.proofs.Common.{◌≡◌, ◌≤◌, ℕ, zero, suc, ◌+◌, Bool, true, false, cond, List, [], ◌∷◌, ◌++◌, length, map, refl, sym, ap, ◌∙◌, subst, arith}
+use Rattle.std.specs.Prelude.{Option, Some, bytes_eq, filter, find, slice_get, slice_set}
 use Rattle.std.specs.List.{AllByRecursion, AllZip, sum_by}
 use Rattle.sms_construct.specs.declared.data_set.DataSet.{DataSet}
 use Rattle.sms_construct.specs.declared.extent.Extent.{Extent}
@@ -14,23 +14,20 @@ use Rattle.sms_keeper.specs.Tables.{put_set, without_set}
 use Rattle.track_ledger.specs.declared.owned_extent.OwnedExtent.{OwnedExtent}
 use Rattle.track_ledger.specs.declared.piece.Piece.{Piece}
 use Rattle.track_ledger.specs.Extents.{front_pieces, granted_to, owned_by, pieces_of, released, trimmed}
-use Rattle.track_ledger.specs.Ledger.{LedgerView}
 use Rattle.track_ledger.proofs.AlikeLemmas.{trimmed-front}
-use Rattle.desk_law.specs.State.{DeskState, set_named, with_set, without_name}
-use Rattle.desk_law.specs.Extents.{extents_at, extents_of, front_tracks, is_used, pieces_on, tracks_of_pieces}
-use Rattle.desk_law.specs.Lawful.{IsLawful, times_named}
+use Rattle.desk_law.specs.State.{DeskState}
+use Rattle.desk_law.specs.Extents.{extents_at, front_tracks, is_used, pieces_on, tracks_of_pieces}
+use Rattle.desk_law.specs.Lawful.{times_named}
 use Rattle.desk_law.specs.Statuses.{status_in}
-use Rattle.desk_law.specs.Volumes.{group_named, groups_in, times_volume, volumes_in, volumes_of_group}
-use Rattle.desk_law.proofs.AscendLemmas.{active-volume-once}
-use Rattle.desk_law.proofs.ByteLemmas.{bytes-self, bytes-turned, same-bytes}
+use Rattle.desk_law.specs.Volumes.{groups_in, times_volume, volumes_in}
+use Rattle.desk_law.proofs.ByteLemmas.{bytes-self, bytes-turned}
 use Rattle.desk_law.proofs.VolumeLemmas.{AreSome, front-on}
 use Rattle.sms_volumes.specs.Changing.{HasExtents, cut_to, without_owner}
-use Rattle.sms_volumes.specs.Holding.{AreVolumesOf, IsGroupOf, IsLedgerOf, IsVolumeOf, StandsAt, extents_named}
+use Rattle.sms_volumes.specs.Holding.{IsGroupOf, IsLedgerOf, IsVolumeOf, StandsAt, extents_named}
 use Rattle.sms_volumes.specs.declared.active_group.ActiveGroup.{ActiveGroup}
 use Rattle.sms_volumes.specs.declared.active_volume.ActiveVolume.{ActiveVolume}
-use Rattle.sms_volumes.specs.declared.active_volumes.ActiveVolumes.{ActiveVolumes}
 use Rattle.sms_volumes.proofs.CountingLemmas.{pieces-append, pieces-at, pieces-off}
-use Rattle.sms_volumes.proofs.LedgerLemmas.{ledger-drop, ledger-put, owned-installed, released-installed, released-trimmed, released-twice}
+use Rattle.sms_volumes.proofs.LedgerLemmas.{ledger-drop, ledger-put, owned-installed, released-installed, released-trimmed}
 
 -- Lists.
 

@@ -1,9 +1,8 @@
 -- The ledger of a volume when a data set is put or dropped.
-use Rattle.std.proofs.Common.{◌≡◌, ◌≤◌, ℕ, zero, suc, ◌+◌, Bool, true, false, cond, List, [], ◌∷◌, ◌++◌, refl, sym, ap, ◌∙◌, subst, arith}
-use Rattle.std.specs.Prelude.{Option, None, Some, bytes_eq, not, nat_lt}
+use Rattle.std.proofs.Common.{◌≡◌, ◌≤◌, ℕ, Bool, true, false, List, [], ◌∷◌, ◌++◌, refl, sym, ap, ◌∙◌, arith}
+use Rattle.std.specs.Prelude.{Option, None, bytes_eq, nat_lt}
 use Rattle.std.specs.List.{sum_by}
 use Rattle.sms_construct.specs.declared.data_set.DataSet.{DataSet}
-use Rattle.sms_construct.specs.declared.extent.Extent.{Extent}
 use Rattle.sms_construct.specs.declared.volume.VolumeDef.{VolumeDef}
 use Rattle.sms_keeper.specs.Tables.{put_set, without_set}
 use Rattle.track_ledger.specs.declared.owned_extent.OwnedExtent.{OwnedExtent}
@@ -11,11 +10,11 @@ use Rattle.track_ledger.specs.declared.piece.Piece.{Piece}
 use Rattle.track_ledger.specs.Extents.{granted_to, owned_by, pieces_of, released, trimmed}
 use Rattle.track_ledger.specs.Ledger.{LedgerView}
 use Rattle.desk_law.specs.State.{set_named}
-use Rattle.desk_law.specs.Extents.{extents_of, pieces_on}
+use Rattle.desk_law.specs.Extents.{pieces_on}
 use Rattle.desk_law.specs.Lawful.{times_named}
 use Rattle.desk_law.proofs.ByteLemmas.{bytes-same, bytes-self, same-bytes}
 use Rattle.sms_volumes.specs.Holding.{IsLedgerOf, extents_if, extents_named}
-use Rattle.sms_volumes.proofs.CountingLemmas.{count_in, count_of, count-cons, count-owned, count-push}
+use Rattle.sms_volumes.proofs.CountingLemmas.{count_in, count_of, count-owned, count-push}
 use Rattle.sms_volumes.proofs.NamedLemmas.{count-named, named-gone, named-put, named-put-other, named-without}
 
 -- Owners.

@@ -7,3 +7,4 @@ pub mod ChangeLemmas
 pub mod RunningLemmas
 pub mod VaryLemmas
 pub mod ZipLemmas
+pub mod ShowLemmas

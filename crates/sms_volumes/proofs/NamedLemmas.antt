@@ -1,6 +1,6 @@
 -- The data set of a name, beside the others.
-use Rattle.std.proofs.Common.{◌≡◌, ◌≤◌, ℕ, zero, suc, ◌+◌, Bool, true, false, cond, List, [], ◌∷◌, ◌++◌, refl, sym, ap, ◌∙◌, arith}
-use Rattle.std.specs.Prelude.{Option, None, Some, bytes_eq, not}
+use Rattle.std.proofs.Common.{◌≡◌, ◌≤◌, ℕ, ◌+◌, Bool, true, false, cond, List, [], ◌∷◌, ◌++◌, refl, sym, ap, ◌∙◌, arith}
+use Rattle.std.specs.Prelude.{None, Some, bytes_eq}
 use Rattle.std.specs.List.{sum_by}
 use Rattle.sms_construct.specs.declared.data_set.DataSet.{DataSet}
 use Rattle.sms_keeper.specs.Tables.{put_set, without_set}
@@ -8,8 +8,8 @@ use Rattle.track_ledger.specs.declared.piece.Piece.{Piece}
 use Rattle.desk_law.specs.State.{set_named}
 use Rattle.desk_law.specs.Extents.{pieces_on}
 use Rattle.desk_law.specs.Lawful.{times_named}
-use Rattle.desk_law.proofs.ByteLemmas.{bytes-same, bytes-self, same-bytes}
-use Rattle.sms_volumes.specs.Holding.{extents_if, extents_named}
+use Rattle.desk_law.proofs.ByteLemmas.{bytes-same, same-bytes}
+use Rattle.sms_volumes.specs.Holding.{extents_named}
 use Rattle.sms_volumes.proofs.CountingLemmas.{count_in, count-cons}
 
 without-none-at : (dsn : List ℕ) (set : DataSet) (sets : List DataSet) (b : Bool) → bytes_eq set.dsn dsn ≡ b → cond b 1 0 + times_named dsn sets ≡ 0

@@ -22,7 +22,7 @@ use Rattle.desk_law.proofs.ByteLemmas.{bytes-self}
 use Rattle.desk_law.proofs.PlaceLemmas.{each-at}
 use Rattle.desk_law.proofs.VolumeLemmas.{AreSome}
 use Rattle.sms_volumes.specs.Changing.{HasExtents, IsReady, IsReadyAt, cut_to, running_at, without_owner}
-use Rattle.sms_volumes.specs.Holding.{AreVolumesOf, IsGroupOf, IsLedgerOf, IsVolumeOf, extents_named}
+use Rattle.sms_volumes.specs.Holding.{AreVolumesOf, IsGroupOf, IsVolumeOf, extents_named}
 use Rattle.sms_volumes.specs.declared.active_group.ActiveGroup.{ActiveGroup}
 use Rattle.sms_volumes.specs.declared.active_volume.ActiveVolume.{ActiveVolume}
 use Rattle.sms_volumes.specs.declared.active_volumes.ActiveVolumes.{ActiveVolumes}

@@ -1,6 +1,6 @@
 -- The running volumes stand for the state again when a status was varied.
-use Rattle.std.proofs.Common.{◌≡◌, ◌≤◌, ◌<◌, ℕ, zero, suc, ◌+◌, Bool, true, false, cond, List, [], ◌∷◌, map, refl, sym, ap, ◌∙◌, subst, arith}
-use Rattle.std.specs.Prelude.{Option, None, Some, bytes_eq, slice_get, find}
+use Rattle.std.proofs.Common.{◌≡◌, ◌≤◌, ℕ, zero, suc, ◌+◌, Bool, true, false, cond, List, [], ◌∷◌, map, refl, sym, ap, ◌∙◌, subst, arith}
+use Rattle.std.specs.Prelude.{Option, Some, bytes_eq, slice_get, find}
 use Rattle.std.specs.List.{AllByRecursion}
 use Rattle.sms_construct.specs.Configuration.{Configuration}
 use Rattle.sms_construct.specs.declared.status.Status.{Status}
@@ -15,7 +15,7 @@ use Rattle.desk_law.specs.State.{DeskState, with_status}
 use Rattle.desk_law.specs.Statuses.{status_in, times_status}
 use Rattle.desk_law.specs.Lawful.{IsLawful}
 use Rattle.desk_law.specs.Volumes.{groups_in, times_group, times_volume, volumes_in}
-use Rattle.desk_law.proofs.ByteLemmas.{bytes-same, bytes-self, bytes-turned, same-bytes}
+use Rattle.desk_law.proofs.ByteLemmas.{bytes-self, same-bytes}
 use Rattle.sms_volumes.specs.Holding.{AreVolumesOf, IsGroupOf, IsVolumeOf, StandsAt}
 use Rattle.sms_volumes.specs.Varied.{varied_group, varied_volume}
 use Rattle.sms_volumes.specs.declared.active_group.ActiveGroup.{ActiveGroup}

@@ -1,7 +1,7 @@
 -- The running volumes show what the state shows.
-use Rattle.std.proofs.Common.{◌≡◌, ◌≤◌, ◌<◌, ℕ, zero, suc, ◌+◌, Bool, true, false, cond, List, [], ◌∷◌, ◌++◌, length, map, get_or, refl, sym, ap, ◌∙◌, subst, arith}
-use Rattle.std.specs.Prelude.{Option, None, Some, MatchOption, bytes_eq, drop, find, filter, is_some, option_map, slice_get, not, ◌&&◌}
-use Rattle.std.specs.List.{AllByRecursion, sum_by, filter_map}
+use Rattle.std.proofs.Common.{◌≡◌, ◌≤◌, ◌<◌, ℕ, zero, suc, ◌+◌, Bool, true, false, cond, List, [], ◌∷◌, length, map, get_or, refl, sym, ap, ◌∙◌, subst, arith}
+use Rattle.std.specs.Prelude.{Option, None, Some, MatchOption, bytes_eq, drop, find, filter, is_some, option_map, slice_get}
+use Rattle.std.specs.List.{AllByRecursion, filter_map}
 use Rattle.std.proofs.lemmas.Option.{get_or_from_slice_get}
 use Rattle.sms_construct.specs.declared.storage_group.StorGroup.{StorGroup}
 use Rattle.sms_construct.specs.declared.volume.VolumeDef.{VolumeDef}
@@ -12,25 +12,25 @@ use Rattle.track_ledger.specs.Gaps.{times_held}
 use Rattle.track_ledger.specs.Ledger.{LedgerView}
 use Rattle.track_ledger.specs.Need.{granted_for}
 use Rattle.track_ledger.proofs.AlikeLemmas.{granted-alike}
-use Rattle.volume_lists.specs.Choice.{AllRejected, IsChoice, MayChoose}
+use Rattle.volume_lists.specs.Choice.{AllRejected, MayChoose}
 use Rattle.volume_lists.specs.declared.view.VolView.{VolView}
 use Rattle.volume_lists.specs.declared.view.Want.{Want}
 use Rattle.desk_law.specs.State.{DeskState}
 use Rattle.desk_law.specs.Candidates.{grant_on, high_of, is_overflow, view_of}
-use Rattle.desk_law.specs.Extents.{extents_of, granted_on, held_on, pieces_on}
+use Rattle.desk_law.specs.Extents.{granted_on, held_on}
 use Rattle.desk_law.specs.Lawful.{IsLawful}
-use Rattle.desk_law.specs.Statuses.{group_status, volume_status}
+use Rattle.desk_law.specs.Statuses.{group_status}
 use Rattle.desk_law.specs.Volumes.{group_named, groups_in, times_volume, volumes_in, volumes_of_group}
 use Rattle.desk_law.proofs.AscendLemmas.{active-volume-once}
 use Rattle.desk_law.proofs.ByteLemmas.{bytes-self, bytes-turned, same-bytes}
-use Rattle.desk_law.proofs.PlaceLemmas.{each-at, each-both, filter-each, find-each}
-use Rattle.sms_volumes.specs.Holding.{AreVolumesOf, IsGroupOf, IsLedgerOf, IsVolumeOf, StandsAt}
-use Rattle.sms_volumes.specs.Viewing.{IsPick, Picks, candidates_in, is_candidate, running_named, running_view, running_views, view_if}
+use Rattle.desk_law.proofs.PlaceLemmas.{each-at, each-both, filter-each}
+use Rattle.sms_volumes.specs.Holding.{AreVolumesOf, IsGroupOf, IsLedgerOf, IsVolumeOf}
+use Rattle.sms_volumes.specs.Viewing.{IsPick, candidates_in, is_candidate, running_named, running_view, running_views, view_if}
 use Rattle.sms_volumes.specs.declared.active_group.ActiveGroup.{ActiveGroup}
 use Rattle.sms_volumes.specs.declared.active_volume.ActiveVolume.{ActiveVolume}
 use Rattle.sms_volumes.specs.declared.active_volumes.ActiveVolumes.{ActiveVolumes}
 use Rattle.sms_volumes.specs.declared.candidates.Candidates.{Candidates}
-use Rattle.sms_volumes.proofs.CountingLemmas.{length-is, once_of, times-is, tracks-are}
+use Rattle.sms_volumes.proofs.CountingLemmas.{once_of, times-is, tracks-are}
 
 -- What a ledger tells.
 

@@ -1,5 +1,5 @@
 -- What becomes of the running volumes when a data set gets tracks or gives them back.
-use Rattle.std.specs.Prelude.{ℕ, ◌≡◌, ◌≤◌, Bool, List, [], ◌∷◌, ◌++◌, Option, Some, length, option_map, slice_get, if◌then◌else◌}
+use Rattle.std.specs.Prelude.{ℕ, ◌≡◌, ◌≤◌, List, ◌++◌, Option, Some, length, option_map, slice_get, if◌then◌else◌}
 use Rattle.sms_construct.specs.declared.volume.VolumeDef.{VolumeDef}
 use Rattle.std.specs.List.{All}
 use Rattle.sms_construct.specs.declared.extent.Extent.{Extent}

@@ -1,5 +1,6 @@
 pub mod Holding
 pub mod Viewing
 pub mod Changing
+pub mod Showing
 pub mod Varied
 pub mod Next

@@ -1,8 +1,7 @@
 -- The volumes of a configuration that is to become active.
-use Rattle.std.specs.Prelude.{ℕ, ◌≡◌, List, [], ◌++◌, Some, length, map, filter, find, bytes_eq, slice_get}
+use Rattle.std.specs.Prelude.{ℕ, ◌≡◌, List, [], Some, length, map, filter, find, bytes_eq, slice_get}
 use Rattle.std.specs.List.{AllByRecursion}
 use Rattle.sms_construct.specs.Configuration.{Configuration}
-use Rattle.sms_construct.specs.declared.storage_group.StorGroup.{StorGroup}
 use Rattle.sms_keeper.specs.declared.status_row.StatusRow.{StatusRow}
 use Rattle.desk_law.specs.Activation.{row_of_group, row_of_volume}
 use Rattle.sms_volumes.specs.declared.active_group.ActiveGroup.{ActiveGroup}

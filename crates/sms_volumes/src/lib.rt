@@ -6,6 +6,7 @@ mod active_volume;
 mod active_volumes;
 mod candidates;
 mod changing;
+mod showing;
 mod varying;
 mod viewing;
 

@@ -1,4 +1,4 @@
-use Rattle.std.proofs.Common.{rules, arith}
+use Rattle.std.proofs.Common.{rules}
 use Rattle.sms_volumes.proofs.ViewLemmas.{none-is, pick-is}
 use Rattle.sms_volumes.proofs.active_volumes.ActiveVolumes.choose.Goals as goal
 

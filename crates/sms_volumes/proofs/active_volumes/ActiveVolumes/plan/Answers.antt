@@ -1,12 +1,6 @@
-use Rattle.std.proofs.Common.{refl, Some, ◌∙◌, ◌≡◌, ℕ, List, sym, ap, rules, arith}
-use Rattle.std.specs.Prelude.{Option, None, IfOk, IfSome, Ok, Err, slice_get}
+use Rattle.std.proofs.Common.{refl}
 use Rattle.std.specs.Vec.{with_item}
-use Rattle.track_ledger.specs.declared.piece.Piece.{Piece}
-use Rattle.desk_law.specs.State.{DeskState}
-use Rattle.desk_law.specs.Candidates.{grant_on}
-use Rattle.sms_volumes.specs.Holding.{AreVolumesOf}
-use Rattle.sms_volumes.specs.declared.active_volume.ActiveVolume.{ActiveVolume}
-use Rattle.sms_volumes.proofs.RunningLemmas.{planned-at, planned-named, planned-ready, planned-rule, roomier-at, same-at, set-there, there-is}
+use Rattle.sms_volumes.proofs.RunningLemmas.{planned-named, planned-ready, planned-rule, roomier-at, there-is}
 use Rattle.sms_volumes.proofs.active_volumes.ActiveVolumes.plan.Goals as goal
 
 pub returns-clause-same : goal.returns-clause-same

@@ -1,8 +1,7 @@
-use Rattle.std.proofs.Common.{List, ◌≡◌, ◌∙◌, ◌++◌, ℕ, length, drop, take, refl, subst, sym}
+use Rattle.std.proofs.Common.{List, ◌≡◌, refl, subst, sym}
 use Rattle.std.specs.List.{AllZip}
 use Rattle.std.specs.Vec.{with_items}
 use Rattle.sms_construct.specs.declared.target.Target.{Target}
-use Rattle.sms_construct.specs.declared.target.Target.TheVariants.{Group, Volume, Set}
 use Rattle.desk_law.specs.State.{with_status}
 use Rattle.sms_volumes.specs.Holding.{AreVolumesOf}
 use Rattle.sms_volumes.specs.Varied.{varied_group, varied_volume}
