@@ -8,3 +8,4 @@ pub mod RunningLemmas
 pub mod VaryLemmas
 pub mod ZipLemmas
 pub mod ShowLemmas
+pub mod BarLemmas

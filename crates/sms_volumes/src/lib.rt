@@ -4,6 +4,7 @@
 mod active_group;
 mod active_volume;
 mod active_volumes;
+mod barring;
 mod candidates;
 mod changing;
 mod showing;
