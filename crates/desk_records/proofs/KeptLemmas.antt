@@ -63,7 +63,7 @@ bytes-swap a b = swap-at a b (bytes_eq a b) refl
   where
     swap-at : (a b : List ℕ) (c : Bool) → bytes_eq a b ≡ c → bytes_eq a b ≡ bytes_eq b a
     swap-at a b true is = let same : a ≡ b = same-bytes a b is in rw same refl
-    swap-at a b false is = is ∙ sym (bytes-turned b a is)
+    swap-at a b false is = is ∙ sym (bytes-turned a b is)
 
 raised-at : (b : Bool) (old floor : ℕ) → (b ≡ true → old ≤ floor) → (if b then max floor old else old) ≡ (if b then floor else old)
 raised-at true old floor rises = let less : old ≤ floor = rises refl in omega (arith, less)

@@ -1,6 +1,7 @@
 -- What is tied before the first entry.
-use Rattle.std.proofs.Common.{◌≡◌, ℕ, ◌+◌, true, false, List, [], Option, None, Some, filter, length, refl, sym, ap, ◌∙◌, arith, append-nil}
+use Rattle.std.proofs.Common.{◌≡◌, ℕ, ◌+◌, true, false, List, [], Option, None, Some, filter, length, refl, sym, ap, ◌∙◌, subst, arith, append-nil}
 use Rattle.std.specs.Prelude.{Bool, IfSome, nat_lt}
+use Rattle.std.specs.List.{AllByRecursion}
 use Rattle.sms_construct.specs.declared.target.Target.{Target}
 use Rattle.sms_construct.specs.declared.target.Target.TheVariants as targets
 use Rattle.sms_keeper.specs.declared.deck_row.DeckRow.{DeckRow}
@@ -10,11 +11,11 @@ use Rattle.sms_keeper.specs.declared.rows.Rows.{Rows}
 use Rattle.sms_keeper.specs.Log.{LogView}
 use Rattle.sms_keeper.specs.Tables.{AreSame, is_deck, no_rows}
 use Rattle.desk_law.specs.State.{Opening, start_of}
-use Rattle.desk_law.specs.Kept.{all_floors, all_rows, floor_of}
+use Rattle.desk_law.specs.Kept.{all_floors, all_rows, floor_of, greatest_floor}
 use Rattle.desk_law.specs.Records.{AreKept, IsTables, empty_opening, kept_rows}
 use Rattle.desk_law.specs.Lawful.{IsLawfulOpening}
 use Rattle.desk_law.specs.Volumes.{times_target}
-use Rattle.desk_records.specs.Tied.{IsLogOf, IsSoundOpening, IsTied}
+use Rattle.desk_records.specs.Tied.{IsGoodRow, IsLogOf, IsSoundOpening, IsTied}
 use Rattle.desk_records.proofs.TableLemmas.{tables-same}
 
 none-kept : (b : Bool) → [] ≡ kept_rows b None
@@ -71,7 +72,7 @@ tied-opened o log told count sound is same =
     record {
       sound = sound;
       reaches = refl;
-      good = rw (floors, rows, base) sound.good;
+      good = subst (λ (F : List Floor). AllByRecursion (IsGoodRow (λ job. greatest_floor job F) (o.base + 0)) (all_rows o [])) (sym floors) (rw (rows, base) sound.good);
       log_is = rw (floors, rows) is;
       tables = opening-tables o told (rw (floors, rows) sound.kept) same;
       counted = omega arith;

@@ -3,6 +3,7 @@ use Rattle.std.proofs.Common.{◌≡◌, ℕ, ◌+◌, Bool, true, false, cond, 
 use Rattle.std.specs.Prelude.{Option, ◌==◌, bytes_eq, count_by, if◌then◌else◌}
 use Rattle.std.proofs.lemmas.Bool.Decides.{Decides-eqb}
 use Rattle.std.proofs.lemmas.List.Elements.{filter-append}
+use Rattle.std.proofs.lemmas.List.Sums.{fold_push}
 use Rattle.sms_construct.specs.Configuration.{Configuration}
 use Rattle.sms_construct.specs.declared.data_set.DataSet.{DataSet}
 use Rattle.sms_construct.specs.declared.entry.Entry.{Entry}
@@ -55,16 +56,7 @@ decks-push o h e = ap (λ (l : List DeckRow). o.rows.decks ++ l) (decks-append h
 
 -- counts of a list with one more at its end
 pub count-push : {X : Type 0} (p : X → Bool) (xs : List X) (x : X) → count_by p (xs ++ x ∷ []) ≡ count_by p xs + cond (p x) 1 0
-count-push p [] x = count-one (p x)
-  where
-    count-one : (b : Bool) → cond b (1 + 0) 0 ≡ 0 + cond b 1 0
-    count-one true = refl
-    count-one false = refl
-count-push p (y ∷ xs) x = count-more (p y) (p x) _ _ (count-push p xs x)
-  where
-    count-more : (b c : Bool) (m n : ℕ) → m ≡ n + cond c 1 0 → cond b (1 + m) m ≡ cond b (1 + n) n + cond c 1 0
-    count-more true c m n is = omega (arith, is)
-    count-more false c m n is = is
+count-push p xs x = fold_push (λ n y. n + cond (p y) 1 0) 0 xs x
 
 pub faults-push : (h : List Entry) (e : Entry) → faults_in (h ++ e ∷ []) ≡ faults_in h + cond (is_fault e.answer.reply) 1 0
 faults-push h e = count-push (λ (x : Entry). is_fault x.answer.reply) h e

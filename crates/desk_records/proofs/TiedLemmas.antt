@@ -250,7 +250,7 @@ tied-fault o h s log log' before after mark old new e tied step reply untouched 
       sound = tied.sound;
       reaches = leads-push o [] (start_of o) h e s s tied.reaches step;
       good = rw rows_same
-      (each-weaker _ _ (λ row one. good-more (floor_of o h) (floor_of o (h ++ e ∷ [])) (o.base + length h) (o.base + length (h ++ e ∷ [])) row (λ job. floor-more o h (e ∷ []) job) (omega (arith, longer)) one) (all_rows o h) tied.good);
+          (each-weaker _ _ (λ row one. good-more (floor_of o h) (floor_of o (h ++ e ∷ [])) (o.base + length h) (o.base + length (h ++ e ∷ [])) row (λ job. floor-more o h (e ∷ []) job) (omega (arith, longer)) one) (all_rows o h) tied.good);
       log_is = rw (floors_same, rows_same, untouched.log_is) tied.log_is;
       tables = fault-tables o h s e before after decks floors_same rows_same tied.tables untouched.stays;
       counted = omega (arith, tied.counted, rose, one-more h e fault);

@@ -6,6 +6,7 @@ ghost use Rattle.desk_records.specs.Full.{is_full_for};
 use sms_construct::{Entry, Op};
 
 const MOST_ENTRIES: usize = 50_000;
+
 const MOST_ACTIVATIONS: usize = 200;
 
 /// Whether the journal, of whose entries so many ask for an activation, has no place for this op

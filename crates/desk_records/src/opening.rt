@@ -18,9 +18,13 @@ pub struct Opening {
 }
 
 impl Model for Opening {
+    ghost use Rattle.acs_tree.specs.contracts.routine.Form as form;
+    ghost use Rattle.std.specs.Coded.{codes};
     ghost use Rattle.desk_law.specs.State.{Opening as OpeningView};
 
     ghost Value = { OpeningView };
+
+    ghost coded = { Prim.hlevel (codes, form.the_row.coded) };
 
     ghost view = { λ o. record { rows = o.rows; config = o.config; base = o.base } };
 }
