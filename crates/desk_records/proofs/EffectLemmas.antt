@@ -1,5 +1,5 @@
 -- Replies and effects that tell one thing, rules that read the floors alone, and the states that effects make.
-use Rattle.std.proofs.Common.{◌≡◌, ◌≤◌, ℕ, ◌+◌, true, false, List, [], refl, arith}
+use Rattle.std.proofs.Common.{◌≡◌, ◌≤◌, ℕ, true, false, List, [], refl, arith}
 use Rattle.std.specs.Prelude.{Option, None, Some, max}
 use Rattle.sms_construct.specs.Configuration.{Configuration}
 use Rattle.sms_construct.specs.Fate.{fate_of}

@@ -1,11 +1,10 @@
 -- Rows by their keys, after rows were dropped or added.
-use Rattle.std.proofs.Common.{◌≡◌, ℕ, Bool, true, false, cond, List, [], ◌∷◌, Option, None, Some, filter, find, map, refl, ap}
+use Rattle.std.proofs.Common.{◌≡◌, ℕ, Bool, true, false, cond, List, [], ◌∷◌, Option, None, Some, filter, map, refl, ap}
 use Rattle.std.specs.Prelude.{not, ◌==◌, ◌&&◌, bytes_eq, if◌then◌else◌}
 use Rattle.std.specs.Option.{option_or}
 use Rattle.std.proofs.lemmas.Bool.Decides.{Decides-eqb}
 use Rattle.sms_keeper.specs.declared.kept_row.KeptRow.{KeptRow}
 use Rattle.sms_keeper.specs.Tables.{is_reply_of}
-use Rattle.desk_law.specs.Records.{rows_found}
 use Rattle.desk_law.proofs.ByteLemmas.{same-bytes}
 
 -- rows of one name compare alike with others

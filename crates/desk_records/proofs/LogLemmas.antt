@@ -1,6 +1,6 @@
 -- The log after a change, and what it says of a number.
-use Rattle.std.proofs.Common.{◌≡◌, ◌≤◌, ℕ, Bool, true, false, cond, List, [], ◌∷◌, ◌++◌, Option, None, Some, find, refl, sym, ap, ◌∙◌, subst, arith, max, inl, inr, append-nil}
-use Rattle.std.specs.Prelude.{not, ◌&&◌, ◌⊎◌, bytes_eq, is_none, nat_lt, option_map, if◌then◌else◌}
+use Rattle.std.proofs.Common.{◌≡◌, ◌≤◌, ℕ, Bool, true, false, cond, List, [], ◌∷◌, ◌++◌, Option, None, Some, find, refl, sym, ap, ◌∙◌, arith, max, inl, inr, append-nil}
+use Rattle.std.specs.Prelude.{◌&&◌, bytes_eq, nat_lt, option_map, if◌then◌else◌}
 use Rattle.std.specs.Option.{option_or}
 use Rattle.std.specs.List.{AllByRecursion}
 use Rattle.std.proofs.lemmas.Bool.Decides.{nat_tests}
@@ -9,7 +9,6 @@ use Rattle.sms_keeper.specs.declared.change.Change.{Change}
 use Rattle.sms_keeper.specs.declared.effect.Effect.{Effect}
 use Rattle.sms_keeper.specs.declared.effect.Effect.TheVariants as effects
 use Rattle.sms_keeper.specs.declared.floor.Floor.{Floor}
-use Rattle.sms_keeper.specs.declared.kept.KeptReply.{KeptReply}
 use Rattle.sms_keeper.specs.declared.kept_row.KeptRow.{KeptRow}
 use Rattle.sms_keeper.specs.declared.request_key.RequestKey.{RequestKey}
 use Rattle.sms_keeper.specs.Log.{LogView, floor_in, is_open, kept_in, kept_with, key_of, same_key}

@@ -1,17 +1,15 @@
 -- What is tied before the first entry.
-use Rattle.std.proofs.Common.{◌≡◌, ℕ, ◌+◌, true, false, List, [], Option, None, Some, filter, length, refl, sym, ap, ◌∙◌, subst, arith, append-nil}
+use Rattle.std.proofs.Common.{◌≡◌, ℕ, ◌+◌, true, false, List, [], Option, None, Some, filter, refl, sym, ap, subst, arith, append-nil}
 use Rattle.std.specs.Prelude.{Bool, IfSome, nat_lt}
 use Rattle.std.specs.List.{AllByRecursion}
 use Rattle.sms_construct.specs.declared.target.Target.{Target}
 use Rattle.sms_construct.specs.declared.target.Target.TheVariants as targets
-use Rattle.sms_keeper.specs.declared.deck_row.DeckRow.{DeckRow}
 use Rattle.sms_keeper.specs.declared.floor.Floor.{Floor}
-use Rattle.sms_keeper.specs.declared.kept_row.KeptRow.{KeptRow}
 use Rattle.sms_keeper.specs.declared.rows.Rows.{Rows}
 use Rattle.sms_keeper.specs.Log.{LogView}
 use Rattle.sms_keeper.specs.Tables.{AreSame, is_deck, no_rows}
 use Rattle.desk_law.specs.State.{Opening, start_of}
-use Rattle.desk_law.specs.Kept.{all_floors, all_rows, floor_of, greatest_floor}
+use Rattle.desk_law.specs.Kept.{all_floors, all_rows, greatest_floor}
 use Rattle.desk_law.specs.Records.{AreKept, IsTables, empty_opening, kept_rows}
 use Rattle.desk_law.specs.Lawful.{IsLawfulOpening}
 use Rattle.desk_law.specs.Volumes.{times_target}

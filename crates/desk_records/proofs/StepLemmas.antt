@@ -1,5 +1,5 @@
 -- The steps that a core makes.
-use Rattle.std.proofs.Common.{◌≡◌, ◌≤◌, ◌<◌, ℕ, ◌+◌, ◌^◌, Bool, true, false, cond, List, [], ◌∷◌, ◌++◌, Option, None, Some, length, refl, sym, ap, ◌∙◌, subst, arith, inl, inr}
+use Rattle.std.proofs.Common.{◌≡◌, ◌≤◌, ◌<◌, ℕ, ◌+◌, ◌^◌, Bool, true, false, cond, List, [], ◌∷◌, ◌++◌, Option, None, Some, length, refl, sym, ap, ◌∙◌, arith, inl, inr}
 use Rattle.std.specs.Prelude.{◌&&◌, ◌||◌, ◌⊎◌, nat_lt, nat_le, count_by, option_map}
 use Rattle.std.proofs.lemmas.Bool.Decides.{nat_tests}
 use Rattle.desk_common.specs.Causes.{Rose}
@@ -18,7 +18,7 @@ use Rattle.desk_law.specs.State.{DeskState, Opening}
 use Rattle.desk_law.specs.Limits.{most_activations, most_entries}
 use Rattle.desk_law.specs.Kept.{all_floors, all_rows, floor_of, is_entered, is_fault, kept_for}
 use Rattle.desk_law.specs.Rule.{Rule}
-use Rattle.desk_law.specs.Step.{IsFault, IsRepeat, IsStep, RepeatsReply, ReusesNumber, activates, is_activation}
+use Rattle.desk_law.specs.Step.{IsFault, IsStep, RepeatsReply, ReusesNumber, activates, is_activation}
 use Rattle.desk_records.specs.Effects.{IsDecided, change_of, state_with}
 use Rattle.desk_records.specs.Full.{is_full_for}
 use Rattle.desk_records.specs.Logged.{IsDone, IsUntouched}

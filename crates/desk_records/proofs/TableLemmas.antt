@@ -1,6 +1,6 @@
 -- The tables after one more entry.
-use Rattle.std.proofs.Common.{◌≡◌, ℕ, ◌+◌, Bool, true, false, cond, List, [], ◌∷◌, ◌++◌, None, filter, refl, sym, ap, ◌∙◌, arith, append-nil}
-use Rattle.std.specs.Prelude.{Option, ◌==◌, bytes_eq, count_by, if◌then◌else◌}
+use Rattle.std.proofs.Common.{◌≡◌, ℕ, ◌+◌, Bool, true, false, cond, List, [], ◌∷◌, ◌++◌, None, filter, refl, sym, ap, ◌∙◌, append-nil}
+use Rattle.std.specs.Prelude.{Option, ◌==◌, bytes_eq, count_by}
 use Rattle.std.proofs.lemmas.Bool.Decides.{Decides-eqb}
 use Rattle.std.proofs.lemmas.List.Elements.{filter-append}
 use Rattle.std.proofs.lemmas.List.Sums.{fold_push}
@@ -21,7 +21,7 @@ use Rattle.desk_law.specs.State.{DeskState, Opening}
 use Rattle.desk_law.specs.Kept.{all_floors, all_rows, floor_of, floor_told, is_fault, kept_for, row_of_entry, rows_of_entry}
 use Rattle.desk_law.specs.Records.{AreKept, IsTables, decks_of, decks_of_entry, decks_told}
 use Rattle.desk_law.proofs.FloorLemmas.{all-floors-append, all-rows-append}
-use Rattle.desk_records.specs.Effects.{Matches, change_of, floor_put, state_with}
+use Rattle.desk_records.specs.Effects.{Matches, change_of, state_with}
 use Rattle.desk_records.specs.Tied.{faults_in}
 use Rattle.desk_records.proofs.KeyLemmas.{filter-dropped, filter-mapped, name-known}
 use Rattle.desk_records.proofs.KeptLemmas.{kept-with}

@@ -11,7 +11,7 @@ use Rattle.sms_keeper.specs.declared.rows.Rows.{Rows}
 use Rattle.sms_keeper.specs.Log.{LogView, floor_in, kept_in}
 use Rattle.sms_keeper.specs.Tables.{is_reply_of}
 use Rattle.desk_law.specs.State.{DeskState, Opening}
-use Rattle.desk_law.specs.Kept.{all_floors, all_rows, floor_of, floor_told, greatest_floor, is_entered, is_fault, kept_for}
+use Rattle.desk_law.specs.Kept.{all_floors, all_rows, floor_of, floor_told, greatest_floor, is_entered, is_fault}
 use Rattle.desk_law.specs.Rule.{IsSound}
 use Rattle.desk_law.specs.Step.{IsStep}
 use Rattle.desk_law.specs.History.{Reaches}
