@@ -4,6 +4,7 @@ use Rattle.std.specs.Prelude.{◌&&◌, ◌||◌, ◌⊎◌, nat_lt, nat_le, cou
 use Rattle.std.proofs.lemmas.Bool.Decides.{nat_tests}
 use Rattle.desk_common.specs.Causes.{Rose}
 use Rattle.sms_construct.specs.Configuration.{Configuration}
+use Rattle.sms_construct.specs.declared.entry.Answer.{Answer}
 use Rattle.sms_construct.specs.declared.entry.Entry.{Entry}
 use Rattle.sms_construct.specs.declared.reply.Reply.{Reply}
 use Rattle.sms_construct.specs.declared.reply.Reply.TheVariants as replies
@@ -140,12 +141,19 @@ reuse-step o h s log told mark count e ready recalls =
     let step = kept-step o h s log told mark count e row ready recalls.above there.1 (rw reply refl) (inr (record { other = other; reply_is = reply; first_is = recalls.first_is })) in
     record { entered = record { step = step; tied = tied-reused o h s log told mark count e row ready.tied step there.1 reply }; no_fault = rw reply refl }
 
--- the answer of the log is a lawful step, which changes nothing
-pub quiet-step : (o : Opening) (h : List Entry) (s : DeskState) (log : LogView) (told : Option Rows) (mark count : ℕ) (e : Entry)
+quiet-entry : (o : Opening) (h : List Entry) (s : DeskState) (log : LogView) (told : Option Rows) (mark count : ℕ) (e : Entry)
     → IsReady o h s log told mark count e.answer.place e.request → Recalls log e.request e.answer → IsQuiet o h s log told mark count e
-quiet-step o h s log told mark count e ready (inl below) = below-step o h s log told mark count e ready below
-quiet-step o h s log told mark count e ready (inr (inl same)) = repeat-step o h s log told mark count e ready same
-quiet-step o h s log told mark count e ready (inr (inr other)) = reuse-step o h s log told mark count e ready other
+quiet-entry o h s log told mark count e ready (inl below) = below-step o h s log told mark count e ready below
+quiet-entry o h s log told mark count e ready (inr (inl same)) = repeat-step o h s log told mark count e ready same
+quiet-entry o h s log told mark count e ready (inr (inr other)) = reuse-step o h s log told mark count e ready other
+
+-- the answer of the log is a lawful step, which changes nothing: the entry may hold any copies of request and answer
+pub quiet-step : (o : Opening) (h : List Entry) (s : DeskState) (log : LogView) (told : Option Rows) (mark count place : ℕ) (request entered : Request) (answer answered : Answer)
+    → IsReady o h s log told mark count place request → Recalls log request answer → answer.place ≡ place → entered ≡ request → answered ≡ answer
+    → IsQuiet o h s log told mark count (record { request = entered; answer = answered })
+quiet-step o h s log told mark count place request entered answer answered ready recalls there p q =
+    let here : IsReady o h s log told mark count answer.place request = rw there ready in
+    rw (p, q) (quiet-entry o h s log told mark count (record { request = request; answer = answer }) here recalls)
 
 -- A fresh answer.
 
