@@ -1,4 +1,4 @@
-//! What a core over a keeper has beside its running state: the log of kept replies, the keeper, and the commit of a change to both.
+//! What a core has beside its running state: the log of kept replies, the keeper, and the commit of a change.
 #![tactic(auto)]
 
 mod full;

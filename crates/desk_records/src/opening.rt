@@ -7,6 +7,7 @@ use sms_deck::Config;
 use sms_keeper::Rows;
 use std::alloc::Global;
 use std::marker::Model;
+use std::snapshot::Snapshot;
 
 /// What a desk begins with: recorded rows, the configuration of the last deck, and the place before the first
 /// entry (docs/records.md).
@@ -45,5 +46,12 @@ impl Opening {
             config: None,
             base: 0,
         }
+    }
+
+    /// The empty opening as contracts see it, for one who keeps no more of it. It takes no memory.
+    pub fn empty_snapshot(alloc: Global) -> Snapshot<Self>
+        ensures { result.value ≡ empty_opening }
+    {
+        Snapshot::of(&Opening::empty(alloc))
     }
 }
