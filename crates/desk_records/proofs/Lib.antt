@@ -1,0 +1,9 @@
+pub mod KeyLemmas
+pub mod EffectLemmas
+pub mod GreatestLemmas
+pub mod KeptLemmas
+pub mod LogLemmas
+pub mod TableLemmas
+pub mod TiedLemmas
+pub mod OpeningLemmas
+pub mod StepLemmas

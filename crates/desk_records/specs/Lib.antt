@@ -1,0 +1,5 @@
+pub mod Full
+pub mod Effects
+pub mod Recall
+pub mod Logged
+pub mod Tied
