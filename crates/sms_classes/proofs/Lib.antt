@@ -1,0 +1,5 @@
+pub mod SlateLemmas
+pub mod OnwardLemmas
+pub mod KeepLemmas
+pub mod RunLemmas
+pub mod KnownLemmas
