@@ -3,3 +3,5 @@ pub mod OnwardLemmas
 pub mod KeepLemmas
 pub mod RunLemmas
 pub mod KnownLemmas
+pub mod LeaveLemmas
+pub mod NameLemmas

@@ -2,10 +2,13 @@
 ghost use Rattle.std.specs.Prelude.{◌≡◌};
 ghost use Rattle.dsn_mask.specs.Name.{IsShort};
 ghost use Rattle.desk_law.specs.Classification.{begin, class_or_null, classes_of};
+ghost use Rattle.sms_classes.specs.Known.{AreKnown};
 
 use crate::classified::Classified;
+use crate::leaving::leave_others;
 use crate::onward::from_data_class;
 use acs_tree::{Slate, Values};
+use desk_law::Stop;
 use dsn_mask::{Name, Names, Short};
 use sms_construct::Alloc;
 use sms_deck::Config;
@@ -17,7 +20,10 @@ pub fn classify(config: &Config, job: &Name, alloc: &Alloc, slate: &mut Slate) -
     ensures values { result.values ≡ (classes_of config.now job.now alloc.now).values }
     ensures stop { result.stop ≡ (classes_of config.now job.now alloc.now).stop }
     ensures slate { slate.new ≡ (classes_of config.now job.now alloc.now).written }
+    ensures known { result.stop ≡ Stop.Done → AreKnown config.now result.values }
 {
+    // Facts for the proof; nothing runs.
+    leave_others(config);
     slate.clear();
     let input = alloc.input.under(job, config.system(), config.sysplex());
     let mut values = named_classes(alloc);

@@ -3,6 +3,8 @@
 
 mod classification;
 mod classified;
+mod leaving;
+mod names;
 mod onward;
 mod replies;
 mod routine;
@@ -11,5 +13,6 @@ mod stops;
 
 pub use classification::classify;
 pub use classified::Classified;
+pub use names::{class_name, data_class_of};
 pub use replies::stop_reply;
 pub use sizes::{space_of, volume_count_of};
