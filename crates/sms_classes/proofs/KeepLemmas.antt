@@ -1,5 +1,5 @@
 -- A routine leaves the classes of the other kinds.
-use Rattle.std.proofs.Common.{◌≡◌, ℕ, suc, Bool, true, false, List, [], ◌∷◌, refl, sym, ap, ◌∙◌, if◌then◌else◌}
+use Rattle.std.proofs.Common.{◌≡◌, ℕ, suc, Bool, true, false, List, [], ◌∷◌, refl, ◌∙◌, if◌then◌else◌}
 use Rattle.std.specs.Prelude.{nat_lt}
 use Rattle.dsn_mask.specs.Filter.{FilterLists}
 use Rattle.acs_tree.specs.declared.input.Input.{Input}

@@ -1,5 +1,5 @@
 -- A routine leaves the classes of the other kinds, as its code does.
-use Rattle.std.proofs.Common.{◌≡◌, false, List, Option, Some, None, MatchOption, IfSome, option_map, refl, sym, ap, ◌∙◌, Bor}
+use Rattle.std.proofs.Common.{◌≡◌, false, Option, Some, None, MatchOption, IfSome, option_map, refl, sym, ap, ◌∙◌, Bor}
 use Rattle.acs_code.specs.Machine.{CodeParts, running}
 use Rattle.acs_code.specs.Stands.{StandsFor}
 use Rattle.acs_tree.specs.CheckedRoutine.{CheckedRoutine}

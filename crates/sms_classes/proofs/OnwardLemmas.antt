@@ -1,10 +1,8 @@
 -- A classification from one of its routines on.
-use Rattle.std.proofs.Common.{◌≡◌, ℕ, Bool, true, false, List, [], ◌∷◌, Option, Some, None, refl, sym, ap, ap₂, ◌∙◌, if◌then◌else◌}
-use Rattle.std.specs.Option.{option_or}
+use Rattle.std.proofs.Common.{◌≡◌, ℕ, Bool, true, false, List, Option, Some, None, refl, sym, ap, ap₂, ◌∙◌, if◌then◌else◌}
 use Rattle.acs_tree.specs.Outcome.{Action}
 use Rattle.acs_tree.specs.Inputs.{input_under}
 use Rattle.acs_tree.specs.Slates.{SlateLines, blank}
-use Rattle.acs_tree.specs.declared.ending.Ending.{Ending}
 use Rattle.acs_tree.specs.declared.ending.Ending.TheVariants as endings
 use Rattle.acs_tree.specs.declared.input.Input.{Input}
 use Rattle.acs_tree.specs.declared.kind.Kind.{Kind}
@@ -12,10 +10,9 @@ use Rattle.acs_tree.specs.declared.kind.Kind.TheVariants.{DataClas, StorClas, Mg
 use Rattle.acs_tree.specs.declared.values.Values.{Values}
 use Rattle.sms_construct.specs.Configuration.{Configuration}
 use Rattle.sms_construct.specs.declared.alloc.Alloc.{Alloc}
-use Rattle.desk_law.specs.Classification.{Classes, Meanings, Progress, after_class, begin, class_of, class_stop, classes_of, classes_under, end_with_groups, ends, exit_stop, if_managed, is_null, meanings_of, run, run_of, unless_stopped}
+use Rattle.desk_law.specs.Classification.{Classes, Meanings, Progress, after_class, begin, classes_of, classes_under, if_managed, is_null, meanings_of, run, run_of, unless_stopped}
 use Rattle.desk_law.specs.declared.stop.Stop.{Stop}
-use Rattle.desk_law.specs.declared.stop.Stop.TheVariants as stops
-use Rattle.sms_classes.specs.Onward.{after_groups, classes, from_data_class, from_groups, from_management_class, from_storage_class, groups_stop, progress, run_on}
+use Rattle.sms_classes.specs.Onward.{after_groups, from_data_class, from_groups, from_management_class, from_storage_class, progress, run_on}
 
 -- the whole is what is left from its first routine on
 
@@ -34,7 +31,6 @@ same_next (Some stop) last next next' e = refl
 same_else : (b : Bool) (stop next next' : Classes) → next ≡ next' → (if b then stop else next) ≡ (if b then stop else next')
 same_else true stop next next' e = refl
 same_else false stop next next' e = e
-
 
 abbrev pub groups_part : Meanings → Input → Progress → Classes
 groups_part meanings input third = after_groups (run meanings input StorGrp third)

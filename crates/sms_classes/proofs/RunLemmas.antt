@@ -1,5 +1,5 @@
 -- The run of a code is the run of its routine.
-use Rattle.std.proofs.Common.{◌≡◌, ℕ, List, Option, Some, None, MatchOption, IfSome, option_map, refl, sym, ap, ap₂, subst, ◌∙◌}
+use Rattle.std.proofs.Common.{◌≡◌, Option, Some, None, MatchOption, IfSome, option_map, ap, ap₂, ◌∙◌}
 use Rattle.acs_code.specs.Machine.{CodeParts, running}
 use Rattle.acs_code.specs.Stands.{StandsFor}
 use Rattle.acs_tree.specs.CheckedRoutine.{CheckedRoutine}
@@ -35,5 +35,5 @@ run_is (Some routine) kind code input values written {values'} {written'} {endin
     let v' : values' ≡ came.values = v ∙ ap (λ (o : Outcome). o.values) same in
     let e' : ending ≡ came.ending = e ∙ ap (λ (o : Outcome). o.ending) same in
     let w' : written' ≡ with_kept_lines kind (kept_lines_of came.lines) written =
-        w ∙ ap₂ (λ (k : Kind) (o : Outcome). with_kept_lines k (kept_lines_of o.lines) written) (stands.kind ∙ of_kind) same in
+    w ∙ ap₂ (λ (k : Kind) (o : Outcome). with_kept_lines k (kept_lines_of o.lines) written) (stands.kind ∙ of_kind) same in
     cc

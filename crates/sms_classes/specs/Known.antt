@@ -1,5 +1,5 @@
 -- Classes that a configuration has.
-use Rattle.std.specs.Prelude.{◌≡◌, ◌≢◌, Bool, true, false, ℕ, List, [], Option, Some, None, if◌then◌else◌}
+use Rattle.std.specs.Prelude.{◌≡◌, ◌≢◌, false, ℕ, List, [], Option, Some, None, if◌then◌else◌}
 use Rattle.acs_tree.specs.Slates.{same_kind}
 use Rattle.acs_tree.specs.declared.input.Input.{Input}
 use Rattle.acs_tree.specs.declared.kind.Kind.{Kind}

@@ -19,6 +19,6 @@ pub returns-clause-known : goal.returns-clause-known
 returns-clause-known c done =
     let came : Classes = classes c.from_data_class-stop.new.values c.from_data_class-stop.new.slate c.from_data_class-stop.result in
     let same : came ≡ classes_of c.args.config.now c.args.job.now c.args.alloc.now =
-        all_routines c.args.config.now c.args.job.now c.args.alloc.now _ c.from_data_class-stop.ensures c.under-input.ensures c.system.ensures c.sysplex.ensures c.named_classes-values.ensures c.clear.ensures in
+    all_routines c.args.config.now c.args.job.now c.args.alloc.now _ c.from_data_class-stop.ensures c.under-input.ensures c.system.ensures c.sysplex.ensures c.named_classes-values.ensures c.clear.ensures in
     subst (λ (came : Classes). AreKnown c.args.config.now came.values) (sym same)
     (done_known c.args.config.now (meanings_of c.args.config.now) _ (begin c.args.alloc.now) c.leave_others.ensures.storage c.leave_others.ensures.management c.leave_others.ensures.groups (ap (λ (came : Classes). came.stop) (sym same) ∙ done))
