@@ -1,0 +1,7 @@
+use Rattle.std.proofs.Common.{◌∙◌}
+use Rattle.sms_construct.specs.declared.data_class.DataClass.{DataClass}
+use Rattle.sms_classes.proofs.NameLemmas.{find_turned}
+use Rattle.sms_classes.proofs.names.data_class_of.Goals as goal
+
+pub returns : goal.returns
+returns c = c.data_class.ensures ∙ find_turned (λ (class : DataClass). class.name) c.args.class.now c.args.config.now.data_classes

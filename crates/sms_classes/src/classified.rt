@@ -1,0 +1,11 @@
+//! What a classification comes to.
+use acs_tree::Values;
+use desk_law::Stop;
+
+/// What a classification comes to: the classes and the storage groups as they stood at its end, and how it
+/// ends. The lines that were written are on the slate.
+#[derive(Clone, Copy)]
+pub struct Classified {
+    pub values: Values,
+    pub stop: Stop,
+}

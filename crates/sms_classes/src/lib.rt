@@ -1,0 +1,18 @@
+//! What the routines of a configuration give a new data set (docs/rules.md, "Classification").
+#![tactic(auto)]
+
+mod classification;
+mod classified;
+mod leaving;
+mod names;
+mod onward;
+mod replies;
+mod routine;
+mod sizes;
+mod stops;
+
+pub use classification::classify;
+pub use classified::Classified;
+pub use names::{class_name, data_class_of};
+pub use replies::stop_reply;
+pub use sizes::{space_of, volume_count_of};

@@ -1,0 +1,62 @@
+// The run of one routine.
+ghost use Rattle.std.specs.Prelude.{◌≡◌, suc};
+ghost use Rattle.std.specs.Option.{option_or};
+ghost use Rattle.acs_tree.specs.Variables.{rank_of};
+ghost use Rattle.desk_law.specs.Classification.{class_of, class_stop, exit_stop, meanings_of};
+ghost use Rattle.sms_classes.specs.Onward.{NoneFrom, progress, run_on};
+
+use crate::stops::{class_stop, exit_stop};
+use acs_run::run;
+use acs_tree::{Ending, Input, Kind, Slate, Values};
+use desk_law::Stop;
+use dsn_mask::Short;
+use sms_deck::Config;
+
+/// Runs the routine of that kind, where there is one.
+pub fn run_routine(
+    config: &Config,
+    kind: Kind,
+    input: &Input,
+    values: &mut Values,
+    slate: &mut Slate,
+) -> Ending
+    requires { NoneFrom (rank_of kind) slate.old }
+    ensures runs { progress values.new slate.new result ≡ run_on (meanings_of config.now) input.now kind values.old slate.old }
+    ensures later_kinds { NoneFrom (suc (rank_of kind)) slate.new }
+{
+    // Facts for the proof; nothing runs.
+    let _deck = config.deck();
+    match config.code(kind) {
+        None => Ending::Falls,
+        Some(code) => run(code, input, values, slate),
+    }
+}
+
+/// Runs the routine of a class, and tells what stops the classification behind it.
+pub fn run_class(
+    config: &Config,
+    kind: Kind,
+    input: &Input,
+    values: &mut Values,
+    slate: &mut Slate,
+) -> Option<Stop>
+    requires { NoneFrom (rank_of kind) slate.old }
+    ensures values { values.new ≡ (run_on (meanings_of config.now) input.now kind values.old slate.old).values }
+    ensures slate { slate.new ≡ (run_on (meanings_of config.now) input.now kind values.old slate.old).written }
+    ensures stop { let last = run_on (meanings_of config.now) input.now kind values.old slate.old in result ≡ option_or (exit_stop kind last.ending) (class_stop config.now kind (class_of kind last.values)) }
+    ensures later_kinds { NoneFrom (suc (rank_of kind)) slate.new }
+{
+    let ending = run_routine(config, kind, input, values, slate);
+    exit_stop(kind, ending).or_else(|| class_stop(config, kind, class_of(kind, values)))
+}
+
+fn class_of(kind: Kind, values: &Values) -> Short
+    ensures { result ≡ class_of kind values.now }
+{
+    match kind {
+        Kind::DataClas => values.dataclas,
+        Kind::StorClas => values.storclas,
+        Kind::MgmtClas => values.mgmtclas,
+        Kind::StorGrp => Short::null(),
+    }
+}

@@ -1,0 +1,35 @@
+//! The space and the number of volumes that a new data set gets.
+ghost use Rattle.std.specs.Prelude.{◌≡◌, option_and_then, option_copied};
+ghost use Rattle.desk_law.specs.Allocation.{space_of, volume_count_of};
+
+use sms_construct::{Alloc, DataClass, Space, VolumeCount};
+
+/// The space that the request names, else the one of its data class (docs/rules.md, "ALLOC").
+pub fn space_of(alloc: &Alloc, class: Option<&DataClass>) -> Option<Space>
+    ensures { result ≡ space_of alloc.now (option_copied class.entry) }
+{
+    alloc.space.or(class_space(class))
+}
+
+/// The number of volumes that the request names, else the one of its data class, else 1 (docs/rules.md,
+/// "ALLOC").
+pub fn volume_count_of(alloc: &Alloc, class: Option<&DataClass>) -> VolumeCount
+    ensures { result ≡ volume_count_of alloc.now (option_copied class.entry) }
+{
+    alloc
+        .volumes
+        .or(class_volumes(class))
+        .unwrap_or(VolumeCount::one())
+}
+
+fn class_space(class: Option<&DataClass>) -> Option<Space>
+    ensures { result ≡ option_and_then (λ class. class.space) (option_copied class.entry) }
+{
+    class?.space
+}
+
+fn class_volumes(class: Option<&DataClass>) -> Option<VolumeCount>
+    ensures { result ≡ option_and_then (λ class. class.volumes) (option_copied class.entry) }
+{
+    class?.volumes
+}
