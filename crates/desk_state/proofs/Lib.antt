@@ -1,0 +1,3 @@
+pub mod ExtentLemmas
+pub mod StandLemmas
+pub mod FewLemmas

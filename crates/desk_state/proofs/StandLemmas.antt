@@ -1,0 +1,21 @@
+-- The running state goes on standing for its state.
+use Rattle.std.proofs.Common.{◌≡◌, ℕ, List, ◌∙◌, sym, subst}
+use Rattle.std.specs.Prelude.{◌%◌, Option, IfSome}
+use Rattle.sms_construct.specs.Quantities.{tracks_in}
+use Rattle.sms_construct.specs.declared.data_set.DataSet.{DataSet}
+use Rattle.desk_law.specs.State.{DeskState}
+use Rattle.sms_volumes.specs.Holding.{AreVolumesOf}
+use Rattle.desk_state.specs.Catalog.{CatalogView, set_in}
+use Rattle.desk_state.specs.Standing.{IsRunning}
+use Rattle.desk_state.specs.declared.running.Running.{Running}
+
+-- with a catalog that finds the same
+pub with-room : (s : DeskState) (running after : Running) → after.activations ≡ running.activations → after.config ≡ running.config → after.volumes ≡ running.volumes
+    → ((dsn : List ℕ) → set_in dsn after.catalog.sets ≡ set_in dsn running.catalog.sets) → IsRunning s running → IsRunning s after
+with-room s running after activations config volumes same is = record {
+  activations = activations ∙ is.activations;
+  active = config ∙ is.active;
+  volumes = subst (AreVolumesOf s) (sym volumes) is.volumes;
+  sets = λ dsn. same dsn ∙ is.sets dsn;
+  units = λ dsn. subst (λ (o : Option DataSet). IfSome o (λ set. set.secondary % tracks_in set.unit ≡ 0)) (sym (same dsn)) (is.units dsn);
+}

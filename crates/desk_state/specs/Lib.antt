@@ -1,0 +1,5 @@
+pub mod Catalog
+pub mod Sums
+pub mod Standing
+pub mod Deeds
+pub mod Answering

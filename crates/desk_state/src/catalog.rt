@@ -1,0 +1,71 @@
+//! The catalogued data sets.
+ghost use Rattle.std.specs.Prelude.{◌≡◌, ◌≤◌, ◌<◌, [], None, Some, List, ℕ, OnOk, bytes_eq, if◌then◌else◌};
+ghost use Rattle.std.specs.Option.{option_copied};
+ghost use Rattle.desk_state.specs.Catalog.{set_in};
+
+use desk_common::Shared;
+use dsn_mask::Dsn;
+use sms_construct::DataSet;
+use std::alloc::{AllocError, Global};
+use std::collections::HashMap;
+use std::marker::Model;
+
+/// The catalogued data sets by name.
+#[derive(Drop)]
+pub struct Catalog {
+    sets: HashMap<Dsn, Shared<DataSet>>,
+}
+
+impl Model for Catalog {
+    ghost use Rattle.std.specs.HashMap.{spare};
+    ghost use Rattle.desk_state.specs.Catalog.{CatalogView};
+
+    ghost Value = { CatalogView };
+
+    ghost view = { λ c. record { sets = c.sets.entries; room = spare c.sets } };
+}
+
+impl Catalog {
+    /// An empty catalog. It takes no memory.
+    pub fn new(alloc: Global) -> Self
+        ensures { result.sets ≡ [] }
+    {
+        Catalog {
+            sets: HashMap::new(alloc),
+        }
+    }
+
+    /// The data set of this name.
+    pub fn get(&self, dsn: &Dsn) -> Option<&Shared<DataSet>>
+        ensures { option_copied result ≡ set_in dsn.now self.now.sets }
+    {
+        self.sets.get(dsn)
+    }
+
+    /// Takes room for one more data set.
+    pub fn reserve(&mut self) -> Result<(), AllocError>
+        ensures room { OnOk result (0 < self.new.room) }
+        ensures same { (dsn : List ℕ) → set_in dsn self.new.sets ≡ set_in dsn self.old.sets }
+    {
+        self.sets.reserve(1)
+    }
+
+    /// Puts a data set in place of the one of its name, or adds it. It takes no memory.
+    pub fn put(&mut self, set: Shared<DataSet>)
+        requires { 0 < self.old.room }
+        ensures { (dsn : List ℕ) → set_in dsn self.new.sets ≡ (if bytes_eq set.dsn dsn then Some set else set_in dsn self.old.sets) }
+    {
+        let dsn = set.get().dsn;
+        match self.sets.insert(dsn, set) {
+            Ok(_) => (),
+            Err(_) => unreachable!(),
+        }
+    }
+
+    /// Drops the data set of this name.
+    pub fn remove(&mut self, dsn: &Dsn)
+        ensures { (other : List ℕ) → set_in other self.new.sets ≡ (if bytes_eq dsn.now other then None else set_in other self.old.sets) }
+    {
+        self.sets.remove(dsn);
+    }
+}

@@ -1,0 +1,13 @@
+//! The running state of the desk: what a fresh request is answered, and what it changes.
+#![tactic(auto)]
+
+mod catalog;
+mod decision;
+mod deed;
+mod extents;
+mod running;
+
+pub use catalog::Catalog;
+pub use decision::Decision;
+pub use deed::Deed;
+pub use running::Running;

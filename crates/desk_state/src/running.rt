@@ -1,0 +1,45 @@
+//! The running state of the desk.
+ghost use Rattle.std.specs.Prelude.{◌≡◌, ◌<◌, OnOk};
+ghost use Rattle.desk_law.specs.State.{DeskState, start_of};
+ghost use Rattle.desk_law.specs.Records.{empty_opening};
+ghost use Rattle.desk_state.specs.Standing.{IsRunning};
+
+use crate::catalog::Catalog;
+use desk_common::Shared;
+use sms_deck::Config;
+use sms_volumes::ActiveVolumes;
+use std::alloc::{AllocError, Global};
+
+/// The running state of the desk: how many activations there were, the active configuration with its volumes, and
+/// the catalogued data sets.
+#[derive(Drop)]
+pub struct Running {
+    pub alloc: Global,
+    pub activations: u64,
+    pub config: Option<Shared<Config>>,
+    pub volumes: ActiveVolumes,
+    pub catalog: Catalog,
+}
+
+impl Running {
+    /// The state of a new desk: nothing is active, and nothing catalogued. It takes no memory.
+    pub fn new(alloc: Global) -> Self
+        ensures { IsRunning (start_of empty_opening) result }
+    {
+        Running {
+            alloc,
+            activations: 0,
+            config: None,
+            volumes: ActiveVolumes::none(alloc),
+            catalog: Catalog::new(alloc),
+        }
+    }
+
+    /// Takes room for one more data set.
+    pub fn reserve(&mut self) -> Result<(), AllocError>
+        ensures room { OnOk result (0 < self.new.catalog.room) }
+        ensures same { (s : DeskState) → IsRunning s self.old → IsRunning s self.new }
+    {
+        self.catalog.reserve()
+    }
+}
