@@ -1,12 +1,11 @@
 -- A lawful data set has few extents.
 use Rattle.std.proofs.Common.{◌≡◌, ◌≤◌, ◌<◌, ℕ, zero, suc, ◌+◌, ◌*◌, Bool, true, false, cond, List, [], ◌∷◌, length, refl, sym, ap, ◌∙◌, subst, arith}
-use Rattle.std.specs.Prelude.{Option, Some, bytes_eq, ◌^◌}
+use Rattle.std.specs.Prelude.{Some, bytes_eq, ◌^◌}
 use Rattle.sms_construct.specs.declared.data_set.DataSet.{DataSet}
 use Rattle.sms_construct.specs.declared.extent.Extent.{Extent}
 use Rattle.sms_construct.specs.declared.volume.VolumeDef.{VolumeDef}
-use Rattle.desk_law.specs.Extents.{is_among, pieces_on, volumes_after}
+use Rattle.desk_law.specs.Extents.{is_among, volumes_after}
 use Rattle.desk_law.specs.Lawful.{IsLawfulSet}
-use Rattle.desk_law.specs.State.{DeskState, set_named}
 use Rattle.desk_law.specs.Volumes.{volumes_in}
 use Rattle.desk_law.proofs.ByteLemmas.{bytes-same, bytes-turned, same-bytes}
 use Rattle.desk_law.proofs.CountLemmas.{count_on, count-cons}

@@ -1,5 +1,5 @@
 -- What a decision owes: its reply and what it does are by the rule.
-use Rattle.std.specs.Prelude.{ℕ, ◌≡◌, true}
+use Rattle.std.specs.Prelude.{◌≡◌, true}
 use Rattle.sms_construct.specs.declared.reply.Reply.{Reply}
 use Rattle.sms_construct.specs.declared.reply.Reply.TheVariants as replies
 use Rattle.desk_law.specs.State.{DeskState}

@@ -14,8 +14,7 @@ pub struct Decision {
 impl Decision {
     /// The reply, with which nothing is done.
     pub fn quiet(reply: Reply) -> Self
-        ensures reply { result.reply ≡ reply }
-        ensures deed { result.deed ≡ Deed.Nothing }
+        ensures { result ≡ record { reply = reply; deed = Deed.Nothing } }
     {
         Decision {
             reply,

@@ -23,11 +23,17 @@ pub enum Deed {
         pieces: Items<Piece>,
     },
     /// The data set, which lies as before, is put in place of the one of its name.
-    Note { set: Shared<DataSet> },
+    Note {
+        set: Shared<DataSet>,
+    },
     /// The data set, which keeps the front of its tracks, is put in place of the one of its name.
-    Keep { set: Shared<DataSet> },
+    Keep {
+        set: Shared<DataSet>,
+    },
     /// The data set of this name is dropped.
-    Remove { dsn: Dsn },
+    Remove {
+        dsn: Dsn,
+    },
     /// The configuration becomes active, with these volumes and these statuses; so many activations there are then.
     Become {
         count: u64,
@@ -36,9 +42,15 @@ pub enum Deed {
         statuses: Statuses,
     },
     /// The storage group or the volume gets this status.
-    Vary { target: Target, status: Status },
+    Vary {
+        target: Target,
+        status: Status,
+    },
     /// The floor of the job becomes this one.
-    Raise { job: Name, floor: u32 },
+    Raise {
+        job: Name,
+        floor: u32,
+    },
 }
 
 impl Deed {
@@ -53,7 +65,9 @@ impl Deed {
             }
             Deed::Remove { dsn } => Ok(Effect::DropSet(*dsn)),
             Deed::Become {
-                count, statuses, ..
+                count,
+                statuses,
+                ..
             } => Ok(Effect::Activated {
                 count: *count,
                 statuses: Items::from_slice(alloc, statuses.as_slice())?,

@@ -2,6 +2,7 @@
 #![tactic(auto)]
 
 mod catalog;
+mod data_sets;
 mod decision;
 mod deed;
 mod extents;

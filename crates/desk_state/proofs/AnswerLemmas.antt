@@ -1,0 +1,85 @@
+-- Decisions that are by the rules.
+use Rattle.std.proofs.Common.{◌≡◌, ℕ, ◌-◌, true, false, List, refl, sym, ap, ◌∙◌}
+use Rattle.std.specs.Prelude.{None, Some, nat_lt}
+use Rattle.sms_construct.specs.declared.data_set.DataSet.{DataSet}
+use Rattle.sms_construct.specs.declared.reply.Reply.{Reply}
+use Rattle.sms_construct.specs.declared.reply.Reply.TheVariants as replies
+use Rattle.desk_law.specs.State.{DeskState, set_named}
+use Rattle.desk_law.specs.Deletion.{DeleteRule}
+use Rattle.desk_law.specs.Extents.{front_tracks, tracks_of_set, with_extents}
+use Rattle.desk_law.specs.Releasing.{ReleaseRule, kept_of, tracks_kept}
+use Rattle.desk_law.specs.Usage.{UsedRule}
+use Rattle.desk_law.proofs.SetLemmas.{name-is}
+use Rattle.desk_records.specs.Effects.{tells_nothing}
+use Rattle.sms_volumes.specs.Holding.{extents_if, extents_named}
+use Rattle.desk_state.specs.Answering.{Answers}
+use Rattle.desk_state.specs.Catalog.{set_in}
+use Rattle.desk_state.specs.Standing.{IsRunning}
+use Rattle.desk_state.specs.declared.deed.Deed.TheVariants as deeds
+use Rattle.desk_state.specs.declared.running.Running.{Running}
+
+-- a decision with which nothing is done
+pub quiet-answers : (s : DeskState) (running : Running) (R : Reply → DeskState → Type 0) (reply : Reply) → R reply s → tells_nothing reply ≡ true → Answers s running R (record { reply = reply; deed = deeds.Nothing })
+quiet-answers s running R reply rule tells = record { rule = rule; tells = tells; fits = tt }
+
+-- what the data set of a name holds
+pub named-extents : (dsn : List ℕ) (sets : List DataSet) (set : DataSet) → set_named dsn sets ≡ Some set → extents_named set.dsn sets ≡ set.extents
+named-extents dsn sets set found =
+    let name : set.dsn ≡ dsn = name-is dsn sets set found in
+    ap (λ n. extents_named n sets) name ∙ ap extents_if found
+
+-- USED.
+
+pub used-none : (s : DeskState) (running : Running) (dsn : List ℕ) (tracks : ℕ) → IsRunning s running → set_in dsn running.catalog.sets ≡ None
+    → Answers s running (UsedRule s dsn tracks) (record { reply = replies.NotFound; deed = deeds.Nothing })
+used-none s running dsn tracks is none =
+    let gone : set_named dsn s.sets ≡ None = sym (is.sets dsn) ∙ none in
+    quiet-answers s running (UsedRule s dsn tracks) replies.NotFound (rw gone (record { reply_is = refl; after_is = refl })) refl
+
+pub used-past : (s : DeskState) (running : Running) (dsn : List ℕ) (tracks : ℕ) (set : DataSet) → IsRunning s running → set_in dsn running.catalog.sets ≡ Some set → nat_lt (tracks_of_set set) tracks ≡ true
+    → Answers s running (UsedRule s dsn tracks) (record { reply = replies.PastGrant (tracks_of_set set); deed = deeds.Nothing })
+used-past s running dsn tracks set is found past =
+    let there : set_named dsn s.sets ≡ Some set = sym (is.sets dsn) ∙ found in
+    quiet-answers s running (UsedRule s dsn tracks) (replies.PastGrant (tracks_of_set set)) (rw (there, past) (record { reply_is = refl; after_is = refl })) refl
+
+pub used-noted : (s : DeskState) (running : Running) (dsn : List ℕ) (tracks : ℕ) (set : DataSet) → IsRunning s running → set_in dsn running.catalog.sets ≡ Some set → nat_lt (tracks_of_set set) tracks ≡ false
+    → Answers s running (UsedRule s dsn tracks) (record { reply = replies.Noted; deed = deeds.Note (with_extents set tracks set.extents) })
+used-noted s running dsn tracks set is found fits =
+    let there : set_named dsn s.sets ≡ Some set = sym (is.sets dsn) ∙ found in
+    record {
+      rule = rw (there, fits) (record { reply_is = refl; after_is = refl });
+      tells = refl;
+      fits = sym (named-extents dsn s.sets set there);
+    }
+
+-- DELETE.
+
+pub delete-none : (s : DeskState) (running : Running) (dsn : List ℕ) → IsRunning s running → set_in dsn running.catalog.sets ≡ None
+    → Answers s running (DeleteRule s dsn) (record { reply = replies.NotFound; deed = deeds.Nothing })
+delete-none s running dsn is none =
+    let gone : set_named dsn s.sets ≡ None = sym (is.sets dsn) ∙ none in
+    quiet-answers s running (DeleteRule s dsn) replies.NotFound (rw gone (record { reply_is = refl; after_is = refl })) refl
+
+pub delete-done : (s : DeskState) (running : Running) (dsn : List ℕ) (set : DataSet) → IsRunning s running → set_in dsn running.catalog.sets ≡ Some set
+    → Answers s running (DeleteRule s dsn) (record { reply = replies.Deleted (tracks_of_set set); deed = deeds.Remove dsn })
+delete-done s running dsn set is found =
+    let there : set_named dsn s.sets ≡ Some set = sym (is.sets dsn) ∙ found in
+    record { rule = rw there (record { reply_is = refl; after_is = refl }); tells = refl; fits = tt }
+
+-- RELEASE.
+
+pub release-none : (s : DeskState) (running : Running) (dsn : List ℕ) → IsRunning s running → set_in dsn running.catalog.sets ≡ None
+    → Answers s running (ReleaseRule s dsn) (record { reply = replies.NotFound; deed = deeds.Nothing })
+release-none s running dsn is none =
+    let gone : set_named dsn s.sets ≡ None = sym (is.sets dsn) ∙ none in
+    quiet-answers s running (ReleaseRule s dsn) replies.NotFound (rw gone (record { reply_is = refl; after_is = refl })) refl
+
+pub release-done : (s : DeskState) (running : Running) (dsn : List ℕ) (set : DataSet) → IsRunning s running → set_in dsn running.catalog.sets ≡ Some set
+    → Answers s running (ReleaseRule s dsn) (record { reply = replies.Released (tracks_of_set set - tracks_of_set (kept_of set)); deed = deeds.Keep (kept_of set) })
+release-done s running dsn set is found =
+    let there : set_named dsn s.sets ≡ Some set = sym (is.sets dsn) ∙ found in
+    record {
+      rule = rw there (record { reply_is = refl; after_is = refl });
+      tells = refl;
+      fits = record { keep = tracks_kept set; extents = ap (front_tracks (tracks_kept set)) (sym (named-extents dsn s.sets set there)) };
+    }
