@@ -3,6 +3,8 @@
 
 mod answering;
 mod help;
+#[cfg(test)]
+mod ordinary;
 mod status;
 mod task;
 #[cfg(test)]

@@ -1,3 +1,4 @@
+use crate::ordinary::ORDINARY;
 use crate::status::ToolStatus::{self, BadWords, Done, FaultFound, ReadFault, TooLong, WriteFault};
 use crate::tool::smsc_main;
 use sms_base::{MemSink, MemSource};
@@ -109,7 +110,8 @@ const ROUTINES: [(&str, &[u8], ToolStatus, &[u8]); 19] = [
 ];
 
 /// The deck, the status and the text that is printed.
-const DECKS: [(&[u8], ToolStatus, &[u8]); 6] = [
+const DECKS: [(&[u8], ToolStatus, &[u8]); 7] = [
+    (ORDINARY, Done, b"VALID 3 3\n"),
     (b"version = 1", Done, b"VALID 0 0\n"),
     (
         b"version = 1\n[storgroup.SG1.volume.VOL001]\ntracks = 100",
@@ -128,6 +130,34 @@ const DECKS: [(&[u8], ToolStatus, &[u8]); 6] = [
         FaultFound,
         b"FAULT K8 STORCLAS SC9\n",
     ),
+];
+
+/// The words, the front of an input and the number of blanks behind it, the status and the text that is printed.
+const LENGTHS: [(&[&str], &str, usize, ToolStatus, &str); 6] = [
+    (
+        &["translate", "STORCLAS"],
+        "PROC STORCLAS END",
+        65_519,
+        Done,
+        "TRANSLATED STORCLAS 3\n",
+    ),
+    (
+        &["translate", "STORCLAS"],
+        "PROC STORCLAS END",
+        65_520,
+        TooLong,
+        "",
+    ),
+    (&["validate"], "version = 1 #", 262_131, Done, "VALID 0 0\n"),
+    (
+        &["validate"],
+        "version = 1 #",
+        262_132,
+        FaultFound,
+        "FAULT K9 deck\n",
+    ),
+    (&["validate"], "", 16_777_216, FaultFound, "FAULT K9 deck\n"),
+    (&["validate"], "", 16_777_217, TooLong, ""),
 ];
 
 /// Words that ask for nothing.
@@ -178,18 +208,19 @@ fn other_words_are_bad(rt: HostRuntime) -> Result<(), Fail> {
 }
 
 #[test]
-fn a_routine_of_65536_bytes_is_read_and_no_longer_one(rt: HostRuntime) -> Result<(), Fail> {
-    for (blanks, status, text) in [
-        (65_519, Done, b"TRANSLATED STORCLAS 3\n".as_slice()),
-        (65_520, TooLong, b"".as_slice()),
-    ] {
-        let mut routine = b"PROC STORCLAS END".to_vec(rt.alloc())?;
+fn an_input_is_read_up_to_its_limit(rt: HostRuntime) -> Result<(), Fail> {
+    for (words, front, blanks, status, text) in LENGTHS {
+        let mut input = front.as_bytes().to_vec(rt.alloc())?;
         for _ in 0..blanks {
-            routine.push(b' ')?;
+            input.push(b' ')?;
         }
-        let outcome = run(rt.alloc(), &["translate", "STORCLAS"], &routine, ROOM)?;
-        assert_eq!(rt; outcome.status, status);
-        assert_eq!(rt; outcome.text.as_slice(), text);
+        let outcome = run(rt.alloc(), words, &input, ROOM)?;
+        assert_eq!(rt; outcome.status, status, "at {front} and {blanks}");
+        assert_eq!(rt;
+            outcome.text.as_slice(),
+            text.as_bytes(),
+            "at {front} and {blanks}"
+        );
     }
     Ok(())
 }
