@@ -15,7 +15,7 @@ use sms_deck::Config;
 pub fn data_class_of<'a>(config: &'a Config, class: &Short) -> Option<&'a DataClass>
     ensures { option_copied result ≡ data_class_of config.now class.now }
 {
-    config.data_class(class)
+    config.data_class_for(class)
 }
 
 /// The name of a class of this kind that isn't null and that the configuration has.
@@ -33,9 +33,9 @@ fn named(config: &Config, kind: Kind, class: &Short) -> Option<Name>
     ensures { result ≡ (if has_construct kind class.now config.now then Some class.now else None) }
 {
     match kind {
-        Kind::DataClas => data_class_name(config.data_class(class)),
-        Kind::StorClas => storage_class_name(config.stor_class(class)),
-        Kind::MgmtClas => management_class_name(config.mgmt_class(class)),
+        Kind::DataClas => data_class_name(config.data_class_for(class)),
+        Kind::StorClas => storage_class_name(config.stor_class_for(class)),
+        Kind::MgmtClas => management_class_name(config.mgmt_class_for(class)),
         Kind::StorGrp => group_name(group_named(config.groups(), class)),
     }
 }

@@ -117,7 +117,7 @@ impl Config {
     }
 
     /// The data class of this name.
-    pub fn data_class(&self, name: &Short) -> Option<&DataClass>
+    pub fn data_class(&self, name: &Name) -> Option<&DataClass>
         ensures { option_copied result ≡ find (λ class. bytes_eq name.now class.name) self.now.data_classes }
     {
         let name = name.bytes();
@@ -127,8 +127,19 @@ impl Config {
             .find(|class| name == class.name.bytes())
     }
 
-    /// The storage class of this name.
-    pub fn stor_class(&self, name: &Short) -> Option<&StorClass>
+    /// The data class that a routine's value names; none where it is null.
+    pub fn data_class_for(&self, name: &Short) -> Option<&DataClass>
+        ensures { option_copied result ≡ find (λ class. bytes_eq name.now class.name) self.now.data_classes }
+    {
+        let name = name.bytes();
+        self.data_classes
+            .as_slice()
+            .iter()
+            .find(|class| name == class.name.bytes())
+    }
+
+    /// The storage class that a routine's value names; none where it is null.
+    pub fn stor_class_for(&self, name: &Short) -> Option<&StorClass>
         ensures { option_copied result ≡ find (λ class. bytes_eq name.now class.name) self.now.storage_classes }
     {
         let name = name.bytes();
@@ -139,7 +150,18 @@ impl Config {
     }
 
     /// The management class of this name.
-    pub fn mgmt_class(&self, name: &Short) -> Option<&MgmtClass>
+    pub fn mgmt_class(&self, name: &Name) -> Option<&MgmtClass>
+        ensures { option_copied result ≡ find (λ class. bytes_eq name.now class.name) self.now.management_classes }
+    {
+        let name = name.bytes();
+        self.management_classes
+            .as_slice()
+            .iter()
+            .find(|class| name == class.name.bytes())
+    }
+
+    /// The management class that a routine's value names; none where it is null.
+    pub fn mgmt_class_for(&self, name: &Short) -> Option<&MgmtClass>
         ensures { option_copied result ≡ find (λ class. bytes_eq name.now class.name) self.now.management_classes }
     {
         let name = name.bytes();

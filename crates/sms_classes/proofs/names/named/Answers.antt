@@ -9,15 +9,15 @@ use Rattle.sms_classes.proofs.names.named.Goals as goal
 
 pub returns-in-DataClas : goal.returns-in-DataClas
 returns-in-DataClas c = named_is c.args.kind DataClas c.args.config.now c.args.class.now _ c.in-DataClas.is
-    (c.data_class_name.ensures ∙ ap (option_map (λ (class : DataClass). class.name)) c.data_class.ensures ∙ found_name (λ (class : DataClass). class.name) c.args.class.now c.args.config.now.data_classes)
+    (c.data_class_name.ensures ∙ ap (option_map (λ (class : DataClass). class.name)) c.data_class_for.ensures ∙ found_name (λ (class : DataClass). class.name) c.args.class.now c.args.config.now.data_classes)
 
 pub returns-in-StorClas : goal.returns-in-StorClas
 returns-in-StorClas c = named_is c.args.kind StorClas c.args.config.now c.args.class.now _ c.in-StorClas.is
-    (c.storage_class_name.ensures ∙ ap (option_map (λ (class : StorClass). class.name)) c.stor_class.ensures ∙ found_name (λ (class : StorClass). class.name) c.args.class.now c.args.config.now.storage_classes)
+    (c.storage_class_name.ensures ∙ ap (option_map (λ (class : StorClass). class.name)) c.stor_class_for.ensures ∙ found_name (λ (class : StorClass). class.name) c.args.class.now c.args.config.now.storage_classes)
 
 pub returns-in-MgmtClas : goal.returns-in-MgmtClas
 returns-in-MgmtClas c = named_is c.args.kind MgmtClas c.args.config.now c.args.class.now _ c.in-MgmtClas.is
-    (c.management_class_name.ensures ∙ ap (option_map (λ (class : MgmtClass). class.name)) c.mgmt_class.ensures ∙ found_name (λ (class : MgmtClass). class.name) c.args.class.now c.args.config.now.management_classes)
+    (c.management_class_name.ensures ∙ ap (option_map (λ (class : MgmtClass). class.name)) c.mgmt_class_for.ensures ∙ found_name (λ (class : MgmtClass). class.name) c.args.class.now c.args.config.now.management_classes)
 
 pub returns-in-StorGrp : goal.returns-in-StorGrp
 returns-in-StorGrp c = named_is c.args.kind StorGrp c.args.config.now c.args.class.now _ c.in-StorGrp.is
