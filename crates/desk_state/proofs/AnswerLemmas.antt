@@ -1,9 +1,18 @@
 -- Decisions that are by the rules.
 use Rattle.std.proofs.Common.{◌≡◌, ℕ, ◌-◌, true, false, List, refl, sym, ap, ◌∙◌}
-use Rattle.std.specs.Prelude.{None, Some, nat_lt}
+use Rattle.std.specs.Prelude.{◌==◌, max, None, Some, nat_lt}
+use Rattle.sms_construct.specs.Status.{status_of_action}
+use Rattle.sms_construct.specs.declared.action.Action.{Action}
 use Rattle.sms_construct.specs.declared.data_set.DataSet.{DataSet}
 use Rattle.sms_construct.specs.declared.reply.Reply.{Reply}
 use Rattle.sms_construct.specs.declared.reply.Reply.TheVariants as replies
+use Rattle.sms_construct.specs.declared.target.Target.{Target}
+use Rattle.sms_construct.specs.declared.target.Target.TheVariants as targets
+use Rattle.sms_construct.specs.declared.view.View.{View}
+use Rattle.desk_law.specs.Display.{DisplayRule, reply_for_none, view_of_target}
+use Rattle.desk_law.specs.Purging.{PurgeRule}
+use Rattle.desk_law.specs.Varying.{VaryRule}
+use Rattle.desk_law.specs.Volumes.{times_target}
 use Rattle.desk_law.specs.State.{DeskState, set_named}
 use Rattle.desk_law.specs.Deletion.{DeleteRule}
 use Rattle.desk_law.specs.Extents.{front_tracks, tracks_of_set, with_extents}
@@ -83,3 +92,34 @@ release-done s running dsn set is found =
       tells = refl;
       fits = record { keep = tracks_kept set; extents = ap (front_tracks (tracks_kept set)) (sym (named-extents dsn s.sets set there)) };
     }
+
+-- PURGE.
+
+pub purge-done : (s : DeskState) (running : Running) (job : List ℕ) (old floor greater : ℕ) → greater ≡ max old floor
+    → Answers s running (PurgeRule s old job floor) (record { reply = replies.Purged job greater; deed = deeds.Raise job greater })
+purge-done s running job old floor greater is = record { rule = record { reply_is = ap (replies.Purged job) is; after_is = refl }; tells = refl; fits = tt }
+
+-- VARY.
+
+pub vary-none : (s : DeskState) (running : Running) (target : Target) (action : Action) → (times_target s.active target == 0) ≡ true
+    → Answers s running (VaryRule s target action) (record { reply = replies.UnknownName; deed = deeds.Nothing })
+vary-none s running target action none = quiet-answers s running (VaryRule s target action) replies.UnknownName (rw none (record { reply_is = refl; after_is = refl })) refl
+
+pub vary-done : (s : DeskState) (running : Running) (target : Target) (action : Action) → (times_target s.active target == 0) ≡ false
+    → Answers s running (VaryRule s target action) (record { reply = replies.Varied target (status_of_action action); deed = deeds.Vary target (status_of_action action) })
+vary-done s running target action some = record { rule = rw some (record { reply_is = refl; after_is = refl }); tells = refl; fits = tt }
+
+-- DISPLAY.
+
+pub display-shown : (s : DeskState) (running : Running) (target : Target) (view : View) → Some view ≡ view_of_target s target
+    → Answers s running (DisplayRule s target) (record { reply = replies.Shown view; deed = deeds.Nothing })
+display-shown s running target view is = quiet-answers s running (DisplayRule s target) (replies.Shown view) (rw (sym is) (record { reply_is = refl; after_is = refl })) refl
+
+none-tells : (target : Target) → tells_nothing (reply_for_none target) ≡ true
+none-tells (targets.Group name) = refl
+none-tells (targets.Volume volser) = refl
+none-tells (targets.Set dsn) = refl
+
+pub display-none : (s : DeskState) (running : Running) (target : Target) → None ≡ view_of_target s target
+    → Answers s running (DisplayRule s target) (record { reply = reply_for_none target; deed = deeds.Nothing })
+display-none s running target is = quiet-answers s running (DisplayRule s target) (reply_for_none target) (rw (sym is) (record { reply_is = refl; after_is = refl })) (none-tells target)

@@ -1,10 +1,11 @@
 -- The running state goes on standing for its state.
-use Rattle.std.proofs.Common.{◌≡◌, ℕ, List, ◌∙◌, sym, subst}
+use Rattle.std.proofs.Common.{◌<◌, length, ◌≡◌, ℕ, List, ◌∙◌, sym, subst}
 use Rattle.std.specs.Prelude.{◌%◌, Option, IfSome}
 use Rattle.sms_construct.specs.Quantities.{tracks_in}
 use Rattle.sms_construct.specs.declared.data_set.DataSet.{DataSet}
 use Rattle.desk_law.specs.State.{DeskState}
 use Rattle.sms_volumes.specs.Holding.{AreVolumesOf}
+use Rattle.sms_volumes.specs.declared.active_volumes.ActiveVolumes.{ActiveVolumes}
 use Rattle.desk_state.specs.Catalog.{set_in}
 use Rattle.desk_state.specs.Standing.{IsRunning}
 use Rattle.desk_state.specs.declared.running.Running.{Running}
@@ -17,5 +18,6 @@ with-room s running after activations config volumes same is = record {
   active = config ∙ is.active;
   volumes = subst (AreVolumesOf s) (sym volumes) is.volumes;
   sets = λ dsn. same dsn ∙ is.sets dsn;
+  few = subst (λ (v : ActiveVolumes). length v.volumes.items < 4294967296) (sym volumes) is.few;
   units = λ dsn. subst (λ (o : Option DataSet). IfSome o (λ set. set.secondary % tracks_in set.unit ≡ 0)) (sym (same dsn)) (is.units dsn);
 }

@@ -6,6 +6,7 @@ mod data_sets;
 mod decision;
 mod deed;
 mod extents;
+mod operator;
 mod running;
 
 pub use catalog::Catalog;

@@ -1,7 +1,10 @@
 -- What is shown is what the state has.
-use Rattle.std.proofs.Common.{◌≡◌, ◌<◌, ℕ, ◌+◌, ◌-◌, Bool, true, false, cond, List, [], ◌∷◌, ◌++◌, length, map, get_or, take, refl, sym, ap, ◌∙◌, arith}
-use Rattle.std.specs.Prelude.{Option, None, Some, bytes_eq, filter, find, option_map, slice_get, sum_by}
+use Rattle.std.proofs.Common.{◌≡◌, ◌<◌, ℕ, zero, suc, ◌+◌, ◌-◌, Bool, true, false, cond, List, [], ◌∷◌, ◌++◌, length, map, get_or, take, refl, sym, ap, ◌∙◌, arith}
+use Rattle.std.specs.Prelude.{Option, None, Some, MatchOption, is_some, nat_eq, not, bytes_eq, filter, find, option_map, slice_get, sum_by}
+use Rattle.std.specs.Borrow.{Bor}
+use Rattle.std.specs.Option.{option_copied}
 use Rattle.std.specs.List.{AllByRecursion}
+use Rattle.std.proofs.lemmas.Bool.Decides.{nat_tests}
 use Rattle.std.proofs.lemmas.List.{take_more}
 use Rattle.std.proofs.lemmas.List.Sums.{sum_by-cons, sum_by-append}
 use Rattle.sms_construct.specs.declared.storage_group.StorGroup.{StorGroup}
@@ -11,7 +14,7 @@ use Rattle.track_ledger.specs.Extents.{pieces_of, tracks_held}
 use Rattle.desk_law.specs.State.{DeskState}
 use Rattle.desk_law.specs.Display.{shown_volume, view_of_group}
 use Rattle.desk_law.specs.Extents.{held_on}
-use Rattle.desk_law.specs.Volumes.{free_on, group_named, volume_named, volumes_in, volumes_of_group}
+use Rattle.desk_law.specs.Volumes.{free_on, group_named, groups_in, times_group, times_volume, volume_named, volumes_in, volumes_of_group}
 use Rattle.desk_law.proofs.PlaceLemmas.{each-at, find-each}
 use Rattle.sms_volumes.specs.Holding.{AreVolumesOf, IsGroupOf, IsVolumeOf}
 use Rattle.sms_volumes.specs.Showing.{capacity_in, free_in, group_in, running_free, running_group, running_in, running_row}
@@ -148,3 +151,52 @@ group-shown s running name None are is = sym (ap (option_map (view_of_group s)) 
 group-shown s running name (Some g) are is =
     let own = find-each (IsGroupOf s) (λ (x : ActiveGroup). bytes_eq x.group.name name) running.groups.items g are.each_group (sym is) in
     ap Some (group-view s running g are own) ∙ sym (ap (option_map (view_of_group s)) (group-is s running name are ∙ ap (option_map (λ (x : ActiveGroup). x.group)) (sym is)))
+
+-- Whether a name is there.
+
+none-more : (m : ℕ) → 0 + m ≡ m
+none-more m = omega arith
+
+one-more : (m : ℕ) → nat_eq (1 + m) 0 ≡ false
+one-more m = grind (arith, nat_tests)
+
+group-there-at : (name : List ℕ) (g : ActiveGroup) (groups : List ActiveGroup) (b : Bool) → bytes_eq g.group.name name ≡ b
+    → nat_eq (times_group name (map (λ (x : ActiveGroup). x.group) groups)) 0 ≡ not (is_some (group_in name groups))
+    → nat_eq (times_group name (map (λ (x : ActiveGroup). x.group) (g ∷ groups))) 0 ≡ not (is_some (group_in name (g ∷ groups)))
+group-there-at name g groups true is rest = rw is (one-more (times_group name (map (λ (x : ActiveGroup). x.group) groups)))
+group-there-at name g groups false is rest = rw is (ap (λ n. nat_eq n 0) (none-more (times_group name (map (λ (x : ActiveGroup). x.group) groups))) ∙ rest)
+
+group-there : (name : List ℕ) (groups : List ActiveGroup) → nat_eq (times_group name (map (λ (x : ActiveGroup). x.group) groups)) 0 ≡ not (is_some (group_in name groups))
+group-there name [] = refl
+group-there name (g ∷ groups) = group-there-at name g groups _ refl (group-there name groups)
+
+volume-there-at : (volser : List ℕ) (v : ActiveVolume) (volumes : List ActiveVolume) (b : Bool) → bytes_eq v.volume.volser volser ≡ b
+    → nat_eq (times_volume volser (map (λ (x : ActiveVolume). x.volume) volumes)) 0 ≡ not (is_some (running_named volser volumes))
+    → nat_eq (times_volume volser (map (λ (x : ActiveVolume). x.volume) (v ∷ volumes))) 0 ≡ not (is_some (running_named volser (v ∷ volumes)))
+volume-there-at volser v volumes true is rest = rw is (one-more (times_volume volser (map (λ (x : ActiveVolume). x.volume) volumes)))
+volume-there-at volser v volumes false is rest = rw is (ap (λ n. nat_eq n 0) (none-more (times_volume volser (map (λ (x : ActiveVolume). x.volume) volumes))) ∙ rest)
+
+volume-there : (volser : List ℕ) (volumes : List ActiveVolume) → nat_eq (times_volume volser (map (λ (x : ActiveVolume). x.volume) volumes)) 0 ≡ not (is_some (running_named volser volumes))
+volume-there volser [] = refl
+volume-there volser (v ∷ volumes) = volume-there-at volser v volumes _ refl (volume-there volser volumes)
+
+pub group-had : (s : DeskState) (running : ActiveVolumes) (name : List ℕ) → AreVolumesOf s running → nat_eq (times_group name (groups_in s.active)) 0 ≡ not (is_some (group_in name running.groups.items))
+group-had s running name are = ap (λ (l : List StorGroup). nat_eq (times_group name l) 0) (sym are.groups_are) ∙ group-there name running.groups.items
+
+pub volume-had : (s : DeskState) (running : ActiveVolumes) (volser : List ℕ) → AreVolumesOf s running → nat_eq (times_volume volser (volumes_in s.active)) 0 ≡ not (is_some (running_named volser running.volumes.items))
+volume-had s running volser are = ap (λ (l : List VolumeDef). nat_eq (times_volume volser l) 0) (sym are.volumes_are) ∙ volume-there volser running.volumes.items
+
+slice-some : {X : Type 0} (xs : List X) (i : ℕ) → i < length xs → is_some (slice_get xs i) ≡ true
+slice-some [] i lt = absurd (omega (arith, lt))
+slice-some (x ∷ xs) zero lt = refl
+slice-some (x ∷ xs) (suc i) lt = slice-some xs i (omega (arith, lt))
+
+-- a place is found where the volume is there
+pub place-some : (volser : List ℕ) (volumes : List ActiveVolume) (place : Option ℕ) → MatchOption place (running_named volser volumes ≡ None) (λ (i : ℕ). running_named volser volumes ≡ slice_get volumes i)
+    → MatchOption place (Unit {0}) (λ (i : ℕ). i < length volumes) → is_some (running_named volser volumes) ≡ is_some place
+place-some volser volumes None found within = ap is_some found
+place-some volser volumes (Some i) found within = ap is_some found ∙ slice-some volumes i within
+
+pub copied-some : (o : Option (Bor ActiveGroup)) → is_some (option_copied o) ≡ is_some o
+copied-some None = refl
+copied-some (Some x) = refl

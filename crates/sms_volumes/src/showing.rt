@@ -1,9 +1,9 @@
 //! What is shown of storage groups and volumes.
-ghost use Rattle.std.specs.Prelude.{◌≡◌, ◌≤◌, ◌<◌, ◌+◌, ◌^◌, length, map, option_map, IfOk};
+ghost use Rattle.std.specs.Prelude.{◌≡◌, ◌==◌, ◌<◌, ◌^◌, length, map, not, option_map, IfOk};
 ghost use Rattle.std.specs.Option.{option_copied};
 ghost use Rattle.desk_law.specs.State.{DeskState};
 ghost use Rattle.desk_law.specs.Display.{shown_volume, view_of_group};
-ghost use Rattle.desk_law.specs.Volumes.{group_named, volume_named, volumes_in};
+ghost use Rattle.desk_law.specs.Volumes.{group_named, times_target, volume_named, volumes_in};
 ghost use Rattle.sms_volumes.specs.Holding.{AreVolumesOf};
 ghost use Rattle.sms_volumes.specs.Showing.{capacity_in, free_in, group_in, running_free, running_group, running_row};
 
@@ -12,7 +12,7 @@ use crate::active_volume::ActiveVolume;
 use crate::active_volumes::ActiveVolumes;
 use desk_common::Items;
 use dsn_mask::{Name, Volser};
-use sms_construct::{View, VolRow, VolRows};
+use sms_construct::{Target, View, VolRow, VolRows};
 use std::alloc::{AllocError, Global};
 
 impl ActiveVolume {
@@ -97,6 +97,17 @@ impl ActiveVolumes {
             }
         }
         Ok(Items::from_vec(rows))
+    }
+
+    /// Whether the active configuration has the storage group or the volume; a data set isn't in it.
+    pub fn has(&self, target: &Target) -> bool
+        ensures { (s : DeskState) → AreVolumesOf s self.now → (times_target s.active target.now == 0) ≡ not result }
+    {
+        match target {
+            Target::Group(name) => self.group_in(name).is_some(),
+            Target::Volume(volser) => self.place_of(volser).is_some(),
+            Target::Set(_) => false,
+        }
     }
 
     // The storage group of this name.
