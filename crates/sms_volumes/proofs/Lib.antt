@@ -9,3 +9,4 @@ pub mod VaryLemmas
 pub mod ZipLemmas
 pub mod ShowLemmas
 pub mod BarLemmas
+pub mod NextLemmas

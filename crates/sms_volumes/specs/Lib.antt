@@ -5,3 +5,5 @@ pub mod Showing
 pub mod Barring
 pub mod Varied
 pub mod Next
+pub mod Handing
+pub mod StatusRows
