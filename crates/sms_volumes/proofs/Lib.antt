@@ -10,3 +10,5 @@ pub mod ZipLemmas
 pub mod ShowLemmas
 pub mod BarLemmas
 pub mod NextLemmas
+pub mod HandLemmas
+pub mod StatusRowLemmas

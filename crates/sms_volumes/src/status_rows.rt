@@ -1,5 +1,5 @@
 //! The present statuses as the tables have them.
-ghost use Rattle.std.specs.Prelude.{◌≡◌, ◌++◌, List, IfOk, OnOk, map};
+ghost use Rattle.std.specs.Prelude.{◌≡◌, List, IfOk};
 ghost use Rattle.sms_construct.specs.Configuration.{Configuration};
 ghost use Rattle.sms_keeper.specs.declared.status_row.StatusRow.{StatusRow as Row};
 ghost use Rattle.desk_law.specs.Activation.{statuses_under};
@@ -38,30 +38,6 @@ impl ActiveVolume {
     }
 }
 
-// The rows of the groups, behind the others.
-fn push_groups(rows: &mut Vec<StatusRow>, groups: &[ActiveGroup]) -> Result<(), AllocError>
-    ensures { OnOk result (rows.new.items ≡ rows.old.items ++ map group_row groups.now) }
-{
-    for group in groups {
-        if rows.push(group.status_row()).is_err() {
-            return Err(AllocError);
-        }
-    }
-    Ok(())
-}
-
-// The rows of the volumes, behind the others.
-fn push_volumes(rows: &mut Vec<StatusRow>, volumes: &[ActiveVolume]) -> Result<(), AllocError>
-    ensures { OnOk result (rows.new.items ≡ rows.old.items ++ map volume_row volumes.now) }
-{
-    for volume in volumes {
-        if rows.push(volume.status_row()).is_err() {
-            return Err(AllocError);
-        }
-    }
-    Ok(())
-}
-
 impl ActiveVolumes {
     /// The present status of each storage group and then of each volume, in their orders, or want of memory
     /// (docs/records.md).
@@ -69,9 +45,17 @@ impl ActiveVolumes {
         ensures present { IfOk result (λ rows. rows ≡ running_statuses self.now) }
         ensures next { IfOk result (λ rows. (present : List Row) (config : Configuration) → AreNext present config self.now → rows ≡ statuses_under config present) }
     {
-        let mut rows = Vec::new(alloc);
-        push_groups(&mut rows, &self.groups)?;
-        push_volumes(&mut rows, &self.volumes)?;
+        let mut rows: Vec<StatusRow> = Vec::new(alloc);
+        for group in &self.groups {
+            if rows.push(group.status_row()).is_err() {
+                return Err(AllocError);
+            }
+        }
+        for volume in &self.volumes {
+            if rows.push(volume.status_row()).is_err() {
+                return Err(AllocError);
+            }
+        }
         Ok(Items::from_vec(rows))
     }
 }
