@@ -1,5 +1,5 @@
 -- The running volumes stand for the state again when a configuration became active.
-use Rattle.std.proofs.Common.{◌≡◌, ◌≤◌, ◌<◌, ℕ, zero, suc, ◌+◌, Bool, true, false, cond, List, [], ◌∷◌, ◌++◌, length, map, get_or, set, take, drop, refl, sym, ap, ◌∙◌, subst, arith}
+use Rattle.std.proofs.Common.{◌≡◌, ◌≤◌, ◌<◌, ℕ, zero, suc, ◌+◌, Bool, true, false, cond, List, [], ◌∷◌, ◌++◌, length, map, get_or, set, take, refl, sym, ap, ◌∙◌, subst, arith}
 use Rattle.std.specs.Prelude.{Option, None, Some, bytes_eq, find, nat_lt, ◌&&◌, option_map, slice_get, slice_set}
 use Rattle.std.specs.List.{AllByRecursion, AllZip, sum_by}
 use Rattle.std.proofs.lemmas.Bool.Decides.{nat_tests}
@@ -7,7 +7,6 @@ use Rattle.sms_construct.specs.Configuration.{Configuration, IsConfiguration}
 use Rattle.acs_tree.specs.declared.kind.Kind.TheVariants.{StorGrp}
 use Rattle.sms_construct.specs.declared.data_set.DataSet.{DataSet}
 use Rattle.sms_construct.specs.declared.extent.Extent.{Extent}
-use Rattle.sms_construct.specs.declared.status.Status.{Status}
 use Rattle.sms_construct.specs.declared.status.Status.TheVariants.{NotCon}
 use Rattle.sms_construct.specs.declared.storage_group.StorGroup.{StorGroup}
 use Rattle.sms_construct.specs.declared.target.Target.TheVariants.{Group, Volume}
@@ -15,7 +14,6 @@ use Rattle.sms_construct.specs.declared.volume.VolumeDef.{VolumeDef}
 use Rattle.sms_keeper.specs.Tables.{is_named}
 use Rattle.sms_keeper.specs.declared.status_row.StatusRow.{StatusRow}
 use Rattle.track_ledger.specs.declared.owned_extent.OwnedExtent.{OwnedExtent}
-use Rattle.track_ledger.specs.declared.piece.Piece.{Piece}
 use Rattle.track_ledger.specs.Extents.{owned_by, pieces_of}
 use Rattle.desk_law.specs.State.{DeskState, set_named}
 use Rattle.desk_law.specs.Activation.{activated, first_barred, row_of_group, row_of_volume, statuses_under}
@@ -28,7 +26,7 @@ use Rattle.desk_law.proofs.ByteLemmas.{bytes-self, bytes-turned, same-bytes}
 use Rattle.desk_law.proofs.GrantLemmas.{each-tracks}
 use Rattle.desk_law.proofs.PlaceLemmas.{each-both, find-each}
 use Rattle.sms_volumes.specs.Barring.{bars, running_barred}
-use Rattle.sms_volumes.specs.Handing.{AreApart, HasTaken, extents_taken}
+use Rattle.sms_volumes.specs.Handing.{AreApart, HasTaken}
 use Rattle.sms_volumes.specs.Holding.{AreVolumesOf, IsGroupOf, IsLedgerOf, IsVolumeOf, extents_if, extents_named}
 use Rattle.sms_volumes.specs.Next.{AreNext, IsNextGroup, IsNextVolume}
 use Rattle.sms_volumes.specs.Viewing.{running_named}

@@ -1,9 +1,8 @@
 -- The rows of the present statuses.
-use Rattle.std.proofs.Common.{◌≡◌, ◌<◌, ℕ, ◌+◌, List, [], ◌∷◌, ◌++◌, length, map, get_or, take, refl, sym, ap, ◌∙◌}
+use Rattle.std.proofs.Common.{◌≡◌, ◌≤◌, ℕ, List, [], ◌∷◌, ◌++◌, length, map, take, refl, ap, ◌∙◌}
 use Rattle.std.specs.List.{AllByRecursion}
+use Rattle.std.proofs.lemmas.List.{take_all}
 use Rattle.sms_construct.specs.Configuration.{Configuration}
-use Rattle.sms_construct.specs.declared.storage_group.StorGroup.{StorGroup}
-use Rattle.sms_construct.specs.declared.volume.VolumeDef.{VolumeDef}
 use Rattle.sms_keeper.specs.declared.status_row.StatusRow.{StatusRow}
 use Rattle.desk_law.specs.Activation.{row_of_group, row_of_volume, statuses_under}
 use Rattle.sms_volumes.specs.Next.{AreNext, IsNextGroup, IsNextVolume}
@@ -32,3 +31,7 @@ next-rows present config next are =
     let volumes : map volume_row next.volumes.items ≡ map (row_of_volume present) config.volumes =
     volume-rows-of present config next.groups.items next.volumes.items are.each_volume ∙ ap (map (row_of_volume present)) are.volumes_are in
     rw (groups, volumes) refl
+
+-- all volumes were gone over
+pub all-rows : (running : ActiveVolumes) (i : ℕ) → length running.volumes.items ≤ i → map group_row running.groups.items ++ map volume_row (take i running.volumes.items) ≡ running_statuses running
+all-rows running i le = ap (λ (l : List ActiveVolume). map group_row running.groups.items ++ map volume_row l) (take_all i running.volumes.items le)

@@ -1,5 +1,5 @@
 //! The volumes of a configuration that is to become active.
-ghost use Rattle.std.specs.Prelude.{◌≡◌, ◌<◌, ◌^◌, bytes_eq, filter, find, length, map, slice_get, IfOk};
+ghost use Rattle.std.specs.Prelude.{◌≡◌, ◌<◌, ◌≤◌, ◌^◌, bytes_eq, filter, find, length, map, slice_get, IfOk};
 ghost use Rattle.std.specs.List.{AllByRecursion};
 ghost use Rattle.sms_construct.specs.declared.volume.VolumeDef.{VolumeDef as Defined};
 ghost use Rattle.desk_law.specs.State.{DeskState};
@@ -144,7 +144,8 @@ impl ActiveVolumes {
     /// free, or want of memory: each keeps its present status, and what isn't active has that of its deck
     /// (docs/rules.md, "ACTIVATE").
     pub fn under(&self, alloc: Global, config: &Config) -> Result<ActiveVolumes, AllocError>
-        ensures { IfOk result (λ next. (s : DeskState) → IsLawful s → AreVolumesOf s self.now → AreNext s.statuses config.now next) }
+        ensures next { IfOk result (λ next. (s : DeskState) → IsLawful s → AreVolumesOf s self.now → AreNext s.statuses config.now next) }
+        ensures few { IfOk result (λ next. length config.now.volumes ≤ 1024) }
     {
         let _deck = config.deck();
         // No deck has more (docs/deck.md, "Limits").
