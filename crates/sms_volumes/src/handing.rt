@@ -16,7 +16,7 @@ use crate::active_volumes::ActiveVolumes;
 use std::mem::swap;
 
 impl ActiveVolume {
-    // Takes over what is held of a running volume, which has no more tracks.
+    // Takes over what is held of a running volume, unless that has more tracks.
     fn take_over(&mut self, old: &mut ActiveVolume)
         ensures taken { HasTaken (Some old.old) self.old self.new }
         ensures named { old.new.volume ≡ old.old.volume }
