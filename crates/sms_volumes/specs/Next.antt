@@ -1,17 +1,12 @@
 -- The volumes of a configuration that is to become active.
-use Rattle.std.specs.Prelude.{ℕ, ◌≡◌, List, [], Option, None, Some, length, map, filter, find, bytes_eq, slice_get}
+use Rattle.std.specs.Prelude.{ℕ, ◌≡◌, List, [], Some, length, map, filter, find, bytes_eq, slice_get}
 use Rattle.std.specs.List.{AllByRecursion}
 use Rattle.sms_construct.specs.Configuration.{Configuration}
-use Rattle.sms_construct.specs.declared.status.Status.{Status}
-use Rattle.sms_construct.specs.declared.storage_group.StorGroup.{StorGroup}
-use Rattle.sms_construct.specs.declared.volume.VolumeDef.{VolumeDef}
 use Rattle.sms_keeper.specs.declared.status_row.StatusRow.{StatusRow}
 use Rattle.desk_law.specs.Activation.{row_of_group, row_of_volume}
 use Rattle.sms_volumes.specs.declared.active_group.ActiveGroup.{ActiveGroup}
 use Rattle.sms_volumes.specs.declared.active_volume.ActiveVolume.{ActiveVolume}
 use Rattle.sms_volumes.specs.declared.active_volumes.ActiveVolumes.{ActiveVolumes}
-use Rattle.sms_volumes.specs.Showing.{group_in}
-use Rattle.sms_volumes.specs.Viewing.{running_named}
 
 -- the status that the group has among these rows, else the one that its deck gives, and the number of its volumes
 pub record IsNextGroup (present : List StatusRow) (config : Configuration) (group : ActiveGroup) : Type 0 where
@@ -37,28 +32,3 @@ pub record AreNext (present : List StatusRow) (config : Configuration) (next : A
   pub volumes_are : map (λ volume. volume.volume) next.volumes.items ≡ config.volumes
   pub each_group : AllByRecursion (IsNextGroup present config) next.groups.items
   pub each_volume : AllByRecursion (IsNextVolume present config next.groups.items) next.volumes.items
-
--- the status of the running group, if there is one, else the one that the deck gives
-abbrev pub status_of_group : StorGroup → Option ActiveGroup → Status
-status_of_group group None = group.status
-status_of_group group (Some running) = running.status
-
--- the status of the running volume likewise
-abbrev pub status_of_volume : VolumeDef → Option ActiveVolume → Status
-status_of_volume volume None = volume.status
-status_of_volume volume (Some running) = running.status
-
--- the group after these running ones, beside these volumes of its configuration
-abbrev pub next_group : List ActiveGroup → List VolumeDef → StorGroup → ActiveGroup
-next_group running volumes group = record {
-  group = group;
-  status = status_of_group group (group_in group.name running);
-  volumes = length (filter (λ volume. bytes_eq volume.group group.name) volumes);
-}
-
--- the volume after these running ones, beside these groups of its configuration, with all its tracks free
-pub record IsMade (running : List ActiveVolume) (groups : List StorGroup) (volume : ActiveVolume) : Type 0 where
-  pub status : volume.status ≡ status_of_volume volume.volume (running_named volume.volume.volser running)
-  pub group : slice_get groups volume.group ≡ find (λ group. bytes_eq group.name volume.volume.group) groups
-  pub capacity : volume.ledger.capacity ≡ volume.volume.tracks
-  pub free : volume.ledger.extents ≡ []
