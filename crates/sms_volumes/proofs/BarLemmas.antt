@@ -1,6 +1,6 @@
 -- The volume that bars a configuration.
-use Rattle.std.proofs.Common.{◌≡◌, ◌≤◌, ◌<◌, ℕ, zero, suc, ◌+◌, Bool, true, false, List, [], ◌∷◌, length, map, refl, sym, ap, ◌∙◌, arith}
-use Rattle.std.specs.Prelude.{Option, None, Some, ◌&&◌, ◌||◌, bytes_eq, find, nat_lt, option_map}
+use Rattle.std.proofs.Common.{◌≡◌, ℕ, suc, Bool, true, false, List, [], ◌∷◌, length, map, refl, sym, ap, ◌∙◌, arith}
+use Rattle.std.specs.Prelude.{Option, None, Some, ◌&&◌, bytes_eq, find, nat_lt, option_map}
 use Rattle.std.specs.List.{AllByRecursion}
 use Rattle.std.proofs.lemmas.Bool.Decides.{nat_tests}
 use Rattle.sms_construct.specs.Configuration.{Configuration}
@@ -8,8 +8,8 @@ use Rattle.sms_construct.specs.declared.extent.Extent.{Extent}
 use Rattle.sms_construct.specs.declared.volume.VolumeDef.{VolumeDef}
 use Rattle.desk_law.specs.State.{DeskState}
 use Rattle.desk_law.specs.Activation.{first_barred}
-use Rattle.desk_law.specs.Extents.{extents_of, held_on, is_used, pieces_on}
-use Rattle.desk_law.specs.Volumes.{tracks_of, volumes_in}
+use Rattle.desk_law.specs.Extents.{extents_of, is_used, pieces_on}
+use Rattle.desk_law.specs.Volumes.{tracks_of}
 use Rattle.sms_volumes.specs.Barring.{bars, running_barred}
 use Rattle.sms_volumes.specs.Holding.{AreVolumesOf, IsVolumeOf}
 use Rattle.sms_volumes.specs.declared.active_group.ActiveGroup.{ActiveGroup}

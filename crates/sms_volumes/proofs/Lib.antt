@@ -9,3 +9,6 @@ pub mod VaryLemmas
 pub mod ZipLemmas
 pub mod ShowLemmas
 pub mod BarLemmas
+pub mod NextLemmas
+pub mod HandLemmas
+pub mod StatusRowLemmas

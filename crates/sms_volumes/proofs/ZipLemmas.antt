@@ -37,7 +37,7 @@ over-all R [] (y ∷ ys) over = absurd (omega (arith, over.same))
 over-all R (x ∷ xs) [] over = absurd (omega (arith, over.same))
 over-all R (x ∷ xs) (y ∷ ys) over = (over.front.0, over-all R xs ys (record { front = over.front.1; rest = over.rest; same = omega (arith, over.same) }))
 
-read-same : {X : Type 0} (xs ys : List X) (i : ℕ) (x : X) → drop i ys ≡ drop i xs → length ys ≡ length xs → get_or ys i x ≡ get_or xs i x
+pub read-same : {X : Type 0} (xs ys : List X) (i : ℕ) (x : X) → drop i ys ≡ drop i xs → length ys ≡ length xs → get_or ys i x ≡ get_or xs i x
 read-same [] [] i x rest same = refl
 read-same [] (y ∷ ys) i x rest same = absurd (omega (arith, same))
 read-same (z ∷ xs) [] i x rest same = absurd (omega (arith, same))

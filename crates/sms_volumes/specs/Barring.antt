@@ -1,5 +1,5 @@
 -- Which running volume bars a configuration.
-use Rattle.std.specs.Prelude.{ℕ, Bool, ◌&&◌, nat_lt, List, Option, find, length}
+use Rattle.std.specs.Prelude.{Bool, ◌&&◌, nat_lt, List, Option, find, length}
 use Rattle.sms_construct.specs.declared.volume.VolumeDef.{VolumeDef}
 use Rattle.desk_law.specs.Volumes.{tracks_of}
 use Rattle.sms_volumes.specs.declared.active_volume.ActiveVolume.{ActiveVolume}

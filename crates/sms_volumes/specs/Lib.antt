@@ -5,3 +5,6 @@ pub mod Showing
 pub mod Barring
 pub mod Varied
 pub mod Next
+pub mod Making
+pub mod Handing
+pub mod StatusRows

@@ -7,7 +7,10 @@ mod active_volumes;
 mod barring;
 mod candidates;
 mod changing;
+mod handing;
+mod next;
 mod showing;
+mod status_rows;
 mod varying;
 mod viewing;
 

@@ -111,7 +111,7 @@ impl ActiveVolumes {
     }
 
     // The storage group of this name.
-    fn group_in(&self, name: &Name) -> Option<&ActiveGroup>
+    pub(crate) fn group_in(&self, name: &Name) -> Option<&ActiveGroup>
         ensures { option_copied result ≡ group_in name.now self.now.groups.items }
     {
         self.groups.iter().find(|group| group.group.name == *name)
