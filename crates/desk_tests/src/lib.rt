@@ -6,6 +6,18 @@ mod commands;
 #[cfg(test)]
 mod constructs;
 #[cfg(test)]
+mod deck_faults;
+#[cfg(test)]
+mod deck_limits;
+#[cfg(test)]
+mod deck_readings;
+#[cfg(test)]
+mod deck_routines;
+#[cfg(test)]
+mod deck_themes;
+#[cfg(test)]
+mod deck_volumes;
+#[cfg(test)]
 mod decks;
 #[cfg(test)]
 mod examples;
