@@ -1,12 +1,13 @@
 -- The classification at worked examples. A routine is what it means.
 use Rattle.std.proofs.Common.{◌≡◌, ℕ, List, [], ◌∷◌, refl}
-use Rattle.std.specs.Prelude.{codes, Option, Some, None, replicate, length}
+use Rattle.std.specs.Prelude.{codes, Option, Some, None, Err, replicate, length}
 use Rattle.acs_tree.specs.Inputs.{bare_input, input_under}
 use Rattle.acs_tree.specs.Outcome.{Action, behind, exits, falls}
 use Rattle.acs_tree.specs.Setting.{with_class}
 use Rattle.acs_tree.specs.declared.kind.Kind.{Kind}
 use Rattle.acs_tree.specs.declared.kind.Kind.TheVariants.{DataClas, StorClas, MgmtClas, StorGrp}
 use Rattle.acs_tree.specs.declared.values.Values.{Values}
+use Rattle.sms_construct.specs.declared.reply.Reply.TheVariants as replies
 use Rattle.desk_law.specs.Classification.{Classes, Meanings, begin, classes_of, classes_under, is_null, trace_of, went_through}
 use Rattle.desk_law.specs.declared.stop.Stop.TheVariants as stops
 use Rattle.desk_law.proofs.ExampleDecks.{asks_class, asks_nothing, one}
@@ -51,6 +52,11 @@ exit = refl
 
 exit_lines : (trace_of (under (each (Some (writes_and_ends (codes "NO" ∷ []) 12)) None None None))).lines ≡ record { kind = DataClas; text = codes "NO" } ∷ []
 exit_lines = refl
+
+-- the reply to it
+exit_reply : went_through (under (each (Some (writes_and_ends (codes "NO" ∷ []) 12)) None None None))
+    ≡ Err (replies.Exit DataClas 12 (record { lines = record { kind = DataClas; text = codes "NO" } ∷ []; more = record { dataclas = 0; storclas = 0; mgmtclas = 0; storgrp = 0 } }))
+exit_reply = refl
 
 exit_of_management : (under (each None (Some (sets_class StorClas (codes "SC1"))) (Some (writes_and_ends [] 1)) None)).stop ≡ stops.Exit MgmtClas 1
 exit_of_management = refl

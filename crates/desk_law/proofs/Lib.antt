@@ -28,3 +28,5 @@ pub mod OperationExamples
 pub mod StepExamples
 pub mod ActiveLemmas
 pub mod RuleExamples
+pub mod LimitExamples
+pub mod DeckExamples
