@@ -34,3 +34,4 @@ pub mod StatusExamples
 pub mod MovedExamples
 pub mod TwoSetsExamples
 pub mod TraceExamples
+pub mod PurgeExamples

@@ -19,7 +19,7 @@ use Rattle.desk_law.proofs.ExampleDecks.{asks, new_desk}
 abbrev asks_for : List ℕ → Op
 asks_for dsn = ops.Alloc (record (asks Trk 1 0) { input = record (asks Trk 1 0).input { dsn = dsn } })
 
-abbrev entry : List ℕ → ℕ → Op → ℕ → ℕ → Reply → Entry
+abbrev pub entry : List ℕ → ℕ → Op → ℕ → ℕ → Reply → Entry
 entry job number op place first reply = record { request = record { job = job; number = number; op = op }; answer = record { place = place; first = first; reply = reply } }
 
 -- no configuration is active: a number is used, used for another op, purged, refused below the floor; a lower purge leaves the floor
