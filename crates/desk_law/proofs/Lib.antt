@@ -35,3 +35,4 @@ pub mod MovedExamples
 pub mod TwoSetsExamples
 pub mod TraceExamples
 pub mod PurgeExamples
+pub mod RoutineExamples

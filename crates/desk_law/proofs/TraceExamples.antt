@@ -18,11 +18,11 @@ use Rattle.desk_law.specs.Classification.{Classes, Meanings, begin, classes_unde
 use Rattle.desk_law.specs.Allocation.{GrantRule, Wish, space_case, wish_with}
 use Rattle.desk_law.proofs.ExampleDecks.{asks, asks_nothing, data_set, desk_under, desk_with, extent, one, piece, volume}
 
-abbrev line : Kind → List ℕ → Line
+abbrev pub line : Kind → List ℕ → Line
 line kind text = record { kind = kind; text = text }
 
 -- a trace of these lines, where no others were written
-abbrev trace : List Line → Trace
+abbrev pub trace : List Line → Trace
 trace lines = record { lines = lines; more = record { dataclas = 0; storclas = 0; mgmtclas = 0; storgrp = 0 } }
 
 -- routines: a line and a class; a line and the storage group SG1; a line and none
@@ -33,7 +33,7 @@ abbrev groups : List (List ℕ) → List ℕ → Action
 groups names text input values = behind (text ∷ []) (falls (record { dataclas = values.dataclas; storclas = values.storclas; mgmtclas = values.mgmtclas; groups = names }))
 
 -- a storage class routine and a storage group routine
-abbrev these : Action → Action → Meanings
+abbrev pub these : Action → Action → Meanings
 these storclas storgrp DataClas = None
 these storclas storgrp StorClas = Some storclas
 these storclas storgrp MgmtClas = None
