@@ -35,6 +35,7 @@ desk volumes extents = desk_with moved (data_set 10 volumes extents)
 abbrev without_group : List ℕ → DeskState → DeskState
 without_group name s = with_status s (Group name) DisAll
 
+-- ten tracks of VOL001, and all twenty
 abbrev half : List Extent
 half = extent (codes "VOL001") 0 10 ∷ []
 
@@ -82,16 +83,18 @@ own_group_disabled = record { reply_is = refl; after_is = refl }
 present_group_disabled : ExtendRule (without_group (codes "SG2") (desk 1 half)) (codes "A.B") (replies.NoExtend reasons.Room) (without_group (codes "SG2") (desk 1 half))
 present_group_disabled = record { reply_is = refl; after_is = refl }
 
--- nor do the other volumes of that storage group, and those of SG1 aren't asked
+-- nor does another volume of that storage group, and those of SG1 aren't asked
 further_disabled : ExtendRule (without_group (codes "SG2") (desk 2 half)) (codes "A.B") (replies.NoExtend reasons.Room) (without_group (codes "SG2") (desk 2 half))
 further_disabled = inl (refl, record { reply_is = refl; after_is = refl })
 
--- DISPLAY shows a data set with the storage group of its allocation, and counts its tracks where its volume is now
+-- DISPLAY shows a data set with the storage group of its allocation
 display_moved_set : DisplayRule (desk 1 half) (Set (codes "A.B")) (replies.Shown (views.Set (data_set 10 1 half))) (desk 1 half)
 display_moved_set = record { reply_is = refl; after_is = refl }
 
+-- its tracks count in the storage group to which its volume belongs now
 display_new_group : DisplayRule (desk 1 half) (Group (codes "SG2")) (replies.Shown (views.Group (codes "SG2") Enable 2 40 30)) (desk 1 half)
 display_new_group = record { reply_is = refl; after_is = refl }
 
+-- and not in the old one
 display_old_group : DisplayRule (desk 1 half) (Group (codes "SG1")) (replies.Shown (views.Group (codes "SG1") Enable 2 40 40)) (desk 1 half)
 display_old_group = record { reply_is = refl; after_is = refl }

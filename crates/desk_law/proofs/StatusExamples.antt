@@ -16,6 +16,7 @@ use Rattle.desk_law.specs.Display.{DisplayRule}
 use Rattle.desk_law.specs.Activation.{ConfigurationRule}
 use Rattle.desk_law.proofs.ExampleDecks.{deck_with, desk_under, group, one, two, volume}
 
+-- a target with this status
 abbrev row : Target → Status → StatusRow
 row target status = record { target = target; status = status }
 
@@ -27,6 +28,7 @@ rows status first second = row (Group (codes "SG1")) status ∷ row (Volume (cod
 abbrev varied : Status → Status → Status → DeskState
 varied status first second = record { activations = 1; active = Some two; statuses = rows status first second; sets = [] }
 
+-- an empty volume with this status
 abbrev shown : List ℕ → Status → VolRow
 shown volser status = record { volser = volser; group = codes "SG1"; status = status; capacity = 100; free = 100; extents = 0 }
 
@@ -52,7 +54,7 @@ volume_is_enabled = record { reply_is = refl; after_is = refl }
 group_of_disabled : DisplayRule (varied Enable DisAll QuiAll) (Group (codes "SG1")) (replies.Shown (views.Group (codes "SG1") Enable 2 200 200)) (varied Enable DisAll QuiAll)
 group_of_disabled = record { reply_is = refl; after_is = refl }
 
--- a volume is shown as VARY left it
+-- a volume is shown as VARY leaves it
 display_after_vary : DisplayRule (with_status (desk_under two) (Volume (codes "VOL001")) DisNew) (Volume (codes "VOL001")) (replies.Shown (views.Volume (shown (codes "VOL001") DisNew))) (with_status (desk_under two) (Volume (codes "VOL001")) DisNew)
 display_after_vary = record { reply_is = refl; after_is = refl }
 
@@ -62,6 +64,7 @@ display_after_vary = record { reply_is = refl; after_is = refl }
 abbrev before : Status → DeskState
 before status = with_status (desk_under (one 100)) (Group (codes "SG1")) status
 
+-- the desk after the second activation
 abbrev active_again : Configuration → List StatusRow → DeskState
 active_again config statuses = record { activations = 2; active = Some config; statuses = statuses; sets = [] }
 
@@ -73,7 +76,7 @@ group_stays_quiesced = record { reply_is = refl; after_is = refl }
 group_stays_disabled : ConfigurationRule (before DisNew) two (replies.Activated 2) (active_again two (rows DisNew Enable QuiAll))
 group_stays_disabled = record { reply_is = refl; after_is = refl }
 
--- a deck whose storage group and volume aren't connected or disabled, and that has a second storage group
+-- a deck whose storage group isn't connected and whose volume is disabled, with a second storage group
 abbrev stricter : Configuration
 stricter = record (deck_with 85 (volume (codes "VOL001") 100 DisAll ∷ [])) {
   groups = record { name = codes "SG1"; status = NotCon; high = 85; low = 1; overflow = false }
@@ -85,13 +88,14 @@ stricter = record (deck_with 85 (volume (codes "VOL001") 100 DisAll ∷ [])) {
 enabled_stays : ConfigurationRule (desk_under (one 100)) stricter (replies.Activated 2) (active_again stricter (row (Group (codes "SG1")) Enable ∷ row (Group (codes "SG2")) DisNew ∷ row (Volume (codes "VOL001")) Enable ∷ []))
 enabled_stays = record { reply_is = refl; after_is = refl }
 
--- what a deck leaves out has no status afterwards: when it comes again it has that of its deck
+-- what the new deck leaves out has no status afterwards
 left_out : ConfigurationRule (varied Enable Enable Enable) (one 100) (replies.Activated 2) (active_again (one 100) (row (Group (codes "SG1")) Enable ∷ row (Volume (codes "VOL001")) Enable ∷ []))
 left_out = record { reply_is = refl; after_is = refl }
 
--- a storage group's status is none of a volume of the same name
+-- a storage group and a volume may have the same name
 abbrev same_name : DeskState
 same_name = record { activations = 1; active = Some two; statuses = row (Group (codes "VOL001")) DisAll ∷ rows Enable QuiAll QuiAll; sets = [] }
 
+-- then each has its own status
 volume_of_same_name : DisplayRule same_name (Volume (codes "VOL001")) (replies.Shown (views.Volume (shown (codes "VOL001") QuiAll))) same_name
 volume_of_same_name = record { reply_is = refl; after_is = refl }

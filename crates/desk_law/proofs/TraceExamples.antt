@@ -18,6 +18,7 @@ use Rattle.desk_law.specs.Classification.{Classes, Meanings, begin, classes_unde
 use Rattle.desk_law.specs.Allocation.{GrantRule, Wish, space_case, wish_with}
 use Rattle.desk_law.proofs.ExampleDecks.{asks, asks_nothing, data_set, desk_under, desk_with, extent, one, piece, volume}
 
+-- a line of the routine of that kind
 abbrev pub line : Kind → List ℕ → Line
 line kind text = record { kind = kind; text = text }
 
@@ -25,10 +26,11 @@ line kind text = record { kind = kind; text = text }
 abbrev pub trace : List Line → Trace
 trace lines = record { lines = lines; more = record { dataclas = 0; storclas = 0; mgmtclas = 0; storgrp = 0 } }
 
--- routines: a line and a class; a line and the storage group SG1; a line and none
+-- a routine that writes a line and sets a class
 abbrev class : Kind → List ℕ → List ℕ → Action
 class kind text name input values = behind (text ∷ []) (falls (with_class kind name values))
 
+-- a routine that writes a line and lists storage groups
 abbrev groups : List (List ℕ) → List ℕ → Action
 groups names text input values = behind (text ∷ []) (falls (record { dataclas = values.dataclas; storclas = values.storclas; mgmtclas = values.mgmtclas; groups = names }))
 
@@ -39,6 +41,7 @@ these storclas storgrp StorClas = Some storclas
 these storclas storgrp MgmtClas = None
 these storclas storgrp StorGrp = Some storgrp
 
+-- what they give a bare ALLOC
 abbrev under : Action → Action → Classes
 under storclas storgrp = classes_under (one 100) (these storclas storgrp) (bare_input (codes "A.B")) (begin asks_nothing)
 
@@ -50,7 +53,7 @@ not_managed = refl
 unknown_class : went_through (under (class StorClas (codes "ODD") (codes "SC9")) (groups (codes "SG1" ∷ []) (codes "POOL"))) ≡ Err (replies.UnknownClass StorClas (codes "SC9") (trace (line StorClas (codes "ODD") ∷ [])))
 unknown_class = refl
 
--- the line of the storage group routine too: no storage group
+-- R17: no storage group, with the lines of both
 no_group : went_through (under (class StorClas (codes "FAST") (codes "SC1")) (groups [] (codes "POOL"))) ≡ Err (replies.NoGroup (trace (line StorClas (codes "FAST") ∷ line StorGrp (codes "POOL") ∷ [])))
 no_group = refl
 
@@ -58,13 +61,15 @@ no_group = refl
 abbrev gave : Classes
 gave = under (class StorClas (codes "FAST") (codes "SC1")) (groups (codes "SG1" ∷ []) (codes "POOL"))
 
+-- these two lines
 abbrev two_lines : Trace
 two_lines = trace (line StorClas (codes "FAST") ∷ line StorGrp (codes "POOL") ∷ [])
 
+-- the lines stand for what comes behind
 goes_on : went_through gave ≡ Ok gave
 goes_on = refl
 
--- no space
+-- R16: no space
 no_quantity : space_case asks_nothing (one 100) gave ≡ Err (replies.NoQuantity two_lines)
 no_quantity = refl
 

@@ -69,8 +69,7 @@ extend_first : ExtendRule (desk (set (extent (codes "VOL001") 0 1 ∷ []) ∷ ot
     (desk (other ∷ set (extent (codes "VOL001") 0 1 ∷ extent (codes "VOL001") 17 5 ∷ []) ∷ []))
 extend_first = record { reply_is = refl; after_is = refl }
 
--- ALLOC beside them: the sixteen extents of the other data set don't count
-
+-- what an ALLOC is to get
 abbrev wish : Wish
 wish = record {
   config = pair;
@@ -79,6 +78,7 @@ wish = record {
   volumes = 2;
 }
 
+-- a new data set beside the other, whose sixteen extents don't count
 alloc_beside : GrantRule (desk (other ∷ [])) (asks Trk 5 5) wish (replies.Granted (set (extent (codes "VOL001") 17 5 ∷ [])) (record { lines = []; more = blank.more })) (desk (other ∷ set (extent (codes "VOL001") 17 5 ∷ []) ∷ []))
 alloc_beside = inr (record {
   position = 0;
@@ -88,17 +88,19 @@ alloc_beside = inr (record {
   does = record { pieces = piece 17 5 ∷ []; granted = refl; makes = record { reply_is = refl; after_is = refl } };
 })
 
--- each other operation looks at the named data set alone
-
+-- ten tracks of A.B behind the sixteen of A.C
 abbrev both : DeskState
 both = desk (other ∷ set (extent (codes "VOL001") 20 10 ∷ []) ∷ [])
 
+-- DELETE frees the tracks of the named data set alone
 delete_one : DeleteRule both (codes "A.B") (replies.Deleted 10) (desk (other ∷ []))
 delete_one = record { reply_is = refl; after_is = refl }
 
+-- USED is measured against its own tracks
 used_of_one : UsedRule both (codes "A.B") 11 (replies.PastGrant 10) both
 used_of_one = record { reply_is = refl; after_is = refl }
 
+-- RELEASE frees its own tracks
 release_one : ReleaseRule both (codes "A.B") (replies.Released 9) (desk (other ∷ set (extent (codes "VOL001") 20 1 ∷ []) ∷ []))
 release_one = record { reply_is = refl; after_is = refl }
 
