@@ -1,12 +1,10 @@
 -- Histories of PURGE and ACTIVATE, at worked examples.
-use Rattle.std.proofs.Common.{◌≡◌, ℕ, true, false, List, [], ◌∷◌, refl, arith, inl, inr}
+use Rattle.std.proofs.Common.{◌≡◌, List, [], ◌∷◌, refl, arith, inl, inr}
 use Rattle.std.specs.Prelude.{codes, count_by}
 use Rattle.sms_construct.specs.declared.entry.Entry.{Entry}
 use Rattle.sms_construct.specs.declared.fault.Fault.TheVariants.{Missing}
-use Rattle.sms_construct.specs.declared.reply.Reply.{Reply}
 use Rattle.sms_construct.specs.declared.reply.Reply.TheVariants as replies
 use Rattle.sms_construct.specs.declared.request.Op.TheVariants as ops
-use Rattle.desk_law.specs.Kept.{floor_of}
 use Rattle.desk_law.specs.Records.{empty_opening}
 use Rattle.desk_law.specs.Step.{activates}
 use Rattle.desk_law.specs.History.{Reaches}

@@ -1,6 +1,6 @@
 -- ALLOC from the first line to the last, under routines that are trees.
-use Rattle.std.proofs.Common.{◌≡◌, ℕ, true, false, List, [], ◌∷◌, map, refl, sym, ap, ◌∙◌, subst, inl, inr}
-use Rattle.std.specs.Prelude.{codes, Option, Some, None, MatchResult}
+use Rattle.std.proofs.Common.{◌≡◌, ℕ, List, [], ◌∷◌, refl, sym, ap, ◌∙◌, subst, inl, inr}
+use Rattle.std.specs.Prelude.{codes, Some, None, MatchResult}
 use Rattle.acs_tree.specs.CheckedRoutine.{CheckedRoutine}
 use Rattle.acs_tree.specs.Comparands.{lists_of}
 use Rattle.acs_tree.specs.Inputs.{input_under}
@@ -10,7 +10,7 @@ use Rattle.acs_tree.specs.Setting.{sets}
 use Rattle.acs_tree.specs.VariableValues.{variable_value}
 use Rattle.acs_tree.specs.declared.filter_list.FilterList.{FilterList}
 use Rattle.acs_tree.specs.declared.kind.Kind.{Kind}
-use Rattle.acs_tree.specs.declared.kind.Kind.TheVariants.{DataClas, StorClas, MgmtClas, StorGrp}
+use Rattle.acs_tree.specs.declared.kind.Kind.TheVariants.{DataClas, StorClas, StorGrp}
 use Rattle.acs_tree.specs.declared.line.Line.{Line}
 use Rattle.acs_tree.specs.declared.routine.Form.{Form, fold-Form, map-Form, roll-Form}
 use Rattle.acs_tree.specs.declared.routine.Form.TheFolds.{fold-roll-Form, fold_out-Stmt}
@@ -122,6 +122,7 @@ body name text words = put name text ∷ write (quoted words ∷ []) ∷ []
 abbrev does : Kind → List ℕ → List ℕ → List ℕ → Action
 does kind name text words = in_turn (sets kind (variable name) (quoted text ∷ []) ∷ writes (quoted words ∷ []) ∷ [])
 
+-- it means this
 means : (kind : Kind) (name text words : List ℕ) → meaning_of (tree (body name text words)) kind ≡ does kind name text words
 means kind name text words =
     let lists = lists_of (body name text words) in
@@ -161,7 +162,7 @@ by_fast_and_pool : (alloc : Alloc) (reply : Reply) (after : DeskState)
 by_fast_and_pool alloc reply after rule =
     by_meaning fast pool _ _ alloc reply after (means StorClas (codes "STORCLAS") (codes "SC1") (codes "FAST")) (means StorGrp (codes "STORGRP") (codes "SG1") (codes "POOL")) rule
 
--- A00
+-- A00: ten tracks are granted
 alloc_granted : AllocRule bare (codes "JOB1") (asks Trk 10 5) (replies.Granted (data_set 5 1 (extent (codes "VOL001") 0 10 ∷ [])) two_lines) (with_set bare (data_set 5 1 (extent (codes "VOL001") 0 10 ∷ [])))
 alloc_granted = by_fast_and_pool (asks Trk 10 5) _ _ (inr (record {
   position = 0;
@@ -171,18 +172,19 @@ alloc_granted = by_fast_and_pool (asks Trk 10 5) _ _ (inr (record {
   does = record { pieces = piece 0 10 ∷ []; granted = refl; makes = record { reply_is = refl; after_is = refl } };
 }))
 
--- R18
+-- R18: no volume has room
 alloc_no_volume : AllocRule bare (codes "JOB1") (asks Trk 101 5) (replies.NoVolume two_lines) bare
 alloc_no_volume = by_fast_and_pool (asks Trk 101 5) _ _ (inl (refl, record { reply_is = refl; after_is = refl }))
 
--- R16
+-- R16: the request names no space
 alloc_no_quantity : AllocRule bare (codes "JOB1") asks_nothing (replies.NoQuantity two_lines) bare
 alloc_no_quantity = by_fast_and_pool asks_nothing _ _ (record { reply_is = refl; after_is = refl })
 
--- a request that names the data class DC1 and no space: two cylinders, on up to two volumes
+-- two cylinders, on up to two volumes
 abbrev in_cylinders : DataSet
 in_cylinders = record (data_set 15 2 (extent (codes "VOL001") 0 30 ∷ [])) { dataclas = Some (codes "DC1"); unit = Cyl }
 
+-- A00: the request names the data class DC1 and no space
 alloc_of_data_class : AllocRule bare (codes "JOB1") (record asks_nothing { dataclas = Some (codes "DC1") }) (replies.Granted in_cylinders two_lines) (with_set bare in_cylinders)
 alloc_of_data_class = by_fast_and_pool (record asks_nothing { dataclas = Some (codes "DC1") }) _ _ (inr (record {
   position = 0;
@@ -211,24 +213,26 @@ alloc_not_managed : AllocRule (tells pool) (codes "JOB1") (asks Trk 10 5) (repli
 unfolding variable_value
 alloc_not_managed = by_meaning (write names ∷ []) pool _ _ (asks Trk 10 5) _ _ (means_line StorClas names) (means StorGrp (codes "STORGRP") (codes "SG1") (codes "POOL")) (record { reply_is = refl; after_is = refl })
 
--- with the storage class of the request it goes on: R18
+-- the same request with the storage class SC1
 abbrev asks_storage_class : ℕ → Alloc
 asks_storage_class primary = record (asks Trk primary 5) { storclas = Some (codes "SC1") }
 
+-- R18: the storage class of the request goes on
 alloc_of_own_class : AllocRule (tells pool) (codes "JOB1") (asks_storage_class 101) (replies.NoVolume (trace (told ∷ line StorGrp (codes "POOL") ∷ []))) (tells pool)
 unfolding variable_value
 alloc_of_own_class =
     by_meaning (write names ∷ []) pool _ _ (asks_storage_class 101) _ _ (means_line StorClas names) (means StorGrp (codes "STORGRP") (codes "SG1") (codes "POOL")) (inl (refl, record { reply_is = refl; after_is = refl }))
 
--- R17: the storage group routine lists none
+-- a line
 abbrev dry : List Operand
 dry = quoted (codes "DRY") ∷ []
 
+-- R17: the storage group routine lists none
 alloc_no_group : AllocRule (tells (write dry ∷ [])) (codes "JOB1") (asks_storage_class 10) (replies.NoGroup (trace (told ∷ line StorGrp (codes "DRY") ∷ []))) (tells (write dry ∷ []))
 unfolding variable_value
 alloc_no_group = by_meaning (write names ∷ []) (write dry ∷ []) _ _ (asks_storage_class 10) _ _ (means_line StorClas names) (means_line StorGrp dry) (record { reply_is = refl; after_is = refl })
 
--- R14: it ends with the code 8
+-- R14: the storage group routine ends with the code 8
 alloc_exit : AllocRule (tells (write dry ∷ exit (codes "8") ∷ [])) (codes "JOB1") (asks_storage_class 10) (replies.Exit StorGrp 8 (trace (told ∷ line StorGrp (codes "DRY") ∷ []))) (tells (write dry ∷ exit (codes "8") ∷ []))
 unfolding variable_value
 alloc_exit = by_meaning (write names ∷ []) (write dry ∷ exit (codes "8") ∷ []) _ _ (asks_storage_class 10) _ _ (means_line StorClas names) (means_end StorGrp dry (codes "8")) (record { reply_is = refl; after_is = refl })

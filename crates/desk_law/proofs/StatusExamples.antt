@@ -1,11 +1,10 @@
 -- The present status of a storage group or a volume, where it is another than that of the deck.
-use Rattle.std.proofs.Common.{◌≡◌, ℕ, true, false, List, [], ◌∷◌, refl}
-use Rattle.std.specs.Prelude.{codes, Some, None}
+use Rattle.std.proofs.Common.{ℕ, false, List, [], ◌∷◌, refl}
+use Rattle.std.specs.Prelude.{codes, Some}
 use Rattle.sms_construct.specs.Configuration.{Configuration}
 use Rattle.sms_construct.specs.declared.reply.Reply.TheVariants as replies
 use Rattle.sms_construct.specs.declared.status.Status.{Status}
 use Rattle.sms_construct.specs.declared.status.Status.TheVariants.{DisAll, DisNew, Enable, NotCon, QuiAll}
-use Rattle.sms_construct.specs.declared.storage_group.StorGroup.{StorGroup}
 use Rattle.sms_construct.specs.declared.target.Target.{Target}
 use Rattle.sms_construct.specs.declared.target.Target.TheVariants.{Group, Volume}
 use Rattle.sms_construct.specs.declared.view.View.TheVariants as views
@@ -14,7 +13,7 @@ use Rattle.sms_keeper.specs.declared.status_row.StatusRow.{StatusRow}
 use Rattle.desk_law.specs.State.{DeskState, with_status}
 use Rattle.desk_law.specs.Display.{DisplayRule}
 use Rattle.desk_law.specs.Activation.{ConfigurationRule}
-use Rattle.desk_law.proofs.ExampleDecks.{deck_with, desk_under, group, one, two, volume}
+use Rattle.desk_law.proofs.ExampleDecks.{deck_with, desk_under, one, two, volume}
 
 -- a target with this status
 abbrev row : Target → Status → StatusRow

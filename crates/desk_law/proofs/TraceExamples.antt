@@ -1,13 +1,12 @@
 -- Replies that show the lines of routines. A routine is what it means.
 use Rattle.std.proofs.Common.{◌≡◌, ℕ, List, [], ◌∷◌, refl, inl, inr}
-use Rattle.std.specs.Prelude.{codes, Option, Some, None, Ok, Err}
+use Rattle.std.specs.Prelude.{codes, Some, None, Ok, Err}
 use Rattle.acs_tree.specs.Inputs.{bare_input}
 use Rattle.acs_tree.specs.Outcome.{Action, behind, falls}
 use Rattle.acs_tree.specs.Setting.{with_class}
 use Rattle.acs_tree.specs.declared.kind.Kind.{Kind}
 use Rattle.acs_tree.specs.declared.kind.Kind.TheVariants.{DataClas, StorClas, MgmtClas, StorGrp}
 use Rattle.acs_tree.specs.declared.line.Line.{Line}
-use Rattle.sms_construct.specs.declared.reply.Reply.{Reply}
 use Rattle.sms_construct.specs.declared.reply.Reply.TheVariants as replies
 use Rattle.sms_construct.specs.declared.status.Status.TheVariants.{Enable}
 use Rattle.sms_construct.specs.declared.trace.Trace.{Trace}
@@ -16,7 +15,7 @@ use Rattle.desk_law.specs.State.{DeskState, with_set}
 use Rattle.desk_law.specs.Candidates.{view_of}
 use Rattle.desk_law.specs.Classification.{Classes, Meanings, begin, classes_under, went_through}
 use Rattle.desk_law.specs.Allocation.{GrantRule, Wish, space_case, wish_with}
-use Rattle.desk_law.proofs.ExampleDecks.{asks, asks_nothing, data_set, desk_under, desk_with, extent, one, piece, volume}
+use Rattle.desk_law.proofs.ExampleDecks.{asks, asks_nothing, data_set, desk_under, extent, one, piece, volume}
 
 -- a line of the routine of that kind
 abbrev pub line : Kind → List ℕ → Line

@@ -1,6 +1,6 @@
 -- Two data sets on one volume, and a data set on two volumes.
-use Rattle.std.proofs.Common.{◌≡◌, ℕ, true, false, List, [], ◌∷◌, ◌++◌, refl, inl, inr}
-use Rattle.std.specs.Prelude.{codes, Some, None, map}
+use Rattle.std.proofs.Common.{List, [], ◌∷◌, ◌++◌, refl, inr}
+use Rattle.std.specs.Prelude.{codes, Some, map}
 use Rattle.acs_tree.specs.Slates.{blank}
 use Rattle.sms_construct.specs.Configuration.{Configuration}
 use Rattle.sms_construct.specs.declared.data_set.DataSet.{DataSet}
@@ -10,10 +10,8 @@ use Rattle.sms_construct.specs.declared.status.Status.TheVariants.{Enable}
 use Rattle.sms_construct.specs.declared.target.Target.TheVariants.{Volume}
 use Rattle.sms_construct.specs.declared.unit.Unit.TheVariants.{Trk}
 use Rattle.sms_construct.specs.declared.view.View.TheVariants as views
-use Rattle.sms_construct.specs.declared.volume.VolumeDef.{VolumeDef}
 use Rattle.desk_law.specs.State.{DeskState}
 use Rattle.desk_law.specs.Candidates.{view_of}
-use Rattle.desk_law.specs.Classification.{Classes}
 use Rattle.desk_law.specs.Allocation.{GrantRule, Wish}
 use Rattle.desk_law.specs.Extension.{ExtendRule}
 use Rattle.desk_law.specs.Deletion.{DeleteRule}
