@@ -1,8 +1,7 @@
 -- Whole histories at worked examples.
-use Rattle.std.proofs.Common.{◌≡◌, ◌≤◌, ℕ, true, false, List, [], ◌∷◌, refl, ap, arith, inl, inr}
-use Rattle.std.specs.Prelude.{bytes_eq, codes, Some, None}
+use Rattle.std.proofs.Common.{◌≡◌, ℕ, true, false, List, [], ◌∷◌, refl, ap, arith, inl, inr}
+use Rattle.std.specs.Prelude.{bytes_eq, codes, None}
 use Rattle.sms_construct.specs.Quantities.{IsSpace}
-use Rattle.sms_construct.specs.declared.alloc.Alloc.{Alloc}
 use Rattle.sms_construct.specs.declared.entry.Entry.{Entry}
 use Rattle.sms_construct.specs.declared.reply.Reply.{Reply}
 use Rattle.sms_construct.specs.declared.reply.Reply.TheVariants as replies
@@ -13,7 +12,7 @@ use Rattle.desk_law.specs.State.{Opening}
 use Rattle.desk_law.specs.Kept.{floor_of, kept_for}
 use Rattle.desk_law.specs.Records.{decks_of, empty_opening}
 use Rattle.desk_law.specs.Rule.{IsSoundAlloc}
-use Rattle.desk_law.specs.History.{Leads, Reaches}
+use Rattle.desk_law.specs.History.{Reaches}
 use Rattle.desk_law.proofs.ExampleDecks.{asks, new_desk}
 
 abbrev asks_for : List ℕ → Op

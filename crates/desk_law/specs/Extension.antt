@@ -1,5 +1,5 @@
 -- EXTEND (docs/rules.md, "EXTEND").
-use Rattle.std.specs.Prelude.{ℕ, ◌≡◌, ◌==◌, ◌&&◌, ◌||◌, nat_lt, not, Bool, List, [], ◌∷◌, ◌++◌, length, bytes_eq, filter, Option, None, Some, option_map, Result, Ok, MatchResult, MatchOption, MatchBool, if◌then◌else◌}
+use Rattle.std.specs.Prelude.{ℕ, ◌≡◌, ◌==◌, ◌||◌, nat_lt, not, Bool, List, [], ◌∷◌, ◌++◌, length, filter, Option, None, Some, option_map, Result, Ok, MatchResult, MatchOption, MatchBool, if◌then◌else◌}
 use Rattle.sms_construct.specs.declared.data_set.DataSet.{DataSet}
 use Rattle.sms_construct.specs.declared.extent.Extent.{Extent}
 use Rattle.sms_construct.specs.declared.reply.Reply.{Reply}
