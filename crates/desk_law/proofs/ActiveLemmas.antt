@@ -1,6 +1,6 @@
 -- Which configuration was active after so many activations.
-use Rattle.std.proofs.Common.{◌≡◌, ◌≤◌, ℕ, ◌+◌, Bool, true, false, List, [], ◌∷◌, ◌++◌, refl, sym, ap, ◌∙◌, subst, arith, inl, inr}
-use Rattle.std.specs.Prelude.{◌⊎◌, Option, None, Some, length, nat_eq, nat_lt}
+use Rattle.std.proofs.Common.{◌≡◌, ◌≤◌, ℕ, ◌+◌, List, [], ◌∷◌, ◌++◌, refl, sym, ap, ◌∙◌, subst, arith, inl, inr}
+use Rattle.std.specs.Prelude.{◌⊎◌, Some, length, nat_eq, nat_lt}
 use Rattle.sms_construct.specs.Configuration.{Configuration}
 use Rattle.sms_construct.specs.declared.alloc.Alloc.{Alloc}
 use Rattle.sms_construct.specs.declared.data_set.DataSet.{DataSet}
@@ -25,7 +25,7 @@ use Rattle.desk_law.specs.Activation.{first_barred, ActivateRule, ConfigurationR
 use Rattle.desk_law.specs.Kept.{floor_of, kept_for}
 use Rattle.desk_law.specs.Rule.{Rule}
 use Rattle.desk_law.specs.Step.{IsBelow, IsFault, IsFresh, IsRepeat, IsStep}
-use Rattle.desk_law.specs.History.{Leads, Reaches, WasActive}
+use Rattle.desk_law.specs.History.{Leads, WasActive}
 use Rattle.desk_law.proofs.LineLemmas.{on-bool, on-option, on-result}
 use Rattle.desk_law.proofs.StepLemmas.{step-one}
 

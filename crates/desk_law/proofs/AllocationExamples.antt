@@ -4,13 +4,11 @@ use Rattle.std.specs.Prelude.{codes, Bool, Some, None, Ok, Err, is_some, map}
 use Rattle.acs_tree.specs.Slates.{blank}
 use Rattle.acs_tree.specs.declared.kind.Kind.TheVariants.{StorClas}
 use Rattle.sms_construct.specs.Configuration.{Configuration}
-use Rattle.sms_construct.specs.declared.alloc.Alloc.{Alloc}
 use Rattle.sms_construct.specs.declared.reply.Reply.TheVariants as replies
 use Rattle.sms_construct.specs.declared.status.Status.{Status}
-use Rattle.sms_construct.specs.declared.status.Status.TheVariants.{DisAll, DisNew, Enable, NotCon, QuiAll, QuiNew}
+use Rattle.sms_construct.specs.declared.status.Status.TheVariants.{DisAll, DisNew, Enable, NotCon, QuiAll}
 use Rattle.sms_construct.specs.declared.target.Target.TheVariants.{Group, Volume}
 use Rattle.sms_construct.specs.declared.unit.Unit.TheVariants.{Cyl, Trk}
-use Rattle.sms_construct.specs.declared.volume.VolumeDef.{VolumeDef}
 use Rattle.sms_construct.specs.declared.why_no_extend.WhyNoExtend.TheVariants as reasons
 use Rattle.volume_lists.specs.Choice.{MayChoose}
 use Rattle.volume_lists.specs.Listing.{listing_of}

@@ -1,7 +1,7 @@
 -- ALLOC leads from a lawful state to a lawful one.
-use Rattle.std.proofs.Common.{◌≡◌, ◌≤◌, ◌<◌, ◌*◌, ℕ, Bool, false, List, refl, sym, ap, ◌∙◌, subst, arith}
-use Rattle.std.specs.Prelude.{Option, None, Some, IfSome, bytes_eq, find, slice_get, option_and_then, unwrap_or, Result, Ok}
-use Rattle.std.specs.List.{AllByRecursion, list_any}
+use Rattle.std.proofs.Common.{◌≡◌, ◌≤◌, ◌<◌, ◌*◌, ℕ, List, refl, ap, ◌∙◌, subst, arith}
+use Rattle.std.specs.Prelude.{Option, None, Some, IfSome, bytes_eq, slice_get, option_and_then, unwrap_or, Ok}
+use Rattle.std.specs.List.{list_any}
 use Rattle.std.specs.Option.{option_or}
 use Rattle.sms_construct.specs.Configuration.{Configuration, IsConfiguration, IsDataClass}
 use Rattle.sms_construct.specs.Quantities.{Quantities, IsSpace, IsVolumeCount, primary_tracks_of, tracks_in}
@@ -12,8 +12,8 @@ use Rattle.sms_construct.specs.declared.reply.Reply.TheVariants as replies
 use Rattle.sms_construct.specs.declared.unit.Unit.{Unit as SpaceUnit}
 use Rattle.sms_construct.specs.declared.unit.Unit.TheVariants.{Trk, Cyl}
 use Rattle.sms_construct.specs.declared.volume.VolumeDef.{VolumeDef}
-use Rattle.desk_law.specs.State.{DeskState, set_named}
-use Rattle.desk_law.specs.Replies.{found_or, ◌⊳◌}
+use Rattle.desk_law.specs.State.{DeskState}
+use Rattle.desk_law.specs.Replies.{found_or}
 use Rattle.desk_law.specs.Volumes.{tracks_of, volumes_in}
 use Rattle.desk_law.specs.Classification.{Classes, classes_of, trace_of, went_through}
 use Rattle.desk_law.specs.Allocation.{Wish, alloc_case, candidates_of, data_class_of, new_set, space_case, space_of, want_of, wish_with, AllocRule, GrantsOn}

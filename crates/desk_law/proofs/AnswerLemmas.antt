@@ -1,5 +1,5 @@
 -- What the step says of an entry's number.
-use Rattle.std.proofs.Common.{◌≡◌, ℕ, Bool, true, false, List, refl, sym, ◌∙◌}
+use Rattle.std.proofs.Common.{◌≡◌, Bool, true, false, List}
 use Rattle.std.specs.Prelude.{Option, None, Some, MatchBool, MatchOption, nat_lt}
 use Rattle.sms_construct.specs.declared.entry.Entry.{Entry}
 use Rattle.sms_keeper.specs.declared.kept_row.KeptRow.{KeptRow}

@@ -6,9 +6,8 @@ use Rattle.acs_tree.specs.Outcome.{Action, behind, exits, falls}
 use Rattle.acs_tree.specs.Setting.{with_class}
 use Rattle.acs_tree.specs.declared.kind.Kind.{Kind}
 use Rattle.acs_tree.specs.declared.kind.Kind.TheVariants.{DataClas, StorClas, MgmtClas, StorGrp}
-use Rattle.acs_tree.specs.declared.values.Values.{Values}
 use Rattle.sms_construct.specs.declared.reply.Reply.TheVariants as replies
-use Rattle.desk_law.specs.Classification.{Classes, Meanings, begin, classes_of, classes_under, is_null, trace_of, went_through}
+use Rattle.desk_law.specs.Classification.{Classes, Meanings, begin, classes_of, classes_under, trace_of, went_through}
 use Rattle.desk_law.specs.declared.stop.Stop.TheVariants as stops
 use Rattle.desk_law.proofs.ExampleDecks.{asks_class, asks_nothing, one}
 

@@ -1,6 +1,6 @@
 -- What extents hold of a volume, counted.
-use Rattle.std.proofs.Common.{◌≡◌, ◌≤◌, ℕ, zero, suc, ◌+◌, Bool, true, false, cond, List, [], ◌∷◌, ◌++◌, length, refl, sym, ap, ◌∙◌, arith}
-use Rattle.std.specs.Prelude.{Some, None, bytes_eq, not}
+use Rattle.std.proofs.Common.{◌≡◌, ◌≤◌, ℕ, zero, suc, ◌+◌, Bool, true, false, cond, List, [], ◌∷◌, ◌++◌, length, refl, ap, ◌∙◌, arith}
+use Rattle.std.specs.Prelude.{Some, bytes_eq, not}
 use Rattle.sms_construct.specs.declared.data_set.DataSet.{DataSet}
 use Rattle.sms_construct.specs.declared.extent.Extent.{Extent}
 use Rattle.sms_keeper.specs.Tables.{put_set, without_set}
@@ -10,7 +10,7 @@ use Rattle.track_ledger.proofs.GrantLemmas.{once_in}
 use Rattle.desk_law.specs.State.{set_named}
 use Rattle.desk_law.specs.Extents.{extents_at, extents_of, piece_of, pieces_on}
 use Rattle.desk_law.specs.Lawful.{times_named}
-use Rattle.desk_law.proofs.ByteLemmas.{bytes-same, bytes-self, same-bytes}
+use Rattle.desk_law.proofs.ByteLemmas.{same-bytes}
 
 -- how often the extents hold a track of the volume, and how many there are on it
 abbrev pub times_on : List ℕ → List Extent → ℕ → ℕ

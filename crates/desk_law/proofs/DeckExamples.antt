@@ -11,7 +11,7 @@ use Rattle.toml.proofs.OnLiterals.{toml_on_literals}
 use Rattle.sms_construct.specs.Configuration.{Configuration}
 use Rattle.sms_construct.specs.declared.fault.Fault.TheVariants.{Missing}
 use Rattle.sms_construct.specs.declared.reply.Reply.TheVariants as replies
-use Rattle.sms_deck.specs.Outcomes.{AreOutcomes, Outcome, Outcomes}
+use Rattle.sms_deck.specs.Outcomes.{Outcome, Outcomes}
 use Rattle.desk_law.specs.Activation.{ActivateRule}
 use Rattle.desk_law.proofs.ExampleDecks.{desk_under, new_desk}
 

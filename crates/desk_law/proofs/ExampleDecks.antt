@@ -1,5 +1,5 @@
 -- The configurations and requests of the examples.
-use Rattle.std.proofs.Common.{ℕ, true, false, List, [], ◌∷◌}
+use Rattle.std.proofs.Common.{ℕ, false, List, [], ◌∷◌}
 use Rattle.std.specs.Prelude.{codes, Bool, Some, None}
 use Rattle.acs_tree.specs.Inputs.{bare_input}
 use Rattle.sms_construct.specs.Configuration.{Configuration}

@@ -20,22 +20,21 @@ use Rattle.desk_law.specs.Replies.{found_or, reply_if, Leaves, Makes}
 use Rattle.desk_law.specs.Candidates.{Chosen}
 use Rattle.desk_law.specs.Classification.{trace_of}
 use Rattle.desk_law.specs.Allocation.{Wish, alloc_case, candidates_of, new_set, want_of, AllocRule, GrantsOn}
-use Rattle.desk_law.specs.Extension.{extend_case, first_volume, growth_on, last_volume, others_of, want_more, ExtendRule, ExtendsOn, FurtherRule}
+use Rattle.desk_law.specs.Extension.{extend_case, first_volume, growth_on, last_volume, others_of, want_more, ExtendsOn, FurtherRule}
 use Rattle.desk_law.specs.Usage.{used_case}
 use Rattle.desk_law.specs.Display.{reply_for_none, view_of_target}
 use Rattle.desk_law.specs.Activation.{first_barred, ActivateRule}
 use Rattle.desk_law.specs.Changes.{may_change}
 use Rattle.desk_law.specs.Kept.{all_rows, floor_of, is_fault, kept_for, row_of_entry, rows_of, rows_of_entry}
 use Rattle.desk_law.specs.Rule.{Rule}
-use Rattle.desk_law.specs.Step.{IsFault, IsFresh, IsRepeat, IsStep, RepeatsReply, ReusesNumber}
-use Rattle.desk_law.specs.History.{IsLegal, Leads, Reaches}
-use Rattle.desk_law.specs.Grants.{GrantsLawfully, IsLawfulGrant, WasEntered, WasGranted, WasOpened}
+use Rattle.desk_law.specs.Step.{IsFault, IsFresh, IsStep, RepeatsReply, ReusesNumber}
+use Rattle.desk_law.specs.History.{IsLegal, Reaches}
+use Rattle.desk_law.specs.Grants.{GrantsLawfully, IsLawfulGrant, WasEntered, WasGranted}
 use Rattle.desk_law.proofs.ByteLemmas.{same-bytes}
 use Rattle.desk_law.proofs.LineLemmas.{on-bool, on-option, on-result}
-use Rattle.desk_law.proofs.QuietLemmas.{AreQuiet, alloc-quiet, display-quiet, extend-quiet, quiet-found, quiet-if, used-quiet}
+use Rattle.desk_law.proofs.QuietLemmas.{alloc-quiet, display-quiet, extend-quiet, quiet-found, quiet-if, used-quiet}
 use Rattle.desk_law.proofs.AnswerLemmas.{step-below, step-fresh, step-kept}
-use Rattle.desk_law.proofs.HistoryLemmas.{Stands, legal-stands, leads-push}
-use Rattle.desk_law.proofs.FloorLemmas.{all-rows-append}
+use Rattle.desk_law.proofs.HistoryLemmas.{Stands, legal-stands}
 
 -- The rule that gives a grant.
 

@@ -7,8 +7,8 @@ use Rattle.desk_law.specs.State.{DeskState, Opening, start_of}
 use Rattle.desk_law.specs.Kept.{floor_of, kept_for}
 use Rattle.desk_law.specs.Rule.{IsSound, Rule}
 use Rattle.desk_law.specs.Step.{IsBelow, IsFault, IsFresh, IsRepeat, IsStep}
-use Rattle.desk_law.specs.History.{IsLegal, Leads, Reaches}
-use Rattle.desk_law.specs.Lawful.{IsLawful, IsLawfulOpening}
+use Rattle.desk_law.specs.History.{IsLegal, Leads}
+use Rattle.desk_law.specs.Lawful.{IsLawful}
 use Rattle.desk_law.proofs.LineLemmas.{on-bool, on-option}
 use Rattle.desk_law.proofs.RuleLemmas.{rule-keeps}
 use Rattle.desk_law.proofs.StepLemmas.{step-one}

@@ -30,3 +30,9 @@ pub mod ActiveLemmas
 pub mod RuleExamples
 pub mod LimitExamples
 pub mod DeckExamples
+pub mod StatusExamples
+pub mod MovedExamples
+pub mod TwoSetsExamples
+pub mod TraceExamples
+pub mod PurgeExamples
+pub mod RoutineExamples

@@ -1,5 +1,5 @@
 -- Histories at their limits and behind an opening, at worked examples.
-use Rattle.std.proofs.Common.{◌≡◌, ◌<◌, ℕ, Bool, true, false, List, [], ◌∷◌, refl, arith}
+use Rattle.std.proofs.Common.{◌≡◌, ◌<◌, Bool, true, false, List, [], ◌∷◌, refl, arith}
 use Rattle.std.specs.Prelude.{codes, None, Some, count_by, length, nat_lt}
 use Rattle.sms_construct.specs.declared.entry.Entry.{Entry}
 use Rattle.desk_law.specs.State.{DeskState, Opening, start_of}

@@ -1,21 +1,19 @@
 -- The other operations at worked examples.
-use Rattle.std.proofs.Common.{◌≡◌, ℕ, true, false, List, [], ◌∷◌, refl}
-use Rattle.std.specs.Prelude.{codes, Bool, Some, None, Ok, Err, max}
-use Rattle.sms_construct.specs.Configuration.{Configuration}
+use Rattle.std.proofs.Common.{◌≡◌, [], ◌∷◌, refl}
+use Rattle.std.specs.Prelude.{codes, Some, None, Ok, Err, max}
 use Rattle.sms_construct.specs.Status.{status_of_action}
 use Rattle.sms_construct.specs.declared.action.Action.TheVariants as actions
 use Rattle.sms_construct.specs.declared.data_set.DataSet.{DataSet}
 use Rattle.sms_construct.specs.declared.reply.Reply.TheVariants as replies
 use Rattle.sms_construct.specs.declared.status.Status.TheVariants.{DisAll, Enable, NotCon, QuiAll}
 use Rattle.sms_construct.specs.declared.target.Target.TheVariants.{Group, Set, Volume}
-use Rattle.sms_construct.specs.declared.unit.Unit.TheVariants.{Cyl, Trk}
+use Rattle.sms_construct.specs.declared.unit.Unit.TheVariants.{Cyl}
 use Rattle.sms_construct.specs.declared.view.View.TheVariants as views
-use Rattle.sms_construct.specs.declared.volume.VolumeDef.{VolumeDef}
 use Rattle.desk_law.specs.State.{DeskState, set_named, with_status, without_name}
 use Rattle.desk_law.specs.Extents.{tracks_of_set, with_extents}
 use Rattle.desk_law.specs.Statuses.{status_in}
 use Rattle.desk_law.specs.Volumes.{times_target}
-use Rattle.desk_law.specs.Replies.{found_or, reply_if}
+use Rattle.desk_law.specs.Replies.{found_or}
 use Rattle.desk_law.specs.Usage.{used_case}
 use Rattle.desk_law.specs.Releasing.{kept_of, tracks_kept}
 use Rattle.desk_law.specs.Display.{reply_for_none, view_of_target}

@@ -1,6 +1,6 @@
 -- Each rule at worked examples: the reply, and the state after it.
-use Rattle.std.proofs.Common.{◌≡◌, ℕ, true, false, List, [], ◌∷◌, refl, arith, inl, inr}
-use Rattle.std.specs.Prelude.{codes, Some, None}
+use Rattle.std.proofs.Common.{ℕ, [], ◌∷◌, refl, inl, inr}
+use Rattle.std.specs.Prelude.{codes, Some}
 use Rattle.acs_tree.specs.Slates.{blank}
 use Rattle.sms_construct.specs.Configuration.{Configuration}
 use Rattle.sms_construct.specs.declared.action.Action.TheVariants as actions
@@ -10,7 +10,6 @@ use Rattle.sms_construct.specs.declared.status.Status.TheVariants.{DisAll, DisNe
 use Rattle.sms_construct.specs.declared.target.Target.TheVariants.{Group, Set, Volume}
 use Rattle.sms_construct.specs.declared.unit.Unit.TheVariants.{Trk}
 use Rattle.sms_construct.specs.declared.view.View.TheVariants as views
-use Rattle.sms_construct.specs.declared.volume.VolumeDef.{VolumeDef}
 use Rattle.sms_construct.specs.declared.why_no_extend.WhyNoExtend.TheVariants as reasons
 use Rattle.desk_law.specs.State.{DeskState, with_set, with_status}
 use Rattle.desk_law.specs.Candidates.{view_of}
@@ -23,9 +22,9 @@ use Rattle.desk_law.specs.Releasing.{ReleaseRule}
 use Rattle.desk_law.specs.Varying.{VaryRule}
 use Rattle.desk_law.specs.Display.{DisplayRule}
 use Rattle.desk_law.specs.Purging.{PurgeRule}
-use Rattle.desk_law.specs.Activation.{activated, ConfigurationRule}
+use Rattle.desk_law.specs.Activation.{ConfigurationRule}
 use Rattle.desk_law.specs.declared.stop.Stop.TheVariants as stops
-use Rattle.desk_law.proofs.ExampleDecks.{asks, asks_class, data_set, deck_with, desk_under, desk_with, extent, group, new_desk, one, piece, two, volume}
+use Rattle.desk_law.proofs.ExampleDecks.{asks, asks_class, data_set, deck_with, desk_under, desk_with, extent, new_desk, one, piece, two, volume}
 
 -- A.B with ten tracks of VOL001, of which it uses so many; the desk on which it is catalogued, and the one on which nothing is
 abbrev ten : ℕ → DataSet

@@ -1,6 +1,6 @@
 -- Each rule leads from a lawful state to a lawful one.
-use Rattle.std.proofs.Common.{◌≡◌, ◌≤◌, ◌<◌, ℕ, List, [], refl, sym, ap, ◌∙◌, subst, arith, inl, inr}
-use Rattle.std.specs.Prelude.{◌⊎◌, Some, None, max, nat_eq, nat_lt, Ok}
+use Rattle.std.proofs.Common.{◌≡◌, ℕ, List, [], refl, ap, ◌∙◌, arith, inl, inr}
+use Rattle.std.specs.Prelude.{Some, max, nat_eq, Ok}
 use Rattle.sms_construct.specs.Configuration.{Configuration, IsConfiguration}
 use Rattle.sms_construct.specs.Quantities.{tracks_in}
 use Rattle.sms_construct.specs.Status.{status_of_action}
@@ -12,7 +12,7 @@ use Rattle.sms_construct.specs.declared.request.Op.{Op}
 use Rattle.sms_construct.specs.declared.request.Op.TheVariants as ops
 use Rattle.sms_construct.specs.declared.target.Target.{Target}
 use Rattle.desk_law.specs.State.{DeskState, set_named}
-use Rattle.desk_law.specs.Extents.{tracks_of_set, with_extents}
+use Rattle.desk_law.specs.Extents.{with_extents}
 use Rattle.desk_law.specs.Volumes.{times_target, volumes_in}
 use Rattle.desk_law.specs.Replies.{found_or, reply_if}
 use Rattle.desk_law.specs.Deletion.{DeleteRule}

@@ -1,8 +1,7 @@
 -- Whole histories at worked examples.
-use Rattle.std.proofs.Common.{◌≡◌, ◌≤◌, ℕ, true, false, List, [], ◌∷◌, refl, ap, arith, inl, inr}
-use Rattle.std.specs.Prelude.{bytes_eq, codes, Some, None}
+use Rattle.std.proofs.Common.{◌≡◌, ℕ, true, false, List, [], ◌∷◌, refl, ap, arith, inl, inr}
+use Rattle.std.specs.Prelude.{bytes_eq, codes, None}
 use Rattle.sms_construct.specs.Quantities.{IsSpace}
-use Rattle.sms_construct.specs.declared.alloc.Alloc.{Alloc}
 use Rattle.sms_construct.specs.declared.entry.Entry.{Entry}
 use Rattle.sms_construct.specs.declared.reply.Reply.{Reply}
 use Rattle.sms_construct.specs.declared.reply.Reply.TheVariants as replies
@@ -13,13 +12,13 @@ use Rattle.desk_law.specs.State.{Opening}
 use Rattle.desk_law.specs.Kept.{floor_of, kept_for}
 use Rattle.desk_law.specs.Records.{decks_of, empty_opening}
 use Rattle.desk_law.specs.Rule.{IsSoundAlloc}
-use Rattle.desk_law.specs.History.{Leads, Reaches}
+use Rattle.desk_law.specs.History.{Reaches}
 use Rattle.desk_law.proofs.ExampleDecks.{asks, new_desk}
 
 abbrev asks_for : List ℕ → Op
 asks_for dsn = ops.Alloc (record (asks Trk 1 0) { input = record (asks Trk 1 0).input { dsn = dsn } })
 
-abbrev entry : List ℕ → ℕ → Op → ℕ → ℕ → Reply → Entry
+abbrev pub entry : List ℕ → ℕ → Op → ℕ → ℕ → Reply → Entry
 entry job number op place first reply = record { request = record { job = job; number = number; op = op }; answer = record { place = place; first = first; reply = reply } }
 
 -- no configuration is active: a number is used, used for another op, purged, refused below the floor; a lower purge leaves the floor

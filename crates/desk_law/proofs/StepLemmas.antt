@@ -1,5 +1,5 @@
 -- What a step makes of the state.
-use Rattle.std.proofs.Common.{◌≡◌, ℕ, Bool, true, false, List, [], ◌∷◌, ◌++◌, refl, sym, ap, ◌∙◌, subst, inl, inr}
+use Rattle.std.proofs.Common.{◌≡◌, ℕ, Bool, true, false, List, refl, sym, ap, ◌∙◌, subst, inl, inr}
 use Rattle.std.specs.Prelude.{◌⊎◌, Option, None, Some, Result, Ok, Err, MatchBool, MatchOption, MatchResult, nat_eq, nat_lt, length}
 use Rattle.sms_construct.specs.Configuration.{Configuration}
 use Rattle.sms_construct.specs.declared.data_set.DataSet.{DataSet}
@@ -12,25 +12,21 @@ use Rattle.sms_construct.specs.declared.request.Op.TheVariants as ops
 use Rattle.sms_construct.specs.declared.alloc.Alloc.{Alloc}
 use Rattle.sms_construct.specs.declared.trace.Trace.{Trace}
 use Rattle.sms_construct.specs.declared.why_no_extend.WhyNoExtend.TheVariants as reasons
-use Rattle.sms_keeper.specs.declared.kept_row.KeptRow.{KeptRow}
 use Rattle.desk_law.specs.State.{DeskState, Opening, set_named, with_set}
-use Rattle.desk_law.specs.Extents.{extents_at, volumes_of}
+use Rattle.desk_law.specs.Extents.{volumes_of}
 use Rattle.desk_law.specs.Volumes.{times_target}
 use Rattle.desk_law.specs.Replies.{found_or, reply_if, Leaves, Makes}
-use Rattle.desk_law.specs.Candidates.{Chosen, Chooses}
+use Rattle.desk_law.specs.Candidates.{Chosen}
 use Rattle.desk_law.specs.Classification.{trace_of}
-use Rattle.desk_law.specs.Allocation.{Wish, alloc_case, candidates_of, new_set, want_of, AllocRule, GrantsOn}
-use Rattle.desk_law.specs.Extension.{extend_case, extended, first_volume, growth_on, last_volume, others_of, want_more, ExtendRule, Extends, ExtendsOn, FurtherRule}
-use Rattle.desk_law.specs.Deletion.{DeleteRule}
-use Rattle.desk_law.specs.Usage.{used_case, UsedRule}
-use Rattle.desk_law.specs.Releasing.{ReleaseRule}
-use Rattle.desk_law.specs.Varying.{VaryRule}
-use Rattle.desk_law.specs.Display.{reply_for_none, view_of_target, DisplayRule}
-use Rattle.desk_law.specs.Activation.{activated, first_barred, ActivateRule, ConfigurationRule, TakesDeck}
+use Rattle.desk_law.specs.Allocation.{Wish, alloc_case, candidates_of, want_of, AllocRule, GrantsOn}
+use Rattle.desk_law.specs.Extension.{extend_case, extended, first_volume, growth_on, last_volume, others_of, want_more, ExtendRule, ExtendsOn, FurtherRule}
+use Rattle.desk_law.specs.Usage.{used_case}
+use Rattle.desk_law.specs.Display.{reply_for_none, view_of_target}
+use Rattle.desk_law.specs.Activation.{first_barred, ActivateRule, ConfigurationRule}
 use Rattle.desk_law.specs.Changes.{may_change}
 use Rattle.desk_law.specs.Kept.{floor_of, kept_for}
 use Rattle.desk_law.specs.Rule.{Rule}
-use Rattle.desk_law.specs.Step.{IsBelow, IsFault, IsFresh, IsRepeat, IsStep}
+use Rattle.desk_law.specs.Step.{IsFault, IsFresh, IsStep}
 use Rattle.desk_law.proofs.LineLemmas.{on-bool, on-option, on-result}
 use Rattle.desk_law.proofs.DeckLemmas.{one-configuration}
 

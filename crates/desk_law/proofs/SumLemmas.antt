@@ -1,5 +1,5 @@
 -- The granted and the free tracks of a volume.
-use Rattle.std.proofs.Common.{◌≡◌, ◌≤◌, ◌<◌, ◌-◌, ℕ, ◌+◌, Bool, true, false, List, [], ◌∷◌, length, refl, ap, ◌∙◌, subst, arith}
+use Rattle.std.proofs.Common.{◌≡◌, ◌≤◌, ◌<◌, ℕ, ◌+◌, Bool, true, false, List, [], ◌∷◌, length, refl, ap, ◌∙◌, subst, arith}
 use Rattle.std.specs.Prelude.{Option, Some, IfSome, bytes_eq, nat_eq, slice_get}
 use Rattle.std.specs.List.{All, AllByRecursion}
 use Rattle.std.proofs.lemmas.List.Sums.{sum_by-cons}
@@ -15,7 +15,7 @@ use Rattle.track_ledger.specs.Gaps.{before_gaps, free_tracks, gaps_of, runs_of, 
 use Rattle.track_ledger.proofs.HolderLemmas.{gaps-sum}
 use Rattle.desk_law.specs.State.{DeskState}
 use Rattle.desk_law.specs.Extents.{extents_of, granted_on, held_on, piece_of, pieces_on, tracks_of_pieces}
-use Rattle.desk_law.specs.Volumes.{free_on, tracks_of, volumes_in}
+use Rattle.desk_law.specs.Volumes.{tracks_of, volumes_in}
 use Rattle.desk_law.specs.Lawful.{IsInside, IsLawful, IsLawfulSet}
 use Rattle.desk_law.proofs.ByteLemmas.{same-bytes}
 use Rattle.desk_law.proofs.AscendLemmas.{volumes-once}

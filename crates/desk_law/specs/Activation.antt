@@ -1,5 +1,5 @@
 -- ACTIVATE (docs/rules.md, "ACTIVATE").
-use Rattle.std.specs.Prelude.{ℕ, ◌≡◌, ◌+◌, ◌&&◌, ◌⊎◌, nat_lt, List, ◌++◌, find, map, Option, None, Some, MatchOption}
+use Rattle.std.specs.Prelude.{ℕ, ◌+◌, ◌&&◌, ◌⊎◌, nat_lt, List, ◌++◌, find, map, Option, Some, MatchOption}
 use Rattle.sms_construct.specs.Configuration.{Configuration}
 use Rattle.sms_construct.specs.declared.fault.Fault.{Fault}
 use Rattle.sms_construct.specs.declared.reply.Reply.{Reply}

@@ -1,5 +1,5 @@
 -- Which volume a data set gets, and what the volume grants (docs/rules.md, "The lists", "The gap rule").
-use Rattle.std.specs.Prelude.{ℕ, ◌≡◌, ◌⊎◌, Bool, false, List, [], length, map, slice_get, Option, None, Some, is_some}
+use Rattle.std.specs.Prelude.{ℕ, ◌≡◌, ◌⊎◌, Bool, false, List, length, map, slice_get, Option, None, Some, is_some}
 use Rattle.sms_construct.specs.Quantities.{tracks_in}
 use Rattle.sms_construct.specs.declared.storage_group.StorGroup.{StorGroup}
 use Rattle.sms_construct.specs.declared.unit.Unit.{Unit as SpaceUnit}

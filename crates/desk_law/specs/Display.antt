@@ -1,6 +1,5 @@
 -- DISPLAY (docs/rules.md, "DISPLAY").
-use Rattle.std.specs.Prelude.{ℕ, List, length, sum_by, Option, option_map, Result, Ok, MatchResult}
-use Rattle.sms_construct.specs.declared.data_set.DataSet.{DataSet}
+use Rattle.std.specs.Prelude.{length, sum_by, Option, option_map, MatchResult}
 use Rattle.sms_construct.specs.declared.reply.Reply.{Reply}
 use Rattle.sms_construct.specs.declared.reply.Reply.TheVariants as replies
 use Rattle.sms_construct.specs.declared.storage_group.StorGroup.{StorGroup}

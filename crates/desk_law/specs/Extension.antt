@@ -1,5 +1,5 @@
 -- EXTEND (docs/rules.md, "EXTEND").
-use Rattle.std.specs.Prelude.{ℕ, ◌≡◌, ◌==◌, ◌&&◌, ◌||◌, nat_lt, not, Bool, List, [], ◌∷◌, ◌++◌, length, bytes_eq, filter, Option, None, Some, option_map, Result, Ok, MatchResult, MatchOption, MatchBool, if◌then◌else◌}
+use Rattle.std.specs.Prelude.{ℕ, ◌≡◌, ◌==◌, ◌||◌, nat_lt, not, Bool, List, [], ◌∷◌, ◌++◌, length, filter, Option, None, Some, option_map, Result, Ok, MatchResult, MatchOption, MatchBool, if◌then◌else◌}
 use Rattle.sms_construct.specs.declared.data_set.DataSet.{DataSet}
 use Rattle.sms_construct.specs.declared.extent.Extent.{Extent}
 use Rattle.sms_construct.specs.declared.reply.Reply.{Reply}
@@ -26,7 +26,7 @@ last_volume s [] = None
 last_volume s (extent ∷ []) = volume_named s extent.volser
 last_volume s (extent ∷ next ∷ extents) = last_volume s (next ∷ extents)
 
--- neither the volume's storage group nor the volume may give further tracks
+-- the volume's storage group or the volume itself gives no further tracks
 abbrev pub bars_growth : DeskState → VolumeDef → Bool
 bars_growth s volume = bars_group_growth (group_status s volume.group) || bars_volume_growth (volume_status s volume.volser)
 

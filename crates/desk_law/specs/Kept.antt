@@ -1,5 +1,5 @@
 -- What a history keeps: replies and floors (docs/records.md, "Kept replies").
-use Rattle.std.specs.Prelude.{ℕ, Bool, true, false, ◌≡◌, ◌+◌, ◌==◌, ◌&&◌, max, nat_lt, List, [], ◌∷◌, ◌++◌, find, Option, None, Some, bytes_eq, if◌then◌else◌}
+use Rattle.std.specs.Prelude.{ℕ, Bool, true, false, max, List, [], ◌∷◌, ◌++◌, find, Option, if◌then◌else◌}
 use Rattle.sms_construct.specs.Fate.{fate_of}
 use Rattle.sms_construct.specs.declared.entry.Entry.{Entry}
 use Rattle.sms_construct.specs.declared.fate.Fate.{Fate}

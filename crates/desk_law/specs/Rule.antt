@@ -1,5 +1,5 @@
 -- The reply to a fresh request, and the state after it.
-use Rattle.std.specs.Prelude.{ℕ, ◌≤◌, List, IfSome}
+use Rattle.std.specs.Prelude.{ℕ, List, IfSome}
 use Rattle.sms_construct.specs.Quantities.{IsRequestNumber, IsSpace, IsVolumeCount}
 use Rattle.sms_construct.specs.declared.alloc.Alloc.{Alloc as Allocation}
 use Rattle.sms_construct.specs.declared.reply.Reply.{Reply}
