@@ -10,6 +10,7 @@ ghost use Rattle.desk_law.specs.Releasing.{ReleaseRule, kept_of, tracks_kept};
 ghost use Rattle.desk_law.specs.Usage.{UsedRule};
 ghost use Rattle.desk_state.specs.Answering.{Answers};
 ghost use Rattle.desk_state.specs.Catalog.{set_in};
+ghost use Rattle.desk_state.specs.Deeds.{IsPossible};
 ghost use Rattle.desk_state.specs.Standing.{IsRunning, IsSomeState};
 
 use crate::decision::Decision;
@@ -40,7 +41,8 @@ impl Running {
     /// What USED is answered (docs/rules.md, "USED"); `tracks` are those that the data set uses.
     pub(crate) fn decide_used(&self, dsn: &Dsn, tracks: u32) -> Result<Decision, AllocError>
         requires { IsSomeState self.now }
-        ensures { IfOk result (λ made. (s : DeskState) → IsLawful s → IsRunning s self.now → Answers s self.now (UsedRule s dsn.now tracks) made) }
+        ensures answers { IfOk result (λ made. (s : DeskState) → IsLawful s → IsRunning s self.now → Answers s self.now (UsedRule s dsn.now tracks) made) }
+        ensures possible { IfOk result (λ made. IsPossible self.now made.deed) }
     {
         let Some(set) = self.found(dsn) else {
             return Ok(Decision::quiet(Reply::NotFound));
@@ -61,7 +63,8 @@ impl Running {
     /// What DELETE is answered (docs/rules.md, "DELETE").
     pub(crate) fn decide_delete(&self, dsn: &Dsn) -> Decision
         requires { IsSomeState self.now }
-        ensures { (s : DeskState) → IsLawful s → IsRunning s self.now → Answers s self.now (DeleteRule s dsn.now) result }
+        ensures answers { (s : DeskState) → IsLawful s → IsRunning s self.now → Answers s self.now (DeleteRule s dsn.now) result }
+        ensures possible { IsPossible self.now result.deed }
     {
         let Some(set) = self.found(dsn) else {
             return Decision::quiet(Reply::NotFound);
@@ -77,7 +80,8 @@ impl Running {
     /// What RELEASE is answered (docs/rules.md, "RELEASE").
     pub(crate) fn decide_release(&self, dsn: &Dsn) -> Result<Decision, AllocError>
         requires { IsSomeState self.now }
-        ensures { IfOk result (λ made. (s : DeskState) → IsLawful s → IsRunning s self.now → Answers s self.now (ReleaseRule s dsn.now) made) }
+        ensures answers { IfOk result (λ made. (s : DeskState) → IsLawful s → IsRunning s self.now → Answers s self.now (ReleaseRule s dsn.now) made) }
+        ensures possible { IfOk result (λ made. IsPossible self.now made.deed) }
     {
         let Some(set) = self.found(dsn) else {
             return Ok(Decision::quiet(Reply::NotFound));

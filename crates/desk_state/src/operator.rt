@@ -7,6 +7,7 @@ ghost use Rattle.desk_law.specs.Lawful.{IsLawful};
 ghost use Rattle.desk_law.specs.Purging.{PurgeRule};
 ghost use Rattle.desk_law.specs.Varying.{VaryRule};
 ghost use Rattle.desk_state.specs.Answering.{Answers};
+ghost use Rattle.desk_state.specs.Deeds.{IsPossible};
 ghost use Rattle.desk_state.specs.Standing.{IsRunning, IsSomeState};
 ghost use Rattle.desk_state.specs.declared.running.Running.{Running as Standing};
 
@@ -20,7 +21,8 @@ use std::alloc::AllocError;
 impl Running {
     /// What VARY is answered (docs/rules.md, "VARY").
     pub(crate) fn decide_vary(&self, target: &Target, action: Action) -> Decision
-        ensures { (s : DeskState) → IsLawful s → IsRunning s self.now → Answers s self.now (VaryRule s target.now action) result }
+        ensures answers { (s : DeskState) → IsLawful s → IsRunning s self.now → Answers s self.now (VaryRule s target.now action) result }
+        ensures possible { IsPossible self.now result.deed }
     {
         if !self.volumes.has(target) {
             return Decision::quiet(Reply::UnknownName);
@@ -56,7 +58,8 @@ impl Running {
     /// What DISPLAY is answered (docs/rules.md, "DISPLAY").
     pub(crate) fn decide_display(&self, target: &Target) -> Result<Decision, AllocError>
         requires { IsSomeState self.now }
-        ensures { IfOk result (λ made. (s : DeskState) → IsLawful s → IsRunning s self.now → Answers s self.now (DisplayRule s target.now) made) }
+        ensures answers { IfOk result (λ made. (s : DeskState) → IsLawful s → IsRunning s self.now → Answers s self.now (DisplayRule s target.now) made) }
+        ensures possible { IfOk result (λ made. IsPossible self.now made.deed) }
     {
         match self.view(target)? {
             Some(view) => Ok(Decision::quiet(Reply::Shown(view))),
@@ -77,7 +80,8 @@ fn reply_for_none(target: &Target) -> Reply
 
 /// What PURGE is answered, where the floor of the job was `old` (docs/rules.md, "PURGE").
 pub(crate) fn decide_purge(job: &Name, floor: u32, old: u32) -> Decision
-    ensures { (s : DeskState) (running : Standing) → Answers s running (PurgeRule s old job.now floor) result }
+    ensures answers { (s : DeskState) (running : Standing) → Answers s running (PurgeRule s old job.now floor) result }
+    ensures possible { (running : Standing) → IsPossible running result.deed }
 {
     let floor = floor.max(old);
     Decision {

@@ -8,6 +8,6 @@ use Rattle.sms_volumes.specs.declared.active_volume.ActiveVolume.{ActiveVolume}
 abbrev pub bars : List VolumeDef → ActiveVolume → Bool
 bars others volume = nat_lt 0 (length volume.ledger.extents) && nat_lt (tracks_of volume.volume.volser others) volume.volume.tracks
 
--- the first such
+-- the first of the volumes that bars
 abbrev pub running_barred : List VolumeDef → List ActiveVolume → Option ActiveVolume
 running_barred others volumes = find (bars others) volumes

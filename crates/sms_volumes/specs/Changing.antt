@@ -16,7 +16,7 @@ pub record IsReady (volume : ActiveVolume) (pieces : List Piece) : Type 0 where
   pub inside : All (LiesInside volume.ledger.capacity) pieces
   pub once : (owner : List ℕ) → NoTrackTwice (volume.ledger.extents ++ granted_to owner pieces)
 
--- the volume at the place can
+-- the volume at this place can take them
 pub record IsReadyAt (running : ActiveVolumes) (place : ℕ) (pieces : List Piece) : Type 0 where
   pub volume : ActiveVolume
   pub at : slice_get running.volumes.items place ≡ Some volume

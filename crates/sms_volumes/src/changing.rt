@@ -22,6 +22,9 @@ use sms_construct::Extent;
 use std::alloc::{AllocError, Global};
 use track_ledger::{Need, Piece};
 
+// The most pieces of one grant (docs/rules.md, "The gap rule").
+const MOST_PIECES: usize = 5;
+
 // The tracks of the extents on the volume.
 fn tracks_on(extents: &[Extent], volser: &Volser) -> u64
     requires { length extents.now < 2 ^ 32 }
@@ -71,7 +74,7 @@ impl ActiveVolume {
         ensures plan { IfOk result (λ found. found ≡ granted_for self.old.ledger need.now) }
         ensures ready { IfOk result (λ found. IfSome found (IsReady self.new)) }
     {
-        self.ledger.reserve(5)?;
+        self.ledger.reserve(MOST_PIECES)?;
         self.ledger.plan(alloc, need)
     }
 

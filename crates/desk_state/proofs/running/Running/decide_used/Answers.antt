@@ -11,8 +11,8 @@ use Rattle.desk_state.specs.declared.deed.Deed.TheVariants as deeds
 use Rattle.desk_state.proofs.AnswerLemmas.{used-noted}
 use Rattle.desk_state.proofs.running.Running.decide_used.Goals as goal
 
-pub returns : goal.returns
-returns c = λ s lawful is.
+pub returns-clause-answers : goal.returns-clause-answers
+returns-clause-answers c = λ s lawful is.
     let set : DataSet = c.in-Some.set.now in
     let there = sym c.found.ensures.found ∙ ap option_copied c.in-Some.is in
     let granted = c.tracks_of_set-granted.ensures ∙ ap tracks_of_set c.get-set.ensures in
