@@ -1,6 +1,7 @@
 //! The running state of the desk: what a fresh request is answered, and what it changes.
 #![tactic(auto)]
 
+mod applying;
 mod catalog;
 mod data_sets;
 mod decision;
