@@ -3,3 +3,4 @@ pub mod StandLemmas
 pub mod FewLemmas
 pub mod AnswerLemmas
 pub mod ApplyLemmas
+pub mod DecideLemmas
