@@ -1,6 +1,7 @@
 -- What a deed does to the records and to the state.
-use Rattle.std.specs.Prelude.{ℕ, ◌≡◌, ◌<◌, ◌^◌, ◌++◌, ◌+◌, List, Option, None, Some, length, slice_get}
+use Rattle.std.specs.Prelude.{ℕ, ◌≡◌, ◌<◌, ◌%◌, ◌^◌, ◌++◌, ◌+◌, List, Option, None, Some, length, slice_get}
 use Rattle.sms_construct.specs.Configuration.{Configuration, IsConfiguration}
+use Rattle.sms_construct.specs.Quantities.{tracks_in}
 use Rattle.sms_construct.specs.declared.data_set.DataSet.{DataSet}
 use Rattle.sms_keeper.specs.declared.effect.Effect.{Effect}
 use Rattle.sms_keeper.specs.declared.effect.Effect.TheVariants as effects
@@ -40,10 +41,14 @@ config_of (deeds.Become count config volumes statuses) = Some config
 config_of (deeds.Vary target status) = None
 config_of (deeds.Raise job floor) = None
 
+-- the secondary quantity is in whole units
+abbrev pub IsInUnits : DataSet → Type 0
+IsInUnits set = set.secondary % tracks_in set.unit ≡ 0
+
 -- the deed takes no memory: for the pieces that a data set gets there is room, and nobody holds them
 abbrev pub IsPossible : Running → Deed → Type 0
 IsPossible running deeds.Nothing = Unit {0}
-IsPossible running (deeds.Get set place pieces) = IsReadyAt running.volumes place pieces
+IsPossible running (deeds.Get set place pieces) = IsReadyAt running.volumes place pieces × IsInUnits set
 IsPossible running (deeds.Note set) = Unit {0}
 IsPossible running (deeds.Keep set) = length set.extents < 2 ^ 32
 IsPossible running (deeds.Remove dsn) = Unit {0}

@@ -1,13 +1,17 @@
 //! The running state of the desk: what a fresh request is answered, and what it changes.
 #![tactic(auto)]
 
+mod allocation;
 mod catalog;
 mod data_sets;
 mod decision;
 mod deed;
+mod extension;
 mod extents;
+mod grant;
 mod operator;
 mod running;
+mod wish;
 
 pub use catalog::Catalog;
 pub use decision::Decision;
