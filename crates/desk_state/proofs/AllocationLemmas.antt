@@ -13,7 +13,7 @@ use Rattle.sms_construct.specs.declared.reply.Reply.TheVariants as replies
 use Rattle.sms_construct.specs.declared.trace.Trace.{Trace}
 use Rattle.sms_construct.specs.declared.volume.VolumeDef.{VolumeDef}
 use Rattle.desk_law.specs.State.{DeskState, set_named, with_set}
-use Rattle.desk_law.specs.Allocation.{AllocRule, GrantRule, Wish as Asked, candidates_of, data_class_of, new_set, space_case, space_of, want_of, wish_with}
+use Rattle.desk_law.specs.Allocation.{AllocRule, GrantRule, Wish as Asked, alloc_case, candidates_of, data_class_of, new_set, space_case, space_of, want_of, wish_with}
 use Rattle.desk_law.specs.Candidates.{Chooses, view_of}
 use Rattle.desk_law.specs.Classification.{Classes, answer_of, classes_of, trace_of, went_through}
 use Rattle.desk_law.specs.Extents.{extents_at}
@@ -21,12 +21,12 @@ use Rattle.desk_law.specs.Replies.{◌⊳◌, Leaves}
 use Rattle.desk_law.specs.Volumes.{volumes_in}
 use Rattle.desk_law.specs.declared.stop.Stop.{Stop}
 use Rattle.desk_law.specs.declared.stop.Stop.TheVariants as stops
-use Rattle.desk_records.specs.Effects.{tells_nothing}
+use Rattle.desk_records.specs.Effects.{state_with, tells_nothing}
 use Rattle.sms_volumes.specs.Holding.{extents_if, extents_named}
 use Rattle.sms_volumes.specs.declared.active_volume.ActiveVolume.{ActiveVolume}
 use Rattle.desk_state.specs.Answering.{Answers}
 use Rattle.desk_state.specs.Catalog.{set_in}
-use Rattle.desk_state.specs.Deeds.{HasMore}
+use Rattle.desk_state.specs.Deeds.{HasMore, config_of, effect_of}
 use Rattle.desk_state.specs.Granting.{IsGrantAmong, IsGrantOf, IsGranted, want_with}
 use Rattle.desk_state.specs.Standing.{IsRunning}
 use Rattle.desk_state.specs.Wishing.{ClassifiedRule, primary_need, set_granted, wish_of, wish_under}
@@ -152,10 +152,6 @@ done-at classes (stops.Exit kind code) trace given is = absurd cc
 done-at classes (stops.Unknown kind name) trace given is = absurd cc
 done-at classes stops.NoGroup trace given is = absurd cc
 
--- classes with this trace
-pub some-classes : Values → Stop → Trace → Classes
-some-classes values stop trace = record { values = values; written = record { lines = trace.lines; more = trace.more }; stop = stop }
-
 pub is-done : (values : Values) (stop : Stop) (trace given : Trace) (result : Result Trace Reply) → result ≡ Ok given
     → ((classes : Classes) → trace_of classes ≡ trace → MatchResult (answer_of stop classes) (λ done. result ≡ Ok trace) (λ answer. result ≡ Err answer)) → IsDone stop given trace
 is-done values stop trace given result ok all =
@@ -198,4 +194,9 @@ pub alloc-classified : (s : DeskState) (running after : Running) (job : List ℕ
 alloc-classified s running after job alloc config made is configured none answers =
     let active : s.active ≡ Some config = sym is.active ∙ configured in
     let unused : set_named alloc.input.dsn s.sets ≡ None = sym (is.sets alloc.input.dsn) ∙ none in
-    record { rule = rw (active, unused) answers.rule; tells = answers.tells; fits = answers.fits }
+    let case : alloc_case s job alloc ≡ (went_through (classes_of config job alloc) ⊳ space_case alloc config) = rw (active, unused) refl in
+    record {
+      rule = subst (λ (r : Result Asked Reply). MatchResult r (λ asked. GrantRule s alloc asked made.reply (state_with s (effect_of made.deed) (config_of made.deed))) (λ answer. Leaves s answer made.reply (state_with s (effect_of made.deed) (config_of made.deed)))) (sym case) answers.rule;
+      tells = answers.tells;
+      fits = answers.fits;
+    }

@@ -1,20 +1,23 @@
 -- Decisions that are by the rule of EXTEND.
 use Rattle.std.proofs.Common.{◌≡◌, ◌≤◌, ◌<◌, ℕ, zero, suc, ◌+◌, ◌-◌, Bool, true, false, List, [], ◌∷◌, ◌++◌, length, map, get_or, refl, sym, ap, ◌∙◌, subst, arith, inl, inr}
-use Rattle.std.specs.Prelude.{◌==◌, ◌||◌, ◌&&◌, Option, None, Some, MatchOption, MatchBool, bytes_eq, filter, nat_lt, not, option_map, slice_get}
-use Rattle.std.proofs.lemmas.Option.{slice_get-get_or, slice_get_within}
+use Rattle.std.specs.Prelude.{◌==◌, ◌||◌, ◌&&◌, ◌%◌, Option, None, Some, Result, Ok, Err, IfOk, IfSome, MatchOption, MatchBool, bytes_eq, filter, nat_lt, not, option_map, slice_get}
+use Rattle.std.proofs.lemmas.Option.{get_or_from_slice_get, slice_get-get_or, slice_get_within}
+use Rattle.std.specs.declared.alloc.AllocError.{AllocError}
+use Rattle.sms_construct.specs.Quantities.{tracks_in}
 use Rattle.sms_construct.specs.declared.data_set.DataSet.{DataSet}
 use Rattle.sms_construct.specs.declared.extent.Extent.{Extent}
 use Rattle.sms_construct.specs.declared.reply.Reply.TheVariants as replies
 use Rattle.sms_construct.specs.declared.volume.VolumeDef.{VolumeDef}
 use Rattle.sms_construct.specs.declared.why_no_extend.WhyNoExtend.TheVariants as reasons
+use Rattle.track_ledger.specs.declared.need.Need.{Need}
 use Rattle.track_ledger.specs.declared.piece.Piece.{Piece}
 use Rattle.desk_law.specs.State.{DeskState, set_named, with_set}
 use Rattle.desk_law.specs.Candidates.{Chosen, grant_on}
 use Rattle.desk_law.specs.Extension.{ExtendRule, Extends, ExtendsOn, bars_growth, extended, first_volume, growth_on, last_volume, others_of, want_more}
 use Rattle.desk_law.specs.Extents.{extents_at, is_among, is_used, pieces_on, volumes_after, volumes_of}
 use Rattle.desk_law.specs.Replies.{Leaves}
-use Rattle.desk_law.specs.Statuses.{bars_group_growth, bars_volume_growth, group_status}
-use Rattle.desk_law.specs.Volumes.{groups_in, volume_named}
+use Rattle.desk_law.specs.Statuses.{bars_group_growth, bars_volume_growth, group_status, volume_status}
+use Rattle.desk_law.specs.Volumes.{groups_in, volume_named, volumes_in}
 use Rattle.desk_law.proofs.ByteLemmas.{same-bytes}
 use Rattle.desk_law.proofs.PlaceLemmas.{each-at}
 use Rattle.sms_volumes.specs.Changing.{running_at}
@@ -29,12 +32,13 @@ use Rattle.desk_state.specs.Answering.{Answers}
 use Rattle.desk_state.specs.Catalog.{set_in}
 use Rattle.desk_state.specs.Deeds.{HasMore}
 use Rattle.desk_state.specs.Granting.{IsGrantAmong, IsGranted}
-use Rattle.desk_state.specs.Growing.{Grows, added_of, need_more}
-use Rattle.desk_state.specs.Standing.{IsRunning}
+use Rattle.desk_state.specs.Growing.{Grows, IsGrowable, added_of, need_more}
+use Rattle.desk_state.specs.Standing.{IsRunning, IsSomeState}
 use Rattle.desk_state.specs.declared.deed.Deed.TheVariants as deeds
 use Rattle.desk_state.specs.declared.grant.Grant.{Grant}
 use Rattle.desk_state.specs.declared.running.Running.{Running}
 use Rattle.desk_state.proofs.AnswerLemmas.{named-extents, quiet-answers}
+use Rattle.desk_state.proofs.FewLemmas.{found-lawful}
 
 -- Which volumes there are.
 
@@ -74,6 +78,24 @@ first-some s (x ∷ es) e there =
 pub first-none : (s : DeskState) (es : List Extent) → slice_get es 0 ≡ None → first_volume s es ≡ None
 first-none s [] none = refl
 first-none s (x ∷ es) none = absurd cc
+
+-- the place of the last volume
+pub last-at : (s : DeskState) (running : ActiveVolumes) (es : List Extent) (e : Extent) (o : Option ℕ) → AreVolumesOf s running → slice_get es (length es - 1) ≡ Some e
+    → MatchOption o (running_named e.volser running.volumes.items ≡ None) (λ place. running_named e.volser running.volumes.items ≡ slice_get running.volumes.items place)
+    → MatchOption o (last_volume s es ≡ None) (λ place. last_volume s es ≡ running_at place running)
+last-at s running es e None are there none = last-some s es e there ∙ named-none s running e.volser are none
+last-at s running es e (Some place) are there found = last-some s es e there ∙ named-at s running e.volser place are found
+
+-- the storage group of the first volume
+pub first-at : (s : DeskState) (running : ActiveVolumes) (es : List Extent) (e : Extent) (place : ℕ) (v : ActiveVolume) → AreVolumesOf s running → slice_get es 0 ≡ Some e
+    → running_named e.volser running.volumes.items ≡ slice_get running.volumes.items place → slice_get running.volumes.items place ≡ Some v
+    → Some v.volume.group ≡ option_map (λ (d : VolumeDef). d.group) (first_volume s es)
+first-at s running es e place v are there found at =
+    sym (ap (option_map (λ (d : VolumeDef). d.group)) (first-some s es e there ∙ (named-at s running e.volser place are found ∙ ap (option_map (λ (x : ActiveVolume). x.volume)) at)))
+
+pub first-nowhere : (s : DeskState) (running : ActiveVolumes) (es : List Extent) (e : Extent) → AreVolumesOf s running → slice_get es 0 ≡ Some e → running_named e.volser running.volumes.items ≡ None
+    → None ≡ option_map (λ (d : VolumeDef). d.group) (first_volume s es)
+first-nowhere s running es e are there none = sym (ap (option_map (λ (d : VolumeDef). d.group)) (first-some s es e there ∙ named-none s running e.volser are none))
 
 -- a volume that was not seen is among those of the extents where one lies on it
 among-at : (v : List ℕ) (seen : List (List ℕ)) (e : Extent) (es : List Extent) (b c : Bool) → is_among e.volser seen ≡ b → bytes_eq e.volser v ≡ c → is_among v seen ≡ false
@@ -219,13 +241,47 @@ extend-ungrown s running dsn set found some grows =
 
 -- The present statuses.
 
-pub bars-at : (s : DeskState) (running : ActiveVolumes) (place : ℕ) (v : ActiveVolume) (g : ActiveGroup) → AreVolumesOf s running → slice_get running.volumes.items place ≡ Some v → slice_get running.groups.items v.group ≡ Some g
-    → (bars_group_growth g.status || bars_volume_growth v.status) ≡ bars_growth s v.volume
-bars-at s running place v g are there group =
-    let own = each-at (IsVolumeOf s running.groups.items) running.volumes.items place v are.each_volume there in
-    let two : Some own.group.group ≡ Some g = sym own.group.there ∙ group in
-    let same : own.group.group ≡ g = cc in
-    let ours = each-at (IsGroupOf s) running.groups.items v.group g are.each_group group in
-    let name : g.group.name ≡ v.volume.group = ap (λ (x : ActiveGroup). x.group.name) (sym same) ∙ name-of-found v.volume.group (groups_in s.active) own.group.group.group own.group.named in
-    let status : g.status ≡ group_status s v.volume.group = ours.status ∙ ap (group_status s) name in
-    rw (status, own.status) refl
+pub bars-at : (s : DeskState) (running : ActiveVolumes) (place : ℕ) (volume v : ActiveVolume) (g : ActiveGroup) → AreVolumesOf s running → slice_get running.volumes.items place ≡ Some volume
+    → v ≡ get_or running.volumes.items place v → g ≡ get_or running.groups.items v.group g → (bars_group_growth g.status || bars_volume_growth v.status) ≡ bars_growth s volume.volume
+bars-at s running place volume v g are there read group =
+    let same : v ≡ volume = read ∙ get_or_from_slice_get running.volumes.items place volume v there in
+    let own = each-at (IsVolumeOf s running.groups.items) running.volumes.items place volume are.each_volume there in
+    let found : slice_get running.groups.items volume.group ≡ Some own.group.group = own.group.there in
+    let at : g ≡ get_or running.groups.items volume.group g = group ∙ ap (λ (x : ActiveVolume). get_or running.groups.items x.group g) same in
+    let ours : g ≡ own.group.group = at ∙ get_or_from_slice_get running.groups.items volume.group own.group.group g found in
+    let is = each-at (IsGroupOf s) running.groups.items volume.group own.group.group are.each_group found in
+    let name : own.group.group.group.name ≡ volume.volume.group = name-of-found volume.volume.group (groups_in s.active) own.group.group.group own.group.named in
+    let status : g.status ≡ group_status s volume.volume.group = ap (λ (x : ActiveGroup). x.status) ours ∙ (is.status ∙ ap (group_status s) name) in
+    let own_status : v.status ≡ volume_status s volume.volume.volser = ap (λ (x : ActiveVolume). x.status) same ∙ own.status in
+    rw (status, own_status) refl
+
+-- A further volume.
+
+others-of : (s : DeskState) (set : DataSet) (group : List ℕ) (o : Option VolumeDef) → Some group ≡ option_map (λ (d : VolumeDef). d.group) o
+    → filter (λ (v : VolumeDef). bytes_eq v.group group && not (is_used v.volser set.extents)) (volumes_in s.active) ≡ others_of s set o
+others-of s set group None is = absurd cc
+others-of s set group (Some first) is =
+    let same : group ≡ first.group = cc in
+    ap (λ (g : List ℕ). filter (λ (v : VolumeDef). bytes_eq v.group g && not (is_used v.volser set.extents)) (volumes_in s.active)) same ∙ others-are first.group set.extents (volumes_in s.active)
+
+pub beside-granted : (s : DeskState) (set : DataSet) (group : List ℕ) (es : List Extent) (need : Need) (found : Option Grant) → es ≡ set.extents → need ≡ need_more set 0
+    → Some group ≡ option_map (λ (d : VolumeDef). d.group) (first_volume s es)
+    → IsGrantAmong s (filter (λ (v : VolumeDef). bytes_eq v.group group && not (is_used v.volser es)) (volumes_in s.active)) need set.volumes found
+    → IsGrantAmong s (others_of s set (first_volume s set.extents)) (need_more set 0) set.volumes found
+beside-granted s set group es need found same needs first among =
+    let head : Some group ≡ option_map (λ (d : VolumeDef). d.group) (first_volume s set.extents) = subst (λ (l : List Extent). Some group ≡ option_map (λ (d : VolumeDef). d.group) (first_volume s l)) same first in
+    subst (λ (l : List VolumeDef). IsGrantAmong s l (need_more set 0) set.volumes found) (others-of s set group (first_volume s set.extents) head)
+    (subst (λ (n : Need). IsGrantAmong s (filter (λ (v : VolumeDef). bytes_eq v.group group && not (is_used v.volser set.extents)) (volumes_in s.active)) n set.volumes found) needs
+    (subst (λ (l : List Extent). IsGrantAmong s (filter (λ (v : VolumeDef). bytes_eq v.group group && not (is_used v.volser l)) (volumes_in s.active)) need set.volumes found) same among))
+
+-- what the catalog finds may grow
+pub found-growable : (running : Running) → IsSomeState running → (dsn : List ℕ) (set : DataSet) → set_in dsn running.catalog.sets ≡ Some set → IsGrowable set
+found-growable running some dsn set found = record {
+  units = subst (λ (o : Option DataSet). IfSome o (λ d. d.secondary % tracks_in d.unit ≡ 0)) found (some.stands.units dsn);
+  few = (found-lawful running some dsn set found).few;
+}
+
+-- what holds of an answer, where another does
+pub on-ok : {A : Type 0} (P Q : A → Type 0) (r : Result A AllocError) → ((x : A) → P x → Q x) → IfOk r P → IfOk r Q
+on-ok P Q (Ok x) step is = step x is
+on-ok P Q (Err e) step is = is

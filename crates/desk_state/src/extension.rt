@@ -127,8 +127,10 @@ impl Running {
         ensures { (s : DeskState) → IsRunning s self.now → result ≡ option_map (λ (volume : Defined). volume.group) (first_volume s extents.now) }
     {
         let first = extents.first()?;
-        let place = self.volumes.place_of(&first.volser)?;
-        Some(self.volumes.volumes[place].volume.group)
+        match self.volumes.place_of(&first.volser) {
+            Some(place) => Some(self.volumes.volumes[place].volume.group),
+            None => None,
+        }
     }
 
     // Whether the volume at a place or its storage group gives no further tracks.
