@@ -174,6 +174,24 @@ spaced-answers s running config alloc classes space made done there answers =
     let case : (went_through classes ⊳ space_case alloc config) ≡ Ok (wish_with alloc config classes space) = rw (done, there) refl in
     record { rule = rw case answers.rule; tells = answers.tells; fits = answers.fits }
 
+wished-at : (s : DeskState) (after : Running) (config : Configuration) (alloc : Alloc) (values : Values) (classes : Classes) (given : Trace) (wish : Wish) (made : Decision) (o : Option Quantities)
+    → space_of alloc (data_class_of config values.dataclas) ≡ o → Some wish ≡ option_map (wish_under config alloc values) o → classes.values ≡ values → classes.stop ≡ stops.Done → trace_of classes ≡ given → s.active ≡ Some config
+    → ((asked : Asked) → s.active ≡ Some asked.config → wish ≡ wish_of asked → trace_of asked.classes ≡ given → Answers s after (GrantRule s alloc asked) made)
+    → Answers s after (ClassifiedRule s config alloc classes) made
+wished-at s after config alloc values classes given wish made None space some same done written active next = absurd cc
+wished-at s after config alloc values classes given wish made (Some q) space some same done written active next =
+    let is : wish ≡ wish_under config alloc values q = cc in
+    let asked : wish ≡ wish_of (wish_with alloc config classes q) = is ∙ ap (λ (v : Values). wish_under config alloc v q) (sym same) in
+    spaced-answers s after config alloc classes q made done (ap (λ (v : Values). space_of alloc (data_class_of config v.dataclas)) same ∙ space)
+    (next (wish_with alloc config classes q) active asked written)
+
+pub wished-answers : (s : DeskState) (after : Running) (config : Configuration) (alloc : Alloc) (values : Values) (stop : Stop) (classes : Classes) (trace given : Trace) (wish : Wish) (made : Decision)
+    → IsDone stop given trace → Some wish ≡ option_map (wish_under config alloc values) (space_of alloc (data_class_of config values.dataclas)) → classes.values ≡ values → classes.stop ≡ stop → trace_of classes ≡ trace → s.active ≡ Some config
+    → ((asked : Asked) → s.active ≡ Some asked.config → wish ≡ wish_of asked → trace_of asked.classes ≡ given → Answers s after (GrantRule s alloc asked) made)
+    → Answers s after (ClassifiedRule s config alloc classes) made
+wished-answers s after config alloc values stop classes trace given wish made is some same stops_so written active next =
+    wished-at s after config alloc values classes given wish made _ refl some same (stops_so ∙ is.done) (written ∙ sym is.same) active next
+
 -- All lines.
 
 pub alloc-unconfigured : (s : DeskState) (running : Running) (job : List ℕ) (alloc : Alloc) → IsRunning s running → running.config ≡ None
@@ -200,3 +218,14 @@ alloc-classified s running after job alloc config made is configured none answer
       tells = answers.tells;
       fits = answers.fits;
     }
+
+pub alloc-made : (s : DeskState) (running after : Running) (job : List ℕ) (alloc : Alloc) (config classified_with decided_with : Configuration) (values : Values) (stop : Stop) (trace : Trace) (made : Decision) → IsRunning s running
+    → running.config ≡ Some config → set_in alloc.input.dsn running.catalog.sets ≡ None → classified_with ≡ config → decided_with ≡ config
+    → values ≡ (classes_of classified_with job alloc).values → stop ≡ (classes_of classified_with job alloc).stop → trace ≡ trace_of (classes_of classified_with job alloc)
+    → ((classes : Classes) → classes.values ≡ values → classes.stop ≡ stop → trace_of classes ≡ trace → Answers s after (ClassifiedRule s decided_with alloc classes) made)
+    → Answers s after (AllocRule s job alloc) made
+alloc-made s running after job alloc config classified_with decided_with values stop trace made is configured none first second same stops_so written next =
+    let answers = next (classes_of classified_with job alloc) (sym same) (sym stops_so) (sym written) in
+    alloc-classified s running after job alloc config made is configured none
+    (subst (λ (k : Configuration). Answers s after (ClassifiedRule s config alloc (classes_of k job alloc)) made) first
+    (subst (λ (k : Configuration). Answers s after (ClassifiedRule s k alloc (classes_of classified_with job alloc)) made) second answers))
