@@ -1,10 +1,10 @@
 -- Decisions that are by the rule of ALLOC.
-use Rattle.std.proofs.Common.{◌≡◌, ℕ, true, false, List, [], ◌++◌, map, refl, sym, ap, ◌∙◌, subst, inl, inr}
-use Rattle.std.specs.Prelude.{Option, None, Some, Result, Ok, Err, MatchResult, bytes_eq, filter, is_some, option_map, slice_get}
+use Rattle.std.proofs.Common.{◌≡◌, ℕ, true, List, [], ◌++◌, refl, sym, ap, ◌∙◌, subst, inl, inr}
+use Rattle.std.specs.Prelude.{Option, None, Some, Result, Ok, Err, MatchResult, bytes_eq, filter, option_map}
 use Rattle.std.specs.List.{list_any}
 use Rattle.acs_tree.specs.declared.values.Values.{Values}
 use Rattle.sms_construct.specs.Configuration.{Configuration}
-use Rattle.sms_construct.specs.Quantities.{Quantities, primary_tracks_of}
+use Rattle.sms_construct.specs.Quantities.{Quantities}
 use Rattle.sms_construct.specs.declared.alloc.Alloc.{Alloc}
 use Rattle.sms_construct.specs.declared.data_set.DataSet.{DataSet}
 use Rattle.sms_construct.specs.declared.extent.Extent.{Extent}
@@ -13,8 +13,7 @@ use Rattle.sms_construct.specs.declared.reply.Reply.TheVariants as replies
 use Rattle.sms_construct.specs.declared.trace.Trace.{Trace}
 use Rattle.sms_construct.specs.declared.volume.VolumeDef.{VolumeDef}
 use Rattle.desk_law.specs.State.{DeskState, set_named, with_set}
-use Rattle.desk_law.specs.Allocation.{AllocRule, GrantRule, Wish as Asked, alloc_case, candidates_of, data_class_of, new_set, space_case, space_of, want_of, wish_with}
-use Rattle.desk_law.specs.Candidates.{Chooses, view_of}
+use Rattle.desk_law.specs.Allocation.{AllocRule, GrantRule, Wish as Asked, alloc_case, candidates_of, data_class_of, new_set, space_case, space_of, wish_with}
 use Rattle.desk_law.specs.Classification.{Classes, answer_of, classes_of, trace_of, went_through}
 use Rattle.desk_law.specs.Extents.{extents_at}
 use Rattle.desk_law.specs.Replies.{◌⊳◌, Leaves}
@@ -27,7 +26,7 @@ use Rattle.sms_volumes.specs.declared.active_volume.ActiveVolume.{ActiveVolume}
 use Rattle.desk_state.specs.Answering.{Answers}
 use Rattle.desk_state.specs.Catalog.{set_in}
 use Rattle.desk_state.specs.Deeds.{HasMore, config_of, effect_of}
-use Rattle.desk_state.specs.Granting.{IsGrantAmong, IsGrantOf, IsGranted, want_with}
+use Rattle.desk_state.specs.Granting.{IsGrantAmong, IsGranted}
 use Rattle.desk_state.specs.Standing.{IsRunning}
 use Rattle.desk_state.specs.Wishing.{ClassifiedRule, primary_need, set_granted, wish_of, wish_under}
 use Rattle.desk_state.specs.declared.decision.Decision.{Decision}

@@ -1,5 +1,5 @@
 -- Decisions that are by the rule of EXTEND.
-use Rattle.std.proofs.Common.{◌≡◌, ◌≤◌, ◌<◌, ℕ, zero, suc, ◌+◌, ◌-◌, Bool, true, false, List, [], ◌∷◌, ◌++◌, length, map, get_or, refl, sym, ap, ◌∙◌, subst, arith, inl, inr}
+use Rattle.std.proofs.Common.{◌≡◌, ℕ, zero, suc, ◌+◌, ◌-◌, Bool, true, false, List, [], ◌∷◌, ◌++◌, length, get_or, refl, sym, ap, ◌∙◌, subst, arith, inl, inr}
 use Rattle.std.specs.Prelude.{◌==◌, ◌||◌, ◌&&◌, ◌%◌, Option, None, Some, Result, Ok, Err, IfOk, IfSome, MatchOption, MatchBool, bytes_eq, filter, nat_lt, not, option_map, slice_get}
 use Rattle.std.proofs.lemmas.Option.{get_or_from_slice_get, slice_get-get_or, slice_get_within}
 use Rattle.std.specs.declared.alloc.AllocError.{AllocError}
@@ -10,7 +10,6 @@ use Rattle.sms_construct.specs.declared.reply.Reply.TheVariants as replies
 use Rattle.sms_construct.specs.declared.volume.VolumeDef.{VolumeDef}
 use Rattle.sms_construct.specs.declared.why_no_extend.WhyNoExtend.TheVariants as reasons
 use Rattle.track_ledger.specs.declared.need.Need.{Need}
-use Rattle.track_ledger.specs.declared.piece.Piece.{Piece}
 use Rattle.desk_law.specs.State.{DeskState, set_named, with_set}
 use Rattle.desk_law.specs.Candidates.{Chosen, grant_on}
 use Rattle.desk_law.specs.Extension.{ExtendRule, Extends, ExtendsOn, bars_growth, extended, first_volume, growth_on, last_volume, others_of, want_more}
@@ -173,11 +172,11 @@ extend-never s running dsn set is found zero_one =
 grown-at : (s : DeskState) (set : DataSet) (grant : Grant) (o : Option (List Extent)) (b : Bool)
     → MatchOption o (MatchBool b (IsGrantAmong s (others_of s set (first_volume s set.extents)) (need_more set 0) set.volumes (Some grant)) (◌≡◌ {A = Option Grant} (Some grant) None)) (λ added. ◌≡◌ {A = Option (List Extent)} (Some (added_of grant)) (Some added))
     → MatchOption o
-        (MatchBool b
-            (Chosen s set.unit (want_more set) (others_of s set (first_volume s set.extents)) (Leaves s (replies.NoExtend reasons.Room) (replies.Extended (added_of grant)) (with_set s (extended set (added_of grant))))
-                (λ volume. ExtendsOn s set volume (replies.Extended (added_of grant)) (with_set s (extended set (added_of grant)))))
-            (Leaves s (replies.NoExtend reasons.Room) (replies.Extended (added_of grant)) (with_set s (extended set (added_of grant)))))
-        (λ added. Extends s set added (replies.Extended (added_of grant)) (with_set s (extended set (added_of grant))))
+    (MatchBool b
+    (Chosen s set.unit (want_more set) (others_of s set (first_volume s set.extents)) (Leaves s (replies.NoExtend reasons.Room) (replies.Extended (added_of grant)) (with_set s (extended set (added_of grant))))
+    (λ volume. ExtendsOn s set volume (replies.Extended (added_of grant)) (with_set s (extended set (added_of grant)))))
+    (Leaves s (replies.NoExtend reasons.Room) (replies.Extended (added_of grant)) (with_set s (extended set (added_of grant)))))
+    (λ added. Extends s set added (replies.Extended (added_of grant)) (with_set s (extended set (added_of grant))))
 grown-at s set grant None true chosen =
     let of : VolumeDef → List Extent = λ (v : VolumeDef). extents_at v.volser grant.pieces in
     inr (record {
@@ -210,7 +209,7 @@ has-grown s running dsn set grant found granted =
       volume = granted.ready.volume;
       at = there;
       extents = ap (λ (v : VolumeDef). set.extents ++ extents_at v.volser grant.pieces) same
-      ∙ sym (ap (λ (l : List Extent). l ++ extents_at granted.ready.volume.volume.volser grant.pieces) (named-extents dsn s.sets set found));
+          ∙ sym (ap (λ (l : List Extent). l ++ extents_at granted.ready.volume.volume.volser grant.pieces) (named-extents dsn s.sets set found));
     }
 
 pub extend-grown : (s : DeskState) (running : Running) (dsn : List ℕ) (set : DataSet) (grant : Grant) → set_named dsn s.sets ≡ Some set → (set.secondary == 0) ≡ false → IsGranted running grant → Grows s set (Some grant)
@@ -224,11 +223,11 @@ extend-grown s running dsn set grant found some granted grows = record {
 ungrown-at : (s : DeskState) (set : DataSet) (o : Option (List Extent)) (b : Bool)
     → MatchOption o (MatchBool b (IsGrantAmong s (others_of s set (first_volume s set.extents)) (need_more set 0) set.volumes None) (◌≡◌ {A = Option Grant} None None)) (λ added. ◌≡◌ {A = Option (List Extent)} None (Some added))
     → MatchOption o
-        (MatchBool b
-            (Chosen s set.unit (want_more set) (others_of s set (first_volume s set.extents)) (Leaves s (replies.NoExtend reasons.Room) (replies.NoExtend reasons.Room) s)
-                (λ volume. ExtendsOn s set volume (replies.NoExtend reasons.Room) s))
-            (Leaves s (replies.NoExtend reasons.Room) (replies.NoExtend reasons.Room) s))
-        (λ added. Extends s set added (replies.NoExtend reasons.Room) s)
+    (MatchBool b
+    (Chosen s set.unit (want_more set) (others_of s set (first_volume s set.extents)) (Leaves s (replies.NoExtend reasons.Room) (replies.NoExtend reasons.Room) s)
+    (λ volume. ExtendsOn s set volume (replies.NoExtend reasons.Room) s))
+    (Leaves s (replies.NoExtend reasons.Room) (replies.NoExtend reasons.Room) s))
+    (λ added. Extends s set added (replies.NoExtend reasons.Room) s)
 ungrown-at s set None true rejected = inl (rejected, record { reply_is = refl; after_is = refl })
 ungrown-at s set None false none = record { reply_is = refl; after_is = refl }
 ungrown-at s set (Some added) b is = absurd cc

@@ -1,5 +1,5 @@
 -- A volume that may be chosen grants what is asked for.
-use Rattle.std.proofs.Common.{◌≡◌, ◌≤◌, ◌<◌, ◌*◌, ℕ, Bool, true, false, List, map, refl, sym, ap, ◌∙◌, subst, arith}
+use Rattle.std.proofs.Common.{◌≡◌, ◌*◌, ℕ, Bool, true, false, List, refl, sym, ap, ◌∙◌, arith}
 use Rattle.std.specs.Prelude.{◌%◌, Option, None, Some, IfSome, is_some, option_map, slice_get}
 use Rattle.std.proofs.lemmas.Option.{slice_get-map}
 use Rattle.sms_construct.specs.Quantities.{tracks_in}
@@ -19,7 +19,7 @@ use Rattle.sms_volumes.specs.Viewing.{Picks, candidates_in}
 use Rattle.sms_volumes.specs.declared.active_volume.ActiveVolume.{ActiveVolume}
 use Rattle.sms_volumes.specs.declared.active_volumes.ActiveVolumes.{ActiveVolumes}
 use Rattle.sms_volumes.specs.declared.candidates.Candidates.{Candidates}
-use Rattle.desk_state.specs.Granting.{IsGrantAmong, IsGrantOf, IsGranted, want_with}
+use Rattle.desk_state.specs.Granting.{IsGrantAmong, IsGranted, want_with}
 use Rattle.desk_state.specs.declared.grant.Grant.{Grant}
 use Rattle.desk_state.specs.declared.running.Running.{Running}
 

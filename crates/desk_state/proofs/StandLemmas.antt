@@ -1,5 +1,5 @@
 -- The running state goes on standing for its state.
-use Rattle.std.proofs.Common.{◌<◌, length, map, ◌≡◌, ℕ, List, ◌∙◌, ap, sym, subst, arith}
+use Rattle.std.proofs.Common.{◌<◌, length, ◌≡◌, ℕ, List, ◌∙◌, ap, sym, subst, arith}
 use Rattle.std.proofs.lemmas.List.{length-map}
 use Rattle.std.specs.Prelude.{◌%◌, Option, IfSome}
 use Rattle.sms_construct.specs.Quantities.{tracks_in}

@@ -159,11 +159,7 @@ fn bars_volume_growth(status: Status) -> bool
 {
     match status {
         Status::DisAll => true,
-        Status::Enable
-        | Status::NotCon
-        | Status::DisNew
-        | Status::QuiAll
-        | Status::QuiNew => false,
+        Status::Enable | Status::NotCon | Status::DisNew | Status::QuiAll | Status::QuiNew => false,
     }
 }
 

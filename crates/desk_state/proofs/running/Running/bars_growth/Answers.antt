@@ -1,6 +1,5 @@
 use Rattle.std.proofs.Common.{◌≡◌, ◌∙◌, true, false, refl, sym}
 use Rattle.std.specs.Prelude.{◌||◌}
-use Rattle.desk_law.specs.Extension.{bars_growth}
 use Rattle.desk_law.specs.Statuses.{bars_group_growth, bars_volume_growth}
 use Rattle.desk_state.proofs.ExtensionLemmas.{bars-at}
 use Rattle.desk_state.proofs.running.Running.bars_growth.Goals as goal

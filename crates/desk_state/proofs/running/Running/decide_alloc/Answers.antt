@@ -1,5 +1,5 @@
-use Rattle.std.proofs.Common.{◌≡◌, ◌∙◌, ap, sym, rules}
-use Rattle.std.specs.Prelude.{None, Some}
+use Rattle.std.proofs.Common.{◌≡◌, ◌∙◌, ap, rules}
+use Rattle.std.specs.Prelude.{None}
 use Rattle.acs_tree.specs.Slates.{SlateLines}
 use Rattle.sms_construct.specs.declared.trace.Trace.{Trace}
 use Rattle.desk_law.specs.Allocation.{AllocRule}

@@ -1,7 +1,6 @@
-use Rattle.std.proofs.Common.{◌≡◌, ◌∙◌, ℕ, List, false, ap, sym, subst, arith}
-use Rattle.std.specs.Prelude.{◌==◌, Option, None, Some, IfSome}
+use Rattle.std.proofs.Common.{◌≡◌, ◌∙◌, false, ap, sym, subst, arith}
+use Rattle.std.specs.Prelude.{◌==◌, Option, Some, IfSome}
 use Rattle.std.proofs.lemmas.Bool.Decides.{nat_tests}
-use Rattle.sms_construct.specs.declared.data_set.DataSet.{DataSet}
 use Rattle.sms_construct.specs.declared.reply.Reply.TheVariants as replies
 use Rattle.desk_law.specs.Extension.{ExtendRule, extended}
 use Rattle.desk_law.specs.Lawful.{IsLawful}

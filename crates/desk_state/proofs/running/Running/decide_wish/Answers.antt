@@ -1,4 +1,4 @@
-use Rattle.std.proofs.Common.{◌≡◌, ◌∙◌, ℕ, List, refl, sym, subst}
+use Rattle.std.proofs.Common.{◌≡◌, ◌∙◌, refl, sym, subst}
 use Rattle.std.specs.Prelude.{Option, None, Some, IfSome, bytes_eq, filter}
 use Rattle.std.specs.List.{list_any}
 use Rattle.sms_construct.specs.declared.reply.Reply.TheVariants as replies

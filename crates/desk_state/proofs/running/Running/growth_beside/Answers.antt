@@ -1,5 +1,5 @@
-use Rattle.std.proofs.Common.{◌∙◌, ap, sym, subst}
-use Rattle.std.specs.Prelude.{Option, None, Some, bytes_eq, ◌&&◌, not, filter, option_map}
+use Rattle.std.proofs.Common.{◌∙◌, sym}
+use Rattle.std.specs.Prelude.{Option, bytes_eq, ◌&&◌, not, filter}
 use Rattle.sms_construct.specs.declared.volume.VolumeDef.{VolumeDef}
 use Rattle.desk_law.specs.Extension.{first_volume, others_of}
 use Rattle.desk_law.specs.Extents.{is_used}
