@@ -2,16 +2,19 @@
 #![tactic(auto)]
 
 mod activation;
+mod allocation;
 mod applying;
 mod catalog;
 mod data_sets;
 mod deciding;
 mod decision;
 mod deed;
+mod extension;
 mod extents;
+mod grant;
 mod operator;
 mod running;
-mod unbuilt;
+mod wish;
 
 pub use catalog::Catalog;
 pub use decision::Decision;
