@@ -1,8 +1,7 @@
 -- Decisions that are by the rule of EXTEND.
 use Rattle.std.proofs.Common.{◌≡◌, ℕ, zero, suc, ◌+◌, ◌-◌, Bool, true, false, List, [], ◌∷◌, ◌++◌, length, get_or, refl, sym, ap, ◌∙◌, subst, arith, inl, inr}
-use Rattle.std.specs.Prelude.{◌==◌, ◌||◌, ◌&&◌, ◌%◌, Option, None, Some, Result, Ok, Err, IfOk, IfSome, MatchOption, MatchBool, bytes_eq, filter, nat_lt, not, option_map, slice_get}
+use Rattle.std.specs.Prelude.{◌==◌, ◌||◌, ◌&&◌, ◌%◌, Option, None, Some, IfSome, MatchOption, MatchBool, bytes_eq, filter, nat_lt, not, option_map, slice_get}
 use Rattle.std.proofs.lemmas.Option.{get_or_from_slice_get, slice_get-get_or, slice_get_within}
-use Rattle.std.specs.declared.alloc.AllocError.{AllocError}
 use Rattle.sms_construct.specs.Quantities.{tracks_in}
 use Rattle.sms_construct.specs.declared.data_set.DataSet.{DataSet}
 use Rattle.sms_construct.specs.declared.extent.Extent.{Extent}
@@ -279,8 +278,3 @@ found-growable running some dsn set found = record {
   units = subst (λ (o : Option DataSet). IfSome o (λ d. d.secondary % tracks_in d.unit ≡ 0)) found (some.stands.units dsn);
   few = (found-lawful running some dsn set found).few;
 }
-
--- what holds of an answer, where another does
-pub on-ok : {A : Type 0} (P Q : A → Type 0) (r : Result A AllocError) → ((x : A) → P x → Q x) → IfOk r P → IfOk r Q
-on-ok P Q (Ok x) step is = step x is
-on-ok P Q (Err e) step is = is
