@@ -204,19 +204,6 @@ wished-answers s after config alloc values stop classes trace given wish made is
 
 -- All lines.
 
-pub alloc-unconfigured : (s : DeskState) (running : Running) (job : List ℕ) (alloc : Alloc) → IsRunning s running → running.config ≡ None
-    → Answers s running (AllocRule s job alloc) (record { reply = replies.NoConfig; deed = deeds.Nothing })
-alloc-unconfigured s running job alloc is none =
-    let active : s.active ≡ None = sym is.active ∙ none in
-    quiet-answers s running (AllocRule s job alloc) replies.NoConfig (rw active (record { reply_is = refl; after_is = refl })) refl
-
-pub alloc-used : (s : DeskState) (running : Running) (job : List ℕ) (alloc : Alloc) (config : Configuration) (set : DataSet) → IsRunning s running → running.config ≡ Some config → set_in alloc.input.dsn running.catalog.sets ≡ Some set
-    → Answers s running (AllocRule s job alloc) (record { reply = replies.NameInUse; deed = deeds.Nothing })
-alloc-used s running job alloc config set is configured there =
-    let active : s.active ≡ Some config = sym is.active ∙ configured in
-    let used : set_named alloc.input.dsn s.sets ≡ Some set = sym (is.sets alloc.input.dsn) ∙ there in
-    quiet-answers s running (AllocRule s job alloc) replies.NameInUse (rw (active, used) (record { reply_is = refl; after_is = refl })) refl
-
 pub alloc-classified : (s : DeskState) (running after : Running) (job : List ℕ) (alloc : Alloc) (config : Configuration) (made : Decision) → IsRunning s running → running.config ≡ Some config → set_in alloc.input.dsn running.catalog.sets ≡ None
     → Answers s after (ClassifiedRule s config alloc (classes_of config job alloc)) made → Answers s after (AllocRule s job alloc) made
 alloc-classified s running after job alloc config made is configured none answers =
