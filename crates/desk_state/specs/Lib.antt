@@ -3,3 +3,4 @@ pub mod Sums
 pub mod Standing
 pub mod Deeds
 pub mod Answering
+pub mod OldFloor
