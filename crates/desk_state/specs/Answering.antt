@@ -1,7 +1,9 @@
 -- What a decision owes: its reply and what it does are by the rule.
-use Rattle.std.specs.Prelude.{◌≡◌, true}
+use Rattle.std.specs.Prelude.{ℕ, List, ◌≡◌, true}
 use Rattle.sms_construct.specs.declared.reply.Reply.{Reply}
 use Rattle.sms_construct.specs.declared.reply.Reply.TheVariants as replies
+use Rattle.sms_construct.specs.declared.request.Op.{Op}
+use Rattle.sms_construct.specs.declared.request.Op.TheVariants as ops
 use Rattle.desk_law.specs.State.{DeskState}
 use Rattle.desk_records.specs.Effects.{state_with, tells_nothing}
 use Rattle.desk_state.specs.Deeds.{Fits, config_of, effect_of}
@@ -26,3 +28,15 @@ pub record Answers (s : DeskState) (running : Running) (Rule : Reply → DeskSta
   pub rule : Rule made.reply (state_with s (effect_of made.deed) (config_of made.deed))
   pub tells : Tells made.deed made.reply
   pub fits : Fits s running made.deed
+
+-- the floor of the job of a PURGE is this one; of the other ops nothing is said
+abbrev pub IsOldFloor : (List ℕ → ℕ) → Op → ℕ → Type 0
+IsOldFloor floors (ops.Alloc alloc) old = Unit {0}
+IsOldFloor floors (ops.Activate deck) old = Unit {0}
+IsOldFloor floors (ops.Extend dsn) old = Unit {0}
+IsOldFloor floors (ops.Delete dsn) old = Unit {0}
+IsOldFloor floors (ops.Used dsn tracks) old = Unit {0}
+IsOldFloor floors (ops.Release dsn) old = Unit {0}
+IsOldFloor floors (ops.Display target) old = Unit {0}
+IsOldFloor floors (ops.Vary target action) old = Unit {0}
+IsOldFloor floors (ops.Purge job floor) old = floors job ≡ old

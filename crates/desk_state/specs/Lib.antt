@@ -3,4 +3,3 @@ pub mod Sums
 pub mod Standing
 pub mod Deeds
 pub mod Answering
-pub mod OldFloor

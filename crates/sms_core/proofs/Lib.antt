@@ -1,3 +1,0 @@
-mod TableLemmas
-mod WordLemmas
-mod FormLemmas
