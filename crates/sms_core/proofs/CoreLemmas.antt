@@ -1,6 +1,6 @@
 -- What a step keeps, and what it enters.
 use Rattle.std.proofs.Common.{◌≡◌, ◌≤◌, ◌<◌, ℕ, ◌+◌, ◌^◌, Bool, true, false, cond, fold, List, [], ◌∷◌, ◌++◌, Option, None, Some, length, refl, sym, ap, ◌∙◌, subst, arith, append-nil}
-use Rattle.std.specs.Prelude.{◌↔◌, count_by, IfSome}
+use Rattle.std.specs.Prelude.{◌↔◌, count_by, IfOk, IfSome, OnErr, Result, Ok, Err}
 use Rattle.desk_common.specs.Causes.{Rose}
 use Rattle.sms_construct.specs.declared.entry.Answer.{Answer}
 use Rattle.sms_construct.specs.declared.entry.Entry.{Entry}
@@ -39,7 +39,7 @@ count-few p n (x ∷ xs) = omega (arith, one-more (p x), count-few p (n + cond (
 
 -- no more entries ask for an activation than there are
 pub asked-few : (h : List Entry) → count_by activates h ≤ length h
-asked-few h = count-few activates 0 h
+asked-few h = omega (arith, count-few activates 0 h)
 
 -- What is told.
 
@@ -132,3 +132,23 @@ held-counted o h running log told mark count op held not_full = rw held.stands.a
 pub held-stands : (o : Opening) (h : List Entry) (running : Running) (log : LogView) (told : Option Rows) (mark count : ℕ) (s : DeskState) → IsHeld o h running log told mark count → Reaches o h s → IsRunning s running
 held-stands o h running log told mark count s held reaches =
     subst (λ (t : DeskState). IsRunning t running) (leads-one o [] (start_of o) h held.state s held.tied.reaches reaches) held.stands
+
+-- Answers that are handed on.
+
+-- what follows of a success
+pub if-ok : {T E : Type 0} (P Q : T → Type 0) (r : Result T E) → IfOk r P → ((x : T) → P x → Q x) → IfOk r Q
+if-ok P Q (Ok x) is give = give x is
+if-ok P Q (Err e) is give = tt
+
+-- what holds anyway holds on a failure
+pub on-err : {T E : Type 0} (P : Type 0) (r : Result T E) → P → OnErr r P
+on-err P (Ok x) is = tt
+on-err P (Err e) is = is
+
+-- the entry that was made joins the journal
+pub enters-made : (o : Opening) (h h' : List Entry) (told told' : Option Rows) (old new mark : ℕ) (request : Request) (answer : Answer) (s : DeskState) (e : Entry) (running : Running) (log : LogView)
+    → HasEntered o h s e running log told' mark new → Reaches o h s → e.request ≡ request → answer ≡ e.answer → is_full_for h request.op ≡ false → h' ≡ h ++ e ∷ []
+    → (e.answer.reply ≡ replies.KeeperFault → Rose old new) → old ≤ new → Enters o h h' told told' old new request answer
+enters-made o h h' told told' old new mark request answer s e running log has reaches p q not_full grown cause later =
+    let still : is_full_for h e.request.op ≡ false = rw p not_full in
+    rw (← p, q) (enters-one o h h' told told' old new e.request e.answer s has.after reaches has.entered.step still grown cause later)

@@ -1,2 +1,3 @@
 mod CoreLemmas
+mod DeedLemmas
 mod FreshLemmas

@@ -15,7 +15,7 @@ use crate::preparing::{Prepared, prepare};
 use crate::room::take_room;
 use acs_tree::Slate;
 use desk_common::{Items, Shared};
-use desk_records::{Opening, Records, is_full};
+use desk_records::{Opening, Records, is_full, request_is_sound};
 use desk_state::Running;
 use dsn_mask::Dsn;
 use sms_construct::{Answer, DataSet, Entry, Journal, Op, Reply, Request, VolRows};
@@ -87,9 +87,11 @@ impl<P: Keeper> Core<P> {
         if is_full(&self.journal, self.asked, &request.op) {
             return without_entry(Reply::JournalFull);
         }
-        if take_room(&mut self.journal, &mut self.running, &mut self.records).is_err() {
+        if take_room(&mut self.journal, &mut self.records).is_err() {
             return without_entry(Reply::Memory);
         }
+        // Facts for the proof; nothing runs.
+        request_is_sound(request);
         let place = self.base + self.journal.len() as u64 + 1;
         let made = prepare(
             place,

@@ -6,6 +6,7 @@ ghost use Rattle.sms_construct.specs.declared.reply.Reply.TheVariants.{KeeperFau
 ghost use Rattle.sms_keeper.specs.Log.{floor_in};
 ghost use Rattle.sms_keeper.specs.Suits.{SuitsOp};
 ghost use Rattle.desk_law.specs.State.{DeskState, Opening};
+ghost use Rattle.desk_law.specs.Rule.{IsSound};
 ghost use Rattle.desk_records.specs.Effects.{IsDecided};
 ghost use Rattle.desk_records.specs.Logged.{IsUntouched};
 ghost use Rattle.desk_records.specs.Recall.{IsUnknown};
@@ -16,7 +17,7 @@ ghost use Rattle.desk_state.specs.Standing.{IsRunning, IsSomeState};
 ghost use Rattle.sms_core.specs.Standing.{HasEntered, SameRunning};
 
 use acs_tree::Slate;
-use desk_records::{Records, recall, request_is_sound};
+use desk_records::{Records, recall};
 use desk_state::{Decision, Running};
 use sms_construct::{Answer, Entry, Op, Reply, Request};
 use sms_keeper::{Change, Keeper, RequestLog};
@@ -39,8 +40,8 @@ pub fn prepare<P: Keeper>(
     slate: &mut Slate,
 ) -> Result<Prepared, AllocError>
     requires state { IsSomeState running.old }
+    requires sound { IsSound request.now.op }
     requires counted { running.old.activations + 1 < 2 ^ 64 }
-    requires set_room { 0 < running.old.catalog.room }
     requires reply_room { 0 < records.old.log.reply_room }
     requires floor_room { 0 < records.old.log.floor_room }
     ensures answer { IfOk result (λ made. made.answer ≡ made.entry.answer) }
@@ -81,8 +82,8 @@ fn prepare_fresh<P: Keeper>(
 ) -> Result<Prepared, AllocError>
     requires unknown { IsUnknown records.old.log request.now }
     requires state { IsSomeState running.old }
+    requires sound { IsSound request.now.op }
     requires counted { running.old.activations + 1 < 2 ^ 64 }
-    requires set_room { 0 < running.old.catalog.room }
     requires reply_room { 0 < records.old.log.reply_room }
     requires floor_room { 0 < records.old.log.floor_room }
     ensures answer { IfOk result (λ made. made.answer ≡ made.entry.answer) }
@@ -93,10 +94,9 @@ fn prepare_fresh<P: Keeper>(
     ensures err { OnErr result (IsUntouched (P.told records.old.keeper) (P.told records.new.keeper) records.old.log records.new.log) }
     ensures rises { P.count records.old.keeper ≤ P.count records.new.keeper }
 {
-    // Facts for the proof; nothing runs.
-    request_is_sound(request);
     let old = old_floor(&records.log, &request.op);
     let decision = running.decide(request, old, slate)?;
+    running.reserve()?;
     carry_out(place, request, decision, running, records)
 }
 
