@@ -9,6 +9,7 @@ use Rattle.sms_construct.specs.declared.reply.Reply.TheVariants as replies
 use Rattle.sms_construct.specs.declared.target.Target.{Target}
 use Rattle.sms_construct.specs.declared.target.Target.TheVariants as targets
 use Rattle.sms_construct.specs.declared.view.View.{View}
+use Rattle.sms_keeper.specs.Suits.{has_status}
 use Rattle.desk_law.specs.Display.{DisplayRule, reply_for_none, view_of_target}
 use Rattle.desk_law.specs.Purging.{PurgeRule}
 use Rattle.desk_law.specs.Varying.{VaryRule}
@@ -105,9 +106,15 @@ pub vary-none : (s : DeskState) (running : Running) (target : Target) (action : 
     → Answers s running (VaryRule s target action) (record { reply = replies.UnknownName; deed = deeds.Nothing })
 vary-none s running target action none = quiet-answers s running (VaryRule s target action) replies.UnknownName (rw none (record { reply_is = refl; after_is = refl })) refl
 
+-- what is there is a storage group or a volume
+there-status : (s : DeskState) (target : Target) → (times_target s.active target == 0) ≡ false → has_status target ≡ true
+there-status s (targets.Group name) some = refl
+there-status s (targets.Volume volser) some = refl
+there-status s (targets.Set dsn) some = absurd cc
+
 pub vary-done : (s : DeskState) (running : Running) (target : Target) (action : Action) → (times_target s.active target == 0) ≡ false
     → Answers s running (VaryRule s target action) (record { reply = replies.Varied target (status_of_action action); deed = deeds.Vary target (status_of_action action) })
-vary-done s running target action some = record { rule = rw some (record { reply_is = refl; after_is = refl }); tells = refl; fits = tt }
+vary-done s running target action some = record { rule = rw some (record { reply_is = refl; after_is = refl }); tells = refl; fits = there-status s target some }
 
 -- DISPLAY.
 

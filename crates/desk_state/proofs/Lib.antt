@@ -2,3 +2,4 @@ pub mod ExtentLemmas
 pub mod StandLemmas
 pub mod FewLemmas
 pub mod AnswerLemmas
+pub mod ApplyLemmas

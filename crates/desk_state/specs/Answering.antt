@@ -1,5 +1,5 @@
 -- What a decision owes: its reply and what it does are by the rule.
-use Rattle.std.specs.Prelude.{ℕ, List, ◌≡◌, true}
+use Rattle.std.specs.Prelude.{ℕ, ◌≡◌, true, List}
 use Rattle.sms_construct.specs.declared.reply.Reply.{Reply}
 use Rattle.sms_construct.specs.declared.reply.Reply.TheVariants as replies
 use Rattle.sms_construct.specs.declared.request.Op.{Op}
@@ -29,7 +29,7 @@ pub record Answers (s : DeskState) (running : Running) (Rule : Reply → DeskSta
   pub tells : Tells made.deed made.reply
   pub fits : Fits s running made.deed
 
--- the floor of the job of a PURGE is this one; of the other ops nothing is said
+-- this is the floor before of the job that a PURGE names
 abbrev pub IsOldFloor : (List ℕ → ℕ) → Op → ℕ → Type 0
 IsOldFloor floors (ops.Alloc alloc) old = Unit {0}
 IsOldFloor floors (ops.Activate deck) old = Unit {0}

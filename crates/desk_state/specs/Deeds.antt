@@ -1,7 +1,9 @@
 -- What a deed does to the records and to the state.
-use Rattle.std.specs.Prelude.{ℕ, ◌≡◌, ◌<◌, ◌^◌, ◌++◌, ◌+◌, List, Option, None, Some, length, slice_get}
+use Rattle.std.specs.Prelude.{ℕ, ◌≡◌, ◌<◌, ◌%◌, ◌^◌, ◌++◌, ◌+◌, true, List, Option, None, Some, length, slice_get}
 use Rattle.sms_construct.specs.Configuration.{Configuration, IsConfiguration}
+use Rattle.sms_construct.specs.Quantities.{tracks_in}
 use Rattle.sms_construct.specs.declared.data_set.DataSet.{DataSet}
+use Rattle.sms_keeper.specs.Suits.{has_status}
 use Rattle.sms_keeper.specs.declared.effect.Effect.{Effect}
 use Rattle.sms_keeper.specs.declared.effect.Effect.TheVariants as effects
 use Rattle.sms_keeper.specs.declared.status_row.StatusRow.{StatusRow}
@@ -40,14 +42,18 @@ config_of (deeds.Become count config volumes statuses) = Some config
 config_of (deeds.Vary target status) = None
 config_of (deeds.Raise job floor) = None
 
--- the deed takes no memory: for the pieces that a data set gets there is room, and nobody holds them
+-- the secondary quantity is in whole units
+abbrev pub IsInUnits : DataSet → Type 0
+IsInUnits set = set.secondary % tracks_in set.unit ≡ 0
+
+-- the deed can be done without memory: for the pieces that a data set gets there is room and nobody holds them, its secondary quantity is in whole units, and extents and volumes are few
 abbrev pub IsPossible : Running → Deed → Type 0
 IsPossible running deeds.Nothing = Unit {0}
-IsPossible running (deeds.Get set place pieces) = IsReadyAt running.volumes place pieces
-IsPossible running (deeds.Note set) = Unit {0}
-IsPossible running (deeds.Keep set) = length set.extents < 2 ^ 32
+IsPossible running (deeds.Get set place pieces) = IsReadyAt running.volumes place pieces × IsInUnits set
+IsPossible running (deeds.Note set) = IsInUnits set
+IsPossible running (deeds.Keep set) = (length set.extents < 2 ^ 32) × IsInUnits set
 IsPossible running (deeds.Remove dsn) = Unit {0}
-IsPossible running (deeds.Become count config volumes statuses) = Unit {0}
+IsPossible running (deeds.Become count config volumes statuses) = length volumes.volumes.items < 2 ^ 32
 IsPossible running (deeds.Vary target status) = Unit {0}
 IsPossible running (deeds.Raise job floor) = Unit {0}
 
@@ -78,5 +84,5 @@ Fits s running (deeds.Note set) = set.extents ≡ extents_named set.dsn s.sets
 Fits s running (deeds.Keep set) = HasFront s.sets set
 Fits s running (deeds.Remove dsn) = Unit {0}
 Fits s running (deeds.Become count config volumes statuses) = IsNext s count config volumes statuses
-Fits s running (deeds.Vary target status) = Unit {0}
+Fits s running (deeds.Vary target status) = has_status target ≡ true
 Fits s running (deeds.Raise job floor) = Unit {0}

@@ -6,9 +6,11 @@ use Rattle.sms_construct.specs.declared.reply.Reply.TheVariants as replies
 use Rattle.desk_law.specs.Extents.{front_tracks, tracks_of_set}
 use Rattle.desk_law.specs.Releasing.{ReleaseRule, kept_of, tracks_kept}
 use Rattle.desk_state.specs.Answering.{Answers}
+use Rattle.desk_state.specs.Deeds.{IsInUnits}
 use Rattle.desk_state.specs.declared.deed.Deed.TheVariants as deeds
 use Rattle.desk_state.proofs.AnswerLemmas.{release-done}
 use Rattle.desk_state.proofs.ExtentLemmas.{front-length}
+use Rattle.desk_state.proofs.StandLemmas.{found-units}
 use Rattle.desk_state.proofs.running.Running.decide_release.Goals as goal
 
 pub returns-clause-answers : goal.returns-clause-answers
@@ -28,4 +30,5 @@ returns-clause-possible c =
     let few : length set.extents < 4294967296 = subst (λ (o : Option DataSet). IfSome o (λ (d : DataSet). length d.extents < 4294967296)) there c.found.ensures.few in
     let made : c.in_ok-kept.kept ≡ kept_of set = c.in_ok-kept.ensures ∙ ap kept_of c.get-set.ensures in
     let same : length c.in_ok-kept.kept.extents ≡ length (front_tracks (tracks_kept set) set.extents) = ap (λ (d : DataSet). length d.extents) made in
-    omega (arith, same, few, front-length (tracks_kept set) set.extents)
+    let units : IsInUnits set = found-units c.args.self.now c.args.dsn.now set c.requires there in
+    (omega (arith, same, few, front-length (tracks_kept set) set.extents), subst IsInUnits (sym made) units)
