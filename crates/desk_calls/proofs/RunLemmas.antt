@@ -128,7 +128,7 @@ front-push items count before after after' old mid new item answer o told told' 
       behind = grown ∙ ap (λ all. all ++ answer ∷ []) front.behind ∙ append_assoc before answers (answer ∷ []);
       counted = omega (arith, length-append answers (answer ∷ []), front.counted);
       once = entered-push answers items answer item old mid new shorter there front.once enters.journal_is;
-      due = due-push new answers items answer item shorter (rw enters.journal_is (due-more mid (entry_of item.request answer) answers items front.due)) (rw ← there due);
+      due = due-push new answers items answer item shorter (rw enters.journal_is (due-more mid (entry_of item.request answer) answers items front.due)) (rw (← there) due);
     }
 
 -- so many answers there are

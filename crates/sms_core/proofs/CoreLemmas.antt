@@ -19,12 +19,11 @@ use Rattle.desk_law.specs.Records.{IsTables}
 use Rattle.desk_law.proofs.HistoryLemmas.{leads-one}
 use Rattle.desk_records.specs.Full.{is_full_for}
 use Rattle.desk_records.specs.Logged.{IsUntouched, SameLog}
-use Rattle.desk_records.specs.Tied.{IsTied}
 use Rattle.desk_records.proofs.StepLemmas.{activations-fit, activations-push}
 use Rattle.desk_records.proofs.TiedLemmas.{tied-lawful, tied-reserved, tied-same}
 use Rattle.desk_state.specs.declared.running.Running.{Running}
 use Rattle.desk_state.specs.Standing.{IsRunning, IsSomeState}
-use Rattle.sms_core.specs.Core.{Enters, HasTables, IsNext, entry_of}
+use Rattle.sms_core.specs.Core.{Enters, HasTables}
 use Rattle.sms_core.specs.Standing.{HasEntered, IsCore, IsHeld, SameRunning}
 
 -- Counts.

@@ -4,7 +4,7 @@ use Rattle.desk_law.specs.State.{DeskState}
 use Rattle.desk_state.specs.declared.deed.Deed.{Deed}
 use Rattle.desk_state.specs.declared.deed.Deed.TheVariants as deeds
 use Rattle.desk_state.specs.declared.running.Running.{Running}
-use Rattle.desk_state.specs.Deeds.{Fits, HasMore, IsPossible}
+use Rattle.desk_state.specs.Deeds.{Fits, IsPossible}
 
 -- a deed that was possible is so over the same volumes
 pub possible-same : (running more : Running) (deed : Deed) → more.volumes ≡ running.volumes → IsPossible running deed → IsPossible more deed

@@ -1,11 +1,10 @@
 -- What a core keeps together.
-use Rattle.std.specs.Prelude.{ℕ, ◌≡◌, ◌∷◌, [], ◌++◌, List, Option, count_by}
+use Rattle.std.specs.Prelude.{ℕ, ◌≡◌, List, Option, count_by}
 use Rattle.sms_construct.specs.declared.entry.Entry.{Entry}
 use Rattle.sms_keeper.specs.declared.rows.Rows.{Rows}
 use Rattle.sms_keeper.specs.Log.{LogView}
 use Rattle.desk_law.specs.State.{DeskState, Opening}
 use Rattle.desk_law.specs.Step.{activates}
-use Rattle.desk_records.specs.Logged.{SameLog}
 use Rattle.desk_records.specs.Tied.{IsEntered, IsTied}
 use Rattle.desk_state.specs.declared.running.Running.{Running}
 use Rattle.desk_state.specs.Standing.{IsRunning}

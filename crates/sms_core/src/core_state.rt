@@ -93,13 +93,7 @@ impl<P: Keeper> Core<P> {
         // Facts for the proof; nothing runs.
         request_is_sound(request);
         let place = self.base + self.journal.len() as u64 + 1;
-        let made = prepare(
-            place,
-            request,
-            &mut self.running,
-            &mut self.records,
-            slate,
-        );
+        let made = prepare(place, request, &mut self.running, &mut self.records, slate);
         let Ok(Prepared { entry, answer }) = made else {
             return without_entry(Reply::Memory);
         };

@@ -27,4 +27,4 @@ returns-clause-cause g c =
     let there = c.requires.state in
     let decided = c.in_ok-decision.ensures.decided there.state (λ job. floor_in job c.args.records.now.log.floors) there.lawful there.stands c.old_floor-old.ensures in
     if-ok _ _ c.carry_out.result c.carry_out.ensures.cause (λ made cause fault. cause fault (λ told.
-        let no : true ≡ false = ap is_fault (sym told) ∙ kept-no_fault c.in_ok-decision.decision.reply decided.matches.kept in absurd cc))
+    let no : true ≡ false = ap is_fault (sym told) ∙ kept-no_fault c.in_ok-decision.decision.reply decided.matches.kept in absurd cc))

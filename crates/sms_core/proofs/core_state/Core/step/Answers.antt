@@ -1,8 +1,7 @@
-use Rattle.std.proofs.Common.{◌≡◌, ◌+◌, ◌++◌, ◌∷◌, [], false, length, cond, refl, sym, ap, ◌∙◌, arith}
+use Rattle.std.proofs.Common.{◌≡◌, ◌+◌, ◌++◌, ◌∷◌, [], false, length, cond, sym, ◌∙◌, arith}
 use Rattle.std.specs.Prelude.{count_by}
 use Rattle.desk_law.specs.Step.{activates, is_activation}
 use Rattle.desk_records.specs.Full.{is_full_for}
-use Rattle.desk_records.specs.Logged.{IsUntouched}
 use Rattle.desk_records.specs.Tied.{IsReady}
 use Rattle.sms_core.specs.Standing.{IsHeld}
 use Rattle.sms_core.proofs.CoreLemmas.{core-entered, enters-made, held-counted, held-room, held-some, held-untouched}
