@@ -1,2 +1,3 @@
+mod HistoryLemmas
 mod RunLemmas
 mod WordLemmas

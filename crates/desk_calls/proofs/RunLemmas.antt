@@ -1,12 +1,87 @@
 -- One more answer.
-use Rattle.std.proofs.Common.{◌≡◌, ◌<◌, ◌≤◌, List, [], ◌∷◌, ◌++◌, ℕ, zero, suc, take, drop, length, get_or, refl, sym, ap, ◌∙◌, arith, append_assoc, append-nil, length-append}
-use Rattle.std.specs.List.{AllByRecursion}
+use Rattle.std.proofs.Common.{◌≡◌, ◌<◌, ◌≤◌, ◌+◌, List, [], ◌∷◌, ◌++◌, ℕ, zero, suc, Bool, true, false, cond, fold, take, drop, length, get_or, refl, sym, ap, ◌∙◌, arith, append_assoc, append-nil, length-append}
+use Rattle.std.specs.Prelude.{◌&&◌, ◌||◌, nat_le, count_by, Option}
+use Rattle.std.proofs.lemmas.Bool.Decides.{nat_tests}
 use Rattle.sms_construct.specs.declared.entry.Answer.{Answer}
 use Rattle.sms_construct.specs.declared.entry.Entry.{Entry}
-use Rattle.sms_core.specs.Core.{entry_of}
+use Rattle.sms_construct.specs.declared.request.Op.{Op}
+use Rattle.sms_construct.specs.declared.request.Request.{Request}
+use Rattle.sms_keeper.specs.declared.rows.Rows.{Rows}
+use Rattle.desk_law.specs.State.{Opening}
+use Rattle.desk_law.specs.Kept.{is_entered}
+use Rattle.desk_law.specs.Limits.{most_activations, most_entries}
+use Rattle.desk_law.specs.Step.{activates, is_activation}
+use Rattle.desk_records.specs.Full.{is_full_for}
+use Rattle.sms_core.specs.Core.{Enters, entry_of}
 use Rattle.sms_script.specs.declared.item.Item.{Item}
 use Rattle.sms_script.specs.Script.{items_of}
-use Rattle.desk_calls.specs.Run.{entries_of, AnswersFront, AnswersInOrder, AnswersPartly, HasNoPlace}
+use Rattle.desk_calls.specs.Run.{entries_of, AnswersFront, AnswersInOrder, AreDue, IsDue}
+
+-- A full journal stays full.
+
+fold-append : {X : Type 0} (f : ℕ → X → ℕ) (n : ℕ) (xs ys : List X) → fold f n (xs ++ ys) ≡ fold f (fold f n xs) ys
+fold-append f n [] ys = refl
+fold-append f n (x ∷ xs) ys = fold-append f (f n x) xs ys
+
+count-rises : {X : Type 0} (p : X → Bool) (n : ℕ) (xs : List X) → n ≤ fold (λ n y. n + cond (p y) 1 0) n xs
+count-rises p n [] = omega arith
+count-rises p n (x ∷ xs) = omega (arith, count-rises p (n + cond (p x) 1 0) xs)
+
+count-more : {X : Type 0} (p : X → Bool) (xs ys : List X) → count_by p xs ≤ count_by p (xs ++ ys)
+count-more p xs ys = rw (fold-append (λ n y. n + cond (p y) 1 0) 0 xs ys) (count-rises p (count_by p xs) ys)
+
+le-more : (most a b : ℕ) → a ≤ b → nat_le most a ≡ true → nat_le most b ≡ true
+le-more most a b more is = grind (arith, nat_tests, more, is)
+
+full-at : (a more b c further : Bool) → (a ≡ true → more ≡ true) → (c ≡ true → further ≡ true) → (a || (b && c)) ≡ true → (more || (b && further)) ≡ true
+full-at true more b c further first second is = rw (first refl) refl
+full-at false true b c further first second is = refl
+full-at false false true c further first second is = second is
+full-at false false false c further first second is = absurd cc
+
+full-more : (h more : List Entry) (op : Op) → is_full_for h op ≡ true → is_full_for (h ++ more) op ≡ true
+full-more h more op is =
+    let longer : length h ≤ length (h ++ more) = omega (arith, length-append h more) in
+    full-at (nat_le most_entries (length h)) (nat_le most_entries (length (h ++ more))) (is_activation op) (nat_le most_activations (count_by activates h)) (nat_le most_activations (count_by activates (h ++ more)))
+    (le-more most_entries (length h) (length (h ++ more)) longer) (le-more most_activations (count_by activates h) (count_by activates (h ++ more)) (count-more activates h more)) is
+
+-- Answers that are due.
+
+is-due-more : (h more : List Entry) (request : Request) (answer : Answer) → IsDue h request answer → IsDue (h ++ more) request answer
+is-due-more h more request answer due = record { unplaced = due.unplaced; first = due.first; full = λ is. full-more h more request.op (due.full is) }
+
+due-more : (h more : List Entry) (answers : List Answer) (items : List Item) → AreDue h answers items → AreDue (h ++ more) answers items
+due-more h more [] items due = tt
+due-more h more (a ∷ answers) [] due = tt
+due-more h more (a ∷ answers) (i ∷ items) due = (is-due-more h more i.request a due.0, due-more h more answers items due.1)
+
+due-push : (h : List Entry) (answers : List Answer) (items : List Item) (answer : Answer) (d : Item) → length answers < length items
+    → AreDue h answers items → IsDue h (get_or items (length answers) d).request answer → AreDue h (answers ++ answer ∷ []) items
+due-push h answers [] answer d less due one = absurd (omega arith)
+due-push h [] (i ∷ items) answer d less due one = (one, tt)
+due-push h (a ∷ answers) (i ∷ items) answer d less due one = (due.0, due-push h answers items answer d (omega arith) due.1 one)
+
+due-append : (h : List Entry) (xs ys : List Answer) (items more : List Item) → length xs ≡ length items → AreDue h xs items → AreDue h ys more → AreDue h (xs ++ ys) (items ++ more)
+due-append h [] ys [] more each due next = next
+due-append h [] ys (i ∷ items) more each due next = absurd (omega arith)
+due-append h (x ∷ xs) ys [] more each due next = absurd (omega arith)
+due-append h (x ∷ xs) ys (i ∷ items) more each due next = (due.0, due-append h xs ys items more (omega arith) due.1 next)
+
+no-place : (o : Opening) (old new : List Entry) (told told' : Option Rows) (count count' : ℕ) (request : Request) (answer : Answer) (b : Bool)
+    → Enters o old new told told' count count' request answer → is_entered answer.reply ≡ b → answer.place ≡ 0 → b ≡ false
+no-place o old new told told' count count' request answer false enters is none = refl
+no-place o old new told told' count count' request answer true enters is none = let next = enters.lawful is in absurd (omega (arith, none, next.step.place))
+
+-- the answer of a step is due
+step-due : (o : Opening) (old new : List Entry) (told told' : Option Rows) (count count' : ℕ) (request : Request) (answer : Answer)
+    → Enters o old new told told' count count' request answer → IsDue new request answer
+step-due o old new told told' count count' request answer enters = record {
+  unplaced = (λ none. no-place o old new told told' count count' request answer (is_entered answer.reply) enters refl none, λ none. (enters.no_place none).0);
+  first = λ none. (enters.no_place none).1;
+  full = λ is. rw enters.journal_is (full-more old (entry_of request answer) request.op (enters.full.0 is));
+}
+
+-- Entries.
 
 -- the next item's answer adds its entry
 entries_of-push : (answers : List Answer) (items : List Item) (answer : Answer) (d : Item) → length answers < length items
@@ -17,17 +92,13 @@ entries_of-push (a ∷ answers) (item ∷ items) answer d less =
     ap (λ es. entry_of item.request a ++ es) (entries_of-push answers items answer d (omega arith)) ∙ sym (append_assoc (entry_of item.request a) _ _)
 
 -- the core entered the next item's answer
-pub entered-push : (answers : List Answer) (items : List Item) (answer : Answer) (item : Item) (first before after : List Entry) → length answers < length items
+entered-push : (answers : List Answer) (items : List Item) (answer : Answer) (item : Item) (first before after : List Entry) → length answers < length items
     → item ≡ get_or items (length answers) item → before ≡ first ++ entries_of answers items → after ≡ before ++ entry_of item.request answer
     → after ≡ first ++ entries_of (answers ++ answer ∷ []) items
 entered-push answers items answer item first before after less here once next =
     let more : entries_of (answers ++ answer ∷ []) items ≡ entries_of answers items ++ entry_of item.request answer =
     entries_of-push answers items answer item less ∙ ap (λ (i : Item). entries_of answers items ++ entry_of i.request answer) (sym here) in
     next ∙ ap (λ es. es ++ entry_of item.request answer) once ∙ append_assoc first _ _ ∙ ap (λ es. first ++ es) (sym more)
-
-pub refused-push : (answers : List Answer) (answer : Answer) → AllByRecursion HasNoPlace answers → HasNoPlace answer → AllByRecursion HasNoPlace (answers ++ answer ∷ [])
-refused-push [] answer all last = (last, tt)
-refused-push (a ∷ answers) answer all last = (all.0, refused-push answers answer all.1 last)
 
 -- the answers of more items join
 entries_of-append : (xs ys : List Answer) (items more : List Item) → length xs ≡ length items → entries_of (xs ++ ys) (items ++ more) ≡ entries_of xs items ++ entries_of ys more
@@ -37,15 +108,38 @@ entries_of-append (x ∷ xs) ys [] more each = absurd (omega arith)
 entries_of-append (x ∷ xs) ys (i ∷ items) more each =
     ap (λ es. entry_of i.request x ++ es) (entries_of-append xs ys items more (omega arith)) ∙ sym (append_assoc (entry_of i.request x) _ _)
 
--- the items behind the answers enter nothing
-entries_of-few : (xs : List Answer) (items more : List Item) → length xs ≤ length items → entries_of xs (items ++ more) ≡ entries_of xs items
-entries_of-few [] items more few = refl
-entries_of-few (x ∷ xs) [] more few = absurd (omega arith)
-entries_of-few (x ∷ xs) (i ∷ items) more few = ap (λ es. entry_of i.request x ++ es) (entries_of-few xs items more (omega arith))
+-- Items of a phase.
 
-refused-append : (xs ys : List Answer) → AllByRecursion HasNoPlace xs → AllByRecursion HasNoPlace ys → AllByRecursion HasNoPlace (xs ++ ys)
-refused-append [] ys all more = more
-refused-append (x ∷ xs) ys all more = (all.0, refused-append xs ys all.1 more)
+-- no item is answered yet
+pub front-none : (items : List Item) (before : List Answer) (h : List Entry) → AnswersFront items 0 before before h h
+front-none items before h = record { answers = []; behind = sym (append-nil before); counted = refl; once = sym (append-nil h); due = tt }
+
+-- the next item is answered
+pub front-push : (items : List Item) (count : ℕ) (before after after' : List Answer) (old mid new : List Entry) (item : Item) (answer : Answer)
+    (o : Opening) (told told' : Option Rows) (faults faults' : ℕ) → AnswersFront items count before after old mid → count < length items → item ≡ get_or items count item
+    → Enters o mid new told told' faults faults' item.request answer → after' ≡ after ++ answer ∷ [] → AnswersFront items (count + 1) before after' old new
+front-push items count before after after' old mid new item answer o told told' faults faults' front less here enters grown =
+    let answers = front.answers in
+    let there : item ≡ get_or items (length answers) item = rw front.counted here in
+    let shorter : length answers < length items = omega (arith, front.counted, less) in
+    let due = step-due o mid new told told' faults faults' item.request answer enters in
+    record {
+      answers = answers ++ answer ∷ [];
+      behind = grown ∙ ap (λ all. all ++ answer ∷ []) front.behind ∙ append_assoc before answers (answer ∷ []);
+      counted = omega (arith, length-append answers (answer ∷ []), front.counted);
+      once = entered-push answers items answer item old mid new shorter there front.once enters.journal_is;
+      due = due-push new answers items answer item shorter (rw enters.journal_is (due-more mid (entry_of item.request answer) answers items front.due)) (rw (← there) due);
+    }
+
+-- so many answers there are
+pub front-length : (items : List Item) (count : ℕ) (before after : List Answer) (old new : List Entry) → AnswersFront items count before after old new → length after ≡ length before + count
+front-length items count before after old new front = rw front.behind (omega (arith, length-append before front.answers, front.counted))
+
+-- Phases.
+
+-- no phase is answered yet
+pub order-none : (h : List Entry) → AnswersInOrder [] [] h h
+order-none h = record { each = refl; once = sym (append-nil h); due = tt }
 
 -- one more phase is answered
 pub phase-answered : (items more : List Item) (before after : List Answer) (old mid new : List Entry) → AnswersInOrder items before old mid → AnswersFront more (length more) before after mid new
@@ -54,18 +148,8 @@ phase-answered items more before after old mid new done next = rw next.behind (r
   each = omega (arith, length-append before next.answers, length-append items more, done.each, next.counted);
   once = next.once ∙ ap (λ es. es ++ entries_of next.answers more) done.once ∙ append_assoc old _ _
       ∙ ap (λ es. old ++ es) (sym (entries_of-append before next.answers items more done.each));
-  refused = refused-append before next.answers done.refused next.refused;
+  due = due-append new before next.answers items more done.each (rw next.once (due-more mid (entries_of next.answers more) before items done.due)) next.due;
 })
-
--- a phase is answered in part, and those behind it not at all
-pub phase-partly : (items more rest : List Item) (before : List Answer) (old mid new : List Entry) → AnswersInOrder items before old mid → AnswersPartly more mid new → AnswersPartly (items ++ (more ++ rest)) old new
-phase-partly items more rest before old mid new done next = record {
-  done = before ++ next.done;
-  few = omega (arith, length-append before next.done, length-append items (more ++ rest), length-append more rest, done.each, next.few);
-  entered = next.entered ∙ ap (λ es. es ++ entries_of next.done more) done.once ∙ append_assoc old _ _
-      ∙ ap (λ es. old ++ (entries_of before items ++ es)) (sym (entries_of-few next.done more rest next.few))
-      ∙ ap (λ es. old ++ es) (sym (entries_of-append before next.done items (more ++ rest) done.each));
-}
 
 -- the items up to the next phase
 pub items_up_to : (phases : List (List Item)) (i : ℕ) (phase : List Item) → i < length phases → phase ≡ get_or phases i phase → items_of (take (suc i) phases) ≡ items_of (take i phases) ++ phase
@@ -75,9 +159,14 @@ items_up_to (p ∷ phases) (suc i) phase less here =
     ap (λ items. p ++ items) (items_up_to phases i phase (omega arith) here) ∙ sym (append_assoc p (items_of (take i phases)) phase)
 
 -- the items before a phase, those of it, and those behind it
-pub items_around : (phases : List (List Item)) (i : ℕ) (phase : List Item) → i < length phases → phase ≡ get_or phases i phase
+items_around : (phases : List (List Item)) (i : ℕ) (phase : List Item) → i < length phases → phase ≡ get_or phases i phase
     → items_of phases ≡ items_of (take i phases) ++ (phase ++ items_of (drop (suc i) phases))
 items_around [] i phase less here = absurd (omega arith)
 items_around (p ∷ phases) zero phase less here = ap (λ items. items ++ items_of phases) (sym here)
 items_around (p ∷ phases) (suc i) phase less here =
     ap (λ items. p ++ items) (items_around phases i phase (omega arith) here) ∙ sym (append_assoc p (items_of (take i phases)) _)
+
+-- a phase has room behind those before it
+pub phase-room : (phases : List (List Item)) (i : ℕ) (phase : List Item) → i < length phases → phase ≡ get_or phases i phase → length (items_of (take i phases)) + length phase ≤ length (items_of phases)
+phase-room phases i phase less here =
+    omega (arith, ap length (items_around phases i phase less here), length-append (items_of (take i phases)) (phase ++ items_of (drop (suc i) phases)), length-append phase (items_of (drop (suc i) phases)))

@@ -1,23 +1,77 @@
 -- The headline: the answers written are those of one legal history that holds each request of the script once.
-use Rattle.std.specs.Prelude.{◌≡◌, ◌+◌, List, [], ◌∷◌, ◌++◌, ℕ, length, Some, Ok}
+use Rattle.std.specs.Prelude.{◌≡◌, ◌+◌, ◌-◌, ◌^◌, ◌≤◌, ◌⊎◌, List, [], ◌∷◌, ◌++◌, ℕ, true, false, length, min, nat_lt, Option, Some, None, Ok}
 use Rattle.sms_construct.specs.declared.data_set.DataSet.{DataSet}
 use Rattle.sms_construct.specs.declared.entry.Answer.{Answer}
 use Rattle.sms_construct.specs.declared.entry.Entry.{Entry}
-use Rattle.sms_construct.specs.declared.reply.Reply.TheVariants.{Granted}
+use Rattle.sms_construct.specs.declared.reply.Reply.TheVariants.{Below, Granted}
 use Rattle.sms_construct.specs.declared.trace.Trace.{Trace}
-use Rattle.desk_history.specs.Configuration.{Configuration}
-use Rattle.desk_history.specs.State.{DeskState, extents_of}
-use Rattle.desk_history.specs.Step.{IsRepeat, kept_for}
-use Rattle.desk_history.specs.History.{IsLegal, Reaches}
-use Rattle.desk_history.specs.Grants.{GrantsLawfully}
-use Rattle.desk_history.specs.Tracks.{AllInside, NoTrackTwice}
+use Rattle.sms_keeper.specs.declared.kept_row.KeptRow.{KeptRow}
+use Rattle.sms_keeper.specs.declared.rows.Rows.{Rows}
+use Rattle.desk_law.specs.State.{DeskState}
+use Rattle.desk_law.specs.Extents.{pieces_on}
+use Rattle.desk_law.specs.Grants.{WasEntered}
+use Rattle.desk_law.specs.History.{IsLegal, Reaches}
+use Rattle.desk_law.specs.Kept.{floor_of, kept_for}
+use Rattle.desk_law.specs.Lawful.{IsLawful}
+use Rattle.desk_law.specs.Records.{empty_opening}
+use Rattle.desk_law.specs.Step.{IsFresh, RepeatsReply, ReusesNumber}
+use Rattle.desk_records.specs.Tied.{faults_in}
+use Rattle.sms_core.specs.Core.{HasTables}
 use Rattle.sms_script.specs.declared.item.Item.{Item}
 use Rattle.sms_script.specs.Script.{items_of, script_of}
 use Rattle.sms_script.specs.AnswerText.{text_of}
+use Rattle.track_ledger.specs.Gaps.{times_held}
 use Rattle.desk_calls.specs.Run.{AnswersInOrder}
 
+-- the tables of a keeper, where it tells them, and its count of faults
+pub record Keeping : Type 0 where
+  pub told : Option Rows
+  pub count : ℕ
+
+-- a repeated number: below its floor it is refused, a kept one gets its reply or is refused for another op, and each other is fresh
+pub record KeepsReplies (history : List Entry) : Type 0 where
+  pub below : (front rest : List Entry) (entry : Entry) → history ≡ front ++ entry ∷ rest
+      → nat_lt entry.request.number (floor_of empty_opening front entry.request.job) ≡ true → entry.answer.reply ≡ Below (floor_of empty_opening front entry.request.job)
+  pub kept : (front rest : List Entry) (entry : Entry) (row : KeptRow) → history ≡ front ++ entry ∷ rest
+      → nat_lt entry.request.number (floor_of empty_opening front entry.request.job) ≡ false
+      → kept_for empty_opening front entry.request.job entry.request.number ≡ Some row → RepeatsReply row entry ⊎ ReusesNumber row entry
+  pub fresh : (front rest : List Entry) (entry : Entry) → history ≡ front ++ entry ∷ rest
+      → nat_lt entry.request.number (floor_of empty_opening front entry.request.job) ≡ false
+      → kept_for empty_opening front entry.request.job entry.request.number ≡ None
+      → (s : DeskState) × (after : DeskState) × Reaches empty_opening front s × IsFresh (floor_of empty_opening front) s entry after
+  pub floors : (front more rest : List Entry) (job : List ℕ) → history ≡ (front ++ more) ++ rest → floor_of empty_opening front job ≤ floor_of empty_opening (front ++ more) job
+
+-- the history is lawful in all that it grants, holds and keeps
+pub record IsLawfulHistory (history : List Entry) : Type 0 where
+  -- each entry has the place at which it stands, counted from 1
+  pub places : (front rest : List Entry) (entry : Entry) → history ≡ front ++ entry ∷ rest → entry.answer.place ≡ length front + 1
+  -- legal history: each entry is a lawful step after those before it
+  pub legal : IsLegal empty_opening history
+  -- lawful grants: each grant, also a repeated one, is that of an entry with an equal request, whose classes and lines are those of the
+  -- routines of the configuration active there, on a volume that may be chosen, in pieces of the gap rule
+  pub grants : (front rest : List Entry) (entry : Entry) (set : DataSet) (trace : Trace) → history ≡ front ++ entry ∷ rest
+      → entry.answer.reply ≡ Granted set trace → WasEntered empty_opening front entry set trace
+  -- at each time the state is lawful: no track is held twice, and each extent lies inside its volume
+  pub lawful : (front rest : List Entry) (s : DeskState) → history ≡ front ++ rest → Reaches empty_opening front s → IsLawful s
+  -- no track of two data sets
+  pub tracks : (front rest : List Entry) (s : DeskState) → history ≡ front ++ rest → Reaches empty_opening front s
+      → (first middle last : List DataSet) (set other : DataSet) (volser : List ℕ) (track : ℕ) → s.sets ≡ first ++ set ∷ (middle ++ other ∷ last)
+      → times_held (pieces_on volser set.extents) track + times_held (pieces_on volser other.extents) track ≤ 1
+  pub kept : KeepsReplies history
+
+-- the items were answered on a new desk over a keeper, which was one thing before and is another after
+pub record WasRun (before after : Keeping) (phases : List (List Item)) (answers : List Answer) (history : List Entry) : Type 0 where
+  -- one history, each request once: each item has its answer, and the entries of the answers make the history in script order; the
+  -- items without a place are those answered M31 or R24, and R24 comes only where the history has no place for the op
+  pub once : AnswersInOrder (items_of phases) answers [] history
+  pub lawful : IsLawfulHistory history
+  -- the keeper counted each of its faults in the history, up to the greatest number that its count can be
+  pub faults : min (before.count + faults_in history) (2 ^ 64 - 1) ≤ after.count
+  -- the tables of the keeper are those of the history, where it tells them
+  pub tables : HasTables empty_opening history after.told
+
 -- the text is that of the answers to the script in these bytes, and they are those of one legal history
-pub record IsAnswered (bytes text : List ℕ) : Type 0 where
+pub record IsAnswered (before after : Keeping) (bytes text : List ℕ) : Type 0 where
   pub phases : List (List Item)
   pub answers : List Answer
   pub history : List Entry
@@ -25,20 +79,16 @@ pub record IsAnswered (bytes text : List ℕ) : Type 0 where
   pub script : script_of bytes ≡ Ok phases
   -- whole output: the text is that of the answers, with the number of entries
   pub printed : text ≡ text_of phases answers (length history)
-  -- one history, each request once: each item has its answer, and the entries of the answers make the history in script order
-  pub once : AnswersInOrder (items_of phases) answers [] history
-  -- each entry has the place at which it stands, counted from 1
-  pub places : (front rest : List Entry) (entry : Entry) → history ≡ front ++ entry ∷ rest → entry.answer.place ≡ length front + 1
-  -- legal history: each entry is a lawful step after those before it
-  pub legal : IsLegal history
-  -- lawful grants: a fresh grant has the classes and the tracks that the configuration active there gives it
-  pub grants : (front rest : List Entry) (entry : Entry) (set : DataSet) (trace : Trace) → history ≡ front ++ entry ∷ rest
-      → entry.answer.reply ≡ Granted set trace → entry.answer.first ≡ entry.answer.place → GrantsLawfully front entry.request.op set
-  -- no track of two data sets: at no time does a track belong to two extents
-  pub tracks : (front rest : List Entry) (s : DeskState) → history ≡ front ++ rest → Reaches front s → NoTrackTwice (extents_of s.sets)
-  -- inside the volumes: at each time each extent lies inside a volume of the active configuration
-  pub inside : (front rest : List Entry) (s : DeskState) (config : Configuration) → history ≡ front ++ rest → Reaches front s → s.active ≡ Some config → AllInside config s.sets
-  -- kept replies: a number that came before gets its kept reply, the fresh one of an earlier entry, or is refused for another op
-  pub kept : (front rest : List Entry) (entry earlier : Entry) → history ≡ front ++ entry ∷ rest
-      → kept_for entry.request.job entry.request.number front ≡ Some earlier
-      → IsRepeat earlier entry × (earlier.answer.first ≡ earlier.answer.place)
+  pub run : WasRun before after phases answers history
+
+-- the script in these bytes was run, and its answers found no memory for their text
+pub record IsUnprinted (before after : Keeping) (bytes : List ℕ) : Type 0 where
+  pub phases : List (List Item)
+  pub answers : List Answer
+  pub history : List Entry
+  pub script : script_of bytes ≡ Ok phases
+  pub run : WasRun before after phases answers history
+
+-- where memory was wanting, the keeper is as it was, or the whole script in these bytes was run
+abbrev pub IsLeft : Keeping → Keeping → List ℕ → Type 0
+IsLeft before after bytes = (after ≡ before) ⊎ IsUnprinted before after bytes

@@ -3,6 +3,7 @@
 
 mod answering;
 mod desk;
+mod lawful_history;
 mod script_run;
 mod status;
 mod words;

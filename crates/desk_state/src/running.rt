@@ -39,6 +39,7 @@ impl Running {
     pub fn reserve(&mut self) -> Result<(), AllocError>
         ensures room { OnOk result (0 < self.new.catalog.room) }
         ensures same { (s : DeskState) → IsRunning s self.old → IsRunning s self.new }
+        ensures volumes { self.new.volumes ≡ self.old.volumes }
     {
         self.catalog.reserve()
     }

@@ -23,21 +23,3 @@ pub const OTHER_WRITINGS: [&str; 5] = [
     "version = 1\nstorclass = { SC1 = {} }\nstorgroup = { SG1 = { volume = { VOL001 = { tracks = 100 } } } }\nroutine = { storclass = \"PROC STORCLAS SET &STORCLAS = 'SC1' END\", storgroup = \"PROC STORGRP SET &STORGRP = 'SG1' END\" }\n",
     "# a deck\n\n  version   =   1\n\n[ storclass . SC1 ]\n\n[storgroup.SG1.volume.VOL001]\n  tracks=+100\n\n[routine]\nstorclass = \"PROC STORCLAS SET &STORCLAS = 'SC1' END \"\nstorgroup = \" PROC STORGRP SET &STORGRP = 'SG1' END\"",
 ];
-
-/// Decks that are TOML documents of another form.
-pub const OTHER_FORMS: [&str; 14] = [
-    "",
-    "[storclass.SC1]\n[storgroup.SG1.volume.VOL001]\ntracks = 100\n[routine]\nstorclass = \"PROC STORCLAS SET &STORCLAS = 'SC1' END\"\nstorgroup = \"PROC STORGRP SET &STORGRP = 'SG1' END\"\n",
-    "version = 2\n[storclass.SC1]\n[storgroup.SG1.volume.VOL001]\ntracks = 100\n[routine]\nstorclass = \"PROC STORCLAS SET &STORCLAS = 'SC1' END\"\nstorgroup = \"PROC STORGRP SET &STORGRP = 'SG1' END\"\n",
-    "version = \"1\"\n[storclass.SC1]\n[storgroup.SG1.volume.VOL001]\ntracks = 100\n[routine]\nstorclass = \"PROC STORCLAS SET &STORCLAS = 'SC1' END\"\nstorgroup = \"PROC STORGRP SET &STORGRP = 'SG1' END\"\n",
-    "version = 1\nsystem = \"SYSA\"\n[storclass.SC1]\n[storgroup.SG1.volume.VOL001]\ntracks = 100\n[routine]\nstorclass = \"PROC STORCLAS SET &STORCLAS = 'SC1' END\"\nstorgroup = \"PROC STORGRP SET &STORGRP = 'SG1' END\"\n",
-    "version = 1\n[storclass.SC1]\n[storclass.SC2]\n[storgroup.SG1.volume.VOL001]\ntracks = 100\n[routine]\nstorclass = \"PROC STORCLAS SET &STORCLAS = 'SC1' END\"\nstorgroup = \"PROC STORGRP SET &STORGRP = 'SG1' END\"\n",
-    "version = 1\n[storclass.SC1]\n[storgroup.SG1.volume.VOL001]\ntracks = 100\n[storgroup.SG1.volume.VOL002]\ntracks = 100\n[routine]\nstorclass = \"PROC STORCLAS SET &STORCLAS = 'SC1' END\"\nstorgroup = \"PROC STORGRP SET &STORGRP = 'SG1' END\"\n",
-    "version = 1\n[storclass.SC1]\n[storgroup.SG1.volume.VOL001]\ntracks = 0\n[routine]\nstorclass = \"PROC STORCLAS SET &STORCLAS = 'SC1' END\"\nstorgroup = \"PROC STORGRP SET &STORGRP = 'SG1' END\"\n",
-    "version = 1\n[storclass.SC1]\n[storgroup.SG1.volume.VOL001]\ntracks = 982801\n[routine]\nstorclass = \"PROC STORCLAS SET &STORCLAS = 'SC1' END\"\nstorgroup = \"PROC STORGRP SET &STORGRP = 'SG1' END\"\n",
-    "version = 1\n[storclass.SC1]\n[storgroup.SG1.volume.VOL0001]\ntracks = 100\n[routine]\nstorclass = \"PROC STORCLAS SET &STORCLAS = 'SC1' END\"\nstorgroup = \"PROC STORGRP SET &STORGRP = 'SG1' END\"\n",
-    "version = 1\n[storclass.SC1]\n[storgroup.SG1.volume.VOL001]\ntracks = 100\n[routine]\nstorclass = \"PROC STORCLAS SET &STORCLAS = 'SC2' END\"\nstorgroup = \"PROC STORGRP SET &STORGRP = 'SG1' END\"\n",
-    "version = 1\n[storclass.SC1]\n[storgroup.SG1.volume.VOL001]\ntracks = 100\n[routine]\nstorclass = \"PROC STORCLAS SET &STORCLAS = 'SC1' END\"\nstorgroup = \"PROC STORGRP SET &STORCLAS = 'SG1' END\"\n",
-    "version = 1\n[storclass.SC1]\n[storgroup.SG1.volume.VOL001]\ntracks = 100\n[routine]\nstorclass = \"PROC STORCLAS SET &STORCLAS = 'SC1' END\"\nstorgroup = \"PROC STORGRP SET &STORGRP = 'SG1' END\"\nmgmtclass = \"PROC MGMTCLAS END\"\n",
-    "version = 1\n[storclass.sc1]\n[storgroup.SG1.volume.VOL001]\ntracks = 100\n[routine]\nstorclass = \"PROC STORCLAS SET &STORCLAS = 'sc1' END\"\nstorgroup = \"PROC STORGRP SET &STORGRP = 'SG1' END\"\n",
-];

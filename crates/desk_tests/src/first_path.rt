@@ -1,5 +1,5 @@
 //! One deck and its allocations, from the bytes in to the bytes out.
-use crate::decks::{BEFORE_TRACKS, BEHIND_TRACKS, OTHER_FORMS, OTHER_WRITINGS};
+use crate::decks::{BEFORE_TRACKS, BEHIND_TRACKS, OTHER_WRITINGS};
 use crate::running::{Outcome, answers, answers_on_deck, run};
 use desk_calls::RunStatus;
 use sms_script::ScriptErr;
@@ -131,19 +131,8 @@ fn each_writing_of_the_deck_means_the_same(rt: HostRuntime) -> Result<(), Fail> 
 }
 
 #[test]
-fn decks_of_another_form_are_refused(rt: HostRuntime) -> Result<(), Fail> {
+fn decks_that_are_no_documents_are_refused(rt: HostRuntime) -> Result<(), Fail> {
     let alloc = rt.alloc();
-    for deck in OTHER_FORMS {
-        let script = format!(in alloc; "SMSADMIN 1 ACTIVATE\n{deck}./END\n")?;
-        assert!(rt;
-            answers(
-                alloc,
-                script.as_bytes(),
-                b"1 1 1 SMSADMIN 1 R21 DECK K0 deck\nEND 1 1\n"
-            )?,
-            "{deck}"
-        );
-    }
     for deck in [
         "version",
         "version = 1\nversion = 1\n",
@@ -172,16 +161,16 @@ fn decks_of_another_form_are_refused(rt: HostRuntime) -> Result<(), Fail> {
 }
 
 #[test]
-fn a_second_activation_is_not_built(rt: HostRuntime) -> Result<(), Fail> {
+fn a_refused_deck_leaves_the_active_one(rt: HostRuntime) -> Result<(), Fail> {
     let alloc = rt.alloc();
     let script = format!(in alloc;
-        "{BEFORE_TRACKS}100{BEHIND_TRACKS}SMSADMIN 2 ACTIVATE\nversion\n./END\n"
+        "{BEFORE_TRACKS}100{BEHIND_TRACKS}SMSADMIN 2 ACTIVATE\nversion\n./END\nSMSADMIN 3 D SMS,VOLUME(VOL001)\n"
     )?;
     assert!(rt;
         answers(
             alloc,
             script.as_bytes(),
-            b"1 1 1 SMSADMIN 1 A04 ACTIVATED 1\n10 2 2 SMSADMIN 2 R21 DECK K0 active\nEND 2 2\n"
+            b"1 1 1 SMSADMIN 1 A04 ACTIVATED 1\n10 2 2 SMSADMIN 2 R21 DECK K1\n13 3 3 SMSADMIN 3 A06 VOLUME VOL001 SG1 ENABLE 100 100 0\nEND 3 3\n"
         )?
     );
     Ok(())

@@ -1,6 +1,7 @@
 //! Runs of the top call on sources and sinks in memory.
 use desk_calls::{RunStatus, desk_main};
 use sms_base::{MemSink, MemSource};
+use sms_keeper::MemKeeper;
 use std::alloc::Global;
 use std::test::Fail;
 
@@ -42,7 +43,7 @@ pub fn run_words(
 ) -> Result<Outcome, Fail> {
     let mut src = MemSource::new(script.to_vec(alloc)?, 16, reads);
     let mut out = MemSink::new(vec![in alloc; 0; room]?, 7, writes);
-    let status = desk_main(alloc, words, &mut src, &mut out);
+    let (status, _keeper) = desk_main(alloc, words, &mut src, &mut out, MemKeeper::new(alloc));
     let text = out.taken().to_vec(alloc)?;
     Ok(Outcome { status, text })
 }

@@ -1,42 +1,84 @@
 //! The core and a run of a script, called by themselves.
+use acs_tree::Slate;
 use desk_calls::run_script;
 use sms_construct::Reply;
 use sms_core::Core;
-use sms_script::read_script;
+use sms_keeper::{FaultKeeper, Keeper, MemKeeper};
+use sms_script::{Script, read_script};
+use std::alloc::Global;
 use std::test::Fail;
 
 const TWICE: &[u8] = b"JOB1 1 ALLOC A.B SPACE=(TRK,1)\nJOB1 1 ALLOC A.B SPACE=(TRK,1)\n";
 
+/// A purge of JOB1 to 3, its requests 2 and 3, and a purge to a lower number.
+const PURGED: &[u8] =
+    b"SMSADMIN 1 PURGE JOB1 3\nJOB1 2 DELETE A.B\nJOB1 3 DELETE A.B\nSMSADMIN 2 PURGE JOB1 2\n";
+
+fn script(alloc: Global, text: &[u8]) -> Result<Script, Fail> {
+    match read_script(alloc, text) {
+        Ok(script) => Ok(script),
+        Err(_) => Err(Fail::from("script")),
+    }
+}
+
 #[test]
 fn a_core_enters_each_request_that_it_answers(rt: HostRuntime) -> Result<(), Fail> {
     let alloc = rt.alloc();
-    let script = read_script(alloc, TWICE).map_err(|_| "script")?;
-    let mut core = Core::new(alloc);
+    let script = script(alloc, TWICE)?;
+    let mut core = Core::new(alloc, MemKeeper::new(alloc));
+    let mut slate = Slate::new(alloc)?;
     let [phase] = script.as_slice() else {
         return Err(Fail::from("phases"));
     };
     for (at, item) in phase.as_slice().iter().enumerate() {
-        let answer = core.step(&item.request);
+        let answer = core.step(&item.request, &mut slate);
         let place = at as u64 + 1;
         assert_eq!(rt; answer.place, place);
         assert_eq!(rt; answer.first, 1);
         assert!(rt; matches!(&answer.reply, Reply::NoConfig));
         assert_eq!(rt; core.journal().len() as u64, place);
     }
-    assert_eq!(rt; core.into_parts().len(), 2);
+    let (keeper, journal) = core.into_parts();
+    assert_eq!(rt; journal.len(), 2);
+    assert_eq!(rt; keeper.rows()?.replies.len(), 1);
     Ok(())
 }
 
 #[test]
-fn a_run_answers_each_item_of_its_script(rt: HostRuntime) -> Result<(), Fail> {
+fn a_fault_of_the_keeper_leaves_the_number_fresh(rt: HostRuntime) -> Result<(), Fail> {
     let alloc = rt.alloc();
-    let script = read_script(alloc, TWICE).map_err(|_| "script")?;
-    let (answers, core) = run_script(alloc, &script, Core::new(alloc));
+    let script = script(alloc, TWICE)?;
+    let keeper = FaultKeeper::new(alloc, &[1])?;
+    let mut slate = Slate::new(alloc)?;
+    let (answers, core) = run_script(alloc, &script, Core::new(alloc, keeper), &mut slate);
     let answers = answers?;
-    assert_eq!(rt; answers.len(), 2);
-    assert_eq!(rt; core.journal().len(), 2);
-    for answer in answers.as_slice() {
-        assert!(rt; matches!(&answer.reply, Reply::NoConfig));
-    }
+    let [fault, fresh] = answers.as_slice() else {
+        return Err(Fail::from("answers"));
+    };
+    assert!(rt; matches!(&fault.reply, Reply::KeeperFault));
+    assert!(rt; fault.place == 1 && fault.first == 1);
+    assert!(rt; matches!(&fresh.reply, Reply::NoConfig));
+    assert!(rt; fresh.place == 2 && fresh.first == 2);
+    assert_eq!(rt; core.keeper().faults(), 1);
+    Ok(())
+}
+
+#[test]
+fn a_floor_refuses_lower_numbers_and_never_falls(rt: HostRuntime) -> Result<(), Fail> {
+    let alloc = rt.alloc();
+    let script = script(alloc, PURGED)?;
+    let mut slate = Slate::new(alloc)?;
+    let core = Core::new(alloc, MemKeeper::new(alloc));
+    let (answers, core) = run_script(alloc, &script, core, &mut slate);
+    let answers = answers?;
+    let [first, below, fresh, last] = answers.as_slice() else {
+        return Err(Fail::from("answers"));
+    };
+    assert!(rt; matches!(&first.reply, Reply::Purged { floor: 3, .. }));
+    assert!(rt; matches!(&below.reply, Reply::Below { floor: 3 }));
+    assert!(rt; matches!(&fresh.reply, Reply::NotFound));
+    assert!(rt; matches!(&last.reply, Reply::Purged { floor: 3, .. }));
+    assert!(rt; core.active().is_none());
+    assert_eq!(rt; core.vol_rows()?.len(), 0);
     Ok(())
 }

@@ -1,3 +1,3 @@
-mod TableLemmas
-mod WordLemmas
-mod FormLemmas
+mod CoreLemmas
+mod DeedLemmas
+mod FreshLemmas

@@ -1,25 +1,49 @@
--- What a step of the core does to its journal.
-use Rattle.std.specs.Prelude.{true, false, ◌≡◌, List, [], ◌∷◌, ◌++◌, if◌then◌else◌}
+-- What contracts see of a core, and what a step does to it.
+use Rattle.std.specs.Prelude.{ℕ, true, false, ◌≡◌, ◌≤◌, ◌↔◌, List, [], ◌∷◌, ◌++◌, Option, IfSome, if◌then◌else◌}
+use Rattle.desk_common.specs.Causes.{Rose}
 use Rattle.sms_construct.specs.declared.entry.Answer.{Answer}
 use Rattle.sms_construct.specs.declared.entry.Entry.{Entry}
+use Rattle.sms_construct.specs.declared.reply.Reply.TheVariants as replies
 use Rattle.sms_construct.specs.declared.request.Request.{Request}
-use Rattle.desk_history.specs.State.{DeskState}
-use Rattle.desk_history.specs.Step.{is_entered, IsStep}
-use Rattle.desk_history.specs.History.{Reaches}
+use Rattle.sms_keeper.specs.declared.rows.Rows.{Rows}
+use Rattle.sms_keeper.specs.Told.{Stays}
+use Rattle.desk_law.specs.State.{DeskState, Opening}
+use Rattle.desk_law.specs.Kept.{is_entered}
+use Rattle.desk_law.specs.Step.{IsStep}
+use Rattle.desk_law.specs.History.{Reaches}
+use Rattle.desk_law.specs.Records.{IsTables}
+use Rattle.desk_records.specs.Full.{is_full_for}
+
+-- what the desk began with, all its entries, its keeper, and the keeper's count of faults as the core found it
+pub record CoreView (P : Type 0) : Type 0 where
+  pub opening : Opening
+  pub journal : List Entry
+  pub keeper : P
+  pub mark : ℕ
 
 -- the entry is a lawful step after these entries
-pub record IsNext (before : List Entry) (e : Entry) : Type 0 where
+pub record IsNext (o : Opening) (before : List Entry) (e : Entry) : Type 0 where
   pub state : DeskState
   pub after : DeskState
-  pub reaches : Reaches before state
-  pub step : IsStep before state e after
+  pub reaches : Reaches o before state
+  pub step : IsStep o before state e after
 
--- the entry that an answer makes, if any: all but want of memory make one
+-- the entry that an answer makes, if any
 abbrev pub entry_of : Request → Answer → List Entry
 entry_of request answer = if is_entered answer.reply then record { request = request; answer = answer } ∷ [] else []
 
--- the answer's entry joins the journal, and is lawful there; an answer without an entry has no place and changes nothing
-pub record Enters (old : List Entry) (request : Request) (answer : Answer) (new : List Entry) : Type 0 where
-  pub journal : new ≡ old ++ entry_of request answer
-  pub lawful : is_entered answer.reply ≡ true → IsNext old (record { request = request; answer = answer })
+-- the answer's entry, which is lawful there, joins the journal; an answer without an entry has no place, and the tables stay
+pub record Enters (o : Opening) (old new : List Entry) (told told' : Option Rows) (count count' : ℕ) (request : Request) (answer : Answer) : Type 0 where
+  pub journal_is : new ≡ old ++ entry_of request answer
+  pub lawful : is_entered answer.reply ≡ true → IsNext o old (record { request = request; answer = answer })
   pub no_place : is_entered answer.reply ≡ false → (answer.place ≡ 0) × (answer.first ≡ 0)
+  pub no_change : is_entered answer.reply ≡ false → Stays told told'
+  -- the journal is full exactly where it has no place for the op
+  pub full : answer.reply ≡ replies.JournalFull ↔ is_full_for old request.op ≡ true
+  -- a fault of the keeper is told only where its count rose
+  pub cause : answer.reply ≡ replies.KeeperFault → Rose count count'
+  pub rises : count ≤ count'
+
+-- tables that are told are those of the history
+abbrev pub HasTables : Opening → List Entry → Option Rows → Type 0
+HasTables o h told = IfSome told (λ rows. (s : DeskState) → Reaches o h s → IsTables o h s rows)

@@ -1,90 +1,185 @@
-//! The core: the journal, and the state after it.
-ghost use Rattle.std.specs.Prelude.{◌≡◌, []};
-ghost use Rattle.desk_history.specs.History.{IsLegal};
-ghost use Rattle.sms_core.specs.Core.{Enters};
+//! The core: the journal, the state after it, and the records.
+ghost use Rattle.std.specs.Prelude.{◌≡◌, ◌≤◌, ◌+◌, ◌-◌, ◌^◌, [], cond, IfOk, IfSome, MatchOption, map, min, None, Some};
+ghost use Rattle.std.specs.Option.{option_copied};
+ghost use Rattle.sms_keeper.specs.Tables.{AreSame, no_rows};
+ghost use Rattle.desk_law.specs.State.{DeskState, set_named};
+ghost use Rattle.desk_law.specs.Display.{shown_volume};
+ghost use Rattle.desk_law.specs.Volumes.{volumes_in};
+ghost use Rattle.desk_law.specs.Step.{is_activation};
+ghost use Rattle.desk_law.specs.History.{IsLegal, Reaches};
+ghost use Rattle.desk_law.specs.Records.{empty_opening};
+ghost use Rattle.desk_records.specs.Tied.{IsSoundOpening, faults_in};
+ghost use Rattle.sms_core.specs.Core.{Enters, HasTables};
 
-use crate::running::Running;
-use crate::stepping::{Prepared, prepare};
-use desk_common::Items;
-use sms_construct::{Answer, Entry, Journal, Reply, Request};
-use std::alloc::Global;
+use crate::preparing::{Prepared, prepare};
+use crate::room::take_room;
+use acs_tree::Slate;
+use desk_common::{Items, Shared};
+use desk_records::{Opening, Records, is_full, request_is_sound};
+use desk_state::Running;
+use dsn_mask::Dsn;
+use sms_construct::{Answer, DataSet, Entry, Journal, Op, Reply, Request, VolRows};
+use sms_deck::Config;
+use sms_keeper::{Keeper, RequestLog};
+use std::alloc::{AllocError, Global};
 use std::marker::Model;
+use std::snapshot::Snapshot;
 
-/// The desk's core, which contracts see as its journal.
+/// The desk's core over a keeper of its records.
 #[derive(Drop)]
-pub struct Core {
+pub struct Core<P: Keeper> {
+    opening: Snapshot<Opening>,
+    base: u64,
+    mark: u64,
     journal: Vec<Entry>,
-    state: Running,
+    // how many of the entries ask for an activation
+    asked: usize,
+    running: Running,
+    records: Records<P>,
 }
 
-impl Model for Core {
-    ghost use Rattle.std.specs.Prelude.{List};
-    ghost use Rattle.sms_construct.specs.declared.entry.Entry.{Entry};
-    ghost use Rattle.desk_history.specs.History.{Reaches};
+impl<P: Keeper> Model for Core<P> {
+    ghost use Rattle.acs_tree.specs.contracts.routine.Form as form;
+    ghost use Rattle.std.specs.Coded.{codes};
+    ghost use Rattle.sms_core.specs.Core.{CoreView};
+    ghost use Rattle.sms_core.specs.Standing.{IsCore};
 
-    ghost Value = { List Entry };
+    ghost Value = { CoreView P };
 
-    ghost view = { λ c. c.journal.items };
+    ghost coded = { Prim.hlevel (codes, form.the_row.coded, P.code) };
 
-    ghost invariant = { λ c. Reaches c.journal.items c.state.state };
+    ghost view = { λ c. record { opening = c.opening.value; journal = c.journal.items; keeper = c.records.keeper; mark = c.mark } };
+
+    ghost invariant = { λ c. IsCore c.opening.value c.base c.asked c.journal.items c.running c.records.log (P.told c.records.keeper) c.mark (P.count c.records.keeper) };
 }
 
-impl Core {
-    /// A desk with nothing active and nothing catalogued.
-    pub fn new(alloc: Global) -> Self
-        ensures { result ≡ [] }
+impl<P: Keeper> Core<P> {
+    /// A desk with nothing active and nothing catalogued, over a keeper of empty tables. It takes no memory.
+    pub fn new(alloc: Global, keeper: P) -> Self
+        requires { IfSome (P.told keeper) (λ rows. AreSame rows no_rows) }
+        ensures opening { result.opening ≡ empty_opening }
+        ensures journal { result.journal ≡ [] }
+        ensures keeper { result.keeper ≡ keeper }
+        ensures mark { result.mark ≡ P.count keeper }
     {
+        let mark = keeper.faults();
         Core {
+            opening: Opening::empty_snapshot(alloc),
+            base: 0,
+            mark,
             journal: Vec::new(alloc),
-            state: Running::new(alloc),
+            asked: 0,
+            running: Running::new(alloc),
+            records: Records {
+                log: RequestLog::new(alloc),
+                keeper,
+            },
         }
     }
 
-    /// All entries so far, in their order.
-    pub fn journal(&self) -> &[Entry]
-        ensures entries { result.now ≡ self.now }
-        ensures legal { IsLegal self.now }
+    /// Answers one request and enters it in the journal (docs/rules.md, "Order of answers"). Where the journal is
+    /// full or memory is wanting, nothing changes and nothing is entered. What was on the slate is gone.
+    pub fn step(&mut self, request: &Request, slate: &mut Slate) -> Answer
+        ensures opening { self.new.opening ≡ self.old.opening }
+        ensures mark { self.new.mark ≡ self.old.mark }
+        ensures enters { Enters self.old.opening self.old.journal self.new.journal (P.told self.old.keeper) (P.told self.new.keeper) (P.count self.old.keeper) (P.count self.new.keeper) request.now result }
     {
-        &self.journal
-    }
-
-    /// Answers one request and enters it in the journal. Where memory is wanting nothing changes, and nothing is entered.
-    pub fn step(&mut self, request: &Request) -> Answer
-        ensures enters { Enters self.old request.now result self.new }
-    {
-        if self.journal.reserve(1).is_err() || self.state.reserve().is_err() {
-            return want_of_memory();
+        if is_full(&self.journal, self.asked, &request.op) {
+            return without_entry(Reply::JournalFull);
         }
-        let Ok(prepared) = prepare(&self.journal, &self.state, request) else {
-            return want_of_memory();
+        if take_room(&mut self.journal, &mut self.records).is_err() {
+            return without_entry(Reply::Memory);
+        }
+        // Facts for the proof; nothing runs.
+        request_is_sound(request);
+        let place = self.base + self.journal.len() as u64 + 1;
+        let made = prepare(place, request, &mut self.running, &mut self.records, slate);
+        let Ok(Prepared { entry, answer }) = made else {
+            return without_entry(Reply::Memory);
         };
-        let Prepared {
-            entry,
-            answer,
-            effect,
-        } = prepared;
-        self.state.apply(effect);
+        self.asked += activations_of(&request.op);
         self.journal.push_reserved(entry);
         answer
     }
 
-    /// The journal, when the desk closes.
-    pub fn into_parts(self) -> Journal
-        ensures entries { result ≡ self }
-        ensures legal { IsLegal self }
+    /// All entries so far, in their order: a legal history behind the opening. Of its entries no more are faults of
+    /// the keeper than the keeper counted since it was handed in.
+    pub fn journal(&self) -> &[Entry]
+        ensures entries { result.now ≡ self.now.journal }
+        ensures sound { IsSoundOpening self.now.opening }
+        ensures legal { IsLegal self.now.opening self.now.journal }
+        ensures counted { min (self.now.mark + faults_in self.now.journal) (2 ^ 64 - 1) ≤ P.count self.now.keeper }
+        ensures tables { HasTables self.now.opening self.now.journal (P.told self.now.keeper) }
     {
-        let Core { journal, .. } = self;
-        Items::from_vec(journal)
+        &self.journal
+    }
+
+    /// The active configuration, with the number of activations that there were.
+    pub fn active(&self) -> Option<(u64, &Shared<Config>)>
+        ensures { (s : DeskState) → Reaches self.now.opening self.now.journal s → MatchOption result (s.active ≡ None) (λ active. (active.0 ≡ s.activations) × (s.active ≡ Some active.1.now)) }
+    {
+        match &self.running.config {
+            Some(config) => Some((self.running.activations, config)),
+            None => None,
+        }
+    }
+
+    /// All volumes of the active configuration as reports show them, in byte order, or want of memory.
+    pub fn vol_rows(&self) -> Result<VolRows, AllocError>
+        ensures { IfOk result (λ rows. (s : DeskState) → Reaches self.now.opening self.now.journal s → rows ≡ map (shown_volume s) (volumes_in s.active)) }
+    {
+        self.running.volumes.rows(self.running.alloc)
+    }
+
+    /// The catalogued data set of this name.
+    pub fn set(&self, dsn: &Dsn) -> Option<&DataSet>
+        ensures { (s : DeskState) → Reaches self.now.opening self.now.journal s → option_copied result ≡ set_named dsn.now s.sets }
+    {
+        match self.running.catalog.get(dsn) {
+            Some(set) => Some(set.get()),
+            None => None,
+        }
+    }
+
+    /// The keeper.
+    pub fn keeper(&self) -> &P
+        ensures { result.now ≡ self.now.keeper }
+    {
+        &self.records.keeper
+    }
+
+    /// The keeper and the journal, when the desk closes.
+    pub fn into_parts(self) -> (P, Journal)
+        ensures keeper { result.0 ≡ self.keeper }
+        ensures entries { result.1 ≡ self.journal }
+        ensures legal { IsLegal self.opening self.journal }
+        ensures counted { min (self.mark + faults_in self.journal) (2 ^ 64 - 1) ≤ P.count self.keeper }
+        ensures tables { HasTables self.opening self.journal (P.told self.keeper) }
+    {
+        let Core {
+            journal,
+            records,
+            ..
+        } = self;
+        let Records { keeper, .. } = records;
+        (keeper, Items::from_vec(journal))
     }
 }
 
 // The answer without an entry.
-fn want_of_memory() -> Answer
-    ensures { result ≡ record { place = 0; first = 0; reply = Reply.Memory } }
+fn without_entry(reply: Reply) -> Answer
+    ensures { result ≡ record { place = 0; first = 0; reply = reply } }
 {
     Answer {
         place: 0,
         first: 0,
-        reply: Reply::Memory,
+        reply,
     }
+}
+
+// 1 for an op that asks for an activation, and else 0.
+fn activations_of(op: &Op) -> usize
+    ensures { result ≡ cond (is_activation op.now) 1 0 }
+{
+    usize::from(matches!(op, Op::Activate(_)))
 }

@@ -1,15 +1,10 @@
-//! The desk's core: each request that it enters is a lawful step of its history.
+//! The desk's core over a keeper: each request that it enters is a lawful step of its history.
 #![tactic(auto)]
 
-mod config;
+mod classifying;
 mod core_state;
-mod decision;
-mod deck_form;
-mod deck_keys;
-mod deck_reader;
-mod effect;
-mod routine_form;
-mod running;
-mod stepping;
+mod preparing;
+mod room;
 
+pub use classifying::classify;
 pub use core_state::Core;

@@ -5,6 +5,7 @@ mod help;
 
 use desk_calls::{RunStatus, desk_main};
 use sms_base::{StdSink, StdSource, Words, read_words};
+use sms_keeper::MemKeeper;
 use sms_script::ScriptErr;
 use std::io::{self, Write};
 use std::process::ExitCode;
@@ -26,7 +27,9 @@ fn main(rt: HostRuntime) -> ExitCode {
 fn answer(rt: &HostRuntime, words: &[String]) -> RunStatus {
     let mut src = StdSource::new(rt.reader());
     let mut out = StdSink::new(io::writer(rt));
-    desk_main(rt.alloc(), words, &mut src, &mut out)
+    let keeper = MemKeeper::new(rt.alloc());
+    let (status, _keeper) = desk_main(rt.alloc(), words, &mut src, &mut out, keeper);
+    status
 }
 
 // Writes a text to standard output.

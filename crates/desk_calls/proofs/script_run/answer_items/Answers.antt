@@ -1,37 +1,25 @@
-use Rattle.std.proofs.Common.{◌≡◌, ◌<◌, ◌++◌, ◌∷◌, [], length, get_or, arith, rules, refl, sym, ◌∙◌, ap, append_assoc, append-nil, length-append}
-use Rattle.desk_calls.proofs.RunLemmas.{entered-push, refused-push}
+use Rattle.std.proofs.Common.{◌≡◌, ◌<◌, ◌+◌, length, arith, refl, ◌∙◌}
+use Rattle.desk_calls.proofs.RunLemmas.{front-length, front-none, front-push}
 use Rattle.desk_calls.proofs.script_run.answer_items.Goals as goal
 
 pub loop-item-init : goal.loop-item-init
-loop-item-init c = record { answers = []; behind = sym (append-nil c.args.answers.now); counted = refl; once = sym (append-nil c.args.core.now); refused = tt }
+loop-item-init g c = (front-none c.args.items.now c.args.answers.now.items c.args.core.now.journal, refl, refl, refl)
 
--- the answer that found no room is done all the same
-pub returns-then-is_err-clause-partly : goal.returns-then-is_err-clause-partly
-returns-then-is_err-clause-partly c =
-    let front = c.loop-item.invariant in
-    let answers = front.answers in
-    let answer = c.step-answer.result in
-    let here : c.item-item.result ≡ get_or c.args.items.now (length answers) c.item-item.result = rw front.counted c.item-item.is in
-    let less : length answers < length c.args.items.now = omega arith in
-    record {
-      done = answers ++ answer ∷ [];
-      few = omega (arith, length-append answers (answer ∷ []));
-      entered = entered-push answers c.args.items.now answer c.item-item.result _ _ _ less here front.once c.step-answer.ensures.enters.journal;
-    }
+-- there is room for the next answer
+pub push_reserved-requires : goal.push_reserved-requires
+push_reserved-requires g c =
+    let before = c.loop-item.invariant in
+    omega (arith, front-length _ _ _ _ _ _ before.0, c.loop-item.answers.ok.0, c.args.answers.now.ok.0, c.requires.room, before.1.0, c.loop-item-test.true)
 
 -- the next item is answered
 pub loop-item-preserved : goal.loop-item-preserved
-loop-item-preserved c =
-    let front = c.loop-item.invariant in
-    let answers = front.answers in
-    let answer = c.step-answer.result in
-    let here : c.item-item.result ≡ get_or c.args.items.now (length answers) c.item-item.result = rw front.counted c.item-item.is in
-    let less : length answers < length c.args.items.now = omega arith in
-    let grown : c.push.new.self ≡ c.loop-item.answers ++ answer ∷ [] = search rules in
-    record {
-      answers = answers ++ answer ∷ [];
-      behind = grown ∙ ap (λ all. all ++ answer ∷ []) front.behind ∙ append_assoc _ answers (answer ∷ []);
-      counted = omega (arith, length-append answers (answer ∷ []), front.counted);
-      once = entered-push answers c.args.items.now answer c.item-item.result _ _ _ less here front.once c.step-answer.ensures.enters.journal;
-      refused = refused-push answers answer front.refused c.step-answer.ensures.enters.no_place;
-    }
+loop-item-preserved g c =
+    let before = c.loop-item.invariant in
+    let less : c.loop-item.item-index < length c.args.items.now = omega (arith, c.loop-item-test.true) in
+    (
+      front-push c.args.items.now c.loop-item.item-index c.args.answers.now.items c.loop-item.answers.items c.push_reserved.new.self.items c.args.core.now.journal c.loop-item.core.journal c.step-answer.new.self.journal
+      c.item-item.result c.step-answer.result _ _ _ _ _ before.0 less c.item-item.is c.step-answer.ensures.enters c.push_reserved.ensures.items,
+      c.push_reserved.ensures.capacity ∙ before.1.0,
+      c.step-answer.ensures.opening ∙ before.1.1.0,
+      c.step-answer.ensures.mark ∙ before.1.1.1,
+    )

@@ -1,25 +1,32 @@
-use Rattle.std.proofs.Common.{◌≡◌, ◌++◌, suc, length, take, drop, add-one, arith, rules}
+use Rattle.std.proofs.Common.{◌≡◌, ◌<◌, ◌+◌, length, take, add-one, arith, refl, ◌∙◌}
 use Rattle.sms_script.specs.Script.{items_of}
-use Rattle.desk_calls.specs.Run.{AnswersFront, AnswersInOrder, AnswersPartly}
-use Rattle.desk_calls.proofs.RunLemmas.{items_around, items_up_to, phase-answered, phase-partly}
+use Rattle.desk_calls.proofs.RunLemmas.{items_up_to, order-none, phase-answered, phase-room}
 use Rattle.desk_calls.proofs.script_run.answer_phases.Goals as goal
 
--- a phase was answered in part
-pub returns-then-is_err-clause-partly : goal.returns-then-is_err-clause-partly
-returns-then-is_err-clause-partly c =
+pub loop-phase-init : goal.loop-phase-init
+loop-phase-init g c = (rw c.requires.none (order-none c.args.core.now.journal), refl, refl, refl)
+
+-- there is room for the answers of the next phase
+pub answer_items-requires-clause-room : goal.answer_items-requires-clause-room
+answer_items-requires-clause-room g c =
+    let before = c.loop-phase.invariant in
     let phases = c.args.phases.now in
     let i = c.loop-phase.phase-index in
-    let phase = c.phase-item.result in
-    let partly : AnswersPartly phase c.loop-phase.core c.answer_items.new.core = search rules in
-    rw (items_around phases i phase (omega (arith, c.loop-phase-test.true)) c.phase-item.is)
-    (phase-partly (items_of (take i phases)) phase (items_of (drop (suc i) phases)) c.loop-phase.answers c.args.core c.loop-phase.core c.answer_items.new.core c.loop-phase.invariant partly)
+    let less : i < length phases = omega (arith, c.loop-phase-test.true) in
+    omega (arith, phase-room phases i c.phase-item.result less c.phase-item.is, before.0.each, c.loop-phase.answers.ok.0, before.1.0, c.requires.room)
 
 -- the next phase is answered
 pub loop-phase-preserved : goal.loop-phase-preserved
-loop-phase-preserved c =
+loop-phase-preserved g c =
+    let before = c.loop-phase.invariant in
     let phases = c.args.phases.now in
     let i = c.loop-phase.phase-index in
     let phase = c.phase-item.result in
-    let more : AnswersFront phase (length phase) c.loop-phase.answers c.answer_items.new.answers c.loop-phase.core c.answer_items.new.core = search rules in
-    rw (add-one, items_up_to phases i phase (omega (arith, c.loop-phase-test.true)) c.phase-item.is)
-    (phase-answered (items_of (take i phases)) phase c.loop-phase.answers c.answer_items.new.answers c.args.core c.loop-phase.core c.answer_items.new.core c.loop-phase.invariant more)
+    let less : i < length phases = omega (arith, c.loop-phase-test.true) in
+    (
+      rw (add-one, items_up_to phases i phase less c.phase-item.is)
+      (phase-answered (items_of (take i phases)) phase c.loop-phase.answers.items c.answer_items.new.answers.items c.args.core.now.journal c.loop-phase.core.journal c.answer_items.new.core.journal before.0 c.answer_items.ensures.answered),
+      c.answer_items.ensures.capacity ∙ before.1.0,
+      c.answer_items.ensures.opening ∙ before.1.1.0,
+      c.answer_items.ensures.mark ∙ before.1.1.1,
+    )

@@ -1,32 +1,70 @@
-use Rattle.std.proofs.Common.{◌≡◌, ◌<◌, ◌+◌, ◌^◌, [], ◌∷◌, ◌++◌, length, rules, arith}
-use Rattle.desk_history.specs.History.{Reaches}
-use Rattle.desk_history.proofs.HistoryLemmas.{step-packed, Reaches-push, Reaches-activations}
-use Rattle.sms_core.specs.Effect.{state_with}
+use Rattle.std.proofs.Common.{◌≡◌, ◌+◌, ◌++◌, ◌∷◌, [], false, length, cond, sym, ◌∙◌, arith}
+use Rattle.std.specs.Prelude.{count_by}
+use Rattle.desk_law.specs.Step.{activates, is_activation}
+use Rattle.desk_records.specs.Full.{is_full_for}
+use Rattle.desk_records.specs.Tied.{IsReady}
+use Rattle.sms_core.specs.Standing.{IsHeld}
+use Rattle.sms_core.proofs.CoreLemmas.{core-entered, enters-made, held-counted, held-room, held-some, held-untouched}
 use Rattle.sms_core.proofs.core_state.Core.step.Goals as goal
 
--- the step keeps the data sets in one stack
-pub apply-requires-clause-packed : goal.apply-requires-clause-packed
-apply-requires-clause-packed c =
-    let state = c.reserve-else-is_err.new.self.state in
-    let journal = c.deref.result.now in
-    let reaches : Reaches journal state = rw (c.deref.ensures.value, c.reserve.ensures.items, c.reserve-else-is_err.ensures.state) c.self.invariant in
-    step-packed journal state (state_with state c.in-Ok.prepared.effect) c.in-Ok.prepared.entry reaches c.in-Ok.ensures.step
+pub invariant_of-self : goal.invariant_of-self
+invariant_of-self g c =
+    let keeper = c.take_room.ensures.keeper in
+    let held : IsHeld c.self.inside.opening.value c.take_room.new.journal.items c.self.inside.running c.take_room.new.records.log (g.P.Keeper.told c.take_room.new.records.keeper) c.self.inside.mark (g.P.Keeper.count c.take_room.new.records.keeper)
+    = rw (c.take_room.ensures.entries, keeper) (held-room _ _ c.self.inside.running c.self.inside.running c.self.inside.records.log c.take_room.new.records.log _ _ _ c.self.invariant.held (λ s stands. stands) c.take_room.ensures.log) in
+    record { held = held; base_is = c.self.invariant.base_is; asked_is = rw c.take_room.ensures.entries c.self.invariant.asked_is }
 
--- there are no more activations than entries
-pub apply-requires-clause-few : goal.apply-requires-clause-few
-apply-requires-clause-few c =
-    let state = c.reserve-else-is_err.new.self.state in
-    let journal = c.deref.result.now in
-    let reaches : Reaches journal state = rw (c.deref.ensures.value, c.reserve.ensures.items, c.reserve-else-is_err.ensures.state) c.self.invariant in
-    let few : length journal + 1 < 2 ^ 64 = search rules in
-    omega (arith, Reaches-activations journal state reaches, few)
+pub prepare-made-requires-clause-state : goal.prepare-made-requires-clause-state
+prepare-made-requires-clause-state g c = held-some _ _ _ _ _ _ _ c.self.invariant.held
 
--- the entry joins the journal that the state is of
+pub prepare-made-requires-clause-counted : goal.prepare-made-requires-clause-counted
+prepare-made-requires-clause-counted g c =
+    let not_full : is_full_for c.self.inside.journal.items c.args.request.now.op ≡ false = rw (← c.deref.ensures.value) (sym c.is_full.ensures ∙ c.if-is_full.false) in
+    held-counted _ _ _ _ _ _ _ c.args.request.now.op c.self.invariant.held not_full
+
+pub invariant_of-self-in_default : goal.invariant_of-self-in_default
+invariant_of-self-in_default g c =
+    let keeper = c.take_room.ensures.keeper in
+    let held : IsHeld c.self.inside.opening.value c.take_room.new.journal.items c.self.inside.running c.take_room.new.records.log (g.P.Keeper.told c.take_room.new.records.keeper) c.self.inside.mark (g.P.Keeper.count c.take_room.new.records.keeper)
+    = rw (c.take_room.ensures.entries, keeper) (held-room _ _ c.self.inside.running c.self.inside.running c.self.inside.records.log c.take_room.new.records.log _ _ _ c.self.invariant.held (λ s stands. stands) c.take_room.ensures.log) in
+    record {
+      held = held-untouched _ _ c.self.inside.running c.prepare-made.new.running c.take_room.new.records.log c.prepare-made.new.records.log _ _ _ _ _ held c.in_default.ensures.running c.in_default.ensures.err c.prepare-made.ensures.rises;
+      base_is = c.self.invariant.base_is;
+      asked_is = rw c.take_room.ensures.entries c.self.invariant.asked_is;
+    }
+
 pub invariant_of-self-2 : goal.invariant_of-self-2
-invariant_of-self-2 c =
-    let state = c.reserve-else-is_err.new.self.state in
-    let journal = c.deref.result.now in
-    let reaches : Reaches journal state = rw (c.deref.ensures.value, c.reserve.ensures.items, c.reserve-else-is_err.ensures.state) c.self.invariant in
-    let entry = c.in-Ok.prepared.entry in
-    let grown : c.push_reserved.new.self.items ≡ c.reserve.new.self.items ++ entry ∷ [] = search rules in
-    rw (grown, ← c.deref.ensures.value, c.apply.ensures) (Reaches-push journal state (state_with state c.in-Ok.prepared.effect) entry reaches c.in-Ok.ensures.step)
+invariant_of-self-2 g c =
+    let keeper = c.take_room.ensures.keeper in
+    let held : IsHeld c.self.inside.opening.value c.take_room.new.journal.items c.self.inside.running c.take_room.new.records.log (g.P.Keeper.told c.take_room.new.records.keeper) c.self.inside.mark (g.P.Keeper.count c.take_room.new.records.keeper)
+    = rw (c.take_room.ensures.entries, keeper) (held-room _ _ c.self.inside.running c.self.inside.running c.self.inside.records.log c.take_room.new.records.log _ _ _ c.self.invariant.held (λ s stands. stands) c.take_room.ensures.log) in
+    let not_full : is_full_for c.self.inside.journal.items c.args.request.now.op ≡ false = rw (← c.deref.ensures.value) (sym c.is_full.ensures ∙ c.if-is_full.false) in
+    let still : is_full_for c.take_room.new.journal.items c.args.request.now.op ≡ false = rw c.take_room.ensures.entries not_full in
+    let length_is : c.len.result ≡ length c.take_room.new.journal.items = c.len.ensures ∙ c.take_room.new.journal.ok.0 in
+    let ready : IsReady c.self.inside.opening.value c.take_room.new.journal.items held.state c.take_room.new.records.log (g.P.Keeper.told c.take_room.new.records.keeper) c.self.inside.mark (g.P.Keeper.count c.take_room.new.records.keeper)
+    (c.self.inside.base + c.len.result + 1) c.args.request.now
+    = record { tied = held.tied; place_is = omega (arith, c.self.invariant.base_is, length_is); not_full = still; number = c.request_is_sound.ensures.number; sound = c.request_is_sound.ensures.sound } in
+    let has = c.in-Ok.ensures.enters c.self.inside.opening.value c.take_room.new.journal.items held.state c.self.inside.mark ready held.stands in
+    let asked_is : c.self.inside.asked ≡ count_by activates c.take_room.new.journal.items = rw c.take_room.ensures.entries c.self.invariant.asked_is in
+    let more : c.activations_of.result ≡ cond (is_activation c.in-Ok.field-0.entry.request.op) 1 0 = rw c.in-Ok.ensures.request c.activations_of.ensures in
+    core-entered c.self.inside.opening.value c.self.inside.base c.self.inside.asked c.activations_of.result c.take_room.new.journal.items c.push_reserved.new.self.items held.state c.in-Ok.field-0.entry c.prepare-made.new.running
+    c.prepare-made.new.records.log (g.P.Keeper.told c.prepare-made.new.records.keeper) c.self.inside.mark (g.P.Keeper.count c.prepare-made.new.records.keeper) c.self.invariant.base_is asked_is more has c.push_reserved.ensures.items
+
+pub returns-clause-enters : goal.returns-clause-enters
+returns-clause-enters g c =
+    let keeper = c.take_room.ensures.keeper in
+    let held : IsHeld c.self.inside.opening.value c.take_room.new.journal.items c.self.inside.running c.take_room.new.records.log (g.P.Keeper.told c.take_room.new.records.keeper) c.self.inside.mark (g.P.Keeper.count c.take_room.new.records.keeper)
+    = rw (c.take_room.ensures.entries, keeper) (held-room _ _ c.self.inside.running c.self.inside.running c.self.inside.records.log c.take_room.new.records.log _ _ _ c.self.invariant.held (λ s stands. stands) c.take_room.ensures.log) in
+    let not_full : is_full_for c.self.inside.journal.items c.args.request.now.op ≡ false = rw (← c.deref.ensures.value) (sym c.is_full.ensures ∙ c.if-is_full.false) in
+    let still : is_full_for c.take_room.new.journal.items c.args.request.now.op ≡ false = rw c.take_room.ensures.entries not_full in
+    let length_is : c.len.result ≡ length c.take_room.new.journal.items = c.len.ensures ∙ c.take_room.new.journal.ok.0 in
+    let ready : IsReady c.self.inside.opening.value c.take_room.new.journal.items held.state c.take_room.new.records.log (g.P.Keeper.told c.take_room.new.records.keeper) c.self.inside.mark (g.P.Keeper.count c.take_room.new.records.keeper)
+    (c.self.inside.base + c.len.result + 1) c.args.request.now
+    = record { tied = held.tied; place_is = omega (arith, c.self.invariant.base_is, length_is); not_full = still; number = c.request_is_sound.ensures.number; sound = c.request_is_sound.ensures.sound } in
+    let has = c.in-Ok.ensures.enters c.self.inside.opening.value c.take_room.new.journal.items held.state c.self.inside.mark ready held.stands in
+    let grown : c.push_reserved.new.self.items ≡ c.self.inside.journal.items ++ c.in-Ok.field-0.entry ∷ [] = rw (← c.take_room.ensures.entries) c.push_reserved.ensures.items in
+    rw (← c.self.view_is, ← keeper, ← c.take_room.ensures.entries)
+    (enters-made c.self.inside.opening.value c.take_room.new.journal.items c.push_reserved.new.self.items (g.P.Keeper.told c.take_room.new.records.keeper) (g.P.Keeper.told c.prepare-made.new.records.keeper)
+    (g.P.Keeper.count c.take_room.new.records.keeper) (g.P.Keeper.count c.prepare-made.new.records.keeper) c.self.inside.mark c.args.request.now c.in-Ok.field-0.answer held.state c.in-Ok.field-0.entry c.prepare-made.new.running c.prepare-made.new.records.log
+    has held.tied.reaches c.in-Ok.ensures.request c.in-Ok.ensures.answer still c.push_reserved.ensures.items
+    (c.in-Ok.ensures.cause c.self.inside.opening.value c.take_room.new.journal.items held.state c.self.inside.mark ready) c.prepare-made.ensures.rises)

@@ -1,6 +1,0 @@
-use Rattle.std.proofs.Common.{◌∙◌}
-use Rattle.sms_core.proofs.TableLemmas.{key_count-view}
-use Rattle.sms_core.proofs.deck_keys.count_keys.Goals as goal
-
-pub returns : goal.returns
-returns c = c.len.ensures.len ∙ key_count-view c.args.keys.now.entries

@@ -1,0 +1,31 @@
+use Rattle.std.proofs.Common.{refl}
+use Rattle.desk_records.specs.Logged.{IsDone, IsUntouched}
+use Rattle.desk_records.proofs.TiedLemmas.{tied-lawful}
+use Rattle.sms_core.proofs.CoreLemmas.{on-err, stays-self}
+use Rattle.sms_core.proofs.FreshLemmas.{failed-entered, made-entered}
+use Rattle.sms_core.proofs.preparing.carry_out.Goals as goal
+
+pub returns-then-branch-clause-enters : goal.returns-then-branch-clause-enters
+returns-then-branch-clause-enters g c = λ o h s mark ready stands decided fits.
+    let done : IsDone (record { place = c.args.place; request = c.in_ok-committed.committed; reply = c.args.decision.reply; effect = c.in_ok-effect.effect })
+    (g.P.Keeper.told c.args.records.now.keeper) (g.P.Keeper.told c.commit.new.self.keeper) c.args.records.now.log c.commit.new.self.log
+    = rw c.if-branch.true at c.in_ok-commit.ensures.done in
+    rw c.fresh.ensures
+    (made-entered o h s c.args.records.now.log c.commit.new.self.log (g.P.Keeper.told c.args.records.now.keeper) (g.P.Keeper.told c.commit.new.self.keeper) mark _ _ c.args.place
+    c.args.request.now c.in_ok-committed.committed c.in_ok-entered.entered c.args.decision.reply c.in_ok-kept.kept c.in_ok-effect.effect c.args.decision.deed c.apply.new.self
+    ready c.requires.unknown decided c.in_ok-committed.ensures c.in_ok-entered.ensures c.in_ok-kept.ensures c.in_ok-effect.ensures done c.commit.ensures.rises
+    (c.apply.ensures s (tied-lawful o h s c.args.records.now.log (g.P.Keeper.told c.args.records.now.keeper) mark _ ready.tied) stands fits))
+
+pub returns-clause-enters : goal.returns-clause-enters
+returns-clause-enters g c = λ o h s mark ready stands decided fits.
+    let same : IsUntouched (g.P.Keeper.told c.args.records.now.keeper) (g.P.Keeper.told c.commit.new.self.keeper) c.args.records.now.log c.commit.new.self.log
+    = rw c.if-branch.false at c.in_ok-commit.ensures.done in
+    rw c.fresh-2.ensures
+    (failed-entered o h s c.args.records.now.log c.commit.new.self.log (g.P.Keeper.told c.args.records.now.keeper) (g.P.Keeper.told c.commit.new.self.keeper) mark _ _ c.args.place
+    c.args.request.now c.in_ok-entered.entered c.args.running.now ready c.requires.unknown c.in_ok-entered.ensures same (c.in_ok-commit.ensures.cause c.if-branch.false) stands)
+
+pub returns-in_err-committed-clause-err : goal.returns-in_err-committed-clause-err
+returns-in_err-committed-clause-err g c = on-err _ c.from_residual-in_err-committed.result (record { stays = stays-self (g.P.Keeper.told c.args.records.now.keeper); log_is = refl })
+
+pub returns-in_err-effect-clause-err : goal.returns-in_err-effect-clause-err
+returns-in_err-effect-clause-err g c = on-err _ c.from_residual-in_err-effect.result (record { stays = stays-self (g.P.Keeper.told c.args.records.now.keeper); log_is = refl })

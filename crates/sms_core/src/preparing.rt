@@ -1,0 +1,183 @@
+// The entry of a request, made with all that it changes.
+ghost use Rattle.std.specs.Prelude.{◌≡◌, ◌≤◌, ◌<◌, ◌+◌, ◌^◌, ℕ, List, IfOk, OnErr};
+ghost use Rattle.desk_common.specs.Causes.{Rose};
+ghost use Rattle.sms_construct.specs.declared.entry.Entry.{Entry as Entered};
+ghost use Rattle.sms_construct.specs.declared.reply.Reply.TheVariants.{KeeperFault};
+ghost use Rattle.sms_keeper.specs.Log.{floor_in};
+ghost use Rattle.sms_keeper.specs.Suits.{SuitsOp};
+ghost use Rattle.desk_law.specs.State.{DeskState, Opening};
+ghost use Rattle.desk_law.specs.Rule.{IsSound};
+ghost use Rattle.desk_records.specs.Effects.{IsDecided};
+ghost use Rattle.desk_records.specs.Logged.{IsUntouched};
+ghost use Rattle.desk_records.specs.Recall.{IsUnknown};
+ghost use Rattle.desk_records.specs.Tied.{IsReady};
+ghost use Rattle.desk_state.specs.Deeds.{Fits, IsPossible, config_of, effect_of};
+ghost use Rattle.desk_state.specs.Answering.{IsOldFloor};
+ghost use Rattle.desk_state.specs.Standing.{IsRunning, IsSomeState};
+ghost use Rattle.sms_core.specs.Standing.{HasEntered, SameRunning};
+
+use acs_tree::Slate;
+use desk_records::{Records, recall};
+use desk_state::{Decision, Running};
+use sms_construct::{Answer, Entry, Op, Reply, Request};
+use sms_keeper::{Change, Keeper, RequestLog};
+use std::alloc::AllocError;
+
+/// An entry, and its answer to hand out.
+#[derive(Drop)]
+pub struct Prepared {
+    pub entry: Entry,
+    pub answer: Answer,
+}
+
+/// Answers a request at this place of the journal, whose room was taken, and makes all that its entry changes.
+/// Where memory is wanting, nothing has changed.
+pub fn prepare<P: Keeper>(
+    place: u64,
+    request: &Request,
+    running: &mut Running,
+    records: &mut Records<P>,
+    slate: &mut Slate,
+) -> Result<Prepared, AllocError>
+    requires state { IsSomeState running.old }
+    requires sound { IsSound request.now.op }
+    requires counted { running.old.activations + 1 < 2 ^ 64 }
+    requires reply_room { 0 < records.old.log.reply_room }
+    requires floor_room { 0 < records.old.log.floor_room }
+    ensures answer { IfOk result (λ made. made.answer ≡ made.entry.answer) }
+    ensures request { IfOk result (λ made. made.entry.request ≡ request.now) }
+    ensures enters { IfOk result (λ made. (o : Opening) (h : List Entered) (s : DeskState) (mark : ℕ) → IsReady o h s records.old.log (P.told records.old.keeper) mark (P.count records.old.keeper) place request.now → IsRunning s running.old → HasEntered o h s made.entry running.new records.new.log (P.told records.new.keeper) mark (P.count records.new.keeper)) }
+    ensures cause { IfOk result (λ made. (o : Opening) (h : List Entered) (s : DeskState) (mark : ℕ) → IsReady o h s records.old.log (P.told records.old.keeper) mark (P.count records.old.keeper) place request.now → made.entry.answer.reply ≡ KeeperFault → Rose (P.count records.old.keeper) (P.count records.new.keeper)) }
+    ensures running { OnErr result (SameRunning running.old running.new) }
+    ensures err { OnErr result (IsUntouched (P.told records.old.keeper) (P.told records.new.keeper) records.old.log records.new.log) }
+    ensures rises { P.count records.old.keeper ≤ P.count records.new.keeper }
+{
+    match recall(&records.log, request, place)? {
+        Some(answer) => recalled(request, answer),
+        None => prepare_fresh(place, request, running, records, slate),
+    }
+}
+
+// The entry of a request whose answer was recalled.
+fn recalled(request: &Request, answer: Answer) -> Result<Prepared, AllocError>
+    ensures answer { IfOk result (λ made. made.answer ≡ answer) }
+    ensures entry { IfOk result (λ made. made.entry ≡ record { request = request.now; answer = answer }) }
+{
+    Ok(Prepared {
+        entry: Entry {
+            request: request.copy()?,
+            answer: answer.copy()?,
+        },
+        answer,
+    })
+}
+
+// The same for a request whose number is fresh.
+fn prepare_fresh<P: Keeper>(
+    place: u64,
+    request: &Request,
+    running: &mut Running,
+    records: &mut Records<P>,
+    slate: &mut Slate,
+) -> Result<Prepared, AllocError>
+    requires unknown { IsUnknown records.old.log request.now }
+    requires state { IsSomeState running.old }
+    requires sound { IsSound request.now.op }
+    requires counted { running.old.activations + 1 < 2 ^ 64 }
+    requires reply_room { 0 < records.old.log.reply_room }
+    requires floor_room { 0 < records.old.log.floor_room }
+    ensures answer { IfOk result (λ made. made.answer ≡ made.entry.answer) }
+    ensures request { IfOk result (λ made. made.entry.request ≡ request.now) }
+    ensures enters { IfOk result (λ made. (o : Opening) (h : List Entered) (s : DeskState) (mark : ℕ) → IsReady o h s records.old.log (P.told records.old.keeper) mark (P.count records.old.keeper) place request.now → IsRunning s running.old → HasEntered o h s made.entry running.new records.new.log (P.told records.new.keeper) mark (P.count records.new.keeper)) }
+    ensures cause { IfOk result (λ made. made.entry.answer.reply ≡ KeeperFault → Rose (P.count records.old.keeper) (P.count records.new.keeper)) }
+    ensures running { OnErr result (SameRunning running.old running.new) }
+    ensures err { OnErr result (IsUntouched (P.told records.old.keeper) (P.told records.new.keeper) records.old.log records.new.log) }
+    ensures rises { P.count records.old.keeper ≤ P.count records.new.keeper }
+{
+    let old = old_floor(&records.log, &request.op);
+    let decision = running.decide(request, old, slate)?;
+    running.reserve()?;
+    carry_out(place, request, decision, running, records)
+}
+
+// The floor of the job that a PURGE names.
+fn old_floor(log: &RequestLog, op: &Op) -> u32
+    ensures { IsOldFloor (λ job. floor_in job log.now.floors) op.now result }
+{
+    match op {
+        Op::Purge { job, .. } => log.floor(job),
+        Op::Alloc(_)
+        | Op::Activate(_)
+        | Op::Extend(_)
+        | Op::Delete(_)
+        | Op::Used { .. }
+        | Op::Release(_)
+        | Op::Display(_)
+        | Op::Vary { .. } => 0,
+    }
+}
+
+// The entry of a fresh request for which this was decided: all copies are made, the change is committed, and then
+// what was decided is done.
+fn carry_out<P: Keeper>(
+    place: u64,
+    request: &Request,
+    decision: Decision,
+    running: &mut Running,
+    records: &mut Records<P>,
+) -> Result<Prepared, AllocError>
+    requires unknown { IsUnknown records.old.log request.now }
+    requires suits { SuitsOp request.now.op (effect_of decision.deed) }
+    requires possible { IsPossible running.old decision.deed }
+    requires set_room { 0 < running.old.catalog.room }
+    requires reply_room { 0 < records.old.log.reply_room }
+    requires floor_room { 0 < records.old.log.floor_room }
+    ensures answer { IfOk result (λ made. made.answer ≡ made.entry.answer) }
+    ensures request { IfOk result (λ made. made.entry.request ≡ request.now) }
+    ensures enters { IfOk result (λ made. (o : Opening) (h : List Entered) (s : DeskState) (mark : ℕ) → IsReady o h s records.old.log (P.told records.old.keeper) mark (P.count records.old.keeper) place request.now → IsRunning s running.old →
+        IsDecided (λ job. floor_in job records.old.log.floors) s request.now decision.reply (effect_of decision.deed) (config_of decision.deed) → Fits s running.old decision.deed →
+        HasEntered o h s made.entry running.new records.new.log (P.told records.new.keeper) mark (P.count records.new.keeper)) }
+    ensures cause { IfOk result (λ made. made.entry.answer.reply ≡ KeeperFault → (decision.reply ≡ KeeperFault → ⊥) → Rose (P.count records.old.keeper) (P.count records.new.keeper)) }
+    ensures running { OnErr result (SameRunning running.old running.new) }
+    ensures err { OnErr result (IsUntouched (P.told records.old.keeper) (P.told records.new.keeper) records.old.log records.new.log) }
+    ensures rises { P.count records.old.keeper ≤ P.count records.new.keeper }
+{
+    let Decision { reply, deed } = decision;
+    let entered = request.copy()?;
+    let kept = reply.copy()?;
+    let answered = reply.copy()?;
+    let committed = request.copy()?;
+    let effect = deed.effect(running.alloc)?;
+    let change = Change {
+        place,
+        request: committed,
+        reply,
+        effect,
+    };
+    if records.commit(change)? {
+        running.apply(deed);
+        return Ok(fresh(place, entered, kept, answered));
+    }
+    Ok(fresh(place, entered, Reply::KeeperFault, Reply::KeeperFault))
+}
+
+// The entry of a fresh request at its place.
+fn fresh(place: u64, request: Request, entered: Reply, answered: Reply) -> Prepared
+    ensures { result ≡ record { entry = record { request = request; answer = record { place = place; first = place; reply = entered } }; answer = record { place = place; first = place; reply = answered } } }
+{
+    Prepared {
+        entry: Entry {
+            request,
+            answer: Answer {
+                place,
+                first: place,
+                reply: entered,
+            },
+        },
+        answer: Answer {
+            place,
+            first: place,
+            reply: answered,
+        },
+    }
+}
