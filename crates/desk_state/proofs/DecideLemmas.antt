@@ -283,9 +283,10 @@ deed-suits floors s running job op reply (deeds.Get set place pieces) rule answe
 deed-suits floors s running job op reply (deeds.Note set) rule answers = tt
 deed-suits floors s running job op reply (deeds.Keep set) rule answers = tt
 deed-suits floors s running job op reply (deeds.Remove dsn) rule answers = tt
-deed-suits floors s running job op reply (deeds.Become count config volumes statuses) rule answers =
-    (only-activates floors s job op reply (state_with s (effect_of (deeds.Become count config volumes statuses)) (Some config)) refl rule,
-    subst (λ (l : List StatusRow). list_all (λ (row : StatusRow). has_status row.target) l ≡ true) (sym answers.fits.statuses_are) (statuses-suit config s.statuses))
+deed-suits floors s running job op reply (deeds.Become count config volumes statuses) rule answers = (
+  only-activates floors s job op reply (state_with s (effect_of (deeds.Become count config volumes statuses)) (Some config)) refl rule,
+  subst (λ (l : List StatusRow). list_all (λ (row : StatusRow). has_status row.target) l ≡ true) (sym answers.fits.statuses_are) (statuses-suit config s.statuses),
+)
 deed-suits floors s running job op reply (deeds.Vary target status) rule answers = answers.fits
 deed-suits floors s running job op reply (deeds.Raise raised_job floor) rule answers = tt
 
