@@ -323,13 +323,3 @@ old-anywhere (ops.Release dsn) old = tt
 old-anywhere (ops.Display target) old = tt
 old-anywhere (ops.Vary target action) old = tt
 old-anywhere (ops.Purge job floor) old = refl
-
--- What holds of each answer.
-
-pub each-ok : {A : Type 0} {P Q : A → Type 0} (result : Result A AllocError) → IfOk result P → ((x : A) → P x → Q x) → IfOk result Q
-each-ok (Ok x) holds then = then x holds
-each-ok (Err error) holds then = tt
-
-pub none-mapped : {A B : Type 0} (f : A → B) (o : Option A) → None ≡ option_map f o → o ≡ None
-none-mapped f None is = refl
-none-mapped f (Some x) is = absurd cc
