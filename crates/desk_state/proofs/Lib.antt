@@ -2,4 +2,9 @@ pub mod ExtentLemmas
 pub mod StandLemmas
 pub mod FewLemmas
 pub mod AnswerLemmas
+pub mod GrantLemmas
+pub mod AllocationLemmas
+pub mod SpreadLemmas
+pub mod ExtensionLemmas
 pub mod ApplyLemmas
+pub mod DecideLemmas

@@ -3,3 +3,6 @@ pub mod Sums
 pub mod Standing
 pub mod Deeds
 pub mod Answering
+pub mod Granting
+pub mod Wishing
+pub mod Growing

@@ -1,12 +1,13 @@
 //! The extents of data sets.
-ghost use Rattle.std.specs.Prelude.{◌≡◌, ◌<◌, ◌^◌, length, IfOk};
-ghost use Rattle.desk_law.specs.Extents.{front_tracks, pieces_on, with_extents};
+ghost use Rattle.std.specs.Prelude.{◌≡◌, ◌<◌, ◌^◌, ◌++◌, length, IfOk};
+ghost use Rattle.desk_law.specs.Extents.{extents_at, front_tracks, is_used, pieces_on, volumes_of, with_extents};
 ghost use Rattle.desk_state.specs.Sums.{tracks_in};
 
 use desk_common::{Items, Shared};
 use dsn_mask::Volser;
 use sms_construct::{DataSet, Extent, Extents};
 use std::alloc::{AllocError, Global};
+use track_ledger::Piece;
 
 /// The tracks of the extents.
 pub fn tracks_of(extents: &[Extent]) -> u64
@@ -62,6 +63,54 @@ pub fn count_on(extents: &[Extent], volser: &Volser) -> usize
         }
     }
     count
+}
+
+/// On how many volumes the extents lie.
+pub fn count_volumes(extents: &[Extent]) -> usize
+    ensures { result ≡ length (volumes_of extents.now) }
+{
+    let mut count = 0;
+    for place in 0..extents.len() {
+        if !lies_on(&extents[..place], &extents[place].volser) {
+            count += 1;
+        }
+    }
+    count
+}
+
+// Whether one of the extents lies on the volume. Those of one volume mostly stand together, so the last are looked
+// at first.
+fn lies_on(extents: &[Extent], volser: &Volser) -> bool
+    ensures { result ≡ is_used volser.now extents.now }
+{
+    extents.iter().rev().any(|extent| extent.volser == *volser)
+}
+
+/// These pieces of the volume as extents, or want of memory.
+pub fn extents_at(alloc: Global, volser: &Volser, pieces: &[Piece]) -> Result<Extents, AllocError>
+    ensures { IfOk result (λ extents. extents ≡ extents_at volser.now pieces.now) }
+{
+    let mut extents = Vec::with_capacity(alloc, pieces.len())?;
+    for piece in pieces {
+        let extent = Extent {
+            volser: *volser,
+            start: piece.start,
+            length: piece.length,
+        };
+        if extents.push(extent).is_err() {
+            return Err(AllocError);
+        }
+    }
+    Ok(Items::from_vec(extents))
+}
+
+/// The extents with the others behind them, or want of memory.
+pub fn joined(alloc: Global, extents: &[Extent], others: &[Extent]) -> Result<Extents, AllocError>
+    ensures { IfOk result (λ all. all ≡ extents.now ++ others.now) }
+{
+    let mut all = Vec::from_slice(alloc, extents)?;
+    all.extend_from_slice(others)?;
+    Ok(Items::from_vec(all))
 }
 
 /// The data set with these extents, of which so many tracks are used, or want of memory.

@@ -1,15 +1,20 @@
 //! The running state of the desk: what a fresh request is answered, and what it changes.
 #![tactic(auto)]
 
+mod activation;
+mod allocation;
 mod applying;
 mod catalog;
 mod data_sets;
-mod decision;
 mod deciding;
+mod decision;
 mod deed;
+mod extension;
 mod extents;
+mod grant;
 mod operator;
 mod running;
+mod wish;
 
 pub use catalog::Catalog;
 pub use decision::Decision;
