@@ -159,11 +159,22 @@ is-done values stop trace given result ok all =
     (subst (λ (r : Result Trace Reply). MatchResult (answer_of stop classes) (λ done. r ≡ Ok trace) (λ answer. r ≡ Err answer)) ok (all classes refl))
 
 -- there is no space
-pub spaceless-answers : (s : DeskState) (running : Running) (config : Configuration) (alloc : Alloc) (classes : Classes) (trace : Trace) → classes.stop ≡ stops.Done → trace_of classes ≡ trace
+spaceless-answers : (s : DeskState) (running : Running) (config : Configuration) (alloc : Alloc) (classes : Classes) (trace : Trace) → classes.stop ≡ stops.Done → trace_of classes ≡ trace
     → space_of alloc (data_class_of config classes.values.dataclas) ≡ None
     → Answers s running (ClassifiedRule s config alloc classes) (record { reply = replies.NoQuantity trace; deed = deeds.Nothing })
 spaceless-answers s running config alloc classes trace done written none =
     classified-err s running config alloc classes (replies.NoQuantity trace) (replies.NoQuantity (trace_of classes)) (rw (done, none) refl) (ap replies.NoQuantity (sym written)) refl
+
+unmapped : {A B : Type 0} (f : A → B) (o : Option A) → None ≡ option_map f o → o ≡ None
+unmapped f None is = refl
+unmapped f (Some x) is = absurd cc
+
+pub wishless-answers : (s : DeskState) (running : Running) (config : Configuration) (alloc : Alloc) (values : Values) (stop : Stop) (classes : Classes) (trace given : Trace) → IsDone stop given trace
+    → None ≡ option_map (wish_under config alloc values) (space_of alloc (data_class_of config values.dataclas)) → classes.values ≡ values → classes.stop ≡ stop → trace_of classes ≡ trace
+    → Answers s running (ClassifiedRule s config alloc classes) (record { reply = replies.NoQuantity given; deed = deeds.Nothing })
+wishless-answers s running config alloc values stop classes trace given is none same stops_so written =
+    spaceless-answers s running config alloc classes given (stops_so ∙ is.done) (written ∙ sym is.same)
+    (ap (λ (v : Values). space_of alloc (data_class_of config v.dataclas)) same ∙ unmapped (wish_under config alloc values) (space_of alloc (data_class_of config values.dataclas)) none)
 
 -- there is a space
 pub spaced-answers : (s : DeskState) (running : Running) (config : Configuration) (alloc : Alloc) (classes : Classes) (space : Quantities) (made : Decision) → classes.stop ≡ stops.Done
@@ -192,19 +203,6 @@ wished-answers s after config alloc values stop classes trace given wish made is
     wished-at s after config alloc values classes given wish made _ refl some same (stops_so ∙ is.done) (written ∙ sym is.same) active next
 
 -- All lines.
-
-pub alloc-unconfigured : (s : DeskState) (running : Running) (job : List ℕ) (alloc : Alloc) → IsRunning s running → running.config ≡ None
-    → Answers s running (AllocRule s job alloc) (record { reply = replies.NoConfig; deed = deeds.Nothing })
-alloc-unconfigured s running job alloc is none =
-    let active : s.active ≡ None = sym is.active ∙ none in
-    quiet-answers s running (AllocRule s job alloc) replies.NoConfig (rw active (record { reply_is = refl; after_is = refl })) refl
-
-pub alloc-used : (s : DeskState) (running : Running) (job : List ℕ) (alloc : Alloc) (config : Configuration) (set : DataSet) → IsRunning s running → running.config ≡ Some config → set_in alloc.input.dsn running.catalog.sets ≡ Some set
-    → Answers s running (AllocRule s job alloc) (record { reply = replies.NameInUse; deed = deeds.Nothing })
-alloc-used s running job alloc config set is configured there =
-    let active : s.active ≡ Some config = sym is.active ∙ configured in
-    let used : set_named alloc.input.dsn s.sets ≡ Some set = sym (is.sets alloc.input.dsn) ∙ there in
-    quiet-answers s running (AllocRule s job alloc) replies.NameInUse (rw (active, used) (record { reply_is = refl; after_is = refl })) refl
 
 pub alloc-classified : (s : DeskState) (running after : Running) (job : List ℕ) (alloc : Alloc) (config : Configuration) (made : Decision) → IsRunning s running → running.config ≡ Some config → set_in alloc.input.dsn running.catalog.sets ≡ None
     → Answers s after (ClassifiedRule s config alloc (classes_of config job alloc)) made → Answers s after (AllocRule s job alloc) made

@@ -1,8 +1,7 @@
 -- Decisions that are by the rule of EXTEND.
 use Rattle.std.proofs.Common.{◌≡◌, ℕ, zero, suc, ◌+◌, ◌-◌, Bool, true, false, List, [], ◌∷◌, ◌++◌, length, get_or, refl, sym, ap, ◌∙◌, subst, arith, inl, inr}
-use Rattle.std.specs.Prelude.{◌==◌, ◌||◌, ◌&&◌, ◌%◌, Option, None, Some, Result, Ok, Err, IfOk, IfSome, MatchOption, MatchBool, bytes_eq, filter, nat_lt, not, option_map, slice_get}
-use Rattle.std.proofs.lemmas.Option.{get_or_from_slice_get, slice_get-get_or, slice_get_within}
-use Rattle.std.specs.declared.alloc.AllocError.{AllocError}
+use Rattle.std.specs.Prelude.{◌==◌, ◌||◌, ◌&&◌, ◌%◌, Option, None, Some, IfSome, MatchOption, MatchBool, bytes_eq, filter, nat_lt, not, option_map, slice_get}
+use Rattle.std.proofs.lemmas.Option.{get_or_from_slice_get, slice_get_within}
 use Rattle.sms_construct.specs.Quantities.{tracks_in}
 use Rattle.sms_construct.specs.declared.data_set.DataSet.{DataSet}
 use Rattle.sms_construct.specs.declared.extent.Extent.{Extent}
@@ -11,9 +10,9 @@ use Rattle.sms_construct.specs.declared.volume.VolumeDef.{VolumeDef}
 use Rattle.sms_construct.specs.declared.why_no_extend.WhyNoExtend.TheVariants as reasons
 use Rattle.track_ledger.specs.declared.need.Need.{Need}
 use Rattle.desk_law.specs.State.{DeskState, set_named, with_set}
-use Rattle.desk_law.specs.Candidates.{Chosen, grant_on}
+use Rattle.desk_law.specs.Candidates.{Chosen}
 use Rattle.desk_law.specs.Extension.{ExtendRule, Extends, ExtendsOn, bars_growth, extended, first_volume, growth_on, last_volume, others_of, want_more}
-use Rattle.desk_law.specs.Extents.{extents_at, is_among, is_used, pieces_on, volumes_after, volumes_of}
+use Rattle.desk_law.specs.Extents.{extents_at, is_among, is_used, volumes_after, volumes_of}
 use Rattle.desk_law.specs.Replies.{Leaves}
 use Rattle.desk_law.specs.Statuses.{bars_group_growth, bars_volume_growth, group_status, volume_status}
 use Rattle.desk_law.specs.Volumes.{groups_in, volume_named, volumes_in}
@@ -32,7 +31,7 @@ use Rattle.desk_state.specs.Catalog.{set_in}
 use Rattle.desk_state.specs.Deeds.{HasMore}
 use Rattle.desk_state.specs.Granting.{IsGrantAmong, IsGranted}
 use Rattle.desk_state.specs.Growing.{Grows, IsGrowable, added_of, need_more}
-use Rattle.desk_state.specs.Standing.{IsRunning, IsSomeState}
+use Rattle.desk_state.specs.Standing.{IsSomeState}
 use Rattle.desk_state.specs.declared.deed.Deed.TheVariants as deeds
 use Rattle.desk_state.specs.declared.grant.Grant.{Grant}
 use Rattle.desk_state.specs.declared.running.Running.{Running}
@@ -61,22 +60,11 @@ pub last-some : (s : DeskState) (es : List Extent) (e : Extent) → slice_get es
 last-some s es e there =
     let within = slice_get_within es (length es - 1) e there in last-of s es (length es - 1) e (omega (arith, within)) there
 
-pub last-none : (s : DeskState) (es : List Extent) → slice_get es (length es - 1) ≡ None → last_volume s es ≡ None
-last-none s [] none = refl
-last-none s (x ∷ es) none =
-    let there : slice_get (x ∷ es) (length (x ∷ es) - 1) ≡ Some (get_or (x ∷ es) (length (x ∷ es) - 1) x) = slice_get-get_or (x ∷ es) (length (x ∷ es) - 1) x (omega arith) in
-    let bad : None ≡ Some (get_or (x ∷ es) (length (x ∷ es) - 1) x) = sym none ∙ there in
-    absurd cc
-
 -- the volume of the first extent
 pub first-some : (s : DeskState) (es : List Extent) (e : Extent) → slice_get es 0 ≡ Some e → first_volume s es ≡ volume_named s e.volser
 first-some s [] e there = absurd cc
 first-some s (x ∷ es) e there =
     let same : x ≡ e = cc in ap (λ (y : Extent). volume_named s y.volser) same
-
-pub first-none : (s : DeskState) (es : List Extent) → slice_get es 0 ≡ None → first_volume s es ≡ None
-first-none s [] none = refl
-first-none s (x ∷ es) none = absurd cc
 
 -- the place of the last volume
 pub last-at : (s : DeskState) (running : ActiveVolumes) (es : List Extent) (e : Extent) (o : Option ℕ) → AreVolumesOf s running → slice_get es (length es - 1) ≡ Some e
@@ -132,40 +120,6 @@ pub others-are : (group : List ℕ) (es : List Extent) (volumes : List VolumeDef
     ≡ filter (λ (v : VolumeDef). not (is_among v.volser (volumes_of es))) (filter (λ (v : VolumeDef). bytes_eq v.group group) volumes)
 others-are group es [] = refl
 others-are group es (d ∷ volumes) = others-at group es d volumes _ _ refl refl (others-are group es volumes)
-
--- What the last volume grants.
-
-pub growth-barred : (s : DeskState) (set : DataSet) (volume : VolumeDef) → bars_growth s volume ≡ true → None ≡ growth_on s set (Some volume)
-growth-barred s set volume bars = rw bars refl
-
-growth-at : (s : DeskState) (set : DataSet) (volume : VolumeDef) (found : Option Grant) → bars_growth s volume ≡ false
-    → option_map (λ (grant : Grant). grant.pieces) found ≡ grant_on s volume set.unit set.secondary (length (pieces_on volume.volser set.extents))
-    → ((grant : Grant) → found ≡ Some grant → grant.volume ≡ volume) → option_map added_of found ≡ growth_on s set (Some volume)
-growth-at s set volume None bars rule named = rw (bars, sym rule) refl
-growth-at s set volume (Some grant) bars rule named =
-    let same = named grant refl in
-    rw (bars, sym rule) (ap (λ (v : VolumeDef). Some (extents_at v.volser grant.pieces)) same)
-
-pub growth-granted : (s : DeskState) (set : DataSet) (volume : VolumeDef) (held : ℕ) (found : Option Grant) → bars_growth s volume ≡ false → held ≡ length (pieces_on volume.volser set.extents)
-    → option_map (λ (grant : Grant). grant.pieces) found ≡ grant_on s volume set.unit set.secondary held
-    → ((grant : Grant) → found ≡ Some grant → Some volume ≡ Some grant.volume) → option_map added_of found ≡ growth_on s set (Some volume)
-growth-granted s set volume held found bars same rule named =
-    growth-at s set volume found bars (rule ∙ ap (grant_on s volume set.unit set.secondary) same)
-    (λ grant is. let two = named grant is in cc)
-
--- The decision.
-
-pub extend-missing : (s : DeskState) (running : Running) (dsn : List ℕ) → IsRunning s running → set_in dsn running.catalog.sets ≡ None
-    → Answers s running (ExtendRule s dsn) (record { reply = replies.NotFound; deed = deeds.Nothing })
-extend-missing s running dsn is none =
-    let gone : set_named dsn s.sets ≡ None = sym (is.sets dsn) ∙ none in
-    quiet-answers s running (ExtendRule s dsn) replies.NotFound (rw gone (record { reply_is = refl; after_is = refl })) refl
-
-pub extend-never : (s : DeskState) (running : Running) (dsn : List ℕ) (set : DataSet) → IsRunning s running → set_in dsn running.catalog.sets ≡ Some set → (set.secondary == 0) ≡ true
-    → Answers s running (ExtendRule s dsn) (record { reply = replies.NoExtend reasons.Secondary; deed = deeds.Nothing })
-extend-never s running dsn set is found zero_one =
-    let there : set_named dsn s.sets ≡ Some set = sym (is.sets dsn) ∙ found in
-    quiet-answers s running (ExtendRule s dsn) (replies.NoExtend reasons.Secondary) (rw (there, zero_one) (record { reply_is = refl; after_is = refl })) refl
 
 -- What is granted is by the rule.
 
@@ -279,8 +233,3 @@ found-growable running some dsn set found = record {
   units = subst (λ (o : Option DataSet). IfSome o (λ d. d.secondary % tracks_in d.unit ≡ 0)) found (some.stands.units dsn);
   few = (found-lawful running some dsn set found).few;
 }
-
--- what holds of an answer, where another does
-pub on-ok : {A : Type 0} (P Q : A → Type 0) (r : Result A AllocError) → ((x : A) → P x → Q x) → IfOk r P → IfOk r Q
-on-ok P Q (Ok x) step is = step x is
-on-ok P Q (Err e) step is = is

@@ -1,35 +1,24 @@
 -- A volume that may be chosen grants what is asked for.
-use Rattle.std.proofs.Common.{◌≡◌, ◌*◌, ℕ, Bool, true, false, List, refl, sym, ap, ◌∙◌, arith}
-use Rattle.std.specs.Prelude.{◌%◌, Option, None, Some, IfSome, is_some, option_map, slice_get}
+use Rattle.std.proofs.Common.{◌≡◌, ℕ, Bool, true, false, refl, sym, ap, ◌∙◌}
+use Rattle.std.specs.Prelude.{Option, None, Some, IfSome, is_some, option_map, slice_get}
 use Rattle.std.proofs.lemmas.Option.{slice_get-map}
-use Rattle.sms_construct.specs.Quantities.{tracks_in}
-use Rattle.sms_construct.specs.declared.unit.Unit.{Unit as SpaceUnit}
-use Rattle.sms_construct.specs.declared.unit.Unit.TheVariants.{Trk, Cyl}
-use Rattle.sms_construct.specs.declared.volume.VolumeDef.{VolumeDef}
 use Rattle.track_ledger.specs.declared.need.Need.{Need}
-use Rattle.track_ledger.specs.declared.piece.Piece.{Piece}
 use Rattle.volume_lists.specs.Choice.{is_rejected}
 use Rattle.volume_lists.specs.Listing.{bars_group, bars_volume, listing_of}
 use Rattle.volume_lists.specs.declared.view.VolView.{VolView}
 use Rattle.volume_lists.specs.declared.view.Want.{Want}
 use Rattle.desk_law.specs.State.{DeskState}
 use Rattle.desk_law.specs.Candidates.{grant_on, view_of}
-use Rattle.sms_volumes.specs.Changing.{IsReadyAt, running_at}
+use Rattle.sms_volumes.specs.Changing.{running_at}
 use Rattle.sms_volumes.specs.Viewing.{Picks, candidates_in}
 use Rattle.sms_volumes.specs.declared.active_volume.ActiveVolume.{ActiveVolume}
 use Rattle.sms_volumes.specs.declared.active_volumes.ActiveVolumes.{ActiveVolumes}
 use Rattle.sms_volumes.specs.declared.candidates.Candidates.{Candidates}
-use Rattle.desk_state.specs.Granting.{IsGrantAmong, IsGranted, want_with}
+use Rattle.desk_state.specs.Granting.{IsGrantAmong, want_with}
 use Rattle.desk_state.specs.declared.grant.Grant.{Grant}
-use Rattle.desk_state.specs.declared.running.Running.{Running}
 
--- whole units make whole tracks
-pub units-whole : (unit : SpaceUnit) (n : ℕ) → n * tracks_in unit % tracks_in unit ≡ 0
-units-whole Trk n = omega arith
-units-whole Cyl n = omega arith
-
--- what a volume is named does not change
-pub place-named : (place : ℕ) (running : ActiveVolumes) (v : ActiveVolume) → slice_get running.volumes.items place ≡ Some v → running_at place running ≡ Some v.volume
+-- the definition of the volume at a place
+place-named : (place : ℕ) (running : ActiveVolumes) (v : ActiveVolume) → slice_get running.volumes.items place ≡ Some v → running_at place running ≡ Some v.volume
 place-named place running v there = ap (option_map (λ (x : ActiveVolume). x.volume)) there
 
 -- A volume on which nothing fits is rejected.
@@ -39,7 +28,7 @@ unfit-listed view want true b group volume fits = rw group refl
 unfit-listed view want false true group volume fits = rw (group, volume) refl
 unfit-listed view want false false group volume fits = rw (group, volume, fits) refl
 
-pub unfit-rejected : (view : VolView) (want : Want) → view.fits ≡ false → is_rejected (listing_of view want) ≡ true
+unfit-rejected : (view : VolView) (want : Want) → view.fits ≡ false → is_rejected (listing_of view want) ≡ true
 unfit-rejected view want fits = unfit-listed view want _ _ refl refl fits
 
 -- what stands at the position is the view of the volume there
@@ -72,13 +61,3 @@ picked-grants s running candidates need count place (Some grant) fresh picks rul
       there = picks.there;
       does = record { same = cc; rule = sym (rule picks.volume picks.at) };
     }
-
--- What is planned at a place.
-
-pub planned-granted : (running after : Running) (place : ℕ) (volume : ActiveVolume) (definition : VolumeDef) (pieces : List Piece) → slice_get running.volumes.volumes.items place ≡ Some volume → volume.volume ≡ definition
-    → running_at place after.volumes ≡ running_at place running.volumes → IsReadyAt after.volumes place pieces
-    → IsGranted after (record { place = place; volume = definition; pieces = pieces })
-planned-granted running after place volume definition pieces there same named ready = record {
-  ready = ready;
-  named = named ∙ (place-named place running.volumes volume there ∙ ap Some same);
-}

@@ -2,6 +2,7 @@ pub mod ExtentLemmas
 pub mod StandLemmas
 pub mod FewLemmas
 pub mod AnswerLemmas
+pub mod OkLemmas
 pub mod GrantLemmas
 pub mod AllocationLemmas
 pub mod SpreadLemmas

@@ -2,6 +2,8 @@
 #![tactic(auto)]
 
 #[cfg(test)]
+mod cases;
+#[cfg(test)]
 mod commands;
 #[cfg(test)]
 mod constructs;
@@ -57,3 +59,5 @@ mod stepping;
 mod streams;
 #[cfg(test)]
 mod turns;
+#[cfg(test)]
+mod worked;

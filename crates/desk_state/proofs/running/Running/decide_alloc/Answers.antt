@@ -12,7 +12,7 @@ use Rattle.desk_state.specs.Standing.{IsRunning}
 use Rattle.desk_state.specs.Wishing.{ClassifiedRule}
 use Rattle.desk_state.specs.declared.decision.Decision.{Decision}
 use Rattle.desk_state.proofs.AllocationLemmas.{alloc-made}
-use Rattle.desk_state.proofs.ExtensionLemmas.{on-ok}
+use Rattle.desk_state.proofs.OkLemmas.{on-ok}
 use Rattle.desk_state.proofs.running.Running.decide_alloc.Goals as goal
 
 -- what is on a slate, as a trace

@@ -8,8 +8,8 @@ use Rattle.desk_state.specs.Answering.{Answers}
 use Rattle.desk_state.specs.Standing.{IsRunning}
 use Rattle.desk_state.specs.Wishing.{ClassifiedRule, wish_of}
 use Rattle.desk_state.specs.declared.decision.Decision.{Decision}
-use Rattle.desk_state.proofs.AllocationLemmas.{is-done, stopped-answers, wished-answers}
-use Rattle.desk_state.proofs.ExtensionLemmas.{on-ok}
+use Rattle.desk_state.proofs.AllocationLemmas.{is-done, stopped-answers, wished-answers, wishless-answers}
+use Rattle.desk_state.proofs.OkLemmas.{on-ok}
 use Rattle.desk_state.proofs.running.Running.decide_classified.Goals as goal
 
 pub returns-in-Err-clause-answers : goal.returns-in-Err-clause-answers
@@ -37,3 +37,12 @@ returns-in-Some-clause-answers c =
     wished-answers s after config alloc classified.values classified.stop classes c.args.trace c.in-Ok.trace c.in-Some.wish made done (sym c.in-Some.is ∙ c.under.ensures) values stop written (sym is.active ∙ c.requires.active)
     (λ asked active same told. next s asked lawful is active same told))
     c.decide_wish.ensures.answers
+
+pub returns-in-None-clause-answers : goal.returns-in-None-clause-answers
+returns-in-None-clause-answers c = λ s classes lawful is values stop written.
+    let config = c.args.config.now in
+    let alloc = c.args.alloc.now in
+    let classified = c.args.classified.now in
+    let done = is-done classified.values classified.stop c.args.trace c.in-Ok.trace c.stop_reply.result c.in-Ok.is c.stop_reply.ensures in
+    subst (Answers s c.args.self.now (ClassifiedRule s config alloc classes)) (sym c.quiet-in-None.ensures)
+    (wishless-answers s c.args.self.now config alloc classified.values classified.stop classes c.args.trace c.in-Ok.trace done (sym c.in-None.is ∙ c.under.ensures) values stop written)

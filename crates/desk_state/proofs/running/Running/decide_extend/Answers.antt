@@ -13,7 +13,8 @@ use Rattle.desk_state.specs.Standing.{IsRunning}
 use Rattle.desk_state.specs.declared.decision.Decision.{Decision}
 use Rattle.desk_state.specs.declared.deed.Deed.TheVariants as deeds
 use Rattle.desk_state.specs.declared.grant.Grant.{Grant}
-use Rattle.desk_state.proofs.ExtensionLemmas.{extend-grown, extend-ungrown, on-ok}
+use Rattle.desk_state.proofs.ExtensionLemmas.{extend-grown, extend-ungrown}
+use Rattle.desk_state.proofs.OkLemmas.{on-ok}
 use Rattle.desk_state.proofs.running.Running.decide_extend.Goals as goal
 
 pub returns-in-Some-2-clause-answers : goal.returns-in-Some-2-clause-answers

@@ -18,7 +18,7 @@ use Rattle.desk_state.specs.declared.deed.Deed.TheVariants as deeds
 use Rattle.desk_state.specs.declared.grant.Grant.{Grant}
 use Rattle.desk_state.specs.declared.wish.Wish.{Wish}
 use Rattle.desk_state.proofs.AllocationLemmas.{granted-answers, listed-are, ungranted-answers}
-use Rattle.desk_state.proofs.ExtensionLemmas.{on-ok}
+use Rattle.desk_state.proofs.OkLemmas.{on-ok}
 use Rattle.desk_state.proofs.running.Running.decide_wish.Goals as goal
 
 pub returns-in-Some-clause-answers : goal.returns-in-Some-clause-answers

@@ -10,7 +10,8 @@ use Rattle.desk_state.specs.Granting.{IsGrantAmong}
 use Rattle.desk_state.specs.Growing.{need_more}
 use Rattle.desk_state.specs.Standing.{IsRunning}
 use Rattle.desk_state.specs.declared.grant.Grant.{Grant}
-use Rattle.desk_state.proofs.ExtensionLemmas.{beside-granted, on-ok}
+use Rattle.desk_state.proofs.ExtensionLemmas.{beside-granted}
+use Rattle.desk_state.proofs.OkLemmas.{on-ok}
 use Rattle.desk_state.proofs.running.Running.growth_beside.Goals as goal
 
 pub returns-clause-chosen : goal.returns-clause-chosen
