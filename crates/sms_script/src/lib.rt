@@ -29,7 +29,7 @@ pub use fault_text::push_fault;
 pub use item::{Item, Phase, Script};
 pub use op::read_op;
 pub use printing::{answer_lines, print, push_indented, view_lines};
-pub use pushing::{status_bytes, value_bytes};
+pub use pushing::{push_number_and_blank, push_word_and_blank, status_bytes, value_bytes};
 pub use reading::read_script;
 pub use script_err::ScriptErr;
 pub use text_lines::TextLines;
