@@ -1,13 +1,15 @@
 -- The headline: the answers written are those of one legal history that holds each request of the script once.
-use Rattle.std.specs.Prelude.{◌≡◌, ◌+◌, ◌-◌, ◌^◌, ◌≤◌, ◌⊎◌, List, [], ◌∷◌, ◌++◌, ℕ, true, false, length, min, nat_lt, Option, Some, None, Ok}
+use Rattle.std.specs.Prelude.{◌≡◌, ◌+◌, ◌-◌, ◌^◌, ◌≤◌, ◌⊎◌, List, [], ◌∷◌, ◌++◌, ℕ, Bool, true, false, length, map, min, nat_lt, Option, Some, None, Ok}
 use Rattle.sms_construct.specs.declared.data_set.DataSet.{DataSet}
 use Rattle.sms_construct.specs.declared.entry.Answer.{Answer}
 use Rattle.sms_construct.specs.declared.entry.Entry.{Entry}
 use Rattle.sms_construct.specs.declared.reply.Reply.TheVariants.{Below, Granted}
 use Rattle.sms_construct.specs.declared.trace.Trace.{Trace}
+use Rattle.sms_construct.specs.declared.vol_row.VolRow.{VolRow}
 use Rattle.sms_keeper.specs.declared.kept_row.KeptRow.{KeptRow}
 use Rattle.sms_keeper.specs.declared.rows.Rows.{Rows}
 use Rattle.desk_law.specs.State.{DeskState}
+use Rattle.desk_law.specs.Display.{shown_volume}
 use Rattle.desk_law.specs.Extents.{pieces_on}
 use Rattle.desk_law.specs.Grants.{WasEntered}
 use Rattle.desk_law.specs.History.{IsLegal, Reaches}
@@ -15,12 +17,16 @@ use Rattle.desk_law.specs.Kept.{floor_of, kept_for}
 use Rattle.desk_law.specs.Lawful.{IsLawful}
 use Rattle.desk_law.specs.Records.{empty_opening}
 use Rattle.desk_law.specs.Step.{IsFresh, RepeatsReply, ReusesNumber}
+use Rattle.desk_law.specs.Volumes.{volumes_in}
 use Rattle.desk_records.specs.Tied.{faults_in}
 use Rattle.sms_core.specs.Core.{HasTables}
 use Rattle.sms_script.specs.declared.item.Item.{Item}
 use Rattle.sms_script.specs.Script.{items_of, script_of}
 use Rattle.sms_script.specs.AnswerText.{text_of}
 use Rattle.track_ledger.specs.Gaps.{times_held}
+use Rattle.sms_report.specs.VolumesTable.{table_text}
+use Rattle.desk_generator.specs.Generated.{generated}
+use Rattle.desk_generator.specs.Summary.{summary_of}
 use Rattle.desk_calls.specs.Run.{AnswersInOrder}
 
 -- the tables of a keeper, where it tells them, and its count of faults
@@ -70,19 +76,34 @@ pub record WasRun (before after : Keeping) (phases : List (List Item)) (answers 
   -- the tables of the keeper are those of the history, where it tells them
   pub tables : HasTables empty_opening history after.told
 
+-- the rows are those of the volumes of the active configuration as the history left them, in its order; none where nothing is active
+abbrev pub AreRows : List Entry → List VolRow → Type 0
+AreRows history rows = (s : DeskState) → Reaches empty_opening history s → rows ≡ map (shown_volume s) (volumes_in s.active)
+
+-- the text of the answers, and behind it the table of volumes
+pub record HasTable (phases : List (List Item)) (answers : List Answer) (history : List Entry) (text : List ℕ) : Type 0 where
+  pub rows : List VolRow
+  pub rows_are : AreRows history rows
+  pub text_is : text ≡ text_of phases answers (length history) ++ table_text rows
+
+-- the text of the answers, with the number of entries; where they are asked for, the volumes stand behind it
+abbrev pub Prints : Bool → List (List Item) → List Answer → List Entry → List ℕ → Type 0
+Prints false phases answers history text = text ≡ text_of phases answers (length history)
+Prints true phases answers history text = HasTable phases answers history text
+
 -- the text is that of the answers to the script in these bytes, and they are those of one legal history
-pub record IsAnswered (before after : Keeping) (bytes text : List ℕ) : Type 0 where
+pub record IsAnswered (volumes : Bool) (before after : Keeping) (bytes text : List ℕ) : Type 0 where
   pub phases : List (List Item)
   pub answers : List Answer
   pub history : List Entry
   -- whole input: the bytes are the script of these phases
   pub script : script_of bytes ≡ Ok phases
-  -- whole output: the text is that of the answers, with the number of entries
-  pub printed : text ≡ text_of phases answers (length history)
+  -- whole output
+  pub printed : Prints volumes phases answers history text
   pub run : WasRun before after phases answers history
 
--- the script in these bytes was run, and its answers found no memory for their text
-pub record IsUnprinted (before after : Keeping) (bytes : List ℕ) : Type 0 where
+-- the script in these bytes was run
+pub record WasScriptRun (before after : Keeping) (bytes : List ℕ) : Type 0 where
   pub phases : List (List Item)
   pub answers : List Answer
   pub history : List Entry
@@ -91,4 +112,23 @@ pub record IsUnprinted (before after : Keeping) (bytes : List ℕ) : Type 0 wher
 
 -- where memory was wanting, the keeper is as it was, or the whole script in these bytes was run
 abbrev pub IsLeft : Keeping → Keeping → List ℕ → Type 0
-IsLeft before after bytes = (after ≡ before) ⊎ IsUnprinted before after bytes
+IsLeft before after bytes = (after ≡ before) ⊎ WasScriptRun before after bytes
+
+-- the text is the summary of the answers to a generated script, and they are those of one legal history
+pub record IsSummed (seed count : ℕ) (before after : Keeping) (text : List ℕ) : Type 0 where
+  pub answers : List Answer
+  pub history : List Entry
+  pub rows : List VolRow
+  pub rows_are : AreRows history rows
+  pub printed : text ≡ summary_of seed count answers rows (length history)
+  pub run : WasRun before after (generated seed count) answers history
+
+-- the generated script was run
+pub record WasLoadRun (seed count : ℕ) (before after : Keeping) : Type 0 where
+  pub answers : List Answer
+  pub history : List Entry
+  pub run : WasRun before after (generated seed count) answers history
+
+-- where memory was wanting, the keeper is as it was, or the whole generated script was run
+abbrev pub IsLoadLeft : ℕ → ℕ → Keeping → Keeping → Type 0
+IsLoadLeft seed count before after = (after ≡ before) ⊎ WasLoadRun seed count before after

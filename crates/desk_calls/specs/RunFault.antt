@@ -1,15 +1,16 @@
 -- How a run ends: each status and its cause.
-use Rattle.std.specs.Prelude.{◌≡◌, ◌⊎◌, Bool, true, false, List, ℕ, [], ◌∷◌, codes, Err}
+use Rattle.std.specs.Prelude.{◌≡◌, ◌⊎◌, Bool, true, false, List, ℕ, Err}
+use Rattle.std.specs.Io.KnownBytes.{Appends}
+use Rattle.desk_common.specs.Causes.{Rose}
+use Rattle.desk_common.specs.Fronts.{IsProperPrefix}
 use Rattle.sms_base.specs.Observed.{Observed, IsUnwritten, WasRead, WasAnswered, HasReadFault, HasWriteFault, IsTooLong, IsOutOfMemory}
 use Rattle.sms_script.specs.declared.script_err.ScriptErr.{ScriptErr}
 use Rattle.sms_script.specs.Script.{script_of}
-use Rattle.desk_calls.specs.Headline.{IsAnswered, IsUnprinted, Keeping}
+use Rattle.desk_words.specs.declared.task.Task.{Task}
+use Rattle.desk_words.specs.declared.task.Task.TheVariants as tasks
+use Rattle.desk_calls.specs.Headline.{IsAnswered, IsLoadLeft, IsSummed, Keeping, WasScriptRun}
 use Rattle.desk_calls.specs.declared.status.RunStatus.{RunStatus}
 use Rattle.desk_calls.specs.declared.status.RunStatus.TheVariants.{Done, BadWords, ReadFault, WriteFault, Script, TooLong, NoMemory}
-
--- the lists of words that ask for a run: the one word `run`
-abbrev pub AreRunWords : List (List ℕ) → Type 0
-AreRunWords words = words ≡ codes "run" ∷ []
 
 -- the most bytes of a script
 abbrev pub most_bytes : ℕ
@@ -22,16 +23,16 @@ pub record IsFaulty (old new : Observed) (err : ScriptErr) : Type 0 where
   pub fault : script_of bytes ≡ Err err
   pub unwritten : IsUnwritten old new
 
--- the whole script that was read was run, and its answers found no memory for their text
-pub record WasRunUnprinted (old new : Observed) (before after : Keeping) : Type 0 where
+-- the script that was read was run
+pub record WasReadAndRun (old new : Observed) (before after : Keeping) : Type 0 where
   pub bytes : List ℕ
   pub read : WasRead most_bytes old new bytes
-  pub run : IsUnprinted before after bytes
+  pub run : WasScriptRun before after bytes
 
 -- memory was wanting; the keeper is as it was, or the whole script was run
 pub record IsWanting (old new : Observed) (before after : Keeping) : Type 0 where
   pub wanting : IsOutOfMemory most_bytes old new
-  pub kept : (after ≡ before) ⊎ WasRunUnprinted old new before after
+  pub kept : (after ≡ before) ⊎ WasReadAndRun old new before after
 
 -- the statuses with which nothing is written
 abbrev pub leaves_sink : RunStatus → Bool
@@ -53,12 +54,43 @@ leaves_keeper (Script err) = true
 leaves_keeper TooLong = true
 leaves_keeper NoMemory = false
 
--- what each status says of what was observed before and after, and of the keeper
-abbrev pub Ends : Observed → Observed → Keeping → Keeping → RunStatus → Type 0
-Ends old new before after Done = WasAnswered most_bytes (IsAnswered before after) old new
-Ends old new before after BadWords = new ≡ old
-Ends old new before after ReadFault = HasReadFault most_bytes old new
-Ends old new before after WriteFault = HasWriteFault most_bytes (IsAnswered before after) old new
-Ends old new before after (Script err) = IsFaulty old new err
-Ends old new before after TooLong = IsTooLong most_bytes old new
-Ends old new before after NoMemory = IsWanting old new before after
+-- what each status of a run says of what was observed before and after, and of the keeper
+abbrev pub RunEnds : Bool → Observed → Observed → Keeping → Keeping → RunStatus → Type 0
+RunEnds volumes old new before after Done = WasAnswered most_bytes (IsAnswered volumes before after) old new
+RunEnds volumes old new before after BadWords = ⊥
+RunEnds volumes old new before after ReadFault = HasReadFault most_bytes old new
+RunEnds volumes old new before after WriteFault = HasWriteFault most_bytes (IsAnswered volumes before after) old new
+RunEnds volumes old new before after (Script err) = IsFaulty old new err
+RunEnds volumes old new before after TooLong = IsTooLong most_bytes old new
+RunEnds volumes old new before after NoMemory = IsWanting old new before after
+
+-- the sink took the whole summary
+pub record WasSummed (seed count : ℕ) (old new : Observed) (before after : Keeping) : Type 0 where
+  pub text : List ℕ
+  pub summed : IsSummed seed count before after text
+  pub written : Appends old.taken new.taken text
+  pub write_faults : new.write_faults ≡ old.write_faults
+
+-- the sink took a proper front of the summary before its count of faults rose
+pub record WasCut (seed count : ℕ) (old new : Observed) (before after : Keeping) : Type 0 where
+  pub text : List ℕ
+  pub front : List ℕ
+  pub summed : IsSummed seed count before after text
+  pub proper : IsProperPrefix front text
+  pub written : Appends old.taken new.taken front
+  pub rose : Rose old.write_faults new.write_faults
+
+-- what each status of a load says
+abbrev pub LoadEnds : ℕ → ℕ → Observed → Observed → Keeping → Keeping → RunStatus → Type 0
+LoadEnds seed count old new before after Done = WasSummed seed count old new before after
+LoadEnds seed count old new before after BadWords = ⊥
+LoadEnds seed count old new before after ReadFault = ⊥
+LoadEnds seed count old new before after WriteFault = WasCut seed count old new before after
+LoadEnds seed count old new before after (Script err) = ⊥
+LoadEnds seed count old new before after TooLong = ⊥
+LoadEnds seed count old new before after NoMemory = IsLoadLeft seed count before after
+
+-- what each status of a task says
+abbrev pub Ends : Task → Observed → Observed → Keeping → Keeping → RunStatus → Type 0
+Ends (tasks.Run volumes) old new before after status = RunEnds volumes old new before after status
+Ends (tasks.Generate seed count) old new before after status = LoadEnds seed count old new before after status

@@ -1,9 +1,15 @@
 //! A run of a script on one core.
-ghost use Rattle.std.specs.Prelude.{◌≡◌, ◌≤◌, ◌+◌, [], length, IfOk, IfSome, OnErr, vec_capacity, vec_len};
+ghost use Rattle.std.specs.Prelude.{◌≡◌, ◌≤◌, ◌+◌, ◌-◌, ◌^◌, [], length, min, IfOk, IfSome, OnErr, vec_capacity, vec_len};
+ghost use Rattle.sms_keeper.specs.Tables.{AreSame, no_rows};
 ghost use Rattle.desk_law.specs.History.{IsLegal};
+ghost use Rattle.desk_law.specs.Records.{empty_opening};
+ghost use Rattle.desk_records.specs.Tied.{faults_in};
+ghost use Rattle.sms_core.specs.Core.{HasTables};
 ghost use Rattle.sms_script.specs.Script.{items_of};
+ghost use Rattle.desk_calls.specs.Headline.{WasRun};
 ghost use Rattle.desk_calls.specs.Run.{AnswersFront, AnswersInOrder};
 
+use crate::lawful_history::legal_is_lawful;
 use acs_tree::Slate;
 use desk_common::Items;
 use sms_construct::{Answer, Answers};
@@ -18,21 +24,50 @@ pub fn run_script<P: Keeper>(
     alloc: Global,
     script: &Script,
     mut core: Core<P>,
-    slate: &mut Slate,
 ) -> (Result<Answers, AllocError>, Core<P>)
     ensures answered { IfOk result.0 (λ answers. AnswersInOrder (items_of script.now) answers core.journal result.1.journal) }
     ensures unrun { OnErr result.0 (result.1 ≡ core) }
     ensures opening { result.1.opening ≡ core.opening }
     ensures mark { result.1.mark ≡ core.mark }
     ensures legal { IsLegal result.1.opening result.1.journal }
+    ensures counted { min (result.1.mark + faults_in result.1.journal) (2 ^ 64 - 1) ≤ P.count result.1.keeper }
+    ensures tables { HasTables result.1.opening result.1.journal (P.told result.1.keeper) }
 {
-    let Ok(mut answers) = room_for(alloc, script.as_slice()) else {
+    let room = take_room(alloc, script.as_slice());
+    let Ok((mut answers, mut slate)) = room else {
         let _journal = core.journal();
         return (Err(AllocError), core);
     };
-    answer_phases(script.as_slice(), &mut core, slate, &mut answers);
+    answer_phases(script.as_slice(), &mut core, &mut slate, &mut answers);
     let _journal = core.journal();
     (Ok(Items::from_vec(answers)), core)
+}
+
+/// Answers each item of the script on a new desk over the keeper, whose tables are empty. Where memory for the answers
+/// is wanting, nothing was answered.
+pub fn run_new<P: Keeper>(
+    alloc: Global,
+    script: &Script,
+    keeper: P,
+) -> (Result<Answers, AllocError>, Core<P>)
+    requires tables { IfSome (P.told keeper) (λ rows. AreSame rows no_rows) }
+    ensures ran { IfOk result.0 (λ answers. WasRun (record { told = P.told keeper; count = P.count keeper }) (record { told = P.told result.1.keeper; count = P.count result.1.keeper }) script.now answers result.1.journal) }
+    ensures unrun { OnErr result.0 (result.1.keeper ≡ keeper) }
+    ensures opening { result.1.opening ≡ empty_opening }
+{
+    // Facts for the proof; nothing runs.
+    legal_is_lawful();
+    run_script(alloc, script, Core::new(alloc, keeper))
+}
+
+// Room for the answers to all items, and for what routines write.
+fn take_room(alloc: Global, phases: &[Phase]) -> Result<(Vec<Answer>, Slate), AllocError>
+    ensures none { IfOk result (λ room. room.0.items ≡ []) }
+    ensures room { IfOk result (λ room. length (items_of phases.now) ≤ vec_capacity room.0) }
+{
+    let answers = room_for(alloc, phases)?;
+    let slate = Slate::new(alloc)?;
+    Ok((answers, slate))
 }
 
 // Room for the answers to all items.

@@ -1,5 +1,5 @@
 -- What the words of the desk's command line ask for (docs/script.md, "The program").
-use Rattle.std.specs.Prelude.{ℕ, ◌&&◌, List, [], ◌∷◌, nat_le, Option, None, Some, bytes_eq, codes, if◌then◌else◌}
+use Rattle.std.specs.Prelude.{ℕ, ◌&&◌, true, false, List, [], ◌∷◌, nat_le, Option, None, Some, bytes_eq, codes, if◌then◌else◌}
 use Rattle.sms_script.specs.Found.{◌⊳◌}
 use Rattle.sms_script.specs.Numbers.{number_of}
 use Rattle.desk_words.specs.declared.task.Task.{Task}
@@ -23,7 +23,7 @@ load_in seed count =
 -- `run`; `run --volumes`; `gen`, a seed and a number of items; no other words ask for anything
 abbrev pub task_in : List (List ℕ) → Option Task
 task_in [] = None
-task_in (word ∷ []) = if bytes_eq word (codes "run") then Some tasks.Run else None
-task_in (word ∷ second ∷ []) = if bytes_eq word (codes "run") && bytes_eq second (codes "--volumes") then Some tasks.RunWithVolumes else None
+task_in (word ∷ []) = if bytes_eq word (codes "run") then Some (tasks.Run false) else None
+task_in (word ∷ second ∷ []) = if bytes_eq word (codes "run") && bytes_eq second (codes "--volumes") then Some (tasks.Run true) else None
 task_in (word ∷ second ∷ third ∷ []) = if bytes_eq word (codes "gen") then load_in second third else None
 task_in (word ∷ second ∷ third ∷ fourth ∷ words) = None

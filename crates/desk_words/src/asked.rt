@@ -13,9 +13,9 @@ pub fn task_asked(words: &[String]) -> Option<Task>
     ensures { result ≡ task_in (map string_bytes words.now) }
 {
     match words {
-        [word] if word.as_str() == "run" => Some(Task::Run),
+        [word] if word.as_str() == "run" => Some(Task::Run { volumes: false }),
         [word, second] if word.as_str() == "run" && second.as_str() == "--volumes" => {
-            Some(Task::RunWithVolumes)
+            Some(Task::Run { volumes: true })
         }
         [word, seed, count] if word.as_str() == "gen" => {
             load_in(seed.as_bytes(), count.as_bytes())

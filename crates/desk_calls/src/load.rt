@@ -1,0 +1,39 @@
+// The generated script and its summary.
+ghost use Rattle.std.specs.Prelude.{◌≡◌, ◌≤◌, IfErr, IfOk, IfSome, OnErr, length};
+ghost use Rattle.sms_keeper.specs.Tables.{AreSame, no_rows};
+ghost use Rattle.desk_law.specs.Records.{empty_opening};
+ghost use Rattle.desk_generator.specs.Summary.{summary_of};
+ghost use Rattle.desk_calls.specs.Headline.{AreRows, IsLoadLeft, IsSummed};
+
+use crate::run_text::rows_of;
+use crate::script_run::run_new;
+use desk_generator::{generate, summary};
+use sms_construct::Answer;
+use sms_core::Core;
+use sms_keeper::Keeper;
+use std::alloc::{AllocError, Global};
+
+/// The summary of the answers to the generated script, from an empty desk over the keeper.
+pub fn load_text<P: Keeper>(
+    alloc: Global,
+    seed: u32,
+    count: u32,
+    keeper: P,
+) -> (Result<Vec<u8>, AllocError>, P)
+    requires few { count ≤ 40000 }
+    requires tables { IfSome (P.told keeper) (λ rows. AreSame rows no_rows) }
+    ensures summed { IfOk result.0 (λ text. IsSummed seed count (record { told = P.told keeper; count = P.count keeper }) (record { told = P.told result.1; count = P.count result.1 }) text.items) }
+    ensures left { OnErr result.0 (IsLoadLeft seed count (record { told = P.told keeper; count = P.count keeper }) (record { told = P.told result.1; count = P.count result.1 })) }
+{
+    let Ok(script) = generate(alloc, seed, count) else {
+        return (Err(AllocError), keeper);
+    };
+    let (answers, core) = run_new(alloc, &script, keeper);
+    let Ok(answers) = answers else {
+        let (keeper, _journal) = core.into_parts();
+        return (Err(AllocError), keeper);
+    };
+    let text = summary_text(alloc, seed, count, answers.as_slice(), &core);
+    let (keeper, _journal) = core.into_parts();
+    (text, keeper)
+}

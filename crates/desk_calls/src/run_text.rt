@@ -1,0 +1,51 @@
+// The text of a run.
+ghost use Rattle.std.specs.Prelude.{◌≡◌, ◌++◌, length, IfOk, OnOk};
+ghost use Rattle.desk_law.specs.Records.{empty_opening};
+ghost use Rattle.sms_report.specs.VolumesTable.{table_text};
+ghost use Rattle.sms_script.specs.Script.{items_of};
+ghost use Rattle.sms_script.specs.AnswerText.{text_of};
+ghost use Rattle.desk_calls.specs.Headline.{AreRows, Prints};
+
+use sms_construct::{Answer, VolRows};
+use sms_core::Core;
+use sms_keeper::Keeper;
+use sms_report::volumes_csv;
+use sms_script::{Script, print};
+use std::alloc::{AllocError, Global};
+
+/// The text of the answers to a script, which left the core so; with `volumes` the table of volumes stands behind it.
+pub fn run_text<P: Keeper>(
+    alloc: Global,
+    script: &Script,
+    answers: &[Answer],
+    volumes: bool,
+    core: &Core<P>,
+) -> Result<Vec<u8>, AllocError>
+    requires each { length answers.now ≡ length (items_of script.now) }
+    requires opening { core.now.opening ≡ empty_opening }
+    ensures { IfOk result (λ text. Prints volumes script.now answers.now core.now.journal text.items) }
+{
+    let entries = core.journal().len() as u64;
+    let mut text = print(alloc, script, answers, entries)?;
+    if volumes {
+        let rows = rows_of(core)?;
+        push_table(alloc, &mut text, &rows)?;
+        return Ok(text);
+    }
+    Ok(text)
+}
+
+/// The volumes of the active configuration as a core of a new desk shows them.
+pub fn rows_of<P: Keeper>(core: &Core<P>) -> Result<VolRows, AllocError>
+    requires { core.now.opening ≡ empty_opening }
+    ensures { IfOk result (λ rows. AreRows core.now.journal rows) }
+{
+    core.vol_rows()
+}
+
+fn push_table(alloc: Global, text: &mut Vec<u8>, rows: &VolRows) -> Result<(), AllocError>
+    ensures { OnOk result (text.new.items ≡ text.old.items ++ table_text rows.now) }
+{
+    let table = volumes_csv(alloc, rows)?;
+    text.extend_from_slice(&table)
+}
