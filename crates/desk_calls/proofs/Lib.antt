@@ -1,3 +1,2 @@
 mod HistoryLemmas
 mod RunLemmas
-mod WordLemmas

@@ -114,13 +114,17 @@ pub record WasScriptRun (before after : Keeping) (bytes : List ℕ) : Type 0 whe
 abbrev pub IsLeft : Keeping → Keeping → List ℕ → Type 0
 IsLeft before after bytes = (after ≡ before) ⊎ WasScriptRun before after bytes
 
--- the text is the summary of the answers to a generated script, and they are those of one legal history
+-- the text is the summary of the answers to a generated script, with the volumes and the number of entries that the history left
+pub record SumsUp (seed count : ℕ) (answers : List Answer) (history : List Entry) (text : List ℕ) : Type 0 where
+  pub rows : List VolRow
+  pub rows_are : AreRows history rows
+  pub text_is : text ≡ summary_of seed count answers rows (length history)
+
+-- the text is that summary, and the answers are those of one legal history
 pub record IsSummed (seed count : ℕ) (before after : Keeping) (text : List ℕ) : Type 0 where
   pub answers : List Answer
   pub history : List Entry
-  pub rows : List VolRow
-  pub rows_are : AreRows history rows
-  pub printed : text ≡ summary_of seed count answers rows (length history)
+  pub printed : SumsUp seed count answers history text
   pub run : WasRun before after (generated seed count) answers history
 
 -- the generated script was run

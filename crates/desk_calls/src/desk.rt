@@ -1,13 +1,17 @@
 //! The top call of the desk.
-ghost use Rattle.std.specs.Prelude.{◌≡◌, ◌↔◌, true, map, string_bytes, IfSome};
+ghost use Rattle.std.specs.Prelude.{◌≡◌, ◌≤◌, ◌↔◌, ℕ, None, Some, true, map, string_bytes, IfSome};
 ghost use Rattle.sms_base.specs.Observed.{Observed};
 ghost use Rattle.sms_keeper.specs.Tables.{AreSame, no_rows};
+ghost use Rattle.desk_words.specs.Words.{task_in};
+ghost use Rattle.desk_words.specs.declared.task.Task.{Task as Asked};
+ghost use Rattle.desk_words.specs.declared.task.Task.TheVariants.{Generate};
 ghost use Rattle.desk_calls.specs.Headline.{Keeping};
-ghost use Rattle.desk_calls.specs.RunFault.{AreRunWords, Ends, leaves_keeper, leaves_sink};
+ghost use Rattle.desk_calls.specs.RunFault.{Ends, LoadEnds, RunEnds, leaves_keeper, leaves_sink};
 
 use crate::answering::answer_text;
+use crate::load::load_text;
 use crate::status::RunStatus;
-use crate::words::are_run_words;
+use desk_words::{Task, task_asked};
 use sms_base::{ReadEnd, Sink, Source, read_all, write_all};
 use sms_keeper::Keeper;
 use sms_script::ScriptErr;
@@ -16,9 +20,10 @@ use std::alloc::Global;
 /// The longest script, in bytes.
 pub const MAX_SCRIPT: usize = 16_777_216;
 
-/// Runs the desk as the words of the command line ask: reads a script from the source to its end, answers it
-/// on an empty desk over a keeper of empty tables, writes the text of the answers to the sink, and hands the keeper
-/// back.
+/// Does what the words of the command line ask, on an empty desk over a keeper of empty tables, which it hands back:
+/// reads a script from the source to its end, answers it and writes the text of the answers to the sink, with the
+/// table of volumes behind it where that is asked for; or answers a generated script, with the source untouched, and
+/// writes the summary of the answers (docs/script.md, "The program"; docs/generator.md).
 pub fn desk_main<S: Source, K: Sink, P: Keeper>(
     alloc: Global,
     words: &[String],
@@ -27,25 +32,28 @@ pub fn desk_main<S: Source, K: Sink, P: Keeper>(
     keeper: P,
 ) -> (RunStatus, P)
     requires tables { IfSome (P.told keeper) (λ rows. AreSame rows no_rows) }
+    ensures words { result.0 ≡ RunStatus.BadWords ↔ (task_in (map string_bytes words.now) ≡ None) }
     ensures unread { result.0 ≡ RunStatus.BadWords → src.new ≡ src.old }
-    ensures words { result.0 ≡ RunStatus.BadWords ↔ (AreRunWords (map string_bytes words.now) → ⊥) }
+    ensures unasked { (seed count : ℕ) → task_in (map string_bytes words.now) ≡ Some (Generate seed count) → src.new ≡ src.old }
     ensures unwritten { leaves_sink result.0 ≡ true → out.new ≡ out.old }
     ensures unrun { leaves_keeper result.0 ≡ true → result.1 ≡ keeper }
-    ensures ends { Ends
+    ensures ends { (task : Asked) → task_in (map string_bytes words.now) ≡ Some task → Ends task
         (record { left = S.left src.old; read_faults = S.read_faults src.old; taken = K.taken out.old; write_faults = K.write_faults out.old })
         (record { left = S.left src.new; read_faults = S.read_faults src.new; taken = K.taken out.new; write_faults = K.write_faults out.new })
         (record { told = P.told keeper; count = P.count keeper }) (record { told = P.told result.1; count = P.count result.1 })
         result.0 }
 {
-    if !are_run_words(words) {
-        return (RunStatus::BadWords, keeper);
+    match task_asked(words) {
+        None => (RunStatus::BadWords, keeper),
+        Some(Task::Run { volumes }) => run(alloc, volumes, src, out, keeper),
+        Some(Task::Generate { seed, count }) => load(alloc, seed, count, src, out, keeper),
     }
-    run(alloc, src, out, keeper)
 }
 
 // Answers the script of the source.
 fn run<S: Source, K: Sink, P: Keeper>(
     alloc: Global,
+    volumes: bool,
     src: &mut S,
     out: &mut K,
     keeper: P,
@@ -54,7 +62,7 @@ fn run<S: Source, K: Sink, P: Keeper>(
     ensures words { result.0 ≡ RunStatus.BadWords → ⊥ }
     ensures unwritten { leaves_sink result.0 ≡ true → out.new ≡ out.old }
     ensures unrun { leaves_keeper result.0 ≡ true → result.1 ≡ keeper }
-    ensures ends { Ends
+    ensures ends { RunEnds volumes
         (record { left = S.left src.old; read_faults = S.read_faults src.old; taken = K.taken out.old; write_faults = K.write_faults out.old })
         (record { left = S.left src.new; read_faults = S.read_faults src.new; taken = K.taken out.new; write_faults = K.write_faults out.new })
         (record { told = P.told keeper; count = P.count keeper }) (record { told = P.told result.1; count = P.count result.1 })
@@ -66,11 +74,42 @@ fn run<S: Source, K: Sink, P: Keeper>(
         Err(ReadEnd::TooLong) => return (RunStatus::TooLong, keeper),
         Err(ReadEnd::NoMemory) => return (RunStatus::NoMemory, keeper),
     };
-    let (text, keeper) = answer_text(alloc, &bytes, keeper);
+    let (text, keeper) = answer_text(alloc, &bytes, volumes, keeper);
     let text = match text {
         Ok(text) => text,
         Err(ScriptErr::NoMemory) => return (RunStatus::NoMemory, keeper),
         Err(fault) => return (RunStatus::Script(fault), keeper),
+    };
+    match write_all(out, &text) {
+        Ok(()) => (RunStatus::Done, keeper),
+        Err(_) => (RunStatus::WriteFault, keeper),
+    }
+}
+
+// Answers the generated script.
+fn load<S: Source, K: Sink, P: Keeper>(
+    alloc: Global,
+    seed: u32,
+    count: u32,
+    src: &mut S,
+    out: &mut K,
+    keeper: P,
+) -> (RunStatus, P)
+    requires few { count ≤ 40000 }
+    requires tables { IfSome (P.told keeper) (λ rows. AreSame rows no_rows) }
+    ensures words { result.0 ≡ RunStatus.BadWords → ⊥ }
+    ensures unread { src.new ≡ src.old }
+    ensures unwritten { leaves_sink result.0 ≡ true → out.new ≡ out.old }
+    ensures unrun { leaves_keeper result.0 ≡ true → result.1 ≡ keeper }
+    ensures ends { LoadEnds seed count
+        (record { left = S.left src.old; read_faults = S.read_faults src.old; taken = K.taken out.old; write_faults = K.write_faults out.old })
+        (record { left = S.left src.new; read_faults = S.read_faults src.new; taken = K.taken out.new; write_faults = K.write_faults out.new })
+        (record { told = P.told keeper; count = P.count keeper }) (record { told = P.told result.1; count = P.count result.1 })
+        result.0 }
+{
+    let (text, keeper) = load_text(alloc, seed, count, keeper);
+    let Ok(text) = text else {
+        return (RunStatus::NoMemory, keeper);
     };
     match write_all(out, &text) {
         Ok(()) => (RunStatus::Done, keeper),

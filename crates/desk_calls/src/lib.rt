@@ -4,9 +4,10 @@
 mod answering;
 mod desk;
 mod lawful_history;
+mod load;
+mod run_text;
 mod script_run;
 mod status;
-mod words;
 
 pub use desk::{MAX_SCRIPT, desk_main};
 pub use script_run::run_script;

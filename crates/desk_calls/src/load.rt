@@ -1,11 +1,9 @@
 // The generated script and its summary.
-ghost use Rattle.std.specs.Prelude.{◌≡◌, ◌≤◌, IfErr, IfOk, IfSome, OnErr, length};
+ghost use Rattle.std.specs.Prelude.{◌≡◌, ◌≤◌, IfOk, IfSome, OnErr};
 ghost use Rattle.sms_keeper.specs.Tables.{AreSame, no_rows};
 ghost use Rattle.desk_law.specs.Records.{empty_opening};
-ghost use Rattle.desk_generator.specs.Summary.{summary_of};
-ghost use Rattle.desk_calls.specs.Headline.{AreRows, IsLoadLeft, IsSummed};
+ghost use Rattle.desk_calls.specs.Headline.{IsLoadLeft, IsSummed, SumsUp};
 
-use crate::run_text::rows_of;
 use crate::script_run::run_new;
 use desk_generator::{generate, summary};
 use sms_construct::Answer;
@@ -36,4 +34,20 @@ pub fn load_text<P: Keeper>(
     let text = summary_text(alloc, seed, count, answers.as_slice(), &core);
     let (keeper, _journal) = core.into_parts();
     (text, keeper)
+}
+
+// The summary of these answers, which left the core so.
+fn summary_text<P: Keeper>(
+    alloc: Global,
+    seed: u32,
+    count: u32,
+    answers: &[Answer],
+    core: &Core<P>,
+) -> Result<Vec<u8>, AllocError>
+    requires { core.now.opening ≡ empty_opening }
+    ensures { IfOk result (λ text. SumsUp seed count answers.now core.now.journal text.items) }
+{
+    let entries = core.journal().len() as u64;
+    let rows = core.vol_rows()?;
+    summary(alloc, seed, count, answers, rows.as_slice(), entries)
 }

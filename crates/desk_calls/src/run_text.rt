@@ -3,8 +3,7 @@ ghost use Rattle.std.specs.Prelude.{◌≡◌, ◌++◌, length, IfOk, OnOk};
 ghost use Rattle.desk_law.specs.Records.{empty_opening};
 ghost use Rattle.sms_report.specs.VolumesTable.{table_text};
 ghost use Rattle.sms_script.specs.Script.{items_of};
-ghost use Rattle.sms_script.specs.AnswerText.{text_of};
-ghost use Rattle.desk_calls.specs.Headline.{AreRows, Prints};
+ghost use Rattle.desk_calls.specs.Headline.{Prints};
 
 use sms_construct::{Answer, VolRows};
 use sms_core::Core;
@@ -28,19 +27,11 @@ pub fn run_text<P: Keeper>(
     let entries = core.journal().len() as u64;
     let mut text = print(alloc, script, answers, entries)?;
     if volumes {
-        let rows = rows_of(core)?;
+        let rows = core.vol_rows()?;
         push_table(alloc, &mut text, &rows)?;
         return Ok(text);
     }
     Ok(text)
-}
-
-/// The volumes of the active configuration as a core of a new desk shows them.
-pub fn rows_of<P: Keeper>(core: &Core<P>) -> Result<VolRows, AllocError>
-    requires { core.now.opening ≡ empty_opening }
-    ensures { IfOk result (λ rows. AreRows core.now.journal rows) }
-{
-    core.vol_rows()
 }
 
 fn push_table(alloc: Global, text: &mut Vec<u8>, rows: &VolRows) -> Result<(), AllocError>
