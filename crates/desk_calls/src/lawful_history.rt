@@ -6,8 +6,8 @@ ghost use Rattle.desk_law.specs.Records.{empty_opening};
 ghost use Rattle.desk_calls.specs.Headline.{IsLawfulHistory};
 
 use desk_law::{
-    empty_is_lawful, floors_never_fall, kept_replies, lawful_always, lawful_grants, places_in_order,
-    to_no_other,
+    empty_is_lawful, floors_never_fall, kept_replies, lawful_always, lawful_grants,
+    places_in_order, to_no_other,
 };
 
 /// A legal history of a new desk is lawful in all that it grants, holds and keeps.

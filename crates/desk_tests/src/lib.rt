@@ -38,6 +38,8 @@ mod listing;
 #[cfg(test)]
 mod names;
 #[cfg(test)]
+mod operations;
+#[cfg(test)]
 mod phases;
 #[cfg(test)]
 mod repeats;

@@ -1,7 +1,9 @@
 //! The core and a run of a script, called by themselves.
 use acs_tree::Slate;
 use desk_calls::run_script;
-use sms_construct::Reply;
+use desk_common::{Items, Shared};
+use dsn_mask::Name;
+use sms_construct::{Op, Reply, Request, RequestNumber};
 use sms_core::Core;
 use sms_keeper::{FaultKeeper, Keeper, MemKeeper};
 use sms_script::{Script, read_script};
@@ -80,5 +82,60 @@ fn a_floor_refuses_lower_numbers_and_never_falls(rt: HostRuntime) -> Result<(), 
     assert!(rt; matches!(&last.reply, Reply::Purged { floor: 3, .. }));
     assert!(rt; core.active().is_none());
     assert_eq!(rt; core.vol_rows()?.len(), 0);
+    Ok(())
+}
+
+/// The purge with this number, which puts the floor there.
+fn purge(number: u32) -> Result<Request, Fail> {
+    let job = Name::new(b"SMSADMIN").ok_or("job")?;
+    let number = RequestNumber::new(number).ok_or("number")?;
+    Ok(Request {
+        job,
+        number,
+        op: Op::Purge { job, floor: number },
+    })
+}
+
+/// The activation of an empty deck with this number.
+fn activation(alloc: Global, number: u32) -> Result<Request, Fail> {
+    Ok(Request {
+        job: Name::new(b"SMSADMIN").ok_or("job")?,
+        number: RequestNumber::new(number).ok_or("number")?,
+        op: Op::Activate(Shared::new(alloc, Items::new(alloc))?),
+    })
+}
+
+#[test]
+fn a_full_journal_answers_no_more(rt: HostRuntime) -> Result<(), Fail> {
+    let alloc = rt.alloc();
+    let mut core = Core::new(alloc, MemKeeper::new(alloc));
+    let mut slate = Slate::new(alloc)?;
+    for number in 1..=50_000u32 {
+        let answer = core.step(&purge(number)?, &mut slate);
+        assert!(rt; matches!(&answer.reply, Reply::Purged { .. }));
+    }
+    for number in [50_001, 50_000, 1] {
+        let answer = core.step(&purge(number)?, &mut slate);
+        assert!(rt; matches!(&answer.reply, Reply::JournalFull));
+        assert!(rt; answer.place == 0 && answer.first == 0);
+    }
+    assert_eq!(rt; core.journal().len(), 50_000);
+    Ok(())
+}
+
+#[test]
+fn a_journal_takes_200_activations(rt: HostRuntime) -> Result<(), Fail> {
+    let alloc = rt.alloc();
+    let mut core = Core::new(alloc, MemKeeper::new(alloc));
+    let mut slate = Slate::new(alloc)?;
+    for number in 1..=200 {
+        let answer = core.step(&activation(alloc, number)?, &mut slate);
+        assert!(rt; matches!(&answer.reply, Reply::Deck(_)));
+    }
+    let full = core.step(&activation(alloc, 201)?, &mut slate);
+    assert!(rt; matches!(&full.reply, Reply::JournalFull));
+    let other = core.step(&purge(202)?, &mut slate);
+    assert!(rt; matches!(&other.reply, Reply::Purged { .. }));
+    assert_eq!(rt; other.place, 201);
     Ok(())
 }

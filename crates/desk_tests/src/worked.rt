@@ -230,7 +230,7 @@ const CLASSES: [Case; 6] = [
     ),
     // space and volume count of the request, of the data class, of none
     (
-        Text("version = 1\n[dataclass.DC1]\nspace = \"(TRK,(7,1))\"\nvolumes = 2\n[dataclass.DC2]\n[storclass.SC1]\n[storgroup.SG1.volume.VOL001]\ntracks = 10\n[storgroup.SG1.volume.VOL002]\ntracks = 100\nstatus = \"QUIALL\"\n[routine]\nstorgroup = \"PROC STORGRP SET &STORGRP = 'SG1' END\"\n"),
+        Text("version = 1\n[dataclass.DC1]\nspace = \"(TRK,(7,1))\"\nvolcount = 2\n[dataclass.DC2]\n[storclass.SC1]\n[storgroup.SG1.volume.VOL001]\ntracks = 10\n[storgroup.SG1.volume.VOL002]\ntracks = 100\nstatus = \"QUIALL\"\n[routine]\nstorgroup = \"PROC STORGRP SET &STORGRP = 'SG1' END\"\n"),
         &[
             ("J 1", "ALLOC A.A STORCLAS=SC1", "R16 NO QUANTITY"),
             ("J 2", "ALLOC A.A STORCLAS=SC1 DATACLAS=DC2", "R16 NO QUANTITY"),

@@ -1,4 +1,4 @@
-use Rattle.std.proofs.Common.{◌≡◌, ◌++◌, ◌∷◌, List, subst}
+use Rattle.std.proofs.Common.{◌≡◌, ◌++◌, ◌∷◌, List, subst, arith}
 use Rattle.sms_construct.specs.declared.entry.Entry.{Entry}
 use Rattle.desk_law.specs.History.{IsLegal}
 use Rattle.desk_law.specs.Records.{empty_opening}
@@ -9,7 +9,7 @@ pub returns : goal.returns
 returns c = λ history legal.
     let at : (parts : List Entry) → history ≡ parts → IsLegal empty_opening parts = λ parts is. subst (λ (l : List Entry). IsLegal empty_opening l) is legal in
     record {
-      places = λ front rest entry is. c.places_in_order.ensures empty_opening front rest entry (at (front ++ entry ∷ rest) is);
+      places = λ front rest entry is. omega (arith, c.places_in_order.ensures empty_opening front rest entry (at (front ++ entry ∷ rest) is));
       legal = legal;
       grants = λ front rest entry set trace is granted. entered-grant front entry set trace (c.lawful_grants.ensures.kept empty_opening front rest entry set trace (at (front ++ entry ∷ rest) is) granted);
       lawful = λ front rest s is reaches. c.lawful_always.ensures empty_opening front s c.empty_is_lawful.ensures reaches;

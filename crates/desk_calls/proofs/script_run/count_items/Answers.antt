@@ -1,4 +1,4 @@
-use Rattle.std.proofs.Common.{◌≡◌, ◌<◌, length, take, add-one, arith, length-append}
+use Rattle.std.proofs.Common.{◌<◌, length, take, add-one, arith, length-append}
 use Rattle.sms_script.specs.Script.{items_of}
 use Rattle.desk_calls.proofs.RunLemmas.{items_up_to}
 use Rattle.desk_calls.proofs.script_run.count_items.Goals as goal
