@@ -1,7 +1,6 @@
 -- A decision by the rule of the op is one that the records take.
-use Rattle.std.proofs.Common.{◌≡◌, ◌≤◌, ℕ, ◌+◌, suc, Bool, true, false, List, [], ◌∷◌, ◌++◌, map, refl, sym, ap, ◌∙◌, subst, arith, inl, inr}
-use Rattle.std.specs.Prelude.{Option, None, Some, option_map, Result, Ok, Err, IfOk, IsSome, is_some, max, nat_eq, nat_lt, length}
-use Rattle.std.specs.declared.alloc.AllocError.{AllocError}
+use Rattle.std.proofs.Common.{◌≡◌, ◌≤◌, ℕ, ◌+◌, Bool, true, false, List, [], ◌∷◌, ◌++◌, map, refl, sym, ap, ◌∙◌, subst, arith, inl, inr}
+use Rattle.std.specs.Prelude.{Option, None, Some, Result, Ok, Err, IsSome, is_some, max, nat_eq, nat_lt, length}
 use Rattle.std.specs.List.{list_all}
 use Rattle.sms_construct.specs.Configuration.{Configuration}
 use Rattle.sms_construct.specs.Quantities.{Quantities}
@@ -20,7 +19,7 @@ use Rattle.sms_construct.specs.declared.why_no_extend.WhyNoExtend.TheVariants as
 use Rattle.sms_keeper.specs.Suits.{SuitsOp, deck_of, has_status}
 use Rattle.sms_keeper.specs.declared.status_row.StatusRow.{StatusRow}
 use Rattle.desk_law.specs.State.{DeskState, set_named}
-use Rattle.desk_law.specs.Activation.{ActivateRule, ConfigurationRule, first_barred, row_of_group, row_of_volume, statuses_under}
+use Rattle.desk_law.specs.Activation.{ActivateRule, first_barred, row_of_group, row_of_volume, statuses_under}
 use Rattle.desk_law.specs.Allocation.{AllocRule, GrantsOn, Wish, alloc_case, candidates_of, data_class_of, space_case, space_of, want_of, wish_with}
 use Rattle.desk_law.specs.Candidates.{Chosen}
 use Rattle.desk_law.specs.Classification.{Classes, answer_of, classes_of, trace_of, went_through}
