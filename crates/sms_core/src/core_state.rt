@@ -1,5 +1,5 @@
 //! The core: the journal, the state after it, and the records.
-ghost use Rattle.std.specs.Prelude.{◌≡◌, ◌≤◌, ◌+◌, ◌-◌, ◌^◌, [], cond, IfOk, IfSome, MatchOption, map, min, None, Some};
+ghost use Rattle.std.specs.Prelude.{◌≡◌, ◌≤◌, ◌<◌, ◌+◌, ◌-◌, ◌^◌, [], cond, IfOk, IfSome, length, MatchOption, map, min, None, Some};
 ghost use Rattle.std.specs.Option.{option_copied};
 ghost use Rattle.sms_keeper.specs.Tables.{AreSame, no_rows};
 ghost use Rattle.desk_law.specs.State.{DeskState, set_named};
@@ -124,9 +124,11 @@ impl<P: Keeper> Core<P> {
         }
     }
 
-    /// All volumes of the active configuration as reports show them, in byte order, or want of memory.
+    /// All volumes of the active configuration as reports show them, in byte order and fewer than 2^32, or want of
+    /// memory.
     pub fn vol_rows(&self) -> Result<VolRows, AllocError>
-        ensures { IfOk result (λ rows. (s : DeskState) → Reaches self.now.opening self.now.journal s → rows ≡ map (shown_volume s) (volumes_in s.active)) }
+        ensures rows { IfOk result (λ rows. (s : DeskState) → Reaches self.now.opening self.now.journal s → rows ≡ map (shown_volume s) (volumes_in s.active)) }
+        ensures few { IfOk result (λ rows. length rows < 2 ^ 32) }
     {
         self.running.volumes.rows(self.running.alloc)
     }
