@@ -4,6 +4,8 @@ use crate::cases::{Case, script_of, text_of};
 use crate::deck_readings::ORDINARY;
 use crate::running::run;
 use desk_calls::RunStatus;
+use std::alloc::Global;
+use std::process::Abort;
 use std::test::Fail;
 
 /// Where tracks lie.
@@ -230,7 +232,7 @@ const CLASSES: [Case; 6] = [
     ),
     // space and volume count of the request, of the data class, of none
     (
-        Text("version = 1\n[dataclass.DC1]\nspace = \"(TRK,(7,1))\"\nvolumes = 2\n[dataclass.DC2]\n[storclass.SC1]\n[storgroup.SG1.volume.VOL001]\ntracks = 10\n[storgroup.SG1.volume.VOL002]\ntracks = 100\nstatus = \"QUIALL\"\n[routine]\nstorgroup = \"PROC STORGRP SET &STORGRP = 'SG1' END\"\n"),
+        Text("version = 1\n[dataclass.DC1]\nspace = \"(TRK,(7,1))\"\nvolcount = 2\n[dataclass.DC2]\n[storclass.SC1]\n[storgroup.SG1.volume.VOL001]\ntracks = 10\n[storgroup.SG1.volume.VOL002]\ntracks = 100\nstatus = \"QUIALL\"\n[routine]\nstorgroup = \"PROC STORGRP SET &STORGRP = 'SG1' END\"\n"),
         &[
             ("J 1", "ALLOC A.A STORCLAS=SC1", "R16 NO QUANTITY"),
             ("J 2", "ALLOC A.A STORCLAS=SC1 DATACLAS=DC2", "R16 NO QUANTITY"),
@@ -261,21 +263,20 @@ const CLASSES: [Case; 6] = [
 
 #[test]
 fn tracks_lie_where_the_gap_rule_puts_them(rt: HostRuntime) -> Result<(), Fail> {
-    compare_all(&rt, &SPACE)
+    compare_all(&rt, rt.alloc(), &SPACE)
 }
 
 #[test]
 fn volumes_are_chosen_by_their_lists(rt: HostRuntime) -> Result<(), Fail> {
-    compare_all(&rt, &VOLUMES)
+    compare_all(&rt, rt.alloc(), &VOLUMES)
 }
 
 #[test]
 fn classes_are_those_of_the_routines(rt: HostRuntime) -> Result<(), Fail> {
-    compare_all(&rt, &CLASSES)
+    compare_all(&rt, rt.alloc(), &CLASSES)
 }
 
-fn compare_all(rt: &HostRuntime, cases: &[Case]) -> Result<(), Fail> {
-    let alloc = rt.alloc();
+fn compare_all(rt: &impl Abort, alloc: Global, cases: &[Case]) -> Result<(), Fail> {
     for case in cases {
         let script = script_of(alloc, case)?;
         let wanted = text_of(alloc, case)?;
