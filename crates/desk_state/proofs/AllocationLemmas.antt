@@ -33,6 +33,7 @@ use Rattle.desk_state.specs.declared.decision.Decision.{Decision}
 use Rattle.desk_state.specs.declared.deed.Deed.TheVariants as deeds
 use Rattle.desk_state.specs.declared.grant.Grant.{Grant}
 use Rattle.desk_state.specs.declared.running.Running.{Running}
+use Rattle.desk_state.proofs.OkLemmas.{none-mapped}
 use Rattle.desk_state.specs.declared.wish.Wish.{Wish}
 use Rattle.desk_state.proofs.AnswerLemmas.{quiet-answers}
 
@@ -165,16 +166,12 @@ spaceless-answers : (s : DeskState) (running : Running) (config : Configuration)
 spaceless-answers s running config alloc classes trace done written none =
     classified-err s running config alloc classes (replies.NoQuantity trace) (replies.NoQuantity (trace_of classes)) (rw (done, none) refl) (ap replies.NoQuantity (sym written)) refl
 
-unmapped : {A B : Type 0} (f : A → B) (o : Option A) → None ≡ option_map f o → o ≡ None
-unmapped f None is = refl
-unmapped f (Some x) is = absurd cc
-
 pub wishless-answers : (s : DeskState) (running : Running) (config : Configuration) (alloc : Alloc) (values : Values) (stop : Stop) (classes : Classes) (trace given : Trace) → IsDone stop given trace
     → None ≡ option_map (wish_under config alloc values) (space_of alloc (data_class_of config values.dataclas)) → classes.values ≡ values → classes.stop ≡ stop → trace_of classes ≡ trace
     → Answers s running (ClassifiedRule s config alloc classes) (record { reply = replies.NoQuantity given; deed = deeds.Nothing })
 wishless-answers s running config alloc values stop classes trace given is none same stops_so written =
     spaceless-answers s running config alloc classes given (stops_so ∙ is.done) (written ∙ sym is.same)
-    (ap (λ (v : Values). space_of alloc (data_class_of config v.dataclas)) same ∙ unmapped (wish_under config alloc values) (space_of alloc (data_class_of config values.dataclas)) none)
+    (ap (λ (v : Values). space_of alloc (data_class_of config v.dataclas)) same ∙ none-mapped (wish_under config alloc values) (space_of alloc (data_class_of config values.dataclas)) none)
 
 -- there is a space
 pub spaced-answers : (s : DeskState) (running : Running) (config : Configuration) (alloc : Alloc) (classes : Classes) (space : Quantities) (made : Decision) → classes.stop ≡ stops.Done

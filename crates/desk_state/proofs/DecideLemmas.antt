@@ -283,9 +283,10 @@ deed-suits floors s running job op reply (deeds.Get set place pieces) rule answe
 deed-suits floors s running job op reply (deeds.Note set) rule answers = tt
 deed-suits floors s running job op reply (deeds.Keep set) rule answers = tt
 deed-suits floors s running job op reply (deeds.Remove dsn) rule answers = tt
-deed-suits floors s running job op reply (deeds.Become count config volumes statuses) rule answers =
-    (only-activates floors s job op reply (state_with s (effect_of (deeds.Become count config volumes statuses)) (Some config)) refl rule,
-    subst (λ (l : List StatusRow). list_all (λ (row : StatusRow). has_status row.target) l ≡ true) (sym answers.fits.statuses_are) (statuses-suit config s.statuses))
+deed-suits floors s running job op reply (deeds.Become count config volumes statuses) rule answers = (
+  only-activates floors s job op reply (state_with s (effect_of (deeds.Become count config volumes statuses)) (Some config)) refl rule,
+  subst (λ (l : List StatusRow). list_all (λ (row : StatusRow). has_status row.target) l ≡ true) (sym answers.fits.statuses_are) (statuses-suit config s.statuses),
+)
 deed-suits floors s running job op reply (deeds.Vary target status) rule answers = answers.fits
 deed-suits floors s running job op reply (deeds.Raise raised_job floor) rule answers = tt
 
@@ -322,13 +323,3 @@ old-anywhere (ops.Release dsn) old = tt
 old-anywhere (ops.Display target) old = tt
 old-anywhere (ops.Vary target action) old = tt
 old-anywhere (ops.Purge job floor) old = refl
-
--- What holds of each answer.
-
-pub each-ok : {A : Type 0} {P Q : A → Type 0} (result : Result A AllocError) → IfOk result P → ((x : A) → P x → Q x) → IfOk result Q
-each-ok (Ok x) holds then = then x holds
-each-ok (Err error) holds then = tt
-
-pub none-mapped : {A B : Type 0} (f : A → B) (o : Option A) → None ≡ option_map f o → o ≡ None
-none-mapped f None is = refl
-none-mapped f (Some x) is = absurd cc

@@ -11,7 +11,7 @@ use Rattle.sms_construct.specs.declared.view.View.TheVariants.{Group, Volume, Se
 use Rattle.sms_construct.specs.declared.why_no_extend.WhyNoExtend.{WhyNoExtend}
 use Rattle.sms_construct.specs.declared.why_no_extend.WhyNoExtend.TheVariants.{Secondary, Room}
 use Rattle.sms_script.specs.FaultText.{fault_text}
-use Rattle.sms_script.specs.NameText.{spaced, status_text, target_text, class_text, extent_text}
+use Rattle.sms_script.specs.NameText.{spaced, status_text, target_text, value_text, class_text, extent_text}
 use Rattle.sms_script.specs.Script.{items_of}
 use Rattle.sms_script.specs.TraceText.{trace_lines}
 use Rattle.sms_script.specs.declared.item.Item.{Item}
@@ -46,7 +46,7 @@ reply_text (Below floor) = codes "R11 PURGED NUMBER " ++ decimal floor
 reply_text NoConfig = codes "R12 NO CONFIGURATION"
 reply_text NameInUse = codes "R13 NAME IN USE"
 reply_text (Exit kind code trace) = spaced (codes "R14 EXIT" ∷ name_of kind ∷ decimal code ∷ [])
-reply_text (UnknownClass kind name trace) = spaced (codes "R15 UNKNOWN CLASS" ∷ name_of kind ∷ name ∷ [])
+reply_text (UnknownClass kind name trace) = spaced (codes "R15 UNKNOWN CLASS" ∷ name_of kind ∷ value_text name ∷ [])
 reply_text (NoQuantity trace) = codes "R16 NO QUANTITY"
 reply_text (NoGroup trace) = codes "R17 NO STORAGE GROUP"
 reply_text (NoVolume trace) = codes "R18 NO VOLUME"

@@ -17,6 +17,11 @@ abbrev pub name_text : Option (List ℕ) → List ℕ
 name_text None = codes "-"
 name_text (Some name) = name
 
+-- a value, or a hyphen for null
+abbrev pub value_text : List ℕ → List ℕ
+value_text [] = codes "-"
+value_text (byte ∷ bytes) = byte ∷ bytes
+
 -- a status in its word
 abbrev pub status_text : Status → List ℕ
 status_text Enable = codes "ENABLE"

@@ -27,9 +27,11 @@ mod verb;
 
 pub use fault_text::push_fault;
 pub use item::{Item, Phase, Script};
+pub use number::read_number;
 pub use op::read_op;
-pub use printing::{answer_lines, print, view_lines};
-pub use pushing::status_bytes;
+pub use printing::{answer_lines, print, push_indented, view_lines};
+pub use pushing::{push_number_and_blank, push_word_and_blank, status_bytes, value_bytes};
 pub use reading::read_script;
 pub use script_err::ScriptErr;
 pub use text_lines::TextLines;
+pub use trace_text::push_trace;

@@ -1,9 +1,9 @@
 //! Words, numbers and names put behind a text.
 ghost use Rattle.std.specs.Prelude.{◌≡◌, ◌++◌, ◌∷◌, [], OnOk, decimal};
-ghost use Rattle.sms_script.specs.NameText.{name_text, status_text, target_text};
+ghost use Rattle.sms_script.specs.NameText.{name_text, status_text, target_text, value_text};
 
 use desk_common::push_number;
-use dsn_mask::Name;
+use dsn_mask::{Name, Short};
 use sms_construct::{Status, Target};
 use std::alloc::AllocError;
 
@@ -38,6 +38,16 @@ pub fn name_bytes(name: &Option<Name>) -> &[u8]
     match name {
         Some(name) => name.bytes(),
         None => b"-",
+    }
+}
+
+/// A value, or a hyphen for null (docs/script.md, "Answers").
+pub fn value_bytes(value: &Short) -> &[u8]
+    ensures { result.now ≡ value_text value.now }
+{
+    match value.bytes() {
+        [] => b"-",
+        bytes => bytes,
     }
 }
 

@@ -6,6 +6,7 @@ ghost use Rattle.sms_script.specs.AnswerText.{reply_text, view_text, why_text};
 use crate::fault_text::push_fault;
 use crate::pushing::{
     push_counted, push_number_and_blank, push_word_and_blank, status_bytes, target_bytes,
+    value_bytes,
 };
 use desk_common::push_number;
 use dsn_mask::Name;
@@ -50,7 +51,7 @@ pub fn push_reply(text: &mut Vec<u8>, reply: &Reply) -> Result<(), AllocError>
         Reply::UnknownClass { kind, name, .. } => {
             text.extend_from_slice(b"R15 UNKNOWN CLASS ")?;
             push_word_and_blank(text, kind.name())?;
-            text.extend_from_slice(name.bytes())
+            text.extend_from_slice(value_bytes(name))
         }
         Reply::NoQuantity { .. } => text.extend_from_slice(b"R16 NO QUANTITY"),
         Reply::NoGroup { .. } => text.extend_from_slice(b"R17 NO STORAGE GROUP"),

@@ -7,7 +7,7 @@ use Rattle.acs_tree.specs.declared.kind.Kind.TheVariants.{DataClas, StorClas, Mg
 use Rattle.acs_tree.specs.Variables.{name_of}
 use Rattle.smsc.specs.Tasks.{Ask, words_of}
 use Rattle.smsc.specs.declared.task.Task.{Task}
-use Rattle.smsc.specs.declared.task.Task.TheVariants.{Translate, Validate}
+use Rattle.smsc.specs.declared.task.Task.TheVariants.{Translate, Validate, Simulate}
 
 abbrev first : List ℕ → ℕ
 first [] = 0
@@ -36,19 +36,30 @@ abbrev second : List (List ℕ) → List ℕ
 second (one ∷ two ∷ more) = two
 second _ = []
 
+-- the first byte of the first word
+abbrev first_byte : List (List ℕ) → ℕ
+first_byte [] = 0
+first_byte (word ∷ words) = first word
+
 one_task_of : (one two : Task) → words_of one ≡ words_of two → one ≡ two
 one_task_of (Translate one) (Translate two) e = ap (λ kind. Translate kind) (one_name one two (ap second e))
 one_task_of (Translate one) Validate e = absurd (omega (arith, ap length e))
 one_task_of Validate (Translate two) e = absurd (omega (arith, ap length e))
 one_task_of Validate Validate e = refl
+one_task_of Validate Simulate e = absurd (omega (arith, ap first_byte e))
+one_task_of Simulate Validate e = absurd (omega (arith, ap first_byte e))
+one_task_of Simulate Simulate e = refl
+one_task_of (Translate one) Simulate e = absurd (omega (arith, ap length e))
+one_task_of Simulate (Translate two) e = absurd (omega (arith, ap length e))
 
 pub one_task : {words : List (List ℕ)} {one two : Task} → Ask words one → Ask words two → one ≡ two
 one_task {words} {one} {two} d e = one_task_of one two (sym d ∙ e)
 
 -- no task is asked for
-pub no_task : {words : List (List ℕ)} → ((words ≡ codes "validate" ∷ []) → ⊥) → ((kind : Kind) → Ask words (Translate kind) → ⊥) → (task : Task) → Ask words task → ⊥
-no_task v t (Translate kind) a = t kind a
-no_task v t Validate a = v a
+pub no_task : {words : List (List ℕ)} → ((words ≡ codes "validate" ∷ []) → ⊥) → ((words ≡ codes "simulate" ∷ []) → ⊥) → ((kind : Kind) → Ask words (Translate kind) → ⊥) → (task : Task) → Ask words task → ⊥
+no_task v s t (Translate kind) a = t kind a
+no_task v s t Validate a = v a
+no_task v s t Simulate a = s a
 
 pub two_items : {A : Type 0} (xs : List A) (x y : A) → 2 ≤ length xs → length xs < 3 → x ≡ get_or xs 0 x → y ≡ get_or xs 1 y → xs ≡ x ∷ y ∷ []
 two_items [] x y some few a b = absurd (omega arith)
@@ -74,8 +85,8 @@ abbrev head_of : List (List ℕ) → List ℕ
 head_of [] = []
 head_of (word ∷ words) = word
 
-pub asks_validate : {words : List (List ℕ)} {command : List ℕ} {b : Bool} → words ≡ command ∷ [] → b ≡ bytes_eq command (codes "validate") → IsTrue b ↔ (words ≡ codes "validate" ∷ [])
-asks_validate {words} {command} {b} q e = (
-  λ t. q ∙ ap (λ x. x ∷ []) (same_text command (codes "validate") (sym e ∙ t)),
-  λ w. e ∙ (bytes_eq-Decides command (codes "validate")).1 (ap head_of (sym q ∙ w)),
+pub asks_alone : {words : List (List ℕ)} {word command : List ℕ} {b : Bool} → words ≡ word ∷ [] → b ≡ bytes_eq word command → IsTrue b ↔ (words ≡ command ∷ [])
+asks_alone {words} {word} {command} {b} q e = (
+  λ t. q ∙ ap (λ x. x ∷ []) (same_text word command (sym e ∙ t)),
+  λ w. e ∙ (bytes_eq-Decides word command).1 (ap head_of (sym q ∙ w)),
 )

@@ -1,7 +1,7 @@
 -- The exit status of the program.
 use Rattle.std.specs.Prelude.{ℕ}
 use Rattle.smsc.specs.declared.status.ToolStatus.{ToolStatus}
-use Rattle.smsc.specs.declared.status.ToolStatus.TheVariants.{Done, FaultFound, BadWords, ReadFault, WriteFault, TooLong, NoMemory}
+use Rattle.smsc.specs.declared.status.ToolStatus.TheVariants.{Done, FaultFound, BadWords, ReadFault, WriteFault, Script, TooLong, NoMemory}
 
 abbrev pub exit_status_of : ToolStatus → ℕ
 exit_status_of Done = 0
@@ -9,5 +9,6 @@ exit_status_of FaultFound = 1
 exit_status_of BadWords = 2
 exit_status_of ReadFault = 3
 exit_status_of WriteFault = 4
+exit_status_of (Script err) = 5
 exit_status_of TooLong = 6
 exit_status_of NoMemory = 7

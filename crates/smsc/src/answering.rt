@@ -1,9 +1,10 @@
 //! From the bytes of the input to the text of the answer.
-ghost use Rattle.std.specs.Prelude.{◌≡◌, ◌<◌, ◌^◌, length, IfOk};
+ghost use Rattle.std.specs.Prelude.{◌≡◌, ◌<◌, ◌^◌, length, IfOk, IfErr};
 ghost use Rattle.sms_deck.specs.Reading.{HasFirstFault};
-ghost use Rattle.smsc.specs.ToolText.{letter_of, translated_text, fault_text, refused_text, valid_text, IsAnswer, TellsFault};
-ghost use Rattle.smsc.specs.declared.task.Task.TheVariants.{Translate, Validate};
+ghost use Rattle.smsc.specs.ToolText.{letter_of, translated_text, fault_text, refused_text, valid_text, IsAnswer, Hinders, hindrance_of, TellsFault, TellsSimulation, HindersSimulation};
+ghost use Rattle.smsc.specs.declared.task.Task.TheVariants.{Translate, Validate, Simulate};
 
+use crate::no_answer::NoAnswer;
 use crate::status::ToolStatus;
 use crate::task::Task;
 use acs_translate::{RoutineFault, Stage, TranslateErr, translate};
@@ -11,7 +12,8 @@ use acs_tree::Kind;
 use desk_common::{Items, Shared, push_number};
 use sms_construct::Fault;
 use sms_deck::{DeckErr, read_deck};
-use sms_script::push_fault;
+use sms_script::{ScriptErr, push_fault, read_script};
+use sms_simulation::{Simulated, simulate};
 use std::alloc::{AllocError, Global};
 
 /// The answer to the bytes: its status and its text.
@@ -19,31 +21,77 @@ pub fn answer(
     alloc: Global,
     task: Task,
     bytes: Vec<u8>,
-) -> Result<(ToolStatus, Vec<u8>), AllocError>
+) -> Result<(ToolStatus, Items<u8>), NoAnswer>
     requires { length bytes.items < 2 ^ 32 }
-    ensures { IfOk result (λ found. IsAnswer bytes.items task found.0 found.1.items) }
+    ensures answer { IfOk result (λ found. IsAnswer bytes.items task found.0 found.1) }
+    ensures hindered { IfErr result (Hinders bytes.items task) }
 {
     match task {
-        Task::Translate(kind) => translated(alloc, kind, &bytes),
-        Task::Validate => validated(alloc, bytes),
+        Task::Translate(kind) => { translated(alloc, kind, &bytes).map_err(|_| NoAnswer::NoMemory) }
+        Task::Validate => validated(alloc, bytes).map_err(|_| NoAnswer::NoMemory),
+        Task::Simulate => simulated(alloc, &bytes),
     }
+}
+
+// The answer to a script.
+fn simulated(alloc: Global, bytes: &[u8]) -> Result<(ToolStatus, Items<u8>), NoAnswer>
+    requires { length bytes.now < 2 ^ 32 }
+    ensures answer { IfOk result (λ found. IsAnswer bytes.now Simulate found.0 found.1) }
+    ensures hindered { IfErr result (Hinders bytes.now Simulate) }
+{
+    let script = match read_script(alloc, bytes) {
+        Ok(script) => script,
+        Err(fault) => return Err(hindrance(fault)),
+    };
+    match simulate(alloc, &script) {
+        Ok(made) => simulation(alloc, made),
+        Err(_) => Err(NoAnswer::NoMemory),
+    }
+}
+
+fn hindrance(fault: ScriptErr) -> NoAnswer
+    ensures { result ≡ hindrance_of fault }
+{
+    match fault {
+        ScriptErr::BadLine(line) => NoAnswer::Script(ScriptErr::BadLine(line)),
+        ScriptErr::OpenBlock(line) => NoAnswer::Script(ScriptErr::OpenBlock(line)),
+        ScriptErr::TooManyLines(line) => NoAnswer::Script(ScriptErr::TooManyLines(line)),
+        ScriptErr::NoMemory => NoAnswer::NoMemory,
+    }
+}
+
+// What a simulation comes to, as an answer.
+fn simulation(alloc: Global, made: Simulated) -> Result<(ToolStatus, Items<u8>), NoAnswer>
+    ensures answer { IfOk result (λ found. TellsSimulation made found.0 found.1) }
+    ensures hindered { IfErr result (HindersSimulation made) }
+{
+    match made {
+        Simulated::Shown(text) => Ok((ToolStatus::Done, text)),
+        Simulated::Refused(fault) => { refused(alloc, &fault).map_err(|_| NoAnswer::NoMemory) }
+        Simulated::Misplaced(line) => Err(NoAnswer::Script(ScriptErr::BadLine(line))),
+    }
+}
+
+// The answer that a deck has this fault.
+fn refused(alloc: Global, fault: &Fault) -> Result<(ToolStatus, Items<u8>), AllocError>
+    ensures { IfOk result (λ found. (found.0 ≡ ToolStatus.FaultFound) × (found.1 ≡ refused_text fault.now)) }
+{
+    let text = refused_text(alloc, fault)?;
+    Ok((ToolStatus::FaultFound, Items::from_vec(text)))
 }
 
 // The answer to a deck.
 #[tactic(auto, using(crate::proofs::AnswerLemmas::validated, crate::proofs::AnswerLemmas::deck_refused))]
-fn validated(alloc: Global, bytes: Vec<u8>) -> Result<(ToolStatus, Vec<u8>), AllocError>
-    ensures { IfOk result (λ found. IsAnswer bytes.items Validate found.0 found.1.items) }
+fn validated(alloc: Global, bytes: Vec<u8>) -> Result<(ToolStatus, Items<u8>), AllocError>
+    ensures { IfOk result (λ found. IsAnswer bytes.items Validate found.0 found.1) }
 {
     let deck = Shared::new(alloc, Items::from_vec(bytes))?;
     match read_deck(alloc, &deck) {
         Ok(config) => {
             let text = valid_text(alloc, config.groups().len(), config.volumes().len())?;
-            Ok((ToolStatus::Done, text))
+            Ok((ToolStatus::Done, Items::from_vec(text)))
         }
-        Err(DeckErr::Fault(fault)) => {
-            let text = refused_text(alloc, &fault)?;
-            Ok((ToolStatus::FaultFound, text))
-        }
+        Err(DeckErr::Fault(fault)) => refused(alloc, &fault),
         Err(DeckErr::NoMemory) => Err(AllocError),
     }
 }
@@ -70,9 +118,13 @@ fn refused_text(alloc: Global, fault: &Fault) -> Result<Vec<u8>, AllocError>
 
 // The answer to a routine of this kind.
 #[tactic(auto, using(crate::proofs::AnswerLemmas::done, crate::proofs::AnswerLemmas::found))]
-fn translated(alloc: Global, kind: Kind, bytes: &[u8]) -> Result<(ToolStatus, Vec<u8>), AllocError>
+fn translated(
+    alloc: Global,
+    kind: Kind,
+    bytes: &[u8],
+) -> Result<(ToolStatus, Items<u8>), AllocError>
     requires { length bytes.now < 2 ^ 32 }
-    ensures { IfOk result (λ found. IsAnswer bytes.now (Translate kind) found.0 found.1.items) }
+    ensures { IfOk result (λ found. IsAnswer bytes.now (Translate kind) found.0 found.1) }
 {
     let (_routine, count) = match translate(alloc, bytes, kind) {
         Ok(found) => found,
@@ -82,16 +134,16 @@ fn translated(alloc: Global, kind: Kind, bytes: &[u8]) -> Result<(ToolStatus, Ve
         }
     };
     let text = translated_text(alloc, kind, count)?;
-    Ok((ToolStatus::Done, text))
+    Ok((ToolStatus::Done, Items::from_vec(text)))
 }
 
-fn refusal(alloc: Global, err: TranslateErr) -> Result<(ToolStatus, Vec<u8>), AllocError>
-    ensures { IfOk result (λ found. TellsFault err found.0 found.1.items) }
+fn refusal(alloc: Global, err: TranslateErr) -> Result<(ToolStatus, Items<u8>), AllocError>
+    ensures { IfOk result (λ found. TellsFault err found.0 found.1) }
 {
     match err {
         TranslateErr::Fault(fault) => {
             let text = fault_text(alloc, &fault)?;
-            Ok((ToolStatus::FaultFound, text))
+            Ok((ToolStatus::FaultFound, Items::from_vec(text)))
         }
         TranslateErr::NoMemory => Err(AllocError),
     }

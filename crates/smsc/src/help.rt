@@ -4,6 +4,7 @@ const HELP: &str = "smsc - the translator of ACS routines
 
 smsc translate KIND  translate the routine on standard input
 smsc validate        validate the deck on standard input
+smsc simulate        simulate the allocations of the script on standard input
 smsc --help          this text
 smsc --version       the version
 

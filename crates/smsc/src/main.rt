@@ -1,8 +1,9 @@
-//! The translator as a program: it translates the routine, or validates the deck, on standard input.
+//! The translator as a program: it translates the routine, validates the deck or simulates the script on standard input.
 #![tactic(auto)]
 
 mod answering;
 mod help;
+mod no_answer;
 #[cfg(test)]
 mod ordinary;
 mod status;
@@ -46,10 +47,12 @@ fn show(rt: &HostRuntime, text: &str) -> ToolStatus {
     }
 }
 
-// Says a status other than 0 and 1 on standard error.
+// Says a status other than 0 and 1 on standard error, with the script's fault.
 fn report(rt: &HostRuntime, status: ToolStatus) {
     let code = status.code();
-    if code > 1 {
-        let _ = eprintln!(rt; "smsc: status {code}");
-    }
+    let _ = match status {
+        ToolStatus::Done | ToolStatus::FaultFound => Ok(()),
+        ToolStatus::Script(fault) => eprintln!(rt; "smsc: status {code} {fault}"),
+        _ => eprintln!(rt; "smsc: status {code}"),
+    };
 }

@@ -2,6 +2,8 @@
 ghost use Rattle.std.specs.Prelude.{◌≡◌};
 ghost use Rattle.smsc.specs.ExitStatus.{exit_status_of};
 
+use sms_script::ScriptErr;
+
 /// How a call of the translator ends; docs/tool.md has the cause of each.
 #[derive(Clone, Copy, Debug, PartialEq, Eq)]
 pub enum ToolStatus {
@@ -15,7 +17,9 @@ pub enum ToolStatus {
     ReadFault,
     /// The text couldn't be written; its front may have been.
     WriteFault,
-    /// The input has more bytes than it may: a routine 65,536, and a deck's input 16,777,216.
+    /// The input has this fault as a script, and nothing was simulated. Its fault is never NoMemory.
+    Script(ScriptErr),
+    /// The input has more bytes than it may: a routine 65,536, a deck's input and a script 16,777,216.
     TooLong,
     /// Memory was wanting; nothing was written.
     NoMemory,
@@ -32,6 +36,7 @@ impl ToolStatus {
             ToolStatus::BadWords => 2,
             ToolStatus::ReadFault => 3,
             ToolStatus::WriteFault => 4,
+            ToolStatus::Script(_) => 5,
             ToolStatus::TooLong => 6,
             ToolStatus::NoMemory => 7,
         }

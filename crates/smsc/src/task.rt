@@ -7,7 +7,7 @@ use acs_tree::Kind;
 /// The longest routine, in bytes.
 const MAX_ROUTINE: usize = 65_536;
 
-/// The longest input that holds a deck, in bytes.
+/// The longest input that holds a deck or a script, in bytes.
 const MAX_INPUT: usize = 16_777_216;
 
 /// What is done with the input.
@@ -17,6 +17,8 @@ pub enum Task {
     Translate(Kind),
     /// It is a deck, to be validated.
     Validate,
+    /// It is a script, of which the allocations are to be simulated.
+    Simulate,
 }
 
 impl Task {
@@ -26,7 +28,7 @@ impl Task {
     {
         match self {
             Task::Translate(_) => MAX_ROUTINE,
-            Task::Validate => MAX_INPUT,
+            Task::Validate | Task::Simulate => MAX_INPUT,
         }
     }
 }

@@ -6,14 +6,15 @@ ghost use Rattle.smsc.specs.ToolEnds.{Ends, leaves_sink};
 ghost use Rattle.smsc.specs.declared.task.Task.{Task as TaskOf};
 
 use crate::answering::answer;
+use crate::no_answer::NoAnswer;
 use crate::status::ToolStatus;
 use crate::task::Task;
 use crate::words::task_asked;
 use sms_base::{ReadEnd, Sink, Source, read_all, write_all};
 use std::alloc::Global;
 
-/// Does what the words of the command line ask: reads a routine or a deck from the source to its end,
-/// translates or validates it, and writes the answer to the sink.
+/// Does what the words of the command line ask: reads a routine, a deck or a script from the source to its end,
+/// translates, validates or simulates it, and writes the answer to the sink.
 #[tactic(auto, using(crate::proofs::WordLemmas::one_task))]
 pub fn smsc_main<S: Source, K: Sink>(
     alloc: Global,
@@ -56,10 +57,12 @@ fn answer_source<S: Source, K: Sink>(
         Err(ReadEnd::TooLong) => return ToolStatus::TooLong,
         Err(ReadEnd::NoMemory) => return ToolStatus::NoMemory,
     };
-    let Ok((status, text)) = answer(alloc, task, bytes) else {
-        return ToolStatus::NoMemory;
+    let (status, text) = match answer(alloc, task, bytes) {
+        Ok(found) => found,
+        Err(NoAnswer::Script(fault)) => return ToolStatus::Script(fault),
+        Err(NoAnswer::NoMemory) => return ToolStatus::NoMemory,
     };
-    match write_all(out, &text) {
+    match write_all(out, text.as_slice()) {
         Ok(()) => status,
         Err(_) => ToolStatus::WriteFault,
     }

@@ -20,12 +20,12 @@ fn kind_asked(words: &[String]) -> Option<Kind>
     }
 }
 
-// Whether the words ask to validate a deck.
-fn is_validate(words: &[String]) -> bool
-    ensures { IsTrue result ↔ (map string_bytes words.now ≡ codes "validate" ∷ []) }
+// Whether the words are this command alone.
+fn is_alone(words: &[String], command: &str) -> bool
+    ensures { IsTrue result ↔ (map string_bytes words.now ≡ command.now ∷ []) }
 {
     match words {
-        [command] => command.as_str() == "validate",
+        [word] => word.as_str() == command,
         _ => false,
     }
 }
@@ -37,8 +37,11 @@ pub fn task_asked(words: &[String]) -> Option<Task>
         ((task : TaskOf) → Ask (map string_bytes words.now) task → ⊥)
         (λ task. Ask (map string_bytes words.now) task) }
 {
-    if is_validate(words) {
+    if is_alone(words, "validate") {
         return Some(Task::Validate);
+    }
+    if is_alone(words, "simulate") {
+        return Some(Task::Simulate);
     }
     match kind_asked(words) {
         Some(kind) => Some(Task::Translate(kind)),

@@ -1,0 +1,29 @@
+-- What the words of the desk's command line ask for (docs/script.md, "The program").
+use Rattle.std.specs.Prelude.{ℕ, ◌&&◌, List, [], ◌∷◌, nat_le, Option, None, Some, bytes_eq, codes, if◌then◌else◌}
+use Rattle.sms_script.specs.Found.{◌⊳◌}
+use Rattle.sms_script.specs.Numbers.{number_of}
+use Rattle.desk_words.specs.declared.task.Task.{Task}
+use Rattle.desk_words.specs.declared.task.Task.TheVariants as tasks
+
+-- the number of items that a load may have
+abbrev pub most_items : ℕ
+most_items = 40000
+
+-- a load of 1 to 40,000 items
+abbrev pub load_of : ℕ → ℕ → Option Task
+load_of seed count = if nat_le 1 count && nat_le count most_items then Some (tasks.Generate seed count) else None
+
+-- what `gen` and two numbers ask for
+abbrev pub load_in : List ℕ → List ℕ → Option Task
+load_in seed count =
+    number_of seed ⊳ λ from.
+    number_of count ⊳ λ items.
+    load_of from items
+
+-- `run`; `run --volumes`; `gen`, a seed and a number of items; no other words ask for anything
+abbrev pub task_in : List (List ℕ) → Option Task
+task_in [] = None
+task_in (word ∷ []) = if bytes_eq word (codes "run") then Some tasks.Run else None
+task_in (word ∷ second ∷ []) = if bytes_eq word (codes "run") && bytes_eq second (codes "--volumes") then Some tasks.RunWithVolumes else None
+task_in (word ∷ second ∷ third ∷ []) = if bytes_eq word (codes "gen") then load_in second third else None
+task_in (word ∷ second ∷ third ∷ fourth ∷ words) = None

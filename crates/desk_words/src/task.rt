@@ -1,0 +1,12 @@
+//! What the words of the desk's command line ask for.
+
+/// What the words of the desk's command line ask for (docs/script.md, "The program").
+#[derive(Clone, Copy, Debug, PartialEq, Eq)]
+pub enum Task {
+    /// Answer the script on standard input.
+    Run,
+    /// The same, with the table of volumes behind the text.
+    RunWithVolumes,
+    /// Answer the generated script of this seed with so many items, 1 to 40,000, and sum up the answers.
+    Generate { seed: u32, count: u32 },
+}

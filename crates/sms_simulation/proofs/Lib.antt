@@ -1,0 +1,2 @@
+mod SimulationLemmas
+mod GroupLemmas

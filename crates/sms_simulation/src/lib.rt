@@ -1,0 +1,10 @@
+//! What the routines of a deck give allocations that nobody makes.
+#![tactic(auto)]
+
+mod items;
+mod outcome;
+mod simulated;
+mod simulating;
+
+pub use simulated::Simulated;
+pub use simulating::simulate;
