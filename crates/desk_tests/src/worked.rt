@@ -4,6 +4,8 @@ use crate::cases::{Case, script_of, text_of};
 use crate::deck_readings::ORDINARY;
 use crate::running::run;
 use desk_calls::RunStatus;
+use std::alloc::Global;
+use std::process::Abort;
 use std::test::Fail;
 
 /// Where tracks lie.
@@ -261,21 +263,20 @@ const CLASSES: [Case; 6] = [
 
 #[test]
 fn tracks_lie_where_the_gap_rule_puts_them(rt: HostRuntime) -> Result<(), Fail> {
-    compare_all(&rt, &SPACE)
+    compare_all(&rt, rt.alloc(), &SPACE)
 }
 
 #[test]
 fn volumes_are_chosen_by_their_lists(rt: HostRuntime) -> Result<(), Fail> {
-    compare_all(&rt, &VOLUMES)
+    compare_all(&rt, rt.alloc(), &VOLUMES)
 }
 
 #[test]
 fn classes_are_those_of_the_routines(rt: HostRuntime) -> Result<(), Fail> {
-    compare_all(&rt, &CLASSES)
+    compare_all(&rt, rt.alloc(), &CLASSES)
 }
 
-fn compare_all(rt: &HostRuntime, cases: &[Case]) -> Result<(), Fail> {
-    let alloc = rt.alloc();
+fn compare_all(rt: &impl Abort, alloc: Global, cases: &[Case]) -> Result<(), Fail> {
     for case in cases {
         let script = script_of(alloc, case)?;
         let wanted = text_of(alloc, case)?;
