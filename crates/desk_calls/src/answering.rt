@@ -35,7 +35,7 @@ pub fn answer_text<P: Keeper>(
     answer_script(alloc, &script, keeper, &mut slate)
 }
 
-// The text of the answers to a script, from an empty desk over the keeper. What was on the slate is gone.
+// The text of the answers to a script, from an empty desk over the keeper. What was on the slate may be gone.
 fn answer_script<P: Keeper>(
     alloc: Global,
     script: &Script,
