@@ -9,7 +9,7 @@ use Rattle.desk_records.specs.Full.{is_full_for}
 use Rattle.sms_core.specs.Core.{entry_of}
 use Rattle.sms_script.specs.declared.item.Item.{Item}
 
--- the entries of the items that have an answer, each once and in script order
+-- the entries of the items whose answers make an entry, each once and in script order
 abbrev pub entries_of : List Answer → List Item → List Entry
 entries_of [] items = []
 entries_of (answer ∷ answers) [] = []

@@ -76,7 +76,7 @@ log-kept o h log request kept is above found =
     map-some (kept_for o h request.job request.number) kept (sym (is.replies_are request.job request.number (log-below o h log request false is above)) ∙ found)
 
 -- the history keeps nothing for an unknown number
-log-none : (o : Opening) (h : List Entry) (log : LogView) (request : Request) → IsLogOf (all_floors o h) (all_rows o h) log → IsUnknown log request → kept_for o h request.job request.number ≡ None
+pub log-none : (o : Opening) (h : List Entry) (log : LogView) (request : Request) → IsLogOf (all_floors o h) (all_rows o h) log → IsUnknown log request → kept_for o h request.job request.number ≡ None
 log-none o h log request is unknown =
     map-none (kept_for o h request.job request.number) (sym (is.replies_are request.job request.number (log-below o h log request false is unknown.above)) ∙ unknown.none)
 

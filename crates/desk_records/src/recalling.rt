@@ -7,8 +7,7 @@ use sms_keeper::{Kept, RequestLog};
 use std::alloc::AllocError;
 
 /// The answer, at this place of the journal, to a request whose number is below its floor or came before, and
-/// `None` where the number is fresh (docs/records.md, "Kept replies"). `AllocError` comes only where no further
-/// owner of a kept reply can be counted.
+/// `None` where the number is fresh (docs/records.md, "Kept replies"); or want of memory.
 pub fn recall(log: &RequestLog, request: &Request, place: u64) -> Result<Option<Answer>, AllocError>
     ensures known { IfOk result (λ recalled. MatchOption recalled (IsUnknown log.now request.now) (λ answer. Recalls log.now request.now answer)) }
     ensures place { IfOk result (λ recalled. IfSome recalled (λ answer. answer.place ≡ place)) }

@@ -1,5 +1,5 @@
 //! The log of kept replies and the keeper.
-ghost use Rattle.std.specs.Prelude.{◌≡◌, ◌≤◌, ◌<◌, ℕ, List, OnOk, OnErr, IfOk, MatchBool, false};
+ghost use Rattle.std.specs.Prelude.{◌≡◌, ◌≤◌, ◌<◌, ℕ, List, OnOk, OnErr, IfOk, MatchBool, true, false};
 ghost use Rattle.desk_common.specs.Causes.{Rose};
 ghost use Rattle.sms_keeper.specs.Log.{floor_in};
 ghost use Rattle.sms_keeper.specs.Suits.{Suits};
@@ -27,15 +27,17 @@ impl<P: Keeper> Records<P> {
         self.log.reserve()
     }
 
-    /// Commits a change to the keeper, and then to the log. `Ok(false)`: the keeper failed. Where it failed or
-    /// memory was wanting, nothing has changed; memory is taken by the keeper alone.
+    /// Commits a change to the keeper, and then to the log. `Ok(false)`: the keeper failed, and only then it counted a
+    /// fault. Where it failed or memory was wanting, nothing else has changed; memory is taken by the keeper alone.
     pub fn commit(&mut self, change: Change) -> Result<bool, AllocError>
         requires suits { Suits change }
         requires reply_room { 0 < self.old.log.reply_room }
         requires floor_room { 0 < self.old.log.floor_room }
         ensures done { IfOk result (λ done. MatchBool done (IsDone change (P.told self.old.keeper) (P.told self.new.keeper) self.old.log self.new.log) (IsUntouched (P.told self.old.keeper) (P.told self.new.keeper) self.old.log self.new.log)) }
         ensures cause { IfOk result (λ done. done ≡ false → Rose (P.count self.old.keeper) (P.count self.new.keeper)) }
+        ensures stands { IfOk result (λ done. done ≡ true → P.count self.new.keeper ≡ P.count self.old.keeper) }
         ensures err { OnErr result (IsUntouched (P.told self.old.keeper) (P.told self.new.keeper) self.old.log self.new.log) }
+        ensures spared { OnErr result (P.count self.new.keeper ≡ P.count self.old.keeper) }
         ensures rises { P.count self.old.keeper ≤ P.count self.new.keeper }
     {
         match self.keeper.commit(&change) {

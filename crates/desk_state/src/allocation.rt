@@ -30,8 +30,7 @@ use std::alloc::{AllocError, Global};
 use track_ledger::Need;
 
 impl Running {
-    /// What ALLOC is answered (docs/rules.md, "ALLOC"). What was on the slate is gone; what the routines wrote is
-    /// on it afterwards.
+    /// What ALLOC is answered (docs/rules.md, "ALLOC"). What was on the slate may be gone.
     pub(crate) fn decide_alloc(
         &mut self,
         job: &Name,

@@ -1,10 +1,9 @@
 -- What a step keeps, and what it enters.
-use Rattle.std.proofs.Common.{◌≡◌, ◌≤◌, ◌<◌, ℕ, ◌+◌, ◌^◌, Bool, true, false, cond, fold, List, [], ◌∷◌, ◌++◌, Option, None, Some, length, refl, sym, ap, ◌∙◌, subst, arith, append-nil}
-use Rattle.std.specs.Prelude.{◌↔◌, count_by, IfOk, IfSome, OnErr, Result, Ok, Err}
+use Rattle.std.proofs.Common.{◌≡◌, ◌≤◌, ◌<◌, ℕ, ◌+◌, ◌^◌, Bool, true, false, cond, fold, List, [], ◌∷◌, ◌++◌, Option, None, Some, length, refl, sym, ap, ◌∙◌, subst, arith}
+use Rattle.std.specs.Prelude.{count_by, IfOk, IfSome, OnErr, Result, Ok, Err}
 use Rattle.desk_common.specs.Causes.{Rose}
 use Rattle.sms_construct.specs.declared.entry.Answer.{Answer}
 use Rattle.sms_construct.specs.declared.entry.Entry.{Entry}
-use Rattle.sms_construct.specs.declared.reply.Reply.{Reply}
 use Rattle.sms_construct.specs.declared.reply.Reply.TheVariants as replies
 use Rattle.sms_construct.specs.declared.request.Op.{Op}
 use Rattle.sms_construct.specs.declared.request.Request.{Request}
@@ -19,11 +18,12 @@ use Rattle.desk_law.specs.Records.{IsTables}
 use Rattle.desk_law.proofs.HistoryLemmas.{leads-one}
 use Rattle.desk_records.specs.Full.{is_full_for}
 use Rattle.desk_records.specs.Logged.{IsUntouched, SameLog}
-use Rattle.desk_records.proofs.StepLemmas.{activations-fit, activations-push}
+use Rattle.desk_records.specs.Recall.{IsUnknown}
+use Rattle.desk_records.proofs.StepLemmas.{activations-fit, activations-push, log-below, log-none}
 use Rattle.desk_records.proofs.TiedLemmas.{tied-lawful, tied-reserved, tied-same}
 use Rattle.desk_state.specs.declared.running.Running.{Running}
 use Rattle.desk_state.specs.Standing.{IsRunning, IsSomeState}
-use Rattle.sms_core.specs.Core.{Enters, HasTables}
+use Rattle.sms_core.specs.Core.{Enters, HasTables, needs_no_commit}
 use Rattle.sms_core.specs.Standing.{HasEntered, IsCore, IsHeld, SameRunning}
 
 -- Counts.
@@ -77,25 +77,11 @@ held-untouched o h running running' log log' told told' mark old new held same u
 
 -- What a step enters.
 
--- an answer without an entry
-pub enters-none : (o : Opening) (h h' : List Entry) (told told' : Option Rows) (old new : ℕ) (request : Request) (reply : Reply)
-    → is_entered reply ≡ false → (reply ≡ replies.JournalFull ↔ is_full_for h request.op ≡ true) → h' ≡ h → Stays told told' → old ≤ new
-    → Enters o h h' told told' old new request (record { place = 0; first = 0; reply = reply })
-enters-none o h h' told told' old new request reply none full same stays later = record {
-  journal_is = rw (none, same) (sym (append-nil h));
-  lawful = λ entered. let no : true ≡ false = sym entered ∙ none in absurd cc;
-  no_place = λ _. (refl, refl);
-  no_change = λ _. stays;
-  full = full;
-  cause = λ fault. let no : true ≡ false = ap is_entered (sym fault) ∙ none in absurd cc;
-  rises = later;
-}
-
 -- the answer of an entry
 pub enters-one : (o : Opening) (h h' : List Entry) (told told' : Option Rows) (old new : ℕ) (request : Request) (answer : Answer) (s after : DeskState)
     → Reaches o h s → IsStep o h s (record { request = request; answer = answer }) after → is_full_for h request.op ≡ false → h' ≡ h ++ record { request = request; answer = answer } ∷ []
-    → (answer.reply ≡ replies.KeeperFault → Rose old new) → old ≤ new → Enters o h h' told told' old new request answer
-enters-one o h h' told told' old new request answer s after reaches step not_full grown cause later =
+    → (answer.reply ≡ replies.KeeperFault → Rose old new) → ((answer.reply ≡ replies.KeeperFault → ⊥) → new ≡ old) → old ≤ new → Enters o h h' told told' old new request answer
+enters-one o h h' told told' old new request answer s after reaches step not_full grown cause stands later =
     let entered : is_entered answer.reply ≡ true = step.entered in
     record {
       journal_is = rw entered grown;
@@ -104,6 +90,7 @@ enters-one o h h' told told' old new request answer s after reaches step not_ful
       no_change = λ none. let no : true ≡ false = sym entered ∙ none in absurd cc;
       full = (λ full. (let no : true ≡ false = sym entered ∙ ap is_entered full in absurd cc), λ full. (let no : true ≡ false = sym full ∙ not_full in absurd cc));
       cause = cause;
+      stands = stands;
       rises = later;
     }
 
@@ -132,6 +119,14 @@ pub held-stands : (o : Opening) (h : List Entry) (running : Running) (log : LogV
 held-stands o h running log told mark count s held reaches =
     subst (λ (t : DeskState). IsRunning t running) (leads-one o [] (start_of o) h held.state s held.tied.reaches reaches) held.stands
 
+-- a fresh number of a journal that isn't full needs a commit
+pub idle-known : (o : Opening) (h : List Entry) (running : Running) (log : LogView) (told : Option Rows) (mark count : ℕ) (request : Request)
+    → IsHeld o h running log told mark count → is_full_for h request.op ≡ false → needs_no_commit o h request ≡ true → IsUnknown log request → ⊥
+idle-known o h running log told mark count request held not_full idle unknown =
+    let above = log-below o h log request false held.tied.log_is unknown.above in
+    let none = log-none o h log request held.tied.log_is unknown in
+    let no : false ≡ true = rw (not_full, above, none) at idle in absurd cc
+
 -- Answers that are handed on.
 
 -- what follows of a success
@@ -147,7 +142,7 @@ on-err P (Err e) is = is
 -- the entry that was made joins the journal
 pub enters-made : (o : Opening) (h h' : List Entry) (told told' : Option Rows) (old new mark : ℕ) (request : Request) (answer : Answer) (s : DeskState) (e : Entry) (running : Running) (log : LogView)
     → HasEntered o h s e running log told' mark new → Reaches o h s → e.request ≡ request → answer ≡ e.answer → is_full_for h request.op ≡ false → h' ≡ h ++ e ∷ []
-    → (e.answer.reply ≡ replies.KeeperFault → Rose old new) → old ≤ new → Enters o h h' told told' old new request answer
-enters-made o h h' told told' old new mark request answer s e running log has reaches p q not_full grown cause later =
+    → (e.answer.reply ≡ replies.KeeperFault → Rose old new) → ((e.answer.reply ≡ replies.KeeperFault → ⊥) → new ≡ old) → old ≤ new → Enters o h h' told told' old new request answer
+enters-made o h h' told told' old new mark request answer s e running log has reaches p q not_full grown cause stands later =
     let still : is_full_for h e.request.op ≡ false = rw p not_full in
-    rw (← p, q) (enters-one o h h' told told' old new e.request e.answer s has.after reaches has.entered.step still grown cause later)
+    rw (← p, q) (enters-one o h h' told told' old new e.request e.answer s has.after reaches has.entered.step still grown cause stands later)

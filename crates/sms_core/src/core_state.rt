@@ -1,5 +1,5 @@
 //! The core: the journal, the state after it, and the records.
-ghost use Rattle.std.specs.Prelude.{◌≡◌, ◌≤◌, ◌<◌, ◌+◌, ◌-◌, ◌^◌, [], cond, IfOk, IfSome, length, MatchOption, map, min, None, Some};
+ghost use Rattle.std.specs.Prelude.{true, ◌≡◌, ◌≤◌, ◌<◌, ◌+◌, ◌-◌, ◌^◌, [], cond, IfOk, IfSome, length, MatchOption, map, min, None, Some};
 ghost use Rattle.std.specs.Option.{option_copied};
 ghost use Rattle.sms_keeper.specs.Tables.{AreSame, no_rows};
 ghost use Rattle.desk_law.specs.State.{DeskState, set_named};
@@ -9,7 +9,7 @@ ghost use Rattle.desk_law.specs.Step.{is_activation};
 ghost use Rattle.desk_law.specs.History.{IsLegal, Reaches};
 ghost use Rattle.desk_law.specs.Records.{empty_opening};
 ghost use Rattle.desk_records.specs.Tied.{IsSoundOpening, faults_in};
-ghost use Rattle.sms_core.specs.Core.{Enters, HasTables};
+ghost use Rattle.sms_core.specs.Core.{Enters, HasTables, needs_no_commit};
 
 use crate::preparing::{Prepared, prepare};
 use crate::room::take_room;
@@ -78,11 +78,12 @@ impl<P: Keeper> Core<P> {
     }
 
     /// Answers one request and enters it in the journal (docs/rules.md, "Order of answers"). Where the journal is
-    /// full or memory is wanting, nothing changes and nothing is entered. What was on the slate is gone.
+    /// full or memory is wanting, nothing changes and nothing is entered. What was on the slate may be gone.
     pub fn step(&mut self, request: &Request, slate: &mut Slate) -> Answer
         ensures opening { self.new.opening ≡ self.old.opening }
         ensures mark { self.new.mark ≡ self.old.mark }
         ensures enters { Enters self.old.opening self.old.journal self.new.journal (P.told self.old.keeper) (P.told self.new.keeper) (P.count self.old.keeper) (P.count self.new.keeper) request.now result }
+        ensures idle { needs_no_commit self.old.opening self.old.journal request.now ≡ true → self.new.keeper ≡ self.old.keeper }
     {
         if is_full(&self.journal, self.asked, &request.op) {
             return without_entry(Reply::JournalFull);

@@ -50,6 +50,9 @@ pub fn prepare<P: Keeper>(
     ensures cause { IfOk result (λ made. (o : Opening) (h : List Entered) (s : DeskState) (mark : ℕ) → IsReady o h s records.old.log (P.told records.old.keeper) mark (P.count records.old.keeper) place request.now → made.entry.answer.reply ≡ KeeperFault → Rose (P.count records.old.keeper) (P.count records.new.keeper)) }
     ensures running { OnErr result (SameRunning running.old running.new) }
     ensures err { OnErr result (IsUntouched (P.told records.old.keeper) (P.told records.new.keeper) records.old.log records.new.log) }
+    ensures stands { IfOk result (λ made. (made.entry.answer.reply ≡ KeeperFault → ⊥) → P.count records.new.keeper ≡ P.count records.old.keeper) }
+    ensures spared { OnErr result (P.count records.new.keeper ≡ P.count records.old.keeper) }
+    ensures idle { (IsUnknown records.old.log request.now → ⊥) → records.new.keeper ≡ records.old.keeper }
     ensures rises { P.count records.old.keeper ≤ P.count records.new.keeper }
 {
     match recall(&records.log, request, place)? {
@@ -92,6 +95,8 @@ fn prepare_fresh<P: Keeper>(
     ensures cause { IfOk result (λ made. made.entry.answer.reply ≡ KeeperFault → Rose (P.count records.old.keeper) (P.count records.new.keeper)) }
     ensures running { OnErr result (SameRunning running.old running.new) }
     ensures err { OnErr result (IsUntouched (P.told records.old.keeper) (P.told records.new.keeper) records.old.log records.new.log) }
+    ensures stands { IfOk result (λ made. (made.entry.answer.reply ≡ KeeperFault → ⊥) → P.count records.new.keeper ≡ P.count records.old.keeper) }
+    ensures spared { OnErr result (P.count records.new.keeper ≡ P.count records.old.keeper) }
     ensures rises { P.count records.old.keeper ≤ P.count records.new.keeper }
 {
     let old = old_floor(&records.log, &request.op);
@@ -140,6 +145,8 @@ fn carry_out<P: Keeper>(
     ensures cause { IfOk result (λ made. made.entry.answer.reply ≡ KeeperFault → (decision.reply ≡ KeeperFault → ⊥) → Rose (P.count records.old.keeper) (P.count records.new.keeper)) }
     ensures running { OnErr result (SameRunning running.old running.new) }
     ensures err { OnErr result (IsUntouched (P.told records.old.keeper) (P.told records.new.keeper) records.old.log records.new.log) }
+    ensures stands { IfOk result (λ made. (made.entry.answer.reply ≡ KeeperFault → ⊥) → P.count records.new.keeper ≡ P.count records.old.keeper) }
+    ensures spared { OnErr result (P.count records.new.keeper ≡ P.count records.old.keeper) }
     ensures rises { P.count records.old.keeper ≤ P.count records.new.keeper }
 {
     let Decision { reply, deed } = decision;

@@ -78,6 +78,7 @@ impl Keeper for FaultKeeper {
         ensures applied { OnOk result (Applies change.now (Some (rows_after self.old.changes)) (Some (rows_after self.new.changes))) }
         ensures kept { OnErr result (Stays (Some (rows_after self.old.changes)) (Some (rows_after self.new.changes))) }
         ensures cause { IsErrOf result KeeperErr.Failed → Rose self.old.faults self.new.faults }
+        ensures stands { (IsErrOf result KeeperErr.Failed → ⊥) → self.new.faults ≡ self.old.faults }
         ensures rises { self.old.faults ≤ self.new.faults }
         ensures fails { IsErrOf result KeeperErr.Failed ↔ Contains self.old.fails (counted self.old.calls) }
         ensures faults { self.new.faults ≡ faults_counted self.old.faults result }
@@ -102,6 +103,7 @@ impl Stored for FaultKeeper {
     fn ready(&mut self) -> Result<(), KeeperErr>
         ensures kept { Stays (Some (rows_after self.old.changes)) (Some (rows_after self.new.changes)) }
         ensures cause { IsErrOf result KeeperErr.Failed → Rose self.old.faults self.new.faults }
+        ensures stands { (IsErrOf result KeeperErr.Failed → ⊥) → self.new.faults ≡ self.old.faults }
         ensures rises { self.old.faults ≤ self.new.faults }
         ensures err { IsErr result ↔ Contains self.old.fails 0 }
         ensures fails { IsErrOf result KeeperErr.Failed ↔ Contains self.old.fails 0 }

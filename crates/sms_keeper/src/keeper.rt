@@ -33,6 +33,7 @@ pub trait Keeper: Drop {
         ensures applied { OnOk result (Applies change.now (told self.old) (told self.new)) }
         ensures kept { OnErr result (Stays (told self.old) (told self.new)) }
         ensures cause { IsErrOf result KeeperErr.Failed → Rose (count self.old) (count self.new) }
+        ensures stands { (IsErrOf result KeeperErr.Failed → ⊥) → count self.new ≡ count self.old }
         ensures rises { count self.old ≤ count self.new };
 
     /// How often it failed.

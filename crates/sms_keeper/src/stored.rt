@@ -1,5 +1,5 @@
 //! Keepers whose outside has to be made ready.
-ghost use Rattle.std.specs.Prelude.{◌≤◌, IsErrOf};
+ghost use Rattle.std.specs.Prelude.{◌≡◌, ◌≤◌, IsErrOf};
 ghost use Rattle.desk_common.specs.Causes.{Rose};
 ghost use Rattle.sms_keeper.specs.Told.{Stays};
 
@@ -11,5 +11,6 @@ pub trait Stored: Keeper {
     fn ready(&mut self) -> Result<(), KeeperErr>
         ensures kept { Stays (Self.told self.old) (Self.told self.new) }
         ensures cause { IsErrOf result KeeperErr.Failed → Rose (Self.count self.old) (Self.count self.new) }
+        ensures stands { (IsErrOf result KeeperErr.Failed → ⊥) → Self.count self.new ≡ Self.count self.old }
         ensures rises { Self.count self.old ≤ Self.count self.new };
 }

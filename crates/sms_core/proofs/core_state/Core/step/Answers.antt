@@ -4,7 +4,7 @@ use Rattle.desk_law.specs.Step.{activates, is_activation}
 use Rattle.desk_records.specs.Full.{is_full_for}
 use Rattle.desk_records.specs.Tied.{IsReady}
 use Rattle.sms_core.specs.Standing.{IsHeld}
-use Rattle.sms_core.proofs.CoreLemmas.{core-entered, enters-made, held-counted, held-room, held-some, held-untouched}
+use Rattle.sms_core.proofs.CoreLemmas.{core-entered, enters-made, held-counted, held-room, held-some, held-untouched, idle-known}
 use Rattle.sms_core.proofs.core_state.Core.step.Goals as goal
 
 pub invariant_of-self : goal.invariant_of-self
@@ -67,4 +67,22 @@ returns-clause-enters g c =
     (enters-made c.self.inside.opening.value c.take_room.new.journal.items c.push_reserved.new.self.items (g.P.Keeper.told c.take_room.new.records.keeper) (g.P.Keeper.told c.prepare-made.new.records.keeper)
     (g.P.Keeper.count c.take_room.new.records.keeper) (g.P.Keeper.count c.prepare-made.new.records.keeper) c.self.inside.mark c.args.request.now c.in-Ok.field-0.answer held.state c.in-Ok.field-0.entry c.prepare-made.new.running c.prepare-made.new.records.log
     has held.tied.reaches c.in-Ok.ensures.request c.in-Ok.ensures.answer still c.push_reserved.ensures.items
-    (c.in-Ok.ensures.cause c.self.inside.opening.value c.take_room.new.journal.items held.state c.self.inside.mark ready) c.prepare-made.ensures.rises)
+    (c.in-Ok.ensures.cause c.self.inside.opening.value c.take_room.new.journal.items held.state c.self.inside.mark ready) c.in-Ok.ensures.stands c.prepare-made.ensures.rises)
+
+pub returns-clause-idle : goal.returns-clause-idle
+returns-clause-idle g c =
+    let keeper = c.take_room.ensures.keeper in
+    let held : IsHeld c.self.inside.opening.value c.take_room.new.journal.items c.self.inside.running c.take_room.new.records.log (g.P.Keeper.told c.take_room.new.records.keeper) c.self.inside.mark (g.P.Keeper.count c.take_room.new.records.keeper)
+    = rw (c.take_room.ensures.entries, keeper) (held-room _ _ c.self.inside.running c.self.inside.running c.self.inside.records.log c.take_room.new.records.log _ _ _ c.self.invariant.held (λ s stands. stands) c.take_room.ensures.log) in
+    let not_full : is_full_for c.self.inside.journal.items c.args.request.now.op ≡ false = rw (← c.deref.ensures.value) (sym c.is_full.ensures ∙ c.if-is_full.false) in
+    let still : is_full_for c.take_room.new.journal.items c.args.request.now.op ≡ false = rw c.take_room.ensures.entries not_full in
+    rw (← c.self.view_is, ← keeper, ← c.take_room.ensures.entries) (λ idle. c.prepare-made.ensures.idle (idle-known _ _ _ _ _ _ _ c.args.request.now held still idle))
+
+pub returns-in_default-clause-idle : goal.returns-in_default-clause-idle
+returns-in_default-clause-idle g c =
+    let keeper = c.take_room.ensures.keeper in
+    let held : IsHeld c.self.inside.opening.value c.take_room.new.journal.items c.self.inside.running c.take_room.new.records.log (g.P.Keeper.told c.take_room.new.records.keeper) c.self.inside.mark (g.P.Keeper.count c.take_room.new.records.keeper)
+    = rw (c.take_room.ensures.entries, keeper) (held-room _ _ c.self.inside.running c.self.inside.running c.self.inside.records.log c.take_room.new.records.log _ _ _ c.self.invariant.held (λ s stands. stands) c.take_room.ensures.log) in
+    let not_full : is_full_for c.self.inside.journal.items c.args.request.now.op ≡ false = rw (← c.deref.ensures.value) (sym c.is_full.ensures ∙ c.if-is_full.false) in
+    let still : is_full_for c.take_room.new.journal.items c.args.request.now.op ≡ false = rw c.take_room.ensures.entries not_full in
+    rw (← c.self.view_is, ← keeper, ← c.take_room.ensures.entries) (λ idle. c.prepare-made.ensures.idle (idle-known _ _ _ _ _ _ _ c.args.request.now held still idle))

@@ -1,8 +1,7 @@
-use Rattle.std.proofs.Common.{◌≡◌, length, map, sym, ap, ◌∙◌, arith}
+use Rattle.std.proofs.Common.{◌≡◌, length, sym, ap, ◌∙◌, arith}
 use Rattle.std.proofs.lemmas.List.{length-map}
 use Rattle.desk_law.specs.Display.{shown_volume}
 use Rattle.desk_law.specs.Volumes.{volumes_in}
-use Rattle.sms_construct.specs.declared.volume.VolumeDef.{VolumeDef}
 use Rattle.sms_volumes.specs.declared.active_volume.ActiveVolume.{ActiveVolume}
 use Rattle.sms_core.proofs.CoreLemmas.{held-stands, if-ok}
 use Rattle.sms_core.proofs.core_state.Core.vol_rows.Goals as goal
