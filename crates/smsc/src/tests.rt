@@ -152,7 +152,15 @@ const DECKS: [(&[u8], ToolStatus, &[u8]); 11] = [
 ];
 
 /// The words, the front of an input and the number of blanks behind it, the status and the text that is printed.
-const LENGTHS: [(&[&str], &str, usize, ToolStatus, &str); 6] = [
+const LENGTHS: [(&[&str], &str, usize, ToolStatus, &str); 8] = [
+    (
+        &["translate", "--", "STORCLAS"],
+        "PROC STORCLAS END",
+        0,
+        Done,
+        "TRANSLATED STORCLAS 3\n",
+    ),
+    (&["simulate"], "", 16_777_217, TooLong, ""),
     (
         &["translate", "STORCLAS"],
         "PROC STORCLAS END",
@@ -269,7 +277,9 @@ const SCRIPTS: [(&[u8], ToolStatus, &[u8]); 5] = [
 ];
 
 /// Words that ask for nothing.
-const BAD_WORDS: [&[&str]; 15] = [
+const BAD_WORDS: [&[&str]; 17] = [
+    &["-x"],
+    &["validate", "--deck"],
     &["help"],
     &["simulate", "validate"],
     &["Validate"],
@@ -285,6 +295,17 @@ const BAD_WORDS: [&[&str]; 15] = [
     &["TRANSLATE", "STORCLAS"],
     &["translate", "STORCLAS", "STORCLAS"],
     &["STORCLAS", "translate"],
+];
+
+/// Words that ask for a text of help or for the version.
+const SHOWN_WORDS: [&[&str]; 7] = [
+    &["--help"],
+    &["-h"],
+    &["--version"],
+    &["-V"],
+    &["translate", "--help"],
+    &["validate", "-h"],
+    &["simulate", "--help"],
 ];
 
 #[test]
@@ -345,11 +366,16 @@ fn lines_past_those_kept_are_counted(rt: HostRuntime) -> Result<(), Fail> {
 }
 
 #[test]
-fn other_words_are_bad(rt: HostRuntime) -> Result<(), Fail> {
+fn other_words_are_bad_or_ask_for_a_text(rt: HostRuntime) -> Result<(), Fail> {
     for words in BAD_WORDS {
         let outcome = run(rt.alloc(), words, b"PROC STORCLAS END", ROOM)?;
         assert_eq!(rt; outcome.status, BadWords);
         assert_eq!(rt; outcome.text.len(), 0);
+    }
+    for words in SHOWN_WORDS {
+        let outcome = run(rt.alloc(), words, b"PROC STORCLAS END", ROOM)?;
+        assert_eq!(rt; outcome.status, Done);
+        assert!(rt; outcome.text.len() > 0);
     }
     Ok(())
 }
