@@ -13,7 +13,7 @@ use Rattle.sms_base.specs.Observed.{Observed, WasRead, HasWriteFault}
 use Rattle.sms_construct.specs.Configuration.{Configuration}
 use Rattle.sms_construct.specs.declared.fault.Fault.{Fault as DeckFault}
 use Rattle.sms_deck.specs.Reading.{Configures, HasFirstFault}
-use Rattle.smsc.specs.Tasks.{most_bytes}
+use Rattle.smsc.specs.Limits.{most_bytes}
 use Rattle.sms_script.specs.Script.{IsRefusal, items_of, script_of}
 use Rattle.sms_script.specs.declared.item.Item.{Item}
 use Rattle.sms_script.specs.declared.script_err.ScriptErr.{ScriptErr}
@@ -27,8 +27,8 @@ use Rattle.smsc.specs.ToolText.{translated_text, valid_text, refused_text, IsAns
 use Rattle.smsc.specs.ToolEnds.{Ends, HasAnswer, leaves_sink}
 use Rattle.smsc.specs.declared.status.ToolStatus.{ToolStatus}
 use Rattle.smsc.specs.declared.status.ToolStatus.TheVariants.{Done, FaultFound, BadWords}
-use Rattle.smsc.specs.declared.task.Task.{Task}
-use Rattle.smsc.specs.declared.task.Task.TheVariants.{Translate, Validate, Simulate}
+use Rattle.tool_words.specs.declared.task.Task.{Task}
+use Rattle.tool_words.specs.declared.task.Task.TheVariants.{Translate, Validate, Simulate}
 
 pub done : {bytes text : List ℕ} {kind : Kind} {tree : Routine} {count : ℕ} → IsTranslated bytes kind tree count → text ≡ translated_text kind count → IsAnswer bytes (Translate kind) Done text
 done {bytes} {text} {kind} {tree} {count} d e = subst (λ x. IsAnswer bytes (Translate kind) Done x) (sym e) (translated kind tree count d)

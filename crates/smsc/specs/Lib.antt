@@ -1,4 +1,4 @@
 pub mod ExitStatus
-pub mod Tasks
+pub mod Limits
 pub mod ToolText
 pub mod ToolEnds

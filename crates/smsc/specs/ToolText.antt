@@ -24,8 +24,8 @@ use Rattle.smsc.specs.declared.no_answer.NoAnswer.{NoAnswer}
 use Rattle.smsc.specs.declared.no_answer.NoAnswer.TheVariants as hindrances
 use Rattle.smsc.specs.declared.status.ToolStatus.{ToolStatus}
 use Rattle.smsc.specs.declared.status.ToolStatus.TheVariants.{Done, FaultFound}
-use Rattle.smsc.specs.declared.task.Task.{Task}
-use Rattle.smsc.specs.declared.task.Task.TheVariants.{Translate, Validate, Simulate}
+use Rattle.tool_words.specs.declared.task.Task.{Task}
+use Rattle.tool_words.specs.declared.task.Task.TheVariants.{Translate, Validate, Simulate}
 
 -- L, P or C
 abbrev pub letter_of : Stage → List ℕ

@@ -2,11 +2,10 @@
 ghost use Rattle.std.specs.Prelude.{◌≡◌, ◌<◌, ◌^◌, length, IfOk, IfErr};
 ghost use Rattle.sms_deck.specs.Reading.{HasFirstFault};
 ghost use Rattle.smsc.specs.ToolText.{letter_of, translated_text, fault_text, refused_text, valid_text, IsAnswer, Hinders, hindrance_of, TellsFault, TellsSimulation, HindersSimulation};
-ghost use Rattle.smsc.specs.declared.task.Task.TheVariants.{Translate, Validate, Simulate};
+ghost use Rattle.tool_words.specs.declared.task.Task.TheVariants.{Translate, Validate, Simulate};
 
 use crate::no_answer::NoAnswer;
 use crate::status::ToolStatus;
-use crate::task::Task;
 use acs_translate::{RoutineFault, Stage, TranslateErr, translate};
 use acs_tree::Kind;
 use desk_common::{Items, Shared, push_number};
@@ -15,6 +14,7 @@ use sms_deck::{DeckErr, read_deck};
 use sms_script::{ScriptErr, push_fault, read_script};
 use sms_simulation::{Simulated, simulate};
 use std::alloc::{AllocError, Global};
+use tool_words::Task;
 
 /// The answer to the bytes: its status and its text.
 pub fn answer(

@@ -2,20 +2,18 @@
 #![tactic(auto)]
 
 mod answering;
-mod help;
+mod limit;
 mod no_answer;
 #[cfg(test)]
 mod ordinary;
 mod status;
-mod task;
 #[cfg(test)]
 mod tests;
 mod tool;
-mod words;
 
 use sms_base::{StdSink, StdSource, Words, read_words};
 use status::ToolStatus;
-use std::io::{self, Write};
+use std::io;
 use std::process::ExitCode;
 use tool::smsc_main;
 
@@ -23,10 +21,7 @@ fn main(rt: HostRuntime) -> ExitCode {
     let status = match read_words(&rt) {
         Words::Faulty => ToolStatus::BadWords,
         Words::NoMemory => ToolStatus::NoMemory,
-        Words::Read(words) => match help::text_for(&words) {
-            Some(text) => show(&rt, text),
-            None => answer(&rt, &words),
-        },
+        Words::Read(words) => answer(&rt, &words),
     };
     report(&rt, status);
     ExitCode::from(status.code())
@@ -37,14 +32,6 @@ fn answer(rt: &HostRuntime, words: &[String]) -> ToolStatus {
     let mut src = StdSource::new(rt.reader());
     let mut out = StdSink::new(io::writer(rt));
     smsc_main(rt.alloc(), words, &mut src, &mut out)
-}
-
-// Writes a text to standard output.
-fn show(rt: &HostRuntime, text: &str) -> ToolStatus {
-    match rt.print(text) {
-        Ok(()) => ToolStatus::Done,
-        Err(_) => ToolStatus::WriteFault,
-    }
 }
 
 // Says a status other than 0 and 1 on standard error, with the script's fault.

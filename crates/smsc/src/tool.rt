@@ -1,21 +1,21 @@
 //! The top call of the translator.
-ghost use Rattle.std.specs.Prelude.{◌≡◌, ◌↔◌, true, map, string_bytes};
+ghost use Rattle.std.specs.Prelude.{◌≡◌, true, map, string_bytes};
 ghost use Rattle.sms_base.specs.Observed.{Observed};
-ghost use Rattle.smsc.specs.Tasks.{Ask};
-ghost use Rattle.smsc.specs.ToolEnds.{Ends, leaves_sink};
-ghost use Rattle.smsc.specs.declared.task.Task.{Task as TaskOf};
+ghost use Rattle.smsc.specs.ToolEnds.{Ends, EndsFor, ends_shown, leaves_sink};
+ghost use Rattle.tool_words.specs.Tool.{words_of};
+ghost use Rattle.tool_words.specs.declared.task.Task.{Task as TaskOf};
 
 use crate::answering::answer;
+use crate::limit::most_bytes;
 use crate::no_answer::NoAnswer;
 use crate::status::ToolStatus;
-use crate::task::Task;
-use crate::words::task_asked;
 use sms_base::{ReadEnd, Sink, Source, read_all, write_all};
 use std::alloc::Global;
+use tool_words::{Task, WordsErr, shown_text, task_asked};
 
 /// Does what the words of the command line ask: reads a routine, a deck or a script from the source to its end,
-/// translates, validates or simulates it, and writes the answer to the sink.
-#[tactic(auto, using(crate::proofs::WordLemmas::one_task))]
+/// translates, validates or simulates it, and writes the answer to the sink. Where the words ask for help or the
+/// version it writes that text, and nothing is told of the sink; that is the one exception (docs/tool.md, "Words").
 pub fn smsc_main<S: Source, K: Sink>(
     alloc: Global,
     words: &[String],
@@ -23,16 +23,35 @@ pub fn smsc_main<S: Source, K: Sink>(
     out: &mut K,
 ) -> ToolStatus
     ensures unread { result ≡ ToolStatus.BadWords → src.new ≡ src.old }
-    ensures words { result ≡ ToolStatus.BadWords ↔ ((task : TaskOf) → Ask (map string_bytes words.now) task → ⊥) }
     ensures unwritten { leaves_sink result ≡ true → out.new ≡ out.old }
-    ensures ends { (task : TaskOf) → Ask (map string_bytes words.now) task → Ends task
+    ensures words { EndsFor (map string_bytes words.now)
+        (record { left = S.left src.old; read_faults = S.read_faults src.old; taken = K.taken out.old; write_faults = K.write_faults out.old })
+        (record { left = S.left src.new; read_faults = S.read_faults src.new; taken = K.taken out.new; write_faults = K.write_faults out.new })
+        result }
+    ensures ends { (task : TaskOf) → map string_bytes words.now ≡ words_of task → Ends task
         (record { left = S.left src.old; read_faults = S.read_faults src.old; taken = K.taken out.old; write_faults = K.write_faults out.old })
         (record { left = S.left src.new; read_faults = S.read_faults src.new; taken = K.taken out.new; write_faults = K.write_faults out.new })
         result }
 {
-    match task_asked(words) {
-        None => ToolStatus::BadWords,
-        Some(task) => answer_source(alloc, task, src, out),
+    match task_asked(alloc, words) {
+        Ok(task) => answer_source(alloc, task, src, out),
+        Err(WordsErr::Bad) => ToolStatus::BadWords,
+        Err(WordsErr::Shown) => show(alloc, words, out),
+        Err(WordsErr::NoMemory) => ToolStatus::NoMemory,
+    }
+}
+
+// Writes the text of help or of the version.
+fn show<K: Sink>(alloc: Global, words: &[String], out: &mut K) -> ToolStatus
+    ensures status { ends_shown result ≡ true }
+    ensures unwritten { leaves_sink result ≡ true → out.new ≡ out.old }
+{
+    let Ok(text) = shown_text(alloc, words) else {
+        return ToolStatus::NoMemory;
+    };
+    match write_all(out, text.as_bytes()) {
+        Ok(()) => ToolStatus::Done,
+        Err(_) => ToolStatus::WriteFault,
     }
 }
 
@@ -51,7 +70,7 @@ fn answer_source<S: Source, K: Sink>(
         (record { left = S.left src.new; read_faults = S.read_faults src.new; taken = K.taken out.new; write_faults = K.write_faults out.new })
         result }
 {
-    let bytes = match read_all(alloc, src, task.most_bytes()) {
+    let bytes = match read_all(alloc, src, most_bytes(task)) {
         Ok(bytes) => bytes,
         Err(ReadEnd::Failed) => return ToolStatus::ReadFault,
         Err(ReadEnd::TooLong) => return ToolStatus::TooLong,

@@ -1,0 +1,3 @@
+mod ToolLemmas
+mod AlikeLemmas
+mod AskingLemmas

@@ -1,0 +1,43 @@
+-- The command line of the tool: the command that its words are read by (docs/tool.md, "Words").
+use Rattle.std.specs.Prelude.{◌≡◌, List, [], ◌∷◌, Some, true, codes, map}
+use Rattle.std.specs.Borrow.{Bor}
+use Rattle.acs_tree.specs.Variables.{name_of}
+use Rattle.clap.specs.Simple.{App, new_app, new_rule, new_shape, with_rule, with_subcommand}
+use Rattle.clap.specs.Walk.{Rule, Text}
+use Rattle.clap.specs.declared.builder.value_parser.ValueParser.TheVariants as vp
+use Rattle.tool_words.specs.declared.task.Task.{Task}
+use Rattle.tool_words.specs.declared.task.Task.TheVariants as tasks
+
+-- the names of the four kinds
+abbrev pub kind_words : List Text
+kind_words = codes "DATACLAS" ∷ codes "STORCLAS" ∷ codes "MGMTCLAS" ∷ codes "STORGRP" ∷ []
+
+-- the names of the kinds, as the command holds them
+abbrev pub Names : Type 0
+Names = Bor (List (Bor Text))
+
+-- the word KIND: wanted, and one of these names
+abbrev pub kind_rule : Names → Rule
+kind_rule names = record (new_rule (codes "kind")) { required = true; parser = Some (vp.Names names) }
+
+-- the command with these names: one subcommand is wanted, there is no `help` among them, and there is a version
+abbrev pub tool_app : Names → App
+tool_app names =
+    with_subcommand (with_subcommand (with_subcommand
+    (record (new_app (codes "smsc")) {
+      top = record (new_shape (codes "smsc")) { no_binary_name = true; disable_help_subcommand = true; subcommand_required = true; has_version = true };
+    })
+    (with_rule (new_app (codes "translate")) (kind_rule names)).top)
+    (new_shape (codes "validate")))
+    (new_shape (codes "simulate"))
+
+-- the command of the tool
+abbrev pub IsTool : App → Type 0
+IsTool a = (names : Names) × (map (λ n. n.now) names.now ≡ kind_words) × (a ≡ tool_app names)
+
+-- the words that ask for a translation are `translate` and the name of the kind; those that ask for a validation are `validate`,
+-- those that ask for a simulation `simulate`
+abbrev pub words_of : Task → List Text
+words_of (tasks.Translate kind) = codes "translate" ∷ name_of kind ∷ []
+words_of tasks.Validate = codes "validate" ∷ []
+words_of tasks.Simulate = codes "simulate" ∷ []

@@ -1,0 +1,29 @@
+// The command that reads the words.
+ghost use Rattle.std.specs.Prelude.{◌≡◌, IfOk};
+ghost use Rattle.clap.specs.Words.{app_of};
+ghost use Rattle.tool_words.specs.Tool.{IsTool};
+
+use clap::{Arg, Command};
+use std::alloc::{AllocError, Global};
+
+static KINDS: [&str; 4] = ["DATACLAS", "STORCLAS", "MGMTCLAS", "STORGRP"];
+
+/// The command of the tool.
+pub fn tool_command<'a>(alloc: Global) -> Result<Command<'a>, AllocError>
+    ensures { IfOk result (λ command. IsTool (app_of command)) }
+{
+    let kind = Arg::new(alloc, "kind")
+        .required(true)
+        .value_parser(KINDS.as_slice());
+    let translate = Command::new(alloc, "translate").arg(kind)?;
+    let validate = Command::new(alloc, "validate");
+    let simulate = Command::new(alloc, "simulate");
+    let tool = Command::new(alloc, "smsc")
+        .version("0.1.0")
+        .no_binary_name(true)
+        .disable_help_subcommand(true)
+        .subcommand_required(true);
+    tool.subcommand(translate)?
+        .subcommand(validate)?
+        .subcommand(simulate)
+}

@@ -1,0 +1,13 @@
+//! What the words of the command line ask for.
+use acs_tree::Kind;
+
+/// What is done with the input.
+#[derive(Clone, Copy, Debug, PartialEq, Eq)]
+pub enum Task {
+    /// It is a routine of this kind, to be translated.
+    Translate(Kind),
+    /// It is a deck, to be validated.
+    Validate,
+    /// It is a script, of which the allocations are to be simulated.
+    Simulate,
+}
