@@ -36,6 +36,8 @@ mod ledger;
 #[cfg(test)]
 mod listing;
 #[cfg(test)]
+mod loads;
+#[cfg(test)]
 mod names;
 #[cfg(test)]
 mod operations;

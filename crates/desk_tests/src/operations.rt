@@ -26,12 +26,11 @@ const DECK_FAULTS: Run = (
 #[test]
 fn scripts_are_answered_by_the_rules(rt: HostRuntime) -> Result<(), Fail> {
     let alloc = rt.alloc();
-    for (script, wanted) in [
-        NUMBERS,
-        FAILED_RUN,
-        DECK_FAULTS,
-    ] {
-        assert!(rt; answers(alloc, script.as_bytes(), wanted.as_bytes())?, "{script}");
+    for (script, wanted) in [NUMBERS, FAILED_RUN, DECK_FAULTS] {
+        assert!(rt;
+            answers(alloc, script.as_bytes(), wanted.as_bytes())?,
+            "{script}"
+        );
     }
     Ok(())
 }
