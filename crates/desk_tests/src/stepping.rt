@@ -51,8 +51,7 @@ fn a_fault_of_the_keeper_leaves_the_number_fresh(rt: HostRuntime) -> Result<(), 
     let alloc = rt.alloc();
     let script = script(alloc, TWICE)?;
     let keeper = FaultKeeper::new(alloc, &[1])?;
-    let mut slate = Slate::new(alloc)?;
-    let (answers, core) = run_script(alloc, &script, Core::new(alloc, keeper), &mut slate);
+    let (answers, core) = run_script(alloc, &script, Core::new(alloc, keeper));
     let answers = answers?;
     let [fault, fresh] = answers.as_slice() else {
         return Err(Fail::from("answers"));
@@ -69,9 +68,8 @@ fn a_fault_of_the_keeper_leaves_the_number_fresh(rt: HostRuntime) -> Result<(), 
 fn a_floor_refuses_lower_numbers_and_never_falls(rt: HostRuntime) -> Result<(), Fail> {
     let alloc = rt.alloc();
     let script = script(alloc, PURGED)?;
-    let mut slate = Slate::new(alloc)?;
     let core = Core::new(alloc, MemKeeper::new(alloc));
-    let (answers, core) = run_script(alloc, &script, core, &mut slate);
+    let (answers, core) = run_script(alloc, &script, core);
     let answers = answers?;
     let [first, below, fresh, last] = answers.as_slice() else {
         return Err(Fail::from("answers"));
