@@ -64,6 +64,32 @@ fn a_fault_of_the_keeper_leaves_the_number_fresh(rt: HostRuntime) -> Result<(), 
     Ok(())
 }
 
+/// One command of each kind that changes something.
+const CHANGES: &[u8] =
+    b"SMSADMIN 1 ACTIVATE\nversion = 1\n[storclass.SC1]\n[storgroup.SG1.volume.VOL001]\ntracks = 100\n[routine]\nstorclass = \"PROC STORCLAS SET &STORCLAS = 'SC1' END\"\nstorgroup = \"PROC STORGRP SET &STORGRP = 'SG1' END\"\n./END\nJ 1 ALLOC A.B SPACE=(TRK,(10,5))\nJ 2 EXTEND A.B\nJ 3 USED A.B 3\nJ 4 RELEASE A.B\nSMSADMIN 2 VARY SMS,VOLUME(VOL001),DISABLE\nJ 5 DELETE A.B\n";
+
+#[test]
+fn each_failing_commit_is_told_at_its_own_request(rt: HostRuntime) -> Result<(), Fail> {
+    let alloc = rt.alloc();
+    let script = script(alloc, CHANGES)?;
+    for failing in 1..=7u64 {
+        let keeper = FaultKeeper::new(alloc, &[failing])?;
+        let (answers, core) = run_script(alloc, &script, Core::new(alloc, keeper));
+        let answers = answers?;
+        assert_eq!(rt; answers.len(), 7);
+        for (at, answer) in answers.as_slice().iter().enumerate() {
+            let fails = at as u64 + 1 == failing;
+            assert_eq!(rt;
+                matches!(&answer.reply, Reply::KeeperFault),
+                fails,
+                "{failing}"
+            );
+        }
+        assert_eq!(rt; core.keeper().faults(), 1);
+    }
+    Ok(())
+}
+
 #[test]
 fn a_floor_refuses_lower_numbers_and_never_falls(rt: HostRuntime) -> Result<(), Fail> {
     let alloc = rt.alloc();

@@ -250,7 +250,7 @@ const SPACE: [Case; 7] = [
 ];
 
 /// Which volume is chosen.
-const VOLUMES: [Case; 4] = [
+const VOLUMES: [Case; 5] = [
     // the threshold is just met
     (
         Text(
@@ -398,6 +398,66 @@ const VOLUMES: [Case; 4] = [
                 "ALLOC A.C SPACE=(TRK,110)",
                 "A00 GRANTED\n  CLASS - SC1 - SG2\n  EXTENT VOL002 10 110",
             ),
+        ],
+    ),
+    // a data set in a storage group that isn't connected, and one whose group was given another volume
+    (
+        One(10),
+        &[
+            (
+                "J 1",
+                "ALLOC A.B SPACE=(TRK,(10,5)) VOLCNT=2",
+                "A00 GRANTED\n  CLASS - SC1 - SG1\n  EXTENT VOL001 0 10",
+            ),
+            ("J 2", "EXTEND A.B", "R20 NO EXTEND ROOM"),
+            (
+                "SMSADMIN 2",
+                "ACTIVATE\nversion = 1\n[storclass.SC1]\n[storgroup.SG2]\nstatus = \"NOTCON\"\n[storgroup.SG2.volume.VOL001]\ntracks = 20\n[storgroup.SG2.volume.VOL002]\ntracks = 100\nstatus = \"QUINEW\"\n[routine]\nstorclass = \"PROC STORCLAS SET &STORCLAS = 'SC1' END\"\nstorgroup = \"PROC STORGRP SET &STORGRP = 'SG2' END\"\n./END",
+                "A04 ACTIVATED 2",
+            ),
+            ("J 3", "EXTEND A.B", "R20 NO EXTEND ROOM"),
+            ("J 4", "ALLOC A.C SPACE=(TRK,1)", "R18 NO VOLUME"),
+            (
+                "J 5",
+                "D SMS,STORGRP(SG2)",
+                "A06 STORGRP SG2 NOTCON 2 120 110",
+            ),
+            (
+                "J 6",
+                "D SMS,VOLUME(VOL002)",
+                "A06 VOLUME VOL002 SG2 QUINEW 100 100 0",
+            ),
+            (
+                "SMSADMIN 3",
+                "V SMS,STORGRP(SG2),ENABLE",
+                "A05 VARIED SG2 ENABLE",
+            ),
+            ("J 7", "EXTEND A.B", "A02 EXTENDED\n  EXTENT VOL001 10 5"),
+            ("J 8", "EXTEND A.B", "A02 EXTENDED\n  EXTENT VOL001 15 5"),
+            ("J 9", "EXTEND A.B", "A02 EXTENDED\n  EXTENT VOL002 0 5"),
+            ("J 10", "EXTEND A.B", "A02 EXTENDED\n  EXTENT VOL002 5 5"),
+            (
+                "SMSADMIN 4",
+                "ACTIVATE\nversion = 1\n[storclass.SC1]\n[storgroup.SG2.volume.VOL001]\ntracks = 20\n[routine]\nstorclass = \"PROC STORCLAS SET &STORCLAS = 'SC1' END\"\nstorgroup = \"PROC STORGRP SET &STORGRP = 'SG2' END\"\n./END",
+                "R22 VOLUME IN USE VOL002",
+            ),
+            (
+                "SMSADMIN 5",
+                "ACTIVATE\nversion = 1\n[routine]\nstorclass = \"PROC STORCLAS SET &STORCLAS = 'SC1' END\"\nstorgroup = \"PROC STORGRP SET &STORGRP = 'SG2' END\"\n./END",
+                "R21 DECK K8 STORCLAS SC1",
+            ),
+            (
+                "SMSADMIN 6",
+                "ACTIVATE\nversion = 1\n[storclass.SC1]\n[storgroup.SG2]\n[routine]\nstorclass = \"PROC STORCLAS SET &STORCLAS = 'SC1' END\"\nstorgroup = \"PROC STORGRP SET &STORGRP = 'SG2' END\"\n./END",
+                "R22 VOLUME IN USE VOL001",
+            ),
+            ("J 11", "DELETE A.B", "A03 DELETED 30"),
+            (
+                "SMSADMIN 7",
+                "ACTIVATE\nversion = 1\n[storclass.SC1]\n[storgroup.SG2.volume.VOL001]\ntracks = 20\n[routine]\nstorclass = \"PROC STORCLAS SET &STORCLAS = 'SC1' END\"\nstorgroup = \"PROC STORGRP SET &STORGRP = 'SG2' END\"\n./END",
+                "A04 ACTIVATED 3",
+            ),
+            ("J 12", "D SMS,VOLUME(VOL002)", "R23 UNKNOWN NAME"),
         ],
     ),
 ];
