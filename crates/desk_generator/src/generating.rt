@@ -9,9 +9,6 @@ use sms_construct::Request;
 use sms_script::{Item, Phase, Script};
 use std::alloc::{AllocError, Global};
 
-/// The most items that are drawn.
-pub const MAX_COUNT: u32 = 40_000;
-
 /// The generated script: the activation of its deck and behind it so many items, 1 to 40,000, which the seed
 /// determines (docs/generator.md).
 pub fn generate(alloc: Global, seed: u32, count: u32) -> Result<Script, AllocError>

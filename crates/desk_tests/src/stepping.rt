@@ -1,4 +1,5 @@
 //! The core and a run of a script, called by themselves.
+use crate::scripts::read;
 use acs_tree::Slate;
 use desk_calls::run_script;
 use desk_common::{Items, Shared};
@@ -6,7 +7,7 @@ use dsn_mask::Name;
 use sms_construct::{Op, Reply, Request, RequestNumber};
 use sms_core::Core;
 use sms_keeper::{FaultKeeper, Keeper, MemKeeper};
-use sms_script::{Script, read_script};
+use sms_script::Script;
 use std::alloc::Global;
 use std::test::Fail;
 
@@ -16,8 +17,9 @@ const TWICE: &[u8] = b"JOB1 1 ALLOC A.B SPACE=(TRK,1)\nJOB1 1 ALLOC A.B SPACE=(T
 const PURGED: &[u8] =
     b"SMSADMIN 1 PURGE JOB1 3\nJOB1 2 DELETE A.B\nJOB1 3 DELETE A.B\nSMSADMIN 2 PURGE JOB1 2\n";
 
+// The script that a short text writes.
 fn script(alloc: Global, text: &[u8]) -> Result<Script, Fail> {
-    match read_script(alloc, text) {
+    match read(alloc, text) {
         Ok(script) => Ok(script),
         Err(_) => Err(Fail::from("script")),
     }
