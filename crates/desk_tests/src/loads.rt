@@ -1,5 +1,5 @@
 //! Runs with the table of volumes, and generated scripts.
-use crate::running::{Outcome, run_words};
+use crate::running::{Outcome, run_over, run_words};
 use desk_calls::RunStatus;
 use std::alloc::Global;
 use std::test::Fail;
@@ -75,4 +75,39 @@ fn run_list(alloc: Global, list: &[&str], script: &str) -> Result<Outcome, Fail>
         Vec::new(alloc),
         2_000,
     )
+}
+
+#[test]
+fn a_script_past_the_limits_of_a_journal_is_refused_at_its_end(
+    rt: HostRuntime,
+) -> Result<(), Fail> {
+    let alloc = rt.alloc();
+    let mut script = Vec::new(alloc);
+    for _ in 0..50_001u32 {
+        script.extend_from_slice(b"JOB1 1 EXTEND A.B\n")?;
+    }
+    let end =
+        "50000 50000 1 JOB1 1 R19 NOT FOUND\n50001 0 0 JOB1 1 R24 JOURNAL FULL\nEND 50000 50001\n";
+    assert!(rt; ends_so(alloc, &script, end)?);
+    let mut script = Vec::new(alloc);
+    for number in 1..=201u32 {
+        let line = format!(in alloc; "SMSADMIN {number} ACTIVATE\n./END\n")?;
+        script.extend_from_slice(line.as_bytes())?;
+    }
+    let end =
+        "399 200 200 SMSADMIN 200 R21 DECK K3 version\n401 0 0 SMSADMIN 201 R24 JOURNAL FULL\nEND 200 201\n";
+    assert!(rt; ends_so(alloc, &script, end)?);
+    Ok(())
+}
+
+// Whether the script is answered with a text that ends so.
+fn ends_so(alloc: Global, script: &[u8], end: &str) -> Result<bool, Fail> {
+    let Outcome { status, text } = run_over(
+        alloc,
+        script,
+        Vec::new(alloc),
+        Vec::new(alloc),
+        2_000_000,
+    )?;
+    Ok(status == RunStatus::Done && text.as_slice().ends_with(end.as_bytes()))
 }
