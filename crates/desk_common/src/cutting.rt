@@ -1,23 +1,21 @@
 //! A text cut into words.
-ghost use Rattle.std.specs.Prelude.{◌≡◌, ◌≤◌, ◌<◌, ◌∷◌, [], ◌++◌, ℕ, true, false, length, map, slice_index, IfOk};
+ghost use Rattle.std.specs.Prelude.{◌≡◌, ◌≤◌, ◌<◌, ◌∷◌, [], ◌++◌, ℕ, true, false, length, slice_index, IfSome, MatchOption};
 ghost use Rattle.desk_common.specs.Words.{is_one_of, without_empty, words_of};
 
-use std::alloc::{AllocError, Global};
-
-/// The words of the text, which any of the blanks part. One walk over the text, and no copy of it.
-pub fn words<'a>(alloc: Global, blanks: &[u8], text: &'a [u8]) -> Result<Vec<&'a [u8]>, AllocError>
-    ensures { IfOk result (λ words. map (λ word. word.now) words.items ≡ words_of blanks.now text.entry.now) }
+/// The first word of the text, which any of the blanks part, and the bytes behind it. One walk up to the word's end.
+pub fn next_word<'a>(blanks: &[u8], text: &'a [u8]) -> Option<(&'a [u8], &'a [u8])>
+    ensures found { MatchOption result (words_of blanks.now text.entry.now ≡ []) (λ found. words_of blanks.now text.entry.now ≡ found.0.now ∷ words_of blanks.now found.1.now) }
+    ensures shorter { IfSome result (λ found. length found.1.now < length text.entry.now) }
 {
-    let mut words = Vec::new(alloc);
     let mut rest = text;
     while !rest.is_empty() {
         let (piece, behind) = first_piece(blanks, rest);
         if !piece.is_empty() {
-            words.push(piece)?;
+            return Some((piece, behind));
         }
         rest = behind;
     }
-    Ok(words)
+    None
 }
 
 // The bytes before the first blank, and those behind it.

@@ -5,7 +5,7 @@ mod cutting;
 mod number;
 mod shared;
 
-pub use cutting::words;
+pub use cutting::next_word;
 pub use number::push_number;
 pub use shared::Shared;
 pub use sqlite_items::{Boxed, Items};

@@ -252,10 +252,11 @@ const OPERANDS: [Row; 96] = [
 /// The op in words, without the blank before it.
 fn shown(alloc: Global, line: &[u8], admin: bool) -> Result<Vec<u8>, AllocError> {
     let mut shown = Vec::new(alloc);
-    let Some(op) = read_op(alloc, line, admin)? else {
+    let mut line = Vec::from_slice(alloc, line)?;
+    let Some(op) = read_op(&mut line, admin) else {
         return Ok(shown);
     };
-    push_op(&mut shown, &op)?;
+    push_op(&mut shown, &op.share(alloc)?)?;
     match shown.split_first() {
         Some((_, words)) => Vec::from_slice(alloc, words),
         None => Ok(shown),
@@ -300,8 +301,79 @@ fn with_volumes(alloc: Global, count: usize) -> Result<Vec<u8>, AllocError> {
 fn a_request_names_at_most_59_volumes(rt: HostRuntime) -> Result<(), Fail> {
     let alloc = rt.alloc();
     for (count, lawful) in [(1, true), (59, true), (60, false), (61, false)] {
-        let line = with_volumes(alloc, count)?;
-        assert_eq!(rt; read_op(alloc, &line, false)?.is_some(), lawful, "{count}");
+        let mut line = with_volumes(alloc, count)?;
+        assert_eq!(rt; read_op(&mut line, false).is_some(), lawful, "{count}");
+    }
+    Ok(())
+}
+
+/// The keys of the operands, each with a value.
+const VALUES: [Row; 28] = [
+    ("SPACE=", "(TRK,1)"),
+    ("DATACLAS=", "DC1"),
+    ("STORCLAS=", "SC1"),
+    ("MGMTCLAS=", "MC1"),
+    ("DEFDC=", "DC1"),
+    ("DEFSC=", "SC1"),
+    ("DEFMC=", "MC1"),
+    ("VOL=", "V1"),
+    ("VOLCNT=", "1"),
+    ("USER=", "U"),
+    ("GROUP=", "G"),
+    ("PGM=", "P"),
+    ("DD=", "D"),
+    ("UNIT=", "3390"),
+    ("DSORG=", "PS"),
+    ("RECORG=", "KS"),
+    ("DSNTYPE=", "LIBRARY"),
+    ("DSTYPE=", "TEMP"),
+    ("ACSENVIR=", "RECALL"),
+    ("XMODE=", "TSO"),
+    ("APPLIC=", "A"),
+    ("OWNER=", "O"),
+    ("ACCT=", "(A,B)"),
+    ("STEPACCT=", "(A,B)"),
+    ("RETPD=", "1"),
+    ("EXPDT=", "2026365"),
+    ("BLKSIZE=", "1"),
+    ("DAY=", "1"),
+];
+
+/// Whether these operands of an ALLOC are read.
+fn are_read(alloc: Global, operands: &str) -> Result<bool, AllocError> {
+    let mut line = format!(in alloc; "ALLOC A.B {operands}")?.into_bytes();
+    Ok(read_op(&mut line, false).is_some())
+}
+
+#[test]
+fn each_key_stands_once_and_with_a_value(rt: HostRuntime) -> Result<(), Fail> {
+    let alloc = rt.alloc();
+    let mut all = String::new(alloc);
+    for (key, value) in VALUES {
+        assert!(rt; are_read(alloc, format!(in alloc; "{key}{value}")?.as_str())?, "{key}");
+        assert!(rt; !are_read(alloc, key)?, "{key}");
+        let twice = format!(in alloc; "{key}{value} DAY=7 {key}{value}")?;
+        assert!(rt; !are_read(alloc, twice.as_str())?, "{key}");
+        all.push_str(format!(in alloc; " {key}{value}")?.as_str())?;
+    }
+    assert!(rt; are_read(alloc, all.as_str())?);
+    all.push_str(" DAY=1")?;
+    assert!(rt; !are_read(alloc, all.as_str())?);
+    Ok(())
+}
+
+/// The keys whose values are texts of at most 8 bytes.
+const PLAIN: [&str; 13] = [
+    "USER=", "GROUP=", "PGM=", "DD=", "UNIT=", "DSORG=", "RECORG=", "DSNTYPE=", "DSTYPE=",
+    "ACSENVIR=", "XMODE=", "APPLIC=", "OWNER=",
+];
+
+#[test]
+fn a_plain_text_has_at_most_8_bytes(rt: HostRuntime) -> Result<(), Fail> {
+    let alloc = rt.alloc();
+    for key in PLAIN {
+        assert!(rt; are_read(alloc, format!(in alloc; "{key}abcdefgh")?.as_str())?, "{key}");
+        assert!(rt; !are_read(alloc, format!(in alloc; "{key}abcdefghi")?.as_str())?, "{key}");
     }
     Ok(())
 }

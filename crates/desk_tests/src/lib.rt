@@ -28,6 +28,8 @@ mod first_path;
 #[cfg(test)]
 mod hostile;
 #[cfg(test)]
+mod keeper_runs;
+#[cfg(test)]
 mod keeping;
 #[cfg(test)]
 mod kept_replies;
@@ -63,3 +65,9 @@ mod streams;
 mod turns;
 #[cfg(test)]
 mod worked;
+#[cfg(test)]
+mod worked_classes;
+#[cfg(test)]
+mod worked_space;
+#[cfg(test)]
+mod worked_volumes;

@@ -1,5 +1,5 @@
 -- What a deck configures: the classes, storage groups, volumes and routines of one configuration.
-use Rattle.std.specs.Prelude.{ℕ, ◌≡◌, ◌<◌, ◌&&◌, Bool, true, List, [], ◌∷◌, bytes_eq, map, Option, IfSome}
+use Rattle.std.specs.Prelude.{ℕ, ◌≡◌, ◌<◌, ◌≤◌, ◌&&◌, Bool, true, List, [], ◌∷◌, bytes_eq, length, map, Option, IfSome}
 use Rattle.std.specs.List.{AllByRecursion, list_any}
 use Rattle.std.specs.Cmp.Lexicographic.{slice_cmp}
 use Rattle.std.specs.Ordering.{is_lt, nat_cmp}
@@ -72,10 +72,15 @@ pub record IsDataClass (class : DataClass) : Type 0 where
   pub space : IfSome class.space IsSpace
   pub volumes : IfSome class.volumes IsVolumeCount
 
+-- the volumes of a configuration
+abbrev pub most_volumes : ℕ
+most_volumes = 1024
+
 -- what holds of each configuration that a deck gives
 pub record IsConfiguration (config : Configuration) : Type 0 where
   pub names : (kind : Kind) → are_ascending (names_of kind config) ≡ true
   pub volsers : are_ascending (volsers_of config) ≡ true
+  pub few : length config.volumes ≤ most_volumes
   -- each volume is one of a group of the configuration, and has a track
   pub grouped : AllByRecursion (λ volume. has_construct StorGrp volume.group config ≡ true) config.volumes
   pub tracks : AllByRecursion (λ volume. 0 < volume.tracks) config.volumes

@@ -1,5 +1,5 @@
 -- What holds of each configuration that a deck gives.
-use Rattle.std.proofs.Common.{◌≡◌, ◌≤◌, ◌<◌, ◌+◌, ◌*◌, take, drop, ◌||◌, ℕ, Bool, true, false, List, [], ◌∷◌, ◌++◌, map, bytes_eq, refl, sym, ap, ◌∙◌, subst, arith}
+use Rattle.std.proofs.Common.{◌≡◌, ◌≤◌, ◌<◌, ◌+◌, ◌*◌, take, drop, ◌||◌, ℕ, Bool, true, false, List, [], ◌∷◌, ◌++◌, map, bytes_eq, length, refl, sym, ap, ◌∙◌, subst, arith, nat_lt}
 use Rattle.std.specs.Prelude.{Option, Some, None, ◌&&◌, ◌==◌, nat_le, IfSome, unwrap_or, position, pos, codes, if◌then◌else◌}
 use Rattle.std.specs.Option.{option_and_then, option_or}
 use Rattle.std.specs.BTreeMap.{insert_entry}
@@ -9,6 +9,7 @@ use Rattle.std.specs.declared.cmp.Ordering.{Ordering}
 use Rattle.std.specs.declared.cmp.Ordering.TheVariants.{Less, Equal, Greater}
 use Rattle.std.specs.Cmp.Lexicographic.{slice_cmp}
 use Rattle.std.proofs.lemmas.Bool.Decides.{nat_tests}
+use Rattle.std.proofs.lemmas.List.{length-append, length-map}
 use Rattle.std.proofs.lemmas.Slice.Eq.{bytes_eq-Decides}
 use Rattle.toml.specs.Data.{Data, string, integer, Members, no_members, member, get_member, as_table, as_str, members_are_sorted}
 use Rattle.desk_common.specs.Limits.{most_tracks}
@@ -17,19 +18,22 @@ use Rattle.acs_tree.specs.declared.kind.Kind.{Kind}
 use Rattle.acs_tree.specs.declared.kind.Kind.TheVariants.{DataClas, StorClas, MgmtClas, StorGrp}
 use Rattle.sms_construct.specs.declared.unit.Unit.{Unit as UnitOf}
 use Rattle.sms_construct.specs.declared.unit.Unit.TheVariants.{Trk, Cyl}
+use Rattle.sms_construct.specs.declared.fault.Fault.{Fault}
+use Rattle.sms_construct.specs.declared.fault.Fault.TheVariants.{TooMany}
 use Rattle.sms_construct.specs.declared.volume.VolumeDef.{VolumeDef}
 use Rattle.sms_construct.specs.declared.storage_group.StorGroup.{StorGroup}
 use Rattle.sms_construct.specs.Quantities.{IsSpace, IsVolumeCount, Quantities, space_of}
-use Rattle.sms_construct.specs.Configuration.{Configuration, IsConfiguration, IsDataClass, Routines, names_of, has_construct, are_ascending, routine_of}
+use Rattle.sms_construct.specs.Configuration.{Configuration, IsConfiguration, IsDataClass, Routines, most_volumes, names_of, has_construct, are_ascending, routine_of}
 use Rattle.sms_deck.specs.declared.place.Place.{Place}
 use Rattle.sms_deck.specs.Limits.{most_cylinders}
+use Rattle.sms_deck.specs.Tables.{tables_fault}
 use Rattle.sms_deck.specs.SpaceText.{number_of, behind_front, in_parentheses, space_with, list_of_quantities, quantities_in, behind_unit, in_unit, space_text}
 use Rattle.sms_deck.specs.Values.{devices, meaning_in, word_in, integer_in, space_in}
-use Rattle.sms_deck.specs.Layout.{table_at}
+use Rattle.sms_deck.specs.Layout.{key_count, or_empty, table_at}
 use Rattle.sms_deck.specs.Constructs.{with_named, named, data_class_of, storage_class_of, management_class_of, group_of, size_of, tracks_of, volume_of, group_volumes, all_volumes}
-use Rattle.sms_deck.specs.Places.{Places, has_place, put_volume, put_volumes, groups_in, places_of, volumes_in}
+use Rattle.sms_deck.specs.Places.{Places, has_place, put_volume, put_volumes, groups_in, places_of, volumes_in, volume_count, volume_total, total_fault, twice_fault}
 use Rattle.sms_deck.specs.Outcomes.{Outcome, Absent, Long, Sound, Faulty, ComesTo, Outcomes, AreOutcomes, outcomes_from, routines_in, sound_in, source_of}
-use Rattle.sms_deck.specs.Reading.{Configures, MeansTable, configuration_of}
+use Rattle.sms_deck.specs.Reading.{Configures, MeansTable, configuration_of, fault_of, first_of, form_fault, sources_fault, assigned_faults}
 use Rattle.sms_deck.proofs.OrderLemmas.{ascending, names_ascend, inner_sorted, lined_volumes, volsers_ascend}
 use Rattle.sms_deck.proofs.ReadingLemmas.{back_from_outcomes}
 use Rattle.sms_deck.proofs.SortedLemmas.{document_ascends}
@@ -192,6 +196,75 @@ all_are_among (member l d ms) =
     all_append (IsAmong (with_named group_of (name_of l) (as_table d) (named name_of group_of ms))) (group_volumes (name_of l) (as_table d)) (all_volumes ms) (group_is_among (name_of l) (as_table d) (named name_of group_of ms))
     (all_weaker (IsAmong (named name_of group_of ms)) (IsAmong (with_named group_of (name_of l) (as_table d) (named name_of group_of ms))) (all_volumes ms) (still_among (name_of l) (as_table d) (named name_of group_of ms)) (all_are_among ms))
 
+-- how many volumes there are
+
+few_placed : (o : Ordering) (k l : List ℕ) (p q : Place) (es rest : Places) → length rest ≤ length es + 1 → length (match_ordering o ((k, p) ∷ (l, q) ∷ es) ((l, p) ∷ es) ((l, q) ∷ rest)) ≤ length es + 2
+few_placed Less k l p q es rest a = omega arith
+few_placed Equal k l p q es rest a = omega arith
+few_placed Greater k l p q es rest a = omega (arith, a)
+
+few_insert : (k : List ℕ) (p : Place) (es : Places) → length (insert_entry (slice_cmp nat_cmp) es k p) ≤ length es + 1
+few_insert k p [] = omega arith
+few_insert k p (e ∷ es) = let a = few_placed (slice_cmp nat_cmp k e.0) k e.0 p e.1 es (insert_entry (slice_cmp nat_cmp) es k p) (few_insert k p es) in omega (arith, a)
+
+few_put : (places : Places) (volumes : List VolumeDef) → length (put_volumes places volumes) ≤ length places + length volumes
+few_put places [] = omega arith
+few_put places (volume ∷ volumes) =
+    let a = few_put (put_volume places volume) volumes in
+    let b = few_insert volume.volser (record { volume = volume; is_twice = has_place volume.volser places }) places in
+    omega (arith, a, b)
+
+few_with : {X : Type 0} (build : List ℕ → Members → X) (o : Option (List ℕ)) (t : Option Members) (items : List X) → length (with_named build o t items) ≤ length items + 1
+few_with build None t items = omega arith
+few_with build (Some name) None items = omega arith
+few_with build (Some name) (Some keys) items = omega arith
+
+few_named : {X : Type 0} (reading : List ℕ → Option (List ℕ)) (build : List ℕ → Members → X) (ms : Members) → length (named reading build ms) ≤ key_count ms
+few_named reading build no_members = omega arith
+few_named reading build (member l d ms) =
+    let a = few_with build (reading l) (as_table d) (named reading build ms) in
+    let b = few_named reading build ms in
+    omega (arith, a, b)
+
+few_in_group : (o : Option (List ℕ)) (t : Option Members) → length (group_volumes o t) ≤ key_count (table_at (codes "volume") (or_empty t))
+few_in_group None t = omega arith
+few_in_group (Some group) None = omega arith
+few_in_group (Some group) (Some keys) = few_named volser_of (volume_of group) (table_at (codes "volume") keys)
+
+few_volumes : (ms : Members) → length (all_volumes ms) ≤ volume_total ms
+few_volumes no_members = omega arith
+few_volumes (member l d ms) =
+    let a = few_in_group (name_of l) (as_table d) in
+    let b = few_volumes ms in
+    let c = length-append (group_volumes (name_of l) (as_table d)) (all_volumes ms) in
+    omega (arith, a, b, c)
+
+no_fault : (b : Bool) (fault : Fault) → (if b then Some fault else None) ≡ None → b ≡ false
+no_fault true fault e = cc
+no_fault false fault e = refl
+
+few_where : (top : Members) → total_fault top ≡ None → length (volumes_in (places_of top)) ≤ most_volumes
+few_where top e =
+    let a = no_fault (nat_lt most_volumes (volume_total (groups_in top))) (TooMany (codes "volume")) e in
+    let b = few_put [] (all_volumes (groups_in top)) in
+    let c = few_volumes (groups_in top) in
+    let d = length-map (places_of top) (λ place. place.1.volume) in
+    grind (arith, nat_tests)
+
+second_none : {A : Type 0} (o p : Option A) → option_or o p ≡ None → p ≡ None
+second_none None p e = e
+second_none (Some x) p e = cc
+
+first_none : {A : Type 0} (o p : Option A) → option_or o p ≡ None → o ≡ None
+first_none None p e = refl
+first_none (Some x) p e = cc
+
+no_total : (top : Members) → form_fault top ≡ None → total_fault top ≡ None
+no_total top e = first_none (total_fault top) (option_or (twice_fault top) None) (second_none (tables_fault top) (option_or (total_fault top) (option_or (twice_fault top) None)) e)
+
+no_form : (top : Members) (outcomes : Outcomes) → fault_of top outcomes ≡ None → form_fault top ≡ None
+no_form top outcomes e = first_none (form_fault top) (first_of (sources_fault outcomes ∷ assigned_faults top (routines_in outcomes) ∷ [])) e
+
 -- the classes
 
 is_data_class : (name : List ℕ) (keys : Members) → IsDataClass (data_class_of name keys)
@@ -221,10 +294,11 @@ kinds_of {top} outcomes a StorClas = sound_kind StorClas (source_of StorClas top
 kinds_of {top} outcomes a MgmtClas = sound_kind MgmtClas (source_of MgmtClas top) outcomes.mgmtclas a.mgmtclas
 kinds_of {top} outcomes a StorGrp = sound_kind StorGrp (source_of StorGrp top) outcomes.storgrp a.storgrp
 
-is_configuration : (bytes : List ℕ) (top : Members) (outcomes : Outcomes) → members_are_sorted top ≡ true → AreOutcomes top outcomes → IsConfiguration (configuration_of bytes top (routines_in outcomes))
-is_configuration bytes top outcomes s a = record {
+is_configuration : (bytes : List ℕ) (top : Members) (outcomes : Outcomes) → members_are_sorted top ≡ true → AreOutcomes top outcomes → form_fault top ≡ None → IsConfiguration (configuration_of bytes top (routines_in outcomes))
+is_configuration bytes top outcomes s a f = record {
   names = construct_names bytes top outcomes s;
   volsers = ascending _ (volsers_ascend (places_of top) (lined_volumes [] (all_volumes (groups_in top)) tt));
+  few = few_where top (no_total top f);
   grouped = all_put (IsAmong (named name_of group_of (groups_in top))) [] (all_volumes (groups_in top)) (all_are_among (groups_in top)) tt;
   tracks = all_put (λ volume. 0 < volume.tracks) [] (all_volumes (groups_in top)) (all_have_tracks (groups_in top)) tt;
   classes = all_named IsDataClass name_of data_class_of is_data_class (table_at (codes "dataclass") top);
@@ -232,8 +306,9 @@ is_configuration bytes top outcomes s a = record {
 }
 
 pub configured : {bytes : List ℕ} {config : Configuration} → Configures bytes config → IsConfiguration config
-configured {bytes} c = subst IsConfiguration (sym c.config_is) (is_configuration bytes c.top c.outcomes (document_ascends bytes c.top c.means.document) c.read)
+configured {bytes} c =
+    subst IsConfiguration (sym c.config_is) (is_configuration bytes c.top c.outcomes (document_ascends bytes c.top c.means.document) c.read (no_form c.top c.outcomes c.faultless))
 
-pub lawful : {bytes : List ℕ} {top : Members} (routines : Routines) → MeansTable bytes top → AreOutcomes top (outcomes_from routines) → IsConfiguration (configuration_of bytes top routines)
-lawful {bytes} {top} routines m a =
-    subst (λ r. IsConfiguration (configuration_of bytes top r)) (back_from_outcomes routines) (is_configuration bytes top (outcomes_from routines) (document_ascends bytes top m.document) a)
+pub lawful : {bytes : List ℕ} {top : Members} (routines : Routines) → MeansTable bytes top → AreOutcomes top (outcomes_from routines) → form_fault top ≡ None → IsConfiguration (configuration_of bytes top routines)
+lawful {bytes} {top} routines m a f =
+    subst (λ r. IsConfiguration (configuration_of bytes top r)) (back_from_outcomes routines) (is_configuration bytes top (outcomes_from routines) (document_ascends bytes top m.document) a f)

@@ -21,10 +21,6 @@ most_groups = 64
 abbrev pub most_group_volumes : ℕ
 most_group_volumes = 256
 
--- the volumes of a deck, each counted where it stands
-abbrev pub most_volumes : ℕ
-most_volumes = 1024
-
 -- the cylinders of a volume
 abbrev pub most_cylinders : ℕ
 most_cylinders = 65520

@@ -8,8 +8,8 @@ use Rattle.toml.specs.Data.{Data, Members, no_members, member, as_table}
 use Rattle.sms_construct.specs.declared.fault.Fault.{Fault}
 use Rattle.sms_construct.specs.declared.fault.Fault.TheVariants.{TooMany, TwoGroups}
 use Rattle.sms_construct.specs.declared.volume.VolumeDef.{VolumeDef}
+use Rattle.sms_construct.specs.Configuration.{most_volumes}
 use Rattle.sms_deck.specs.declared.place.Place.{Place}
-use Rattle.sms_deck.specs.Limits.{most_volumes}
 use Rattle.sms_deck.specs.Layout.{key_count, or_empty, table_at}
 use Rattle.sms_deck.specs.Constructs.{all_volumes}
 

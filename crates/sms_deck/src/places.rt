@@ -5,7 +5,7 @@ ghost use Rattle.toml.specs.Data.{as_table, get_member};
 ghost use Rattle.toml.specs.View.{table_view, view};
 ghost use Rattle.dsn_mask.specs.Name.{name_of, volser_of};
 ghost use Rattle.sms_deck.specs.Layout.{fault_told};
-ghost use Rattle.sms_deck.specs.Limits.{most_volumes};
+ghost use Rattle.sms_construct.specs.Configuration.{most_volumes};
 ghost use Rattle.sms_deck.specs.Constructs.{all_volumes, group_volumes, named, volume_of};
 ghost use Rattle.sms_deck.specs.Places.{first_twice, put_volume, put_volumes, total_fault, volume_count, volume_total, volumes_in};
 

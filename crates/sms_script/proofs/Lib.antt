@@ -5,3 +5,4 @@ mod PhaseLemmas
 mod PieceLemmas
 mod ListLemmas
 mod PhaseTextLemmas
+mod FewLemmas

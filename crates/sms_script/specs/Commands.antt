@@ -1,5 +1,5 @@
 -- The commands that the lines of a script write (docs/script.md, "Commands").
-use Rattle.std.specs.Prelude.{ℕ, ◌&&◌, Bool, true, false, List, [], ◌∷◌, length, nat_le, Option, None, Some, bytes_eq, codes, option_map, if◌then◌else◌}
+use Rattle.std.specs.Prelude.{ℕ, ◌&&◌, Bool, false, List, [], ◌∷◌, length, nat_le, Option, None, Some, bytes_eq, codes, option_map, if◌then◌else◌}
 use Rattle.dsn_mask.specs.Name.{name_of}
 use Rattle.sms_script.specs.Found.{◌⊳◌}
 use Rattle.sms_script.specs.Ops.{number_in, op_in, upper_words}

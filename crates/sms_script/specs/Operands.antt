@@ -1,7 +1,6 @@
 -- The operands of ALLOC (docs/script.md, "Operands"): which stand in a line, and what each gives.
-use Rattle.std.specs.Prelude.{ℕ, Bool, true, false, List, [], ◌∷◌, Option, None, Some, is_some, codes, option_map, unwrap_or, if◌then◌else◌}
+use Rattle.std.specs.Prelude.{ℕ, Bool, true, false, not, ◌&&◌, List, [], ◌∷◌, Option, None, Some, is_some, codes, option_map, unwrap_or}
 use Rattle.std.specs.List.{filter_map, list_all, list_any}
-use Rattle.std.specs.Option.{option_and_then}
 use Rattle.acs_tree.specs.declared.accounting.Accounting.{Accounting}
 use Rattle.acs_tree.specs.declared.amounts.Amounts.{Amounts}
 use Rattle.acs_tree.specs.declared.attributes.Attributes.{Attributes}
@@ -42,18 +41,22 @@ are_many [] = false
 are_many (value ∷ []) = false
 are_many (value ∷ other ∷ values) = true
 
+-- the key stands at most once
+abbrev pub is_once : List (List ℕ) → List ℕ → Bool
+is_once operands key = not (are_many (values_of key operands))
+
+-- each word has one of the keys, and no key stands twice
+abbrev pub are_operands : List (List ℕ) → Bool
+are_operands operands = list_all is_operand operands && list_all (is_once operands) keys
+
 -- what is read in the first value, or the default where there is none
 abbrev pub first_or : {V : Type 0} → (List ℕ → Option V) → V → List (List ℕ) → Option V
 first_or read default [] = Some default
 first_or read default (value ∷ values) = read value
 
--- what is read in the only value, or the default where there is none; nothing where there are two
-abbrev pub only_one : {V : Type 0} → (List ℕ → Option V) → V → List (List ℕ) → Option V
-only_one read default values = if are_many values then None else first_or read default values
-
 -- what the operand of this key gives
 abbrev pub given : {V : Type 0} → List ℕ → (List ℕ → Option V) → V → List (List ℕ) → Option V
-given key read default operands = only_one read default (values_of key operands)
+given key read default operands = first_or read default (values_of key operands)
 
 -- what an operand gives that may be missing
 abbrev pub given_or_none : {V : Type 0} → List ℕ → (List ℕ → Option V) → List (List ℕ) → Option (Option V)

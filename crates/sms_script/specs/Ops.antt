@@ -1,6 +1,5 @@
 -- The ops that words write (docs/script.md, "Commands").
 use Rattle.std.specs.Prelude.{ℕ, ◌+◌, ◌==◌, Bool, true, not, List, [], ◌∷◌, map, take, drop, position, Option, None, Some, bytes_eq, codes, option_map, unwrap_or, if◌then◌else◌}
-use Rattle.std.specs.List.{list_all}
 use Rattle.std.specs.Map.{lookup}
 use Rattle.std.specs.Option.{option_and_then, option_or}
 use Rattle.std.specs.Char.{to_ascii_uppercase}
@@ -17,8 +16,10 @@ use Rattle.sms_construct.specs.declared.target.Target.{Target}
 use Rattle.sms_construct.specs.declared.target.Target.TheVariants.{Group, Volume, Set}
 use Rattle.sms_script.specs.Found.{◌⊳◌}
 use Rattle.sms_script.specs.Numbers.{number_of}
-use Rattle.sms_script.specs.Operands.{is_operand, request_in}
+use Rattle.sms_script.specs.Operands.{are_operands, request_in}
 use Rattle.sms_script.specs.Parts.{behind_front, in_call, before_end}
+use Rattle.sms_script.specs.declared.written.Written.{Written}
+use Rattle.sms_script.specs.declared.written.Written.TheVariants as written
 use Rattle.sms_script.specs.declared.verb.Verb.{Verb}
 use Rattle.sms_script.specs.declared.verb.Verb.TheVariants as verbs
 
@@ -105,10 +106,10 @@ vary_in what =
     position (λ byte. byte == 41) text ⊳ λ at.
     vary_at text at
 
--- an ALLOC: the data set, and operands in any order
+-- an ALLOC: the data set, and operands in any order, each at most once
 abbrev pub alloc_in : List (List ℕ) → Option Alloc
 alloc_in [] = None
-alloc_in (word ∷ operands) = dsn_of word ⊳ λ dsn. if list_all is_operand operands then request_in dsn operands else None
+alloc_in (word ∷ operands) = dsn_of word ⊳ λ dsn. if are_operands operands then request_in dsn operands else None
 
 -- the data set that is the only word
 abbrev pub dsn_in : List (List ℕ) → Option (List ℕ)
@@ -145,3 +146,8 @@ upper_words line = words_of (32 ∷ []) (map to_ascii_uppercase line)
 -- the op that the part of a line behind the request number writes
 abbrev pub op_of : Bool → List ℕ → Option Op
 op_of admin line = op_in admin (upper_words line)
+
+-- the op that is so written
+abbrev pub op_written : Written → Op
+op_written (written.Alloc allocation) = ops.Alloc allocation
+op_written (written.Other op) = op

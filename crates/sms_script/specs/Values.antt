@@ -1,5 +1,5 @@
 -- The values of operands (docs/script.md, "Operands").
-use Rattle.std.specs.Prelude.{ℕ, ◌+◌, ◌==◌, ◌&&◌, Bool, true, List, [], ◌∷◌, length, take, drop, position, nat_le, not, Option, None, Some, bytes_eq, codes, option_map, if◌then◌else◌}
+use Rattle.std.specs.Prelude.{ℕ, ◌+◌, ◌==◌, ◌&&◌, Bool, true, List, [], ◌∷◌, length, take, drop, position, nat_le, not, Option, None, Some, bytes_eq, codes, if◌then◌else◌}
 use Rattle.std.specs.List.{list_all, list_any}
 use Rattle.std.specs.Option.{option_and_then}
 use Rattle.desk_common.specs.Words.{is_one_of}

@@ -1,10 +1,11 @@
 //! The commands that the lines of a script write.
-ghost use Rattle.std.specs.Prelude.{◌≡◌, ◌&&◌, None, Some, bytes_eq, codes, map, option_map, IfOk, if◌then◌else◌};
+ghost use Rattle.std.specs.Prelude.{◌≡◌, ◌&&◌, None, Some, bytes_eq, codes, map, option_map, IfOk, OnOk, if◌then◌else◌};
+ghost use Rattle.std.specs.Char.{to_ascii_uppercase};
 ghost use Rattle.sms_script.specs.Ops.{number_in};
 ghost use Rattle.sms_script.specs.Commands.{admin, command_in, command_of, is_activate, is_admin, request_of};
 
-use crate::op::{read_request_number, read_words, upper_case};
-use desk_common::words;
+use crate::line_words::line_words;
+use crate::op::{read_request_number, read_words};
 use dsn_mask::Name;
 use sms_construct::{Request, RequestNumber};
 use std::alloc::{AllocError, Global};
@@ -24,6 +25,7 @@ pub enum Command {
 }
 
 /// The command that the line writes, if any. The buffer is for its letters in upper case.
+#[tactic(auto, using(crate::proofs::FewLemmas::no_command))]
 pub fn read_command(
     alloc: Global,
     buffer: &mut Vec<u8>,
@@ -35,8 +37,20 @@ pub fn read_command(
         return Ok(None);
     }
     upper_case(buffer, text)?;
-    let words = words(alloc, b" ", buffer)?;
-    read_line(alloc, &words)
+    match line_words(buffer) {
+        Some(words) => read_line(alloc, &words),
+        None => Ok(None),
+    }
+}
+
+// Fills the buffer with the text, its letters in upper case.
+fn upper_case(buffer: &mut Vec<u8>, text: &[u8]) -> Result<(), AllocError>
+    ensures { OnOk result (buffer.new.items ≡ map to_ascii_uppercase text.now) }
+{
+    buffer.clear();
+    buffer.extend_from_slice(text)?;
+    buffer.make_ascii_uppercase();
+    Ok(())
 }
 
 /// The job of the administrator's commands.
@@ -96,8 +110,11 @@ fn read_request(
     let (Some(job), Some(number)) = (Name::new(job), read_request_number(number)) else {
         return Ok(None);
     };
-    match read_words(alloc, rest, admin)? {
-        Some(op) => Ok(Some(Command::Whole(Request { job, number, op }))),
+    match read_words(rest, admin) {
+        Some(op) => {
+            let op = op.share(alloc)?;
+            Ok(Some(Command::Whole(Request { job, number, op })))
+        }
         None => Ok(None),
     }
 }

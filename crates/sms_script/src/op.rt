@@ -1,83 +1,57 @@
 //! The ops that words write.
-ghost use Rattle.std.specs.Prelude.{◌≡◌, ◌∷◌, [], map, option_map, IfOk, OnOk, Some};
+ghost use Rattle.std.specs.Prelude.{◌≡◌, ◌∷◌, [], map, option_map, Some};
 ghost use Rattle.std.specs.Char.{to_ascii_uppercase};
 ghost use Rattle.std.specs.Option.{option_copied};
 ghost use Rattle.sms_script.specs.Numbers.{number_of};
-ghost use Rattle.sms_script.specs.Ops.{alloc_in, dsn_in, number_in, only, only_two, op_in, op_of, op_with, purge_in, upper_words, used_in};
+ghost use Rattle.sms_script.specs.Ops.{alloc_in, dsn_in, number_in, only, only_two, op_in, op_of, op_with, op_written, purge_in, used_in};
 
 use crate::allocation::read_allocation;
+use crate::line_words::line_words;
 use crate::number::read_number;
 use crate::targets::{read_target, read_vary};
 use crate::verb::Verb;
-use desk_common::{Shared, words};
+use crate::written::Written;
 use dsn_mask::{Dsn, Name};
-use sms_construct::{Alloc, Op, RequestNumber};
-use std::alloc::{AllocError, Global};
+use sms_construct::{Op, RequestNumber};
 
 /// The op that the part of a command line behind the request number writes, if any: of the administrator, or of
-/// another job (docs/script.md, "Commands"). ACTIVATE is none, since its deck stands in other lines.
-pub fn read_op(alloc: Global, line: &[u8], admin: bool) -> Result<Option<Op>, AllocError>
-    ensures { IfOk result (λ op. op ≡ op_of admin line.now) }
+/// another job (docs/script.md, "Commands"). ACTIVATE is none, since its deck stands in other lines. The letters
+/// of the line become upper case, as they are read; no memory is taken.
+#[tactic(auto, using(crate::proofs::FewLemmas::no_op))]
+pub fn read_op(line: &mut [u8], admin: bool) -> Option<Written>
+    ensures op { option_map op_written result ≡ op_of admin line.old }
+    ensures line { line.new ≡ map to_ascii_uppercase line.old }
 {
-    let mut buffer = Vec::new(alloc);
-    upper_case(&mut buffer, line)?;
-    let words = words(alloc, b" ", &buffer)?;
-    read_words(alloc, &words, admin)
-}
-
-/// Fills the buffer with the text, its letters in upper case.
-pub fn upper_case(buffer: &mut Vec<u8>, text: &[u8]) -> Result<(), AllocError>
-    ensures { OnOk result (buffer.new.items ≡ map to_ascii_uppercase text.now) }
-{
-    buffer.clear();
-    buffer.extend_from_slice(text)?;
-    buffer.make_ascii_uppercase();
-    Ok(())
+    line.make_ascii_uppercase();
+    read_words(&line_words(line)?, admin)
 }
 
 /// The op that the words behind a request number write, if any.
-pub fn read_words(alloc: Global, words: &[&[u8]], admin: bool) -> Result<Option<Op>, AllocError>
-    ensures { IfOk result (λ op. op ≡ op_in admin (map (λ word. word.now) words.now)) }
+pub fn read_words(words: &[&[u8]], admin: bool) -> Option<Written>
+    ensures { option_map op_written result ≡ op_in admin (map (λ word. word.now) words.now) }
 {
     let [word, operands @ ..] = words else {
-        return Ok(None);
+        return None;
     };
     match Verb::named(word) {
-        Some(verb) if verb.may_ask(admin) => read_form(alloc, verb, operands),
-        _ => Ok(None),
+        Some(verb) if verb.may_ask(admin) => read_form(verb, operands),
+        _ => None,
     }
 }
 
-fn read_form(alloc: Global, verb: Verb, operands: &[&[u8]]) -> Result<Option<Op>, AllocError>
-    ensures { IfOk result (λ op. op ≡ op_with verb (map (λ word. word.now) operands.now)) }
+fn read_form(verb: Verb, operands: &[&[u8]]) -> Option<Written>
+    ensures { option_map op_written result ≡ op_with verb (map (λ word. word.now) operands.now) }
 {
     match verb {
-        Verb::Alloc => read_alloc(alloc, operands),
-        Verb::Extend => Ok(read_dsn(operands).map(Op::Extend)),
-        Verb::Delete => Ok(read_dsn(operands).map(Op::Delete)),
-        Verb::Release => Ok(read_dsn(operands).map(Op::Release)),
-        Verb::Used => Ok(read_used(operands)),
-        Verb::Display => Ok(read_display(operands)),
-        Verb::Vary => Ok(read_vary_op(operands)),
-        Verb::Purge => Ok(read_purge(operands)),
+        Verb::Alloc => Some(Written::Alloc(read_allocation(operands)?)),
+        Verb::Extend => Some(Written::Other(Op::Extend(read_dsn(operands)?))),
+        Verb::Delete => Some(Written::Other(Op::Delete(read_dsn(operands)?))),
+        Verb::Release => Some(Written::Other(Op::Release(read_dsn(operands)?))),
+        Verb::Used => Some(Written::Other(read_used(operands)?)),
+        Verb::Display => Some(Written::Other(read_display(operands)?)),
+        Verb::Vary => Some(Written::Other(read_vary_op(operands)?)),
+        Verb::Purge => Some(Written::Other(read_purge(operands)?)),
     }
-}
-
-fn read_alloc(alloc: Global, operands: &[&[u8]]) -> Result<Option<Op>, AllocError>
-    ensures { IfOk result (λ op. op ≡ option_map (λ allocation. Op.Alloc allocation) (alloc_in (map (λ word. word.now) operands.now))) }
-{
-    let Some(allocation) = read_allocation(operands) else {
-        return Ok(None);
-    };
-    let space = allocation.space;
-    let allocation = Shared::new(
-        alloc,
-        Alloc {
-            space,
-            ..allocation
-        },
-    )?;
-    Ok(Some(Op::Alloc(allocation)))
 }
 
 fn read_dsn(operands: &[&[u8]]) -> Option<Dsn>

@@ -2,7 +2,7 @@
 ghost use Rattle.std.specs.Prelude.{◌≡◌, ◌∷◌, [], true, map, MatchOption};
 ghost use Rattle.std.specs.List.{list_all, list_any};
 ghost use Rattle.dsn_mask.specs.Name.{name_of};
-ghost use Rattle.sms_script.specs.Operands.{are_many, given, given_or_none, has_key, is_operand, values_of};
+ghost use Rattle.sms_script.specs.Operands.{are_operands, given, given_or_none, has_key, is_once, is_operand, values_of};
 ghost use Rattle.sms_script.specs.Values.{account_of, count_of, date_of, name_value_of, number_to, plain_of, space_in, volumes_of};
 
 use crate::lists::{read_account, read_volumes};
@@ -45,8 +45,14 @@ const KEYS: [&[u8]; 28] = [
     b"DAY=",
 ];
 
-/// Whether each of the words has one of the keys.
-pub fn are_operands(mut words: &[&[u8]]) -> bool
+/// Whether each of the words has one of the keys, and no key stands twice.
+pub fn are_operands(words: &[&[u8]]) -> bool
+    ensures { result ≡ are_operands (map (λ word. word.now) words.now) }
+{
+    are_known(words) && are_once(words, &KEYS)
+}
+
+fn are_known(mut words: &[&[u8]]) -> bool
     ensures { result ≡ list_all is_operand (map (λ word. word.now) words.entry.now) }
 {
     while let [word, others @ ..] = words {
@@ -56,6 +62,27 @@ pub fn are_operands(mut words: &[&[u8]]) -> bool
         words = others;
     }
     true
+}
+
+fn are_once(words: &[&[u8]], mut keys: &[&[u8]]) -> bool
+    ensures { result ≡ list_all (is_once (map (λ word. word.now) words.now)) (map (λ key. key.now) keys.entry.now) }
+{
+    while let [key, others @ ..] = keys {
+        if !is_once(words, key) {
+            return false;
+        }
+        keys = others;
+    }
+    true
+}
+
+fn is_once(words: &[&[u8]], key: &[u8]) -> bool
+    ensures { result ≡ is_once (map (λ word. word.now) words.now) key.now }
+{
+    match first_value(key, words) {
+        Some((_, others)) => first_value(key, others).is_none(),
+        None => true,
+    }
 }
 
 fn is_operand(word: &[u8]) -> bool
@@ -97,26 +124,12 @@ fn first_value<'a, 'b>(key: &[u8], words: &'b [&'a [u8]]) -> Option<(&'a [u8], &
     None
 }
 
-// The value of a key, if one of the words has it; `None` where two have it.
-fn only_value<'a>(key: &[u8], words: &[&'a [u8]]) -> Option<Option<&'a [u8]>>
-    ensures { MatchOption result (are_many (values_of key.now (map (λ word. word.now) words.now)) ≡ true)
-        (λ only. MatchOption only (values_of key.now (map (λ word. word.now) words.now) ≡ []) (λ value. values_of key.now (map (λ word. word.now) words.now) ≡ value.now ∷ [])) }
-{
-    let Some((value, others)) = first_value(key, words) else {
-        return Some(None);
-    };
-    match first_value(key, others) {
-        Some(_) => None,
-        None => Some(Some(value)),
-    }
-}
-
 /// A text of at most 8 bytes; the default where none has the key.
 pub fn word_at(key: &[u8], default: Short, words: &[&[u8]]) -> Option<Short>
     ensures { result ≡ given key.now (plain_of 8) default (map (λ word. word.now) words.now) }
 {
-    match only_value(key, words)? {
-        Some(value) => read_plain(8, value),
+    match first_value(key, words) {
+        Some((value, _)) => read_plain(8, value),
         None => Some(default),
     }
 }
@@ -125,8 +138,8 @@ pub fn word_at(key: &[u8], default: Short, words: &[&[u8]]) -> Option<Short>
 pub fn name_value_at(key: &[u8], words: &[&[u8]]) -> Option<Short>
     ensures { result ≡ given key.now name_value_of [] (map (λ word. word.now) words.now) }
 {
-    match only_value(key, words)? {
-        Some(value) => read_name_value(value),
+    match first_value(key, words) {
+        Some((value, _)) => read_name_value(value),
         None => Some(Short::null()),
     }
 }
@@ -135,8 +148,8 @@ pub fn name_value_at(key: &[u8], words: &[&[u8]]) -> Option<Short>
 pub fn date_at(key: &[u8], words: &[&[u8]]) -> Option<Short>
     ensures { result ≡ given key.now date_of [] (map (λ word. word.now) words.now) }
 {
-    match only_value(key, words)? {
-        Some(value) => read_date(value),
+    match first_value(key, words) {
+        Some((value, _)) => read_date(value),
         None => Some(Short::null()),
     }
 }
@@ -145,8 +158,8 @@ pub fn date_at(key: &[u8], words: &[&[u8]]) -> Option<Short>
 pub fn account_at(key: &[u8], words: &[&[u8]]) -> Option<Account>
     ensures { result ≡ given key.now account_of [] (map (λ word. word.now) words.now) }
 {
-    match only_value(key, words)? {
-        Some(value) => read_account(value),
+    match first_value(key, words) {
+        Some((value, _)) => read_account(value),
         None => Some(Account::new()),
     }
 }
@@ -155,8 +168,8 @@ pub fn account_at(key: &[u8], words: &[&[u8]]) -> Option<Account>
 pub fn volumes_at(key: &[u8], words: &[&[u8]]) -> Option<Volumes>
     ensures { result ≡ given key.now volumes_of [] (map (λ word. word.now) words.now) }
 {
-    match only_value(key, words)? {
-        Some(value) => read_volumes(value),
+    match first_value(key, words) {
+        Some((value, _)) => read_volumes(value),
         None => Some(Volumes::new()),
     }
 }
@@ -165,8 +178,8 @@ pub fn volumes_at(key: &[u8], words: &[&[u8]]) -> Option<Volumes>
 pub fn number_at(key: &[u8], most: u32, words: &[&[u8]]) -> Option<u32>
     ensures { result ≡ given key.now (number_to most) 0 (map (λ word. word.now) words.now) }
 {
-    match only_value(key, words)? {
-        Some(value) => read_number_to(most, value),
+    match first_value(key, words) {
+        Some((value, _)) => read_number_to(most, value),
         None => Some(0),
     }
 }
@@ -175,8 +188,8 @@ pub fn number_at(key: &[u8], most: u32, words: &[&[u8]]) -> Option<u32>
 pub fn some_number_at(key: &[u8], most: u32, words: &[&[u8]]) -> Option<Option<u32>>
     ensures { result ≡ given_or_none key.now (number_to most) (map (λ word. word.now) words.now) }
 {
-    match only_value(key, words)? {
-        Some(value) => Some(Some(read_number_to(most, value)?)),
+    match first_value(key, words) {
+        Some((value, _)) => Some(Some(read_number_to(most, value)?)),
         None => Some(None),
     }
 }
@@ -185,8 +198,8 @@ pub fn some_number_at(key: &[u8], most: u32, words: &[&[u8]]) -> Option<Option<u
 pub fn name_at(key: &[u8], words: &[&[u8]]) -> Option<Option<Name>>
     ensures { result ≡ given_or_none key.now name_of (map (λ word. word.now) words.now) }
 {
-    match only_value(key, words)? {
-        Some(value) => Some(Some(Name::new(value)?)),
+    match first_value(key, words) {
+        Some((value, _)) => Some(Some(Name::new(value)?)),
         None => Some(None),
     }
 }
@@ -195,8 +208,8 @@ pub fn name_at(key: &[u8], words: &[&[u8]]) -> Option<Option<Name>>
 pub fn space_at(key: &[u8], words: &[&[u8]]) -> Option<Option<Space>>
     ensures { result ≡ given_or_none key.now space_in (map (λ word. word.now) words.now) }
 {
-    match only_value(key, words)? {
-        Some(value) => Some(Some(read_space(value)?)),
+    match first_value(key, words) {
+        Some((value, _)) => Some(Some(read_space(value)?)),
         None => Some(None),
     }
 }
@@ -205,8 +218,8 @@ pub fn space_at(key: &[u8], words: &[&[u8]]) -> Option<Option<Space>>
 pub fn count_at(key: &[u8], words: &[&[u8]]) -> Option<Option<VolumeCount>>
     ensures { result ≡ given_or_none key.now count_of (map (λ word. word.now) words.now) }
 {
-    match only_value(key, words)? {
-        Some(value) => Some(Some(read_count(value)?)),
+    match first_value(key, words) {
+        Some((value, _)) => Some(Some(read_count(value)?)),
         None => Some(None),
     }
 }

@@ -1,5 +1,8 @@
 //! The desk as a program: it answers the script on standard input.
 #![tactic(auto)]
+ghost use Rattle.std.specs.Prelude.{◌≡◌};
+ghost use Rattle.std.specs.Process.{exit_status};
+ghost use Rattle.desk_calls.specs.ExitStatus.{exit_status_of};
 
 mod help;
 
@@ -19,8 +22,7 @@ fn main(rt: HostRuntime) -> ExitCode {
             None => answer(&rt, &words),
         },
     };
-    report(&rt, status);
-    ExitCode::from(status.code())
+    end(&rt, status)
 }
 
 // Answers the script on standard input.
@@ -40,12 +42,15 @@ fn show(rt: &HostRuntime, text: &str) -> RunStatus {
     }
 }
 
-// Says a status other than 0 on standard error, with the script's fault.
-fn report(rt: &HostRuntime, status: RunStatus) {
+// Says a status other than 0 on standard error, with the script's fault, and ends the program with it.
+fn end(rt: &HostRuntime, status: RunStatus) -> ExitCode
+    ensures { exit_status result ≡ exit_status_of status }
+{
     let code = status.code();
     let _ = match status {
         RunStatus::Done => Ok(()),
         RunStatus::Script(fault) => eprintln!(rt; "smsctl: status {code} {fault}"),
         _ => eprintln!(rt; "smsctl: status {code}"),
     };
+    ExitCode::from(code)
 }

@@ -12,4 +12,4 @@ returns-in-Ok-build-clause-ok c =
     is_read c.args.deck.now (table_view c.args.top.now) c.in-Ok-build.config c.in-Ok-read_sources.sources c.in-Ok.ensures.ok c.in-Ok-read_sources.ensures.ok (sym c.in_default.ensures) c.in-Ok-build.ensures
 
 pub build-requires-clause-form : goal.build-requires-clause-form
-build-requires-clause-form c = lawful c.in-Ok-read_sources.sources c.requires c.in-Ok-read_sources.ensures.ok
+build-requires-clause-form c = lawful c.in-Ok-read_sources.sources c.requires c.in-Ok-read_sources.ensures.ok c.in-Ok.ensures.ok

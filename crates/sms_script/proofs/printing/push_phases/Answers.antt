@@ -1,5 +1,4 @@
-use Rattle.std.proofs.Common.{◌≡◌, ◌+◌, ◌++◌, List, length, drop, arith, length-append, sym, ap, ◌∙◌, rules}
-use Rattle.sms_script.specs.declared.item.Item.{Item}
+use Rattle.std.proofs.Common.{◌≡◌, ◌+◌, ◌++◌, length, drop, arith, length-append, ap, ◌∙◌, rules}
 use Rattle.sms_script.specs.AnswerText.{items_text}
 use Rattle.sms_script.specs.Script.{items_of}
 use Rattle.sms_script.proofs.PhaseTextLemmas.{next_phase, text_goes_on}

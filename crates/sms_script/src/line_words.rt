@@ -1,0 +1,25 @@
+//! The words of a line.
+ghost use Rattle.std.specs.Prelude.{◌≡◌, ◌<◌, ◌∷◌, [], length, map, MatchOption};
+ghost use Rattle.desk_common.specs.Words.{words_of};
+
+use arrayvec::ArrayVec;
+use desk_common::next_word;
+
+/// The most words of a command line: a job, a request number, a verb, a data set and 28 operands.
+pub const MOST_WORDS: usize = 32;
+
+/// The words of the line, if they are no more than a command may have.
+pub fn line_words(line: &[u8]) -> Option<ArrayVec<&[u8], MOST_WORDS>>
+    ensures { MatchOption result (32 < length (words_of (32 ∷ []) line.entry.now)) (λ words. map (λ word. word.now) words.items ≡ words_of (32 ∷ []) line.entry.now) }
+{
+    let mut words = ArrayVec::new();
+    let mut rest = line;
+    while let Some((word, behind)) = next_word(b" ", rest) {
+        if words.is_full() {
+            return None;
+        }
+        words.push(word);
+        rest = behind;
+    }
+    Some(words)
+}
