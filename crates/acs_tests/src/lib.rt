@@ -27,6 +27,8 @@ mod heads;
 #[cfg(test)]
 mod indexes;
 #[cfg(test)]
+mod large_runs;
+#[cfg(test)]
 mod line_runs;
 #[cfg(test)]
 mod lines;
@@ -54,6 +56,8 @@ mod order;
 mod parsing;
 #[cfg(test)]
 mod parts;
+#[cfg(test)]
+mod right_sides;
 #[cfg(test)]
 mod routines;
 #[cfg(test)]

@@ -83,6 +83,17 @@ fn compare_by(
     Ok(())
 }
 
+/// A routine of storage groups, which may read every variable, compares the two sides.
+pub fn compare_right(
+    rt: &impl Abort,
+    alloc: Global,
+    left: &str,
+    right: &str,
+    wanted: Answer,
+) -> Result<(), Fail> {
+    compare_by(rt, alloc, Kind::StorGrp, left, right, &["="], wanted)
+}
+
 pub fn compare_held(rt: &impl Abort, alloc: Global, rows: &[Held]) -> Result<(), Fail> {
     for (names, right, ordered) in rows {
         compare_names(rt, alloc, names, right, *ordered)?;

@@ -92,7 +92,8 @@ pub fn compare_endings(rt: &impl Abort, alloc: Global, rows: &[Ended]) -> Result
     Ok(())
 }
 
-fn compare_ending(
+/// Compares how a run of a routine for storage groups ends.
+pub fn compare_ending(
     rt: &impl Abort,
     alloc: Global,
     text: &str,

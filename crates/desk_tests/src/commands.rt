@@ -350,7 +350,10 @@ fn each_key_stands_once_and_with_a_value(rt: HostRuntime) -> Result<(), Fail> {
     let alloc = rt.alloc();
     let mut all = String::new(alloc);
     for (key, value) in VALUES {
-        assert!(rt; are_read(alloc, format!(in alloc; "{key}{value}")?.as_str())?, "{key}");
+        assert!(rt;
+            are_read(alloc, format!(in alloc; "{key}{value}")?.as_str())?,
+            "{key}"
+        );
         assert!(rt; !are_read(alloc, key)?, "{key}");
         let twice = format!(in alloc; "{key}{value} DAY=7 {key}{value}")?;
         assert!(rt; !are_read(alloc, twice.as_str())?, "{key}");
@@ -364,16 +367,33 @@ fn each_key_stands_once_and_with_a_value(rt: HostRuntime) -> Result<(), Fail> {
 
 /// The keys whose values are texts of at most 8 bytes.
 const PLAIN: [&str; 13] = [
-    "USER=", "GROUP=", "PGM=", "DD=", "UNIT=", "DSORG=", "RECORG=", "DSNTYPE=", "DSTYPE=",
-    "ACSENVIR=", "XMODE=", "APPLIC=", "OWNER=",
+    "USER=",
+    "GROUP=",
+    "PGM=",
+    "DD=",
+    "UNIT=",
+    "DSORG=",
+    "RECORG=",
+    "DSNTYPE=",
+    "DSTYPE=",
+    "ACSENVIR=",
+    "XMODE=",
+    "APPLIC=",
+    "OWNER=",
 ];
 
 #[test]
 fn a_plain_text_has_at_most_8_bytes(rt: HostRuntime) -> Result<(), Fail> {
     let alloc = rt.alloc();
     for key in PLAIN {
-        assert!(rt; are_read(alloc, format!(in alloc; "{key}abcdefgh")?.as_str())?, "{key}");
-        assert!(rt; !are_read(alloc, format!(in alloc; "{key}abcdefghi")?.as_str())?, "{key}");
+        assert!(rt;
+            are_read(alloc, format!(in alloc; "{key}abcdefgh")?.as_str())?,
+            "{key}"
+        );
+        assert!(rt;
+            !are_read(alloc, format!(in alloc; "{key}abcdefghi")?.as_str())?,
+            "{key}"
+        );
     }
     Ok(())
 }

@@ -4,7 +4,7 @@ ghost use Rattle.std.specs.Prelude.{◌≤◌};
 use sms_base::{
     Failed, MemSink, MemSource, ReadEnd, Sink, Source, StdSink, StdSource, read_all, write_all,
 };
-use std::alloc::Global;
+use std::alloc::{AllocError, Global};
 use std::io::{Cursor, Error, ErrorKind, Read};
 use std::process::Abort;
 use std::test::Fail;
@@ -145,11 +145,21 @@ impl Read for BrokenReader {
     }
 }
 
+/// A text of 120,000 bytes.
+fn long_text(alloc: Global) -> Result<Vec<u8>, AllocError> {
+    let mut text = Vec::new(alloc);
+    for _ in 0..10_000u32 {
+        text.extend_from_slice(TEXT)?;
+    }
+    Ok(text)
+}
+
 #[test]
 fn a_real_reader_is_read_to_its_end(rt: HostRuntime) -> Result<(), Fail> {
-    let mut source = StdSource::new(TEXT.as_slice());
-    let bytes = read_all(rt.alloc(), &mut source, 12)?;
-    assert_eq!(rt; bytes.as_slice(), TEXT.as_slice());
+    let text = long_text(rt.alloc())?;
+    let mut source = StdSource::new(text.as_slice());
+    let bytes = read_all(rt.alloc(), &mut source, text.len())?;
+    assert_eq!(rt; bytes.as_slice(), text.as_slice());
     Ok(())
 }
 
@@ -164,10 +174,11 @@ fn an_error_of_a_real_reader_is_a_fault(rt: HostRuntime) -> Result<(), Fail> {
 
 #[test]
 fn a_real_writer_gets_all_bytes(rt: HostRuntime) -> Result<(), Fail> {
+    let text = long_text(rt.alloc())?;
     let mut device = Vec::new(rt.alloc());
     let mut sink = StdSink::new(&mut device);
-    assert_eq!(rt; write_all(&mut sink, TEXT), Ok(()));
-    assert_eq!(rt; device.as_slice(), TEXT.as_slice());
+    assert_eq!(rt; write_all(&mut sink, &text), Ok(()));
+    assert_eq!(rt; device.as_slice(), text.as_slice());
     Ok(())
 }
 

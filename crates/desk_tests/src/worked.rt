@@ -1,7 +1,6 @@
 //! Worked examples of the desk, from the script to the text of its answers.
-use crate::cases::Case;
 use crate::cases::Deck::Text;
-use crate::cases::{script_of, text_of};
+use crate::cases::{Case, script_of, text_of};
 use crate::running::run;
 use crate::worked_classes::CLASSES;
 use crate::worked_space::SPACE;
@@ -58,7 +57,8 @@ const EITHER: [Case; 2] = [
     ),
 ];
 
-const TWO_VOLUMES: &str = "version = 1\n[storclass.SC1]\n[storgroup.SG1.volume.VOL001]\ntracks = 100\n[storgroup.SG1.volume.VOL002]\ntracks = 100\nstatus = \"QUIALL\"\n[routine]\nstorclass = \"PROC STORCLAS SET &STORCLAS = 'SC1' END\"\nstorgroup = \"PROC STORGRP SET &STORGRP = 'SG1' END\"\n";
+const TWO_VOLUMES: &str =
+    "version = 1\n[storclass.SC1]\n[storgroup.SG1.volume.VOL001]\ntracks = 100\n[storgroup.SG1.volume.VOL002]\ntracks = 100\nstatus = \"QUIALL\"\n[routine]\nstorclass = \"PROC STORCLAS SET &STORCLAS = 'SC1' END\"\nstorgroup = \"PROC STORGRP SET &STORGRP = 'SG1' END\"\n";
 
 #[test]
 fn just_past_the_threshold_either_volume_is_granted(rt: HostRuntime) -> Result<(), Fail> {
