@@ -18,7 +18,8 @@ use Rattle.acs_tree.specs.Comparands.{Comparand, comparand_of}
 use Rattle.acs_tree.specs.Compares.{compares, texts_compare, text_equals, groups_or_null}
 use Rattle.acs_tree.specs.Conditions as conditions
 use Rattle.acs_tree.specs.Conditions.{comparison, cond_step, equals_any, holds}
-use Rattle.acs_tree.specs.VariableValues.{Value, Text, Number, Size, AnyOf, AllOf, Groups, variable_value, index_of}
+use Rattle.acs_tree.specs.Value.{Value, Text, Number, Size, AnyOf, AllOf, Groups}
+use Rattle.acs_tree.specs.Variables.{variable_value, index_of}
 use Rattle.dsn_mask.specs.MaskTest.{is_empty}
 use Rattle.std.specs.List.{list_all}
 use Rattle.std.specs.Prelude.{not}

@@ -17,8 +17,8 @@ use Rattle.acs_tree.specs.Meaning.{first_of, in_turn, writes, Arm}
 use Rattle.acs_tree.specs.Outcome.{nothing, exits}
 use Rattle.acs_tree.specs.Setting.{sets}
 use Rattle.acs_tree.specs.Writing.{line_of}
-use Rattle.acs_tree.specs.Variables.{variable_of}
-use Rattle.acs_tree.specs.VariableValues.{Text, Number, variable_value}
+use Rattle.acs_tree.specs.Variables.{variable_of, variable_value}
+use Rattle.acs_tree.specs.Value.{Text, Number}
 
 -- a request of JOB1 for a data set A.B, on two volumes
 abbrev ab : Input
@@ -57,6 +57,10 @@ past_the_last = refl
 second_field : variable_value (codes "ACCT_JOB") 2 ab no_values ≡ Text (codes "A2")
 unfolding variable_value
 second_field = refl
+
+no_field : variable_value (codes "ACCT_JOB") 0 ab no_values ≡ Text []
+unfolding variable_value
+no_field = refl
 
 always_null : variable_value (codes "LIBNAME") 0 ab no_values ≡ Text []
 unfolding variable_value

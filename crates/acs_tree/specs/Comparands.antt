@@ -19,8 +19,7 @@ use Rattle.acs_tree.specs.declared.variable.VariableKind.{VariableKind}
 use Rattle.acs_tree.specs.declared.variable.VariableKind.TheVariants as kind
 use Rattle.acs_tree.specs.Numbers.{value_of, digits_of, unit_of, kilobytes_in, is_number, is_size, is_fit_number, is_fit_size}
 use Rattle.acs_tree.specs.References.{is_known, is_whole_name}
-use Rattle.acs_tree.specs.VariableValues.{index_of}
-use Rattle.acs_tree.specs.Variables.{variable_of}
+use Rattle.acs_tree.specs.Variables.{index_of, variable_of}
 
 -- what a variable is compared with
 pub data Comparand : Type 0 where

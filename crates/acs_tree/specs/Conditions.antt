@@ -14,7 +14,7 @@ use Rattle.acs_tree.specs.declared.routine.WhenTest.TheVariants.{Any, Holds}
 use Rattle.acs_tree.specs.declared.values.Values.{Values}
 use Rattle.acs_tree.specs.Comparands.{comparand_of}
 use Rattle.acs_tree.specs.Compares.{compares}
-use Rattle.acs_tree.specs.VariableValues.{variable_value, index_of}
+use Rattle.acs_tree.specs.Variables.{variable_value, index_of}
 
 -- what holds or not for an input and the values so far
 abbrev pub Test : Type 0
