@@ -1,3 +1,4 @@
 pub mod CheckNumber
 pub mod Walk
 pub mod Parts
+pub mod Rows

@@ -2,11 +2,10 @@
 // their names.
 ghost use Rattle.std.specs.Prelude.{◌≡◌, ◌<◌, length, map, take, slice_index_or};
 ghost use Rattle.acs_tree.specs.declared.routine.Stmt.{Stmt};
-ghost use Rattle.acs_tree.specs.FilterLists.{is_list, is_list_ref, is_simple_list, is_simple_statement};
+ghost use Rattle.acs_tree.specs.FilterLists.{is_list, is_simple_list, is_simple_statement};
 
 use crate::lists::{is_list_named, is_simple_statement};
-use crate::references::is_known;
-use acs_tree::{Ident, Ref, Stmt};
+use acs_tree::{Ident, Stmt};
 use std::marker::Model;
 
 /// Statements, and of the first of them whether each has simple masks alone, so that the words of a
@@ -47,13 +46,6 @@ impl<'a> Earlier<'a> {
         ensures { result ≡ is_list self.now name.now }
     {
         is_list(self.statements, name)
-    }
-
-    /// Whether it is no variable, but names one of the filter lists, with no index.
-    pub fn is_list_ref(&self, reference: &Ref) -> bool
-        ensures { result ≡ is_list_ref self.now reference.now }
-    {
-        !is_known(reference) && reference.index.is_none() && self.is_list(&reference.name)
     }
 
     /// Whether each filter list of that name has simple masks alone.
