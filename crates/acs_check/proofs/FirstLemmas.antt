@@ -1,7 +1,7 @@
 -- What the walk comes to is the first fault of the routine.
 use Rattle.std.proofs.Common.{◌≡◌, List, [], ◌∷◌, ◌++◌, refl, sym, ◌∙◌, ap, subst, arith, append_assoc, ◌⊎◌, inl, inr}
 use Rattle.std.specs.Prelude.{Option, Some, None}
-use Rattle.desk_common.specs.Exact.{NotBehind, IsFirst}
+use Rattle.desk_common.specs.Exact.{NotBehind}
 use Rattle.desk_common.proofs.ExactLemmas.{first_at_one}
 use Rattle.acs_tree.specs.declared.check_err.CheckErr.{CheckErr}
 use Rattle.acs_tree.specs.declared.kind.Kind.{Kind}

@@ -4,3 +4,4 @@ pub mod FoldLemmas
 pub mod WalkLemmas
 pub mod NodeLemmas
 pub mod FirstLemmas
+pub mod NamedLemmas

@@ -1,3 +1,5 @@
 pub mod CheckNumber
 pub mod Walk
 pub mod Parts
+pub mod Rows
+pub mod Marks

@@ -1,12 +1,13 @@
 // The statements of a routine's body that stand before another, in which filter lists are found by
 // their names.
 ghost use Rattle.std.specs.Prelude.{◌≡◌, ◌<◌, length, map, take, slice_index_or};
+ghost use Rattle.std.specs.List.{list_any};
 ghost use Rattle.acs_tree.specs.declared.routine.Stmt.{Stmt};
-ghost use Rattle.acs_tree.specs.FilterLists.{is_list, is_list_ref, is_simple_list, is_simple_statement};
+ghost use Rattle.acs_tree.specs.FilterLists.{is_list, is_simple_list, list_named};
+ghost use Rattle.acs_check.specs.Marks.{is_list_named, is_simple_statement};
 
 use crate::lists::{is_list_named, is_simple_statement};
-use crate::references::is_known;
-use acs_tree::{Ident, Ref, Stmt};
+use acs_tree::{Ident, Stmt};
 use std::marker::Model;
 
 /// Statements, and of the first of them whether each has simple masks alone, so that the words of a
@@ -27,7 +28,7 @@ impl<'a> Model for Earlier<'a> {
 
     ghost coded = { Prim.hlevel (codes, form.the_row.coded) };
 
-    ghost use Rattle.acs_tree.specs.FilterLists.{is_simple_statement};
+    ghost use Rattle.acs_check.specs.Marks.{is_simple_statement};
 
     ghost view = { λ s. s.statements.now };
 
@@ -43,29 +44,23 @@ impl<'a> Earlier<'a> {
     }
 
     /// Whether one of the statements is a filter list of that name.
+    #[tactic(auto, using(crate::proofs::NamedLemmas::any_is_list))]
     pub fn is_list(&self, name: &Ident) -> bool
         ensures { result ≡ is_list self.now name.now }
     {
         is_list(self.statements, name)
     }
 
-    /// Whether it is no variable, but names one of the filter lists, with no index.
-    pub fn is_list_ref(&self, reference: &Ref) -> bool
-        ensures { result ≡ is_list_ref self.now reference.now }
-    {
-        !is_known(reference) && reference.index.is_none() && self.is_list(&reference.name)
-    }
-
-    /// Whether each filter list of that name has simple masks alone.
+    /// Whether the filter list of that name, if there is one, has simple masks alone.
     pub fn is_simple_list(&self, name: &Ident) -> bool
-        ensures { result ≡ is_simple_list self.now name.now }
+        ensures { result ≡ is_simple_list (list_named self.now name.now) }
     {
         is_simple_list(self.statements, self.marks, name)
     }
 }
 
 fn is_list(statements: &[Stmt], name: &Ident) -> bool
-    ensures { result ≡ is_list statements.now name.now }
+    ensures { result ≡ list_any (is_list_named name.now) statements.now }
 {
     statements
         .iter()
@@ -86,11 +81,11 @@ fn is_marked(statements: &[Stmt], marks: &[bool], index: usize) -> bool
 
 fn is_simple_list(statements: &[Stmt], marks: &[bool], name: &Ident) -> bool
     requires { marks.now ≡ map is_simple_statement (take (length marks.now) statements.now) }
-    ensures { result ≡ is_simple_list statements.now name.now }
+    ensures { result ≡ is_simple_list (list_named statements.now name.now) }
 {
     for index in 0..statements.len() {
-        if is_list_named(name, &statements[index]) && !is_marked(statements, marks, index) {
-            return false;
+        if is_list_named(name, &statements[index]) {
+            return is_marked(statements, marks, index);
         }
     }
     true

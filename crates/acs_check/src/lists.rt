@@ -1,6 +1,7 @@
 // Filter lists and their entries.
 ghost use Rattle.std.specs.Prelude.{◌≡◌};
-ghost use Rattle.acs_tree.specs.FilterLists.{is_mask, is_simple, is_list_named, is_simple_entry, are_simple, is_simple_form, is_simple_statement};
+ghost use Rattle.acs_tree.specs.FilterLists.{is_mask, is_simple, is_simple_entry, are_simple, is_simple_list, list_of};
+ghost use Rattle.acs_check.specs.Marks.{is_list_named, is_simple_statement};
 
 use acs_tree::{Form, Ident, Operand, OperandForm, Stmt};
 use dsn_mask::{Mask, Simple};
@@ -42,7 +43,7 @@ fn are_simple(entries: &[Operand]) -> bool
 }
 
 fn is_simple_form(form: &Form) -> bool
-    ensures { result ≡ is_simple_form form.now }
+    ensures { result ≡ is_simple_list (list_of form.now) }
 {
     match form {
         Form::Filt {

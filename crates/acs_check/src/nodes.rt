@@ -9,12 +9,14 @@ ghost use Rattle.acs_check.specs.Walk.{least, met};
 use crate::check_name::CheckName;
 use crate::earlier::Earlier;
 use crate::first_fault::{matters, note};
+use crate::item::Item;
+use crate::named::Named;
 use crate::operands::{
     is_bad_value, is_exit_code, is_listed, is_misindexed_form, is_misplaced, is_no_entry,
     is_one_too_many, is_plain_unknown, is_read_early, is_too_great, is_unknown, is_unknown_indexed,
     is_unsuited, is_unsuited_value, is_word, token_of,
 };
-use crate::references::{is_counted, is_known, is_misindexed, is_out_of_range, is_set_later};
+use crate::references::{is_counted, is_misindexed, is_out_of_range, is_set_later};
 use acs_tree::{CheckErr, Compare, Ident, Kind, Operand, OperandForm, Ref, Variable};
 
 /// The first fault so far.
@@ -44,45 +46,45 @@ pub fn entry(kind: Kind, before: &Earlier<'_>, count: usize, entry: &Operand, be
 pub fn target(kind: Kind, before: &Earlier<'_>, target: &Ref, best: Best) -> Best
     ensures { result ≡ met kind before.now best (Target target.now) }
 {
-    let known = is_known(target);
-    let foreign = known && target.name.bytes() != kind.name();
-    let best = note(best, CheckName::UnknownVariable, !known, target.at);
+    let row = Variable::named(&target.name);
+    let foreign = row.is_some() && target.name.bytes() != kind.name();
+    let best = note(best, CheckName::UnknownVariable, row.is_none(), target.at);
     let best = note(best, CheckName::NotSettable, foreign, target.at);
     let best = note(
         best,
         CheckName::KindMismatch,
-        is_misindexed(target),
+        is_misindexed(row, &target.index),
         target.at,
     );
     note(
         best,
         CheckName::ValueOutOfRange,
-        is_out_of_range(target),
+        is_out_of_range(row, &target.index),
         target.index_at,
     )
 }
 
-fn range(form: &OperandForm, best: Best) -> Best
-    ensures { result ≡ least best (fault 8 (range_token form.now)) }
+fn range(item: &Item<'_>, best: Best) -> Best
+    ensures { result ≡ least best (fault 8 (range_token item.now.form)) }
 {
-    match form {
+    match item.form() {
         OperandForm::Literal(_) | OperandForm::Word(_) => best,
         OperandForm::Var(reference) => note(
             best,
             CheckName::ValueOutOfRange,
-            is_out_of_range(reference),
+            is_out_of_range(item.row(), &reference.index),
             reference.index_at,
         ),
     }
 }
 
-fn value_range(bad: bool, at: u32, form: &OperandForm, best: Best) -> Best
-    ensures { result ≡ least best (fault 8 (if bad then Some at else range_token form.now)) }
+fn value_range(bad: bool, at: u32, item: &Item<'_>, best: Best) -> Best
+    ensures { result ≡ least best (fault 8 (if bad then Some at else range_token item.now.form)) }
 {
     if bad {
         note(best, CheckName::ValueOutOfRange, true, at)
     } else {
-        range(form, best)
+        range(item, best)
     }
 }
 
@@ -111,44 +113,59 @@ pub fn value(
     ensures { result ≡ met kind lists.now best (Value target.now before.now value.now behind.now) }
 {
     let at = token_of(value);
-    let form = &value.form;
-    let best = note(best, CheckName::UnknownVariable, is_unknown(form), at);
+    let item = Item::new(value);
+    let best = note(best, CheckName::UnknownVariable, is_unknown(&item), at);
     let best = note(
         best,
         CheckName::KindMismatch,
-        is_unsuited_value(target, form),
+        is_unsuited_value(target, &item),
         at,
     );
-    let best = value_range(is_bad_value(before, behind, form), at, form, best);
+    let bad = is_bad_value(before, behind, &value.form);
+    let best = value_range(bad, at, &item, best);
     let best = too_many(target, before, value, best);
-    note(best, CheckName::ReadTooEarly, is_read_early(kind, form), at)
+    note(
+        best,
+        CheckName::ReadTooEarly,
+        is_read_early(kind, &item),
+        at,
+    )
 }
 
 pub fn part(kind: Kind, before: &Earlier<'_>, part: &Operand, best: Best) -> Best
     ensures { result ≡ met kind before.now best (Part part.now) }
 {
     let at = token_of(part);
-    let form = &part.form;
-    let unsuited = is_word(form) || is_misindexed_form(form);
-    let best = note(best, CheckName::UnknownVariable, is_unknown(form), at);
+    let item = Item::new(part);
+    let unsuited = is_word(&part.form) || is_misindexed_form(&item);
+    let best = note(best, CheckName::UnknownVariable, is_unknown(&item), at);
     let best = note(best, CheckName::KindMismatch, unsuited, at);
-    let best = range(form, best);
-    note(best, CheckName::ReadTooEarly, is_read_early(kind, form), at)
+    let best = range(&item, best);
+    note(
+        best,
+        CheckName::ReadTooEarly,
+        is_read_early(kind, &item),
+        at,
+    )
 }
 
-pub fn left(kind: Kind, before: &Earlier<'_>, left: &Ref, best: Best) -> Best
+pub fn left(kind: Kind, before: &Earlier<'_>, left: &Named<'_>, best: Best) -> Best
     ensures { result ≡ met kind before.now best (Left left.now) }
 {
-    let at = left.at;
-    let best = note(best, CheckName::UnknownVariable, !is_known(left), at);
-    let best = note(best, CheckName::KindMismatch, is_misindexed(left), at);
+    let row = left.row();
+    let reference = left.reference();
+    let misindexed = is_misindexed(row, &reference.index);
+    let past = is_out_of_range(row, &reference.index);
+    let early = is_set_later(kind, row);
     let best = note(
         best,
-        CheckName::ValueOutOfRange,
-        is_out_of_range(left),
-        left.index_at,
+        CheckName::UnknownVariable,
+        row.is_none(),
+        reference.at,
     );
-    note(best, CheckName::ReadTooEarly, is_set_later(kind, left), at)
+    let best = note(best, CheckName::KindMismatch, misindexed, reference.at);
+    let best = note(best, CheckName::ValueOutOfRange, past, reference.index_at);
+    note(best, CheckName::ReadTooEarly, early, reference.at)
 }
 
 fn is_order(op: Compare) -> bool
@@ -157,67 +174,81 @@ fn is_order(op: Compare) -> bool
     !matches!(op, Compare::Eq | Compare::Ne)
 }
 
-pub fn order(kind: Kind, before: &Earlier<'_>, left: &Ref, op: Compare, at: u32, best: Best) -> Best
+pub fn order(
+    kind: Kind,
+    before: &Earlier<'_>,
+    left: &Named<'_>,
+    op: Compare,
+    at: u32,
+    best: Best,
+) -> Best
     ensures { result ≡ met kind before.now best (Order left.now op at) }
 {
-    note(
-        best,
-        CheckName::OrderOfTexts,
-        is_order(op) && !is_counted(left),
-        at,
-    )
+    let broken = is_order(op) && !is_counted(left.row());
+    note(best, CheckName::OrderOfTexts, broken, at)
 }
 
 fn misplaced(
     before: &Earlier<'_>,
     listed: bool,
-    left: &Option<Ref>,
-    right: &Operand,
+    left: &Option<Named<'_>>,
+    right: &Item<'_>,
     best: Best,
 ) -> Best
     requires { listed ≡ is_listed before.now right.now.form }
     ensures { result ≡ least best (fault 9 (token_if (is_word_with (is_bad_mask left.now) right.now.form || is_bad_list before.now left.now right.now.form) (token_of right.now))) }
 {
-    let broken = is_misplaced(before, listed, left, &right.form);
-    note(best, CheckName::MaskMisplaced, broken, token_of(right))
+    let broken = is_misplaced(before, listed, left, right);
+    note(
+        best,
+        CheckName::MaskMisplaced,
+        broken,
+        token_of(right.operand()),
+    )
 }
 
 /// An operand and what it is compared with.
 pub fn right(
     kind: Kind,
     before: &Earlier<'_>,
-    left: &Option<Ref>,
+    left: &Option<Named<'_>>,
     right: &Operand,
     best: Best,
 ) -> Best
     ensures { result ≡ met kind before.now best (Right left.now right.now) }
 {
     let at = token_of(right);
-    let form = &right.form;
-    let listed = is_listed(before, form);
+    let item = Item::new(right);
+    let listed = is_listed(before, &item);
+    let unsuited = is_unsuited(listed, left, &item);
     let best = note(
         best,
         CheckName::UnknownVariable,
-        is_unknown_indexed(form),
+        is_unknown_indexed(&item),
         at,
     );
-    let best = unlisted(listed, right, best);
-    let best = note(
+    let best = unlisted(listed, &item, best);
+    let best = note(best, CheckName::KindMismatch, unsuited, at);
+    let best = value_range(is_too_great(left, &right.form), at, &item, best);
+    let best = misplaced(before, listed, left, &item, best);
+    note(
         best,
-        CheckName::KindMismatch,
-        is_unsuited(listed, left, form),
+        CheckName::ReadTooEarly,
+        is_read_early(kind, &item),
         at,
-    );
-    let best = value_range(is_too_great(left, form), at, form, best);
-    let best = misplaced(before, listed, left, right, best);
-    note(best, CheckName::ReadTooEarly, is_read_early(kind, form), at)
+    )
 }
 
-fn unlisted(listed: bool, right: &Operand, best: Best) -> Best
+fn unlisted(listed: bool, right: &Item<'_>, best: Best) -> Best
     ensures { result ≡ least best (fault 4 (token_if (is_plain_unknown right.now.form && not listed) (token_of right.now))) }
 {
-    let broken = is_plain_unknown(&right.form) && !listed;
-    note(best, CheckName::UnknownList, broken, token_of(right))
+    let broken = is_plain_unknown(right) && !listed;
+    note(
+        best,
+        CheckName::UnknownList,
+        broken,
+        token_of(right.operand()),
+    )
 }
 
 pub fn code(kind: Kind, before: &Earlier<'_>, code: &Operand, best: Best) -> Best

@@ -2,19 +2,21 @@
 ghost use Rattle.std.specs.Prelude.{◌≡◌, ◌&&◌, ◌||◌, ◌==◌, not, is_some, is_none, true, length, if◌then◌else◌};
 ghost use Rattle.std.specs.Str.{bytes_eq};
 ghost use Rattle.acs_tree.specs.Numbers.{is_number, is_size, is_fit_number, is_fit_size, is_between};
-ghost use Rattle.acs_tree.specs.FilterLists.{is_mask, is_simple_list};
+ghost use Rattle.acs_tree.specs.FilterLists.{is_mask, is_simple_list, list_named};
 ghost use Rattle.acs_tree.specs.References.{is_known, passes, is_misindexed, is_set_later, takes_masks, is_whole_name, is_number_variable, is_size_variable, is_group_list};
 ghost use Rattle.acs_tree.specs.Suits.{is_listed, is_plain_unknown, takes_simple, token_by, token_of, is_var_with, is_word_with, is_literal_with, is_left_with, suits_text, suits_volumes, suits_number, suits_size, suits_kind, suits, suits_set, is_bad_literal, is_too_great, is_mask_beside, is_bad_mask, is_bad_list, is_among};
 ghost use Rattle.acs_tree.specs.Variables.{variable_of};
 
 use crate::earlier::Earlier;
+use crate::item::Item;
 use crate::lists::{is_mask, is_simple};
+use crate::named::Named;
 use crate::numbers::{is_between, is_fit_number, is_fit_size, is_size};
 use crate::references::{
-    is_group_list, is_known, is_misindexed, is_number_variable, is_set_later, is_size_variable,
-    is_text, takes_masks,
+    is_group_list, is_misindexed, is_number_variable, is_set_later, is_size_variable, is_text,
+    takes_masks,
 };
-use acs_tree::{Ident, Kind, Operand, OperandForm, Ref, Variable, VariableKind, is_number};
+use acs_tree::{Ident, Kind, Operand, OperandForm, Ref, VariableKind, is_number};
 use dsn_mask::{Lit, Name};
 
 /// The token of an operand: of a variable, the variable's.
@@ -27,12 +29,12 @@ pub fn token_of(operand: &Operand) -> u32
     }
 }
 
-fn suits_text(listed: bool, form: &OperandForm) -> bool
-    ensures { result ≡ suits_text listed form.now }
+fn suits_text(listed: bool, item: &Item<'_>) -> bool
+    ensures { result ≡ suits_text listed item.now.form }
 {
-    match form {
+    match item.form() {
         OperandForm::Literal(_) | OperandForm::Word(_) => true,
-        OperandForm::Var(reference) => listed || is_text(reference),
+        OperandForm::Var(_) => listed || is_text(item.row()),
     }
 }
 
@@ -45,133 +47,135 @@ fn suits_volumes(listed: bool, form: &OperandForm) -> bool
     }
 }
 
-fn suits_number(form: &OperandForm) -> bool
-    ensures { result ≡ suits_number form.now }
+fn suits_number(item: &Item<'_>) -> bool
+    ensures { result ≡ suits_number item.now.form }
 {
-    match form {
+    match item.form() {
         OperandForm::Literal(_) => false,
         OperandForm::Word(word) => is_number(word.bytes()),
-        OperandForm::Var(reference) => is_number_variable(reference),
+        OperandForm::Var(_) => is_number_variable(item.row()),
     }
 }
 
-fn suits_size(form: &OperandForm) -> bool
-    ensures { result ≡ suits_size form.now }
+fn suits_size(item: &Item<'_>) -> bool
+    ensures { result ≡ suits_size item.now.form }
 {
-    match form {
+    match item.form() {
         OperandForm::Literal(_) => false,
         OperandForm::Word(word) => is_size(word.bytes()),
-        OperandForm::Var(reference) => is_size_variable(reference),
+        OperandForm::Var(_) => is_size_variable(item.row()),
     }
 }
 
-fn suits_kind(listed: bool, form: &OperandForm, kind: VariableKind) -> bool
-    ensures { result ≡ suits_kind listed form.now kind }
+fn suits_kind(listed: bool, item: &Item<'_>, kind: VariableKind) -> bool
+    ensures { result ≡ suits_kind listed item.now.form kind }
 {
     match kind {
-        VariableKind::Text | VariableKind::Groups => suits_text(listed, form),
-        VariableKind::Volumes => suits_volumes(listed, form),
-        VariableKind::Number => suits_number(form),
-        VariableKind::Size => suits_size(form),
+        VariableKind::Text | VariableKind::Groups => suits_text(listed, item),
+        VariableKind::Volumes => suits_volumes(listed, item.form()),
+        VariableKind::Number => suits_number(item),
+        VariableKind::Size => suits_size(item),
     }
 }
 
-fn suits_variable(listed: bool, left: &Ref, form: &OperandForm) -> bool
-    ensures { result ≡ passes (λ variable. suits_kind listed form.now variable.kind) (variable_of left.now.name) }
+fn suits_variable(listed: bool, left: &Named<'_>, item: &Item<'_>) -> bool
+    ensures { result ≡ passes (λ variable. suits_kind listed item.now.form variable.kind) (variable_of left.now.name) }
 {
-    match Variable::named(&left.name) {
+    match left.row() {
         None => false,
-        Some(variable) => suits_kind(listed, form, variable.kind),
+        Some(variable) => suits_kind(listed, item, variable.kind),
     }
 }
 
-fn suits(listed: bool, left: &Option<Ref>, form: &OperandForm) -> bool
-    ensures { result ≡ suits listed left.now form.now }
+fn suits(listed: bool, left: &Option<Named<'_>>, item: &Item<'_>) -> bool
+    ensures { result ≡ suits listed left.now item.now.form }
 {
     match left {
         None => false,
-        Some(left) => suits_variable(listed, left, form),
+        Some(left) => suits_variable(listed, left, item),
     }
 }
 
-fn suits_set(target: &Ref, form: &OperandForm) -> bool
-    ensures { result ≡ suits_set target.now form.now }
+fn suits_set(target: &Ref, item: &Item<'_>) -> bool
+    ensures { result ≡ suits_set target.now item.now.form }
 {
-    match form {
+    match item.form() {
         OperandForm::Literal(_) => true,
         OperandForm::Word(_) => false,
-        OperandForm::Var(reference) => !is_group_list(target) && is_text(reference),
+        OperandForm::Var(_) => !is_group_list(target) && is_text(item.row()),
     }
 }
 
-pub fn is_unknown(form: &OperandForm) -> bool
-    ensures { result ≡ is_var_with (λ ref. not (is_known ref)) form.now }
+pub fn is_unknown(item: &Item<'_>) -> bool
+    ensures { result ≡ is_var_with (λ ref. not (is_known ref)) item.now.form }
 {
-    match form {
+    match item.form() {
         OperandForm::Literal(_) | OperandForm::Word(_) => false,
-        OperandForm::Var(reference) => !is_known(reference),
+        OperandForm::Var(_) => item.row().is_none(),
     }
 }
 
-pub fn is_unknown_indexed(form: &OperandForm) -> bool
-    ensures { result ≡ is_var_with (λ ref. not (is_known ref) && is_some ref.index) form.now }
+pub fn is_unknown_indexed(item: &Item<'_>) -> bool
+    ensures { result ≡ is_var_with (λ ref. not (is_known ref) && is_some ref.index) item.now.form }
 {
-    match form {
+    match item.form() {
         OperandForm::Literal(_) | OperandForm::Word(_) => false,
-        OperandForm::Var(reference) => !is_known(reference) && reference.index.is_some(),
+        OperandForm::Var(reference) => item.row().is_none() && reference.index.is_some(),
     }
 }
 
 /// Whether it names an earlier filter list.
-pub fn is_listed(before: &Earlier<'_>, form: &OperandForm) -> bool
-    ensures { result ≡ is_listed before.now form.now }
+pub fn is_listed(before: &Earlier<'_>, item: &Item<'_>) -> bool
+    ensures { result ≡ is_listed before.now item.now.form }
 {
-    match form {
+    match item.form() {
         OperandForm::Literal(_) | OperandForm::Word(_) => false,
-        OperandForm::Var(reference) => before.is_list_ref(reference),
+        OperandForm::Var(reference) => {
+            item.row().is_none() && reference.index.is_none() && before.is_list(&reference.name)
+        }
     }
 }
 
 /// Whether it is a name without an index that is no variable's.
-pub fn is_plain_unknown(form: &OperandForm) -> bool
-    ensures { result ≡ is_plain_unknown form.now }
+pub fn is_plain_unknown(item: &Item<'_>) -> bool
+    ensures { result ≡ is_plain_unknown item.now.form }
 {
-    match form {
+    match item.form() {
         OperandForm::Literal(_) | OperandForm::Word(_) => false,
-        OperandForm::Var(reference) => !is_known(reference) && reference.index.is_none(),
+        OperandForm::Var(reference) => item.row().is_none() && reference.index.is_none(),
     }
 }
 
 /// Whether the variable has an index that it doesn't take, or lacks one.
-pub fn is_misindexed_form(form: &OperandForm) -> bool
-    ensures { result ≡ is_var_with is_misindexed form.now }
+pub fn is_misindexed_form(item: &Item<'_>) -> bool
+    ensures { result ≡ is_var_with is_misindexed item.now.form }
 {
-    match form {
+    match item.form() {
         OperandForm::Literal(_) | OperandForm::Word(_) => false,
-        OperandForm::Var(reference) => is_misindexed(reference),
+        OperandForm::Var(reference) => is_misindexed(item.row(), &reference.index),
     }
 }
 
 /// Whether the operand, which is listed or not, may not be compared with that left side.
-pub fn is_unsuited(listed: bool, left: &Option<Ref>, form: &OperandForm) -> bool
-    ensures { result ≡ (not (suits listed left.now form.now) || is_var_with is_misindexed form.now) }
+pub fn is_unsuited(listed: bool, left: &Option<Named<'_>>, item: &Item<'_>) -> bool
+    ensures { result ≡ (not (suits listed left.now item.now.form) || is_var_with is_misindexed item.now.form) }
 {
-    !suits(listed, left, form) || is_misindexed_form(form)
+    !suits(listed, left, item) || is_misindexed_form(item)
 }
 
 /// Whether the operand may not be a value of a SET.
-pub fn is_unsuited_value(target: &Ref, form: &OperandForm) -> bool
-    ensures { result ≡ (not (suits_set target.now form.now) || is_var_with is_misindexed form.now) }
+pub fn is_unsuited_value(target: &Ref, item: &Item<'_>) -> bool
+    ensures { result ≡ (not (suits_set target.now item.now.form) || is_var_with is_misindexed item.now.form) }
 {
-    !suits_set(target, form) || is_misindexed_form(form)
+    !suits_set(target, item) || is_misindexed_form(item)
 }
 
-pub fn is_read_early(kind: Kind, form: &OperandForm) -> bool
-    ensures { result ≡ is_var_with (is_set_later kind) form.now }
+pub fn is_read_early(kind: Kind, item: &Item<'_>) -> bool
+    ensures { result ≡ is_var_with (is_set_later kind) item.now.form }
 {
-    match form {
+    match item.form() {
         OperandForm::Literal(_) | OperandForm::Word(_) => false,
-        OperandForm::Var(reference) => is_set_later(kind, reference),
+        OperandForm::Var(_) => is_set_later(kind, item.row()),
     }
 }
 
@@ -201,14 +205,14 @@ pub fn is_bad_value(before: &[Operand], behind: &[Operand], form: &OperandForm) 
     }
 }
 
-fn is_great_beside(left: &Ref, word: &[u8]) -> bool
+fn is_great_beside(left: &Named<'_>, word: &[u8]) -> bool
     ensures { result ≡ ((is_number_variable left.now && (is_number word.now && not (is_fit_number word.now))) || (is_size_variable left.now && (is_size word.now && not (is_fit_size word.now)))) }
 {
-    (is_number_variable(left) && is_number(word) && !is_fit_number(word))
-        || (is_size_variable(left) && is_size(word) && !is_fit_size(word))
+    (is_number_variable(left.row()) && is_number(word) && !is_fit_number(word))
+        || (is_size_variable(left.row()) && is_size(word) && !is_fit_size(word))
 }
 
-fn is_great_word(left: &Option<Ref>, word: &[u8]) -> bool
+fn is_great_word(left: &Option<Named<'_>>, word: &[u8]) -> bool
     ensures { result ≡ is_too_great left.now word.now }
 {
     match left {
@@ -218,7 +222,7 @@ fn is_great_word(left: &Option<Ref>, word: &[u8]) -> bool
 }
 
 /// Whether it is a number beside a number, or a size beside a size, that is too great.
-pub fn is_too_great(left: &Option<Ref>, form: &OperandForm) -> bool
+pub fn is_too_great(left: &Option<Named<'_>>, form: &OperandForm) -> bool
     ensures { result ≡ is_word_with (is_too_great left.now) form.now }
 {
     match form {
@@ -227,36 +231,36 @@ pub fn is_too_great(left: &Option<Ref>, form: &OperandForm) -> bool
     }
 }
 
-fn is_mask_beside(left: &Ref, word: &Ident) -> bool
+fn is_mask_beside(left: &Named<'_>, word: &Ident) -> bool
     ensures { result ≡ is_mask_beside left.now word.now }
 {
-    if left.is_whole_name() {
+    if left.reference().is_whole_name() {
         is_mask(word)
     } else {
         is_simple(word)
     }
 }
 
-fn is_bad_mask(left: &Option<Ref>, word: &Ident) -> bool
+fn is_bad_mask(left: &Option<Named<'_>>, word: &Ident) -> bool
     ensures { result ≡ is_bad_mask left.now word.now }
 {
     match left {
         None => false,
-        Some(left) => takes_masks(left) && !is_mask_beside(left, word),
+        Some(left) => takes_masks(left.row()) && !is_mask_beside(left, word),
     }
 }
 
-fn takes_simple(left: &Option<Ref>) -> bool
+fn takes_simple(left: &Option<Named<'_>>) -> bool
     ensures { result ≡ takes_simple left.now }
 {
     match left {
         None => false,
-        Some(left) => takes_masks(left) && !left.is_whole_name(),
+        Some(left) => takes_masks(left.row()) && !left.reference().is_whole_name(),
     }
 }
 
 fn is_mixed(before: &Earlier<'_>, form: &OperandForm) -> bool
-    ensures { result ≡ is_var_with (λ ref. not (is_simple_list before.now ref.name)) form.now }
+    ensures { result ≡ is_var_with (λ ref. not (is_simple_list (list_named before.now ref.name))) form.now }
 {
     match form {
         OperandForm::Literal(_) | OperandForm::Word(_) => false,
@@ -264,7 +268,7 @@ fn is_mixed(before: &Earlier<'_>, form: &OperandForm) -> bool
     }
 }
 
-fn is_bad_word(left: &Option<Ref>, form: &OperandForm) -> bool
+fn is_bad_word(left: &Option<Named<'_>>, form: &OperandForm) -> bool
     ensures { result ≡ is_word_with (is_bad_mask left.now) form.now }
 {
     match form {
@@ -277,13 +281,14 @@ fn is_bad_word(left: &Option<Ref>, form: &OperandForm) -> bool
 pub fn is_misplaced(
     before: &Earlier<'_>,
     listed: bool,
-    left: &Option<Ref>,
-    form: &OperandForm,
+    left: &Option<Named<'_>>,
+    item: &Item<'_>,
 ) -> bool
-    requires { listed ≡ is_listed before.now form.now }
-    ensures { result ≡ (is_word_with (is_bad_mask left.now) form.now || is_bad_list before.now left.now form.now) }
+    requires { listed ≡ is_listed before.now item.now.form }
+    ensures { result ≡ (is_word_with (is_bad_mask left.now) item.now.form || is_bad_list before.now left.now item.now.form) }
 {
-    is_bad_word(left, form) || (listed && takes_simple(left) && is_mixed(before, form))
+    is_bad_word(left, item.form())
+        || (listed && takes_simple(left) && is_mixed(before, item.form()))
 }
 
 /// Whether an entry of a filter list is neither a literal nor a mask.

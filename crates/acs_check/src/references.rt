@@ -1,17 +1,11 @@
-// What the checks ask of a variable (docs/acs-language.md, Variables).
-ghost use Rattle.std.specs.Prelude.{◌≡◌};
+// What the checks ask of a variable by its row of the table, if it has one (docs/acs-language.md, Variables).
+ghost use Rattle.std.specs.Prelude.{◌≡◌, not};
 ghost use Rattle.std.specs.Str.{bytes_eq};
-ghost use Rattle.acs_tree.specs.References.{is_known, passes, is_text_kind, is_number_kind, is_size_kind, is_counted_kind, is_text, is_number_variable, is_size_variable, is_counted, takes_masks, is_group_list, is_misindexed_by, is_misindexed, is_past, is_out_of_range_by, is_out_of_range, is_later, is_set_later};
+ghost use Rattle.acs_tree.specs.References.{passes, is_text_kind, is_number_kind, is_size_kind, is_counted_kind, is_group_list, is_misindexed_by, is_past, is_out_of_range_by, is_later};
 ghost use Rattle.acs_tree.specs.Variables.{name_of, rank_of};
 
 use crate::numbers::is_between;
 use acs_tree::{Ident, Indexing, Kind, Ref, Variable, VariableKind};
-
-pub fn is_known(reference: &Ref) -> bool
-    ensures { result ≡ is_known reference.now }
-{
-    Variable::named(&reference.name).is_some()
-}
 
 fn is_text_kind(kind: VariableKind) -> bool
     ensures { result ≡ is_text_kind kind }
@@ -37,46 +31,46 @@ fn is_counted_kind(kind: VariableKind) -> bool
     is_number_kind(kind) || is_size_kind(kind)
 }
 
-pub fn is_text(reference: &Ref) -> bool
-    ensures { result ≡ is_text reference.now }
+pub fn is_text(row: Option<Variable>) -> bool
+    ensures { result ≡ passes (λ variable. is_text_kind variable.kind) row }
 {
-    match Variable::named(&reference.name) {
+    match row {
         None => false,
         Some(variable) => is_text_kind(variable.kind),
     }
 }
 
-pub fn is_number_variable(reference: &Ref) -> bool
-    ensures { result ≡ is_number_variable reference.now }
+pub fn is_number_variable(row: Option<Variable>) -> bool
+    ensures { result ≡ passes (λ variable. is_number_kind variable.kind) row }
 {
-    match Variable::named(&reference.name) {
+    match row {
         None => false,
         Some(variable) => is_number_kind(variable.kind),
     }
 }
 
-pub fn is_size_variable(reference: &Ref) -> bool
-    ensures { result ≡ is_size_variable reference.now }
+pub fn is_size_variable(row: Option<Variable>) -> bool
+    ensures { result ≡ passes (λ variable. is_size_kind variable.kind) row }
 {
-    match Variable::named(&reference.name) {
+    match row {
         None => false,
         Some(variable) => is_size_kind(variable.kind),
     }
 }
 
-pub fn is_counted(reference: &Ref) -> bool
-    ensures { result ≡ is_counted reference.now }
+pub fn is_counted(row: Option<Variable>) -> bool
+    ensures { result ≡ passes (λ variable. is_counted_kind variable.kind) row }
 {
-    match Variable::named(&reference.name) {
+    match row {
         None => false,
         Some(variable) => is_counted_kind(variable.kind),
     }
 }
 
-pub fn takes_masks(reference: &Ref) -> bool
-    ensures { result ≡ takes_masks reference.now }
+pub fn takes_masks(row: Option<Variable>) -> bool
+    ensures { result ≡ passes (λ variable. not (is_counted_kind variable.kind)) row }
 {
-    match Variable::named(&reference.name) {
+    match row {
         None => false,
         Some(variable) => !is_counted_kind(variable.kind),
     }
@@ -98,12 +92,12 @@ fn is_misindexed_by(indexing: Indexing, index: &Option<Ident>) -> bool
     }
 }
 
-pub fn is_misindexed(reference: &Ref) -> bool
-    ensures { result ≡ is_misindexed reference.now }
+pub fn is_misindexed(row: Option<Variable>, index: &Option<Ident>) -> bool
+    ensures { result ≡ passes (λ variable. is_misindexed_by variable.indexing index.now) row }
 {
-    match Variable::named(&reference.name) {
+    match row {
         None => false,
-        Some(variable) => is_misindexed_by(variable.indexing, &reference.index),
+        Some(variable) => is_misindexed_by(variable.indexing, index),
     }
 }
 
@@ -126,12 +120,12 @@ fn is_out_of_range_by(indexing: Indexing, index: &Option<Ident>) -> bool
     }
 }
 
-pub fn is_out_of_range(reference: &Ref) -> bool
-    ensures { result ≡ is_out_of_range reference.now }
+pub fn is_out_of_range(row: Option<Variable>, index: &Option<Ident>) -> bool
+    ensures { result ≡ passes (λ variable. is_out_of_range_by variable.indexing index.now) row }
 {
-    match Variable::named(&reference.name) {
+    match row {
         None => false,
-        Some(variable) => is_out_of_range_by(variable.indexing, &reference.index),
+        Some(variable) => is_out_of_range_by(variable.indexing, index),
     }
 }
 
@@ -144,10 +138,10 @@ fn is_later(kind: Kind, set_by: Option<Kind>) -> bool
     }
 }
 
-pub fn is_set_later(kind: Kind, reference: &Ref) -> bool
-    ensures { result ≡ is_set_later kind reference.now }
+pub fn is_set_later(kind: Kind, row: Option<Variable>) -> bool
+    ensures { result ≡ passes (λ variable. is_later kind variable.set_by) row }
 {
-    match Variable::named(&reference.name) {
+    match row {
         None => false,
         Some(variable) => is_later(kind, variable.set_by),
     }

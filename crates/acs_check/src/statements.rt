@@ -5,6 +5,7 @@ ghost use Rattle.acs_check.specs.Parts.{nodes_of_block, nodes_of_branch, nodes_o
 ghost use Rattle.acs_check.specs.Walk.{walked};
 
 use crate::earlier::Earlier;
+use crate::named::{Named, subject_of};
 use crate::nodes::{Best, code, entry, left, list_name, order, part, right, target, value};
 use acs_tree::{Compare, Cond, Form, Kind, Operand, Ref, Stmt, When, WhenTest};
 use desk_common::Boxed;
@@ -65,7 +66,7 @@ fn parts(kind: Kind, before: &Earlier<'_>, parts: &[Operand], best: Best) -> Bes
 fn items(
     kind: Kind,
     before: &Earlier<'_>,
-    subject: &Option<Ref>,
+    subject: &Option<Named<'_>>,
     items: &[Operand],
     best: Best,
 ) -> Best
@@ -87,7 +88,7 @@ fn exit_code(kind: Kind, before: &Earlier<'_>, exit: &Option<Operand>, best: Bes
     }
 }
 
-fn subject(kind: Kind, before: &Earlier<'_>, subject: &Option<Ref>, best: Best) -> Best
+fn subject(kind: Kind, before: &Earlier<'_>, subject: &Option<Named<'_>>, best: Best) -> Best
     ensures { result ≡ walked kind before.now best (nodes_of_subject subject.now) }
 {
     match subject {
@@ -129,16 +130,16 @@ fn test(
 ) -> Best
     ensures { result ≡ walked kind before.now best (Left reference.now ∷ Order reference.now op op_at ∷ Right (Some reference.now) operand.now ∷ []) }
 {
-    let best = left(kind, before, reference, best);
-    let best = order(kind, before, reference, op, op_at, best);
-    let compared = Some(*reference);
-    right(kind, before, &compared, operand, best)
+    let compared = Named::new(reference);
+    let best = left(kind, before, &compared, best);
+    let best = order(kind, before, &compared, op, op_at, best);
+    right(kind, before, &Some(compared), operand, best)
 }
 
 fn when_test(
     kind: Kind,
     before: &Earlier<'_>,
-    compared: &Option<Ref>,
+    compared: &Option<Named<'_>>,
     test: &WhenTest,
     best: Best,
 ) -> Best
@@ -182,12 +183,13 @@ pub fn statement(current: &Stmt, kind: Kind, before: &Earlier<'_>, best: Best) -
             optional(otherwise, kind, before, best)
         }
         Form::Pick {
-            subject: compared,
+            subject: reference,
             whens,
             otherwise,
         } => {
-            let best = subject(kind, before, compared, best);
-            let best = branches(whens.as_slice(), compared, kind, before, best);
+            let compared = subject_of(reference);
+            let best = subject(kind, before, &compared, best);
+            let best = branches(whens.as_slice(), &compared, kind, before, best);
             optional(otherwise, kind, before, best)
         }
         Form::Do(body) => block(body.as_slice(), kind, before, best),
@@ -220,7 +222,7 @@ fn block(body: &[Stmt], kind: Kind, before: &Earlier<'_>, best: Best) -> Best
 #[cycle(walk)]
 fn branches(
     whens: &[When],
-    compared: &Option<Ref>,
+    compared: &Option<Named<'_>>,
     kind: Kind,
     before: &Earlier<'_>,
     best: Best,

@@ -2,7 +2,6 @@
 use Rattle.std.proofs.Common.{◌≡◌, ◌≤◌, ◌&&◌, ◌||◌, ℕ, Bool, true, false, List, [], ◌∷◌, length, refl, sym, ap, ◌∙◌, subst}
 use Rattle.std.specs.Prelude.{if◌then◌else◌}
 use Rattle.std.specs.List.{list_any}
-use Rattle.acs_tree.specs.declared.filter_list.FilterList.{FilterList}
 use Rattle.acs_tree.specs.declared.input.Input.{Input}
 use Rattle.acs_tree.specs.declared.kind.Kind.{Kind}
 use Rattle.acs_tree.specs.declared.routine.Compare.{Compare}
@@ -12,19 +11,22 @@ use Rattle.acs_tree.specs.declared.routine.Cond.TheFolds.{fold-roll-Cond}
 use Rattle.acs_tree.specs.declared.routine.Cond.TheVariants.{And, Or, Test, rolls-And, rolls-Or, rolls-Test}
 use Rattle.acs_tree.specs.declared.routine.Operand.{Operand}
 use Rattle.acs_tree.specs.declared.routine.Ref.{Ref}
+use Rattle.acs_tree.specs.declared.routine.Stmt.{Stmt}
 use Rattle.acs_tree.specs.declared.values.Values.{Values}
 use Rattle.acs_tree.specs.Comparands as comparand
 use Rattle.acs_tree.specs.Comparands.{Comparand, comparand_of}
 use Rattle.acs_tree.specs.Compares.{compares, texts_compare, text_equals, groups_or_null}
 use Rattle.acs_tree.specs.Conditions as conditions
 use Rattle.acs_tree.specs.Conditions.{comparison, cond_step, equals_any, holds}
-use Rattle.acs_tree.specs.VariableValues.{Value, Text, Number, Size, AnyOf, AllOf, Groups, variable_value, index_of}
+use Rattle.acs_tree.specs.Value.{Value, Text, Number, Size, AnyOf, AllOf, Groups}
+use Rattle.acs_tree.specs.Variables.{variable_value, index_of}
 use Rattle.dsn_mask.specs.MaskTest.{is_empty}
 use Rattle.std.specs.List.{list_all}
 use Rattle.std.specs.Prelude.{not}
 use Rattle.acs_code.specs.declared.instr.Instr.{Instr}
 use Rattle.acs_code.specs.declared.instr.Instr.TheVariants.{Jump}
-use Rattle.acs_code.specs.Upward.{Branches, filters_of}
+use Rattle.acs_code.specs.Compiled.{filters_of}
+use Rattle.acs_code.specs.Upward.{Branches}
 use Rattle.acs_code.proofs.Pieces.{branch_jump, branch_both, branch_either}
 
 -- a comparison with nothing
@@ -45,7 +47,7 @@ beside_nothing input values op (AnyOf volumes) = ap (texts_compare op) (none_of 
 beside_nothing input values op (AllOf volumes) = ap (texts_compare op) (not_all_of input values volumes)
 beside_nothing input values op (Groups groups) = ap (texts_compare op) (none_of input values (groups_or_null groups))
 
-module _ (kind : Kind) (lists : List FilterList) where
+module _ (kind : Kind) (lists : List Stmt) where
   holds_and : (one two : Cond) → holds lists (And one two) ≡ (λ input values. holds lists one input values && holds lists two input values)
   holds_and one two = ap (holds lists) (sym (rolls-And one two)) ∙ fold-roll-Cond conditions.Test (cond_step lists) (Cond-F.And one two)
 

@@ -6,13 +6,11 @@ use Rattle.std.proofs.lemmas.List.{length-map, append-nil}
 use Rattle.dsn_mask.specs.Filter.{FilterLists}
 use Rattle.acs_tree.specs.declared.ending.Ending.{Ending}
 use Rattle.acs_tree.specs.declared.ending.Ending.TheVariants.{Falls, Exit as ExitWith}
-use Rattle.acs_tree.specs.declared.filter_list.FilterList.{FilterList}
 use Rattle.acs_tree.specs.declared.input.Input.{Input}
 use Rattle.acs_tree.specs.declared.kind.Kind.{Kind}
 use Rattle.acs_tree.specs.declared.routine.Stmt.{Stmt}
 use Rattle.acs_tree.specs.declared.values.Values.{Values}
 use Rattle.acs_tree.specs.CheckedRoutine.{CheckedRoutine}
-use Rattle.acs_tree.specs.Comparands.{lists_of}
 use Rattle.acs_tree.specs.Meaning.{in_turn, meaning}
 use Rattle.acs_tree.specs.Setting.{with_class}
 use Rattle.acs_tree.specs.Outcome.{Outcome, behind, falls, then_do}
@@ -20,7 +18,8 @@ use Rattle.acs_code.specs.declared.instr.Instr.{Instr}
 use Rattle.acs_code.specs.declared.instr.Instr.TheVariants.{Test, Jump, SetClass, SetGroups, Write, Exit}
 use Rattle.acs_code.specs.Machine.{CodeParts, act, part_class, parts_line, probe_holds, run_from, running}
 use Rattle.acs_code.specs.Stands.{Goes, GoesForward, StandsFor}
-use Rattle.acs_code.specs.Upward.{leap, placed, AreBelow, Below, Does, filters_of}
+use Rattle.acs_code.specs.Compiled.{filters_of}
+use Rattle.acs_code.specs.Upward.{leap, placed, AreBelow, Below, Does}
 
 module _ (kind : Kind) (filters : List FilterLists) (input : Input) where
   -- what is to be shown of the rest
@@ -89,9 +88,9 @@ then_falls : (v : Values) (lines : List (List ℕ)) (e : Ending) → let o : Out
 then_falls v lines Falls = ap (λ l. record { values = v; lines = l; ending = Falls }) (append-nil lines)
 then_falls v lines (ExitWith n) = refl
 
-module _ (routine : CheckedRoutine) (code : List Instr) (kind : Kind) (lists : List FilterList) (body : List Stmt) where
+module _ (routine : CheckedRoutine) (code : List Instr) (kind : Kind) (lists : List Stmt) (body : List Stmt) where
   -- the whole code
-  pub stands_all : (made : CodeParts) (rest : List Instr) → kind ≡ routine.kind → body ≡ routine.tree.body → lists ≡ lists_of body → made ≡ record { kind = kind; instrs = map (placed (length code)) code; filters = filters_of lists } → rest ≡ []
+  pub stands_all : (made : CodeParts) (rest : List Instr) → kind ≡ routine.kind → body ≡ routine.tree.body → lists ≡ body → made ≡ record { kind = kind; instrs = map (placed (length code)) code; filters = filters_of lists } → rest ≡ []
       → Does kind (filters_of lists) (in_turn (map (meaning kind lists) body)) rest code → StandsFor made routine
   stands_all made rest ek eb el em er d = record {
     kind = ap (λ (m : CodeParts). m.kind) em ∙ ek;
@@ -99,8 +98,8 @@ module _ (routine : CheckedRoutine) (code : List Instr) (kind : Kind) (lists : L
         let d0 = subst (λ r. Does kind (filters_of lists) (in_turn (map (meaning kind lists) body)) r code) er d in
         let o = in_turn (map (meaning kind lists) body) input values in
         ap (λ m. running m input values) em ∙ same_start kind (filters_of lists) input (length (filters_of lists)) code values (d0.over.below tt) ∙ d0.does input values ∙ then_falls o.values o.lines o.ending
-        ∙ ap (λ ls. in_turn (map (meaning kind ls) body) input values) el ∙ ap (λ k. in_turn (map (meaning k (lists_of body)) body) input values) ek
-        ∙ ap (λ b. in_turn (map (meaning routine.kind (lists_of b)) b) input values) eb;
+        ∙ ap (λ ls. in_turn (map (meaning kind ls) body) input values) el ∙ ap (λ k. in_turn (map (meaning k body) body) input values) ek
+        ∙ ap (λ b. in_turn (map (meaning routine.kind b) b) input values) eb;
   }
 
   pub forward_all : (made : CodeParts) (rest : List Instr) → made ≡ record { kind = kind; instrs = map (placed (length code)) code; filters = filters_of lists } → rest ≡ []

@@ -3,7 +3,6 @@ use Rattle.std.proofs.Common.{◌≡◌, ◌<◌, ◌≤◌, ◌+◌, ℕ, suc, 
 use Rattle.std.specs.Prelude.{option_map}
 use Rattle.std.proofs.Math.Seq.{drop-cons}
 use Rattle.dsn_mask.specs.Filter.{FilterLists}
-use Rattle.acs_tree.specs.declared.filter_list.FilterList.{FilterList}
 use Rattle.acs_tree.specs.declared.input.Input.{Input}
 use Rattle.acs_tree.specs.declared.kind.Kind.{Kind}
 use Rattle.acs_tree.specs.declared.routine.Cond.{Cond}
@@ -25,7 +24,8 @@ use Rattle.acs_code.specs.declared.instr.Instr.{Instr}
 use Rattle.acs_code.specs.declared.part.Part.{Part}
 use Rattle.acs_code.specs.Arms.{arm_of, form_meaning}
 use Rattle.acs_code.specs.Machine.{part_text, parts_text}
-use Rattle.acs_code.specs.Upward.{Branches, Does, Over, filters_of}
+use Rattle.acs_code.specs.Compiled.{filters_of}
+use Rattle.acs_code.specs.Upward.{Branches, Does, Over}
 use Rattle.acs_code.proofs.Pieces.{does_choice, does_then}
 
 -- the parts of a line
@@ -50,7 +50,7 @@ parts_turn operands k operand parts new part input values h is en same whole =
     ∙ append_assoc (parts_text parts input values) (part_text part input values ++ []) rest
     ∙ ap (λ t. parts_text parts input values ++ t) (with_none (part_text part input values) rest ∙ ap (λ t. t ++ rest) same ∙ sym split) ∙ whole
 
-module _ (kind : Kind) (lists : List FilterList) where
+module _ (kind : Kind) (lists : List Stmt) where
   of_form : (s : Stmt) → meaning kind lists s ≡ form_meaning kind lists s.form
   of_form s = fold_out-Stmt Action Action Arm (form_step kind lists) stmt_step (when_step lists) s
 

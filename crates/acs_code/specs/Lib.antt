@@ -1,6 +1,7 @@
 pub mod Machine
 pub mod Stands
 pub mod Upward
+pub mod Compiled
 pub mod Arms
 pub mod Digits
 pub mod Rights

@@ -12,7 +12,8 @@ use Rattle.acs_tree.specs.Compares.{compares}
 use Rattle.acs_tree.specs.Setting.{as_class, text_of, with_class}
 use Rattle.acs_tree.specs.Writing.{printed}
 use Rattle.acs_tree.specs.Outcome.{Outcome, behind, exits, falls}
-use Rattle.acs_tree.specs.VariableValues.{Value, variable_value}
+use Rattle.acs_tree.specs.Value.{Value}
+use Rattle.acs_tree.specs.Variables.{variable_value}
 use Rattle.acs_code.specs.declared.instr.Instr.{Instr}
 use Rattle.acs_code.specs.declared.instr.Instr.TheVariants.{Test, Jump, SetClass, SetGroups, Write, Exit}
 use Rattle.acs_code.specs.declared.part.Part.{Part}

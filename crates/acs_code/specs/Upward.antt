@@ -1,7 +1,6 @@
 -- Code that is written from its end: a place is told by how many instructions stand from there to the end, which no instruction written later in front changes.
 use Rattle.std.specs.Prelude.{◌≡◌, ◌-◌, ◌≤◌, ℕ, List, [], ◌∷◌, length, nat_lt, if◌then◌else◌}
 use Rattle.dsn_mask.specs.Filter.{FilterLists}
-use Rattle.acs_tree.specs.declared.filter_list.FilterList.{FilterList}
 use Rattle.acs_tree.specs.declared.input.Input.{Input}
 use Rattle.acs_tree.specs.declared.kind.Kind.{Kind}
 use Rattle.acs_tree.specs.declared.values.Values.{Values}
@@ -11,11 +10,6 @@ use Rattle.acs_code.specs.declared.instr.Instr.{Instr}
 use Rattle.acs_code.specs.declared.instr.Instr.TheVariants.{Test, Jump, SetClass, SetGroups, Write, Exit}
 use Rattle.acs_code.specs.Machine.{act}
 use Rattle.acs_code.specs.Stands.{IsThere}
-
--- the filter lists as the code has them: each first as it is compared with the whole data set name, and then as with another text
-abbrev pub filters_of : List FilterList → List FilterLists
-filters_of [] = []
-filters_of (list ∷ lists) = list.dotted ∷ list.plain ∷ filters_of lists
 
 -- running where so many instructions are left
 abbrev pub leap : Kind → List FilterLists → Input → ℕ → List Instr → Values → Outcome

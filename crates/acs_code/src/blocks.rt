@@ -5,16 +5,18 @@ ghost use Rattle.acs_tree.specs.Conditions.{holds};
 ghost use Rattle.acs_tree.specs.Meaning.{choice, first_of, in_turn, meaning, perhaps};
 ghost use Rattle.acs_tree.specs.Outcome.{Action};
 ghost use Rattle.acs_code.specs.Arms.{arm_of};
-ghost use Rattle.acs_code.specs.Upward.{Does, filters_of};
+ghost use Rattle.acs_code.specs.Compiled.{filters_of};
+ghost use Rattle.acs_code.specs.Upward.{Does};
 ghost use Rattle.acs_code.specs.declared.instr.Instr.{Instr};
 
 use crate::conditions::{condition, when};
 use crate::fork::Fork;
 use crate::jumps::{exit, jump};
+use crate::lists::Lists;
 use crate::sets::set;
 use crate::upward::Upward;
 use crate::writes::write;
-use acs_tree::{Cond, FilterList, Form, Kind, Ref, Stmt, When};
+use acs_tree::{Cond, Form, Kind, Ref, Stmt, When};
 use desk_common::Boxed;
 use std::alloc::{AllocError, Global};
 
@@ -23,7 +25,7 @@ fn statement(
     alloc: Global,
     code: &mut Upward,
     kind: Kind,
-    lists: &[FilterList],
+    lists: &Lists<'_>,
     stmt: &Stmt,
 ) -> Result<(), AllocError>
     ensures { OnOk result (Does kind (filters_of lists.now) (meaning kind lists.now stmt.now) code.old code.new) }
@@ -61,7 +63,7 @@ pub fn block(
     alloc: Global,
     code: &mut Upward,
     kind: Kind,
-    lists: &[FilterList],
+    lists: &Lists<'_>,
     body: &[Stmt],
 ) -> Result<(), AllocError>
     ensures { OnOk result (Does kind (filters_of lists.now) (in_turn (map (meaning kind lists.now) body.now)) code.old code.new) }
@@ -80,7 +82,7 @@ fn optional(
     alloc: Global,
     code: &mut Upward,
     kind: Kind,
-    lists: &[FilterList],
+    lists: &Lists<'_>,
     otherwise: &Option<Boxed<Stmt>>,
 ) -> Result<(), AllocError>
     ensures { OnOk result (Does kind (filters_of lists.now) (perhaps (option_map (meaning kind lists.now) otherwise.now)) code.old code.new) }
@@ -97,7 +99,7 @@ fn conditional(
     alloc: Global,
     code: &mut Upward,
     kind: Kind,
-    lists: &[FilterList],
+    lists: &Lists<'_>,
     body: &Stmt,
     cond: &Cond,
     end: u64,
@@ -120,7 +122,7 @@ fn branch(
     alloc: Global,
     code: &mut Upward,
     kind: Kind,
-    lists: &[FilterList],
+    lists: &Lists<'_>,
     subject: &Option<Ref>,
     arm: &When,
     behind: u64,
@@ -143,7 +145,7 @@ fn branches(
     alloc: Global,
     code: &mut Upward,
     kind: Kind,
-    lists: &[FilterList],
+    lists: &Lists<'_>,
     subject: &Option<Ref>,
     arms: &[When],
     end: u64,

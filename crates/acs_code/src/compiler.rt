@@ -4,7 +4,7 @@ ghost use Rattle.acs_code.specs.Stands.{GoesForward, StandsFor};
 
 use crate::blocks::block;
 use crate::code::Code;
-use crate::filters::{filters, lists};
+use crate::lists::Lists;
 use crate::upward::Upward;
 use acs_tree::Checked;
 use std::alloc::{AllocError, Global};
@@ -17,10 +17,10 @@ pub fn compile(alloc: Global, checked: &Checked) -> Result<Code, AllocError>
 {
     let kind = checked.kind();
     let body = checked.tree().body.as_slice();
-    let lists = lists(alloc, body)?;
+    let lists = Lists::new(alloc, body)?;
     let mut code = Upward::new(alloc);
-    block(alloc, &mut code, kind, lists.as_slice(), body)?;
+    block(alloc, &mut code, kind, &lists, body)?;
     let instrs = code.finish(alloc)?;
-    let filters = filters(alloc, lists)?;
+    let filters = lists.filters(alloc)?;
     Ok(Code::seal(kind, instrs, filters))
 }

@@ -2,22 +2,24 @@
 ghost use Rattle.std.specs.Prelude.{◌≤◌, ◌≡◌, false, length, if◌then◌else◌, OnOk};
 ghost use Rattle.acs_tree.specs.Compares.{texts_compare};
 ghost use Rattle.acs_tree.specs.Conditions.{comparison, equals_any, holds, when_holds};
-ghost use Rattle.acs_code.specs.Upward.{Branches, filters_of};
+ghost use Rattle.acs_code.specs.Compiled.{filters_of};
+ghost use Rattle.acs_code.specs.Upward.{Branches};
 
 use crate::fork::Fork;
 use crate::instr::Instr;
+use crate::lists::Lists;
 use crate::parts::slot;
 use crate::probe::Probe;
 use crate::rights::right;
 use crate::upward::Upward;
-use acs_tree::{Compare, Cond, FilterList, Kind, Operand, Ref, WhenTest};
+use acs_tree::{Compare, Cond, Kind, Operand, Ref, WhenTest};
 use std::alloc::AllocError;
 
 /// What a WHEN asks, in a SELECT of a variable or of none.
 pub fn when(
     code: &mut Upward,
     kind: Kind,
-    lists: &[FilterList],
+    lists: &Lists<'_>,
     subject: &Option<Ref>,
     test: &WhenTest,
     fork: Fork,
@@ -38,7 +40,7 @@ pub fn when(
 pub fn condition(
     code: &mut Upward,
     kind: Kind,
-    lists: &[FilterList],
+    lists: &Lists<'_>,
     cond: &Cond,
     fork: Fork,
 ) -> Result<(), AllocError>
@@ -76,7 +78,7 @@ pub fn condition(
 fn items(
     code: &mut Upward,
     kind: Kind,
-    lists: &[FilterList],
+    lists: &Lists<'_>,
     subject: &Ref,
     items: &[Operand],
     fork: Fork,
@@ -102,7 +104,7 @@ fn items(
 fn comparison(
     code: &mut Upward,
     kind: Kind,
-    lists: &[FilterList],
+    lists: &Lists<'_>,
     left: &Ref,
     op: Compare,
     operand: &Operand,

@@ -1,20 +1,22 @@
-// The filter lists of a routine.
-ghost use Rattle.std.specs.Prelude.{◌≡◌, ◌++◌, [], true, false, IfOk, OnOk};
+// From filter lists to what is searched.
+ghost use Rattle.std.specs.Prelude.{◌≡◌, ◌++◌, [], map, IfOk, OnOk};
+ghost use Rattle.std.specs.List.{cons_option};
 ghost use Rattle.std.specs.Option.{option_map};
 ghost use Rattle.dsn_mask.specs.MaskText.{mask_of, simple_of};
 ghost use Rattle.dsn_mask.specs.declared.entry.Entry.TheVariants.{Dots, Plain};
-ghost use Rattle.acs_code.specs.Upward.{filters_of};
-ghost use Rattle.acs_tree.specs.Comparands.{entries_of, entry_of, filter_of, lists_of, with_list};
+ghost use Rattle.acs_code.specs.Compiled.{compiled, compiled_in};
+ghost use Rattle.acs_tree.specs.Comparands.{entries_of, entry_of};
+ghost use Rattle.acs_tree.specs.FilterLists.{list_of};
 
-use crate::instr::Filters;
-use acs_tree::{FilterList, Form, Ident, Operand, OperandForm, Stmt};
+use crate::compiled_list::CompiledList;
+use acs_tree::{Form, Ident, Operand, OperandForm, Stmt};
 use desk_common::Items;
 use dsn_mask::{Entry, FilterIndex, Mask, Simple};
 use std::alloc::{AllocError, Global};
 
-/// The filter lists that stand directly in a body, in their order.
-pub fn lists(alloc: Global, body: &[Stmt]) -> Result<Vec<FilterList>, AllocError>
-    ensures { IfOk result (λ lists. lists.items ≡ lists_of body.now) }
+/// The filter lists that stand directly in a body, compiled, in their order.
+pub fn compiled(alloc: Global, body: &[Stmt]) -> Result<Vec<CompiledList>, AllocError>
+    ensures { IfOk result (λ lists. lists.items ≡ compiled_in body.now) }
 {
     let mut lists = Vec::new(alloc);
     for stmt in body {
@@ -23,8 +25,8 @@ pub fn lists(alloc: Global, body: &[Stmt]) -> Result<Vec<FilterList>, AllocError
     Ok(lists)
 }
 
-fn add_list(alloc: Global, lists: &mut Vec<FilterList>, form: &Form) -> Result<(), AllocError>
-    ensures { OnOk result (lists.new.items ≡ lists.old.items ++ with_list form.now []) }
+fn add_list(alloc: Global, lists: &mut Vec<CompiledList>, form: &Form) -> Result<(), AllocError>
+    ensures { OnOk result (lists.new.items ≡ lists.old.items ++ map compiled (cons_option (list_of form.now) [])) }
 {
     match form {
         Form::Filt {
@@ -45,10 +47,10 @@ fn list(
     name: Ident,
     include: &[Operand],
     exclude: &[Operand],
-) -> Result<FilterList, AllocError>
-    ensures { IfOk result (λ list. list ≡ record { name = name; dotted = filter_of true include.now exclude.now; plain = filter_of false include.now exclude.now }) }
+) -> Result<CompiledList, AllocError>
+    ensures { IfOk result (λ list. list ≡ compiled (record { name = name; include = include.now; exclude = exclude.now })) }
 {
-    Ok(FilterList {
+    Ok(CompiledList {
         name,
         dotted: filter(alloc, true, include, exclude)?,
         plain: filter(alloc, false, include, exclude)?,
@@ -61,7 +63,7 @@ fn filter(
     include: &[Operand],
     exclude: &[Operand],
 ) -> Result<FilterIndex, AllocError>
-    ensures { IfOk result (λ index. index ≡ filter_of whole include.now exclude.now) }
+    ensures { IfOk result (λ index. index ≡ record { include = entries_of whole include.now; exclude = entries_of whole exclude.now }) }
 {
     let include = entries(alloc, whole, include)?;
     let exclude = entries(alloc, whole, exclude)?;
@@ -107,17 +109,4 @@ fn plain(word: &Ident) -> Option<Entry>
         Ok(simple) => Some(Entry::Plain(simple)),
         Err(_) => None,
     }
-}
-
-/// The filters of the lists: of each first the one for the whole data set name, and then the other.
-pub fn filters(alloc: Global, lists: Vec<FilterList>) -> Result<Filters, AllocError>
-    ensures { IfOk result (λ filters. filters ≡ filters_of lists.items) }
-{
-    let mut filters = Items::new(alloc);
-    for list in lists {
-        let FilterList { dotted, plain, .. } = list;
-        filters.push(dotted)?;
-        filters.push(plain)?;
-    }
-    Ok(filters)
 }

@@ -3,12 +3,14 @@
 
 mod blocks;
 mod code;
+mod compiled_list;
 mod compiler;
 mod conditions;
 mod filters;
 mod fork;
 mod instr;
 mod jumps;
+mod lists;
 mod numbers;
 mod part;
 mod parts;

@@ -2,7 +2,7 @@
 ghost use Rattle.std.specs.Prelude.{◌≡◌};
 ghost use Rattle.acs_tree.specs.Comparands.{number_of, size_of};
 ghost use Rattle.acs_tree.specs.Meaning.{code_from};
-ghost use Rattle.acs_tree.specs.VariableValues.{index_of};
+ghost use Rattle.acs_tree.specs.Variables.{index_of};
 ghost use Rattle.acs_code.specs.Digits.{fit_value};
 
 use acs_tree::{Ident, OperandForm, is_number, kilobytes_in};

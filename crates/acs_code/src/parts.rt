@@ -2,7 +2,7 @@
 ghost use Rattle.std.specs.Prelude.{◌≡◌, []};
 ghost use Rattle.acs_tree.specs.Setting.{class_from};
 ghost use Rattle.acs_tree.specs.Writing.{written};
-ghost use Rattle.acs_tree.specs.VariableValues.{index_of};
+ghost use Rattle.acs_tree.specs.Variables.{index_of};
 ghost use Rattle.acs_tree.specs.declared.input.Input.{Input};
 ghost use Rattle.acs_tree.specs.declared.values.Values.{Values};
 ghost use Rattle.acs_code.specs.Machine.{part_class, part_text};

@@ -1,21 +1,23 @@
 // The right side of a comparison.
-ghost use Rattle.std.specs.Prelude.{◌≡◌, ◌<◌, ◌^◌, List, MatchOption};
+ghost use Rattle.std.specs.Prelude.{List};
 ghost use Rattle.dsn_mask.specs.MaskText.{mask_of, simple_of};
 ghost use Rattle.dsn_mask.specs.Filter.{FilterLists};
-ghost use Rattle.acs_tree.specs.Comparands.{Dots, Number, Plain, comparand_of, comparand_or, list_named, mask_comparand, name_comparand, word_beside, word_comparand};
+ghost use Rattle.acs_tree.specs.Comparands.{Dots, Number, Plain, comparand_of, comparand_or, list_comparand, mask_comparand, name_comparand, word_beside, word_comparand};
 ghost use Rattle.acs_tree.specs.References.{is_whole_name};
 ghost use Rattle.acs_tree.specs.Variables.{variable_of};
-ghost use Rattle.acs_code.specs.Rights.{filter_place, IsNoList, IsPlaceOf, IsRightIfAny};
-ghost use Rattle.acs_code.specs.Upward.{filters_of};
+ghost use Rattle.acs_tree.specs.FilterLists.{list_named};
+ghost use Rattle.acs_code.specs.Compiled.{filters_of};
+ghost use Rattle.acs_code.specs.Rights.{IsRightIfAny};
 
+use crate::lists::Lists;
 use crate::numbers::{number, size};
 use crate::parts::slot;
 use crate::right::Right;
-use acs_tree::{FilterList, Ident, Operand, OperandForm, Ref, Variable, VariableKind};
+use acs_tree::{Ident, Operand, OperandForm, Ref, Variable, VariableKind};
 use dsn_mask::{Mask, Simple};
 
 /// What an operand is beside a variable, if it is something that the variable can be compared with.
-pub fn right(lists: &[FilterList], left: &Ref, operand: &Operand) -> Option<Right>
+pub fn right(lists: &Lists<'_>, left: &Ref, operand: &Operand) -> Option<Right>
     ensures { IsRightIfAny (filters_of lists.now) (comparand_of lists.now left.now operand.now) result }
 {
     match &operand.form {
@@ -77,7 +79,7 @@ fn plain(word: &Ident) -> Option<Right>
     }
 }
 
-fn name_right(lists: &[FilterList], whole: bool, reference: &Ref) -> Option<Right>
+fn name_right(lists: &Lists<'_>, whole: bool, reference: &Ref) -> Option<Right>
     ensures { IsRightIfAny (filters_of lists.now) (name_comparand lists.now whole reference.now) result }
 {
     match Variable::named(&reference.name) {
@@ -86,30 +88,11 @@ fn name_right(lists: &[FilterList], whole: bool, reference: &Ref) -> Option<Righ
     }
 }
 
-fn list_right(lists: &[FilterList], whole: bool, name: &Ident) -> Option<Right>
-    ensures { IsRightIfAny (filters_of lists.now) (list_named whole lists.now name.now) result }
+fn list_right(lists: &Lists<'_>, whole: bool, name: &Ident) -> Option<Right>
+    ensures { IsRightIfAny (filters_of lists.now) (list_comparand whole (list_named lists.now name.now)) result }
 {
-    match list_place(lists, name) {
+    match lists.filter_place(whole, name) {
         None => None,
-        Some(place) => Some(Right::Filter(filter_place(whole, place))),
+        Some(place) => Some(Right::Filter(place)),
     }
-}
-
-fn filter_place(whole: bool, place: u64) -> u64
-    requires { place < 2 ^ 62 }
-    ensures { result ≡ filter_place whole place }
-{
-    if whole { 2 * place } else { 2 * place + 1 }
-}
-
-/// The place of the list of that name.
-fn list_place(lists: &[FilterList], name: &Ident) -> Option<u64>
-    ensures { MatchOption result (IsNoList lists.now name.now) (IsPlaceOf lists.now name.now) }
-{
-    for place in 0..lists.len() {
-        if lists[place].name == *name {
-            return Some(place as u64);
-        }
-    }
-    None
 }

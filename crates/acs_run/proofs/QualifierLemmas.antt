@@ -1,12 +1,12 @@
 -- Each qualifier of a data set name is a short text.
-use Rattle.std.proofs.Common.{◌≡◌, ◌≤◌, ◌<◌, ◌-◌, ◌⊎◌, inl, inr, ℕ, zero, suc, true, List, [], ◌∷◌, length, sym, ap, subst, arith}
-use Rattle.std.specs.Prelude.{All, Some, slice_get, slice_index_or}
+use Rattle.std.proofs.Common.{◌≡◌, ◌<◌, ◌-◌, ◌⊎◌, inl, inr, ℕ, zero, suc, Bool, true, false, List, [], ◌∷◌, length, refl, sym, ap, subst, arith}
+use Rattle.std.specs.Prelude.{◌==◌, All, Option, Some, None, if◌then◌else◌, slice_get, slice_index_or}
 use Rattle.std.proofs.lemmas.Bool.Decides.{nat_tests}
 use Rattle.std.proofs.lemmas.Option.{slice_get_past}
 use Rattle.dsn_mask.specs.DataSetName.{IsDataSetName, IsQualifier, is_qualifier_byte}
 use Rattle.dsn_mask.specs.Name.{IsShort, is_short_byte}
 use Rattle.dsn_mask.specs.Qualifiers.{qualifiers_of}
-use Rattle.acs_tree.specs.VariableValues.{or_null, text_at}
+use Rattle.acs_tree.specs.Value.{or_null, text_at}
 
 byte_is_short : (b : ℕ) → is_qualifier_byte b ≡ true → is_short_byte b ≡ true
 byte_is_short b e = grind (arith, nat_tests)
@@ -22,6 +22,10 @@ one_of (first ∷ qs) (suc k) q all e = one_of qs k q (λ n d h. all (suc n) d (
 pub qualifier_is_short : (dsn : List ℕ) (k : ℕ) (q : List ℕ) → IsDataSetName dsn → slice_get (qualifiers_of dsn) k ≡ Some q → IsShort q
 qualifier_is_short dsn k q is e = short_of q (one_of (qualifiers_of dsn) k q is.1 e)
 
-pub no_qualifier : (qs : List (List ℕ)) (number : ℕ) → 1 ≤ number → (number ≡ 0) ⊎ (length qs < number) → [] ≡ text_at qs number
-no_qualifier qs number some (inl e) = absurd (omega (arith, some, e))
-no_qualifier qs number some (inr past) = ap or_null (sym (slice_get_past qs (number - 1) (omega (arith, past))))
+at_none : (b : Bool) (found : Option (List ℕ)) → found ≡ None → [] ≡ (if b then [] else or_null found)
+at_none true found e = refl
+at_none false found e = ap or_null (sym e)
+
+pub no_qualifier : (qs : List (List ℕ)) (number : ℕ) → (number ≡ 0) ⊎ (length qs < number) → [] ≡ text_at qs number
+no_qualifier qs number (inl e) = rw e refl
+no_qualifier qs number (inr past) = at_none (number == 0) (slice_get qs (number - 1)) (slice_get_past qs (number - 1) (omega (arith, past)))

@@ -1,9 +1,10 @@
 -- A value as the meaning of a routine sees it.
-use Rattle.std.specs.Prelude.{◌++◌, ℕ, Bool, false, List, Option, Some, None}
+use Rattle.std.specs.Prelude.{ℕ, Bool, false, List, Option, Some, None, drop, map, take}
 use Rattle.dsn_mask.specs.Filter.{FilterLists, passes_filter}
 use Rattle.acs_tree.specs.declared.input.Input.{Input}
 use Rattle.acs_tree.specs.declared.values.Values.{Values}
-use Rattle.acs_tree.specs.VariableValues.{Value, ValueRow, Text, Number, Size, AnyOf, AllOf, Groups, accounting_rows, attribute_rows, default_rows, environment_rows, number_rows, origin_rows, size_rows, volume_rows}
+use Rattle.acs_tree.specs.Value.{Value, Text, Number, Size, AnyOf, AllOf, Groups}
+use Rattle.acs_tree.specs.Variables.{Row, look_up, variables}
 use Rattle.acs_run.specs.declared.value.Value.{Value as Held}
 use Rattle.acs_run.specs.declared.value.Value.TheVariants as held
 
@@ -16,27 +17,69 @@ seen input values held.AnyVolume = AnyOf input.volumes
 seen input values held.AllVolumes = AllOf input.volumes
 seen input values held.StorageGroups = Groups values.groups
 
--- some of the rows of what the request gives
-abbrev pub text_rows : Input → ℕ → List ValueRow
-text_rows input index =
-    accounting_rows input.accounting index ++ (
-    environment_rows input.environment ++
-    default_rows input.defaults)
+-- what is held under a name in some rows of the table of variables
+abbrev pub held_in : List Row → List ℕ → ℕ → Input → Values → Option Value
+held_in rows name index input values = look_up (map {B = List ℕ × Value} (λ (row : Row). (row.0, row.1.value index input values)) rows) name
 
--- some more of them
-abbrev pub given_rows : Input → ℕ → List ValueRow
-given_rows input index =
-    size_rows input.amounts ++ (
-    volume_rows input.volumes ++
-    text_rows input index)
+-- so many rows of the table behind so many others
+abbrev pub rows_behind : ℕ → ℕ → List Row
+rows_behind others count = take count (drop others variables)
 
--- what the request gives, but for its name
-abbrev pub input_rows : Input → ℕ → List ValueRow
-input_rows input index =
-    origin_rows input.origin ++ (
-    attribute_rows input.attributes ++ (
-    number_rows input.amounts ++
-    given_rows input index))
+-- the rows of the data set's name
+abbrev pub name_rows : List Row
+name_rows = rows_behind 0 4
+
+-- the rows of what routines set
+abbrev pub class_rows : List Row
+class_rows = rows_behind 4 4
+
+-- the rows of who asks
+abbrev pub origin_rows : List Row
+origin_rows = rows_behind 8 6
+
+-- the rows of what the data set is to be
+abbrev pub attribute_rows : List Row
+attribute_rows = rows_behind 14 7
+
+-- the rows of numbers
+abbrev pub number_rows : List Row
+number_rows = rows_behind 21 4
+
+-- the rows of sizes
+abbrev pub size_rows : List Row
+size_rows = rows_behind 25 2
+
+-- the rows of volumes
+abbrev pub volume_rows : List Row
+volume_rows = rows_behind 27 3
+
+-- the rows of the accounting
+abbrev pub accounting_rows : List Row
+accounting_rows = rows_behind 30 2
+
+-- the rows of where the routine runs
+abbrev pub environment_rows : List Row
+environment_rows = rows_behind 32 4
+
+-- the rows of the defaults
+abbrev pub default_rows : List Row
+default_rows = rows_behind 36 3
+
+-- the rows of the last three of these
+abbrev pub text_rows : List Row
+text_rows = rows_behind 30 9
+
+-- the rows of the last five
+abbrev pub given_rows : List Row
+given_rows = rows_behind 25 14
+
+-- the rows of what the request gives, but for its name
+abbrev pub input_rows : List Row
+input_rows = rows_behind 8 31
+
+-- the rows of what is always null
+abbrev pub null_rows : List Row
+null_rows = drop 39 variables
 
 -- the text passes the filter list, if there is one
 abbrev pub passes_if_any : List ℕ → Option FilterLists → Bool

@@ -1,8 +1,8 @@
 // Names, volume serials and qualifiers as values.
-ghost use Rattle.std.specs.Prelude.{◌≡◌, ◌≤◌, [], length};
+ghost use Rattle.std.specs.Prelude.{◌≡◌};
 ghost use Rattle.dsn_mask.specs.Name.{IsShort};
 ghost use Rattle.dsn_mask.specs.Qualifiers.{qualifiers_of};
-ghost use Rattle.acs_tree.specs.VariableValues.{text_at};
+ghost use Rattle.acs_tree.specs.Value.{text_at};
 
 use dsn_mask::{Dsn, Name, Short, Volser};
 
@@ -27,23 +27,11 @@ pub fn of_volser(volser: &Volser) -> Short
 
 /// The qualifier of that number, counted from 1, or null.
 pub fn qualifier(dsn: &Dsn, number: usize) -> Short
-    requires { 1 ≤ number }
     ensures { result ≡ text_at (qualifiers_of dsn.now) number }
 {
     let _form = dsn.bytes();
     match dsn.qualifier(number) {
         None => Short::null(),
         Some(bytes) => short(bytes),
-    }
-}
-
-pub fn last_qualifier(dsn: &Dsn) -> Short
-    ensures { result ≡ text_at (qualifiers_of dsn.now) (length (qualifiers_of dsn.now)) }
-{
-    let count = dsn.count();
-    if count == 0 {
-        Short::null()
-    } else {
-        qualifier(dsn, count)
     }
 }

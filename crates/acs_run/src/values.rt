@@ -1,18 +1,17 @@
 // The table of variables.
-ghost use Rattle.std.specs.Prelude.{◌≡◌, map};
+ghost use Rattle.std.specs.Prelude.{◌≡◌, ℕ, map};
 ghost use Rattle.std.specs.Option.{option_map};
 ghost use Rattle.acs_code.specs.Machine.{slot_value};
 ghost use Rattle.acs_tree.specs.declared.input.Input.{Input};
 ghost use Rattle.acs_tree.specs.declared.values.Values.{Values};
-ghost use Rattle.acs_tree.specs.VariableValues.{Number, Size, Text, accounting_rows, attribute_rows, default_rows, environment_rows, held_by, name_rows, number_rows, origin_rows, part_of_name, read_write_rows, size_rows, text_at, volume_rows};
-ghost use Rattle.acs_run.specs.Seen.{given_rows, input_rows, seen, text_rows};
+ghost use Rattle.acs_tree.specs.Value.{Number, Size, Text, text_at};
+ghost use Rattle.acs_tree.specs.Variables.{look_up, part_of_name};
+ghost use Rattle.acs_run.specs.Seen.{accounting_rows, attribute_rows, class_rows, default_rows, environment_rows, given_rows, held_in, input_rows, name_rows, number_rows, origin_rows, seen, size_rows, text_rows, volume_rows};
 
-use crate::short::{last_qualifier, qualifier};
+use crate::short::qualifier;
 use crate::value::Value;
 use acs_code::Slot;
-use acs_tree::{
-    Account, Accounting, Amounts, Attributes, Defaults, Environment, Input, Origin, Values,
-};
+use acs_tree::{Account, Input, Values};
 use dsn_mask::{Dsn, Short};
 
 /// What a variable holds.
@@ -20,10 +19,10 @@ pub fn value(slot: &Slot, input: &Input, values: &Values) -> Value
     ensures { seen input.now values.now result ≡ slot_value slot.now input.now values.now }
 {
     let name = slot.name.bytes();
-    if let Some(value) = name_value(&input.dsn, name, slot.index) {
+    if let Some(value) = name_value(input, name, slot.index) {
         return value;
     }
-    if let Some(value) = read_write_value(values, name) {
+    if let Some(value) = class_value(values, name) {
         return value;
     }
     match input_value(input, name, slot.index) {
@@ -33,24 +32,24 @@ pub fn value(slot: &Slot, input: &Input, values: &Values) -> Value
 }
 
 fn input_value(input: &Input, name: &[u8], index: u8) -> Option<Value>
-    ensures { (values : Values) → option_map (seen input.now values) result ≡ held_by (input_rows input.now index) name.now }
+    ensures { (values : Values) → option_map (seen input.now values) result ≡ held_in input_rows name.now index input.now values }
 {
-    if let Some(text) = origin_text(&input.origin, name) {
+    if let Some(text) = origin_text(input, name) {
         return Some(Value::Text(text));
     }
-    if let Some(text) = attribute_text(&input.attributes, name) {
+    if let Some(text) = attribute_text(input, name) {
         return Some(Value::Text(text));
     }
-    if let Some(number) = number(&input.amounts, name) {
+    if let Some(number) = number(input, name) {
         return Some(Value::Number(number));
     }
     given_value(input, name, index)
 }
 
 fn given_value(input: &Input, name: &[u8], index: u8) -> Option<Value>
-    ensures { (values : Values) → option_map (seen input.now values) result ≡ held_by (given_rows input.now index) name.now }
+    ensures { (values : Values) → option_map (seen input.now values) result ≡ held_in given_rows name.now index input.now values }
 {
-    if let Some(kilobytes) = size(&input.amounts, name) {
+    if let Some(kilobytes) = size(input, name) {
         return Some(Value::Size(kilobytes));
     }
     if let Some(value) = volume_value(input, name) {
@@ -60,15 +59,15 @@ fn given_value(input: &Input, name: &[u8], index: u8) -> Option<Value>
 }
 
 fn given_text(input: &Input, name: &[u8], index: u8) -> Option<Value>
-    ensures { (values : Values) → option_map (seen input.now values) result ≡ held_by (text_rows input.now index) name.now }
+    ensures { (values : Values) → option_map (seen input.now values) result ≡ held_in text_rows name.now index input.now values }
 {
-    if let Some(text) = accounting_text(&input.accounting, name, index) {
+    if let Some(text) = accounting_text(input, name, index) {
         return Some(Value::Text(text));
     }
-    if let Some(text) = environment_text(&input.environment, name) {
+    if let Some(text) = environment_text(input, name) {
         return Some(Value::Text(text));
     }
-    match default_text(&input.defaults, name) {
+    match default_text(input, name) {
         Some(text) => Some(Value::Text(text)),
         None => None,
     }
@@ -76,7 +75,7 @@ fn given_text(input: &Input, name: &[u8], index: u8) -> Option<Value>
 
 // The text in the row of that name.
 fn text_in(mut rows: &[(&[u8], &Short)], name: &[u8]) -> Option<Short>
-    ensures { option_map Text result ≡ held_by (map (λ row. (row.0.now, Text row.1.now)) rows.entry.now) name.now }
+    ensures { option_map Text result ≡ look_up (map (λ row. (row.0.now, Text row.1.now)) rows.entry.now) name.now }
 {
     while let [row, rest @ ..] = rows {
         if name == row.0 {
@@ -87,15 +86,16 @@ fn text_in(mut rows: &[(&[u8], &Short)], name: &[u8]) -> Option<Short>
     None
 }
 
-fn name_value(dsn: &Dsn, name: &[u8], index: u8) -> Option<Value>
-    ensures { (input : Input) (values : Values) → option_map (seen input values) result ≡ held_by (name_rows dsn.now index) name.now }
+fn name_value(input: &Input, name: &[u8], index: u8) -> Option<Value>
+    ensures { (values : Values) → option_map (seen input.now values) result ≡ held_in name_rows name.now index input.now values }
 {
+    let dsn = &input.dsn;
     if name == b"DSN".as_slice() {
         Some(Value::Text(part_of_name(dsn, index)))
     } else if name == b"HLQ".as_slice() {
         Some(Value::Text(qualifier(dsn, 1)))
     } else if name == b"LLQ".as_slice() {
-        Some(Value::Text(last_qualifier(dsn)))
+        Some(Value::Text(qualifier(dsn, dsn.count())))
     } else if name == b"NQUAL".as_slice() {
         Some(Value::Number(dsn.count() as u64))
     } else {
@@ -113,8 +113,8 @@ fn part_of_name(dsn: &Dsn, index: u8) -> Short
     }
 }
 
-fn read_write_value(values: &Values, name: &[u8]) -> Option<Value>
-    ensures { (input : Input) → option_map (seen input values.now) result ≡ held_by (read_write_rows values.now) name.now }
+fn class_value(values: &Values, name: &[u8]) -> Option<Value>
+    ensures { (index : ℕ) (input : Input) → option_map (seen input values.now) result ≡ held_in class_rows name.now index input values.now }
 {
     if name == b"DATACLAS".as_slice() {
         Some(Value::Text(values.dataclas))
@@ -129,9 +129,10 @@ fn read_write_value(values: &Values, name: &[u8]) -> Option<Value>
     }
 }
 
-fn origin_text(origin: &Origin, name: &[u8]) -> Option<Short>
-    ensures { option_map Text result ≡ held_by (origin_rows origin.now) name.now }
+fn origin_text(input: &Input, name: &[u8]) -> Option<Short>
+    ensures { (index : ℕ) (values : Values) → option_map Text result ≡ held_in origin_rows name.now index input.now values }
 {
+    let origin = &input.origin;
     let rows: [(&[u8], &Short); 6] = [
         (b"JOB", &origin.job),
         (b"USER", &origin.user),
@@ -143,9 +144,10 @@ fn origin_text(origin: &Origin, name: &[u8]) -> Option<Short>
     text_in(&rows, name)
 }
 
-fn attribute_text(attributes: &Attributes, name: &[u8]) -> Option<Short>
-    ensures { option_map Text result ≡ held_by (attribute_rows attributes.now) name.now }
+fn attribute_text(input: &Input, name: &[u8]) -> Option<Short>
+    ensures { (index : ℕ) (values : Values) → option_map Text result ≡ held_in attribute_rows name.now index input.now values }
 {
+    let attributes = &input.attributes;
     let rows: [(&[u8], &Short); 7] = [
         (b"UNIT", &attributes.unit),
         (b"DSORG", &attributes.dsorg),
@@ -158,13 +160,13 @@ fn attribute_text(attributes: &Attributes, name: &[u8]) -> Option<Short>
     text_in(&rows, name)
 }
 
-fn number(amounts: &Amounts, name: &[u8]) -> Option<u64>
-    ensures { option_map Number result ≡ held_by (number_rows amounts.now) name.now }
+fn number(input: &Input, name: &[u8]) -> Option<u64>
+    ensures { (index : ℕ) (values : Values) → option_map Number result ≡ held_in number_rows name.now index input.now values }
 {
     if name == b"RETPD".as_slice() {
-        Some(amounts.retpd as u64)
+        Some(input.amounts.retpd as u64)
     } else if name == b"BLKSIZE".as_slice() {
-        Some(amounts.blksize as u64)
+        Some(input.amounts.blksize as u64)
     } else if name == b"FILENUM".as_slice() {
         Some(0)
     } else if name == b"MEMNQUAL".as_slice() {
@@ -174,20 +176,20 @@ fn number(amounts: &Amounts, name: &[u8]) -> Option<u64>
     }
 }
 
-fn size(amounts: &Amounts, name: &[u8]) -> Option<u64>
-    ensures { option_map Size result ≡ held_by (size_rows amounts.now) name.now }
+fn size(input: &Input, name: &[u8]) -> Option<u64>
+    ensures { (index : ℕ) (values : Values) → option_map Size result ≡ held_in size_rows name.now index input.now values }
 {
     if name == b"SIZE".as_slice() {
-        Some(amounts.size)
+        Some(input.amounts.size)
     } else if name == b"MAXSIZE".as_slice() {
-        Some(amounts.maxsize)
+        Some(input.amounts.maxsize)
     } else {
         None
     }
 }
 
 fn volume_value(input: &Input, name: &[u8]) -> Option<Value>
-    ensures { (values : Values) → option_map (seen input.now values) result ≡ held_by (volume_rows input.now.volumes) name.now }
+    ensures { (index : ℕ) (values : Values) → option_map (seen input.now values) result ≡ held_in volume_rows name.now index input.now values }
 {
     if name == b"NVOL".as_slice() {
         Some(Value::Number(input.volumes.as_slice().len() as u64))
@@ -200,30 +202,34 @@ fn volume_value(input: &Input, name: &[u8]) -> Option<Value>
     }
 }
 
-fn accounting_text(accounting: &Accounting, name: &[u8], index: u8) -> Option<Short>
-    ensures { option_map Text result ≡ held_by (accounting_rows accounting.now index) name.now }
+fn accounting_text(input: &Input, name: &[u8], index: u8) -> Option<Short>
+    ensures { (values : Values) → option_map Text result ≡ held_in accounting_rows name.now index input.now values }
 {
     if name == b"ACCT_JOB".as_slice() {
-        Some(field(&accounting.acct_job, index))
+        Some(field(&input.accounting.acct_job, index))
     } else if name == b"ACCT_STEP".as_slice() {
-        Some(field(&accounting.acct_step, index))
+        Some(field(&input.accounting.acct_step, index))
     } else {
         None
     }
 }
 
-fn field(account: &Account, index: u8) -> Short
-    ensures { result ≡ text_at account.now index }
+fn field(account: &Account, number: u8) -> Short
+    ensures { result ≡ text_at account.now number }
 {
-    match account.as_slice().get((index as usize).saturating_sub(1)) {
+    if number == 0 {
+        return Short::null();
+    }
+    match account.as_slice().get(number as usize - 1) {
         Some(text) => *text,
         None => Short::null(),
     }
 }
 
-fn environment_text(environment: &Environment, name: &[u8]) -> Option<Short>
-    ensures { option_map Text result ≡ held_by (environment_rows environment.now) name.now }
+fn environment_text(input: &Input, name: &[u8]) -> Option<Short>
+    ensures { (index : ℕ) (values : Values) → option_map Text result ≡ held_in environment_rows name.now index input.now values }
 {
+    let environment = &input.environment;
     let rows: [(&[u8], &Short); 4] = [
         (b"ACSENVIR", &environment.acsenvir),
         (b"XMODE", &environment.xmode),
@@ -233,9 +239,10 @@ fn environment_text(environment: &Environment, name: &[u8]) -> Option<Short>
     text_in(&rows, name)
 }
 
-fn default_text(defaults: &Defaults, name: &[u8]) -> Option<Short>
-    ensures { option_map Text result ≡ held_by (default_rows defaults.now) name.now }
+fn default_text(input: &Input, name: &[u8]) -> Option<Short>
+    ensures { (index : ℕ) (values : Values) → option_map Text result ≡ held_in default_rows name.now index input.now values }
 {
+    let defaults = &input.defaults;
     let rows: [(&[u8], &Short); 3] = [
         (b"DEF_DATACLAS", &defaults.dataclas),
         (b"DEF_STORCLAS", &defaults.storclas),

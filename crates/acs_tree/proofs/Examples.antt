@@ -2,23 +2,24 @@
 use Rattle.std.proofs.Common.{◌≡◌, ℕ, true, false, List, [], ◌∷◌, ◌++◌, refl}
 use Rattle.std.specs.Fmt.{digits}
 use Rattle.std.specs.Prelude.{codes, Some, None, replicate}
-use Rattle.acs_tree.specs.declared.filter_list.FilterList.{FilterList}
 use Rattle.acs_tree.specs.declared.input.Input.{Input}
 use Rattle.acs_tree.specs.declared.routine.Compare.TheVariants.{Eq, Ne, Gt, Lt, Ng, Nl}
 use Rattle.acs_tree.specs.declared.kind.Kind.TheVariants.{StorClas, StorGrp}
+use Rattle.acs_tree.specs.declared.routine.Form.TheVariants.{Filt}
 use Rattle.acs_tree.specs.declared.routine.Operand.{Operand}
 use Rattle.acs_tree.specs.declared.routine.OperandForm.TheVariants.{Literal, Word, Var}
 use Rattle.acs_tree.specs.declared.routine.Ref.{Ref}
+use Rattle.acs_tree.specs.declared.routine.Stmt.{Stmt}
 use Rattle.acs_tree.specs.declared.ending.Ending.TheVariants.{Falls, Exit}
-use Rattle.acs_tree.specs.Comparands.{filter_of, size_of}
+use Rattle.acs_tree.specs.Comparands.{size_of}
 use Rattle.acs_tree.specs.Conditions.{comparison, equals_any}
 use Rattle.acs_tree.specs.Inputs.{bare_input, no_values}
 use Rattle.acs_tree.specs.Meaning.{first_of, in_turn, writes, Arm}
 use Rattle.acs_tree.specs.Outcome.{nothing, exits}
 use Rattle.acs_tree.specs.Setting.{sets}
 use Rattle.acs_tree.specs.Writing.{line_of}
-use Rattle.acs_tree.specs.Variables.{variable_of}
-use Rattle.acs_tree.specs.VariableValues.{Text, Number, variable_value}
+use Rattle.acs_tree.specs.Variables.{variable_of, variable_value}
+use Rattle.acs_tree.specs.Value.{Text, Number}
 
 -- a request of JOB1 for a data set A.B, on two volumes
 abbrev ab : Input
@@ -57,6 +58,10 @@ past_the_last = refl
 second_field : variable_value (codes "ACCT_JOB") 2 ab no_values ≡ Text (codes "A2")
 unfolding variable_value
 second_field = refl
+
+no_field : variable_value (codes "ACCT_JOB") 0 ab no_values ≡ Text []
+unfolding variable_value
+no_field = refl
 
 always_null : variable_value (codes "LIBNAME") 0 ab no_values ≡ Text []
 unfolding variable_value
@@ -102,8 +107,11 @@ exit_ends = refl
 
 -- filter lists
 
-abbrev a_without_b : FilterList
-a_without_b = record { name = codes "F"; dotted = filter_of true (quoted (codes "A") ∷ quoted (codes "B") ∷ []) (quoted (codes "B") ∷ []); plain = filter_of false (quoted (codes "A") ∷ quoted (codes "B") ∷ []) (quoted (codes "B") ∷ []) }
+abbrev list : List ℕ → List Operand → List Operand → Stmt
+list name include exclude = record { at = 0; form = Filt name 0 include exclude }
+
+abbrev a_without_b : Stmt
+a_without_b = list (codes "F") (quoted (codes "A") ∷ quoted (codes "B") ∷ []) (quoted (codes "B") ∷ [])
 
 exclude_wins : comparison (a_without_b ∷ []) (variable (codes "LLQ")) Eq (value (variable (codes "F"))) ab no_values ≡ false
 unfolding variable_value variable_of
@@ -114,7 +122,7 @@ unfolding variable_value variable_of
 included = refl
 
 -- a list of EXCLUDE alone takes every other value
-exclude_alone : comparison (record { name = codes "F"; dotted = filter_of true [] (word (codes "A.**") ∷ []); plain = filter_of false [] [] } ∷ []) (variable (codes "DSN")) Eq (value (variable (codes "F"))) (record ab { dsn = codes "B.A" }) no_values ≡ true
+exclude_alone : comparison (list (codes "F") [] (word (codes "A.**") ∷ []) ∷ []) (variable (codes "DSN")) Eq (value (variable (codes "F"))) (record ab { dsn = codes "B.A" }) no_values ≡ true
 unfolding variable_value variable_of
 exclude_alone = refl
 

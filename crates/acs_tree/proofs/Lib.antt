@@ -3,3 +3,4 @@ pub mod PushLemmas
 pub mod SlateLemmas
 pub mod Examples
 mod NameLemmas
+pub mod TableLemmas

@@ -1,14 +1,10 @@
 -- What stands on the right of a comparison (docs/acs-language.md, Meaning).
 use Rattle.std.specs.Prelude.{◌*◌, ◌&&◌, ℕ, Bool, true, false, List, [], ◌∷◌, Option, Some, None, if◌then◌else◌}
 use Rattle.std.specs.Option.{option_map}
-use Rattle.std.specs.Str.{bytes_eq}
 use Rattle.dsn_mask.specs.Filter.{FilterLists}
 use Rattle.dsn_mask.specs.MaskText.{mask_of, simple_of}
 use Rattle.dsn_mask.specs.declared.entry.Entry.{Entry}
 use Rattle.dsn_mask.specs.declared.entry.Entry.TheVariants as entry
-use Rattle.acs_tree.specs.declared.filter_list.FilterList.{FilterList}
-use Rattle.acs_tree.specs.declared.routine.Form.{Form}
-use Rattle.acs_tree.specs.declared.routine.Form.TheBlock.{Filt}
 use Rattle.acs_tree.specs.declared.routine.Operand.{Operand}
 use Rattle.acs_tree.specs.declared.routine.OperandForm.{OperandForm}
 use Rattle.acs_tree.specs.declared.routine.OperandForm.TheVariants as operand
@@ -17,10 +13,10 @@ use Rattle.acs_tree.specs.declared.routine.Stmt.{Stmt}
 use Rattle.acs_tree.specs.declared.variable.Variable.{Variable}
 use Rattle.acs_tree.specs.declared.variable.VariableKind.{VariableKind}
 use Rattle.acs_tree.specs.declared.variable.VariableKind.TheVariants as kind
+use Rattle.acs_tree.specs.FilterLists.{FilterList, list_named}
 use Rattle.acs_tree.specs.Numbers.{value_of, digits_of, unit_of, kilobytes_in, is_number, is_size, is_fit_number, is_fit_size}
 use Rattle.acs_tree.specs.References.{is_known, is_whole_name}
-use Rattle.acs_tree.specs.VariableValues.{index_of}
-use Rattle.acs_tree.specs.Variables.{variable_of}
+use Rattle.acs_tree.specs.Variables.{index_of, variable_of}
 
 -- what a variable is compared with
 pub data Comparand : Type 0 where
@@ -57,24 +53,9 @@ abbrev pub entries_of : Bool → List Operand → List Entry
 entries_of whole [] = []
 entries_of whole (operand ∷ operands) = with_entry (entry_of whole operand.form) (entries_of whole operands)
 
--- INCLUDE and EXCLUDE
-abbrev pub filter_of : Bool → List Operand → List Operand → FilterLists
-filter_of whole include exclude = record { include = entries_of whole include; exclude = entries_of whole exclude }
-
--- the filter list that a statement is, before others
-abbrev pub with_list : Form → List FilterList → List FilterList
-with_list (Filt name name_at include exclude) lists = record { name = name; dotted = filter_of true include exclude; plain = filter_of false include exclude } ∷ lists
-with_list _ lists = lists
-
--- the filter lists that stand directly in a body
-abbrev pub lists_of : List Stmt → List FilterList
-lists_of [] = []
-lists_of (statement ∷ statements) = with_list statement.form (lists_of statements)
-
--- the filter list of that name, as it is compared with the whole data set name or with another text
-abbrev pub list_named : Bool → List FilterList → List ℕ → Comparand
-list_named whole [] name = Nothing
-list_named whole (list ∷ lists) name = if bytes_eq list.name name then Filter (if whole then list.dotted else list.plain) else list_named whole lists name
+-- a filter list, as it is compared with the whole data set name or with another text
+abbrev pub filter_of : Bool → FilterList → FilterLists
+filter_of whole list = record { include = entries_of whole list.include; exclude = entries_of whole list.exclude }
 
 -- words
 
@@ -113,16 +94,20 @@ abbrev pub word_comparand : Option Variable → Bool → List ℕ → Comparand
 word_comparand None whole word = Nothing
 word_comparand (Some variable) whole word = word_beside variable.kind whole word
 
--- a variable, or the filter list of that name where there is no such variable
-abbrev pub name_comparand : List FilterList → Bool → Ref → Comparand
-name_comparand lists whole ref = if is_known ref then Var ref.name (index_of ref.index) else list_named whole lists ref.name
+-- a filter list, if there is one
+abbrev pub list_comparand : Bool → Option FilterList → Comparand
+list_comparand whole list = comparand_or (λ found. Filter (filter_of whole found)) list
 
--- an operand beside a variable
-abbrev pub form_comparand : List FilterList → Ref → OperandForm → Comparand
-form_comparand lists left (operand.Literal text) = Literal text
-form_comparand lists left (operand.Word word) = word_comparand (variable_of left.name) (is_whole_name left) word
-form_comparand lists left (operand.Var ref) = name_comparand lists (is_whole_name left) ref
+-- a variable, or the filter list of that name where there is no such variable
+abbrev pub name_comparand : List Stmt → Bool → Ref → Comparand
+name_comparand body whole ref = if is_known ref then Var ref.name (index_of ref.index) else list_comparand whole (list_named body ref.name)
+
+-- an operand beside a variable, in a routine of that body
+abbrev pub form_comparand : List Stmt → Ref → OperandForm → Comparand
+form_comparand body left (operand.Literal text) = Literal text
+form_comparand body left (operand.Word word) = word_comparand (variable_of left.name) (is_whole_name left) word
+form_comparand body left (operand.Var ref) = name_comparand body (is_whole_name left) ref
 
 -- the right side of a comparison beside its left side
-abbrev pub comparand_of : List FilterList → Ref → Operand → Comparand
-comparand_of lists left operand = form_comparand lists left operand.form
+abbrev pub comparand_of : List Stmt → Ref → Operand → Comparand
+comparand_of body left operand = form_comparand body left operand.form

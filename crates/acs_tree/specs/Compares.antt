@@ -10,7 +10,8 @@ use Rattle.acs_tree.specs.declared.routine.Compare.TheVariants.{Eq, Ne, Gt, Lt, 
 use Rattle.acs_tree.specs.declared.values.Values.{Values}
 use Rattle.acs_tree.specs.Comparands as comparand
 use Rattle.acs_tree.specs.Comparands.{Comparand}
-use Rattle.acs_tree.specs.VariableValues.{Value, Text, Number, Size, AnyOf, AllOf, Groups, variable_value}
+use Rattle.acs_tree.specs.Value.{Value, Text, Number, Size, AnyOf, AllOf, Groups}
+use Rattle.acs_tree.specs.Variables.{variable_value}
 
 -- texts
 

@@ -1,6 +1,6 @@
--- What the checks ask of filter lists and their words (docs/acs-language.md, Checks).
-use Rattle.std.specs.Prelude.{◌&&◌, ◌||◌, ℕ, Bool, true, false, not, List, is_some, is_none}
-use Rattle.std.specs.List.{list_all, list_any}
+-- Filter lists by their names, and their words (docs/acs-language.md, Filter lists, Checks).
+use Rattle.std.specs.Prelude.{◌&&◌, ℕ, Bool, true, not, List, Option, Some, None, filter_map, find, is_some, is_none}
+use Rattle.std.specs.List.{list_all}
 use Rattle.std.specs.Str.{bytes_eq}
 use Rattle.dsn_mask.specs.MaskText.{mask_of, simple_of}
 use Rattle.acs_tree.specs.declared.routine.Form.{Form}
@@ -20,18 +20,28 @@ is_mask word = is_some (mask_of word)
 abbrev pub is_simple : List ℕ → Bool
 is_simple word = is_some (simple_of word)
 
--- a filter list of that name
-abbrev pub is_list_form : List ℕ → Form → Bool
-is_list_form name (Filt other other_at include exclude) = bytes_eq other name
-is_list_form name _ = false
+-- a filter list: its name and its entries
+pub record FilterList : Type 0 where
+  pub name : List ℕ
+  pub include : List Operand
+  pub exclude : List Operand
 
--- the statement is a filter list of that name
-abbrev pub is_list_named : List ℕ → Stmt → Bool
-is_list_named name statement = is_list_form name statement.form
+-- the filter list that a statement is, if it is one
+abbrev pub list_of : Form → Option FilterList
+list_of (Filt name name_at include exclude) = Some (record { name = name; include = include; exclude = exclude })
+list_of _ = None
+
+-- the filter lists among statements
+abbrev pub lists_in : List Stmt → List FilterList
+lists_in statements = filter_map (λ (statement : Stmt). list_of statement.form) statements
+
+-- the first filter list of that name among statements
+abbrev pub list_named : List Stmt → List ℕ → Option FilterList
+list_named statements name = find (λ (list : FilterList). bytes_eq list.name name) (lists_in statements)
 
 -- one of the statements is a filter list of that name
 abbrev pub is_list : List Stmt → List ℕ → Bool
-is_list before name = list_any (is_list_named name) before
+is_list before name = is_some (list_named before name)
 
 -- no variable, but the name of an earlier filter list, with no index
 abbrev pub is_list_ref : List Stmt → Ref → Bool
@@ -48,14 +58,6 @@ abbrev pub are_simple : List Operand → Bool
 are_simple entries = list_all (λ entry. is_simple_entry entry.form) entries
 
 -- no filter list, or one whose words are simple masks
-abbrev pub is_simple_form : Form → Bool
-is_simple_form (Filt name name_at include exclude) = are_simple include && are_simple exclude
-is_simple_form _ = true
-
--- the statement is no filter list, or one whose words are simple masks
-abbrev pub is_simple_statement : Stmt → Bool
-is_simple_statement statement = is_simple_form statement.form
-
--- in each filter list of that name among the statements the words are simple masks
-abbrev pub is_simple_list : List Stmt → List ℕ → Bool
-is_simple_list before name = list_all (λ statement. not (is_list_named name statement) || is_simple_statement statement) before
+abbrev pub is_simple_list : Option FilterList → Bool
+is_simple_list None = true
+is_simple_list (Some list) = are_simple list.include && are_simple list.exclude

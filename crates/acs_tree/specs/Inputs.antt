@@ -3,7 +3,7 @@ use Rattle.std.specs.Prelude.{ℕ, ◌*◌, List, [], Option, codes}
 use Rattle.std.specs.Int.{div_ceil}
 use Rattle.acs_tree.specs.declared.input.Input.{Input}
 use Rattle.acs_tree.specs.declared.values.Values.{Values}
-use Rattle.acs_tree.specs.VariableValues.{or_null}
+use Rattle.acs_tree.specs.Value.{or_null}
 
 -- a request that names a data set and gives nothing else
 abbrev pub bare_input : List ℕ → Input

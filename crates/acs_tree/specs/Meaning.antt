@@ -1,6 +1,5 @@
 -- What a routine means: by recursion on its tree (docs/acs-language.md, Meaning).
 use Rattle.std.specs.Prelude.{ℕ, List, [], ◌∷◌, map, Option, Some, None, if◌then◌else◌}
-use Rattle.acs_tree.specs.declared.filter_list.FilterList.{FilterList}
 use Rattle.acs_tree.specs.declared.kind.Kind.{Kind}
 use Rattle.acs_tree.specs.declared.routine.Form.TheOpen.{Form-F, Stmt-F, When-F}
 use Rattle.acs_tree.specs.declared.routine.Operand.{Operand}
@@ -9,7 +8,6 @@ use Rattle.acs_tree.specs.declared.routine.OperandForm.TheVariants.{Literal, Wor
 use Rattle.acs_tree.specs.declared.routine.Ref.{Ref}
 use Rattle.acs_tree.specs.declared.routine.Routine.{Routine}
 use Rattle.acs_tree.specs.declared.routine.Stmt.{Stmt, fold-Stmt}
-use Rattle.acs_tree.specs.Comparands.{lists_of}
 use Rattle.acs_tree.specs.Conditions.{Test, holds, when_holds}
 use Rattle.acs_tree.specs.Numbers.{is_between, value_of}
 use Rattle.acs_tree.specs.Outcome.{Action, falls, exits, behind, nothing, then_do}
@@ -56,27 +54,27 @@ first_of subject [] other = other
 first_of subject (arm ∷ arms) other = choice (arm.test subject) arm.body (first_of subject arms other)
 
 -- what a statement does, from what those in it do; a filter list does nothing by itself
-abbrev pub form_step : Kind → List FilterList → Form-F Action Action Arm → Action
-form_step kind lists (Form-F.Filt name name_at include exclude) = nothing
-form_step kind lists (Form-F.Put target operands) = sets kind target operands
-form_step kind lists (Form-F.If cond first other) = choice (holds lists cond) first (perhaps other)
-form_step kind lists (Form-F.Pick subject whens other) = first_of subject whens (perhaps other)
-form_step kind lists (Form-F.Do body) = in_turn body
-form_step kind lists (Form-F.Write parts) = writes parts
-form_step kind lists (Form-F.Exit code) = λ input values. exits (code_of code) values
+abbrev pub form_step : Kind → List Stmt → Form-F Action Action Arm → Action
+form_step kind body (Form-F.Filt name name_at include exclude) = nothing
+form_step kind body (Form-F.Put target operands) = sets kind target operands
+form_step kind body (Form-F.If cond first other) = choice (holds body cond) first (perhaps other)
+form_step kind body (Form-F.Pick subject whens other) = first_of subject whens (perhaps other)
+form_step kind body (Form-F.Do statements) = in_turn statements
+form_step kind body (Form-F.Write parts) = writes parts
+form_step kind body (Form-F.Exit code) = λ input values. exits (code_of code) values
 
 -- what a statement does, from what its form does
 abbrev pub stmt_step : Stmt-F Action Action Arm → Action
 stmt_step statement = statement.form
 
 -- what a WHEN asks and does, from what its statement does
-abbrev pub when_step : List FilterList → When-F Action Action Arm → Arm
-when_step lists branch = record { test = λ subject. when_holds lists subject branch.test; body = branch.body }
+abbrev pub when_step : List Stmt → When-F Action Action Arm → Arm
+when_step body branch = record { test = λ subject. when_holds body subject branch.test; body = branch.body }
 
--- what a statement does in a routine of that kind with those filter lists
-abbrev pub meaning : Kind → List FilterList → Stmt → Action
-meaning kind lists = fold-Stmt Action Action Arm (form_step kind lists) stmt_step (when_step lists)
+-- what a statement does in a routine of that kind and that body
+abbrev pub meaning : Kind → List Stmt → Stmt → Action
+meaning kind body = fold-Stmt Action Action Arm (form_step kind body) stmt_step (when_step body)
 
--- what a routine of that kind means: its body, with its own filter lists
+-- what a routine of that kind means: the statements of its body, in turn
 abbrev pub meaning_of : Routine → Kind → Action
-meaning_of routine kind = in_turn (map (meaning kind (lists_of routine.body)) routine.body)
+meaning_of routine kind = in_turn (map (meaning kind routine.body) routine.body)

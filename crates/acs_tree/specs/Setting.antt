@@ -12,8 +12,8 @@ use Rattle.acs_tree.specs.declared.routine.OperandForm.TheVariants.{Literal, Wor
 use Rattle.acs_tree.specs.declared.routine.Ref.{Ref}
 use Rattle.acs_tree.specs.declared.values.Values.{Values}
 use Rattle.acs_tree.specs.Outcome.{Action, falls, nothing}
-use Rattle.acs_tree.specs.VariableValues.{Value, Text, variable_value, index_of}
-use Rattle.acs_tree.specs.Variables.{name_of}
+use Rattle.acs_tree.specs.Value.{Value, Text}
+use Rattle.acs_tree.specs.Variables.{index_of, name_of, variable_value}
 
 -- the text where a class may have it, and else null
 abbrev pub as_class : List ℕ → List ℕ

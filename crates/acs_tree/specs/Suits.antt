@@ -12,7 +12,7 @@ use Rattle.acs_tree.specs.declared.routine.Ref.{Ref}
 use Rattle.acs_tree.specs.declared.routine.Stmt.{Stmt}
 use Rattle.acs_tree.specs.declared.variable.VariableKind.{VariableKind}
 use Rattle.acs_tree.specs.declared.variable.VariableKind.TheVariants.{Text, Number, Size, Volumes, Groups}
-use Rattle.acs_tree.specs.FilterLists.{is_mask, is_simple, is_list_ref, is_simple_list}
+use Rattle.acs_tree.specs.FilterLists.{is_mask, is_simple, is_list_ref, is_simple_list, list_named}
 use Rattle.acs_tree.specs.Numbers.{is_number, is_size, is_fit_number, is_fit_size}
 use Rattle.acs_tree.specs.References.{is_known, passes, is_text, is_number_variable, is_size_variable, takes_masks, is_whole_name, is_group_list, is_out_of_range}
 use Rattle.acs_tree.specs.Variables.{variable_of}
@@ -140,7 +140,7 @@ takes_simple left = is_left_with (λ ref. takes_masks ref && not (is_whole_name 
 
 -- the operand is a filter list with a word that is no simple mask, where only simple masks are compared
 abbrev pub is_bad_list : List Stmt → Option Ref → OperandForm → Bool
-is_bad_list before left form = is_listed before form && (takes_simple left && is_var_with (λ ref. not (is_simple_list before ref.name)) form)
+is_bad_list before left form = is_listed before form && (takes_simple left && is_var_with (λ ref. not (is_simple_list (list_named before ref.name))) form)
 
 -- the text is among the literals
 abbrev pub is_among : List Operand → List ℕ → Bool

@@ -1,92 +1,68 @@
 -- The table of variables (docs/acs-language.md, Variables).
-use Rattle.std.specs.Prelude.{ℕ, true, false, List, [], ◌∷◌, Option, Some, None, codes, if◌then◌else◌}
+use Rattle.std.specs.Prelude.{◌==◌, ℕ, List, [], ◌∷◌, length, Option, Some, None, codes, if◌then◌else◌}
+use Rattle.std.specs.Option.{option_map}
 use Rattle.std.specs.Str.{bytes_eq}
+use Rattle.dsn_mask.specs.Qualifiers.{qualifiers_of}
+use Rattle.acs_tree.specs.declared.input.Input.{Input}
 use Rattle.acs_tree.specs.declared.kind.Kind.{Kind}
 use Rattle.acs_tree.specs.declared.kind.Kind.TheVariants.{DataClas, StorClas, MgmtClas, StorGrp}
+use Rattle.acs_tree.specs.declared.values.Values.{Values}
 use Rattle.acs_tree.specs.declared.variable.Indexing.{Indexing}
 use Rattle.acs_tree.specs.declared.variable.Indexing.TheVariants.{Never, Maybe, Always}
 use Rattle.acs_tree.specs.declared.variable.Variable.{Variable}
 use Rattle.acs_tree.specs.declared.variable.VariableKind.{VariableKind}
-use Rattle.acs_tree.specs.declared.variable.VariableKind.TheVariants.{Text, Number, Size, Volumes, Groups}
+use Rattle.acs_tree.specs.declared.variable.VariableKind.TheVariants as kind
+use Rattle.acs_tree.specs.Numbers.{is_between, value_of}
+use Rattle.acs_tree.specs.Value.{Value, Text, Number, Size, AnyOf, AllOf, Groups, text_at}
 
--- a row of the table: the name without its ampersand, and what stands for it
+-- what a name stands for: what is known of the variable, and what it holds in a run, by its index, which is 0 where none is written
+pub record Known : Type 0 where
+  pub variable : Variable
+  pub value : ℕ → Input → Values → Value
+
+-- a row of the table: a name without its ampersand, and what it stands for
 abbrev pub Row : Type 0
-Row = List ℕ × Variable
+Row = List ℕ × Known
 
--- a variable that no routine sets, since the request determines it
-abbrev pub given : VariableKind → Indexing → Variable
-given kind indexing = record { kind = kind; indexing = indexing; set_by = None; is_empty = false }
+-- a variable without an index that no routine sets
+abbrev pub given : List ℕ → VariableKind → (Input → Value) → Row
+given name kind held = (name, record { variable = record { kind = kind; indexing = Never; set_by = None }; value = λ index input values. held input })
 
--- a variable that is always null or 0
-abbrev pub empty : VariableKind → Variable
-empty kind = record { kind = kind; indexing = Never; set_by = None; is_empty = true }
+-- a text of the request
+abbrev pub text : List ℕ → (Input → List ℕ) → Row
+text name held = given name kind.Text (λ input. Text (held input))
 
--- a variable that one kind of routine sets and the later ones read
-abbrev pub read_write : VariableKind → Kind → Variable
-read_write kind setter = record { kind = kind; indexing = Never; set_by = Some setter; is_empty = false }
+-- a number of the request
+abbrev pub number : List ℕ → (Input → ℕ) → Row
+number name held = given name kind.Number (λ input. Number (held input))
 
--- all variables
-abbrev pub variables : List Row
-variables =
-    (codes "DSN", given Text (Maybe 22)) ∷
-    (codes "HLQ", given Text Never) ∷
-    (codes "LLQ", given Text Never) ∷
-    (codes "NQUAL", given Number Never) ∷
-    (codes "JOB", given Text Never) ∷
-    (codes "USER", given Text Never) ∷
-    (codes "GROUP", given Text Never) ∷
-    (codes "PGM", given Text Never) ∷
-    (codes "DD", given Text Never) ∷
-    (codes "UNIT", given Text Never) ∷
-    (codes "DSORG", given Text Never) ∷
-    (codes "RECORG", given Text Never) ∷
-    (codes "DSNTYPE", given Text Never) ∷
-    (codes "APPLIC", given Text Never) ∷
-    (codes "EXPDT", given Text Never) ∷
-    (codes "DSTYPE", given Text Never) ∷
-    (codes "ACSENVIR", given Text Never) ∷
-    (codes "XMODE", given Text Never) ∷
-    (codes "DSOWNER", given Text Never) ∷
-    (codes "DEF_DATACLAS", given Text Never) ∷
-    (codes "DEF_STORCLAS", given Text Never) ∷
-    (codes "DEF_MGMTCLAS", given Text Never) ∷
-    (codes "SYSNAME", given Text Never) ∷
-    (codes "SYSPLEX", given Text Never) ∷
-    (codes "RETPD", given Number Never) ∷
-    (codes "BLKSIZE", given Number Never) ∷
-    (codes "NVOL", given Number Never) ∷
-    (codes "ANYVOL", given Volumes Never) ∷
-    (codes "ALLVOL", given Volumes Never) ∷
-    (codes "ACCT_JOB", given Text (Always 8)) ∷
-    (codes "ACCT_STEP", given Text (Always 8)) ∷
-    (codes "SIZE", given Size Never) ∷
-    (codes "MAXSIZE", given Size Never) ∷
-    (codes "DATACLAS", read_write Text DataClas) ∷
-    (codes "STORCLAS", read_write Text StorClas) ∷
-    (codes "MGMTCLAS", read_write Text MgmtClas) ∷
-    (codes "STORGRP", read_write Groups StorGrp) ∷
-    (codes "ACSENVR2", empty Text) ∷
-    (codes "LABEL", empty Text) ∷
-    (codes "LIBNAME", empty Text) ∷
-    (codes "MEMN", empty Text) ∷
-    (codes "MEMHLQ", empty Text) ∷
-    (codes "MEMLLQ", empty Text) ∷
-    (codes "MSPARM", empty Text) ∷
-    (codes "MSPDEST", empty Text) ∷
-    (codes "MSPOLICY", empty Text) ∷
-    (codes "MSPOOL", empty Text) ∷
-    (codes "MSVGP", empty Text) ∷
-    (codes "FILENUM", empty Number) ∷
-    (codes "MEMNQUAL", empty Number) ∷ []
+-- a size of the request
+abbrev pub size : List ℕ → (Input → ℕ) → Row
+size name held = given name kind.Size (λ input. Size (held input))
 
--- the row of that name
-abbrev pub look_up : List Row → List ℕ → Option Variable
-look_up [] name = None
-look_up (row ∷ rows) name = if bytes_eq row.0 name then Some row.1 else look_up rows name
+-- a text of the request, by the index
+abbrev pub indexed : List ℕ → Indexing → (Input → ℕ → List ℕ) → Row
+indexed name indexing held = (name, record { variable = record { kind = kind.Text; indexing = indexing; set_by = None }; value = λ index input values. Text (held input index) })
 
--- the variable of that name, if there is one
-unfoldable pub variable_of : List ℕ → Option Variable
-variable_of name = look_up variables name
+-- a variable that the routine of a kind sets and later ones read
+abbrev pub read_write : Kind → List ℕ → VariableKind → (Values → Value) → Row
+read_write setter name kind held = (name, record { variable = record { kind = kind; indexing = Never; set_by = Some setter }; value = λ index input values. held values })
+
+-- a variable that is always null
+abbrev pub null : List ℕ → Row
+null name = text name (λ input. [])
+
+-- the qualifier of that number, and the whole name where the number is 0
+abbrev pub part_of_name : List ℕ → ℕ → List ℕ
+part_of_name dsn number = if number == 0 then dsn else text_at (qualifiers_of dsn) number
+
+-- the first qualifier
+abbrev pub first_qualifier : List ℕ → List ℕ
+first_qualifier dsn = text_at (qualifiers_of dsn) 1
+
+-- the last qualifier
+abbrev pub last_qualifier : List ℕ → List ℕ
+last_qualifier dsn = text_at (qualifiers_of dsn) (length (qualifiers_of dsn))
 
 -- the name of the variable that a routine of that kind sets
 abbrev pub name_of : Kind → List ℕ
@@ -94,6 +70,83 @@ name_of DataClas = codes "DATACLAS"
 name_of StorClas = codes "STORCLAS"
 name_of MgmtClas = codes "MGMTCLAS"
 name_of StorGrp = codes "STORGRP"
+
+-- all variables: parts of the data set's name, what routines set, who asks, what the data set is to be, numbers, sizes, volumes, accounting, where the routine runs, the defaults of the request, and what is always null
+abbrev pub variables : List Row
+variables =
+    indexed (codes "DSN") (Maybe 22) (λ input index. part_of_name input.dsn index) ∷
+    text (codes "HLQ") (λ input. first_qualifier input.dsn) ∷
+    text (codes "LLQ") (λ input. last_qualifier input.dsn) ∷
+    number (codes "NQUAL") (λ input. length (qualifiers_of input.dsn)) ∷
+    read_write DataClas (name_of DataClas) kind.Text (λ values. Text values.dataclas) ∷
+    read_write StorClas (name_of StorClas) kind.Text (λ values. Text values.storclas) ∷
+    read_write MgmtClas (name_of MgmtClas) kind.Text (λ values. Text values.mgmtclas) ∷
+    read_write StorGrp (name_of StorGrp) kind.Groups (λ values. Groups values.groups) ∷
+    text (codes "JOB") (λ input. input.origin.job) ∷
+    text (codes "USER") (λ input. input.origin.user) ∷
+    text (codes "GROUP") (λ input. input.origin.group) ∷
+    text (codes "PGM") (λ input. input.origin.pgm) ∷
+    text (codes "DD") (λ input. input.origin.dd) ∷
+    text (codes "APPLIC") (λ input. input.origin.applic) ∷
+    text (codes "UNIT") (λ input. input.attributes.unit) ∷
+    text (codes "DSORG") (λ input. input.attributes.dsorg) ∷
+    text (codes "RECORG") (λ input. input.attributes.recorg) ∷
+    text (codes "DSNTYPE") (λ input. input.attributes.dsntype) ∷
+    text (codes "DSTYPE") (λ input. input.attributes.dstype) ∷
+    text (codes "DSOWNER") (λ input. input.attributes.dsowner) ∷
+    text (codes "EXPDT") (λ input. input.attributes.expdt) ∷
+    number (codes "RETPD") (λ input. input.amounts.retpd) ∷
+    number (codes "BLKSIZE") (λ input. input.amounts.blksize) ∷
+    number (codes "FILENUM") (λ input. 0) ∷
+    number (codes "MEMNQUAL") (λ input. 0) ∷
+    size (codes "SIZE") (λ input. input.amounts.size) ∷
+    size (codes "MAXSIZE") (λ input. input.amounts.maxsize) ∷
+    number (codes "NVOL") (λ input. length input.volumes) ∷
+    given (codes "ANYVOL") kind.Volumes (λ input. AnyOf input.volumes) ∷
+    given (codes "ALLVOL") kind.Volumes (λ input. AllOf input.volumes) ∷
+    indexed (codes "ACCT_JOB") (Always 8) (λ input index. text_at input.accounting.acct_job index) ∷
+    indexed (codes "ACCT_STEP") (Always 8) (λ input index. text_at input.accounting.acct_step index) ∷
+    text (codes "ACSENVIR") (λ input. input.environment.acsenvir) ∷
+    text (codes "XMODE") (λ input. input.environment.xmode) ∷
+    text (codes "SYSNAME") (λ input. input.environment.sysname) ∷
+    text (codes "SYSPLEX") (λ input. input.environment.sysplex) ∷
+    text (codes "DEF_DATACLAS") (λ input. input.defaults.dataclas) ∷
+    text (codes "DEF_STORCLAS") (λ input. input.defaults.storclas) ∷
+    text (codes "DEF_MGMTCLAS") (λ input. input.defaults.mgmtclas) ∷
+    null (codes "ACSENVR2") ∷
+    null (codes "LABEL") ∷
+    null (codes "LIBNAME") ∷
+    null (codes "MEMN") ∷
+    null (codes "MEMHLQ") ∷
+    null (codes "MEMLLQ") ∷
+    null (codes "MSPARM") ∷
+    null (codes "MSPDEST") ∷
+    null (codes "MSPOLICY") ∷
+    null (codes "MSPOOL") ∷
+    null (codes "MSVGP") ∷ []
+
+-- what stands under that name
+abbrev pub look_up : {A : Type 0} → List (List ℕ × A) → List ℕ → Option A
+look_up [] name = None
+look_up (row ∷ rows) name = if bytes_eq name row.0 then Some row.1 else look_up rows name
+
+-- the variable of that name, if there is one
+unfoldable pub variable_of : List ℕ → Option Variable
+variable_of name = option_map (λ (known : Known). known.variable) (look_up variables name)
+
+-- what is held by what a name stands for; where it stands for nothing it is null
+abbrev pub value_by : Option Known → ℕ → Input → Values → Value
+value_by None index input values = Text []
+value_by (Some known) index input values = known.value index input values
+
+-- what the variable of that name and that index holds
+unfoldable pub variable_value : List ℕ → ℕ → Input → Values → Value
+variable_value name = value_by (look_up variables name)
+
+-- the index as it is written: 0 where there is none, and 255, which no variable takes, where it is no number from 1 to 254
+abbrev pub index_of : Option (List ℕ) → ℕ
+index_of None = 0
+index_of (Some word) = if is_between 1 254 word then value_of word else 255
 
 -- the order in which the routines run
 abbrev pub rank_of : Kind → ℕ

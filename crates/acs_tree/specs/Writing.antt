@@ -8,7 +8,8 @@ use Rattle.acs_tree.specs.declared.routine.Operand.{Operand}
 use Rattle.acs_tree.specs.declared.routine.OperandForm.{OperandForm}
 use Rattle.acs_tree.specs.declared.routine.OperandForm.TheVariants.{Literal, Word, Var}
 use Rattle.acs_tree.specs.declared.values.Values.{Values}
-use Rattle.acs_tree.specs.VariableValues.{Value, Text, Number, Size, AnyOf, AllOf, Groups, variable_value, index_of}
+use Rattle.acs_tree.specs.Value.{Value, Text, Number, Size, AnyOf, AllOf, Groups}
+use Rattle.acs_tree.specs.Variables.{variable_value, index_of}
 
 -- names with commas between them
 abbrev pub listed : List (List ℕ) → List ℕ

@@ -1,7 +1,7 @@
 // What the read-only variables hold.
 ghost use Rattle.std.specs.Prelude.{◌≡◌, ◌↔◌, IsTrue};
 ghost use Rattle.acs_tree.specs.Inputs.{bare_input, input_under, kilobytes_of};
-ghost use Rattle.acs_tree.specs.VariableValues.{or_null};
+ghost use Rattle.acs_tree.specs.Value.{or_null};
 
 use crate::accounting::Accounting;
 use crate::amounts::Amounts;

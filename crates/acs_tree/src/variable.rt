@@ -22,13 +22,11 @@ pub enum Indexing {
     Always(u64),
 }
 
-/// A row of the table of variables.
+/// What is known of a variable by its name.
 #[derive(Clone, Copy, Debug, PartialEq, Eq)]
 pub struct Variable {
     pub kind: VariableKind,
     pub indexing: Indexing,
     /// The kind of routine that sets a read-write variable; none sets a read-only one.
     pub set_by: Option<Kind>,
-    /// Always null, or always 0.
-    pub is_empty: bool,
 }

@@ -1,6 +1,7 @@
 //! The table of variables (docs/acs-language.md, Variables).
-ghost use Rattle.std.specs.Prelude.{◌≡◌, map};
-ghost use Rattle.acs_tree.specs.Variables.{look_up, variable_of};
+ghost use Rattle.std.specs.Prelude.{◌≡◌, ◌==◌, List, ℕ, filter, length, map};
+ghost use Rattle.acs_tree.specs.declared.variable.Variable.{Variable as VariableOf};
+ghost use Rattle.acs_tree.specs.Variables.{Row, look_up, variable_of, variables};
 
 use crate::ident::Ident;
 use crate::kind::Kind;
@@ -10,137 +11,125 @@ const TEXT: Variable = Variable {
     kind: VariableKind::Text,
     indexing: Indexing::Never,
     set_by: None,
-    is_empty: false,
 };
 
 const NUMBER: Variable = Variable {
     kind: VariableKind::Number,
-    indexing: Indexing::Never,
-    set_by: None,
-    is_empty: false,
+    ..TEXT
 };
 
 const SIZE: Variable = Variable {
     kind: VariableKind::Size,
-    indexing: Indexing::Never,
-    set_by: None,
-    is_empty: false,
+    ..TEXT
 };
 
 const VOLUMES: Variable = Variable {
     kind: VariableKind::Volumes,
-    indexing: Indexing::Never,
-    set_by: None,
-    is_empty: false,
+    ..TEXT
 };
 
 const QUALIFIERS: Variable = Variable {
-    kind: VariableKind::Text,
     indexing: Indexing::Maybe(22),
-    set_by: None,
-    is_empty: false,
+    ..TEXT
 };
 
 const ACCOUNT: Variable = Variable {
-    kind: VariableKind::Text,
     indexing: Indexing::Always(8),
-    set_by: None,
-    is_empty: false,
-};
-
-const NULL: Variable = Variable {
-    kind: VariableKind::Text,
-    indexing: Indexing::Never,
-    set_by: None,
-    is_empty: true,
-};
-
-const ZERO: Variable = Variable {
-    kind: VariableKind::Number,
-    indexing: Indexing::Never,
-    set_by: None,
-    is_empty: true,
+    ..TEXT
 };
 
 const DATACLAS: Variable = Variable {
-    kind: VariableKind::Text,
-    indexing: Indexing::Never,
     set_by: Some(Kind::DataClas),
-    is_empty: false,
+    ..TEXT
 };
 
 const STORCLAS: Variable = Variable {
-    kind: VariableKind::Text,
-    indexing: Indexing::Never,
     set_by: Some(Kind::StorClas),
-    is_empty: false,
+    ..TEXT
 };
 
 const MGMTCLAS: Variable = Variable {
-    kind: VariableKind::Text,
-    indexing: Indexing::Never,
     set_by: Some(Kind::MgmtClas),
-    is_empty: false,
+    ..TEXT
 };
 
 const STORGRP: Variable = Variable {
     kind: VariableKind::Groups,
     indexing: Indexing::Never,
     set_by: Some(Kind::StorGrp),
-    is_empty: false,
 };
 
-const VARIABLES: [(&[u8], Variable); 50] = [
+const OF_TWO: [(&[u8], Variable); 1] = [(b"DD", TEXT)];
+
+const OF_THREE: [(&[u8], Variable); 5] = [
     (b"DSN", QUALIFIERS),
     (b"HLQ", TEXT),
     (b"LLQ", TEXT),
-    (b"NQUAL", NUMBER),
     (b"JOB", TEXT),
-    (b"USER", TEXT),
-    (b"GROUP", TEXT),
     (b"PGM", TEXT),
-    (b"DD", TEXT),
+];
+
+const OF_FOUR: [(&[u8], Variable); 5] = [
+    (b"USER", TEXT),
     (b"UNIT", TEXT),
-    (b"DSORG", TEXT),
-    (b"RECORG", TEXT),
-    (b"DSNTYPE", TEXT),
-    (b"APPLIC", TEXT),
-    (b"EXPDT", TEXT),
-    (b"DSTYPE", TEXT),
-    (b"ACSENVIR", TEXT),
-    (b"XMODE", TEXT),
-    (b"DSOWNER", TEXT),
-    (b"DEF_DATACLAS", TEXT),
-    (b"DEF_STORCLAS", TEXT),
-    (b"DEF_MGMTCLAS", TEXT),
-    (b"SYSNAME", TEXT),
-    (b"SYSPLEX", TEXT),
-    (b"RETPD", NUMBER),
-    (b"BLKSIZE", NUMBER),
+    (b"SIZE", SIZE),
     (b"NVOL", NUMBER),
+    (b"MEMN", TEXT),
+];
+
+const OF_FIVE: [(&[u8], Variable); 8] = [
+    (b"NQUAL", NUMBER),
+    (b"GROUP", TEXT),
+    (b"DSORG", TEXT),
+    (b"EXPDT", TEXT),
+    (b"RETPD", NUMBER),
+    (b"XMODE", TEXT),
+    (b"LABEL", TEXT),
+    (b"MSVGP", TEXT),
+];
+
+const OF_SIX: [(&[u8], Variable); 9] = [
+    (b"APPLIC", TEXT),
+    (b"RECORG", TEXT),
+    (b"DSTYPE", TEXT),
     (b"ANYVOL", VOLUMES),
     (b"ALLVOL", VOLUMES),
-    (b"ACCT_JOB", ACCOUNT),
-    (b"ACCT_STEP", ACCOUNT),
-    (b"SIZE", SIZE),
+    (b"MEMHLQ", TEXT),
+    (b"MEMLLQ", TEXT),
+    (b"MSPARM", TEXT),
+    (b"MSPOOL", TEXT),
+];
+
+const OF_SEVEN: [(&[u8], Variable); 10] = [
+    (b"STORGRP", STORGRP),
+    (b"DSNTYPE", TEXT),
+    (b"DSOWNER", TEXT),
+    (b"BLKSIZE", NUMBER),
+    (b"FILENUM", NUMBER),
     (b"MAXSIZE", SIZE),
+    (b"SYSNAME", TEXT),
+    (b"SYSPLEX", TEXT),
+    (b"LIBNAME", TEXT),
+    (b"MSPDEST", TEXT),
+];
+
+const OF_EIGHT: [(&[u8], Variable); 8] = [
     (b"DATACLAS", DATACLAS),
     (b"STORCLAS", STORCLAS),
     (b"MGMTCLAS", MGMTCLAS),
-    (b"STORGRP", STORGRP),
-    (b"ACSENVR2", NULL),
-    (b"LABEL", NULL),
-    (b"LIBNAME", NULL),
-    (b"MEMN", NULL),
-    (b"MEMHLQ", NULL),
-    (b"MEMLLQ", NULL),
-    (b"MSPARM", NULL),
-    (b"MSPDEST", NULL),
-    (b"MSPOLICY", NULL),
-    (b"MSPOOL", NULL),
-    (b"MSVGP", NULL),
-    (b"FILENUM", ZERO),
-    (b"MEMNQUAL", ZERO),
+    (b"MEMNQUAL", NUMBER),
+    (b"ACCT_JOB", ACCOUNT),
+    (b"ACSENVIR", TEXT),
+    (b"ACSENVR2", TEXT),
+    (b"MSPOLICY", TEXT),
+];
+
+const OF_NINE: [(&[u8], Variable); 1] = [(b"ACCT_STEP", ACCOUNT)];
+
+const OF_TWELVE: [(&[u8], Variable); 3] = [
+    (b"DEF_DATACLAS", TEXT),
+    (b"DEF_STORCLAS", TEXT),
+    (b"DEF_MGMTCLAS", TEXT),
 ];
 
 impl Variable {
@@ -148,7 +137,26 @@ impl Variable {
     pub fn named(name: &Ident) -> Option<Self>
         ensures { result ≡ variable_of name.now }
     {
-        look_up(&VARIABLES, name.bytes())
+        let bytes = name.bytes();
+        look_up(with_length(bytes.len()), bytes)
+    }
+}
+
+// The rows whose names have so many bytes.
+fn with_length(count: usize) -> &'static [(&'static [u8], Variable)]
+    ensures { map (λ row. (row.0.now, row.1)) result.now ≡ map {B = List ℕ × VariableOf} (λ (row : Row). (row.0, row.1.variable)) (filter (λ (row : Row). length row.0 == count) variables) }
+{
+    match count {
+        2 => &OF_TWO,
+        3 => &OF_THREE,
+        4 => &OF_FOUR,
+        5 => &OF_FIVE,
+        6 => &OF_SIX,
+        7 => &OF_SEVEN,
+        8 => &OF_EIGHT,
+        9 => &OF_NINE,
+        12 => &OF_TWELVE,
+        _ => &[],
     }
 }
 
@@ -156,7 +164,7 @@ fn look_up(mut rows: &[(&[u8], Variable)], name: &[u8]) -> Option<Variable>
     ensures { result ≡ look_up (map (λ row. (row.0.now, row.1)) rows.entry.now) name.now }
 {
     while let [row, rest @ ..] = rows {
-        if row.0 == name {
+        if name == row.0 {
             return Some(row.1);
         }
         rows = rest;

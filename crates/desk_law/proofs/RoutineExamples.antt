@@ -7,7 +7,7 @@ use Rattle.acs_tree.specs.Inputs.{input_under}
 use Rattle.acs_tree.specs.Meaning.{Arm, code_of, form_step, in_turn, meaning, meaning_of, stmt_step, when_step, writes}
 use Rattle.acs_tree.specs.Outcome.{Action, exits}
 use Rattle.acs_tree.specs.Setting.{sets}
-use Rattle.acs_tree.specs.VariableValues.{variable_value}
+use Rattle.acs_tree.specs.Variables.{variable_value}
 use Rattle.acs_tree.specs.declared.filter_list.FilterList.{FilterList}
 use Rattle.acs_tree.specs.declared.kind.Kind.{Kind}
 use Rattle.acs_tree.specs.declared.kind.Kind.TheVariants.{DataClas, StorClas, StorGrp}

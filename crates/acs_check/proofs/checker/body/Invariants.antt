@@ -1,5 +1,5 @@
 use Rattle.std.proofs.Common.{◌≡◌, ◌≤◌, length, map, take, drop}
-use Rattle.acs_tree.specs.FilterLists.{is_simple_statement}
+use Rattle.acs_check.specs.Marks.{is_simple_statement}
 use Rattle.acs_check.specs.Walk.{passed}
 use Rattle.acs_check.proofs.checker.body.Given as goal
 

@@ -2,7 +2,8 @@ use Rattle.std.proofs.Common.{◌≡◌, ◌-◌, arith, subst, map, drop}
 use Rattle.std.proofs.lemmas.Result.{on_ok_weaker}
 use Rattle.acs_tree.specs.Meaning.{first_of}
 use Rattle.acs_code.specs.Arms.{arm_of}
-use Rattle.acs_code.specs.Upward.{Does, filters_of}
+use Rattle.acs_code.specs.Compiled.{filters_of}
+use Rattle.acs_code.specs.Upward.{Does}
 use Rattle.acs_code.proofs.StatementLemmas.{block_turn, branch_turn, branches_turn, conditional_turn, exit_turn, if_turn, pick_turn, put_turn, written_turn}
 use Rattle.acs_code.proofs.blocks.+statements.Goals as goal
 

@@ -1,9 +1,10 @@
 use Rattle.std.proofs.Common.{◌≡◌, length, map}
-use Rattle.acs_tree.specs.VariableValues.{Text, held_by}
+use Rattle.acs_tree.specs.Value.{Text}
+use Rattle.acs_tree.specs.Variables.{look_up}
 use Rattle.acs_run.proofs.values.text_in.Given as goal
 
 abbrev pub invariant-loop-rows : goal.invariant-loop-rows
-invariant-loop-rows l = held_by (map (λ row. (row.0.now, Text row.1.now)) l.rows) l.name ≡ held_by (map (λ row. (row.0.now, Text row.1.now)) l.initial.rows) l.name
+invariant-loop-rows l = look_up (map (λ row. (row.0.now, Text row.1.now)) l.rows) l.name ≡ look_up (map (λ row. (row.0.now, Text row.1.now)) l.initial.rows) l.name
 
 abbrev pub decreases-loop-rows : goal.decreases-loop-rows
 decreases-loop-rows l = length l.rows

@@ -1,8 +1,7 @@
-use Rattle.std.proofs.Common.{rules, arith}
-use Rattle.std.proofs.lemmas.Grind.{common_steps}
+use Rattle.std.proofs.Common.{◌∙◌, ap}
 use Rattle.acs_tree.specs.Variables.{variable_of}
+use Rattle.acs_tree.proofs.TableLemmas.{by_length}
 use Rattle.acs_tree.proofs.variable.Variable.named.Goals as goal
 
 pub returns : goal.returns
-unfolding variable_of
-returns c = first_of (search rules, grind (arith, common_steps))
+returns c = c.look_up.ensures ∙ by_length c.bytes-bytes.result.now _ c.with_length.ensures ∙ ap variable_of c.bytes-bytes.ensures.bytes
