@@ -1,7 +1,8 @@
 //! The top call of the translator.
-ghost use Rattle.std.specs.Prelude.{◌≡◌, true, map, string_bytes};
+ghost use Rattle.std.specs.Prelude.{◌≡◌, ◌⊎◌, true, map, string_bytes};
 ghost use Rattle.sms_base.specs.Observed.{Observed};
 ghost use Rattle.smsc.specs.ToolEnds.{Ends, EndsFor, ends_shown, leaves_sink};
+ghost use Rattle.tool_words.specs.Asking.{AreRefused, AreShown};
 ghost use Rattle.tool_words.specs.Tool.{words_of};
 ghost use Rattle.tool_words.specs.declared.task.Task.{Task as TaskOf};
 
@@ -24,6 +25,9 @@ pub fn smsc_main<S: Source, K: Sink>(
 ) -> ToolStatus
     ensures unread { result ≡ ToolStatus.BadWords → src.new ≡ src.old }
     ensures unwritten { leaves_sink result ≡ true → out.new ≡ out.old }
+    ensures bad { result ≡ ToolStatus.BadWords → AreRefused (map string_bytes words.now) }
+    ensures refused { AreRefused (map string_bytes words.now) → (result ≡ ToolStatus.BadWords) ⊎ (result ≡ ToolStatus.NoMemory) }
+    ensures shown { AreShown (map string_bytes words.now) → (ends_shown result ≡ true) × (src.new ≡ src.old) }
     ensures words { EndsFor (map string_bytes words.now)
         (record { left = S.left src.old; read_faults = S.read_faults src.old; taken = K.taken out.old; write_faults = K.write_faults out.old })
         (record { left = S.left src.new; read_faults = S.read_faults src.new; taken = K.taken out.new; write_faults = K.write_faults out.new })
