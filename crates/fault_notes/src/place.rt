@@ -24,6 +24,19 @@ pub fn place_at(text: &[u8], at: usize) -> Place<'_>
     }
 }
 
+/// The front of this line, which counts from 1.
+pub fn line_at(text: &[u8], line: usize) -> Place<'_>
+    ensures { (result.line ≡ line) × (result.column ≡ 1) }
+{
+    let mut lines = text.split(|byte| *byte == b'\n');
+    let text = lines.nth(line.saturating_sub(1)).unwrap_or(&[]);
+    Place {
+        line,
+        column: 1,
+        text: &text[..line_len(text)],
+    }
+}
+
 // The number of line ends.
 fn line_feeds(text: &[u8]) -> usize
     ensures count { result ≡ count_by (λ byte. byte == 10) text.now }

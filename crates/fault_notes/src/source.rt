@@ -1,5 +1,6 @@
 //! The texts of a deck's routines.
-use crate::keys::{find_path, without_blanks};
+use crate::finding::find_path;
+use crate::keys::without_blanks;
 use acs_tree::Kind;
 use std::alloc::{AllocError, Global};
 use toml::Table;

@@ -1,6 +1,4 @@
 //! The bytes of a routine's text at which a fault stands.
-ghost use Rattle.std.specs.Prelude.{◌≤◌, length};
-
 use acs_lex::{Token, Tokens, scan};
 use sms_construct::{Stage, TextFault};
 use std::alloc::Global;
@@ -37,14 +35,16 @@ fn token_spot(alloc: Global, text: &[u8], at: usize) -> Spot {
     }
 }
 
-fn tokens_of(alloc: Global, text: &[u8]) -> Option<Tokens> {
+/// The tokens of a text, if it has any.
+pub fn tokens_of(alloc: Global, text: &[u8]) -> Option<Tokens> {
     if text.len() > u32::MAX as usize {
         return None;
     }
     scan(alloc, text).ok()
 }
 
-fn bytes_of(token: &Token) -> Spot {
+/// The bytes of a token.
+pub fn bytes_of(token: &Token) -> Spot {
     Spot {
         from: token.from as usize,
         to: token.to as usize,

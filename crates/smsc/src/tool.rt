@@ -17,11 +17,13 @@ use tool_words::{Task, WordsErr, shown_text, task_asked};
 /// Does what the words of the command line ask: reads a routine, a deck or a script from the source to its end,
 /// translates, validates or simulates it, and writes the answer to the sink. Where the words ask for help or the
 /// version it writes that text, and nothing is told of the sink; that is the one exception (docs/tool.md, "Words").
+/// What a fault means is noted in plain words, of which nothing is told (docs/tool.md, "What a fault means").
 pub fn smsc_main<S: Source, K: Sink>(
     alloc: Global,
     words: &[String],
     src: &mut S,
     out: &mut K,
+    note: &mut String,
 ) -> ToolStatus
     ensures unread { result ≡ ToolStatus.BadWords → src.new ≡ src.old }
     ensures unwritten { leaves_sink result ≡ true → out.new ≡ out.old }
@@ -38,7 +40,7 @@ pub fn smsc_main<S: Source, K: Sink>(
         result }
 {
     match task_asked(alloc, words) {
-        Ok(task) => answer_source(alloc, task, src, out),
+        Ok(task) => answer_source(alloc, task, src, out, note),
         Err(WordsErr::Bad) => ToolStatus::BadWords,
         Err(WordsErr::Shown) => show(alloc, words, out),
         Err(WordsErr::NoMemory) => ToolStatus::NoMemory,
@@ -66,6 +68,7 @@ fn answer_source<S: Source, K: Sink>(
     task: Task,
     src: &mut S,
     out: &mut K,
+    note: &mut String,
 ) -> ToolStatus
     ensures words { result ≡ ToolStatus.BadWords → ⊥ }
     ensures unwritten { leaves_sink result ≡ true → out.new ≡ out.old }
@@ -80,7 +83,7 @@ fn answer_source<S: Source, K: Sink>(
         Err(ReadEnd::TooLong) => return ToolStatus::TooLong,
         Err(ReadEnd::NoMemory) => return ToolStatus::NoMemory,
     };
-    let (status, text) = match answer(alloc, task, bytes) {
+    let (status, text) = match answer(alloc, task, bytes, note) {
         Ok(found) => found,
         Err(NoAnswer::Script(fault)) => return ToolStatus::Script(fault),
         Err(NoAnswer::NoMemory) => return ToolStatus::NoMemory,

@@ -1,5 +1,5 @@
 use Rattle.std.proofs.Common.{length}
-use Rattle.fault_notes.proofs.keys.find_path.Given as goal
+use Rattle.fault_notes.proofs.finding.find_path.Given as goal
 
 -- the path gets shorter
 abbrev pub decreases-loop-front : goal.decreases-loop-front
