@@ -1,5 +1,6 @@
 //! Places of a text as a person counts them.
-ghost use Rattle.std.specs.Prelude.{◌≡◌, ◌≤◌, ◌+◌, ◌==◌, count_by, length, min, take};
+ghost use Rattle.std.specs.Prelude.{◌≡◌, ◌≤◌, ◌+◌, count_by, length, take};
+ghost use Rattle.fault_notes.specs.Places.{column_behind, is_line_feed, line_behind};
 
 /// A place of a text: its line and its column, both from 1, and the bytes of its line.
 #[derive(Clone, Copy)]
@@ -11,15 +12,16 @@ pub struct Place<'a> {
 
 /// The place of the byte at this offset, and behind the last byte that of the end.
 pub fn place_at(text: &[u8], at: usize) -> Place<'_>
-    ensures line { result.line ≡ count_by (λ byte. byte == 10) (take at text.entry.now) + 1 }
-    ensures column { result.column ≤ at + 1 }
+    ensures line { result.line ≡ line_behind (take at text.entry.now) }
+    ensures column { result.column ≡ column_behind (take at text.entry.now) }
 {
     let (before, behind) = text.split_at(at.min(text.len()));
-    let from = line_front(before);
+    let column = column_behind(before);
+    let from = before.len() + 1 - column;
     let to = before.len() + line_len(behind);
     Place {
         line: line_feeds(before) + 1,
-        column: before.len() - from + 1,
+        column,
         text: &text[from..to],
     }
 }
@@ -39,20 +41,23 @@ pub fn line_at(text: &[u8], line: usize) -> Place<'_>
 
 // The number of line ends.
 fn line_feeds(text: &[u8]) -> usize
-    ensures count { result ≡ count_by (λ byte. byte == 10) text.now }
+    ensures count { result ≡ count_by is_line_feed text.now }
     ensures within { result ≤ length text.now }
 {
     text.iter().filter(|byte| **byte == b'\n').count()
 }
 
-// The place behind the last line end.
-fn line_front(text: &[u8]) -> usize
-    ensures { result ≤ length text.now }
+// The column of the byte that follows the text.
+fn column_behind(text: &[u8]) -> usize
+    ensures column { result ≡ column_behind text.now }
+    ensures first { 1 ≤ result }
+    ensures within { result ≤ length text.now + 1 }
 {
-    match text.iter().rposition(|byte| *byte == b'\n') {
-        Some(at) => at + 1,
-        None => 0,
+    let mut column = 1usize;
+    for byte in text {
+        column = if *byte == b'\n' { 1 } else { column + 1 };
     }
+    column
 }
 
 // The number of bytes before the first line end.
