@@ -5,6 +5,7 @@ ghost use Rattle.smsc.specs.ToolText.{letter_of, translated_text, fault_text, re
 ghost use Rattle.tool_words.specs.declared.task.Task.TheVariants.{Translate, Validate, Simulate};
 
 use crate::no_answer::NoAnswer;
+use crate::noting::{note_deck, note_refusal, note_script, note_simulation};
 use crate::status::ToolStatus;
 use acs_translate::{RoutineFault, Stage, TranslateErr, translate};
 use acs_tree::Kind;
@@ -16,35 +17,48 @@ use sms_simulation::{Simulated, simulate};
 use std::alloc::{AllocError, Global};
 use tool_words::Task;
 
-/// The answer to the bytes: its status and its text.
+/// The answer to the bytes: its status and its text. What a fault means is noted.
 pub fn answer(
     alloc: Global,
     task: Task,
     bytes: Vec<u8>,
+    note: &mut String,
 ) -> Result<(ToolStatus, Items<u8>), NoAnswer>
     requires { length bytes.items < 2 ^ 32 }
     ensures answer { IfOk result (λ found. IsAnswer bytes.items task found.0 found.1) }
     ensures hindered { IfErr result (Hinders bytes.items task) }
 {
     match task {
-        Task::Translate(kind) => { translated(alloc, kind, &bytes).map_err(|_| NoAnswer::NoMemory) }
-        Task::Validate => validated(alloc, bytes).map_err(|_| NoAnswer::NoMemory),
-        Task::Simulate => simulated(alloc, &bytes),
+        Task::Translate(kind) => {
+            translated(alloc, kind, &bytes, note).map_err(|_| NoAnswer::NoMemory)
+        }
+        Task::Validate => validated(alloc, bytes, note).map_err(|_| NoAnswer::NoMemory),
+        Task::Simulate => simulated(alloc, &bytes, note),
     }
 }
 
 // The answer to a script.
-fn simulated(alloc: Global, bytes: &[u8]) -> Result<(ToolStatus, Items<u8>), NoAnswer>
+fn simulated(
+    alloc: Global,
+    bytes: &[u8],
+    note: &mut String,
+) -> Result<(ToolStatus, Items<u8>), NoAnswer>
     requires { length bytes.now < 2 ^ 32 }
     ensures answer { IfOk result (λ found. IsAnswer bytes.now Simulate found.0 found.1) }
     ensures hindered { IfErr result (Hinders bytes.now Simulate) }
 {
     let script = match read_script(alloc, bytes) {
         Ok(script) => script,
-        Err(fault) => return Err(hindrance(fault)),
+        Err(fault) => {
+            note_script(alloc, note, bytes, fault);
+            return Err(hindrance(fault));
+        }
     };
     match simulate(alloc, &script) {
-        Ok(made) => simulation(alloc, made),
+        Ok(made) => {
+            note_simulation(alloc, note, bytes, &script, &made);
+            simulation(alloc, made)
+        }
         Err(_) => Err(NoAnswer::NoMemory),
     }
 }
@@ -82,7 +96,11 @@ fn refused(alloc: Global, fault: &Fault) -> Result<(ToolStatus, Items<u8>), Allo
 
 // The answer to a deck.
 #[tactic(auto, using(crate::proofs::AnswerLemmas::validated, crate::proofs::AnswerLemmas::deck_refused))]
-fn validated(alloc: Global, bytes: Vec<u8>) -> Result<(ToolStatus, Items<u8>), AllocError>
+fn validated(
+    alloc: Global,
+    bytes: Vec<u8>,
+    note: &mut String,
+) -> Result<(ToolStatus, Items<u8>), AllocError>
     ensures { IfOk result (λ found. IsAnswer bytes.items Validate found.0 found.1) }
 {
     let deck = Shared::new(alloc, Items::from_vec(bytes))?;
@@ -91,7 +109,10 @@ fn validated(alloc: Global, bytes: Vec<u8>) -> Result<(ToolStatus, Items<u8>), A
             let text = valid_text(alloc, config.groups().len(), config.volumes().len())?;
             Ok((ToolStatus::Done, Items::from_vec(text)))
         }
-        Err(DeckErr::Fault(fault)) => refused(alloc, &fault),
+        Err(DeckErr::Fault(fault)) => {
+            note_deck(alloc, note, deck.get().as_slice(), &fault);
+            refused(alloc, &fault)
+        }
         Err(DeckErr::NoMemory) => Err(AllocError),
     }
 }
@@ -122,6 +143,7 @@ fn translated(
     alloc: Global,
     kind: Kind,
     bytes: &[u8],
+    note: &mut String,
 ) -> Result<(ToolStatus, Items<u8>), AllocError>
     requires { length bytes.now < 2 ^ 32 }
     ensures { IfOk result (λ found. IsAnswer bytes.now (Translate kind) found.0 found.1) }
@@ -129,8 +151,8 @@ fn translated(
     let (_routine, count) = match translate(alloc, bytes, kind) {
         Ok(found) => found,
         Err(err) => {
-            let (status, text) = refusal(alloc, err)?;
-            return Ok((status, text));
+            note_refusal(alloc, note, bytes, &err);
+            return refusal(alloc, err);
         }
     };
     let text = translated_text(alloc, kind, count)?;

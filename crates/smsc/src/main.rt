@@ -4,6 +4,7 @@
 mod answering;
 mod limit;
 mod no_answer;
+mod noting;
 #[cfg(test)]
 mod ordinary;
 mod status;
@@ -18,28 +19,32 @@ use std::process::ExitCode;
 use tool::smsc_main;
 
 fn main(rt: HostRuntime) -> ExitCode {
+    let mut note = String::new(rt.alloc());
     let status = match read_words(&rt) {
         Words::Faulty => ToolStatus::BadWords,
         Words::NoMemory => ToolStatus::NoMemory,
-        Words::Read(words) => answer(&rt, &words),
+        Words::Read(words) => answer(&rt, &words, &mut note),
     };
-    report(&rt, status);
+    report(&rt, status, &note);
     ExitCode::from(status.code())
 }
 
 // Answers what is on standard input.
-fn answer(rt: &HostRuntime, words: &[String]) -> ToolStatus {
+fn answer(rt: &HostRuntime, words: &[String], note: &mut String) -> ToolStatus {
     let mut src = StdSource::new(rt.reader());
     let mut out = StdSink::new(io::writer(rt));
-    smsc_main(rt.alloc(), words, &mut src, &mut out)
+    smsc_main(rt.alloc(), words, &mut src, &mut out, note)
 }
 
-// Says a status other than 0 and 1 on standard error, with the script's fault.
-fn report(rt: &HostRuntime, status: ToolStatus) {
+// Says a status other than 0 and 1 on standard error, with the script's fault, and what a fault means.
+fn report(rt: &HostRuntime, status: ToolStatus, note: &str) {
     let code = status.code();
     let _ = match status {
         ToolStatus::Done | ToolStatus::FaultFound => Ok(()),
         ToolStatus::Script(fault) => eprintln!(rt; "smsc: status {code} {fault}"),
         _ => eprintln!(rt; "smsc: status {code}"),
     };
+    if !note.is_empty() {
+        let _ = eprint!(rt; "smsc: {note}");
+    }
 }

@@ -1,7 +1,8 @@
 //! The top call of the translator.
-ghost use Rattle.std.specs.Prelude.{◌≡◌, true, map, string_bytes};
+ghost use Rattle.std.specs.Prelude.{◌≡◌, ◌⊎◌, true, map, string_bytes};
 ghost use Rattle.sms_base.specs.Observed.{Observed};
 ghost use Rattle.smsc.specs.ToolEnds.{Ends, EndsFor, ends_shown, leaves_sink};
+ghost use Rattle.tool_words.specs.Asking.{AreRefused, AreShown};
 ghost use Rattle.tool_words.specs.Tool.{words_of};
 ghost use Rattle.tool_words.specs.declared.task.Task.{Task as TaskOf};
 
@@ -16,14 +17,19 @@ use tool_words::{Task, WordsErr, shown_text, task_asked};
 /// Does what the words of the command line ask: reads a routine, a deck or a script from the source to its end,
 /// translates, validates or simulates it, and writes the answer to the sink. Where the words ask for help or the
 /// version it writes that text, and nothing is told of the sink; that is the one exception (docs/tool.md, "Words").
+/// What a fault means is noted in plain words, of which nothing is told (docs/tool.md, "What a fault means").
 pub fn smsc_main<S: Source, K: Sink>(
     alloc: Global,
     words: &[String],
     src: &mut S,
     out: &mut K,
+    note: &mut String,
 ) -> ToolStatus
     ensures unread { result ≡ ToolStatus.BadWords → src.new ≡ src.old }
     ensures unwritten { leaves_sink result ≡ true → out.new ≡ out.old }
+    ensures bad { result ≡ ToolStatus.BadWords → AreRefused (map string_bytes words.now) }
+    ensures refused { AreRefused (map string_bytes words.now) → (result ≡ ToolStatus.BadWords) ⊎ (result ≡ ToolStatus.NoMemory) }
+    ensures shown { AreShown (map string_bytes words.now) → (ends_shown result ≡ true) × (src.new ≡ src.old) }
     ensures words { EndsFor (map string_bytes words.now)
         (record { left = S.left src.old; read_faults = S.read_faults src.old; taken = K.taken out.old; write_faults = K.write_faults out.old })
         (record { left = S.left src.new; read_faults = S.read_faults src.new; taken = K.taken out.new; write_faults = K.write_faults out.new })
@@ -34,7 +40,7 @@ pub fn smsc_main<S: Source, K: Sink>(
         result }
 {
     match task_asked(alloc, words) {
-        Ok(task) => answer_source(alloc, task, src, out),
+        Ok(task) => answer_source(alloc, task, src, out, note),
         Err(WordsErr::Bad) => ToolStatus::BadWords,
         Err(WordsErr::Shown) => show(alloc, words, out),
         Err(WordsErr::NoMemory) => ToolStatus::NoMemory,
@@ -62,6 +68,7 @@ fn answer_source<S: Source, K: Sink>(
     task: Task,
     src: &mut S,
     out: &mut K,
+    note: &mut String,
 ) -> ToolStatus
     ensures words { result ≡ ToolStatus.BadWords → ⊥ }
     ensures unwritten { leaves_sink result ≡ true → out.new ≡ out.old }
@@ -76,7 +83,7 @@ fn answer_source<S: Source, K: Sink>(
         Err(ReadEnd::TooLong) => return ToolStatus::TooLong,
         Err(ReadEnd::NoMemory) => return ToolStatus::NoMemory,
     };
-    let (status, text) = match answer(alloc, task, bytes) {
+    let (status, text) = match answer(alloc, task, bytes, note) {
         Ok(found) => found,
         Err(NoAnswer::Script(fault)) => return ToolStatus::Script(fault),
         Err(NoAnswer::NoMemory) => return ToolStatus::NoMemory,

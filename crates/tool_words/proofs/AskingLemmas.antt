@@ -6,15 +6,18 @@ use Rattle.std.proofs.lemmas.Bool.{cases_Bool, and_parts}
 use Rattle.acs_tree.specs.Variables.{name_of}
 use Rattle.clap.proofs.WalkLemmas.{first_value-rows}
 use Rattle.clap.specs.Walk.{Row, Text}
-use Rattle.clap.specs.Words.{App, IsAmong, Kinds, fault_of, first_of, found_of, rows_of, subcommand_of, subcommand_rows_of}
+use Rattle.clap.specs.Words.{IsAmong, Kinds, fault_of, first_of, found_of, rows_of, subcommand_of, subcommand_rows_of}
 use Rattle.clap.specs.declared.parser.matches.ArgMatches.{ArgMatches}
 use Rattle.clap.specs.declared.error.kind.ErrorKind.{ErrorKind}
 use Rattle.clap.specs.declared.error.kind.ErrorKind.TheVariants as kind
 use Rattle.acs_tree.specs.declared.kind.Kind.{Kind}
 use Rattle.acs_tree.specs.declared.kind.Kind.TheVariants.{DataClas, StorClas, MgmtClas, StorGrp}
 use Rattle.clap.proofs.OnLiterals.{clap_on_literals}
-use Rattle.tool_words.specs.Tool.{IsTool, Names, tool_app, words_of}
-use Rattle.tool_words.specs.Asking.{AreRefused, AreShown, AskFor, AsksKind, Finds, Hinders, err_of, is_free, is_text}
+use Rattle.desk_common.specs.Exact.{IsExact, MayRefuse}
+use Rattle.desk_common.proofs.ExactLemmas.{exact_fault, exact_thing, exact_want}
+use Rattle.std.proofs.lemmas.Option.{same_Some}
+use Rattle.tool_words.specs.Tool.{kind_words, names_with, tool, words_of}
+use Rattle.tool_words.specs.Asking.{AreRefused, AreShown, AskFor, AsksKind, Finds, Hinders, err_of, is_free, is_one_of_three, is_refused, is_shown, is_text}
 use Rattle.tool_words.specs.declared.task.Task.{Task}
 use Rattle.tool_words.specs.declared.task.Task.TheVariants as tasks
 use Rattle.tool_words.specs.declared.words_err.WordsErr.{WordsErr}
@@ -55,48 +58,74 @@ some_kind (x ∷ xs) k among = refl
 both_hold : (a b : Bool) → a ≡ true → b ≡ true → (a && b) ≡ true
 both_hold a b x y = rw (x, y) refl
 
-tool_kinds : (a : App) (words : List Text) → IsTool a → is_alike (fault_of a words) ≡ true
-tool_kinds a words tool = let (names, kinds, e) = tool in ap (λ (x : App). is_alike (fault_of x words)) e ∙ tool_alike names words
+tool_kinds : (words : List Text) → is_alike (fault_of tool words) ≡ true
+tool_kinds words = tool_alike (names_with kind_words) words
 
-shown_by : (a : App) (words : List Text) (k : ErrorKind) → IsTool a → IsAmong k (fault_of a words) → is_text k ≡ true → AreShown words
-shown_by a words k tool among text = record { app = a; tool = tool; shown = both_hold _ _ (some_kind _ k among) (all_text _ k among (tool_kinds a words tool) text) }
+shown_by : (words : List Text) (k : ErrorKind) → IsAmong k (fault_of tool words) → is_text k ≡ true → AreShown words
+shown_by words k among text = both_hold _ _ (some_kind _ k among) (all_text _ k among (tool_kinds words) text)
 
-refused_by : (a : App) (words : List Text) (k : ErrorKind) → IsTool a → IsAmong k (fault_of a words) → is_text k ≡ false → AreRefused words
-refused_by a words k tool among text = record { app = a; tool = tool; refused = both_hold _ _ (some_kind _ k among) (none_text _ k among (tool_kinds a words tool) text) }
+refused_by : (words : List Text) (k : ErrorKind) → IsAmong k (fault_of tool words) → is_text k ≡ false → AreRefused words
+refused_by words k among text = both_hold _ _ (some_kind _ k among) (none_text _ k among (tool_kinds words) text)
+
+three_of : (kinds : Kinds) → is_alike kinds ≡ true → is_one_of_three kinds ≡ true
+unfolding is_alike
+three_of [] alike = refl
+three_of (k ∷ ks) alike = alike
+
+-- at any words the tool's command does one of the three
+pub tool_sorted : (words : List Text) → is_one_of_three (fault_of tool words) ≡ true
+tool_sorted words = three_of (fault_of tool words) (tool_kinds words)
+
+-- no reading does two of the three
+free_refused : (kinds : Kinds) → is_free kinds ≡ true → is_refused kinds ≡ true → ⊥
+free_refused [] x y = cc
+free_refused (k ∷ ks) x y = cc
+
+free_shown : (kinds : Kinds) → is_free kinds ≡ true → is_shown kinds ≡ true → ⊥
+free_shown [] x y = cc
+free_shown (k ∷ ks) x y = cc
+
+shown_refused : (kinds : Kinds) → is_shown kinds ≡ true → is_refused kinds ≡ true → ⊥
+shown_refused [] x y = cc
+shown_refused (k ∷ ks) x y =
+    clash (is_text k) (and_parts (is_text k) (list_all is_text ks) x).0 (and_parts (not (is_text k)) (list_all (λ z. not (is_text z)) ks) y).0
+
+-- words may be hindered for this cause, or memory is wanting
+abbrev pub MayHinder : List Text → WordsErr → Type 0
+MayHinder words = MayRefuse (Hinders words) (Some errs.NoMemory)
 
 -- an error of this kind says why words ask for no task
-hindered_by : (a : App) (words : List Text) (k : ErrorKind) → IsTool a → IsAmong k (fault_of a words) → Hinders words (err_of k)
-hindered_by a words kind.InvalidValue tool among = refused_by a words kind.InvalidValue tool among refl
-hindered_by a words kind.UnknownArgument tool among = refused_by a words kind.UnknownArgument tool among refl
-hindered_by a words kind.InvalidSubcommand tool among = refused_by a words kind.InvalidSubcommand tool among refl
-hindered_by a words kind.NoEquals tool among = refused_by a words kind.NoEquals tool among refl
-hindered_by a words kind.ValueValidation tool among = refused_by a words kind.ValueValidation tool among refl
-hindered_by a words kind.TooManyValues tool among = refused_by a words kind.TooManyValues tool among refl
-hindered_by a words kind.TooFewValues tool among = refused_by a words kind.TooFewValues tool among refl
-hindered_by a words kind.WrongNumberOfValues tool among = refused_by a words kind.WrongNumberOfValues tool among refl
-hindered_by a words kind.ArgumentConflict tool among = refused_by a words kind.ArgumentConflict tool among refl
-hindered_by a words kind.MissingRequiredArgument tool among = refused_by a words kind.MissingRequiredArgument tool among refl
-hindered_by a words kind.MissingSubcommand tool among = refused_by a words kind.MissingSubcommand tool among refl
-hindered_by a words kind.DisplayHelp tool among = shown_by a words kind.DisplayHelp tool among refl
-hindered_by a words kind.DisplayHelpOnMissingArgumentOrSubcommand tool among = refused_by a words kind.DisplayHelpOnMissingArgumentOrSubcommand tool among refl
-hindered_by a words kind.DisplayVersion tool among = shown_by a words kind.DisplayVersion tool among refl
-hindered_by a words kind.Io tool among = refused_by a words kind.Io tool among refl
-hindered_by a words kind.Format tool among = refused_by a words kind.Format tool among refl
-hindered_by a words kind.OutOfMemory tool among = tt
+hindered_by : (words : List Text) (k : ErrorKind) → IsAmong k (fault_of tool words) → MayHinder words (err_of k)
+hindered_by words kind.InvalidValue among = inl (refused_by words kind.InvalidValue among refl)
+hindered_by words kind.UnknownArgument among = inl (refused_by words kind.UnknownArgument among refl)
+hindered_by words kind.InvalidSubcommand among = inl (refused_by words kind.InvalidSubcommand among refl)
+hindered_by words kind.NoEquals among = inl (refused_by words kind.NoEquals among refl)
+hindered_by words kind.ValueValidation among = inl (refused_by words kind.ValueValidation among refl)
+hindered_by words kind.TooManyValues among = inl (refused_by words kind.TooManyValues among refl)
+hindered_by words kind.TooFewValues among = inl (refused_by words kind.TooFewValues among refl)
+hindered_by words kind.WrongNumberOfValues among = inl (refused_by words kind.WrongNumberOfValues among refl)
+hindered_by words kind.ArgumentConflict among = inl (refused_by words kind.ArgumentConflict among refl)
+hindered_by words kind.MissingRequiredArgument among = inl (refused_by words kind.MissingRequiredArgument among refl)
+hindered_by words kind.MissingSubcommand among = inl (refused_by words kind.MissingSubcommand among refl)
+hindered_by words kind.DisplayHelp among = inl (shown_by words kind.DisplayHelp among refl)
+hindered_by words kind.DisplayHelpOnMissingArgumentOrSubcommand among = inl (refused_by words kind.DisplayHelpOnMissingArgumentOrSubcommand among refl)
+hindered_by words kind.DisplayVersion among = inl (shown_by words kind.DisplayVersion among refl)
+hindered_by words kind.Io among = inl (refused_by words kind.Io among refl)
+hindered_by words kind.Format among = inl (refused_by words kind.Format among refl)
+hindered_by words kind.OutOfMemory among = inr refl
 
-memory_hinders : (words : List Text) (k : ErrorKind) → k ≡ kind.OutOfMemory → Hinders words (err_of k)
-memory_hinders words k e = subst (λ (x : ErrorKind). Hinders words (err_of x)) (sym e) tt
+pub wanted : (words : List Text) (e : WordsErr) → e ≡ errs.NoMemory → MayHinder words e
+wanted words e is = inr (ap Some (sym is))
 
-pub hindered : (words : List Text) (k : ErrorKind) → ((k ≡ kind.OutOfMemory) ⊎ ((a : App) × IsTool a × IsAmong k (fault_of a words))) → Hinders words (err_of k)
+pub hindered : (words : List Text) (k : ErrorKind) → ((k ≡ kind.OutOfMemory) ⊎ IsAmong k (fault_of tool words)) → MayHinder words (err_of k)
 hindered words k why = elim why [
-  | inl memory ↦ memory_hinders words k memory
-  | inr other ↦ let (a, tool, among) = other in hindered_by a words k tool among
+  | inl memory ↦ wanted words (err_of k) (ap err_of memory)
+  | inr among ↦ hindered_by words k among
 ]
 
-pub asked : (words : List Text) (matches : ArgMatches) (task : Task) → ((a : App) × IsTool a × (fault_of a words ≡ []) × (subcommand_rows_of matches ≡ subcommand_of a words)) → Finds (subcommand_rows_of matches) task → AskFor words task
+pub asked : (words : List Text) (matches : ArgMatches) (task : Task) → ((fault_of tool words ≡ []) × (subcommand_rows_of matches ≡ subcommand_of tool words)) → Finds (subcommand_rows_of matches) task → AskFor words task
 asked words matches task read finds =
-    let (a, tool, none, found) = read in
-    record { app = a; tool = tool; free = ap is_free none; found = subst (λ (x : Option (Text × List Row)). Finds x task) found finds }
+    record { free = ap is_free read.0; found = subst (λ (x : Option (Text × List Row)). Finds x task) read.1 finds }
 
 pub translation_found : (found : Option (Text × List Row)) (inner : ArgMatches) (task : Task) → found ≡ Some (codes "translate", rows_of (found_of inner)) → AsksKind inner task → Finds found task
 translation_found found inner (tasks.Translate kind) e asks = (rows_of (found_of inner), e, sym (first_value-rows (found_of inner) (codes "kind")) ∙ asks)
@@ -123,21 +152,21 @@ abbrev kind_found : Option (Text × List Row) → Option Text
 kind_found None = None
 kind_found (Some found) = first_of (codes "kind") found.1
 
-names_found : (names : Names) (task : Task) → name_found (subcommand_of (tool_app names) (words_of task)) ≡ name_in task
+names_found : (task : Task) → name_found (subcommand_of tool (words_of task)) ≡ name_in task
 unfolding clap_on_literals
-names_found names (tasks.Translate DataClas) = refl
-names_found names (tasks.Translate StorClas) = refl
-names_found names (tasks.Translate MgmtClas) = refl
-names_found names (tasks.Translate StorGrp) = refl
-names_found names tasks.Validate = refl
-names_found names tasks.Simulate = refl
+names_found (tasks.Translate DataClas) = refl
+names_found (tasks.Translate StorClas) = refl
+names_found (tasks.Translate MgmtClas) = refl
+names_found (tasks.Translate StorGrp) = refl
+names_found tasks.Validate = refl
+names_found tasks.Simulate = refl
 
-kinds_found : (names : Names) (kind : Kind) → kind_found (subcommand_of (tool_app names) (words_of (tasks.Translate kind))) ≡ Some (name_of kind)
+kinds_found : (kind : Kind) → kind_found (subcommand_of tool (words_of (tasks.Translate kind))) ≡ Some (name_of kind)
 unfolding clap_on_literals
-kinds_found names DataClas = refl
-kinds_found names StorClas = refl
-kinds_found names MgmtClas = refl
-kinds_found names StorGrp = refl
+kinds_found DataClas = refl
+kinds_found StorClas = refl
+kinds_found MgmtClas = refl
+kinds_found StorGrp = refl
 
 -- the first and the last byte of a name, and its length, tell the kinds apart
 abbrev first : List ℕ → ℕ
@@ -175,25 +204,63 @@ found_kinds : (found : Option (Text × List Row)) (kind : Kind) → Finds found 
 found_kinds found kind finds = ap kind_found finds.1 ∙ finds.2
 
 -- two tasks with one subcommand and one KIND are one task
-one_task : (names : Names) (one two : Task) → name_in one ≡ name_in two → Finds (subcommand_of (tool_app names) (words_of one)) two → two ≡ one
-one_task names (tasks.Translate one) (tasks.Translate two) e finds =
-    ap tasks.Translate (one_name two one (ap text_or_none (sym (found_kinds _ two finds) ∙ kinds_found names one)))
-one_task names (tasks.Translate one) tasks.Validate e finds = absurd (omega (arith, ap first e))
-one_task names (tasks.Translate one) tasks.Simulate e finds = absurd (omega (arith, ap first e))
-one_task names tasks.Validate (tasks.Translate two) e finds = absurd (omega (arith, ap first e))
-one_task names tasks.Validate tasks.Validate e finds = refl
-one_task names tasks.Validate tasks.Simulate e finds = absurd (omega (arith, ap first e))
-one_task names tasks.Simulate (tasks.Translate two) e finds = absurd (omega (arith, ap first e))
-one_task names tasks.Simulate tasks.Validate e finds = absurd (omega (arith, ap first e))
-one_task names tasks.Simulate tasks.Simulate e finds = refl
+one_task : (one two : Task) (found : Option (Text × List Row)) → Finds found one → Finds found two → name_in one ≡ name_in two → one ≡ two
+one_task (tasks.Translate one) (tasks.Translate two) found a b e =
+    ap tasks.Translate (one_name one two (ap text_or_none (sym (found_kinds found one a) ∙ found_kinds found two b)))
+one_task (tasks.Translate one) tasks.Validate found a b e = absurd (omega (arith, ap first e))
+one_task (tasks.Translate one) tasks.Simulate found a b e = absurd (omega (arith, ap first e))
+one_task tasks.Validate (tasks.Translate two) found a b e = absurd (omega (arith, ap first e))
+one_task tasks.Validate tasks.Validate found a b e = refl
+one_task tasks.Validate tasks.Simulate found a b e = absurd (omega (arith, ap first e))
+one_task tasks.Simulate (tasks.Translate two) found a b e = absurd (omega (arith, ap first e))
+one_task tasks.Simulate tasks.Validate found a b e = absurd (omega (arith, ap first e))
+one_task tasks.Simulate tasks.Simulate found a b e = refl
+
+-- words ask for one task at most
+pub one_asked : (words : List Text) (one two : Task) → AskFor words one → AskFor words two → one ≡ two
+one_asked words one two a b =
+    one_task one two (subcommand_of tool words) a.found b.found (sym (found_names _ one a.found) ∙ found_names _ two b.found)
+
+-- words that ask for a task are neither refused nor shown
+pub asked_once : (words : List Text) (task : Task) (e : WordsErr) → AskFor words task → Hinders words e → ⊥
+asked_once words task errs.Bad a h = free_refused (fault_of tool words) a.free h
+asked_once words task errs.Shown a h = free_shown (fault_of tool words) a.free h
+asked_once words task errs.NoMemory a h = h
+
+-- there is one cause at most
+one_cause : (words : List Text) (one two : WordsErr) → Hinders words one → Hinders words two → one ≡ two
+one_cause words errs.Bad errs.Bad a b = refl
+one_cause words errs.Bad errs.Shown a b = absurd (shown_refused (fault_of tool words) b a)
+one_cause words errs.Bad errs.NoMemory a b = absurd b
+one_cause words errs.Shown errs.Bad a b = absurd (shown_refused (fault_of tool words) a b)
+one_cause words errs.Shown errs.Shown a b = refl
+one_cause words errs.Shown errs.NoMemory a b = absurd b
+one_cause words errs.NoMemory two a b = absurd a
+
+pub exact_task : (words : List Text) (result : Result Task WordsErr) → IfOk result (AskFor words) → IfErr result (MayHinder words) → IsExact (AskFor words) (Hinders words) (Some errs.NoMemory) result
+exact_task words (Ok task) asks hinders = exact_thing (λ other b. one_asked words task other asks b) (λ e h. asked_once words task e asks h)
+exact_task words (Err e) asks hinders = elim hinders [
+  | inl fault ↦ exact_fault (λ task a. asked_once words task e a fault) (λ other h. one_cause words e other fault h)
+  | inr memory ↦ subst (λ (x : WordsErr). IsExact (AskFor words) (Hinders words) (Some errs.NoMemory) (Err x)) (same_Some _ _ memory) exact_want
+]
+
+of_words : (task found : Task) → Finds (subcommand_of tool (words_of task)) found → name_in task ≡ name_in found → found ≡ task
+of_words (tasks.Translate one) (tasks.Translate two) finds e =
+    ap tasks.Translate (one_name two one (ap text_or_none (sym (found_kinds _ two finds) ∙ kinds_found one)))
+of_words (tasks.Translate one) tasks.Validate finds e = absurd (omega (arith, ap first e))
+of_words (tasks.Translate one) tasks.Simulate finds e = absurd (omega (arith, ap first e))
+of_words tasks.Validate (tasks.Translate two) finds e = absurd (omega (arith, ap first e))
+of_words tasks.Validate tasks.Validate finds e = refl
+of_words tasks.Validate tasks.Simulate finds e = absurd (omega (arith, ap first e))
+of_words tasks.Simulate (tasks.Translate two) finds e = absurd (omega (arith, ap first e))
+of_words tasks.Simulate tasks.Validate finds e = absurd (omega (arith, ap first e))
+of_words tasks.Simulate tasks.Simulate finds e = refl
 
 -- the words of a task ask for no other
-pub task_found : (words : List Text) (task found : Task) → words ≡ words_of task → AskFor words found → found ≡ task
+task_found : (words : List Text) (task found : Task) → words ≡ words_of task → AskFor words found → found ≡ task
 task_found words task found w asks =
-    let (names, kinds, e) = asks.tool in
-    let finds : Finds (subcommand_of (tool_app names) (words_of task)) found =
-    subst (λ (x : List Text). Finds (subcommand_of (tool_app names) x) found) w (subst (λ (a : App). Finds (subcommand_of a words) found) e asks.found) in
-    one_task names task found (sym (names_found names task) ∙ found_names _ found finds) finds
+    let finds : Finds (subcommand_of tool (words_of task)) found = subst (λ (x : List Text). Finds (subcommand_of tool x) found) w asks.found in
+    of_words task found finds (sym (names_found task) ∙ found_names _ found finds)
 
 pub matched : (words : List Text) (task : Task) (result : Result Task WordsErr) → words ≡ words_of task → IfOk result (AskFor words) → IfErr result (λ err. err ≡ errs.NoMemory)
     → MatchResult result (λ found. found ≡ task) (λ err. err ≡ errs.NoMemory)

@@ -1,3 +1,4 @@
 mod ToolLemmas
 mod AlikeLemmas
+mod PlaceLemmas
 mod AskingLemmas

@@ -1,5 +1,5 @@
 -- The tool's command on its words.
-use Rattle.std.proofs.Common.{◌≡◌, refl, ap, ◌∙◌, List, [], ◌∷◌, map, true, false, codes, inl, inr, Bor, Result, Ok, Err, IfOk, IfErr, ◌⊎◌, Option, Some, None, option_map, Box}
+use Rattle.std.proofs.Common.{◌≡◌, refl, ap, sym, subst, ◌∙◌, List, [], ◌∷◌, map, true, false, codes, inl, inr, Bor, Result, Ok, Err, IfOk, IfErr, ◌⊎◌, Option, Some, None, option_map, Box}
 use Rattle.std.specs.Box.{box_value}
 use Rattle.std.proofs.lemmas.Option.{same_Some}
 use Rattle.clap.specs.Walk.{Row}
@@ -10,12 +10,13 @@ use Rattle.clap.specs.declared.parser.matches.ArgMatches.TheViews.{out-ArgMatche
 use Rattle.std.specs.List.{list_any}
 use Rattle.clap.specs.Values.{same_text}
 use Rattle.clap.specs.Walk.{Text}
-use Rattle.clap.specs.Words.{App, is_simple, takes, is_simple_and_free, FailsBy, IsAmong, fault_of, HasMatchesOf, subcommand_of, subcommand_rows_of, kind_of}
+use Rattle.clap.specs.Words.{App, Kinds, is_simple, takes, is_simple_and_free, FailsBy, IsAmong, fault_of, HasMatchesOf, subcommand_of, subcommand_rows_of, kind_of}
 use Rattle.clap.specs.declared.parser.matches.ArgMatches.{ArgMatches}
 use Rattle.clap.specs.declared.error.Error.{Error}
 use Rattle.clap.specs.declared.error.kind.ErrorKind.TheVariants.{OutOfMemory}
 use Rattle.clap.proofs.OnLiterals.{clap_on_literals}
-use Rattle.tool_words.specs.Tool.{Names, tool_app, kind_words, IsTool, words_of}
+use Rattle.tool_words.specs.Tool.{Names, tool_app, kind_words, IsTool, tool as the_tool, words_of}
+use Rattle.tool_words.proofs.PlaceLemmas.{tool_fault, tool_subcommand}
 use Rattle.acs_tree.specs.declared.kind.Kind.TheVariants.{DataClas, StorClas, MgmtClas, StorGrp}
 use Rattle.tool_words.specs.declared.task.Task.{Task}
 use Rattle.tool_words.specs.declared.task.Task.TheVariants as tasks
@@ -77,16 +78,16 @@ pub tool_free : (a : App) → IsTool a → is_simple_and_free a ≡ true
 tool_free a tool = let (names, kinds, e) = tool in ap is_simple_and_free e ∙ is_free-tool names
 
 pub ok_case : (r : Result ArgMatches Error) (a : App) (words : List Text) → IsTool a → (is_simple_and_free a ≡ true → FailsBy (fault_of a words) r) → IfOk r (HasMatchesOf a words)
-    → IfOk r (λ m. (a : App) × IsTool a × (fault_of a words ≡ []) × (subcommand_rows_of m ≡ subcommand_of a words))
-ok_case (Ok m) a words tool fails h = (a, tool, fails (tool_free a tool), (h (tool_simple a tool)).1)
+    → IfOk r (λ m. (fault_of the_tool words ≡ []) × (subcommand_rows_of m ≡ subcommand_of the_tool words))
+ok_case (Ok m) a words tool fails h = (sym (tool_fault a words tool) ∙ fails (tool_free a tool), (h (tool_simple a tool)).1 ∙ tool_subcommand a words tool)
 ok_case (Err e) a words tool fails h = h
 
 pub err_case : (r : Result ArgMatches Error) (a : App) (words : List Text) → IsTool a → (is_simple_and_free a ≡ true → FailsBy (fault_of a words) r)
-    → IfErr r (λ e. (kind_of e ≡ OutOfMemory) ⊎ ((a : App) × IsTool a × IsAmong (kind_of e) (fault_of a words)))
+    → IfErr r (λ e. (kind_of e ≡ OutOfMemory) ⊎ IsAmong (kind_of e) (fault_of the_tool words))
 err_case (Ok m) a words tool fails = tt
 err_case (Err e) a words tool fails = elim (fails (tool_free a tool)) [
   | inl memory ↦ inl memory
-  | inr other ↦ inr (a, tool, other)
+  | inr other ↦ inr (subst (λ (kinds : Kinds). IsAmong (kind_of e) kinds) (tool_fault a words tool) other)
 ]
 
 pub pair_from : {A B : Type 0} (o : Option (A × B)) (a : A) (b : B) → Some a ≡ option_map (λ p. p.0) o → Some b ≡ option_map (λ p. p.1) o → o ≡ Some (a, b)

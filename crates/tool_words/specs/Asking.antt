@@ -1,12 +1,12 @@
 -- What words ask for, by the command that reads them (docs/tool.md, "Words").
-use Rattle.std.specs.Prelude.{◌≡◌, Bool, true, false, not, ◌&&◌, List, [], ◌∷◌, Option, Some, codes}
+use Rattle.std.specs.Prelude.{◌≡◌, Bool, true, false, not, ◌&&◌, ◌||◌, List, [], ◌∷◌, Option, Some, codes}
 use Rattle.std.specs.List.{list_all}
 use Rattle.acs_tree.specs.Variables.{name_of}
-use Rattle.clap.specs.Words.{App, Kinds, Row, Text, fault_of, first_of, first_value, found_of, subcommand_of}
+use Rattle.clap.specs.Words.{Kinds, Row, Text, fault_of, first_of, first_value, found_of, subcommand_of}
 use Rattle.clap.specs.declared.parser.matches.ArgMatches.{ArgMatches}
 use Rattle.clap.specs.declared.error.kind.ErrorKind.{ErrorKind}
 use Rattle.clap.specs.declared.error.kind.ErrorKind.TheVariants as kind
-use Rattle.tool_words.specs.Tool.{IsTool}
+use Rattle.tool_words.specs.Tool.{tool}
 use Rattle.tool_words.specs.declared.task.Task.{Task}
 use Rattle.tool_words.specs.declared.task.Task.TheVariants as tasks
 use Rattle.tool_words.specs.declared.words_err.WordsErr.{WordsErr}
@@ -37,30 +37,28 @@ Finds found (tasks.Translate kind) = (rows : List Row) × (found ≡ Some (codes
 Finds found tasks.Validate = (rows : List Row) × (found ≡ Some (codes "validate", rows))
 Finds found tasks.Simulate = (rows : List Row) × (found ≡ Some (codes "simulate", rows))
 
+-- the reading does one of the three
+abbrev pub is_one_of_three : Kinds → Bool
+is_one_of_three kinds = is_free kinds || (is_shown kinds || is_refused kinds)
+
 -- by the tool's command the words are free of faults and ask for this task
 pub record AskFor (words : List Text) (task : Task) : Type 0 where
-  pub app : App
-  pub tool : IsTool app
-  pub free : is_free (fault_of app words) ≡ true
-  pub found : Finds (subcommand_of app words) task
+  pub free : is_free (fault_of tool words) ≡ true
+  pub found : Finds (subcommand_of tool words) task
 
 -- the tool's command refuses the words
-pub record AreRefused (words : List Text) : Type 0 where
-  pub app : App
-  pub tool : IsTool app
-  pub refused : is_refused (fault_of app words) ≡ true
+abbrev pub AreRefused : List Text → Type 0
+AreRefused words = is_refused (fault_of tool words) ≡ true
 
 -- the tool's command answers the words with a text of help or of the version
-pub record AreShown (words : List Text) : Type 0 where
-  pub app : App
-  pub tool : IsTool app
-  pub shown : is_shown (fault_of app words) ≡ true
+abbrev pub AreShown : List Text → Type 0
+AreShown words = is_shown (fault_of tool words) ≡ true
 
--- why words ask for no task; want of memory says nothing of them
+-- why words ask for no task
 abbrev pub Hinders : List Text → WordsErr → Type 0
 Hinders words errs.Bad = AreRefused words
 Hinders words errs.Shown = AreShown words
-Hinders words errs.NoMemory = Unit {0}
+Hinders words errs.NoMemory = ⊥
 
 -- the word KIND among these matches names a kind
 abbrev pub AsksKind : ArgMatches → Task → Type 0

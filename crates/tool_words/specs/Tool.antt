@@ -31,9 +31,25 @@ tool_app names =
     (new_shape (codes "validate")))
     (new_shape (codes "simulate"))
 
--- the command of the tool
+-- the texts behind the names
+abbrev pub texts_of : Names → List Text
+texts_of names = map (λ n. n.now) names.now
+
+-- the command with the names of the four kinds, wherever they lie
 abbrev pub IsTool : App → Type 0
-IsTool a = (names : Names) × (map (λ n. n.now) names.now ≡ kind_words) × (a ≡ tool_app names)
+IsTool a = (names : Names) × (texts_of names ≡ kind_words) × (a ≡ tool_app names)
+
+-- a value behind a reference of which the place doesn't matter
+abbrev pub lent : {A : Type 0} → A → Bor A
+lent x = record { ref_ptr = (0, 0); now = x }
+
+-- the names with these texts
+abbrev pub names_with : List Text → Names
+names_with texts = lent (map lent texts)
+
+-- the command of the tool
+abbrev pub tool : App
+tool = tool_app (names_with kind_words)
 
 -- the words that ask for a translation are `translate` and the name of the kind; those that ask for a validation are `validate`,
 -- those that ask for a simulation `simulate`

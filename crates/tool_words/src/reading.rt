@@ -1,8 +1,9 @@
 //! Reading the words.
-ghost use Rattle.std.specs.Prelude.{◌≡◌, ◌⊎◌, [], IfOk, IfErr, MatchResult, codes, map, string_bytes};
-ghost use Rattle.clap.specs.Words.{App, kind_of, IsAmong, fault_of, subcommand_of, subcommand_rows_of};
-ghost use Rattle.tool_words.specs.Asking.{AskFor, AsksKind, Finds, Hinders, err_of};
-ghost use Rattle.tool_words.specs.Tool.{IsTool, words_of};
+ghost use Rattle.std.specs.Prelude.{◌≡◌, ◌⊎◌, [], true, Some, IfOk, IfErr, MatchResult, map, string_bytes};
+ghost use Rattle.clap.specs.Words.{kind_of, IsAmong, fault_of, subcommand_of, subcommand_rows_of};
+ghost use Rattle.desk_common.specs.Exact.{IsExact, MayRefuse};
+ghost use Rattle.tool_words.specs.Asking.{AskFor, AsksKind, Finds, Hinders, err_of, is_one_of_three};
+ghost use Rattle.tool_words.specs.Tool.{tool, words_of};
 ghost use Rattle.tool_words.specs.declared.task.Task.{Task as TaskOf};
 
 use crate::command::tool_command;
@@ -15,10 +16,10 @@ use std::alloc::{AllocError, Global};
 
 // What the tool's command finds in the words.
 fn read_matches<'a>(alloc: Global, words: &'a [String]) -> Result<ArgMatches<'a>, Error>
-    ensures ok { IfOk result (λ m. (a : App) × IsTool a × (fault_of a (map string_bytes words.entry.now) ≡ [])
-        × (subcommand_rows_of m ≡ subcommand_of a (map string_bytes words.entry.now))) }
+    ensures ok { IfOk result (λ m. (fault_of tool (map string_bytes words.entry.now) ≡ [])
+        × (subcommand_rows_of m ≡ subcommand_of tool (map string_bytes words.entry.now))) }
     ensures err { IfErr result (λ e. (kind_of e ≡ ErrorKind.OutOfMemory)
-        ⊎ ((a : App) × IsTool a × IsAmong (kind_of e) (fault_of a (map string_bytes words.entry.now)))) }
+        ⊎ IsAmong (kind_of e) (fault_of tool (map string_bytes words.entry.now))) }
     ensures known { (task : TaskOf) → map string_bytes words.entry.now ≡ words_of task → IfErr result (λ e. kind_of e ≡ ErrorKind.OutOfMemory) }
 {
     let tool = tool_command(alloc)?;
@@ -28,7 +29,9 @@ fn read_matches<'a>(alloc: Global, words: &'a [String]) -> Result<ArgMatches<'a>
 /// What the words ask for, or why they ask for nothing (docs/tool.md, "Words").
 pub fn task_asked(alloc: Global, words: &[String]) -> Result<Task, WordsErr>
     ensures asked { IfOk result (AskFor (map string_bytes words.now)) }
-    ensures hindered { IfErr result (Hinders (map string_bytes words.now)) }
+    ensures hindered { IfErr result (MayRefuse (Hinders (map string_bytes words.now)) (Some WordsErr.NoMemory)) }
+    ensures exactly { IsExact (AskFor (map string_bytes words.now)) (Hinders (map string_bytes words.now)) (Some WordsErr.NoMemory) result }
+    ensures sorted { is_one_of_three (fault_of tool (map string_bytes words.now)) ≡ true }
     ensures known { (task : TaskOf) → map string_bytes words.now ≡ words_of task → MatchResult result (λ found. found ≡ task) (λ err. err ≡ WordsErr.NoMemory) }
 {
     match read_matches(alloc, words) {

@@ -1,22 +1,44 @@
 use Rattle.std.proofs.Common.{◌∙◌, ap, map, sym, subst}
-use Rattle.std.specs.Prelude.{string_bytes}
-use Rattle.std.proofs.lemmas.Result.{IfOk-weaker}
+use Rattle.std.specs.Prelude.{string_bytes, Err}
+use Rattle.std.proofs.lemmas.Result.{IfErr-weaker, IfOk-weaker}
 use Rattle.clap.specs.Words.{kind_of}
 use Rattle.clap.specs.declared.error.kind.ErrorKind.{ErrorKind}
-use Rattle.tool_words.specs.Asking.{Hinders, err_of}
-use Rattle.tool_words.specs.declared.words_err.WordsErr.{WordsErr}
-use Rattle.tool_words.proofs.AskingLemmas.{asked, hindered, matched}
+use Rattle.tool_words.specs.Asking.{err_of}
+use Rattle.tool_words.proofs.AskingLemmas.{MayHinder, asked, exact_task, hindered, matched, tool_sorted, wanted}
 use Rattle.tool_words.proofs.reading.task_asked.Goals as goal
 
 pub returns-in-Ok-clause-asked : goal.returns-in-Ok-clause-asked
 returns-in-Ok-clause-asked c =
     IfOk-weaker c.task_in.result _ _ (λ task finds. asked (map string_bytes c.args.words.now) c.in-Ok.matches task c.in-Ok.ensures.ok finds) c.task_in.ensures.asked
 
+pub returns-in-Ok-clause-hindered : goal.returns-in-Ok-clause-hindered
+returns-in-Ok-clause-hindered c = IfErr-weaker c.task_in.result _ _ (wanted (map string_bytes c.args.words.now)) c.task_in.ensures.memory
+
+pub returns-in-Ok-clause-exactly : goal.returns-in-Ok-clause-exactly
+returns-in-Ok-clause-exactly c =
+    let words = map string_bytes c.args.words.now in
+    exact_task words c.task_in.result
+    (IfOk-weaker c.task_in.result _ _ (λ task finds. asked words c.in-Ok.matches task c.in-Ok.ensures.ok finds) c.task_in.ensures.asked)
+    (IfErr-weaker c.task_in.result _ _ (wanted words) c.task_in.ensures.memory)
+
+pub returns-in-Ok-clause-sorted : goal.returns-in-Ok-clause-sorted
+returns-in-Ok-clause-sorted c = tool_sorted (map string_bytes c.args.words.now)
+
+pub returns-in-Err-clause-sorted : goal.returns-in-Err-clause-sorted
+returns-in-Err-clause-sorted c = tool_sorted (map string_bytes c.args.words.now)
+
 pub returns-in-Err-clause-hindered : goal.returns-in-Err-clause-hindered
 returns-in-Err-clause-hindered c =
     let words = map string_bytes c.args.words.now in
-    subst (λ (x : WordsErr). Hinders words x) (sym c.words_err.ensures)
-    (subst (λ (k : ErrorKind). Hinders words (err_of k)) (sym c.kind.ensures) (hindered words (kind_of c.in-Err.error) c.in-Err.ensures.err))
+    subst (MayHinder words) (sym c.words_err.ensures)
+    (subst (λ (k : ErrorKind). MayHinder words (err_of k)) (sym c.kind.ensures) (hindered words (kind_of c.in-Err.error) c.in-Err.ensures.err))
+
+pub returns-in-Err-clause-exactly : goal.returns-in-Err-clause-exactly
+returns-in-Err-clause-exactly c =
+    let words = map string_bytes c.args.words.now in
+    exact_task words (Err c.words_err.result) tt
+    (subst (MayHinder words) (sym c.words_err.ensures)
+    (subst (λ (k : ErrorKind). MayHinder words (err_of k)) (sym c.kind.ensures) (hindered words (kind_of c.in-Err.error) c.in-Err.ensures.err)))
 
 pub returns-in-Ok-clause-known : goal.returns-in-Ok-clause-known
 returns-in-Ok-clause-known c task w =

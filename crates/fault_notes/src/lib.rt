@@ -1,0 +1,20 @@
+//! What a fault means and where it stands, in plain words for the person at the terminal.
+#![tactic(auto)]
+
+mod assigned;
+mod deck;
+mod deck_part;
+mod finding;
+mod keys;
+mod place;
+mod routine;
+mod script;
+mod showing;
+mod source;
+mod spot;
+mod wording;
+
+pub use deck::deck_note;
+pub use deck_part::DeckPart;
+pub use routine::routine_note;
+pub use script::{misplaced_note, script_note};
