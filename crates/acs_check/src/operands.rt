@@ -1,7 +1,7 @@
 // What the checks ask of an operand (docs/acs-language.md, Kinds that suit).
 ghost use Rattle.std.specs.Prelude.{◌≡◌, ◌&&◌, ◌||◌, ◌==◌, not, is_some, is_none, true, length, if◌then◌else◌};
 ghost use Rattle.std.specs.Str.{bytes_eq};
-ghost use Rattle.acs_tree.specs.Numbers.{is_number, is_size, is_fit_number, is_fit_size, is_between};
+ghost use Rattle.acs_tree.specs.Numbers.{is_between, is_past_greatest, number_of, size_of};
 ghost use Rattle.acs_tree.specs.FilterLists.{is_mask, is_simple_list, list_named};
 ghost use Rattle.acs_tree.specs.References.{is_known, passes, is_misindexed, is_set_later, takes_masks, is_whole_name, is_number_variable, is_size_variable, is_group_list};
 ghost use Rattle.acs_tree.specs.Suits.{is_listed, is_plain_unknown, takes_simple, token_by, token_of, is_var_with, is_word_with, is_literal_with, is_left_with, suits_text, suits_volumes, suits_number, suits_size, suits_kind, suits, suits_set, is_bad_literal, is_too_great, is_mask_beside, is_bad_mask, is_bad_list, is_among};
@@ -11,12 +11,12 @@ use crate::earlier::Earlier;
 use crate::item::Item;
 use crate::lists::{is_mask, is_simple};
 use crate::named::Named;
-use crate::numbers::{is_between, is_fit_number, is_fit_size, is_size};
+use crate::numbers::{is_between, is_great_number, is_great_size};
 use crate::references::{
     is_group_list, is_misindexed, is_number_variable, is_set_later, is_size_variable, is_text,
     takes_masks,
 };
-use acs_tree::{Ident, Kind, Operand, OperandForm, Ref, VariableKind, is_number};
+use acs_tree::{Ident, Kind, Operand, OperandForm, Ref, VariableKind, is_number, is_size};
 use dsn_mask::{Lit, Name};
 
 /// The token of an operand: of a variable, the variable's.
@@ -206,10 +206,10 @@ pub fn is_bad_value(before: &[Operand], behind: &[Operand], form: &OperandForm) 
 }
 
 fn is_great_beside(left: &Named<'_>, word: &[u8]) -> bool
-    ensures { result ≡ ((is_number_variable left.now && (is_number word.now && not (is_fit_number word.now))) || (is_size_variable left.now && (is_size word.now && not (is_fit_size word.now)))) }
+    ensures { result ≡ ((is_number_variable left.now && is_past_greatest (number_of word.now)) || (is_size_variable left.now && is_past_greatest (size_of word.now))) }
 {
-    (is_number_variable(left.row()) && is_number(word) && !is_fit_number(word))
-        || (is_size_variable(left.row()) && is_size(word) && !is_fit_size(word))
+    (is_number_variable(left.row()) && is_great_number(word))
+        || (is_size_variable(left.row()) && is_great_size(word))
 }
 
 fn is_great_word(left: &Option<Named<'_>>, word: &[u8]) -> bool

@@ -1,4 +1,3 @@
-pub mod NumberLemmas
 pub mod GroupLemmas
 pub mod ListLemmas
 pub mod Pieces

@@ -3,5 +3,4 @@ pub mod Stands
 pub mod Upward
 pub mod Compiled
 pub mod Arms
-pub mod Digits
 pub mod Rights

@@ -10,10 +10,9 @@ ghost use Rattle.acs_code.specs.Compiled.{filters_of};
 ghost use Rattle.acs_code.specs.Rights.{IsRightIfAny};
 
 use crate::lists::Lists;
-use crate::numbers::{number, size};
 use crate::parts::slot;
 use crate::right::Right;
-use acs_tree::{Ident, Operand, OperandForm, Ref, Variable, VariableKind};
+use acs_tree::{Ident, Operand, OperandForm, Ref, Variable, VariableKind, number, size};
 use dsn_mask::{Mask, Simple};
 
 /// What an operand is beside a variable, if it is something that the variable can be compared with.
@@ -41,7 +40,7 @@ fn word_beside(kind: VariableKind, whole: bool, word: &Ident) -> Option<Right>
         VariableKind::Text | VariableKind::Volumes | VariableKind::Groups => mask_right(
             whole, word,
         ),
-        VariableKind::Number => counted(number(word.bytes())),
+        VariableKind::Number => counted(number(word.bytes(), 0, u64::MAX)),
         VariableKind::Size => counted(size(word.bytes())),
     }
 }

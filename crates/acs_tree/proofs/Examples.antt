@@ -11,7 +11,7 @@ use Rattle.acs_tree.specs.declared.routine.OperandForm.TheVariants.{Literal, Wor
 use Rattle.acs_tree.specs.declared.routine.Ref.{Ref}
 use Rattle.acs_tree.specs.declared.routine.Stmt.{Stmt}
 use Rattle.acs_tree.specs.declared.ending.Ending.TheVariants.{Falls, Exit}
-use Rattle.acs_tree.specs.Comparands.{size_of}
+use Rattle.acs_tree.specs.Numbers.{size_of}
 use Rattle.acs_tree.specs.Conditions.{comparison, equals_any}
 use Rattle.acs_tree.specs.Inputs.{bare_input, no_values}
 use Rattle.acs_tree.specs.Meaning.{first_of, in_turn, writes, Arm}

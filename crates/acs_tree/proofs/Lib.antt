@@ -4,3 +4,4 @@ pub mod SlateLemmas
 pub mod Examples
 mod NameLemmas
 pub mod TableLemmas
+pub mod NumberLemmas

@@ -1,5 +1,5 @@
 -- What stands on the right of a comparison (docs/acs-language.md, Meaning).
-use Rattle.std.specs.Prelude.{◌*◌, ◌&&◌, ℕ, Bool, true, false, List, [], ◌∷◌, Option, Some, None, if◌then◌else◌}
+use Rattle.std.specs.Prelude.{ℕ, Bool, List, [], ◌∷◌, Option, Some, None, if◌then◌else◌}
 use Rattle.std.specs.Option.{option_map}
 use Rattle.dsn_mask.specs.Filter.{FilterLists}
 use Rattle.dsn_mask.specs.MaskText.{mask_of, simple_of}
@@ -14,7 +14,7 @@ use Rattle.acs_tree.specs.declared.variable.Variable.{Variable}
 use Rattle.acs_tree.specs.declared.variable.VariableKind.{VariableKind}
 use Rattle.acs_tree.specs.declared.variable.VariableKind.TheVariants as kind
 use Rattle.acs_tree.specs.FilterLists.{FilterList, list_named}
-use Rattle.acs_tree.specs.Numbers.{value_of, digits_of, unit_of, kilobytes_in, is_number, is_size, is_fit_number, is_fit_size}
+use Rattle.acs_tree.specs.Numbers.{greatest, number_of, size_of, within}
 use Rattle.acs_tree.specs.References.{is_known, is_whole_name}
 use Rattle.acs_tree.specs.Variables.{index_of, variable_of}
 
@@ -64,30 +64,17 @@ abbrev pub comparand_or : {A : Type 0} → (A → Comparand) → Option A → Co
 comparand_or make None = Nothing
 comparand_or make (Some found) = make found
 
--- a number that is not too great
-abbrev pub number_of : List ℕ → Option ℕ
-number_of word = if is_number word && is_fit_number word then Some (value_of word) else None
-
--- so many of a unit, in KB
-abbrev pub times : ℕ → Option ℕ → Option ℕ
-times count None = None
-times count (Some kilobytes) = Some (count * kilobytes)
-
--- a size that is not too great, in KB
-abbrev pub size_of : List ℕ → Option ℕ
-size_of word = if is_size word && is_fit_size word then times (value_of (digits_of word)) (kilobytes_in (unit_of word)) else None
-
 -- a mask beside the whole data set name, a simple mask beside another text
 abbrev pub mask_comparand : Bool → List ℕ → Comparand
 mask_comparand whole word = if whole then comparand_or Dots (mask_of word) else comparand_or Plain (simple_of word)
 
--- a word beside a variable of that kind
+-- a word beside a variable of that kind: a mask, or a number or a size that is not past the greatest
 abbrev pub word_beside : VariableKind → Bool → List ℕ → Comparand
 word_beside kind.Text whole word = mask_comparand whole word
 word_beside kind.Volumes whole word = mask_comparand whole word
 word_beside kind.Groups whole word = mask_comparand whole word
-word_beside kind.Number whole word = comparand_or Number (number_of word)
-word_beside kind.Size whole word = comparand_or Number (size_of word)
+word_beside kind.Number whole word = comparand_or Number (within 0 greatest (number_of word))
+word_beside kind.Size whole word = comparand_or Number (within 0 greatest (size_of word))
 
 -- a word beside that variable, if there is one
 abbrev pub word_comparand : Option Variable → Bool → List ℕ → Comparand

@@ -1,5 +1,6 @@
 -- What a routine means: by recursion on its tree (docs/acs-language.md, Meaning).
 use Rattle.std.specs.Prelude.{ℕ, List, [], ◌∷◌, map, Option, Some, None, if◌then◌else◌}
+use Rattle.std.specs.Option.{unwrap_or}
 use Rattle.acs_tree.specs.declared.kind.Kind.{Kind}
 use Rattle.acs_tree.specs.declared.routine.Form.TheOpen.{Form-F, Stmt-F, When-F}
 use Rattle.acs_tree.specs.declared.routine.Operand.{Operand}
@@ -9,7 +10,7 @@ use Rattle.acs_tree.specs.declared.routine.Ref.{Ref}
 use Rattle.acs_tree.specs.declared.routine.Routine.{Routine}
 use Rattle.acs_tree.specs.declared.routine.Stmt.{Stmt, fold-Stmt}
 use Rattle.acs_tree.specs.Conditions.{Test, holds, when_holds}
-use Rattle.acs_tree.specs.Numbers.{is_between, value_of}
+use Rattle.acs_tree.specs.Numbers.{number_of, within}
 use Rattle.acs_tree.specs.Outcome.{Action, falls, exits, behind, nothing, then_do}
 use Rattle.acs_tree.specs.Setting.{sets}
 use Rattle.acs_tree.specs.Writing.{line_of}
@@ -20,7 +21,7 @@ writes parts input values = behind (line_of parts input values ∷ []) (falls va
 
 -- the number of a code; what is no code counts as 0
 abbrev pub code_from : OperandForm → ℕ
-code_from (Word word) = if is_between 0 65535 word then value_of word else 0
+code_from (Word word) = unwrap_or (within 0 65535 (number_of word)) 0
 code_from (Literal text) = 0
 code_from (Var ref) = 0
 

@@ -4,14 +4,6 @@ use Rattle.std.specs.List.{list_all}
 use Rattle.std.specs.Str.{bytes_eq}
 use Rattle.dsn_mask.specs.Name.{is_digit}
 
--- the greatest number that is counted with
-abbrev pub greatest : ℕ
-greatest = 18446744073709551615
-
--- one or more digits
-abbrev pub is_number : List ℕ → Bool
-is_number word = nat_lt 0 (length word) && list_all is_digit word
-
 -- the value of decimal digits behind those of a given value
 abbrev pub value_behind : ℕ → List ℕ → ℕ
 value_behind front [] = front
@@ -21,9 +13,9 @@ value_behind front (digit ∷ digits) = value_behind (10 * front + (digit - 48))
 abbrev pub value_of : List ℕ → ℕ
 value_of digits = value_behind 0 digits
 
--- a number in that range
-abbrev pub is_between : ℕ → ℕ → List ℕ → Bool
-is_between least most word = is_number word && (nat_le least (value_of word) && nat_le (value_of word) most)
+-- the number that a word is: one or more digits, as many as there may be
+abbrev pub number_of : List ℕ → Option ℕ
+number_of word = if nat_lt 0 (length word) && list_all is_digit word then Some (value_of word) else None
 
 -- how many KB a unit of size has
 abbrev pub kilobytes_in : List ℕ → Option ℕ
@@ -32,27 +24,29 @@ kilobytes_in unit =
     if bytes_eq unit (codes "MB") then Some 1024 else
     if bytes_eq unit (codes "GB") then Some 1048576 else None
 
--- what stands before the last two bytes of a word
-abbrev pub digits_of : List ℕ → List ℕ
-digits_of word = take (length word - 2) word
+-- so many times so much, if both are there
+abbrev pub times : Option ℕ → Option ℕ → Option ℕ
+times (Some count) (Some unit) = Some (count * unit)
+times _ _ = None
 
--- the last two bytes of a word
-abbrev pub unit_of : List ℕ → List ℕ
-unit_of word = drop (length word - 2) word
+-- the size that a word is, in KB: a number before its last two bytes, and a unit
+abbrev pub size_of : List ℕ → Option ℕ
+size_of word = times (number_of (take (length word - 2) word)) (kilobytes_in (drop (length word - 2) word))
 
--- digits and a unit
-abbrev pub is_size : List ℕ → Bool
-is_size word = is_number (digits_of word) && is_some (kilobytes_in (unit_of word))
+-- the number, if it is one of that range
+abbrev pub within : ℕ → ℕ → Option ℕ → Option ℕ
+within least most None = None
+within least most (Some number) = if nat_le least number && nat_le number most then Some number else None
 
--- so many units of so many KB, if it is a unit, are at most the greatest number
-abbrev pub fits_in : Option ℕ → ℕ → Bool
-fits_in None count = false
-fits_in (Some kilobytes) count = nat_le (count * kilobytes) greatest
+-- a word that is a number of that range
+abbrev pub is_between : ℕ → ℕ → List ℕ → Bool
+is_between least most word = is_some (within least most (number_of word))
 
--- the value of these digits isn't too great
-abbrev pub is_fit_number : List ℕ → Bool
-is_fit_number word = nat_le (value_of word) greatest
+-- the greatest number that is counted with
+abbrev pub greatest : ℕ
+greatest = 18446744073709551615
 
--- the digits of this size, counted in KB by its unit, aren't too great
-abbrev pub is_fit_size : List ℕ → Bool
-is_fit_size word = fits_in (kilobytes_in (unit_of word)) (value_of (digits_of word))
+-- there is a number, and it is past the greatest
+abbrev pub is_past_greatest : Option ℕ → Bool
+is_past_greatest None = false
+is_past_greatest (Some number) = nat_lt greatest number

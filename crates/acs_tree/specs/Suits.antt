@@ -1,5 +1,5 @@
 -- What the checks ask of operands (docs/acs-language.md, Kinds that suit).
-use Rattle.std.specs.Prelude.{◌&&◌, ◌||◌, ℕ, Bool, true, false, not, List, [], ◌∷◌, Option, Some, None, is_none, if◌then◌else◌}
+use Rattle.std.specs.Prelude.{◌&&◌, ◌||◌, ℕ, Bool, true, false, not, List, [], ◌∷◌, Option, Some, None, is_none, is_some, if◌then◌else◌}
 use Rattle.std.specs.List.{list_any}
 use Rattle.std.specs.Str.{bytes_eq}
 use Rattle.dsn_mask.specs.Name.{name_of as construct_of}
@@ -13,7 +13,7 @@ use Rattle.acs_tree.specs.declared.routine.Stmt.{Stmt}
 use Rattle.acs_tree.specs.declared.variable.VariableKind.{VariableKind}
 use Rattle.acs_tree.specs.declared.variable.VariableKind.TheVariants.{Text, Number, Size, Volumes, Groups}
 use Rattle.acs_tree.specs.FilterLists.{is_mask, is_simple, is_list_ref, is_simple_list, list_named}
-use Rattle.acs_tree.specs.Numbers.{is_number, is_size, is_fit_number, is_fit_size}
+use Rattle.acs_tree.specs.Numbers.{is_past_greatest, number_of, size_of}
 use Rattle.acs_tree.specs.References.{is_known, passes, is_text, is_number_variable, is_size_variable, takes_masks, is_whole_name, is_group_list, is_out_of_range}
 use Rattle.acs_tree.specs.Variables.{variable_of}
 
@@ -73,13 +73,13 @@ suits_volumes listed (Var ref) = listed
 -- what suits a number
 abbrev pub suits_number : OperandForm → Bool
 suits_number (Literal text) = false
-suits_number (Word word) = is_number word
+suits_number (Word word) = is_some (number_of word)
 suits_number (Var ref) = is_number_variable ref
 
 -- what suits a size
 abbrev pub suits_size : OperandForm → Bool
 suits_size (Literal text) = false
-suits_size (Word word) = is_size word
+suits_size (Word word) = is_some (size_of word)
 suits_size (Var ref) = is_size_variable ref
 
 -- what suits a variable of that kind; the group list counts as a text
@@ -116,9 +116,9 @@ is_bad_literal [] [] [] = false
 is_bad_literal before behind [] = true
 is_bad_literal before behind (byte ∷ bytes) = is_none (construct_of (byte ∷ bytes))
 
--- a number beside a number, or a size beside a size, that is too great
+-- a number beside a number, or a size beside a size, that is past the greatest
 abbrev pub is_too_great : Option Ref → List ℕ → Bool
-is_too_great left word = (is_left_with is_number_variable left && (is_number word && not (is_fit_number word))) || (is_left_with is_size_variable left && (is_size word && not (is_fit_size word)))
+is_too_great left word = (is_left_with is_number_variable left && is_past_greatest (number_of word)) || (is_left_with is_size_variable left && is_past_greatest (size_of word))
 
 -- the index of a variable, where it is out of its range
 abbrev pub range_token : OperandForm → Option ℕ

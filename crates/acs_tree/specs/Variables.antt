@@ -1,6 +1,6 @@
 -- The table of variables (docs/acs-language.md, Variables).
 use Rattle.std.specs.Prelude.{◌==◌, ℕ, List, [], ◌∷◌, length, Option, Some, None, codes, if◌then◌else◌}
-use Rattle.std.specs.Option.{option_map}
+use Rattle.std.specs.Option.{option_map, unwrap_or}
 use Rattle.std.specs.Str.{bytes_eq}
 use Rattle.dsn_mask.specs.Qualifiers.{qualifiers_of}
 use Rattle.acs_tree.specs.declared.input.Input.{Input}
@@ -12,7 +12,7 @@ use Rattle.acs_tree.specs.declared.variable.Indexing.TheVariants.{Never, Maybe, 
 use Rattle.acs_tree.specs.declared.variable.Variable.{Variable}
 use Rattle.acs_tree.specs.declared.variable.VariableKind.{VariableKind}
 use Rattle.acs_tree.specs.declared.variable.VariableKind.TheVariants as kind
-use Rattle.acs_tree.specs.Numbers.{is_between, value_of}
+use Rattle.acs_tree.specs.Numbers.{number_of, within}
 use Rattle.acs_tree.specs.Value.{Value, Text, Number, Size, AnyOf, AllOf, Groups, text_at}
 
 -- what a name stands for: what is known of the variable, and what it holds in a run, by its index, which is 0 where none is written
@@ -146,7 +146,7 @@ variable_value name = value_by (look_up variables name)
 -- the index as it is written: 0 where there is none, and 255, which no variable takes, where it is no number from 1 to 254
 abbrev pub index_of : Option (List ℕ) → ℕ
 index_of None = 0
-index_of (Some word) = if is_between 1 254 word then value_of word else 255
+index_of (Some word) = unwrap_or (within 1 254 (number_of word)) 255
 
 -- the order in which the routines run
 abbrev pub rank_of : Kind → ℕ

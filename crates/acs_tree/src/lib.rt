@@ -40,7 +40,7 @@ pub use input::{Input, kilobytes_of};
 pub use kind::Kind;
 pub use line::Line;
 pub use more::More;
-pub use numbers::{are_digits, is_number, kilobytes_in};
+pub use numbers::{are_digits, is_number, is_size, number, size};
 pub use origin::Origin;
 pub use routine::{
     Block, Compare, Cond, Form, Operand, OperandForm, Operands, Ref, Routine, Stmt, When, WhenTest,

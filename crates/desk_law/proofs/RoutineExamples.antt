@@ -2,13 +2,11 @@
 use Rattle.std.proofs.Common.{◌≡◌, ℕ, List, [], ◌∷◌, refl, sym, ap, ◌∙◌, subst, inl, inr}
 use Rattle.std.specs.Prelude.{codes, Some, None, MatchResult}
 use Rattle.acs_tree.specs.CheckedRoutine.{CheckedRoutine}
-use Rattle.acs_tree.specs.Comparands.{lists_of}
 use Rattle.acs_tree.specs.Inputs.{input_under}
 use Rattle.acs_tree.specs.Meaning.{Arm, code_of, form_step, in_turn, meaning, meaning_of, stmt_step, when_step, writes}
 use Rattle.acs_tree.specs.Outcome.{Action, exits}
 use Rattle.acs_tree.specs.Setting.{sets}
 use Rattle.acs_tree.specs.Variables.{variable_value}
-use Rattle.acs_tree.specs.declared.filter_list.FilterList.{FilterList}
 use Rattle.acs_tree.specs.declared.kind.Kind.{Kind}
 use Rattle.acs_tree.specs.declared.kind.Kind.TheVariants.{DataClas, StorClas, StorGrp}
 use Rattle.acs_tree.specs.declared.line.Line.{Line}
@@ -73,23 +71,23 @@ ends code input values = exits (code_of (Some (record { at = 0; form = Word code
 
 -- what they mean
 
-module _ (kind : Kind) (lists : List FilterList) where
+module _ (kind : Kind) (within : List Stmt) where
   layer : (form : Form) (parts : Form-F Form Stmt When) (action : Action) → roll-Form parts ≡ form
-      → form_step kind lists (map-Form Form Stmt When Action Action Arm (fold-Form Action Action Arm (form_step kind lists) stmt_step (when_step lists)) (meaning kind lists) (fold-When Action Action Arm (form_step kind lists) stmt_step (when_step lists)) parts) ≡ action
-      → meaning kind lists (statement form) ≡ action
+      → form_step kind within (map-Form Form Stmt When Action Action Arm (fold-Form Action Action Arm (form_step kind within) stmt_step (when_step within)) (meaning kind within) (fold-When Action Action Arm (form_step kind within) stmt_step (when_step within)) parts) ≡ action
+      → meaning kind within (statement form) ≡ action
   layer form parts action e f =
-      fold_out-Stmt Action Action Arm (form_step kind lists) stmt_step (when_step lists) (statement form)
-      ∙ ap (fold-Form Action Action Arm (form_step kind lists) stmt_step (when_step lists)) (sym e)
-      ∙ fold-roll-Form Action Action Arm (form_step kind lists) stmt_step (when_step lists) parts
+      fold_out-Stmt Action Action Arm (form_step kind within) stmt_step (when_step within) (statement form)
+      ∙ ap (fold-Form Action Action Arm (form_step kind within) stmt_step (when_step within)) (sym e)
+      ∙ fold-roll-Form Action Action Arm (form_step kind within) stmt_step (when_step within) parts
       ∙ f
 
-  means_put : (name text : List ℕ) → meaning kind lists (put name text) ≡ sets kind (variable name) (quoted text ∷ [])
+  means_put : (name text : List ℕ) → meaning kind within (put name text) ≡ sets kind (variable name) (quoted text ∷ [])
   means_put name text = layer _ (Form-F.Put (variable name) (quoted text ∷ [])) _ (forms.rolls-Put (variable name) (quoted text ∷ [])) refl
 
-  means_write : (parts : List Operand) → meaning kind lists (write parts) ≡ writes parts
+  means_write : (parts : List Operand) → meaning kind within (write parts) ≡ writes parts
   means_write parts = layer _ (Form-F.Write parts) _ (forms.rolls-Write parts) refl
 
-  means_exit : (code : List ℕ) → meaning kind lists (exit code) ≡ ends code
+  means_exit : (code : List ℕ) → meaning kind within (exit code) ≡ ends code
   means_exit code = layer _ (Form-F.Exit (Some (record { at = 0; form = Word code }))) _ (forms.rolls-Exit (Some (record { at = 0; form = Word code }))) refl
 
 -- one volume of 100 tracks, a storage class routine and a storage group routine
@@ -125,20 +123,18 @@ does kind name text words = in_turn (sets kind (variable name) (quoted text ∷ 
 -- it means this
 means : (kind : Kind) (name text words : List ℕ) → meaning_of (tree (body name text words)) kind ≡ does kind name text words
 means kind name text words =
-    let lists = lists_of (body name text words) in
-    ap (λ (action : Action). in_turn (action ∷ meaning kind lists (write (quoted words ∷ [])) ∷ [])) (means_put kind lists name text)
-    ∙ ap (λ (action : Action). in_turn (sets kind (variable name) (quoted text ∷ []) ∷ action ∷ [])) (means_write kind lists (quoted words ∷ []))
+    ap (λ (action : Action). in_turn (action ∷ meaning kind (body name text words) (write (quoted words ∷ [])) ∷ [])) (means_put kind (body name text words) name text)
+    ∙ ap (λ (action : Action). in_turn (sets kind (variable name) (quoted text ∷ []) ∷ action ∷ [])) (means_write kind (body name text words) (quoted words ∷ []))
 
 -- a routine that writes alone
 means_line : (kind : Kind) (parts : List Operand) → meaning_of (tree (write parts ∷ [])) kind ≡ in_turn (writes parts ∷ [])
-means_line kind parts = ap (λ (action : Action). in_turn (action ∷ [])) (means_write kind (lists_of (write parts ∷ [])) parts)
+means_line kind parts = ap (λ (action : Action). in_turn (action ∷ [])) (means_write kind (write parts ∷ []) parts)
 
 -- a routine that writes and ends with a code
 means_end : (kind : Kind) (parts : List Operand) (code : List ℕ) → meaning_of (tree (write parts ∷ exit code ∷ [])) kind ≡ in_turn (writes parts ∷ ends code ∷ [])
 means_end kind parts code =
-    let lists = lists_of (write parts ∷ exit code ∷ []) in
-    ap (λ (action : Action). in_turn (action ∷ meaning kind lists (exit code) ∷ [])) (means_write kind lists parts)
-    ∙ ap (λ (action : Action). in_turn (writes parts ∷ action ∷ [])) (means_exit kind lists code)
+    ap (λ (action : Action). in_turn (action ∷ meaning kind (write parts ∷ exit code ∷ []) (exit code) ∷ [])) (means_write kind (write parts ∷ exit code ∷ []) parts)
+    ∙ ap (λ (action : Action). in_turn (writes parts ∷ action ∷ [])) (means_exit kind (write parts ∷ exit code ∷ []) code)
 
 -- the storage class SC1 and the storage group SG1, each with a line
 abbrev fast : List Stmt

@@ -1,6 +1,6 @@
 use Rattle.std.proofs.Common.{◌≡◌, ◌≤◌, length}
-use Rattle.acs_tree.specs.Numbers.{value_of, value_behind}
-use Rattle.acs_check.proofs.numbers.is_at_most.Given as goal
+use Rattle.acs_tree.specs.Numbers.{value_behind, value_of}
+use Rattle.acs_tree.proofs.numbers.value_up_to.Given as goal
 
 abbrev pub invariant-digits : goal.invariant-digits
 invariant-digits l = (value_behind l.value l.rest ≡ value_of l.digits) × (l.value ≤ l.most)

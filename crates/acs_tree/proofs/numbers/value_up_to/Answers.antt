@@ -1,7 +1,7 @@
 use Rattle.std.proofs.Common.{arith}
 use Rattle.std.proofs.lemmas.Grind.{common_steps}
-use Rattle.acs_check.proofs.NumberLemmas.{value_past}
-use Rattle.acs_check.proofs.numbers.is_at_most.Goals as goal
+use Rattle.acs_tree.proofs.NumberLemmas.{value_past}
+use Rattle.acs_tree.proofs.numbers.value_up_to.Goals as goal
 
 pub returns-then-digit-most : goal.returns-then-digit-most
 returns-then-digit-most c =
