@@ -1,5 +1,5 @@
 // The scanner.
-ghost use Rattle.std.specs.Prelude.{◌≡◌, ◌<◌, ◌^◌, ◌⊎◌, ℕ, List, length, IfOk, IfErr, All};
+ghost use Rattle.std.specs.Prelude.{◌≡◌, ◌<◌, ◌^◌, ◌⊎◌, ℕ, List, [], length, IfOk, IfErr, All};
 ghost use Rattle.acs_lex.specs.Tokens.{IsCut, InOrder, IsTokenOf};
 ghost use Rattle.acs_lex.specs.LexFault.{MayRefuse, IsExact};
 
@@ -8,6 +8,20 @@ use crate::forms::front;
 use crate::piece::Piece;
 use crate::token::Tokens;
 use std::alloc::Global;
+
+// About so many bytes of a text make a token.
+const BYTES_TO_A_TOKEN: usize = 4;
+
+// An empty list with room for the tokens of an ordinary text, so that it seldom grows.
+fn room_for(alloc: Global, text: &[u8]) -> Result<Tokens, LexErr>
+    ensures ok { IfOk result (λ tokens. tokens ≡ []) }
+    ensures err { IfErr result (λ err. err ≡ LexErr.NoMemory) }
+{
+    match Vec::with_capacity(alloc, text.len() / BYTES_TO_A_TOKEN) {
+        Ok(room) => Ok(Tokens::from_vec(room)),
+        Err(_) => Err(LexErr::NoMemory),
+    }
+}
 
 /// The tokens of the text in their order, or the fault that is met first from the left
 /// (docs/acs-language.md).
@@ -22,7 +36,7 @@ pub fn scan(alloc: Global, text: &[u8]) -> Result<Tokens, LexErr>
     ensures each { IfOk result (All (IsTokenOf text.now)) }
 {
     let total = text.len() as u32;
-    let mut tokens = Tokens::new(alloc);
+    let mut tokens = room_for(alloc, text)?;
     let mut rest = text;
     'pieces: loop {
         match front(total, rest) {

@@ -12,7 +12,7 @@ use crate::list_kind::ListKind;
 use crate::lists::{operand, variable};
 use crate::tokens::{begins, closed, expect, opened, operator, place};
 use crate::want::Want;
-use acs_symbol::Symbol;
+use acs_symbol::{Rest, Symbol};
 use acs_tree::Cond;
 use desk_common::Boxed;
 use std::alloc::Global;
@@ -24,9 +24,9 @@ fn cond(
     alloc: Global,
     total: u32,
     depth: u32,
-    rest: &mut &[Symbol],
+    rest: &mut Rest<'_>,
 ) -> Result<(Boxed<Cond>, u32), Fault>
-    ensures { Parses (λ x. IsCond total limited depth rest.old.now x.0 x.1 rest.new.now) (ACondition ∷ []) depth rest.old.now result }
+    ensures { Parses (λ x. IsCond total limited depth rest.old x.0 x.1 rest.new) (ACondition ∷ []) depth rest.old result }
 {
     let (mut found, mut count) = conj(alloc, total, depth, rest)?;
     'ors: while begins(Want::Or, rest) {
@@ -46,9 +46,9 @@ pub fn cond_before(
     total: u32,
     depth: u32,
     want: Want,
-    rest: &mut &[Symbol],
+    rest: &mut Rest<'_>,
 ) -> Result<Boxed<Cond>, Fault>
-    ensures { Parses (λ found. IsCondBefore total want depth rest.old.now found rest.new.now) (ACondition ∷ One want (To depth) ∷ []) depth rest.old.now result }
+    ensures { Parses (λ found. IsCondBefore total want depth rest.old found rest.new) (ACondition ∷ One want (To depth) ∷ []) depth rest.old result }
 {
     let (found, _) = cond(alloc, total, depth, rest)?;
     expect(want, rest)?;
@@ -62,9 +62,9 @@ fn conj(
     alloc: Global,
     total: u32,
     depth: u32,
-    rest: &mut &[Symbol],
+    rest: &mut Rest<'_>,
 ) -> Result<(Boxed<Cond>, u32), Fault>
-    ensures { Parses (λ x. IsConj total limited depth rest.old.now x.0 x.1 rest.new.now) (AConjunct ∷ []) depth rest.old.now result }
+    ensures { Parses (λ x. IsConj total limited depth rest.old x.0 x.1 rest.new) (AConjunct ∷ []) depth rest.old result }
 {
     let (mut found, mut count) = prim(alloc, total, depth, rest)?;
     'ands: while begins(Want::And, rest) {
@@ -84,9 +84,9 @@ fn prim(
     alloc: Global,
     total: u32,
     depth: u32,
-    rest: &mut &[Symbol],
+    rest: &mut Rest<'_>,
 ) -> Result<(Boxed<Cond>, u32), Fault>
-    ensures { Parses (λ x. IsPrim total limited depth rest.old.now x.0 x.1 rest.new.now) (ATest ∷ []) depth rest.old.now result }
+    ensures { Parses (λ x. IsPrim total limited depth rest.old x.0 x.1 rest.new) (ATest ∷ []) depth rest.old result }
 {
     match rest.split_first() {
         None => Err(Fault::Ended),
@@ -108,9 +108,9 @@ fn prim(
 /// A comparison, where its variable stands.
 #[tactic(auto, using(crate::proofs::CondLemmas::test_at, crate::proofs::CondLemmas::test_ref_fails, crate::proofs::CondLemmas::test_operator_fails, crate::proofs::CondLemmas::test_operand_fails))]
 #[inline(never)]
-fn comparison(alloc: Global, total: u32, rest: &mut &[Symbol]) -> Result<Boxed<Cond>, Fault>
-    requires { starts want.Variable rest.old.now ≡ true }
-    ensures { Reads (λ found. (n : ℕ) → IsPrim total limited n rest.old.now found n rest.new.now) (ATest ∷ []) rest.old.now result }
+fn comparison(alloc: Global, total: u32, rest: &mut Rest<'_>) -> Result<Boxed<Cond>, Fault>
+    requires { starts want.Variable rest.old ≡ true }
+    ensures { Reads (λ found. (n : ℕ) → IsPrim total limited n rest.old found n rest.new) (ATest ∷ []) rest.old result }
 {
     let left = variable(total, rest)?;
     let op_at = place(total, rest);

@@ -28,13 +28,13 @@ impl ListKind {
     }
 
     /// Whether it begins an operand that may follow another with no comma between them.
-    pub fn joins(self, symbol: &Symbol) -> bool
+    pub fn joins(self, symbol: &Symbol<'_>) -> bool
         ensures { result ≡ joins self symbol.now }
     {
         !matches!(self, ListKind::Values) && self.may_begin(symbol)
     }
 
-    fn may_begin(self, symbol: &Symbol) -> bool
+    fn may_begin(self, symbol: &Symbol<'_>) -> bool
         ensures { result ≡ may_begin self symbol.now }
     {
         match symbol {

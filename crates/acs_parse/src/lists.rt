@@ -1,6 +1,6 @@
 // Readers of variables, operands and lists. Each is passed the tokens that are left, and moves on
 // past what it reads.
-ghost use Rattle.std.specs.Prelude.{◌≡◌, ◌∷◌, [], true};
+ghost use Rattle.std.specs.Prelude.{◌≡◌, ◌∷◌, [], true, IfOk};
 ghost use Rattle.acs_parse.specs.declared.want.Want.TheVariants as want;
 ghost use Rattle.acs_parse.specs.Grammar.{starts, IsIndex, IsRef, IsOperand, IsOperands, IsExclude, IsLists, IsFilter, IsCode};
 ghost use Rattle.acs_parse.specs.Table.{AnOperand, MoreOperands, ARef, OrIndex, OrCode, Lists, OrExclude, AnItem, entries};
@@ -12,15 +12,15 @@ use crate::list_kind::ListKind;
 use crate::parts::FormParts;
 use crate::tokens::{expect, further, list_name, number, place, skip, word};
 use crate::want::Want;
-use acs_symbol::{Symbol, WordKind};
+use acs_symbol::{Rest, Symbol, WordKind};
 use acs_tree::{Ident, Operand, OperandForm, Operands, Ref, Stmt, with_operand};
 use desk_common::Boxed;
-use std::alloc::Global;
+use std::alloc::{AllocError, Global};
 
 /// A variable and its index, in a box.
 #[inline(never)]
-pub fn boxed_variable(alloc: Global, total: u32, rest: &mut &[Symbol]) -> Result<Boxed<Ref>, Fault>
-    ensures { Reads (λ found. IsRef total rest.old.now found rest.new.now) (ARef ∷ []) rest.old.now result }
+pub fn boxed_variable(alloc: Global, total: u32, rest: &mut Rest<'_>) -> Result<Boxed<Ref>, Fault>
+    ensures { Reads (λ found. IsRef total rest.old found rest.new) (ARef ∷ []) rest.old result }
 {
     // The check has to see the types inside a variable where one is moved.
     let _seen: Option<Ident> = None;
@@ -30,8 +30,8 @@ pub fn boxed_variable(alloc: Global, total: u32, rest: &mut &[Symbol]) -> Result
 
 /// A variable and its index.
 #[tactic(auto, using(crate::proofs::OperandLemmas::ref_at, crate::proofs::OperandLemmas::ref_index_fails))]
-pub fn variable(total: u32, rest: &mut &[Symbol]) -> Result<Ref, Fault>
-    ensures { Reads (λ found. IsRef total rest.old.now found rest.new.now) (ARef ∷ []) rest.old.now result }
+pub fn variable(total: u32, rest: &mut Rest<'_>) -> Result<Ref, Fault>
+    ensures { Reads (λ found. IsRef total rest.old found rest.new) (ARef ∷ []) rest.old result }
 {
     let at = place(total, rest);
     match rest.split_first() {
@@ -41,7 +41,7 @@ pub fn variable(total: u32, rest: &mut &[Symbol]) -> Result<Ref, Fault>
             let (index, index_at) = index(total, rest)?;
             Ok(Ref {
                 at,
-                name: *name,
+                name: name.ident(),
                 index,
                 index_at,
             })
@@ -51,8 +51,8 @@ pub fn variable(total: u32, rest: &mut &[Symbol]) -> Result<Ref, Fault>
 }
 
 #[tactic(auto, using(crate::proofs::OperandLemmas::index_none, crate::proofs::OperandLemmas::index_some, crate::proofs::OperandLemmas::index_number_fails, crate::proofs::OperandLemmas::index_close_fails))]
-fn index(total: u32, rest: &mut &[Symbol]) -> Result<(Option<Ident>, u32), Fault>
-    ensures { Reads (λ x. IsIndex total rest.old.now x.0 x.1 rest.new.now) (OrIndex ∷ []) rest.old.now result }
+fn index(total: u32, rest: &mut Rest<'_>) -> Result<(Option<Ident>, u32), Fault>
+    ensures { Reads (λ x. IsIndex total rest.old x.0 x.1 rest.new) (OrIndex ∷ []) rest.old result }
 {
     if !skip(Want::Open, rest) {
         return Ok((None, 0));
@@ -65,20 +65,20 @@ fn index(total: u32, rest: &mut &[Symbol]) -> Result<(Option<Ident>, u32), Fault
 
 /// An operand of such a list.
 #[tactic(auto, using(crate::proofs::OperandLemmas::operand_literal, crate::proofs::OperandLemmas::operand_word, crate::proofs::OperandLemmas::operand_variable, crate::proofs::OperandLemmas::operand_variable_fails))]
-pub fn operand(total: u32, kind: ListKind, rest: &mut &[Symbol]) -> Result<Operand, Fault>
-    ensures { Reads (λ found. IsOperand total kind rest.old.now found rest.new.now) (AnOperand kind ∷ []) rest.old.now result }
+pub fn operand(total: u32, kind: ListKind, rest: &mut Rest<'_>) -> Result<Operand, Fault>
+    ensures { Reads (λ found. IsOperand total kind rest.old found rest.new) (AnOperand kind ∷ []) rest.old result }
 {
     let at = place(total, rest);
     match rest.split_first() {
         None => Err(Fault::Ended),
         Some((Symbol::Literal(text), behind)) => {
             *rest = behind;
-            let form = OperandForm::Literal(*text);
+            let form = OperandForm::Literal(text.lit());
             Ok(Operand { at, form })
         }
         Some((Symbol::Word(_, text), behind)) if kind.takes_words() => {
             *rest = behind;
-            let form = OperandForm::Word(*text);
+            let form = OperandForm::Word(text.ident());
             Ok(Operand { at, form })
         }
         Some((Symbol::Variable(_), _)) if kind.takes_variables() => {
@@ -89,20 +89,28 @@ pub fn operand(total: u32, kind: ListKind, rest: &mut &[Symbol]) -> Result<Opera
     }
 }
 
+// An empty list. Most lists have one operand, so there is room for that one and no more.
+fn room_for_one(alloc: Global) -> Result<Operands, AllocError>
+    ensures { IfOk result (λ list. list ≡ []) }
+{
+    let room = Vec::with_capacity(alloc, 1)?;
+    Ok(Operands::from_vec(room))
+}
+
 /// A list of such operands, at least one.
 #[tactic(auto, using(crate::proofs::OperandLemmas::list_first, crate::proofs::OperandLemmas::list_turn, crate::proofs::OperandLemmas::list_over, crate::proofs::OperandLemmas::list_fails_first, crate::proofs::OperandLemmas::list_fails))]
 pub fn operands(
     alloc: Global,
     total: u32,
     kind: ListKind,
-    rest: &mut &[Symbol],
+    rest: &mut Rest<'_>,
 ) -> Result<Operands, Fault>
-    ensures { Reads (λ list. IsOperands total kind rest.old.now list rest.new.now) (AnOperand kind ∷ MoreOperands kind ∷ []) rest.old.now result }
+    ensures { Reads (λ list. IsOperands total kind rest.old list rest.new) (AnOperand kind ∷ MoreOperands kind ∷ []) rest.old result }
 {
     // The check has to see the types inside the list's items.
-    let _seen: Option<(OperandForm, Ref)> = None;
+    let _seen: Option<(OperandForm, Ref, Ident)> = None;
     let first = operand(total, kind, rest)?;
-    let mut list = with_operand(Operands::new(alloc), first)?;
+    let mut list = with_operand(room_for_one(alloc)?, first)?;
     'more: while let Some(behind) = further(kind, rest) {
         *rest = behind;
         let next = operand(total, kind, rest)?;
@@ -113,8 +121,8 @@ pub fn operands(
 
 /// Entries in parentheses.
 #[tactic(auto, using(crate::proofs::OperandLemmas::entries_at, crate::proofs::OperandLemmas::entries_open_fails, crate::proofs::OperandLemmas::entries_list_fails, crate::proofs::OperandLemmas::entries_close_fails))]
-fn entries(alloc: Global, total: u32, rest: &mut &[Symbol]) -> Result<Operands, Fault>
-    ensures { Reads (λ list. IsEntries total rest.old.now list rest.new.now) entries rest.old.now result }
+fn entries(alloc: Global, total: u32, rest: &mut Rest<'_>) -> Result<Operands, Fault>
+    ensures { Reads (λ list. IsEntries total rest.old list rest.new) entries rest.old result }
 {
     expect(Want::Open, rest)?;
     let list = operands(alloc, total, ListKind::Entries, rest)?;
@@ -123,8 +131,8 @@ fn entries(alloc: Global, total: u32, rest: &mut &[Symbol]) -> Result<Operands, 
 }
 
 #[tactic(auto, using(crate::proofs::OperandLemmas::exclude_none, crate::proofs::OperandLemmas::exclude_some, crate::proofs::OperandLemmas::exclude_fails))]
-fn exclude(alloc: Global, total: u32, rest: &mut &[Symbol]) -> Result<Operands, Fault>
-    ensures { Reads (λ list. IsExclude total rest.old.now list rest.new.now) (OrExclude ∷ []) rest.old.now result }
+fn exclude(alloc: Global, total: u32, rest: &mut Rest<'_>) -> Result<Operands, Fault>
+    ensures { Reads (λ list. IsExclude total rest.old list rest.new) (OrExclude ∷ []) rest.old result }
 {
     if !skip(Want::Exclude, rest) {
         return Ok(Operands::new(alloc));
@@ -135,8 +143,8 @@ fn exclude(alloc: Global, total: u32, rest: &mut &[Symbol]) -> Result<Operands, 
 
 /// The entries of INCLUDE and those of EXCLUDE.
 #[tactic(auto, using(crate::proofs::OperandLemmas::lists_including, crate::proofs::OperandLemmas::lists_excluding, crate::proofs::OperandLemmas::include_fails, crate::proofs::OperandLemmas::include_exclude_fails, crate::proofs::OperandLemmas::excluding_fails))]
-fn lists(alloc: Global, total: u32, rest: &mut &[Symbol]) -> Result<(Operands, Operands), Fault>
-    ensures { Reads (λ x. IsLists total rest.old.now x.0 x.1 rest.new.now) (Lists ∷ []) rest.old.now result }
+fn lists(alloc: Global, total: u32, rest: &mut Rest<'_>) -> Result<(Operands, Operands), Fault>
+    ensures { Reads (λ x. IsLists total rest.old x.0 x.1 rest.new) (Lists ∷ []) rest.old result }
 {
     match rest.split_first() {
         None => Err(Fault::Ended),
@@ -158,9 +166,9 @@ fn lists(alloc: Global, total: u32, rest: &mut &[Symbol]) -> Result<(Operands, O
 /// A filter list, where its word stands.
 #[tactic(auto, using(crate::proofs::OperandLemmas::filter_at, crate::proofs::OperandLemmas::filter_word_fails, crate::proofs::OperandLemmas::filter_name_fails, crate::proofs::OperandLemmas::filter_lists_fails))]
 #[inline(never)]
-pub fn filter_list(alloc: Global, total: u32, rest: &mut &[Symbol]) -> Result<Boxed<Stmt>, Fault>
-    requires { starts want.FiltList rest.old.now ≡ true }
-    ensures { Reads (λ found. IsFilter total rest.old.now found rest.new.now) (AnItem true ∷ []) rest.old.now result }
+pub fn filter_list(alloc: Global, total: u32, rest: &mut Rest<'_>) -> Result<Boxed<Stmt>, Fault>
+    requires { starts want.FiltList rest.old ≡ true }
+    ensures { Reads (λ found. IsFilter total rest.old found rest.new) (AnItem true ∷ []) rest.old result }
 {
     let at = place(total, rest);
     expect(Want::FiltList, rest)?;
@@ -181,9 +189,9 @@ pub fn filter_list(alloc: Global, total: u32, rest: &mut &[Symbol]) -> Result<Bo
 pub fn exit_code(
     alloc: Global,
     total: u32,
-    rest: &mut &[Symbol],
+    rest: &mut Rest<'_>,
 ) -> Result<Option<Boxed<Operand>>, Fault>
-    ensures { Reads (λ found. IsCode total rest.old.now found rest.new.now) (OrCode ∷ []) rest.old.now result }
+    ensures { Reads (λ found. IsCode total rest.old found rest.new) (OrCode ∷ []) rest.old result }
 {
     if !skip(Want::Code, rest) {
         return Ok(None);

@@ -12,7 +12,7 @@ use crate::statements::body;
 use crate::tokens::{expect, head, place, skip};
 use crate::want::Want;
 use acs_lex::Tokens;
-use acs_symbol::{Symbol, symbols};
+use acs_symbol::{Rest, symbols};
 use acs_tree::Routine;
 use std::alloc::Global;
 
@@ -27,7 +27,8 @@ pub fn parse(alloc: Global, text: &[u8], tokens: &Tokens) -> Result<Routine, Par
 {
     let total = count(tokens);
     let symbols = symbols(alloc, text, tokens).map_err(|_| ParseErr::NoMemory)?;
-    parse_symbols(alloc, total, symbols.as_slice())
+    let mut rest = Rest::new(symbols.as_slice());
+    parse_symbols(alloc, total, &mut rest)
 }
 
 /// The number of tokens of a text. It fits, since each has a byte of its own and all their places fit.
@@ -42,28 +43,27 @@ fn count(tokens: &Tokens) -> u32
 }
 
 #[tactic(auto, using(crate::proofs::RoutineLemmas::right_tree, crate::proofs::RoutineLemmas::exact_tree, crate::proofs::RoutineLemmas::right_fault, crate::proofs::RoutineLemmas::exact_fault))]
-fn parse_symbols(alloc: Global, total: u32, symbols: &[Symbol]) -> Result<Routine, ParseErr>
-    requires { total ≡ length symbols.now }
-    ensures ok { IfOk result (IsRoutine limited symbols.now) }
-    ensures err { IfErr result (MayRefuse symbols.now) }
-    ensures exactly { IsExact symbols.now result }
+fn parse_symbols(alloc: Global, total: u32, rest: &mut Rest<'_>) -> Result<Routine, ParseErr>
+    requires { total ≡ length rest.old }
+    ensures ok { IfOk result (IsRoutine limited rest.old) }
+    ensures err { IfErr result (MayRefuse rest.old) }
+    ensures exactly { IsExact rest.old result }
 {
-    match routine(alloc, total, symbols) {
+    match routine(alloc, total, rest) {
         Ok(found) => Ok(found),
         Err(fault) => Err(fault.told(total)),
     }
 }
 
 #[tactic(auto, using(crate::proofs::RoutineLemmas::number_at, crate::proofs::RoutineLemmas::whole_at, crate::proofs::RoutineLemmas::whole_proc_fails, crate::proofs::RoutineLemmas::whole_head_fails, crate::proofs::RoutineLemmas::whole_body_fails, crate::proofs::RoutineLemmas::whole_rest_fails))]
-fn routine(alloc: Global, total: u32, symbols: &[Symbol]) -> Result<Routine, Fault>
-    ensures { Whole total symbols.now result }
+fn routine(alloc: Global, total: u32, rest: &mut Rest<'_>) -> Result<Routine, Fault>
+    ensures { Whole total rest.old result }
 {
-    let mut rest = symbols;
-    expect(Want::Proc, &mut rest)?;
-    let _numbered = skip(Want::Number, &mut rest);
+    expect(Want::Proc, rest)?;
+    let _numbered = skip(Want::Number, rest);
     let head_at = place(total, rest);
-    let head = head(&mut rest)?;
-    let body = body(alloc, total, &mut rest)?;
+    let head = head(rest)?;
+    let body = body(alloc, total, rest)?;
     match rest.split_first() {
         None => Ok(Routine {
             head,

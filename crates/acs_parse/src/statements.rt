@@ -17,7 +17,7 @@ use crate::lists::{boxed_variable, exit_code, filter_list, operands};
 use crate::parts::{FormParts, TestParts, WhenParts};
 use crate::tokens::{begins, expect, opened, place, skip};
 use crate::want::Want;
-use acs_symbol::{Symbol, WordKind};
+use acs_symbol::{Rest, Symbol, WordKind};
 use acs_tree::{Block, Ref, Stmt, Whens};
 use desk_common::Boxed;
 use std::alloc::Global;
@@ -29,9 +29,9 @@ pub fn statement(
     alloc: Global,
     total: u32,
     depth: u32,
-    rest: &mut &[Symbol],
+    rest: &mut Rest<'_>,
 ) -> Result<Boxed<Stmt>, Fault>
-    ensures { Parses (λ found. IsStmt total limited depth rest.old.now found rest.new.now) (AStatement ∷ []) depth rest.old.now result }
+    ensures { Parses (λ found. IsStmt total limited depth rest.old found rest.new) (AStatement ∷ []) depth rest.old result }
 {
     let at = place(total, rest);
     match rest.split_first() {
@@ -75,8 +75,8 @@ pub fn statement(
 
 /// What stands behind SET.
 #[tactic(auto, using(crate::proofs::StatementLemmas::set_at, crate::proofs::StatementLemmas::set_ref_fails, crate::proofs::StatementLemmas::set_equal_fails, crate::proofs::StatementLemmas::set_values_fail))]
-fn assignment(alloc: Global, total: u32, rest: &mut &[Symbol]) -> Result<FormParts, Fault>
-    ensures { Reads (λ parts. (n : ℕ) → IsBehind total word.Set n rest.old.now (form_of_parts parts) rest.new.now) (ARef ∷ One want.Equal Keep ∷ AnOperand list.Values ∷ MoreOperands list.Values ∷ []) rest.old.now result }
+fn assignment(alloc: Global, total: u32, rest: &mut Rest<'_>) -> Result<FormParts, Fault>
+    ensures { Reads (λ parts. (n : ℕ) → IsBehind total word.Set n rest.old (form_of_parts parts) rest.new) (ARef ∷ One want.Equal Keep ∷ AnOperand list.Values ∷ MoreOperands list.Values ∷ []) rest.old result }
 {
     let target = boxed_variable(alloc, total, rest)?;
     expect(Want::Equal, rest)?;
@@ -86,8 +86,8 @@ fn assignment(alloc: Global, total: u32, rest: &mut &[Symbol]) -> Result<FormPar
 
 /// What stands behind WRITE.
 #[tactic(auto, using(crate::proofs::StatementLemmas::write_at))]
-fn written(alloc: Global, total: u32, rest: &mut &[Symbol]) -> Result<FormParts, Fault>
-    ensures { Reads (λ parts. (n : ℕ) → IsBehind total word.Write n rest.old.now (form_of_parts parts) rest.new.now) (AnOperand list.Parts ∷ MoreOperands list.Parts ∷ []) rest.old.now result }
+fn written(alloc: Global, total: u32, rest: &mut Rest<'_>) -> Result<FormParts, Fault>
+    ensures { Reads (λ parts. (n : ℕ) → IsBehind total word.Write n rest.old (form_of_parts parts) rest.new) (AnOperand list.Parts ∷ MoreOperands list.Parts ∷ []) rest.old result }
 {
     let parts = operands(alloc, total, ListKind::Parts, rest)?;
     Ok(FormParts::Write(parts))
@@ -95,8 +95,8 @@ fn written(alloc: Global, total: u32, rest: &mut &[Symbol]) -> Result<FormParts,
 
 /// What stands behind EXIT.
 #[tactic(auto, using(crate::proofs::StatementLemmas::exit_at))]
-fn ending(alloc: Global, total: u32, rest: &mut &[Symbol]) -> Result<FormParts, Fault>
-    ensures { Reads (λ parts. (n : ℕ) → IsBehind total word.Exit n rest.old.now (form_of_parts parts) rest.new.now) (OrCode ∷ []) rest.old.now result }
+fn ending(alloc: Global, total: u32, rest: &mut Rest<'_>) -> Result<FormParts, Fault>
+    ensures { Reads (λ parts. (n : ℕ) → IsBehind total word.Exit n rest.old (form_of_parts parts) rest.new) (OrCode ∷ []) rest.old result }
 {
     let code = exit_code(alloc, total, rest)?;
     Ok(FormParts::Exit { code })
@@ -109,9 +109,9 @@ fn conditional(
     alloc: Global,
     total: u32,
     depth: u32,
-    rest: &mut &[Symbol],
+    rest: &mut Rest<'_>,
 ) -> Result<FormParts, Fault>
-    ensures { Parses (λ parts. IsInside total word.If depth rest.old.now (form_of_parts parts) rest.new.now) (ACondition ∷ One want.Then (To depth) ∷ AStatement ∷ OrBranch want.Else ∷ Back ∷ []) depth rest.old.now result }
+    ensures { Parses (λ parts. IsInside total word.If depth rest.old (form_of_parts parts) rest.new) (ACondition ∷ One want.Then (To depth) ∷ AStatement ∷ OrBranch want.Else ∷ Back ∷ []) depth rest.old result }
 {
     let cond = cond_before(alloc, total, depth, Want::Then, rest)?;
     let (yes, otherwise) = arms(alloc, total, depth, rest)?;
@@ -129,9 +129,9 @@ fn arms(
     alloc: Global,
     total: u32,
     depth: u32,
-    rest: &mut &[Symbol],
+    rest: &mut Rest<'_>,
 ) -> Result<(Boxed<Stmt>, Option<Boxed<Stmt>>), Fault>
-    ensures { Parses (λ x. AreArms total depth rest.old.now x.0 x.1 rest.new.now) (AStatement ∷ OrBranch want.Else ∷ []) depth rest.old.now result }
+    ensures { Parses (λ x. AreArms total depth rest.old x.0 x.1 rest.new) (AStatement ∷ OrBranch want.Else ∷ []) depth rest.old result }
 {
     let yes = statement(alloc, total, depth, rest)?;
     let otherwise = branch(alloc, total, depth, Want::Else, rest)?;
@@ -146,9 +146,9 @@ fn branch(
     total: u32,
     depth: u32,
     want: Want,
-    rest: &mut &[Symbol],
+    rest: &mut Rest<'_>,
 ) -> Result<Option<Boxed<Stmt>>, Fault>
-    ensures { Parses (λ found. IsBranch total limited want depth rest.old.now found rest.new.now) (OrBranch want ∷ []) depth rest.old.now result }
+    ensures { Parses (λ found. IsBranch total limited want depth rest.old found rest.new) (OrBranch want ∷ []) depth rest.old result }
 {
     if !skip(want, rest) {
         return Ok(None);
@@ -160,8 +160,8 @@ fn branch(
 /// What stands behind DO.
 #[cycle(statement)]
 #[tactic(auto, using(crate::proofs::StatementLemmas::do_at, crate::proofs::StatementLemmas::do_block_fails))]
-fn group(alloc: Global, total: u32, depth: u32, rest: &mut &[Symbol]) -> Result<FormParts, Fault>
-    ensures { Parses (λ parts. IsInside total word.Do depth rest.old.now (form_of_parts parts) rest.new.now) (ABlock false ∷ Back ∷ []) depth rest.old.now result }
+fn group(alloc: Global, total: u32, depth: u32, rest: &mut Rest<'_>) -> Result<FormParts, Fault>
+    ensures { Parses (λ parts. IsInside total word.Do depth rest.old (form_of_parts parts) rest.new) (ABlock false ∷ Back ∷ []) depth rest.old result }
 {
     let body = block(alloc, total, depth, rest)?;
     Ok(FormParts::Do(body))
@@ -170,13 +170,8 @@ fn group(alloc: Global, total: u32, depth: u32, rest: &mut &[Symbol]) -> Result<
 /// What stands behind SELECT.
 #[cycle(statement)]
 #[tactic(auto, using(crate::proofs::SelectLemmas::select_at, crate::proofs::SelectLemmas::select_choice_fails, crate::proofs::SelectLemmas::select_other_fails, crate::proofs::SelectLemmas::select_end_fails))]
-fn selection(
-    alloc: Global,
-    total: u32,
-    depth: u32,
-    rest: &mut &[Symbol],
-) -> Result<FormParts, Fault>
-    ensures { Parses (λ parts. IsInside total word.Select depth rest.old.now (form_of_parts parts) rest.new.now) (AChoice ∷ OrBranch want.Otherwise ∷ One want.End Lower ∷ []) depth rest.old.now result }
+fn selection(alloc: Global, total: u32, depth: u32, rest: &mut Rest<'_>) -> Result<FormParts, Fault>
+    ensures { Parses (λ parts. IsInside total word.Select depth rest.old (form_of_parts parts) rest.new) (AChoice ∷ OrBranch want.Otherwise ∷ One want.End Lower ∷ []) depth rest.old result }
 {
     let (subject, whens) = choice(alloc, total, depth, rest)?;
     let otherwise = branch(alloc, total, depth, Want::Otherwise, rest)?;
@@ -195,9 +190,9 @@ fn choice(
     alloc: Global,
     total: u32,
     depth: u32,
-    rest: &mut &[Symbol],
+    rest: &mut Rest<'_>,
 ) -> Result<(Option<Boxed<Ref>>, Whens), Fault>
-    ensures { Parses (λ x. IsChoice total limited depth rest.old.now x.0 x.1 rest.new.now) (AChoice ∷ []) depth rest.old.now result }
+    ensures { Parses (λ x. IsChoice total limited depth rest.old x.0 x.1 rest.new) (AChoice ∷ []) depth rest.old result }
 {
     match rest.split_first() {
         None => Err(Fault::Ended),
@@ -224,9 +219,9 @@ fn branches(
     total: u32,
     depth: u32,
     has_subject: bool,
-    rest: &mut &[Symbol],
+    rest: &mut Rest<'_>,
 ) -> Result<Whens, Fault>
-    ensures { Parses (λ found. IsBranches total has_subject depth rest.old.now found rest.new.now) (AWhen has_subject ∷ MoreWhens has_subject ∷ []) depth rest.old.now result }
+    ensures { Parses (λ found. IsBranches total has_subject depth rest.old found rest.new) (AWhen has_subject ∷ MoreWhens has_subject ∷ []) depth rest.old result }
 {
     let mut found = when(alloc, total, depth, has_subject, Whens::new(alloc), rest)?;
     'whens: while begins(Want::When, rest) {
@@ -244,9 +239,9 @@ fn when(
     depth: u32,
     has_subject: bool,
     found: Whens,
-    rest: &mut &[Symbol],
+    rest: &mut Rest<'_>,
 ) -> Result<Whens, Fault>
-    ensures { Parses (λ longer. IsOneMore total has_subject depth rest.old.now found longer rest.new.now) (AWhen has_subject ∷ []) depth rest.old.now result }
+    ensures { Parses (λ longer. IsOneMore total has_subject depth rest.old found longer rest.new) (AWhen has_subject ∷ []) depth rest.old result }
 {
     if has_subject {
         let longer = when_value(alloc, total, depth, found, rest)?;
@@ -265,9 +260,9 @@ fn when_value(
     total: u32,
     depth: u32,
     found: Whens,
-    rest: &mut &[Symbol],
+    rest: &mut Rest<'_>,
 ) -> Result<Whens, Fault>
-    ensures { Parses (λ longer. IsOneMore total true depth rest.old.now found longer rest.new.now) (AWhen true ∷ []) depth rest.old.now result }
+    ensures { Parses (λ longer. IsOneMore total true depth rest.old found longer rest.new) (AWhen true ∷ []) depth rest.old result }
 {
     let at = place(total, rest);
     expect(Want::When, rest)?;
@@ -284,9 +279,9 @@ fn when_condition(
     total: u32,
     depth: u32,
     found: Whens,
-    rest: &mut &[Symbol],
+    rest: &mut Rest<'_>,
 ) -> Result<Whens, Fault>
-    ensures { Parses (λ longer. IsOneMore total false depth rest.old.now found longer rest.new.now) (AWhen false ∷ []) depth rest.old.now result }
+    ensures { Parses (λ longer. IsOneMore total false depth rest.old found longer rest.new) (AWhen false ∷ []) depth rest.old result }
 {
     let at = place(total, rest);
     expect(Want::When, rest)?;
@@ -298,8 +293,8 @@ fn when_condition(
 /// Statements up to their END.
 #[cycle(statement)]
 #[tactic(auto, using(crate::proofs::StatementLemmas::block_first, crate::proofs::StatementLemmas::block_over))]
-fn block(alloc: Global, total: u32, depth: u32, rest: &mut &[Symbol]) -> Result<Block, Fault>
-    ensures { Parses (λ found. IsBlock total limited false depth rest.old.now found rest.new.now) (ABlock false ∷ []) depth rest.old.now result }
+fn block(alloc: Global, total: u32, depth: u32, rest: &mut Rest<'_>) -> Result<Block, Fault>
+    ensures { Parses (λ found. IsBlock total limited false depth rest.old found rest.new) (ABlock false ∷ []) depth rest.old result }
 {
     let mut found = Block::new(alloc);
     'items: while !skip(Want::End, rest) {
@@ -311,8 +306,8 @@ fn block(alloc: Global, total: u32, depth: u32, rest: &mut &[Symbol]) -> Result<
 
 /// Statements and filter lists up to the END of the routine.
 #[tactic(auto, using(crate::proofs::StatementLemmas::block_first, crate::proofs::StatementLemmas::block_over))]
-pub fn body(alloc: Global, total: u32, rest: &mut &[Symbol]) -> Result<Block, Fault>
-    ensures { Parses (λ found. IsBlock total limited true 0 rest.old.now found rest.new.now) (ABlock true ∷ []) 0 rest.old.now result }
+pub fn body(alloc: Global, total: u32, rest: &mut Rest<'_>) -> Result<Block, Fault>
+    ensures { Parses (λ found. IsBlock total limited true 0 rest.old found rest.new) (ABlock true ∷ []) 0 rest.old result }
 {
     let mut found = Block::new(alloc);
     'items: while !skip(Want::End, rest) {
@@ -323,8 +318,8 @@ pub fn body(alloc: Global, total: u32, rest: &mut &[Symbol]) -> Result<Block, Fa
 }
 
 #[tactic(auto, using(crate::proofs::StatementLemmas::item_is_filter, crate::proofs::StatementLemmas::item_filter_fails, crate::proofs::StatementLemmas::item_is_statement, crate::proofs::StatementLemmas::item_fails))]
-fn item(alloc: Global, total: u32, rest: &mut &[Symbol]) -> Result<Boxed<Stmt>, Fault>
-    ensures { Parses (λ found. IsItem total limited true 0 rest.old.now found rest.new.now) (AnItem true ∷ []) 0 rest.old.now result }
+fn item(alloc: Global, total: u32, rest: &mut Rest<'_>) -> Result<Boxed<Stmt>, Fault>
+    ensures { Parses (λ found. IsItem total limited true 0 rest.old found rest.new) (AnItem true ∷ []) 0 rest.old result }
 {
     if begins(Want::FiltList, rest) {
         let found = filter_list(alloc, total, rest)?;
@@ -337,8 +332,8 @@ fn item(alloc: Global, total: u32, rest: &mut &[Symbol]) -> Result<Boxed<Stmt>, 
 
 /// Items in parentheses.
 #[tactic(auto, using(crate::proofs::SelectLemmas::items_at, crate::proofs::SelectLemmas::items_open_fails, crate::proofs::SelectLemmas::items_fail, crate::proofs::SelectLemmas::items_close_fails))]
-fn items_test(alloc: Global, total: u32, rest: &mut &[Symbol]) -> Result<TestParts, Fault>
-    ensures { Reads (λ test. (n : ℕ) → IsTest total true n rest.old.now (test_of_parts test) rest.new.now) (One want.Open Keep ∷ AnOperand list.Items ∷ MoreOperands list.Items ∷ One want.Close Keep ∷ []) rest.old.now result }
+fn items_test(alloc: Global, total: u32, rest: &mut Rest<'_>) -> Result<TestParts, Fault>
+    ensures { Reads (λ test. (n : ℕ) → IsTest total true n rest.old (test_of_parts test) rest.new) (One want.Open Keep ∷ AnOperand list.Items ∷ MoreOperands list.Items ∷ One want.Close Keep ∷ []) rest.old result }
 {
     expect(Want::Open, rest)?;
     let items = operands(alloc, total, ListKind::Items, rest)?;
@@ -352,9 +347,9 @@ fn condition_test(
     alloc: Global,
     total: u32,
     depth: u32,
-    rest: &mut &[Symbol],
+    rest: &mut Rest<'_>,
 ) -> Result<TestParts, Fault>
-    ensures { Parses (λ test. IsTest total false depth rest.old.now (test_of_parts test) rest.new.now) (test_parts false depth) depth rest.old.now result }
+    ensures { Parses (λ test. IsTest total false depth rest.old (test_of_parts test) rest.new) (test_parts false depth) depth rest.old result }
 {
     expect(Want::Open, rest)?;
     let cond = cond_before(alloc, total, depth, Want::Close, rest)?;

@@ -13,27 +13,27 @@ ghost use Rattle.acs_parse.specs.Reads.{ReadsOne, Opens, Skips, GoesOn};
 use crate::fault::Fault;
 use crate::list_kind::ListKind;
 use crate::want::Want;
-use acs_symbol::{Symbol, WordKind};
+use acs_symbol::{Rest, Symbol, WordKind};
 use acs_tree::{Compare, Ident};
 
 /// The most constructs that may be open at once (docs/acs-language.md, Nesting).
 pub const MAX_NESTING: u32 = 200;
 
 /// The place of the first of these tokens, of so many in all.
-pub fn place(total: u32, symbols: &[Symbol]) -> u32
-    ensures { result ≡ place_in total symbols.now }
+pub fn place(total: u32, rest: &Rest<'_>) -> u32
+    ensures { result ≡ place_in total rest.now }
 {
-    (total as usize).saturating_sub(symbols.len()) as u32
+    (total as usize).saturating_sub(rest.len()) as u32
 }
 
 /// One more opens at the first of these tokens, if it may.
-pub fn opened(depth: u32, symbols: &[Symbol]) -> Result<u32, Fault>
-    ensures { Opens depth symbols.now result }
+pub fn opened(depth: u32, rest: &Rest<'_>) -> Result<u32, Fault>
+    ensures { Opens depth rest.now result }
 {
     if depth < MAX_NESTING {
         Ok(depth + 1)
     } else {
-        Err(Fault::Deep(symbols.len()))
+        Err(Fault::Deep(rest.len()))
     }
 }
 
@@ -44,8 +44,8 @@ pub fn closed(depth: u32) -> u32
 }
 
 /// Moves past the token that is wanted.
-pub fn expect(want: Want, rest: &mut &[Symbol]) -> Result<(), Fault>
-    ensures { ReadsOne (λ _. Takes want rest.old.now rest.new.now) want rest.old.now result }
+pub fn expect(want: Want, rest: &mut Rest<'_>) -> Result<(), Fault>
+    ensures { ReadsOne (λ _. Takes want rest.old rest.new) want rest.old result }
 {
     match rest.split_first() {
         None => Err(Fault::Ended),
@@ -58,8 +58,8 @@ pub fn expect(want: Want, rest: &mut &[Symbol]) -> Result<(), Fault>
 }
 
 /// Moves past the token if it is the one that is wanted, and tells whether it was.
-pub fn skip(want: Want, rest: &mut &[Symbol]) -> bool
-    ensures { Skips want rest.old.now rest.new.now result }
+pub fn skip(want: Want, rest: &mut Rest<'_>) -> bool
+    ensures { Skips want rest.old rest.new result }
 {
     match rest.split_first() {
         Some((first, behind)) if want.fits(first) => {
@@ -70,33 +70,33 @@ pub fn skip(want: Want, rest: &mut &[Symbol]) -> bool
     }
 }
 
-pub fn begins(want: Want, symbols: &[Symbol]) -> bool
-    ensures { result ≡ starts want symbols.now }
+pub fn begins(want: Want, rest: &Rest<'_>) -> bool
+    ensures { result ≡ starts want rest.now }
 {
-    symbols.first().is_some_and(|first| want.fits(first))
+    rest.first().is_some_and(|first| want.fits(first))
 }
 
-pub fn number(rest: &mut &[Symbol]) -> Result<Ident, Fault>
-    ensures { ReadsOne (λ text. rest.old.now ≡ Word word.Number text ∷ rest.new.now) want.Number rest.old.now result }
+pub fn number(rest: &mut Rest<'_>) -> Result<Ident, Fault>
+    ensures { ReadsOne (λ text. rest.old ≡ Word word.Number text ∷ rest.new) want.Number rest.old result }
 {
     match rest.split_first() {
         None => Err(Fault::Ended),
         Some((Symbol::Word(WordKind::Number, text), behind)) => {
             *rest = behind;
-            Ok(*text)
+            Ok(text.ident())
         }
         Some(_) => Err(Fault::Unexpected(rest.len())),
     }
 }
 
-pub fn word(rest: &mut &[Symbol]) -> Result<Ident, Fault>
-    ensures { ReadsOne (λ text. (kind : WordKind) × (rest.old.now ≡ Word kind text ∷ rest.new.now)) want.Word rest.old.now result }
+pub fn word(rest: &mut Rest<'_>) -> Result<Ident, Fault>
+    ensures { ReadsOne (λ text. (kind : WordKind) × (rest.old ≡ Word kind text ∷ rest.new)) want.Word rest.old result }
 {
     match rest.split_first() {
         None => Err(Fault::Ended),
         Some((Symbol::Word(_, text), behind)) => {
             *rest = behind;
-            Ok(*text)
+            Ok(text.ident())
         }
         Some(_) => Err(Fault::Unexpected(rest.len())),
     }
@@ -104,18 +104,18 @@ pub fn word(rest: &mut &[Symbol]) -> Result<Ident, Fault>
 
 /// The name of a filter list.
 #[tactic(auto, using(crate::proofs::ShapeLemmas::named_word, crate::proofs::ShapeLemmas::named_variable))]
-pub fn list_name(rest: &mut &[Symbol]) -> Result<Ident, Fault>
-    ensures { ReadsOne (λ text. (t : Symbol) × IsListName t text × (rest.old.now ≡ t ∷ rest.new.now)) want.Name rest.old.now result }
+pub fn list_name(rest: &mut Rest<'_>) -> Result<Ident, Fault>
+    ensures { ReadsOne (λ text. (t : Symbol) × IsListName t text × (rest.old ≡ t ∷ rest.new)) want.Name rest.old result }
 {
     match rest.split_first() {
         None => Err(Fault::Ended),
         Some((Symbol::Word(_, text), behind)) => {
             *rest = behind;
-            Ok(*text)
+            Ok(text.ident())
         }
         Some((Symbol::Variable(text), behind)) => {
             *rest = behind;
-            Ok(*text)
+            Ok(text.ident())
         }
         Some(_) => Err(Fault::Unexpected(rest.len())),
     }
@@ -123,8 +123,8 @@ pub fn list_name(rest: &mut &[Symbol]) -> Result<Ident, Fault>
 
 /// The name at the head of a routine.
 #[tactic(auto, using(crate::proofs::ShapeLemmas::headed_word, crate::proofs::ShapeLemmas::headed_variable, crate::proofs::ShapeLemmas::number_heads_nothing))]
-pub fn head(rest: &mut &[Symbol]) -> Result<Ident, Fault>
-    ensures { ReadsOne (λ text. (t : Symbol) × IsHead t text × (rest.old.now ≡ t ∷ rest.new.now)) want.Head rest.old.now result }
+pub fn head(rest: &mut Rest<'_>) -> Result<Ident, Fault>
+    ensures { ReadsOne (λ text. (t : Symbol) × IsHead t text × (rest.old ≡ t ∷ rest.new)) want.Head rest.old result }
 {
     if begins(Want::Number, rest) {
         return Err(Fault::Unexpected(rest.len()));
@@ -133,19 +133,19 @@ pub fn head(rest: &mut &[Symbol]) -> Result<Ident, Fault>
         None => Err(Fault::Ended),
         Some((Symbol::Word(_, text), behind)) => {
             *rest = behind;
-            Ok(*text)
+            Ok(text.ident())
         }
         Some((Symbol::Variable(text), behind)) => {
             *rest = behind;
-            Ok(*text)
+            Ok(text.ident())
         }
         Some(_) => Err(Fault::Unexpected(rest.len())),
     }
 }
 
 #[tactic(auto, using(crate::proofs::ShapeLemmas::operator_sign, crate::proofs::ShapeLemmas::operator_word))]
-pub fn operator(rest: &mut &[Symbol]) -> Result<Compare, Fault>
-    ensures { ReadsOne (λ op. (t : Symbol) × IsOperator t op × (rest.old.now ≡ t ∷ rest.new.now)) want.Operator rest.old.now result }
+pub fn operator(rest: &mut Rest<'_>) -> Result<Compare, Fault>
+    ensures { ReadsOne (λ op. (t : Symbol) × IsOperator t op × (rest.old ≡ t ∷ rest.new)) want.Operator rest.old result }
 {
     match rest.split_first() {
         None => Err(Fault::Ended),
@@ -162,12 +162,12 @@ pub fn operator(rest: &mut &[Symbol]) -> Result<Compare, Fault>
 }
 
 /// Where the next operand of the list begins, behind a comma or at once.
-pub fn further(kind: ListKind, symbols: &[Symbol]) -> Option<&[Symbol]>
-    ensures { MatchOption result (goes_on kind symbols.now ≡ false) (λ behind. GoesOn kind symbols.now behind.now) }
+pub fn further<'a>(kind: ListKind, rest: &Rest<'a>) -> Option<Rest<'a>>
+    ensures { MatchOption result (goes_on kind rest.now ≡ false) (λ behind. GoesOn kind rest.now behind) }
 {
-    match symbols.split_first() {
+    match rest.split_first() {
         Some((Symbol::Comma, behind)) => Some(behind),
-        Some((first, _)) if kind.joins(first) => Some(symbols),
+        Some((first, _)) if kind.joins(first) => Some(rest.copied()),
         _ => None,
     }
 }

@@ -32,7 +32,7 @@ pub enum Want {
 }
 
 impl Want {
-    pub fn fits(self, symbol: &Symbol) -> bool
+    pub fn fits(self, symbol: &Symbol<'_>) -> bool
         ensures { result ≡ fits self symbol.now }
     {
         match self {
@@ -67,7 +67,7 @@ impl Want {
     }
 }
 
-fn is_head(symbol: &Symbol) -> bool
+fn is_head(symbol: &Symbol<'_>) -> bool
     ensures { result ≡ fits Want.Head symbol.now }
 {
     match symbol {

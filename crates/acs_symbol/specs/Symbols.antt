@@ -1,5 +1,5 @@
 -- The tokens of a text as the grammar reads them (docs/acs-language.md, Grammar).
-use Rattle.std.specs.Prelude.{◌-◌, ℕ, List, length, map, codes, slice_range, if◌then◌else◌}
+use Rattle.std.specs.Prelude.{◌-◌, ℕ, List, [], ◌∷◌, length, map, codes, slice_range, if◌then◌else◌}
 use Rattle.std.specs.List.{list_all}
 use Rattle.std.specs.Str.{bytes_eq}
 use Rattle.dsn_mask.specs.Name.{is_digit}
@@ -13,66 +13,47 @@ use Rattle.acs_symbol.specs.declared.symbol.WordKind.TheVariants as word
 use Rattle.acs_symbol.specs.declared.symbol.Symbol.{Symbol}
 use Rattle.acs_symbol.specs.declared.symbol.Symbol.TheVariants.{Word, Variable, Literal, AndSign, OrSign, Open, Close, Comma, Operator}
 
+-- the words that begin a statement, and those of a routine's frame
+abbrev pub outer_words : List (List ℕ × WordKind)
+outer_words =
+    (codes "PROC", word.Proc) ∷ (codes "END", word.End) ∷ (codes "FILTLIST", word.FiltList) ∷ (codes "SET", word.Set) ∷ (codes "IF", word.If) ∷
+    (codes "SELECT", word.Select) ∷ (codes "DO", word.Do) ∷ (codes "WRITE", word.Write) ∷ (codes "EXIT", word.Exit) ∷ []
+
+-- the words that stand inside a statement
+abbrev pub inner_words : List (List ℕ × WordKind)
+inner_words =
+    (codes "THEN", word.Then) ∷ (codes "ELSE", word.Else) ∷ (codes "WHEN", word.When) ∷ (codes "OTHERWISE", word.Otherwise) ∷ (codes "INCLUDE", word.Include) ∷
+    (codes "EXCLUDE", word.Exclude) ∷ (codes "CODE", word.Code) ∷ (codes "AND", word.And) ∷ (codes "OR", word.Or) ∷ []
+
+-- the words that compare
+abbrev pub comparisons : List (List ℕ × WordKind)
+comparisons =
+    (codes "EQ", word.Compare Eq) ∷ (codes "NE", word.Compare Ne) ∷ (codes "GT", word.Compare Gt) ∷ (codes "LT", word.Compare Lt) ∷
+    (codes "GE", word.Compare Ge) ∷ (codes "LE", word.Compare Le) ∷ (codes "NG", word.Compare Ng) ∷ (codes "NL", word.Compare Nl) ∷ []
+
+-- the signs
+abbrev pub signs : List (List ℕ × Symbol)
+signs =
+    (codes "&&", AndSign) ∷ (codes "|", OrSign) ∷ (codes "(", Open) ∷ (codes ")", Close) ∷ (codes ",", Comma) ∷
+    (codes "=", Operator Eq) ∷ (codes "^=", Operator Ne) ∷ (codes ">", Operator Gt) ∷ (codes "<", Operator Lt) ∷ (codes ">=", Operator Ge) ∷
+    (codes "<=", Operator Le) ∷ (codes "^>", Operator Ng) ∷ (codes "^<", Operator Nl) ∷ []
+
+-- what a table has beside the text, and else the other
+abbrev pub listed : {A : Type 0} → List (List ℕ × A) → List ℕ → A → A
+listed [] text other = other
+listed (row ∷ rows) text other = if bytes_eq text row.0 then row.1 else listed rows text other
+
 -- a word that is no keyword
 abbrev pub number_kind : List ℕ → WordKind
 number_kind text = if list_all is_digit text then word.Number else word.Other
 
--- EQ, NE, GT, LT, GE, LE, NG, NL, and else a word that is no keyword
-abbrev pub compare_kind : List ℕ → WordKind
-compare_kind text =
-    if bytes_eq text (codes "EQ") then word.Compare Eq else
-    if bytes_eq text (codes "NE") then word.Compare Ne else
-    if bytes_eq text (codes "GT") then word.Compare Gt else
-    if bytes_eq text (codes "LT") then word.Compare Lt else
-    if bytes_eq text (codes "GE") then word.Compare Ge else
-    if bytes_eq text (codes "LE") then word.Compare Le else
-    if bytes_eq text (codes "NG") then word.Compare Ng else
-    if bytes_eq text (codes "NL") then word.Compare Nl else
-    number_kind text
-
--- the words that stand inside a statement, and else a comparison or a word that is no keyword
-abbrev pub inner_kind : List ℕ → WordKind
-inner_kind text =
-    if bytes_eq text (codes "THEN") then word.Then else
-    if bytes_eq text (codes "ELSE") then word.Else else
-    if bytes_eq text (codes "WHEN") then word.When else
-    if bytes_eq text (codes "OTHERWISE") then word.Otherwise else
-    if bytes_eq text (codes "INCLUDE") then word.Include else
-    if bytes_eq text (codes "EXCLUDE") then word.Exclude else
-    if bytes_eq text (codes "CODE") then word.Code else
-    if bytes_eq text (codes "AND") then word.And else
-    if bytes_eq text (codes "OR") then word.Or else
-    compare_kind text
-
 -- what the word can be besides a name
 abbrev pub word_kind : List ℕ → WordKind
-word_kind text =
-    if bytes_eq text (codes "PROC") then word.Proc else
-    if bytes_eq text (codes "END") then word.End else
-    if bytes_eq text (codes "FILTLIST") then word.FiltList else
-    if bytes_eq text (codes "SET") then word.Set else
-    if bytes_eq text (codes "IF") then word.If else
-    if bytes_eq text (codes "SELECT") then word.Select else
-    if bytes_eq text (codes "DO") then word.Do else
-    if bytes_eq text (codes "WRITE") then word.Write else
-    if bytes_eq text (codes "EXIT") then word.Exit else
-    inner_kind text
+word_kind text = listed outer_words text (listed inner_words text (listed comparisons text (number_kind text)))
 
 -- the sign with this text: one of the scanner's; what is none of the others is the comma
 abbrev pub sign_of : List ℕ → Symbol
-sign_of text =
-    if bytes_eq text (codes "&&") then AndSign else
-    if bytes_eq text (codes "|") then OrSign else
-    if bytes_eq text (codes "(") then Open else
-    if bytes_eq text (codes ")") then Close else
-    if bytes_eq text (codes "^=") then Operator Ne else
-    if bytes_eq text (codes ">") then Operator Gt else
-    if bytes_eq text (codes "<") then Operator Lt else
-    if bytes_eq text (codes ">=") then Operator Ge else
-    if bytes_eq text (codes "<=") then Operator Le else
-    if bytes_eq text (codes "^>") then Operator Ng else
-    if bytes_eq text (codes "^<") then Operator Nl else
-    if bytes_eq text (codes "=") then Operator Eq else Comma
+sign_of text = listed signs text Comma
 
 -- the bytes between the quotes
 abbrev pub unquoted : List ℕ → List ℕ

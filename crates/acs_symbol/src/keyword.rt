@@ -1,12 +1,46 @@
 // What a word or a sign is, by its text.
-ghost use Rattle.std.specs.Prelude.{◌≡◌};
-ghost use Rattle.acs_symbol.specs.Symbols.{number_kind, compare_kind, inner_kind, word_kind, sign_of};
+ghost use Rattle.std.specs.Prelude.{◌≡◌, ◌≤◌, length};
+ghost use Rattle.std.specs.List.{list_all};
+ghost use Rattle.std.specs.Str.{str_to_ascii_uppercase};
+ghost use Rattle.acs_tree.specs.Ident.{is_upper_byte};
+ghost use Rattle.acs_symbol.specs.Symbols.{inner_words, comparisons, listed, number_kind, word_kind, sign_of};
 
 use crate::symbol::{Symbol, WordKind};
+use acs_lex::MAX_WORD;
 use acs_tree::{Compare, are_digits};
 
-/// What the word can be besides a name.
-pub fn word_kind(text: &[u8]) -> WordKind
+/// What the word can be besides a name, its letters in either case. Most words have no small letter, and
+/// are read where they stand.
+#[tactic(auto, using(crate::proofs::UpperLemmas::upper_stays))]
+pub fn kind_in_any_case(text: &[u8]) -> WordKind
+    requires { length text.now ≤ 64 }
+    ensures { result ≡ word_kind (str_to_ascii_uppercase text.now) }
+{
+    if is_upper(text) {
+        word_kind(text)
+    } else {
+        raised_kind(text)
+    }
+}
+
+fn is_upper(text: &[u8]) -> bool
+    ensures { result ≡ list_all is_upper_byte text.now }
+{
+    text.iter().all(|byte| !byte.is_ascii_lowercase())
+}
+
+fn raised_kind(text: &[u8]) -> WordKind
+    requires { length text.now ≤ 64 }
+    ensures { result ≡ word_kind (str_to_ascii_uppercase text.now) }
+{
+    let mut upper = [0; MAX_WORD];
+    let upper = &mut upper[..text.len()];
+    upper.copy_from_slice(text);
+    upper.make_ascii_uppercase();
+    word_kind(upper)
+}
+
+fn word_kind(text: &[u8]) -> WordKind
     ensures { result ≡ word_kind text.now }
 {
     if text == b"PROC".as_slice() {
@@ -33,7 +67,7 @@ pub fn word_kind(text: &[u8]) -> WordKind
 }
 
 fn inner_kind(text: &[u8]) -> WordKind
-    ensures { result ≡ inner_kind text.now }
+    ensures { result ≡ listed inner_words text.now (listed comparisons text.now (number_kind text.now)) }
 {
     if text == b"THEN".as_slice() {
         WordKind::Then
@@ -59,26 +93,18 @@ fn inner_kind(text: &[u8]) -> WordKind
 }
 
 fn compare_kind(text: &[u8]) -> WordKind
-    ensures { result ≡ compare_kind text.now }
+    ensures { result ≡ listed comparisons text.now (number_kind text.now) }
 {
-    if text == b"EQ".as_slice() {
-        WordKind::Compare(Compare::Eq)
-    } else if text == b"NE".as_slice() {
-        WordKind::Compare(Compare::Ne)
-    } else if text == b"GT".as_slice() {
-        WordKind::Compare(Compare::Gt)
-    } else if text == b"LT".as_slice() {
-        WordKind::Compare(Compare::Lt)
-    } else if text == b"GE".as_slice() {
-        WordKind::Compare(Compare::Ge)
-    } else if text == b"LE".as_slice() {
-        WordKind::Compare(Compare::Le)
-    } else if text == b"NG".as_slice() {
-        WordKind::Compare(Compare::Ng)
-    } else if text == b"NL".as_slice() {
-        WordKind::Compare(Compare::Nl)
-    } else {
-        number_kind(text)
+    match text {
+        b"EQ" => WordKind::Compare(Compare::Eq),
+        b"NE" => WordKind::Compare(Compare::Ne),
+        b"GT" => WordKind::Compare(Compare::Gt),
+        b"LT" => WordKind::Compare(Compare::Lt),
+        b"GE" => WordKind::Compare(Compare::Ge),
+        b"LE" => WordKind::Compare(Compare::Le),
+        b"NG" => WordKind::Compare(Compare::Ng),
+        b"NL" => WordKind::Compare(Compare::Nl),
+        _ => number_kind(text),
     }
 }
 
@@ -93,34 +119,22 @@ fn number_kind(text: &[u8]) -> WordKind
 }
 
 /// The sign with this text: one of the scanner's.
-pub fn sign(text: &[u8]) -> Symbol
+pub fn sign(text: &[u8]) -> Symbol<'_>
     ensures { result ≡ sign_of text.now }
 {
-    if text == b"&&".as_slice() {
-        Symbol::AndSign
-    } else if text == b"|".as_slice() {
-        Symbol::OrSign
-    } else if text == b"(".as_slice() {
-        Symbol::Open
-    } else if text == b")".as_slice() {
-        Symbol::Close
-    } else if text == b"^=".as_slice() {
-        Symbol::Operator(Compare::Ne)
-    } else if text == b">".as_slice() {
-        Symbol::Operator(Compare::Gt)
-    } else if text == b"<".as_slice() {
-        Symbol::Operator(Compare::Lt)
-    } else if text == b">=".as_slice() {
-        Symbol::Operator(Compare::Ge)
-    } else if text == b"<=".as_slice() {
-        Symbol::Operator(Compare::Le)
-    } else if text == b"^>".as_slice() {
-        Symbol::Operator(Compare::Ng)
-    } else if text == b"^<".as_slice() {
-        Symbol::Operator(Compare::Nl)
-    } else if text == b"=".as_slice() {
-        Symbol::Operator(Compare::Eq)
-    } else {
-        Symbol::Comma
+    match text {
+        b"&&" => Symbol::AndSign,
+        b"|" => Symbol::OrSign,
+        b"(" => Symbol::Open,
+        b")" => Symbol::Close,
+        b"=" => Symbol::Operator(Compare::Eq),
+        b"^=" => Symbol::Operator(Compare::Ne),
+        b">" => Symbol::Operator(Compare::Gt),
+        b"<" => Symbol::Operator(Compare::Lt),
+        b">=" => Symbol::Operator(Compare::Ge),
+        b"<=" => Symbol::Operator(Compare::Le),
+        b"^>" => Symbol::Operator(Compare::Ng),
+        b"^<" => Symbol::Operator(Compare::Nl),
+        _ => Symbol::Comma,
     }
 }

@@ -5,8 +5,14 @@
 mod keyword;
 mod laws;
 mod reading;
+mod rest;
 mod symbol;
+mod unquoted;
+mod upper;
 
 pub use laws::token_count;
 pub use reading::symbols;
+pub use rest::Rest;
 pub use symbol::{Symbol, WordKind};
+pub use unquoted::Unquoted;
+pub use upper::Upper;

@@ -1,6 +1,7 @@
 // The tokens of a routine as its grammar reads them.
-use acs_tree::{Compare, Ident};
-use dsn_mask::Lit;
+use crate::unquoted::Unquoted;
+use crate::upper::Upper;
+use acs_tree::Compare;
 
 /// What a word can be besides a name, by its text: a keyword, a comparison, digits alone, or
 /// nothing else.
@@ -31,11 +32,11 @@ pub enum WordKind {
 
 /// A token with its text: a word in upper case, a variable in upper case without its ampersand, a
 /// literal without its quotes, or one of the signs.
-#[derive(Clone, Copy)]
-pub enum Symbol {
-    Word(WordKind, Ident),
-    Variable(Ident),
-    Literal(Lit),
+#[derive(Drop)]
+pub enum Symbol<'a> {
+    Word(WordKind, Upper<'a>),
+    Variable(Upper<'a>),
+    Literal(Unquoted<'a>),
     AndSign,
     OrSign,
     Open,

@@ -169,20 +169,20 @@ fn compare_read(rt: &impl Abort, alloc: Global, rows: &[Read]) -> Result<(), Fai
     Ok(())
 }
 
-fn compare_symbols(rt: &impl Abort, text: &[u8], read: &[Symbol], wanted: &[Wanted]) {
+fn compare_symbols(rt: &impl Abort, text: &[u8], read: &[Symbol<'_>], wanted: &[Wanted]) {
     assert_eq!(rt; read.len(), wanted.len(), "at {text:?}");
     for (symbol, wanted) in read.iter().zip(wanted) {
         assert!(rt; is_as_wanted(symbol, *wanted), "at {text:?}");
     }
 }
 
-fn is_as_wanted(symbol: &Symbol, wanted: Wanted) -> bool {
+fn is_as_wanted(symbol: &Symbol<'_>, wanted: Wanted) -> bool {
     match (symbol, wanted) {
         (Symbol::Word(kind, text), Word(wanted, upper)) => {
-            *kind == wanted && text.bytes() == upper
+            *kind == wanted && text.ident().bytes() == upper
         }
-        (Symbol::Variable(text), Variable(upper)) => text.bytes() == upper,
-        (Symbol::Literal(text), Literal(inside)) => text.bytes() == inside,
+        (Symbol::Variable(text), Variable(upper)) => text.ident().bytes() == upper,
+        (Symbol::Literal(text), Literal(inside)) => text.lit().bytes() == inside,
         (Symbol::Operator(compare), Operator(wanted)) => *compare == wanted,
         (Symbol::AndSign, AndSign)
         | (Symbol::OrSign, OrSign)

@@ -4,9 +4,10 @@ use Rattle.std.specs.Prelude.{◌&&◌}
 use Rattle.std.specs.List.{list_all}
 use Rattle.std.proofs.lemmas.Bool.{leb-true, le-leb}
 use Rattle.std.proofs.lemmas.List.Folds.{list_all_at}
+use Rattle.desk_common.specs.Exact.{NotBehind}
 use Rattle.dsn_mask.specs.Name.{is_initial}
 use Rattle.dsn_mask.specs.DataSetName.{is_qualifier, is_qualifier_byte}
-use Rattle.dsn_mask.specs.NameFault.{QualifierFault, empty, ninth_byte, bad_first, bad_later, NameFault, here, behind, Precedes, IsFirstIn, IsFirstAmong}
+use Rattle.dsn_mask.specs.NameFault.{QualifierFault, empty, ninth_byte, bad_first, bad_later, NameFault, here, behind, place_of, IsFirstIn, IsFirstAmong}
 use Rattle.dsn_mask.specs.declared.name_err.NameErr.{NameErr}
 use Rattle.dsn_mask.specs.declared.name_err.NameErr.TheVariants.{BadQualifier, BadByte}
 
@@ -50,9 +51,9 @@ fault_within (bad_first some bad) = omega arith
 fault_within (bad_later i_some less bad) = omega arith
 
 with_fault : (s n : ℕ) (q : List ℕ) (err : NameErr) → IsFirstIn s n q err → (is_qualifier q ≡ false) × IsFirstIn s n q err
-with_fault s n q err first = (false_if _ (λ good. no_fault_in q good first.met), first)
+with_fault s n q err first = (false_if _ (λ good. no_fault_in q good first.is.met), first)
 
-before_empty : {s n p : ℕ} {q : List ℕ} {err : NameErr} → QualifierFault s n q p err → Precedes s (BadQualifier n) p err
+before_empty : {s n p : ℕ} {q : List ℕ} {err : NameErr} → QualifierFault s n q p err → NotBehind (place_of (s, BadQualifier n)) (place_of (p, err))
 before_empty (empty nil) = (omega arith, λ same. omega arith)
 before_empty (ninth_byte more) = (omega arith, λ same. omega arith)
 before_empty (bad_first some bad) = (omega arith, λ same. omega arith)
@@ -63,16 +64,16 @@ nil_of [] none = refl
 nil_of (x ∷ xs) none = absurd (omega arith)
 
 pub empty_first : (s n : ℕ) (q : List ℕ) → length q ≡ 0 → (is_qualifier q ≡ false) × IsFirstIn s n q (BadQualifier n)
-empty_first s n q none = with_fault s n q _ (record { place = s; met = empty (nil_of q none); first = λ p err fault. before_empty fault })
+empty_first s n q none = with_fault s n q _ (record { place = s; is = record { met = empty (nil_of q none); first = λ other fault. before_empty fault } })
 
-before_bad_first : {s n p : ℕ} {q : List ℕ} {err : NameErr} → 0 < length q → QualifierFault s n q p err → Precedes s (BadByte s) p err
+before_bad_first : {s n p : ℕ} {q : List ℕ} {err : NameErr} → 0 < length q → QualifierFault s n q p err → NotBehind (place_of (s, BadByte s)) (place_of (p, err))
 before_bad_first {q = q} some (empty nil) = let none : length q ≡ 0 = rw nil refl in absurd (omega arith)
 before_bad_first some (ninth_byte more) = (omega arith, λ same. absurd (omega arith))
 before_bad_first some (bad_first x bad) = (omega arith, λ same. omega arith)
 before_bad_first some (bad_later i_some less bad) = (omega arith, λ same. absurd (omega arith))
 
 pub bad_first_is : (s n : ℕ) (q : List ℕ) → 0 < length q → is_initial (get_or q 0 0) ≡ false → (is_qualifier q ≡ false) × IsFirstIn s n q (BadByte s)
-bad_first_is s n q some bad = with_fault s n q _ (record { place = s; met = bad_first some bad; first = λ p err fault. before_bad_first some fault })
+bad_first_is s n q some bad = with_fault s n q _ (record { place = s; is = record { met = bad_first some bad; first = λ other fault. before_bad_first some fault } })
 
 initial_is_good : (b : ℕ) → is_initial b ≡ true → is_qualifier_byte b ≡ true
 initial_is_good b e = rw e refl
@@ -84,7 +85,7 @@ below : (i k : ℕ) (q : List ℕ) → ((j : ℕ) → j < i → is_qualifier_byt
 below i k q each bad = elim (order_of i k) [ inl less ↦ less | inr more ↦ let good = each k more in absurd (cc) ]
 
 before_bad_byte : {s n p : ℕ} {err : NameErr} (q : List ℕ) (i : ℕ) → i < length q → i < 8 → is_initial (get_or q 0 0) ≡ true → ((k : ℕ) → k < i → is_qualifier_byte (get_or q k 0) ≡ true)
-    → QualifierFault s n q p err → Precedes (s + i) (BadByte (s + i)) p err
+    → QualifierFault s n q p err → NotBehind (place_of (s + i, BadByte (s + i))) (place_of (p, err))
 before_bad_byte q i less eight good each (empty nil) = let none : length q ≡ 0 = rw nil refl in absurd (omega arith)
 before_bad_byte q i less eight good each (ninth_byte more) = (omega arith, λ same. absurd (omega arith))
 before_bad_byte q i less eight good each (bad_first some bad) = absurd (cc)
@@ -93,10 +94,10 @@ before_bad_byte q i less eight good each (bad_later some within bad) = let least
 pub bad_byte_is : (s n : ℕ) (q : List ℕ) (i : ℕ) → i < length q → i < 8 → is_initial (get_or q 0 0) ≡ true → ((k : ℕ) → k < i → is_qualifier_byte (get_or q k 0) ≡ true)
     → is_qualifier_byte (get_or q i 0) ≡ false → (is_qualifier q ≡ false) × IsFirstIn s n q (BadByte (s + i))
 bad_byte_is s n q zero less eight good each bad = let fine = initial_is_good (get_or q 0 0) good in absurd (cc)
-bad_byte_is s n q (suc i) less eight good each bad = with_fault s n q _ (record { place = s + suc i; met = bad_later (omega arith) less bad; first = λ p err fault. before_bad_byte q (suc i) less eight good each fault })
+bad_byte_is s n q (suc i) less eight good each bad = with_fault s n q _ (record { place = s + suc i; is = record { met = bad_later (omega arith) less bad; first = λ other fault. before_bad_byte q (suc i) less eight good each fault } })
 
 before_ninth : {s n p : ℕ} {err : NameErr} (q : List ℕ) (i : ℕ) → 8 < length q → 8 ≤ i → is_initial (get_or q 0 0) ≡ true → ((k : ℕ) → k < i → is_qualifier_byte (get_or q k 0) ≡ true)
-    → QualifierFault s n q p err → Precedes (s + 8) (BadQualifier n) p err
+    → QualifierFault s n q p err → NotBehind (place_of (s + 8, BadQualifier n)) (place_of (p, err))
 before_ninth q i long eight good each (empty nil) = let none : length q ≡ 0 = rw nil refl in absurd (omega arith)
 before_ninth q i long eight good each (ninth_byte more) = (omega arith, λ same. omega arith)
 before_ninth q i long eight good each (bad_first some bad) = absurd (cc)
@@ -104,7 +105,7 @@ before_ninth q i long eight good each (bad_later some within bad) = let least = 
 
 pub ninth_is : (s n : ℕ) (q : List ℕ) (i : ℕ) → 8 < length q → 8 ≤ i → is_initial (get_or q 0 0) ≡ true → ((k : ℕ) → k < i → is_qualifier_byte (get_or q k 0) ≡ true)
     → (is_qualifier q ≡ false) × IsFirstIn s n q (BadQualifier n)
-ninth_is s n q i long eight good each = with_fault s n q _ (record { place = s + 8; met = ninth_byte long; first = λ p err fault. before_ninth q i long eight good each fault })
+ninth_is s n q i long eight good each = with_fault s n q _ (record { place = s + 8; is = record { met = ninth_byte long; first = λ other fault. before_ninth q i long eight good each fault } })
 
 pub good_is : (q : List ℕ) (i : ℕ) → 0 < length q → length q ≤ 8 → length q ≤ i → is_initial (get_or q 0 0) ≡ true → ((k : ℕ) → k < i → is_qualifier_byte (get_or q k 0) ≡ true) → is_qualifier q ≡ true
 good_is q i some short all good each = rw (le-leb 1 (length q) (omega arith), le-leb (length q) 8 short, good) (list_all_from is_qualifier_byte q (λ k less. each k (omega arith)))
@@ -125,14 +126,14 @@ among_goes_on q qs good (here fault) = absurd (no_fault_in q good fault)
 among_goes_on q qs good (behind fault) = fault
 
 pub goes_on : (s n : ℕ) (q : List ℕ) (qs : List (List ℕ)) (err : NameErr) → is_qualifier q ≡ true → IsFirstAmong (s + length q + 1) (n + 1) qs err → IsFirstAmong s n (q ∷ qs) err
-goes_on s n q qs err good found = record { place = found.place; met = behind found.met; first = λ p other fault. found.first p other (among_goes_on q qs good fault) }
+goes_on s n q qs err good found = record { place = found.place; is = record { met = behind found.is.met; first = λ other fault. found.is.first other (among_goes_on q qs good fault) } }
 
-among_here : {s n p : ℕ} {other : NameErr} (q : List ℕ) (qs : List (List ℕ)) (err : NameErr) (found : IsFirstIn s n q err) → NameFault s n (q ∷ qs) p other → Precedes found.place err p other
-among_here q qs err found (here fault) = found.first _ _ fault
-among_here q qs err found (behind fault) = let within = fault_within found.met in let later = faults_from fault in (omega arith, λ same. absurd (omega arith))
+among_here : {s n p : ℕ} {other : NameErr} (q : List ℕ) (qs : List (List ℕ)) (err : NameErr) (found : IsFirstIn s n q err) → NameFault s n (q ∷ qs) p other → NotBehind (place_of (found.place, err)) (place_of (p, other))
+among_here {p = p} {other = other} q qs err found (here fault) = found.is.first (p, other) fault
+among_here q qs err found (behind fault) = let within = fault_within found.is.met in let later = faults_from fault in (omega arith, λ same. absurd (omega arith))
 
 pub stops : (s n : ℕ) (q : List ℕ) (qs : List (List ℕ)) (err : NameErr) → IsFirstIn s n q err → IsFirstAmong s n (q ∷ qs) err
-stops s n q qs err found = record { place = found.place; met = here found.met; first = λ p other fault. among_here q qs err found fault }
+stops s n q qs err found = record { place = found.place; is = record { met = here found.is.met; first = λ other fault. among_here q qs err found fault } }
 
 -- the walk over the qualifiers
 

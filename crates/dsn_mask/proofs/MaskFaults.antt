@@ -3,7 +3,9 @@ use Rattle.std.proofs.Common.{Bool, ◌≡◌, ◌≤◌, ◌<◌, ℕ, zero, su
 use Rattle.std.specs.Prelude.{◌&&◌, ◌==◌, is_none, Option, Some, None, if◌then◌else◌}
 use Rattle.std.proofs.lemmas.Bool.{leb-true, ltb-true, eqb-true}
 use Rattle.std.proofs.lemmas.List.{get_or_past}
-use Rattle.dsn_mask.specs.MaskFault.{is_third_star, is_misplaced_pair, is_bad_byte_at, is_stray_stop, IsFault, place_of, number_of, ComesFirst, IsFirstFault, fault_by, fault_at, is_clear_below, has_no_fault}
+use Rattle.desk_common.specs.Exact.{NotBehind}
+use Rattle.desk_common.proofs.ExactLemmas.{first_at_one}
+use Rattle.dsn_mask.specs.MaskFault.{is_third_star, is_misplaced_pair, is_bad_byte_at, is_stray_stop, IsFault, place_of, IsFirstFault, fault_by, fault_at, is_clear_below, has_no_fault}
 use Rattle.dsn_mask.specs.declared.mask_err.MaskErr.{MaskErr}
 use Rattle.dsn_mask.specs.declared.mask_err.MaskErr.TheVariants.{Empty, TooLong, ThreeStars, StarsNotAlone, BadByte, EmptyPiece}
 use Rattle.dsn_mask.proofs.Faults.{both, order_of}
@@ -55,7 +57,7 @@ none_named false false false false at (EmptyPiece k) e named = not_both named
 abbrev lowest : Bool → Bool → Bool → ℕ
 lowest third pair bad = if third then 3 else if pair then 4 else if bad then 5 else 6
 
-chosen_number : (a b c d : Bool) (at : ℕ) (err : MaskErr) → Chosen a b c d at err → number_of err ≡ lowest a b c
+chosen_number : (a b c d : Bool) (at : ℕ) (err : MaskErr) → Chosen a b c d at err → (place_of err).rank ≡ lowest a b c
 chosen_number a b c d at Empty m = absurd m
 chosen_number a b c d at TooLong m = absurd m
 chosen_number a b c d at (ThreeStars k) m = rw m.1 refl
@@ -78,7 +80,7 @@ lowest_six false true c = omega arith
 lowest_six false false true = omega arith
 lowest_six false false false = omega arith
 
-named_least : (a b c d : Bool) (err : MaskErr) → Named a b c d err → lowest a b c ≤ number_of err
+named_least : (a b c d : Bool) (err : MaskErr) → Named a b c d err → lowest a b c ≤ (place_of err).rank
 named_least a b c d Empty named = absurd named
 named_least a b c d TooLong named = absurd named
 named_least a b c d (ThreeStars k) named = rw named (omega arith)
@@ -86,7 +88,7 @@ named_least a b c d (StarsNotAlone k) named = rw named (lowest_four a c)
 named_least a b c d (BadByte k) named = rw named (lowest_five a b)
 named_least a b c d (EmptyPiece k) named = lowest_six a b c
 
-chosen_place : (a b c d : Bool) (at : ℕ) (err : MaskErr) → Chosen a b c d at err → place_of err ≡ at
+chosen_place : (a b c d : Bool) (at : ℕ) (err : MaskErr) → Chosen a b c d at err → (place_of err).at ≡ at
 chosen_place a b c d at Empty m = absurd m
 chosen_place a b c d at TooLong m = absurd m
 chosen_place a b c d at (ThreeStars k) m = m.0
@@ -114,7 +116,7 @@ fault_is dotted bytes at (BadByte k) m = along (is_bad_byte_at bytes) k at m.0 m
 fault_is dotted bytes at (EmptyPiece k) m = along (λ n. dotted && is_stray_stop bytes n) k at m.0 m.4
 
 -- a text of 1 to 64 bytes has only faults at places
-named_at : (dotted : Bool) (bytes : List ℕ) (at : ℕ) (err : MaskErr) → 1 ≤ length bytes → length bytes ≤ 64 → IsFault dotted bytes err → place_of err ≡ at → NamedAt dotted bytes at err
+named_at : (dotted : Bool) (bytes : List ℕ) (at : ℕ) (err : MaskErr) → 1 ≤ length bytes → length bytes ≤ 64 → IsFault dotted bytes err → (place_of err).at ≡ at → NamedAt dotted bytes at err
 named_at dotted bytes at Empty some short fault same = let none : length bytes ≡ 0 = rw fault refl in omega arith
 named_at dotted bytes at TooLong some short fault same = omega arith
 named_at dotted bytes at (ThreeStars k) some short fault same = along (is_third_star bytes) at k (sym same) fault
@@ -122,7 +124,7 @@ named_at dotted bytes at (StarsNotAlone k) some short fault same = along (is_mis
 named_at dotted bytes at (BadByte k) some short fault same = along (is_bad_byte_at bytes) at k (sym same) fault
 named_at dotted bytes at (EmptyPiece k) some short fault same = along (λ n. dotted && is_stray_stop bytes n) at k (sym same) fault
 
-pub no_fault_there : (dotted : Bool) (bytes : List ℕ) (at : ℕ) (err : MaskErr) → 1 ≤ length bytes → length bytes ≤ 64 → fault_at dotted bytes at ≡ None → IsFault dotted bytes err → place_of err ≡ at → ⊥
+pub no_fault_there : (dotted : Bool) (bytes : List ℕ) (at : ℕ) (err : MaskErr) → 1 ≤ length bytes → length bytes ≤ 64 → fault_at dotted bytes at ≡ None → IsFault dotted bytes err → (place_of err).at ≡ at → ⊥
 no_fault_there dotted bytes at err some short none fault same = none_named _ _ _ _ at err none (named_at dotted bytes at err some short fault same)
 
 -- places without a fault
@@ -150,11 +152,11 @@ not_clear dotted bytes at err less found =
 
 -- the first fault
 
-comes_first : (dotted : Bool) (bytes : List ℕ) (at : ℕ) (err other : MaskErr) → 1 ≤ length bytes → length bytes ≤ 64 → is_clear_below dotted bytes at ≡ true → ChosenAt dotted bytes at err → IsFault dotted bytes other → ComesFirst err other
+comes_first : (dotted : Bool) (bytes : List ℕ) (at : ℕ) (err other : MaskErr) → 1 ≤ length bytes → length bytes ≤ 64 → is_clear_below dotted bytes at ≡ true → ChosenAt dotted bytes at err → IsFault dotted bytes other → NotBehind (place_of err) (place_of other)
 comes_first dotted bytes at err other some short clear m fault =
-    let place : place_of err ≡ at = chosen_place _ _ _ _ at err m in
-    let least : place_of other ≡ at → number_of err ≤ number_of other = λ same. subst (λ n. n ≤ number_of other) (sym (chosen_number _ _ _ _ at err m)) (named_least _ _ _ _ other (named_at dotted bytes at other some short fault same)) in (
-      elim (order_of at (place_of other)) [ inl later ↦ omega arith | inr before ↦ absurd (no_fault_there dotted bytes (place_of other) other some short (clear_there dotted bytes at (place_of other) clear before) fault refl) ],
+    let place : (place_of err).at ≡ at = chosen_place _ _ _ _ at err m in
+    let least : (place_of other).at ≡ at → (place_of err).rank ≤ (place_of other).rank = λ same. subst (λ n. n ≤ (place_of other).rank) (sym (chosen_number _ _ _ _ at err m)) (named_least _ _ _ _ other (named_at dotted bytes at other some short fault same)) in (
+      elim (order_of at ((place_of other).at)) [ inl later ↦ omega arith | inr before ↦ absurd (no_fault_there dotted bytes ((place_of other).at) other some short (clear_there dotted bytes at ((place_of other).at) clear before) fault refl) ],
       λ same. least (sym same ∙ place),
     )
 
@@ -170,7 +172,7 @@ pub byte_within : (bytes : List ℕ) (k n : ℕ) → 0 < n → (get_or bytes k 0
 byte_within bytes k n some e =
     elim (order_of (length bytes) k) [ inr less ↦ less | inl past ↦ let none : get_or bytes k 0 ≡ 0 = get_or_past bytes k 0 past in let same : get_or bytes k 0 ≡ n = eqb-true _ _ e in absurd (omega arith) ]
 
-place_within : (dotted : Bool) (bytes : List ℕ) (err : MaskErr) → 1 ≤ length bytes → length bytes ≤ 64 → IsFault dotted bytes err → place_of err < length bytes
+place_within : (dotted : Bool) (bytes : List ℕ) (err : MaskErr) → 1 ≤ length bytes → length bytes ≤ 64 → IsFault dotted bytes err → (place_of err).at < length bytes
 place_within dotted bytes Empty some short fault = some
 place_within dotted bytes TooLong some short fault = some
 place_within dotted bytes (ThreeStars k) some short fault = byte_within bytes k 42 (omega arith) (both _ _ fault).0
@@ -184,7 +186,7 @@ no_fault dotted bytes clear err fault =
     let others = both _ _ parts.1 in
     let some : 1 ≤ length bytes = leb-true _ _ parts.0 in
     let short : length bytes ≤ 64 = leb-true _ _ others.0 in
-    no_fault_there dotted bytes (place_of err) err some short (clear_there dotted bytes (length bytes) (place_of err) others.1 (place_within dotted bytes err some short fault)) fault refl
+    no_fault_there dotted bytes ((place_of err).at) err some short (clear_there dotted bytes (length bytes) ((place_of err).at) others.1 (place_within dotted bytes err some short fault)) fault refl
 
 -- one text has one first fault
 
@@ -192,7 +194,7 @@ no_fault dotted bytes clear err fault =
 error_of : ℕ → ℕ → MaskErr
 error_of number at = if number == 1 then Empty else if number == 2 then TooLong else if number == 3 then ThreeStars at else if number == 4 then StarsNotAlone at else if number == 5 then BadByte at else EmptyPiece at
 
-error_back : (err : MaskErr) → error_of (number_of err) (place_of err) ≡ err
+error_back : (err : MaskErr) → error_of ((place_of err).rank) ((place_of err).at) ≡ err
 unfolding error_of
 error_back Empty = refl
 error_back TooLong = refl
@@ -201,17 +203,13 @@ error_back (StarsNotAlone k) = refl
 error_back (BadByte k) = refl
 error_back (EmptyPiece k) = refl
 
-same_error : (a b : MaskErr) → number_of a ≡ number_of b → place_of a ≡ place_of b → a ≡ b
-same_error a b number place = sym (error_back a) ∙ ap (λ n. error_of n (place_of a)) number ∙ ap (error_of (number_of b)) place ∙ error_back b
+same_error : (a b : MaskErr) → (place_of a).rank ≡ (place_of b).rank → (place_of a).at ≡ (place_of b).at → a ≡ b
+same_error a b number place = sym (error_back a) ∙ ap (λ n. error_of n ((place_of a).at)) number ∙ ap (error_of ((place_of b).rank)) place ∙ error_back b
 
 pub one_first : (dotted : Bool) (bytes : List ℕ) (a b : MaskErr) → IsFirstFault dotted bytes a → IsFirstFault dotted bytes b → a ≡ b
 one_first dotted bytes a b f g =
-    let x = f.first b g.met in
-    let y = g.first a f.met in
-    let same : place_of a ≡ place_of b = omega arith in
-    let less : number_of a ≤ number_of b = x.1 same in
-    let more : number_of b ≤ number_of a = y.1 (sym same) in
-    same_error a b (omega arith) same
+    let same = first_at_one f g in
+    same_error a b same.1 same.0
 
 -- what reading a text answers
 

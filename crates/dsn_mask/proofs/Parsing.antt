@@ -1,10 +1,11 @@
 -- What a data set name is, and that a text has one first fault.
-use Rattle.std.proofs.Common.{◌≡◌, ◌≤◌, ℕ, true, false, List, length, refl, ap, sym, subst, arith}
+use Rattle.std.proofs.Common.{◌≡◌, ◌≤◌, ℕ, true, false, List, length, refl, ap, subst, arith}
 use Rattle.std.specs.List.{list_all}
 use Rattle.std.proofs.lemmas.Bool.{le-leb}
 use Rattle.std.proofs.lemmas.List.Sums.{AllPass-from_list_all, list_all-from_AllPass}
 use Rattle.dsn_mask.specs.Qualifiers.{qualifiers_of}
 use Rattle.dsn_mask.specs.DataSetName.{IsQualifier, IsDataSetName, is_qualifier, is_qualifier_byte}
+use Rattle.desk_common.proofs.ExactLemmas.{first_at_one}
 use Rattle.dsn_mask.specs.NameFault.{QualifierFault, empty, ninth_byte, bad_first, bad_later, NameFault, here, behind, rank, IsFirstAmong, IsFirstNameFault}
 use Rattle.dsn_mask.specs.declared.name_err.NameErr.{NameErr}
 use Rattle.dsn_mask.specs.declared.name_err.NameErr.TheVariants.{Empty, TooLong, BadQualifier, BadByte}
@@ -64,16 +65,12 @@ one_fault s n p qs (BadByte at) (BadByte bt) f g same = let x = byte_place f in 
 
 one_first : (s n : ℕ) (qs : List (List ℕ)) (a b : NameErr) → IsFirstAmong s n qs a → IsFirstAmong s n qs b → a ≡ b
 one_first s n qs a b f g =
-    let x = f.first g.place b g.met in
-    let y = g.first f.place a f.met in
-    let same : f.place ≡ g.place = omega arith in
-    let less : rank a ≤ rank b = x.1 same in
-    let more : rank b ≤ rank a = y.1 (sym same) in
-    one_fault s n g.place qs a b (subst (λ p. NameFault s n qs p a) same f.met) g.met (omega arith)
+    let same = first_at_one f.is g.is in
+    one_fault s n g.place qs a b (subst (λ p. NameFault s n qs p a) same.0 f.is.met) g.is.met same.1
 
 pub first_fault_is : (bytes : List ℕ) (err : NameErr) → 1 ≤ length bytes → length bytes ≤ 44 → IsFirstAmong 0 1 (qualifiers_of bytes) err → IsFirstNameFault bytes err
-first_fault_is bytes Empty some short first = absurd (no_empty first.met)
-first_fault_is bytes TooLong some short first = absurd (no_too_long first.met)
+first_fault_is bytes Empty some short first = absurd (no_empty first.is.met)
+first_fault_is bytes TooLong some short first = absurd (no_too_long first.is.met)
 first_fault_is bytes (BadQualifier k) some short first = (some, short, first)
 first_fault_is bytes (BadByte at) some short first = (some, short, first)
 
@@ -86,8 +83,8 @@ only_first bytes a (BadByte at) some short first other = one_first 0 1 _ _ _ fir
 pub no_first : (bytes : List ℕ) (err : NameErr) → 1 ≤ length bytes → length bytes ≤ 44 → list_all is_qualifier (qualifiers_of bytes) ≡ true → IsFirstNameFault bytes err → ⊥
 no_first bytes Empty some short good nil = let none : length bytes ≡ 0 = rw nil refl in omega arith
 no_first bytes TooLong some short good long = omega arith
-no_first bytes (BadQualifier k) some short good first = all_good _ good _ _ _ _ first.2.met
-no_first bytes (BadByte at) some short good first = all_good _ good _ _ _ _ first.2.met
+no_first bytes (BadQualifier k) some short good first = all_good _ good _ _ _ _ first.2.is.met
+no_first bytes (BadByte at) some short good first = all_good _ good _ _ _ _ first.2.is.met
 
 pub not_a_name : (bytes : List ℕ) → list_all is_qualifier (qualifiers_of bytes) ≡ false → IsDataSetName bytes → ⊥
 not_a_name bytes bad is = let good = all_are_good bytes is in cc

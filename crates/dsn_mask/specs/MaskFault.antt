@@ -1,5 +1,6 @@
 -- Why a text is no mask (docs/acs-language.md, "Masks").
-use Rattle.std.specs.Prelude.{◌≡◌, ◌≤◌, ◌<◌, ◌+◌, ◌-◌, ◌==◌, ◌&&◌, ◌||◌, ℕ, zero, suc, Bool, true, false, not, List, [], length, nat_le, nat_lt, slice_index, Option, None, Some, is_none, if◌then◌else◌}
+use Rattle.std.specs.Prelude.{◌≡◌, ◌<◌, ◌+◌, ◌-◌, ◌==◌, ◌&&◌, ◌||◌, ℕ, zero, suc, Bool, true, false, not, List, [], length, nat_le, nat_lt, slice_index, Option, None, Some, is_none, if◌then◌else◌}
+use Rattle.desk_common.specs.Exact.{Place, IsFirst}
 use Rattle.desk_common.specs.Limits.{most_word_bytes}
 use Rattle.desk_common.specs.Bytes.{full_stop, star}
 use Rattle.dsn_mask.specs.MaskText.{is_mask_byte}
@@ -51,32 +52,18 @@ IsFault dotted bytes (StarsNotAlone at) = is_misplaced_pair dotted bytes at ≡ 
 IsFault dotted bytes (BadByte at) = is_bad_byte_at bytes at ≡ true
 IsFault dotted bytes (EmptyPiece at) = (dotted && is_stray_stop bytes at) ≡ true
 
--- where a fault is; an empty or too long text has it at place 0, where its number comes first
-abbrev pub place_of : MaskErr → ℕ
-place_of Empty = 0
-place_of TooLong = 0
-place_of (ThreeStars at) = at
-place_of (StarsNotAlone at) = at
-place_of (BadByte at) = at
-place_of (EmptyPiece at) = at
+-- where a fault is met, and its rank there; an empty or too long text has it at the front, before all others
+abbrev pub place_of : MaskErr → Place
+place_of Empty = record { at = 0; rank = 1 }
+place_of TooLong = record { at = 0; rank = 2 }
+place_of (ThreeStars at) = record { at = at; rank = 3 }
+place_of (StarsNotAlone at) = record { at = at; rank = 4 }
+place_of (BadByte at) = record { at = at; rank = 5 }
+place_of (EmptyPiece at) = record { at = at; rank = 6 }
 
--- the order of the refusals
-abbrev pub number_of : MaskErr → ℕ
-number_of Empty = 1
-number_of TooLong = 2
-number_of (ThreeStars at) = 3
-number_of (StarsNotAlone at) = 4
-number_of (BadByte at) = 5
-number_of (EmptyPiece at) = 6
-
--- at no later place than another fault, and at one place of no higher number
-abbrev pub ComesFirst : MaskErr → MaskErr → Type 0
-ComesFirst err other = (place_of err ≤ place_of other) × (place_of err ≡ place_of other → number_of err ≤ number_of other)
-
--- the first of all faults of a text
-pub record IsFirstFault (dotted : Bool) (bytes : List ℕ) (err : MaskErr) : Type 0 where
-  pub met : IsFault dotted bytes err
-  pub first : (other : MaskErr) → IsFault dotted bytes other → ComesFirst err other
+-- the first fault of a text that is to be a mask (dotted) or a simple mask
+abbrev pub IsFirstFault : Bool → List ℕ → MaskErr → Type 0
+IsFirstFault dotted bytes err = IsFirst (IsFault dotted bytes) place_of err
 
 -- the first fault of a text that is to be a mask
 abbrev pub IsFirstMaskFault : List ℕ → MaskErr → Type 0

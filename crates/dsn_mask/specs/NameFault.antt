@@ -1,5 +1,6 @@
 -- Why a text is no data set name.
 use Rattle.std.specs.Prelude.{◌≡◌, ◌≤◌, ◌<◌, ◌+◌, ℕ, false, List, [], ◌∷◌, length, slice_index}
+use Rattle.desk_common.specs.Exact.{Place, IsFirst}
 use Rattle.dsn_mask.specs.Name.{is_initial}
 use Rattle.dsn_mask.specs.Qualifiers.{qualifiers_of}
 use Rattle.dsn_mask.specs.DataSetName.{is_qualifier_byte}
@@ -25,15 +26,14 @@ rank TooLong = 2
 rank (BadQualifier number) = 3
 rank (BadByte at) = 4
 
--- no later than another, and at one place of no higher rank
-abbrev pub Precedes : ℕ → NameErr → ℕ → NameErr → Type 0
-Precedes place err other_place other = (place ≤ other_place) × (place ≡ other_place → rank err ≤ rank other)
+-- where a fault is met, which stands beside it, and its rank there
+abbrev pub place_of : ℕ × NameErr → Place
+place_of found = record { at = found.0; rank = rank found.1 }
 
 -- the first of all faults of the qualifiers
 pub record IsFirstAmong (start number : ℕ) (qualifiers : List (List ℕ)) (err : NameErr) : Type 0 where
   pub place : ℕ
-  pub met : NameFault start number qualifiers place err
-  pub first : (other_place : ℕ) (other : NameErr) → NameFault start number qualifiers other_place other → Precedes place err other_place other
+  pub is : IsFirst (λ (found : ℕ × NameErr). NameFault start number qualifiers found.0 found.1) place_of (place, err)
 
 -- the first fault of a text
 abbrev pub IsFirstNameFault : List ℕ → NameErr → Type 0
@@ -45,5 +45,4 @@ IsFirstNameFault bytes (BadByte at) = (1 ≤ length bytes) × (length bytes ≤ 
 -- the first of all faults of one qualifier
 pub record IsFirstIn (start number : ℕ) (qualifier : List ℕ) (err : NameErr) : Type 0 where
   pub place : ℕ
-  pub met : QualifierFault start number qualifier place err
-  pub first : (other_place : ℕ) (other : NameErr) → QualifierFault start number qualifier other_place other → Precedes place err other_place other
+  pub is : IsFirst (λ (found : ℕ × NameErr). QualifierFault start number qualifier found.0 found.1) place_of (place, err)

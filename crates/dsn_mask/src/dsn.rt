@@ -15,6 +15,7 @@ use std::marker::Model;
 
 /// A data set name: at most 44 bytes, qualifiers of one to eight bytes between full stops
 /// (docs/names.md, "Data set names").
+#[derive(Clone, Copy)]
 pub struct Dsn {
     text: Text<44>,
 }
@@ -31,18 +32,6 @@ impl Model for Dsn {
 
     ghost inverse = { λ xs. record { text = xs } };
 }
-
-impl Clone for Dsn {
-    ghost is_clone = { λ x y. y ≡ x };
-
-    ghost is_infallible = { λ _. Unit {0} };
-
-    fn clone(&self) -> Result<Self, std::alloc::AllocError> {
-        Ok(*self)
-    }
-}
-
-impl Copy for Dsn {}
 
 impl PartialEq for Dsn {
     ghost use Rattle.std.specs.Prelude.{nat_eq};

@@ -7,6 +7,7 @@ use crate::text::Text;
 use std::marker::Model;
 
 /// A literal: at most 110 printed bytes with no quote.
+#[derive(Clone, Copy)]
 pub struct Lit {
     text: Text<110>,
 }
@@ -23,18 +24,6 @@ impl Model for Lit {
 
     ghost inverse = { λ xs. record { text = xs } };
 }
-
-impl Clone for Lit {
-    ghost is_clone = { λ x y. y ≡ x };
-
-    ghost is_infallible = { λ _. Unit {0} };
-
-    fn clone(&self) -> Result<Self, std::alloc::AllocError> {
-        Ok(*self)
-    }
-}
-
-impl Copy for Lit {}
 
 impl PartialEq for Lit {
     ghost use Rattle.std.specs.Prelude.{nat_eq};

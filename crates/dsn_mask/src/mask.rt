@@ -14,6 +14,7 @@ use std::marker::Model;
 
 /// A mask of data set names: qualifiers between full stops, of which `**` stands for zero or more
 /// (docs/acs-language.md, "Masks").
+#[derive(Clone, Copy)]
 pub struct Mask {
     text: Text<64>,
 }
@@ -30,18 +31,6 @@ impl Model for Mask {
 
     ghost inverse = { λ xs. record { text = xs } };
 }
-
-impl Clone for Mask {
-    ghost is_clone = { λ x y. y ≡ x };
-
-    ghost is_infallible = { λ _. Unit {0} };
-
-    fn clone(&self) -> Result<Self, std::alloc::AllocError> {
-        Ok(*self)
-    }
-}
-
-impl Copy for Mask {}
 
 impl PartialEq for Mask {
     ghost use Rattle.std.specs.Prelude.{nat_eq};

@@ -9,6 +9,7 @@ use std::hash::{Hash, Hasher};
 use std::marker::Model;
 
 /// A name: one to eight letters, digits, `#`, `@` and `$`, the first no digit.
+#[derive(Clone, Copy)]
 pub struct Name {
     text: Text<8>,
 }
@@ -25,18 +26,6 @@ impl Model for Name {
 
     ghost inverse = { λ xs. record { text = xs } };
 }
-
-impl Clone for Name {
-    ghost is_clone = { λ x y. y ≡ x };
-
-    ghost is_infallible = { λ _. Unit {0} };
-
-    fn clone(&self) -> Result<Self, std::alloc::AllocError> {
-        Ok(*self)
-    }
-}
-
-impl Copy for Name {}
 
 impl PartialEq for Name {
     ghost use Rattle.std.specs.Prelude.{nat_eq};

@@ -6,6 +6,7 @@ use crate::Name;
 use std::marker::Model;
 
 /// At most 15 names, none twice, in the order in which they were added.
+#[derive(Clone, Copy)]
 pub struct Names {
     items: [Name; 15],
     count: usize,
@@ -27,18 +28,6 @@ impl Model for Names {
 
     ghost inverse_ok = { λ a h. fields_back a h.0 h.1 };
 }
-
-impl Clone for Names {
-    ghost is_clone = { λ x y. y ≡ x };
-
-    ghost is_infallible = { λ _. Unit {0} };
-
-    fn clone(&self) -> Result<Self, std::alloc::AllocError> {
-        Ok(*self)
-    }
-}
-
-impl Copy for Names {}
 
 impl PartialEq for Names {
     ghost use Rattle.std.specs.Prelude.{nat_eq};

@@ -7,6 +7,7 @@ use crate::text::Text;
 use std::marker::Model;
 
 /// A value of at most 44 printed bytes with no blank and no quote; the empty one is the null value.
+#[derive(Clone, Copy)]
 pub struct Short {
     pub(crate) text: Text<44>,
 }
@@ -23,18 +24,6 @@ impl Model for Short {
 
     ghost inverse = { λ xs. record { text = xs } };
 }
-
-impl Clone for Short {
-    ghost is_clone = { λ x y. y ≡ x };
-
-    ghost is_infallible = { λ _. Unit {0} };
-
-    fn clone(&self) -> Result<Self, std::alloc::AllocError> {
-        Ok(*self)
-    }
-}
-
-impl Copy for Short {}
 
 impl PartialEq for Short {
     ghost use Rattle.std.specs.Prelude.{nat_eq};

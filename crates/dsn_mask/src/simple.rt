@@ -14,6 +14,7 @@ use std::marker::Model;
 
 /// A simple mask: one piece over a whole value, in which a full stop stands for itself
 /// (docs/acs-language.md, "Masks").
+#[derive(Clone, Copy)]
 pub struct Simple {
     text: Text<64>,
 }
@@ -30,18 +31,6 @@ impl Model for Simple {
 
     ghost inverse = { λ xs. record { text = xs } };
 }
-
-impl Clone for Simple {
-    ghost is_clone = { λ x y. y ≡ x };
-
-    ghost is_infallible = { λ _. Unit {0} };
-
-    fn clone(&self) -> Result<Self, std::alloc::AllocError> {
-        Ok(*self)
-    }
-}
-
-impl Copy for Simple {}
 
 impl PartialEq for Simple {
     ghost use Rattle.std.specs.Prelude.{nat_eq};

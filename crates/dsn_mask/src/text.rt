@@ -4,6 +4,7 @@ ghost use Rattle.std.specs.Prelude.{◌≡◌, ◌≤◌, length};
 use std::marker::Model;
 
 /// At most `N` bytes, and at most 255.
+#[derive(Clone, Copy)]
 pub struct Text<const N: usize> {
     buffer: [u8; N],
     count: u8,
@@ -25,18 +26,6 @@ impl<const N: usize> Model for Text<N> {
 
     ghost inverse_ok = { λ a h. fields_back N a h.0 h.1 };
 }
-
-impl<const N: usize> Clone for Text<N> {
-    ghost is_clone = { λ x y. y ≡ x };
-
-    ghost is_infallible = { λ _. Unit {0} };
-
-    fn clone(&self) -> Result<Self, std::alloc::AllocError> {
-        Ok(*self)
-    }
-}
-
-impl<const N: usize> Copy for Text<N> {}
 
 impl<const N: usize> Text<N> {
     pub fn new(bytes: &[u8]) -> Self

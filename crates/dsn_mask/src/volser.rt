@@ -9,6 +9,7 @@ use std::hash::{Hash, Hasher};
 use std::marker::Model;
 
 /// A volume serial: one to six letters, digits, `#`, `@` and `$`, in the order of the bytes.
+#[derive(Clone, Copy)]
 pub struct Volser {
     text: Text<6>,
 }
@@ -25,18 +26,6 @@ impl Model for Volser {
 
     ghost inverse = { λ xs. record { text = xs } };
 }
-
-impl Clone for Volser {
-    ghost is_clone = { λ x y. y ≡ x };
-
-    ghost is_infallible = { λ _. Unit {0} };
-
-    fn clone(&self) -> Result<Self, std::alloc::AllocError> {
-        Ok(*self)
-    }
-}
-
-impl Copy for Volser {}
 
 impl PartialEq for Volser {
     ghost use Rattle.std.specs.Prelude.{nat_eq};

@@ -5,7 +5,7 @@ use Rattle.acs_parse.proofs.conditions.comparison.Goals as goal
 pub returns-in_err-left : goal.returns-in_err-left
 returns-in_err-left c =
     let p = err_from_is_err_and c.from_residual.result c.from_residual.ensures.1 in
-    rw (p.1, p.2) (test_ref_fails c.in_err-left.field-0.0 c.args.rest.now.now c.requires c.in_err-left.ensures)
+    rw (p.1, p.2) (test_ref_fails c.in_err-left.field-0.0 c.args.rest.now c.requires c.in_err-left.ensures)
 
 pub returns-in_err-op : goal.returns-in_err-op
 returns-in_err-op c =

@@ -3,7 +3,7 @@ use Rattle.acs_parse.proofs.OperandLemmas.{ListTurn}
 use Rattle.acs_parse.proofs.lists.operands.Given as goal
 
 abbrev pub invariant-more : goal.invariant-more
-invariant-more l = ListTurn l.fn.total l.fn.kind l.fn.rest.now l.rest.now l.list
+invariant-more l = ListTurn l.fn.total l.fn.kind l.fn.rest l.rest l.list
 
 abbrev pub decreases-more : goal.decreases-more
-decreases-more l = length l.rest.now
+decreases-more l = length l.rest

@@ -11,10 +11,10 @@ returns-in_err-body c =
 
 pub returns-in-None : goal.returns-in-None
 returns-in-None c =
-    let e : c.body.new.rest.now ≡ [] = grind (arith, common_steps) in
+    let e : c.body.new.rest ≡ [] = grind (arith, common_steps) in
     whole_at c.in_ok-expect.ensures (number_at _ c.skip-numbered.ensures) c.in_ok-head.ensures c.place-head_at.ensures c.in_ok-body.ensures e
 
 pub returns-in-Some : goal.returns-in-Some
 returns-in-Some c =
-    let e : c.body.new.rest.now ≡ c.in-Some.field-0.0.now ∷ c.in-Some.field-0.1.now = grind (arith, common_steps) in
-    whole_rest_fails c.in_ok-expect.ensures (number_at _ c.skip-numbered.ensures) c.in_ok-head.ensures c.in_ok-body.ensures e
+    let e : c.body.new.rest ≡ c.in-Some.field-0.0.now ∷ c.in-Some.field-0.1 = grind (arith, common_steps) in
+    rw c.len.ensures (whole_rest_fails c.in_ok-expect.ensures (number_at _ c.skip-numbered.ensures) c.in_ok-head.ensures c.in_ok-body.ensures e)

@@ -12,7 +12,7 @@ use Rattle.acs_parse.proofs.statements.+statement.Goals as goal
 pub block-returns-in_err-next : goal.block-returns-in_err-next
 block-returns-in_err-next t c =
     let p = err_from_is_err_and c.from_residual.result c.from_residual.ensures.1 in
-    rw (p.1, p.2) (block_fails c.in_err-next.field-0.0 c.items.invariant c.items-test.ensures (inner_fails c.in_err-next.field-0.0 c.args.depth c.skip.new.rest.now c.in_err-next.ensures))
+    rw (p.1, p.2) (block_fails c.in_err-next.field-0.0 c.items.invariant c.items-test.ensures (inner_fails c.in_err-next.field-0.0 c.args.depth c.skip.new.rest c.in_err-next.ensures))
 
 pub block-items-smaller : goal.block-items-smaller
 block-items-smaller t c = omega (arith, stmt_shorter c.in_ok-next.ensures, ap length c.items-test.ensures.1)
@@ -33,13 +33,13 @@ branches-whens-preserved t c = branches_turn c.whens.invariant (sym c.whens-test
 
 pub choice-returns-in_err-whens-in-Some-Open-default : goal.choice-returns-in_err-whens-in-Some-Open-default
 choice-returns-in_err-whens-in-Some-Open-default t c =
-    let e : c.args.rest.now.now ≡ Open ∷ c.in-Some-Open-default.behind.now = grind (arith, common_steps) in
+    let e : c.args.rest.now ≡ Open ∷ c.in-Some-Open-default.behind = grind (arith, common_steps) in
     let p = err_from_is_err_and c.from_residual-in_err-whens-in-Some-Open-default.result c.from_residual-in_err-whens-in-Some-Open-default.ensures.1 in
     rw (p.1, p.2) (choice_values_fail c.in_err-whens-in-Some-Open-default.field-0.0 c.args.depth e c.in_ok-subject-in-Some-Open-default.ensures c.in_ok-expect-in-Some-Open-default.ensures c.in_err-whens-in-Some-Open-default.ensures)
 
 pub choice-returns-in_ok-whens-in-Some-Open-default : goal.choice-returns-in_ok-whens-in-Some-Open-default
 choice-returns-in_ok-whens-in-Some-Open-default t c =
-    let e : c.args.rest.now.now ≡ Open ∷ c.in-Some-Open-default.behind.now = grind (arith, common_steps) in
+    let e : c.args.rest.now ≡ Open ∷ c.in-Some-Open-default.behind = grind (arith, common_steps) in
     choice_by_value e c.in_ok-subject-in-Some-Open-default.ensures c.in_ok-expect-in-Some-Open-default.ensures c.in_ok-whens-in-Some-Open-default.ensures
 
 pub arms-branch-alloc-requires : goal.arms-branch-alloc-requires

@@ -4,49 +4,49 @@ use Rattle.acs_parse.proofs.SelectLemmas.{WhenTurn}
 use Rattle.acs_parse.proofs.statements.+statement.Given as goal
 
 abbrev pub invariant-branches-whens : goal.invariant-branches-whens
-invariant-branches-whens l = WhenTurn l.fn.total l.fn.depth l.fn.has_subject l.fn.rest.now l.rest.now l.found
+invariant-branches-whens l = WhenTurn l.fn.total l.fn.depth l.fn.has_subject l.fn.rest l.rest l.found
 
 abbrev pub decreases-branches-whens : goal.decreases-branches-whens
-decreases-branches-whens l = length l.rest.now
+decreases-branches-whens l = length l.rest
 
 abbrev pub invariant-block-items : goal.invariant-block-items
-invariant-block-items l = BlockTurn l.fn.total l.fn.depth false l.fn.rest.now l.rest.now l.found
+invariant-block-items l = BlockTurn l.fn.total l.fn.depth false l.fn.rest l.rest l.found
 
 abbrev pub decreases-block-items : goal.decreases-block-items
-decreases-block-items l = length l.rest.now
+decreases-block-items l = length l.rest
 
 abbrev pub decreases-statement : goal.decreases-statement
-decreases-statement l = 5 * length l.rest.now.now
+decreases-statement l = 5 * length l.rest.now
 
 abbrev pub decreases-conditional : goal.decreases-conditional
-decreases-conditional l = 5 * length l.rest.now.now
+decreases-conditional l = 5 * length l.rest.now
 
 abbrev pub decreases-branch : goal.decreases-branch
-decreases-branch l = 5 * length l.rest.now.now
+decreases-branch l = 5 * length l.rest.now
 
 abbrev pub decreases-when_value : goal.decreases-when_value
-decreases-when_value l = 5 * length l.rest.now.now
+decreases-when_value l = 5 * length l.rest.now
 
 abbrev pub decreases-when_condition : goal.decreases-when_condition
-decreases-when_condition l = 5 * length l.rest.now.now
+decreases-when_condition l = 5 * length l.rest.now
 
 abbrev pub decreases-when : goal.decreases-when
-decreases-when l = 5 * length l.rest.now.now + 1
+decreases-when l = 5 * length l.rest.now + 1
 
 abbrev pub decreases-branches : goal.decreases-branches
-decreases-branches l = 5 * length l.rest.now.now + 2
+decreases-branches l = 5 * length l.rest.now + 2
 
 abbrev pub decreases-choice : goal.decreases-choice
-decreases-choice l = 5 * length l.rest.now.now + 3
+decreases-choice l = 5 * length l.rest.now + 3
 
 abbrev pub decreases-selection : goal.decreases-selection
-decreases-selection l = 5 * length l.rest.now.now + 4
+decreases-selection l = 5 * length l.rest.now + 4
 
 abbrev pub decreases-arms : goal.decreases-arms
-decreases-arms l = 5 * length l.rest.now.now + 1
+decreases-arms l = 5 * length l.rest.now + 1
 
 abbrev pub decreases-block : goal.decreases-block
-decreases-block l = 5 * length l.rest.now.now + 1
+decreases-block l = 5 * length l.rest.now + 1
 
 abbrev pub decreases-group : goal.decreases-group
-decreases-group l = 5 * length l.rest.now.now + 2
+decreases-group l = 5 * length l.rest.now + 2

@@ -3,7 +3,7 @@ use Rattle.acs_parse.proofs.StatementLemmas.{BlockTurn}
 use Rattle.acs_parse.proofs.statements.body.Given as goal
 
 abbrev pub invariant-items : goal.invariant-items
-invariant-items l = BlockTurn l.fn.total 0 true l.fn.rest.now l.rest.now l.found
+invariant-items l = BlockTurn l.fn.total 0 true l.fn.rest l.rest l.found
 
 abbrev pub decreases-items : goal.decreases-items
-decreases-items l = length l.rest.now
+decreases-items l = length l.rest

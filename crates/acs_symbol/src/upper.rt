@@ -1,0 +1,39 @@
+// A word or a name of a variable where it stands in a text.
+ghost use Rattle.std.specs.Prelude.{◌≡◌, ◌≤◌, length};
+ghost use Rattle.std.specs.Str.{str_to_ascii_uppercase};
+
+use acs_tree::Ident;
+use std::marker::Model;
+
+/// At most 64 bytes of a text, which are read with their letters in upper case. Nothing is copied.
+#[derive(Drop)]
+pub struct Upper<'a> {
+    bytes: &'a [u8],
+}
+
+impl<'a> Model for Upper<'a> {
+    ghost use Rattle.std.specs.Prelude.{List, ℕ, length, ◌≤◌};
+    ghost use Rattle.std.specs.Str.{str_to_ascii_uppercase};
+
+    ghost Value = { List ℕ };
+
+    ghost view = { λ s. str_to_ascii_uppercase s.bytes.now };
+
+    ghost invariant = { λ s. length s.bytes.now ≤ 64 };
+}
+
+impl<'a> Upper<'a> {
+    pub fn new(bytes: &'a [u8]) -> Self
+        requires { length bytes.now ≤ 64 }
+        ensures { result ≡ str_to_ascii_uppercase bytes.now }
+    {
+        Upper { bytes }
+    }
+
+    /// The text as a value of its own.
+    pub fn ident(&self) -> Ident
+        ensures { result ≡ self.now }
+    {
+        Ident::upper(self.bytes)
+    }
+}
