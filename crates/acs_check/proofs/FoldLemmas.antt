@@ -14,8 +14,8 @@ use Rattle.acs_tree.specs.declared.routine.Form.TheVariants.{Filt, Put, If, Pick
 use Rattle.acs_tree.specs.declared.routine.Operand.{Operand}
 use Rattle.acs_tree.specs.declared.routine.Ref.{Ref}
 use Rattle.acs_tree.specs.declared.routine.When.{When, out-When}
-use Rattle.acs_check.specs.Parts.{nodes_of_form, nodes_of_branch, nodes_of_branches, nodes_of_block, nodes_of_optional}
-use Rattle.acs_tree.specs.Nodes.{Node, ListName, Target, Part, entries_behind, values_behind, nodes_of_test, nodes_of_code, Left, Order, Right, nodes_of, nodes_of_cond, cond_step, form_step, stmt_step, when_step, nodes_of_subject, joined, branches_of}
+use Rattle.acs_check.specs.Parts.{nodes_of_form, nodes_of_when, nodes_of_whens, nodes_of_block, nodes_of_optional}
+use Rattle.acs_tree.specs.Nodes.{Node, ListName, Target, Part, entries_behind, values_behind, nodes_of_test, nodes_of_code, Left, Order, Right, nodes_of, nodes_of_cond, cond_step, form_step, stmt_step, when_step, nodes_of_subject, joined, whens_of}
 
 pub cond_and : (one two : Cond) → nodes_of_cond (And one two) ≡ nodes_of_cond one ++ nodes_of_cond two
 cond_and one two = ap nodes_of_cond (sym (rolls-And one two)) ∙ fold-roll-Cond (List Node) cond_step (Cond-F.And one two)
@@ -30,7 +30,7 @@ pub of_form : (s : Stmt) → nodes_of s ≡ nodes_of_form s.form
 of_form s = fold_out-Stmt (List Node) (List Node) (Option Ref → List Node) form_step stmt_step when_step s
 
 -- a layer of a form, put together
-layer : (form : Form) (parts : Form-F Form Stmt When) → roll-Form parts ≡ form → nodes_of_form form ≡ form_step (map-Form Form Stmt When (List Node) (List Node) (Option Ref → List Node) nodes_of_form nodes_of nodes_of_branch parts)
+layer : (form : Form) (parts : Form-F Form Stmt When) → roll-Form parts ≡ form → nodes_of_form form ≡ form_step (map-Form Form Stmt When (List Node) (List Node) (Option Ref → List Node) nodes_of_form nodes_of nodes_of_when parts)
 layer form parts e = ap nodes_of_form (sym e) ∙ fold-roll-Form (List Node) (List Node) (Option Ref → List Node) form_step stmt_step when_step parts
 
 pub form_filt : (name : List ℕ) (at : ℕ) (include exclude : List Operand) → nodes_of_form (Filt name at include exclude) ≡ ListName name at ∷ (entries_behind 0 include ++ entries_behind 0 exclude)
@@ -43,12 +43,12 @@ pub form_if : (cond : Cond) (first : Stmt) (other : Option Stmt) → nodes_of_fo
 form_if cond first None = layer (If cond first None) (Form-F.If cond first None) (rolls-If cond first None)
 form_if cond first (Some other) = layer (If cond first (Some other)) (Form-F.If cond first (Some other)) (rolls-If cond first (Some other))
 
-same_branches : (subject : Option Ref) (whens : List When) → branches_of subject (map nodes_of_branch whens) ≡ nodes_of_branches subject whens
+same_branches : (subject : Option Ref) (whens : List When) → whens_of subject (map nodes_of_when whens) ≡ nodes_of_whens subject whens
 same_branches subject [] = refl
-same_branches subject (when ∷ whens) = ap (λ z. nodes_of_branch when subject ++ z) (same_branches subject whens)
+same_branches subject (when ∷ whens) = ap (λ z. nodes_of_when when subject ++ z) (same_branches subject whens)
 
 pub form_pick : (subject : Option Ref) (whens : List When) (other : Option Stmt)
-    → nodes_of_form (Pick subject whens other) ≡ nodes_of_subject subject ++ (nodes_of_branches subject whens ++ nodes_of_optional other)
+    → nodes_of_form (Pick subject whens other) ≡ nodes_of_subject subject ++ (nodes_of_whens subject whens ++ nodes_of_optional other)
 form_pick subject whens None = layer (Pick subject whens None) (Form-F.Pick subject whens None) (rolls-Pick subject whens None) ∙ ap (λ z. nodes_of_subject subject ++ (z ++ [])) (same_branches subject whens)
 form_pick subject whens (Some other) = layer (Pick subject whens (Some other)) (Form-F.Pick subject whens (Some other)) (rolls-Pick subject whens (Some other)) ∙ ap (λ z. nodes_of_subject subject ++ (z ++ nodes_of other)) (same_branches subject whens)
 
@@ -65,5 +65,5 @@ form_write parts = layer (Write parts) (Form-F.Write parts) (rolls-Write parts)
 pub form_exit : (code : Option Operand) → nodes_of_form (Exit code) ≡ nodes_of_code code
 form_exit code = layer (Exit code) (Form-F.Exit code) (rolls-Exit code)
 
-pub of_branch : (when : When) (subject : Option Ref) → nodes_of_branch when subject ≡ nodes_of_test (out-When when).test subject ++ nodes_of (out-When when).body
+pub of_branch : (when : When) (subject : Option Ref) → nodes_of_when when subject ≡ nodes_of_test (out-When when).test subject ++ nodes_of (out-When when).body
 of_branch when subject = ap (λ f. f subject) (fold_out-When (List Node) (List Node) (Option Ref → List Node) form_step stmt_step when_step when)

@@ -10,7 +10,7 @@ use Rattle.acs_tree.specs.declared.routine.Ref.{Ref}
 use Rattle.acs_tree.specs.declared.routine.When.{When, out-When}
 use Rattle.acs_tree.specs.Nodes.{Node, nodes_of, nodes_of_cond, nodes_of_test, nodes_of_subject}
 use Rattle.acs_tree.specs.Sound.{faults_at}
-use Rattle.acs_check.specs.Parts.{nodes_of_form, nodes_of_block, nodes_of_branch, nodes_of_branches, nodes_of_optional}
+use Rattle.acs_check.specs.Parts.{nodes_of_form, nodes_of_block, nodes_of_when, nodes_of_whens, nodes_of_optional}
 use Rattle.acs_check.specs.Walk.{least, met, walked, passed, faults_in, faults_behind}
 use Rattle.acs_check.proofs.FoldLemmas.{form_if, form_pick, of_branch, of_form}
 use Rattle.acs_check.proofs.LeastLemmas.{least_append}
@@ -41,10 +41,10 @@ walk_if kind before best cond first other =
     ∙ walked_append kind before (walked kind before best (nodes_of_cond cond)) (nodes_of first) (nodes_of_optional other))
 
 pub walk_pick : (kind : Kind) (before : List Stmt) (best : Option CheckErr) (subject : Option Ref) (whens : List When) (other : Option Stmt)
-    → walked kind before (walked kind before (walked kind before best (nodes_of_subject subject)) (nodes_of_branches subject whens)) (nodes_of_optional other) ≡ walked kind before best (nodes_of_form (Pick subject whens other))
+    → walked kind before (walked kind before (walked kind before best (nodes_of_subject subject)) (nodes_of_whens subject whens)) (nodes_of_optional other) ≡ walked kind before best (nodes_of_form (Pick subject whens other))
 walk_pick kind before best subject whens other =
-    sym (ap (walked kind before best) (form_pick subject whens other) ∙ walked_append kind before best (nodes_of_subject subject) (nodes_of_branches subject whens ++ nodes_of_optional other)
-    ∙ walked_append kind before (walked kind before best (nodes_of_subject subject)) (nodes_of_branches subject whens) (nodes_of_optional other))
+    sym (ap (walked kind before best) (form_pick subject whens other) ∙ walked_append kind before best (nodes_of_subject subject) (nodes_of_whens subject whens ++ nodes_of_optional other)
+    ∙ walked_append kind before (walked kind before best (nodes_of_subject subject)) (nodes_of_whens subject whens) (nodes_of_optional other))
 
 pub block_turn : (kind : Kind) (before : List Stmt) (best : Option CheckErr) (s : Stmt) (body : List Stmt) (i : ℕ) → i < length body → s ≡ get_or body i s
     → walked kind before (walked kind before best (nodes_of s)) (nodes_of_block (drop (i + 1) body)) ≡ walked kind before best (nodes_of_block (drop i body))
@@ -55,17 +55,17 @@ block_turn kind before best s body i h e =
     ∙ sym (walked_append kind before best (nodes_of s) (nodes_of_block (drop (suc i) body))) ∙ ap (λ z. walked kind before best (nodes_of_block z)) (sym d)
 
 pub branches_turn : (kind : Kind) (before : List Stmt) (best : Option CheckErr) (subject : Option Ref) (when : When) (whens : List When) (i : ℕ) → i < length whens → when ≡ get_or whens i when
-    → walked kind before (walked kind before (walked kind before best (nodes_of_test (out-When when).test subject)) (nodes_of (out-When when).body)) (nodes_of_branches subject (drop (i + 1) whens))
-    ≡ walked kind before best (nodes_of_branches subject (drop i whens))
+    → walked kind before (walked kind before (walked kind before best (nodes_of_test (out-When when).test subject)) (nodes_of (out-When when).body)) (nodes_of_whens subject (drop (i + 1) whens))
+    ≡ walked kind before best (nodes_of_whens subject (drop i whens))
 branches_turn kind before best subject when whens i h e =
     let d : drop i whens ≡ when ∷ drop (suc i) whens = drop-cons whens i when h ∙ ap (λ z. z ∷ drop (suc i) whens) (sym e) in
     let k : i + 1 ≡ suc i = omega arith in
     let test = nodes_of_test (out-When when).test subject in
     let body = nodes_of (out-When when).body in
-    ap (λ z. walked kind before (walked kind before (walked kind before best test) body) (nodes_of_branches subject (drop z whens))) k
-    ∙ ap (λ z. walked kind before z (nodes_of_branches subject (drop (suc i) whens))) (sym (walked_append kind before best test body) ∙ ap (walked kind before best) (sym (of_branch when subject)))
-    ∙ sym (walked_append kind before best (nodes_of_branch when subject) (nodes_of_branches subject (drop (suc i) whens)))
-    ∙ ap (λ z. walked kind before best (nodes_of_branches subject z)) (sym d)
+    ap (λ z. walked kind before (walked kind before (walked kind before best test) body) (nodes_of_whens subject (drop z whens))) k
+    ∙ ap (λ z. walked kind before z (nodes_of_whens subject (drop (suc i) whens))) (sym (walked_append kind before best test body) ∙ ap (walked kind before best) (sym (of_branch when subject)))
+    ∙ sym (walked_append kind before best (nodes_of_when when subject) (nodes_of_whens subject (drop (suc i) whens)))
+    ∙ ap (λ z. walked kind before best (nodes_of_whens subject z)) (sym d)
 
 -- the calls of the walk, one after another
 
@@ -76,15 +76,21 @@ if_at kind before best s cond first other {s1} {s2} {s3} {w} ef ew e1 e2 e3 =
     ∙ walk_if kind before best cond first other ∙ ap (walked kind before best) (sym (of_form s ∙ ap nodes_of_form ef))
 
 pub pick_at : (kind : Kind) (before : List Stmt) (best : Option CheckErr) (s : Stmt) (subject : Option Ref) (whens : List When) (other : Option Stmt) {s1 s2 s3 : Option CheckErr} {ws : List When} → s.form ≡ Pick subject whens other → ws ≡ whens
-    → s1 ≡ walked kind before best (nodes_of_subject subject) → s2 ≡ walked kind before s1 (nodes_of_branches subject ws) → s3 ≡ walked kind before s2 (nodes_of_optional other) → s3 ≡ walked kind before best (nodes_of s)
+    → s1 ≡ walked kind before best (nodes_of_subject subject) → s2 ≡ walked kind before s1 (nodes_of_whens subject ws) → s3 ≡ walked kind before s2 (nodes_of_optional other) → s3 ≡ walked kind before best (nodes_of s)
 pick_at kind before best s subject whens other {s1} {s2} {s3} {ws} ef ew e1 e2 e3 =
-    e3 ∙ ap (λ z. walked kind before z (nodes_of_optional other)) (e2 ∙ ap (λ z. walked kind before s1 (nodes_of_branches subject z)) ew ∙ ap (λ z. walked kind before z (nodes_of_branches subject whens)) e1)
+    e3 ∙ ap (λ z. walked kind before z (nodes_of_optional other)) (e2 ∙ ap (λ z. walked kind before s1 (nodes_of_whens subject z)) ew ∙ ap (λ z. walked kind before z (nodes_of_whens subject whens)) e1)
     ∙ walk_pick kind before best subject whens other ∙ ap (walked kind before best) (sym (of_form s ∙ ap nodes_of_form ef))
+
+-- the same of another reading of what it compares
+pub pick_given : (kind : Kind) (before : List Stmt) (best : Option CheckErr) (s : Stmt) (subject : Option Ref) (whens : List When) (other : Option Stmt) {given : Option Ref} {s1 s2 s3 : Option CheckErr} {ws : List When} → s.form ≡ Pick subject whens other → given ≡ subject → ws ≡ whens
+    → s1 ≡ walked kind before best (nodes_of_subject given) → s2 ≡ walked kind before s1 (nodes_of_whens given ws) → s3 ≡ walked kind before s2 (nodes_of_optional other) → s3 ≡ walked kind before best (nodes_of s)
+pick_given kind before best s subject whens other {given} {s1} {s2} {s3} {ws} ef eg ew e1 e2 e3 =
+    pick_at kind before best s subject whens other ef ew (e1 ∙ ap (λ z. walked kind before best (nodes_of_subject z)) eg) (e2 ∙ ap (λ z. walked kind before s1 (nodes_of_whens z ws)) eg) e3
 
 pub branch_at : (kind : Kind) (before : List Stmt) (best : Option CheckErr) (subject : Option Ref) (when : When) (whens : List When) (i : ℕ) {s1 s2 : Option CheckErr} {w : Stmt} → i < length whens → when ≡ get_or whens i when → w ≡ (out-When when).body
     → s1 ≡ walked kind before best (nodes_of_test (out-When when).test subject) → s2 ≡ walked kind before s1 (nodes_of w)
-    → walked kind before s2 (nodes_of_branches subject (drop (i + 1) whens)) ≡ walked kind before best (nodes_of_branches subject (drop i whens))
+    → walked kind before s2 (nodes_of_whens subject (drop (i + 1) whens)) ≡ walked kind before best (nodes_of_whens subject (drop i whens))
 branch_at kind before best subject when whens i {s1} {s2} {w} h e ew e1 e2 =
-    ap (λ z. walked kind before z (nodes_of_branches subject (drop (i + 1) whens)))
+    ap (λ z. walked kind before z (nodes_of_whens subject (drop (i + 1) whens)))
     (e2 ∙ ap (λ z. walked kind before s1 (nodes_of z)) ew ∙ ap (λ z. walked kind before z (nodes_of (out-When when).body)) e1)
     ∙ branches_turn kind before best subject when whens i h e

@@ -10,14 +10,14 @@ use Rattle.acs_tree.specs.Nodes.{Node, nodes_of, form_step, stmt_step, when_step
 abbrev pub nodes_of_form : Form → List Node
 nodes_of_form = fold-Form (List Node) (List Node) (Option Ref → List Node) form_step stmt_step when_step
 
--- the nodes of a branch of a SELECT that compares this
-abbrev pub nodes_of_branch : When → Option Ref → List Node
-nodes_of_branch = fold-When (List Node) (List Node) (Option Ref → List Node) form_step stmt_step when_step
+-- the nodes of a WHEN of a SELECT that compares this
+abbrev pub nodes_of_when : When → Option Ref → List Node
+nodes_of_when = fold-When (List Node) (List Node) (Option Ref → List Node) form_step stmt_step when_step
 
--- the nodes of branches, one after another
-abbrev pub nodes_of_branches : Option Ref → List When → List Node
-nodes_of_branches subject [] = []
-nodes_of_branches subject (branch ∷ branches) = nodes_of_branch branch subject ++ nodes_of_branches subject branches
+-- the nodes of WHENs, one after another
+abbrev pub nodes_of_whens : Option Ref → List When → List Node
+nodes_of_whens subject [] = []
+nodes_of_whens subject (arm ∷ arms) = nodes_of_when arm subject ++ nodes_of_whens subject arms
 
 -- the nodes of statements, one after another
 abbrev pub nodes_of_block : List Stmt → List Node

@@ -1,7 +1,7 @@
 // What the checks ask of a variable by its row of the table, if it has one (docs/acs-language.md, Variables).
 ghost use Rattle.std.specs.Prelude.{◌≡◌, not};
 ghost use Rattle.std.specs.Str.{bytes_eq};
-ghost use Rattle.acs_tree.specs.References.{passes, is_text_kind, is_number_kind, is_size_kind, is_counted_kind, is_group_list, is_misindexed_by, is_past, is_out_of_range_by, is_later};
+ghost use Rattle.acs_tree.specs.References.{passes, is_text_kind, is_number_kind, is_size_kind, is_counted_kind, is_group_list, is_misindexed_by, is_outside, is_out_of_range_by, is_later};
 ghost use Rattle.acs_tree.specs.Variables.{name_of, rank_of};
 
 use crate::numbers::is_between;
@@ -101,8 +101,8 @@ pub fn is_misindexed(row: Option<Variable>, index: &Option<Ident>) -> bool
     }
 }
 
-fn is_past(most: u64, index: &Option<Ident>) -> bool
-    ensures { result ≡ is_past most index.now }
+fn is_outside(most: u64, index: &Option<Ident>) -> bool
+    ensures { result ≡ is_outside most index.now }
 {
     match index {
         None => false,
@@ -115,8 +115,8 @@ fn is_out_of_range_by(indexing: Indexing, index: &Option<Ident>) -> bool
 {
     match indexing {
         Indexing::Never => false,
-        Indexing::Maybe(most) => is_past(most, index),
-        Indexing::Always(most) => is_past(most, index),
+        Indexing::Maybe(most) => is_outside(most, index),
+        Indexing::Always(most) => is_outside(most, index),
     }
 }
 

@@ -37,7 +37,7 @@ perhaps (Some action) = action
 
 -- IF
 abbrev pub choice : Test → Action → Action → Action
-choice test first other input values = if test input values then first input values else other input values
+choice test first otherwise input values = if test input values then first input values else otherwise input values
 
 -- one after another
 abbrev pub in_turn : List Action → Action
@@ -49,18 +49,18 @@ pub record Arm : Type 0 where
   pub test : Option Ref → Test
   pub body : Action
 
--- SELECT: the first WHEN that holds and no later one, and with none the other
+-- SELECT: the first WHEN that holds and no later one, and with none what is done otherwise
 abbrev pub first_of : Option Ref → List Arm → Action → Action
-first_of subject [] other = other
-first_of subject (arm ∷ arms) other = choice (arm.test subject) arm.body (first_of subject arms other)
+first_of subject [] otherwise = otherwise
+first_of subject (arm ∷ arms) otherwise = choice (arm.test subject) arm.body (first_of subject arms otherwise)
 
 -- what a statement does, from what those in it do; a filter list does nothing by itself
 abbrev pub form_step : Kind → List Stmt → Form-F Action Action Arm → Action
 form_step kind body (Form-F.Filt name name_at include exclude) = nothing
 form_step kind body (Form-F.Put target operands) = sets kind target operands
-form_step kind body (Form-F.If cond first other) = choice (holds body cond) first (perhaps other)
-form_step kind body (Form-F.Pick subject whens other) = first_of subject whens (perhaps other)
-form_step kind body (Form-F.Do statements) = in_turn statements
+form_step kind body (Form-F.If cond first otherwise) = choice (holds body cond) first (perhaps otherwise)
+form_step kind body (Form-F.Pick subject whens otherwise) = first_of subject whens (perhaps otherwise)
+form_step kind body (Form-F.Do block) = in_turn block
 form_step kind body (Form-F.Write parts) = writes parts
 form_step kind body (Form-F.Exit code) = λ input values. exits (code_of code) values
 
@@ -70,7 +70,7 @@ stmt_step statement = statement.form
 
 -- what a WHEN asks and does, from what its statement does
 abbrev pub when_step : List Stmt → When-F Action Action Arm → Arm
-when_step body branch = record { test = λ subject. when_holds body subject branch.test; body = branch.body }
+when_step body arm = record { test = λ subject. when_holds body subject arm.test; body = arm.body }
 
 -- what a statement does in a routine of that kind and that body
 abbrev pub meaning : Kind → List Stmt → Stmt → Action

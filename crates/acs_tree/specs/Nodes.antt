@@ -68,28 +68,28 @@ abbrev pub nodes_of_code : Option Operand → List Node
 nodes_of_code None = []
 nodes_of_code (Some code) = Code code ∷ []
 
--- the nodes of a statement that may be missing
-abbrev pub nodes_of_other : Option (List Node) → List Node
-nodes_of_other None = []
-nodes_of_other (Some nodes) = nodes
+-- the nodes of what is done otherwise, if anything is
+abbrev pub nodes_of_otherwise : Option (List Node) → List Node
+nodes_of_otherwise None = []
+nodes_of_otherwise (Some nodes) = nodes
 
 -- one after another
 abbrev pub joined : List (List Node) → List Node
 joined [] = []
 joined (nodes ∷ more) = nodes ++ joined more
 
--- the branches of a SELECT that compares this
-abbrev pub branches_of : Option Ref → List (Option Ref → List Node) → List Node
-branches_of subject [] = []
-branches_of subject (branch ∷ branches) = branch subject ++ branches_of subject branches
+-- the nodes of the WHENs of a SELECT that compares this
+abbrev pub whens_of : Option Ref → List (Option Ref → List Node) → List Node
+whens_of subject [] = []
+whens_of subject (arm ∷ arms) = arm subject ++ whens_of subject arms
 
 -- the nodes of what a statement is, from those of the statements in it
 abbrev pub form_step : Form-F (List Node) (List Node) (Option Ref → List Node) → List Node
 form_step (Form-F.Filt name name_at include exclude) = ListName name name_at ∷ (entries_behind 0 include ++ entries_behind 0 exclude)
 form_step (Form-F.Put target values) = Target target ∷ values_behind target [] values
-form_step (Form-F.If cond first other) = nodes_of_cond cond ++ (first ++ nodes_of_other other)
-form_step (Form-F.Pick subject whens other) = nodes_of_subject subject ++ (branches_of subject whens ++ nodes_of_other other)
-form_step (Form-F.Do body) = joined body
+form_step (Form-F.If cond first otherwise) = nodes_of_cond cond ++ (first ++ nodes_of_otherwise otherwise)
+form_step (Form-F.Pick subject whens otherwise) = nodes_of_subject subject ++ (whens_of subject whens ++ nodes_of_otherwise otherwise)
+form_step (Form-F.Do block) = joined block
 form_step (Form-F.Write parts) = map Part parts
 form_step (Form-F.Exit code) = nodes_of_code code
 
@@ -99,7 +99,7 @@ stmt_step statement = statement.form
 
 -- the nodes of a WHEN, from those of the statement in it; they depend on what the SELECT compares
 abbrev pub when_step : When-F (List Node) (List Node) (Option Ref → List Node) → Option Ref → List Node
-when_step branch subject = nodes_of_test branch.test subject ++ branch.body
+when_step arm subject = nodes_of_test arm.test subject ++ arm.body
 
 -- the nodes of a statement
 abbrev pub nodes_of : Stmt → List Node

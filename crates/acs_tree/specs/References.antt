@@ -67,7 +67,7 @@ is_whole_name ref = bytes_eq ref.name (codes "DSN") && is_none ref.index
 abbrev pub is_group_list : Ref → Bool
 is_group_list ref = bytes_eq ref.name (codes "STORGRP")
 
--- an index on a variable that takes none, or none on one that needs it
+-- there is an index, and the variable takes none, or there is none, and it needs one
 abbrev pub is_misindexed_by : Indexing → Option (List ℕ) → Bool
 is_misindexed_by Never index = is_some index
 is_misindexed_by (Maybe most) index = false
@@ -78,15 +78,15 @@ abbrev pub is_misindexed : Ref → Bool
 is_misindexed ref = passes (λ variable. is_misindexed_by variable.indexing ref.index) (variable_of ref.name)
 
 -- there is an index, and it is no number from 1 to the most
-abbrev pub is_past : ℕ → Option (List ℕ) → Bool
-is_past most None = false
-is_past most (Some index) = not (is_between 1 most index)
+abbrev pub is_outside : ℕ → Option (List ℕ) → Bool
+is_outside most None = false
+is_outside most (Some index) = not (is_between 1 most index)
 
 -- the variable takes an index, and the one that stands there is no number of its range
 abbrev pub is_out_of_range_by : Indexing → Option (List ℕ) → Bool
 is_out_of_range_by Never index = false
-is_out_of_range_by (Maybe most) index = is_past most index
-is_out_of_range_by (Always most) index = is_past most index
+is_out_of_range_by (Maybe most) index = is_outside most index
+is_out_of_range_by (Always most) index = is_outside most index
 
 -- the variable has an index out of its range
 abbrev pub is_out_of_range : Ref → Bool

@@ -15,20 +15,19 @@ pub struct Account {
 
 impl Model for Account {
     ghost use Rattle.std.specs.Prelude.{List, ℕ, length, take, ◌≡◌, ◌≤◌};
-    ghost use Rattle.acs_tree.specs.Lists.{filled};
-    ghost use Rattle.acs_tree.specs.AccountFields.{filler};
+    ghost use Rattle.acs_tree.specs.Lists.{filled, no_field};
 
     ghost Value = { List (List ℕ) };
 
     ghost view = { λ s. take s.count s.items };
 
-    ghost invariant = { λ s. (s.count ≡ length (take s.count s.items)) × (s.items ≡ filled 8 filler (take s.count s.items)) × (length (take s.count s.items) ≤ 8) };
+    ghost invariant = { λ s. (s.count ≡ length (take s.count s.items)) × (s.items ≡ filled 8 no_field (take s.count s.items)) × (length (take s.count s.items) ≤ 8) };
 
-    ghost inverse = { λ xs. record { items = filled 8 filler xs; count = length xs } };
+    ghost inverse = { λ xs. record { items = filled 8 no_field xs; count = length xs } };
 
-    ghost use Rattle.acs_tree.specs.AccountFields.{fields_back};
+    ghost use Rattle.acs_tree.specs.Lists.{account_back};
 
-    ghost inverse_ok = { λ a h. fields_back a h.0 h.1 };
+    ghost inverse_ok = { λ a h. account_back a h.0 h.1 };
 }
 
 impl Clone for Account {

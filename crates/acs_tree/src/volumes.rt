@@ -1,6 +1,6 @@
 //! The volumes that a request names.
 ghost use Rattle.std.specs.Prelude.{◌≡◌, ◌≤◌, ◌<◌, ◌↔◌, ◌∷◌, ◌++◌, [], IsTrue, length};
-ghost use Rattle.acs_tree.specs.VolumesFields.{filler};
+ghost use Rattle.acs_tree.specs.Lists.{no_volume};
 
 use dsn_mask::Volser;
 use std::marker::Model;
@@ -16,20 +16,19 @@ pub struct Volumes {
 
 impl Model for Volumes {
     ghost use Rattle.std.specs.Prelude.{List, ℕ, length, take, ◌≡◌, ◌≤◌};
-    ghost use Rattle.acs_tree.specs.Lists.{filled};
-    ghost use Rattle.acs_tree.specs.VolumesFields.{filler};
+    ghost use Rattle.acs_tree.specs.Lists.{filled, no_volume};
 
     ghost Value = { List (List ℕ) };
 
     ghost view = { λ s. take s.count s.items };
 
-    ghost invariant = { λ s. (s.count ≡ length (take s.count s.items)) × (s.items ≡ filled 59 filler (take s.count s.items)) × (length (take s.count s.items) ≤ 59) };
+    ghost invariant = { λ s. (s.count ≡ length (take s.count s.items)) × (s.items ≡ filled 59 no_volume (take s.count s.items)) × (length (take s.count s.items) ≤ 59) };
 
-    ghost inverse = { λ xs. record { items = filled 59 filler xs; count = length xs } };
+    ghost inverse = { λ xs. record { items = filled 59 no_volume xs; count = length xs } };
 
-    ghost use Rattle.acs_tree.specs.VolumesFields.{fields_back};
+    ghost use Rattle.acs_tree.specs.Lists.{volumes_back};
 
-    ghost inverse_ok = { λ a h. fields_back a h.0 h.1 };
+    ghost inverse_ok = { λ a h. volumes_back a h.0 h.1 };
 }
 
 impl Clone for Volumes {
@@ -109,7 +108,7 @@ impl Volumes {
 
 // The serial A, which stands in unused places.
 fn unused() -> Volser
-    ensures { result ≡ filler }
+    ensures { result ≡ no_volume }
 {
     Volser::new(b"A").unwrap()
 }

@@ -1,8 +1,7 @@
 use Rattle.std.proofs.Common.{◌∙◌, ◌+◌, ap, drop}
-use Rattle.acs_tree.specs.Nodes.{nodes_of_subject}
-use Rattle.acs_check.specs.Parts.{nodes_of_block, nodes_of_branches}
+use Rattle.acs_check.specs.Parts.{nodes_of_block}
 use Rattle.acs_check.specs.Walk.{walked}
-use Rattle.acs_check.proofs.WalkLemmas.{block_turn, if_at, pick_at, branch_at}
+use Rattle.acs_check.proofs.WalkLemmas.{block_turn, if_at, pick_given, branch_at}
 use Rattle.acs_check.proofs.statements.+walk.Goals as goal
 
 pub block-statements-preserved : goal.block-statements-preserved
@@ -22,7 +21,4 @@ statement-returns-in-If t c =
 
 pub statement-returns-in-Pick : goal.statement-returns-in-Pick
 statement-returns-in-Pick t c =
-    let same = c.subject_of-compared.ensures in
-    pick_at c.args.kind c.args.before.now c.args.best c.args.current.now c.in-Pick.reference c.in-Pick.whens c.in-Pick.otherwise c.in-Pick.is c.as_slice-in-Pick.ensures
-    (c.subject-best.ensures ∙ ap (λ subject. walked c.args.kind c.args.before.now c.args.best (nodes_of_subject subject)) same)
-    (c.branches-best.ensures ∙ ap (λ subject. walked c.args.kind c.args.before.now c.subject-best.result (nodes_of_branches subject c.as_slice-in-Pick.result.now)) same) c.optional-in-Pick.ensures
+    pick_given c.args.kind c.args.before.now c.args.best c.args.current.now c.in-Pick.reference c.in-Pick.whens c.in-Pick.otherwise c.in-Pick.is c.subject_of-compared.ensures c.as_slice-in-Pick.ensures c.subject-best.ensures c.branches-best.ensures c.optional-in-Pick.ensures

@@ -1,5 +1,5 @@
 use Rattle.std.proofs.Common.{◌≡◌, drop}
-use Rattle.acs_check.specs.Parts.{nodes_of_block, nodes_of_branches}
+use Rattle.acs_check.specs.Parts.{nodes_of_block, nodes_of_whens}
 use Rattle.acs_check.specs.Walk.{walked}
 use Rattle.acs_check.proofs.statements.+walk.Given as goal
 
@@ -7,4 +7,4 @@ abbrev pub invariant-block-statements : goal.invariant-block-statements
 invariant-block-statements l = walked l.kind l.before l.best (nodes_of_block (drop l.inner-index l.body)) ≡ walked l.kind l.before l.initial.best (nodes_of_block l.body)
 
 abbrev pub invariant-branches-branches : goal.invariant-branches-branches
-invariant-branches-branches l = walked l.kind l.before l.best (nodes_of_branches l.compared (drop l.branch-index l.whens)) ≡ walked l.kind l.before l.initial.best (nodes_of_branches l.compared l.whens)
+invariant-branches-branches l = walked l.kind l.before l.best (nodes_of_whens l.compared (drop l.branch-index l.whens)) ≡ walked l.kind l.before l.initial.best (nodes_of_whens l.compared l.whens)

@@ -1,4 +1,4 @@
-use Rattle.acs_tree.specs.VolumesFields.{filler}
+use Rattle.acs_tree.specs.Lists.{no_volume}
 use Rattle.acs_tree.proofs.PushLemmas.{pushed}
 use Rattle.acs_tree.proofs.volumes.Volumes.push.Goals as goal
 
@@ -6,4 +6,4 @@ pub invariant_of-self : goal.invariant_of-self
 invariant_of-self c =
     let is = c.self.invariant in
     let room = rw (← c.self.view_is) at c.requires in
-    pushed 59 filler c.self.inside.items c.self.inside.count c.args.item is.0 is.1 room
+    pushed 59 no_volume c.self.inside.items c.self.inside.count c.args.item is.0 is.1 room
