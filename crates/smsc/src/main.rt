@@ -1,5 +1,8 @@
 //! The translator as a program: it translates the routine, validates the deck or simulates the script on standard input.
 #![tactic(auto)]
+ghost use Rattle.std.specs.Prelude.{◌≡◌};
+ghost use Rattle.std.specs.Process.{exit_status};
+ghost use Rattle.smsc.specs.ExitStatus.{exit_status_of};
 
 mod answering;
 mod limit;
@@ -25,8 +28,7 @@ fn main(rt: HostRuntime) -> ExitCode {
         Words::NoMemory => ToolStatus::NoMemory,
         Words::Read(words) => answer(&rt, &words, &mut note),
     };
-    report(&rt, status, &note);
-    ExitCode::from(status.code())
+    end(&rt, status, &note)
 }
 
 // Answers what is on standard input.
@@ -36,8 +38,11 @@ fn answer(rt: &HostRuntime, words: &[String], note: &mut String) -> ToolStatus {
     smsc_main(rt.alloc(), words, &mut src, &mut out, note)
 }
 
-// Says a status other than 0 and 1 on standard error, with the script's fault, and what a fault means.
-fn report(rt: &HostRuntime, status: ToolStatus, note: &str) {
+// Says a status other than 0 and 1 on standard error, with the script's fault, and what a fault means; and ends the
+// program with the status.
+fn end(rt: &HostRuntime, status: ToolStatus, note: &str) -> ExitCode
+    ensures { exit_status result ≡ exit_status_of status }
+{
     let code = status.code();
     let _ = match status {
         ToolStatus::Done | ToolStatus::FaultFound => Ok(()),
@@ -47,4 +52,5 @@ fn report(rt: &HostRuntime, status: ToolStatus, note: &str) {
     if !note.is_empty() {
         let _ = eprint!(rt; "smsc: {note}");
     }
+    ExitCode::from(code)
 }
