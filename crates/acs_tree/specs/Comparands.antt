@@ -1,5 +1,5 @@
 -- What stands on the right of a comparison (docs/acs-language.md, Meaning).
-use Rattle.std.specs.Prelude.{ℕ, Bool, List, [], ◌∷◌, Option, Some, None, if◌then◌else◌}
+use Rattle.std.specs.Prelude.{ℕ, Bool, List, Option, Some, None, filter_map, if◌then◌else◌}
 use Rattle.std.specs.Option.{option_map}
 use Rattle.dsn_mask.specs.Filter.{FilterLists}
 use Rattle.dsn_mask.specs.MaskText.{mask_of, simple_of}
@@ -43,15 +43,9 @@ entry_of whole (operand.Literal text) = Some (entry.Quoted text)
 entry_of whole (operand.Word word) = if whole then option_map entry.Dots (mask_of word) else option_map entry.Plain (simple_of word)
 entry_of whole (operand.Var ref) = None
 
--- one more entry in front, if there is one
-abbrev pub with_entry : Option Entry → List Entry → List Entry
-with_entry None entries = entries
-with_entry (Some entry) entries = entry ∷ entries
-
 -- the entries of an INCLUDE or an EXCLUDE
 abbrev pub entries_of : Bool → List Operand → List Entry
-entries_of whole [] = []
-entries_of whole (operand ∷ operands) = with_entry (entry_of whole operand.form) (entries_of whole operands)
+entries_of whole operands = filter_map (λ (operand : Operand). entry_of whole operand.form) operands
 
 -- a filter list, as it is compared with the whole data set name or with another text
 abbrev pub filter_of : Bool → FilterList → FilterLists
