@@ -14,76 +14,58 @@ use std::alloc::{AllocError, Global};
 pub fn stmt_of(alloc: Global, at: u32, parts: FormParts) -> Result<Boxed<Stmt>, AllocError>
     ensures { IfOk result (λ stmt. stmt ≡ record { at = at; form = form_of_parts parts }) }
 {
+    Boxed::new(
+        alloc,
+        Stmt {
+            at,
+            form: form_of(parts),
+        },
+    )
+}
+
+fn form_of(parts: FormParts) -> Form
+    ensures { result ≡ form_of_parts parts }
+{
     match parts {
         FormParts::Filt {
             name,
             name_at,
             include,
             exclude,
-        } => {
-            let name = name.into_inner();
-            boxed(
-                alloc,
-                at,
-                Form::Filt {
-                    name,
-                    name_at,
-                    include,
-                    exclude,
-                },
-            )
-        }
-        FormParts::Put { target, values } => {
-            let target = target.into_inner();
-            boxed(alloc, at, Form::Put { target, values })
-        }
+        } => Form::Filt {
+            name: name.into_inner(),
+            name_at,
+            include,
+            exclude,
+        },
+        FormParts::Put { target, values } => Form::Put {
+            target: target.into_inner(),
+            values,
+        },
         FormParts::If {
             cond,
             yes,
             otherwise,
-        } => {
-            let cond = cond.into_inner();
-            boxed(
-                alloc,
-                at,
-                Form::If {
-                    cond,
-                    yes,
-                    otherwise,
-                },
-            )
-        }
+        } => Form::If {
+            cond: cond.into_inner(),
+            yes,
+            otherwise,
+        },
         FormParts::Pick {
             subject,
             whens,
             otherwise,
-        } => {
-            let subject = unboxed(subject);
-            boxed(
-                alloc,
-                at,
-                Form::Pick {
-                    subject,
-                    whens,
-                    otherwise,
-                },
-            )
-        }
-        FormParts::Do(body) => boxed(alloc, at, Form::Do(body)),
-        FormParts::Write(parts) => boxed(alloc, at, Form::Write(parts)),
-        FormParts::Exit { code } => {
-            let code = unboxed(code);
-            boxed(alloc, at, Form::Exit { code })
-        }
+        } => Form::Pick {
+            subject: unboxed(subject),
+            whens,
+            otherwise,
+        },
+        FormParts::Do(body) => Form::Do(body),
+        FormParts::Write(parts) => Form::Write(parts),
+        FormParts::Exit { code } => Form::Exit {
+            code: unboxed(code),
+        },
     }
-}
-
-// Apart from what makes the form, so that no more is copied than one form has.
-#[inline(never)]
-fn boxed(alloc: Global, at: u32, form: Form) -> Result<Boxed<Stmt>, AllocError>
-    ensures { IfOk result (λ stmt. stmt ≡ record { at = at; form = form }) }
-{
-    Boxed::new(alloc, Stmt { at, form })
 }
 
 fn unboxed<T>(held: Option<Boxed<T>>) -> Option<T>
