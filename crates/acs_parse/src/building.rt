@@ -5,7 +5,10 @@ ghost use Rattle.std.specs.Prelude.{◌≡◌, ◌∷◌, ◌++◌, [], IfOk};
 ghost use Rattle.acs_parse.specs.Parts.{form_of_parts, test_of_parts, when_of_parts};
 
 use crate::parts::{FormParts, TestParts, WhenParts};
-use acs_tree::{Block, Cond, Form, Stmt, When, WhenTest, Whens, with_stmt, with_when};
+use acs_tree::{
+    Block, Cond, Form, Ident, Operand, Operands, Ref, Stmt, When, WhenTest, Whens, with_stmt,
+    with_when,
+};
 use desk_common::Boxed;
 use std::alloc::{AllocError, Global};
 
@@ -14,58 +17,120 @@ use std::alloc::{AllocError, Global};
 pub fn stmt_of(alloc: Global, at: u32, parts: FormParts) -> Result<Boxed<Stmt>, AllocError>
     ensures { IfOk result (λ stmt. stmt ≡ record { at = at; form = form_of_parts parts }) }
 {
-    Boxed::new(
-        alloc,
-        Stmt {
-            at,
-            form: form_of(parts),
-        },
-    )
-}
-
-fn form_of(parts: FormParts) -> Form
-    ensures { result ≡ form_of_parts parts }
-{
     match parts {
         FormParts::Filt {
             name,
             name_at,
             include,
             exclude,
-        } => Form::Filt {
-            name: name.into_inner(),
-            name_at,
-            include,
-            exclude,
-        },
-        FormParts::Put { target, values } => Form::Put {
-            target: target.into_inner(),
-            values,
-        },
+        } => filter_of(alloc, at, name, name_at, include, exclude),
+        FormParts::Put { target, values } => assignment_of(alloc, at, target, values),
         FormParts::If {
             cond,
             yes,
             otherwise,
-        } => Form::If {
-            cond: cond.into_inner(),
-            yes,
-            otherwise,
-        },
+        } => conditional_of(alloc, at, cond, yes, otherwise),
         FormParts::Pick {
             subject,
             whens,
             otherwise,
-        } => Form::Pick {
-            subject: unboxed(subject),
-            whens,
-            otherwise,
-        },
-        FormParts::Do(body) => Form::Do(body),
-        FormParts::Write(parts) => Form::Write(parts),
-        FormParts::Exit { code } => Form::Exit {
-            code: unboxed(code),
-        },
+        } => selection_of(alloc, at, subject, whens, otherwise),
+        FormParts::Do(body) => boxed(alloc, at, Form::Do(body)),
+        FormParts::Write(parts) => boxed(alloc, at, Form::Write(parts)),
+        FormParts::Exit { code } => ending_of(alloc, at, code),
     }
+}
+
+// Each form is made in a function of its own, which holds no other.
+
+#[inline(never)]
+fn filter_of(
+    alloc: Global,
+    at: u32,
+    name: Boxed<Ident>,
+    name_at: u32,
+    include: Operands,
+    exclude: Operands,
+) -> Result<Boxed<Stmt>, AllocError>
+    ensures { IfOk result (λ stmt. stmt ≡ record { at = at; form = Form.Filt name name_at include exclude }) }
+{
+    let name = name.into_inner();
+    let form = Form::Filt {
+        name,
+        name_at,
+        include,
+        exclude,
+    };
+    boxed(alloc, at, form)
+}
+
+#[inline(never)]
+fn assignment_of(
+    alloc: Global,
+    at: u32,
+    target: Boxed<Ref>,
+    values: Operands,
+) -> Result<Boxed<Stmt>, AllocError>
+    ensures { IfOk result (λ stmt. stmt ≡ record { at = at; form = Form.Put target values }) }
+{
+    let target = target.into_inner();
+    boxed(alloc, at, Form::Put { target, values })
+}
+
+#[inline(never)]
+fn conditional_of(
+    alloc: Global,
+    at: u32,
+    cond: Boxed<Cond>,
+    yes: Boxed<Stmt>,
+    otherwise: Option<Boxed<Stmt>>,
+) -> Result<Boxed<Stmt>, AllocError>
+    ensures { IfOk result (λ stmt. stmt ≡ record { at = at; form = Form.If cond yes otherwise }) }
+{
+    let cond = cond.into_inner();
+    let form = Form::If {
+        cond,
+        yes,
+        otherwise,
+    };
+    boxed(alloc, at, form)
+}
+
+#[inline(never)]
+fn selection_of(
+    alloc: Global,
+    at: u32,
+    subject: Option<Boxed<Ref>>,
+    whens: Whens,
+    otherwise: Option<Boxed<Stmt>>,
+) -> Result<Boxed<Stmt>, AllocError>
+    ensures { IfOk result (λ stmt. stmt ≡ record { at = at; form = Form.Pick subject whens otherwise }) }
+{
+    let subject = unboxed(subject);
+    let form = Form::Pick {
+        subject,
+        whens,
+        otherwise,
+    };
+    boxed(alloc, at, form)
+}
+
+#[inline(never)]
+fn ending_of(
+    alloc: Global,
+    at: u32,
+    code: Option<Boxed<Operand>>,
+) -> Result<Boxed<Stmt>, AllocError>
+    ensures { IfOk result (λ stmt. stmt ≡ record { at = at; form = Form.Exit code }) }
+{
+    let code = unboxed(code);
+    boxed(alloc, at, Form::Exit { code })
+}
+
+fn boxed(alloc: Global, at: u32, form: Form) -> Result<Boxed<Stmt>, AllocError>
+    ensures { IfOk result (λ stmt. stmt ≡ record { at = at; form = form }) }
+{
+    Boxed::new(alloc, Stmt { at, form })
 }
 
 fn unboxed<T>(held: Option<Boxed<T>>) -> Option<T>
