@@ -1,12 +1,14 @@
 -- A text has a cut or a fault, never both, and at most one of each.
 use Rattle.std.proofs.Common.{◌≡◌, ◌<◌, ℕ, zero, suc, List, [], ◌∷◌, ◌++◌, length, refl, sym, ◌∙◌, ap, subst, arith, append_assoc, inl, inr, ◌⊎◌}
-use Rattle.std.specs.Prelude.{Ok, Err}
+use Rattle.std.specs.Prelude.{Some, Result, Ok, Err}
 use Rattle.acs_lex.specs.declared.token.Token.{Token}
 use Rattle.acs_lex.specs.declared.fault.LexErr.{LexErr}
-use Rattle.acs_lex.specs.declared.fault.LexErr.TheVariants.{OpenComment, OpenLiteral, BadByte, LongWord, NoMemory}
+use Rattle.acs_lex.specs.declared.fault.LexErr.TheVariants.{NoMemory}
 use Rattle.acs_lex.specs.Lexical.{IsGap}
 use Rattle.acs_lex.specs.Tokens.{IsToken, CutsInto, nothing_left, after_gap, after_token, IsCut}
-use Rattle.acs_lex.specs.LexFault.{StopsBy, FirstStopsBy, here, behind_gap, behind_token, IsFirstLexFault, MayRefuse, IsExact}
+use Rattle.desk_common.specs.Exact.{MayRefuse, IsExact}
+use Rattle.desk_common.proofs.ExactLemmas.{exact_thing, exact_fault as exact_refusal, exact_want}
+use Rattle.acs_lex.specs.LexFault.{StopsBy, FirstStopsBy, here, behind_gap, behind_token, IsFirstLexFault}
 use Rattle.acs_lex.specs.Scanning.{Front, Ends, Skips, Takes, Fails, front}
 use Rattle.acs_lex.proofs.FrontLemmas.{Stands, front_stands}
 use Rattle.acs_lex.proofs.OneFrontLemmas.{stands_front, gap_shorter, token_shorter}
@@ -156,21 +158,18 @@ gap_less total rest left e = gap_shorter (stands_as total rest (Skips left) e)
 pub token_less : (total : ℕ) (rest left : List ℕ) (one : Token) → Takes one left ≡ front total rest → length left < length rest
 token_less total rest left one e = token_shorter {text = rest} {rest = left} {one = one} (stands_as total rest (Takes one left) e)
 
-pub may_refuse : (text : List ℕ) (err : LexErr) → IsFirstLexFault text err → MayRefuse text err
-may_refuse text (OpenComment at) d = d
-may_refuse text (OpenLiteral at) d = d
-may_refuse text (BadByte at) d = d
-may_refuse text (LongWord at) d = d
-may_refuse text NoMemory d = tt
+pub may_refuse : (text : List ℕ) (err : LexErr) → IsFirstLexFault text err → MayRefuse (IsFirstLexFault text) (Some NoMemory) err
+may_refuse text err d = inl d
 
-pub exact_tokens : (text : List ℕ) (tokens : List Token) → IsCut text tokens → IsExact text (Ok tokens)
-exact_tokens text tokens a = record {
-  cut = λ others d. inl (ap Ok (cut_once a d));
-  fault = λ err d. absurd (never_both a d);
-}
+-- the answer is exact
+abbrev pub IsAnswer : List ℕ → Result (List Token) LexErr → Type 0
+IsAnswer text result = IsExact (IsCut text) (IsFirstLexFault text) (Some NoMemory) result
 
-pub exact_fault : (text : List ℕ) (err : LexErr) → IsFirstLexFault text err → IsExact text (Err err)
-exact_fault text err a = record {
-  cut = λ others d. absurd (never_both d a);
-  fault = λ other d. inl (ap Err (fault_once a d));
-}
+pub exact_tokens : (text : List ℕ) (tokens : List Token) → IsCut text tokens → IsAnswer text (Ok tokens)
+exact_tokens text tokens a = exact_thing (λ other d. cut_once a d) (λ err d. never_both a d)
+
+pub exact_fault : (text : List ℕ) (err : LexErr) → IsFirstLexFault text err → IsAnswer text (Err err)
+exact_fault text err a = exact_refusal (λ made d. never_both d a) (λ other d. fault_once a d)
+
+pub want_is_exact : (text : List ℕ) → IsAnswer text (Err NoMemory)
+want_is_exact text = exact_want

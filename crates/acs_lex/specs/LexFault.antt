@@ -1,11 +1,11 @@
 -- The first fault of a text that has no cut (docs/acs-language.md).
-use Rattle.std.specs.Prelude.{◌≡◌, ◌<◌, ◌⊎◌, ℕ, Bool, true, false, List, [], ◌∷◌, length, codes, Result, Ok, Err}
+use Rattle.std.specs.Prelude.{◌≡◌, ◌<◌, ℕ, Bool, true, false, List, [], ◌∷◌, length, codes}
 use Rattle.acs_lex.specs.declared.token.TokenForm.{TokenForm}
 use Rattle.acs_lex.specs.declared.token.Token.{Token}
 use Rattle.acs_lex.specs.declared.fault.LexErr.{LexErr}
-use Rattle.acs_lex.specs.declared.fault.LexErr.TheVariants.{OpenComment, OpenLiteral, BadByte, LongWord, NoMemory}
+use Rattle.acs_lex.specs.declared.fault.LexErr.TheVariants.{OpenComment, OpenLiteral, BadByte, LongWord}
 use Rattle.acs_lex.specs.Lexical.{Runs, IsForm, IsCommentTail, IsGap, is_blank, is_quote, is_printable, is_quotable, is_line_end, begins, counted_bytes, most_bytes}
-use Rattle.acs_lex.specs.Tokens.{IsLongest, IsToken, IsCut, size_of, place_of}
+use Rattle.acs_lex.specs.Tokens.{IsLongest, IsToken, size_of, place_of}
 
 -- the text or its line ends here
 abbrev pub ends_line : List ℕ → Bool
@@ -47,13 +47,3 @@ pub data FirstStopsBy (total : ℕ) : List ℕ → LexErr → Type 0 where
 -- the fault of a text that is met first from the left
 abbrev pub IsFirstLexFault : List ℕ → LexErr → Type 0
 IsFirstLexFault text err = FirstStopsBy (length text) text err
-
--- the error may be answered: want of memory to every text
-abbrev pub MayRefuse : List ℕ → LexErr → Type 0
-MayRefuse text NoMemory = Unit {0}
-MayRefuse text err = IsFirstLexFault text err
-
--- the cut and the first fault are answered wherever there are such, unless memory runs out
-pub record IsExact (text : List ℕ) (result : Result (List Token) LexErr) : Type 0 where
-  pub cut : (tokens : List Token) → IsCut text tokens → (result ≡ Ok tokens) ⊎ (result ≡ Err NoMemory)
-  pub fault : (err : LexErr) → IsFirstLexFault text err → (result ≡ Err err) ⊎ (result ≡ Err NoMemory)

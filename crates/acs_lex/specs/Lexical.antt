@@ -3,6 +3,7 @@ use Rattle.std.specs.Prelude.{◌≡◌, ◌-◌, ◌==◌, ℕ, Bool, true, fal
 use Rattle.std.specs.List.{list_any}
 use Rattle.std.specs.Char.{is_ascii_alphanumeric}
 use Rattle.desk_common.specs.Limits.{most_literal_bytes, most_word_bytes}
+use Rattle.desk_common.specs.Bytes.{quote}
 use Rattle.acs_lex.specs.declared.token.TokenForm.{TokenForm}
 use Rattle.acs_lex.specs.declared.token.TokenForm.TheVariants.{Word, Variable, Literal, Sign}
 
@@ -30,7 +31,7 @@ abbrev pub is_ampersand : ℕ → Bool
 is_ampersand byte = among (codes "&") byte
 
 abbrev pub is_quote : ℕ → Bool
-is_quote byte = among (codes "'") byte
+is_quote byte = among (quote ∷ []) byte
 
 -- a byte of printable ASCII, the space included
 abbrev pub is_printable : ℕ → Bool

@@ -1,7 +1,8 @@
 // The scanner.
-ghost use Rattle.std.specs.Prelude.{◌≡◌, ◌<◌, ◌^◌, ◌⊎◌, ℕ, List, [], length, IfOk, IfErr, All};
+ghost use Rattle.std.specs.Prelude.{◌≡◌, ◌<◌, ◌^◌, ◌⊎◌, ℕ, List, [], length, Some, IfOk, IfErr, All};
 ghost use Rattle.acs_lex.specs.Tokens.{IsCut, InOrder, IsTokenOf};
-ghost use Rattle.acs_lex.specs.LexFault.{MayRefuse, IsExact};
+ghost use Rattle.desk_common.specs.Exact.{MayRefuse, IsExact};
+ghost use Rattle.acs_lex.specs.LexFault.{IsFirstLexFault};
 
 use crate::fault::LexErr;
 use crate::forms::front;
@@ -25,11 +26,12 @@ fn room_for(alloc: Global, text: &[u8]) -> Result<Tokens, LexErr>
 
 /// The tokens of the text in their order, or the fault that is met first from the left
 /// (docs/acs-language.md).
+#[tactic(auto, using(crate::proofs::CutLemmas::want_is_exact))]
 pub fn scan(alloc: Global, text: &[u8]) -> Result<Tokens, LexErr>
     requires { length text.now < 2 ^ 32 }
     ensures ok { IfOk result (IsCut text.now) }
-    ensures err { IfErr result (MayRefuse text.now) }
-    ensures exactly { IsExact text.now result }
+    ensures err { IfErr result (MayRefuse (IsFirstLexFault text.now) (Some LexErr.NoMemory)) }
+    ensures exactly { IsExact (IsCut text.now) (IsFirstLexFault text.now) (Some LexErr.NoMemory) result }
 
     // Where the tokens stand.
     ensures order { IfOk result (InOrder 0 (length text.now)) }

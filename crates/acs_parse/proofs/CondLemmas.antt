@@ -198,3 +198,13 @@ before_word_fails e {n = n} {m = m} w d h k = along e (runs_cond limited d (One 
 
 pub before_shorter : {total n : ℕ} (w : Want) {ts rest : List Symbol} {c : Cond} → IsCondBefore total w n ts c rest → length rest < length ts
 before_shorter w (m, a, d, q) = omega (arith, cond_shorter d, takes_shorter w q)
+
+-- what each reader needs of these
+
+pub ruleset cond_steps = (or_first, or_over, or_fails_first, or_deep, or_word_fails, or_fails)
+
+pub ruleset conj_steps = (and_first, and_over, and_fails_first, and_deep, and_word_fails, and_fails)
+
+pub ruleset prim_steps = (prim_group, prim_deep, prim_cond_fails, prim_close_fails, prim_starts)
+
+pub ruleset comparison_steps = (test_at, test_ref_fails, test_operator_fails, test_operand_fails)

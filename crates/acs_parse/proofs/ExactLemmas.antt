@@ -3,8 +3,9 @@ use Rattle.std.proofs.Common.{◌≡◌, ◌⊎◌, inl, inr, ℕ, zero, suc, �
 use Rattle.acs_tree.specs.declared.routine.Routine.{Routine}
 use Rattle.acs_symbol.specs.declared.symbol.Symbol.{Symbol}
 use Rattle.acs_parse.specs.Grammar.{limited, unlimited, back, IsRoutine, no_number, no_exclude, no_branch, no_when, no_or, no_and, no_further, no_index, no_code}
-use Rattle.acs_parse.specs.Places.{Begins, IsFirstWrong, IsTooDeep, HasAnswer, tree, wrong, deep, early}
-use Rattle.acs_parse.specs.Table.{Part, OrNumber, OrExclude, OrBranch, MoreWhens, MoreOrs, MoreAnds, MoreOperands, OrIndex, OrCode, Back, start, Step, Go, No, Many, step, may_be_empty, all_empty, Verdict, Complete, Short, Stop, TooMany, next, verdict, is_over}
+use Rattle.acs_parse.specs.Places.{Begins, IsFirstWrong, IsTooDeep, EndsEarly}
+use Rattle.acs_parse.specs.Table.{Part, OrNumber, OrExclude, OrBranch, MoreWhens, MoreOrs, MoreAnds, MoreOperands, OrIndex, OrCode, Back, start, Step, Go, No, Many, step, may_be_empty, all_empty, Verdict, Complete, Short, Stop, TooMany, next, verdict}
+use Rattle.acs_parse.proofs.VerdictLemmas.{is_over}
 use Rattle.acs_parse.specs.Language.{Lang, Seq}
 use Rattle.acs_parse.proofs.SoundLemmas.{steps}
 use Rattle.acs_parse.proofs.WideLemmas.{WideStep, wide}
@@ -135,6 +136,13 @@ reads_at total t p k n l (Go i j) e below h = let q = below j i h in (q.0, steps
 reads : (total : ℕ) (p : List Symbol) (k : List Part) (n : ℕ) → verdict limited k n p ≡ Complete → (m : ℕ) × Seq total limited k n p m []
 reads total [] k n h = all_at_end total k n (is_complete (all_empty k) h)
 reads total (t ∷ p) k n h = reads_at total t p k n (suc (length p)) (step limited k n t) refl (reads total p) h
+
+-- the tokens are a routine, or one of the three faults is theirs
+pub data HasAnswer (ts : List Symbol) : Type 0 where
+  tree : (tree : Routine) → IsRoutine limited ts tree → HasAnswer ts
+  wrong : (k : ℕ) → IsFirstWrong ts k → HasAnswer ts
+  deep : (k : ℕ) → IsTooDeep ts k → HasAnswer ts
+  early : EndsEarly ts → HasAnswer ts
 
 answer_at : (ts : List Symbol) (v : Verdict) → verdict limited start 0 ts ≡ v → HasAnswer ts
 answer_at ts Complete e =

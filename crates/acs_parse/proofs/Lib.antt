@@ -11,3 +11,4 @@ pub mod StatementLemmas
 pub mod SelectLemmas
 pub mod ExactLemmas
 pub mod RoutineLemmas
+pub mod VerdictLemmas

@@ -284,3 +284,19 @@ filter_word_fails e (t ∷ ts) q h n k =
     let g : verdict limited (AnItem true ∷ k) n (t ∷ ts) ≡ verdict limited (One want.FiltList Keep ∷ One want.Name Keep ∷ Lists ∷ k) n (t ∷ ts) =
     ap (λ x. verdict limited (AnItem true ∷ k) n (x ∷ ts)) w.1 ∙ ap (λ x. verdict limited (One want.FiltList Keep ∷ One want.Name Keep ∷ Lists ∷ k) n (x ∷ ts)) (sym w.1) in
     along e g (h Keep n (One want.Name Keep ∷ Lists ∷ k))
+
+-- what each reader needs of these
+
+pub ruleset index_steps = (index_none, index_some, index_number_fails, index_close_fails)
+
+pub ruleset operand_steps = (operand_literal, operand_word, operand_variable, operand_variable_fails)
+
+pub ruleset operands_steps = (list_first, list_turn, list_over, list_fails_first, list_fails)
+
+pub ruleset entries_steps = (entries_at, entries_open_fails, entries_list_fails, entries_close_fails)
+
+pub ruleset lists_steps = (lists_including, lists_excluding, include_fails, include_exclude_fails, excluding_fails)
+
+pub ruleset filter_list_steps = (filter_at, filter_word_fails, filter_name_fails, filter_lists_fails)
+
+pub ruleset exit_code_steps = (code_none, code_some, code_open_fails, code_word_fails, code_close_fails)

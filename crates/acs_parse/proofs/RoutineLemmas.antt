@@ -1,6 +1,6 @@
 -- What the readers of the whole give, and which answers are right.
-use Rattle.std.proofs.Common.{◌≡◌, inl, inr, ◌≤◌, ◌+◌, ◌-◌, ℕ, zero, suc, Bool, true, false, List, [], ◌∷◌, length, refl, ap, sym, ◌∙◌, subst, arith}
-use Rattle.std.specs.Prelude.{Option, Some, None, Ok, Err, All, slice_get}
+use Rattle.std.proofs.Common.{◌≡◌, ◌⊎◌, inl, inr, ◌≤◌, ◌+◌, ◌-◌, ℕ, zero, suc, Bool, true, false, List, [], ◌∷◌, length, refl, ap, sym, ◌∙◌, subst, arith}
+use Rattle.std.specs.Prelude.{Option, Some, None, Result, Ok, Err, All, slice_get}
 use Rattle.acs_lex.specs.declared.token.Token.{Token}
 use Rattle.acs_lex.specs.Tokens.{IsCut, InOrder, IsTokenOf}
 use Rattle.acs_lex.proofs.PlaceLemmas.{cut_in_order, cut_of_tokens}
@@ -17,14 +17,16 @@ use Rattle.acs_parse.specs.declared.fault.Fault.{Fault}
 use Rattle.acs_parse.specs.declared.fault.Fault.TheVariants.{Unexpected, Ended, Deep, NoMemory}
 use Rattle.acs_parse.specs.Wants.{fits}
 use Rattle.acs_parse.specs.Grammar.{place_in, limited, IsHead, IsBlock, IsOrNumber, no_number, number, IsRoutineOf, routine, IsRoutine}
-use Rattle.acs_parse.specs.ParseFault.{IsParseFault, unexpected, ended, deep, MayRefuse, IsExact}
+use Rattle.desk_common.specs.Exact.{MayRefuse, IsExact}
+use Rattle.desk_common.proofs.ExactLemmas.{exact_thing, exact_fault as exact_refusal, exact_want, refuses_want}
+use Rattle.acs_parse.specs.ParseFault.{IsParseFault, unexpected, ended, deep}
 use Rattle.acs_parse.specs.Table.{Effect, Keep, One, OrNumber, ABlock, start, Stop, verdict}
 use Rattle.acs_parse.specs.Language.{Takes}
 use Rattle.acs_parse.specs.Reads.{Fails, FailsAt, Skips, told}
 use Rattle.acs_parse.proofs.RunLemmas.{runs_one, runs_number, runs_block, fits_head}
 use Rattle.acs_parse.proofs.FrontLemmas.{first_wrong, too_deep, ends_early, stop_within, deep_within}
 use Rattle.acs_parse.proofs.OneTreeLemmas.{one_tree}
-use Rattle.acs_parse.proofs.ExactLemmas.{no_wrong, no_deep, whole, apart, one_wrong, one_deep}
+use Rattle.acs_parse.proofs.ExactLemmas.{no_wrong, no_deep, whole, apart, one_wrong, one_deep, HasAnswer, tree, wrong, deep as too_many, early, some_answer}
 use Rattle.acs_parse.proofs.OperandLemmas.{along, goes_one}
 
 is_proc : (t : Symbol) → fits want.Proc t ≡ true → (text : List ℕ) × (t ≡ Word word.Proc text)
@@ -102,17 +104,17 @@ count_at_last from to [] last h e = let no : ⊥ = cc in absurd no
 count_at_last from to (one ∷ tokens) last h e = count_behind from to (one ∷ tokens) last (length (one ∷ tokens) - 1) (omega arith) h e
 
 -- each fault of the table, told with its place
-pub right_fault : (e : Fault) (ts : List Symbol) {total : ℕ} → total ≡ length ts → Fails e (verdict limited start 0 ts) → MayRefuse ts (told total e)
+pub right_fault : (e : Fault) (ts : List Symbol) {total : ℕ} → total ≡ length ts → Fails e (verdict limited start 0 ts) → MayRefuse (IsParseFault ts) (Some answer.NoMemory) (told total e)
 right_fault (Unexpected left) ts {total} q h =
     let le = stop_within ts left h in
     let f : (total - left) + left ≡ length ts = omega (arith, le, q) in
-    unexpected (first_wrong ts left (total - left) h f)
-right_fault Ended ts q h = ended (ends_early ts h)
+    inl (unexpected (first_wrong ts left (total - left) h f))
+right_fault Ended ts q h = inl (ended (ends_early ts h))
 right_fault (Deep left) ts {total} q h =
     let le = deep_within ts left h in
     let f : (total - left) + left ≡ length ts = omega (arith, le, q) in
-    deep (too_deep ts left (total - left) h f)
-right_fault NoMemory ts q h = tt
+    inl (deep (too_deep ts left (total - left) h f))
+right_fault NoMemory ts q h = inr refl
 
 pub right_tree : {ts : List Symbol} {total : ℕ} {tree : Routine} → total ≡ length ts → IsRoutineOf total limited ts tree → IsRoutine limited ts tree
 right_tree {ts} {total} {tree} q d = subst (λ n. IsRoutineOf n limited ts tree) q d
@@ -133,31 +135,38 @@ one_fault {ts} (deep {k = j} v) (unexpected {k = k} w) = absurd (apart ts k j w 
 one_fault {ts} (deep {k = j} v) (ended w) = absurd (no_deep ts j w.begins v)
 one_fault {ts} (deep {k = j} v) (deep {k = k} w) = ap (λ x. answer.Deep x) (one_deep ts j k v w)
 
-pub exact_tree : {ts : List Symbol} {total : ℕ} {found : Routine} → total ≡ length ts → IsRoutineOf total limited ts found → IsExact ts (Ok found)
+answered : {ts : List Symbol} → HasAnswer ts → ((tree : Routine) × IsRoutine limited ts tree) ⊎ ((err : ParseErr) × IsParseFault ts err)
+answered (tree found d) = inl (found, d)
+answered (wrong k w) = inr (answer.Unexpected k, unexpected w)
+answered (too_many k w) = inr (answer.Deep k, deep w)
+answered (early w) = inr (answer.Ended, ended w)
+
+pub tree_or_fault : (ts : List Symbol) → ((tree : Routine) × IsRoutine limited ts tree) ⊎ ((err : ParseErr) × IsParseFault ts err)
+tree_or_fault ts = answered (some_answer ts)
+
+-- the answer is exact
+abbrev pub IsAnswer : List Symbol → Result Routine ParseErr → Type 0
+IsAnswer ts result = IsExact (IsRoutine limited ts) (IsParseFault ts) (Some answer.NoMemory) result
+
+pub exact_tree : {ts : List Symbol} {total : ℕ} {found : Routine} → total ≡ length ts → IsRoutineOf total limited ts found → IsAnswer ts (Ok found)
 exact_tree {ts} {total} {found} q d =
     let d : IsRoutine limited ts found = right_tree q d in
-    record {
-      tree = λ other p. inl (ap (λ x. Ok x) (one_tree d p));
-      fault = λ err p. absurd (no_fault d p);
-    }
+    exact_thing (λ other p. one_tree d p) (λ err p. no_fault d p)
 
-pub exact_memory : (ts : List Symbol) → IsExact ts (Err answer.NoMemory)
-exact_memory ts = record {
-  tree = λ tree p. inr refl;
-  fault = λ err p. inr refl;
-}
+pub exact_memory : (ts : List Symbol) → IsAnswer ts (Err answer.NoMemory)
+exact_memory ts = exact_want
 
-exact_one : {ts : List Symbol} {err : ParseErr} → IsParseFault ts err → IsExact ts (Err err)
-exact_one d = record {
-  tree = λ tree p. absurd (no_fault p d);
-  fault = λ other p. inl (ap (λ x. Err x) (one_fault d p));
-}
+exact_err : (ts : List Symbol) (err : ParseErr) → MayRefuse (IsParseFault ts) (Some answer.NoMemory) err → IsAnswer ts (Err err)
+exact_err ts err (inl d) = exact_refusal (λ made p. no_fault p d) (λ other p. one_fault d p)
+exact_err ts err (inr e) = let same : answer.NoMemory ≡ err = cc in subst (λ x. IsAnswer ts (Err x)) same (exact_memory ts)
 
-exact_err : (ts : List Symbol) (err : ParseErr) → MayRefuse ts err → IsExact ts (Err err)
-exact_err ts answer.NoMemory d = exact_memory ts
-exact_err ts (answer.Unexpected k) d = exact_one d
-exact_err ts answer.Ended d = exact_one d
-exact_err ts (answer.Deep k) d = exact_one d
-
-pub exact_fault : (e : Fault) (ts : List Symbol) {total : ℕ} → total ≡ length ts → Fails e (verdict limited start 0 ts) → IsExact ts (Err (told total e))
+pub exact_fault : (e : Fault) (ts : List Symbol) {total : ℕ} → total ≡ length ts → Fails e (verdict limited start 0 ts) → IsAnswer ts (Err (told total e))
 exact_fault e ts {total} q h = exact_err ts (told total e) (right_fault e ts q h)
+
+-- what each reader needs of these
+
+pub ruleset parse_steps = (tokens_in_text, tokens_in_order, as_many, exact_memory, refuses_want)
+
+pub ruleset parse_symbols_steps = (right_tree, exact_tree, right_fault, exact_fault)
+
+pub ruleset routine_steps = (number_at, whole_at, whole_proc_fails, whole_head_fails, whole_body_fails, whole_rest_fails)

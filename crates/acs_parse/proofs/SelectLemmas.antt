@@ -206,3 +206,17 @@ holds_cond_fails e n p h k = along e (goes_holds n p k) (h k)
 pub test_shorter : {total n : ℕ} {b : Bool} {ts rest : List Symbol} {test : WhenTest} → IsTest total b n ts test rest → length rest < length ts
 test_shorter (any_of d) = omega (arith, operands_shorter d)
 test_shorter (holding d) = omega (arith, cond_shorter d)
+
+-- what each reader needs of these
+
+pub ruleset selection_steps = (select_at, select_choice_fails, select_other_fails, select_end_fails)
+
+pub ruleset choice_steps = (choice_by_value, choice_by_condition, choice_ref_fails, choice_close_fails, choice_values_fail, choice_conditions_fail)
+
+pub ruleset branches_steps = (branches_first, branches_turn, branches_over, branches_fail_first, branches_fail)
+
+pub ruleset when_value_steps = (when_of, when_word_fails, when_items_fail, when_body_fails)
+
+pub ruleset when_condition_steps = (when_of, when_word_fails, when_test_fails, when_body_fails)
+
+pub ruleset items_test_steps = (items_at, items_open_fails, items_fail, items_close_fails)

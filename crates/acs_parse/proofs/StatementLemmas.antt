@@ -213,3 +213,11 @@ inner_item n (t ∷ ts) k = refl
 
 pub inner_fails : (e : Fault) (n : ℕ) (ts : List Symbol) → FailsAt e (AStatement ∷ []) n ts → FailsAt e (AnItem false ∷ []) n ts
 inner_fails e n ts h k = along e (inner_item n ts k) (h k)
+
+-- what each reader needs of these
+
+pub ruleset statement_steps = (stmt_behind, stmt_inside, set_fails, write_fails, exit_fails, if_fails, select_fails, do_fails, if_deep, select_deep, do_deep)
+
+pub ruleset assignment_steps = (set_at, set_ref_fails, set_equal_fails, set_values_fail)
+
+pub ruleset item_steps = (item_is_filter, item_filter_fails, item_is_statement, item_fails)

@@ -27,10 +27,3 @@ pub record IsTooDeep (ts : List Symbol) (k : ℕ) : Type 0 where
 pub record EndsEarly (ts : List Symbol) : Type 0 where
   pub begins : Begins limited ts
   pub no_routine : (tree : Routine) → IsRoutine limited ts tree → ⊥
-
--- the tokens are a routine, or one of the three faults is theirs
-pub data HasAnswer (ts : List Symbol) : Type 0 where
-  tree : (tree : Routine) → IsRoutine limited ts tree → HasAnswer ts
-  wrong : (k : ℕ) → IsFirstWrong ts k → HasAnswer ts
-  deep : (k : ℕ) → IsTooDeep ts k → HasAnswer ts
-  early : EndsEarly ts → HasAnswer ts

@@ -187,9 +187,3 @@ next (Go n k) left go = go k n
 abbrev pub verdict : (ℕ → Bool) → List Part → ℕ → List Symbol → Verdict
 verdict may k n [] = cond (all_empty k) Complete Short
 verdict may k n (t ∷ ts) = next (step may k n t) (suc (length ts)) (λ j m. verdict may j m ts)
-
-abbrev pub is_over : Verdict → Bool
-is_over Complete = false
-is_over Short = false
-is_over (Stop n) = true
-is_over (TooMany n) = true

@@ -19,7 +19,7 @@ use std::alloc::Global;
 
 /// A condition, whose parts an OR joins.
 #[cycle(cond)]
-#[tactic(auto, using(crate::proofs::CondLemmas::or_first, crate::proofs::CondLemmas::or_over, crate::proofs::CondLemmas::or_fails_first, crate::proofs::CondLemmas::or_deep, crate::proofs::CondLemmas::or_word_fails, crate::proofs::CondLemmas::or_fails))]
+#[tactic(auto, using(crate::proofs::CondLemmas::cond_steps))]
 fn cond(
     alloc: Global,
     total: u32,
@@ -57,7 +57,7 @@ pub fn cond_before(
 
 /// A part of a condition, whose parts an AND joins.
 #[cycle(cond)]
-#[tactic(auto, using(crate::proofs::CondLemmas::and_first, crate::proofs::CondLemmas::and_over, crate::proofs::CondLemmas::and_fails_first, crate::proofs::CondLemmas::and_deep, crate::proofs::CondLemmas::and_word_fails, crate::proofs::CondLemmas::and_fails))]
+#[tactic(auto, using(crate::proofs::CondLemmas::conj_steps))]
 fn conj(
     alloc: Global,
     total: u32,
@@ -79,7 +79,7 @@ fn conj(
 
 /// One comparison, or a condition in parentheses.
 #[cycle(cond)]
-#[tactic(auto, using(crate::proofs::CondLemmas::prim_group, crate::proofs::CondLemmas::prim_deep, crate::proofs::CondLemmas::prim_cond_fails, crate::proofs::CondLemmas::prim_close_fails, crate::proofs::CondLemmas::prim_starts))]
+#[tactic(auto, using(crate::proofs::CondLemmas::prim_steps))]
 fn prim(
     alloc: Global,
     total: u32,
@@ -106,7 +106,7 @@ fn prim(
 }
 
 /// A comparison, where its variable stands.
-#[tactic(auto, using(crate::proofs::CondLemmas::test_at, crate::proofs::CondLemmas::test_ref_fails, crate::proofs::CondLemmas::test_operator_fails, crate::proofs::CondLemmas::test_operand_fails))]
+#[tactic(auto, using(crate::proofs::CondLemmas::comparison_steps))]
 #[inline(never)]
 fn comparison(alloc: Global, total: u32, rest: &mut Rest<'_>) -> Result<Boxed<Cond>, Fault>
     requires { starts want.Variable rest.old ≡ true }

@@ -15,7 +15,7 @@ mod tokens;
 mod want;
 
 pub use fault::ParseErr;
-pub use laws::{limited_front, one_answer, one_tree};
+pub use laws::{limited_front, one_tree, tree_or_fault};
 pub use list_kind::ListKind;
 pub use parser::parse;
 pub use want::Want;

@@ -50,7 +50,7 @@ pub fn variable(total: u32, rest: &mut Rest<'_>) -> Result<Ref, Fault>
     }
 }
 
-#[tactic(auto, using(crate::proofs::OperandLemmas::index_none, crate::proofs::OperandLemmas::index_some, crate::proofs::OperandLemmas::index_number_fails, crate::proofs::OperandLemmas::index_close_fails))]
+#[tactic(auto, using(crate::proofs::OperandLemmas::index_steps))]
 fn index(total: u32, rest: &mut Rest<'_>) -> Result<(Option<Ident>, u32), Fault>
     ensures { Reads (λ x. IsIndex total rest.old x.0 x.1 rest.new) (OrIndex ∷ []) rest.old result }
 {
@@ -64,7 +64,7 @@ fn index(total: u32, rest: &mut Rest<'_>) -> Result<(Option<Ident>, u32), Fault>
 }
 
 /// An operand of such a list.
-#[tactic(auto, using(crate::proofs::OperandLemmas::operand_literal, crate::proofs::OperandLemmas::operand_word, crate::proofs::OperandLemmas::operand_variable, crate::proofs::OperandLemmas::operand_variable_fails))]
+#[tactic(auto, using(crate::proofs::OperandLemmas::operand_steps))]
 pub fn operand(total: u32, kind: ListKind, rest: &mut Rest<'_>) -> Result<Operand, Fault>
     ensures { Reads (λ found. IsOperand total kind rest.old found rest.new) (AnOperand kind ∷ []) rest.old result }
 {
@@ -98,7 +98,7 @@ fn room_for_one(alloc: Global) -> Result<Operands, AllocError>
 }
 
 /// A list of such operands, at least one.
-#[tactic(auto, using(crate::proofs::OperandLemmas::list_first, crate::proofs::OperandLemmas::list_turn, crate::proofs::OperandLemmas::list_over, crate::proofs::OperandLemmas::list_fails_first, crate::proofs::OperandLemmas::list_fails))]
+#[tactic(auto, using(crate::proofs::OperandLemmas::operands_steps))]
 pub fn operands(
     alloc: Global,
     total: u32,
@@ -120,7 +120,7 @@ pub fn operands(
 }
 
 /// Entries in parentheses.
-#[tactic(auto, using(crate::proofs::OperandLemmas::entries_at, crate::proofs::OperandLemmas::entries_open_fails, crate::proofs::OperandLemmas::entries_list_fails, crate::proofs::OperandLemmas::entries_close_fails))]
+#[tactic(auto, using(crate::proofs::OperandLemmas::entries_steps))]
 fn entries(alloc: Global, total: u32, rest: &mut Rest<'_>) -> Result<Operands, Fault>
     ensures { Reads (λ list. IsEntries total rest.old list rest.new) entries rest.old result }
 {
@@ -142,7 +142,7 @@ fn exclude(alloc: Global, total: u32, rest: &mut Rest<'_>) -> Result<Operands, F
 }
 
 /// The entries of INCLUDE and those of EXCLUDE.
-#[tactic(auto, using(crate::proofs::OperandLemmas::lists_including, crate::proofs::OperandLemmas::lists_excluding, crate::proofs::OperandLemmas::include_fails, crate::proofs::OperandLemmas::include_exclude_fails, crate::proofs::OperandLemmas::excluding_fails))]
+#[tactic(auto, using(crate::proofs::OperandLemmas::lists_steps))]
 fn lists(alloc: Global, total: u32, rest: &mut Rest<'_>) -> Result<(Operands, Operands), Fault>
     ensures { Reads (λ x. IsLists total rest.old x.0 x.1 rest.new) (Lists ∷ []) rest.old result }
 {
@@ -164,7 +164,7 @@ fn lists(alloc: Global, total: u32, rest: &mut Rest<'_>) -> Result<(Operands, Op
 }
 
 /// A filter list, where its word stands.
-#[tactic(auto, using(crate::proofs::OperandLemmas::filter_at, crate::proofs::OperandLemmas::filter_word_fails, crate::proofs::OperandLemmas::filter_name_fails, crate::proofs::OperandLemmas::filter_lists_fails))]
+#[tactic(auto, using(crate::proofs::OperandLemmas::filter_list_steps))]
 #[inline(never)]
 pub fn filter_list(alloc: Global, total: u32, rest: &mut Rest<'_>) -> Result<Boxed<Stmt>, Fault>
     requires { starts want.FiltList rest.old ≡ true }
@@ -185,7 +185,7 @@ pub fn filter_list(alloc: Global, total: u32, rest: &mut Rest<'_>) -> Result<Box
 }
 
 /// The code of an EXIT, if it has one.
-#[tactic(auto, using(crate::proofs::OperandLemmas::code_none, crate::proofs::OperandLemmas::code_some, crate::proofs::OperandLemmas::code_open_fails, crate::proofs::OperandLemmas::code_word_fails, crate::proofs::OperandLemmas::code_close_fails))]
+#[tactic(auto, using(crate::proofs::OperandLemmas::exit_code_steps))]
 pub fn exit_code(
     alloc: Global,
     total: u32,

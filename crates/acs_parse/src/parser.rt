@@ -1,10 +1,11 @@
 // The parser.
-ghost use Rattle.std.specs.Prelude.{◌≡◌, ℕ, length, IfOk, IfErr};
+ghost use Rattle.std.specs.Prelude.{◌≡◌, ℕ, length, Some, IfOk, IfErr};
 ghost use Rattle.acs_lex.specs.declared.token.Token.{Token};
 ghost use Rattle.acs_lex.specs.Tokens.{IsCut, InOrder};
 ghost use Rattle.acs_symbol.specs.Symbols.{symbols_of};
 ghost use Rattle.acs_parse.specs.Grammar.{limited, IsRoutine};
-ghost use Rattle.acs_parse.specs.ParseFault.{MayRefuse, IsExact};
+ghost use Rattle.desk_common.specs.Exact.{MayRefuse, IsExact};
+ghost use Rattle.acs_parse.specs.ParseFault.{IsParseFault};
 ghost use Rattle.acs_parse.specs.Reads.{Whole, told};
 
 use crate::fault::{Fault, ParseErr};
@@ -18,12 +19,12 @@ use std::alloc::Global;
 
 /// The tree of the routine that the text's tokens are. The places of the tree and of a refusal are
 /// those of tokens, counted from 0 (docs/acs-language.md, Grammar, Nesting and Places of faults).
-#[tactic(auto, using(crate::proofs::RoutineLemmas::tokens_in_text, crate::proofs::RoutineLemmas::tokens_in_order, crate::proofs::RoutineLemmas::as_many, crate::proofs::RoutineLemmas::exact_memory))]
+#[tactic(auto, using(crate::proofs::RoutineLemmas::parse_steps))]
 pub fn parse(alloc: Global, text: &[u8], tokens: &Tokens) -> Result<Routine, ParseErr>
     requires { IsCut text.now tokens.now }
     ensures ok { IfOk result (IsRoutine limited (symbols_of text.now tokens.now)) }
-    ensures err { IfErr result (MayRefuse (symbols_of text.now tokens.now)) }
-    ensures exactly { IsExact (symbols_of text.now tokens.now) result }
+    ensures err { IfErr result (MayRefuse (IsParseFault (symbols_of text.now tokens.now)) (Some ParseErr.NoMemory)) }
+    ensures exactly { IsExact (IsRoutine limited (symbols_of text.now tokens.now)) (IsParseFault (symbols_of text.now tokens.now)) (Some ParseErr.NoMemory) result }
 {
     let total = count(tokens);
     let symbols = symbols(alloc, text, tokens).map_err(|_| ParseErr::NoMemory)?;
@@ -42,12 +43,12 @@ fn count(tokens: &Tokens) -> u32
     }
 }
 
-#[tactic(auto, using(crate::proofs::RoutineLemmas::right_tree, crate::proofs::RoutineLemmas::exact_tree, crate::proofs::RoutineLemmas::right_fault, crate::proofs::RoutineLemmas::exact_fault))]
+#[tactic(auto, using(crate::proofs::RoutineLemmas::parse_symbols_steps))]
 fn parse_symbols(alloc: Global, total: u32, rest: &mut Rest<'_>) -> Result<Routine, ParseErr>
     requires { total ≡ length rest.old }
     ensures ok { IfOk result (IsRoutine limited rest.old) }
-    ensures err { IfErr result (MayRefuse rest.old) }
-    ensures exactly { IsExact rest.old result }
+    ensures err { IfErr result (MayRefuse (IsParseFault rest.old) (Some ParseErr.NoMemory)) }
+    ensures exactly { IsExact (IsRoutine limited rest.old) (IsParseFault rest.old) (Some ParseErr.NoMemory) result }
 {
     match routine(alloc, total, rest) {
         Ok(found) => Ok(found),
@@ -55,7 +56,7 @@ fn parse_symbols(alloc: Global, total: u32, rest: &mut Rest<'_>) -> Result<Routi
     }
 }
 
-#[tactic(auto, using(crate::proofs::RoutineLemmas::number_at, crate::proofs::RoutineLemmas::whole_at, crate::proofs::RoutineLemmas::whole_proc_fails, crate::proofs::RoutineLemmas::whole_head_fails, crate::proofs::RoutineLemmas::whole_body_fails, crate::proofs::RoutineLemmas::whole_rest_fails))]
+#[tactic(auto, using(crate::proofs::RoutineLemmas::routine_steps))]
 fn routine(alloc: Global, total: u32, rest: &mut Rest<'_>) -> Result<Routine, Fault>
     ensures { Whole total rest.old result }
 {

@@ -24,7 +24,7 @@ use std::alloc::Global;
 
 /// A statement.
 #[cycle(statement)]
-#[tactic(auto, using(crate::proofs::StatementLemmas::stmt_behind, crate::proofs::StatementLemmas::stmt_inside, crate::proofs::StatementLemmas::set_fails, crate::proofs::StatementLemmas::write_fails, crate::proofs::StatementLemmas::exit_fails, crate::proofs::StatementLemmas::if_fails, crate::proofs::StatementLemmas::select_fails, crate::proofs::StatementLemmas::do_fails, crate::proofs::StatementLemmas::if_deep, crate::proofs::StatementLemmas::select_deep, crate::proofs::StatementLemmas::do_deep))]
+#[tactic(auto, using(crate::proofs::StatementLemmas::statement_steps))]
 pub fn statement(
     alloc: Global,
     total: u32,
@@ -74,7 +74,7 @@ pub fn statement(
 }
 
 /// What stands behind SET.
-#[tactic(auto, using(crate::proofs::StatementLemmas::set_at, crate::proofs::StatementLemmas::set_ref_fails, crate::proofs::StatementLemmas::set_equal_fails, crate::proofs::StatementLemmas::set_values_fail))]
+#[tactic(auto, using(crate::proofs::StatementLemmas::assignment_steps))]
 fn assignment(alloc: Global, total: u32, rest: &mut Rest<'_>) -> Result<FormParts, Fault>
     ensures { Reads (λ parts. (n : ℕ) → IsBehind total word.Set n rest.old (form_of_parts parts) rest.new) (ARef ∷ One want.Equal Keep ∷ AnOperand list.Values ∷ MoreOperands list.Values ∷ []) rest.old result }
 {
@@ -169,7 +169,7 @@ fn group(alloc: Global, total: u32, depth: u32, rest: &mut Rest<'_>) -> Result<F
 
 /// What stands behind SELECT.
 #[cycle(statement)]
-#[tactic(auto, using(crate::proofs::SelectLemmas::select_at, crate::proofs::SelectLemmas::select_choice_fails, crate::proofs::SelectLemmas::select_other_fails, crate::proofs::SelectLemmas::select_end_fails))]
+#[tactic(auto, using(crate::proofs::SelectLemmas::selection_steps))]
 fn selection(alloc: Global, total: u32, depth: u32, rest: &mut Rest<'_>) -> Result<FormParts, Fault>
     ensures { Parses (λ parts. IsInside total word.Select depth rest.old (form_of_parts parts) rest.new) (AChoice ∷ OrBranch want.Otherwise ∷ One want.End Lower ∷ []) depth rest.old result }
 {
@@ -185,7 +185,7 @@ fn selection(alloc: Global, total: u32, depth: u32, rest: &mut Rest<'_>) -> Resu
 
 /// What a SELECT compares, if it compares something, and its branches.
 #[cycle(statement)]
-#[tactic(auto, using(crate::proofs::SelectLemmas::choice_by_value, crate::proofs::SelectLemmas::choice_by_condition, crate::proofs::SelectLemmas::choice_ref_fails, crate::proofs::SelectLemmas::choice_close_fails, crate::proofs::SelectLemmas::choice_values_fail, crate::proofs::SelectLemmas::choice_conditions_fail))]
+#[tactic(auto, using(crate::proofs::SelectLemmas::choice_steps))]
 fn choice(
     alloc: Global,
     total: u32,
@@ -213,7 +213,7 @@ fn choice(
 
 /// The branches of a SELECT, at least one.
 #[cycle(statement)]
-#[tactic(auto, using(crate::proofs::SelectLemmas::branches_first, crate::proofs::SelectLemmas::branches_turn, crate::proofs::SelectLemmas::branches_over, crate::proofs::SelectLemmas::branches_fail_first, crate::proofs::SelectLemmas::branches_fail))]
+#[tactic(auto, using(crate::proofs::SelectLemmas::branches_steps))]
 fn branches(
     alloc: Global,
     total: u32,
@@ -254,7 +254,7 @@ fn when(
 
 /// The same where the SELECT compares a variable.
 #[cycle(statement)]
-#[tactic(auto, using(crate::proofs::SelectLemmas::when_of, crate::proofs::SelectLemmas::when_word_fails, crate::proofs::SelectLemmas::when_items_fail, crate::proofs::SelectLemmas::when_body_fails))]
+#[tactic(auto, using(crate::proofs::SelectLemmas::when_value_steps))]
 fn when_value(
     alloc: Global,
     total: u32,
@@ -273,7 +273,7 @@ fn when_value(
 
 /// The same where it compares none.
 #[cycle(statement)]
-#[tactic(auto, using(crate::proofs::SelectLemmas::when_of, crate::proofs::SelectLemmas::when_word_fails, crate::proofs::SelectLemmas::when_test_fails, crate::proofs::SelectLemmas::when_body_fails))]
+#[tactic(auto, using(crate::proofs::SelectLemmas::when_condition_steps))]
 fn when_condition(
     alloc: Global,
     total: u32,
@@ -317,7 +317,7 @@ pub fn body(alloc: Global, total: u32, rest: &mut Rest<'_>) -> Result<Block, Fau
     Ok(found)
 }
 
-#[tactic(auto, using(crate::proofs::StatementLemmas::item_is_filter, crate::proofs::StatementLemmas::item_filter_fails, crate::proofs::StatementLemmas::item_is_statement, crate::proofs::StatementLemmas::item_fails))]
+#[tactic(auto, using(crate::proofs::StatementLemmas::item_steps))]
 fn item(alloc: Global, total: u32, rest: &mut Rest<'_>) -> Result<Boxed<Stmt>, Fault>
     ensures { Parses (λ found. IsItem total limited true 0 rest.old found rest.new) (AnItem true ∷ []) 0 rest.old result }
 {
@@ -331,7 +331,7 @@ fn item(alloc: Global, total: u32, rest: &mut Rest<'_>) -> Result<Boxed<Stmt>, F
 }
 
 /// Items in parentheses.
-#[tactic(auto, using(crate::proofs::SelectLemmas::items_at, crate::proofs::SelectLemmas::items_open_fails, crate::proofs::SelectLemmas::items_fail, crate::proofs::SelectLemmas::items_close_fails))]
+#[tactic(auto, using(crate::proofs::SelectLemmas::items_test_steps))]
 fn items_test(alloc: Global, total: u32, rest: &mut Rest<'_>) -> Result<TestParts, Fault>
     ensures { Reads (λ test. (n : ℕ) → IsTest total true n rest.old (test_of_parts test) rest.new) (One want.Open Keep ∷ AnOperand list.Items ∷ MoreOperands list.Items ∷ One want.Close Keep ∷ []) rest.old result }
 {

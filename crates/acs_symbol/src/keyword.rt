@@ -29,6 +29,7 @@ fn is_upper(text: &[u8]) -> bool
     text.iter().all(|byte| !byte.is_ascii_lowercase())
 }
 
+#[inline(never)]
 fn raised_kind(text: &[u8]) -> WordKind
     requires { length text.now ≤ 64 }
     ensures { result ≡ word_kind (str_to_ascii_uppercase text.now) }

@@ -31,6 +31,7 @@ impl<'a> Unquoted<'a> {
     }
 
     /// The literal as a value of its own.
+    #[inline(never)]
     pub fn lit(&self) -> Lit
         ensures { result ≡ self.now }
     {

@@ -31,6 +31,7 @@ impl<'a> Upper<'a> {
     }
 
     /// The text as a value of its own.
+    #[inline(never)]
     pub fn ident(&self) -> Ident
         ensures { result ≡ self.now }
     {

@@ -1,11 +1,12 @@
 -- Which answers of the translator are right.
 use Rattle.std.proofs.Common.{◌≡◌, ◌⊎◌, inl, inr, ◌≤◌, ◌<◌, ◌+◌, ◌^◌, ℕ, List, length, refl, ap, sym, ◌∙◌, subst, arith}
-use Rattle.std.specs.Prelude.{Result, Ok, Err}
+use Rattle.std.specs.Prelude.{Some, Result, Ok, Err}
 use Rattle.acs_lex.specs.declared.token.Token.{Token}
 use Rattle.acs_lex.specs.declared.fault.LexErr.{LexErr}
 use Rattle.acs_lex.specs.declared.fault.LexErr.TheVariants as lex
 use Rattle.acs_lex.specs.Tokens.{IsCut, InOrder}
-use Rattle.acs_lex.specs.LexFault.{IsFirstLexFault, MayRefuse as LexMayRefuse}
+use Rattle.desk_common.specs.Exact as answers
+use Rattle.acs_lex.specs.LexFault.{IsFirstLexFault}
 use Rattle.acs_lex.proofs.CutLemmas.{cut_once, fault_once, never_both}
 use Rattle.acs_symbol.specs.declared.symbol.Symbol.{Symbol}
 use Rattle.acs_symbol.specs.Symbols.{symbols_of}
@@ -13,7 +14,7 @@ use Rattle.acs_symbol.proofs.CountLemmas.{count_within}
 use Rattle.acs_parse.specs.declared.fault.ParseErr.{ParseErr}
 use Rattle.acs_parse.specs.declared.fault.ParseErr.TheVariants as parse
 use Rattle.acs_parse.specs.Grammar.{limited, IsRoutine}
-use Rattle.acs_parse.specs.ParseFault.{IsParseFault, MayRefuse as ParseMayRefuse}
+use Rattle.acs_parse.specs.ParseFault.{IsParseFault}
 use Rattle.acs_parse.proofs.OneTreeLemmas.{one_tree}
 use Rattle.acs_parse.proofs.RoutineLemmas.{no_fault, one_fault}
 use Rattle.acs_tree.specs.declared.kind.Kind.{Kind}
@@ -36,18 +37,34 @@ right {text} {kind} {tokens} {tree} {checked} {count} c d e f =
     let t : IsTranslated text kind tree count = record { tokens = tokens; cut = c; routine = d; sound = e.0; counted = f } in
     (subst (λ x. IsTranslated text kind x.tree count) (sym e.1) t, ap (λ x. x.kind) e.1)
 
+-- what the scanner may answer to a text, and the parser to tokens
+
+abbrev pub LexMayRefuse : List ℕ → LexErr → Type 0
+LexMayRefuse text err = answers.MayRefuse (IsFirstLexFault text) (Some lex.NoMemory) err
+
+abbrev pub ParseMayRefuse : List Symbol → ParseErr → Type 0
+ParseMayRefuse ts err = answers.MayRefuse (IsParseFault ts) (Some parse.NoMemory) err
+
+told_lex : (text : List ℕ) (kind : Kind) (err : LexErr) → IsFirstLexFault text err → MayRefuse text kind (lex_err err)
+told_lex text kind lex.NoMemory d = tt
+told_lex text kind (lex.OpenComment at) d = in_text (lex.OpenComment at) d refl
+told_lex text kind (lex.OpenLiteral at) d = in_text (lex.OpenLiteral at) d refl
+told_lex text kind (lex.BadByte at) d = in_text (lex.BadByte at) d refl
+told_lex text kind (lex.LongWord at) d = in_text (lex.LongWord at) d refl
+
 pub right_lex : (text : List ℕ) (kind : Kind) (err : LexErr) → LexMayRefuse text err → MayRefuse text kind (lex_err err)
-right_lex text kind lex.NoMemory d = tt
-right_lex text kind (lex.OpenComment at) d = in_text (lex.OpenComment at) d refl
-right_lex text kind (lex.OpenLiteral at) d = in_text (lex.OpenLiteral at) d refl
-right_lex text kind (lex.BadByte at) d = in_text (lex.BadByte at) d refl
-right_lex text kind (lex.LongWord at) d = in_text (lex.LongWord at) d refl
+right_lex text kind err (inl d) = told_lex text kind err d
+right_lex text kind err (inr e) = let same : lex.NoMemory ≡ err = cc in subst (λ x. MayRefuse text kind (lex_err x)) same tt
+
+told_parse : (text : List ℕ) (kind : Kind) (tokens : List Token) (err : ParseErr) → IsCut text tokens → IsParseFault (symbols_of text tokens) err → MayRefuse text kind (parse_err (length tokens) err)
+told_parse text kind tokens parse.NoMemory c d = tt
+told_parse text kind tokens (parse.Unexpected at) c d = in_tokens tokens (parse.Unexpected at) c d refl
+told_parse text kind tokens parse.Ended c d = in_tokens tokens parse.Ended c d refl
+told_parse text kind tokens (parse.Deep at) c d = in_tokens tokens (parse.Deep at) c d refl
 
 right_parse_at : (text : List ℕ) (kind : Kind) (tokens : List Token) (err : ParseErr) → IsCut text tokens → ParseMayRefuse (symbols_of text tokens) err → MayRefuse text kind (parse_err (length tokens) err)
-right_parse_at text kind tokens parse.NoMemory c d = tt
-right_parse_at text kind tokens (parse.Unexpected at) c d = in_tokens tokens (parse.Unexpected at) c d refl
-right_parse_at text kind tokens parse.Ended c d = in_tokens tokens parse.Ended c d refl
-right_parse_at text kind tokens (parse.Deep at) c d = in_tokens tokens (parse.Deep at) c d refl
+right_parse_at text kind tokens err c (inl d) = told_parse text kind tokens err c d
+right_parse_at text kind tokens err c (inr e) = let same : parse.NoMemory ≡ err = cc in subst (λ x. MayRefuse text kind (parse_err (length tokens) x)) same tt
 
 pub right_parse : {text : List ℕ} (kind : Kind) {tokens : List Token} (err : ParseErr) {count : ℕ} → IsCut text tokens → ParseMayRefuse (symbols_of text tokens) err → count ≡ length tokens
     → MayRefuse text kind (parse_err count err)
@@ -141,3 +158,6 @@ exact_parse {text} kind err {count} c d e = exact_err text kind (parse_err count
 pub exact_check : {text : List ℕ} {kind : Kind} {tokens : List Token} {tree : Routine} {err : CheckErr} → IsCut text tokens → IsRoutine limited (symbols_of text tokens) tree → IsFirstFault tree kind err
     → IsExact text kind (Err (Fault (check_fault err)))
 exact_check c d e = exact_fault (right_check c d e)
+
+-- what translating needs of these
+pub ruleset translate_steps = (right, right_lex, right_parse, right_check, exact, exact_lex, exact_parse, exact_check)

@@ -11,7 +11,7 @@ use std::alloc::Global;
 
 /// The checked routine that the text is for a routine of this kind, with the number of its tokens,
 /// or the first fault: of the scanner, else of the parser, else of the checks.
-#[tactic(auto, using(crate::proofs::TranslateLemmas::right, crate::proofs::TranslateLemmas::right_lex, crate::proofs::TranslateLemmas::right_parse, crate::proofs::TranslateLemmas::right_check, crate::proofs::TranslateLemmas::exact, crate::proofs::TranslateLemmas::exact_lex, crate::proofs::TranslateLemmas::exact_parse, crate::proofs::TranslateLemmas::exact_check))]
+#[tactic(auto, using(crate::proofs::TranslateLemmas::translate_steps))]
 pub fn translate(alloc: Global, text: &[u8], kind: Kind) -> Result<(Checked, u32), TranslateErr>
     requires { length text.now < 2 ^ 32 }
     ensures ok { IfOk result (λ found. IsTranslated text.now kind found.0.tree found.1 × (found.0.kind ≡ kind)) }

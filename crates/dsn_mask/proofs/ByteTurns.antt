@@ -29,3 +29,6 @@ end_turn {mask} {text} {ps} {xs} {qs} {ys} w m = walk_ends (subst (λ z. ByteWal
 pub star_smaller : {mask text ps xs qs ys rest : List ℕ} → ByteWalk mask text ps xs qs ys → (p : ℕ) × (is_star p ≡ true) × (ps ≡ p ∷ rest) → cost (length mask) (length text) (length rest) (length xs) (length rest) < cost (length mask) (length text) (length qs) (length ys) (length ps)
 star_smaller {mask} {text} {ps} {xs} {qs} {ys} {rest} w m =
     star_less (length mask) (length text) (length rest) (length qs) (length xs) (length ys) (length ps) (omega (arith, ap length m.2)) w.no_longer w.text_left
+
+-- what a walk over bytes needs of these
+pub ruleset byte_turns = (first_turn, star_turn, pair_turn, back_turn, stuck_turn, end_turn)

@@ -147,3 +147,6 @@ walk_goes_on s s' n n' q others all err e good start number found = rw e (goes_o
 
 pub walk_all : (q : List ℕ) (others all : List (List ℕ)) → all ≡ q ∷ others → is_qualifier q ≡ true → list_all is_qualifier all ≡ list_all is_qualifier others
 walk_all q others all e good = rw (e, good) refl
+
+-- what the walk over one qualifier needs of these
+pub ruleset qualifier_faults = (empty_first, bad_first_is, bad_byte_is, ninth_is, good_is)

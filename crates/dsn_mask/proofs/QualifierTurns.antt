@@ -29,3 +29,6 @@ end_step {mask} {text} {ps} {xs} {qs} {ys} w m = walk_ends (subst (λ z. Qualifi
 pub stars_smaller : {mask text ps xs qs ys rest : List (List ℕ)} → QualifierWalk mask text ps xs qs ys → (p : List ℕ) × (is_two_stars p ≡ true) × (ps ≡ p ∷ rest) → cost (length mask) (length text) (length rest) (length xs) (length rest) < cost (length mask) (length text) (length qs) (length ys) (length ps)
 stars_smaller {mask} {text} {ps} {xs} {qs} {ys} {rest} w m =
     star_less (length mask) (length text) (length rest) (length qs) (length xs) (length ys) (length ps) (omega (arith, ap length m.2)) w.no_longer w.text_left
+
+-- what a walk over qualifiers needs of these
+pub ruleset qualifier_steps = (first_step, stars_step, pair_step, back_step, stuck_step, end_step)

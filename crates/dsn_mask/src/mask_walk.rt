@@ -63,7 +63,7 @@ fn front<'a>(mask: Option<&'a [u8]>, value: Option<&'a [u8]>) -> QualifierFront<
 }
 
 /// Whether the mask fits the value, qualifier by qualifier. Only the last `**` is gone back to.
-#[tactic(auto, using(crate::proofs::QualifierTurns::first_step, crate::proofs::QualifierTurns::stars_step, crate::proofs::QualifierTurns::pair_step, crate::proofs::QualifierTurns::back_step, crate::proofs::QualifierTurns::stuck_step, crate::proofs::QualifierTurns::end_step))]
+#[tactic(auto, using(crate::proofs::QualifierTurns::qualifier_steps))]
 pub fn mask_fits(mask: &[u8], value: &[u8]) -> bool
     ensures { result ≡ mask_fits mask.now value.now }
 {

@@ -24,7 +24,7 @@ fn good_front(bytes: &[u8]) -> usize
     bytes.len()
 }
 
-#[tactic(auto, using(crate::proofs::Faults::empty_first, crate::proofs::Faults::bad_first_is, crate::proofs::Faults::bad_byte_is, crate::proofs::Faults::ninth_is, crate::proofs::Faults::good_is))]
+#[tactic(auto, using(crate::proofs::Faults::qualifier_faults))]
 fn qualifier_fault(start: u32, number: u32, qualifier: &[u8]) -> Option<NameErr>
     requires { start + length qualifier.now ≤ 44 }
     ensures { MatchOption result (is_qualifier qualifier.now ≡ true) (λ err. (is_qualifier qualifier.now ≡ false) × IsFirstIn start number qualifier.now err) }

@@ -47,7 +47,7 @@ fn front<'a>(piece: &'a [u8], bytes: &'a [u8]) -> ByteFront<'a>
 
 /// Whether the piece fits the bytes. Only the last star is gone back to: with s stars p bytes against q
 /// take at most (s + 1) * (p + 1) * (q + 1) turns.
-#[tactic(auto, using(crate::proofs::ByteTurns::first_turn, crate::proofs::ByteTurns::star_turn, crate::proofs::ByteTurns::pair_turn, crate::proofs::ByteTurns::back_turn, crate::proofs::ByteTurns::stuck_turn, crate::proofs::ByteTurns::end_turn))]
+#[tactic(auto, using(crate::proofs::ByteTurns::byte_turns))]
 pub fn piece_fits(piece: &[u8], bytes: &[u8]) -> bool
     ensures { result ≡ piece_fits piece.now bytes.now }
 {
