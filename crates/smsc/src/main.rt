@@ -1,5 +1,6 @@
 //! The translator as a program: it translates the routine, validates the deck or simulates the script on standard input.
 #![tactic(auto)]
+
 ghost use Rattle.std.specs.Prelude.{◌≡◌};
 ghost use Rattle.std.specs.Process.{exit_status};
 ghost use Rattle.smsc.specs.ExitStatus.{exit_status_of};

@@ -1,5 +1,6 @@
 //! The desk as a program: it answers the script on standard input.
 #![tactic(auto)]
+
 ghost use Rattle.std.specs.Prelude.{◌≡◌};
 ghost use Rattle.std.specs.Process.{exit_status};
 ghost use Rattle.desk_calls.specs.ExitStatus.{exit_status_of};
