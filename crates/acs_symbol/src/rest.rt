@@ -1,4 +1,4 @@
-// The tokens that are left to be read.
+//! The tokens that are left to be read.
 ghost use Rattle.std.specs.Prelude.{◌≡◌, ◌∷◌, [], List, length, MatchOption};
 ghost use Rattle.acs_symbol.specs.declared.symbol.Symbol.{Symbol};
 

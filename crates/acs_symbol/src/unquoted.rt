@@ -1,4 +1,4 @@
-// A literal where it stands in a text.
+//! A literal where it stands in a text.
 ghost use Rattle.std.specs.Prelude.{◌≡◌};
 ghost use Rattle.dsn_mask.specs.Name.{IsLiteral};
 

@@ -1,4 +1,4 @@
-// A word or a name of a variable where it stands in a text.
+//! A word or a name of a variable where it stands in a text.
 ghost use Rattle.std.specs.Prelude.{◌≡◌, ◌≤◌, length};
 ghost use Rattle.std.specs.Str.{str_to_ascii_uppercase};
 
