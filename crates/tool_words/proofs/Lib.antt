@@ -1,4 +1,5 @@
 mod ToolLemmas
 mod AlikeLemmas
 mod PlaceLemmas
+mod FreeLemmas
 mod AskingLemmas
