@@ -17,12 +17,13 @@ use Rattle.desk_common.specs.Exact.{IsExact, MayRefuse}
 use Rattle.desk_common.proofs.ExactLemmas.{exact_fault, exact_thing, exact_want}
 use Rattle.std.proofs.lemmas.Option.{same_Some}
 use Rattle.tool_words.specs.Tool.{kind_words, names_with, tool, words_of}
-use Rattle.tool_words.specs.Asking.{AreRefused, AreShown, AskFor, AsksKind, Finds, Hinders, err_of, is_free, is_one_of_three, is_refused, is_shown, is_text}
+use Rattle.tool_words.specs.Asking.{AreRefused, AreShown, AskFor, AsksKind, Finds, Hinders, AreSorted, err_of, is_free, is_refused, is_shown, is_text}
 use Rattle.tool_words.specs.declared.task.Task.{Task}
 use Rattle.tool_words.specs.declared.task.Task.TheVariants as tasks
 use Rattle.tool_words.specs.declared.words_err.WordsErr.{WordsErr}
 use Rattle.tool_words.specs.declared.words_err.WordsErr.TheVariants as errs
 use Rattle.tool_words.proofs.AlikeLemmas.{is_alike, tool_alike}
+use Rattle.tool_words.proofs.FreeLemmas.{tool_asks}
 
 all_among : (p : ErrorKind → Bool) (ks : Kinds) (k : ErrorKind) → IsAmong k ks → list_all p ks ≡ true → p k ≡ true
 all_among p [] k among all = absurd among
@@ -67,14 +68,25 @@ shown_by words k among text = both_hold _ _ (some_kind _ k among) (all_text _ k 
 refused_by : (words : List Text) (k : ErrorKind) → IsAmong k (fault_of tool words) → is_text k ≡ false → AreRefused words
 refused_by words k among text = both_hold _ _ (some_kind _ k among) (none_text _ k among (tool_kinds words) text)
 
-three_of : (kinds : Kinds) → is_alike kinds ≡ true → is_one_of_three kinds ≡ true
-unfolding is_alike
-three_of [] alike = refl
-three_of (k ∷ ks) alike = alike
+free_of : (kinds : Kinds) → is_free kinds ≡ true → kinds ≡ []
+free_of [] e = refl
+free_of (k ∷ ks) e = absurd (cc e)
 
--- at any words the tool's command does one of the three
-pub tool_sorted : (words : List Text) → is_one_of_three (fault_of tool words) ≡ true
-tool_sorted words = three_of (fault_of tool words) (tool_kinds words)
+-- a reading with a fault refuses the words, or shows a text
+faults_sorted : (kinds : Kinds) → is_alike kinds ≡ true → is_free kinds ≡ false → (is_refused kinds ≡ true) ⊎ (is_shown kinds ≡ true)
+unfolding is_alike
+faults_sorted [] alike e = absurd (cc e)
+faults_sorted (k ∷ ks) alike e = elim (cases_Bool (list_all is_text (k ∷ ks))) [
+  | inl texts ↦ inr texts
+  | inr other ↦ inl (rw other at alike)
+]
+
+-- words ask for a task, are refused, or ask for a text
+pub tool_sorted : (words : List Text) → AreSorted words
+tool_sorted words = elim (cases_Bool (is_free (fault_of tool words))) [
+  | inl free ↦ let (task, finds) = tool_asks words (free_of (fault_of tool words) free) in inl (task, record { free = free; found = finds })
+  | inr faults ↦ inr (faults_sorted (fault_of tool words) (tool_kinds words) faults)
+]
 
 -- no reading does two of the three
 free_refused : (kinds : Kinds) → is_free kinds ≡ true → is_refused kinds ≡ true → ⊥

@@ -1,5 +1,5 @@
 -- What words ask for, by the command that reads them (docs/tool.md, "Words").
-use Rattle.std.specs.Prelude.{◌≡◌, Bool, true, false, not, ◌&&◌, ◌||◌, List, [], ◌∷◌, Option, Some, codes}
+use Rattle.std.specs.Prelude.{◌≡◌, ◌⊎◌, Bool, true, false, not, ◌&&◌, List, [], ◌∷◌, Option, Some, codes}
 use Rattle.std.specs.List.{list_all}
 use Rattle.acs_tree.specs.Variables.{name_of}
 use Rattle.clap.specs.Words.{Kinds, Row, Text, fault_of, first_of, first_value, found_of, subcommand_of}
@@ -37,10 +37,6 @@ Finds found (tasks.Translate kind) = (rows : List Row) × (found ≡ Some (codes
 Finds found tasks.Validate = (rows : List Row) × (found ≡ Some (codes "validate", rows))
 Finds found tasks.Simulate = (rows : List Row) × (found ≡ Some (codes "simulate", rows))
 
--- the reading does one of the three
-abbrev pub is_one_of_three : Kinds → Bool
-is_one_of_three kinds = is_free kinds || (is_shown kinds || is_refused kinds)
-
 -- by the tool's command the words are free of faults and ask for this task
 pub record AskFor (words : List Text) (task : Task) : Type 0 where
   pub free : is_free (fault_of tool words) ≡ true
@@ -59,6 +55,10 @@ abbrev pub Hinders : List Text → WordsErr → Type 0
 Hinders words errs.Bad = AreRefused words
 Hinders words errs.Shown = AreShown words
 Hinders words errs.NoMemory = ⊥
+
+-- words ask for a task, are refused, or ask for a text
+abbrev pub AreSorted : List Text → Type 0
+AreSorted words = ((task : Task) × AskFor words task) ⊎ (AreRefused words ⊎ AreShown words)
 
 -- the word KIND among these matches names a kind
 abbrev pub AsksKind : ArgMatches → Task → Type 0

@@ -1,8 +1,8 @@
 //! Reading the words.
-ghost use Rattle.std.specs.Prelude.{◌≡◌, ◌⊎◌, [], true, Some, IfOk, IfErr, MatchResult, map, string_bytes};
+ghost use Rattle.std.specs.Prelude.{◌≡◌, ◌⊎◌, [], Some, IfOk, IfErr, MatchResult, map, string_bytes};
 ghost use Rattle.clap.specs.Words.{kind_of, IsAmong, fault_of, subcommand_of, subcommand_rows_of};
 ghost use Rattle.desk_common.specs.Exact.{IsExact, MayRefuse};
-ghost use Rattle.tool_words.specs.Asking.{AskFor, AsksKind, Finds, Hinders, err_of, is_one_of_three};
+ghost use Rattle.tool_words.specs.Asking.{AskFor, AsksKind, Finds, Hinders, AreSorted, err_of};
 ghost use Rattle.tool_words.specs.Tool.{tool, words_of};
 ghost use Rattle.tool_words.specs.declared.task.Task.{Task as TaskOf};
 
@@ -31,7 +31,7 @@ pub fn task_asked(alloc: Global, words: &[String]) -> Result<Task, WordsErr>
     ensures asked { IfOk result (AskFor (map string_bytes words.now)) }
     ensures hindered { IfErr result (MayRefuse (Hinders (map string_bytes words.now)) (Some WordsErr.NoMemory)) }
     ensures exactly { IsExact (AskFor (map string_bytes words.now)) (Hinders (map string_bytes words.now)) (Some WordsErr.NoMemory) result }
-    ensures sorted { is_one_of_three (fault_of tool (map string_bytes words.now)) ≡ true }
+    ensures sorted { AreSorted (map string_bytes words.now) }
     ensures known { (task : TaskOf) → map string_bytes words.now ≡ words_of task → MatchResult result (λ found. found ≡ task) (λ err. err ≡ WordsErr.NoMemory) }
 {
     match read_matches(alloc, words) {

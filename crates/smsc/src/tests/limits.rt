@@ -3,7 +3,8 @@ use crate::status::ToolStatus::{self, Done, FaultFound, ReadFault, TooLong, Writ
 use std::test::Fail;
 
 /// The words, the front of an input and the number of blanks behind it, the status and the text that is printed.
-const LENGTHS: [(&[&str], &str, usize, ToolStatus, &str); 8] = [
+const LENGTHS: [(&[&str], &str, usize, ToolStatus, &str); 9] = [
+    (&["validate", "--"], "version = 1", 0, Done, "VALID 0 0\n"),
     (
         &["translate", "--", "STORCLAS"],
         "PROC STORCLAS END",

@@ -3,7 +3,12 @@ use crate::status::ToolStatus::{BadWords, Done};
 use std::test::Fail;
 
 /// Words that ask for nothing.
-const BAD_WORDS: [&[&str]; 17] = [
+const BAD_WORDS: [&[&str]; 22] = [
+    &["--"],
+    &["help", "translate"],
+    &["translate", "--"],
+    &["translate", "--version"],
+    &["validate", "--", "x"],
     &["-x"],
     &["validate", "--deck"],
     &["help"],
@@ -24,7 +29,9 @@ const BAD_WORDS: [&[&str]; 17] = [
 ];
 
 /// Words that ask for a text of help or for the version.
-const SHOWN_WORDS: [&[&str]; 7] = [
+const SHOWN_WORDS: [&[&str]; 9] = [
+    &["--help", "x"],
+    &["translate", "STORCLAS", "-h"],
     &["--help"],
     &["-h"],
     &["--version"],
