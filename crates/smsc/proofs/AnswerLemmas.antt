@@ -1,6 +1,5 @@
 -- What an answer says of the status and the sink.
-use Rattle.std.proofs.Common.{◌≡◌, true, List, ℕ, Ok, length, sym, ap, ◌∙◌, subst, inl, inr}
-use Rattle.std.specs.Prelude.{Result, IfOk, IfErr}
+use Rattle.std.proofs.Common.{◌≡◌, true, List, ℕ, Ok, length, sym, subst, inl, inr}
 use Rattle.std.specs.Io.KnownBytes.{Appends}
 use Rattle.acs_tree.specs.declared.kind.Kind.{Kind}
 use Rattle.acs_tree.specs.declared.routine.Routine.{Routine}

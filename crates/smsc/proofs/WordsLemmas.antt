@@ -1,6 +1,6 @@
 -- What the reading of the words says of a call.
 use Rattle.std.proofs.Common.{◌≡◌, List, ℕ, Result, Ok, Err, Some, true, inl, inr}
-use Rattle.desk_common.specs.Exact.{IsExact, MayRefuse}
+use Rattle.desk_common.specs.Exact.{IsExact}
 use Rattle.smsc.specs.ToolEnds.{ends_shown}
 use Rattle.smsc.specs.declared.status.ToolStatus.{ToolStatus}
 use Rattle.smsc.specs.declared.status.ToolStatus.TheVariants as ends
@@ -12,18 +12,6 @@ use Rattle.tool_words.specs.declared.words_err.WordsErr.TheVariants as errs
 -- the answer of the reading is this one
 abbrev pub IsRead : List (List ℕ) → Result Task WordsErr → Type 0
 IsRead words result = IsExact (AskFor words) (Hinders words) (Some errs.NoMemory) result
-
-pub refused_words : {words : List (List ℕ)} → MayRefuse (Hinders words) (Some errs.NoMemory) errs.Bad → AreRefused words
-refused_words why = elim why [
-  | inl refused ↦ refused
-  | inr memory ↦ absurd (cc memory)
-]
-
-pub shown_words : {words : List (List ℕ)} → MayRefuse (Hinders words) (Some errs.NoMemory) errs.Shown → AreShown words
-shown_words why = elim why [
-  | inl shown ↦ shown
-  | inr memory ↦ absurd (cc memory)
-]
 
 -- words that ask for a task are not refused, and no text is shown
 pub task_not_refused : {words : List (List ℕ)} {task : Task} → IsRead words (Ok task) → AreRefused words → ⊥

@@ -18,7 +18,7 @@ use tool_words::{Task, WordsErr, shown_text, task_asked};
 /// translates, validates or simulates it, and writes the answer to the sink. Where the words ask for help or the
 /// version it writes that text, and nothing is told of the sink; that is the one exception (docs/tool.md, "Words").
 /// What a fault means is noted in plain words, of which nothing is told (docs/tool.md, "What a fault means").
-#[tactic(auto, using(crate::proofs::WordsLemmas::refused_words, crate::proofs::WordsLemmas::shown_words, crate::proofs::WordsLemmas::task_not_refused, crate::proofs::WordsLemmas::task_not_shown, crate::proofs::WordsLemmas::bad_not_shown, crate::proofs::WordsLemmas::shown_not_refused, crate::proofs::WordsLemmas::never_bad))]
+#[tactic(auto, using(crate::proofs::WordsLemmas::task_not_refused, crate::proofs::WordsLemmas::task_not_shown, crate::proofs::WordsLemmas::never_bad))]
 pub fn smsc_main<S: Source, K: Sink>(
     alloc: Global,
     words: &[String],
