@@ -36,8 +36,8 @@ fn compare_all(rt: &impl Abort, alloc: Global, cases: &[Case]) -> Result<(), Fai
     Ok(())
 }
 
-/// An ALLOC of one track past the threshold of two volumes, both of which are then secondary ones: it may be granted
-/// on either.
+/// An ALLOC that is one track past the threshold of two volumes, both of which are then secondary ones: it may be
+/// granted on either.
 const EITHER: [Case; 2] = [
     (
         Text(TWO_VOLUMES),

@@ -225,7 +225,7 @@ pub const SPACE: [Case; 7] = [
             ),
         ],
     ),
-    // an empty data set name list and unknown names
+    // an empty catalog and unknown names
     (
         One(1),
         &[

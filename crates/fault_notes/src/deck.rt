@@ -55,19 +55,19 @@ fn deck_sentence(alloc: Global, fault: &Fault) -> Result<String, AllocError> {
         Fault::NotBuilt(path) => around(alloc, "what ", path.bytes(), " asks for isn't built"),
         Fault::UnknownKey(path) => around(alloc, "a deck has no key ", path.bytes(), ""),
         Fault::Missing(path) => around(alloc, "the key ", path.bytes(), " is missing"),
-        Fault::BadValue(path) => around(alloc, "the value of ", path.bytes(), " is wrong"),
+        Fault::BadValue(path) => around(
+            alloc,
+            "the value of ",
+            path.bytes(),
+            " is wrong, or is a second size of its volume",
+        ),
         Fault::BadName(path) => around(
             alloc,
             "in ",
             path.bytes(),
             ", the last key is no name of its kind",
         ),
-        Fault::TooMany(path) => around(
-            alloc,
-            "at ",
-            path.bytes(),
-            " there is more than the limit allows",
-        ),
+        Fault::TooMany(path) => limit_sentence(alloc, path.bytes()),
         Fault::TwoGroups(volser) => {
             around(
                 alloc,
@@ -77,6 +77,14 @@ fn deck_sentence(alloc: Global, fault: &Fault) -> Result<String, AllocError> {
             )
         }
         Fault::NotToml | Fault::Routine(..) | Fault::Unassigned(..) => Ok(String::new(alloc)),
+    }
+}
+
+fn limit_sentence(alloc: Global, path: &[u8]) -> Result<String, AllocError> {
+    match path {
+        b"deck" => String::from_str(alloc, "the deck has more than 262144 bytes"),
+        b"volume" => String::from_str(alloc, "the deck has more than 1024 volumes"),
+        _ => around(alloc, "at ", path, " there is more than the limit allows"),
     }
 }
 
@@ -115,7 +123,7 @@ fn source_note(
         return Err(AllocError);
     };
     let text = source_of(&top, kind).as_bytes();
-    let spot = spot_of(alloc, text, fault);
+    let spot = spot_of(alloc, text, fault)?;
     let words = sentence(alloc, text, spot, fault)?;
     told_of_source(alloc, deck, kind, text, spot, &words)
 }

@@ -8,7 +8,7 @@ use std::alloc::{AllocError, Global};
 
 /// What the fault of this routine's text means, and where it stands (docs/tool.md, "What a fault means").
 pub fn routine_note(alloc: Global, text: &[u8], fault: &TextFault) -> Result<String, AllocError> {
-    let spot = spot_of(alloc, text, fault);
+    let spot = spot_of(alloc, text, fault)?;
     let sentence = sentence(alloc, text, spot, fault)?;
     told(alloc, 0, &place_at(text, spot.from), &sentence)
 }

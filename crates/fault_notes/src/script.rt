@@ -17,6 +17,6 @@ pub fn script_note(alloc: Global, text: &[u8], fault: ScriptErr) -> Result<Strin
 
 /// What it means that the item in this line isn't the one asked there, with the line.
 pub fn misplaced_note(alloc: Global, text: &[u8], line: u32) -> Result<String, AllocError> {
-    let sentence = "the first command is to be an ACTIVATE, and all others ALLOC";
+    let sentence = "the first request is to be an ACTIVATE, and all others ALLOC";
     told(alloc, 0, &line_at(text, line as usize), sentence)
 }

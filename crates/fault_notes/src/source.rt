@@ -27,7 +27,9 @@ pub fn find_source(
     let Some(at) = find_path(alloc, deck, path.as_bytes())? else {
         return Ok(None);
     };
-    let behind = quoted(deck.get(at..).unwrap_or(&[]));
+    let Some(behind) = quoted(deck.get(at..).unwrap_or(&[]), key_of(kind)) else {
+        return Ok(None);
+    };
     if behind.starts_with(text) {
         Ok(Some(deck.len().saturating_sub(behind.len())))
     } else {
@@ -35,17 +37,29 @@ pub fn find_source(
     }
 }
 
-// What is behind the quotes that follow the first equals sign.
-fn quoted(line: &[u8]) -> &[u8] {
-    let value = match line.iter().position(|byte| *byte == b'=') {
-        Some(at) => &line[at + 1..],
-        None => &[],
-    };
-    match without_blanks(value) {
-        [b'"', b'"', b'"', text @ ..] | [b'\'', b'\'', b'\'', text @ ..] => without_line_end(text),
-        [b'"', text @ ..] | [b'\'', text @ ..] => text,
-        _ => &[],
+// What is behind the quotes that follow the first equals sign, if the key stands before that.
+fn quoted<'a>(line: &'a [u8], key: &str) -> Option<&'a [u8]> {
+    let at = line.iter().position(|byte| *byte == b'=')?;
+    if !ends_with_key(&line[..at], key) {
+        return None;
     }
+    match without_blanks(&line[at + 1..]) {
+        [b'"', b'"', b'"', text @ ..] | [b'\'', b'\'', b'\'', text @ ..] => {
+            Some(without_line_end(text))
+        }
+        [b'"', text @ ..] | [b'\'', text @ ..] => Some(text),
+        _ => None,
+    }
+}
+
+// Whether the bytes before an equals sign end with this key, which may stand in quotes.
+fn ends_with_key(before: &[u8], key: &str) -> bool {
+    let before = before.trim_ascii_end();
+    let before = match before {
+        [front @ .., b'"' | b'\''] => front,
+        _ => before,
+    };
+    before.ends_with(key.as_bytes())
 }
 
 fn without_line_end(text: &[u8]) -> &[u8] {

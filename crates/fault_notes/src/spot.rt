@@ -1,7 +1,7 @@
 //! The bytes of a routine's text at which a fault stands.
 use acs_lex::{Token, Tokens, scan};
 use sms_construct::{Stage, TextFault};
-use std::alloc::Global;
+use std::alloc::{AllocError, Global};
 
 /// From the first byte of the spot to behind its last one.
 #[derive(Clone, Copy)]
@@ -10,29 +10,30 @@ pub struct Spot {
     pub to: usize,
 }
 
-/// Where the fault of this text stands: a byte, a token, or the end.
-pub fn spot_of(alloc: Global, text: &[u8], fault: &TextFault) -> Spot {
+/// Where the fault of this text stands: a byte, a token, or the end; or want of memory.
+pub fn spot_of(alloc: Global, text: &[u8], fault: &TextFault) -> Result<Spot, AllocError> {
     let at = fault.at as usize;
     match fault.stage {
-        Stage::Scanner => Spot { from: at, to: at },
+        Stage::Scanner => Ok(Spot { from: at, to: at }),
         Stage::Parser | Stage::Checks => token_spot(alloc, text, at),
     }
 }
 
-// The spot of a token, and behind the last one that of the end.
-fn token_spot(alloc: Global, text: &[u8], at: usize) -> Spot {
-    let end = Spot {
-        from: text.len(),
-        to: text.len(),
-    };
+// The spot of a token, and behind the last one that of the end. A text with such a fault has tokens.
+fn token_spot(alloc: Global, text: &[u8], at: usize) -> Result<Spot, AllocError> {
     let Some(tokens) = tokens_of(alloc, text) else {
-        return end;
+        return Err(AllocError);
     };
-    match (tokens.as_slice().get(at), tokens.as_slice().last()) {
-        (Some(token), _) => bytes_of(token),
-        (None, Some(last)) => end_of(last),
-        (None, None) => end,
-    }
+    Ok(
+        match (tokens.as_slice().get(at), tokens.as_slice().last()) {
+            (Some(token), _) => bytes_of(token),
+            (None, Some(last)) => end_of(last),
+            (None, None) => Spot {
+                from: text.len(),
+                to: text.len(),
+            },
+        },
+    )
 }
 
 /// The tokens of a text, if it has any.

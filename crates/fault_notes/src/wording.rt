@@ -53,7 +53,10 @@ fn check_wording(number: u8) -> Wording {
         ),
         8 => ("", " is out of range, or no name of a construct"),
         9 => ("", " is no mask, or none that suits here"),
-        10 => ("", " is the 256th entry of a list, which has at most 255"),
+        10 => (
+            "",
+            " is the 256th entry of an INCLUDE or EXCLUDE, which has at most 255",
+        ),
         11 => ("", " is one value too many, or stands twice"),
         12 => ("the exit code ", " is no number from 0 to 65535"),
         _ => (

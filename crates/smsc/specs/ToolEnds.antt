@@ -1,5 +1,6 @@
 -- How a call of the translator ends: each status and its cause (docs/tool.md).
 use Rattle.std.specs.Prelude.{◌≡◌, ◌⊎◌, Bool, true, false, List, ℕ}
+use Rattle.desk_common.specs.Causes.{Rose}
 use Rattle.sms_base.specs.Observed.{Observed, IsUnwritten, WasRead, WasAnswered, HasReadFault, HasWriteFault, IsTooLong, IsOutOfMemory}
 use Rattle.smsc.specs.Limits.{most_bytes}
 use Rattle.sms_script.specs.declared.script_err.ScriptErr.{ScriptErr}
@@ -62,10 +63,11 @@ pub record RefusesWords (words : List (List ℕ)) (old new : Observed) (status :
   pub status_is : status ≡ BadWords
   pub unread : IsUnread old new
 
--- the words ask for a text of help or of the version, and nothing was read
+-- the words ask for a text of help or of the version, and nothing was read; a write fault has its cause
 pub record ShowsText (words : List (List ℕ)) (old new : Observed) (status : ToolStatus) : Type 0 where
   pub shown : AreShown words
   pub status_is : ends_shown status ≡ true
+  pub cause : status ≡ WriteFault → Rose old.write_faults new.write_faults
   pub unread : IsUnread old new
 
 -- memory was wanting for the words, and nothing was read

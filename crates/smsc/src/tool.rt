@@ -1,5 +1,6 @@
 //! The top call of the translator.
 ghost use Rattle.std.specs.Prelude.{◌≡◌, ◌⊎◌, true, map, string_bytes};
+ghost use Rattle.desk_common.specs.Causes.{Rose};
 ghost use Rattle.sms_base.specs.Observed.{Observed};
 ghost use Rattle.smsc.specs.ToolEnds.{Ends, EndsFor, ends_shown, leaves_sink};
 ghost use Rattle.tool_words.specs.Asking.{AreRefused, AreShown};
@@ -51,6 +52,7 @@ pub fn smsc_main<S: Source, K: Sink>(
 // Writes the text of help or of the version.
 fn show<K: Sink>(alloc: Global, words: &[String], out: &mut K) -> ToolStatus
     ensures status { ends_shown result ≡ true }
+    ensures cause { result ≡ ToolStatus.WriteFault → Rose (K.write_faults out.old) (K.write_faults out.new) }
     ensures unwritten { leaves_sink result ≡ true → out.new ≡ out.old }
 {
     let Ok(text) = shown_text(alloc, words) else {

@@ -116,15 +116,15 @@ const DECKS: [(&[u8], &str); 13] = [
     ),
     (
         b"version = 1\nsystem = '''\nlow = 86'''\n[storgroup.SG1]\n  low = 86",
-        "line 2, column 1: the value of system is wrong\n    system = '''\n    ^\n",
+        "line 2, column 1: the value of system is wrong, or is a second size of its volume\n    system = '''\n    ^\n",
     ),
     (
         b"version = 1\n[routine]\nmgmtclass = '''\nlow = 1\n[storgroup.SG1]\nlow = 86'''\n[storgroup.SG1]\n  low = 86",
-        "line 8, column 3: the value of storgroup.SG1.low is wrong\n      low = 86\n      ^\n",
+        "line 8, column 3: the value of storgroup.SG1.low is wrong, or is a second size of its volume\n      low = 86\n      ^\n",
     ),
     (
         b"version = 1\n[storgroup]\nSG1 = { low = 86 }",
-        "line 3, column 1: the value of storgroup.SG1.low is wrong\n    SG1 = { low = 86 }\n    ^\n",
+        "line 3, column 1: the value of storgroup.SG1.low is wrong, or is a second size of its volume\n    SG1 = { low = 86 }\n    ^\n",
     ),
     (
         b"version = 1\n[storclass.sc1]",
@@ -168,7 +168,7 @@ const SCRIPTS: [(&[u8], ToolStatus, &str); 4] = [
     (
         b"JOB1 1 ALLOC A.B\r\n",
         Script(BadLine(1)),
-        "line 1, column 1: the first command is to be an ACTIVATE, and all others ALLOC\n    JOB1 1 ALLOC A.B\n    ^\n",
+        "line 1, column 1: the first request is to be an ACTIVATE, and all others ALLOC\n    JOB1 1 ALLOC A.B\n    ^\n",
     ),
 ];
 
