@@ -13,11 +13,10 @@ use Rattle.acs_symbol.specs.Symbols.{symbols_of}
 use Rattle.acs_parse.specs.declared.fault.ParseErr.{ParseErr}
 use Rattle.acs_parse.specs.declared.fault.ParseErr.TheVariants as parse
 use Rattle.acs_parse.specs.Grammar.{limited, IsRoutine}
-use Rattle.acs_parse.specs.Places.{HasAnswer}
-use Rattle.acs_parse.specs.Places as has
-use Rattle.acs_parse.specs.ParseFault.{IsParseFault, MayRefuse}
+use Rattle.acs_parse.specs.ParseFault.{IsParseFault}
 use Rattle.acs_parse.specs.ParseFault as met
-use Rattle.acs_parse.proofs.ExactLemmas.{some_answer}
+use Rattle.acs_parse.proofs.ExactLemmas.{HasAnswer, some_answer}
+use Rattle.acs_parse.proofs.ExactLemmas as has
 use Rattle.acs_tree.specs.declared.kind.Kind.{Kind}
 use Rattle.acs_tree.specs.declared.check_err.CheckErr.{CheckErr}
 use Rattle.acs_tree.specs.declared.routine.Routine.{Routine}
@@ -83,15 +82,9 @@ one_tree_at (inr e) = absurd (never_made e)
 pub one_tree_of : {text : List ℕ} {kind : Kind} {tree other : Routine} {count n : ℕ} → IsTranslated text kind tree count → IsTranslated text kind other n → tree ≡ other
 one_tree_of {other = other} {n = n} t s = one_tree_at ((routine_exact t).routine other n s)
 
-parse_refuses : {ts : List Symbol} (err : ParseErr) → IsParseFault ts err → MayRefuse ts err
-parse_refuses (parse.Unexpected at) d = d
-parse_refuses parse.Ended d = d
-parse_refuses (parse.Deep at) d = d
-parse_refuses parse.NoMemory d = tt
-
 fault_exact : {text : List ℕ} {kind : Kind} {fault : RoutineFault} → IsRoutineFault text kind fault → IsExact text kind (Err (told.Fault fault))
 fault_exact {text} {kind} (in_text err d e) = subst (λ z. IsExact text kind (Err z)) e (exact_lex text kind err (may_refuse text err d))
-fault_exact {text} {kind} (in_tokens tokens err c d e) = subst (λ z. IsExact text kind (Err z)) e (exact_parse kind err c (parse_refuses err d) refl)
+fault_exact {text} {kind} (in_tokens tokens err c d e) = subst (λ z. IsExact text kind (Err z)) e (exact_parse kind err c (inl d) refl)
 fault_exact {text} {kind} (in_tree tokens tree err c r d e) = subst (λ z. IsExact text kind (Err (told.Fault z))) e (exact_check c r d)
 
 one_fault_at : {one two : RoutineFault} → (refused (told.Fault one) ≡ refused (told.Fault two)) ⊎ (refused (told.Fault one) ≡ refused told.NoMemory) → one ≡ two
