@@ -45,12 +45,6 @@ const GROUPS: [Run; 9] = [
         "STORGRP=SG1", "", &[], Exit(2)),
 ];
 
-#[test]
-fn a_set_replaces_the_class_or_the_whole_list_of_groups(rt: HostRuntime) -> Result<(), Fail> {
-    compare_runs(&rt, rt.alloc(), &CLASSES)?;
-    compare_runs(&rt, rt.alloc(), &GROUPS)
-}
-
 #[rattlefmt::skip]
 const EXITS: [Run; 9] = [
     (StorClas, "EXIT", "", "", &[], Exit(0)),
@@ -71,7 +65,9 @@ const EXITS: [Run; 9] = [
 ];
 
 #[test]
-fn an_exit_ends_the_run_with_its_code(rt: HostRuntime) -> Result<(), Fail> {
+fn a_set_replaces_what_was_held_and_an_exit_ends_the_run(rt: HostRuntime) -> Result<(), Fail> {
+    compare_runs(&rt, rt.alloc(), &CLASSES)?;
+    compare_runs(&rt, rt.alloc(), &GROUPS)?;
     compare_runs(&rt, rt.alloc(), &EXITS)
 }
 
