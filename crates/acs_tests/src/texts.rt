@@ -5,7 +5,8 @@ use std::alloc::{AllocError, Global};
 use std::process::Abort;
 use std::test::Fail;
 
-/// A kind of routine, a text or what stands between the head and the END of one, and what the text is to the kind.
+/// A kind of routine, a text or what stands between the head and the END of one, and what the text is to
+/// the kind.
 pub type Row = (Kind, &'static str, Answer);
 
 /// What stands between the head and the END in pieces, each so many times, and what the routine is.
@@ -39,6 +40,7 @@ pub fn compare_bodies(rt: &impl Abort, alloc: Global, rows: &[Row]) -> Result<()
     Ok(())
 }
 
+/// A routine of that kind has the body between its head and its END.
 pub fn compare_body(
     rt: &impl Abort,
     alloc: Global,
