@@ -4,26 +4,24 @@ use acs_tree::Ending::{Exit, Falls};
 use acs_tree::Kind::{StorClas, StorGrp};
 use std::test::Fail;
 
-const NEAREST: &str =
-    "PROC STORGRP IF &HLQ = 'A' THEN IF &LLQ = 'B' THEN EXIT CODE(1) ELSE EXIT CODE(2) END";
+const NEAREST: &str = "IF &HLQ = 'A' THEN IF &LLQ = 'B' THEN EXIT CODE(1) ELSE EXIT CODE(2)";
 
-const OUTER: &str =
-    "PROC STORGRP IF &HLQ = 'A' THEN DO IF &LLQ = 'B' THEN EXIT CODE(1) END ELSE EXIT CODE(2) END";
+const OUTER: &str = "IF &HLQ = 'A' THEN DO IF &LLQ = 'B' THEN EXIT CODE(1) END ELSE EXIT CODE(2)";
 
 const BOTH: &str =
-    "PROC STORGRP IF &HLQ = 'A' THEN IF &LLQ = 'B' THEN EXIT CODE(1) ELSE EXIT CODE(2) ELSE EXIT CODE(3) END";
+    "IF &HLQ = 'A' THEN IF &LLQ = 'B' THEN EXIT CODE(1) ELSE EXIT CODE(2) ELSE EXIT CODE(3)";
 
 const CHAIN: &str =
-    "PROC STORGRP IF &HLQ = 'A' THEN EXIT CODE(1) ELSE IF &HLQ = 'B' THEN EXIT CODE(2) ELSE IF &HLQ = 'C' THEN EXIT CODE(3) ELSE EXIT CODE(4) END";
+    "IF &HLQ = 'A' THEN EXIT CODE(1) ELSE IF &HLQ = 'B' THEN EXIT CODE(2) ELSE IF &HLQ = 'C' THEN EXIT CODE(3) ELSE EXIT CODE(4)";
 
-const NO_ELSE: &str = "PROC STORGRP IF &HLQ = 'A' THEN EXIT CODE(1) EXIT CODE(2) END";
+const NO_ELSE: &str = "IF &HLQ = 'A' THEN EXIT CODE(1) EXIT CODE(2)";
 
-const TWO_EXITS: &str =
-    "PROC STORGRP IF &HLQ = 'A' THEN EXIT CODE(1) ELSE EXIT CODE(2) EXIT CODE(3) END";
+const TWO_EXITS: &str = "IF &HLQ = 'A' THEN EXIT CODE(1) ELSE EXIT CODE(2) EXIT CODE(3)";
 
 const EMPTY: &str =
-    "PROC STORGRP IF &HLQ = 'A' THEN DO END ELSE EXIT CODE(1) IF &HLQ = 'B' THEN EXIT CODE(2) ELSE DO END EXIT CODE(3) END";
+    "IF &HLQ = 'A' THEN DO END ELSE EXIT CODE(1) IF &HLQ = 'B' THEN EXIT CODE(2) ELSE DO END EXIT CODE(3)";
 
+/// An ELSE belongs to the nearest IF.
 const BRANCHES: [Ended; 22] = [
     (NEAREST, "DSN=A.B", Exit(1)),
     (NEAREST, "DSN=A.C", Exit(2)),
@@ -45,27 +43,23 @@ const BRANCHES: [Ended; 22] = [
     (TWO_EXITS, "DSN=B.X", Exit(2)),
     (EMPTY, "DSN=A.X", Exit(3)),
     (EMPTY, "DSN=B.X", Exit(1)),
-    ("PROC STORGRP END", "", Falls),
-    ("PROC STORGRP DO DO END END END", "", Falls),
+    ("", "", Falls),
+    ("DO DO END END", "", Falls),
 ];
 
-#[test]
-fn an_else_belongs_to_the_nearest_if(rt: HostRuntime) -> Result<(), Fail> {
-    compare_endings(&rt, rt.alloc(), &BRANCHES)
-}
-
 const OTHERWISE: &str =
-    "PROC STORGRP SELECT WHEN (&HLQ = 'A') EXIT CODE(1) WHEN (&HLQ = 'B' AND &LLQ = 'C') EXIT CODE(2) OTHERWISE EXIT CODE(3) END EXIT CODE(4) END";
+    "SELECT WHEN (&HLQ = 'A') EXIT CODE(1) WHEN (&HLQ = 'B' AND &LLQ = 'C') EXIT CODE(2) OTHERWISE EXIT CODE(3) END EXIT CODE(4)";
 
 const WITHOUT: &str =
-    "PROC STORGRP SELECT WHEN (&HLQ = 'A') EXIT CODE(1) WHEN (&HLQ = 'B') EXIT CODE(2) END EXIT CODE(4) END";
+    "SELECT WHEN (&HLQ = 'A') EXIT CODE(1) WHEN (&HLQ = 'B') EXIT CODE(2) END EXIT CODE(4)";
 
 const HALF: &str =
-    "PROC STORGRP SELECT WHEN (&HLQ = 'A') IF &LLQ = 'X' THEN EXIT CODE(1) WHEN (&HLQ = A*) EXIT CODE(2) OTHERWISE EXIT CODE(3) END END";
+    "SELECT WHEN (&HLQ = 'A') IF &LLQ = 'X' THEN EXIT CODE(1) WHEN (&HLQ = A*) EXIT CODE(2) OTHERWISE EXIT CODE(3) END";
 
 const NESTED: &str =
-    "PROC STORGRP SELECT (&HLQ) WHEN ('A') SELECT (&LLQ) WHEN ('B') EXIT CODE(1) OTHERWISE EXIT CODE(2) END WHEN ('C') EXIT CODE(3) OTHERWISE DO SELECT WHEN (&LLQ = 'B') EXIT CODE(4) END END END EXIT CODE(5) END";
+    "SELECT (&HLQ) WHEN ('A') SELECT (&LLQ) WHEN ('B') EXIT CODE(1) OTHERWISE EXIT CODE(2) END WHEN ('C') EXIT CODE(3) OTHERWISE DO SELECT WHEN (&LLQ = 'B') EXIT CODE(4) END END END EXIT CODE(5)";
 
+/// A SELECT takes the first WHEN that holds, or its OTHERWISE.
 const WHENS: [Ended; 16] = [
     (OTHERWISE, "DSN=A.C", Exit(1)),
     (OTHERWISE, "DSN=B.C", Exit(2)),
@@ -85,29 +79,25 @@ const WHENS: [Ended; 16] = [
     (NESTED, "DSN=D.C", Exit(5)),
 ];
 
-#[test]
-fn a_select_takes_the_first_when_or_otherwise(rt: HostRuntime) -> Result<(), Fail> {
-    compare_endings(&rt, rt.alloc(), &WHENS)
-}
-
 const ITEMS: &str =
-    "PROC STORGRP FILTLIST F INCLUDE(L*) EXCLUDE(LX) SELECT (&HLQ) WHEN ('A', 'B') EXIT CODE(1) WHEN (M*) EXIT CODE(2) WHEN (&F) EXIT CODE(3) WHEN (&LLQ) EXIT CODE(4) WHEN ('C', C%, &STORCLAS) EXIT CODE(5) OTHERWISE EXIT CODE(6) END END";
+    "FILTLIST F INCLUDE(L*) EXCLUDE(LX) SELECT (&HLQ) WHEN ('A', 'B') EXIT CODE(1) WHEN (M*) EXIT CODE(2) WHEN (&F) EXIT CODE(3) WHEN (&LLQ) EXIT CODE(4) WHEN ('C', C%, &STORCLAS) EXIT CODE(5) OTHERWISE EXIT CODE(6) END";
 
 const NUMBERS: &str =
-    "PROC STORGRP SELECT (&RETPD) WHEN (0) EXIT CODE(1) WHEN (2, 3) EXIT CODE(2) WHEN (&NQUAL, &NVOL) EXIT CODE(3) END END";
+    "SELECT (&RETPD) WHEN (0) EXIT CODE(1) WHEN (2, 3) EXIT CODE(2) WHEN (&NQUAL, &NVOL) EXIT CODE(3) END";
 
 const SIZES: &str =
-    "PROC STORGRP SELECT (&SIZE) WHEN (0KB) EXIT CODE(1) WHEN (1MB, 1GB) EXIT CODE(2) WHEN (&MAXSIZE) EXIT CODE(3) OTHERWISE EXIT CODE(4) END END";
+    "SELECT (&SIZE) WHEN (0KB) EXIT CODE(1) WHEN (1MB, 1GB) EXIT CODE(2) WHEN (&MAXSIZE) EXIT CODE(3) OTHERWISE EXIT CODE(4) END";
 
 const VOLUMES: &str =
-    "PROC STORGRP SELECT (&ANYVOL) WHEN ('V1') EXIT CODE(1) WHEN (*) EXIT CODE(2) OTHERWISE EXIT CODE(3) END END";
+    "SELECT (&ANYVOL) WHEN ('V1') EXIT CODE(1) WHEN (*) EXIT CODE(2) OTHERWISE EXIT CODE(3) END";
 
 const EVERY: &str =
-    "PROC STORGRP SELECT (&ALLVOL) WHEN ('V1', 'V2') EXIT CODE(1) WHEN (V*) EXIT CODE(2) OTHERWISE EXIT CODE(3) END END";
+    "SELECT (&ALLVOL) WHEN ('V1', 'V2') EXIT CODE(1) WHEN (V*) EXIT CODE(2) OTHERWISE EXIT CODE(3) END";
 
 const GROUPS: &str =
-    "PROC STORGRP SELECT (&STORGRP) WHEN ('SG1') EXIT CODE(1) WHEN ('') EXIT CODE(2) OTHERWISE EXIT CODE(3) END END";
+    "SELECT (&STORGRP) WHEN ('SG1') EXIT CODE(1) WHEN ('') EXIT CODE(2) OTHERWISE EXIT CODE(3) END";
 
+/// A subject is compared with each item.
 const SUBJECTS: [Ended; 36] = [
     (ITEMS, "DSN=A.Z", Exit(1)),
     (ITEMS, "DSN=B.Z", Exit(1)),
@@ -148,51 +138,35 @@ const SUBJECTS: [Ended; 36] = [
 ];
 
 #[test]
-fn a_subject_is_compared_with_each_item(rt: HostRuntime) -> Result<(), Fail> {
+fn an_if_and_a_select_choose_by_what_holds(rt: HostRuntime) -> Result<(), Fail> {
+    compare_endings(&rt, rt.alloc(), &BRANCHES)?;
+    compare_endings(&rt, rt.alloc(), &WHENS)?;
     compare_endings(&rt, rt.alloc(), &SUBJECTS)
 }
 
-const ONCE: [Run; 5] = [
-    (
-        StorClas,
-        "PROC STORCLAS SELECT (&HLQ) WHEN ('A') WRITE 'ONE' WHEN (A*) WRITE 'TWO' OTHERWISE WRITE 'THREE' END WRITE 'FOUR' END",
-        "DSN=A.B",
-        "",
-        &["ONE", "FOUR"],
-        Falls,
-    ),
-    (
-        StorClas,
-        "PROC STORCLAS SELECT (&STORCLAS) WHEN ('') SET &STORCLAS = 'SC1' WHEN ('SC1') SET &STORCLAS = 'SC2' END END",
-        "",
-        "STORCLAS=SC1",
-        &[],
-        Falls,
-    ),
-    (
-        StorClas,
-        "PROC STORCLAS SELECT WHEN (&HLQ = 'A') WRITE 'ONE' WHEN (&LLQ = 'B') WRITE 'TWO' END END",
-        "DSN=A.B",
-        "",
-        &["ONE"],
-        Falls,
-    ),
-    (
-        StorClas,
-        "PROC STORCLAS IF &HLQ = 'A' THEN WRITE 'YES' ELSE WRITE 'NO' WRITE 'BEHIND' END",
-        "DSN=A.B",
-        "",
-        &["YES", "BEHIND"],
-        Falls,
-    ),
-    (
-        StorGrp,
-        "PROC STORGRP IF &STORGRP = '' THEN SET &STORGRP = 'SG1', 'SG2' IF &STORGRP = 'SG2' THEN WRITE 'SET' ELSE WRITE 'NONE' END",
-        "",
-        "STORGRP=SG1 STORGRP=SG2",
-        &["SET"],
-        Falls,
-    ),
+const FIRST_MATCH: &str =
+    "SELECT WHEN (&HLQ = 'A') SET &STORCLAS = 'SC1' WHEN (&DSN = A.**) EXIT CODE(8) END";
+
+#[rattlefmt::skip]
+const ONCE: [Run; 10] = [
+    (StorClas, FIRST_MATCH, "DSN=A.B", "STORCLAS=SC1", &[], Falls),
+    (StorClas, FIRST_MATCH, "DSN=B.A", "", &[], Falls),
+    (StorClas, FIRST_MATCH, "DSN=A.C", "STORCLAS=SC1", &[], Falls),
+    (StorClas, FIRST_MATCH, "DSN=A", "STORCLAS=SC1", &[], Falls),
+    (StorClas, FIRST_MATCH, "DSN=AB.A STORCLAS=SC2", "STORCLAS=SC2", &[], Falls),
+    (StorClas,
+        "SELECT (&HLQ) WHEN ('A') WRITE 'ONE' WHEN (A*) WRITE 'TWO' OTHERWISE WRITE 'THREE' END WRITE 'FOUR'",
+        "DSN=A.B", "", &["ONE", "FOUR"], Falls),
+    (StorClas,
+        "SELECT (&STORCLAS) WHEN ('') SET &STORCLAS = 'SC1' WHEN ('SC1') SET &STORCLAS = 'SC2' END",
+        "", "STORCLAS=SC1", &[], Falls),
+    (StorClas, "SELECT WHEN (&HLQ = 'A') WRITE 'ONE' WHEN (&LLQ = 'B') WRITE 'TWO' END", "DSN=A.B",
+        "", &["ONE"], Falls),
+    (StorClas, "IF &HLQ = 'A' THEN WRITE 'YES' ELSE WRITE 'NO' WRITE 'BEHIND'", "DSN=A.B", "",
+        &["YES", "BEHIND"], Falls),
+    (StorGrp,
+        "IF &STORGRP = '' THEN SET &STORGRP = 'SG1', 'SG2' IF &STORGRP = 'SG2' THEN WRITE 'SET' ELSE WRITE 'NONE'",
+        "", "STORGRP=SG1 STORGRP=SG2", &["SET"], Falls),
 ];
 
 #[test]

@@ -1,23 +1,17 @@
-//! Operands that suit what they are compared with.
+//! Operators, and operands that suit what they are compared with.
 use crate::answer::Answer::{C, Sound};
 use crate::parts::{EQUALITIES, Part, Sides, compare_parts, compare_sides};
-use crate::texts::{Row, compare_all};
+use crate::texts::{Row, compare_bodies};
 use acs_tree::Kind::{StorClas, StorGrp};
 use std::test::Fail;
 
-const UNKNOWN: [Sides; 4] = [
+const SIDES: [Sides; 61] = [
+    // what is unknown
     ("&NOSUCH", "'A'", C(2, 3)),
     ("&NOSUCH(1)", "'A'", C(2, 3)),
     ("&HLQ", "&NOSUCH(1)", C(2, 5)),
     ("&HLQ", "&NOSUCH", C(4, 5)),
-];
-
-#[test]
-fn what_is_unknown_suits_nothing(rt: HostRuntime) -> Result<(), Fail> {
-    compare_sides(&rt, rt.alloc(), StorClas, &EQUALITIES, &UNKNOWN)
-}
-
-const TEXTS: [Sides; 20] = [
+    // texts
     ("&HLQ", "'A'", Sound),
     ("&HLQ", "''", Sound),
     ("&HLQ", "'a b'", Sound),
@@ -38,14 +32,7 @@ const TEXTS: [Sides; 20] = [
     ("&HLQ", "&STORGRP", C(6, 5)),
     ("&STORCLAS", "''", Sound),
     ("&STORCLAS", "&DATACLAS", Sound),
-];
-
-#[test]
-fn a_text_suits_a_text(rt: HostRuntime) -> Result<(), Fail> {
-    compare_sides(&rt, rt.alloc(), StorClas, &EQUALITIES, &TEXTS)
-}
-
-const VOLUMES: [Sides; 7] = [
+    // volumes
     ("&ANYVOL", "'VOL001'", Sound),
     ("&ALLVOL", "VOL*", Sound),
     ("&ANYVOL", "&HLQ", C(6, 5)),
@@ -53,35 +40,7 @@ const VOLUMES: [Sides; 7] = [
     ("&ALLVOL", "&NVOL", C(6, 5)),
     ("&ALLVOL", "&ANYVOL", C(6, 5)),
     ("&ALLVOL", "**", C(9, 5)),
-];
-
-#[test]
-fn volumes_suit_literals_and_words(rt: HostRuntime) -> Result<(), Fail> {
-    compare_sides(&rt, rt.alloc(), StorClas, &EQUALITIES, &VOLUMES)
-}
-
-const GROUP_LISTS: [Sides; 13] = [
-    ("&STORGRP", "'A'", Sound),
-    ("&STORGRP", "''", Sound),
-    ("&STORGRP", "SG*", Sound),
-    ("&STORGRP", "&STORCLAS", Sound),
-    ("&STORGRP", "&STORGRP", C(6, 5)),
-    ("&HLQ", "&STORGRP", C(6, 5)),
-    ("&STORGRP", "&NQUAL", C(6, 5)),
-    ("&STORGRP", "&ANYVOL", C(6, 5)),
-    ("&STORGRP", "'SG1'", Sound),
-    ("&STORGRP", "SG**", C(9, 5)),
-    ("&STORGRP", "SG.**", C(9, 5)),
-    ("&STORGRP", "&HLQ", Sound),
-    ("&STORGRP(1)", "'SG1'", C(6, 3)),
-];
-
-#[test]
-fn the_group_list_is_compared_as_a_text(rt: HostRuntime) -> Result<(), Fail> {
-    compare_sides(&rt, rt.alloc(), StorGrp, &EQUALITIES, &GROUP_LISTS)
-}
-
-const NUMBERS: [Sides; 14] = [
+    // numbers
     ("&NQUAL", "3", Sound),
     ("&NQUAL", "'3'", C(6, 5)),
     ("&NQUAL", "''", C(6, 5)),
@@ -96,14 +55,7 @@ const NUMBERS: [Sides; 14] = [
     ("&NQUAL", "0", Sound),
     ("&NQUAL", "&RETPD", Sound),
     ("&NQUAL", "&HLQ", C(6, 5)),
-];
-
-#[test]
-fn a_number_suits_a_number(rt: HostRuntime) -> Result<(), Fail> {
-    compare_sides(&rt, rt.alloc(), StorClas, &EQUALITIES, &NUMBERS)
-}
-
-const SIZES: [Sides; 16] = [
+    // sizes
     ("&SIZE", "10KB", Sound),
     ("&SIZE", "10mb", Sound),
     ("&SIZE", "10", C(6, 5)),
@@ -122,10 +74,21 @@ const SIZES: [Sides; 16] = [
     ("&SIZE", "1.5GB", C(6, 5)),
 ];
 
-#[test]
-fn a_size_suits_a_size(rt: HostRuntime) -> Result<(), Fail> {
-    compare_sides(&rt, rt.alloc(), StorClas, &EQUALITIES, &SIZES)
-}
+const GROUP_LISTS: [Sides; 13] = [
+    ("&STORGRP", "'A'", Sound),
+    ("&STORGRP", "''", Sound),
+    ("&STORGRP", "SG*", Sound),
+    ("&STORGRP", "&STORCLAS", Sound),
+    ("&STORGRP", "&STORGRP", C(6, 5)),
+    ("&HLQ", "&STORGRP", C(6, 5)),
+    ("&STORGRP", "&NQUAL", C(6, 5)),
+    ("&STORGRP", "&ANYVOL", C(6, 5)),
+    ("&STORGRP", "'SG1'", Sound),
+    ("&STORGRP", "SG**", C(9, 5)),
+    ("&STORGRP", "SG.**", C(9, 5)),
+    ("&STORGRP", "&HLQ", Sound),
+    ("&STORGRP(1)", "'SG1'", C(6, 3)),
+];
 
 const ITEMS: [Part; 23] = [
     ("(&HLQ) WHEN ('A', B*, &LLQ)", Sound),
@@ -153,55 +116,88 @@ const ITEMS: [Part; 23] = [
     ("(&HLQ) WHEN (A.**)", C(9, 8)),
 ];
 
-#[test]
-fn a_select_compares_each_item(rt: HostRuntime) -> Result<(), Fail> {
-    compare_parts(&rt, rt.alloc(), StorClas, ("SELECT ", " EXIT END"), &ITEMS)
-}
-
+#[rattlefmt::skip]
 const OTHERS: [Row; 8] = [
-    (
-        StorClas,
-        "PROC STORCLAS IF &DSN(2) ^= &ACCT_JOB(1) THEN EXIT END",
-        Sound,
-    ),
-    (
-        StorGrp,
-        "PROC STORGRP SELECT (&STORGRP) WHEN ('A', SG*, &HLQ) EXIT END END",
-        Sound,
-    ),
-    (
-        StorClas,
-        "PROC STORCLAS IF &NQUAL GT &RETPD THEN EXIT END",
-        Sound,
-    ),
-    (
-        StorClas,
-        "PROC STORCLAS IF &FILENUM = 0 AND &MEMNQUAL LE 000 THEN EXIT END",
-        Sound,
-    ),
-    (
-        StorClas,
-        "PROC STORCLAS IF &NQUAL GT &HLQ THEN EXIT END",
-        C(6, 5),
-    ),
-    (
-        StorClas,
-        "PROC STORCLAS IF &SIZE GE 0GB THEN EXIT END",
-        Sound,
-    ),
-    (
-        StorClas,
-        "PROC STORCLAS IF &SIZE LT &MAXSIZE THEN EXIT END",
-        Sound,
-    ),
-    (
-        StorClas,
-        "PROC STORCLAS IF &SIZE > 0 THEN EXIT END",
-        C(6, 5),
-    ),
+    (StorClas, "IF &DSN(2) ^= &ACCT_JOB(1) THEN EXIT", Sound),
+    (StorGrp, "SELECT (&STORGRP) WHEN ('A', SG*, &HLQ) EXIT END", Sound),
+    (StorClas, "IF &NQUAL GT &RETPD THEN EXIT", Sound),
+    (StorClas, "IF &FILENUM = 0 AND &MEMNQUAL LE 000 THEN EXIT", Sound),
+    (StorClas, "IF &NQUAL GT &HLQ THEN EXIT", C(6, 5)),
+    (StorClas, "IF &SIZE GE 0GB THEN EXIT", Sound),
+    (StorClas, "IF &SIZE LT &MAXSIZE THEN EXIT", Sound),
+    (StorClas, "IF &SIZE > 0 THEN EXIT", C(6, 5)),
 ];
 
 #[test]
-fn other_comparisons_suit_too(rt: HostRuntime) -> Result<(), Fail> {
-    compare_all(&rt, rt.alloc(), &OTHERS)
+fn a_side_suits_a_side_of_its_kind(rt: HostRuntime) -> Result<(), Fail> {
+    compare_sides(&rt, rt.alloc(), StorClas, &EQUALITIES, &SIDES)?;
+    compare_sides(&rt, rt.alloc(), StorGrp, &EQUALITIES, &GROUP_LISTS)?;
+    compare_parts(&rt, rt.alloc(), StorClas, ("SELECT ", " EXIT END"), &ITEMS)?;
+    compare_bodies(&rt, rt.alloc(), &OTHERS)
+}
+
+const ALL_EQUALITIES: [&str; 4] = ["EQ", "=", "NE", "^="];
+
+const ORDERS: [&str; 12] = [
+    "GT", ">", "LT", "<", "GE", ">=", "LE", "<=", "NG", "^>", "NL", "^<",
+];
+
+const EQUAL: [Sides; 14] = [
+    ("&NQUAL", "3", Sound),
+    ("&RETPD", "&BLKSIZE", Sound),
+    ("&FILENUM", "0", Sound),
+    ("&SIZE", "10KB", Sound),
+    ("&MAXSIZE", "&SIZE", Sound),
+    ("&HLQ", "'A'", Sound),
+    ("&HLQ", "&LLQ", Sound),
+    ("&DSN", "A.**", Sound),
+    ("&DSN(22)", "A*", Sound),
+    ("&ACCT_JOB(8)", "''", Sound),
+    ("&ANYVOL", "'VOL001'", Sound),
+    ("&ALLVOL", "VOL*", Sound),
+    ("&STORCLAS", "'A'", Sound),
+    ("&STORGRP", "'A'", Sound),
+];
+
+const ORDERED: [Sides; 21] = [
+    ("&NQUAL", "3", Sound),
+    ("&RETPD", "&BLKSIZE", Sound),
+    ("&FILENUM", "0", Sound),
+    ("&SIZE", "10KB", Sound),
+    ("&MAXSIZE", "&SIZE", Sound),
+    ("&HLQ", "'A'", C(7, 4)),
+    ("&HLQ", "&LLQ", C(7, 4)),
+    ("&DSN", "A.**", C(7, 4)),
+    ("&DSN(22)", "A*", C(7, 7)),
+    ("&ACCT_JOB(8)", "''", C(7, 7)),
+    ("&ANYVOL", "'VOL001'", C(7, 4)),
+    ("&ALLVOL", "VOL*", C(7, 4)),
+    ("&STORCLAS", "'A'", C(7, 4)),
+    ("&STORGRP", "'A'", C(7, 4)),
+    ("&BLKSIZE", "&RETPD", Sound),
+    ("&NQUAL", "'A'", C(6, 5)),
+    ("&SIZE", "10", C(6, 5)),
+    ("&HLQ", "&NQUAL", C(7, 4)),
+    ("&DSN(1)", "'A'", C(7, 7)),
+    ("&ANYVOL", "'A'", C(7, 4)),
+    ("&NOSUCH", "'A'", C(2, 3)),
+];
+
+const ORDERS_OF_TEXTS: [Part; 7] = [
+    ("IF &DSN GT 'A' THEN EXIT", C(7, 4)),
+    ("IF &HLQ>3 THEN EXIT", C(7, 4)),
+    ("IF &HLQ>=&NQUAL THEN EXIT", C(7, 4)),
+    ("IF &DSN(1)^<'A' THEN EXIT", C(7, 7)),
+    ("IF &MSVGP NL '' THEN EXIT", C(7, 4)),
+    ("SELECT WHEN (&HLQ LE 'A') EXIT END", C(7, 6)),
+    ("IF &NQUAL > 3 AND &ANYVOL < 'A' THEN EXIT", C(7, 8)),
+];
+
+#[test]
+fn all_are_compared_for_equality_and_numbers_and_sizes_by_order(
+    rt: HostRuntime,
+) -> Result<(), Fail> {
+    compare_sides(&rt, rt.alloc(), StorGrp, &ALL_EQUALITIES, &EQUAL)?;
+    compare_sides(&rt, rt.alloc(), StorGrp, &ORDERS, &ORDERED)?;
+    compare_parts(&rt, rt.alloc(), StorClas, ("", ""), &ORDERS_OF_TEXTS)
 }

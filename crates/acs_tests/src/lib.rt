@@ -5,41 +5,21 @@
 #[cfg(test)]
 mod answer;
 #[cfg(test)]
-mod branches;
-#[cfg(test)]
 mod choice_runs;
-#[cfg(test)]
-mod codes;
 #[cfg(test)]
 mod comparisons;
 #[cfg(test)]
-mod entries;
+mod faults;
 #[cfg(test)]
 mod filter_lists;
 #[cfg(test)]
 mod forms;
 #[cfg(test)]
-mod fronts;
-#[cfg(test)]
-mod group_runs;
-#[cfg(test)]
-mod heads;
-#[cfg(test)]
-mod indexes;
-#[cfg(test)]
-mod large_runs;
-#[cfg(test)]
 mod line_runs;
-#[cfg(test)]
-mod lines;
 #[cfg(test)]
 mod list_runs;
 #[cfg(test)]
 mod lists;
-#[cfg(test)]
-mod mask_fits;
-#[cfg(test)]
-mod mask_forms;
 #[cfg(test)]
 mod masks;
 #[cfg(test)]
@@ -47,17 +27,11 @@ mod nestings;
 #[cfg(test)]
 mod number_runs;
 #[cfg(test)]
-mod numbers;
-#[cfg(test)]
-mod operators;
-#[cfg(test)]
-mod order;
+mod operands;
 #[cfg(test)]
 mod parsing;
 #[cfg(test)]
 mod parts;
-#[cfg(test)]
-mod right_sides;
 #[cfg(test)]
 mod routines;
 #[cfg(test)]
@@ -67,11 +41,11 @@ mod runs;
 #[cfg(test)]
 mod scanning;
 #[cfg(test)]
-mod sets;
-#[cfg(test)]
 mod shapes;
 #[cfg(test)]
 mod statement_runs;
+#[cfg(test)]
+mod statements;
 #[cfg(test)]
 mod symbols;
 #[cfg(test)]
@@ -85,10 +59,4 @@ mod tree_values;
 #[cfg(test)]
 mod trees;
 #[cfg(test)]
-mod variable_runs;
-#[cfg(test)]
 mod variables;
-#[cfg(test)]
-mod volume_runs;
-#[cfg(test)]
-mod whole_runs;

@@ -1,5 +1,5 @@
-//! Filter lists in comparisons.
-use crate::runs::{Listed, compare_listed};
+//! Filter lists, volumes and storage groups that are compared.
+use crate::runs::{Listed, Question, compare_listed, compare_questions};
 use std::test::Fail;
 
 const BOTH: &str = "FILTLIST F INCLUDE('A','B') EXCLUDE('B')";
@@ -10,6 +10,7 @@ const OUT: &str = "FILTLIST F EXCLUDE('B')";
 
 const NONE: &str = "FILTLIST F EXCLUDE(*)";
 
+/// What is excluded is not in the list.
 const EXCLUDED: [Listed; 21] = [
     (BOTH, "&HLQ = &F", "DSN=A.X", true),
     (BOTH, "&HLQ = &F", "DSN=B.X", false),
@@ -34,11 +35,6 @@ const EXCLUDED: [Listed; 21] = [
     (NONE, "&UNIT = &F", "", false),
 ];
 
-#[test]
-fn what_is_excluded_is_not_in_the_list(rt: HostRuntime) -> Result<(), Fail> {
-    compare_listed(&rt, rt.alloc(), &EXCLUDED)
-}
-
 const ONE_PIECE: &str = "FILTLIST F INCLUDE(A*)";
 
 const TWO_PIECES: &str = "FILTLIST F INCLUDE(A.*)";
@@ -47,6 +43,8 @@ const QUALIFIERS: &str = "FILTLIST F INCLUDE(A.**) EXCLUDE(**.OLD)";
 
 const LITERAL: &str = "FILTLIST F INCLUDE('A*')";
 
+/// A word in a list is a mask of the left side's form.
+#[rattlefmt::skip]
 const FORMS: [Listed; 22] = [
     (ONE_PIECE, "&DSN = &F", "DSN=AB", true),
     (ONE_PIECE, "&DSN = &F", "DSN=A.B", false),
@@ -60,12 +58,7 @@ const FORMS: [Listed; 22] = [
     (TWO_PIECES, "&DSN = &F", "DSN=A.B.C", false),
     (TWO_PIECES, "&UNIT = &F", "UNIT=A.B.C", true),
     (TWO_PIECES, "&HLQ = &F", "DSN=A.B", false),
-    (
-        TWO_PIECES,
-        "&DSN NE &F AND &UNIT = &F",
-        "DSN=A.B.C UNIT=A.B.C",
-        true,
-    ),
+    (TWO_PIECES, "&DSN NE &F AND &UNIT = &F", "DSN=A.B.C UNIT=A.B.C", true),
     (QUALIFIERS, "&DSN = &F", "DSN=A.B", true),
     (QUALIFIERS, "&DSN = &F", "DSN=A", true),
     (QUALIFIERS, "&DSN = &F", "DSN=AB.C", false),
@@ -77,13 +70,9 @@ const FORMS: [Listed; 22] = [
     ("FILTLIST F INCLUDE('')", "&UNIT = &F", "", true),
 ];
 
-#[test]
-fn a_word_in_a_list_is_a_mask_of_the_left_sides_form(rt: HostRuntime) -> Result<(), Fail> {
-    compare_listed(&rt, rt.alloc(), &FORMS)
-}
-
 const THREE: &str = "FILTLIST F INCLUDE('A') FILTLIST G INCLUDE('B') FILTLIST H EXCLUDE('C')";
 
+/// Each list is known by its name.
 const PLACES: [Listed; 9] = [
     (THREE, "&HLQ = &F", "DSN=A.X", true),
     (THREE, "&HLQ = &F", "DSN=B.X", false),
@@ -96,15 +85,11 @@ const PLACES: [Listed; 9] = [
     (THREE, "&HLQ = &F OR &HLQ = &G", "DSN=C.X", false),
 ];
 
-#[test]
-fn each_list_is_known_by_its_name(rt: HostRuntime) -> Result<(), Fail> {
-    compare_listed(&rt, rt.alloc(), &PLACES)
-}
-
 const VOLUMES: &str = "FILTLIST F INCLUDE(V%) EXCLUDE('V9')";
 
 const OTHERS: &str = "FILTLIST F EXCLUDE('V1')";
 
+#[rattlefmt::skip]
 const MEMBERS: [Listed; 20] = [
     (VOLUMES, "&ANYVOL = &F", "", false),
     (VOLUMES, "&ANYVOL = &F", "VOLUME=V9 VOLUME=V1", true),
@@ -125,15 +110,106 @@ const MEMBERS: [Listed; 20] = [
     (VOLUMES, "&STORGRP = &F", "", false),
     (VOLUMES, "&STORGRP = &F", "STORGRP=V9 STORGRP=V8", true),
     ("FILTLIST F INCLUDE('')", "&STORGRP = &F", "", true),
-    (
-        "FILTLIST F INCLUDE('')",
-        "&STORGRP = &F",
-        "STORGRP=V1",
-        false,
-    ),
+    ("FILTLIST F INCLUDE('')", "&STORGRP = &F", "STORGRP=V1", false),
 ];
 
 #[test]
-fn volumes_and_groups_are_in_a_list(rt: HostRuntime) -> Result<(), Fail> {
+fn a_value_a_volume_or_a_group_is_in_a_list(rt: HostRuntime) -> Result<(), Fail> {
+    compare_listed(&rt, rt.alloc(), &EXCLUDED)?;
+    compare_listed(&rt, rt.alloc(), &FORMS)?;
+    compare_listed(&rt, rt.alloc(), &PLACES)?;
     compare_listed(&rt, rt.alloc(), &MEMBERS)
+}
+
+/// Some volume is equal.
+#[rattlefmt::skip]
+const SOME_VOLUME: [Question; 22] = [
+    ("&ANYVOL = 'V1'", "", false),
+    ("&ANYVOL NE 'V1'", "", true),
+    ("&ANYVOL = 'V1'", "VOLUME=V1", true),
+    ("&ANYVOL NE 'V1'", "VOLUME=V1", false),
+    ("&ANYVOL = 'V1'", "VOLUME=V2", false),
+    ("&ANYVOL NE 'V1'", "VOLUME=V2", true),
+    ("&ANYVOL = 'V1'", "VOLUME=V1 VOLUME=V2", true),
+    ("&ANYVOL = 'V1'", "VOLUME=V2 VOLUME=V1", true),
+    ("&ANYVOL NE 'V1'", "VOLUME=V2 VOLUME=V1", false),
+    ("&ANYVOL = 'V1'", "VOLUME=V2 VOLUME=V3", false),
+    ("&ANYVOL NE 'V1'", "VOLUME=V2 VOLUME=V3", true),
+    ("&ANYVOL = V*", "", false),
+    ("&ANYVOL = V*", "VOLUME=W1 VOLUME=V1", true),
+    ("&ANYVOL = V*", "VOLUME=W1 VOLUME=W2", false),
+    ("&ANYVOL = *", "", false),
+    ("&ANYVOL NE *", "", true),
+    ("&ANYVOL = *", "VOLUME=1", true),
+    ("&ANYVOL = ''", "", false),
+    ("&ANYVOL NE ''", "", true),
+    ("&ANYVOL = ''", "VOLUME=V1", false),
+    ("&ANYVOL = %%%%%%", "VOLUME=V1 VOLUME=VOL001", true),
+    ("&ANYVOL = 'V1' AND &ANYVOL = 'V2'", "VOLUME=V1 VOLUME=V2", true),
+];
+
+/// There is a volume, and every volume is equal.
+const EVERY_VOLUME: [Question; 20] = [
+    ("&ALLVOL = 'V1'", "", false),
+    ("&ALLVOL NE 'V1'", "", true),
+    ("&ALLVOL = 'V1'", "VOLUME=V1", true),
+    ("&ALLVOL NE 'V1'", "VOLUME=V1", false),
+    ("&ALLVOL = 'V1'", "VOLUME=V2", false),
+    ("&ALLVOL NE 'V1'", "VOLUME=V2", true),
+    ("&ALLVOL = 'V1'", "VOLUME=V1 VOLUME=V2", false),
+    ("&ALLVOL = 'V1'", "VOLUME=V2 VOLUME=V1", false),
+    ("&ALLVOL NE 'V1'", "VOLUME=V1 VOLUME=V2", true),
+    ("&ALLVOL = 'V1'", "VOLUME=V1 VOLUME=V1", true),
+    ("&ALLVOL NE 'V1'", "VOLUME=V1 VOLUME=V1", false),
+    ("&ALLVOL = 'V1'", "VOLUMES=59", true),
+    ("&ALLVOL = V*", "", false),
+    ("&ALLVOL = V*", "VOLUME=V1 VOLUME=V2", true),
+    ("&ALLVOL = V*", "VOLUME=V1 VOLUME=W2", false),
+    ("&ALLVOL NE V*", "VOLUME=W1 VOLUME=V2", true),
+    ("&ALLVOL = *", "", false),
+    ("&ALLVOL NE *", "", true),
+    ("&ALLVOL = ''", "", false),
+    ("&ALLVOL = *", "VOLUME=V1 VOLUME=V2", true),
+];
+
+/// Some group is equal, or there is none and null is.
+#[rattlefmt::skip]
+const GROUPS: [Question; 30] = [
+    ("&STORGRP = 'SG1'", "", false),
+    ("&STORGRP NE 'SG1'", "", true),
+    ("&STORGRP = 'SG1'", "STORGRP=SG1", true),
+    ("&STORGRP NE 'SG1'", "STORGRP=SG1", false),
+    ("&STORGRP = 'SG1'", "STORGRP=SG2", false),
+    ("&STORGRP NE 'SG1'", "STORGRP=SG2", true),
+    ("&STORGRP = 'SG1'", "STORGRP=SG2 STORGRP=SG1", true),
+    ("&STORGRP NE 'SG1'", "STORGRP=SG2 STORGRP=SG1", false),
+    ("&STORGRP = ''", "", true),
+    ("&STORGRP NE ''", "", false),
+    ("&STORGRP = ''", "STORGRP=SG1", false),
+    ("&STORGRP NE ''", "STORGRP=SG1", true),
+    ("&STORGRP = *", "", true),
+    ("&STORGRP NE *", "", false),
+    ("&STORGRP = %", "", false),
+    ("&STORGRP = S*", "", false),
+    ("&STORGRP NE S*", "", true),
+    ("&STORGRP = S*", "STORGRP=SG1", true),
+    ("&STORGRP = S*", "STORGRP=T STORGRP=SG1", true),
+    ("&STORGRP = S*", "STORGRP=T STORGRP=U", false),
+    ("&STORGRP NE S*", "STORGRP=T STORGRP=SG1", false),
+    ("&STORGRP = SG%", "STORGRP=SG10 STORGRP=SG1", true),
+    ("&STORGRP = 'SG1,SG2'", "STORGRP=SG1 STORGRP=SG2", false),
+    ("&STORGRP = &UNIT", "", true),
+    ("&STORGRP = &UNIT", "UNIT=SG1", false),
+    ("&STORGRP = &UNIT", "STORGRP=SG1", false),
+    ("&STORGRP = &UNIT", "STORGRP=SG2 STORGRP=SG1 UNIT=SG1", true),
+    ("&STORGRP NE &UNIT", "STORGRP=SG2 STORGRP=SG1 UNIT=SG1", false),
+    ("&STORGRP = &STORCLAS", "STORGRP=C1 STORCLAS=C1", true),
+    ("&STORGRP = 'SG1' AND &STORGRP = 'SG2'", "STORGRP=SG1 STORGRP=SG2", true),
+];
+
+#[test]
+fn volumes_and_groups_are_equal(rt: HostRuntime) -> Result<(), Fail> {
+    compare_questions(&rt, rt.alloc(), &SOME_VOLUME)?;
+    compare_questions(&rt, rt.alloc(), &EVERY_VOLUME)?;
+    compare_questions(&rt, rt.alloc(), &GROUPS)
 }

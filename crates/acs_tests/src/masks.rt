@@ -1,68 +1,142 @@
-//! Words that are masks.
-use crate::answer::Answer::{C, Sound};
-use crate::parts::{EQUALITIES, Part, Sides, compare_parts, compare_sides};
-use acs_tree::Kind::StorClas;
-use std::test::Fail;
+//! Masks and simple masks as texts, with the first faults of others, and which values they fit.
+use dsn_mask::MaskErr::{BadByte, Empty, EmptyPiece, StarsNotAlone, ThreeStars, TooLong};
+use dsn_mask::{Mask, MaskErr, Short, Simple};
 
-const NAMES: [Sides; 14] = [
-    ("&DSN", "**", Sound),
-    ("&DSN", "A.**", Sound),
-    ("&DSN", "**.A", Sound),
-    ("&DSN", "A*.%%", Sound),
-    ("&DSN", "a.*", Sound),
-    ("&DSN", "'A**'", Sound),
-    ("&DSN", "A**", C(9, 5)),
-    ("&DSN", "A.***", C(9, 5)),
-    ("&DSN", "***", C(9, 5)),
-    ("&DSN", "A..B", C(9, 5)),
-    ("&DSN", ".A", C(9, 5)),
-    ("&DSN", "A.", C(9, 5)),
-    ("&DSN", "A.**B", C(9, 5)),
-    ("&DSN", "A.B", Sound),
+/// A text and its fault.
+type Form = (&'static [u8], Option<MaskErr>);
+
+const MASKS: [Form; 32] = [
+    (&[b'A'; 64], None),
+    (b"A.**", None),
+    (b"**.A", None),
+    (b"**.**", None),
+    (b"**", None),
+    (b"*.%.A-B_C#@$9*", None),
+    (b"", Some(Empty)),
+    (&[b'A'; 65], Some(TooLong)),
+    (&[b'a'; 65], Some(TooLong)),
+    (&[b'*'; 65], Some(TooLong)),
+    (&[b'.'; 65], Some(TooLong)),
+    (b"A**", Some(StarsNotAlone(1))),
+    (b"**A", Some(StarsNotAlone(0))),
+    (b"A.**B", Some(StarsNotAlone(2))),
+    (b"A.B**.C", Some(StarsNotAlone(3))),
+    (b"***", Some(ThreeStars(2))),
+    (b"A.***", Some(ThreeStars(4))),
+    (b"A****B", Some(ThreeStars(3))),
+    (b"***.**A", Some(ThreeStars(2))),
+    (b"**A***", Some(StarsNotAlone(0))),
+    (b"a***", Some(BadByte(0))),
+    (b"A***b", Some(ThreeStars(3))),
+    (b"A.b", Some(BadByte(2))),
+    (b"A B", Some(BadByte(1))),
+    (b"**\0", Some(StarsNotAlone(0))),
+    (b".A", Some(EmptyPiece(0))),
+    (b"A.", Some(EmptyPiece(1))),
+    (b"A..B", Some(EmptyPiece(2))),
+    (b".", Some(EmptyPiece(0))),
+    (b"A..b", Some(EmptyPiece(2))),
+    (b"A**.", Some(StarsNotAlone(1))),
+    (b"**.", Some(EmptyPiece(2))),
+];
+
+const SIMPLE_MASKS: [Form; 11] = [
+    (&[b'%'; 64], None),
+    (b"A..B", None),
+    (b".*.", None),
+    (b"", Some(Empty)),
+    (&[b'%'; 65], Some(TooLong)),
+    (&[b'a'; 65], Some(TooLong)),
+    (&[b'*'; 65], Some(TooLong)),
+    (b"**", Some(StarsNotAlone(0))),
+    (b"A.**.B", Some(StarsNotAlone(2))),
+    (b".***", Some(ThreeStars(3))),
+    (b".a", Some(BadByte(1))),
 ];
 
 #[test]
-fn a_word_beside_dsn_is_a_mask(rt: HostRuntime) -> Result<(), Fail> {
-    compare_sides(&rt, rt.alloc(), StorClas, &EQUALITIES, &NAMES)
+fn masks_are_read_or_refused_with_their_first_fault(rt: HostRuntime) {
+    for (text, wanted) in MASKS {
+        assert_eq!(rt; Mask::parse(text).err(), wanted);
+    }
 }
 
-const PIECES: [Sides; 21] = [
-    ("&DSN(1)", "A*", Sound),
-    ("&DSN(1)", "A..B", Sound),
-    ("&DSN(1)", "A.**", C(9, 8)),
-    ("&DSN(1)", "**", C(9, 8)),
-    ("&HLQ", "*A*B%", Sound),
-    ("&HLQ", ".A", Sound),
-    ("&HLQ", "A.**", C(9, 5)),
-    ("&HLQ", "**", C(9, 5)),
-    ("&HLQ", "***", C(9, 5)),
-    ("&HLQ", "'A.**'", Sound),
-    ("&ACCT_JOB(1)", "A**", C(9, 8)),
-    ("&STORCLAS", "**", C(9, 5)),
-    ("&ANYVOL", "**", C(9, 5)),
-    ("&ALLVOL", "VOL**", C(9, 5)),
-    ("&NQUAL", "**", C(6, 5)),
-    ("&DSN(1)", "A.*", Sound),
-    ("&HLQ", "A*%", Sound),
-    ("&HLQ", "a.b", Sound),
-    ("&HLQ", "**.A", C(9, 5)),
-    ("&STORCLAS", "SC*", Sound),
-    ("&STORCLAS", "SC**", C(9, 5)),
-];
-
 #[test]
-fn a_word_beside_another_variable_is_a_simple_mask(rt: HostRuntime) -> Result<(), Fail> {
-    compare_sides(&rt, rt.alloc(), StorClas, &EQUALITIES, &PIECES)
+fn simple_masks_are_read_or_refused_with_their_first_fault(rt: HostRuntime) {
+    for (text, wanted) in SIMPLE_MASKS {
+        assert_eq!(rt; Simple::parse(text).err(), wanted);
+    }
 }
 
-const ITEMS: [Part; 4] = [
-    ("(&DSN) WHEN (A.**)", Sound),
-    ("(&DSN) WHEN (A, A**)", C(9, 10)),
-    ("(&HLQ) WHEN (A*, **)", C(9, 10)),
-    ("(&DSN(2)) WHEN (A.*, A.**)", C(9, 13)),
+/// A mask, a value, and whether the mask fits it.
+type Fit = (&'static str, &'static str, bool);
+
+#[rattlefmt::skip]
+const FITS: [Fit; 29] = [
+    ("**", "SYS1", true),
+    ("**", "A.B.C", true),
+    ("**", "", true),
+    ("A.**", "A", true),
+    ("A.**", "A.B.C", true),
+    ("A.**", "AB", false),
+    ("**.**", "A", true),
+    ("**.C", "A.B.C", true),
+    ("**.C", "A.B.CD", false),
+    ("A.**.C", "A.C", true),
+    ("A.**.B.**.C", "A.B.B.X.C", true),
+    ("A.**.B.**.C", "A.C.B", false),
+    ("A*.%%", "AB.C", false),
+    ("A*.%%", "AB.CD", true),
+    ("A*B*C", "AXBBYC", true),
+    ("A*B*C", "ACB", false),
+    ("*", "", true),
+    ("%", "", false),
+    ("*", "A.B", false),
+    ("A.*.C", "A..C", true),
+    ("A.%.C", "A..C", false),
+    ("A.**.C", "A..C", true),
+    ("A.*", "A", false),
+    ("A", "A.", false),
+    ("A%C", "A*C", true),
+    ("A-C", "A%C", false),
+    ("A", "a", false),
+    ("*A*A*A*A*A*A*B", "AAAAAAAAAAAAAAAAAAAAAAAAAAAAAAAAAAAAAAAAAAAA", false),
+    ("**.A.**.A.**.A.**.B", "A.A.A.A.A.A.A.A.A.A.A.A.A.A.A.A.A.A.A.A.A.A", false),
 ];
 
+const SIMPLE_FITS: [Fit; 10] = [
+    ("*", "A.B.C", true),
+    ("*", "", true),
+    ("%", "", false),
+    ("*%*", "", false),
+    ("A.B", "A.B", true),
+    ("A%B", "A.B", true),
+    ("A*C", "A.B.C", true),
+    ("A..", "A.", false),
+    ("PAY*", "PAY", true),
+    ("PAY*", "PRPAY", false),
+];
+
+fn mask_fits(mask: &str, value: &str) -> Option<bool> {
+    let mask = Mask::parse(mask.as_bytes()).ok()?;
+    Some(mask.matches(&Short::new(value.as_bytes())?))
+}
+
+fn simple_fits(simple: &str, value: &str) -> Option<bool> {
+    let simple = Simple::parse(simple.as_bytes()).ok()?;
+    Some(simple.matches(&Short::new(value.as_bytes())?))
+}
+
 #[test]
-fn a_word_in_a_when_is_a_mask_as_well(rt: HostRuntime) -> Result<(), Fail> {
-    compare_parts(&rt, rt.alloc(), StorClas, ("SELECT ", " EXIT END"), &ITEMS)
+fn masks_fit_qualifier_by_qualifier(rt: HostRuntime) {
+    for (mask, value, wanted) in FITS {
+        assert_eq!(rt; mask_fits(mask, value), Some(wanted), "{mask} {value}");
+    }
+}
+
+#[test]
+fn simple_masks_fit_over_the_whole_value(rt: HostRuntime) {
+    for (mask, value, wanted) in SIMPLE_FITS {
+        assert_eq!(rt; simple_fits(mask, value), Some(wanted), "{mask} {value}");
+    }
 }

@@ -2,6 +2,7 @@
 use crate::runs::{Question, compare_questions};
 use std::test::Fail;
 
+/// Not greater is less or equal, and not less is greater or equal.
 const ORDERS: [Question; 48] = [
     ("&RETPD EQ 4", "RETPD=5", false),
     ("&RETPD EQ 5", "RETPD=5", true),
@@ -53,24 +54,14 @@ const ORDERS: [Question; 48] = [
     ("&SIZE ^< 6KB", "SIZE=5", false),
 ];
 
-#[test]
-fn not_greater_is_less_or_equal_and_not_less_is_greater_or_equal(
-    rt: HostRuntime,
-) -> Result<(), Fail> {
-    compare_questions(&rt, rt.alloc(), &ORDERS)
-}
-
+#[rattlefmt::skip]
 const NUMBERS: [Question; 26] = [
     ("&RETPD = 0", "", true),
     ("&RETPD = 1", "", false),
     ("&BLKSIZE = 0", "", true),
     ("&BLKSIZE = 4294967295", "BLKSIZE=4294967295", true),
     ("&BLKSIZE = 4294967296", "BLKSIZE=0", false),
-    (
-        "&BLKSIZE LT 18446744073709551615",
-        "BLKSIZE=4294967295",
-        true,
-    ),
+    ("&BLKSIZE LT 18446744073709551615", "BLKSIZE=4294967295", true),
     ("&RETPD = 007", "RETPD=7", true),
     ("&RETPD = 70", "RETPD=7", false),
     ("&RETPD = 000", "", true),
@@ -78,11 +69,7 @@ const NUMBERS: [Question; 26] = [
     ("&NQUAL = 1", "DSN=A", true),
     ("&NQUAL = 2", "DSN=A.B", true),
     ("&NQUAL GE 3", "DSN=A.B", false),
-    (
-        "&NQUAL = 22",
-        "DSN=A.B.C.D.E.F.G.H.I.J.K.L.M.N.O.P.Q.R.S.T.U.V",
-        true,
-    ),
+    ("&NQUAL = 22", "DSN=A.B.C.D.E.F.G.H.I.J.K.L.M.N.O.P.Q.R.S.T.U.V", true),
     ("&NVOL = 0", "", true),
     ("&NVOL = 1", "VOLUME=VOL001", true),
     ("&NVOL = 2", "VOLUME=VOL001 VOLUME=VOL001", true),
@@ -97,11 +84,8 @@ const NUMBERS: [Question; 26] = [
     ("&MEMNQUAL GE &RETPD", "RETPD=1", false),
 ];
 
-#[test]
-fn a_number_is_compared_with_a_number(rt: HostRuntime) -> Result<(), Fail> {
-    compare_questions(&rt, rt.alloc(), &NUMBERS)
-}
-
+/// A size is compared in kilobytes.
+#[rattlefmt::skip]
 const SIZES: [Question; 39] = [
     ("&SIZE = 0KB", "", true),
     ("&SIZE = 0MB", "", true),
@@ -130,31 +114,11 @@ const SIZES: [Question; 39] = [
     ("&SIZE NL 1GB", "SIZE=1048575", false),
     ("&SIZE NL 1GB", "SIZE=1048576", true),
     ("&SIZE = 0001MB", "SIZE=1024", true),
-    (
-        "&SIZE = 18446744073709551615KB",
-        "SIZE=18446744073709551615",
-        true,
-    ),
-    (
-        "&SIZE LE 18014398509481983MB",
-        "SIZE=18446744073709550592",
-        true,
-    ),
-    (
-        "&SIZE LE 18014398509481983MB",
-        "SIZE=18446744073709550593",
-        false,
-    ),
-    (
-        "&SIZE LE 17592186044415GB",
-        "SIZE=18446744073708503040",
-        true,
-    ),
-    (
-        "&SIZE LE 17592186044415GB",
-        "SIZE=18446744073708503041",
-        false,
-    ),
+    ("&SIZE = 18446744073709551615KB", "SIZE=18446744073709551615", true),
+    ("&SIZE LE 18014398509481983MB", "SIZE=18446744073709550592", true),
+    ("&SIZE LE 18014398509481983MB", "SIZE=18446744073709550593", false),
+    ("&SIZE LE 17592186044415GB", "SIZE=18446744073708503040", true),
+    ("&SIZE LE 17592186044415GB", "SIZE=18446744073708503041", false),
     ("&MAXSIZE = 886KB", "SIZE=56 MAXSIZE=886", true),
     ("&MAXSIZE = 56KB", "SIZE=56 MAXSIZE=886", false),
     ("&MAXSIZE GT &SIZE", "SIZE=56 MAXSIZE=886", true),
@@ -165,6 +129,8 @@ const SIZES: [Question; 39] = [
 ];
 
 #[test]
-fn a_size_is_compared_in_kilobytes(rt: HostRuntime) -> Result<(), Fail> {
+fn a_number_is_compared_with_a_number_and_a_size_with_a_size(rt: HostRuntime) -> Result<(), Fail> {
+    compare_questions(&rt, rt.alloc(), &ORDERS)?;
+    compare_questions(&rt, rt.alloc(), &NUMBERS)?;
     compare_questions(&rt, rt.alloc(), &SIZES)
 }

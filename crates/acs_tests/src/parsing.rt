@@ -1,5 +1,5 @@
 //! Texts that are routines by the grammar, or have a fault.
-use acs_lex::scan;
+use acs_lex::{Token, scan};
 use acs_parse::ParseErr::{self, Ended, Unexpected};
 use acs_parse::parse;
 use std::alloc::Global;
@@ -31,11 +31,6 @@ const HEADS: [Parsed; 19] = [
     (b"PROC STORCLAS END X", Err(Unexpected(3))),
 ];
 
-#[test]
-fn a_head_is_a_word_or_a_variable(rt: HostRuntime) -> Result<(), Fail> {
-    compare_parsed(&rt, rt.alloc(), &HEADS)
-}
-
 const SETS: [Parsed; 15] = [
     (b"PROC STORCLAS SET", Err(Ended)),
     (b"PROC STORCLAS SET &STORCLAS 'A' END", Err(Unexpected(4))),
@@ -54,11 +49,7 @@ const SETS: [Parsed; 15] = [
     (b"PROC S SET &STORGRP(1 2) = 'A' END", Err(Unexpected(6))),
 ];
 
-#[test]
-fn a_set_has_values_with_commas_between(rt: HostRuntime) -> Result<(), Fail> {
-    compare_parsed(&rt, rt.alloc(), &SETS)
-}
-
+#[rattlefmt::skip]
 const LISTS: [Parsed; 20] = [
     (b"PROC S FILTLIST A INCLUDE(END) END", Ok(())),
     (b"PROC S FILTLIST IF INCLUDE('A') END", Ok(())),
@@ -74,34 +65,15 @@ const LISTS: [Parsed; 20] = [
     (b"PROC S FILTLIST A INCLUDE(&HLQ) END", Err(Unexpected(6))),
     (b"PROC S FILTLIST A EXCLUDE(B) END", Ok(())),
     (b"PROC S FILTLIST A INCLUDE(B) EXCLUDE(C) END", Ok(())),
-    (
-        b"PROC S FILTLIST A EXCLUDE(B) INCLUDE(C) END",
-        Err(Unexpected(8)),
-    ),
-    (
-        b"PROC S FILTLIST A INCLUDE(B) INCLUDE(C) END",
-        Err(Unexpected(8)),
-    ),
-    (
-        b"PROC S FILTLIST A INCLUDE(B) EXCLUDE(C) EXCLUDE(D) END",
-        Err(Unexpected(12)),
-    ),
+    (b"PROC S FILTLIST A EXCLUDE(B) INCLUDE(C) END", Err(Unexpected(8))),
+    (b"PROC S FILTLIST A INCLUDE(B) INCLUDE(C) END", Err(Unexpected(8))),
+    (b"PROC S FILTLIST A INCLUDE(B) EXCLUDE(C) EXCLUDE(D) END", Err(Unexpected(12))),
     (b"PROC S EXIT FILTLIST A INCLUDE(B) END", Ok(())),
-    (
-        b"PROC S DO FILTLIST A INCLUDE(B) END END",
-        Err(Unexpected(3)),
-    ),
-    (
-        b"PROC S IF &A = B THEN FILTLIST A INCLUDE(B) END",
-        Err(Unexpected(7)),
-    ),
+    (b"PROC S DO FILTLIST A INCLUDE(B) END END", Err(Unexpected(3))),
+    (b"PROC S IF &A = B THEN FILTLIST A INCLUDE(B) END", Err(Unexpected(7))),
 ];
 
-#[test]
-fn a_list_stands_directly_in_the_routine_and_has_entries(rt: HostRuntime) -> Result<(), Fail> {
-    compare_parsed(&rt, rt.alloc(), &LISTS)
-}
-
+#[rattlefmt::skip]
 const LINES_AND_EXITS: [Parsed; 17] = [
     (b"PROC S EXIT END", Ok(())),
     (b"PROC S IF &A = B THEN EXIT ELSE EXIT END", Ok(())),
@@ -112,10 +84,7 @@ const LINES_AND_EXITS: [Parsed; 17] = [
     (b"PROC S EXIT CODE('A') END", Err(Unexpected(5))),
     (b"PROC S EXIT CODE(4 4) END", Err(Unexpected(6))),
     (b"PROC S EXIT EXIT END", Ok(())),
-    (
-        b"PROC S WRITE 'A' 'B' , &DSN(1) SET &STORCLAS = 'X' END",
-        Ok(()),
-    ),
+    (b"PROC S WRITE 'A' 'B' , &DSN(1) SET &STORCLAS = 'X' END", Ok(())),
     (b"PROC S WRITE A END", Err(Unexpected(3))),
     (b"PROC S WRITE END", Err(Unexpected(3))),
     (b"PROC S WRITE 'A' B END", Err(Unexpected(4))),
@@ -125,11 +94,7 @@ const LINES_AND_EXITS: [Parsed; 17] = [
     (b"PROC S X END", Err(Unexpected(2))),
 ];
 
-#[test]
-fn a_line_has_parts_and_an_exit_may_have_a_code(rt: HostRuntime) -> Result<(), Fail> {
-    compare_parsed(&rt, rt.alloc(), &LINES_AND_EXITS)
-}
-
+#[rattlefmt::skip]
 const BRANCHES: [Parsed; 27] = [
     (b"PROC S IF B = &A THEN EXIT END", Err(Unexpected(3))),
     (b"PROC S IF &A = B EXIT END", Err(Unexpected(6))),
@@ -141,48 +106,34 @@ const BRANCHES: [Parsed; 27] = [
     (b"PROC S IF (&A = B THEN EXIT END", Err(Unexpected(7))),
     (b"PROC S IF &A = B) THEN EXIT END", Err(Unexpected(6))),
     (b"PROC S IF () THEN EXIT END", Err(Unexpected(4))),
-    (
-        b"PROC S IF &A NG 1 && (&B ^= C OR &D NL E) | &F LE 1KB THEN EXIT END",
-        Ok(()),
-    ),
+    (b"PROC S IF &A NG 1 && (&B ^= C OR &D NL E) | &F LE 1KB THEN EXIT END", Ok(())),
     (b"PROC S IF &A = B AND THEN EXIT END", Err(Unexpected(7))),
     (b"PROC S IF &A = AND AND &B = OR THEN EXIT END", Ok(())),
     (b"PROC S ELSE EXIT END", Err(Unexpected(2))),
-    (
-        b"PROC S IF &A = B THEN IF &C = D THEN EXIT ELSE EXIT ELSE EXIT ELSE EXIT END",
-        Err(Unexpected(17)),
-    ),
+    (b"PROC S IF &A = B THEN IF &C = D THEN EXIT ELSE EXIT ELSE EXIT ELSE EXIT END",
+        Err(Unexpected(17))),
     (b"PROC S SELECT (&HLQ) WHEN ('A') EXIT END END", Ok(())),
-    (
-        b"PROC S SELECT (&DSN(1)) WHEN (A, B C) EXIT END END",
-        Ok(()),
-    ),
+    (b"PROC S SELECT (&DSN(1)) WHEN (A, B C) EXIT END END", Ok(())),
     (b"PROC S SELECT WHEN (&HLQ = A) EXIT END END", Ok(())),
-    (
-        b"PROC S SELECT (&HLQ) WHEN (&HLQ = A) EXIT END END",
-        Err(Unexpected(9)),
-    ),
+    (b"PROC S SELECT (&HLQ) WHEN (&HLQ = A) EXIT END END", Err(Unexpected(9))),
     (b"PROC S SELECT WHEN ('A') EXIT END END", Err(Unexpected(5))),
     (b"PROC S SELECT END END", Err(Unexpected(3))),
     (b"PROC S SELECT (&A) END END", Err(Unexpected(6))),
     (b"PROC S SELECT OTHERWISE EXIT END END", Err(Unexpected(3))),
-    (
-        b"PROC S SELECT (&A) WHEN (B,) EXIT END",
-        Err(Unexpected(10)),
-    ),
-    (
-        b"PROC S SELECT WHEN (&A = B) EXIT OTHERWISE EXIT OTHERWISE EXIT END END",
-        Err(Unexpected(12)),
-    ),
-    (
-        b"PROC S SELECT WHEN (&A = B) EXIT OTHERWISE EXIT WHEN (&A = B) EXIT END END",
-        Err(Unexpected(12)),
-    ),
+    (b"PROC S SELECT (&A) WHEN (B,) EXIT END", Err(Unexpected(10))),
+    (b"PROC S SELECT WHEN (&A = B) EXIT OTHERWISE EXIT OTHERWISE EXIT END END",
+        Err(Unexpected(12))),
+    (b"PROC S SELECT WHEN (&A = B) EXIT OTHERWISE EXIT WHEN (&A = B) EXIT END END",
+        Err(Unexpected(12))),
     (b"PROC S SELECT WHEN (&A = B) EXIT END", Err(Ended)),
 ];
 
 #[test]
-fn an_if_has_a_condition_and_a_select_has_branches(rt: HostRuntime) -> Result<(), Fail> {
+fn tokens_are_a_routine_or_have_a_first_fault(rt: HostRuntime) -> Result<(), Fail> {
+    compare_parsed(&rt, rt.alloc(), &HEADS)?;
+    compare_parsed(&rt, rt.alloc(), &SETS)?;
+    compare_parsed(&rt, rt.alloc(), &LISTS)?;
+    compare_parsed(&rt, rt.alloc(), &LINES_AND_EXITS)?;
     compare_parsed(&rt, rt.alloc(), &BRANCHES)
 }
 
@@ -201,4 +152,47 @@ pub fn parsed(rt: &impl Abort, alloc: Global, text: &[u8]) -> Result<Result<(), 
         Ok(_) => Ok(Ok(())),
         Err(err) => Ok(Err(err)),
     }
+}
+
+/// Ten routines of all forms.
+const ROUTINES: [&[u8]; 10] = [
+    b"PROC STORCLAS END",
+    b"PROC 1 &STORCLAS FILTLIST F INCLUDE('A', B* C) EXCLUDE(BX) EXIT END",
+    b"PROC STORCLAS FILTLIST &F EXCLUDE('A') IF &HLQ = &F THEN SET &STORCLAS = 'SC1' END",
+    b"PROC STORCLAS IF &SIZE > 10MB AND &DSN(2) = A OR &HLQ ^= B THEN EXIT CODE(8) ELSE DO END END",
+    b"PROC STORCLAS SELECT (&HLQ) WHEN (A, 'B' &F) SET &STORCLAS = '' OTHERWISE EXIT END END",
+    b"PROC STORCLAS SELECT WHEN (&HLQ = A) EXIT WHEN ((&LLQ = B) OR &NQUAL LE 3) WRITE 'X' END END",
+    b"PROC STORGRP SET &STORGRP = 'SG1', 'SG2', 'SG3' WRITE 'GROUPS ', &STORGRP 'OF' &DSN(1) END",
+    b"PROC STORCLAS DO DO WRITE 'A' END IF &A = B THEN IF &C = D THEN EXIT ELSE EXIT ELSE EXIT END END",
+    b"PROC STORCLAS IF ((&A = B)) THEN SELECT (&DSN(1)) WHEN (&HLQ) DO EXIT CODE(1) END END ELSE EXIT END",
+    b"PROC END SET &STORCLAS EQ THEN EXIT CODE(CODE) FILTLIST IF INCLUDE(END) WRITE &SET(1) END",
+];
+
+#[test]
+fn a_front_of_a_routine_ends_too_early(rt: HostRuntime) -> Result<(), Fail> {
+    compare_routines(&rt, rt.alloc(), &ROUTINES)
+}
+
+fn compare_routines(rt: &impl Abort, alloc: Global, texts: &[&[u8]]) -> Result<(), Fail> {
+    for text in texts {
+        assert!(rt; text.len() < 1 << 32);
+        let tokens = scan(alloc, text)?;
+        compare_fronts(rt, alloc, text, tokens.as_slice())?;
+        assert!(rt; parsed(rt, alloc, text)? == Ok(()), "at {text:?}");
+    }
+    Ok(())
+}
+
+/// The front before each token ends too early.
+fn compare_fronts(
+    rt: &impl Abort,
+    alloc: Global,
+    text: &[u8],
+    tokens: &[Token],
+) -> Result<(), Fail> {
+    for token in tokens {
+        let front = text.get(..token.from as usize).unwrap_or(text);
+        assert!(rt; parsed(rt, alloc, front)? == Err(Ended), "at {front:?}");
+    }
+    Ok(())
 }

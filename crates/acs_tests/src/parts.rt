@@ -1,6 +1,6 @@
-//! Comparing texts of which a part or two sides change with what they are wanted to be.
+//! Comparing routines of which a part or two sides change with what they are wanted to be.
 use crate::answer::Answer::{self, C, Sound};
-use crate::answer::answer_of;
+use crate::texts::compare_body;
 use acs_tree::Kind;
 use std::alloc::Global;
 use std::process::Abort;
@@ -12,8 +12,9 @@ pub type Part = (&'static str, Answer);
 /// The left and the right side of a comparison, and what a routine is that compares them.
 pub type Sides = (&'static str, &'static str, Answer);
 
-/// The left sides of comparisons, the right side, and what a routine is that compares them by order.
-pub type Held = (&'static [&'static str], &'static str, Answer);
+/// The left sides of comparisons with blanks between, the right side, and what a routine is that compares
+/// them by order.
+pub type Held = (&'static str, &'static str, Answer);
 
 /// A kind of routine, a variable, and whether a later routine sets it.
 pub type Read = (Kind, &'static str, bool);
@@ -30,24 +31,9 @@ pub fn compare_parts(
     rows: &[Part],
 ) -> Result<(), Fail> {
     for (part, wanted) in rows {
-        compare_part(rt, alloc, kind, before, part, behind, *wanted)?;
+        let body = format!(in alloc; "{before}{part}{behind}")?;
+        compare_body(rt, alloc, kind, &body, *wanted)?;
     }
-    Ok(())
-}
-
-fn compare_part(
-    rt: &impl Abort,
-    alloc: Global,
-    kind: Kind,
-    before: &str,
-    part: &str,
-    behind: &str,
-    wanted: Answer,
-) -> Result<(), Fail> {
-    let name = name_of(kind);
-    let text = format!(in alloc; "PROC {name} {before}{part}{behind} END")?;
-    let answer = answer_of(rt, alloc, kind, text.as_bytes())?;
-    assert_eq!(rt; answer, wanted, "{text}");
     Ok(())
 }
 
@@ -74,11 +60,9 @@ fn compare_by(
     operators: &[&str],
     wanted: Answer,
 ) -> Result<(), Fail> {
-    let name = name_of(kind);
     for operator in operators {
-        let text = format!(in alloc; "PROC {name} IF {left} {operator} {right} THEN EXIT END")?;
-        let answer = answer_of(rt, alloc, kind, text.as_bytes())?;
-        assert_eq!(rt; answer, wanted, "{text}");
+        let body = format!(in alloc; "IF {left} {operator} {right} THEN EXIT")?;
+        compare_body(rt, alloc, kind, &body, wanted)?;
     }
     Ok(())
 }
@@ -104,11 +88,11 @@ pub fn compare_held(rt: &impl Abort, alloc: Global, rows: &[Held]) -> Result<(),
 fn compare_names(
     rt: &impl Abort,
     alloc: Global,
-    names: &[&str],
+    names: &str,
     right: &str,
     ordered: Answer,
 ) -> Result<(), Fail> {
-    for name in names {
+    for name in names.split_whitespace() {
         compare_by(rt, alloc, Kind::StorClas, name, right, &["="], Sound)?;
         compare_by(rt, alloc, Kind::StorClas, name, right, &[">"], ordered)?;
     }
@@ -118,17 +102,17 @@ fn compare_names(
 pub fn compare_read(rt: &impl Abort, alloc: Global, rows: &[Read]) -> Result<(), Fail> {
     for (kind, name, is_later) in rows {
         let (third, fourth) = read_too_early(*is_later);
-        compare_part(rt, alloc, *kind, "IF ", name, " = 'A' THEN EXIT", third)?;
-        compare_part(
+        let read = [(*name, third)];
+        compare_parts(rt, alloc, *kind, ("IF ", " = 'A' THEN EXIT"), &read)?;
+        compare_parts(rt, alloc, *kind, ("WRITE ", ""), &read)?;
+        let selected = [(*name, fourth)];
+        compare_parts(
             rt,
             alloc,
             *kind,
-            "SELECT (",
-            name,
-            ") WHEN ('A') EXIT END",
-            fourth,
+            ("SELECT (", ") WHEN ('A') EXIT END"),
+            &selected,
         )?;
-        compare_part(rt, alloc, *kind, "WRITE ", name, "", third)?;
     }
     Ok(())
 }
@@ -139,14 +123,5 @@ fn read_too_early(is_later: bool) -> (Answer, Answer) {
         (C(13, 3), C(13, 4))
     } else {
         (Sound, Sound)
-    }
-}
-
-fn name_of(kind: Kind) -> &'static str {
-    match kind {
-        Kind::DataClas => "DATACLAS",
-        Kind::StorClas => "STORCLAS",
-        Kind::MgmtClas => "MGMTCLAS",
-        Kind::StorGrp => "STORGRP",
     }
 }

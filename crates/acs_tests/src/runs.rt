@@ -1,6 +1,6 @@
 //! Comparing runs with what they are wanted to come to.
 use crate::run_input::{held_values, input_of, values_of};
-use crate::texts::text_of;
+use crate::texts::{routine_of, text_of};
 use acs_code::{Code, compile};
 use acs_run::run;
 use acs_translate::translate;
@@ -9,8 +9,8 @@ use std::alloc::{AllocError, Global};
 use std::process::Abort;
 use std::test::Fail;
 
-/// A kind of routine, a text, what its run is given, all that the read-write variables hold afterwards, all
-/// lines, and the ending.
+/// A kind of routine, a text or what stands between the head and the END of one, what its run is given, all
+/// that the read-write variables hold afterwards, all lines, and the ending.
 pub type Run = (
     Kind,
     &'static str,
@@ -26,14 +26,14 @@ pub type Question = (&'static str, &'static str, bool);
 /// The same behind filter lists.
 pub type Listed = (&'static str, &'static str, &'static str, bool);
 
-/// A routine for storage groups, what its run is given, and how it ends.
+/// What stands in a routine for storage groups, what its run is given, and how it ends.
 pub type Ended = (&'static str, &'static str, Ending);
 
 /// The parts of a WRITE, what a run is given, and the line.
 pub type Written = (&'static str, &'static str, &'static str);
 
-/// A kind, a text in pieces, each so many times, what a run is given, how many lines are kept, the text of
-/// each kept line in pieces, and how many lines more there are.
+/// A kind, what stands in a routine in pieces, each so many times, what a run is given, how many lines are
+/// kept, the text of each kept line in pieces, and how many lines more there are.
 pub type LongRun = (
     Kind,
     &'static [(&'static str, usize)],
@@ -43,14 +43,30 @@ pub type LongRun = (
     u32,
 );
 
-pub fn compare_runs(rt: &impl Abort, alloc: Global, rows: &[Run]) -> Result<(), Fail> {
-    for (kind, text, given, held, lines, ending) in rows {
-        let code = code_of(rt, alloc, *kind, text.as_bytes())?;
-        let (values, slate, ended) = run_of(rt, alloc, &code, given)?;
-        assert_eq!(rt; ended, *ending, "{text}");
-        assert!(rt; values == held_values(rt, held), "{text}");
-        compare_lines(rt, *kind, &slate, lines, text);
+/// The rows have whole texts.
+pub fn compare_whole_runs(rt: &impl Abort, alloc: Global, rows: &[Run]) -> Result<(), Fail> {
+    for row in rows {
+        compare_run(rt, alloc, row.1, row)?;
     }
+    Ok(())
+}
+
+/// The rows have what stands between the head and the END.
+pub fn compare_runs(rt: &impl Abort, alloc: Global, rows: &[Run]) -> Result<(), Fail> {
+    for row in rows {
+        let text = routine_of(alloc, row.0, row.1)?;
+        compare_run(rt, alloc, &text, row)?;
+    }
+    Ok(())
+}
+
+fn compare_run(rt: &impl Abort, alloc: Global, text: &str, row: &Run) -> Result<(), Fail> {
+    let (kind, _, given, held, lines, ending) = row;
+    let code = code_of(rt, alloc, *kind, text)?;
+    let (values, slate, ended) = run_of(rt, alloc, &code, given)?;
+    assert_eq!(rt; ended, *ending, "{text}");
+    assert!(rt; values == held_values(rt, held), "{text}");
+    compare_lines(rt, *kind, &slate, lines, text);
     Ok(())
 }
 
@@ -76,18 +92,18 @@ fn compare_question(
     given: &str,
     holds: bool,
 ) -> Result<(), Fail> {
-    let text = format!(in alloc; "PROC STORGRP {lists} IF {condition} THEN EXIT CODE(1) END")?;
+    let body = format!(in alloc; "{lists} IF {condition} THEN EXIT CODE(1)")?;
     let ending = if holds {
         Ending::Exit(1)
     } else {
         Ending::Falls
     };
-    compare_ending(rt, alloc, &text, given, ending)
+    compare_ending(rt, alloc, &body, given, ending)
 }
 
 pub fn compare_endings(rt: &impl Abort, alloc: Global, rows: &[Ended]) -> Result<(), Fail> {
-    for (text, given, ending) in rows {
-        compare_ending(rt, alloc, text, given, *ending)?;
+    for (body, given, ending) in rows {
+        compare_ending(rt, alloc, body, given, *ending)?;
     }
     Ok(())
 }
@@ -96,11 +112,12 @@ pub fn compare_endings(rt: &impl Abort, alloc: Global, rows: &[Ended]) -> Result
 pub fn compare_ending(
     rt: &impl Abort,
     alloc: Global,
-    text: &str,
+    body: &str,
     given: &str,
     ending: Ending,
 ) -> Result<(), Fail> {
-    let code = code_of(rt, alloc, Kind::StorGrp, text.as_bytes())?;
+    let text = routine_of(alloc, Kind::StorGrp, body)?;
+    let code = code_of(rt, alloc, Kind::StorGrp, &text)?;
     let (_, _, ended) = run_of(rt, alloc, &code, given)?;
     assert_eq!(rt; ended, ending, "{text}");
     Ok(())
@@ -108,8 +125,9 @@ pub fn compare_ending(
 
 pub fn compare_written(rt: &impl Abort, alloc: Global, rows: &[Written]) -> Result<(), Fail> {
     for (parts, given, line) in rows {
-        let text = format!(in alloc; "PROC STORGRP WRITE {parts} END")?;
-        let code = code_of(rt, alloc, Kind::StorGrp, text.as_bytes())?;
+        let body = format!(in alloc; "WRITE {parts}")?;
+        let text = routine_of(alloc, Kind::StorGrp, &body)?;
+        let code = code_of(rt, alloc, Kind::StorGrp, &text)?;
         let (_, slate, _) = run_of(rt, alloc, &code, given)?;
         compare_lines(rt, Kind::StorGrp, &slate, &[line], parts);
     }
@@ -118,20 +136,20 @@ pub fn compare_written(rt: &impl Abort, alloc: Global, rows: &[Written]) -> Resu
 
 pub fn compare_long_runs(rt: &impl Abort, alloc: Global, rows: &[LongRun]) -> Result<(), Fail> {
     for (kind, pieces, given, kept, line, more) in rows {
-        let text = text_of(alloc, pieces)?;
+        let text = routine_of(alloc, *kind, &text_of(alloc, pieces)?)?;
         let line = text_of(alloc, line)?;
         let code = code_of(rt, alloc, *kind, &text)?;
         let (_, slate, _) = run_of(rt, alloc, &code, given)?;
         assert_eq!(rt; slate.lines().len(), *kept, "{pieces:?}");
         assert_eq!(rt; slate.more(*kind), *more, "{pieces:?}");
-        compare_each(rt, *kind, &slate, &line);
+        compare_each(rt, *kind, &slate, line.as_bytes());
     }
     Ok(())
 }
 
-fn code_of(rt: &impl Abort, alloc: Global, kind: Kind, text: &[u8]) -> Result<Code, Fail> {
+fn code_of(rt: &impl Abort, alloc: Global, kind: Kind, text: &str) -> Result<Code, Fail> {
     assert!(rt; text.len() < 1 << 32);
-    let (checked, _) = translate(alloc, text, kind)?;
+    let (checked, _) = translate(alloc, text.as_bytes(), kind)?;
     Ok(compile(alloc, &checked)?)
 }
 

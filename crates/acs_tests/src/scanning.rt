@@ -70,11 +70,7 @@ const TEXTS: [Scanned; 51] = [
     (b"/* ! '", "OpenComment(0)"),
 ];
 
-#[test]
-fn each_text_has_its_tokens_or_its_first_fault(rt: HostRuntime) -> Result<(), Fail> {
-    compare_scanned(&rt, rt.alloc(), &TEXTS)
-}
-
+/// A token is too long only once it is complete.
 const LONG_TEXTS: [LongScanned; 14] = [
     (b"", 64, b"", "(Word 0 64)"),
     (b"", 65, b"", "LongWord(0)"),
@@ -93,7 +89,8 @@ const LONG_TEXTS: [LongScanned; 14] = [
 ];
 
 #[test]
-fn a_token_is_too_long_only_once_it_is_complete(rt: HostRuntime) -> Result<(), Fail> {
+fn each_text_has_its_tokens_or_its_first_fault(rt: HostRuntime) -> Result<(), Fail> {
+    compare_scanned(&rt, rt.alloc(), &TEXTS)?;
     compare_long_scanned(&rt, rt.alloc(), &LONG_TEXTS)
 }
 

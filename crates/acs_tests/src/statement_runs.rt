@@ -1,165 +1,111 @@
-//! Runs of statements.
-use crate::runs::{Run, compare_runs};
+//! What statements do, one after another.
+use crate::runs::{Run, compare_ending, compare_runs};
 use acs_tree::Ending::{Exit, Falls};
-use acs_tree::Kind::{DataClas, MgmtClas, StorClas};
+use acs_tree::Kind::{DataClas, MgmtClas, StorClas, StorGrp};
+use std::alloc::{AllocError, Global};
 use std::test::Fail;
 
-const FIRST_MATCH: &str =
-    "PROC STORCLAS SELECT WHEN (&HLQ = 'A') SET &STORCLAS = 'SC1' WHEN (&DSN = A.**) EXIT CODE(8) END END";
-
-const FIRST_MATCHES: [Run; 5] = [
-    (StorClas, FIRST_MATCH, "DSN=A.B", "STORCLAS=SC1", &[], Falls),
-    (StorClas, FIRST_MATCH, "DSN=B.A", "", &[], Falls),
-    (StorClas, FIRST_MATCH, "DSN=A.C", "STORCLAS=SC1", &[], Falls),
-    (StorClas, FIRST_MATCH, "DSN=A", "STORCLAS=SC1", &[], Falls),
-    (
-        StorClas,
-        FIRST_MATCH,
-        "DSN=AB.A STORCLAS=SC2",
-        "STORCLAS=SC2",
-        &[],
-        Falls,
-    ),
-];
-
-#[test]
-fn the_first_when_that_holds_is_taken(rt: HostRuntime) -> Result<(), Fail> {
-    compare_runs(&rt, rt.alloc(), &FIRST_MATCHES)
-}
-
+#[rattlefmt::skip]
 const CLASSES: [Run; 7] = [
-    (
-        DataClas,
-        "PROC DATACLAS SET &DATACLAS = 'DC1' SET &DATACLAS = 'DC2' END",
-        "",
-        "DATACLAS=DC2",
-        &[],
-        Falls,
-    ),
-    (
-        StorClas,
-        "PROC STORCLAS SET &STORCLAS = '' END",
-        "DATACLAS=DC1 STORCLAS=SC1 MGMTCLAS=MC1",
-        "DATACLAS=DC1 MGMTCLAS=MC1",
-        &[],
-        Falls,
-    ),
-    (
-        MgmtClas,
-        "PROC MGMTCLAS SET &MGMTCLAS = &STORCLAS END",
-        "STORCLAS=SC1 MGMTCLAS=MC1",
-        "STORCLAS=SC1 MGMTCLAS=SC1",
-        &[],
-        Falls,
-    ),
-    (
-        StorClas,
-        "PROC STORCLAS SET &STORCLAS = &DSN(3) END",
-        "STORCLAS=SC1",
-        "",
-        &[],
-        Falls,
-    ),
-    (
-        StorClas,
-        "PROC STORCLAS SET &STORCLAS = &LLQ SET &STORCLAS = &STORCLAS WRITE &STORCLAS END",
-        "DSN=A.B.C-1",
-        "STORCLAS=C-1",
-        &["C-1"],
-        Falls,
-    ),
-    (
-        StorClas,
-        "PROC STORCLAS END",
-        "DATACLAS=DC1 STORCLAS=SC1",
-        "DATACLAS=DC1 STORCLAS=SC1",
-        &[],
-        Falls,
-    ),
-    (
-        StorClas,
-        "PROC STORCLAS WRITE &STORCLAS SET &STORCLAS = 'SC2' WRITE &STORCLAS END",
-        "STORCLAS=SC1",
-        "STORCLAS=SC2",
-        &["SC1", "SC2"],
-        Falls,
-    ),
+    (DataClas, "SET &DATACLAS = 'DC1' SET &DATACLAS = 'DC2'", "", "DATACLAS=DC2", &[], Falls),
+    (StorClas, "SET &STORCLAS = ''", "DATACLAS=DC1 STORCLAS=SC1 MGMTCLAS=MC1",
+        "DATACLAS=DC1 MGMTCLAS=MC1", &[], Falls),
+    (MgmtClas, "SET &MGMTCLAS = &STORCLAS", "STORCLAS=SC1 MGMTCLAS=MC1",
+        "STORCLAS=SC1 MGMTCLAS=SC1", &[], Falls),
+    (StorClas, "SET &STORCLAS = &DSN(3)", "STORCLAS=SC1", "", &[], Falls),
+    (StorClas, "SET &STORCLAS = &LLQ SET &STORCLAS = &STORCLAS WRITE &STORCLAS", "DSN=A.B.C-1",
+        "STORCLAS=C-1", &["C-1"], Falls),
+    (StorClas, "", "DATACLAS=DC1 STORCLAS=SC1", "DATACLAS=DC1 STORCLAS=SC1", &[], Falls),
+    (StorClas, "WRITE &STORCLAS SET &STORCLAS = 'SC2' WRITE &STORCLAS", "STORCLAS=SC1",
+        "STORCLAS=SC2", &["SC1", "SC2"], Falls),
+];
+
+const FIFTEEN: &str =
+    "STORGRP=A STORGRP=B STORGRP=C STORGRP=D STORGRP=E STORGRP=F STORGRP=G STORGRP=H STORGRP=I STORGRP=J STORGRP=K STORGRP=L STORGRP=M STORGRP=N STORGRP=O";
+
+#[rattlefmt::skip]
+const GROUPS: [Run; 9] = [
+    (StorGrp, "SET &STORGRP = 'SG1'", "", "STORGRP=SG1", &[], Falls),
+    (StorGrp, "SET &STORGRP = 'SG2', 'SG1'", "STORGRP=SG3 STORCLAS=SC1 MGMTCLAS=MC1",
+        "STORGRP=SG2 STORGRP=SG1 STORCLAS=SC1 MGMTCLAS=MC1", &[], Falls),
+    (StorGrp, "SET &STORGRP = 'SG1', 'SG2' SET &STORGRP = 'SG3'", "", "STORGRP=SG3", &[], Falls),
+    (StorGrp, "SET &STORGRP = ''", "STORGRP=SG1 STORGRP=SG2 STORCLAS=SC1", "STORCLAS=SC1", &[],
+        Falls),
+    (StorGrp,
+        "SET &STORGRP = 'SG1' WRITE &STORGRP SET &STORGRP = '' WRITE &STORGRP SET &STORGRP = 'SG3', 'SG1' WRITE &STORGRP EXIT CODE(1) SET &STORGRP = 'SG9'",
+        "", "STORGRP=SG3 STORGRP=SG1", &["SG1", "", "SG3,SG1"], Exit(1)),
+    (StorGrp, "SET &STORGRP = 'A','B','C','D','E','F','G','H','I','J','K','L','M','N','O'",
+        "STORGRP=P", FIFTEEN, &[], Falls),
+    (StorGrp, "WRITE &STORGRP SET &STORGRP = 'O'", FIFTEEN, "STORGRP=O",
+        &["A,B,C,D,E,F,G,H,I,J,K,L,M,N,O"], Falls),
+    (StorGrp, "IF &STORGRP NE 'SG1' THEN SET &STORGRP = 'SG2'", "STORGRP=SG1 STORGRP=SG3",
+        "STORGRP=SG1 STORGRP=SG3", &[], Falls),
+    (StorGrp,
+        "SET &STORGRP = '' SELECT (&STORGRP) WHEN (SG*) EXIT CODE(1) WHEN (*) EXIT CODE(2) END",
+        "STORGRP=SG1", "", &[], Exit(2)),
+];
+
+#[rattlefmt::skip]
+const EXITS: [Run; 9] = [
+    (StorClas, "EXIT", "", "", &[], Exit(0)),
+    (StorClas, "EXIT CODE(0)", "", "", &[], Exit(0)),
+    (StorClas, "EXIT CODE(8)", "", "", &[], Exit(8)),
+    (StorClas, "EXIT CODE(65535)", "", "", &[], Exit(65535)),
+    (StorClas, "EXIT CODE(000256)", "", "", &[], Exit(256)),
+    (StorClas,
+        "WRITE 'ONE' SET &STORCLAS = 'SC2' EXIT CODE(4) SET &STORCLAS = 'SC3' WRITE 'TWO' EXIT CODE(5)",
+        "DATACLAS=DC1 STORCLAS=SC1", "DATACLAS=DC1 STORCLAS=SC2", &["ONE"], Exit(4)),
+    (StorClas, "DO WRITE 'ONE' DO EXIT END WRITE 'TWO' END WRITE 'THREE'", "", "", &["ONE"],
+        Exit(0)),
+    (StorClas, "IF &HLQ = 'A' THEN EXIT CODE(1) ELSE EXIT CODE(2) WRITE 'NEVER'", "DSN=B.A", "",
+        &[], Exit(2)),
+    (StorClas,
+        "SELECT (&HLQ) WHEN ('A') DO WRITE 'ONE' EXIT CODE(7) END OTHERWISE WRITE 'TWO' END WRITE 'THREE'",
+        "DSN=A.B", "", &["ONE"], Exit(7)),
 ];
 
 #[test]
-fn a_set_replaces_the_class_of_its_kind(rt: HostRuntime) -> Result<(), Fail> {
-    compare_runs(&rt, rt.alloc(), &CLASSES)
+fn a_set_replaces_what_was_held_and_an_exit_ends_the_run(rt: HostRuntime) -> Result<(), Fail> {
+    compare_runs(&rt, rt.alloc(), &CLASSES)?;
+    compare_runs(&rt, rt.alloc(), &GROUPS)?;
+    compare_runs(&rt, rt.alloc(), &EXITS)
 }
 
-const EXITS: [Run; 9] = [
-    (StorClas, "PROC STORCLAS EXIT END", "", "", &[], Exit(0)),
-    (
-        StorClas,
-        "PROC STORCLAS EXIT CODE(0) END",
-        "",
-        "",
-        &[],
-        Exit(0),
-    ),
-    (
-        StorClas,
-        "PROC STORCLAS EXIT CODE(8) END",
-        "",
-        "",
-        &[],
-        Exit(8),
-    ),
-    (
-        StorClas,
-        "PROC STORCLAS EXIT CODE(65535) END",
-        "",
-        "",
-        &[],
-        Exit(65535),
-    ),
-    (
-        StorClas,
-        "PROC STORCLAS EXIT CODE(000256) END",
-        "",
-        "",
-        &[],
-        Exit(256),
-    ),
-    (
-        StorClas,
-        "PROC STORCLAS WRITE 'ONE' SET &STORCLAS = 'SC2' EXIT CODE(4) SET &STORCLAS = 'SC3' WRITE 'TWO' EXIT CODE(5) END",
-        "DATACLAS=DC1 STORCLAS=SC1",
-        "DATACLAS=DC1 STORCLAS=SC2",
-        &["ONE"],
-        Exit(4),
-    ),
-    (
-        StorClas,
-        "PROC STORCLAS DO WRITE 'ONE' DO EXIT END WRITE 'TWO' END WRITE 'THREE' END",
-        "",
-        "",
-        &["ONE"],
-        Exit(0),
-    ),
-    (
-        StorClas,
-        "PROC STORCLAS IF &HLQ = 'A' THEN EXIT CODE(1) ELSE EXIT CODE(2) WRITE 'NEVER' END",
-        "DSN=B.A",
-        "",
-        &[],
-        Exit(2),
-    ),
-    (
-        StorClas,
-        "PROC STORCLAS SELECT (&HLQ) WHEN ('A') DO WRITE 'ONE' EXIT CODE(7) END OTHERWISE WRITE 'TWO' END WRITE 'THREE' END",
-        "DSN=A.B",
-        "",
-        &["ONE"],
-        Exit(7),
-    ),
-];
+/// How many filter lists the routine has, and how often each is asked.
+const LISTS: usize = 200;
+
+const ROUNDS: usize = 25;
+
+/// What stands in a routine that asks each of its lists in turn, again and again, and ends where one holds.
+fn body(alloc: Global) -> Result<String, AllocError> {
+    let mut text = String::new(alloc);
+    for list in 0..LISTS {
+        let line = format!(in alloc; " FILTLIST F{list} INCLUDE('A{list}',B{list}%*)")?;
+        text.push_str(line.as_str())?;
+    }
+    for _ in 0..ROUNDS {
+        for list in 0..LISTS {
+            let line = format!(in alloc; " IF &HLQ = &F{list} THEN EXIT CODE({list})")?;
+            text.push_str(line.as_str())?;
+        }
+    }
+    text.push_str(" EXIT CODE(65535)")?;
+    Ok(text)
+}
 
 #[test]
-fn an_exit_ends_the_run_with_its_code(rt: HostRuntime) -> Result<(), Fail> {
-    compare_runs(&rt, rt.alloc(), &EXITS)
+fn five_thousand_statements_ask_two_hundred_lists(rt: HostRuntime) -> Result<(), Fail> {
+    let alloc = rt.alloc();
+    let body = body(alloc)?;
+    for (given, ending) in [
+        ("DSN=A0.X", Exit(0)),
+        ("DSN=A199", Exit(199)),
+        ("DSN=B7X", Exit(7)),
+        ("DSN=B77", Exit(7)),
+        ("DSN=B7", Exit(65_535)),
+        ("DSN=C", Exit(65_535)),
+    ] {
+        compare_ending(&rt, alloc, &body, given, ending)?;
+    }
+    compare_ending(&rt, alloc, "", "DSN=A", Falls)
 }

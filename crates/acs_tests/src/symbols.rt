@@ -28,98 +28,31 @@ enum Wanted {
 /// A text, and its symbols.
 type Read = (&'static [u8], &'static [Wanted]);
 
+#[rattlefmt::skip]
 const TEXTS: [Read; 22] = [
     (b"", &[]),
     (b" /* PROC */ ", &[]),
     // words
     (b"proc Proc", &[Word(Proc, b"PROC"), Word(Proc, b"PROC")]),
-    (
-        b"filtlist include exclude",
-        &[
-            Word(FiltList, b"FILTLIST"),
-            Word(Include, b"INCLUDE"),
-            Word(Exclude, b"EXCLUDE"),
-        ],
-    ),
-    (
-        b"IF THEN ELSE AND OR",
-        &[
-            Word(If, b"IF"),
-            Word(Then, b"THEN"),
-            Word(Else, b"ELSE"),
-            Word(And, b"AND"),
-            Word(Or, b"OR"),
-        ],
-    ),
-    (
-        b"SELECT WHEN OTHERWISE DO END",
-        &[
-            Word(Select, b"SELECT"),
-            Word(When, b"WHEN"),
-            Word(Otherwise, b"OTHERWISE"),
-            Word(Do, b"DO"),
-            Word(End, b"END"),
-        ],
-    ),
-    (
-        b"SET WRITE EXIT CODE",
-        &[
-            Word(Set, b"SET"),
-            Word(Write, b"WRITE"),
-            Word(Exit, b"EXIT"),
-            Word(Code, b"CODE"),
-        ],
-    ),
-    (
-        b"EQ NE GT LT",
-        &[
-            Word(WordKind::Compare(Eq), b"EQ"),
-            Word(WordKind::Compare(Ne), b"NE"),
-            Word(WordKind::Compare(Gt), b"GT"),
-            Word(WordKind::Compare(Lt), b"LT"),
-        ],
-    ),
-    (
-        b"ge le ng nl",
-        &[
-            Word(WordKind::Compare(Ge), b"GE"),
-            Word(WordKind::Compare(Le), b"LE"),
-            Word(WordKind::Compare(Ng), b"NG"),
-            Word(WordKind::Compare(Nl), b"NL"),
-        ],
-    ),
-    (
-        b"8 0123456789",
-        &[Word(Number, b"8"), Word(Number, b"0123456789")],
-    ),
-    (
-        b"1A 1_ 8. A1",
-        &[
-            Word(Other, b"1A"),
-            Word(Other, b"1_"),
-            Word(Other, b"8."),
-            Word(Other, b"A1"),
-        ],
-    ),
-    (
-        b"PRO PROCS END_ a.b*",
-        &[
-            Word(Other, b"PRO"),
-            Word(Other, b"PROCS"),
-            Word(Other, b"END_"),
-            Word(Other, b"A.B*"),
-        ],
-    ),
+    (b"filtlist include exclude",
+        &[Word(FiltList, b"FILTLIST"), Word(Include, b"INCLUDE"), Word(Exclude, b"EXCLUDE")]),
+    (b"IF THEN ELSE AND OR", &[Word(If, b"IF"), Word(Then, b"THEN"), Word(Else, b"ELSE"),
+        Word(And, b"AND"), Word(Or, b"OR")]),
+    (b"SELECT WHEN OTHERWISE DO END", &[Word(Select, b"SELECT"), Word(When, b"WHEN"),
+        Word(Otherwise, b"OTHERWISE"), Word(Do, b"DO"), Word(End, b"END")]),
+    (b"SET WRITE EXIT CODE",
+        &[Word(Set, b"SET"), Word(Write, b"WRITE"), Word(Exit, b"EXIT"), Word(Code, b"CODE")]),
+    (b"EQ NE GT LT", &[Word(WordKind::Compare(Eq), b"EQ"), Word(WordKind::Compare(Ne), b"NE"),
+        Word(WordKind::Compare(Gt), b"GT"), Word(WordKind::Compare(Lt), b"LT")]),
+    (b"ge le ng nl", &[Word(WordKind::Compare(Ge), b"GE"), Word(WordKind::Compare(Le), b"LE"),
+        Word(WordKind::Compare(Ng), b"NG"), Word(WordKind::Compare(Nl), b"NL")]),
+    (b"8 0123456789", &[Word(Number, b"8"), Word(Number, b"0123456789")]),
+    (b"1A 1_ 8. A1",
+        &[Word(Other, b"1A"), Word(Other, b"1_"), Word(Other, b"8."), Word(Other, b"A1")]),
+    (b"PRO PROCS END_ a.b*",
+        &[Word(Other, b"PRO"), Word(Other, b"PROCS"), Word(Other, b"END_"), Word(Other, b"A.B*")]),
     // variables
-    (
-        b"&hlq &Dsn &_9 &9",
-        &[
-            Variable(b"HLQ"),
-            Variable(b"DSN"),
-            Variable(b"_9"),
-            Variable(b"9"),
-        ],
-    ),
+    (b"&hlq &Dsn &_9 &9", &[Variable(b"HLQ"), Variable(b"DSN"), Variable(b"_9"), Variable(b"9")]),
     (b"&end.x", &[Variable(b"END"), Word(Other, b".X")]),
     // literals
     (b"''", &[Literal(b"")]),
@@ -128,30 +61,10 @@ const TEXTS: [Read; 22] = [
     (b"'&&/* EQ */'", &[Literal(b"&&/* EQ */")]),
     // signs
     (b"&& | ( ) ,", &[AndSign, OrSign, Open, Close, Comma]),
-    (
-        b"= ^= > < >= <= ^> ^<",
-        &[
-            Operator(Eq),
-            Operator(Ne),
-            Operator(Gt),
-            Operator(Lt),
-            Operator(Ge),
-            Operator(Le),
-            Operator(Ng),
-            Operator(Nl),
-        ],
-    ),
+    (b"= ^= > < >= <= ^> ^<", &[Operator(Eq), Operator(Ne), Operator(Gt), Operator(Lt),
+        Operator(Ge), Operator(Le), Operator(Ng), Operator(Nl)]),
     (b"&&&a", &[AndSign, Variable(b"A")]),
-    (
-        b"(&dsn=a.**)",
-        &[
-            Open,
-            Variable(b"DSN"),
-            Operator(Eq),
-            Word(Other, b"A.**"),
-            Close,
-        ],
-    ),
+    (b"(&dsn=a.**)", &[Open, Variable(b"DSN"), Operator(Eq), Word(Other, b"A.**"), Close]),
 ];
 
 #[test]

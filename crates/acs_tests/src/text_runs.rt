@@ -25,11 +25,6 @@ const LITERALS: [Question; 20] = [
     ("&MGMTCLAS = 'MC1'", "MGMTCLAS=MC1", true),
 ];
 
-#[test]
-fn a_literal_is_the_equal_text(rt: HostRuntime) -> Result<(), Fail> {
-    compare_questions(&rt, rt.alloc(), &LITERALS)
-}
-
 const MASKS: [Question; 26] = [
     ("&DSN = A.**", "DSN=A.B", true),
     ("&DSN = A.**", "DSN=A", true),
@@ -59,11 +54,7 @@ const MASKS: [Question; 26] = [
     ("&UNIT NE SYS*", "UNIT=3390", true),
 ];
 
-#[test]
-fn a_word_is_a_mask(rt: HostRuntime) -> Result<(), Fail> {
-    compare_questions(&rt, rt.alloc(), &MASKS)
-}
-
+/// A null text is the empty text.
 const NULLS: [Question; 22] = [
     ("&UNIT = ''", "", true),
     ("&UNIT NE ''", "", false),
@@ -89,11 +80,6 @@ const NULLS: [Question; 22] = [
     ("&XMODE = 'BATCH'", "", true),
 ];
 
-#[test]
-fn a_null_text_is_the_empty_text(rt: HostRuntime) -> Result<(), Fail> {
-    compare_questions(&rt, rt.alloc(), &NULLS)
-}
-
 const VARIABLES: [Question; 8] = [
     ("&HLQ = &LLQ", "DSN=A", true),
     ("&HLQ = &LLQ", "DSN=A.B", false),
@@ -105,13 +91,7 @@ const VARIABLES: [Question; 8] = [
     ("&STORCLAS = &DATACLAS", "DATACLAS=C1 STORCLAS=C1", true),
 ];
 
-#[test]
-fn a_variable_is_the_equal_text(rt: HostRuntime) -> Result<(), Fail> {
-    compare_questions(&rt, rt.alloc(), &VARIABLES)
-}
-
-const LONGEST: &str = "A.B.C.D.E.F.G.H.I.J.K.L.M.N.O.P.Q.R.S.T.U.V";
-
+#[rattlefmt::skip]
 const QUALIFIERS: [Question; 16] = [
     ("&DSN(1) = 'A'", "DSN=A.B", true),
     ("&DSN(2) = 'B'", "DSN=A.B", true),
@@ -124,34 +104,17 @@ const QUALIFIERS: [Question; 16] = [
     ("&DSN(22) = ''", "DSN=A.B", true),
     ("&DSN(3) = &UNIT", "DSN=A.B", true),
     ("&DSN(2) = ''", "DSN=A", true),
-    (
-        "&DSN(21) = 'U'",
-        "DSN=A.B.C.D.E.F.G.H.I.J.K.L.M.N.O.P.Q.R.S.T.U.V",
-        true,
-    ),
-    (
-        "&DSN(22) = 'V'",
-        "DSN=A.B.C.D.E.F.G.H.I.J.K.L.M.N.O.P.Q.R.S.T.U.V",
-        true,
-    ),
-    (
-        "&DSN(22) = &LLQ",
-        "DSN=A.B.C.D.E.F.G.H.I.J.K.L.M.N.O.P.Q.R.S.T.U.V",
-        true,
-    ),
+    ("&DSN(21) = 'U'", "DSN=A.B.C.D.E.F.G.H.I.J.K.L.M.N.O.P.Q.R.S.T.U.V", true),
+    ("&DSN(22) = 'V'", "DSN=A.B.C.D.E.F.G.H.I.J.K.L.M.N.O.P.Q.R.S.T.U.V", true),
+    ("&DSN(22) = &LLQ", "DSN=A.B.C.D.E.F.G.H.I.J.K.L.M.N.O.P.Q.R.S.T.U.V", true),
     ("&DSN(22) = 'V'", "DSN=V", false),
-    (
-        "&DSN(1) = &HLQ",
-        "DSN=A.B.C.D.E.F.G.H.I.J.K.L.M.N.O.P.Q.R.S.T.U.V",
-        true,
-    ),
+    ("&DSN(1) = &HLQ", "DSN=A.B.C.D.E.F.G.H.I.J.K.L.M.N.O.P.Q.R.S.T.U.V", true),
 ];
 
-#[test]
-fn an_index_counts_qualifiers(rt: HostRuntime) -> Result<(), Fail> {
-    compare_questions(&rt, rt.alloc(), &QUALIFIERS)
-}
+const EIGHT: &str =
+    "ACCT_JOB=1 ACCT_JOB=2 ACCT_JOB=3 ACCT_JOB=4 ACCT_JOB=5 ACCT_JOB=6 ACCT_JOB=7 ACCT_JOB=8";
 
+#[rattlefmt::skip]
 const FIELDS: [Question; 15] = [
     ("&ACCT_JOB(1) = ''", "", true),
     ("&ACCT_JOB(8) = ''", "", true),
@@ -161,11 +124,7 @@ const FIELDS: [Question; 15] = [
     ("&ACCT_STEP(1) = ''", "ACCT_JOB=F1", true),
     ("&ACCT_STEP(1) = 'S1'", "ACCT_JOB=F1 ACCT_STEP=S1", true),
     ("&ACCT_JOB(1) = 'F1'", "ACCT_JOB=F1 ACCT_STEP=S1", true),
-    (
-        "&ACCT_JOB(1) = &ACCT_STEP(2)",
-        "ACCT_JOB=X ACCT_STEP=Y ACCT_STEP=X",
-        true,
-    ),
+    ("&ACCT_JOB(1) = &ACCT_STEP(2)", "ACCT_JOB=X ACCT_STEP=Y ACCT_STEP=X", true),
     ("&ACCT_JOB(2) = 'X'", "ACCT_JOB= ACCT_JOB=X", true),
     ("&ACCT_JOB(1) = ''", "ACCT_JOB= ACCT_JOB=X", true),
     ("&ACCT_JOB(1) = '1'", EIGHT, true),
@@ -174,14 +133,8 @@ const FIELDS: [Question; 15] = [
     ("&ACCT_JOB(8) = '7'", EIGHT, false),
 ];
 
-const EIGHT: &str =
-    "ACCT_JOB=1 ACCT_JOB=2 ACCT_JOB=3 ACCT_JOB=4 ACCT_JOB=5 ACCT_JOB=6 ACCT_JOB=7 ACCT_JOB=8";
-
-#[test]
-fn an_index_counts_fields_of_an_accounting(rt: HostRuntime) -> Result<(), Fail> {
-    compare_questions(&rt, rt.alloc(), &FIELDS)
-}
-
+/// AND binds closer than OR.
+#[rattlefmt::skip]
 const JOINED: [Question; 17] = [
     ("&HLQ = 'A' AND &LLQ = 'B'", "DSN=A.B", true),
     ("&HLQ = 'A' AND &LLQ = 'B'", "DSN=A.C", false),
@@ -192,18 +145,10 @@ const JOINED: [Question; 17] = [
     ("&HLQ = 'A' OR &LLQ = 'B'", "DSN=C.D", false),
     ("&HLQ = 'A' | &LLQ = 'B'", "DSN=C.B", true),
     ("&HLQ = 'A' OR &HLQ = 'B' AND &LLQ = 'C'", "DSN=A.D", true),
-    (
-        "(&HLQ = 'A' OR &HLQ = 'B') AND &LLQ = 'C'",
-        "DSN=A.D",
-        false,
-    ),
+    ("(&HLQ = 'A' OR &HLQ = 'B') AND &LLQ = 'C'", "DSN=A.D", false),
     ("(&HLQ = 'A' OR &HLQ = 'B') AND &LLQ = 'C'", "DSN=B.C", true),
     ("&LLQ = 'C' AND &HLQ = 'B' OR &HLQ = 'A'", "DSN=A.D", true),
-    (
-        "&LLQ = 'C' AND (&HLQ = 'B' OR &HLQ = 'A')",
-        "DSN=A.D",
-        false,
-    ),
+    ("&LLQ = 'C' AND (&HLQ = 'B' OR &HLQ = 'A')", "DSN=A.D", false),
     ("&HLQ = 'A' AND &HLQ = 'B' AND &HLQ = 'A'", "DSN=A.D", false),
     ("&HLQ = 'B' OR &HLQ = 'C' OR &HLQ = 'A'", "DSN=A.D", true),
     ("&HLQ NE 'A' OR &HLQ NE 'B'", "DSN=A.D", true),
@@ -211,6 +156,12 @@ const JOINED: [Question; 17] = [
 ];
 
 #[test]
-fn and_binds_closer_than_or(rt: HostRuntime) -> Result<(), Fail> {
+fn a_text_is_equal_to_a_literal_a_mask_or_a_text(rt: HostRuntime) -> Result<(), Fail> {
+    compare_questions(&rt, rt.alloc(), &LITERALS)?;
+    compare_questions(&rt, rt.alloc(), &MASKS)?;
+    compare_questions(&rt, rt.alloc(), &NULLS)?;
+    compare_questions(&rt, rt.alloc(), &VARIABLES)?;
+    compare_questions(&rt, rt.alloc(), &QUALIFIERS)?;
+    compare_questions(&rt, rt.alloc(), &FIELDS)?;
     compare_questions(&rt, rt.alloc(), &JOINED)
 }

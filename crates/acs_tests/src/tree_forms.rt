@@ -115,23 +115,10 @@ fn is_test_at(cond: &Cond, place: u32) -> bool {
     matches!(cond, Cond::Test { op: Compare::Eq, op_at, .. } if *op_at == place)
 }
 
+#[rattlefmt::skip]
 const LISTS: [(u32, Shape); 2] = [
-    (
-        2,
-        List {
-            name_at: 3,
-            included: 2,
-            excluded: 3,
-        },
-    ),
-    (
-        17,
-        List {
-            name_at: 18,
-            included: 0,
-            excluded: 1,
-        },
-    ),
+    (2, List { name_at: 3, included: 2, excluded: 3 }),
+    (17, List { name_at: 18, included: 0, excluded: 1 }),
 ];
 
 #[test]
@@ -152,23 +139,10 @@ fn is_named(stmt: &Stmt, wanted: &[u8]) -> bool {
     }
 }
 
+#[rattlefmt::skip]
 const SELECTS: [(u32, Shape); 2] = [
-    (
-        2,
-        Select {
-            subject_at: 4,
-            branches: 2,
-            has_otherwise: true,
-        },
-    ),
-    (
-        23,
-        Select {
-            subject_at: 0,
-            branches: 1,
-            has_otherwise: false,
-        },
-    ),
+    (2, Select { subject_at: 4, branches: 2, has_otherwise: true }),
+    (23, Select { subject_at: 0, branches: 1, has_otherwise: false }),
 ];
 
 #[test]
@@ -197,15 +171,10 @@ fn has_no_subject(stmt: &Stmt) -> bool {
     matches!(&stmt.form, Form::Pick { subject: None, .. })
 }
 
+#[rattlefmt::skip]
 const LINES: [(u32, Shape); 4] = [
     (2, Line { parts: 3 }),
-    (
-        10,
-        Set {
-            target_at: 11,
-            values: 2,
-        },
-    ),
+    (10, Set { target_at: 11, values: 2 }),
     (16, Exit { code_at: 19 }),
     (21, Exit { code_at: 0 }),
 ];
@@ -218,15 +187,10 @@ fn a_line_keeps_its_parts_and_an_exit_its_code(rt: HostRuntime) -> Result<(), Fa
     Ok(())
 }
 
+#[rattlefmt::skip]
 const CHECKED: [(u32, Shape); 2] = [
     (2, Exit { code_at: 0 }),
-    (
-        3,
-        Set {
-            target_at: 4,
-            values: 1,
-        },
-    ),
+    (3, Set { target_at: 4, values: 1 }),
 ];
 
 #[test]

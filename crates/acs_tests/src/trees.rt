@@ -18,49 +18,15 @@ use std::test::Fail;
 /// in its stead, and what the routine is then.
 type Nested = (&'static [u8], usize, usize, Answer);
 
+#[rattlefmt::skip]
 const NESTED: [Nested; 7] = [
-    (
-        b"PROC STORCLAS EXIT FILTLIST F INCLUDE('A') END",
-        0,
-        1,
-        Sound,
-    ),
-    (
-        b"PROC STORCLAS EXIT FILTLIST HLQ INCLUDE(A**) END",
-        0,
-        1,
-        C(5, 4),
-    ),
-    (
-        b"PROC STORCLAS EXIT FILTLIST F INCLUDE(A**) END",
-        0,
-        1,
-        C(9, 7),
-    ),
-    (
-        b"PROC STORCLAS EXIT FILTLIST F INCLUDE('A') IF &HLQ = &F THEN EXIT END",
-        0,
-        2,
-        C(4, 12),
-    ),
-    (
-        b"PROC STORCLAS EXIT FILTLIST F INCLUDE('A') FILTLIST F INCLUDE('A') END",
-        0,
-        1,
-        Sound,
-    ),
-    (
-        b"PROC STORCLAS FILTLIST F INCLUDE('A') EXIT FILTLIST F INCLUDE('A') END",
-        1,
-        1,
-        C(5, 10),
-    ),
-    (
-        b"PROC STORCLAS EXIT FILTLIST F INCLUDE('A') EXIT IF &HLQ = &F THEN EXIT END",
-        0,
-        1,
-        C(4, 13),
-    ),
+    (b"PROC STORCLAS EXIT FILTLIST F INCLUDE('A') END", 0, 1, Sound),
+    (b"PROC STORCLAS EXIT FILTLIST HLQ INCLUDE(A**) END", 0, 1, C(5, 4)),
+    (b"PROC STORCLAS EXIT FILTLIST F INCLUDE(A**) END", 0, 1, C(9, 7)),
+    (b"PROC STORCLAS EXIT FILTLIST F INCLUDE('A') IF &HLQ = &F THEN EXIT END", 0, 2, C(4, 12)),
+    (b"PROC STORCLAS EXIT FILTLIST F INCLUDE('A') FILTLIST F INCLUDE('A') END", 0, 1, Sound),
+    (b"PROC STORCLAS FILTLIST F INCLUDE('A') EXIT FILTLIST F INCLUDE('A') END", 1, 1, C(5, 10)),
+    (b"PROC STORCLAS EXIT FILTLIST F INCLUDE('A') EXIT IF &HLQ = &F THEN EXIT END", 0, 1, C(4, 13)),
 ];
 
 #[test]
