@@ -11,6 +11,6 @@ returns-clause-next c = λ s lawful are.
     let running = c.args.self.now in
     let config = c.args.config.now in
     let groups = c.in_ok-next_groups.ensures
-    ∙ (ap (λ (l : List VolumeDef). map (next_group running.groups.items l) c.groups.result.now) c.volumes-2.ensures ∙ ap (map (next_group running.groups.items config.volumes)) c.groups.ensures) in
-    all-next s running _ config lawful are c.deck-deck.ensures.form groups (c.in_ok-next_volumes.ensures.same ∙ c.volumes-3.ensures)
+    ∙ (ap (λ (l : List VolumeDef). map (next_group running.groups.items l) c.groups.result.now) c.volumes.ensures ∙ ap (map (next_group running.groups.items config.volumes)) c.groups.ensures) in
+    all-next s running _ config lawful are c.deck-deck.ensures.form groups (c.in_ok-next_volumes.ensures.same ∙ c.volumes-2.ensures)
     (subst (λ (l : List StorGroup). AllByRecursion (IsMade running.volumes.items l) c.in_ok-next_volumes.field-0.items) c.groups-2.ensures c.in_ok-next_volumes.ensures.made)
