@@ -27,9 +27,11 @@ is_name_byte byte = is_ascii_alphanumeric byte || among (codes "_") byte
 abbrev pub is_word_byte : ℕ → Bool
 is_word_byte byte = is_ascii_alphanumeric byte || among (codes "#@$-._%*") byte
 
+-- the ampersand, which begins a variable
 abbrev pub is_ampersand : ℕ → Bool
 is_ampersand byte = among (codes "&") byte
 
+-- the quote, which begins and ends a literal
 abbrev pub is_quote : ℕ → Bool
 is_quote byte = among (quote ∷ []) byte
 

@@ -256,6 +256,7 @@ pub data IsOrNumber : List Symbol → List Symbol → Type 0 where
   no_number : {rest : List Symbol} → starts want.Number rest ≡ false → IsOrNumber rest rest
   number : {text : List ℕ} {rest : List Symbol} → IsOrNumber (Word word.Number text ∷ rest) rest
 
+-- PROC, an optional number, the head and a block up to the end of the text
 pub data IsRoutineOf (total : ℕ) (may : ℕ → Bool) : List Symbol → Routine → Type 0 where
   routine : {a name : List ℕ} {t : Symbol} {ts ms : List Symbol} {ss : List Stmt} → IsOrNumber ts (t ∷ ms) → IsHead t name
       → IsBlock total may true 0 ms ss []
@@ -265,6 +266,7 @@ pub data IsRoutineOf (total : ℕ) (may : ℕ → Bool) : List Symbol → Routin
 abbrev pub limited : ℕ → Bool
 limited n = nat_lt n most_nestings
 
+-- one more may always open
 abbrev pub unlimited : ℕ → Bool
 unlimited n = true
 

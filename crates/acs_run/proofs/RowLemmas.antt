@@ -4,7 +4,7 @@ use Rattle.std.specs.Prelude.{Option, Some, None, bytes_eq, codes, if◌then◌e
 use Rattle.acs_tree.specs.declared.input.Input.{Input}
 use Rattle.acs_tree.specs.declared.values.Values.{Values}
 use Rattle.acs_tree.specs.Value.{Value, Text}
-use Rattle.acs_tree.specs.Variables.{Known, Row, look_up, null, value_by, variable_value, variables}
+use Rattle.acs_tree.specs.Variables.{VariableMeaning, Row, look_up, null, value_by, variable_value, variables}
 use Rattle.dsn_mask.specs.Filter.{FilterLists}
 use Rattle.acs_tree.specs.Compares.{text_equals}
 use Rattle.acs_code.specs.Machine.{filter_comparand}
@@ -18,17 +18,17 @@ past_row : (b : Bool) (v : Value) (rest other all : Option Value) → (rest ≡ 
 past_row true v rest other all f e = cc
 past_row false v rest other all f e = f e
 
-known_or_null : (b : Bool) (known : Known) (rest : Option Known) (found : Option Value) (index : ℕ) (input : Input) (values : Values) → ((w : Value) → found ≡ Some w → w ≡ value_by rest index input values) → (w : Value)
+known_or_null : (b : Bool) (known : VariableMeaning) (rest : Option VariableMeaning) (found : Option Value) (index : ℕ) (input : Input) (values : Values) → ((w : Value) → found ≡ Some w → w ≡ value_by rest index input values) → (w : Value)
     → (if b then Some (known.value index input values) else found) ≡ Some w → w ≡ value_by (if b then Some known else rest) index input values
 known_or_null true known rest found index input values f w e = cc
 known_or_null false known rest found index input values f w e = f w e
 
-past_known : (b : Bool) (known : Known) (found : Option Value) (rest : Option Known) (index : ℕ) (input : Input) (values : Values) (all : Value) → (found ≡ None → value_by rest index input values ≡ all)
+past_known : (b : Bool) (known : VariableMeaning) (found : Option Value) (rest : Option VariableMeaning) (index : ℕ) (input : Input) (values : Values) (all : Value) → (found ≡ None → value_by rest index input values ≡ all)
     → (if b then Some (known.value index input values) else found) ≡ None → value_by (if b then Some known else rest) index input values ≡ all
 past_known true known found rest index input values all f e = cc
 past_known false known found rest index input values all f e = f e
 
-null_or : (b : Bool) (known : Known) (rest : Option Known) (index : ℕ) (input : Input) (values : Values) → known.value index input values ≡ Text [] → value_by rest index input values ≡ Text [] → value_by (if b then Some known else rest) index input values ≡ Text []
+null_or : (b : Bool) (known : VariableMeaning) (rest : Option VariableMeaning) (index : ℕ) (input : Input) (values : Values) → known.value index input values ≡ Text [] → value_by rest index input values ≡ Text [] → value_by (if b then Some known else rest) index input values ≡ Text []
 null_or true known rest index input values e f = e
 null_or false known rest index input values e f = f
 

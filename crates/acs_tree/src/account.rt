@@ -25,7 +25,7 @@ impl Model for Account {
 
     ghost inverse = { λ xs. record { items = filled 8 no_field xs; count = length xs } };
 
-    ghost use Rattle.acs_tree.specs.Lists.{account_back};
+    ghost use Rattle.acs_tree.specs.ListsFields.{account_back};
 
     ghost inverse_ok = { λ a h. account_back a h.0 h.1 };
 }

@@ -26,7 +26,7 @@ impl Model for Volumes {
 
     ghost inverse = { λ xs. record { items = filled 59 no_volume xs; count = length xs } };
 
-    ghost use Rattle.acs_tree.specs.Lists.{volumes_back};
+    ghost use Rattle.acs_tree.specs.ListsFields.{volumes_back};
 
     ghost inverse_ok = { λ a h. volumes_back a h.0 h.1 };
 }

@@ -27,7 +27,9 @@ use Rattle.sms_construct.specs.Configuration.{Configuration, IsConfiguration, Is
 use Rattle.sms_deck.specs.declared.place.Place.{Place}
 use Rattle.sms_deck.specs.Limits.{most_cylinders}
 use Rattle.sms_deck.specs.Tables.{tables_fault}
-use Rattle.sms_deck.specs.SpaceText.{number_of, behind_front, in_parentheses, space_with, list_of_quantities, quantities_in, behind_unit, in_unit, space_text}
+use Rattle.sms_construct.specs.Numbers.{small_number_of}
+use Rattle.sms_construct.specs.Parts.{behind_front, in_parentheses}
+use Rattle.sms_construct.specs.SpaceText.{space_with, list_of_quantities, quantities_in, quantities_of, space_behind, space_inside, space_text}
 use Rattle.sms_deck.specs.Values.{devices, meaning_in, word_in, integer_in, space_in}
 use Rattle.sms_deck.specs.Layout.{key_count, or_empty, table_at}
 use Rattle.sms_deck.specs.Constructs.{with_named, named, data_class_of, storage_class_of, management_class_of, group_of, size_of, tracks_of, volume_of, group_volumes, all_volumes}
@@ -74,23 +76,26 @@ with_is_space unit (Some primary) None = tt
 with_is_space unit None secondary = tt
 
 list_is_space : (unit : UnitOf) (bytes : List ℕ) (comma : Option ℕ) → IfSome (list_of_quantities unit bytes comma) IsSpace
-list_is_space unit bytes None = with_is_space unit (number_of bytes) (Some 0)
-list_is_space unit bytes (Some comma) = with_is_space unit (number_of (take comma bytes)) (number_of (drop (comma + 1) bytes))
+list_is_space unit bytes None = with_is_space unit (small_number_of bytes) (Some 0)
+list_is_space unit bytes (Some comma) = with_is_space unit (small_number_of (take comma bytes)) (small_number_of (drop (comma + 1) bytes))
 
 quantities_are_space : (unit : UnitOf) (bytes : List ℕ) (listed : Option (List ℕ)) → IfSome (quantities_in unit bytes listed) IsSpace
-quantities_are_space unit bytes None = with_is_space unit (number_of bytes) (Some 0)
+quantities_are_space unit bytes None = with_is_space unit (small_number_of bytes) (Some 0)
 quantities_are_space unit bytes (Some listed) = list_is_space unit listed (position (λ byte. byte == 44) listed)
 
-unit_is_space : (unit : UnitOf) (bytes : List ℕ) → IfSome (behind_unit unit bytes) IsSpace
+unit_is_space : (unit : UnitOf) (bytes : List ℕ) → IfSome (quantities_of unit bytes) IsSpace
 unit_is_space unit bytes = quantities_are_space unit bytes (in_parentheses bytes)
 
-in_unit_is_space : (bytes : List ℕ) → IfSome (in_unit bytes) IsSpace
-in_unit_is_space bytes =
-    or_if IsSpace (option_and_then (behind_unit Trk) (behind_front (codes "TRK,") bytes)) (option_and_then (behind_unit Cyl) (behind_front (codes "CYL,") bytes))
-    (then_if (behind_unit Trk) IsSpace (unit_is_space Trk) (behind_front (codes "TRK,") bytes)) (then_if (behind_unit Cyl) IsSpace (unit_is_space Cyl) (behind_front (codes "CYL,") bytes))
+behind_is_space : (tracks cylinders : Option (List ℕ)) → IfSome (space_behind tracks cylinders) IsSpace
+behind_is_space (Some tracks) cylinders = unit_is_space Trk tracks
+behind_is_space None (Some cylinders) = unit_is_space Cyl cylinders
+behind_is_space None None = tt
+
+inside_is_space : (inner : List ℕ) → IfSome (space_inside inner) IsSpace
+inside_is_space inner = behind_is_space (behind_front (codes "TRK,") inner) (behind_front (codes "CYL,") inner)
 
 value_is_space : (value : Data) → IfSome (space_in value) IsSpace
-value_is_space value = then_if space_text IsSpace (λ text. then_if in_unit IsSpace in_unit_is_space (in_parentheses text)) (as_str value)
+value_is_space value = then_if space_text IsSpace (λ text. then_if space_inside IsSpace inside_is_space (in_parentheses text)) (as_str value)
 
 -- tracks
 

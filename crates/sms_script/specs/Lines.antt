@@ -2,7 +2,7 @@
 use Rattle.std.specs.Prelude.{◌∷◌, [], ◌==◌, ◌||◌, ℕ, Bool, false, List, Option, None, Some, bytes_eq, codes, unwrap_or, if◌then◌else◌}
 use Rattle.std.specs.List.{list_all}
 use Rattle.desk_common.specs.Words.{onto}
-use Rattle.sms_script.specs.Parts.{before_last}
+use Rattle.sms_construct.specs.Parts.{before_last}
 
 -- the lines with their line ends; the last may lack it
 abbrev pub lines_of : List ℕ → List (List ℕ)

@@ -1,10 +1,10 @@
 //! Numbers in decimal digits.
 ghost use Rattle.std.specs.Prelude.{◌≡◌};
-ghost use Rattle.sms_script.specs.Numbers.{number_of};
+ghost use Rattle.sms_construct.specs.Numbers.{small_number_of};
 
-/// The number up to 4,294,967,295 that one to ten digits write, if any.
+/// The number up to 4,294,967,295 that one to ten digits write, if any (docs/script.md, Operands).
 pub fn read_number(bytes: &[u8]) -> Option<u32>
-    ensures { result ≡ number_of bytes.now }
+    ensures { result ≡ small_number_of bytes.now }
 {
     if bytes.is_empty() || bytes.len() > 10 {
         return None;
@@ -14,7 +14,7 @@ pub fn read_number(bytes: &[u8]) -> Option<u32>
         if !byte.is_ascii_digit() {
             return None;
         }
-        value = value * 10 + u64::from(*byte - b'0');
+        value = 10 * value + u64::from(*byte - b'0');
         if value > 4_294_967_295 {
             return None;
         }

@@ -1,6 +1,6 @@
 use Rattle.std.proofs.Common.{sym, arith}
-use Rattle.sms_script.proofs.NumberLemmas.{too_large}
-use Rattle.sms_script.proofs.number.read_number.Goals as goal
+use Rattle.sms_construct.proofs.NumberLemmas.{too_large}
+use Rattle.sms_construct.proofs.small_number.read_number.Goals as goal
 
 pub returns-then-value-gt4294967295 : goal.returns-then-value-gt4294967295
 returns-then-value-gt4294967295 c =
