@@ -1,6 +1,10 @@
 -- The bytes with a meaning of their own.
 use Rattle.std.specs.Prelude.{ℕ}
 
+-- the blank, which parts words
+abbrev pub blank : ℕ
+blank = 32
+
 -- the quote, which begins and ends a literal
 abbrev pub quote : ℕ
 quote = 39

@@ -41,6 +41,10 @@ most_lines = 64
 abbrev pub most_nestings : ℕ
 most_nestings = 200
 
+-- the words of a command
+abbrev pub most_words : ℕ
+most_words = 32
+
 -- the digits of a number that a script, a deck or a command writes
 abbrev pub most_digits : ℕ
 most_digits = 10

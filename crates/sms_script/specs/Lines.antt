@@ -2,6 +2,7 @@
 use Rattle.std.specs.Prelude.{◌∷◌, [], ◌==◌, ◌||◌, ℕ, Bool, false, List, Option, None, Some, bytes_eq, codes, unwrap_or, if◌then◌else◌}
 use Rattle.std.specs.List.{list_all}
 use Rattle.desk_common.specs.Words.{onto}
+use Rattle.desk_common.specs.Bytes.{blank}
 use Rattle.sms_construct.specs.Parts.{before_last}
 
 -- the lines with their line ends; the last may lack it
@@ -20,7 +21,7 @@ text_of_line line = without_cr line (before_last 10 line)
 
 -- only spaces, or nothing
 abbrev pub is_blank : List ℕ → Bool
-is_blank text = list_all (λ byte. byte == 32) text
+is_blank text = list_all (λ byte. byte == blank) text
 
 -- the first byte is an asterisk
 abbrev pub is_comment : List ℕ → Bool
