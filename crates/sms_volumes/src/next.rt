@@ -144,6 +144,9 @@ impl ActiveVolumes {
     pub fn under(&self, alloc: Global, config: &Config) -> Result<ActiveVolumes, AllocError>
         ensures next { IfOk result (λ next. (s : DeskState) → IsLawful s → AreVolumesOf s self.now → AreNext s.statuses config.now next) }
     {
+        // Facts for the proof; nothing runs.
+        let _deck = config.deck();
+
         Ok(ActiveVolumes {
             groups: self.next_groups(alloc, config.groups(), config.volumes())?,
             volumes: self.next_volumes(alloc, config.groups(), config.volumes())?,
