@@ -1,4 +1,4 @@
-use super::{ROOM, run};
+use super::{ROOM, repeated, run};
 use crate::status::ToolStatus::{self, FaultFound, Script};
 use sms_script::ScriptErr::{BadLine, OpenBlock};
 use std::test::Fail;
@@ -188,8 +188,65 @@ fn a_fault_is_noted_with_its_line(rt: HostRuntime) -> Result<(), Fail> {
         assert_eq!(rt; outcome.status, status, "at {script:?}");
         assert_eq!(rt; outcome.note.as_str(), note, "at {script:?}");
     }
+    for (words, front, part, times, end, note) in REPEATED {
+        let input = repeated(alloc, front, part, times, end)?;
+        let outcome = run(alloc, words, &input, ROOM)?;
+        assert_eq!(rt; outcome.note.as_str(), note, "at {front} and {part}");
+    }
     Ok(())
 }
+
+/// The words, a front, a part so many times behind it and an end, and what the fault of all this means.
+const REPEATED: [(&[&str], &str, &str, usize, &str, &str); 6] = [
+    (
+        &["translate", "STORCLAS"],
+        "PROC\n",
+        "W",
+        65,
+        " END",
+        "line 2, column 1: this is longer than the 64 bytes of a word or a variable, or the 110 of a literal\n    WWWWWWWWWWWWWWWWWWWWWWWWWWWWWWWWWWWWWWWWWWWWWWWWWWWWWWWWWWWWWWWWW END\n    ^\n",
+    ),
+    (
+        &["translate", "STORCLAS"],
+        "PROC STORCLAS",
+        "\nDO",
+        201,
+        "",
+        "line 202, column 1: with DO more than 200 constructs are open at once\n    DO\n    ^\n",
+    ),
+    (
+        &["translate", "STORCLAS"],
+        "PROC STORCLAS FILTLIST F INCLUDE('A'",
+        "\n,'B'",
+        255,
+        ") END",
+        "line 256, column 2: 'B' is the 256th entry of an INCLUDE or EXCLUDE, which has at most 255\n    ,'B') END\n     ^\n",
+    ),
+    (
+        &["validate"],
+        "version = 1\n[routine]\nstorclass = '",
+        "A",
+        65_537,
+        "'",
+        "",
+    ),
+    (
+        &["validate"],
+        "version = 1 #",
+        " ",
+        262_132,
+        "",
+        "the deck has more than 262144 bytes, or more than 1024 volumes\n",
+    ),
+    (
+        &["simulate"],
+        "",
+        "JOB1 1 DELETE A\n",
+        100_001,
+        "",
+        "line 100001, column 1: this is the 100001st command\n    JOB1 1 DELETE A\n    ^\n",
+    ),
+];
 
 #[test]
 fn of_a_long_line_the_part_around_a_fault_is_noted(rt: HostRuntime) -> Result<(), Fail> {
