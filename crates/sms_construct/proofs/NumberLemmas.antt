@@ -12,8 +12,12 @@ value_behind-le : (n : ℕ) (bytes : List ℕ) → n ≤ value_behind n bytes
 value_behind-le n [] = omega arith
 value_behind-le n (b ∷ bytes) = omega (arith, value_behind-le (10 * n + (b - 48)) bytes)
 
+beyond : (low high : Bool) (v : ℕ) → high ≡ false → (if low && high then Some v else None) ≡ None
+beyond true high v large = rw large refl
+beyond false high v large = refl
+
 none_at : (few digits : Bool) (v : ℕ) → nat_le v 4294967295 ≡ false → (if few then within 0 4294967295 (if digits then Some v else None) else None) ≡ None
-none_at true true v large = rw large refl
+none_at true true v large = beyond (nat_le 0 v) (nat_le v 4294967295) v large
 none_at true false v large = refl
 none_at false digits v large = refl
 
