@@ -13,7 +13,7 @@ use crate::pushing::{
 use acs_tree::Kind;
 use desk_common::push_number;
 use dsn_mask::{Name, Short};
-use sms_construct::{Fault, Reply, Status, Target, View, VolRow, WhyNoExtend};
+use sms_construct::{Fault, Reply, Status, View, VolRow, WhyNoExtend};
 use std::alloc::AllocError;
 
 /// Puts the code of a reply, its words and its figures behind a text.
@@ -26,7 +26,11 @@ pub fn push_reply(text: &mut Vec<u8>, reply: &Reply) -> Result<(), AllocError>
         Reply::Extended { .. } => text.extend_from_slice(b"A02 EXTENDED"),
         Reply::Deleted { tracks } => push_counted(text, b"A03 DELETED ", *tracks),
         Reply::Activated { count } => push_counted(text, b"A04 ACTIVATED ", *count),
-        Reply::Varied { target, status } => push_varied(text, target, *status),
+        Reply::Varied { target, status } => {
+            text.extend_from_slice(b"A05 VARIED ")?;
+            push_word_and_blank(text, target_bytes(target))?;
+            text.extend_from_slice(status_bytes(*status))
+        }
         Reply::Shown(view) => push_shown(text, view),
         Reply::Purged { job, floor } => push_purged(text, job, *floor),
         Reply::Noted => text.extend_from_slice(b"A08 NOTED"),
@@ -50,14 +54,6 @@ pub fn push_reply(text: &mut Vec<u8>, reply: &Reply) -> Result<(), AllocError>
         Reply::KeeperFault => text.extend_from_slice(b"F30 KEEPER"),
         Reply::Memory => text.extend_from_slice(b"M31 MEMORY"),
     }
-}
-
-fn push_varied(text: &mut Vec<u8>, target: &Target, status: Status) -> Result<(), AllocError>
-    ensures { OnOk result (text.new.items ≡ text.old.items ++ reply_text (Reply.Varied target.now status)) }
-{
-    text.extend_from_slice(b"A05 VARIED ")?;
-    push_word_and_blank(text, target_bytes(target))?;
-    text.extend_from_slice(status_bytes(status))
 }
 
 fn push_shown(text: &mut Vec<u8>, view: &View) -> Result<(), AllocError>
