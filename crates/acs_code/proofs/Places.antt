@@ -16,54 +16,80 @@ use Rattle.acs_tree.specs.Setting.{with_class}
 use Rattle.acs_tree.specs.Outcome.{Outcome, behind, falls, then_do}
 use Rattle.acs_code.specs.declared.instr.Instr.{Instr}
 use Rattle.acs_code.specs.declared.instr.Instr.TheVariants.{Test, Jump, SetClass, SetGroups, Write, Exit}
-use Rattle.acs_code.specs.Machine.{CodeParts, act, part_class, parts_line, probe_holds, run_from, running}
+use Rattle.acs_code.specs.Machine.{CodeParts, act, act_if_any, part_class, parts_line, probe_holds, run_for, running}
 use Rattle.acs_code.specs.Stands.{Goes, GoesForward, StandsFor}
 use Rattle.acs_code.specs.Compiled.{filters_of}
 use Rattle.acs_code.specs.Upward.{leap, placed, AreBelow, Below, Does}
 
-module _ (kind : Kind) (filters : List FilterLists) (input : Input) where
-  -- what is to be shown of the rest
-  abbrev SameRun : ℕ → ℕ → List Instr → Type 0
-  SameRun n at is = (left : ℕ) (values : Values) → left ≤ length is → run_from kind filters input at (n - left) (map (placed n) is) values ≡ leap kind filters input left is values
+module _ (kind : Kind) (filters : List FilterLists) (input : Input) (all : List Instr) where
+  -- running in the whole code
+  abbrev runs : ℕ → ℕ → Values → Outcome
+  runs = run_for (record { kind = kind; instrs = all; filters = filters }) input
 
-  same_act : (f n at : ℕ) (i : Instr) (is : List Instr) (values : Values) → Below f (length is) i → at + suc (length is) ≡ n → SameRun n (suc at) is
-      → act kind filters input (placed n i) (λ to. run_from kind filters input (suc at) to (map (placed n) is)) (suc at) values ≡ act kind filters input i (λ to. leap kind filters input to is) (length is) values
-  same_act f n at (Test p a b) is values below e same = split (probe_holds filters p input values)
+  -- what is to be shown of the rest
+  abbrev SameRun : ℕ → List Instr → Type 0
+  SameRun n is = (steps left : ℕ) (values : Values) → left ≤ steps → left ≤ length is → runs steps (n - left) values ≡ leap kind filters input left is values
+
+  same_act : (f n at steps : ℕ) (i : Instr) (is : List Instr) (values : Values) → Below f (length is) i → at + suc (length is) ≡ n → length is ≤ steps → SameRun n is
+      → act kind filters input (placed n i) (runs steps) (suc at) values ≡ act kind filters input i (λ to. leap kind filters input to is) (length is) values
+  same_act f n at steps (Test p a b) is values below e enough same = split (probe_holds filters p input values)
     where
-      split : (c : Bool) → run_from kind filters input (suc at) (if c then n - a else n - b) (map (placed n) is) values ≡ leap kind filters input (if c then a else b) is values
-      split true = same a values below.0
-      split false = same b values below.1
-  same_act f n at (Jump to) is values below e same = same to values below
-  same_act f n at (SetClass p) is values below e same =
+      split : (c : Bool) → runs steps (if c then n - a else n - b) values ≡ leap kind filters input (if c then a else b) is values
+      split true = same steps a values (omega (arith, below.0, enough)) below.0
+      split false = same steps b values (omega (arith, below.1, enough)) below.1
+  same_act f n at steps (Jump to) is values below e enough same = same steps to values (omega (arith, below, enough)) below
+  same_act f n at steps (SetClass p) is values below e enough same =
       let here : suc at ≡ n - length is = omega (arith, e) in
       let new = with_class kind (part_class p input values) values in
-      ap (λ k. run_from kind filters input (suc at) k (map (placed n) is) new) here ∙ same (length is) new (omega arith)
-  same_act f n at (SetGroups groups) is values below e same =
+      ap (λ k. runs steps k new) here ∙ same steps (length is) new enough (omega arith)
+  same_act f n at steps (SetGroups groups) is values below e enough same =
       let here : suc at ≡ n - length is = omega (arith, e) in
       let new : Values = record values { groups = groups } in
-      ap (λ k. run_from kind filters input (suc at) k (map (placed n) is) new) here ∙ same (length is) new (omega arith)
-  same_act f n at (Write parts) is values below e same =
+      ap (λ k. runs steps k new) here ∙ same steps (length is) new enough (omega arith)
+  same_act f n at steps (Write parts) is values below e enough same =
       let here : suc at ≡ n - length is = omega (arith, e) in
-      ap (behind (parts_line parts input values ∷ [])) (ap (λ k. run_from kind filters input (suc at) k (map (placed n) is) values) here ∙ same (length is) values (omega arith))
-  same_act f n at (Exit code) is values below e same = refl
+      ap (behind (parts_line parts input values ∷ [])) (ap (λ k. runs steps k values) here ∙ same steps (length is) values enough (omega arith))
+  same_act f n at steps (Exit code) is values below e enough same = refl
 
-  pub same_run : (f n at : ℕ) (is : List Instr) → AreBelow f is → at + length is ≡ n → SameRun n at is
-  same_run f n at [] h e left values g = refl
-  same_run f n at (i ∷ is) h e left values g =
-      let rest : SameRun n (suc at) is = same_run f n (suc at) is h.1 (omega (arith, e)) in
-      let ends = act kind filters input (placed n i) (λ to. run_from kind filters input (suc at) to (map (placed n) is)) (suc at) values in
-      let goes = run_from kind filters input (suc at) (n - left) (map (placed n) is) values in
+  -- the instructions from a place on are these
+  abbrev StandAt : ℕ → ℕ → List Instr → Type 0
+  StandAt n at is = (k : ℕ) → slice_get all (at + k) ≡ slice_get (map (placed n) is) k
+
+  past_all : (n at steps : ℕ) (values : Values) → StandAt n at [] → runs steps at values ≡ falls values
+  past_all n at zero values stand = refl
+  past_all n at (suc steps) values stand =
+      let none : at ≡ at + 0 = omega arith in
+      ap (λ o. act_if_any kind filters input o (runs steps) (suc at) values) (ap (slice_get all) none ∙ stand 0)
+
+  pub same_run : (f n at : ℕ) (is : List Instr) → AreBelow f is → at + length is ≡ n → StandAt n at is → SameRun n is
+  same_run f n at [] h e stand steps left values enough g =
+      let none : n - left ≡ at = omega (arith, e, g) in
+      ap (λ k. runs steps k values) none ∙ past_all n at steps values stand
+  same_run f n at (i ∷ is) h e stand steps left values enough g =
+      let later : StandAt n (suc at) is = λ k. let next : suc at + k ≡ at + suc k = omega arith in ap (slice_get all) next ∙ stand (suc k) in
+      let rest : SameRun n is = same_run f n (suc at) is h.1 (omega (arith, e)) later in
       let acts = act kind filters input i (λ to. leap kind filters input to is) (length is) values in
       let leaps = leap kind filters input left is values in
-      ⊎_elim (λ here. ap (λ b. if b then goes else ends) (le-ltb at (n - left) (omega (arith, e, here))) ∙ same_act f n at i is values h.0 e rest ∙ sym (ap (λ b. if b then acts else leaps) (lt-ltb (length is) left here)))
-      (λ there. ap (λ b. if b then goes else ends) (lt-ltb at (n - left) (omega (arith, e, there))) ∙ rest left values there ∙ sym (ap (λ b. if b then acts else leaps) (le-ltb (length is) left there)))
+      let none : at ≡ at + 0 = omega arith in
+      ⊎_elim (λ here.
+        let one : steps ≡ suc (steps - 1) = omega (arith, enough, here) in
+        let place : n - left ≡ at = omega (arith, e, here, g) in
+        ap (λ s. runs s (n - left) values) one ∙ ap (λ k. runs (suc (steps - 1)) k values) place
+        ∙ ap (λ o. act_if_any kind filters input o (runs (steps - 1)) (suc at) values) (ap (slice_get all) none ∙ stand 0)
+        ∙ same_act f n at (steps - 1) i is values h.0 e (omega (arith, enough, here)) rest ∙ sym (ap (λ b. if b then acts else leaps) (lt-ltb (length is) left here)))
+      (λ there. rest steps left values enough there ∙ sym (ap (λ b. if b then acts else leaps) (le-ltb (length is) left there)))
       (cases_lt (length is) left)
 
-  -- running from the front
-  pub same_start : (f : ℕ) (is : List Instr) (values : Values) → AreBelow f is → run_from kind filters input 0 0 (map (placed (length is)) is) values ≡ leap kind filters input (length is) is values
-  same_start f is values h =
-      let none : 0 ≡ length is - length is = omega arith in
-      ap (λ k. run_from kind filters input 0 k (map (placed (length is)) is) values) none ∙ same_run f (length is) 0 is h (omega arith) (length is) values (omega arith)
+-- running from the front
+pub same_start : (kind : Kind) (filters : List FilterLists) (input : Input) (f : ℕ) (is : List Instr) (values : Values) → AreBelow f is
+    → running (record { kind = kind; instrs = map (placed (length is)) is; filters = filters }) input values ≡ leap kind filters input (length is) is values
+same_start kind filters input f is values h =
+    let all = map (placed (length is)) is in
+    let first : 0 ≡ length is - length is = omega arith in
+    let long : length all ≡ length is = length-map is (placed (length is)) in
+    let stand : StandAt kind filters input all (length is) 0 is = λ k. let here : 0 + k ≡ k = omega arith in ap (slice_get all) here in
+    ap (λ k. runs kind filters input all (length all) k values) first
+    ∙ same_run kind filters input all f (length is) 0 is h (omega arith) stand (length all) (length is) values (omega (arith, long)) (omega arith)
 
 -- each instruction goes forward
 goes_placed : (f n place : ℕ) (i : Instr) (is : List Instr) → Below f (length is) i → place + suc (length is) ≡ n → Goes f n place (placed n i)

@@ -1,5 +1,5 @@
 -- What running a code does (docs/acs-language.md, Code).
-use Rattle.std.specs.Prelude.{ℕ, suc, Bool, List, [], ◌∷◌, ◌++◌, Option, Some, None, nat_lt, take, if◌then◌else◌}
+use Rattle.std.specs.Prelude.{ℕ, zero, suc, Bool, List, [], ◌∷◌, ◌++◌, Option, Some, None, length, take, if◌then◌else◌}
 use Rattle.std.specs.List.{slice_get}
 use Rattle.desk_common.specs.Limits.{most_literal_bytes}
 use Rattle.dsn_mask.specs.Filter.{FilterLists}
@@ -79,13 +79,16 @@ act kind filters input (SetGroups groups) next past values = next past (record v
 act kind filters input (Write parts) next past values = behind (parts_line parts input values ∷ []) (next past values)
 act kind filters input (Exit code) next past values = exits code values
 
--- running from the place `go`, where the rest of the code begins at the place `at`; the instructions before `go` are passed, a `go` that lies behind runs the next instruction, and past the end the run falls through
-abbrev pub run_from : Kind → List FilterLists → Input → ℕ → ℕ → List Instr → Values → Outcome
-run_from kind filters input at go [] values = falls values
-run_from kind filters input at go (instr ∷ instrs) values =
-    if nat_lt at go then run_from kind filters input (suc at) go instrs values
-    else act kind filters input instr (λ to. run_from kind filters input (suc at) to instrs) (suc at) values
+-- the instruction that stands at a place, if there is one; past the end the run falls through
+abbrev pub act_if_any : Kind → List FilterLists → Input → Option Instr → (ℕ → Values → Outcome) → ℕ → Values → Outcome
+act_if_any kind filters input None next past values = falls values
+act_if_any kind filters input (Some instr) next past values = act kind filters input instr next past values
 
--- running begins at instruction 0
+-- running from a place for at most so many steps: the instruction there acts, and the run goes on at the place that it names, be that later or earlier; with no step left it falls through
+abbrev pub run_for : CodeParts → Input → ℕ → ℕ → Values → Outcome
+run_for code input zero place values = falls values
+run_for code input (suc steps) place values = act_if_any code.kind code.filters input (slice_get code.instrs place) (run_for code input steps) (suc place) values
+
+-- running begins at instruction 0, and has as many steps as there are instructions: each goes forward (GoesForward), so that a run which has taken them all is past the end
 abbrev pub running : CodeParts → Input → Values → Outcome
-running code input = run_from code.kind code.filters input 0 0 code.instrs
+running code input = run_for code input (length code.instrs) 0

@@ -1,6 +1,6 @@
 -- A routine leaves the classes of the other kinds.
-use Rattle.std.proofs.Common.{◌≡◌, ℕ, suc, Bool, true, false, List, [], ◌∷◌, refl, ◌∙◌, if◌then◌else◌}
-use Rattle.std.specs.Prelude.{nat_lt}
+use Rattle.std.proofs.Common.{◌≡◌, ℕ, zero, suc, true, false, List, length, Option, None, Some, refl, ◌∙◌}
+use Rattle.std.specs.Prelude.{slice_get}
 use Rattle.dsn_mask.specs.Filter.{FilterLists}
 use Rattle.acs_tree.specs.declared.input.Input.{Input}
 use Rattle.acs_tree.specs.declared.kind.Kind.{Kind}
@@ -9,7 +9,7 @@ use Rattle.acs_tree.specs.declared.values.Values.{Values}
 use Rattle.acs_tree.specs.Outcome.{Outcome}
 use Rattle.acs_tree.specs.Setting.{with_class}
 use Rattle.acs_tree.specs.Slates.{same_kind}
-use Rattle.acs_code.specs.Machine.{CodeParts, act, run_from, running}
+use Rattle.acs_code.specs.Machine.{CodeParts, act, act_if_any, run_for, running}
 use Rattle.acs_code.specs.declared.instr.Instr.{Instr}
 use Rattle.acs_code.specs.declared.instr.Instr.TheVariants.{Test, Jump, SetClass, SetGroups, Write, Exit}
 use Rattle.desk_law.specs.Classification.{class_of}
@@ -48,18 +48,15 @@ act_keeps kind other filters input (SetGroups groups) next past values e keeps =
 act_keeps kind other filters input (Write parts) next past values e keeps = keeps past values
 act_keeps kind other filters input (Exit code) next past values e keeps = refl
 
-either_keeps : (b : Bool) (other : Kind) (one next : Outcome) (values : Values) → class_of other one.values ≡ class_of other values → class_of other next.values ≡ class_of other values
-    → class_of other (if b then one else next).values ≡ class_of other values
-either_keeps true other one next values e f = e
-either_keeps false other one next values e f = f
-
-run_keeps : (kind other : Kind) (filters : List FilterLists) (input : Input) (at go : ℕ) (instrs : List Instr) (values : Values) → same_kind kind other ≡ false
-    → class_of other (run_from kind filters input at go instrs values).values ≡ class_of other values
-run_keeps kind other filters input at go [] values e = refl
-run_keeps kind other filters input at go (instr ∷ instrs) values e =
-    either_keeps (nat_lt at go) other _ _ values (run_keeps kind other filters input (suc at) go instrs values e)
-    (act_keeps kind other filters input instr _ (suc at) values e (λ to v. run_keeps kind other filters input (suc at) to instrs v e))
+run_keeps : (code : CodeParts) (other : Kind) (input : Input) (steps place : ℕ) (values : Values) → same_kind code.kind other ≡ false
+    → class_of other (run_for code input steps place values).values ≡ class_of other values
+run_keeps code other input zero place values e = refl
+run_keeps code other input (suc steps) place values e = split (slice_get code.instrs place)
+  where
+    split : (o : Option Instr) → class_of other (act_if_any code.kind code.filters input o (run_for code input steps) (suc place) values).values ≡ class_of other values
+    split None = refl
+    split (Some instr) = act_keeps code.kind other code.filters input instr _ (suc place) values e (λ to v. run_keeps code other input steps to v e)
 
 pub running_keeps : (code : CodeParts) (other : Kind) (input : Input) (values : Values) → same_kind code.kind other ≡ false
     → class_of other (running code input values).values ≡ class_of other values
-running_keeps code other input values e = run_keeps code.kind other code.filters input 0 0 code.instrs values e
+running_keeps code other input values e = run_keeps code other input (length code.instrs) 0 values e
