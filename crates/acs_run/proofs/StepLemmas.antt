@@ -39,15 +39,17 @@ act_same kind filters input end place (Write parts) next other values g same = a
 act_same kind filters input end place (Exit n) next other values g same = refl
 
 module _ (code : CodeParts) (input : Input) (forward : GoesForward code) where
+  -- the same of what stands at a place
+  same_at : (place : ℕ) (found : Option Instr) (next other : ℕ → Values → Outcome) (values : Values) → slice_get code.instrs place ≡ found → ((to : ℕ) (v : Values) → place < to → next to v ≡ other to v)
+      → act_if_any code.kind code.filters input found next (suc place) values ≡ act_if_any code.kind code.filters input found other (suc place) values
+  same_at place None next other values e same = refl
+  same_at place (Some i) next other values e same = act_same code.kind code.filters input (length code.instrs) place i next other values (forward place i e) same
+
   -- a step more than there are instructions left changes nothing
   one_more : (steps place : ℕ) (values : Values) → length code.instrs ≤ steps + place → run_for code input (suc steps) place values ≡ run_for code input steps place values
   one_more zero place values h = past_end code input 1 place values (omega (arith, h))
-  one_more (suc steps) place values h = split (slice_get code.instrs place) refl
-    where
-      split : (o : Option Instr) → slice_get code.instrs place ≡ o
-          → act_if_any code.kind code.filters input o (run_for code input (suc steps)) (suc place) values ≡ act_if_any code.kind code.filters input o (run_for code input steps) (suc place) values
-      split None e = refl
-      split (Some i) e = act_same code.kind code.filters input (length code.instrs) place i (run_for code input (suc steps)) (run_for code input steps) values (forward place i e) (λ to v later. one_more steps to v (omega (arith, h, later)))
+  one_more (suc steps) place values h =
+      same_at place (slice_get code.instrs place) (run_for code input (suc steps)) (run_for code input steps) values refl (λ to v later. one_more steps to v (omega (arith, h, later)))
 
   -- each instruction, at its place
   one_step : (place : ℕ) (i : Instr) (values : Values) → place < length code.instrs → slice_get code.instrs place ≡ Some i → rest_of code input place values ≡ act code.kind code.filters input i (rest_of code input) (suc place) values
@@ -55,7 +57,7 @@ module _ (code : CodeParts) (input : Input) (forward : GoesForward code) where
       let count = length code.instrs in
       let all : count ≡ suc (count - 1) = omega (arith, h) in
       ap (λ n. run_for code input n place values) all ∙ ap (λ o. act_if_any code.kind code.filters input o (run_for code input (count - 1)) (suc place) values) e
-      ∙ act_same code.kind code.filters input count place i (run_for code input (count - 1)) (rest_of code input) values (forward place i e)
+      ∙ same_at place (Some i) (run_for code input (count - 1)) (rest_of code input) values e
       (λ to v later. sym (one_more (count - 1) to v (omega (arith, h, later))) ∙ ap (λ n. run_for code input n to v) (sym all))
 
 -- what each instruction leads to

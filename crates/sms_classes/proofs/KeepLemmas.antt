@@ -48,14 +48,17 @@ act_keeps kind other filters input (SetGroups groups) next past values e keeps =
 act_keeps kind other filters input (Write parts) next past values e keeps = keeps past values
 act_keeps kind other filters input (Exit code) next past values e keeps = refl
 
+place_keeps : (kind other : Kind) (filters : List FilterLists) (input : Input) (found : Option Instr) (next : ℕ → Values → Outcome) (past : ℕ) (values : Values)
+    → same_kind kind other ≡ false → ((to : ℕ) (v : Values) → class_of other (next to v).values ≡ class_of other v)
+    → class_of other (act_if_any kind filters input found next past values).values ≡ class_of other values
+place_keeps kind other filters input None next past values e keeps = refl
+place_keeps kind other filters input (Some instr) next past values e keeps = act_keeps kind other filters input instr next past values e keeps
+
 run_keeps : (code : CodeParts) (other : Kind) (input : Input) (steps place : ℕ) (values : Values) → same_kind code.kind other ≡ false
     → class_of other (run_for code input steps place values).values ≡ class_of other values
 run_keeps code other input zero place values e = refl
-run_keeps code other input (suc steps) place values e = split (slice_get code.instrs place)
-  where
-    split : (o : Option Instr) → class_of other (act_if_any code.kind code.filters input o (run_for code input steps) (suc place) values).values ≡ class_of other values
-    split None = refl
-    split (Some instr) = act_keeps code.kind other code.filters input instr _ (suc place) values e (λ to v. run_keeps code other input steps to v e)
+run_keeps code other input (suc steps) place values e =
+    place_keeps code.kind other code.filters input (slice_get code.instrs place) _ (suc place) values e (λ to v. run_keeps code other input steps to v e)
 
 pub running_keeps : (code : CodeParts) (other : Kind) (input : Input) (values : Values) → same_kind code.kind other ≡ false
     → class_of other (running code input values).values ≡ class_of other values
