@@ -72,11 +72,11 @@ module _ (kind : Kind) (filters : List FilterLists) (input : Input) (all : List 
       let leaps = leap kind filters input left is values in
       let none : at ≡ at + 0 = omega arith in
       ⊎_elim (λ here.
-        let one : steps ≡ suc (steps - 1) = omega (arith, enough, here) in
-        let place : n - left ≡ at = omega (arith, e, here, g) in
-        ap (λ s. runs s (n - left) values) one ∙ ap (λ k. runs (suc (steps - 1)) k values) place
-        ∙ ap (λ o. act_if_any kind filters input o (runs (steps - 1)) (suc at) values) (ap (slice_get all) none ∙ stand 0)
-        ∙ same_act f n at (steps - 1) i is values h.0 e (omega (arith, enough, here)) rest ∙ sym (ap (λ b. if b then acts else leaps) (lt-ltb (length is) left here)))
+      let one : steps ≡ suc (steps - 1) = omega (arith, enough, here) in
+      let place : n - left ≡ at = omega (arith, e, here, g) in
+      ap (λ s. runs s (n - left) values) one ∙ ap (λ k. runs (suc (steps - 1)) k values) place
+      ∙ ap (λ o. act_if_any kind filters input o (runs (steps - 1)) (suc at) values) (ap (slice_get all) none ∙ stand 0)
+      ∙ same_act f n at (steps - 1) i is values h.0 e (omega (arith, enough, here)) rest ∙ sym (ap (λ b. if b then acts else leaps) (lt-ltb (length is) left here)))
       (λ there. rest steps left values enough there ∙ sym (ap (λ b. if b then acts else leaps) (le-ltb (length is) left there)))
       (cases_lt (length is) left)
 
