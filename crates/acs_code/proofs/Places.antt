@@ -13,83 +13,75 @@ use Rattle.acs_tree.specs.declared.values.Values.{Values}
 use Rattle.acs_tree.specs.CheckedRoutine.{CheckedRoutine}
 use Rattle.acs_tree.specs.Meaning.{in_turn, meaning}
 use Rattle.acs_tree.specs.Setting.{with_class}
-use Rattle.acs_tree.specs.Outcome.{Outcome, behind, falls, then_do}
+use Rattle.acs_tree.specs.Outcome.{Outcome, falls, then_do}
 use Rattle.acs_code.specs.declared.instr.Instr.{Instr}
 use Rattle.acs_code.specs.declared.instr.Instr.TheVariants.{Test, Jump, SetClass, SetGroups, Write, Exit}
-use Rattle.acs_code.specs.Machine.{CodeParts, act, act_if_any, part_class, parts_line, probe_holds, run_for, running}
+use Rattle.acs_code.specs.Machine.{CodeParts, ComesTo, RunsTo, exit, jump, part_class, past_end, probe_holds, set_class, set_groups, test, write}
 use Rattle.acs_code.specs.Stands.{Goes, GoesForward, StandsFor}
 use Rattle.acs_code.specs.Compiled.{filters_of}
-use Rattle.acs_code.specs.Upward.{leap, placed, AreBelow, Below, Does}
+use Rattle.acs_code.specs.Upward.{act, leap, placed, AreBelow, Below, Does}
 
 module _ (kind : Kind) (filters : List FilterLists) (input : Input) (all : List Instr) where
   -- running in the whole code
-  abbrev runs : ℕ → ℕ → Values → Outcome
-  runs = run_for (record { kind = kind; instrs = all; filters = filters }) input
+  abbrev Runs : ℕ → Values → Outcome → Type 0
+  Runs = RunsTo (record { kind = kind; instrs = all; filters = filters }) input
 
   -- what is to be shown of the rest
-  abbrev SameRun : ℕ → List Instr → Type 0
-  SameRun n is = (steps left : ℕ) (values : Values) → left ≤ steps → left ≤ length is → runs steps (n - left) values ≡ leap kind filters input left is values
+  abbrev RunsRest : ℕ → List Instr → Type 0
+  RunsRest n is = (left : ℕ) (values : Values) → left ≤ length is → Runs (n - left) values (leap kind filters input left is values)
 
-  same_act : (f n at steps : ℕ) (i : Instr) (is : List Instr) (values : Values) → Below f (length is) i → at + suc (length is) ≡ n → length is ≤ steps → SameRun n is
-      → act kind filters input (placed n i) (runs steps) (suc at) values ≡ act kind filters input i (λ to. leap kind filters input to is) (length is) values
-  same_act f n at steps (Test p a b) is values below e enough same = split (probe_holds filters p input values)
+  -- running on at the next place
+  runs_next : (n at : ℕ) (is : List Instr) (values : Values) → at + suc (length is) ≡ n → RunsRest n is → Runs (suc at) values (leap kind filters input (length is) is values)
+  runs_next n at is values e rest =
+      let here : n - length is ≡ suc at = omega (arith, e) in
+      subst (λ k. Runs k values (leap kind filters input (length is) is values)) here (rest (length is) values (omega arith))
+
+  runs_act : (f n at : ℕ) (i : Instr) (is : List Instr) (values : Values) → slice_get all at ≡ Some (placed n i) → Below f (length is) i → at + suc (length is) ≡ n → RunsRest n is
+      → Runs at values (act kind filters input i (λ to. leap kind filters input to is) (length is) values)
+  runs_act f n at (Test p a b) is values there below e rest = test there (split (probe_holds filters p input values))
     where
-      split : (c : Bool) → runs steps (if c then n - a else n - b) values ≡ leap kind filters input (if c then a else b) is values
-      split true = same steps a values (omega (arith, below.0, enough)) below.0
-      split false = same steps b values (omega (arith, below.1, enough)) below.1
-  same_act f n at steps (Jump to) is values below e enough same = same steps to values (omega (arith, below, enough)) below
-  same_act f n at steps (SetClass p) is values below e enough same =
-      let here : suc at ≡ n - length is = omega (arith, e) in
-      let new = with_class kind (part_class p input values) values in
-      ap (λ k. runs steps k new) here ∙ same steps (length is) new enough (omega arith)
-  same_act f n at steps (SetGroups groups) is values below e enough same =
-      let here : suc at ≡ n - length is = omega (arith, e) in
-      let new : Values = record values { groups = groups } in
-      ap (λ k. runs steps k new) here ∙ same steps (length is) new enough (omega arith)
-  same_act f n at steps (Write parts) is values below e enough same =
-      let here : suc at ≡ n - length is = omega (arith, e) in
-      ap (behind (parts_line parts input values ∷ [])) (ap (λ k. runs steps k values) here ∙ same steps (length is) values enough (omega arith))
-  same_act f n at steps (Exit code) is values below e enough same = refl
+      split : (c : Bool) → Runs (if c then n - a else n - b) values (leap kind filters input (if c then a else b) is values)
+      split true = rest a values below.0
+      split false = rest b values below.1
+  runs_act f n at (Jump to) is values there below e rest = jump there (rest to values below)
+  runs_act f n at (SetClass p) is values there below e rest = set_class there (runs_next n at is (with_class kind (part_class p input values) values) e rest)
+  runs_act f n at (SetGroups groups) is values there below e rest = set_groups there (runs_next n at is (record values { groups = groups }) e rest)
+  runs_act f n at (Write parts) is values there below e rest = write there (runs_next n at is values e rest)
+  runs_act f n at (Exit code) is values there below e rest = exit there
 
   -- the instructions from a place on are these
   abbrev StandAt : ℕ → ℕ → List Instr → Type 0
   StandAt n at is = (k : ℕ) → slice_get all (at + k) ≡ slice_get (map (placed n) is) k
 
-  past_all : (n at steps : ℕ) (values : Values) → StandAt n at [] → runs steps at values ≡ falls values
-  past_all n at zero values stand = refl
-  past_all n at (suc steps) values stand =
-      let none : at ≡ at + 0 = omega arith in
-      ap (λ o. act_if_any kind filters input o (runs steps) (suc at) values) (ap (slice_get all) none ∙ stand 0)
-
-  pub same_run : (f n at : ℕ) (is : List Instr) → AreBelow f is → at + length is ≡ n → StandAt n at is → SameRun n is
-  same_run f n at [] h e stand steps left values enough g =
-      let none : n - left ≡ at = omega (arith, e, g) in
-      ap (λ k. runs steps k values) none ∙ past_all n at steps values stand
-  same_run f n at (i ∷ is) h e stand steps left values enough g =
+  pub runs_rest : (f n at : ℕ) (is : List Instr) → AreBelow f is → at + length is ≡ n → StandAt n at is → RunsRest n is
+  runs_rest f n at [] h e stand left values g =
+      let here : n - left ≡ at + 0 = omega (arith, e, g) in
+      past_end (ap (slice_get all) here ∙ stand 0)
+  runs_rest f n at (i ∷ is) h e stand left values g =
       let later : StandAt n (suc at) is = λ k. let next : suc at + k ≡ at + suc k = omega arith in ap (slice_get all) next ∙ stand (suc k) in
-      let rest : SameRun n is = same_run f n (suc at) is h.1 (omega (arith, e)) later in
+      let rest : RunsRest n is = runs_rest f n (suc at) is h.1 (omega (arith, e)) later in
+      let none : at ≡ at + 0 = omega arith in
+      let there : slice_get all at ≡ Some (placed n i) = ap (slice_get all) none ∙ stand 0 in
       let acts = act kind filters input i (λ to. leap kind filters input to is) (length is) values in
       let leaps = leap kind filters input left is values in
-      let none : at ≡ at + 0 = omega arith in
       ⊎_elim (λ here.
-      let one : steps ≡ suc (steps - 1) = omega (arith, enough, here) in
-      let place : n - left ≡ at = omega (arith, e, here, g) in
-      ap (λ s. runs s (n - left) values) one ∙ ap (λ k. runs (suc (steps - 1)) k values) place
-      ∙ ap (λ o. act_if_any kind filters input o (runs (steps - 1)) (suc at) values) (ap (slice_get all) none ∙ stand 0)
-      ∙ same_act f n at (steps - 1) i is values h.0 e (omega (arith, enough, here)) rest ∙ sym (ap (λ b. if b then acts else leaps) (lt-ltb (length is) left here)))
-      (λ there. rest steps left values enough there ∙ sym (ap (λ b. if b then acts else leaps) (le-ltb (length is) left there)))
+        let place : at ≡ n - left = omega (arith, e, here, g) in
+        let same : acts ≡ leap kind filters input left (i ∷ is) values = sym (ap (λ b. if b then acts else leaps) (lt-ltb (length is) left here)) in
+        subst (λ o. Runs (n - left) values o) same (subst (λ k. Runs k values acts) place (runs_act f n at i is values there h.0 e rest)))
+      (λ past.
+        let same : leaps ≡ leap kind filters input left (i ∷ is) values = sym (ap (λ b. if b then acts else leaps) (le-ltb (length is) left past)) in
+        subst (λ o. Runs (n - left) values o) same (rest left values past))
       (cases_lt (length is) left)
 
 -- running from the front
-pub same_start : (kind : Kind) (filters : List FilterLists) (input : Input) (f : ℕ) (is : List Instr) (values : Values) → AreBelow f is
-    → running (record { kind = kind; instrs = map (placed (length is)) is; filters = filters }) input values ≡ leap kind filters input (length is) is values
-same_start kind filters input f is values h =
+pub comes_to_leap : (kind : Kind) (filters : List FilterLists) (input : Input) (f : ℕ) (is : List Instr) (values : Values) → AreBelow f is
+    → ComesTo (record { kind = kind; instrs = map (placed (length is)) is; filters = filters }) input values (leap kind filters input (length is) is values)
+comes_to_leap kind filters input f is values h =
     let all = map (placed (length is)) is in
-    let first : 0 ≡ length is - length is = omega arith in
-    let long : length all ≡ length is = length-map is (placed (length is)) in
+    let first : length is - length is ≡ 0 = omega arith in
     let stand : StandAt kind filters input all (length is) 0 is = λ k. let here : 0 + k ≡ k = omega arith in ap (slice_get all) here in
-    ap (λ k. runs kind filters input all (length all) k values) first
-    ∙ same_run kind filters input all f (length is) 0 is h (omega arith) stand (length all) (length is) values (omega (arith, long)) (omega arith)
+    subst (λ k. Runs kind filters input all k values (leap kind filters input (length is) is values)) first
+    (runs_rest kind filters input all f (length is) 0 is h (omega arith) stand (length is) values (omega arith))
 
 -- each instruction goes forward
 goes_placed : (f n place : ℕ) (i : Instr) (is : List Instr) → Below f (length is) i → place + suc (length is) ≡ n → Goes f n place (placed n i)
@@ -123,9 +115,11 @@ module _ (routine : CheckedRoutine) (code : List Instr) (kind : Kind) (lists : L
     means = λ input values.
         let d0 = subst (λ r. Does kind (filters_of lists) (in_turn (map (meaning kind lists) body)) r code) er d in
         let o = in_turn (map (meaning kind lists) body) input values in
-        ap (λ m. running m input values) em ∙ same_start kind (filters_of lists) input (length (filters_of lists)) code values (d0.over.below tt) ∙ d0.does input values ∙ then_falls o.values o.lines o.ending
+        let same = d0.does input values ∙ then_falls o.values o.lines o.ending
         ∙ ap (λ ls. in_turn (map (meaning kind ls) body) input values) el ∙ ap (λ k. in_turn (map (meaning k body) body) input values) ek
-        ∙ ap (λ b. in_turn (map (meaning routine.kind b) b) input values) eb;
+        ∙ ap (λ b. in_turn (map (meaning routine.kind b) b) input values) eb in
+        subst (ComesTo made input values) same (subst (λ m. ComesTo m input values (leap kind (filters_of lists) input (length code) code values)) (sym em)
+        (comes_to_leap kind (filters_of lists) input (length (filters_of lists)) code values (d0.over.below tt)));
   }
 
   pub forward_all : (made : CodeParts) (rest : List Instr) → made ≡ record { kind = kind; instrs = map (placed (length code)) code; filters = filters_of lists } → rest ≡ []
