@@ -11,7 +11,7 @@ use Rattle.acs_tree.specs.declared.kind.Kind.{Kind}
 use Rattle.acs_tree.specs.declared.routine.Stmt.{Stmt}
 use Rattle.acs_tree.specs.declared.values.Values.{Values}
 use Rattle.acs_tree.specs.CheckedRoutine.{CheckedRoutine}
-use Rattle.acs_tree.specs.Meaning.{in_turn, meaning}
+use Rattle.acs_tree.specs.Meaning.{in_turn, meaning, meaning_of}
 use Rattle.acs_tree.specs.Setting.{with_class}
 use Rattle.acs_tree.specs.Outcome.{Outcome, falls, then_do}
 use Rattle.acs_code.specs.declared.instr.Instr.{Instr}
@@ -19,7 +19,9 @@ use Rattle.acs_code.specs.declared.instr.Instr.TheVariants.{Test, Jump, SetClass
 use Rattle.acs_code.specs.Machine.{CodeParts, ComesTo, RunsTo, exit, jump, part_class, past_end, probe_holds, set_class, set_groups, test, write}
 use Rattle.acs_code.specs.Stands.{Goes, GoesForward, StandsFor}
 use Rattle.acs_code.specs.Compiled.{filters_of}
-use Rattle.acs_code.specs.Upward.{act, leap, placed, AreBelow, Below, Does}
+use Rattle.acs_code.specs.Steps.{act}
+use Rattle.acs_code.specs.Upward.{leap, placed, AreBelow, Below, Does}
+use Rattle.acs_code.proofs.RunLemmas.{comes_to_one}
 
 module _ (kind : Kind) (filters : List FilterLists) (input : Input) (all : List Instr) where
   -- running in the whole code
@@ -65,12 +67,12 @@ module _ (kind : Kind) (filters : List FilterLists) (input : Input) (all : List 
       let acts = act kind filters input i (λ to. leap kind filters input to is) (length is) values in
       let leaps = leap kind filters input left is values in
       ⊎_elim (λ here.
-        let place : at ≡ n - left = omega (arith, e, here, g) in
-        let same : acts ≡ leap kind filters input left (i ∷ is) values = sym (ap (λ b. if b then acts else leaps) (lt-ltb (length is) left here)) in
-        subst (λ o. Runs (n - left) values o) same (subst (λ k. Runs k values acts) place (runs_act f n at i is values there h.0 e rest)))
+      let place : at ≡ n - left = omega (arith, e, here, g) in
+      let same : acts ≡ leap kind filters input left (i ∷ is) values = sym (ap (λ b. if b then acts else leaps) (lt-ltb (length is) left here)) in
+      subst (λ o. Runs (n - left) values o) same (subst (λ k. Runs k values acts) place (runs_act f n at i is values there h.0 e rest)))
       (λ past.
-        let same : leaps ≡ leap kind filters input left (i ∷ is) values = sym (ap (λ b. if b then acts else leaps) (le-ltb (length is) left past)) in
-        subst (λ o. Runs (n - left) values o) same (rest left values past))
+      let same : leaps ≡ leap kind filters input left (i ∷ is) values = sym (ap (λ b. if b then acts else leaps) (le-ltb (length is) left past)) in
+      subst (λ o. Runs (n - left) values o) same (rest left values past))
       (cases_lt (length is) left)
 
 -- running from the front
@@ -106,30 +108,34 @@ then_falls : (v : Values) (lines : List (List ℕ)) (e : Ending) → let o : Out
 then_falls v lines Falls = ap (λ l. record { values = v; lines = l; ending = Falls }) (append-nil lines)
 then_falls v lines (ExitWith n) = refl
 
-module _ (routine : CheckedRoutine) (code : List Instr) (kind : Kind) (lists : List Stmt) (body : List Stmt) where
-  -- the whole code
-  pub stands_all : (made : CodeParts) (rest : List Instr) → kind ≡ routine.kind → body ≡ routine.tree.body → lists ≡ body → made ≡ record { kind = kind; instrs = map (placed (length code)) code; filters = filters_of lists } → rest ≡ []
-      → Does kind (filters_of lists) (in_turn (map (meaning kind lists) body)) rest code → StandsFor made routine
-  stands_all made rest ek eb el em er d = record {
-    kind = ap (λ (m : CodeParts). m.kind) em ∙ ek;
-    means = λ input values.
-        let d0 = subst (λ r. Does kind (filters_of lists) (in_turn (map (meaning kind lists) body)) r code) er d in
-        let o = in_turn (map (meaning kind lists) body) input values in
-        let same = d0.does input values ∙ then_falls o.values o.lines o.ending
-        ∙ ap (λ ls. in_turn (map (meaning kind ls) body) input values) el ∙ ap (λ k. in_turn (map (meaning k body) body) input values) ek
-        ∙ ap (λ b. in_turn (map (meaning routine.kind b) b) input values) eb in
-        subst (ComesTo made input values) same (subst (λ m. ComesTo m input values (leap kind (filters_of lists) input (length code) code values)) (sym em)
-        (comes_to_leap kind (filters_of lists) input (length (filters_of lists)) code values (d0.over.below tt)));
-  }
+module _ (routine : CheckedRoutine) (code : List Instr) (kind : Kind) (lists : List Stmt) (body : List Stmt) (made : CodeParts) (rest : List Instr) (em : made ≡ record { kind = kind; instrs = map (placed (length code)) code; filters = filters_of lists }) (er : rest ≡ [])
+    (d : Does kind (filters_of lists) (in_turn (map (meaning kind lists) body)) rest code) where
+  -- nothing stands behind the whole code
+  whole : Does kind (filters_of lists) (in_turn (map (meaning kind lists) body)) [] code
+  whole = subst (λ r. Does kind (filters_of lists) (in_turn (map (meaning kind lists) body)) r code) er d
 
-  pub forward_all : (made : CodeParts) (rest : List Instr) → made ≡ record { kind = kind; instrs = map (placed (length code)) code; filters = filters_of lists } → rest ≡ []
-      → Does kind (filters_of lists) (in_turn (map (meaning kind lists) body)) rest code → GoesForward made
-  forward_all made rest em er d = subst GoesForward (sym em) (λ place i g.
-      let d0 = subst (λ r. Does kind (filters_of lists) (in_turn (map (meaning kind lists) body)) r code) er d in
-      let all = goes_all (length (filters_of lists)) (length code) 0 code (d0.over.below tt) (omega arith) place i g in
+  pub forward_all : GoesForward made
+  forward_all = subst GoesForward (sym em) (λ place i g.
+      let all = goes_all (length (filters_of lists)) (length code) 0 code (whole.over.below tt) (omega arith) place i g in
       let here : 0 + place ≡ place = omega arith in
       let long : length code ≡ length (map (placed (length code)) code) = sym (length-map code (placed (length code))) in
       subst (λ n. Goes (length (filters_of lists)) n place i) long (subst (λ p. Goes (length (filters_of lists)) (length code) p i) here all))
+
+  means_all : kind ≡ routine.kind → body ≡ routine.tree.body → lists ≡ body → (input : Input) (values : Values) → ComesTo made input values (meaning_of routine.tree routine.kind input values)
+  means_all ek eb el input values =
+      let o = in_turn (map (meaning kind lists) body) input values in
+      let same = whole.does input values ∙ then_falls o.values o.lines o.ending
+      ∙ ap (λ ls. in_turn (map (meaning kind ls) body) input values) el ∙ ap (λ k. in_turn (map (meaning k body) body) input values) ek
+      ∙ ap (λ b. in_turn (map (meaning routine.kind b) b) input values) eb in
+      subst (ComesTo made input values) same (subst (λ m. ComesTo m input values (leap kind (filters_of lists) input (length code) code values)) (sym em)
+      (comes_to_leap kind (filters_of lists) input (length (filters_of lists)) code values (whole.over.below tt)))
+
+  pub stands_all : kind ≡ routine.kind → body ≡ routine.tree.body → lists ≡ body → StandsFor made routine
+  stands_all ek eb el = record {
+    kind = ap (λ (m : CodeParts). m.kind) em ∙ ek;
+    means = means_all ek eb el;
+    only = λ input values outcome runs. comes_to_one made input forward_all runs (means_all ek eb el input values);
+  }
 
 pub same_parts : (kind : Kind) {instrs instrs' : List Instr} {filters filters' : List FilterLists} → instrs ≡ instrs' → filters ≡ filters' → let parts : CodeParts = record { kind = kind; instrs = instrs; filters = filters } in parts ≡ record { kind = kind; instrs = instrs'; filters = filters' }
 same_parts kind p q = cc

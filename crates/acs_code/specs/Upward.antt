@@ -5,21 +5,11 @@ use Rattle.acs_tree.specs.declared.input.Input.{Input}
 use Rattle.acs_tree.specs.declared.kind.Kind.{Kind}
 use Rattle.acs_tree.specs.declared.values.Values.{Values}
 use Rattle.acs_tree.specs.Conditions as conditions
-use Rattle.acs_tree.specs.Outcome.{Action, Outcome, behind, exits, falls, then_do}
-use Rattle.acs_tree.specs.Setting.{with_class}
+use Rattle.acs_tree.specs.Outcome.{Action, Outcome, falls, then_do}
 use Rattle.acs_code.specs.declared.instr.Instr.{Instr}
 use Rattle.acs_code.specs.declared.instr.Instr.TheVariants.{Test, Jump, SetClass, SetGroups, Write, Exit}
-use Rattle.acs_code.specs.Machine.{part_class, parts_line, probe_holds}
+use Rattle.acs_code.specs.Steps.{act}
 use Rattle.acs_code.specs.Stands.{IsThere}
-
--- one instruction: `next` goes on at a place, and `past` is the place behind the instruction
-abbrev pub act : Kind → List FilterLists → Input → Instr → (ℕ → Values → Outcome) → ℕ → Values → Outcome
-act kind filters input (Test probe yes' no') next past values = next (if probe_holds filters probe input values then yes' else no') values
-act kind filters input (Jump to) next past values = next to values
-act kind filters input (SetClass part) next past values = next past (with_class kind (part_class part input values) values)
-act kind filters input (SetGroups groups) next past values = next past (record values { groups = groups })
-act kind filters input (Write parts) next past values = behind (parts_line parts input values ∷ []) (next past values)
-act kind filters input (Exit code) next past values = exits code values
 
 -- running where so many instructions are left
 abbrev pub leap : Kind → List FilterLists → Input → ℕ → List Instr → Values → Outcome
