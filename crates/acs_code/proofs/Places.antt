@@ -108,33 +108,37 @@ then_falls : (v : Values) (lines : List (List ℕ)) (e : Ending) → let o : Out
 then_falls v lines Falls = ap (λ l. record { values = v; lines = l; ending = Falls }) (append-nil lines)
 then_falls v lines (ExitWith n) = refl
 
-module _ (routine : CheckedRoutine) (code : List Instr) (kind : Kind) (lists : List Stmt) (body : List Stmt) (made : CodeParts) (rest : List Instr) (em : made ≡ record { kind = kind; instrs = map (placed (length code)) code; filters = filters_of lists }) (er : rest ≡ [])
-    (d : Does kind (filters_of lists) (in_turn (map (meaning kind lists) body)) rest code) where
+module _ (routine : CheckedRoutine) (code : List Instr) (kind : Kind) (lists : List Stmt) (body : List Stmt) where
   -- nothing stands behind the whole code
-  whole : Does kind (filters_of lists) (in_turn (map (meaning kind lists) body)) [] code
-  whole = subst (λ r. Does kind (filters_of lists) (in_turn (map (meaning kind lists) body)) r code) er d
+  whole : (rest : List Instr) → rest ≡ [] → Does kind (filters_of lists) (in_turn (map (meaning kind lists) body)) rest code → Does kind (filters_of lists) (in_turn (map (meaning kind lists) body)) [] code
+  whole rest er d = subst (λ r. Does kind (filters_of lists) (in_turn (map (meaning kind lists) body)) r code) er d
 
-  pub forward_all : GoesForward made
-  forward_all = subst GoesForward (sym em) (λ place i g.
-      let all = goes_all (length (filters_of lists)) (length code) 0 code (whole.over.below tt) (omega arith) place i g in
+  means_all : (made : CodeParts) (rest : List Instr) → kind ≡ routine.kind → body ≡ routine.tree.body → lists ≡ body → made ≡ record { kind = kind; instrs = map (placed (length code)) code; filters = filters_of lists } → rest ≡ []
+      → Does kind (filters_of lists) (in_turn (map (meaning kind lists) body)) rest code → (input : Input) (values : Values) → ComesTo made input values (meaning_of routine.tree routine.kind input values)
+  means_all made rest ek eb el em er d input values =
+      let d0 = whole rest er d in
+      let o = in_turn (map (meaning kind lists) body) input values in
+      let same = d0.does input values ∙ then_falls o.values o.lines o.ending
+      ∙ ap (λ ls. in_turn (map (meaning kind ls) body) input values) el ∙ ap (λ k. in_turn (map (meaning k body) body) input values) ek
+      ∙ ap (λ b. in_turn (map (meaning routine.kind b) b) input values) eb in
+      subst (ComesTo made input values) same (subst (λ m. ComesTo m input values (leap kind (filters_of lists) input (length code) code values)) (sym em)
+      (comes_to_leap kind (filters_of lists) input (length (filters_of lists)) code values (d0.over.below tt)))
+
+  pub forward_all : (made : CodeParts) (rest : List Instr) → made ≡ record { kind = kind; instrs = map (placed (length code)) code; filters = filters_of lists } → rest ≡ []
+      → Does kind (filters_of lists) (in_turn (map (meaning kind lists) body)) rest code → GoesForward made
+  forward_all made rest em er d = subst GoesForward (sym em) (λ place i g.
+      let all = goes_all (length (filters_of lists)) (length code) 0 code ((whole rest er d).over.below tt) (omega arith) place i g in
       let here : 0 + place ≡ place = omega arith in
       let long : length code ≡ length (map (placed (length code)) code) = sym (length-map code (placed (length code))) in
       subst (λ n. Goes (length (filters_of lists)) n place i) long (subst (λ p. Goes (length (filters_of lists)) (length code) p i) here all))
 
-  means_all : kind ≡ routine.kind → body ≡ routine.tree.body → lists ≡ body → (input : Input) (values : Values) → ComesTo made input values (meaning_of routine.tree routine.kind input values)
-  means_all ek eb el input values =
-      let o = in_turn (map (meaning kind lists) body) input values in
-      let same = whole.does input values ∙ then_falls o.values o.lines o.ending
-      ∙ ap (λ ls. in_turn (map (meaning kind ls) body) input values) el ∙ ap (λ k. in_turn (map (meaning k body) body) input values) ek
-      ∙ ap (λ b. in_turn (map (meaning routine.kind b) b) input values) eb in
-      subst (ComesTo made input values) same (subst (λ m. ComesTo m input values (leap kind (filters_of lists) input (length code) code values)) (sym em)
-      (comes_to_leap kind (filters_of lists) input (length (filters_of lists)) code values (whole.over.below tt)))
-
-  pub stands_all : kind ≡ routine.kind → body ≡ routine.tree.body → lists ≡ body → StandsFor made routine
-  stands_all ek eb el = record {
+  -- the whole code
+  pub stands_all : (made : CodeParts) (rest : List Instr) → kind ≡ routine.kind → body ≡ routine.tree.body → lists ≡ body → made ≡ record { kind = kind; instrs = map (placed (length code)) code; filters = filters_of lists } → rest ≡ []
+      → Does kind (filters_of lists) (in_turn (map (meaning kind lists) body)) rest code → StandsFor made routine
+  stands_all made rest ek eb el em er d = record {
     kind = ap (λ (m : CodeParts). m.kind) em ∙ ek;
-    means = means_all ek eb el;
-    only = λ input values outcome runs. comes_to_one made input forward_all runs (means_all ek eb el input values);
+    means = means_all made rest ek eb el em er d;
+    only = λ input values outcome runs. comes_to_one made input (forward_all made rest em er d) runs (means_all made rest ek eb el em er d input values);
   }
 
 pub same_parts : (kind : Kind) {instrs instrs' : List Instr} {filters filters' : List FilterLists} → instrs ≡ instrs' → filters ≡ filters' → let parts : CodeParts = record { kind = kind; instrs = instrs; filters = filters } in parts ≡ record { kind = kind; instrs = instrs'; filters = filters' }

@@ -11,8 +11,8 @@ seal-requires c =
 pub returns-clause-stands : goal.returns-clause-stands
 returns-clause-stands c =
     let parts = same_parts c.kind-kind.result c.in_ok-instrs.ensures c.in_ok-filters.ensures in
-    stands_all c.args.checked.now c.block.new.code c.kind-kind.result c.in_ok-lists.lists c.as_slice-body.result.now c.seal.result c.new-code.result (c.seal.ensures ∙ parts) c.new-code.ensures c.in_ok-block.ensures
-    c.kind-kind.ensures (c.as_slice-body.ensures ∙ ap (λ (tree : Routine). tree.body) c.tree.ensures.tree) c.in_ok-lists.ensures
+    stands_all c.args.checked.now c.block.new.code c.kind-kind.result c.in_ok-lists.lists c.as_slice-body.result.now c.seal.result c.new-code.result c.kind-kind.ensures
+    (c.as_slice-body.ensures ∙ ap (λ (tree : Routine). tree.body) c.tree.ensures.tree) c.in_ok-lists.ensures (c.seal.ensures ∙ parts) c.new-code.ensures c.in_ok-block.ensures
 
 pub returns-clause-forward : goal.returns-clause-forward
 returns-clause-forward c =
