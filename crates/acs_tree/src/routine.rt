@@ -41,7 +41,7 @@ pub enum Form {
         values: Operands,
     },
     If {
-        cond: Cond,
+        cond: Boxed<Cond>,
         yes: Boxed<Stmt>,
         otherwise: Option<Boxed<Stmt>>,
     },
@@ -73,7 +73,7 @@ pub type Whens = Items<When>;
 #[derive(Drop)]
 pub enum WhenTest {
     Any(Operands),
-    Holds(Cond),
+    Holds(Boxed<Cond>),
 }
 
 /// A condition.
