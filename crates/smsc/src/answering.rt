@@ -107,6 +107,8 @@ fn validated(
     match read_deck(alloc, &deck) {
         Ok(config) => {
             let text = valid_text(alloc, config.groups().len(), config.volumes().len())?;
+            // The program ends next, and its memory with it.
+            std::mem::forget(config);
             Ok((ToolStatus::Done, Items::from_vec(text)))
         }
         Err(DeckErr::Fault(fault)) => {
