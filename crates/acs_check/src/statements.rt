@@ -147,7 +147,7 @@ fn when_test(
 {
     match test {
         WhenTest::Any(operands) => items(kind, before, compared, operands.as_slice(), best),
-        WhenTest::Holds(cond) => condition(kind, before, cond, best),
+        WhenTest::Holds(cond) => condition(kind, before, cond.get(), best),
     }
 }
 
@@ -178,6 +178,7 @@ pub fn statement(current: &Stmt, kind: Kind, before: &Earlier<'_>, best: Best) -
             yes,
             otherwise,
         } => {
+            let cond = cond.get();
             let best = condition(kind, before, cond, best);
             let best = statement(yes.get(), kind, before, best);
             optional(otherwise, kind, before, best)

@@ -40,7 +40,7 @@ fn statement(
         } => {
             let end = code.place();
             alternative(alloc, code, kind, lists, otherwise)?;
-            conditional(alloc, code, kind, lists, yes.get(), cond, end)
+            conditional(alloc, code, kind, lists, yes.get(), cond.get(), end)
         }
         Form::Pick {
             subject,

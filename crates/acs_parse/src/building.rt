@@ -87,7 +87,6 @@ fn conditional_of(
 ) -> Result<Boxed<Stmt>, AllocError>
     ensures { IfOk result (λ stmt. stmt ≡ record { at = at; form = Form.If cond yes otherwise }) }
 {
-    let cond = cond.into_inner();
     let form = Form::If {
         cond,
         yes,
@@ -147,7 +146,7 @@ fn test_of(parts: TestParts) -> WhenTest
 {
     match parts {
         TestParts::Any(items) => WhenTest::Any(items),
-        TestParts::Holds(cond) => WhenTest::Holds(cond.into_inner()),
+        TestParts::Holds(cond) => WhenTest::Holds(cond),
     }
 }
 

@@ -1,4 +1,5 @@
 use Rattle.std.proofs.Common.{◌∙◌, ◌+◌, ap, drop}
+use Rattle.acs_tree.specs.Nodes.{nodes_of_cond}
 use Rattle.acs_check.specs.Parts.{nodes_of_block}
 use Rattle.acs_check.specs.Walk.{walked}
 use Rattle.acs_check.proofs.WalkLemmas.{block_turn, if_at, pick_given, branch_at}
@@ -17,7 +18,7 @@ branches-branches-preserved t c =
 
 pub statement-returns-in-If : goal.statement-returns-in-If
 statement-returns-in-If t c =
-    if_at c.args.kind c.args.before.now c.args.best c.args.current.now c.in-If.cond c.in-If.yes c.in-If.otherwise c.in-If.is c.get.ensures c.condition-best.ensures c.statement-best.ensures c.optional.ensures
+    if_at c.args.kind c.args.before.now c.args.best c.args.current.now c.in-If.cond c.in-If.yes c.in-If.otherwise c.in-If.is c.get.ensures (c.condition-best.ensures ∙ ap (λ z. walked c.args.kind c.args.before.now c.args.best (nodes_of_cond z)) c.get-cond.ensures) c.statement-best.ensures c.optional.ensures
 
 pub statement-returns-in-Pick : goal.statement-returns-in-Pick
 statement-returns-in-Pick t c =

@@ -1,5 +1,6 @@
-use Rattle.std.proofs.Common.{◌≡◌, ◌-◌, arith, subst, map, drop}
+use Rattle.std.proofs.Common.{◌≡◌, ◌-◌, ◌∙◌, ap, arith, subst, sym, map, drop}
 use Rattle.std.proofs.lemmas.Result.{on_ok_weaker}
+use Rattle.acs_tree.specs.declared.routine.Form.TheVariants.{If}
 use Rattle.acs_tree.specs.Meaning.{first_of}
 use Rattle.acs_code.specs.Arms.{arm_of}
 use Rattle.acs_code.specs.Compiled.{filters_of}
@@ -46,7 +47,7 @@ statement-returns-in-Exit t c =
 
 pub statement-returns-in_ok-alternative-in-If : goal.statement-returns-in_ok-alternative-in-If
 statement-returns-in_ok-alternative-in-If t c =
-    on_ok_weaker _ (if_turn c.args.kind c.args.lists.now c.args.stmt.now c.in-If.cond c.in-If.yes c.get.result.now c.in-If.otherwise c.in-If.is c.get.ensures c.place-end.ensures c.in_ok-alternative-in-If.ensures) c.conditional.ensures
+    on_ok_weaker _ (if_turn c.args.kind c.args.lists.now c.args.stmt.now c.get-in-If.result.now c.in-If.yes c.get.result.now c.in-If.otherwise (c.in-If.is ∙ ap (λ z. If z c.in-If.yes c.in-If.otherwise) (sym c.get-in-If.ensures)) c.get.ensures c.place-end.ensures c.in_ok-alternative-in-If.ensures) c.conditional.ensures
 
 pub statement-returns-in_ok-alternative-in-Pick : goal.statement-returns-in_ok-alternative-in-Pick
 statement-returns-in_ok-alternative-in-Pick t c =
