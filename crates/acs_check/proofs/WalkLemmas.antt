@@ -87,10 +87,10 @@ pub pick_given : (kind : Kind) (before : List Stmt) (best : Option CheckErr) (s 
 pick_given kind before best s subject whens other {given} {s1} {s2} {s3} {ws} ef eg ew e1 e2 e3 =
     pick_at kind before best s subject whens other ef ew (e1 ∙ ap (λ z. walked kind before best (nodes_of_subject z)) eg) (e2 ∙ ap (λ z. walked kind before s1 (nodes_of_whens z ws)) eg) e3
 
-pub branch_at : (kind : Kind) (before : List Stmt) (best : Option CheckErr) (subject : Option Ref) (when : When) (whens : List When) (i : ℕ) {s1 s2 : Option CheckErr} {w : Stmt} → i < length whens → when ≡ get_or whens i when → w ≡ (out-When when).body
+pub when_at : (kind : Kind) (before : List Stmt) (best : Option CheckErr) (subject : Option Ref) (when : When) (whens : List When) (i : ℕ) {s1 s2 : Option CheckErr} {w : Stmt} → i < length whens → when ≡ get_or whens i when → w ≡ (out-When when).body
     → s1 ≡ walked kind before best (nodes_of_test (out-When when).test subject) → s2 ≡ walked kind before s1 (nodes_of w)
     → walked kind before s2 (nodes_of_whens subject (drop (i + 1) whens)) ≡ walked kind before best (nodes_of_whens subject (drop i whens))
-branch_at kind before best subject when whens i {s1} {s2} {w} h e ew e1 e2 =
+when_at kind before best subject when whens i {s1} {s2} {w} h e ew e1 e2 =
     ap (λ z. walked kind before z (nodes_of_whens subject (drop (i + 1) whens)))
     (e2 ∙ ap (λ z. walked kind before s1 (nodes_of z)) ew ∙ ap (λ z. walked kind before z (nodes_of (out-When when).body)) e1)
     ∙ branches_turn kind before best subject when whens i h e

@@ -181,7 +181,7 @@ pub fn statement(current: &Stmt, kind: Kind, before: &Earlier<'_>, best: Best) -
             let cond = cond.get();
             let best = condition(kind, before, cond, best);
             let best = statement(yes.get(), kind, before, best);
-            optional(otherwise, kind, before, best)
+            alternative(otherwise, kind, before, best)
         }
         Form::Pick {
             subject: reference,
@@ -190,8 +190,8 @@ pub fn statement(current: &Stmt, kind: Kind, before: &Earlier<'_>, best: Best) -
         } => {
             let compared = subject_of(reference);
             let best = subject(kind, before, &compared, best);
-            let best = branches(whens.as_slice(), &compared, kind, before, best);
-            optional(otherwise, kind, before, best)
+            let best = when_clauses(whens.as_slice(), &compared, kind, before, best);
+            alternative(otherwise, kind, before, best)
         }
         Form::Do(body) => block(body.as_slice(), kind, before, best),
         Form::Write(operands) => parts(kind, before, operands.as_slice(), best),
@@ -200,7 +200,12 @@ pub fn statement(current: &Stmt, kind: Kind, before: &Earlier<'_>, best: Best) -
 }
 
 #[cycle(walk)]
-fn optional(otherwise: &Option<Boxed<Stmt>>, kind: Kind, before: &Earlier<'_>, best: Best) -> Best
+fn alternative(
+    otherwise: &Option<Boxed<Stmt>>,
+    kind: Kind,
+    before: &Earlier<'_>,
+    best: Best,
+) -> Best
     ensures { result ≡ walked kind before.now best (nodes_of_optional otherwise.now) }
 {
     match otherwise {
@@ -221,7 +226,7 @@ fn block(body: &[Stmt], kind: Kind, before: &Earlier<'_>, best: Best) -> Best
 }
 
 #[cycle(walk)]
-fn branches(
+fn when_clauses(
     whens: &[When],
     compared: &Option<Named<'_>>,
     kind: Kind,
@@ -231,9 +236,9 @@ fn branches(
     ensures { result ≡ walked kind before.now best (nodes_of_whens compared.now whens.now) }
 {
     let mut best = best;
-    'branches: for branch in whens {
-        best = when_test(kind, before, compared, &branch.test, best);
-        best = statement(branch.body.get(), kind, before, best);
+    'clauses: for when in whens {
+        best = when_test(kind, before, compared, &when.test, best);
+        best = statement(when.body.get(), kind, before, best);
     }
     best
 }
