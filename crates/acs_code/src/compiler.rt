@@ -9,11 +9,14 @@ use crate::upward::Upward;
 use acs_tree::{Checked, Stmt};
 use std::alloc::{AllocError, Global};
 
-// About so many instructions come of a statement of the body.
+// About so many instructions come of a statement of an ordinary body.
 const INSTRS_TO_A_STATEMENT: usize = 12;
 
+// Room is kept for at most so many; a longer code grows.
+const MOST_ROOM: usize = 4096;
+
 fn room_for(body: &[Stmt]) -> usize {
-    body.len().saturating_mul(INSTRS_TO_A_STATEMENT)
+    MOST_ROOM.min(body.len().saturating_mul(INSTRS_TO_A_STATEMENT))
 }
 
 /// The code of a routine: for every input and start values it comes to what the routine means, and each
