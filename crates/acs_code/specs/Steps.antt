@@ -24,7 +24,7 @@ abbrev pub act_if_any : Kind → List FilterLists → Input → Option Instr →
 act_if_any kind filters input None next past values = falls values
 act_if_any kind filters input (Some instr) next past values = act kind filters input instr next past values
 
--- running from a place for at most so many steps
+-- running from a place for at most so many steps; behind those it falls through
 abbrev pub run_for : CodeParts → Input → ℕ → ℕ → Values → Outcome
 run_for code input zero place values = falls values
 run_for code input (suc steps) place values = act_if_any code.kind code.filters input (slice_get code.instrs place) (run_for code input steps) (suc place) values

@@ -3,7 +3,7 @@ use Rattle.std.specs.Prelude.{◌≡◌, ◌-◌, ◌==◌, ℕ, Bool, true, fal
 use Rattle.std.specs.List.{list_any}
 use Rattle.std.specs.Char.{is_ascii_alphanumeric}
 use Rattle.desk_common.specs.Limits.{most_literal_bytes, most_word_bytes}
-use Rattle.desk_common.specs.Bytes.{blank as blank_byte, quote}
+use Rattle.desk_common.specs.Bytes.{quote, space_byte}
 use Rattle.acs_lex.specs.declared.token.TokenForm.{TokenForm}
 use Rattle.acs_lex.specs.declared.token.TokenForm.TheVariants.{Word, Variable, Literal, Sign}
 
@@ -17,7 +17,7 @@ is_line_end byte = among (10 ∷ 13 ∷ []) byte
 
 -- space, tab, LF or CR
 abbrev pub is_blank : ℕ → Bool
-is_blank byte = among (blank_byte ∷ 9 ∷ 10 ∷ 13 ∷ []) byte
+is_blank byte = among (space_byte ∷ 9 ∷ 10 ∷ 13 ∷ []) byte
 
 -- a byte of a name: a letter, the same in either case, a digit or _
 abbrev pub is_name_byte : ℕ → Bool

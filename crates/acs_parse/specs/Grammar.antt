@@ -169,6 +169,7 @@ mutual
     or_more : {n p m : ℕ} {x y c : Cond} {t : Symbol} {ts ms rest : List Symbol} → fits want.Or t ≡ true → may n ≡ true
         → IsConj total may (suc n) ts y p ms → IsOrs total may p (condition.Or x y) ms c m rest → IsOrs total may n x (t ∷ ts) c m rest
 
+  -- comparisons or conditions in parentheses with AND between them
   pub data IsConj (total : ℕ) (may : ℕ → Bool) : ℕ → List Symbol → Cond → ℕ → List Symbol → Type 0 where
     conj_of : {n p m : ℕ} {ts ms rest : List Symbol} {x c : Cond}
         → IsPrim total may n ts x p ms → IsAnds total may p x ms c m rest → IsConj total may n ts c m rest
@@ -188,6 +189,7 @@ mutual
         → IsCond total may (suc n) ts c m (Close ∷ rest) → IsPrim total may n (Open ∷ ts) c (back m) rest
 
 mutual
+  -- a statement, with what stands inside it
   pub data IsStmt (total : ℕ) (may : ℕ → Bool) : ℕ → List Symbol → Stmt → List Symbol → Type 0 where
     set : {n : ℕ} {a : List ℕ} {t : Symbol} {ts ms rest : List Symbol} {r : Ref} {os : List Operand}
         → IsRef total ts r (t ∷ ms) → fits want.Equal t ≡ true → IsOperands total list.Values ms os rest
@@ -246,6 +248,7 @@ mutual
     then_more : {top : Bool} {n : ℕ} {ts ms rest : List Symbol} {s : Stmt} {ss : List Stmt}
         → IsItem total may top n ts s ms → IsBlock total may top n ms ss rest → IsBlock total may top n ts (s ∷ ss) rest
 
+  -- a statement, or at the top a filter list
   pub data IsItem (total : ℕ) (may : ℕ → Bool) : Bool → ℕ → List Symbol → Stmt → List Symbol → Type 0 where
     item_filter : {n : ℕ} {a : List ℕ} {ts rest : List Symbol} {s : Stmt} → IsFilter total (Word word.FiltList a ∷ ts) s rest
         → IsItem total may true n (Word word.FiltList a ∷ ts) s rest

@@ -17,7 +17,7 @@ pub data Effect : Type 0 where
   Lower : Effect
   To : ℕ → Effect
 
--- the number that are open behind a token
+-- how many are open behind a token
 abbrev pub effect : Effect → ℕ → ℕ
 effect Keep n = n
 effect Lower n = back n
@@ -159,7 +159,7 @@ after Full k passed = Many
 after (Pass n) k passed = passed n
 after Refuse k passed = No
 
--- what the first part of a stack that takes the token makes of it
+-- parts that are over before the token are passed, and the first other one decides; with none the token is refused
 abbrev pub step : (ℕ → Bool) → List Part → ℕ → Symbol → Step
 step may [] n t = No
 step may (s ∷ k) n t = after (rule may s n t) k (λ m. step may k m t)

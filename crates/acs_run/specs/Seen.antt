@@ -37,7 +37,7 @@ origin_variables = codes "JOB" ∷ codes "USER" ∷ codes "GROUP" ∷ codes "PGM
 abbrev pub attribute_variables : List (List ℕ)
 attribute_variables = codes "UNIT" ∷ codes "DSORG" ∷ codes "RECORG" ∷ codes "DSNTYPE" ∷ codes "DSTYPE" ∷ codes "DSOWNER" ∷ codes "EXPDT" ∷ []
 
--- the variables of numbers
+-- the variables of numbers given, and of those that are always 0
 abbrev pub number_variables : List (List ℕ)
 number_variables = codes "RETPD" ∷ codes "BLKSIZE" ∷ codes "FILENUM" ∷ codes "MEMNQUAL" ∷ []
 
@@ -61,11 +61,11 @@ environment_variables = codes "ACSENVIR" ∷ codes "XMODE" ∷ codes "SYSNAME" �
 abbrev pub default_variables : List (List ℕ)
 default_variables = codes "DEF_DATACLAS" ∷ codes "DEF_STORCLAS" ∷ codes "DEF_MGMTCLAS" ∷ []
 
--- the last three of these
+-- the variables of the accounting, of where the routine runs and of the defaults
 abbrev pub text_variables : List (List ℕ)
 text_variables = accounting_variables ++ (environment_variables ++ default_variables)
 
--- the last five
+-- the variables of sizes and volumes, and those of texts behind them
 abbrev pub given_variables : List (List ℕ)
 given_variables = size_variables ++ (volume_variables ++ text_variables)
 

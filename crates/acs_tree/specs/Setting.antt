@@ -43,7 +43,7 @@ abbrev pub class_set : Kind → List Operand → Action
 class_set kind [] input values = falls values
 class_set kind (value ∷ more) input values = falls (with_class kind (class_from value.form input values) values)
 
--- a name that is not among the groups, of which there are fewer than one SET may name
+-- a name that is not among the groups, where there is room for one more
 abbrev pub is_new_group : List (List ℕ) → List ℕ → Bool
 is_new_group groups name = nat_lt (length groups) most_groups_set && (is_name name && not (list_any (bytes_eq name) groups))
 

@@ -126,7 +126,7 @@ variables =
     null (codes "MSPOOL") ∷
     null (codes "MSVGP") ∷ []
 
--- what stands under that name
+-- what stands under that name, if there is something
 abbrev pub look_up : {A : Type 0} → List (List ℕ × A) → List ℕ → Option A
 look_up [] name = None
 look_up (row ∷ rows) name = if bytes_eq name row.0 then Some row.1 else look_up rows name
@@ -135,7 +135,7 @@ look_up (row ∷ rows) name = if bytes_eq name row.0 then Some row.1 else look_u
 unfoldable pub variable_of : List ℕ → Option Variable
 variable_of name = option_map (λ (meaning : VariableMeaning). meaning.variable) (look_up variables name)
 
--- what is held by what a name stands for; where it stands for nothing it is null
+-- what the variable of this meaning holds; null where there is none
 abbrev pub value_by : Option VariableMeaning → ℕ → Input → Values → Value
 value_by None index input values = Text []
 value_by (Some meaning) index input values = meaning.value index input values

@@ -1,5 +1,6 @@
 //! The accounting of a job or of a step.
 ghost use Rattle.std.specs.Prelude.{◌≡◌, ◌≤◌, ◌<◌, ◌↔◌, ◌∷◌, ◌++◌, [], IsTrue, length};
+ghost use Rattle.desk_common.specs.Limits.{most_account_fields};
 
 use dsn_mask::Short;
 use std::marker::Model;
@@ -76,21 +77,21 @@ impl Account {
 
     pub fn as_slice(&self) -> &[Short]
         ensures items { result.now ≡ self.now }
-        ensures few { length self.now ≤ 8 }
+        ensures few { length self.now ≤ most_account_fields }
     {
         &self.items[..self.count as usize]
     }
 
     /// No more can be added.
     pub fn is_full(&self) -> bool
-        ensures { IsTrue result ↔ (length self.now ≡ 8) }
+        ensures { IsTrue result ↔ (length self.now ≡ most_account_fields) }
     {
         self.count == 8
     }
 
     /// Adds one behind the others.
     pub fn push(&mut self, item: Short)
-        requires { length self.old < 8 }
+        requires { length self.old < most_account_fields }
         ensures { self.new ≡ self.old ++ item ∷ [] }
     {
         self.items[self.count as usize] = item;

@@ -1,9 +1,9 @@
 -- The bytes with a meaning of their own.
 use Rattle.std.specs.Prelude.{ℕ}
 
--- the blank, which parts words
-abbrev pub blank : ℕ
-blank = 32
+-- the space
+abbrev pub space_byte : ℕ
+space_byte = 32
 
 -- the quote, which begins and ends a literal
 abbrev pub quote : ℕ

@@ -37,6 +37,14 @@ most_literal_bytes = 110
 abbrev pub most_lines : ℕ
 most_lines = 64
 
+-- the entries of an INCLUDE or an EXCLUDE
+abbrev pub most_list_entries : ℕ
+most_list_entries = 255
+
+-- the greatest code of an EXIT
+abbrev pub most_exit_code : ℕ
+most_exit_code = 65535
+
 -- the nestings that may be open at once
 abbrev pub most_nestings : ℕ
 most_nestings = 200
@@ -45,17 +53,25 @@ most_nestings = 200
 abbrev pub most_words : ℕ
 most_words = 32
 
--- the digits of a number that a script, a deck or a command writes
+-- the digits of a number in a script, in the space of a deck or on a command line
 abbrev pub most_digits : ℕ
 most_digits = 10
 
--- the greatest number that a script, a deck or a command writes
+-- the greatest such number
 abbrev pub most_number : ℕ
 most_number = 4294967295
 
 -- the greatest quantity of a space, in its unit
 abbrev pub most_quantity : ℕ
 most_quantity = 16777215
+
+-- the extents of a data set on one volume
+abbrev pub most_extents : ℕ
+most_extents = 16
+
+-- the pieces of one grant
+abbrev pub most_pieces : ℕ
+most_pieces = 5
 
 -- the tracks of a volume
 abbrev pub most_tracks : ℕ

@@ -75,7 +75,7 @@ IsFirstSimpleFault bytes err = IsFirstFault false bytes err
 
 -- the same as tests
 
--- the fault that the first of the four tests finds which holds at a place
+-- the fault of the first of four tests that holds, at this place
 abbrev pub fault_by : Bool → Bool → Bool → Bool → ℕ → Option MaskErr
 fault_by third pair bad stray at =
     if third then Some (ThreeStars at) else if pair then Some (StarsNotAlone at) else if bad then Some (BadByte at) else if stray then Some (EmptyPiece at) else None

@@ -2,7 +2,7 @@
 use Rattle.std.specs.Prelude.{◌≡◌, ◌≤◌, ◌==◌, ◌&&◌, ◌||◌, ℕ, Bool, true, List, Option, None, Some, length, nat_le, not, slice_index, if◌then◌else◌}
 use Rattle.std.specs.List.{AllPass, list_all}
 use Rattle.desk_common.specs.Limits.{most_literal_bytes, most_name_bytes, most_value_bytes, most_volser_bytes}
-use Rattle.desk_common.specs.Bytes.{blank, quote}
+use Rattle.desk_common.specs.Bytes.{space_byte, quote}
 
 -- 0 to 9
 abbrev pub is_digit : ℕ → Bool
@@ -22,7 +22,7 @@ is_short_byte byte = nat_le 33 byte && (nat_le byte 126 && not (byte == quote))
 
 -- a printed byte but the quote
 abbrev pub is_literal_byte : ℕ → Bool
-is_literal_byte byte = byte == blank || is_short_byte byte
+is_literal_byte byte = byte == space_byte || is_short_byte byte
 
 -- one to eight of A to Z, 0 to 9, #, $ and @, the first no digit
 abbrev pub IsName : List ℕ → Type 0

@@ -34,7 +34,7 @@ use Rattle.sms_deck.specs.Values.{devices, meaning_in, word_in, integer_in, spac
 use Rattle.sms_deck.specs.Layout.{key_count, or_empty, table_at}
 use Rattle.sms_deck.specs.Constructs.{with_named, named, data_class_of, storage_class_of, management_class_of, group_of, size_of, tracks_of, volume_of, group_volumes, all_volumes}
 use Rattle.sms_deck.specs.Places.{Places, has_place, put_volume, put_volumes, groups_in, places_of, volumes_in, volume_count, volume_total, total_fault, twice_fault}
-use Rattle.sms_deck.specs.Outcomes.{Outcome, Absent, Long, Sound, Faulty, ComesTo, Outcomes, AreOutcomes, outcomes_from, routines_in, sound_in, source_of}
+use Rattle.sms_deck.specs.Outcomes.{Outcome, Absent, Long, Sound, Faulty, IsOutcomeOf, Outcomes, AreOutcomes, outcomes_from, routines_in, sound_in, source_of}
 use Rattle.sms_deck.specs.Reading.{Configures, MeansTable, configuration_of, fault_of, first_of, form_fault, sources_fault, assigned_faults}
 use Rattle.sms_deck.proofs.OrderLemmas.{ascending, names_ascend, inner_sorted, lined_volumes, volsers_ascend}
 use Rattle.sms_deck.proofs.ReadingLemmas.{back_from_outcomes}
@@ -286,7 +286,7 @@ construct_names bytes top outcomes s StorGrp = ascending _ (names_ascend (λ gro
 
 -- the routines
 
-sound_kind : (kind : Kind) (source : Option (List ℕ)) (outcome : Outcome) → ComesTo kind source outcome → IfSome (sound_in outcome) (λ routine. routine.kind ≡ kind)
+sound_kind : (kind : Kind) (source : Option (List ℕ)) (outcome : Outcome) → IsOutcomeOf kind source outcome → IfSome (sound_in outcome) (λ routine. routine.kind ≡ kind)
 sound_kind kind source Absent c = tt
 sound_kind kind source Long c = tt
 sound_kind kind None (Sound routine) c = absurd c

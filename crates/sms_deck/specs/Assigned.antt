@@ -64,7 +64,7 @@ assigned_by (statement ∷ statements) = assigned_in statement ++ assigned_by st
 abbrev pub first_unknown : Members → List (List ℕ) → Option (List ℕ)
 first_unknown constructs names = find (λ name. not (has name constructs)) names
 
--- the names set in what a statement is
+-- the names set inside a statement
 abbrev pub assigned_in_form : Form → List (List ℕ)
 assigned_in_form = fold-Form (List (List ℕ)) (List (List ℕ)) (List (List ℕ)) form_step stmt_step when_step
 
@@ -72,7 +72,7 @@ assigned_in_form = fold-Form (List (List ℕ)) (List (List ℕ)) (List (List ℕ
 abbrev pub assigned_in_branch : When → List (List ℕ)
 assigned_in_branch = fold-When (List (List ℕ)) (List (List ℕ)) (List (List ℕ)) form_step stmt_step when_step
 
--- the names set behind several
+-- the names set behind several WHENs
 abbrev pub assigned_in_branches : List When → List (List ℕ)
 assigned_in_branches [] = []
 assigned_in_branches (branch ∷ branches) = assigned_in_branch branch ++ assigned_in_branches branches

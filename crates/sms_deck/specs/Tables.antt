@@ -18,11 +18,11 @@ use Rattle.sms_deck.specs.Values.{integer_in, has_form}
 abbrev pub device_row : Row
 device_row = record (plain (codes "device") Device) { is_needed = λ keys. not (has (codes "cylinders") keys || has (codes "tracks") keys) }
 
--- the cylinders, which are right where no device stands
+-- the cylinders, which are right in their range, and only where no device stands
 abbrev pub cylinders_row : Row
 cylinders_row = record (plain (codes "cylinders") (Integer 1 most_cylinders)) { is_right = λ keys value. not (has (codes "device") keys) && has_form (Integer 1 most_cylinders) value }
 
--- the tracks, which are right where neither of the others stands
+-- the tracks, which are right in their range, and only where neither of the others stands
 abbrev pub tracks_row : Row
 tracks_row = record (plain (codes "tracks") (Integer 1 most_tracks)) { is_right = λ keys value. not (has (codes "device") keys || has (codes "cylinders") keys) && has_form (Integer 1 most_tracks) value }
 

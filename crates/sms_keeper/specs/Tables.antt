@@ -36,7 +36,7 @@ is_named dsn set = bytes_eq set.dsn dsn
 abbrev pub is_reply_of : List ℕ → ℕ → KeptRow → Bool
 is_reply_of job number row = bytes_eq row.job job && (row.number == number)
 
--- the deck that so many activations came to
+-- the deck of the activation with this number
 abbrev pub is_deck : ℕ → DeckRow → Bool
 is_deck count row = row.count == count
 

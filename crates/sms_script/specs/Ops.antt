@@ -4,7 +4,7 @@ use Rattle.std.specs.Map.{lookup}
 use Rattle.std.specs.Option.{option_and_then, option_or}
 use Rattle.std.specs.Char.{to_ascii_uppercase}
 use Rattle.desk_common.specs.Words.{words_of}
-use Rattle.desk_common.specs.Bytes.{blank}
+use Rattle.desk_common.specs.Bytes.{closing, space_byte}
 use Rattle.dsn_mask.specs.Name.{name_of, volser_of}
 use Rattle.dsn_mask.specs.DataSetName.{dsn_of}
 use Rattle.sms_construct.specs.Numbers.{small_number_of}
@@ -109,7 +109,7 @@ vary_at text at =
 abbrev pub vary_in : List ℕ → Option Op
 vary_in what =
     behind_front (codes "SMS,") what ⊳ λ text.
-    position (λ byte. byte == 41) text ⊳ λ at.
+    position (λ byte. byte == closing) text ⊳ λ at.
     vary_at text at
 
 -- an ALLOC: the data set, and operands in any order, each at most once
@@ -147,7 +147,7 @@ op_in admin (word ∷ operands) = verb_of word ⊳ λ verb. if may_ask admin ver
 
 -- the words of a line, its letters read as upper case
 abbrev pub upper_words : List ℕ → List (List ℕ)
-upper_words line = words_of (blank ∷ []) (map to_ascii_uppercase line)
+upper_words line = words_of (space_byte ∷ []) (map to_ascii_uppercase line)
 
 -- the op that the part of a line behind the request number writes
 abbrev pub op_of : Bool → List ℕ → Option Op

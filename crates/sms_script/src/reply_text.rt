@@ -1,6 +1,6 @@
 //! The first line of an answer.
 ghost use Rattle.std.specs.Prelude.{◌≡◌, ◌++◌, ◌∷◌, [], codes, decimal, OnOk};
-ghost use Rattle.desk_common.specs.Bytes.{blank};
+ghost use Rattle.desk_common.specs.Bytes.{space_byte};
 ghost use Rattle.acs_tree.specs.Variables.{name_of};
 ghost use Rattle.sms_script.specs.NameText.{spaced, status_text, value_text};
 ghost use Rattle.sms_script.specs.AnswerText.{reply_text, view_text, why_text};
@@ -140,7 +140,7 @@ pub fn push_view(text: &mut Vec<u8>, view: &View) -> Result<(), AllocError>
 
 // The words of a storage group, with a blank behind them.
 fn push_group(text: &mut Vec<u8>, name: &Name, status: Status) -> Result<(), AllocError>
-    ensures { OnOk result (text.new.items ≡ text.old.items ++ (codes "STORGRP " ++ (name.now ++ blank ∷ (status_text status ++ blank ∷ [])))) }
+    ensures { OnOk result (text.new.items ≡ text.old.items ++ (codes "STORGRP " ++ (name.now ++ space_byte ∷ (status_text status ++ space_byte ∷ [])))) }
 {
     text.extend_from_slice(b"STORGRP ")?;
     push_word_and_blank(text, name.bytes())?;
@@ -158,7 +158,7 @@ fn push_row(text: &mut Vec<u8>, row: &VolRow) -> Result<(), AllocError>
 
 // The words of a volume, with a blank behind them.
 fn push_volume(text: &mut Vec<u8>, row: &VolRow) -> Result<(), AllocError>
-    ensures { OnOk result (text.new.items ≡ text.old.items ++ (codes "VOLUME " ++ (row.now.volser ++ blank ∷ (row.now.group ++ blank ∷ (status_text row.now.status ++ blank ∷ []))))) }
+    ensures { OnOk result (text.new.items ≡ text.old.items ++ (codes "VOLUME " ++ (row.now.volser ++ space_byte ∷ (row.now.group ++ space_byte ∷ (status_text row.now.status ++ space_byte ∷ []))))) }
 {
     text.extend_from_slice(b"VOLUME ")?;
     push_word_and_blank(text, row.volser.bytes())?;
