@@ -32,7 +32,7 @@ pub data Part : Type 0 where
   AStatement : Part
   Lists : Part
   OrExclude : Part
-  OrBranch : Want → Part
+  OrAlternative : Want → Part
   AChoice : Part
   AWhen : Bool → Part
   MoreWhens : Bool → Part
@@ -79,8 +79,8 @@ when_parts false n = One want.Open Keep ∷ ACondition ∷ One want.Close (To n)
 -- what a token that begins a statement asks for
 abbrev pub opens : (ℕ → Bool) → ℕ → Symbol → Move
 opens may n (Word word.Set a) = Read n (ARef ∷ One want.Equal Keep ∷ AnOperand list.Values ∷ MoreOperands list.Values ∷ [])
-opens may n (Word word.If a) = gate may n (ACondition ∷ One want.Then (To (suc n)) ∷ AStatement ∷ OrBranch want.Else ∷ Back ∷ [])
-opens may n (Word word.Select a) = gate may n (AChoice ∷ OrBranch want.Otherwise ∷ One want.End Lower ∷ [])
+opens may n (Word word.If a) = gate may n (ACondition ∷ One want.Then (To (suc n)) ∷ AStatement ∷ OrAlternative want.Else ∷ Back ∷ [])
+opens may n (Word word.Select a) = gate may n (AChoice ∷ OrAlternative want.Otherwise ∷ One want.End Lower ∷ [])
 opens may n (Word word.Do a) = gate may n (ABlock false ∷ Back ∷ [])
 opens may n (Word word.Write a) = Read n (AnOperand list.Parts ∷ MoreOperands list.Parts ∷ [])
 opens may n (Word word.Exit a) = Read n (OrCode ∷ [])
@@ -125,7 +125,7 @@ rule may (AnItem top) n t = item_opens may top n t
 rule may AStatement n t = opens may n t
 rule may Lists n t = list_opens n t
 rule may OrExclude n t = cond (fits want.Exclude t) (Read n entries) (Pass n)
-rule may (OrBranch w) n t = cond (fits w t) (Read n (AStatement ∷ [])) (Pass n)
+rule may (OrAlternative w) n t = cond (fits w t) (Read n (AStatement ∷ [])) (Pass n)
 rule may AChoice n t = choice_opens n t
 rule may (AWhen b) n t = cond (fits want.When t) (Read n (when_parts b n)) Refuse
 rule may (MoreWhens b) n t = cond (fits want.When t) (Read n (when_parts b n ++ MoreWhens b ∷ [])) (Pass n)
@@ -168,7 +168,7 @@ step may (s ∷ k) n t = after (rule may s n t) k (λ m. step may k m t)
 abbrev pub may_be_empty : Part → Bool
 may_be_empty OrNumber = true
 may_be_empty OrExclude = true
-may_be_empty (OrBranch w) = true
+may_be_empty (OrAlternative w) = true
 may_be_empty (MoreWhens b) = true
 may_be_empty MoreOrs = true
 may_be_empty MoreAnds = true

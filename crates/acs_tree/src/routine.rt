@@ -66,10 +66,10 @@ pub struct When {
     pub body: Boxed<Stmt>,
 }
 
-/// The branches of a SELECT in their order.
+/// The WHENs of a SELECT in their order.
 pub type Whens = Items<When>;
 
-/// When a branch is taken: the subject equals any of these, or the condition holds.
+/// When the statement of a WHEN is done: the subject equals any of these, or the condition holds.
 #[derive(Drop)]
 pub enum WhenTest {
     Any(Operands),
