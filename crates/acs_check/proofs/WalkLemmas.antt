@@ -12,7 +12,7 @@ use Rattle.acs_tree.specs.Nodes.{Node, nodes_of, nodes_of_cond, nodes_of_test, n
 use Rattle.acs_tree.specs.Sound.{faults_at}
 use Rattle.acs_check.specs.Parts.{nodes_of_form, nodes_of_block, nodes_of_when, nodes_of_whens, nodes_of_optional}
 use Rattle.acs_check.specs.Walk.{least, met, walked, passed, faults_in, faults_behind}
-use Rattle.acs_check.proofs.FoldLemmas.{form_if, form_pick, of_branch, of_form}
+use Rattle.acs_check.proofs.FoldLemmas.{cond_and, cond_or, cond_test, form_do, form_exit, form_filt, form_if, form_pick, form_put, form_write, of_branch, of_form}
 use Rattle.acs_check.proofs.LeastLemmas.{least_append}
 
 pub walked_append : (kind : Kind) (before : List Stmt) (best : Option CheckErr) (a b : List Node) → walked kind before best (a ++ b) ≡ walked kind before (walked kind before best a) b
@@ -94,3 +94,7 @@ when_at kind before best subject when whens i {s1} {s2} {w} h e ew e1 e2 =
     ap (λ z. walked kind before z (nodes_of_whens subject (drop (i + 1) whens)))
     (e2 ∙ ap (λ z. walked kind before s1 (nodes_of z)) ew ∙ ap (λ z. walked kind before z (nodes_of (out-When when).body)) e1)
     ∙ branches_turn kind before best subject when whens i h e
+
+pub ruleset cond_steps = (cond_and, cond_or, cond_test, walked_append)
+
+pub ruleset form_steps = (of_form, form_filt, form_put, form_if, form_pick, form_do, form_write, form_exit, walked_append)

@@ -97,7 +97,7 @@ fn subject(kind: Kind, before: &Earlier<'_>, subject: &Option<Named<'_>>, best: 
     }
 }
 
-#[tactic(auto, using(crate::proofs::FoldLemmas::cond_and, crate::proofs::FoldLemmas::cond_or, crate::proofs::FoldLemmas::cond_test, crate::proofs::WalkLemmas::walked_append))]
+#[tactic(auto, using(crate::proofs::WalkLemmas::cond_steps))]
 fn condition(kind: Kind, before: &Earlier<'_>, cond: &Cond, best: Best) -> Best
     ensures { result ≡ walked kind before.now best (nodes_of_cond cond.now) }
 {
@@ -152,7 +152,7 @@ fn when_test(
 }
 
 #[cycle(walk)]
-#[tactic(auto, using(crate::proofs::FoldLemmas::of_form, crate::proofs::FoldLemmas::form_filt, crate::proofs::FoldLemmas::form_put, crate::proofs::FoldLemmas::form_if, crate::proofs::FoldLemmas::form_pick, crate::proofs::FoldLemmas::form_do, crate::proofs::FoldLemmas::form_write, crate::proofs::FoldLemmas::form_exit, crate::proofs::WalkLemmas::walked_append))]
+#[tactic(auto, using(crate::proofs::WalkLemmas::form_steps))]
 pub fn statement(current: &Stmt, kind: Kind, before: &Earlier<'_>, best: Best) -> Best
     ensures { result ≡ walked kind before.now best (nodes_of current.now) }
 {

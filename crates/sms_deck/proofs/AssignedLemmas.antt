@@ -112,3 +112,5 @@ pub passed_in_whens : (constructs : Members) (found : Option (List ℕ)) {whole 
     → found ≡ first_unknown constructs (assigned_in inner) → is_some found ≡ false → rest_of_whens constructs whens i ≡ whole → rest_of_whens constructs whens (i + 1) ≡ whole
 passed_in_whens constructs found inner when whens i h e b f t w =
     or_passed found (rest_of_whens constructs whens (i + 1)) t (ap (λ o. option_or o (rest_of_whens constructs whens (i + 1))) (f ∙ ap (λ s. first_unknown constructs (assigned_in s)) b) ∙ when_turn constructs when whens i h e ∙ w)
+
+pub ruleset form_steps = (of_form, form_filt, form_put, form_if, form_pick, form_do, form_write, form_exit, unknown_append)

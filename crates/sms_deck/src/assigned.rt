@@ -44,7 +44,7 @@ fn unknown_value(values: &[Operand], constructs: &Table) -> Option<Name>
 
 // The first name that a statement sets and that is no construct.
 #[cycle(walk)]
-#[tactic(auto, using(crate::proofs::AssignedLemmas::of_form, crate::proofs::AssignedLemmas::form_filt, crate::proofs::AssignedLemmas::form_put, crate::proofs::AssignedLemmas::form_if, crate::proofs::AssignedLemmas::form_pick, crate::proofs::AssignedLemmas::form_do, crate::proofs::AssignedLemmas::form_write, crate::proofs::AssignedLemmas::form_exit, crate::proofs::AssignedLemmas::unknown_append))]
+#[tactic(auto, using(crate::proofs::AssignedLemmas::form_steps))]
 fn unknown_in(current: &Stmt, constructs: &Table) -> Option<Name>
     ensures { result ≡ first_unknown (table_view constructs.now) (assigned_in current.now) }
 {
