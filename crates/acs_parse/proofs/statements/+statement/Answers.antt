@@ -42,8 +42,8 @@ choice-returns-in_ok-whens-in-Some-Open-default t c =
     let e : c.args.rest.now ≡ Open ∷ c.in-Some-Open-default.behind = grind (arith, common_steps) in
     choice_by_value e c.in_ok-subject-in-Some-Open-default.ensures c.in_ok-expect-in-Some-Open-default.ensures c.in_ok-whens-in-Some-Open-default.ensures
 
-pub arms-alternative-alloc-requires : goal.arms-alternative-alloc-requires
-arms-alternative-alloc-requires t c = (omega (arith, stmt_shorter c.in_ok-yes.ensures), tt)
+pub arms-alternative-requires : goal.arms-alternative-requires
+arms-alternative-requires t c = (omega (arith, stmt_shorter c.in_ok-yes.ensures), tt)
 
 pub when_clauses-whens-smaller : goal.when_clauses-whens-smaller
 when_clauses-whens-smaller t c = omega (arith, when_shorter c.in_ok-found-2.ensures.1)
@@ -65,8 +65,8 @@ when_condition-returns t c = when_of c.args.found c.place-at.ensures c.in_ok-exp
 pub conditional-arms-requires : goal.conditional-arms-requires
 conditional-arms-requires t c = (omega (arith, before_shorter want.Then c.in_ok-cond.ensures), tt)
 
-pub selection-alternative-alloc-requires : goal.selection-alternative-alloc-requires
-selection-alternative-alloc-requires t c = (omega (arith, choice_shorter c.in_ok-subject.ensures), tt)
+pub selection-alternative-requires : goal.selection-alternative-requires
+selection-alternative-requires t c = (omega (arith, choice_shorter c.in_ok-subject.ensures), tt)
 
 pub when_value-returns-in_err-test : goal.when_value-returns-in_err-test
 when_value-returns-in_err-test t c =
