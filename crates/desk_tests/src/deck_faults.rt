@@ -1,31 +1,11 @@
-//! Decks and what is told of them: how many storage groups and volumes they have, or their first fault.
-use crate::deck_routines::{KINDS, ROUTINE, STORAGE_CLASS};
-use crate::deck_themes::{
-    DATA_CLASS, MANAGEMENT_CLASS, NAMES, NOT_TOML, OTHER_NAMES, SPACE, SYSTEM, TOP, Theme,
-};
-use crate::deck_volumes::{GROUP, SEVERAL_VOLUMES, VOLUME, VOLUMES};
+//! Decks and what is told of them: how many groups and volumes they have, or their first fault.
+use crate::deck_themes::{CLASSES, NOT_TOML, ROUTINES, Theme, VOLUMES};
 use desk_common::{Items, Shared, push_number};
 use sms_deck::{Config, DeckErr, read_deck};
 use sms_script::push_fault;
 use std::alloc::Global;
+use std::process::Abort;
 use std::test::Fail;
-
-const THEMES: [&Theme; 14] = [
-    &TOP,
-    &SYSTEM,
-    &NAMES,
-    &OTHER_NAMES,
-    &DATA_CLASS,
-    &SPACE,
-    &MANAGEMENT_CLASS,
-    &GROUP,
-    &VOLUME,
-    &VOLUMES,
-    &SEVERAL_VOLUMES,
-    &ROUTINE,
-    &STORAGE_CLASS,
-    &KINDS,
-];
 
 /// What is read of a deck of these bytes.
 pub fn read(alloc: Global, bytes: &[u8]) -> Result<Result<Config, DeckErr>, Fail> {
@@ -52,45 +32,54 @@ pub fn told(alloc: Global, bytes: &[u8]) -> Result<Vec<u8>, Fail> {
     Ok(text)
 }
 
-/// Whether a deck of these two parts has no fault.
-fn is_valid(alloc: Global, head: &str, rest: &str) -> Result<bool, Fail> {
-    let deck = format!(in alloc; "{head}{rest}")?;
-    Ok(told(alloc, deck.as_bytes())?.starts_with(b"VALID "))
+/// Whether this is told of the deck.
+pub fn is_told(alloc: Global, deck: &str, wanted: &str) -> Result<bool, Fail> {
+    Ok(told(alloc, deck.as_bytes())?.as_slice() == wanted.as_bytes())
 }
 
-/// Whether a deck of these two parts has this fault.
-fn is_refused(
+fn compare_theme(rt: &impl Abort, alloc: Global, theme: &Theme) -> Result<(), Fail> {
+    for rest in theme.valid {
+        let deck = format!(in alloc; "{}{rest}", theme.head)?;
+        assert!(rt;
+            told(alloc, deck.as_bytes())?.starts_with(b"VALID "),
+            "{deck}"
+        );
+    }
+    for (fault, rests) in theme.refused {
+        compare_fault(rt, alloc, theme.head, rests, fault)?;
+    }
+    Ok(())
+}
+
+/// Each deck of the head and one of the rests has the fault.
+fn compare_fault(
+    rt: &impl Abort,
     alloc: Global,
-    theme: &Theme,
-    rest: &str,
-    code: &str,
-    place: &str,
-) -> Result<bool, Fail> {
-    let deck = format!(in alloc; "{}{rest}", theme.head)?;
-    let wanted = format!(in alloc; "{code} {}{place}", theme.place)?;
-    Ok(told(alloc, deck.as_bytes())?.as_slice() == wanted.as_bytes())
+    head: &str,
+    rests: &[&str],
+    fault: &str,
+) -> Result<(), Fail> {
+    for rest in rests {
+        let deck = format!(in alloc; "{head}{rest}")?;
+        assert!(rt; is_told(alloc, &deck, fault)?, "{deck}");
+    }
+    Ok(())
+}
+
+fn compare_themes(rt: &impl Abort, alloc: Global, themes: &[Theme]) -> Result<(), Fail> {
+    for theme in themes {
+        compare_theme(rt, alloc, theme)?;
+    }
+    Ok(())
 }
 
 #[test]
 fn each_deck_is_valid_or_told_its_first_fault(rt: HostRuntime) -> Result<(), Fail> {
-    let alloc = rt.alloc();
-    for deck in NOT_TOML {
-        assert!(rt;
-            told(alloc, deck)?.as_slice() == b"K1".as_slice(),
-            "{deck:?}"
-        );
+    for deck in &NOT_TOML {
+        let text = told(rt.alloc(), deck)?;
+        assert!(rt; text.as_slice() == b"K1".as_slice(), "{deck:?}");
     }
-    for theme in THEMES {
-        for rest in theme.valid {
-            assert!(rt; is_valid(alloc, theme.head, rest)?, "{}{rest}", theme.head);
-        }
-        for (rest, code, place) in theme.refused {
-            assert!(rt;
-                is_refused(alloc, theme, rest, code, place)?,
-                "{}{rest}",
-                theme.head
-            );
-        }
-    }
-    Ok(())
+    compare_themes(&rt, rt.alloc(), &CLASSES)?;
+    compare_themes(&rt, rt.alloc(), &VOLUMES)?;
+    compare_themes(&rt, rt.alloc(), &ROUTINES)
 }

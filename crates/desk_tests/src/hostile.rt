@@ -1,114 +1,73 @@
 //! Words, sources and sinks that fail.
-use crate::running::{Outcome, run_over, run_words};
+use crate::running::{Outcome, run, run_words};
+use RunStatus::{Done, ReadFault, WriteFault};
 use desk_calls::RunStatus;
 use std::test::Fail;
 
+/// A line of 31 bytes, which is read in pieces of 16: the third read finds the end.
+const LINE: &[u8] = b"JOB1 1 ALLOC A.B SPACE=(TRK,1)\n";
+
+/// Its answer of 42 bytes, which is written in pieces of 7.
+const ANSWER: &[u8] = b"1 1 1 JOB1 1 R12 NO CONFIGURATION\nEND 1 1\n";
+
+/// Words that no program of the desk has.
+#[rattlefmt::skip]
+static OTHER_WORDS: [&[&str]; 15] = [
+    &[""], &["RUN"], &["--volumes", "run"], &["run", "--volumes", ""], &["gen", "1"],
+    &["gen", "1", "0"], &["gen", "1", "40001"], &["gen", "12345678901", "1"],
+    &["gen", "4294967296", "1"], &["gen", "+1", "1"], &["gen", "1", "1", "1"], &["run", ""],
+    &[], &["--help"], &["serve", "80", "1"],
+];
+
 #[test]
 fn other_words_are_refused_and_nothing_is_read(rt: HostRuntime) -> Result<(), Fail> {
-    let alloc = rt.alloc();
-    for list in [
-        [""; 1].as_slice(),
-        &["RUN"],
-        &["--volumes", "run"],
-        &["run", "--volumes", ""],
-        &["gen", "1"],
-        &["gen", "1", "0"],
-        &["gen", "1", "40001"],
-        &["gen", "12345678901", "1"],
-        &["gen", "4294967296", "1"],
-        &["gen", "+1", "1"],
-        &["gen", "1", "1", "1"],
-        &["run", ""],
-        &[],
-        &["--help"],
-        &["serve", "80", "1"],
-    ] {
-        let mut words = Vec::new(alloc);
-        for word in list {
-            words.push(String::from_str(alloc, word)?)?;
-        }
-        let Outcome { status, text } = run_words(
-            alloc,
-            &words,
-            b"JOB1 1 ALLOC A.B SPACE=(TRK,1)\n",
-            vec![in alloc; 1u64]?,
-            Vec::new(alloc),
-            100,
-        )?;
-        assert_eq!(rt; status, RunStatus::BadWords);
-        assert_eq!(rt; status.code(), 2);
+    for list in &OTHER_WORDS {
+        let Outcome { status, text } = run_words(rt.alloc(), list, LINE, &[1], &[], 100)?;
+        assert!(rt; status == RunStatus::BadWords, "{list:?}");
+        assert!(rt; status.code() == 2);
         assert!(rt; text.is_empty());
     }
     Ok(())
 }
 
-#[test]
-fn each_failing_read_is_a_read_fault_and_nothing_is_written(rt: HostRuntime) -> Result<(), Fail> {
-    let alloc = rt.alloc();
-    // 31 bytes in pieces of 16: two reads give bytes, and the third finds the end
-    for call in 1..=3u64 {
-        let Outcome { status, text } = run_over(
-            alloc,
-            b"JOB1 1 ALLOC A.B SPACE=(TRK,1)\n",
-            vec![in alloc; call]?,
-            Vec::new(alloc),
-            100,
-        )?;
-        assert_eq!(rt; status, RunStatus::ReadFault);
-        assert_eq!(rt; status.code(), 3);
-        assert!(rt; text.is_empty());
-    }
-    let Outcome { status, .. } = run_over(
-        alloc,
-        b"JOB1 1 ALLOC A.B SPACE=(TRK,1)\n",
-        vec![in alloc; 4u64]?,
-        Vec::new(alloc),
-        100,
-    )?;
-    assert_eq!(rt; status, RunStatus::Done);
-    Ok(())
-}
+/// The reads and the writes that fail, the room of the sink, how a run ends, its code, and how many
+/// bytes of the answer are taken.
+#[rattlefmt::skip]
+static FAULTS: [(&[u64], &[u64], usize, RunStatus, u8, usize); 11] = [
+    (&[1], &[], 100, ReadFault, 3, 0),
+    (&[2], &[], 100, ReadFault, 3, 0),
+    (&[3], &[], 100, ReadFault, 3, 0),
+    (&[4], &[], 100, Done, 0, 42),
+    (&[], &[1], 100, WriteFault, 4, 0),
+    (&[], &[2], 100, WriteFault, 4, 7),
+    (&[], &[3], 100, WriteFault, 4, 14),
+    (&[], &[4], 100, WriteFault, 4, 21),
+    (&[], &[5], 100, WriteFault, 4, 28),
+    (&[], &[6], 100, WriteFault, 4, 35),
+    (&[], &[], 41, WriteFault, 4, 41),
+];
 
 #[test]
-fn each_failing_write_leaves_the_front_that_was_taken(rt: HostRuntime) -> Result<(), Fail> {
-    let alloc = rt.alloc();
-    let whole = b"1 1 1 JOB1 1 R12 NO CONFIGURATION\nEND 1 1\n";
-    // 42 bytes in pieces of 7
-    for call in 1..=6usize {
-        let Outcome { status, text } = run_over(
-            alloc,
-            b"JOB1 1 ALLOC A.B SPACE=(TRK,1)\n",
-            Vec::new(alloc),
-            vec![in alloc; call as u64]?,
-            100,
-        )?;
-        assert_eq!(rt; status, RunStatus::WriteFault);
-        assert_eq!(rt; status.code(), 4);
-        assert_eq!(rt; text.as_slice(), &whole[..(call - 1) * 7]);
+fn a_failing_call_leaves_the_front_that_was_taken(rt: HostRuntime) -> Result<(), Fail> {
+    for (reads, writes, room, wanted, code, taken) in &FAULTS {
+        let Outcome { status, text } = run_words(rt.alloc(), &["run"], LINE, reads, writes, *room)?;
+        assert!(rt; status == *wanted, "{reads:?} {writes:?}");
+        assert!(rt; status.code() == *code);
+        assert!(rt; Some(text.as_slice()) == ANSWER.get(..*taken));
     }
-    let Outcome { status, text } = run_over(
-        alloc,
-        b"JOB1 1 ALLOC A.B SPACE=(TRK,1)\n",
-        Vec::new(alloc),
-        Vec::new(alloc),
-        41,
-    )?;
-    assert_eq!(rt; status, RunStatus::WriteFault);
-    assert_eq!(rt; text.as_slice(), &whole[..41]);
     Ok(())
 }
 
 #[test]
 fn a_script_may_have_16777216_bytes_and_no_more(rt: HostRuntime) -> Result<(), Fail> {
-    let alloc = rt.alloc();
-    let mut script = vec![in alloc; b' '; 16_777_216]?;
-    let Outcome { status, text } = run_over(alloc, &script, Vec::new(alloc), Vec::new(alloc), 100)?;
-    assert_eq!(rt; status, RunStatus::Done);
-    assert_eq!(rt; text.as_slice(), b"END 0 0\n".as_slice());
+    let mut script = vec![in rt.alloc(); b' '; 16_777_216]?;
+    let Outcome { status, text } = run(rt.alloc(), &script)?;
+    assert!(rt; status == Done);
+    assert!(rt; text.as_slice() == b"END 0 0\n".as_slice());
     script.push(b'\n')?;
-    let Outcome { status, text } = run_over(alloc, &script, Vec::new(alloc), Vec::new(alloc), 100)?;
-    assert_eq!(rt; status, RunStatus::TooLong);
-    assert_eq!(rt; status.code(), 6);
+    let Outcome { status, text } = run(rt.alloc(), &script)?;
+    assert!(rt; status == RunStatus::TooLong);
+    assert!(rt; status.code() == 6);
     assert!(rt; text.is_empty());
     Ok(())
 }

@@ -14,15 +14,7 @@ mod deck_limits;
 #[cfg(test)]
 mod deck_readings;
 #[cfg(test)]
-mod deck_routines;
-#[cfg(test)]
 mod deck_themes;
-#[cfg(test)]
-mod deck_volumes;
-#[cfg(test)]
-mod decks;
-#[cfg(test)]
-mod examples;
 #[cfg(test)]
 mod first_path;
 #[cfg(test)]
@@ -41,8 +33,6 @@ mod listing;
 mod loads;
 #[cfg(test)]
 mod names;
-#[cfg(test)]
-mod operations;
 #[cfg(test)]
 mod phases;
 #[cfg(test)]
@@ -67,6 +57,8 @@ mod turns;
 mod worked;
 #[cfg(test)]
 mod worked_classes;
+#[cfg(test)]
+mod worked_requests;
 #[cfg(test)]
 mod worked_space;
 #[cfg(test)]
