@@ -12,7 +12,7 @@ use Rattle.acs_tree.specs.Nodes.{Node, nodes_of, nodes_of_cond, nodes_of_test, n
 use Rattle.acs_tree.specs.Sound.{faults_at}
 use Rattle.acs_check.specs.Parts.{nodes_of_form, nodes_of_block, nodes_of_when, nodes_of_whens, nodes_of_optional}
 use Rattle.acs_check.specs.Walk.{least, met, walked, passed, faults_in, faults_behind}
-use Rattle.acs_check.proofs.FoldLemmas.{form_if, form_pick, of_branch, of_form}
+use Rattle.acs_check.proofs.FoldLemmas.{cond_and, cond_or, cond_test, form_do, form_exit, form_filt, form_if, form_pick, form_put, form_write, of_branch, of_form}
 use Rattle.acs_check.proofs.LeastLemmas.{least_append}
 
 pub walked_append : (kind : Kind) (before : List Stmt) (best : Option CheckErr) (a b : List Node) → walked kind before best (a ++ b) ≡ walked kind before (walked kind before best a) b
@@ -87,10 +87,14 @@ pub pick_given : (kind : Kind) (before : List Stmt) (best : Option CheckErr) (s 
 pick_given kind before best s subject whens other {given} {s1} {s2} {s3} {ws} ef eg ew e1 e2 e3 =
     pick_at kind before best s subject whens other ef ew (e1 ∙ ap (λ z. walked kind before best (nodes_of_subject z)) eg) (e2 ∙ ap (λ z. walked kind before s1 (nodes_of_whens z ws)) eg) e3
 
-pub branch_at : (kind : Kind) (before : List Stmt) (best : Option CheckErr) (subject : Option Ref) (when : When) (whens : List When) (i : ℕ) {s1 s2 : Option CheckErr} {w : Stmt} → i < length whens → when ≡ get_or whens i when → w ≡ (out-When when).body
+pub when_at : (kind : Kind) (before : List Stmt) (best : Option CheckErr) (subject : Option Ref) (when : When) (whens : List When) (i : ℕ) {s1 s2 : Option CheckErr} {w : Stmt} → i < length whens → when ≡ get_or whens i when → w ≡ (out-When when).body
     → s1 ≡ walked kind before best (nodes_of_test (out-When when).test subject) → s2 ≡ walked kind before s1 (nodes_of w)
     → walked kind before s2 (nodes_of_whens subject (drop (i + 1) whens)) ≡ walked kind before best (nodes_of_whens subject (drop i whens))
-branch_at kind before best subject when whens i {s1} {s2} {w} h e ew e1 e2 =
+when_at kind before best subject when whens i {s1} {s2} {w} h e ew e1 e2 =
     ap (λ z. walked kind before z (nodes_of_whens subject (drop (i + 1) whens)))
     (e2 ∙ ap (λ z. walked kind before s1 (nodes_of z)) ew ∙ ap (λ z. walked kind before z (nodes_of (out-When when).body)) e1)
     ∙ branches_turn kind before best subject when whens i h e
+
+pub ruleset cond_steps = (cond_and, cond_or, cond_test, walked_append)
+
+pub ruleset form_steps = (of_form, form_filt, form_put, form_if, form_pick, form_do, form_write, form_exit, walked_append)

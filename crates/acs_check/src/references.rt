@@ -6,6 +6,7 @@ ghost use Rattle.acs_tree.specs.Variables.{name_of, rank_of};
 
 use crate::numbers::is_between;
 use acs_tree::{Ident, Indexing, Kind, Ref, Variable, VariableKind};
+use desk_common::Boxed;
 
 fn is_text_kind(kind: VariableKind) -> bool
     ensures { result ≡ is_text_kind kind }
@@ -82,7 +83,7 @@ pub fn is_group_list(reference: &Ref) -> bool
     reference.name.bytes() == b"STORGRP".as_slice()
 }
 
-fn is_misindexed_by(indexing: Indexing, index: &Option<Ident>) -> bool
+fn is_misindexed_by(indexing: Indexing, index: &Option<Boxed<Ident>>) -> bool
     ensures { result ≡ is_misindexed_by indexing index.now }
 {
     match indexing {
@@ -92,7 +93,7 @@ fn is_misindexed_by(indexing: Indexing, index: &Option<Ident>) -> bool
     }
 }
 
-pub fn is_misindexed(row: Option<Variable>, index: &Option<Ident>) -> bool
+pub fn is_misindexed(row: Option<Variable>, index: &Option<Boxed<Ident>>) -> bool
     ensures { result ≡ passes (λ variable. is_misindexed_by variable.indexing index.now) row }
 {
     match row {
@@ -101,16 +102,16 @@ pub fn is_misindexed(row: Option<Variable>, index: &Option<Ident>) -> bool
     }
 }
 
-fn is_outside(most: u64, index: &Option<Ident>) -> bool
+fn is_outside(most: u64, index: &Option<Boxed<Ident>>) -> bool
     ensures { result ≡ is_outside most index.now }
 {
     match index {
         None => false,
-        Some(index) => !is_between(1, most, index.bytes()),
+        Some(index) => !is_between(1, most, index.get().bytes()),
     }
 }
 
-fn is_out_of_range_by(indexing: Indexing, index: &Option<Ident>) -> bool
+fn is_out_of_range_by(indexing: Indexing, index: &Option<Boxed<Ident>>) -> bool
     ensures { result ≡ is_out_of_range_by indexing index.now }
 {
     match indexing {
@@ -120,7 +121,7 @@ fn is_out_of_range_by(indexing: Indexing, index: &Option<Ident>) -> bool
     }
 }
 
-pub fn is_out_of_range(row: Option<Variable>, index: &Option<Ident>) -> bool
+pub fn is_out_of_range(row: Option<Variable>, index: &Option<Boxed<Ident>>) -> bool
     ensures { result ≡ passes (λ variable. is_out_of_range_by variable.indexing index.now) row }
 {
     match row {

@@ -97,7 +97,7 @@ fn subject(kind: Kind, before: &Earlier<'_>, subject: &Option<Named<'_>>, best: 
     }
 }
 
-#[tactic(auto, using(crate::proofs::FoldLemmas::cond_and, crate::proofs::FoldLemmas::cond_or, crate::proofs::FoldLemmas::cond_test, crate::proofs::WalkLemmas::walked_append))]
+#[tactic(auto, using(crate::proofs::WalkLemmas::cond_steps))]
 fn condition(kind: Kind, before: &Earlier<'_>, cond: &Cond, best: Best) -> Best
     ensures { result ≡ walked kind before.now best (nodes_of_cond cond.now) }
 {
@@ -147,12 +147,12 @@ fn when_test(
 {
     match test {
         WhenTest::Any(operands) => items(kind, before, compared, operands.as_slice(), best),
-        WhenTest::Holds(cond) => condition(kind, before, cond, best),
+        WhenTest::Holds(cond) => condition(kind, before, cond.get(), best),
     }
 }
 
 #[cycle(walk)]
-#[tactic(auto, using(crate::proofs::FoldLemmas::of_form, crate::proofs::FoldLemmas::form_filt, crate::proofs::FoldLemmas::form_put, crate::proofs::FoldLemmas::form_if, crate::proofs::FoldLemmas::form_pick, crate::proofs::FoldLemmas::form_do, crate::proofs::FoldLemmas::form_write, crate::proofs::FoldLemmas::form_exit, crate::proofs::WalkLemmas::walked_append))]
+#[tactic(auto, using(crate::proofs::WalkLemmas::form_steps))]
 pub fn statement(current: &Stmt, kind: Kind, before: &Earlier<'_>, best: Best) -> Best
     ensures { result ≡ walked kind before.now best (nodes_of current.now) }
 {
@@ -178,9 +178,10 @@ pub fn statement(current: &Stmt, kind: Kind, before: &Earlier<'_>, best: Best) -
             yes,
             otherwise,
         } => {
+            let cond = cond.get();
             let best = condition(kind, before, cond, best);
             let best = statement(yes.get(), kind, before, best);
-            optional(otherwise, kind, before, best)
+            alternative(otherwise, kind, before, best)
         }
         Form::Pick {
             subject: reference,
@@ -189,8 +190,8 @@ pub fn statement(current: &Stmt, kind: Kind, before: &Earlier<'_>, best: Best) -
         } => {
             let compared = subject_of(reference);
             let best = subject(kind, before, &compared, best);
-            let best = branches(whens.as_slice(), &compared, kind, before, best);
-            optional(otherwise, kind, before, best)
+            let best = when_clauses(whens.as_slice(), &compared, kind, before, best);
+            alternative(otherwise, kind, before, best)
         }
         Form::Do(body) => block(body.as_slice(), kind, before, best),
         Form::Write(operands) => parts(kind, before, operands.as_slice(), best),
@@ -199,7 +200,12 @@ pub fn statement(current: &Stmt, kind: Kind, before: &Earlier<'_>, best: Best) -
 }
 
 #[cycle(walk)]
-fn optional(otherwise: &Option<Boxed<Stmt>>, kind: Kind, before: &Earlier<'_>, best: Best) -> Best
+fn alternative(
+    otherwise: &Option<Boxed<Stmt>>,
+    kind: Kind,
+    before: &Earlier<'_>,
+    best: Best,
+) -> Best
     ensures { result ≡ walked kind before.now best (nodes_of_optional otherwise.now) }
 {
     match otherwise {
@@ -220,7 +226,7 @@ fn block(body: &[Stmt], kind: Kind, before: &Earlier<'_>, best: Best) -> Best
 }
 
 #[cycle(walk)]
-fn branches(
+fn when_clauses(
     whens: &[When],
     compared: &Option<Named<'_>>,
     kind: Kind,
@@ -230,9 +236,9 @@ fn branches(
     ensures { result ≡ walked kind before.now best (nodes_of_whens compared.now whens.now) }
 {
     let mut best = best;
-    'branches: for branch in whens {
-        best = when_test(kind, before, compared, &branch.test, best);
-        best = statement(branch.body.get(), kind, before, best);
+    'clauses: for when in whens {
+        best = when_test(kind, before, compared, &when.test, best);
+        best = statement(when.body.get(), kind, before, best);
     }
     best
 }

@@ -4,4 +4,5 @@ pub mod Pieces
 pub mod ConditionLemmas
 pub mod StatementLemmas
 pub mod SetLemmas
+pub mod RunLemmas
 pub mod Places

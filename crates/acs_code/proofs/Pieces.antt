@@ -14,8 +14,9 @@ use Rattle.acs_tree.specs.Outcome.{nothing, Outcome, Action, then_do, after, beh
 use Rattle.acs_code.specs.declared.instr.Instr.{Instr}
 use Rattle.acs_code.specs.declared.instr.Instr.TheVariants.{Test, Jump}
 use Rattle.acs_code.specs.declared.probe.Probe.{Probe}
-use Rattle.acs_code.specs.Machine.{act, probe_holds}
+use Rattle.acs_code.specs.Machine.{probe_holds}
 use Rattle.acs_code.specs.Stands.{IsThere}
+use Rattle.acs_code.specs.Steps.{act}
 use Rattle.acs_code.specs.Upward.{leap, Below, Over, Branches, Does}
 
 module _ (kind : Kind) (filters : List FilterLists) where

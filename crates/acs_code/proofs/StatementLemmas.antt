@@ -119,21 +119,21 @@ module _ (kind : Kind) (lists : List Stmt) where
       does_choice kind (filters_of lists) d (over kind (filters_of lists) (omega (arith, e, d.over.longer))) (there kind (filters_of lists) rest e d.over) first branches'
 
   -- a WHEN
-  pub branch_turn : (subject : Option Ref) (w : When) (given : Stmt) {end holds_at fails_at : ℕ} {old jumped behind code : List Instr} → given ≡ (out-When w).body → fails_at ≡ length old → holds_at ≡ length behind
+  pub when_clause_turn : (subject : Option Ref) (w : When) (given : Stmt) {end holds_at fails_at : ℕ} {old jumped behind code : List Instr} → given ≡ (out-When w).body → fails_at ≡ length old → holds_at ≡ length behind
       → ((k : Kind) (f : List FilterLists) → end ≤ length old → Over k f old jumped)
       → ((k : Kind) (f : List FilterLists) (rest : List Instr) → end ≡ length rest → Over k f rest old → Does k f nothing rest jumped)
       → Does kind (filters_of lists) (meaning kind lists given) jumped behind
       → Branches kind (filters_of lists) (when_holds lists subject (out-When w).test) holds_at fails_at behind code
       → (other : Action) (rest : List Instr) → end ≡ length rest → Does kind (filters_of lists) other rest old → Does kind (filters_of lists) (first_of subject (arm_of kind lists w ∷ []) other) rest code
-  branch_turn subject w given {end} {holds_at} {fails_at} {old} {jumped} {behind} {code} eb ef eh over there first branches other rest e d =
+  when_clause_turn subject w given {end} {holds_at} {fails_at} {old} {jumped} {behind} {code} eb ef eh over there first branches other rest e d =
       let test = when_holds lists subject (out-When w).test in
       let branches' = subst (λ n. Branches kind (filters_of lists) test n (length old) behind code) eh (subst (λ n. Branches kind (filters_of lists) test holds_at n behind code) ef branches) in
       rw (means_when w, sym eb) (does_choice kind (filters_of lists) d (over kind (filters_of lists) (omega (arith, e, d.over.longer))) (there kind (filters_of lists) rest e d.over) first branches')
 
   -- one WHEN more in front
-  pub branches_turn : (subject : Option Ref) (arms : List When) (left k : ℕ) (w : When) (other : Action) (rest code : List Instr) → left ≡ suc k → k < length arms → w ≡ get_or arms k w
+  pub when_clauses_turn : (subject : Option Ref) (arms : List When) (left k : ℕ) (w : When) (other : Action) (rest code : List Instr) → left ≡ suc k → k < length arms → w ≡ get_or arms k w
       → Does kind (filters_of lists) (first_of subject (arm_of kind lists w ∷ []) (first_of subject (map (arm_of kind lists) (drop left arms)) other)) rest code
       → Does kind (filters_of lists) (first_of subject (map (arm_of kind lists) (drop k arms)) other) rest code
-  branches_turn subject arms left k w other rest code e h is d =
+  when_clauses_turn subject arms left k w other rest code e h is d =
       let d' = subst (λ n. Does kind (filters_of lists) (first_of subject (arm_of kind lists w ∷ []) (first_of subject (map (arm_of kind lists) (drop n arms)) other)) rest code) e d in
       rw (drop-cons arms k w h, sym is) d'

@@ -1,5 +1,5 @@
 -- What running a code does (docs/acs-language.md, Code).
-use Rattle.std.specs.Prelude.{ℕ, suc, Bool, List, [], ◌∷◌, ◌++◌, Option, Some, None, nat_lt, take, if◌then◌else◌}
+use Rattle.std.specs.Prelude.{◌≡◌, ℕ, suc, Bool, List, [], ◌∷◌, ◌++◌, Option, Some, None, take, if◌then◌else◌}
 use Rattle.std.specs.List.{slice_get}
 use Rattle.desk_common.specs.Limits.{most_literal_bytes}
 use Rattle.dsn_mask.specs.Filter.{FilterLists}
@@ -70,22 +70,23 @@ right_comparand filters (right.Number number) = comparand.Number number
 abbrev pub probe_holds : List FilterLists → Probe → Input → Values → Bool
 probe_holds filters probe input values = compares input values probe.op (slot_value probe.left input values) (right_comparand filters probe.right)
 
--- one instruction: `next` goes on at a place, and `past` is the place behind the instruction
-abbrev pub act : Kind → List FilterLists → Input → Instr → (ℕ → Values → Outcome) → ℕ → Values → Outcome
-act kind filters input (Test probe yes' no') next past values = next (if probe_holds filters probe input values then yes' else no') values
-act kind filters input (Jump to) next past values = next to values
-act kind filters input (SetClass part) next past values = next past (with_class kind (part_class part input values) values)
-act kind filters input (SetGroups groups) next past values = next past (record values { groups = groups })
-act kind filters input (Write parts) next past values = behind (parts_line parts input values ∷ []) (next past values)
-act kind filters input (Exit code) next past values = exits code values
+-- from a place and with values the code runs to an outcome: the instruction there acts, and the run goes on at the place that it names, be that later or earlier, or else at the next one; an Exit ends it, and past the end it falls through
+pub data RunsTo (code : CodeParts) (input : Input) : ℕ → Values → Outcome → Type 0 where
+  test : {place yes' no' : ℕ} {probe : Probe} {values : Values} {outcome : Outcome} → slice_get code.instrs place ≡ Some (Test probe yes' no')
+      → RunsTo code input (if probe_holds code.filters probe input values then yes' else no') values outcome → RunsTo code input place values outcome
+  jump : {place to : ℕ} {values : Values} {outcome : Outcome} → slice_get code.instrs place ≡ Some (Jump to)
+      → RunsTo code input to values outcome → RunsTo code input place values outcome
+  set_class : {place : ℕ} {part : Part} {values : Values} {outcome : Outcome} → slice_get code.instrs place ≡ Some (SetClass part)
+      → RunsTo code input (suc place) (with_class code.kind (part_class part input values) values) outcome → RunsTo code input place values outcome
+  set_groups : {place : ℕ} {groups : List (List ℕ)} {values : Values} {outcome : Outcome} → slice_get code.instrs place ≡ Some (SetGroups groups)
+      → RunsTo code input (suc place) (record values { groups = groups }) outcome → RunsTo code input place values outcome
+  write : {place : ℕ} {parts : List Part} {values : Values} {outcome : Outcome} → slice_get code.instrs place ≡ Some (Write parts)
+      → RunsTo code input (suc place) values outcome → RunsTo code input place values (behind (parts_line parts input values ∷ []) outcome)
+  exit : {place number : ℕ} {values : Values} → slice_get code.instrs place ≡ Some (Exit number)
+      → RunsTo code input place values (exits number values)
+  past_end : {place : ℕ} {values : Values} → slice_get code.instrs place ≡ None
+      → RunsTo code input place values (falls values)
 
--- running from the place `go`, where the rest of the code begins at the place `at`; the instructions before `go` are passed, a `go` that lies behind runs the next instruction, and past the end the run falls through
-abbrev pub run_from : Kind → List FilterLists → Input → ℕ → ℕ → List Instr → Values → Outcome
-run_from kind filters input at go [] values = falls values
-run_from kind filters input at go (instr ∷ instrs) values =
-    if nat_lt at go then run_from kind filters input (suc at) go instrs values
-    else act kind filters input instr (λ to. run_from kind filters input (suc at) to instrs) (suc at) values
-
--- running begins at instruction 0
-abbrev pub running : CodeParts → Input → Values → Outcome
-running code input = run_from code.kind code.filters input 0 0 code.instrs
+-- with that input and those start values the code comes to an outcome: a run begins at instruction 0
+abbrev pub ComesTo : CodeParts → Input → Values → Outcome → Type 0
+ComesTo code input = RunsTo code input 0

@@ -5,16 +5,18 @@ use Rattle.acs_tree.specs.declared.input.Input.{Input}
 use Rattle.acs_tree.specs.declared.values.Values.{Values}
 use Rattle.acs_tree.specs.CheckedRoutine.{CheckedRoutine}
 use Rattle.acs_tree.specs.Meaning.{meaning_of}
+use Rattle.acs_tree.specs.Outcome.{Outcome}
 use Rattle.acs_code.specs.declared.instr.Instr.{Instr}
 use Rattle.acs_code.specs.declared.instr.Instr.TheVariants.{Test, Jump}
 use Rattle.acs_code.specs.declared.right.Right.{Right}
 use Rattle.acs_code.specs.declared.right.Right.TheVariants.{Filter}
-use Rattle.acs_code.specs.Machine.{CodeParts, running}
+use Rattle.acs_code.specs.Machine.{CodeParts, ComesTo}
 
--- for every input and start values, running the code comes to what the routine means
+-- for every input and start values, the code comes to what the routine means, and to nothing else
 pub record StandsFor (code : CodeParts) (routine : CheckedRoutine) : Type 0 where
   pub kind : code.kind ≡ routine.kind
-  pub means : (input : Input) (values : Values) → running code input values ≡ meaning_of routine.tree routine.kind input values
+  pub means : (input : Input) (values : Values) → ComesTo code input values (meaning_of routine.tree routine.kind input values)
+  pub only : (input : Input) (values : Values) (outcome : Outcome) → ComesTo code input values outcome → outcome ≡ meaning_of routine.tree routine.kind input values
 
 -- a filter list is one of so many
 abbrev pub IsThere : ℕ → Right → Type 0

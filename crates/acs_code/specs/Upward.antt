@@ -8,7 +8,7 @@ use Rattle.acs_tree.specs.Conditions as conditions
 use Rattle.acs_tree.specs.Outcome.{Action, Outcome, falls, then_do}
 use Rattle.acs_code.specs.declared.instr.Instr.{Instr}
 use Rattle.acs_code.specs.declared.instr.Instr.TheVariants.{Test, Jump, SetClass, SetGroups, Write, Exit}
-use Rattle.acs_code.specs.Machine.{act}
+use Rattle.acs_code.specs.Steps.{act}
 use Rattle.acs_code.specs.Stands.{IsThere}
 
 -- running where so many instructions are left

@@ -39,8 +39,8 @@ fn statement(
             otherwise,
         } => {
             let end = code.place();
-            optional(alloc, code, kind, lists, otherwise)?;
-            conditional(alloc, code, kind, lists, yes.get(), cond, end)
+            alternative(alloc, code, kind, lists, otherwise)?;
+            conditional(alloc, code, kind, lists, yes.get(), cond.get(), end)
         }
         Form::Pick {
             subject,
@@ -48,8 +48,8 @@ fn statement(
             otherwise,
         } => {
             let end = code.place();
-            optional(alloc, code, kind, lists, otherwise)?;
-            branches(alloc, code, kind, lists, subject, whens.as_slice(), end)
+            alternative(alloc, code, kind, lists, otherwise)?;
+            when_clauses(alloc, code, kind, lists, subject, whens.as_slice(), end)
         }
         Form::Do(body) => block(alloc, code, kind, lists, body.as_slice()),
         Form::Write(parts) => write(alloc, code, parts.as_slice()),
@@ -78,7 +78,7 @@ pub fn block(
 
 // What is done otherwise, if anything.
 #[cycle(statements)]
-fn optional(
+fn alternative(
     alloc: Global,
     code: &mut Upward,
     kind: Kind,
@@ -118,7 +118,7 @@ fn conditional(
 
 // A WHEN, in front of code that stands for the later ones.
 #[cycle(statements)]
-fn branch(
+fn when_clause(
     alloc: Global,
     code: &mut Upward,
     kind: Kind,
@@ -141,7 +141,7 @@ fn branch(
 
 // The WHENs of a SELECT, in front of the code of its OTHERWISE.
 #[cycle(statements)]
-fn branches(
+fn when_clauses(
     alloc: Global,
     code: &mut Upward,
     kind: Kind,
@@ -155,7 +155,7 @@ fn branches(
     let mut left = arms.len();
     while left > 0 {
         left -= 1;
-        branch(alloc, code, kind, lists, subject, &arms[left], end)?;
+        when_clause(alloc, code, kind, lists, subject, &arms[left], end)?;
     }
     Ok(())
 }

@@ -29,7 +29,7 @@ pub fn when(
     ensures { OnOk result (Branches kind (filters_of lists.now) (when_holds lists.now subject.now test.now) fork.holds fork.fails code.old code.new) }
 {
     match test {
-        WhenTest::Holds(cond) => condition(code, kind, lists, cond, fork),
+        WhenTest::Holds(cond) => condition(code, kind, lists, cond.get(), fork),
         WhenTest::Any(operands) => match subject {
             Some(subject) => items(code, kind, lists, subject, operands.as_slice(), fork),
             None => code.put(Instr::Jump(fork.fails)),

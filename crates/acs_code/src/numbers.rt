@@ -4,14 +4,15 @@ ghost use Rattle.acs_tree.specs.Meaning.{code_from};
 ghost use Rattle.acs_tree.specs.Variables.{index_of};
 
 use acs_tree::{Ident, OperandForm, number};
+use desk_common::Boxed;
 
 /// The index of a variable: 0 where there is none, and 255 where it is no number from 1 to 254.
-pub fn index(index: &Option<Ident>) -> u8
+pub fn index(index: &Option<Boxed<Ident>>) -> u8
     ensures { result ≡ index_of index.now }
 {
     match index {
         None => 0,
-        Some(word) => match number(word.bytes(), 1, 254) {
+        Some(word) => match number(word.get().bytes(), 1, 254) {
             Some(number) => number as u8,
             None => 255,
         },

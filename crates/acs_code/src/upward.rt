@@ -1,5 +1,5 @@
 //! Code that is written from its end.
-ghost use Rattle.std.specs.Prelude.{◌≡◌, ◌∷◌, [], length, map, IfOk, OnOk, MatchOption};
+ghost use Rattle.std.specs.Prelude.{◌≡◌, ◌∷◌, [], length, map, IfOk, OnOk};
 ghost use Rattle.acs_code.specs.Upward.{placed};
 
 use crate::instr::{Instr, Instrs};
@@ -11,7 +11,7 @@ use std::marker::Model;
 /// there to the end.
 #[derive(Drop)]
 pub struct Upward {
-    items: Instrs,
+    items: Vec<Instr>,
 }
 
 impl Model for Upward {
@@ -20,16 +20,16 @@ impl Model for Upward {
 
     ghost Value = { List Instr };
 
-    ghost view = { λ u. reverse u.items };
+    ghost view = { λ u. reverse u.items.items };
 }
 
 impl Upward {
-    pub fn new(alloc: Global) -> Self
-        ensures { result ≡ [] }
+    /// No instruction, with room for so many.
+    pub fn with_room(alloc: Global, room: usize) -> Result<Self, AllocError>
+        ensures { IfOk result (λ code. code ≡ []) }
     {
-        Upward {
-            items: Items::new(alloc),
-        }
+        let items = Vec::with_capacity(alloc, room)?;
+        Ok(Upward { items })
     }
 
     /// The place of the instruction that was written last.
@@ -47,35 +47,35 @@ impl Upward {
         Ok(())
     }
 
-    fn pop(&mut self) -> Option<Instr>
-        ensures { MatchOption result (self.old ≡ []) (λ instr. self.old ≡ instr ∷ self.new) }
-    {
-        self.items.pop()
-    }
-
     /// The instructions from the first on, with places told from the front.
-    pub fn finish(mut self, alloc: Global) -> Result<Instrs, AllocError>
-        ensures { IfOk result (λ instrs. instrs ≡ map (placed (length self)) self) }
+    pub fn finish(self) -> Instrs
+        ensures { result ≡ map (placed (length self)) self }
     {
         let count = self.place();
-        let mut instrs = Items::new(alloc);
-        while let Some(instr) = self.pop() {
-            instrs.push(from_front(count, instr))?;
-        }
-        Ok(instrs)
+        let Upward { mut items } = self;
+        items.reverse();
+        tell_from_front(count, items.as_mut_slice());
+        Items::from_vec(items)
     }
 }
 
-fn from_front(count: u64, instr: Instr) -> Instr
-    ensures { result ≡ placed count instr }
+fn tell_from_front(count: u64, instrs: &mut [Instr])
+    ensures { instrs.new ≡ map (placed count) instrs.old }
+{
+    for instr in instrs.iter_mut() {
+        place_from_front(count, instr);
+    }
+}
+
+fn place_from_front(count: u64, instr: &mut Instr)
+    ensures { instr.new ≡ placed count instr.old }
 {
     match instr {
-        Instr::Test { probe, yes, no } => Instr::Test {
-            probe,
-            yes: count.saturating_sub(yes),
-            no: count.saturating_sub(no),
-        },
-        Instr::Jump(to) => Instr::Jump(count.saturating_sub(to)),
-        other => other,
+        Instr::Test { yes, no, .. } => {
+            *yes = count.saturating_sub(*yes);
+            *no = count.saturating_sub(*no);
+        }
+        Instr::Jump(to) => *to = count.saturating_sub(*to),
+        _ => {}
     }
 }

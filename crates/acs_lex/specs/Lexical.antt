@@ -3,7 +3,7 @@ use Rattle.std.specs.Prelude.{◌≡◌, ◌-◌, ◌==◌, ℕ, Bool, true, fal
 use Rattle.std.specs.List.{list_any}
 use Rattle.std.specs.Char.{is_ascii_alphanumeric}
 use Rattle.desk_common.specs.Limits.{most_literal_bytes, most_word_bytes}
-use Rattle.desk_common.specs.Bytes.{quote}
+use Rattle.desk_common.specs.Bytes.{quote, space_byte}
 use Rattle.acs_lex.specs.declared.token.TokenForm.{TokenForm}
 use Rattle.acs_lex.specs.declared.token.TokenForm.TheVariants.{Word, Variable, Literal, Sign}
 
@@ -17,7 +17,7 @@ is_line_end byte = among (10 ∷ 13 ∷ []) byte
 
 -- space, tab, LF or CR
 abbrev pub is_blank : ℕ → Bool
-is_blank byte = among (32 ∷ 9 ∷ 10 ∷ 13 ∷ []) byte
+is_blank byte = among (space_byte ∷ 9 ∷ 10 ∷ 13 ∷ []) byte
 
 -- a byte of a name: a letter, the same in either case, a digit or _
 abbrev pub is_name_byte : ℕ → Bool
@@ -27,9 +27,11 @@ is_name_byte byte = is_ascii_alphanumeric byte || among (codes "_") byte
 abbrev pub is_word_byte : ℕ → Bool
 is_word_byte byte = is_ascii_alphanumeric byte || among (codes "#@$-._%*") byte
 
+-- the ampersand, which begins a variable
 abbrev pub is_ampersand : ℕ → Bool
 is_ampersand byte = among (codes "&") byte
 
+-- the quote, which begins and ends a literal
 abbrev pub is_quote : ℕ → Bool
 is_quote byte = among (quote ∷ []) byte
 

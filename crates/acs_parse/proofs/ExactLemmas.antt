@@ -2,9 +2,9 @@
 use Rattle.std.proofs.Common.{◌≡◌, ◌⊎◌, inl, inr, ℕ, zero, suc, ◌+◌, ◌-◌, ◌<◌, ◌≤◌, Bool, true, false, cond, ◌&&◌, List, [], ◌∷◌, ◌++◌, length, take, drop, refl, ap, sym, ◌∙◌, subst, arith, append_assoc}
 use Rattle.acs_tree.specs.declared.routine.Routine.{Routine}
 use Rattle.acs_symbol.specs.declared.symbol.Symbol.{Symbol}
-use Rattle.acs_parse.specs.Grammar.{limited, unlimited, back, IsRoutine, no_number, no_exclude, no_branch, no_when, no_or, no_and, no_further, no_index, no_code}
+use Rattle.acs_parse.specs.Grammar.{limited, unlimited, back, IsRoutine, no_number, no_exclude, no_alternative, no_when, no_or, no_and, no_further, no_index, no_code}
 use Rattle.acs_parse.specs.Places.{Begins, IsFirstWrong, IsTooDeep, EndsEarly}
-use Rattle.acs_parse.specs.Table.{Part, OrNumber, OrExclude, OrBranch, MoreWhens, MoreOrs, MoreAnds, MoreOperands, OrIndex, OrCode, Back, start, Step, Go, No, Many, step, may_be_empty, all_empty, Verdict, Complete, Short, Stop, TooMany, next, verdict}
+use Rattle.acs_parse.specs.Table.{Part, OrNumber, OrExclude, OrAlternative, MoreWhens, MoreOrs, MoreAnds, MoreOperands, OrIndex, OrCode, Back, start, Step, Go, No, Many, step, may_be_empty, all_empty, Verdict, Complete, Short, Stop, TooMany, next, verdict}
 use Rattle.acs_parse.proofs.VerdictLemmas.{is_over}
 use Rattle.acs_parse.specs.Language.{Lang, Seq}
 use Rattle.acs_parse.proofs.SoundLemmas.{steps}
@@ -100,7 +100,7 @@ apart ts j k p q =
 empty_part : (total : ℕ) (s : Part) (n : ℕ) → may_be_empty s ≡ true → (m : ℕ) × Lang total limited s n [] m []
 empty_part total OrNumber n e = (n, (no_number refl, refl))
 empty_part total OrExclude n e = (n, ([], no_exclude refl, refl))
-empty_part total (OrBranch w) n e = (n, (_, no_branch refl, refl))
+empty_part total (OrAlternative w) n e = (n, (_, no_alternative refl, refl))
 empty_part total (MoreWhens b) n e = (n, ([], no_when refl, refl))
 empty_part total MoreOrs n e = (n, λ x. (x, no_or refl))
 empty_part total MoreAnds n e = (n, λ x. (x, no_and refl))

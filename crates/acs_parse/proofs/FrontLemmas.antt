@@ -15,8 +15,8 @@ use Rattle.acs_symbol.specs.declared.symbol.Symbol.TheVariants.{Word, Variable, 
 use Rattle.acs_parse.specs.declared.want.Want.{Want}
 use Rattle.acs_parse.specs.declared.want.Want.TheVariants as want
 use Rattle.acs_parse.specs.Wants.{fits}
-use Rattle.acs_parse.specs.Grammar.{starts, takes_words, takes_variables, joins, goes_on, back, limited, unlimited, by_sign, no_index, ref, literal, no_further, operands, no_exclude, IsLists, excluding, no_code, IsCond, cond_of, no_or, IsConj, conj_of, no_and, IsPrim, test, IsStmt, exit, no_branch, by_condition, IsWhen, when_any, when_holds, no_when, IsBlock, end_of, item_statement, no_number, IsRoutineOf, routine, IsOrNumber}
-use Rattle.acs_parse.specs.Table.{effect, Part, One, OrNumber, ABlock, AnItem, AStatement, Lists, OrExclude, OrBranch, AChoice, AWhen, MoreWhens, ACondition, MoreOrs, AConjunct, MoreAnds, ATest, AnOperand, MoreOperands, ARef, OrIndex, OrCode, Back, Move, Read, Full, Pass, Refuse, followed, entries, when_parts, opens, item_opens, test_opens, operand_opens, list_opens, choice_opens, rule, start, Step, Go, No, Many, after, step, all_empty, Complete, Short, Stop, TooMany, next, verdict}
+use Rattle.acs_parse.specs.Grammar.{starts, takes_words, takes_variables, joins, goes_on, back, limited, unlimited, by_sign, no_index, ref, literal, no_further, operands, no_exclude, IsLists, excluding, no_code, IsCond, cond_of, no_or, IsConj, conj_of, no_and, IsPrim, test, IsStmt, exit, no_alternative, by_condition, IsWhen, when_any, when_holds, no_when, IsBlock, end_of, item_statement, no_number, IsRoutineOf, routine, IsOrNumber}
+use Rattle.acs_parse.specs.Table.{effect, Part, One, OrNumber, ABlock, AnItem, AStatement, Lists, OrExclude, OrAlternative, AChoice, AWhen, MoreWhens, ACondition, MoreOrs, AConjunct, MoreAnds, ATest, AnOperand, MoreOperands, ARef, OrIndex, OrCode, Back, Move, Read, Full, Pass, Refuse, followed, entries, when_parts, opens, item_opens, test_opens, operand_opens, list_opens, choice_opens, rule, start, Step, Go, No, Many, after, step, all_empty, Complete, Short, Stop, TooMany, next, verdict}
 use Rattle.acs_parse.proofs.VerdictLemmas.{is_over}
 use Rattle.acs_parse.specs.Language.{Lang, Seq}
 use Rattle.acs_parse.specs.Places.{Begins, IsFirstWrong, IsTooDeep, EndsEarly}
@@ -26,7 +26,7 @@ use Rattle.acs_parse.proofs.WideLemmas.{WideStep, wide}
 
 -- the tokens continue nothing that may be over before them
 record Fresh (ts : List Symbol) : Type 0 where
-  no_branch' : starts want.Else ts ≡ false
+  no_alternative' : starts want.Else ts ≡ false
   no_other' : starts want.Otherwise ts ≡ false
   no_when' : starts want.When ts ≡ false
   no_and' : starts want.And ts ≡ false
@@ -119,7 +119,7 @@ Behind (One w e) ts = Unit {0}
 Behind (ABlock top) ts = Unit {0}
 Behind Back ts = Unit {0}
 Behind (MoreOperands kind) ts = Fresh ts × (goes_on kind ts ≡ false)
-Behind (OrBranch w) ts = Fresh ts × (starts w ts ≡ false)
+Behind (OrAlternative w) ts = Fresh ts × (starts w ts ≡ false)
 Behind _ ts = Fresh ts
 
 -- each part of the stack can be the shortest
@@ -132,16 +132,16 @@ Keeps s (Read p new) = (k : List Part) → Behind s (shortest k) → Ready k →
 Keeps s _ = Unit {0}
 
 fresh_close : (ts : List Symbol) → Fresh (Close ∷ ts)
-fresh_close ts = record { no_branch' = refl; no_other' = refl; no_when' = refl; no_and' = refl; no_or' = refl; no_open' = refl; no_code' = refl; no_exclude' = refl; no_number' = refl; no_value' = refl; no_part' = refl }
+fresh_close ts = record { no_alternative' = refl; no_other' = refl; no_when' = refl; no_and' = refl; no_or' = refl; no_open' = refl; no_code' = refl; no_exclude' = refl; no_number' = refl; no_value' = refl; no_part' = refl }
 
 fresh_equal : (ts : List Symbol) → Fresh (Operator Eq ∷ ts)
-fresh_equal ts = record { no_branch' = refl; no_other' = refl; no_when' = refl; no_and' = refl; no_or' = refl; no_open' = refl; no_code' = refl; no_exclude' = refl; no_number' = refl; no_value' = refl; no_part' = refl }
+fresh_equal ts = record { no_alternative' = refl; no_other' = refl; no_when' = refl; no_and' = refl; no_or' = refl; no_open' = refl; no_code' = refl; no_exclude' = refl; no_number' = refl; no_value' = refl; no_part' = refl }
 
 fresh_end : (ts : List Symbol) → Fresh (Word word.End [] ∷ ts)
-fresh_end ts = record { no_branch' = refl; no_other' = refl; no_when' = refl; no_and' = refl; no_or' = refl; no_open' = refl; no_code' = refl; no_exclude' = refl; no_number' = refl; no_value' = refl; no_part' = refl }
+fresh_end ts = record { no_alternative' = refl; no_other' = refl; no_when' = refl; no_and' = refl; no_or' = refl; no_open' = refl; no_code' = refl; no_exclude' = refl; no_number' = refl; no_value' = refl; no_part' = refl }
 
 fresh_then : (ts : List Symbol) → Fresh (Word word.Then [] ∷ ts)
-fresh_then ts = record { no_branch' = refl; no_other' = refl; no_when' = refl; no_and' = refl; no_or' = refl; no_open' = refl; no_code' = refl; no_exclude' = refl; no_number' = refl; no_value' = refl; no_part' = refl }
+fresh_then ts = record { no_alternative' = refl; no_other' = refl; no_when' = refl; no_and' = refl; no_or' = refl; no_open' = refl; no_code' = refl; no_exclude' = refl; no_number' = refl; no_value' = refl; no_part' = refl }
 
 keeps_row : (s : Part) (x y : Move) (b : Bool) → Keeps s x → Keeps s y → Keeps s (cond b x y)
 keeps_row s x y true f g = f
@@ -160,7 +160,7 @@ module _ (may : ℕ → Bool) where
   keeps_statement : (n : ℕ) (t : Symbol) → Keeps AStatement (opens may n t)
   unfolding sample
   keeps_statement n (Word word.Set a) = λ k h r. (fresh_equal _, (tt, (h, ((h, h.no_value'), r))))
-  keeps_statement n (Word word.If a) = keeps_row AStatement _ _ (may n) (λ k h r. (fresh_then _, (tt, (h, ((h, h.no_branch'), (tt, r)))))) tt
+  keeps_statement n (Word word.If a) = keeps_row AStatement _ _ (may n) (λ k h r. (fresh_then _, (tt, (h, ((h, h.no_alternative'), (tt, r)))))) tt
   keeps_statement n (Word word.Select a) = keeps_row AStatement _ _ (may n) (λ k h r. (fresh_end _, ((fresh_end _, refl), (tt, r)))) tt
   keeps_statement n (Word word.Do a) = keeps_row AStatement _ _ (may n) (λ k h r. (tt, (tt, r))) tt
   keeps_statement n (Word word.Write a) = λ k h r. (h, ((h, h.no_part'), r))
@@ -224,7 +224,7 @@ module _ (may : ℕ → Bool) where
   keeps AStatement n t = keeps_statement n t
   keeps Lists n t = keeps_lists n t
   keeps OrExclude n t = keeps_row OrExclude _ _ (fits want.Exclude t) (λ k h r. keeps_entries k r) tt
-  keeps (OrBranch w) n t = keeps_row (OrBranch w) _ _ (fits w t) (λ k h r. (h.0, r)) tt
+  keeps (OrAlternative w) n t = keeps_row (OrAlternative w) _ _ (fits w t) (λ k h r. (h.0, r)) tt
   keeps AChoice n t = keeps_choice n t
   keeps (AWhen b) n t = keeps_row (AWhen b) _ _ (fits want.When t) (λ k h r. keeps_when_parts b n k h r) tt
   keeps (MoreWhens b) n t = keeps_row (MoreWhens b) _ _ (fits want.When t) (keeps_whens b n) tt
@@ -283,7 +283,7 @@ module _ (may : ℕ → Bool) where
     lang_least AStatement n rest h = let s = exit_least n rest h in (n, (s.0, s.1, refl))
     lang_least Lists n rest h = let x = lists_least rest h in (n, ([], x.0, x.1, refl))
     lang_least OrExclude n rest h = (n, ([], no_exclude h.no_exclude', refl))
-    lang_least (OrBranch w) n rest h = (n, (None, no_branch h.1, refl))
+    lang_least (OrAlternative w) n rest h = (n, (None, no_alternative h.1, refl))
     lang_least AChoice n rest h =
         let w = when_least n rest h in
         (n, (None, w.0 ∷ [], by_condition w.1 (no_when h.no_when'), refl))

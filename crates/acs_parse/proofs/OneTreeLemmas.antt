@@ -20,7 +20,7 @@ use Rattle.acs_symbol.specs.declared.symbol.Symbol.TheVariants.{Word, Variable, 
 use Rattle.acs_parse.specs.declared.want.Want.{Want}
 use Rattle.acs_parse.specs.declared.want.Want.TheVariants as want
 use Rattle.acs_parse.specs.Wants.{fits}
-use Rattle.acs_parse.specs.Grammar.{operand_at, when_at, joins, back, IsOperator, by_sign, by_word, IsListName, named_by_word, named_by_variable, IsHead, headed_by_word, headed_by_variable, IsIndex, no_index, index, IsRef, ref, IsOperand, literal, word_of, variable, IsFurther, no_further, after_comma, joined, IsOperands, operands, IsExclude, no_exclude, exclude, IsLists, including, excluding, IsFilter, filter, IsCode, no_code, code, IsCond, cond_of, IsOrs, no_or, or_more, IsConj, conj_of, IsAnds, no_and, and_more, IsPrim, test, group, IsStmt, set, choice, pick, group_of, write, exit, IsBranch, no_branch, branch, IsChoice, by_value, by_condition, IsWhen, when_any, when_holds, IsWhens, no_when, more_whens, IsBlock, end_of, then_more, IsItem, item_filter, item_statement, IsOrNumber, no_number, number, IsRoutineOf, routine, IsRoutine}
+use Rattle.acs_parse.specs.Grammar.{operand_at, when_at, joins, back, IsOperator, by_sign, by_word, IsListName, named_by_word, named_by_variable, IsHead, headed_by_word, headed_by_variable, IsIndex, no_index, index, IsRef, ref, IsOperand, literal, word_of, variable, IsFurther, no_further, after_comma, joined, IsOperands, operands, IsExclude, no_exclude, exclude, IsLists, including, excluding, IsFilter, filter, IsCode, no_code, code, IsCond, cond_of, IsOrs, no_or, or_more, IsConj, conj_of, IsAnds, no_and, and_more, IsPrim, test, group, IsStmt, set, choice, pick, group_of, write, exit, IsAlternative, no_alternative, alternative, IsChoice, by_value, by_condition, IsWhen, when_any, when_holds, IsWhens, no_when, more_whens, IsBlock, end_of, then_more, IsItem, item_filter, item_statement, IsOrNumber, no_number, number, IsRoutineOf, routine, IsRoutine}
 use Rattle.acs_parse.proofs.RunLemmas.{item_not_end, not_filter, not_comma}
 
 clash : {b : Bool} → b ≡ true → b ≡ false → ⊥
@@ -169,8 +169,8 @@ module _ (total : ℕ) where
     stmt_along : {n : ℕ} {a b r : List Symbol} {s : Stmt} → a ≡ b → IsStmt total may n b s r → IsStmt total may n a s r
     stmt_along {n} {r = r} {s = s} e d = subst (λ m. IsStmt total may n m s r) (sym e) d
 
-    branch_along : {n : ℕ} {w : Want} {a b r : List Symbol} {s : Option Stmt} → a ≡ b → IsBranch total may w n b s r → IsBranch total may w n a s r
-    branch_along {n} {w} {r = r} {s = s} e d = subst (λ m. IsBranch total may w n m s r) (sym e) d
+    alternative_along : {n : ℕ} {w : Want} {a b r : List Symbol} {s : Option Stmt} → a ≡ b → IsAlternative total may w n b s r → IsAlternative total may w n a s r
+    alternative_along {n} {w} {r = r} {s = s} e d = subst (λ m. IsAlternative total may w n m s r) (sym e) d
 
     when_along : {n : ℕ} {v : Bool} {a b r : List Symbol} {w : When} → a ≡ b → IsWhen total may v n b w r → IsWhen total may v n a w r
     when_along {n} {v} {r = r} {w = w} e d = subst (λ m. IsWhen total may v n m w r) (sym e) d
@@ -193,21 +193,21 @@ module _ (total : ℕ) where
       once_stmt (choice e a b c) (choice f d g h) =
           let p = once_cond a d in
           let q = once_stmt b (stmt_along (tail_of p.2) g) in
-          let r = once_branch c (branch_along q.1 h) in
+          let r = once_alternative c (alternative_along q.1 h) in
           (cc (p.0, q.0, r.0), r.1)
       once_stmt (pick e a b) (pick f c d) =
           let p = once_choice a c in
-          let q = once_branch b (branch_along p.2 d) in
+          let q = once_alternative b (alternative_along p.2 d) in
           (cc (p.0, p.1, q.0), tail_of q.1)
       once_stmt (group_of e a) (group_of f b) = let p = once_block a b in (cc (p.0), p.1)
       once_stmt (write a) (write b) = let p = once_operands a b in (cc (p.0), p.1)
       once_stmt (exit a) (exit b) = let p = once_code a b in (cc (p.0), p.1)
 
-      once_branch : {n : ℕ} {w : Want} {ts r s : List Symbol} {x y : Option Stmt} → IsBranch total may w n ts x r → IsBranch total may w n ts y s → (x ≡ y) × (r ≡ s)
-      once_branch (no_branch e) (no_branch f) = (refl, refl)
-      once_branch (no_branch e) (branch g b) = absurd (clash g e)
-      once_branch (branch g a) (no_branch f) = absurd (clash g f)
-      once_branch (branch g a) (branch h b) = let p = once_stmt a b in (ap (λ x. Some x) p.0, p.1)
+      once_alternative : {n : ℕ} {w : Want} {ts r s : List Symbol} {x y : Option Stmt} → IsAlternative total may w n ts x r → IsAlternative total may w n ts y s → (x ≡ y) × (r ≡ s)
+      once_alternative (no_alternative e) (no_alternative f) = (refl, refl)
+      once_alternative (no_alternative e) (alternative g b) = absurd (clash g e)
+      once_alternative (alternative g a) (no_alternative f) = absurd (clash g f)
+      once_alternative (alternative g a) (alternative h b) = let p = once_stmt a b in (ap (λ x. Some x) p.0, p.1)
 
       once_choice : {n : ℕ} {ts r s : List Symbol} {x y : Option Ref} {ws vs : List When} → IsChoice total may n ts x ws r → IsChoice total may n ts y vs s → (x ≡ y) × (ws ≡ vs) × (r ≡ s)
       once_choice (by_value a b c) (by_value d e f) =

@@ -16,8 +16,8 @@ use Rattle.acs_symbol.specs.declared.symbol.Symbol.TheVariants.{Word, Variable, 
 use Rattle.acs_parse.specs.declared.want.Want.{Want}
 use Rattle.acs_parse.specs.declared.want.Want.TheVariants as want
 use Rattle.acs_parse.specs.Wants.{fits}
-use Rattle.acs_parse.specs.Grammar.{starts, takes_words, takes_variables, joins, goes_on, back, IsOperator, by_sign, by_word, IsListName, named_by_word, named_by_variable, IsHead, headed_by_word, headed_by_variable, IsIndex, no_index, index, IsRef, ref, IsOperand, literal, word_of, variable, IsFurther, no_further, after_comma, joined, IsOperands, operands, IsExclude, no_exclude, exclude, IsLists, including, excluding, IsFilter, filter, IsCode, no_code, code, IsCond, cond_of, IsOrs, no_or, or_more, IsConj, conj_of, IsAnds, no_and, and_more, IsPrim, test, group, IsStmt, set, choice, pick, group_of, write, exit, IsBranch, no_branch, branch, IsChoice, by_value, by_condition, IsWhen, when_any, when_holds, IsWhens, no_when, more_whens, IsBlock, end_of, then_more, IsItem, item_filter, item_statement, IsOrNumber, no_number, number, IsRoutineOf, routine}
-use Rattle.acs_parse.specs.Table.{Effect, Keep, Lower, To, effect, Part, One, OrNumber, ABlock, AnItem, AStatement, Lists, OrExclude, OrBranch, AChoice, AWhen, MoreWhens, ACondition, MoreOrs, AConjunct, MoreAnds, ATest, AnOperand, MoreOperands, ARef, OrIndex, OrCode, Back, Move, Read, Full, Pass, Refuse, followed, gate, entries, when_parts, opens, item_opens, test_opens, operand_opens, rule, start, Step, Go, after, step, may_be_empty, all_empty, Complete, Short, next, verdict}
+use Rattle.acs_parse.specs.Grammar.{starts, takes_words, takes_variables, joins, goes_on, back, IsOperator, by_sign, by_word, IsListName, named_by_word, named_by_variable, IsHead, headed_by_word, headed_by_variable, IsIndex, no_index, index, IsRef, ref, IsOperand, literal, word_of, variable, IsFurther, no_further, after_comma, joined, IsOperands, operands, IsExclude, no_exclude, exclude, IsLists, including, excluding, IsFilter, filter, IsCode, no_code, code, IsCond, cond_of, IsOrs, no_or, or_more, IsConj, conj_of, IsAnds, no_and, and_more, IsPrim, test, group, IsStmt, set, choice, pick, group_of, write, exit, IsAlternative, no_alternative, alternative, IsChoice, by_value, by_condition, IsWhen, when_any, when_holds, IsWhens, no_when, more_whens, IsBlock, end_of, then_more, IsItem, item_filter, item_statement, IsOrNumber, no_number, number, IsRoutineOf, routine}
+use Rattle.acs_parse.specs.Table.{Effect, Keep, Lower, To, effect, Part, One, OrNumber, ABlock, AnItem, AStatement, Lists, OrExclude, OrAlternative, AChoice, AWhen, MoreWhens, ACondition, MoreOrs, AConjunct, MoreAnds, ATest, AnOperand, MoreOperands, ARef, OrIndex, OrCode, Back, Move, Read, Full, Pass, Refuse, followed, gate, entries, when_parts, opens, item_opens, test_opens, operand_opens, rule, start, Step, Go, after, step, may_be_empty, all_empty, Complete, Short, next, verdict}
 
 pub fits_operator : {t : Symbol} {op : Compare} → IsOperator t op → fits want.Operator t ≡ true
 fits_operator by_sign = refl
@@ -110,8 +110,8 @@ module _ (may : ℕ → Bool) where
       → verdict may (One w e ∷ k) n (t ∷ ts) ≡ verdict may k (effect e n) ts
   runs_one w e k n t ts h = taken (One w e) w k [] n (effect e n) t ts Refuse refl h
 
-  pub skip_branch : (w : Want) (n : ℕ) (ts : List Symbol) (k : List Part) → starts w ts ≡ false → verdict may (OrBranch w ∷ k) n ts ≡ verdict may k n ts
-  skip_branch w n ts k e = skip (OrBranch w) w n (λ t. Read n (AStatement ∷ [])) (λ t. refl) refl ts k e
+  pub skip_alternative : (w : Want) (n : ℕ) (ts : List Symbol) (k : List Part) → starts w ts ≡ false → verdict may (OrAlternative w ∷ k) n ts ≡ verdict may k n ts
+  skip_alternative w n ts k e = skip (OrAlternative w) w n (λ t. Read n (AStatement ∷ [])) (λ t. refl) refl ts k e
 
   pub skip_whens : (b : Bool) (n : ℕ) (ts : List Symbol) (k : List Part) → starts want.When ts ≡ false → verdict may (MoreWhens b ∷ k) n ts ≡ verdict may k n ts
   skip_whens b n ts k e = skip (MoreWhens b) want.When n (λ t. Read n (when_parts b n ++ MoreWhens b ∷ [])) (λ t. refl) refl ts k e
@@ -292,18 +292,18 @@ module _ (may : ℕ → Bool) where
     runs_stmt {n = n} (set {t = t} {ms = ms} d e ds) k =
         runs_ref n d (One want.Equal Keep ∷ AnOperand list.Values ∷ MoreOperands list.Values ∷ k) ∙ runs_one want.Equal Keep (AnOperand list.Values ∷ MoreOperands list.Values ∷ k) n t ms e ∙ runs_operands n ds k
     runs_stmt {n = n} {rest = rest} (choice {a = a} {ts = ts} e d f g) k =
-        opened AStatement (Word word.If a) n (ACondition ∷ One want.Then (To (suc n)) ∷ AStatement ∷ OrBranch want.Else ∷ Back ∷ []) k ts refl e ∙ runs_cond d (One want.Then (To (suc n)) ∷ AStatement ∷ OrBranch want.Else ∷ Back ∷ k) ∙ runs_stmt f (OrBranch want.Else ∷ Back ∷ k) ∙ runs_branch g (Back ∷ k) ∙ runs_back rest k (suc n)
+        opened AStatement (Word word.If a) n (ACondition ∷ One want.Then (To (suc n)) ∷ AStatement ∷ OrAlternative want.Else ∷ Back ∷ []) k ts refl e ∙ runs_cond d (One want.Then (To (suc n)) ∷ AStatement ∷ OrAlternative want.Else ∷ Back ∷ k) ∙ runs_stmt f (OrAlternative want.Else ∷ Back ∷ k) ∙ runs_alternative g (Back ∷ k) ∙ runs_back rest k (suc n)
     runs_stmt {n = n} (pick {a = a} {ts = ts} e d f) k =
-        opened AStatement (Word word.Select a) n (AChoice ∷ OrBranch want.Otherwise ∷ One want.End Lower ∷ []) k ts refl e ∙ runs_choice d (OrBranch want.Otherwise ∷ One want.End Lower ∷ k) ∙ runs_branch f (One want.End Lower ∷ k)
+        opened AStatement (Word word.Select a) n (AChoice ∷ OrAlternative want.Otherwise ∷ One want.End Lower ∷ []) k ts refl e ∙ runs_choice d (OrAlternative want.Otherwise ∷ One want.End Lower ∷ k) ∙ runs_alternative f (One want.End Lower ∷ k)
     runs_stmt {n = n} {rest = rest} (group_of {a = a} {ts = ts} e d) k =
         opened AStatement (Word word.Do a) n (ABlock false ∷ Back ∷ []) k ts refl e ∙ runs_block d (Back ∷ k) ∙ runs_back rest k (suc n)
     runs_stmt {n = n} (write d) k = runs_operands n d k
     runs_stmt {n = n} (exit d) k = runs_code n d k
 
-    pub runs_branch : {total n : ℕ} {w : Want} {ts rest : List Symbol} {s : Option Stmt} → IsBranch total may w n ts s rest → (k : List Part)
-        → verdict may (OrBranch w ∷ k) n ts ≡ verdict may k n rest
-    runs_branch {n = n} {w = w} {ts = ts} (no_branch e) k = skip_branch w n ts k e
-    runs_branch {n = n} {w = w} (branch {t = t} {ts = ts} e d) k = taken (OrBranch w) w k (AStatement ∷ []) n n t ts (Pass n) refl e ∙ runs_stmt d k
+    pub runs_alternative : {total n : ℕ} {w : Want} {ts rest : List Symbol} {s : Option Stmt} → IsAlternative total may w n ts s rest → (k : List Part)
+        → verdict may (OrAlternative w ∷ k) n ts ≡ verdict may k n rest
+    runs_alternative {n = n} {w = w} {ts = ts} (no_alternative e) k = skip_alternative w n ts k e
+    runs_alternative {n = n} {w = w} (alternative {t = t} {ts = ts} e d) k = taken (OrAlternative w) w k (AStatement ∷ []) n n t ts (Pass n) refl e ∙ runs_stmt d k
 
     pub runs_choice : {total n : ℕ} {ts rest : List Symbol} {r : Option Ref} {ws : List When} → IsChoice total may n ts r ws rest → (k : List Part)
         → verdict may (AChoice ∷ k) n ts ≡ verdict may k n rest

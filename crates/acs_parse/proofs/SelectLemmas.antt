@@ -1,4 +1,4 @@
--- What the readers of SELECT and its branches give, and where they fail.
+-- What the readers of SELECT and its WHENs give, and where they fail.
 use Rattle.std.proofs.Common.{◌≡◌, ◌<◌, ℕ, suc, Bool, true, false, cond, List, [], ◌∷◌, ◌++◌, length, refl, ap, sym, ◌∙◌, subst, arith, append_assoc}
 use Rattle.std.specs.Prelude.{Option, Some, None}
 use Rattle.acs_tree.specs.declared.routine.Ref.{Ref}
@@ -16,42 +16,42 @@ use Rattle.acs_symbol.specs.declared.symbol.Symbol.TheVariants.{Word, Open}
 use Rattle.acs_parse.specs.declared.want.Want.TheVariants as want
 use Rattle.acs_parse.specs.declared.fault.Fault.{Fault}
 use Rattle.acs_parse.specs.Wants.{fits}
-use Rattle.acs_parse.specs.Grammar.{starts, place_in, when_at, limited, IsRef, IsOperands, IsCond, IsStmt, pick, IsBranch, IsChoice, by_value, by_condition, IsWhen, when_any, when_holds, IsWhens, no_when, more_whens}
-use Rattle.acs_parse.specs.Table.{Effect, Keep, Lower, To, Part, One, AStatement, OrBranch, AChoice, AWhen, MoreWhens, ACondition, AnOperand, MoreOperands, ARef, Read, Refuse, when_parts, Step, after, next, step, Verdict, verdict}
+use Rattle.acs_parse.specs.Grammar.{starts, place_in, when_at, limited, IsRef, IsOperands, IsCond, IsStmt, pick, IsAlternative, IsChoice, by_value, by_condition, IsWhen, when_any, when_holds, IsWhens, no_when, more_whens}
+use Rattle.acs_parse.specs.Table.{Effect, Keep, Lower, To, Part, One, AStatement, OrAlternative, AChoice, AWhen, MoreWhens, ACondition, AnOperand, MoreOperands, ARef, Read, Refuse, when_parts, Step, after, next, step, Verdict, verdict}
 use Rattle.acs_parse.specs.Language.{Takes}
-use Rattle.acs_parse.specs.Reads.{FailsAt, IsInside, IsBranches, IsCondBefore, IsOneMore, IsTest, any_of, holding, test_parts}
-use Rattle.acs_parse.proofs.RunLemmas.{runs_ref, runs_operands, runs_cond, runs_branch, runs_choice, runs_when, whens_as_when}
+use Rattle.acs_parse.specs.Reads.{FailsAt, IsInside, AreWhens, IsCondBefore, IsOneMore, IsTest, any_of, holding, test_parts}
+use Rattle.acs_parse.proofs.RunLemmas.{runs_ref, runs_operands, runs_cond, runs_alternative, runs_choice, runs_when, whens_as_when}
 use Rattle.acs_parse.proofs.SoundLemmas.{is_when}
 use Rattle.acs_parse.proofs.ShorterLemmas.{when_shorter, operands_shorter, cond_shorter}
 use Rattle.acs_parse.proofs.OperandLemmas.{Goes, along, goes_one, takes_open, takes_close, empty_right}
 use Rattle.acs_parse.proofs.StatementLemmas.{takes_end}
 
-pub select_at : {total i : ℕ} {ts a b rest : List Symbol} {r : Option Ref} {ws : List When} {o : Option Stmt} → IsChoice total limited i ts r ws a → IsBranch total limited want.Otherwise i a o b
+pub select_at : {total i : ℕ} {ts a b rest : List Symbol} {r : Option Ref} {ws : List When} {o : Option Stmt} → IsChoice total limited i ts r ws a → IsAlternative total limited want.Otherwise i a o b
     → Takes want.End b rest → IsInside total word.Select i ts (form.Pick r ws o) rest
 select_at {total} {i} {ts} {a} {b} {rest} {r} {ws} {o} x y q n may e w =
     let v = takes_end q in
     let x : IsChoice total limited (suc n) ts r ws a = subst (λ j. IsChoice total limited j ts r ws a) e x in
-    let y : IsBranch total limited want.Otherwise (suc n) a o (Word word.End v.0 ∷ rest) = subst (λ j. IsBranch total limited want.Otherwise j a o (Word word.End v.0 ∷ rest)) e (subst (λ l. IsBranch total limited want.Otherwise i a o l) v.1 y) in
+    let y : IsAlternative total limited want.Otherwise (suc n) a o (Word word.End v.0 ∷ rest) = subst (λ j. IsAlternative total limited want.Otherwise j a o (Word word.End v.0 ∷ rest)) e (subst (λ l. IsAlternative total limited want.Otherwise i a o l) v.1 y) in
     pick may x y
 
-pub select_choice_fails : (e : Fault) (i : ℕ) (ts : List Symbol) → FailsAt e (AChoice ∷ []) i ts → FailsAt e (AChoice ∷ OrBranch want.Otherwise ∷ One want.End Lower ∷ []) i ts
-select_choice_fails e i ts h k = h (OrBranch want.Otherwise ∷ One want.End Lower ∷ k)
+pub select_choice_fails : (e : Fault) (i : ℕ) (ts : List Symbol) → FailsAt e (AChoice ∷ []) i ts → FailsAt e (AChoice ∷ OrAlternative want.Otherwise ∷ One want.End Lower ∷ []) i ts
+select_choice_fails e i ts h k = h (OrAlternative want.Otherwise ∷ One want.End Lower ∷ k)
 
-pub select_other_fails : (e : Fault) {total i : ℕ} {ts a : List Symbol} {r : Option Ref} {ws : List When} → IsChoice total limited i ts r ws a → FailsAt e (OrBranch want.Otherwise ∷ []) i a
-    → FailsAt e (AChoice ∷ OrBranch want.Otherwise ∷ One want.End Lower ∷ []) i ts
-select_other_fails e x h k = along e (runs_choice limited x (OrBranch want.Otherwise ∷ One want.End Lower ∷ k)) (h (One want.End Lower ∷ k))
+pub select_other_fails : (e : Fault) {total i : ℕ} {ts a : List Symbol} {r : Option Ref} {ws : List When} → IsChoice total limited i ts r ws a → FailsAt e (OrAlternative want.Otherwise ∷ []) i a
+    → FailsAt e (AChoice ∷ OrAlternative want.Otherwise ∷ One want.End Lower ∷ []) i ts
+select_other_fails e x h k = along e (runs_choice limited x (OrAlternative want.Otherwise ∷ One want.End Lower ∷ k)) (h (One want.End Lower ∷ k))
 
-pub select_end_fails : (e : Fault) {total i : ℕ} {ts a b : List Symbol} {r : Option Ref} {ws : List When} {o : Option Stmt} → IsChoice total limited i ts r ws a → IsBranch total limited want.Otherwise i a o b
-    → ((f : Effect) (v : ℕ) → FailsAt e (One want.End f ∷ []) v b) → FailsAt e (AChoice ∷ OrBranch want.Otherwise ∷ One want.End Lower ∷ []) i ts
-select_end_fails e {i = i} x y h k = along e (runs_choice limited x (OrBranch want.Otherwise ∷ One want.End Lower ∷ k) ∙ runs_branch limited y (One want.End Lower ∷ k)) (h Lower i k)
+pub select_end_fails : (e : Fault) {total i : ℕ} {ts a b : List Symbol} {r : Option Ref} {ws : List When} {o : Option Stmt} → IsChoice total limited i ts r ws a → IsAlternative total limited want.Otherwise i a o b
+    → ((f : Effect) (v : ℕ) → FailsAt e (One want.End f ∷ []) v b) → FailsAt e (AChoice ∷ OrAlternative want.Otherwise ∷ One want.End Lower ∷ []) i ts
+select_end_fails e {i = i} x y h k = along e (runs_choice limited x (OrAlternative want.Otherwise ∷ One want.End Lower ∷ k) ∙ runs_alternative limited y (One want.End Lower ∷ k)) (h Lower i k)
 
-pub choice_by_value : {total n : ℕ} {ts a b l rest : List Symbol} {r : Ref} {ws : List When} → ts ≡ Open ∷ a → IsRef total a r b → Takes want.Close b l → IsBranches total true n l ws rest
+pub choice_by_value : {total n : ℕ} {ts a b l rest : List Symbol} {r : Ref} {ws : List When} → ts ≡ Open ∷ a → IsRef total a r b → Takes want.Close b l → AreWhens total true n l ws rest
     → IsChoice total limited n ts (Some r) ws rest
 choice_by_value {total} {n} {ts} {a} {b} {l} {rest} {r} {ws} e d q (w, others, ms, x, y, g) =
     let c : IsChoice total limited n (Open ∷ a) (Some r) (w ∷ others) rest = by_value (subst (λ z. IsRef total a r z) (takes_close q) d) x y in
     subst (λ zs. IsChoice total limited n ts (Some r) zs rest) (sym g) (subst (λ z. IsChoice total limited n z (Some r) (w ∷ others) rest) (sym e) c)
 
-pub choice_by_condition : {total n : ℕ} {v : List ℕ} {ts a rest : List Symbol} {ws : List When} → ts ≡ Word word.When v ∷ a → IsBranches total false n ts ws rest → IsChoice total limited n ts None ws rest
+pub choice_by_condition : {total n : ℕ} {v : List ℕ} {ts a rest : List Symbol} {ws : List When} → ts ≡ Word word.When v ∷ a → AreWhens total false n ts ws rest → IsChoice total limited n ts None ws rest
 choice_by_condition {total} {n} {v} {ts} {a} {rest} {ws} e (w, others, ms, x, y, g) =
     let c : IsChoice total limited n (Word word.When v ∷ a) None (w ∷ others) rest = by_condition (subst (λ z. IsWhen total limited false n z w ms) e x) y in
     subst (λ zs. IsChoice total limited n ts None zs rest) (sym g) (subst (λ z. IsChoice total limited n z None (w ∷ others) rest) (sym e) c)
@@ -72,14 +72,14 @@ choice_values_fail e n q d p h k = along e (goes_subject n q d k ∙ goes_one wa
 pub choice_conditions_fail : (e : Fault) (n : ℕ) {v : List ℕ} {ts a : List Symbol} → ts ≡ Word word.When v ∷ a → FailsAt e (AWhen false ∷ MoreWhens false ∷ []) n ts → FailsAt e (AChoice ∷ []) n ts
 choice_conditions_fail e n q h k = along e (ap (λ x. verdict limited (AChoice ∷ k) n x) q ∙ ap (λ x. verdict limited (AWhen false ∷ MoreWhens false ∷ k) n x) (sym q)) (h k)
 
--- the branches so far
+-- the WHENs so far
 pub record WhenTurn (total n : ℕ) (b : Bool) (ts rest : List Symbol) (list : List When) : Type 0 where
-  pub done : (ws : List When) (r : List Symbol) → IsWhens total limited b n rest ws r → IsBranches total b n ts (list ++ ws) r
+  pub done : (ws : List When) (r : List Symbol) → IsWhens total limited b n rest ws r → AreWhens total b n ts (list ++ ws) r
   pub same : (k : List Part) → verdict limited (AWhen b ∷ MoreWhens b ∷ k) n ts ≡ verdict limited (MoreWhens b ∷ k) n rest
   pub shorter : length rest < length ts
 
-pub branches_first : {total n : ℕ} {b : Bool} {ts rest : List Symbol} {none list : List When} → IsOneMore total b n ts none list rest → none ≡ [] → WhenTurn total n b ts rest list
-branches_first {total} {n} {b} {ts} {rest} {none} {list} (w, d, g) f =
+pub when_clauses_first : {total n : ℕ} {b : Bool} {ts rest : List Symbol} {none list : List When} → IsOneMore total b n ts none list rest → none ≡ [] → WhenTurn total n b ts rest list
+when_clauses_first {total} {n} {b} {ts} {rest} {none} {list} (w, d, g) f =
     let turn : WhenTurn total n b ts rest (w ∷ []) = record {
       done = λ ws r ds. (w, ws, rest, d, ds, refl);
       same = λ k. runs_when limited d (MoreWhens b ∷ k);
@@ -99,25 +99,25 @@ whens_go : (b : Bool) (n : ℕ) (ts : List Symbol) (k : List Part) → starts wa
 whens_go b n [] k e = let no : ⊥ = cc in absurd no
 whens_go b n (t ∷ ts) k e = whens_as_when limited b n t ts k e
 
-pub branches_turn : {total n : ℕ} {b : Bool} {ts rest left : List Symbol} {list longer : List When} → WhenTurn total n b ts rest list → starts want.When rest ≡ true
+pub when_clauses_turn : {total n : ℕ} {b : Bool} {ts rest left : List Symbol} {list longer : List When} → WhenTurn total n b ts rest list → starts want.When rest ≡ true
     → IsOneMore total b n rest list longer left → WhenTurn total n b ts left longer
-branches_turn {total} {n} {b} {ts} {rest} {left} {list} {longer} t e (w, d, g) =
+when_clauses_turn {total} {n} {b} {ts} {rest} {left} {list} {longer} t e (w, d, g) =
     let turn : WhenTurn total n b ts left (list ++ w ∷ []) = record {
-      done = λ ws r ds. subst (λ xs. IsBranches total b n ts xs r) (sym (append_assoc list (w ∷ []) ws)) (t.done (w ∷ ws) r (whens_more e d ds));
+      done = λ ws r ds. subst (λ xs. AreWhens total b n ts xs r) (sym (append_assoc list (w ∷ []) ws)) (t.done (w ∷ ws) r (whens_more e d ds));
       same = λ k. t.same k ∙ whens_go b n rest k e ∙ runs_when limited d (MoreWhens b ∷ k);
       shorter = omega (arith, t.shorter, when_shorter d);
     } in
     subst (λ xs. WhenTurn total n b ts left xs) (sym g) turn
 
-pub branches_over : {total n : ℕ} {b : Bool} {ts rest : List Symbol} {list : List When} → WhenTurn total n b ts rest list → starts want.When rest ≡ false → IsBranches total b n ts list rest
-branches_over {total} {n} {b} {ts} {rest} {list} t e = subst (λ xs. IsBranches total b n ts xs rest) (empty_right list) (t.done [] rest (no_when e))
+pub when_clauses_over : {total n : ℕ} {b : Bool} {ts rest : List Symbol} {list : List When} → WhenTurn total n b ts rest list → starts want.When rest ≡ false → AreWhens total b n ts list rest
+when_clauses_over {total} {n} {b} {ts} {rest} {list} t e = subst (λ xs. AreWhens total b n ts xs rest) (empty_right list) (t.done [] rest (no_when e))
 
-pub branches_fail_first : (e : Fault) (n : ℕ) (b : Bool) (ts : List Symbol) → FailsAt e (AWhen b ∷ []) n ts → FailsAt e (AWhen b ∷ MoreWhens b ∷ []) n ts
-branches_fail_first e n b ts h k = h (MoreWhens b ∷ k)
+pub when_clauses_fail_first : (e : Fault) (n : ℕ) (b : Bool) (ts : List Symbol) → FailsAt e (AWhen b ∷ []) n ts → FailsAt e (AWhen b ∷ MoreWhens b ∷ []) n ts
+when_clauses_fail_first e n b ts h k = h (MoreWhens b ∷ k)
 
-pub branches_fail : (e : Fault) {total n : ℕ} {b : Bool} {ts rest : List Symbol} {list : List When} → WhenTurn total n b ts rest list → starts want.When rest ≡ true
+pub when_clauses_fail : (e : Fault) {total n : ℕ} {b : Bool} {ts rest : List Symbol} {list : List When} → WhenTurn total n b ts rest list → starts want.When rest ≡ true
     → FailsAt e (AWhen b ∷ []) n rest → FailsAt e (AWhen b ∷ MoreWhens b ∷ []) n ts
-branches_fail e {n = n} {b = b} {rest = rest} t s h k = along e (t.same k ∙ whens_go b n rest k s) (h (MoreWhens b ∷ k))
+when_clauses_fail e {n = n} {b = b} {rest = rest} t s h k = along e (t.same k ∙ whens_go b n rest k s) (h (MoreWhens b ∷ k))
 
 when_at_place : {total at n : ℕ} {b : Bool} {ts a l rest : List Symbol} {test : WhenTest} {s : Stmt} → at ≡ place_in total ts → Takes want.When ts a → IsTest total b n a test l
     → IsStmt total limited n l s rest → IsWhen total limited b n ts (roll-When (record { at = at; test = test; body = s })) rest
@@ -132,7 +132,7 @@ when_at_place {total = total} {at = at} {n = n} {ts = ts} {rest = rest} {s = s} 
     let c : IsWhen total limited false n ts (when_at total ts (Holds o) s) rest = subst (λ x. IsWhen total limited false n x (when_at total x (Holds o) s) rest) (sym p) (when_holds d y) in
     subst (λ x. IsWhen total limited false n ts x rest) (sym (ap (λ x. roll-When (record { at = x; test = Holds o; body = s })) f)) c
 
--- the branches and one more, whose parts are these
+-- the WHENs and one more, whose parts are these
 pub when_of : {total at n : ℕ} {b : Bool} {ts a l rest : List Symbol} {test : WhenTest} {s : Stmt} (list : List When) {longer : List When} → at ≡ place_in total ts → Takes want.When ts a → IsTest total b n a test l
     → IsStmt total limited n l s rest → longer ≡ list ++ roll-When (record { at = at; test = test; body = s }) ∷ [] → IsOneMore total b n ts list longer rest
 when_of {at = at} {test = test} {s = s} list f q d y g = (roll-When (record { at = at; test = test; body = s }), when_at_place f q d y, g)
@@ -213,7 +213,7 @@ pub ruleset selection_steps = (select_at, select_choice_fails, select_other_fail
 
 pub ruleset choice_steps = (choice_by_value, choice_by_condition, choice_ref_fails, choice_close_fails, choice_values_fail, choice_conditions_fail)
 
-pub ruleset branches_steps = (branches_first, branches_turn, branches_over, branches_fail_first, branches_fail)
+pub ruleset when_clauses_steps = (when_clauses_first, when_clauses_turn, when_clauses_over, when_clauses_fail_first, when_clauses_fail)
 
 pub ruleset when_value_steps = (when_of, when_word_fails, when_items_fail, when_body_fails)
 

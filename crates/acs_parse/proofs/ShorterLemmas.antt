@@ -10,7 +10,7 @@ use Rattle.acs_parse.specs.declared.list_kind.ListKind.{ListKind}
 use Rattle.acs_symbol.specs.declared.symbol.Symbol.{Symbol}
 use Rattle.acs_parse.specs.declared.want.Want.{Want}
 use Rattle.acs_parse.specs.Language.{Takes}
-use Rattle.acs_parse.specs.Grammar.{IsIndex, no_index, index, IsRef, ref, IsOperand, literal, word_of, variable, IsFurther, no_further, after_comma, joined, IsOperands, operands, IsExclude, no_exclude, exclude, IsLists, including, excluding, IsFilter, filter, IsCode, no_code, code, IsCond, cond_of, IsOrs, no_or, or_more, IsConj, conj_of, IsAnds, no_and, and_more, IsPrim, test, group, IsStmt, set, choice, pick, group_of, write, exit, IsBranch, no_branch, branch, IsChoice, by_value, by_condition, IsWhen, when_any, when_holds, IsWhens, no_when, more_whens, IsBlock, end_of, then_more, IsItem, item_filter, item_statement}
+use Rattle.acs_parse.specs.Grammar.{IsIndex, no_index, index, IsRef, ref, IsOperand, literal, word_of, variable, IsFurther, no_further, after_comma, joined, IsOperands, operands, IsExclude, no_exclude, exclude, IsLists, including, excluding, IsFilter, filter, IsCode, no_code, code, IsCond, cond_of, IsOrs, no_or, or_more, IsConj, conj_of, IsAnds, no_and, and_more, IsPrim, test, group, IsStmt, set, choice, pick, group_of, write, exit, IsAlternative, no_alternative, alternative, IsChoice, by_value, by_condition, IsWhen, when_any, when_holds, IsWhens, no_when, more_whens, IsBlock, end_of, then_more, IsItem, item_filter, item_statement}
 
 pub takes_shorter : (w : Want) {ts rest : List Symbol} → Takes w ts rest → length rest < length ts
 takes_shorter w q = omega (arith, ap length q.2)
@@ -72,15 +72,15 @@ mutual
 mutual
   pub stmt_shorter : {total n : ℕ} {may : ℕ → Bool} {ts rest : List Symbol} {s : Stmt} → IsStmt total may n ts s rest → length rest < length ts
   stmt_shorter (set a e b) = omega (arith, ref_shorter a, operands_shorter b)
-  stmt_shorter (choice e a b c) = omega (arith, cond_shorter a, stmt_shorter b, branch_shorter c)
-  stmt_shorter (pick e a b) = omega (arith, choice_shorter a, branch_shorter b)
+  stmt_shorter (choice e a b c) = omega (arith, cond_shorter a, stmt_shorter b, alternative_shorter c)
+  stmt_shorter (pick e a b) = omega (arith, choice_shorter a, alternative_shorter b)
   stmt_shorter (group_of e a) = omega (arith, block_shorter a)
   stmt_shorter (write a) = omega (arith, operands_shorter a)
   stmt_shorter (exit a) = omega (arith, code_shorter a)
 
-  pub branch_shorter : {total n : ℕ} {may : ℕ → Bool} {w : Want} {ts rest : List Symbol} {s : Option Stmt} → IsBranch total may w n ts s rest → length rest ≤ length ts
-  branch_shorter (no_branch e) = omega arith
-  branch_shorter (branch e a) = omega (arith, stmt_shorter a)
+  pub alternative_shorter : {total n : ℕ} {may : ℕ → Bool} {w : Want} {ts rest : List Symbol} {s : Option Stmt} → IsAlternative total may w n ts s rest → length rest ≤ length ts
+  alternative_shorter (no_alternative e) = omega arith
+  alternative_shorter (alternative e a) = omega (arith, stmt_shorter a)
 
   pub choice_shorter : {total n : ℕ} {may : ℕ → Bool} {ts rest : List Symbol} {r : Option Ref} {ws : List When} → IsChoice total may n ts r ws rest → length rest < length ts
   choice_shorter (by_value a b c) = omega (arith, ref_shorter a, when_shorter b, whens_shorter c)

@@ -17,8 +17,8 @@ use Rattle.acs_symbol.specs.declared.symbol.Symbol.TheVariants.{Word, Variable, 
 use Rattle.acs_parse.specs.declared.want.Want.{Want}
 use Rattle.acs_parse.specs.declared.want.Want.TheVariants as want
 use Rattle.acs_parse.specs.Wants.{fits}
-use Rattle.acs_parse.specs.Grammar.{takes_words, takes_variables, joins, back, IsOperator, by_sign, by_word, IsListName, named_by_word, named_by_variable, IsHead, headed_by_word, headed_by_variable, IsIndex, no_index, index, IsRef, ref, IsOperand, literal, word_of, variable, IsFurther, no_further, after_comma, joined, IsOperands, operands, IsExclude, no_exclude, exclude, IsLists, including, excluding, filter, IsCode, no_code, code, IsCond, cond_of, IsOrs, no_or, or_more, IsConj, conj_of, IsAnds, no_and, and_more, IsPrim, test, group, IsStmt, set, choice, pick, group_of, write, exit, IsBranch, no_branch, branch, IsChoice, by_value, by_condition, IsWhen, when_any, when_holds, IsWhens, no_when, more_whens, IsBlock, end_of, then_more, IsItem, item_filter, item_statement, IsOrNumber, no_number, number}
-use Rattle.acs_parse.specs.Table.{Effect, Keep, Lower, To, Part, One, OrNumber, ABlock, AnItem, AStatement, Lists, OrExclude, OrBranch, AChoice, AWhen, MoreWhens, ACondition, MoreOrs, AConjunct, MoreAnds, ATest, AnOperand, MoreOperands, ARef, OrIndex, OrCode, Back, Move, Read, Full, Pass, Refuse, followed, entries, when_parts, opens, item_opens, test_opens, operand_opens, list_opens, choice_opens, rule, Step, Go, after, step}
+use Rattle.acs_parse.specs.Grammar.{takes_words, takes_variables, joins, back, IsOperator, by_sign, by_word, IsListName, named_by_word, named_by_variable, IsHead, headed_by_word, headed_by_variable, IsIndex, no_index, index, IsRef, ref, IsOperand, literal, word_of, variable, IsFurther, no_further, after_comma, joined, IsOperands, operands, IsExclude, no_exclude, exclude, IsLists, including, excluding, filter, IsCode, no_code, code, IsCond, cond_of, IsOrs, no_or, or_more, IsConj, conj_of, IsAnds, no_and, and_more, IsPrim, test, group, IsStmt, set, choice, pick, group_of, write, exit, IsAlternative, no_alternative, alternative, IsChoice, by_value, by_condition, IsWhen, when_any, when_holds, IsWhens, no_when, more_whens, IsBlock, end_of, then_more, IsItem, item_filter, item_statement, IsOrNumber, no_number, number}
+use Rattle.acs_parse.specs.Table.{Effect, Keep, Lower, To, Part, One, OrNumber, ABlock, AnItem, AStatement, Lists, OrExclude, OrAlternative, AChoice, AWhen, MoreWhens, ACondition, MoreOrs, AConjunct, MoreAnds, ATest, AnOperand, MoreOperands, ARef, OrIndex, OrCode, Back, Move, Read, Full, Pass, Refuse, followed, entries, when_parts, opens, item_opens, test_opens, operand_opens, list_opens, choice_opens, rule, Step, Go, after, step}
 use Rattle.acs_parse.specs.Language.{Takes, Seq, Holds}
 
 -- what a wanted token is
@@ -136,7 +136,7 @@ module _ (total : ℕ) (may : ℕ → Bool) where
       let os = o.3 in
       let up : n ≡ m = q.2.2 ∙ b.2.1 ∙ o.2.2 ∙ os.2.2 ∙ os.3.0 in
       stmt_to n m _ (Word word.Set a ∷ ms) os.1 rest (set d b.2.0.1 (operands o.2.1 os.2.1)) os.3.1 up
-  holds_statement n (Word word.If a) = gate_at AStatement n (Word word.If a) (ACondition ∷ One want.Then (To (suc n)) ∷ AStatement ∷ OrBranch want.Else ∷ Back ∷ []) (may n) (λ e m ms rest q.
+  holds_statement n (Word word.If a) = gate_at AStatement n (Word word.If a) (ACondition ∷ One want.Then (To (suc n)) ∷ AStatement ∷ OrAlternative want.Else ∷ Back ∷ []) (may n) (λ e m ms rest q.
       let c = q.2.0 in
       let th = then_at q.1 q.3.1 q.3.2.0 in
       let d : IsCond total may (suc n) ms c q.0 (Word word.Then th.0 ∷ q.3.1) = subst (λ r. IsCond total may (suc n) ms c q.0 r) th.1 q.2.1 in
@@ -144,14 +144,14 @@ module _ (total : ℕ) (may : ℕ → Bool) where
       let s : IsStmt total may (suc n) q.3.1 a1.2.0 a1.1 = subst (λ x. IsStmt total may x q.3.1 a1.2.0 a1.1) (sym q.3.2.1) a1.2.1 in
       let b = a1.3 in
       let up : suc n ≡ a1.0 = q.3.2.1 ∙ a1.2.2 in
-      let o : IsBranch total may want.Else (suc n) a1.1 b.2.0 b.1 = subst (λ x. IsBranch total may want.Else x a1.1 b.2.0 b.1) (sym up) b.2.1 in
+      let o : IsAlternative total may want.Else (suc n) a1.1 b.2.0 b.1 = subst (λ x. IsAlternative total may want.Else x a1.1 b.2.0 b.1) (sym up) b.2.1 in
       let f : n ≡ m = ap back (up ∙ b.2.2) ∙ b.3.2.1 ∙ b.3.3.0 in
       stmt_to n m _ (Word word.If a ∷ ms) b.1 rest (choice e d s o) (b.3.2.0 ∙ b.3.3.1) f)
-  holds_statement n (Word word.Select a) = gate_at AStatement n (Word word.Select a) (AChoice ∷ OrBranch want.Otherwise ∷ One want.End Lower ∷ []) (may n) (λ e m ms rest q.
+  holds_statement n (Word word.Select a) = gate_at AStatement n (Word word.Select a) (AChoice ∷ OrAlternative want.Otherwise ∷ One want.End Lower ∷ []) (may n) (λ e m ms rest q.
       let b = q.3 in
       let en = end_at b.1 b.3.1 b.3.2.0 in
-      let o : IsBranch total may want.Otherwise (suc n) q.1 b.2.0 (Word word.End en.0 ∷ b.3.1) =
-      subst (λ r. IsBranch total may want.Otherwise (suc n) q.1 b.2.0 r) en.1 (subst (λ x. IsBranch total may want.Otherwise x q.1 b.2.0 b.1) (sym q.2.3) b.2.1) in
+      let o : IsAlternative total may want.Otherwise (suc n) q.1 b.2.0 (Word word.End en.0 ∷ b.3.1) =
+      subst (λ r. IsAlternative total may want.Otherwise (suc n) q.1 b.2.0 r) en.1 (subst (λ x. IsAlternative total may want.Otherwise x q.1 b.2.0 b.1) (sym q.2.3) b.2.1) in
       let f : n ≡ m = ap back (q.2.3 ∙ b.2.2) ∙ b.3.2.1 ∙ b.3.3.0 in
       stmt_to n m _ (Word word.Select a ∷ ms) b.3.1 rest (pick e q.2.2 o) b.3.3.1 f)
   holds_statement n (Word word.Do a) = gate_at AStatement n (Word word.Do a) (ABlock false ∷ Back ∷ []) (may n) (λ e m ms rest q.
@@ -240,10 +240,10 @@ module _ (total : ℕ) (may : ℕ → Bool) where
       (r.0, subst (λ x. IsExclude total (x ∷ ms) r.0 rest) (sym w.1) r.1, r.2))
       (λ e ms. ([], no_exclude e, refl))
 
-  holds_branch : (w : Want) (n : ℕ) (t : Symbol) → Holds total may (OrBranch w) n t (rule may (OrBranch w) n t)
-  holds_branch w n t = row_at (OrBranch w) n t _ _ (fits w t)
-      (λ e m ms rest q. (Some q.2.0, subst (λ r. IsBranch total may w n (t ∷ ms) (Some q.2.0) r) q.3.1 (branch e q.2.1), q.2.2 ∙ q.3.0))
-      (λ e ms. (None, no_branch e, refl))
+  holds_alternative : (w : Want) (n : ℕ) (t : Symbol) → Holds total may (OrAlternative w) n t (rule may (OrAlternative w) n t)
+  holds_alternative w n t = row_at (OrAlternative w) n t _ _ (fits w t)
+      (λ e m ms rest q. (Some q.2.0, subst (λ r. IsAlternative total may w n (t ∷ ms) (Some q.2.0) r) q.3.1 (alternative e q.2.1), q.2.2 ∙ q.3.0))
+      (λ e ms. (None, no_alternative e, refl))
 
   when_row : (b : Bool) (n m : ℕ) (a : List ℕ) (ms rest : List Symbol) → Seq total may (when_parts b n) n ms m rest
       → (w : When) × IsWhen total may b n (Word word.When a ∷ ms) w rest × (n ≡ m)
@@ -474,7 +474,7 @@ module _ (total : ℕ) (may : ℕ → Bool) where
   holds AStatement n t = holds_statement n t
   holds Lists n t = holds_lists n t
   holds OrExclude n t = holds_exclude n t
-  holds (OrBranch w) n t = holds_branch w n t
+  holds (OrAlternative w) n t = holds_alternative w n t
   holds AChoice n t = holds_choice n t
   holds (AWhen b) n t = holds_when b n t
   holds (MoreWhens b) n t = holds_whens b n t

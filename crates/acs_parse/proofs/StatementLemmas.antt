@@ -16,8 +16,8 @@ use Rattle.acs_parse.specs.declared.want.Want.{Want}
 use Rattle.acs_parse.specs.declared.want.Want.TheVariants as want
 use Rattle.acs_parse.specs.declared.fault.Fault.{Fault}
 use Rattle.acs_parse.specs.declared.fault.Fault.TheVariants.{Deep}
-use Rattle.acs_parse.specs.Grammar.{starts, place_in, placed, limited, IsRef, IsOperands, IsFilter, IsCode, IsCond, IsStmt, set, choice, group_of, write, exit, IsBranch, no_branch, branch, IsBlock, end_of, then_more, IsItem, item_filter, item_statement}
-use Rattle.acs_parse.specs.Table.{Effect, Keep, Lower, To, Part, One, ABlock, AnItem, AStatement, OrBranch, AChoice, ACondition, AnOperand, MoreOperands, ARef, OrCode, Back, Read, Full, Pass, gate, rule, TooMany, verdict}
+use Rattle.acs_parse.specs.Grammar.{starts, place_in, placed, limited, IsRef, IsOperands, IsFilter, IsCode, IsCond, IsStmt, set, choice, group_of, write, exit, IsAlternative, no_alternative, alternative, IsBlock, end_of, then_more, IsItem, item_filter, item_statement}
+use Rattle.acs_parse.specs.Table.{Effect, Keep, Lower, To, Part, One, ABlock, AnItem, AStatement, OrAlternative, AChoice, ACondition, AnOperand, MoreOperands, ARef, OrCode, Back, Read, Full, Pass, gate, rule, TooMany, verdict}
 use Rattle.acs_parse.specs.Language.{Takes}
 use Rattle.acs_parse.specs.Reads.{FailsAt, IsBehind, IsInside, IsCondBefore, AreArms}
 use Rattle.acs_parse.proofs.RunLemmas.{moved, taken, opened, runs_ref, runs_cond, runs_stmt, runs_item, block_as_item, item_as_statement}
@@ -55,18 +55,18 @@ pub exit_fails : (e : Fault) (n : ℕ) {w : List ℕ} {ts a : List Symbol} → t
 exit_fails e n q h k = along e (ap (λ x. verdict limited (AStatement ∷ k) n x) q) (h n k)
 
 pub if_fails : (e : Fault) (n i : ℕ) {w : List ℕ} {ts a : List Symbol} → ts ≡ Word word.If w ∷ a → (limited n ≡ true) × (i ≡ suc n)
-    → FailsAt e (ACondition ∷ One want.Then (To i) ∷ AStatement ∷ OrBranch want.Else ∷ Back ∷ []) i a → FailsAt e (AStatement ∷ []) n ts
+    → FailsAt e (ACondition ∷ One want.Then (To i) ∷ AStatement ∷ OrAlternative want.Else ∷ Back ∷ []) i a → FailsAt e (AStatement ∷ []) n ts
 if_fails e n i {w} {ts} {a} q o h k =
-    let g : verdict limited (AStatement ∷ k) n ts ≡ verdict limited (ACondition ∷ One want.Then (To (suc n)) ∷ AStatement ∷ OrBranch want.Else ∷ Back ∷ k) (suc n) a =
-    ap (λ x. verdict limited (AStatement ∷ k) n x) q ∙ opened limited AStatement (Word word.If w) n (ACondition ∷ One want.Then (To (suc n)) ∷ AStatement ∷ OrBranch want.Else ∷ Back ∷ []) k a refl o.0 in
-    along e (g ∙ ap (λ x. verdict limited (ACondition ∷ One want.Then (To x) ∷ AStatement ∷ OrBranch want.Else ∷ Back ∷ k) x a) (sym o.1)) (h k)
+    let g : verdict limited (AStatement ∷ k) n ts ≡ verdict limited (ACondition ∷ One want.Then (To (suc n)) ∷ AStatement ∷ OrAlternative want.Else ∷ Back ∷ k) (suc n) a =
+    ap (λ x. verdict limited (AStatement ∷ k) n x) q ∙ opened limited AStatement (Word word.If w) n (ACondition ∷ One want.Then (To (suc n)) ∷ AStatement ∷ OrAlternative want.Else ∷ Back ∷ []) k a refl o.0 in
+    along e (g ∙ ap (λ x. verdict limited (ACondition ∷ One want.Then (To x) ∷ AStatement ∷ OrAlternative want.Else ∷ Back ∷ k) x a) (sym o.1)) (h k)
 
 pub select_fails : (e : Fault) (n i : ℕ) {w : List ℕ} {ts a : List Symbol} → ts ≡ Word word.Select w ∷ a → (limited n ≡ true) × (i ≡ suc n)
-    → FailsAt e (AChoice ∷ OrBranch want.Otherwise ∷ One want.End Lower ∷ []) i a → FailsAt e (AStatement ∷ []) n ts
+    → FailsAt e (AChoice ∷ OrAlternative want.Otherwise ∷ One want.End Lower ∷ []) i a → FailsAt e (AStatement ∷ []) n ts
 select_fails e n i {w} {ts} {a} q o h k =
-    let g : verdict limited (AStatement ∷ k) n ts ≡ verdict limited (AChoice ∷ OrBranch want.Otherwise ∷ One want.End Lower ∷ k) (suc n) a =
-    ap (λ x. verdict limited (AStatement ∷ k) n x) q ∙ opened limited AStatement (Word word.Select w) n (AChoice ∷ OrBranch want.Otherwise ∷ One want.End Lower ∷ []) k a refl o.0 in
-    along e (g ∙ ap (λ x. verdict limited (AChoice ∷ OrBranch want.Otherwise ∷ One want.End Lower ∷ k) x a) (sym o.1)) (h k)
+    let g : verdict limited (AStatement ∷ k) n ts ≡ verdict limited (AChoice ∷ OrAlternative want.Otherwise ∷ One want.End Lower ∷ k) (suc n) a =
+    ap (λ x. verdict limited (AStatement ∷ k) n x) q ∙ opened limited AStatement (Word word.Select w) n (AChoice ∷ OrAlternative want.Otherwise ∷ One want.End Lower ∷ []) k a refl o.0 in
+    along e (g ∙ ap (λ x. verdict limited (AChoice ∷ OrAlternative want.Otherwise ∷ One want.End Lower ∷ k) x a) (sym o.1)) (h k)
 
 pub do_fails : (e : Fault) (n i : ℕ) {w : List ℕ} {ts a : List Symbol} → ts ≡ Word word.Do w ∷ a → (limited n ≡ true) × (i ≡ suc n)
     → FailsAt e (ABlock false ∷ Back ∷ []) i a → FailsAt e (AStatement ∷ []) n ts
@@ -82,10 +82,10 @@ stmt_deep e n t new {ts} {a} r q o k =
     fails_deep e o.1 (subst (λ x. verdict limited (AStatement ∷ k) n x ≡ TooMany (length x)) (sym q) g)
 
 pub if_deep : (e : Fault) (n : ℕ) {w : List ℕ} {ts a : List Symbol} → ts ≡ Word word.If w ∷ a → (limited n ≡ false) × (e ≡ Deep (length ts)) → FailsAt e (AStatement ∷ []) n ts
-if_deep e n {w} q o = stmt_deep e n (Word word.If w) (ACondition ∷ One want.Then (To (suc n)) ∷ AStatement ∷ OrBranch want.Else ∷ Back ∷ []) refl q o
+if_deep e n {w} q o = stmt_deep e n (Word word.If w) (ACondition ∷ One want.Then (To (suc n)) ∷ AStatement ∷ OrAlternative want.Else ∷ Back ∷ []) refl q o
 
 pub select_deep : (e : Fault) (n : ℕ) {w : List ℕ} {ts a : List Symbol} → ts ≡ Word word.Select w ∷ a → (limited n ≡ false) × (e ≡ Deep (length ts)) → FailsAt e (AStatement ∷ []) n ts
-select_deep e n {w} q o = stmt_deep e n (Word word.Select w) (AChoice ∷ OrBranch want.Otherwise ∷ One want.End Lower ∷ []) refl q o
+select_deep e n {w} q o = stmt_deep e n (Word word.Select w) (AChoice ∷ OrAlternative want.Otherwise ∷ One want.End Lower ∷ []) refl q o
 
 pub do_deep : (e : Fault) (n : ℕ) {w : List ℕ} {ts a : List Symbol} → ts ≡ Word word.Do w ∷ a → (limited n ≡ false) × (e ≡ Deep (length ts)) → FailsAt e (AStatement ∷ []) n ts
 do_deep e n {w} q o = stmt_deep e n (Word word.Do w) (ABlock false ∷ Back ∷ []) refl q o
@@ -118,38 +118,38 @@ if_at {total} {i} {ts} {b} {rest} {c} {s} {o} (m, a, x, q) (l, y, z) n may e w =
     let v = takes_then q in
     let x : IsCond total limited (suc n) ts c m (Word word.Then v.0 ∷ b) = subst (λ r. IsCond total limited (suc n) ts c m r) v.1 (subst (λ j. IsCond total limited j ts c m a) e x) in
     let y : IsStmt total limited (suc n) b s l = subst (λ j. IsStmt total limited j b s l) e y in
-    let z : IsBranch total limited want.Else (suc n) l o rest = subst (λ j. IsBranch total limited want.Else j l o rest) e z in
+    let z : IsAlternative total limited want.Else (suc n) l o rest = subst (λ j. IsAlternative total limited want.Else j l o rest) e z in
     choice may x y z
 
-pub if_test_fails : (e : Fault) (i : ℕ) (ts : List Symbol) → FailsAt e (ACondition ∷ One want.Then (To i) ∷ []) i ts → FailsAt e (ACondition ∷ One want.Then (To i) ∷ AStatement ∷ OrBranch want.Else ∷ Back ∷ []) i ts
-if_test_fails e i ts h k = h (AStatement ∷ OrBranch want.Else ∷ Back ∷ k)
+pub if_test_fails : (e : Fault) (i : ℕ) (ts : List Symbol) → FailsAt e (ACondition ∷ One want.Then (To i) ∷ []) i ts → FailsAt e (ACondition ∷ One want.Then (To i) ∷ AStatement ∷ OrAlternative want.Else ∷ Back ∷ []) i ts
+if_test_fails e i ts h k = h (AStatement ∷ OrAlternative want.Else ∷ Back ∷ k)
 
 goes_then : {total i : ℕ} {ts b : List Symbol} {c : Cond} → IsCondBefore total want.Then i ts c b
-    → Goes (ACondition ∷ One want.Then (To i) ∷ AStatement ∷ OrBranch want.Else ∷ Back ∷ []) i ts (AStatement ∷ OrBranch want.Else ∷ Back ∷ []) i b
-goes_then {i = i} (m, a, x, q) k = runs_cond limited x (One want.Then (To i) ∷ AStatement ∷ OrBranch want.Else ∷ Back ∷ k) ∙ goes_one want.Then (To i) m (AStatement ∷ OrBranch want.Else ∷ Back ∷ []) q k
+    → Goes (ACondition ∷ One want.Then (To i) ∷ AStatement ∷ OrAlternative want.Else ∷ Back ∷ []) i ts (AStatement ∷ OrAlternative want.Else ∷ Back ∷ []) i b
+goes_then {i = i} (m, a, x, q) k = runs_cond limited x (One want.Then (To i) ∷ AStatement ∷ OrAlternative want.Else ∷ Back ∷ k) ∙ goes_one want.Then (To i) m (AStatement ∷ OrAlternative want.Else ∷ Back ∷ []) q k
 
-pub if_arms_fail : (e : Fault) {total i : ℕ} {ts b : List Symbol} {c : Cond} → IsCondBefore total want.Then i ts c b → FailsAt e (AStatement ∷ OrBranch want.Else ∷ []) i b
-    → FailsAt e (ACondition ∷ One want.Then (To i) ∷ AStatement ∷ OrBranch want.Else ∷ Back ∷ []) i ts
+pub if_arms_fail : (e : Fault) {total i : ℕ} {ts b : List Symbol} {c : Cond} → IsCondBefore total want.Then i ts c b → FailsAt e (AStatement ∷ OrAlternative want.Else ∷ []) i b
+    → FailsAt e (ACondition ∷ One want.Then (To i) ∷ AStatement ∷ OrAlternative want.Else ∷ Back ∷ []) i ts
 if_arms_fail e x h k = along e (goes_then x k) (h (Back ∷ k))
 
-pub arms_at : {total i : ℕ} {ts l rest : List Symbol} {s : Stmt} {o : Option Stmt} → IsStmt total limited i ts s l → IsBranch total limited want.Else i l o rest → AreArms total i ts s o rest
+pub arms_at : {total i : ℕ} {ts l rest : List Symbol} {s : Stmt} {o : Option Stmt} → IsStmt total limited i ts s l → IsAlternative total limited want.Else i l o rest → AreArms total i ts s o rest
 arms_at {l = l} y z = (l, y, z)
 
-pub arms_yes_fails : (e : Fault) (i : ℕ) (ts : List Symbol) → FailsAt e (AStatement ∷ []) i ts → FailsAt e (AStatement ∷ OrBranch want.Else ∷ []) i ts
-arms_yes_fails e i ts h k = h (OrBranch want.Else ∷ k)
+pub arms_yes_fails : (e : Fault) (i : ℕ) (ts : List Symbol) → FailsAt e (AStatement ∷ []) i ts → FailsAt e (AStatement ∷ OrAlternative want.Else ∷ []) i ts
+arms_yes_fails e i ts h k = h (OrAlternative want.Else ∷ k)
 
-pub arms_no_fails : (e : Fault) {total i : ℕ} {ts l : List Symbol} {s : Stmt} → IsStmt total limited i ts s l → FailsAt e (OrBranch want.Else ∷ []) i l → FailsAt e (AStatement ∷ OrBranch want.Else ∷ []) i ts
-arms_no_fails e y h k = along e (runs_stmt limited y (OrBranch want.Else ∷ k)) (h k)
+pub arms_no_fails : (e : Fault) {total i : ℕ} {ts l : List Symbol} {s : Stmt} → IsStmt total limited i ts s l → FailsAt e (OrAlternative want.Else ∷ []) i l → FailsAt e (AStatement ∷ OrAlternative want.Else ∷ []) i ts
+arms_no_fails e y h k = along e (runs_stmt limited y (OrAlternative want.Else ∷ k)) (h k)
 
-pub branch_none : (total n : ℕ) {w : Want} {ts : List Symbol} → starts w ts ≡ false → IsBranch total limited w n ts None ts
-branch_none total n e = no_branch e
+pub alternative_none : (total n : ℕ) {w : Want} {ts : List Symbol} → starts w ts ≡ false → IsAlternative total limited w n ts None ts
+alternative_none total n e = no_alternative e
 
-pub branch_some : {total n : ℕ} {w : Want} {ts a rest : List Symbol} {s : Stmt} → Takes w ts a → IsStmt total limited n a s rest → IsBranch total limited w n ts (Some s) rest
-branch_some {total} {n} {w} {ts} {a} {rest} {s} q d = subst (λ x. IsBranch total limited w n x (Some s) rest) (sym q.2) (branch q.1 d)
+pub alternative_some : {total n : ℕ} {w : Want} {ts a rest : List Symbol} {s : Stmt} → Takes w ts a → IsStmt total limited n a s rest → IsAlternative total limited w n ts (Some s) rest
+alternative_some {total} {n} {w} {ts} {a} {rest} {s} q d = subst (λ x. IsAlternative total limited w n x (Some s) rest) (sym q.2) (alternative q.1 d)
 
-pub branch_fails : (e : Fault) (n : ℕ) (w : Want) {ts a : List Symbol} → Takes w ts a → FailsAt e (AStatement ∷ []) n a → FailsAt e (OrBranch w ∷ []) n ts
-branch_fails e n w {ts} {a} q h k =
-    along e (ap (λ x. verdict limited (OrBranch w ∷ k) n x) q.2 ∙ taken limited (OrBranch w) w k (AStatement ∷ []) n n q.0 a (Pass n) refl q.1) (h k)
+pub alternative_fails : (e : Fault) (n : ℕ) (w : Want) {ts a : List Symbol} → Takes w ts a → FailsAt e (AStatement ∷ []) n a → FailsAt e (OrAlternative w ∷ []) n ts
+alternative_fails e n w {ts} {a} q h k =
+    along e (ap (λ x. verdict limited (OrAlternative w ∷ k) n x) q.2 ∙ taken limited (OrAlternative w) w k (AStatement ∷ []) n n q.0 a (Pass n) refl q.1) (h k)
 
 pub do_at : {total i : ℕ} {ts rest : List Symbol} {ss : List Stmt} → IsBlock total limited false i ts ss rest → IsInside total word.Do i ts (form.Do ss) rest
 do_at {total} {i} {ts} {rest} {ss} x n may e w = group_of may (subst (λ j. IsBlock total limited false j ts ss rest) e x)

@@ -7,7 +7,7 @@ use Rattle.acs_symbol.specs.declared.symbol.Symbol.TheVariants.{Word, Variable, 
 use Rattle.acs_parse.specs.declared.want.Want.TheVariants as want
 use Rattle.acs_parse.specs.Wants.{fits}
 use Rattle.acs_parse.specs.Grammar.{limited, unlimited, takes_words, takes_variables, joins}
-use Rattle.acs_parse.specs.Table.{Part, One, OrNumber, ABlock, AnItem, AStatement, Lists, OrExclude, OrBranch, AChoice, AWhen, MoreWhens, ACondition, MoreOrs, AConjunct, MoreAnds, ATest, AnOperand, MoreOperands, ARef, OrIndex, OrCode, Back, Move, Read, Full, Pass, Refuse, followed, opens, item_opens, test_opens, operand_opens, rule, Step, Go, No, Many, after, step}
+use Rattle.acs_parse.specs.Table.{Part, One, OrNumber, ABlock, AnItem, AStatement, Lists, OrExclude, OrAlternative, AChoice, AWhen, MoreWhens, ACondition, MoreOrs, AConjunct, MoreAnds, ATest, AnOperand, MoreOperands, ARef, OrIndex, OrCode, Back, Move, Read, Full, Pass, Refuse, followed, opens, item_opens, test_opens, operand_opens, rule, Step, Go, No, Many, after, step}
 
 abbrev WideMove : Move → Move → Type 0
 WideMove Full x = (p : ℕ) × (new : List Part) × (x ≡ Read p new)
@@ -94,7 +94,7 @@ wide_rule (AnItem top) n t = wide_item top n t
 wide_rule AStatement n t = wide_opens n t
 wide_rule Lists n t = free_rule Lists n t refl (no_full_lists n t)
 wide_rule OrExclude n t = free_rule OrExclude n t refl (no_full (fits want.Exclude t) _ _ (λ e. cc) (λ e. cc))
-wide_rule (OrBranch w) n t = free_rule (OrBranch w) n t refl (no_full (fits w t) _ _ (λ e. cc) (λ e. cc))
+wide_rule (OrAlternative w) n t = free_rule (OrAlternative w) n t refl (no_full (fits w t) _ _ (λ e. cc) (λ e. cc))
 wide_rule AChoice n t = free_rule AChoice n t refl (no_full_choice n t)
 wide_rule (AWhen b) n t = free_rule (AWhen b) n t refl (no_full (fits want.When t) _ _ (λ e. cc) (λ e. cc))
 wide_rule (MoreWhens b) n t = free_rule (MoreWhens b) n t refl (no_full (fits want.When t) _ _ (λ e. cc) (λ e. cc))

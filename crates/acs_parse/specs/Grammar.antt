@@ -41,7 +41,7 @@ place_in total ts = total - length ts
 abbrev pub placed : ℕ → List Symbol → Form → Stmt
 placed total ts form = record { at = place_in total ts; form = form }
 
--- the branch that begins at these tokens
+-- the WHEN that begins at these tokens
 abbrev pub when_at : ℕ → List Symbol → WhenTest → Stmt → When
 when_at total ts test body = roll-When (record { at = place_in total ts; test = test; body = body })
 
@@ -169,6 +169,7 @@ mutual
     or_more : {n p m : ℕ} {x y c : Cond} {t : Symbol} {ts ms rest : List Symbol} → fits want.Or t ≡ true → may n ≡ true
         → IsConj total may (suc n) ts y p ms → IsOrs total may p (condition.Or x y) ms c m rest → IsOrs total may n x (t ∷ ts) c m rest
 
+  -- comparisons or conditions in parentheses with AND between them
   pub data IsConj (total : ℕ) (may : ℕ → Bool) : ℕ → List Symbol → Cond → ℕ → List Symbol → Type 0 where
     conj_of : {n p m : ℕ} {ts ms rest : List Symbol} {x c : Cond}
         → IsPrim total may n ts x p ms → IsAnds total may p x ms c m rest → IsConj total may n ts c m rest
@@ -188,16 +189,17 @@ mutual
         → IsCond total may (suc n) ts c m (Close ∷ rest) → IsPrim total may n (Open ∷ ts) c (back m) rest
 
 mutual
+  -- a statement, with what stands inside it
   pub data IsStmt (total : ℕ) (may : ℕ → Bool) : ℕ → List Symbol → Stmt → List Symbol → Type 0 where
     set : {n : ℕ} {a : List ℕ} {t : Symbol} {ts ms rest : List Symbol} {r : Ref} {os : List Operand}
         → IsRef total ts r (t ∷ ms) → fits want.Equal t ≡ true → IsOperands total list.Values ms os rest
         → IsStmt total may n (Word word.Set a ∷ ts) (placed total (Word word.Set a ∷ ts) (form.Put r os)) rest
     choice : {n m : ℕ} {a b : List ℕ} {ts ms ns rest : List Symbol} {c : Cond} {yes : Stmt} {no : Option Stmt} → may n ≡ true
         → IsCond total may (suc n) ts c m (Word word.Then b ∷ ms) → IsStmt total may (suc n) ms yes ns
-        → IsBranch total may want.Else (suc n) ns no rest
+        → IsAlternative total may want.Else (suc n) ns no rest
         → IsStmt total may n (Word word.If a ∷ ts) (placed total (Word word.If a ∷ ts) (form.If c yes no)) rest
     pick : {n : ℕ} {a b : List ℕ} {ts ms rest : List Symbol} {subject : Option Ref} {ws : List When} {other : Option Stmt} → may n ≡ true
-        → IsChoice total may (suc n) ts subject ws ms → IsBranch total may want.Otherwise (suc n) ms other (Word word.End b ∷ rest)
+        → IsChoice total may (suc n) ts subject ws ms → IsAlternative total may want.Otherwise (suc n) ms other (Word word.End b ∷ rest)
         → IsStmt total may n (Word word.Select a ∷ ts) (placed total (Word word.Select a ∷ ts) (form.Pick subject ws other)) rest
     group_of : {n : ℕ} {a : List ℕ} {ts rest : List Symbol} {ss : List Stmt} → may n ≡ true
         → IsBlock total may false (suc n) ts ss rest
@@ -208,12 +210,12 @@ mutual
         → IsStmt total may n (Word word.Exit a ∷ ts) (placed total (Word word.Exit a ∷ ts) (form.Exit o)) rest
 
   -- the statement behind an ELSE or an OTHERWISE, or none: an ELSE belongs to the nearest IF
-  pub data IsBranch (total : ℕ) (may : ℕ → Bool) : Want → ℕ → List Symbol → Option Stmt → List Symbol → Type 0 where
-    no_branch : {w : Want} {n : ℕ} {rest : List Symbol} → starts w rest ≡ false → IsBranch total may w n rest None rest
-    branch : {w : Want} {n : ℕ} {t : Symbol} {ts rest : List Symbol} {s : Stmt} → fits w t ≡ true
-        → IsStmt total may n ts s rest → IsBranch total may w n (t ∷ ts) (Some s) rest
+  pub data IsAlternative (total : ℕ) (may : ℕ → Bool) : Want → ℕ → List Symbol → Option Stmt → List Symbol → Type 0 where
+    no_alternative : {w : Want} {n : ℕ} {rest : List Symbol} → starts w rest ≡ false → IsAlternative total may w n rest None rest
+    alternative : {w : Want} {n : ℕ} {t : Symbol} {ts rest : List Symbol} {s : Stmt} → fits w t ≡ true
+        → IsStmt total may n ts s rest → IsAlternative total may w n (t ∷ ts) (Some s) rest
 
-  -- a SELECT's subject and its branches, at least one: a ( behind SELECT begins the subject
+  -- a SELECT's subject and its WHENs, at least one: a ( behind SELECT begins the subject
   pub data IsChoice (total : ℕ) (may : ℕ → Bool) : ℕ → List Symbol → Option Ref → List When → List Symbol → Type 0 where
     by_value : {n : ℕ} {ts ms ns rest : List Symbol} {r : Ref} {w : When} {ws : List When} → IsRef total ts r (Close ∷ ms)
         → IsWhen total may true n ms w ns → IsWhens total may true n ns ws rest
@@ -222,7 +224,7 @@ mutual
         → IsWhen total may false n (Word word.When a ∷ ts) w ns → IsWhens total may false n ns ws rest
         → IsChoice total may n (Word word.When a ∷ ts) None (w ∷ ws) rest
 
-  -- one branch; the Bool tells whether the SELECT has a subject
+  -- one WHEN; the Bool tells whether the SELECT has a subject
   pub data IsWhen (total : ℕ) (may : ℕ → Bool) : Bool → ℕ → List Symbol → When → List Symbol → Type 0 where
     when_any : {n : ℕ} {a : List ℕ} {ts ms rest : List Symbol} {os : List Operand} {s : Stmt}
         → IsOperands total list.Items ts os (Close ∷ ms) → IsStmt total may n ms s rest
@@ -233,7 +235,7 @@ mutual
         → IsWhen total may false n (Word word.When a ∷ Open ∷ ts)
         (when_at total (Word word.When a ∷ Open ∷ ts) (when_test.Holds c) s) rest
 
-  -- the branches behind the first
+  -- the WHENs behind the first
   pub data IsWhens (total : ℕ) (may : ℕ → Bool) : Bool → ℕ → List Symbol → List When → List Symbol → Type 0 where
     no_when : {b : Bool} {n : ℕ} {rest : List Symbol} → starts want.When rest ≡ false → IsWhens total may b n rest [] rest
     more_whens : {b : Bool} {n : ℕ} {a : List ℕ} {ts ms rest : List Symbol} {w : When} {ws : List When}
@@ -246,6 +248,7 @@ mutual
     then_more : {top : Bool} {n : ℕ} {ts ms rest : List Symbol} {s : Stmt} {ss : List Stmt}
         → IsItem total may top n ts s ms → IsBlock total may top n ms ss rest → IsBlock total may top n ts (s ∷ ss) rest
 
+  -- a statement, or at the top a filter list
   pub data IsItem (total : ℕ) (may : ℕ → Bool) : Bool → ℕ → List Symbol → Stmt → List Symbol → Type 0 where
     item_filter : {n : ℕ} {a : List ℕ} {ts rest : List Symbol} {s : Stmt} → IsFilter total (Word word.FiltList a ∷ ts) s rest
         → IsItem total may true n (Word word.FiltList a ∷ ts) s rest
@@ -256,6 +259,7 @@ pub data IsOrNumber : List Symbol → List Symbol → Type 0 where
   no_number : {rest : List Symbol} → starts want.Number rest ≡ false → IsOrNumber rest rest
   number : {text : List ℕ} {rest : List Symbol} → IsOrNumber (Word word.Number text ∷ rest) rest
 
+-- PROC, an optional number, the head and a block up to the end of the text
 pub data IsRoutineOf (total : ℕ) (may : ℕ → Bool) : List Symbol → Routine → Type 0 where
   routine : {a name : List ℕ} {t : Symbol} {ts ms : List Symbol} {ss : List Stmt} → IsOrNumber ts (t ∷ ms) → IsHead t name
       → IsBlock total may true 0 ms ss []
@@ -265,6 +269,7 @@ pub data IsRoutineOf (total : ℕ) (may : ℕ → Bool) : List Symbol → Routin
 abbrev pub limited : ℕ → Bool
 limited n = nat_lt n most_nestings
 
+-- one more may always open
 abbrev pub unlimited : ℕ → Bool
 unlimited n = true
 

@@ -9,8 +9,8 @@ use Rattle.acs_tree.specs.declared.routine.Stmt.{Stmt}
 use Rattle.acs_symbol.specs.declared.symbol.Symbol.{Symbol}
 use Rattle.acs_parse.specs.declared.want.Want.{Want}
 use Rattle.acs_parse.specs.Wants.{fits}
-use Rattle.acs_parse.specs.Grammar.{back, IsIndex, IsRef, IsOperand, IsFurther, IsExclude, IsLists, IsCode, IsCond, IsOrs, IsConj, IsAnds, IsPrim, IsStmt, IsBranch, IsChoice, IsWhen, IsWhens, IsBlock, IsItem, IsOrNumber}
-use Rattle.acs_parse.specs.Table.{effect, Part, One, OrNumber, ABlock, AnItem, AStatement, Lists, OrExclude, OrBranch, AChoice, AWhen, MoreWhens, ACondition, MoreOrs, AConjunct, MoreAnds, ATest, AnOperand, MoreOperands, ARef, OrIndex, OrCode, Back, Move, Read, Full, Pass, Refuse}
+use Rattle.acs_parse.specs.Grammar.{back, IsIndex, IsRef, IsOperand, IsFurther, IsExclude, IsLists, IsCode, IsCond, IsOrs, IsConj, IsAnds, IsPrim, IsStmt, IsAlternative, IsChoice, IsWhen, IsWhens, IsBlock, IsItem, IsOrNumber}
+use Rattle.acs_parse.specs.Table.{effect, Part, One, OrNumber, ABlock, AnItem, AStatement, Lists, OrExclude, OrAlternative, AChoice, AWhen, MoreWhens, ACondition, MoreOrs, AConjunct, MoreAnds, ATest, AnOperand, MoreOperands, ARef, OrIndex, OrCode, Back, Move, Read, Full, Pass, Refuse}
 
 -- the tokens begin with the one that is wanted
 abbrev pub Takes : Want → List Symbol → List Symbol → Type 0
@@ -25,7 +25,7 @@ Lang total may (AnItem top) n ts m rest = (s : Stmt) × IsItem total may top n t
 Lang total may AStatement n ts m rest = (s : Stmt) × IsStmt total may n ts s rest × (n ≡ m)
 Lang total may Lists n ts m rest = (os : List Operand) × (xs : List Operand) × IsLists total ts os xs rest × (n ≡ m)
 Lang total may OrExclude n ts m rest = (xs : List Operand) × IsExclude total ts xs rest × (n ≡ m)
-Lang total may (OrBranch w) n ts m rest = (s : Option Stmt) × IsBranch total may w n ts s rest × (n ≡ m)
+Lang total may (OrAlternative w) n ts m rest = (s : Option Stmt) × IsAlternative total may w n ts s rest × (n ≡ m)
 Lang total may AChoice n ts m rest = (r : Option Ref) × (ws : List When) × IsChoice total may n ts r ws rest × (n ≡ m)
 Lang total may (AWhen b) n ts m rest = (w : When) × IsWhen total may b n ts w rest × (n ≡ m)
 Lang total may (MoreWhens b) n ts m rest = (ws : List When) × IsWhens total may b n ts ws rest × (n ≡ m)

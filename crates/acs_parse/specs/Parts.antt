@@ -25,6 +25,6 @@ abbrev pub test_of_parts : TestParts → WhenTest
 test_of_parts (test_parts.Any os) = when_test.Any os
 test_of_parts (test_parts.Holds c) = when_test.Holds c
 
--- the branch of these parts
+-- the WHEN of these parts
 abbrev pub when_of_parts : WhenParts → When
 when_of_parts p = roll-When (record { at = p.at; test = test_of_parts p.test; body = p.body })

@@ -20,7 +20,7 @@ use Rattle.acs_parse.specs.declared.fault.ParseErr.{ParseErr}
 use Rattle.acs_parse.specs.declared.fault.ParseErr.TheVariants as answer
 use Rattle.acs_parse.specs.declared.fault.Fault.{Fault}
 use Rattle.acs_parse.specs.declared.fault.Fault.TheVariants.{Unexpected, Ended, Deep, NoMemory}
-use Rattle.acs_parse.specs.Grammar.{starts, placed, joins, limited, IsOperands, IsCond, IsStmt, IsBranch, IsWhen, IsWhens, IsRoutineOf}
+use Rattle.acs_parse.specs.Grammar.{starts, placed, joins, limited, IsOperands, IsCond, IsStmt, IsAlternative, IsWhen, IsWhens, IsRoutineOf}
 use Rattle.acs_parse.specs.Language.{Takes}
 use Rattle.acs_parse.specs.Table.{Effect, Keep, To, Part, One, ACondition, AnOperand, MoreOperands, start, Verdict, Short, Stop, TooMany, verdict}
 
@@ -76,9 +76,9 @@ IsBehind total kind n ts form rest = (a : List ℕ) → IsStmt total limited n (
 abbrev pub IsInside : ℕ → WordKind → ℕ → List Symbol → Form → List Symbol → Type 0
 IsInside total kind inner ts form rest = (n : ℕ) → limited n ≡ true → inner ≡ suc n → IsBehind total kind n ts form rest
 
--- the branches of a SELECT, at least one
-abbrev pub IsBranches : ℕ → Bool → ℕ → List Symbol → List When → List Symbol → Type 0
-IsBranches total b n ts list rest = (w : When) × (ws : List When) × (ms : List Symbol) × IsWhen total limited b n ts w ms × IsWhens total limited b n ms ws rest × (list ≡ w ∷ ws)
+-- the WHENs of a SELECT, at least one
+abbrev pub AreWhens : ℕ → Bool → ℕ → List Symbol → List When → List Symbol → Type 0
+AreWhens total b n ts list rest = (w : When) × (ws : List When) × (ms : List Symbol) × IsWhen total limited b n ts w ms × IsWhens total limited b n ms ws rest × (list ≡ w ∷ ws)
 
 -- a condition and the wanted token behind it
 abbrev pub IsCondBefore : ℕ → Want → ℕ → List Symbol → Cond → List Symbol → Type 0
@@ -86,9 +86,9 @@ IsCondBefore total w n ts c rest = (m : ℕ) × (a : List Symbol) × IsCond tota
 
 -- the statements of an IF, with the ELSE's if there is one
 abbrev pub AreArms : ℕ → ℕ → List Symbol → Stmt → Option Stmt → List Symbol → Type 0
-AreArms total n ts s o rest = (ms : List Symbol) × IsStmt total limited n ts s ms × IsBranch total limited want.Else n ms o rest
+AreArms total n ts s o rest = (ms : List Symbol) × IsStmt total limited n ts s ms × IsAlternative total limited want.Else n ms o rest
 
--- this list of branches and one more, which is read
+-- this list of WHENs and one more, which is read
 abbrev pub IsOneMore : ℕ → Bool → ℕ → List Symbol → List When → List When → List Symbol → Type 0
 IsOneMore total b n ts list longer rest = (w : When) × IsWhen total limited b n ts w rest × (longer ≡ list ++ w ∷ [])
 

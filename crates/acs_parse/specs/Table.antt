@@ -17,6 +17,7 @@ pub data Effect : Type 0 where
   Lower : Effect
   To : ℕ → Effect
 
+-- how many are open behind a token
 abbrev pub effect : Effect → ℕ → ℕ
 effect Keep n = n
 effect Lower n = back n
@@ -31,7 +32,7 @@ pub data Part : Type 0 where
   AStatement : Part
   Lists : Part
   OrExclude : Part
-  OrBranch : Want → Part
+  OrAlternative : Want → Part
   AChoice : Part
   AWhen : Bool → Part
   MoreWhens : Bool → Part
@@ -75,40 +76,47 @@ abbrev pub when_parts : Bool → ℕ → List Part
 when_parts true n = One want.Open Keep ∷ AnOperand list.Items ∷ MoreOperands list.Items ∷ One want.Close Keep ∷ AStatement ∷ []
 when_parts false n = One want.Open Keep ∷ ACondition ∷ One want.Close (To n) ∷ AStatement ∷ []
 
+-- what a token that begins a statement asks for
 abbrev pub opens : (ℕ → Bool) → ℕ → Symbol → Move
 opens may n (Word word.Set a) = Read n (ARef ∷ One want.Equal Keep ∷ AnOperand list.Values ∷ MoreOperands list.Values ∷ [])
-opens may n (Word word.If a) = gate may n (ACondition ∷ One want.Then (To (suc n)) ∷ AStatement ∷ OrBranch want.Else ∷ Back ∷ [])
-opens may n (Word word.Select a) = gate may n (AChoice ∷ OrBranch want.Otherwise ∷ One want.End Lower ∷ [])
+opens may n (Word word.If a) = gate may n (ACondition ∷ One want.Then (To (suc n)) ∷ AStatement ∷ OrAlternative want.Else ∷ Back ∷ [])
+opens may n (Word word.Select a) = gate may n (AChoice ∷ OrAlternative want.Otherwise ∷ One want.End Lower ∷ [])
 opens may n (Word word.Do a) = gate may n (ABlock false ∷ Back ∷ [])
 opens may n (Word word.Write a) = Read n (AnOperand list.Parts ∷ MoreOperands list.Parts ∷ [])
 opens may n (Word word.Exit a) = Read n (OrCode ∷ [])
 opens may n _ = Refuse
 
+-- the same in a block, where a filter list may begin too at the top
 abbrev pub item_opens : (ℕ → Bool) → Bool → ℕ → Symbol → Move
 item_opens may true n (Word word.FiltList a) = Read n (One want.Name Keep ∷ Lists ∷ [])
 item_opens may top n t = opens may n t
 
+-- what a token that begins a comparison asks for, or a condition in parentheses
 abbrev pub test_opens : (ℕ → Bool) → ℕ → Symbol → Move
 test_opens may n (Variable name) = Read n (OrIndex ∷ One want.Operator Keep ∷ AnOperand list.Items ∷ [])
 test_opens may n Open = gate may n (ACondition ∷ One want.Close Lower ∷ [])
 test_opens may n _ = Refuse
 
+-- what a token that begins an operand of a list asks for
 abbrev pub operand_opens : ListKind → ℕ → Symbol → Move
 operand_opens kind n (Literal text) = Read n []
 operand_opens kind n (Word form text) = cond (takes_words kind) (Read n []) Refuse
 operand_opens kind n (Variable name) = cond (takes_variables kind) (Read n (OrIndex ∷ [])) Refuse
 operand_opens kind n _ = Refuse
 
+-- what a token that begins the lists of a FILTLIST asks for
 abbrev pub list_opens : ℕ → Symbol → Move
 list_opens n (Word word.Include a) = Read n (entries ++ OrExclude ∷ [])
 list_opens n (Word word.Exclude a) = Read n entries
 list_opens n _ = Refuse
 
+-- what the token behind SELECT asks for
 abbrev pub choice_opens : ℕ → Symbol → Move
 choice_opens n Open = Read n (ARef ∷ One want.Close Keep ∷ AWhen true ∷ MoreWhens true ∷ [])
 choice_opens n (Word word.When a) = Read n (when_parts false n ++ MoreWhens false ∷ [])
 choice_opens n _ = Refuse
 
+-- what each part does at a token
 abbrev pub rule : (ℕ → Bool) → Part → ℕ → Symbol → Move
 rule may (One w e) n t = cond (fits w t) (Read (effect e n) []) Refuse
 rule may OrNumber n t = cond (fits want.Number t) (Read n []) (Pass n)
@@ -117,7 +125,7 @@ rule may (AnItem top) n t = item_opens may top n t
 rule may AStatement n t = opens may n t
 rule may Lists n t = list_opens n t
 rule may OrExclude n t = cond (fits want.Exclude t) (Read n entries) (Pass n)
-rule may (OrBranch w) n t = cond (fits w t) (Read n (AStatement ∷ [])) (Pass n)
+rule may (OrAlternative w) n t = cond (fits w t) (Read n (AStatement ∷ [])) (Pass n)
 rule may AChoice n t = choice_opens n t
 rule may (AWhen b) n t = cond (fits want.When t) (Read n (when_parts b n)) Refuse
 rule may (MoreWhens b) n t = cond (fits want.When t) (Read n (when_parts b n ++ MoreWhens b ∷ [])) (Pass n)
@@ -144,20 +152,23 @@ pub data Step : Type 0 where
   No : Step
   Many : Step
 
+-- a move on a stack: where its part is over, `passed` says what the rest does
 abbrev pub after : Move → List Part → (ℕ → Step) → Step
 after (Read n new) k passed = Go n (new ++ k)
 after Full k passed = Many
 after (Pass n) k passed = passed n
 after Refuse k passed = No
 
+-- parts that are over before the token are passed, and the first other one decides; with none the token is refused
 abbrev pub step : (ℕ → Bool) → List Part → ℕ → Symbol → Step
 step may [] n t = No
 step may (s ∷ k) n t = after (rule may s n t) k (λ m. step may k m t)
 
+-- a part that may end with the text
 abbrev pub may_be_empty : Part → Bool
 may_be_empty OrNumber = true
 may_be_empty OrExclude = true
-may_be_empty (OrBranch w) = true
+may_be_empty (OrAlternative w) = true
 may_be_empty (MoreWhens b) = true
 may_be_empty MoreOrs = true
 may_be_empty MoreAnds = true
@@ -167,6 +178,7 @@ may_be_empty OrCode = true
 may_be_empty Back = true
 may_be_empty _ = false
 
+-- parts that may all end with the text
 abbrev pub all_empty : List Part → Bool
 all_empty [] = true
 all_empty (s ∷ k) = may_be_empty s && all_empty k
@@ -179,11 +191,13 @@ pub data Verdict : Type 0 where
   Stop : ℕ → Verdict
   TooMany : ℕ → Verdict
 
+-- how reading ends behind a step with so many tokens left, where `go` says how it ends with the new stack
 abbrev pub next : Step → ℕ → (List Part → ℕ → Verdict) → Verdict
 next No left go = Stop left
 next Many left go = TooMany left
 next (Go n k) left go = go k n
 
+-- how reading these tokens ends, from a stack with so many open
 abbrev pub verdict : (ℕ → Bool) → List Part → ℕ → List Symbol → Verdict
 verdict may k n [] = cond (all_empty k) Complete Short
 verdict may k n (t ∷ ts) = next (step may k n t) (suc (length ts)) (λ j m. verdict may j m ts)

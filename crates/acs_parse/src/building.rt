@@ -1,4 +1,4 @@
-// Statements, branches and conditions from their parts. These functions hold what is wide, which
+// Statements, WHENs and conditions from their parts. These functions hold what is wide, which
 // readers that call themselves must not hold while they do: LLVM is told not to inline them, and
 // Rattle's own compiler, which can't be told, doesn't where the readers call them in several places.
 ghost use Rattle.std.specs.Prelude.{◌≡◌, ◌∷◌, ◌++◌, [], IfOk};
@@ -87,7 +87,6 @@ fn conditional_of(
 ) -> Result<Boxed<Stmt>, AllocError>
     ensures { IfOk result (λ stmt. stmt ≡ record { at = at; form = Form.If cond yes otherwise }) }
 {
-    let cond = cond.into_inner();
     let form = Form::If {
         cond,
         yes,
@@ -147,7 +146,7 @@ fn test_of(parts: TestParts) -> WhenTest
 {
     match parts {
         TestParts::Any(items) => WhenTest::Any(items),
-        TestParts::Holds(cond) => WhenTest::Holds(cond.into_inner()),
+        TestParts::Holds(cond) => WhenTest::Holds(cond),
     }
 }
 
@@ -159,9 +158,9 @@ pub fn with_boxed(block: Block, stmt: Boxed<Stmt>) -> Result<Block, AllocError>
     with_stmt(block, stmt.into_inner())
 }
 
-/// The branches with this one at their end.
+/// The WHENs with this one at their end.
 #[inline(never)]
-pub fn with_branch(whens: Whens, parts: WhenParts) -> Result<Whens, AllocError>
+pub fn with_when_parts(whens: Whens, parts: WhenParts) -> Result<Whens, AllocError>
     ensures { IfOk result (λ longer. longer ≡ whens ++ when_of_parts parts ∷ []) }
 {
     let WhenParts { at, test, body } = parts;

@@ -112,10 +112,10 @@ fn comparison(alloc: Global, total: u32, rest: &mut Rest<'_>) -> Result<Boxed<Co
     requires { starts want.Variable rest.old ≡ true }
     ensures { Reads (λ found. (n : ℕ) → IsPrim total limited n rest.old found n rest.new) (ATest ∷ []) rest.old result }
 {
-    let left = variable(total, rest)?;
+    let left = variable(alloc, total, rest)?;
     let op_at = place(total, rest);
     let op = operator(rest)?;
-    let right = operand(total, ListKind::Items, rest)?;
+    let right = operand(alloc, total, ListKind::Items, rest)?;
     let found = Cond::Test {
         left,
         op,

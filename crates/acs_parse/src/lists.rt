@@ -24,13 +24,13 @@ pub fn boxed_variable(alloc: Global, total: u32, rest: &mut Rest<'_>) -> Result<
 {
     // The check has to see the types inside a variable where one is moved.
     let _seen: Option<Ident> = None;
-    let found = variable(total, rest)?;
+    let found = variable(alloc, total, rest)?;
     Ok(Boxed::new(alloc, found)?)
 }
 
 /// A variable and its index.
 #[tactic(auto, using(crate::proofs::OperandLemmas::ref_at, crate::proofs::OperandLemmas::ref_index_fails))]
-pub fn variable(total: u32, rest: &mut Rest<'_>) -> Result<Ref, Fault>
+pub fn variable(alloc: Global, total: u32, rest: &mut Rest<'_>) -> Result<Ref, Fault>
     ensures { Reads (λ found. IsRef total rest.old found rest.new) (ARef ∷ []) rest.old result }
 {
     let at = place(total, rest);
@@ -38,7 +38,7 @@ pub fn variable(total: u32, rest: &mut Rest<'_>) -> Result<Ref, Fault>
         None => Err(Fault::Ended),
         Some((Symbol::Variable(name), behind)) => {
             *rest = behind;
-            let (index, index_at) = index(total, rest)?;
+            let (index, index_at) = index(alloc, total, rest)?;
             Ok(Ref {
                 at,
                 name: name.ident(),
@@ -51,7 +51,11 @@ pub fn variable(total: u32, rest: &mut Rest<'_>) -> Result<Ref, Fault>
 }
 
 #[tactic(auto, using(crate::proofs::OperandLemmas::index_steps))]
-fn index(total: u32, rest: &mut Rest<'_>) -> Result<(Option<Ident>, u32), Fault>
+fn index(
+    alloc: Global,
+    total: u32,
+    rest: &mut Rest<'_>,
+) -> Result<(Option<Boxed<Ident>>, u32), Fault>
     ensures { Reads (λ x. IsIndex total rest.old x.0 x.1 rest.new) (OrIndex ∷ []) rest.old result }
 {
     if !skip(Want::Open, rest) {
@@ -60,12 +64,18 @@ fn index(total: u32, rest: &mut Rest<'_>) -> Result<(Option<Ident>, u32), Fault>
     let at = place(total, rest);
     let text = number(rest)?;
     expect(Want::Close, rest)?;
-    Ok((Some(text), at))
+    let index = Boxed::new(alloc, text)?;
+    Ok((Some(index), at))
 }
 
 /// An operand of such a list.
 #[tactic(auto, using(crate::proofs::OperandLemmas::operand_steps))]
-pub fn operand(total: u32, kind: ListKind, rest: &mut Rest<'_>) -> Result<Operand, Fault>
+pub fn operand(
+    alloc: Global,
+    total: u32,
+    kind: ListKind,
+    rest: &mut Rest<'_>,
+) -> Result<Operand, Fault>
     ensures { Reads (λ found. IsOperand total kind rest.old found rest.new) (AnOperand kind ∷ []) rest.old result }
 {
     let at = place(total, rest);
@@ -82,7 +92,7 @@ pub fn operand(total: u32, kind: ListKind, rest: &mut Rest<'_>) -> Result<Operan
             Ok(Operand { at, form })
         }
         Some((Symbol::Variable(_), _)) if kind.takes_variables() => {
-            let form = OperandForm::Var(variable(total, rest)?);
+            let form = OperandForm::Var(variable(alloc, total, rest)?);
             Ok(Operand { at, form })
         }
         Some(_) => Err(Fault::Unexpected(rest.len())),
@@ -109,11 +119,11 @@ pub fn operands(
 {
     // The check has to see the types inside the list's items.
     let _seen: Option<(OperandForm, Ref, Ident)> = None;
-    let first = operand(total, kind, rest)?;
+    let first = operand(alloc, total, kind, rest)?;
     let mut list = with_operand(room_for_one(alloc)?, first)?;
     'more: while let Some(behind) = further(kind, rest) {
         *rest = behind;
-        let next = operand(total, kind, rest)?;
+        let next = operand(alloc, total, kind, rest)?;
         list = with_operand(list, next)?;
     }
     Ok(list)

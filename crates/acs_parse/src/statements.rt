@@ -4,12 +4,12 @@ ghost use Rattle.std.specs.Prelude.{◌≡◌, ◌∷◌, [], ℕ, suc, Bool, tr
 ghost use Rattle.acs_parse.specs.declared.list_kind.ListKind.TheVariants as list;
 ghost use Rattle.acs_parse.specs.declared.want.Want.TheVariants as want;
 ghost use Rattle.acs_symbol.specs.declared.symbol.WordKind.TheVariants as word;
-ghost use Rattle.acs_parse.specs.Grammar.{limited, IsStmt, IsBranch, IsChoice, IsWhen, IsBlock, IsItem};
+ghost use Rattle.acs_parse.specs.Grammar.{limited, IsStmt, IsAlternative, IsChoice, IsWhen, IsBlock, IsItem};
 ghost use Rattle.acs_parse.specs.Parts.{form_of_parts, test_of_parts};
-ghost use Rattle.acs_parse.specs.Table.{Keep, Lower, To, One, ABlock, AnItem, AStatement, OrBranch, AChoice, AWhen, MoreWhens, ACondition, AnOperand, MoreOperands, ARef, OrCode, Back};
-ghost use Rattle.acs_parse.specs.Reads.{Reads, Parses, IsBehind, IsInside, IsBranches, IsTest, IsOneMore, AreArms, test_parts};
+ghost use Rattle.acs_parse.specs.Table.{Keep, Lower, To, One, ABlock, AnItem, AStatement, OrAlternative, AChoice, AWhen, MoreWhens, ACondition, AnOperand, MoreOperands, ARef, OrCode, Back};
+ghost use Rattle.acs_parse.specs.Reads.{Reads, Parses, IsBehind, IsInside, AreWhens, IsTest, IsOneMore, AreArms, test_parts};
 
-use crate::building::{stmt_of, with_boxed, with_branch};
+use crate::building::{stmt_of, with_boxed, with_when_parts};
 use crate::conditions::cond_before;
 use crate::fault::Fault;
 use crate::list_kind::ListKind;
@@ -111,7 +111,7 @@ fn conditional(
     depth: u32,
     rest: &mut Rest<'_>,
 ) -> Result<FormParts, Fault>
-    ensures { Parses (λ parts. IsInside total word.If depth rest.old (form_of_parts parts) rest.new) (ACondition ∷ One want.Then (To depth) ∷ AStatement ∷ OrBranch want.Else ∷ Back ∷ []) depth rest.old result }
+    ensures { Parses (λ parts. IsInside total word.If depth rest.old (form_of_parts parts) rest.new) (ACondition ∷ One want.Then (To depth) ∷ AStatement ∷ OrAlternative want.Else ∷ Back ∷ []) depth rest.old result }
 {
     let cond = cond_before(alloc, total, depth, Want::Then, rest)?;
     let (yes, otherwise) = arms(alloc, total, depth, rest)?;
@@ -131,24 +131,24 @@ fn arms(
     depth: u32,
     rest: &mut Rest<'_>,
 ) -> Result<(Boxed<Stmt>, Option<Boxed<Stmt>>), Fault>
-    ensures { Parses (λ x. AreArms total depth rest.old x.0 x.1 rest.new) (AStatement ∷ OrBranch want.Else ∷ []) depth rest.old result }
+    ensures { Parses (λ x. AreArms total depth rest.old x.0 x.1 rest.new) (AStatement ∷ OrAlternative want.Else ∷ []) depth rest.old result }
 {
     let yes = statement(alloc, total, depth, rest)?;
-    let otherwise = branch(alloc, total, depth, Want::Else, rest)?;
+    let otherwise = alternative(alloc, total, depth, Want::Else, rest)?;
     Ok((yes, otherwise))
 }
 
 /// The statement of an ELSE or an OTHERWISE, if there is one.
 #[cycle(statement)]
-#[tactic(auto, using(crate::proofs::StatementLemmas::branch_none, crate::proofs::StatementLemmas::branch_some, crate::proofs::StatementLemmas::branch_fails))]
-fn branch(
+#[tactic(auto, using(crate::proofs::StatementLemmas::alternative_none, crate::proofs::StatementLemmas::alternative_some, crate::proofs::StatementLemmas::alternative_fails))]
+fn alternative(
     alloc: Global,
     total: u32,
     depth: u32,
     want: Want,
     rest: &mut Rest<'_>,
 ) -> Result<Option<Boxed<Stmt>>, Fault>
-    ensures { Parses (λ found. IsBranch total limited want depth rest.old found rest.new) (OrBranch want ∷ []) depth rest.old result }
+    ensures { Parses (λ found. IsAlternative total limited want depth rest.old found rest.new) (OrAlternative want ∷ []) depth rest.old result }
 {
     if !skip(want, rest) {
         return Ok(None);
@@ -171,10 +171,10 @@ fn group(alloc: Global, total: u32, depth: u32, rest: &mut Rest<'_>) -> Result<F
 #[cycle(statement)]
 #[tactic(auto, using(crate::proofs::SelectLemmas::selection_steps))]
 fn selection(alloc: Global, total: u32, depth: u32, rest: &mut Rest<'_>) -> Result<FormParts, Fault>
-    ensures { Parses (λ parts. IsInside total word.Select depth rest.old (form_of_parts parts) rest.new) (AChoice ∷ OrBranch want.Otherwise ∷ One want.End Lower ∷ []) depth rest.old result }
+    ensures { Parses (λ parts. IsInside total word.Select depth rest.old (form_of_parts parts) rest.new) (AChoice ∷ OrAlternative want.Otherwise ∷ One want.End Lower ∷ []) depth rest.old result }
 {
     let (subject, whens) = choice(alloc, total, depth, rest)?;
-    let otherwise = branch(alloc, total, depth, Want::Otherwise, rest)?;
+    let otherwise = alternative(alloc, total, depth, Want::Otherwise, rest)?;
     expect(Want::End, rest)?;
     Ok(FormParts::Pick {
         subject,
@@ -183,7 +183,7 @@ fn selection(alloc: Global, total: u32, depth: u32, rest: &mut Rest<'_>) -> Resu
     })
 }
 
-/// What a SELECT compares, if it compares something, and its branches.
+/// What a SELECT compares, if it compares something, and its WHENs.
 #[cycle(statement)]
 #[tactic(auto, using(crate::proofs::SelectLemmas::choice_steps))]
 fn choice(
@@ -200,28 +200,28 @@ fn choice(
             *rest = behind;
             let subject = boxed_variable(alloc, total, rest)?;
             expect(Want::Close, rest)?;
-            let whens = branches(alloc, total, depth, true, rest)?;
+            let whens = when_clauses(alloc, total, depth, true, rest)?;
             Ok((Some(subject), whens))
         }
         Some((Symbol::Word(WordKind::When, _), _)) => {
-            let whens = branches(alloc, total, depth, false, rest)?;
+            let whens = when_clauses(alloc, total, depth, false, rest)?;
             Ok((None, whens))
         }
         Some(_) => Err(Fault::Unexpected(rest.len())),
     }
 }
 
-/// The branches of a SELECT, at least one.
+/// The WHENs of a SELECT, at least one.
 #[cycle(statement)]
-#[tactic(auto, using(crate::proofs::SelectLemmas::branches_steps))]
-fn branches(
+#[tactic(auto, using(crate::proofs::SelectLemmas::when_clauses_steps))]
+fn when_clauses(
     alloc: Global,
     total: u32,
     depth: u32,
     has_subject: bool,
     rest: &mut Rest<'_>,
 ) -> Result<Whens, Fault>
-    ensures { Parses (λ found. IsBranches total has_subject depth rest.old found rest.new) (AWhen has_subject ∷ MoreWhens has_subject ∷ []) depth rest.old result }
+    ensures { Parses (λ found. AreWhens total has_subject depth rest.old found rest.new) (AWhen has_subject ∷ MoreWhens has_subject ∷ []) depth rest.old result }
 {
     let mut found = when(alloc, total, depth, has_subject, Whens::new(alloc), rest)?;
     'whens: while begins(Want::When, rest) {
@@ -230,7 +230,7 @@ fn branches(
     Ok(found)
 }
 
-/// The branches found so far, and a WHEN behind them.
+/// The WHENs found so far, and one more behind them.
 #[cycle(statement)]
 #[tactic(auto, using(crate::proofs::SelectLemmas::one_more_of, crate::proofs::SelectLemmas::one_more_fails))]
 fn when(
@@ -268,7 +268,7 @@ fn when_value(
     expect(Want::When, rest)?;
     let test = items_test(alloc, total, rest)?;
     let body = statement(alloc, total, depth, rest)?;
-    Ok(with_branch(found, WhenParts { at, test, body })?)
+    Ok(with_when_parts(found, WhenParts { at, test, body })?)
 }
 
 /// The same where it compares none.
@@ -287,7 +287,7 @@ fn when_condition(
     expect(Want::When, rest)?;
     let test = condition_test(alloc, total, depth, rest)?;
     let body = statement(alloc, total, depth, rest)?;
-    Ok(with_branch(found, WhenParts { at, test, body })?)
+    Ok(with_when_parts(found, WhenParts { at, test, body })?)
 }
 
 /// Statements up to their END.

@@ -1,5 +1,5 @@
 pub mod QualifierLemmas
-pub mod RowLemmas
+pub mod VariableLemmas
 pub mod CutLemmas
 pub mod LineLemmas
 pub mod StepLemmas

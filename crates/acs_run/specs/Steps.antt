@@ -6,7 +6,8 @@ use Rattle.acs_tree.specs.declared.kind.Kind.{Kind}
 use Rattle.acs_tree.specs.declared.values.Values.{Values}
 use Rattle.acs_tree.specs.Outcome.{Outcome}
 use Rattle.acs_tree.specs.Slates.{SlateLines, with_line}
-use Rattle.acs_code.specs.Machine.{CodeParts, run_from}
+use Rattle.acs_code.specs.Machine.{CodeParts}
+use Rattle.acs_code.specs.Steps.{rest_of}
 use Rattle.acs_run.specs.declared.machine.Next.{Next}
 use Rattle.acs_run.specs.declared.machine.Next.TheVariants.{On, Exited}
 
@@ -14,10 +15,6 @@ use Rattle.acs_run.specs.declared.machine.Next.TheVariants.{On, Exited}
 abbrev pub with_lines : Kind → SlateLines → List (List ℕ) → SlateLines
 with_lines kind slate [] = slate
 with_lines kind slate (line ∷ lines) = with_lines kind (with_line kind line slate) lines
-
--- running from a place
-abbrev pub rest_of : CodeParts → Input → ℕ → Values → Outcome
-rest_of code input place values = run_from code.kind code.filters input 0 place code.instrs values
 
 -- what is to come, with what is written, is what was to come, with what was written
 pub record Same (kind : Kind) (one other : Outcome) (before now : SlateLines) : Type 0 where

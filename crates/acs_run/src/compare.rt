@@ -49,7 +49,7 @@ fn compares(
 }
 
 // EQ of a text.
-#[tactic(auto, using(crate::proofs::RowLemmas::by_filter))]
+#[tactic(auto, using(crate::proofs::VariableLemmas::by_filter))]
 fn equals(
     filters: &[FilterIndex],
     right: &Right,

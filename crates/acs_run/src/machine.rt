@@ -1,6 +1,7 @@
 //! The machine.
 ghost use Rattle.std.specs.Prelude.{◌≡◌, ◌<◌, length};
-ghost use Rattle.acs_code.specs.Machine.{running};
+ghost use Rattle.acs_code.specs.Machine.{ComesTo};
+ghost use Rattle.acs_tree.specs.Outcome.{Outcome};
 ghost use Rattle.acs_tree.specs.Slates.{KeepsOtherKinds, count_of, with_kept_lines};
 ghost use Rattle.acs_tree.specs.KeptLines.{kept_lines_of};
 ghost use Rattle.acs_run.specs.Steps.{Leads};
@@ -21,10 +22,11 @@ pub enum Next {
 /// Runs a code. Each instruction goes on at a later place, so that at most as many run as the code has.
 pub fn run(code: &Code, input: &Input, values: &mut Values, slate: &mut Slate) -> Ending
     requires { count_of code.now.kind slate.old.lines ≡ 0 }
-    ensures ending { result ≡ (running code.now input.now values.old).ending }
-    ensures values { values.new ≡ (running code.now input.now values.old).values }
+    ensures comes { (came : Outcome) × ComesTo code.now input.now values.old came }
+    ensures ending { (came : Outcome) → ComesTo code.now input.now values.old came → result ≡ came.ending }
+    ensures values { (came : Outcome) → ComesTo code.now input.now values.old came → values.new ≡ came.values }
     ensures other_kinds { KeepsOtherKinds code.now.kind slate.old slate.new }
-    ensures lines { slate.new ≡ with_kept_lines code.now.kind (kept_lines_of (running code.now input.now values.old).lines) slate.old }
+    ensures lines { (came : Outcome) → ComesTo code.now input.now values.old came → slate.new ≡ with_kept_lines code.now.kind (kept_lines_of came.lines) slate.old }
 {
     let _written = slate.lines();
     let end = code.instrs().len();

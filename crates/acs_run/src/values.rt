@@ -6,7 +6,7 @@ ghost use Rattle.acs_tree.specs.declared.input.Input.{Input};
 ghost use Rattle.acs_tree.specs.declared.values.Values.{Values};
 ghost use Rattle.acs_tree.specs.Value.{Number, Size, Text, text_at};
 ghost use Rattle.acs_tree.specs.Variables.{look_up, part_of_name};
-ghost use Rattle.acs_run.specs.Seen.{accounting_rows, attribute_rows, class_rows, default_rows, environment_rows, given_rows, held_in, input_rows, name_rows, number_rows, origin_rows, seen, size_rows, text_rows, volume_rows};
+ghost use Rattle.acs_run.specs.Seen.{accounting_variables, attribute_variables, class_variables, default_variables, environment_variables, given_variables, held_in, input_variables, name_variables, number_variables, origin_variables, seen, size_variables, text_variables, volume_variables};
 
 use crate::short::qualifier;
 use crate::value::Value;
@@ -32,7 +32,7 @@ pub fn value(slot: &Slot, input: &Input, values: &Values) -> Value
 }
 
 fn input_value(input: &Input, name: &[u8], index: u8) -> Option<Value>
-    ensures { (values : Values) → option_map (seen input.now values) result ≡ held_in input_rows name.now index input.now values }
+    ensures { (values : Values) → option_map (seen input.now values) result ≡ held_in input_variables name.now index input.now values }
 {
     if let Some(text) = origin_text(input, name) {
         return Some(Value::Text(text));
@@ -47,7 +47,7 @@ fn input_value(input: &Input, name: &[u8], index: u8) -> Option<Value>
 }
 
 fn given_value(input: &Input, name: &[u8], index: u8) -> Option<Value>
-    ensures { (values : Values) → option_map (seen input.now values) result ≡ held_in given_rows name.now index input.now values }
+    ensures { (values : Values) → option_map (seen input.now values) result ≡ held_in given_variables name.now index input.now values }
 {
     if let Some(kilobytes) = size(input, name) {
         return Some(Value::Size(kilobytes));
@@ -59,7 +59,7 @@ fn given_value(input: &Input, name: &[u8], index: u8) -> Option<Value>
 }
 
 fn given_text(input: &Input, name: &[u8], index: u8) -> Option<Value>
-    ensures { (values : Values) → option_map (seen input.now values) result ≡ held_in text_rows name.now index input.now values }
+    ensures { (values : Values) → option_map (seen input.now values) result ≡ held_in text_variables name.now index input.now values }
 {
     if let Some(text) = accounting_text(input, name, index) {
         return Some(Value::Text(text));
@@ -87,7 +87,7 @@ fn text_in(mut rows: &[(&[u8], &Short)], name: &[u8]) -> Option<Short>
 }
 
 fn name_value(input: &Input, name: &[u8], index: u8) -> Option<Value>
-    ensures { (values : Values) → option_map (seen input.now values) result ≡ held_in name_rows name.now index input.now values }
+    ensures { (values : Values) → option_map (seen input.now values) result ≡ held_in name_variables name.now index input.now values }
 {
     let dsn = &input.dsn;
     if name == b"DSN".as_slice() {
@@ -114,7 +114,7 @@ fn part_of_name(dsn: &Dsn, index: u8) -> Short
 }
 
 fn class_value(values: &Values, name: &[u8]) -> Option<Value>
-    ensures { (index : ℕ) (input : Input) → option_map (seen input values.now) result ≡ held_in class_rows name.now index input values.now }
+    ensures { (index : ℕ) (input : Input) → option_map (seen input values.now) result ≡ held_in class_variables name.now index input values.now }
 {
     if name == b"DATACLAS".as_slice() {
         Some(Value::Text(values.dataclas))
@@ -130,7 +130,7 @@ fn class_value(values: &Values, name: &[u8]) -> Option<Value>
 }
 
 fn origin_text(input: &Input, name: &[u8]) -> Option<Short>
-    ensures { (index : ℕ) (values : Values) → option_map Text result ≡ held_in origin_rows name.now index input.now values }
+    ensures { (index : ℕ) (values : Values) → option_map Text result ≡ held_in origin_variables name.now index input.now values }
 {
     let origin = &input.origin;
     let rows: [(&[u8], &Short); 6] = [
@@ -145,7 +145,7 @@ fn origin_text(input: &Input, name: &[u8]) -> Option<Short>
 }
 
 fn attribute_text(input: &Input, name: &[u8]) -> Option<Short>
-    ensures { (index : ℕ) (values : Values) → option_map Text result ≡ held_in attribute_rows name.now index input.now values }
+    ensures { (index : ℕ) (values : Values) → option_map Text result ≡ held_in attribute_variables name.now index input.now values }
 {
     let attributes = &input.attributes;
     let rows: [(&[u8], &Short); 7] = [
@@ -161,7 +161,7 @@ fn attribute_text(input: &Input, name: &[u8]) -> Option<Short>
 }
 
 fn number(input: &Input, name: &[u8]) -> Option<u64>
-    ensures { (index : ℕ) (values : Values) → option_map Number result ≡ held_in number_rows name.now index input.now values }
+    ensures { (index : ℕ) (values : Values) → option_map Number result ≡ held_in number_variables name.now index input.now values }
 {
     if name == b"RETPD".as_slice() {
         Some(input.amounts.retpd as u64)
@@ -177,7 +177,7 @@ fn number(input: &Input, name: &[u8]) -> Option<u64>
 }
 
 fn size(input: &Input, name: &[u8]) -> Option<u64>
-    ensures { (index : ℕ) (values : Values) → option_map Size result ≡ held_in size_rows name.now index input.now values }
+    ensures { (index : ℕ) (values : Values) → option_map Size result ≡ held_in size_variables name.now index input.now values }
 {
     if name == b"SIZE".as_slice() {
         Some(input.amounts.size)
@@ -189,7 +189,7 @@ fn size(input: &Input, name: &[u8]) -> Option<u64>
 }
 
 fn volume_value(input: &Input, name: &[u8]) -> Option<Value>
-    ensures { (index : ℕ) (values : Values) → option_map (seen input.now values) result ≡ held_in volume_rows name.now index input.now values }
+    ensures { (index : ℕ) (values : Values) → option_map (seen input.now values) result ≡ held_in volume_variables name.now index input.now values }
 {
     if name == b"NVOL".as_slice() {
         Some(Value::Number(input.volumes.as_slice().len() as u64))
@@ -203,7 +203,7 @@ fn volume_value(input: &Input, name: &[u8]) -> Option<Value>
 }
 
 fn accounting_text(input: &Input, name: &[u8], index: u8) -> Option<Short>
-    ensures { (values : Values) → option_map Text result ≡ held_in accounting_rows name.now index input.now values }
+    ensures { (values : Values) → option_map Text result ≡ held_in accounting_variables name.now index input.now values }
 {
     if name == b"ACCT_JOB".as_slice() {
         Some(field(&input.accounting.acct_job, index))
@@ -227,7 +227,7 @@ fn field(account: &Account, number: u8) -> Short
 }
 
 fn environment_text(input: &Input, name: &[u8]) -> Option<Short>
-    ensures { (index : ℕ) (values : Values) → option_map Text result ≡ held_in environment_rows name.now index input.now values }
+    ensures { (index : ℕ) (values : Values) → option_map Text result ≡ held_in environment_variables name.now index input.now values }
 {
     let environment = &input.environment;
     let rows: [(&[u8], &Short); 4] = [
@@ -240,7 +240,7 @@ fn environment_text(input: &Input, name: &[u8]) -> Option<Short>
 }
 
 fn default_text(input: &Input, name: &[u8]) -> Option<Short>
-    ensures { (index : ℕ) (values : Values) → option_map Text result ≡ held_in default_rows name.now index input.now values }
+    ensures { (index : ℕ) (values : Values) → option_map Text result ≡ held_in default_variables name.now index input.now values }
 {
     let defaults = &input.defaults;
     let rows: [(&[u8], &Short); 3] = [

@@ -2,6 +2,7 @@
 ghost use Rattle.std.specs.Prelude.{◌≡◌, ◌≤◌, length};
 ghost use Rattle.std.specs.List.{list_all};
 ghost use Rattle.std.specs.Str.{str_to_ascii_uppercase};
+ghost use Rattle.desk_common.specs.Limits.{most_word_bytes};
 ghost use Rattle.acs_tree.specs.Ident.{is_upper_byte};
 ghost use Rattle.acs_symbol.specs.Symbols.{inner_words, comparisons, listed, number_kind, word_kind, sign_of};
 
@@ -13,7 +14,7 @@ use acs_tree::{Compare, are_digits};
 /// are read where they stand.
 #[tactic(auto, using(crate::proofs::UpperLemmas::upper_stays))]
 pub fn kind_in_any_case(text: &[u8]) -> WordKind
-    requires { length text.now ≤ 64 }
+    requires { length text.now ≤ most_word_bytes }
     ensures { result ≡ word_kind (str_to_ascii_uppercase text.now) }
 {
     if is_upper(text) {
@@ -31,7 +32,7 @@ fn is_upper(text: &[u8]) -> bool
 
 #[inline(never)]
 fn raised_kind(text: &[u8]) -> WordKind
-    requires { length text.now ≤ 64 }
+    requires { length text.now ≤ most_word_bytes }
     ensures { result ≡ word_kind (str_to_ascii_uppercase text.now) }
 {
     let mut upper = [0; MAX_WORD];

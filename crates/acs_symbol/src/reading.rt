@@ -1,6 +1,7 @@
 // The tokens of a text, each with its text.
 ghost use Rattle.std.specs.Prelude.{◌≡◌, ◌≤◌, ◌<◌, [], length, slice_range, All, IfOk};
 ghost use Rattle.std.specs.Str.{str_to_ascii_uppercase};
+ghost use Rattle.desk_common.specs.Limits.{most_word_bytes};
 ghost use Rattle.acs_lex.specs.declared.token.TokenForm.TheVariants as token_form;
 ghost use Rattle.acs_lex.specs.Lexical.{IsForm};
 ghost use Rattle.acs_lex.specs.Tokens.{IsTokenOf};
@@ -45,7 +46,7 @@ fn symbol<'a>(text: &'a [u8], token: &Token) -> Symbol<'a>
 }
 
 fn word(bytes: &[u8]) -> Symbol<'_>
-    requires { length bytes.now ≤ 64 }
+    requires { length bytes.now ≤ most_word_bytes }
     ensures { let upper = str_to_ascii_uppercase bytes.entry.now in
         result ≡ Symbol.Word (word_kind upper) upper }
 {
@@ -54,7 +55,7 @@ fn word(bytes: &[u8]) -> Symbol<'_>
 
 fn variable(bytes: &[u8]) -> Symbol<'_>
     requires some { 0 < length bytes.now }
-    requires fits { length bytes.now ≤ 64 }
+    requires fits { length bytes.now ≤ most_word_bytes }
     ensures { let upper = str_to_ascii_uppercase bytes.entry.now in
         result ≡ Symbol.Variable (slice_range upper 1 (length upper)) }
 {

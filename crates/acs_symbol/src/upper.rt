@@ -1,6 +1,7 @@
 //! A word or a name of a variable where it stands in a text.
 ghost use Rattle.std.specs.Prelude.{◌≡◌, ◌≤◌, length};
 ghost use Rattle.std.specs.Str.{str_to_ascii_uppercase};
+ghost use Rattle.desk_common.specs.Limits.{most_word_bytes};
 
 use acs_tree::Ident;
 use std::marker::Model;
@@ -14,17 +15,18 @@ pub struct Upper<'a> {
 impl<'a> Model for Upper<'a> {
     ghost use Rattle.std.specs.Prelude.{List, ℕ, length, ◌≤◌};
     ghost use Rattle.std.specs.Str.{str_to_ascii_uppercase};
+    ghost use Rattle.desk_common.specs.Limits.{most_word_bytes};
 
     ghost Value = { List ℕ };
 
     ghost view = { λ s. str_to_ascii_uppercase s.bytes.now };
 
-    ghost invariant = { λ s. length s.bytes.now ≤ 64 };
+    ghost invariant = { λ s. length s.bytes.now ≤ most_word_bytes };
 }
 
 impl<'a> Upper<'a> {
     pub fn new(bytes: &'a [u8]) -> Self
-        requires { length bytes.now ≤ 64 }
+        requires { length bytes.now ≤ most_word_bytes }
         ensures { result ≡ str_to_ascii_uppercase bytes.now }
     {
         Upper { bytes }

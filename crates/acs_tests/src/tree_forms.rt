@@ -84,7 +84,7 @@ fn an_and_binds_closer_than_an_or(rt: HostRuntime) -> Result<(), Fail> {
 
 fn condition_of<'t>(rt: &impl Abort, stmt: &'t Stmt) -> &'t Cond {
     match &stmt.form {
-        Form::If { cond, .. } => cond,
+        Form::If { cond, .. } => cond.get(),
         _ => panic!(rt; "no IF"),
     }
 }

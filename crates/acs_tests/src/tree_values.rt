@@ -58,7 +58,7 @@ fn conditional(alloc: Global, name: Ident) -> Result<Routine, AllocError>
     body.push(Stmt {
         at: 2,
         form: Form::If {
-            cond,
+            cond: Boxed::new(alloc, cond)?,
             yes: Boxed::new(alloc, yes)?,
             otherwise: Some(Boxed::new(alloc, otherwise)?),
         },

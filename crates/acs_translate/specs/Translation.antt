@@ -29,6 +29,7 @@ pub record IsTranslated (text : List ℕ) (kind : Kind) (tree : Routine) (count 
   pub sound : IsSound tree kind
   pub counted : count ≡ length tokens
 
+-- the fault of a stage, by its number, at a place
 abbrev pub fault_of : Stage → ℕ → ℕ → RoutineFault
 fault_of stage number at = record { stage = stage; number = number; at = at }
 

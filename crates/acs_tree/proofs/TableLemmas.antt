@@ -4,7 +4,7 @@ use Rattle.std.specs.Prelude.{◌==◌, Option, Some, bytes_eq, filter, option_m
 use Rattle.std.proofs.lemmas.Bool.Decides.{nat_tests}
 use Rattle.std.proofs.lemmas.Slice.Eq.{bytes_eq-Decides}
 use Rattle.acs_tree.specs.declared.variable.Variable.{Variable}
-use Rattle.acs_tree.specs.Variables.{Known, Row, look_up, variable_of, variables}
+use Rattle.acs_tree.specs.Variables.{VariableMeaning, Row, look_up, variable_of, variables}
 
 in_row : {A B : Type 0} (f : A → B) (b : Bool) (held : A) (rest : Option A) (more : Option B) → option_map f rest ≡ more → option_map f (if b then Some held else rest) ≡ (if b then Some (f held) else more)
 in_row f true held rest more e = refl
@@ -31,5 +31,5 @@ among_its_length {A} (row ∷ rows) name = one_row row (filter (λ (row : List �
 pub by_length : (name : List ℕ) (rows : List (List ℕ × Variable)) → rows ≡ map (λ (row : Row). (row.0, row.1.variable)) (filter (λ (row : Row). length row.0 == length name) variables) → look_up rows name ≡ variable_of name
 unfolding variable_of
 by_length name rows e =
-    ap (λ found. look_up found name) e ∙ sym (look_up_map (λ (known : Known). known.variable) (filter (λ (row : Row). length row.0 == length name) variables) name)
-    ∙ ap (option_map (λ (known : Known). known.variable)) (among_its_length variables name)
+    ap (λ found. look_up found name) e ∙ sym (look_up_map (λ (known : VariableMeaning). known.variable) (filter (λ (row : Row). length row.0 == length name) variables) name)
+    ∙ ap (option_map (λ (known : VariableMeaning). known.variable)) (among_its_length variables name)

@@ -1,6 +1,7 @@
 -- What a routine means: by recursion on its tree (docs/acs-language.md, Meaning).
 use Rattle.std.specs.Prelude.{ℕ, List, [], ◌∷◌, map, Option, Some, None, if◌then◌else◌}
 use Rattle.std.specs.Option.{unwrap_or}
+use Rattle.desk_common.specs.Limits.{most_exit_code}
 use Rattle.acs_tree.specs.declared.kind.Kind.{Kind}
 use Rattle.acs_tree.specs.declared.routine.Form.TheOpen.{Form-F, Stmt-F, When-F}
 use Rattle.acs_tree.specs.declared.routine.Operand.{Operand}
@@ -21,7 +22,7 @@ writes parts input values = behind (line_of parts input values ∷ []) (falls va
 
 -- the number of a code; what is no code counts as 0
 abbrev pub code_from : OperandForm → ℕ
-code_from (Word word) = unwrap_or (within 0 65535 (number_of word)) 0
+code_from (Word word) = unwrap_or (within 0 most_exit_code (number_of word)) 0
 code_from (Literal text) = 0
 code_from (Var ref) = 0
 

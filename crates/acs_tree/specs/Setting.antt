@@ -2,6 +2,7 @@
 use Rattle.std.specs.Prelude.{◌&&◌, ◌++◌, ℕ, Bool, List, [], ◌∷◌, length, nat_lt, not, if◌then◌else◌}
 use Rattle.std.specs.List.{list_any}
 use Rattle.std.specs.Str.{bytes_eq}
+use Rattle.desk_common.specs.Limits.{most_groups_set}
 use Rattle.dsn_mask.specs.Name.{is_name, is_short}
 use Rattle.acs_tree.specs.declared.input.Input.{Input}
 use Rattle.acs_tree.specs.declared.kind.Kind.{Kind}
@@ -42,9 +43,9 @@ abbrev pub class_set : Kind → List Operand → Action
 class_set kind [] input values = falls values
 class_set kind (value ∷ more) input values = falls (with_class kind (class_from value.form input values) values)
 
--- a name that is not among the groups, of which there are fewer than 15
+-- a name that is not among the groups, where there is room for one more
 abbrev pub is_new_group : List (List ℕ) → List ℕ → Bool
-is_new_group groups name = nat_lt (length groups) 15 && (is_name name && not (list_any (bytes_eq name) groups))
+is_new_group groups name = nat_lt (length groups) most_groups_set && (is_name name && not (list_any (bytes_eq name) groups))
 
 -- the groups with that value behind them
 abbrev pub with_group : List (List ℕ) → OperandForm → List (List ℕ)

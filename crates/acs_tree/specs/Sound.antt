@@ -2,6 +2,7 @@
 use Rattle.std.specs.Prelude.{◌≡◌, ◌==◌, ◌&&◌, ◌||◌, ℕ, true, not, List, [], ◌∷◌, ◌++◌, length, Option, Some, None, is_some, if◌then◌else◌}
 use Rattle.std.specs.Str.{bytes_eq}
 use Rattle.desk_common.specs.Exact.{Place, IsFirst}
+use Rattle.desk_common.specs.Limits.{most_exit_code, most_groups_set, most_list_entries}
 use Rattle.acs_tree.specs.declared.check_err.CheckErr.{CheckErr}
 use Rattle.acs_tree.specs.declared.kind.Kind.{Kind}
 use Rattle.acs_tree.specs.declared.routine.Routine.{Routine}
@@ -75,18 +76,18 @@ mask_misplaced before _ = None
 
 -- 10: the 256th entry of an INCLUDE or an EXCLUDE
 abbrev pub too_many_entries : Node → Option ℕ
-too_many_entries (Entry count entry) = token_if (count == 255) (token_of entry)
+too_many_entries (Entry count entry) = token_if (count == most_list_entries) (token_of entry)
 too_many_entries _ = None
 
 -- 11: in SET of the group list a 16th value or a repeated literal, in another SET a second value
 abbrev pub too_many_values : Node → Option ℕ
 too_many_values (Value target before value behind) =
-    token_if (if is_group_list target then length before == 15 || is_literal_with (is_among before) value.form else length before == 1) (token_of value)
+    token_if (if is_group_list target then length before == most_groups_set || is_literal_with (is_among before) value.form else length before == 1) (token_of value)
 too_many_values _ = None
 
 -- 12: the code is no number from 0 to 65,535
 abbrev pub bad_exit_code : Node → Option ℕ
-bad_exit_code (Code code) = token_if (not (is_word_with (is_between 0 65535) code.form)) (token_of code)
+bad_exit_code (Code code) = token_if (not (is_word_with (is_between 0 most_exit_code) code.form)) (token_of code)
 bad_exit_code _ = None
 
 -- 13: a read-write variable of a later routine is read

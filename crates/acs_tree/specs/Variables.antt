@@ -2,6 +2,7 @@
 use Rattle.std.specs.Prelude.{◌==◌, ℕ, List, [], ◌∷◌, length, Option, Some, None, codes, if◌then◌else◌}
 use Rattle.std.specs.Option.{option_map, unwrap_or}
 use Rattle.std.specs.Str.{bytes_eq}
+use Rattle.desk_common.specs.Limits.{most_account_fields}
 use Rattle.dsn_mask.specs.Qualifiers.{qualifiers_of}
 use Rattle.acs_tree.specs.declared.input.Input.{Input}
 use Rattle.acs_tree.specs.declared.kind.Kind.{Kind}
@@ -15,30 +16,30 @@ use Rattle.acs_tree.specs.declared.variable.VariableKind.TheVariants as kind
 use Rattle.acs_tree.specs.Numbers.{number_of, within}
 use Rattle.acs_tree.specs.Value.{Value, Text, Number, Size, AnyOf, AllOf, Groups, text_at}
 
--- what a name stands for: what is known of the variable, and what it holds in a run, by its index, which is 0 where none is written
-pub record Known : Type 0 where
+-- what a variable's name means: what the checks know of it, and what it holds in a run, by its index, which is 0 where none is written
+pub record VariableMeaning : Type 0 where
   pub variable : Variable
   pub value : ℕ → Input → Values → Value
 
--- a row of the table: a name without its ampersand, and what it stands for
+-- a row of the table: a name without its ampersand, and what it means
 abbrev pub Row : Type 0
-Row = List ℕ × Known
+Row = List ℕ × VariableMeaning
 
--- a variable without an index that no routine sets
-abbrev pub given : List ℕ → VariableKind → (Input → Value) → Row
-given name kind held = (name, record { variable = record { kind = kind; indexing = Never; set_by = None }; value = λ index input values. held input })
+-- a read-only variable without an index
+abbrev pub read_only : List ℕ → VariableKind → (Input → Value) → Row
+read_only name kind held = (name, record { variable = record { kind = kind; indexing = Never; set_by = None }; value = λ index input values. held input })
 
 -- a text of the request
 abbrev pub text : List ℕ → (Input → List ℕ) → Row
-text name held = given name kind.Text (λ input. Text (held input))
+text name held = read_only name kind.Text (λ input. Text (held input))
 
 -- a number of the request
 abbrev pub number : List ℕ → (Input → ℕ) → Row
-number name held = given name kind.Number (λ input. Number (held input))
+number name held = read_only name kind.Number (λ input. Number (held input))
 
 -- a size of the request
 abbrev pub size : List ℕ → (Input → ℕ) → Row
-size name held = given name kind.Size (λ input. Size (held input))
+size name held = read_only name kind.Size (λ input. Size (held input))
 
 -- a text of the request, by the index
 abbrev pub indexed : List ℕ → Indexing → (Input → ℕ → List ℕ) → Row
@@ -102,10 +103,10 @@ variables =
     size (codes "SIZE") (λ input. input.amounts.size) ∷
     size (codes "MAXSIZE") (λ input. input.amounts.maxsize) ∷
     number (codes "NVOL") (λ input. length input.volumes) ∷
-    given (codes "ANYVOL") kind.Volumes (λ input. AnyOf input.volumes) ∷
-    given (codes "ALLVOL") kind.Volumes (λ input. AllOf input.volumes) ∷
-    indexed (codes "ACCT_JOB") (Always 8) (λ input index. text_at input.accounting.acct_job index) ∷
-    indexed (codes "ACCT_STEP") (Always 8) (λ input index. text_at input.accounting.acct_step index) ∷
+    read_only (codes "ANYVOL") kind.Volumes (λ input. AnyOf input.volumes) ∷
+    read_only (codes "ALLVOL") kind.Volumes (λ input. AllOf input.volumes) ∷
+    indexed (codes "ACCT_JOB") (Always most_account_fields) (λ input index. text_at input.accounting.acct_job index) ∷
+    indexed (codes "ACCT_STEP") (Always most_account_fields) (λ input index. text_at input.accounting.acct_step index) ∷
     text (codes "ACSENVIR") (λ input. input.environment.acsenvir) ∷
     text (codes "XMODE") (λ input. input.environment.xmode) ∷
     text (codes "SYSNAME") (λ input. input.environment.sysname) ∷
@@ -125,19 +126,19 @@ variables =
     null (codes "MSPOOL") ∷
     null (codes "MSVGP") ∷ []
 
--- what stands under that name
+-- what stands under that name, if there is something
 abbrev pub look_up : {A : Type 0} → List (List ℕ × A) → List ℕ → Option A
 look_up [] name = None
 look_up (row ∷ rows) name = if bytes_eq name row.0 then Some row.1 else look_up rows name
 
 -- the variable of that name, if there is one
 unfoldable pub variable_of : List ℕ → Option Variable
-variable_of name = option_map (λ (known : Known). known.variable) (look_up variables name)
+variable_of name = option_map (λ (meaning : VariableMeaning). meaning.variable) (look_up variables name)
 
--- what is held by what a name stands for; where it stands for nothing it is null
-abbrev pub value_by : Option Known → ℕ → Input → Values → Value
+-- what the variable of this meaning holds; null where there is none
+abbrev pub value_by : Option VariableMeaning → ℕ → Input → Values → Value
 value_by None index input values = Text []
-value_by (Some known) index input values = known.value index input values
+value_by (Some meaning) index input values = meaning.value index input values
 
 -- what the variable of that name and that index holds
 unfoldable pub variable_value : List ℕ → ℕ → Input → Values → Value

@@ -1,5 +1,6 @@
 //! The accounting of a job or of a step.
 ghost use Rattle.std.specs.Prelude.{◌≡◌, ◌≤◌, ◌<◌, ◌↔◌, ◌∷◌, ◌++◌, [], IsTrue, length};
+ghost use Rattle.desk_common.specs.Limits.{most_account_fields};
 
 use dsn_mask::Short;
 use std::marker::Model;
@@ -25,7 +26,7 @@ impl Model for Account {
 
     ghost inverse = { λ xs. record { items = filled 8 no_field xs; count = length xs } };
 
-    ghost use Rattle.acs_tree.specs.Lists.{account_back};
+    ghost use Rattle.acs_tree.specs.ListsFields.{account_back};
 
     ghost inverse_ok = { λ a h. account_back a h.0 h.1 };
 }
@@ -76,21 +77,21 @@ impl Account {
 
     pub fn as_slice(&self) -> &[Short]
         ensures items { result.now ≡ self.now }
-        ensures few { length self.now ≤ 8 }
+        ensures few { length self.now ≤ most_account_fields }
     {
         &self.items[..self.count as usize]
     }
 
     /// No more can be added.
     pub fn is_full(&self) -> bool
-        ensures { IsTrue result ↔ (length self.now ≡ 8) }
+        ensures { IsTrue result ↔ (length self.now ≡ most_account_fields) }
     {
         self.count == 8
     }
 
     /// Adds one behind the others.
     pub fn push(&mut self, item: Short)
-        requires { length self.old < 8 }
+        requires { length self.old < most_account_fields }
         ensures { self.new ≡ self.old ++ item ∷ [] }
     {
         self.items[self.count as usize] = item;

@@ -40,7 +40,7 @@ pub fn with_stmt(block: Block, stmt: Stmt) -> Result<Block, AllocError>
     Ok(block)
 }
 
-/// The branches with this one at their end.
+/// The WHENs with this one at their end.
 pub fn with_when(whens: Whens, when: When) -> Result<Whens, AllocError>
     ensures { IfOk result (λ longer. longer ≡ whens ++ when ∷ []) }
 {

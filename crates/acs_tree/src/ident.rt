@@ -1,6 +1,7 @@
 // Names of variables and words.
 ghost use Rattle.std.specs.Prelude.{◌≡◌, ◌≤◌, ◌<◌, length};
 ghost use Rattle.std.specs.Str.{str_to_ascii_uppercase};
+ghost use Rattle.desk_common.specs.Limits.{most_word_bytes};
 ghost use Rattle.acs_tree.specs.Ident.{IsIdent};
 
 use dsn_mask::Text;
@@ -64,7 +65,7 @@ impl Eq for Ident {
 impl Ident {
     /// The text with its letters in upper case.
     pub fn upper(bytes: &[u8]) -> Self
-        requires { length bytes.now ≤ 64 }
+        requires { length bytes.now ≤ most_word_bytes }
         ensures { result ≡ str_to_ascii_uppercase bytes.now }
     {
         let mut upper = [0; MAX_IDENT];

@@ -1,5 +1,5 @@
 // Words that are numbers or sizes (docs/acs-language.md, Kinds that suit).
-ghost use Rattle.std.specs.Prelude.{◌≡◌, ◌<◌, IfSome, Some, is_some};
+ghost use Rattle.std.specs.Prelude.{◌≡◌, ◌≤◌, ◌<◌, IfSome, Some, is_some};
 ghost use Rattle.std.specs.List.{list_all};
 ghost use Rattle.dsn_mask.specs.Name.{is_digit};
 ghost use Rattle.acs_tree.specs.Numbers.{greatest, kilobytes_in, number_of, size_of, value_of, within};
@@ -26,7 +26,8 @@ pub fn is_number(word: &[u8]) -> bool
 
 /// The number that a word is, if it is one of that range. Leading zeros do not count.
 pub fn number(word: &[u8], least: u64, most: u64) -> Option<u64>
-    ensures { result ≡ within least most (number_of word.now) }
+    ensures value { result ≡ within least most (number_of word.now) }
+    ensures fits { IfSome result (λ number. number ≤ most) }
 {
     if !is_number(word) {
         return None;
@@ -39,7 +40,8 @@ pub fn number(word: &[u8], least: u64, most: u64) -> Option<u64>
 
 // The value of digits, if it is at most this.
 fn value_up_to(digits: &[u8], most: u64) -> Option<u64>
-    ensures { result ≡ within 0 most (Some (value_of digits.now)) }
+    ensures value { result ≡ within 0 most (Some (value_of digits.now)) }
+    ensures fits { IfSome result (λ value. value ≤ most) }
 {
     let mut rest = digits;
     let mut value: u64 = 0;

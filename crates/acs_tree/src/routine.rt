@@ -41,7 +41,7 @@ pub enum Form {
         values: Operands,
     },
     If {
-        cond: Cond,
+        cond: Boxed<Cond>,
         yes: Boxed<Stmt>,
         otherwise: Option<Boxed<Stmt>>,
     },
@@ -66,14 +66,14 @@ pub struct When {
     pub body: Boxed<Stmt>,
 }
 
-/// The branches of a SELECT in their order.
+/// The WHENs of a SELECT in their order.
 pub type Whens = Items<When>;
 
-/// When a branch is taken: the subject equals any of these, or the condition holds.
+/// When the statement of a WHEN is done: the subject equals any of these, or the condition holds.
 #[derive(Drop)]
 pub enum WhenTest {
     Any(Operands),
-    Holds(Cond),
+    Holds(Boxed<Cond>),
 }
 
 /// A condition.
@@ -104,11 +104,11 @@ pub enum Compare {
 }
 
 /// A variable, without its ampersand, and its index if it has one. Without one `index_at` is 0.
-#[derive(Clone, Copy)]
+#[derive(Drop)]
 pub struct Ref {
     pub at: u32,
     pub name: Ident,
-    pub index: Option<Ident>,
+    pub index: Option<Boxed<Ident>>,
     pub index_at: u32,
 }
 
@@ -122,14 +122,14 @@ impl Ref {
 }
 
 /// A value of a list, of SET, of WRITE or at the right of a comparison.
-#[derive(Clone, Copy)]
+#[derive(Drop)]
 pub struct Operand {
     pub at: u32,
     pub form: OperandForm,
 }
 
 /// What an operand is: a text between quotes, a word or a variable.
-#[derive(Clone, Copy)]
+#[derive(Drop)]
 pub enum OperandForm {
     Literal(Lit),
     Word(Ident),

@@ -1,5 +1,6 @@
 //! The volumes that a request names.
 ghost use Rattle.std.specs.Prelude.{◌≡◌, ◌≤◌, ◌<◌, ◌↔◌, ◌∷◌, ◌++◌, [], IsTrue, length};
+ghost use Rattle.desk_common.specs.Limits.{most_volume_count};
 ghost use Rattle.acs_tree.specs.Lists.{no_volume};
 
 use dsn_mask::Volser;
@@ -26,7 +27,7 @@ impl Model for Volumes {
 
     ghost inverse = { λ xs. record { items = filled 59 no_volume xs; count = length xs } };
 
-    ghost use Rattle.acs_tree.specs.Lists.{volumes_back};
+    ghost use Rattle.acs_tree.specs.ListsFields.{volumes_back};
 
     ghost inverse_ok = { λ a h. volumes_back a h.0 h.1 };
 }
@@ -77,21 +78,21 @@ impl Volumes {
 
     pub fn as_slice(&self) -> &[Volser]
         ensures items { result.now ≡ self.now }
-        ensures few { length self.now ≤ 59 }
+        ensures few { length self.now ≤ most_volume_count }
     {
         &self.items[..self.count as usize]
     }
 
     /// No more can be added.
     pub fn is_full(&self) -> bool
-        ensures { IsTrue result ↔ (length self.now ≡ 59) }
+        ensures { IsTrue result ↔ (length self.now ≡ most_volume_count) }
     {
         self.count == 59
     }
 
     /// Adds one behind the others.
     pub fn push(&mut self, item: Volser)
-        requires { length self.old < 59 }
+        requires { length self.old < most_volume_count }
         ensures { self.new ≡ self.old ++ item ∷ [] }
     {
         self.items[self.count as usize] = item;

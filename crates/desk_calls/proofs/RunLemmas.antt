@@ -1,71 +1,35 @@
 -- One more answer.
-use Rattle.std.proofs.Common.{◌≡◌, ◌<◌, ◌≤◌, ◌+◌, List, [], ◌∷◌, ◌++◌, ℕ, zero, suc, Bool, true, false, cond, fold, take, drop, length, get_or, refl, sym, ap, ◌∙◌, arith, append_assoc, append-nil, length-append}
-use Rattle.std.specs.Prelude.{◌&&◌, ◌||◌, nat_le, count_by, Option}
-use Rattle.std.proofs.lemmas.Bool.Decides.{nat_tests}
+use Rattle.std.proofs.Common.{◌≡◌, ◌<◌, ◌≤◌, ◌+◌, List, [], ◌∷◌, ◌++◌, ℕ, zero, suc, Bool, true, false, take, drop, length, get_or, refl, subst, sym, ap, ◌∙◌, arith, append_assoc, append-nil, length-append}
+use Rattle.std.specs.Prelude.{Option}
 use Rattle.sms_construct.specs.declared.entry.Answer.{Answer}
 use Rattle.sms_construct.specs.declared.entry.Entry.{Entry}
-use Rattle.sms_construct.specs.declared.request.Op.{Op}
 use Rattle.sms_construct.specs.declared.request.Request.{Request}
 use Rattle.sms_keeper.specs.declared.rows.Rows.{Rows}
 use Rattle.desk_law.specs.State.{Opening}
 use Rattle.desk_law.specs.Kept.{is_entered}
-use Rattle.desk_law.specs.Limits.{most_activations, most_entries}
-use Rattle.desk_law.specs.Step.{activates, is_activation}
-use Rattle.desk_records.specs.Full.{is_full_for}
 use Rattle.sms_core.specs.Core.{Enters, entry_of}
 use Rattle.sms_script.specs.declared.item.Item.{Item}
 use Rattle.sms_script.specs.Script.{items_of}
 use Rattle.desk_calls.specs.Run.{entries_of, AnswersFront, AnswersInOrder, AreDue, IsDue}
 
--- A full journal stays full.
-
-fold-append : {X : Type 0} (f : ℕ → X → ℕ) (n : ℕ) (xs ys : List X) → fold f n (xs ++ ys) ≡ fold f (fold f n xs) ys
-fold-append f n [] ys = refl
-fold-append f n (x ∷ xs) ys = fold-append f (f n x) xs ys
-
-count-rises : {X : Type 0} (p : X → Bool) (n : ℕ) (xs : List X) → n ≤ fold (λ n y. n + cond (p y) 1 0) n xs
-count-rises p n [] = omega arith
-count-rises p n (x ∷ xs) = omega (arith, count-rises p (n + cond (p x) 1 0) xs)
-
-count-more : {X : Type 0} (p : X → Bool) (xs ys : List X) → count_by p xs ≤ count_by p (xs ++ ys)
-count-more p xs ys = rw (fold-append (λ n y. n + cond (p y) 1 0) 0 xs ys) (count-rises p (count_by p xs) ys)
-
-le-more : (most a b : ℕ) → a ≤ b → nat_le most a ≡ true → nat_le most b ≡ true
-le-more most a b more is = grind (arith, nat_tests, more, is)
-
-full-at : (a more b c further : Bool) → (a ≡ true → more ≡ true) → (c ≡ true → further ≡ true) → (a || (b && c)) ≡ true → (more || (b && further)) ≡ true
-full-at true more b c further first second is = rw (first refl) refl
-full-at false true b c further first second is = refl
-full-at false false true c further first second is = second is
-full-at false false false c further first second is = absurd cc
-
-full-more : (h more : List Entry) (op : Op) → is_full_for h op ≡ true → is_full_for (h ++ more) op ≡ true
-full-more h more op is =
-    let longer : length h ≤ length (h ++ more) = omega (arith, length-append h more) in
-    full-at (nat_le most_entries (length h)) (nat_le most_entries (length (h ++ more))) (is_activation op) (nat_le most_activations (count_by activates h)) (nat_le most_activations (count_by activates (h ++ more)))
-    (le-more most_entries (length h) (length (h ++ more)) longer) (le-more most_activations (count_by activates h) (count_by activates (h ++ more)) (count-more activates h more)) is
-
 -- Answers that are due.
 
-is-due-more : (h more : List Entry) (request : Request) (answer : Answer) → IsDue h request answer → IsDue (h ++ more) request answer
-is-due-more h more request answer due = record { unplaced = due.unplaced; first = due.first; full = λ is. full-more h more request.op (due.full is) }
-
-due-more : (h more : List Entry) (answers : List Answer) (items : List Item) → AreDue h answers items → AreDue (h ++ more) answers items
-due-more h more [] items due = tt
-due-more h more (a ∷ answers) [] due = tt
-due-more h more (a ∷ answers) (i ∷ items) due = (is-due-more h more i.request a due.0, due-more h more answers items due.1)
-
 due-push : (h : List Entry) (answers : List Answer) (items : List Item) (answer : Answer) (d : Item) → length answers < length items
-    → AreDue h answers items → IsDue h (get_or items (length answers) d).request answer → AreDue h (answers ++ answer ∷ []) items
+    → AreDue h answers items → IsDue (h ++ entries_of answers items) (get_or items (length answers) d).request answer → AreDue h (answers ++ answer ∷ []) items
 due-push h answers [] answer d less due one = absurd (omega arith)
-due-push h [] (i ∷ items) answer d less due one = (one, tt)
-due-push h (a ∷ answers) (i ∷ items) answer d less due one = (due.0, due-push h answers items answer d (omega arith) due.1 one)
+due-push h [] (i ∷ items) answer d less due one = (subst (λ es. IsDue es i.request answer) (append-nil h) one, tt)
+due-push h (a ∷ answers) (i ∷ items) answer d less due one =
+    let behind = sym (append_assoc h (entry_of i.request a) (entries_of answers items)) in
+    (due.0, due-push (h ++ entry_of i.request a) answers items answer d (omega arith) due.1 (subst (λ es. IsDue es (get_or items (length answers) d).request answer) behind one))
 
-due-append : (h : List Entry) (xs ys : List Answer) (items more : List Item) → length xs ≡ length items → AreDue h xs items → AreDue h ys more → AreDue h (xs ++ ys) (items ++ more)
-due-append h [] ys [] more each due next = next
+due-append : (h : List Entry) (xs ys : List Answer) (items more : List Item) → length xs ≡ length items → AreDue h xs items → AreDue (h ++ entries_of xs items) ys more
+    → AreDue h (xs ++ ys) (items ++ more)
+due-append h [] ys [] more each due next = subst (λ es. AreDue es ys more) (append-nil h) next
 due-append h [] ys (i ∷ items) more each due next = absurd (omega arith)
 due-append h (x ∷ xs) ys [] more each due next = absurd (omega arith)
-due-append h (x ∷ xs) ys (i ∷ items) more each due next = (due.0, due-append h xs ys items more (omega arith) due.1 next)
+due-append h (x ∷ xs) ys (i ∷ items) more each due next =
+    let behind = sym (append_assoc h (entry_of i.request x) (entries_of xs items)) in
+    (due.0, due-append (h ++ entry_of i.request x) xs ys items more (omega arith) due.1 (subst (λ es. AreDue es ys more) behind next))
 
 no-place : (o : Opening) (old new : List Entry) (told told' : Option Rows) (count count' : ℕ) (request : Request) (answer : Answer) (b : Bool)
     → Enters o old new told told' count count' request answer → is_entered answer.reply ≡ b → answer.place ≡ 0 → b ≡ false
@@ -74,11 +38,11 @@ no-place o old new told told' count count' request answer true enters is none = 
 
 -- the answer of a step is due
 step-due : (o : Opening) (old new : List Entry) (told told' : Option Rows) (count count' : ℕ) (request : Request) (answer : Answer)
-    → Enters o old new told told' count count' request answer → IsDue new request answer
+    → Enters o old new told told' count count' request answer → IsDue old request answer
 step-due o old new told told' count count' request answer enters = record {
   unplaced = (λ none. no-place o old new told told' count count' request answer (is_entered answer.reply) enters refl none, λ none. (enters.no_place none).0);
   first = λ none. (enters.no_place none).1;
-  full = λ is. rw enters.journal_is (full-more old (entry_of request answer) request.op (enters.full.0 is));
+  full = enters.full;
 }
 
 -- Entries.
@@ -128,7 +92,7 @@ front-push items count before after after' old mid new item answer o told told' 
       behind = grown ∙ ap (λ all. all ++ answer ∷ []) front.behind ∙ append_assoc before answers (answer ∷ []);
       counted = omega (arith, length-append answers (answer ∷ []), front.counted);
       once = entered-push answers items answer item old mid new shorter there front.once enters.journal_is;
-      due = due-push new answers items answer item shorter (rw enters.journal_is (due-more mid (entry_of item.request answer) answers items front.due)) (rw (← there) due);
+      due = due-push old answers items answer item shorter front.due (rw (← there) (subst (λ es. IsDue es item.request answer) front.once due));
     }
 
 -- so many answers there are
@@ -148,7 +112,7 @@ phase-answered items more before after old mid new done next = rw next.behind (r
   each = omega (arith, length-append before next.answers, length-append items more, done.each, next.counted);
   once = next.once ∙ ap (λ es. es ++ entries_of next.answers more) done.once ∙ append_assoc old _ _
       ∙ ap (λ es. old ++ es) (sym (entries_of-append before next.answers items more done.each));
-  due = due-append new before next.answers items more done.each (rw next.once (due-more mid (entries_of next.answers more) before items done.due)) next.due;
+  due = due-append old before next.answers items more done.each done.due (subst (λ es. AreDue es next.answers more) done.once next.due);
 })
 
 -- the items up to the next phase

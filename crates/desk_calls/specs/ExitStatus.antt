@@ -3,6 +3,7 @@ use Rattle.std.specs.Prelude.{ℕ}
 use Rattle.desk_calls.specs.declared.status.RunStatus.{RunStatus}
 use Rattle.desk_calls.specs.declared.status.RunStatus.TheVariants.{Done, BadWords, ReadFault, WriteFault, Script, TooLong, NoMemory}
 
+-- the number that each ending of a run is told by
 abbrev pub exit_status_of : RunStatus → ℕ
 exit_status_of Done = 0
 exit_status_of BadWords = 2

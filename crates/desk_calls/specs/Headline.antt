@@ -68,7 +68,7 @@ pub record IsLawfulHistory (history : List Entry) : Type 0 where
 -- the items were answered on a new desk over a keeper, which was one thing before and is another after
 pub record WasRun (before after : Keeping) (phases : List (List Item)) (answers : List Answer) (history : List Entry) : Type 0 where
   -- one history, each request once: each item has its answer, and the entries of the answers make the history in script order; the
-  -- items without a place are those answered M31 or R24, and R24 comes only where the history has no place for the op
+  -- items without a place are those answered M31 or R24, and R24 comes exactly where the history before the item has no place for the op
   pub once : AnswersInOrder (items_of phases) answers [] history
   pub lawful : IsLawfulHistory history
   -- the keeper counted each of its faults in the history, up to the greatest number that its count can be

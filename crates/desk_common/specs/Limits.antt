@@ -1,5 +1,29 @@
--- The limits of the language and of the volumes.
+-- The limits of names, of the language and of the volumes.
 use Rattle.std.specs.Prelude.{ℕ}
+
+-- the bytes of a name or a qualifier
+abbrev pub most_name_bytes : ℕ
+most_name_bytes = 8
+
+-- the bytes of a volume serial
+abbrev pub most_volser_bytes : ℕ
+most_volser_bytes = 6
+
+-- the bytes of a data set name, and of another value that a routine sees
+abbrev pub most_value_bytes : ℕ
+most_value_bytes = 44
+
+-- the storage groups that one SET may name
+abbrev pub most_groups_set : ℕ
+most_groups_set = 15
+
+-- the volumes of a data set
+abbrev pub most_volume_count : ℕ
+most_volume_count = 59
+
+-- the texts of accounting information
+abbrev pub most_account_fields : ℕ
+most_account_fields = 8
 
 -- the bytes of a word, a variable's name or a mask
 abbrev pub most_word_bytes : ℕ
@@ -13,9 +37,41 @@ most_literal_bytes = 110
 abbrev pub most_lines : ℕ
 most_lines = 64
 
+-- the entries of an INCLUDE or an EXCLUDE
+abbrev pub most_list_entries : ℕ
+most_list_entries = 255
+
+-- the greatest code of an EXIT
+abbrev pub most_exit_code : ℕ
+most_exit_code = 65535
+
 -- the nestings that may be open at once
 abbrev pub most_nestings : ℕ
 most_nestings = 200
+
+-- the words of a command
+abbrev pub most_words : ℕ
+most_words = 32
+
+-- the digits of a number in a script, in the space of a deck or on a command line
+abbrev pub most_digits : ℕ
+most_digits = 10
+
+-- the greatest such number
+abbrev pub most_number : ℕ
+most_number = 4294967295
+
+-- the greatest quantity of a space, in its unit
+abbrev pub most_quantity : ℕ
+most_quantity = 16777215
+
+-- the extents of a data set on one volume
+abbrev pub most_extents : ℕ
+most_extents = 16
+
+-- the pieces of one grant
+abbrev pub most_pieces : ℕ
+most_pieces = 5
 
 -- the tracks of a volume
 abbrev pub most_tracks : ℕ

@@ -11,10 +11,14 @@ abbrev pub onto : ℕ → List (List ℕ) → List (List ℕ)
 onto byte [] = (byte ∷ []) ∷ []
 onto byte (piece ∷ pieces) = (byte ∷ piece) ∷ pieces
 
--- the pieces between the separators, empty ones too
+-- the pieces of a text between the bytes that part it, empty ones too; the empty text has one empty piece
+abbrev pub pieces_between : (ℕ → Bool) → List ℕ → List (List ℕ)
+pieces_between parts [] = [] ∷ []
+pieces_between parts (byte ∷ bytes) = if parts byte then [] ∷ pieces_between parts bytes else onto byte (pieces_between parts bytes)
+
+-- the pieces between the separators
 abbrev pub pieces_of : List ℕ → List ℕ → List (List ℕ)
-pieces_of separators [] = [] ∷ []
-pieces_of separators (byte ∷ bytes) = if is_one_of separators byte then [] ∷ pieces_of separators bytes else onto byte (pieces_of separators bytes)
+pieces_of separators text = pieces_between (is_one_of separators) text
 
 -- the pieces that aren't empty
 abbrev pub without_empty : List (List ℕ) → List (List ℕ)

@@ -7,7 +7,8 @@ use Rattle.std.specs.Char.{digit_value}
 use Rattle.std.specs.Str.Parse.{AllDigits}
 use Rattle.std.proofs.lemmas.Fmt.{decimal_is_IsNumeral, length-decimal-le}
 use Rattle.dsn_mask.specs.DataSetName.{dsn_of, is_data_set_name, is_qualifier, is_qualifier_byte}
-use Rattle.dsn_mask.specs.Qualifiers.{onto, qualifiers_of}
+use Rattle.desk_common.specs.Words.{onto}
+use Rattle.dsn_mask.specs.Qualifiers.{qualifiers_of}
 use Rattle.desk_common.specs.Bytes.{full_stop}
 use Rattle.desk_generator.specs.Generated.{numbered_name}
 

@@ -1,6 +1,7 @@
 -- What holds of each state that a legal history reaches.
 use Rattle.std.specs.Prelude.{ℕ, ◌≡◌, ◌≤◌, ◌<◌, ◌+◌, List, [], ◌∷◌, length, IfSome, if◌then◌else◌}
 use Rattle.std.specs.List.{AllByRecursion}
+use Rattle.desk_common.specs.Limits.{most_extents}
 use Rattle.sms_construct.specs.Configuration.{IsConfiguration}
 use Rattle.sms_construct.specs.declared.data_set.DataSet.{DataSet}
 use Rattle.sms_construct.specs.declared.extent.Extent.{Extent}
@@ -22,7 +23,7 @@ IsInside volumes extent = LiesInside (tracks_of extent.volser volumes) (piece_of
 pub record IsLawfulSet (volumes : List VolumeDef) (set : DataSet) : Type 0 where
   pub some : 0 < length set.extents
   pub inside : AllByRecursion (IsInside volumes) set.extents
-  pub few : (volser : List ℕ) → length (pieces_on volser set.extents) ≤ 16
+  pub few : (volser : List ℕ) → length (pieces_on volser set.extents) ≤ most_extents
   pub spread : length (volumes_of set.extents) ≤ set.volumes
 
 -- how many data sets have the name

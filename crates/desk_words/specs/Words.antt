@@ -1,7 +1,7 @@
 -- What the words of the desk's command line ask for (docs/script.md, "The program").
 use Rattle.std.specs.Prelude.{ℕ, ◌&&◌, true, false, List, [], ◌∷◌, nat_le, Option, None, Some, bytes_eq, codes, if◌then◌else◌}
 use Rattle.sms_script.specs.Found.{◌⊳◌}
-use Rattle.sms_script.specs.Numbers.{number_of}
+use Rattle.sms_construct.specs.Numbers.{small_number_of}
 use Rattle.desk_words.specs.declared.task.Task.{Task}
 use Rattle.desk_words.specs.declared.task.Task.TheVariants as tasks
 
@@ -16,8 +16,8 @@ load_of seed count = if nat_le 1 count && nat_le count most_items then Some (tas
 -- what `gen` and two numbers ask for
 abbrev pub load_in : List ℕ → List ℕ → Option Task
 load_in seed count =
-    number_of seed ⊳ λ from.
-    number_of count ⊳ λ items.
+    small_number_of seed ⊳ λ from.
+    small_number_of count ⊳ λ items.
     load_of from items
 
 -- `run`; `run --volumes`; `gen`, a seed and a number of items; no other words ask for anything

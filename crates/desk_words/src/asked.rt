@@ -3,7 +3,7 @@ ghost use Rattle.std.specs.Prelude.{◌≡◌, map, string_bytes};
 ghost use Rattle.desk_words.specs.Words.{load_in, load_of, task_in};
 
 use crate::task::Task;
-use sms_script::read_number;
+use sms_construct::read_number;
 
 // The most items of a load.
 const MAX_ITEMS: u32 = 40_000;

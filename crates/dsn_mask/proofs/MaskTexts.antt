@@ -3,7 +3,8 @@ use Rattle.std.proofs.Common.{Bool, ◌≡◌, ℕ, true, false, List, [], ◌�
 use Rattle.std.specs.Prelude.{◌&&◌, ◌||◌, ◌==◌, not, if◌then◌else◌}
 use Rattle.std.specs.List.{list_all}
 use Rattle.std.proofs.lemmas.Bool.{eqb-true}
-use Rattle.dsn_mask.specs.Qualifiers.{qualifiers_of, onto}
+use Rattle.desk_common.specs.Words.{onto}
+use Rattle.dsn_mask.specs.Qualifiers.{qualifiers_of}
 use Rattle.dsn_mask.specs.MaskTest.{is_empty, is_two_stars}
 use Rattle.dsn_mask.specs.MaskText.{is_mask_byte, begins_with_star, are_stars_apart, is_piece, is_mask_qualifier}
 use Rattle.dsn_mask.proofs.Fitting.{are_stars}

@@ -5,7 +5,8 @@ use Rattle.std.specs.List.{AllPass, list_all}
 use Rattle.std.proofs.lemmas.Bool.Decides.{nat_tests}
 use Rattle.std.proofs.lemmas.List.Sums.{AllPass-from_list_all}
 use Rattle.dsn_mask.specs.Name.{is_short_byte}
-use Rattle.dsn_mask.specs.Qualifiers.{onto, qualifiers_of}
+use Rattle.desk_common.specs.Words.{onto}
+use Rattle.dsn_mask.specs.Qualifiers.{qualifiers_of}
 use Rattle.dsn_mask.specs.DataSetName.{IsDataSetName, is_qualifier, is_qualifier_byte}
 use Rattle.dsn_mask.proofs.Faults.{both, parts_of}
 use Rattle.dsn_mask.proofs.Parsing.{all_are_good}

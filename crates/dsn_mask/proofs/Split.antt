@@ -2,7 +2,8 @@
 use Rattle.std.proofs.Common.{Bool, ◌≡◌, ◌≢◌, ◌<◌, ℕ, zero, suc, true, false, List, [], ◌∷◌, length, get_or, take, drop, refl, arith}
 use Rattle.std.specs.Prelude.{◌==◌, if◌then◌else◌}
 use Rattle.std.proofs.lemmas.Bool.Decides.{nat_tests}
-use Rattle.dsn_mask.specs.Qualifiers.{qualifiers_of, onto}
+use Rattle.desk_common.specs.Words.{onto}
+use Rattle.dsn_mask.specs.Qualifiers.{qualifiers_of}
 use Rattle.dsn_mask.specs.MaskTest.{is_empty}
 
 pub differs : (x y : ℕ) → x ≢ y → (x == y) ≡ false

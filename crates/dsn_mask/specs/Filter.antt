@@ -24,10 +24,12 @@ pub record FilterLists : Type 0 where
 
 -- the same as tests
 
+-- the entry fits the value
 abbrev pub entry_fits : List ℕ → Entry → Bool
 entry_fits value (Quoted literal) = bytes_eq literal value
 entry_fits value (Dots mask) = mask_fits mask value
 entry_fits value (Plain simple) = simple_fits simple value
 
+-- the value passes the filter of these entries
 abbrev pub passes_filter : List ℕ → List Entry → List Entry → Bool
 passes_filter value include exclude = (is_empty include || list_any (entry_fits value) include) && not (list_any (entry_fits value) exclude)

@@ -75,7 +75,7 @@ IsFirstSimpleFault bytes err = IsFirstFault false bytes err
 
 -- the same as tests
 
--- the first that passes of the four tests of a place
+-- the fault of the first of four tests that holds, at this place
 abbrev pub fault_by : Bool → Bool → Bool → Bool → ℕ → Option MaskErr
 fault_by third pair bad stray at =
     if third then Some (ThreeStars at) else if pair then Some (StarsNotAlone at) else if bad then Some (BadByte at) else if stray then Some (EmptyPiece at) else None
@@ -89,6 +89,6 @@ abbrev pub is_clear_below : Bool → List ℕ → ℕ → Bool
 is_clear_below dotted bytes zero = true
 is_clear_below dotted bytes (suc at) = is_clear_below dotted bytes at && is_none (fault_at dotted bytes at)
 
--- 1 to 64 bytes with no fault at any place
+-- at least one byte, no more than a mask may have, and no fault at any place
 abbrev pub has_no_fault : Bool → List ℕ → Bool
 has_no_fault dotted bytes = nat_le 1 (length bytes) && (nat_le (length bytes) most_word_bytes && is_clear_below dotted bytes (length bytes))

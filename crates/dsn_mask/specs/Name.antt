@@ -1,8 +1,8 @@
 -- Names, volume serials, values and literals, as lists of bytes.
 use Rattle.std.specs.Prelude.{◌≡◌, ◌≤◌, ◌==◌, ◌&&◌, ◌||◌, ℕ, Bool, true, List, Option, None, Some, length, nat_le, not, slice_index, if◌then◌else◌}
 use Rattle.std.specs.List.{AllPass, list_all}
-use Rattle.desk_common.specs.Limits.{most_literal_bytes}
-use Rattle.desk_common.specs.Bytes.{quote}
+use Rattle.desk_common.specs.Limits.{most_literal_bytes, most_name_bytes, most_value_bytes, most_volser_bytes}
+use Rattle.desk_common.specs.Bytes.{space_byte, quote}
 
 -- 0 to 9
 abbrev pub is_digit : ℕ → Bool
@@ -22,19 +22,19 @@ is_short_byte byte = nat_le 33 byte && (nat_le byte 126 && not (byte == quote))
 
 -- a printed byte but the quote
 abbrev pub is_literal_byte : ℕ → Bool
-is_literal_byte byte = byte == 32 || is_short_byte byte
+is_literal_byte byte = byte == space_byte || is_short_byte byte
 
 -- one to eight of A to Z, 0 to 9, #, $ and @, the first no digit
 abbrev pub IsName : List ℕ → Type 0
-IsName bytes = (1 ≤ length bytes) × (length bytes ≤ 8) × (is_initial (slice_index bytes 0) ≡ true) × AllPass is_name_byte bytes
+IsName bytes = (1 ≤ length bytes) × (length bytes ≤ most_name_bytes) × (is_initial (slice_index bytes 0) ≡ true) × AllPass is_name_byte bytes
 
 -- one to six of A to Z, 0 to 9, #, $ and @
 abbrev pub IsVolser : List ℕ → Type 0
-IsVolser bytes = (1 ≤ length bytes) × (length bytes ≤ 6) × AllPass is_name_byte bytes
+IsVolser bytes = (1 ≤ length bytes) × (length bytes ≤ most_volser_bytes) × AllPass is_name_byte bytes
 
 -- at most 44 printed bytes, none a blank or a quote; the empty text is the null value
 abbrev pub IsShort : List ℕ → Type 0
-IsShort bytes = (length bytes ≤ 44) × AllPass is_short_byte bytes
+IsShort bytes = (length bytes ≤ most_value_bytes) × AllPass is_short_byte bytes
 
 -- at most 110 printed bytes or blanks, none a quote
 abbrev pub IsLiteral : List ℕ → Type 0
@@ -42,15 +42,19 @@ IsLiteral bytes = (length bytes ≤ most_literal_bytes) × AllPass is_literal_by
 
 -- the same as tests
 
+-- a name
 abbrev pub is_name : List ℕ → Bool
-is_name bytes = nat_le 1 (length bytes) && (nat_le (length bytes) 8 && (is_initial (slice_index bytes 0) && list_all is_name_byte bytes))
+is_name bytes = nat_le 1 (length bytes) && (nat_le (length bytes) most_name_bytes && (is_initial (slice_index bytes 0) && list_all is_name_byte bytes))
 
+-- a volume serial
 abbrev pub is_volser : List ℕ → Bool
-is_volser bytes = nat_le 1 (length bytes) && (nat_le (length bytes) 6 && list_all is_name_byte bytes)
+is_volser bytes = nat_le 1 (length bytes) && (nat_le (length bytes) most_volser_bytes && list_all is_name_byte bytes)
 
+-- a value that a routine sees
 abbrev pub is_short : List ℕ → Bool
-is_short bytes = nat_le (length bytes) 44 && list_all is_short_byte bytes
+is_short bytes = nat_le (length bytes) most_value_bytes && list_all is_short_byte bytes
 
+-- a literal
 abbrev pub is_literal : List ℕ → Bool
 is_literal bytes = nat_le (length bytes) most_literal_bytes && list_all is_literal_byte bytes
 

@@ -1,5 +1,6 @@
 //! Lists of names.
 ghost use Rattle.std.specs.Prelude.{◌≡◌, ◌≤◌, ◌<◌, ◌↔◌, List, ℕ, [], ◌∷◌, ◌++◌, length, IsTrue, Contains};
+ghost use Rattle.desk_common.specs.Limits.{most_groups_set};
 ghost use Rattle.dsn_mask.specs.Names.{AreFewAndOnce};
 
 use crate::Name;
@@ -76,7 +77,7 @@ impl Names {
 
     /// No more names can be added.
     pub fn is_full(&self) -> bool
-        ensures { IsTrue result ↔ (length self.now ≡ 15) }
+        ensures { IsTrue result ↔ (length self.now ≡ most_groups_set) }
     {
         self.count == 15
     }
@@ -96,7 +97,7 @@ impl Names {
 
     /// Adds a name behind the others.
     pub fn push(&mut self, name: Name)
-        requires room { length self.old < 15 }
+        requires room { length self.old < most_groups_set }
         requires unknown { Contains self.old name → ⊥ }
         ensures { self.new ≡ self.old ++ name ∷ [] }
     {

@@ -1,6 +1,7 @@
 -- Lines and columns of a text, as a person counts them.
 use Rattle.std.specs.Prelude.{ℕ, List, ◌+◌, ◌==◌, Bool, count_by, fold, if◌then◌else◌}
 
+-- the byte that ends a line
 abbrev pub is_line_feed : ℕ → Bool
 is_line_feed byte = byte == 10
 

@@ -1,7 +1,5 @@
 -- A routine leaves the classes of the other kinds.
-use Rattle.std.proofs.Common.{◌≡◌, ℕ, suc, Bool, true, false, List, [], ◌∷◌, refl, ◌∙◌, if◌then◌else◌}
-use Rattle.std.specs.Prelude.{nat_lt}
-use Rattle.dsn_mask.specs.Filter.{FilterLists}
+use Rattle.std.proofs.Common.{◌≡◌, ℕ, true, false, List, refl, ◌∙◌}
 use Rattle.acs_tree.specs.declared.input.Input.{Input}
 use Rattle.acs_tree.specs.declared.kind.Kind.{Kind}
 use Rattle.acs_tree.specs.declared.kind.Kind.TheVariants.{DataClas, StorClas, MgmtClas, StorGrp}
@@ -9,9 +7,7 @@ use Rattle.acs_tree.specs.declared.values.Values.{Values}
 use Rattle.acs_tree.specs.Outcome.{Outcome}
 use Rattle.acs_tree.specs.Setting.{with_class}
 use Rattle.acs_tree.specs.Slates.{same_kind}
-use Rattle.acs_code.specs.Machine.{CodeParts, act, run_from, running}
-use Rattle.acs_code.specs.declared.instr.Instr.{Instr}
-use Rattle.acs_code.specs.declared.instr.Instr.TheVariants.{Test, Jump, SetClass, SetGroups, Write, Exit}
+use Rattle.acs_code.specs.Machine.{CodeParts, RunsTo, exit, jump, past_end, set_class, set_groups, test, write}
 use Rattle.desk_law.specs.Classification.{class_of}
 
 no_way : true ≡ false → ⊥
@@ -38,28 +34,13 @@ groups_apart StorClas groups values = refl
 groups_apart MgmtClas groups values = refl
 groups_apart StorGrp groups values = refl
 
-act_keeps : (kind other : Kind) (filters : List FilterLists) (input : Input) (instr : Instr) (next : ℕ → Values → Outcome) (past : ℕ) (values : Values)
-    → same_kind kind other ≡ false → ((to : ℕ) (v : Values) → class_of other (next to v).values ≡ class_of other v)
-    → class_of other (act kind filters input instr next past values).values ≡ class_of other values
-act_keeps kind other filters input (Test probe yes' no') next past values e keeps = keeps _ values
-act_keeps kind other filters input (Jump to) next past values e keeps = keeps to values
-act_keeps kind other filters input (SetClass part) next past values e keeps = keeps past _ ∙ class_kept kind other _ values e
-act_keeps kind other filters input (SetGroups groups) next past values e keeps = keeps past _ ∙ groups_apart other groups values
-act_keeps kind other filters input (Write parts) next past values e keeps = keeps past values
-act_keeps kind other filters input (Exit code) next past values e keeps = refl
-
-either_keeps : (b : Bool) (other : Kind) (one next : Outcome) (values : Values) → class_of other one.values ≡ class_of other values → class_of other next.values ≡ class_of other values
-    → class_of other (if b then one else next).values ≡ class_of other values
-either_keeps true other one next values e f = e
-either_keeps false other one next values e f = f
-
-run_keeps : (kind other : Kind) (filters : List FilterLists) (input : Input) (at go : ℕ) (instrs : List Instr) (values : Values) → same_kind kind other ≡ false
-    → class_of other (run_from kind filters input at go instrs values).values ≡ class_of other values
-run_keeps kind other filters input at go [] values e = refl
-run_keeps kind other filters input at go (instr ∷ instrs) values e =
-    either_keeps (nat_lt at go) other _ _ values (run_keeps kind other filters input (suc at) go instrs values e)
-    (act_keeps kind other filters input instr _ (suc at) values e (λ to v. run_keeps kind other filters input (suc at) to instrs v e))
-
-pub running_keeps : (code : CodeParts) (other : Kind) (input : Input) (values : Values) → same_kind code.kind other ≡ false
-    → class_of other (running code input values).values ≡ class_of other values
-running_keeps code other input values e = run_keeps code.kind other code.filters input 0 0 code.instrs values e
+-- a run keeps them from each of its instructions on
+pub run_keeps : (code : CodeParts) (other : Kind) (input : Input) {place : ℕ} {values : Values} {came : Outcome} → RunsTo code input place values came → same_kind code.kind other ≡ false
+    → class_of other came.values ≡ class_of other values
+run_keeps code other input (test e runs) differ = run_keeps code other input runs differ
+run_keeps code other input (jump e runs) differ = run_keeps code other input runs differ
+run_keeps code other input (set_class {values} e runs) differ = run_keeps code other input runs differ ∙ class_kept code.kind other _ values differ
+run_keeps code other input (set_groups {groups} {values} e runs) differ = run_keeps code other input runs differ ∙ groups_apart other groups values
+run_keeps code other input (write e runs) differ = run_keeps code other input runs differ
+run_keeps code other input (exit e) differ = refl
+run_keeps code other input (past_end e) differ = refl

@@ -1,6 +1,6 @@
 -- The run of a code is the run of its routine.
-use Rattle.std.proofs.Common.{◌≡◌, Option, Some, None, MatchOption, IfSome, option_map, ap, ap₂, ◌∙◌}
-use Rattle.acs_code.specs.Machine.{CodeParts, running}
+use Rattle.std.proofs.Common.{◌≡◌, Option, Some, None, MatchOption, IfSome, option_map, ap, ◌∙◌, subst}
+use Rattle.acs_code.specs.Machine.{CodeParts, ComesTo}
 use Rattle.acs_code.specs.Stands.{StandsFor}
 use Rattle.acs_tree.specs.CheckedRoutine.{CheckedRoutine}
 use Rattle.acs_tree.specs.KeptLines.{kept_lines_of}
@@ -25,15 +25,15 @@ kind_is (Some routine) kind code stands of_kind = stands.kind ∙ of_kind
 
 pub run_is : (found : Option CheckedRoutine) (kind : Kind) (code : CodeParts) (input : Input) (values : Values) (written : SlateLines) {values' : Values} {written' : SlateLines} {ending : Ending}
     → StandsIn found code → IfSome found (λ routine. routine.kind ≡ kind)
-    → values' ≡ (running code input values).values → ending ≡ (running code input values).ending
-    → written' ≡ with_kept_lines code.kind (kept_lines_of (running code input values).lines) written
+    → ((came : Outcome) → ComesTo code input values came → values' ≡ came.values) → ((came : Outcome) → ComesTo code input values came → ending ≡ came.ending)
+    → ((came : Outcome) → ComesTo code input values came → written' ≡ with_kept_lines code.kind (kept_lines_of came.lines) written)
     → progress values' written' ending ≡ run_of (option_map (λ routine. meaning_of routine.tree kind) found) input kind (progress values written endings.Falls)
 run_is None kind code input values written stands of_kind v e w = absurd (let e : Some code ≡ None = stands in cc)
 run_is (Some routine) kind code input values written {values'} {written'} {ending} stands of_kind v e w =
     let came : Outcome = meaning_of routine.tree kind input values in
-    let same : running code input values ≡ came = stands.means input values ∙ ap (λ k. meaning_of routine.tree k input values) of_kind in
-    let v' : values' ≡ came.values = v ∙ ap (λ (o : Outcome). o.values) same in
-    let e' : ending ≡ came.ending = e ∙ ap (λ (o : Outcome). o.ending) same in
+    let runs : ComesTo code input values came = subst (ComesTo code input values) (ap (λ k. meaning_of routine.tree k input values) of_kind) (stands.means input values) in
+    let v' : values' ≡ came.values = v came runs in
+    let e' : ending ≡ came.ending = e came runs in
     let w' : written' ≡ with_kept_lines kind (kept_lines_of came.lines) written =
-    w ∙ ap₂ (λ (k : Kind) (o : Outcome). with_kept_lines k (kept_lines_of o.lines) written) (stands.kind ∙ of_kind) same in
+    w came runs ∙ ap (λ (k : Kind). with_kept_lines k (kept_lines_of came.lines) written) (stands.kind ∙ of_kind) in
     cc

@@ -1,24 +1,25 @@
 -- The quantities that a request holds: their ranges, and tracks in KB.
 use Rattle.std.specs.Prelude.{ℕ, ◌≤◌, ◌+◌, ◌*◌, ◌&&◌, nat_le, Option, Some, None, if◌then◌else◌}
+use Rattle.desk_common.specs.Limits.{most_number, most_quantity, most_volume_count}
 use Rattle.acs_tree.specs.Inputs.{kilobytes_of}
 use Rattle.sms_construct.specs.declared.unit.Unit.{Unit as UnitOf}
 use Rattle.sms_construct.specs.declared.unit.Unit.TheVariants.{Trk, Cyl}
 
 -- a request number is 1 to 4,294,967,295
 abbrev pub IsRequestNumber : ℕ → Type 0
-IsRequestNumber number = (1 ≤ number) × (number ≤ 4294967295)
+IsRequestNumber number = (1 ≤ number) × (number ≤ most_number)
 
 -- the number as a request number, where it is one
 abbrev pub request_number_of : ℕ → Option ℕ
-request_number_of number = if nat_le 1 number && nat_le number 4294967295 then Some number else None
+request_number_of number = if nat_le 1 number && nat_le number most_number then Some number else None
 
 -- a volume count is 1 to 59
 abbrev pub IsVolumeCount : ℕ → Type 0
-IsVolumeCount count = (1 ≤ count) × (count ≤ 59)
+IsVolumeCount count = (1 ≤ count) × (count ≤ most_volume_count)
 
 -- the number as a volume count, where it is one
 abbrev pub volume_count_of : ℕ → Option ℕ
-volume_count_of count = if nat_le 1 count && nat_le count 59 then Some count else None
+volume_count_of count = if nat_le 1 count && nat_le count most_volume_count then Some count else None
 
 -- the quantities of a SPACE operand, in its unit
 pub record Quantities : Type 0 where
@@ -29,13 +30,13 @@ pub record Quantities : Type 0 where
 -- the primary quantity is 1 to 16,777,215, the secondary 0 to 16,777,215
 pub record IsSpace (q : Quantities) : Type 0 where
   pub some : 1 ≤ q.primary
-  pub primary : q.primary ≤ 16777215
-  pub secondary : q.secondary ≤ 16777215
+  pub primary : q.primary ≤ most_quantity
+  pub secondary : q.secondary ≤ most_quantity
 
 -- the space of two quantities, where both are in range
 abbrev pub space_of : UnitOf → ℕ → ℕ → Option Quantities
 space_of unit primary secondary =
-    if nat_le 1 primary && (nat_le primary 16777215 && nat_le secondary 16777215)
+    if nat_le 1 primary && (nat_le primary most_quantity && nat_le secondary most_quantity)
     then Some (record { unit = unit; primary = primary; secondary = secondary }) else None
 
 -- the tracks of a unit: a cylinder has 15

@@ -27,12 +27,14 @@ use Rattle.sms_construct.specs.Configuration.{Configuration, IsConfiguration, Is
 use Rattle.sms_deck.specs.declared.place.Place.{Place}
 use Rattle.sms_deck.specs.Limits.{most_cylinders}
 use Rattle.sms_deck.specs.Tables.{tables_fault}
-use Rattle.sms_deck.specs.SpaceText.{number_of, behind_front, in_parentheses, space_with, list_of_quantities, quantities_in, behind_unit, in_unit, space_text}
+use Rattle.sms_construct.specs.Numbers.{small_number_of}
+use Rattle.sms_construct.specs.Parts.{behind_front, in_parentheses}
+use Rattle.sms_construct.specs.SpaceText.{space_with, list_of_quantities, quantities_in, quantities_of, space_behind, space_inside, space_text}
 use Rattle.sms_deck.specs.Values.{devices, meaning_in, word_in, integer_in, space_in}
 use Rattle.sms_deck.specs.Layout.{key_count, or_empty, table_at}
 use Rattle.sms_deck.specs.Constructs.{with_named, named, data_class_of, storage_class_of, management_class_of, group_of, size_of, tracks_of, volume_of, group_volumes, all_volumes}
 use Rattle.sms_deck.specs.Places.{Places, has_place, put_volume, put_volumes, groups_in, places_of, volumes_in, volume_count, volume_total, total_fault, twice_fault}
-use Rattle.sms_deck.specs.Outcomes.{Outcome, Absent, Long, Sound, Faulty, ComesTo, Outcomes, AreOutcomes, outcomes_from, routines_in, sound_in, source_of}
+use Rattle.sms_deck.specs.Outcomes.{Outcome, Absent, Long, Sound, Faulty, IsOutcomeOf, Outcomes, AreOutcomes, outcomes_from, routines_in, sound_in, source_of}
 use Rattle.sms_deck.specs.Reading.{Configures, MeansTable, configuration_of, fault_of, first_of, form_fault, sources_fault, assigned_faults}
 use Rattle.sms_deck.proofs.OrderLemmas.{ascending, names_ascend, inner_sorted, lined_volumes, volsers_ascend}
 use Rattle.sms_deck.proofs.ReadingLemmas.{back_from_outcomes}
@@ -74,23 +76,26 @@ with_is_space unit (Some primary) None = tt
 with_is_space unit None secondary = tt
 
 list_is_space : (unit : UnitOf) (bytes : List ℕ) (comma : Option ℕ) → IfSome (list_of_quantities unit bytes comma) IsSpace
-list_is_space unit bytes None = with_is_space unit (number_of bytes) (Some 0)
-list_is_space unit bytes (Some comma) = with_is_space unit (number_of (take comma bytes)) (number_of (drop (comma + 1) bytes))
+list_is_space unit bytes None = with_is_space unit (small_number_of bytes) (Some 0)
+list_is_space unit bytes (Some comma) = with_is_space unit (small_number_of (take comma bytes)) (small_number_of (drop (comma + 1) bytes))
 
 quantities_are_space : (unit : UnitOf) (bytes : List ℕ) (listed : Option (List ℕ)) → IfSome (quantities_in unit bytes listed) IsSpace
-quantities_are_space unit bytes None = with_is_space unit (number_of bytes) (Some 0)
+quantities_are_space unit bytes None = with_is_space unit (small_number_of bytes) (Some 0)
 quantities_are_space unit bytes (Some listed) = list_is_space unit listed (position (λ byte. byte == 44) listed)
 
-unit_is_space : (unit : UnitOf) (bytes : List ℕ) → IfSome (behind_unit unit bytes) IsSpace
+unit_is_space : (unit : UnitOf) (bytes : List ℕ) → IfSome (quantities_of unit bytes) IsSpace
 unit_is_space unit bytes = quantities_are_space unit bytes (in_parentheses bytes)
 
-in_unit_is_space : (bytes : List ℕ) → IfSome (in_unit bytes) IsSpace
-in_unit_is_space bytes =
-    or_if IsSpace (option_and_then (behind_unit Trk) (behind_front (codes "TRK,") bytes)) (option_and_then (behind_unit Cyl) (behind_front (codes "CYL,") bytes))
-    (then_if (behind_unit Trk) IsSpace (unit_is_space Trk) (behind_front (codes "TRK,") bytes)) (then_if (behind_unit Cyl) IsSpace (unit_is_space Cyl) (behind_front (codes "CYL,") bytes))
+behind_is_space : (tracks cylinders : Option (List ℕ)) → IfSome (space_behind tracks cylinders) IsSpace
+behind_is_space (Some tracks) cylinders = unit_is_space Trk tracks
+behind_is_space None (Some cylinders) = unit_is_space Cyl cylinders
+behind_is_space None None = tt
+
+inside_is_space : (inner : List ℕ) → IfSome (space_inside inner) IsSpace
+inside_is_space inner = behind_is_space (behind_front (codes "TRK,") inner) (behind_front (codes "CYL,") inner)
 
 value_is_space : (value : Data) → IfSome (space_in value) IsSpace
-value_is_space value = then_if space_text IsSpace (λ text. then_if in_unit IsSpace in_unit_is_space (in_parentheses text)) (as_str value)
+value_is_space value = then_if space_text IsSpace (λ text. then_if space_inside IsSpace inside_is_space (in_parentheses text)) (as_str value)
 
 -- tracks
 
@@ -281,7 +286,7 @@ construct_names bytes top outcomes s StorGrp = ascending _ (names_ascend (λ gro
 
 -- the routines
 
-sound_kind : (kind : Kind) (source : Option (List ℕ)) (outcome : Outcome) → ComesTo kind source outcome → IfSome (sound_in outcome) (λ routine. routine.kind ≡ kind)
+sound_kind : (kind : Kind) (source : Option (List ℕ)) (outcome : Outcome) → IsOutcomeOf kind source outcome → IfSome (sound_in outcome) (λ routine. routine.kind ≡ kind)
 sound_kind kind source Absent c = tt
 sound_kind kind source Long c = tt
 sound_kind kind None (Sound routine) c = absurd c

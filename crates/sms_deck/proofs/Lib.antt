@@ -3,7 +3,6 @@ pub mod ConfigurationLemmas
 pub mod EitherLemmas
 pub mod LookupLemmas
 pub mod NameLemmas
-pub mod NumberLemmas
 pub mod OrderLemmas
 pub mod OutcomeLemmas
 pub mod PlaceLemmas

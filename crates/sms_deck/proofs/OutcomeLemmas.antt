@@ -31,7 +31,7 @@ use Rattle.acs_translate.specs.declared.fault.TranslateErr.TheVariants as told
 use Rattle.acs_translate.specs.Translation.{IsTranslated, fault_of, lex_err, parse_err, check_fault, IsRoutineFault, in_text, in_tokens, in_tree, IsExact, MayRefuse as TranslateMayRefuse}
 use Rattle.acs_translate.proofs.TranslateLemmas.{exact, exact_lex, exact_parse, exact_check}
 use Rattle.sms_deck.specs.Limits.{most_routine_bytes}
-use Rattle.sms_deck.specs.Outcomes.{Outcome, Absent, Long, Sound, Faulty, IsSource, IsFaulty, ComesTo, Outcomes, AreOutcomes, TellsSource, outcome_from, sound_in, source_fault, source_of, told_as}
+use Rattle.sms_deck.specs.Outcomes.{Outcome, Absent, Long, Sound, Faulty, IsSource, IsFaulty, IsOutcomeOf, Outcomes, AreOutcomes, TellsSource, outcome_from, sound_in, source_fault, source_of, told_as}
 use Rattle.sms_deck.specs.Reading.{TellsSources}
 use Rattle.sms_deck.specs.declared.deck_err.DeckErr.{DeckErr}
 use Rattle.sms_deck.specs.declared.deck_err.DeckErr.TheVariants.{Fault as Faulted, NoMemory}
@@ -132,7 +132,7 @@ comes text kind = of_cut text kind (cut_or_fault (length text) text)
 -- each text has one outcome
 
 abbrev HasOutcome : Kind → Option (List ℕ) → Type 0
-HasOutcome kind source = (outcome : Outcome) × ComesTo kind source outcome
+HasOutcome kind source = (outcome : Outcome) × IsOutcomeOf kind source outcome
 
 of_short : (kind : Kind) (text : List ℕ) → length text ≤ most_routine_bytes → Comes text kind → HasOutcome kind (Some text)
 of_short kind text fits (inl d) = (Sound (record { tree = d.0; kind = kind }), record { fits = fits; tokens = d.1; translated = d.2; kind_is = refl })
@@ -149,7 +149,7 @@ some_outcome kind (Some text) = of_length kind text (nat_lt most_routine_bytes (
 checked_at : (one two : CheckedRoutine) → one.tree ≡ two.tree → one.kind ≡ two.kind → one ≡ two
 checked_at one two t k = let e : record { tree = one.tree; kind = one.kind } ≡ record { tree = two.tree; kind = two.kind } = cc in e
 
-pub one_outcome : (kind : Kind) (source : Option (List ℕ)) (one two : Outcome) → ComesTo kind source one → ComesTo kind source two → one ≡ two
+pub one_outcome : (kind : Kind) (source : Option (List ℕ)) (one two : Outcome) → IsOutcomeOf kind source one → IsOutcomeOf kind source two → one ≡ two
 one_outcome kind None Absent Absent c d = refl
 one_outcome kind None Absent Long c d = absurd d
 one_outcome kind None Absent (Sound s) c d = absurd d
@@ -193,15 +193,15 @@ one_outcomes {top} one two a b =
 
 -- how the texts are read
 
-pub comes_none : (kind : Kind) {source : Option (List ℕ)} → None ≡ source → ComesTo kind source Absent
-comes_none kind e = subst (λ s. ComesTo kind s Absent) e tt
+pub comes_none : (kind : Kind) {source : Option (List ℕ)} → None ≡ source → IsOutcomeOf kind source Absent
+comes_none kind e = subst (λ s. IsOutcomeOf kind s Absent) e tt
 
-pub comes_long : (kind : Kind) {source : Option (List ℕ)} {text : List ℕ} → Some text ≡ source → most_routine_bytes < length text → ComesTo kind source Long
-comes_long kind e long = subst (λ s. ComesTo kind s Long) e long
+pub comes_long : (kind : Kind) {source : Option (List ℕ)} {text : List ℕ} → Some text ≡ source → most_routine_bytes < length text → IsOutcomeOf kind source Long
+comes_long kind e long = subst (λ s. IsOutcomeOf kind s Long) e long
 
 pub comes_sound : (kind : Kind) {source : Option (List ℕ)} {text : List ℕ} {routine : CheckedRoutine} {count : ℕ} → Some text ≡ source → length text ≤ most_routine_bytes
-    → IsTranslated text kind routine.tree count → routine.kind ≡ kind → ComesTo kind source (Sound routine)
-comes_sound kind {routine = routine} {count = count} e fits t k = subst (λ s. ComesTo kind s (Sound routine)) e (record { fits = fits; tokens = count; translated = t; kind_is = k })
+    → IsTranslated text kind routine.tree count → routine.kind ≡ kind → IsOutcomeOf kind source (Sound routine)
+comes_sound kind {routine = routine} {count = count} e fits t k = subst (λ s. IsOutcomeOf kind s (Sound routine)) e (record { fits = fits; tokens = count; translated = t; kind_is = k })
 
 tells_at : (kind : Kind) (text : List ℕ) (err : TranslateErr) → length text ≤ most_routine_bytes → TranslateMayRefuse text kind err → TellsSource kind (Some text) (told_as kind err)
 tells_at kind text (told.Fault fault) fits d = let f : IsFaulty kind text fault = record { fits = fits; faulty = d } in (Faulty fault, f, refl)
@@ -220,7 +220,7 @@ sound_from None = refl
 sound_from (Some routine) = refl
 
 abbrev Reads : Kind → Members → Option CheckedRoutine → Type 0
-Reads kind top routine = ComesTo kind (source_of kind top) (outcome_from routine)
+Reads kind top routine = IsOutcomeOf kind (source_of kind top) (outcome_from routine)
 
 pub tells_dataclas : (top : Members) (err : DeckErr) → TellsSource DataClas (source_of DataClas top) err → TellsSources top err
 tells_dataclas top (Faulted fault) d =

@@ -49,7 +49,7 @@ stmt_step statement = statement.form
 
 -- the names in a WHEN, from those in the statement inside
 abbrev pub when_step : When-F (List (List ℕ)) (List (List ℕ)) (List (List ℕ)) → List (List ℕ)
-when_step branch = branch.body
+when_step when = when.body
 
 -- the names that the SETs of a statement set, in the order of the text
 abbrev pub assigned_in : Stmt → List (List ℕ)
@@ -64,18 +64,20 @@ assigned_by (statement ∷ statements) = assigned_in statement ++ assigned_by st
 abbrev pub first_unknown : Members → List (List ℕ) → Option (List ℕ)
 first_unknown constructs names = find (λ name. not (has name constructs)) names
 
--- the names in parts of a statement
-
+-- the names set inside a statement
 abbrev pub assigned_in_form : Form → List (List ℕ)
 assigned_in_form = fold-Form (List (List ℕ)) (List (List ℕ)) (List (List ℕ)) form_step stmt_step when_step
 
-abbrev pub assigned_in_branch : When → List (List ℕ)
-assigned_in_branch = fold-When (List (List ℕ)) (List (List ℕ)) (List (List ℕ)) form_step stmt_step when_step
+-- the names set behind a WHEN
+abbrev pub assigned_in_when : When → List (List ℕ)
+assigned_in_when = fold-When (List (List ℕ)) (List (List ℕ)) (List (List ℕ)) form_step stmt_step when_step
 
-abbrev pub assigned_in_branches : List When → List (List ℕ)
-assigned_in_branches [] = []
-assigned_in_branches (branch ∷ branches) = assigned_in_branch branch ++ assigned_in_branches branches
+-- the names set behind several WHENs
+abbrev pub assigned_in_whens : List When → List (List ℕ)
+assigned_in_whens [] = []
+assigned_in_whens (when ∷ whens) = assigned_in_when when ++ assigned_in_whens whens
 
+-- the names set behind OTHERWISE or ELSE, if there is one
 abbrev pub assigned_in_other : Option Stmt → List (List ℕ)
 assigned_in_other None = []
 assigned_in_other (Some statement) = assigned_in statement

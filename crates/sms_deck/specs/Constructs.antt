@@ -2,14 +2,16 @@
 use Rattle.std.specs.Prelude.{ℕ, ◌*◌, List, [], ◌∷◌, ◌++◌, Bool, false, Option, None, Some, codes}
 use Rattle.std.specs.Option.{option_and_then, unwrap_or}
 use Rattle.toml.specs.Data.{Data, Members, no_members, member, get_member, as_bool, as_table}
-use Rattle.desk_common.specs.Limits.{most_tracks}
+use Rattle.desk_common.specs.Limits.{most_tracks, most_volume_count}
 use Rattle.dsn_mask.specs.Name.{name_of, volser_of}
 use Rattle.sms_construct.specs.declared.data_class.DataClass.{DataClass}
 use Rattle.sms_construct.specs.declared.management_class.MgmtClass.{MgmtClass}
 use Rattle.sms_construct.specs.declared.status.Status.TheVariants.{Enable}
 use Rattle.sms_construct.specs.declared.storage_class.StorClass.{StorClass}
 use Rattle.sms_construct.specs.declared.storage_group.StorGroup.{StorGroup}
+use Rattle.sms_construct.specs.declared.unit.Unit.TheVariants.{Cyl}
 use Rattle.sms_construct.specs.declared.volume.VolumeDef.{VolumeDef}
+use Rattle.sms_construct.specs.Quantities.{tracks_in}
 use Rattle.sms_deck.specs.Limits.{most_cylinders}
 use Rattle.sms_deck.specs.Layout.{table_at}
 use Rattle.sms_deck.specs.Values.{devices, group_statuses, volume_statuses, releases, word_in, integer_in, space_in}
@@ -30,16 +32,19 @@ abbrev pub named : {X : Type 0} → (List ℕ → Option (List ℕ)) → (List �
 named reading build no_members = []
 named reading build (member name value others) = with_named build (reading name) (as_table value) (named reading build others)
 
+-- the data class of this name, by its keys
 abbrev pub data_class_of : List ℕ → Members → DataClass
 data_class_of name keys = record {
   name = name;
   space = read_at space_in (codes "space") keys;
-  volumes = read_at (integer_in 1 59) (codes "volcount") keys;
+  volumes = read_at (integer_in 1 most_volume_count) (codes "volcount") keys;
 }
 
+-- the storage class of this name, which has no keys
 abbrev pub storage_class_of : List ℕ → Members → StorClass
 storage_class_of name keys = record { name = name }
 
+-- the management class of this name, by its keys
 abbrev pub management_class_of : List ℕ → Members → MgmtClass
 management_class_of name keys = record {
   name = name;
@@ -47,6 +52,7 @@ management_class_of name keys = record {
   release = unwrap_or (read_at (word_in releases) (codes "release") keys) false;
 }
 
+-- the storage group of this name, by its keys
 abbrev pub group_of : List ℕ → Members → StorGroup
 group_of name keys = record {
   name = name;
@@ -59,12 +65,14 @@ group_of name keys = record {
 -- the tracks of the device, of the cylinders, or as many as are named
 abbrev pub size_of : Option ℕ → Option ℕ → Option ℕ → ℕ
 size_of (Some device) cylinders tracks = device
-size_of None (Some cylinders) tracks = cylinders * 15
+size_of None (Some cylinders) tracks = cylinders * tracks_in Cyl
 size_of None None tracks = unwrap_or tracks 1
 
+-- the tracks of a volume, by its keys
 abbrev pub tracks_of : Members → ℕ
 tracks_of keys = size_of (read_at (word_in devices) (codes "device") keys) (read_at (integer_in 1 most_cylinders) (codes "cylinders") keys) (read_at (integer_in 1 most_tracks) (codes "tracks") keys)
 
+-- the volume of this serial in this group, by its keys
 abbrev pub volume_of : List ℕ → List ℕ → Members → VolumeDef
 volume_of group volser keys = record {
   volser = volser;

@@ -53,13 +53,13 @@ pub record IsFaulty (kind : Kind) (text : List ℕ) (fault : RoutineFault) : Typ
   pub faulty : IsRoutineFault text kind fault
 
 -- what comes of a text
-abbrev pub ComesTo : Kind → Option (List ℕ) → Outcome → Type 0
-ComesTo kind None Absent = Unit {0}
-ComesTo kind None _ = ⊥
-ComesTo kind (Some text) Absent = ⊥
-ComesTo kind (Some text) Long = most_routine_bytes < length text
-ComesTo kind (Some text) (Sound routine) = IsSource kind text routine
-ComesTo kind (Some text) (Faulty fault) = IsFaulty kind text fault
+abbrev pub IsOutcomeOf : Kind → Option (List ℕ) → Outcome → Type 0
+IsOutcomeOf kind None Absent = Unit {0}
+IsOutcomeOf kind None _ = ⊥
+IsOutcomeOf kind (Some text) Absent = ⊥
+IsOutcomeOf kind (Some text) Long = most_routine_bytes < length text
+IsOutcomeOf kind (Some text) (Sound routine) = IsSource kind text routine
+IsOutcomeOf kind (Some text) (Faulty fault) = IsFaulty kind text fault
 
 -- what comes of the four texts
 pub record Outcomes : Type 0 where
@@ -70,10 +70,10 @@ pub record Outcomes : Type 0 where
 
 -- each text comes to its outcome
 pub record AreOutcomes (top : Members) (outcomes : Outcomes) : Type 0 where
-  pub dataclas : ComesTo DataClas (source_of DataClas top) outcomes.dataclas
-  pub storclas : ComesTo StorClas (source_of StorClas top) outcomes.storclas
-  pub mgmtclas : ComesTo MgmtClas (source_of MgmtClas top) outcomes.mgmtclas
-  pub storgrp : ComesTo StorGrp (source_of StorGrp top) outcomes.storgrp
+  pub dataclas : IsOutcomeOf DataClas (source_of DataClas top) outcomes.dataclas
+  pub storclas : IsOutcomeOf StorClas (source_of StorClas top) outcomes.storclas
+  pub mgmtclas : IsOutcomeOf MgmtClas (source_of MgmtClas top) outcomes.mgmtclas
+  pub storgrp : IsOutcomeOf StorGrp (source_of StorGrp top) outcomes.storgrp
 
 -- the routine of an outcome, if it is one
 abbrev pub sound_in : Outcome → Option CheckedRoutine
@@ -129,7 +129,7 @@ told_as kind translate.NoMemory = NoMemory
 
 -- the refusal of a text that tells its fault
 abbrev pub TellsSource : Kind → Option (List ℕ) → DeckErr → Type 0
-TellsSource kind source (Faulted fault) = (outcome : Outcome) × ComesTo kind source outcome × (source_fault kind outcome ≡ Some fault)
+TellsSource kind source (Faulted fault) = (outcome : Outcome) × IsOutcomeOf kind source outcome × (source_fault kind outcome ≡ Some fault)
 TellsSource kind source NoMemory = Unit {0}
 
 -- the first name that a routine sets and that is no construct of its kind

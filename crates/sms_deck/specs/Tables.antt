@@ -2,7 +2,7 @@
 use Rattle.std.specs.Prelude.{ℕ, List, [], ◌∷◌, Bool, true, ◌&&◌, ◌||◌, not, Option, codes}
 use Rattle.std.specs.Option.{option_and_then, unwrap_or}
 use Rattle.toml.specs.Data.{Members, get_member, as_bool, as_str}
-use Rattle.desk_common.specs.Limits.{most_tracks}
+use Rattle.desk_common.specs.Limits.{most_tracks, most_volume_count}
 use Rattle.dsn_mask.specs.Name.{is_name, is_volser}
 use Rattle.acs_tree.specs.declared.kind.Kind.{Kind}
 use Rattle.acs_tree.specs.declared.kind.Kind.TheVariants.{DataClas, StorClas, MgmtClas, StorGrp}
@@ -14,22 +14,25 @@ use Rattle.sms_deck.specs.Values.{integer_in, has_form}
 
 -- a volume: its device, its cylinders or its tracks, just one of the three, and its status
 
+-- the device, which must stand where neither of the others does
 abbrev pub device_row : Row
 device_row = record (plain (codes "device") Device) { is_needed = λ keys. not (has (codes "cylinders") keys || has (codes "tracks") keys) }
 
+-- the cylinders, which are right in their range, and only where no device stands
 abbrev pub cylinders_row : Row
 cylinders_row = record (plain (codes "cylinders") (Integer 1 most_cylinders)) { is_right = λ keys value. not (has (codes "device") keys) && has_form (Integer 1 most_cylinders) value }
 
+-- the tracks, which are right in their range, and only where neither of the others stands
 abbrev pub tracks_row : Row
 tracks_row = record (plain (codes "tracks") (Integer 1 most_tracks)) { is_right = λ keys value. not (has (codes "device") keys || has (codes "cylinders") keys) && has_form (Integer 1 most_tracks) value }
 
+-- the keys of a volume
 abbrev pub volume_rows : List Row
 volume_rows = device_row ∷ cylinders_row ∷ tracks_row ∷ plain (codes "status") VolumeStatus ∷ []
 
+-- the table of a volume
 abbrev pub volume_walk : Walk
 volume_walk = fixed_keys volume_rows
-
--- a storage group
 
 -- the high threshold of a storage group
 abbrev pub high_of : Members → ℕ
@@ -39,6 +42,7 @@ high_of keys = unwrap_or (option_and_then (integer_in 1 100) (get_member (codes 
 abbrev pub low_row : Row
 low_row = record (plain (codes "low") (Integer 0 100)) { is_right = λ keys value. has_form (Integer 0 (high_of keys)) value }
 
+-- the keys of a storage group
 abbrev pub group_rows : List Row
 group_rows =
     plain (codes "type") Pool
@@ -49,11 +53,11 @@ group_rows =
     ∷ inner (codes "volume") (names most_group_volumes is_volser volume_walk)
     ∷ []
 
--- the classes
-
+-- the keys of a data class
 abbrev pub data_class_rows : List Row
-data_class_rows = plain (codes "space") SpaceText ∷ plain (codes "volcount") (Integer 1 59) ∷ []
+data_class_rows = plain (codes "space") SpaceText ∷ plain (codes "volcount") (Integer 1 most_volume_count) ∷ []
 
+-- the keys of a management class
 abbrev pub management_class_rows : List Row
 management_class_rows = plain (codes "expire_after") (Integer 0 9999) ∷ plain (codes "release") Release ∷ []
 
@@ -71,6 +75,7 @@ construct_rows StorClas = []
 construct_rows MgmtClas = management_class_rows
 construct_rows StorGrp = group_rows
 
+-- the table of a construct
 abbrev pub construct_walk : Kind → Walk
 construct_walk kind = fixed_keys (construct_rows kind)
 
@@ -81,8 +86,7 @@ most_constructs StorClas = most_classes
 most_constructs MgmtClas = most_classes
 most_constructs StorGrp = most_groups
 
--- the top table
-
+-- the constructs of a kind, by their names
 abbrev pub constructs_row : Kind → Row
 constructs_row kind = inner (key_of kind) (names (most_constructs kind) is_name (construct_walk kind))
 
@@ -90,12 +94,15 @@ constructs_row kind = inner (key_of kind) (names (most_constructs kind) is_name 
 abbrev pub source_row : Kind → Row
 source_row kind = plain (key_of kind) Text
 
+-- the table of routines
 abbrev pub routine_walk : Walk
 routine_walk = fixed_keys (source_row DataClas ∷ source_row StorClas ∷ source_row MgmtClas ∷ source_row StorGrp ∷ [])
 
+-- the version, which must stand and is 1
 abbrev pub version_row : Row
 version_row = record (plain (codes "version") (Integer 1 1)) { is_needed = λ keys. true }
 
+-- the keys of the top table
 abbrev pub top_rows : List Row
 top_rows =
     version_row
@@ -105,6 +112,7 @@ top_rows =
     ∷ inner (codes "routine") routine_walk
     ∷ []
 
+-- the top table, which is the whole deck
 abbrev pub top_walk : Walk
 top_walk = fixed_keys top_rows
 

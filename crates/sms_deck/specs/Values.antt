@@ -8,7 +8,7 @@ use Rattle.sms_construct.specs.declared.status.Status.TheVariants.{Enable, NotCo
 use Rattle.sms_construct.specs.Quantities.{Quantities}
 use Rattle.sms_deck.specs.declared.value_form.ValueForm.{ValueForm}
 use Rattle.sms_deck.specs.declared.value_form.ValueForm.TheVariants.{Integer, Text, Flag, ConstructName, SpaceText, Pool, GroupStatus, VolumeStatus, Device, Release}
-use Rattle.sms_deck.specs.SpaceText.{space_text}
+use Rattle.sms_construct.specs.SpaceText.{space_text}
 
 -- words, each with what it stands for
 abbrev pub Words : Type 0 → Type 0

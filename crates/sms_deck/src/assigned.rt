@@ -2,7 +2,7 @@
 ghost use Rattle.std.specs.Prelude.{◌≡◌};
 ghost use Rattle.toml.specs.View.{table_view};
 ghost use Rattle.sms_deck.specs.Layout.{has};
-ghost use Rattle.sms_deck.specs.Assigned.{assigned_by, assigned_in, assigned_in_branches, assigned_in_other, first_unknown, literal_name, literal_names};
+ghost use Rattle.sms_deck.specs.Assigned.{assigned_by, assigned_in, assigned_in_whens, assigned_in_other, first_unknown, literal_name, literal_names};
 
 use crate::rows::has_key;
 use acs_tree::{Form, Operand, OperandForm, Stmt, When};
@@ -44,7 +44,7 @@ fn unknown_value(values: &[Operand], constructs: &Table) -> Option<Name>
 
 // The first name that a statement sets and that is no construct.
 #[cycle(walk)]
-#[tactic(auto, using(crate::proofs::AssignedLemmas::of_form, crate::proofs::AssignedLemmas::form_filt, crate::proofs::AssignedLemmas::form_put, crate::proofs::AssignedLemmas::form_if, crate::proofs::AssignedLemmas::form_pick, crate::proofs::AssignedLemmas::form_do, crate::proofs::AssignedLemmas::form_write, crate::proofs::AssignedLemmas::form_exit, crate::proofs::AssignedLemmas::unknown_append))]
+#[tactic(auto, using(crate::proofs::AssignedLemmas::form_steps))]
 fn unknown_in(current: &Stmt, constructs: &Table) -> Option<Name>
     ensures { result ≡ first_unknown (table_view constructs.now) (assigned_in current.now) }
 {
@@ -62,7 +62,7 @@ fn unknown_in(current: &Stmt, constructs: &Table) -> Option<Name>
             otherwise,
             ..
         } => {
-            let found = unknown_in_branches(whens.as_slice(), constructs);
+            let found = unknown_in_whens(whens.as_slice(), constructs);
             if found.is_some() {
                 return found;
             }
@@ -98,11 +98,11 @@ pub fn unknown_in_body(body: &[Stmt], constructs: &Table) -> Option<Name>
 }
 
 #[cycle(walk)]
-fn unknown_in_branches(whens: &[When], constructs: &Table) -> Option<Name>
-    ensures { result ≡ first_unknown (table_view constructs.now) (assigned_in_branches whens.now) }
+fn unknown_in_whens(whens: &[When], constructs: &Table) -> Option<Name>
+    ensures { result ≡ first_unknown (table_view constructs.now) (assigned_in_whens whens.now) }
 {
-    'branches: for branch in whens {
-        let found = unknown_in(branch.body.get(), constructs);
+    'clauses: for when in whens {
+        let found = unknown_in(when.body.get(), constructs);
         if found.is_some() {
             return found;
         }

@@ -5,7 +5,10 @@ ghost use Rattle.acs_code.specs.Stands.{StandsFor};
 ghost use Rattle.sms_construct.specs.Configuration.{IsConfiguration, has_construct, routine_of};
 
 use crate::compiled::Compiled;
-use crate::lookups::{has_data_class, has_group, has_management_class, has_storage_class};
+use crate::lookups::{
+    data_class_named, has_data_class, has_group, has_management_class, has_storage_class,
+    management_class_named,
+};
 use acs_code::Code;
 use acs_tree::{Checked, Kind};
 use desk_common::Items;
@@ -120,22 +123,14 @@ impl Config {
     pub fn data_class(&self, name: &Name) -> Option<&DataClass>
         ensures { option_copied result ≡ find (λ class. bytes_eq name.now class.name) self.now.data_classes }
     {
-        let name = name.bytes();
-        self.data_classes
-            .as_slice()
-            .iter()
-            .find(|class| name == class.name.bytes())
+        data_class_named(self.data_classes.as_slice(), name.bytes())
     }
 
     /// The data class that a routine's value names; none where it is null.
     pub fn data_class_for(&self, name: &Short) -> Option<&DataClass>
         ensures { option_copied result ≡ find (λ class. bytes_eq name.now class.name) self.now.data_classes }
     {
-        let name = name.bytes();
-        self.data_classes
-            .as_slice()
-            .iter()
-            .find(|class| name == class.name.bytes())
+        data_class_named(self.data_classes.as_slice(), name.bytes())
     }
 
     /// The storage class that a routine's value names; none where it is null.
@@ -153,22 +148,14 @@ impl Config {
     pub fn mgmt_class(&self, name: &Name) -> Option<&MgmtClass>
         ensures { option_copied result ≡ find (λ class. bytes_eq name.now class.name) self.now.management_classes }
     {
-        let name = name.bytes();
-        self.management_classes
-            .as_slice()
-            .iter()
-            .find(|class| name == class.name.bytes())
+        management_class_named(self.management_classes.as_slice(), name.bytes())
     }
 
     /// The management class that a routine's value names; none where it is null.
     pub fn mgmt_class_for(&self, name: &Short) -> Option<&MgmtClass>
         ensures { option_copied result ≡ find (λ class. bytes_eq name.now class.name) self.now.management_classes }
     {
-        let name = name.bytes();
-        self.management_classes
-            .as_slice()
-            .iter()
-            .find(|class| name == class.name.bytes())
+        management_class_named(self.management_classes.as_slice(), name.bytes())
     }
 
     // The routine of a kind with its code.

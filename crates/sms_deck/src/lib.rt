@@ -15,7 +15,6 @@ mod places;
 mod reading;
 mod rows;
 mod sources;
-mod space_text;
 mod top_table;
 mod value_form;
 mod values;

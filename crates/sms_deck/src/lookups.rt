@@ -1,8 +1,22 @@
 // Constructs looked up by name, one after another; there are 256 at most.
-ghost use Rattle.std.specs.Prelude.{◌≡◌, bytes_eq, map};
+ghost use Rattle.std.specs.Prelude.{◌≡◌, bytes_eq, find, map, option_copied};
 ghost use Rattle.std.specs.List.{list_any};
 
 use sms_construct::{DataClass, MgmtClass, StorClass, StorGroup};
+
+/// The first data class of this name.
+pub fn data_class_named<'a>(classes: &'a [DataClass], name: &[u8]) -> Option<&'a DataClass>
+    ensures { option_copied result ≡ find (λ class. bytes_eq name.now class.name) classes.entry.now }
+{
+    classes.iter().find(|class| name == class.name.bytes())
+}
+
+/// The first management class of this name.
+pub fn management_class_named<'a>(classes: &'a [MgmtClass], name: &[u8]) -> Option<&'a MgmtClass>
+    ensures { option_copied result ≡ find (λ class. bytes_eq name.now class.name) classes.entry.now }
+{
+    classes.iter().find(|class| name == class.name.bytes())
+}
 
 fn any_data_class(classes: &[DataClass], name: &[u8]) -> bool
     ensures { result ≡ list_any (λ class. bytes_eq name.now class.name) classes.now }

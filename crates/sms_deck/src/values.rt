@@ -3,9 +3,8 @@ ghost use Rattle.std.specs.Prelude.{◌≡◌, is_some};
 ghost use Rattle.toml.specs.View.{view};
 ghost use Rattle.sms_deck.specs.Values.{devices, group_statuses, integer_in, meaning_in, name_in, pool, releases, space_in, volume_statuses, word_in};
 
-use crate::space_text::read_space;
 use dsn_mask::Name;
-use sms_construct::{Space, Status};
+use sms_construct::{Space, Status, read_space};
 use toml::Value;
 
 /// The integer of the range, if the value is one.

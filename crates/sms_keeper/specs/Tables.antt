@@ -28,19 +28,23 @@ same_target (targets.Set dsn) (targets.Group other) = false
 same_target (targets.Set dsn) (targets.Volume other) = false
 same_target (targets.Set dsn) (targets.Set other) = bytes_eq dsn other
 
--- the keys of the rows
+-- the data set of this name
 abbrev pub is_named : List ℕ → DataSet → Bool
 is_named dsn set = bytes_eq set.dsn dsn
 
+-- the kept reply of this request
 abbrev pub is_reply_of : List ℕ → ℕ → KeptRow → Bool
 is_reply_of job number row = bytes_eq row.job job && (row.number == number)
 
+-- the deck of the activation with this number
 abbrev pub is_deck : ℕ → DeckRow → Bool
 is_deck count row = row.count == count
 
+-- the status of this target
 abbrev pub is_status_of : Target → StatusRow → Bool
 is_status_of target row = same_target row.target target
 
+-- the floor of this job
 abbrev pub is_floor_of : List ℕ → Floor → Bool
 is_floor_of job row = bytes_eq row.job job
 

@@ -11,7 +11,7 @@ use Rattle.sms_script.specs.Commands.{command_in, is_admin, request_of}
 use Rattle.sms_script.specs.Found.{◌⊳◌}
 use Rattle.sms_script.specs.Operands.{are_many, are_operands, has_key, is_once, is_operand, keys, request_in, values_of}
 use Rattle.sms_script.specs.Ops.{may_ask, number_in, op_in, op_with, verb_of}
-use Rattle.sms_script.specs.Parts.{behind_front}
+use Rattle.sms_construct.specs.Parts.{behind_front}
 use Rattle.sms_script.proofs.ListLemmas.{both_parts}
 
 -- how many values stand behind these keys

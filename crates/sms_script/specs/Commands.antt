@@ -10,6 +10,7 @@ use Rattle.sms_script.specs.declared.command.Command.TheVariants.{Activate, Sync
 abbrev pub admin : List ℕ
 admin = codes "SMSADMIN"
 
+-- the job is the administrator's
 abbrev pub is_admin : List ℕ → Bool
 is_admin job = bytes_eq job admin
 

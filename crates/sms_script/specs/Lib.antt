@@ -1,7 +1,6 @@
 pub mod Found
 pub mod Parts
 pub mod Lines
-pub mod Numbers
 pub mod Values
 pub mod Operands
 pub mod Ops

@@ -2,7 +2,8 @@
 use Rattle.std.specs.Prelude.{◌∷◌, [], ◌==◌, ◌||◌, ℕ, Bool, false, List, Option, None, Some, bytes_eq, codes, unwrap_or, if◌then◌else◌}
 use Rattle.std.specs.List.{list_all}
 use Rattle.desk_common.specs.Words.{onto}
-use Rattle.sms_script.specs.Parts.{before_last}
+use Rattle.desk_common.specs.Bytes.{space_byte, star}
+use Rattle.sms_construct.specs.Parts.{before_last}
 
 -- the lines with their line ends; the last may lack it
 abbrev pub lines_of : List ℕ → List (List ℕ)
@@ -20,12 +21,12 @@ text_of_line line = without_cr line (before_last 10 line)
 
 -- only spaces, or nothing
 abbrev pub is_blank : List ℕ → Bool
-is_blank text = list_all (λ byte. byte == 32) text
+is_blank text = list_all (λ byte. byte == space_byte) text
 
 -- the first byte is an asterisk
 abbrev pub is_comment : List ℕ → Bool
 is_comment [] = false
-is_comment (byte ∷ bytes) = byte == 42
+is_comment (byte ∷ bytes) = byte == star
 
 -- a line that asks nothing
 abbrev pub is_skipped : List ℕ → Bool

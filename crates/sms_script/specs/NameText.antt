@@ -1,6 +1,7 @@
 -- Names, statuses and extents as text.
 use Rattle.std.specs.Prelude.{ℕ, List, [], ◌∷◌, Option, None, Some, decimal, codes}
 use Rattle.std.specs.List.{join_with_byte}
+use Rattle.desk_common.specs.Bytes.{space_byte}
 use Rattle.sms_construct.specs.declared.extent.Extent.{Extent}
 use Rattle.sms_construct.specs.declared.data_set.DataSet.{DataSet}
 use Rattle.sms_construct.specs.declared.status.Status.{Status}
@@ -10,7 +11,7 @@ use Rattle.sms_construct.specs.declared.target.Target.TheVariants.{Group, Volume
 
 -- the words with a blank between each two
 abbrev pub spaced : List (List ℕ) → List ℕ
-spaced words = join_with_byte 32 words
+spaced words = join_with_byte space_byte words
 
 -- a name, or a hyphen for none
 abbrev pub name_text : Option (List ℕ) → List ℕ

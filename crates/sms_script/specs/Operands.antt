@@ -8,12 +8,14 @@ use Rattle.acs_tree.specs.declared.defaults.Defaults.{Defaults}
 use Rattle.acs_tree.specs.declared.environment.Environment.{Environment}
 use Rattle.acs_tree.specs.declared.input.Input.{Input}
 use Rattle.acs_tree.specs.declared.origin.Origin.{Origin}
+use Rattle.desk_common.specs.Limits.{most_name_bytes}
 use Rattle.dsn_mask.specs.Name.{name_of}
 use Rattle.sms_construct.specs.declared.alloc.Alloc.{Alloc}
 use Rattle.sms_construct.specs.Quantities.{Quantities, size_in_kilobytes, most_in_kilobytes}
 use Rattle.sms_script.specs.Found.{◌⊳◌}
-use Rattle.sms_script.specs.Parts.{behind_front}
-use Rattle.sms_script.specs.Values.{number_to, space_in, plain_of, name_value_of, date_of, volumes_of, account_of, count_of}
+use Rattle.sms_construct.specs.Parts.{behind_front}
+use Rattle.sms_construct.specs.SpaceText.{space_text}
+use Rattle.sms_script.specs.Values.{number_to, plain_of, name_value_of, date_of, volumes_of, account_of, count_of}
 
 -- the keys of the operands
 abbrev pub keys : List (List ℕ)
@@ -65,11 +67,11 @@ given_or_none key read operands = given key (λ value. option_map (λ v. Some v)
 -- who asks for the data set, and for what
 abbrev pub origin_in : List (List ℕ) → Option Origin
 origin_in operands =
-    given (codes "USER=") (plain_of 8) [] operands ⊳ λ user.
-    given (codes "GROUP=") (plain_of 8) [] operands ⊳ λ group.
-    given (codes "PGM=") (plain_of 8) [] operands ⊳ λ pgm.
-    given (codes "DD=") (plain_of 8) [] operands ⊳ λ dd.
-    given (codes "APPLIC=") (plain_of 8) [] operands ⊳ λ applic.
+    given (codes "USER=") (plain_of most_name_bytes) [] operands ⊳ λ user.
+    given (codes "GROUP=") (plain_of most_name_bytes) [] operands ⊳ λ group.
+    given (codes "PGM=") (plain_of most_name_bytes) [] operands ⊳ λ pgm.
+    given (codes "DD=") (plain_of most_name_bytes) [] operands ⊳ λ dd.
+    given (codes "APPLIC=") (plain_of most_name_bytes) [] operands ⊳ λ applic.
     Some (record { job = []; user = user; group = group; pgm = pgm; dd = dd; applic = applic })
 
 -- the accounting of the job and of the step
@@ -82,20 +84,20 @@ accounting_in operands =
 -- the attributes of the data set
 abbrev pub attributes_in : List (List ℕ) → Option Attributes
 attributes_in operands =
-    given (codes "UNIT=") (plain_of 8) [] operands ⊳ λ unit.
-    given (codes "DSORG=") (plain_of 8) [] operands ⊳ λ dsorg.
-    given (codes "RECORG=") (plain_of 8) [] operands ⊳ λ recorg.
-    given (codes "DSNTYPE=") (plain_of 8) [] operands ⊳ λ dsntype.
-    given (codes "DSTYPE=") (plain_of 8) (codes "PERM") operands ⊳ λ dstype.
-    given (codes "OWNER=") (plain_of 8) [] operands ⊳ λ dsowner.
+    given (codes "UNIT=") (plain_of most_name_bytes) [] operands ⊳ λ unit.
+    given (codes "DSORG=") (plain_of most_name_bytes) [] operands ⊳ λ dsorg.
+    given (codes "RECORG=") (plain_of most_name_bytes) [] operands ⊳ λ recorg.
+    given (codes "DSNTYPE=") (plain_of most_name_bytes) [] operands ⊳ λ dsntype.
+    given (codes "DSTYPE=") (plain_of most_name_bytes) (codes "PERM") operands ⊳ λ dstype.
+    given (codes "OWNER=") (plain_of most_name_bytes) [] operands ⊳ λ dsowner.
     given (codes "EXPDT=") date_of [] operands ⊳ λ expdt.
     Some (record { unit = unit; dsorg = dsorg; recorg = recorg; dsntype = dsntype; dstype = dstype; dsowner = dsowner; expdt = expdt })
 
 -- where the request runs; the system joins later
 abbrev pub environment_in : List (List ℕ) → Option Environment
 environment_in operands =
-    given (codes "ACSENVIR=") (plain_of 8) (codes "ALLOC") operands ⊳ λ acsenvir.
-    given (codes "XMODE=") (plain_of 8) (codes "BATCH") operands ⊳ λ xmode.
+    given (codes "ACSENVIR=") (plain_of most_name_bytes) (codes "ALLOC") operands ⊳ λ acsenvir.
+    given (codes "XMODE=") (plain_of most_name_bytes) (codes "BATCH") operands ⊳ λ xmode.
     Some (record { acsenvir = acsenvir; xmode = xmode; sysname = []; sysplex = [] })
 
 -- the classes that are the job's defaults
@@ -106,11 +108,12 @@ defaults_in operands =
     given (codes "DEFMC=") name_value_of [] operands ⊳ λ mgmtclas.
     Some (record { dataclas = dataclas; storclas = storclas; mgmtclas = mgmtclas })
 
--- the sizes of a space in KB; 0 without one
+-- the size of a space in KB; 0 without one
 abbrev pub size_of : Option Quantities → ℕ
 size_of None = 0
 size_of (Some space) = size_in_kilobytes space
 
+-- the size with the secondary quantities in KB; 0 without a space
 abbrev pub maxsize_of : Option Quantities → ℕ
 maxsize_of None = 0
 maxsize_of (Some space) = most_in_kilobytes space
@@ -143,7 +146,7 @@ input_in dsn retpd space operands =
 -- what the operands of an ALLOC of this data set ask for
 abbrev pub request_in : List ℕ → List (List ℕ) → Option Alloc
 request_in dsn operands =
-    given_or_none (codes "SPACE=") space_in operands ⊳ λ space.
+    given_or_none (codes "SPACE=") space_text operands ⊳ λ space.
     given_or_none (codes "DATACLAS=") name_of operands ⊳ λ dataclas.
     given_or_none (codes "STORCLAS=") name_of operands ⊳ λ storclas.
     given_or_none (codes "MGMTCLAS=") name_of operands ⊳ λ mgmtclas.

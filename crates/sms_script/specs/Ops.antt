@@ -4,8 +4,11 @@ use Rattle.std.specs.Map.{lookup}
 use Rattle.std.specs.Option.{option_and_then, option_or}
 use Rattle.std.specs.Char.{to_ascii_uppercase}
 use Rattle.desk_common.specs.Words.{words_of}
+use Rattle.desk_common.specs.Bytes.{closing, space_byte}
 use Rattle.dsn_mask.specs.Name.{name_of, volser_of}
 use Rattle.dsn_mask.specs.DataSetName.{dsn_of}
+use Rattle.sms_construct.specs.Numbers.{small_number_of}
+use Rattle.sms_construct.specs.Parts.{behind_front}
 use Rattle.sms_construct.specs.Quantities.{request_number_of}
 use Rattle.sms_construct.specs.declared.alloc.Alloc.{Alloc}
 use Rattle.sms_construct.specs.declared.action.Action.{Action}
@@ -15,9 +18,8 @@ use Rattle.sms_construct.specs.declared.request.Op.TheVariants as ops
 use Rattle.sms_construct.specs.declared.target.Target.{Target}
 use Rattle.sms_construct.specs.declared.target.Target.TheVariants.{Group, Volume, Set}
 use Rattle.sms_script.specs.Found.{◌⊳◌}
-use Rattle.sms_script.specs.Numbers.{number_of}
 use Rattle.sms_script.specs.Operands.{are_operands, request_in}
-use Rattle.sms_script.specs.Parts.{behind_front, in_call, before_end}
+use Rattle.sms_script.specs.Parts.{in_call, before_end}
 use Rattle.sms_script.specs.declared.written.Written.{Written}
 use Rattle.sms_script.specs.declared.written.Written.TheVariants as written
 use Rattle.sms_script.specs.declared.verb.Verb.{Verb}
@@ -29,6 +31,7 @@ verb_words =
     (codes "ALLOC", verbs.Alloc) ∷ (codes "EXTEND", verbs.Extend) ∷ (codes "DELETE", verbs.Delete) ∷ (codes "RELEASE", verbs.Release) ∷ (codes "USED", verbs.Used)
     ∷ (codes "DISPLAY", verbs.Display) ∷ (codes "D", verbs.Display) ∷ (codes "VARY", verbs.Vary) ∷ (codes "V", verbs.Vary) ∷ (codes "PURGE", verbs.Purge) ∷ []
 
+-- the verb that a word is, if any
 abbrev pub verb_of : List ℕ → Option Verb
 verb_of word = lookup (bytes_eq word) verb_words
 
@@ -58,15 +61,17 @@ only_two (word ∷ other ∷ more ∷ words) = None
 
 -- the request number that a word writes, if any
 abbrev pub number_in : List ℕ → Option ℕ
-number_in word = option_and_then request_number_of (number_of word)
+number_in word = option_and_then request_number_of (small_number_of word)
 
--- the storage group, the volume and the data set of a name
+-- the storage group of this name, if it is one
 abbrev pub group_of : List ℕ → Option Target
 group_of text = option_map (λ name. Group name) (name_of text)
 
+-- the volume of this serial, if it is one
 abbrev pub volume_of : List ℕ → Option Target
 volume_of text = option_map (λ volser. Volume volser) (volser_of text)
 
+-- the data set of this name, if it is one
 abbrev pub set_of : List ℕ → Option Target
 set_of text = option_map (λ dsn. Set dsn) (dsn_of text)
 
@@ -89,6 +94,7 @@ abbrev pub actions : List (List ℕ × Action)
 actions =
     (codes ",ENABLE", Enable) ∷ (codes ",DISABLE", Disable) ∷ (codes ",DISABLE,NEW", DisableNew) ∷ (codes ",QUIESCE", Quiesce) ∷ (codes ",QUIESCE,NEW", QuiesceNew) ∷ []
 
+-- the action that a text is, if any
 abbrev pub action_in : List ℕ → Option Action
 action_in text = lookup (bytes_eq text) actions
 
@@ -103,7 +109,7 @@ vary_at text at =
 abbrev pub vary_in : List ℕ → Option Op
 vary_in what =
     behind_front (codes "SMS,") what ⊳ λ text.
-    position (λ byte. byte == 41) text ⊳ λ at.
+    position (λ byte. byte == closing) text ⊳ λ at.
     vary_at text at
 
 -- an ALLOC: the data set, and operands in any order, each at most once
@@ -117,7 +123,7 @@ dsn_in operands = only operands ⊳ dsn_of
 
 -- a USED: the data set, and its tracks
 abbrev pub used_in : List (List ℕ) → Option Op
-used_in operands = only_two operands ⊳ λ words. dsn_of words.0 ⊳ λ dsn. number_of words.1 ⊳ λ tracks. Some (ops.Used dsn tracks)
+used_in operands = only_two operands ⊳ λ words. dsn_of words.0 ⊳ λ dsn. small_number_of words.1 ⊳ λ tracks. Some (ops.Used dsn tracks)
 
 -- a PURGE: the job, and its floor
 abbrev pub purge_in : List (List ℕ) → Option Op
@@ -141,7 +147,7 @@ op_in admin (word ∷ operands) = verb_of word ⊳ λ verb. if may_ask admin ver
 
 -- the words of a line, its letters read as upper case
 abbrev pub upper_words : List ℕ → List (List ℕ)
-upper_words line = words_of (32 ∷ []) (map to_ascii_uppercase line)
+upper_words line = words_of (space_byte ∷ []) (map to_ascii_uppercase line)
 
 -- the op that the part of a line behind the request number writes
 abbrev pub op_of : Bool → List ℕ → Option Op

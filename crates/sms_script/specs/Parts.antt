@@ -3,24 +3,12 @@ use Rattle.std.specs.Prelude.{◌-◌, ◌==◌, ◌&&◌, ℕ, List, [], ◌∷
 use Rattle.std.specs.Option.{option_and_then}
 use Rattle.desk_common.specs.Bytes.{comma}
 use Rattle.desk_common.specs.Words.{pieces_of}
-
--- what is behind this front, if it stands there
-abbrev pub behind_front : List ℕ → List ℕ → Option (List ℕ)
-behind_front front bytes = if bytes_eq (take (length front) bytes) front then Some (drop (length front) bytes) else None
-
--- what is before the last byte, if that is this one
-abbrev pub before_last : ℕ → List ℕ → Option (List ℕ)
-before_last last bytes =
-    if nat_le 1 (length bytes) && slice_index bytes (length bytes - 1) == last then Some (take (length bytes - 1) bytes) else None
+use Rattle.sms_construct.specs.Parts.{behind_front, in_parentheses}
 
 -- what is before this end, if it stands there
 abbrev pub before_end : List ℕ → List ℕ → Option (List ℕ)
 before_end end bytes =
     if nat_le (length end) (length bytes) && bytes_eq (drop (length bytes - length end) bytes) end then Some (take (length bytes - length end) bytes) else None
-
--- what stands in parentheses, if the first and the last byte are these
-abbrev pub in_parentheses : List ℕ → Option (List ℕ)
-in_parentheses bytes = option_and_then (before_last 41) (behind_front (codes "(") bytes)
 
 -- what stands in parentheses behind a word, if it does
 abbrev pub in_call : List ℕ → List ℕ → Option (List ℕ)

@@ -11,7 +11,6 @@ mod line_words;
 mod lines;
 mod lists;
 mod next;
-mod number;
 mod op;
 mod operand;
 mod parts;
@@ -29,7 +28,6 @@ mod written;
 
 pub use fault_text::push_fault;
 pub use item::{Item, Phase, Script};
-pub use number::read_number;
 pub use op::read_op;
 pub use printing::{answer_lines, print, push_indented, view_lines};
 pub use pushing::{push_number_and_blank, push_word_and_blank, status_bytes, value_bytes};

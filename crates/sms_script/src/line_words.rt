@@ -1,5 +1,7 @@
 //! The words of a line.
 ghost use Rattle.std.specs.Prelude.{◌≡◌, ◌<◌, ◌∷◌, [], length, map, MatchOption};
+ghost use Rattle.desk_common.specs.Bytes.{space_byte};
+ghost use Rattle.desk_common.specs.Limits.{most_words};
 ghost use Rattle.desk_common.specs.Words.{words_of};
 
 use arrayvec::ArrayVec;
@@ -10,7 +12,7 @@ pub const MOST_WORDS: usize = 32;
 
 /// The words of the line, if they are no more than a command may have.
 pub fn line_words(line: &[u8]) -> Option<ArrayVec<&[u8], MOST_WORDS>>
-    ensures { MatchOption result (32 < length (words_of (32 ∷ []) line.entry.now)) (λ words. map (λ word. word.now) words.items ≡ words_of (32 ∷ []) line.entry.now) }
+    ensures { MatchOption result (most_words < length (words_of (space_byte ∷ []) line.entry.now)) (λ words. map (λ word. word.now) words.items ≡ words_of (space_byte ∷ []) line.entry.now) }
 {
     let mut words = ArrayVec::new();
     let mut rest = line;

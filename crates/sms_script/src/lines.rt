@@ -2,7 +2,7 @@
 ghost use Rattle.std.specs.Prelude.{◌≡◌, ◌≢◌, ◌≤◌, ◌<◌, ◌∷◌, ◌++◌, ℕ, length, slice_index};
 ghost use Rattle.sms_script.specs.Lines.{is_blank, is_block_end, is_comment, is_skipped, lines_of, text_of_line};
 
-use crate::parts::before_last;
+use sms_construct::before_last;
 
 /// The first line with its line end, and what is behind it.
 pub fn first_line(text: &[u8]) -> (&[u8], &[u8])

@@ -4,10 +4,11 @@ ghost use Rattle.std.specs.List.{list_any};
 ghost use Rattle.dsn_mask.specs.Name.{is_volser};
 ghost use Rattle.sms_script.specs.Values.{account_of, is_plain, volumes_of};
 
-use crate::parts::{first_piece, in_parentheses};
+use crate::parts::first_piece;
 use crate::value::read_plain;
 use acs_tree::{Account, MAX_FIELDS, Volumes};
 use dsn_mask::Volser;
+use sms_construct::in_parentheses;
 
 /// One volume serial, or up to 59 in parentheses, none twice.
 pub fn read_volumes(value: &[u8]) -> Option<Volumes>

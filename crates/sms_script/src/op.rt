@@ -2,17 +2,15 @@
 ghost use Rattle.std.specs.Prelude.{◌≡◌, ◌∷◌, [], map, option_map, Some};
 ghost use Rattle.std.specs.Char.{to_ascii_uppercase};
 ghost use Rattle.std.specs.Option.{option_copied};
-ghost use Rattle.sms_script.specs.Numbers.{number_of};
 ghost use Rattle.sms_script.specs.Ops.{alloc_in, dsn_in, number_in, only, only_two, op_in, op_of, op_with, op_written, purge_in, used_in};
 
 use crate::allocation::read_allocation;
 use crate::line_words::line_words;
-use crate::number::read_number;
 use crate::targets::{read_target, read_vary};
 use crate::verb::Verb;
 use crate::written::Written;
 use dsn_mask::{Dsn, Name};
-use sms_construct::{Op, RequestNumber};
+use sms_construct::{Op, RequestNumber, read_number};
 
 /// The op that the part of a command line behind the request number writes, if any: of the administrator, or of
 /// another job (docs/script.md, "Commands"). ACTIVATE is none, since its deck stands in other lines. The letters

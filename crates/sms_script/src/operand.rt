@@ -2,17 +2,15 @@
 ghost use Rattle.std.specs.Prelude.{◌≡◌, ◌∷◌, [], true, map, MatchOption};
 ghost use Rattle.std.specs.List.{list_all, list_any};
 ghost use Rattle.dsn_mask.specs.Name.{name_of};
+ghost use Rattle.sms_construct.specs.SpaceText.{space_text};
 ghost use Rattle.sms_script.specs.Operands.{are_operands, given, given_or_none, has_key, is_once, is_operand, values_of};
-ghost use Rattle.sms_script.specs.Values.{account_of, count_of, date_of, name_value_of, number_to, plain_of, space_in, volumes_of};
+ghost use Rattle.sms_script.specs.Values.{account_of, count_of, date_of, name_value_of, number_to, plain_of, volumes_of};
 
 use crate::lists::{read_account, read_volumes};
-use crate::parts::behind_front;
-use crate::value::{
-    read_count, read_date, read_name_value, read_number_to, read_plain, read_space,
-};
+use crate::value::{read_count, read_date, read_name_value, read_number_to, read_plain};
 use acs_tree::{Account, Volumes};
 use dsn_mask::{Name, Short};
-use sms_construct::{Space, VolumeCount};
+use sms_construct::{Space, VolumeCount, behind_front, read_space};
 
 const KEYS: [&[u8]; 28] = [
     b"SPACE=",
@@ -206,7 +204,7 @@ pub fn name_at(key: &[u8], words: &[&[u8]]) -> Option<Option<Name>>
 
 /// A space, if a word has the key.
 pub fn space_at(key: &[u8], words: &[&[u8]]) -> Option<Option<Space>>
-    ensures { result ≡ given_or_none key.now space_in (map (λ word. word.now) words.now) }
+    ensures { result ≡ given_or_none key.now space_text (map (λ word. word.now) words.now) }
 {
     match first_value(key, words) {
         Some((value, _)) => Some(Some(read_space(value)?)),

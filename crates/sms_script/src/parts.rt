@@ -3,34 +3,9 @@ ghost use Rattle.std.specs.Prelude.{◌≡◌, ◌≢◌, ◌==◌, ◌≤◌, �
 ghost use Rattle.std.specs.Option.{option_copied};
 ghost use Rattle.desk_common.specs.Bytes.{comma};
 ghost use Rattle.desk_common.specs.Words.{pieces_of};
-ghost use Rattle.sms_script.specs.Parts.{before_end, before_last, behind_front, in_call, in_parentheses, pieces_behind};
+ghost use Rattle.sms_script.specs.Parts.{before_end, in_call, pieces_behind};
 
-/// What is behind this front, if it stands there.
-pub fn behind_front<'a>(front: &[u8], bytes: &'a [u8]) -> Option<&'a [u8]>
-    ensures { option_copied result ≡ behind_front front.now bytes.entry.now }
-{
-    if bytes.len() < front.len() || &bytes[..front.len()] != front {
-        return None;
-    }
-    Some(&bytes[front.len()..])
-}
-
-/// What is before the last byte, if that is this one.
-pub fn before_last(last: u8, bytes: &[u8]) -> Option<&[u8]>
-    ensures { option_copied result ≡ before_last last bytes.entry.now }
-{
-    if bytes.is_empty() || bytes[bytes.len() - 1] != last {
-        return None;
-    }
-    Some(&bytes[..bytes.len() - 1])
-}
-
-/// What stands in parentheses, if the first and the last byte are these.
-pub fn in_parentheses(bytes: &[u8]) -> Option<&[u8]>
-    ensures { option_copied result ≡ in_parentheses bytes.entry.now }
-{
-    before_last(b')', behind_front(b"(", bytes)?)
-}
+use sms_construct::{behind_front, in_parentheses};
 
 /// What is before this end, if it stands there.
 pub fn before_end<'a>(end: &[u8], bytes: &'a [u8]) -> Option<&'a [u8]>

@@ -1,5 +1,6 @@
 //! Words, numbers and names put behind a text.
 ghost use Rattle.std.specs.Prelude.{◌≡◌, ◌++◌, ◌∷◌, [], OnOk, decimal};
+ghost use Rattle.desk_common.specs.Bytes.{space_byte};
 ghost use Rattle.sms_script.specs.NameText.{name_text, status_text, target_text, value_text};
 
 use desk_common::push_number;
@@ -9,7 +10,7 @@ use std::alloc::AllocError;
 
 /// A word and a blank.
 pub fn push_word_and_blank(text: &mut Vec<u8>, word: &[u8]) -> Result<(), AllocError>
-    ensures { OnOk result (text.new.items ≡ text.old.items ++ word.now ++ 32 ∷ []) }
+    ensures { OnOk result (text.new.items ≡ text.old.items ++ word.now ++ space_byte ∷ []) }
 {
     text.extend_from_slice(word)?;
     text.extend_from_slice(b" ")
@@ -17,7 +18,7 @@ pub fn push_word_and_blank(text: &mut Vec<u8>, word: &[u8]) -> Result<(), AllocE
 
 /// A number and a blank.
 pub fn push_number_and_blank(text: &mut Vec<u8>, number: u64) -> Result<(), AllocError>
-    ensures { OnOk result (text.new.items ≡ text.old.items ++ decimal number ++ 32 ∷ []) }
+    ensures { OnOk result (text.new.items ≡ text.old.items ++ decimal number ++ space_byte ∷ []) }
 {
     push_number(text, number)?;
     text.extend_from_slice(b" ")

@@ -4,9 +4,9 @@ ghost use Rattle.sms_script.specs.Found.{◌⊳◌};
 ghost use Rattle.sms_script.specs.Parts.{in_call};
 ghost use Rattle.sms_script.specs.Ops.{action_in, group_of, place_in, set_of, target_in, vary_in, volume_of, without_all};
 
-use crate::parts::{before_end, behind_front, in_call, place_of};
+use crate::parts::{before_end, in_call, place_of};
 use dsn_mask::{Dsn, Name, Volser};
-use sms_construct::{Action, Op, Target};
+use sms_construct::{Action, Op, Target, behind_front};
 
 /// What a DISPLAY shows: SMS,STORGRP(g), SMS,VOLUME(v) or SET(dsn).
 pub fn read_target(what: &[u8]) -> Option<Target>

@@ -1,15 +1,11 @@
 //! The values of operands.
-ghost use Rattle.std.specs.Prelude.{◌≡◌, ◌==◌, Some, position};
+ghost use Rattle.std.specs.Prelude.{◌≡◌};
 ghost use Rattle.std.specs.List.{list_all};
-ghost use Rattle.desk_common.specs.Bytes.{comma};
 ghost use Rattle.dsn_mask.specs.Name.{is_digit};
-ghost use Rattle.sms_script.specs.Numbers.{number_of};
-ghost use Rattle.sms_script.specs.Values.{count_of, date_of, is_open_byte, list_of_quantities, name_value_of, number_to, plain_of, quantities_of, space_in, space_inside, space_with};
+ghost use Rattle.sms_script.specs.Values.{count_of, date_of, is_open_byte, name_value_of, number_to, plain_of};
 
-use crate::number::read_number;
-use crate::parts::{behind_front, in_parentheses, place_of};
 use dsn_mask::{Name, Short};
-use sms_construct::{Space, Unit, VolumeCount};
+use sms_construct::{VolumeCount, read_number};
 
 /// The number up to this one that a text writes, if any.
 pub fn read_number_to(most: u32, bytes: &[u8]) -> Option<u32>
@@ -17,53 +13,6 @@ pub fn read_number_to(most: u32, bytes: &[u8]) -> Option<u32>
 {
     let number = read_number(bytes)?;
     if number <= most { Some(number) } else { None }
-}
-
-/// A space: a unit and quantities.
-pub fn read_space(value: &[u8]) -> Option<Space>
-    ensures { result ≡ space_in value.now }
-{
-    read_inside(in_parentheses(value)?)
-}
-
-fn read_inside(inner: &[u8]) -> Option<Space>
-    ensures { result ≡ space_inside inner.now }
-{
-    if let Some(tracks) = behind_front(b"TRK,", inner) {
-        return read_quantities(Unit::Trk, tracks);
-    }
-    read_quantities(Unit::Cyl, behind_front(b"CYL,", inner)?)
-}
-
-// What stands behind a unit: a quantity, or quantities in parentheses.
-fn read_quantities(unit: Unit, bytes: &[u8]) -> Option<Space>
-    ensures { result ≡ quantities_of unit bytes.now }
-{
-    match in_parentheses(bytes) {
-        Some(inner) => read_list(unit, inner),
-        None => read_primary(unit, bytes),
-    }
-}
-
-fn read_list(unit: Unit, inner: &[u8]) -> Option<Space>
-    ensures { result ≡ list_of_quantities unit inner.now (position (λ byte. byte == comma) inner.now) }
-{
-    match place_of(b',', inner) {
-        Some(at) => read_both(unit, &inner[..at], &inner[at + 1..]),
-        None => read_primary(unit, inner),
-    }
-}
-
-fn read_primary(unit: Unit, primary: &[u8]) -> Option<Space>
-    ensures { result ≡ space_with unit (number_of primary.now) (Some 0) }
-{
-    Space::new(unit, read_number(primary)?, 0)
-}
-
-fn read_both(unit: Unit, primary: &[u8], secondary: &[u8]) -> Option<Space>
-    ensures { result ≡ space_with unit (number_of primary.now) (number_of secondary.now) }
-{
-    Space::new(unit, read_number(primary)?, read_number(secondary)?)
 }
 
 /// A value of routines of 1 to so many bytes, with no parenthesis and no comma.

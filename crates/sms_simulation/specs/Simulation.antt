@@ -48,6 +48,7 @@ abbrev pub text_if : Configuration → Item → Option Alloc → List ℕ
 text_if config item None = []
 text_if config item (Some alloc) = text_of_classes item.line item.request.job item.request.number (classes_of config item.request.job alloc)
 
+-- what is printed of an item; nothing but of an ALLOC
 abbrev pub item_text : Configuration → Item → List ℕ
 item_text config item = text_if config item (alloc_of item.request.op)
 
@@ -91,6 +92,7 @@ pub record ShowsUnder (deck : List ℕ) (others : List Item) (text : List ℕ) :
   pub configures : Configures deck config
   pub text_is : text ≡ flat_map (item_text config) others
 
+-- what the simulation of these ALLOCs under this deck comes to
 abbrev pub IsSimulatedUnder : List ℕ → List Item → Simulated → Type 0
 IsSimulatedUnder deck others (simulations.Shown text) = ShowsUnder deck others text
 IsSimulatedUnder deck others (simulations.Refused fault) = HasFirstFault deck fault

@@ -3,6 +3,7 @@ use Rattle.std.specs.Prelude.{ℕ}
 use Rattle.smsc.specs.declared.status.ToolStatus.{ToolStatus}
 use Rattle.smsc.specs.declared.status.ToolStatus.TheVariants.{Done, FaultFound, BadWords, ReadFault, WriteFault, Script, TooLong, NoMemory}
 
+-- the number that each ending of a call is told by
 abbrev pub exit_status_of : ToolStatus → ℕ
 exit_status_of Done = 0
 exit_status_of FaultFound = 1

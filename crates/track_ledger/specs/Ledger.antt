@@ -5,12 +5,14 @@ use Rattle.track_ledger.specs.declared.owned_extent.OwnedExtent.{OwnedExtent}
 use Rattle.track_ledger.specs.declared.piece.Piece.{Piece}
 use Rattle.track_ledger.specs.Extents.{NoTrackTwice, AllInside, gaps_between, tracks_held}
 
+-- what is seen of a ledger, which has so many tracks
 pub record LedgerView : Type 0 where
   pub capacity : ℕ
   pub extents : List OwnedExtent
   -- how many more extents there is room for
   pub spare : ℕ
 
+-- what is seen of these extents and gaps
 abbrev pub ledger_view : ℕ → Vec OwnedExtent Global → Vec Piece Global → LedgerView
 ledger_view capacity extents gaps = record {
   capacity = capacity;

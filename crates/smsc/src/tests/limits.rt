@@ -1,4 +1,4 @@
-use super::{ROOM, run, run_over};
+use super::{ROOM, repeated, run, run_over};
 use crate::status::ToolStatus::{self, Done, FaultFound, ReadFault, TooLong, WriteFault};
 use std::test::Fail;
 
@@ -42,10 +42,7 @@ const LENGTHS: [(&[&str], &str, usize, ToolStatus, &str); 9] = [
 #[test]
 fn an_input_is_read_up_to_its_limit(rt: HostRuntime) -> Result<(), Fail> {
     for (words, front, blanks, status, text) in LENGTHS {
-        let mut input = front.as_bytes().to_vec(rt.alloc())?;
-        for _ in 0..blanks {
-            input.push(b' ')?;
-        }
+        let input = repeated(rt.alloc(), front, " ", blanks, "")?;
         let outcome = run(rt.alloc(), words, &input, ROOM)?;
         assert_eq!(rt; outcome.status, status, "at {front} and {blanks}");
         assert_eq!(rt;
@@ -61,11 +58,36 @@ fn an_input_is_read_up_to_its_limit(rt: HostRuntime) -> Result<(), Fail> {
 fn a_fault_of_the_source_or_the_sink_is_told(rt: HostRuntime) -> Result<(), Fail> {
     let alloc = rt.alloc();
     let routine = b"PROC STORCLAS END";
-    let unread = run_over(alloc, routine, vec![in alloc; 1u64]?, Vec::new(alloc), ROOM)?;
+    let words = &["translate", "STORCLAS"];
+    let unread = run_over(
+        alloc,
+        words,
+        routine,
+        vec![in alloc; 1u64]?,
+        Vec::new(alloc),
+        ROOM,
+    )?;
     assert_eq!(rt; unread.status, ReadFault);
     assert_eq!(rt; unread.text.len(), 0);
-    let unwritten = run_over(alloc, routine, Vec::new(alloc), vec![in alloc; 2u64]?, ROOM)?;
+    let unwritten = run_over(
+        alloc,
+        words,
+        routine,
+        Vec::new(alloc),
+        vec![in alloc; 2u64]?,
+        ROOM,
+    )?;
     assert_eq!(rt; unwritten.status, WriteFault);
     assert_eq!(rt; unwritten.text.as_slice(), b"TRANSLA".as_slice());
+    let unshown = run_over(
+        alloc,
+        &["--help"],
+        b"",
+        Vec::new(alloc),
+        vec![in alloc; 2u64]?,
+        ROOM,
+    )?;
+    assert_eq!(rt; unshown.status, WriteFault);
+    assert_eq!(rt; unshown.text.len(), 7);
     Ok(())
 }

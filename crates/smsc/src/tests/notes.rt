@@ -1,6 +1,7 @@
-use super::{ROOM, run};
+use super::{ROOM, repeated, run};
 use crate::status::ToolStatus::{self, FaultFound, Script};
-use sms_script::ScriptErr::{BadLine, OpenBlock};
+use sms_script::ScriptErr::{BadLine, OpenBlock, TooManyLines};
+use std::alloc::Global;
 use std::test::Fail;
 
 /// The kind, the routine, and what its fault means.
@@ -188,8 +189,60 @@ fn a_fault_is_noted_with_its_line(rt: HostRuntime) -> Result<(), Fail> {
         assert_eq!(rt; outcome.status, status, "at {script:?}");
         assert_eq!(rt; outcome.note.as_str(), note, "at {script:?}");
     }
+    for (words, front, part, times, end, status, note) in REPEATED {
+        let input = repeated(alloc, front, part, times, end)?;
+        let outcome = run(alloc, words, &input, ROOM)?;
+        assert_eq!(rt; outcome.status, status, "at {front} and {part}");
+        assert_eq!(rt; outcome.note.as_str(), note, "at {front} and {part}");
+    }
+    let outcome = run(alloc, &["validate"], &deck_of_volumes(alloc, 1_025)?, ROOM)?;
+    assert_eq!(rt; outcome.status, FaultFound);
+    assert_eq!(rt;
+        outcome.note.as_str(),
+        "the deck has more than 1024 volumes\n"
+    );
     Ok(())
 }
+
+/// A deck of so many volumes, 250 in each storage group.
+fn deck_of_volumes(alloc: Global, count: usize) -> Result<Vec<u8>, Fail> {
+    let mut deck = b"version = 1\n".to_vec(alloc)?;
+    for at in 0..count {
+        let group = at / 250;
+        let volume = format!(in alloc; "[storgroup.SG{group}.volume.V{at}]\ntracks = 1\n")?;
+        deck.extend_from_slice(volume.as_bytes())?;
+    }
+    Ok(deck)
+}
+
+/// The words, a front, a part so many times behind it and an end, the status, and what the fault of all this means.
+type RepeatedRow = (
+    &'static [&'static str],
+    &'static str,
+    &'static str,
+    usize,
+    &'static str,
+    ToolStatus,
+    &'static str,
+);
+
+const TRANSLATE: &[&str] = &["translate", "STORCLAS"];
+
+#[rattlefmt::skip]
+const REPEATED: [RepeatedRow; 6] = [
+    (TRANSLATE, "PROC\n", "W", 65, " END", FaultFound,
+     "line 2, column 1: this is longer than the 64 bytes of a word or a variable, or the 110 of a literal\n    WWWWWWWWWWWWWWWWWWWWWWWWWWWWWWWWWWWWWWWWWWWWWWWWWWWWWWWWWWWWWWWWW END\n    ^\n"),
+    (TRANSLATE, "PROC STORCLAS", "\nDO", 201, "", FaultFound,
+     "line 202, column 1: with DO more than 200 constructs are open at once\n    DO\n    ^\n"),
+    (TRANSLATE, "PROC STORCLAS FILTLIST F INCLUDE('A'", "\n,'B'", 255, ") END", FaultFound,
+     "line 256, column 2: 'B' is the 256th entry of an INCLUDE or EXCLUDE, which has at most 255\n    ,'B') END\n     ^\n"),
+    (&["validate"], "version = 1\n[routine]\nstorclass = '", "A", 65_537, "'", FaultFound,
+     "line 3, column 1: at routine.storclass there is more than the limit allows\n    storclass = 'AAAAAAAAAAAAAAAAAAAAAAAAAAAAAAAAAAAAAAAAAAAAAAAAAAAAAAAAAAAAAAAAAAAAAAAAAAAAAAAAAAAAAAAAAAAAAAAAAAAAAAAAAAA\n    ^\n"),
+    (&["validate"], "version = 1 #", " ", 262_132, "", FaultFound,
+     "the deck has more than 262144 bytes\n"),
+    (&["simulate"], "", "JOB1 1 DELETE A\n", 100_001, "", Script(TooManyLines(100_001)),
+     "line 100001, column 1: this is the 100001st command\n    JOB1 1 DELETE A\n    ^\n"),
+];
 
 #[test]
 fn of_a_long_line_the_part_around_a_fault_is_noted(rt: HostRuntime) -> Result<(), Fail> {

@@ -1,4 +1,4 @@
-use super::{ROOM, run};
+use super::{ROOM, repeated, run};
 use crate::status::ToolStatus::{self, Done, FaultFound};
 use std::test::Fail;
 
@@ -103,5 +103,12 @@ fn each_routine_is_translated_or_told_its_fault(rt: HostRuntime) -> Result<(), F
         assert_eq!(rt; outcome.status, status, "at {routine:?}");
         assert_eq!(rt; outcome.text.as_slice(), text, "at {routine:?}");
     }
+    let dense = repeated(rt.alloc(), "PROC STORCLAS WRITE ''", ",''", 21_836, " END")?;
+    let outcome = run(rt.alloc(), &["translate", "STORCLAS"], &dense, ROOM)?;
+    assert_eq!(rt; outcome.status, Done);
+    assert_eq!(rt;
+        outcome.text.as_slice(),
+        b"TRANSLATED STORCLAS 43677\n".as_slice()
+    );
     Ok(())
 }

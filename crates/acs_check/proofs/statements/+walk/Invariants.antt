@@ -6,5 +6,5 @@ use Rattle.acs_check.proofs.statements.+walk.Given as goal
 abbrev pub invariant-block-statements : goal.invariant-block-statements
 invariant-block-statements l = walked l.kind l.before l.best (nodes_of_block (drop l.inner-index l.body)) ≡ walked l.kind l.before l.initial.best (nodes_of_block l.body)
 
-abbrev pub invariant-branches-branches : goal.invariant-branches-branches
-invariant-branches-branches l = walked l.kind l.before l.best (nodes_of_whens l.compared (drop l.branch-index l.whens)) ≡ walked l.kind l.before l.initial.best (nodes_of_whens l.compared l.whens)
+abbrev pub invariant-when_clauses-clauses : goal.invariant-when_clauses-clauses
+invariant-when_clauses-clauses l = walked l.kind l.before l.best (nodes_of_whens l.compared (drop l.when-index l.whens)) ≡ walked l.kind l.before l.initial.best (nodes_of_whens l.compared l.whens)

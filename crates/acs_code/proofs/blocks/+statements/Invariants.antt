@@ -7,11 +7,11 @@ use Rattle.acs_code.specs.Upward.{Does}
 use Rattle.acs_code.specs.declared.instr.Instr.{Instr}
 use Rattle.acs_code.proofs.blocks.+statements.Given as goal
 
-abbrev pub invariant-branches-loop-left : goal.invariant-branches-loop-left
-invariant-branches-loop-left l = (l.left ≤ length l.arms) × ((other : Action) (rest : List Instr) → l.end ≡ length rest → Does l.kind (filters_of l.lists) other rest l.initial.code → Does l.kind (filters_of l.lists) (first_of l.subject (map (arm_of l.kind l.lists) (drop l.left l.arms)) other) rest l.code)
+abbrev pub invariant-when_clauses-loop-left : goal.invariant-when_clauses-loop-left
+invariant-when_clauses-loop-left l = (l.left ≤ length l.arms) × ((other : Action) (rest : List Instr) → l.end ≡ length rest → Does l.kind (filters_of l.lists) other rest l.initial.code → Does l.kind (filters_of l.lists) (first_of l.subject (map (arm_of l.kind l.lists) (drop l.left l.arms)) other) rest l.code)
 
-abbrev pub decreases-branches-loop-left : goal.decreases-branches-loop-left
-decreases-branches-loop-left l = l.left
+abbrev pub decreases-when_clauses-loop-left : goal.decreases-when_clauses-loop-left
+decreases-when_clauses-loop-left l = l.left
 
 abbrev pub invariant-block-loop-left : goal.invariant-block-loop-left
 invariant-block-loop-left l = (l.left ≤ length l.body) × Does l.kind (filters_of l.lists) (in_turn (map (meaning l.kind l.lists) (drop l.left l.body))) l.initial.code l.code

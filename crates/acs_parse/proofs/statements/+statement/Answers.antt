@@ -6,7 +6,7 @@ use Rattle.acs_parse.specs.declared.want.Want.TheVariants as want
 use Rattle.acs_parse.proofs.ShorterLemmas.{takes_shorter, stmt_shorter, choice_shorter, when_shorter}
 use Rattle.acs_parse.proofs.CondLemmas.{before_shorter}
 use Rattle.acs_parse.proofs.StatementLemmas.{block_turn, block_fails, inner_fails, item_is_statement, if_at, if_arms_fail}
-use Rattle.acs_parse.proofs.SelectLemmas.{branches_first, branches_turn, branches_fail, choice_by_value, choice_values_fail, when_of, when_test_fails, when_items_fail, when_body_fails, test_shorter}
+use Rattle.acs_parse.proofs.SelectLemmas.{when_clauses_first, when_clauses_turn, when_clauses_fail, choice_by_value, choice_values_fail, when_of, when_test_fails, when_items_fail, when_body_fails, test_shorter}
 use Rattle.acs_parse.proofs.statements.+statement.Goals as goal
 
 pub block-returns-in_err-next : goal.block-returns-in_err-next
@@ -20,16 +20,16 @@ block-items-smaller t c = omega (arith, stmt_shorter c.in_ok-next.ensures, ap le
 pub block-items-preserved : goal.block-items-preserved
 block-items-preserved t c = block_turn c.items.invariant c.items-test.ensures (item_is_statement false c.in_ok-next.ensures) c.in_ok-found.ensures
 
-pub branches-whens-init : goal.branches-whens-init
-branches-whens-init t c = branches_first c.in_ok-found.ensures c.new.ensures
+pub when_clauses-whens-init : goal.when_clauses-whens-init
+when_clauses-whens-init t c = when_clauses_first c.in_ok-found.ensures c.new.ensures
 
-pub branches-returns-in_err-found-2 : goal.branches-returns-in_err-found-2
-branches-returns-in_err-found-2 t c =
+pub when_clauses-returns-in_err-found-2 : goal.when_clauses-returns-in_err-found-2
+when_clauses-returns-in_err-found-2 t c =
     let p = err_from_is_err_and c.from_residual-in_err-found-2.result c.from_residual-in_err-found-2.ensures.1 in
-    rw (p.1, p.2) (branches_fail c.in_err-found-2.field-0.0 c.whens.invariant (sym c.whens-test.ensures) c.in_err-found-2.ensures)
+    rw (p.1, p.2) (when_clauses_fail c.in_err-found-2.field-0.0 c.whens.invariant (sym c.whens-test.ensures) c.in_err-found-2.ensures)
 
-pub branches-whens-preserved : goal.branches-whens-preserved
-branches-whens-preserved t c = branches_turn c.whens.invariant (sym c.whens-test.ensures) c.in_ok-found-2.ensures
+pub when_clauses-whens-preserved : goal.when_clauses-whens-preserved
+when_clauses-whens-preserved t c = when_clauses_turn c.whens.invariant (sym c.whens-test.ensures) c.in_ok-found-2.ensures
 
 pub choice-returns-in_err-whens-in-Some-Open-default : goal.choice-returns-in_err-whens-in-Some-Open-default
 choice-returns-in_err-whens-in-Some-Open-default t c =
@@ -42,11 +42,11 @@ choice-returns-in_ok-whens-in-Some-Open-default t c =
     let e : c.args.rest.now ≡ Open ∷ c.in-Some-Open-default.behind = grind (arith, common_steps) in
     choice_by_value e c.in_ok-subject-in-Some-Open-default.ensures c.in_ok-expect-in-Some-Open-default.ensures c.in_ok-whens-in-Some-Open-default.ensures
 
-pub arms-branch-alloc-requires : goal.arms-branch-alloc-requires
-arms-branch-alloc-requires t c = (omega (arith, stmt_shorter c.in_ok-yes.ensures), tt)
+pub arms-alternative-requires : goal.arms-alternative-requires
+arms-alternative-requires t c = (omega (arith, stmt_shorter c.in_ok-yes.ensures), tt)
 
-pub branches-whens-smaller : goal.branches-whens-smaller
-branches-whens-smaller t c = omega (arith, when_shorter c.in_ok-found-2.ensures.1)
+pub when_clauses-whens-smaller : goal.when_clauses-whens-smaller
+when_clauses-whens-smaller t c = omega (arith, when_shorter c.in_ok-found-2.ensures.1)
 
 pub conditional-returns-in_err-yes : goal.conditional-returns-in_err-yes
 conditional-returns-in_err-yes t c =
@@ -57,16 +57,16 @@ pub conditional-returns : goal.conditional-returns
 conditional-returns t c = if_at c.in_ok-cond.ensures c.in_ok-yes.ensures
 
 pub when_value-returns : goal.when_value-returns
-when_value-returns t c = when_of c.args.found c.place-at.ensures c.in_ok-expect.ensures (c.in_ok-test.ensures c.args.depth) c.in_ok-body.ensures c.in_ok-with_branch.ensures
+when_value-returns t c = when_of c.args.found c.place-at.ensures c.in_ok-expect.ensures (c.in_ok-test.ensures c.args.depth) c.in_ok-body.ensures c.in_ok-with_when_parts.ensures
 
 pub when_condition-returns : goal.when_condition-returns
-when_condition-returns t c = when_of c.args.found c.place-at.ensures c.in_ok-expect.ensures c.in_ok-test.ensures c.in_ok-body.ensures c.in_ok-with_branch.ensures
+when_condition-returns t c = when_of c.args.found c.place-at.ensures c.in_ok-expect.ensures c.in_ok-test.ensures c.in_ok-body.ensures c.in_ok-with_when_parts.ensures
 
 pub conditional-arms-requires : goal.conditional-arms-requires
 conditional-arms-requires t c = (omega (arith, before_shorter want.Then c.in_ok-cond.ensures), tt)
 
-pub selection-branch-alloc-requires : goal.selection-branch-alloc-requires
-selection-branch-alloc-requires t c = (omega (arith, choice_shorter c.in_ok-subject.ensures), tt)
+pub selection-alternative-requires : goal.selection-alternative-requires
+selection-alternative-requires t c = (omega (arith, choice_shorter c.in_ok-subject.ensures), tt)
 
 pub when_value-returns-in_err-test : goal.when_value-returns-in_err-test
 when_value-returns-in_err-test t c =

@@ -1,10 +1,10 @@
 use Rattle.std.proofs.Common.{◌≡◌, drop}
 use Rattle.toml.specs.View.{table_view}
-use Rattle.sms_deck.specs.Assigned.{assigned_by, assigned_in_branches, first_unknown}
+use Rattle.sms_deck.specs.Assigned.{assigned_by, assigned_in_whens, first_unknown}
 use Rattle.sms_deck.proofs.assigned.+walk.Given as goal
 
 abbrev pub invariant-unknown_in_body-statements : goal.invariant-unknown_in_body-statements
 invariant-unknown_in_body-statements l = first_unknown (table_view l.constructs) (assigned_by (drop l.inner-index l.body)) ≡ first_unknown (table_view l.constructs) (assigned_by l.body)
 
-abbrev pub invariant-unknown_in_branches-branches : goal.invariant-unknown_in_branches-branches
-invariant-unknown_in_branches-branches l = first_unknown (table_view l.constructs) (assigned_in_branches (drop l.branch-index l.whens)) ≡ first_unknown (table_view l.constructs) (assigned_in_branches l.whens)
+abbrev pub invariant-unknown_in_whens-clauses : goal.invariant-unknown_in_whens-clauses
+invariant-unknown_in_whens-clauses l = first_unknown (table_view l.constructs) (assigned_in_whens (drop l.when-index l.whens)) ≡ first_unknown (table_view l.constructs) (assigned_in_whens l.whens)
