@@ -136,31 +136,22 @@ fn shown(alloc: Global, line: &[u8], admin: bool) -> Result<Vec<u8>, AllocError>
     }
 }
 
-fn compare(
-    rt: &impl Abort,
-    alloc: Global,
-    admin: bool,
-    line: &str,
-    wanted: &str,
-) -> Result<(), Fail> {
-    let found = shown(alloc, line.as_bytes(), admin)?;
-    assert!(rt; found.as_slice() == wanted.as_bytes(), "{line}");
+/// Whether the line is read as that op in words, or none.
+fn is_shown(alloc: Global, admin: bool, line: &str, wanted: &str) -> Result<bool, Fail> {
+    Ok(shown(alloc, line.as_bytes(), admin)?.as_slice() == wanted.as_bytes())
+}
+
+fn compare_rows(rt: &impl Abort, alloc: Global, admin: bool, rows: &[Row]) -> Result<(), Fail> {
+    for (line, wanted) in rows {
+        assert!(rt; is_shown(alloc, admin, line, wanted)?, "{line}");
+    }
     Ok(())
 }
 
-/// The lines of the rows are commands, the others are none.
-fn compare_all(
-    rt: &impl Abort,
-    alloc: Global,
-    admin: bool,
-    rows: &[Row],
-    others: &[&str],
-) -> Result<(), Fail> {
-    for (line, wanted) in rows {
-        compare(rt, alloc, admin, line, wanted)?;
-    }
-    for line in others {
-        compare(rt, alloc, admin, line, "")?;
+/// The lines are no commands.
+fn compare_others(rt: &impl Abort, alloc: Global, admin: bool, lines: &[&str]) -> Result<(), Fail> {
+    for line in lines {
+        assert!(rt; is_shown(alloc, admin, line, "")?, "{line}");
     }
     Ok(())
 }
@@ -169,7 +160,7 @@ fn compare_operands(rt: &impl Abort, alloc: Global) -> Result<(), Fail> {
     for (operands, words) in &OPERANDS {
         let line = format!(in alloc; "ALLOC A.B {operands}")?;
         let wanted = format!(in alloc; "ALLOC A.B {words}")?;
-        compare(rt, alloc, false, &line, wanted.trim_end())?;
+        assert!(rt; is_shown(alloc, false, &line, wanted.trim_end())?, "{line}");
     }
     for operands in &NO_OPERANDS {
         assert!(rt; !are_read(alloc, operands)?, "{operands}");
@@ -185,8 +176,10 @@ fn are_read(alloc: Global, operands: &str) -> Result<bool, AllocError> {
 
 #[test]
 fn each_form_is_read_exactly(rt: HostRuntime) -> Result<(), Fail> {
-    compare_all(&rt, rt.alloc(), false, &OF_JOBS, &NOT_OF_JOBS)?;
-    compare_all(&rt, rt.alloc(), true, &OF_ADMIN, &NOT_OF_ADMIN)?;
+    compare_rows(&rt, rt.alloc(), false, &OF_JOBS)?;
+    compare_others(&rt, rt.alloc(), false, &NOT_OF_JOBS)?;
+    compare_rows(&rt, rt.alloc(), true, &OF_ADMIN)?;
+    compare_others(&rt, rt.alloc(), true, &NOT_OF_ADMIN)?;
     compare_operands(&rt, rt.alloc())
 }
 

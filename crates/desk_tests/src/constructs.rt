@@ -92,21 +92,27 @@ fn ops_are_equal_where_all_their_fields_are(rt: HostRuntime) -> Result<(), Fail>
 /// Two ops that are not equal.
 #[rattlefmt::skip]
 fn two_ops(dsn: Dsn, job: Name, floor: RequestNumber, other: RequestNumber, at: u32) -> (Op, Op) {
-    let (group, set) = (Target::Group(job), Target::Set(dsn));
-    let (quiesce, enable) = (Action::Quiesce, Action::Enable);
     match at {
         0 => (Op::Extend(dsn), Op::Delete(dsn)),
         1 => (Op::Delete(dsn), Op::Release(dsn)),
         2 => (Op::Used { dsn, tracks: 1 }, Op::Used { dsn, tracks: 2 }),
         3 => (Op::Release(dsn), Op::Extend(dsn)),
-        4 => (Op::Display(group), Op::Display(set)),
-        5 => (Op::Vary { target: group, action: quiesce },
-            Op::Vary { target: set, action: quiesce }),
-        6 => (Op::Vary { target: group, action: quiesce },
-            Op::Vary { target: group, action: enable }),
-        7 => (Op::Purge { job, floor }, Op::Vary { target: group, action: enable }),
+        4 => (Op::Display(Target::Group(job)), Op::Display(Target::Set(dsn))),
+        5 => (vary_group(job, Action::Quiesce), vary_set(dsn, Action::Quiesce)),
+        6 => (vary_group(job, Action::Quiesce), vary_group(job, Action::Enable)),
+        7 => (Op::Purge { job, floor }, vary_group(job, Action::Enable)),
         _ => (Op::Purge { job, floor }, Op::Purge { job, floor: other }),
     }
+}
+
+fn vary_group(group: Name, action: Action) -> Op {
+    let target = Target::Group(group);
+    Op::Vary { target, action }
+}
+
+fn vary_set(dsn: Dsn, action: Action) -> Op {
+    let target = Target::Set(dsn);
+    Op::Vary { target, action }
 }
 
 #[test]
@@ -143,10 +149,8 @@ fn tracks_are_rounded_up_to_kilobytes(rt: HostRuntime) -> Result<(), Fail> {
     }
     for (unit, primary, secondary, size, most) in &SIZES {
         let space = Space::new(*unit, *primary, *secondary).ok_or("space")?;
-        assert!(rt;
-            space.kilobytes() == *size && space.most_kilobytes() == *most,
-            "{size}"
-        );
+        let holds = space.kilobytes() == *size && space.most_kilobytes() == *most;
+        assert!(rt; holds, "{size}");
     }
     Ok(())
 }
@@ -181,10 +185,8 @@ fn types_keep_their_ranges_and_are_small(rt: HostRuntime) {
         assert!(rt; VolumeCount::new(*count).is_some() == *lawful, "{count}");
     }
     for (number, lawful) in &NUMBERS {
-        assert!(rt;
-            RequestNumber::new(*number).is_some() == *lawful,
-            "{number}"
-        );
+        let holds = RequestNumber::new(*number).is_some() == *lawful;
+        assert!(rt; holds, "{number}");
     }
     for (action, status) in &ACTIONS {
         assert!(rt; action.status() == *status, "{status:?}");

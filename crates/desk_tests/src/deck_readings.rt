@@ -130,7 +130,7 @@ type VolumeRow = (&'static str, &'static str, Status, u32);
 /// A data class's name, its space and its number of volumes.
 type DataRow = (&'static str, Option<(Unit, u32, u32)>, Option<u8>);
 
-/// A management class's name, after how many days its data sets expire, and whether space is released.
+/// A management class's name, the days after which data sets expire, and whether space is released.
 type ManagementRow = (&'static str, Option<u32>, bool);
 
 /// What the configuration of a deck is to tell.
@@ -163,7 +163,8 @@ static READINGS: [Readings; 2] = [
             ("SGTEST", Enable, 85, 1, false)],
         volumes: &[("PRD001", "SGPROD", Enable, 50_085), ("SPL001", "SGSPILL", Enable, 150_255),
             ("TST001", "SGTEST", Enable, 50_085)],
-        data_classes: &[("DCTEXT", Some((Trk, 15, 15)), None), ("DCBIG", Some((Cyl, 100, 50)), None)],
+        data_classes: &[("DCTEXT", Some((Trk, 15, 15)), None),
+            ("DCBIG", Some((Cyl, 100, 50)), None)],
         management_classes: &[("MCTEMP", Some(2), true), ("MCPROD", None, false)],
         constructs: &[(DataClas, "DCTEXT"), (StorClas, "SCSTD"), (StorClas, "SCFAST"),
             (MgmtClas, "MCPROD"), (StorGrp, "SGSPILL")],

@@ -4,7 +4,6 @@ use ScriptErr::{BadLine, OpenBlock};
 use desk_calls::RunStatus;
 use sms_script::ScriptErr;
 use std::alloc::Global;
-use std::process::Abort;
 use std::test::Fail;
 
 static WITHOUT_COMMANDS: [&str; 5] = ["", "\n", "* NOTE", "* NOTE\r\n\r\n   \r\n*\r\n", "      "];
@@ -28,29 +27,20 @@ static FAULTY: [(&str, ScriptErr); 10] = [
     ("JOB1 1 ALLOC ABCDEFGH.ABCDEFGH.ABCDEFGH.ABCDEFGH.ABCDEFG.A SPACE=(TRK,1)", BadLine(1)),
 ];
 
-fn compare_fault(
-    rt: &impl Abort,
-    alloc: Global,
-    script: &str,
-    fault: ScriptErr,
-) -> Result<(), Fail> {
+/// Whether the script has the fault, and nothing is written.
+fn is_faulty(alloc: Global, script: &str, fault: ScriptErr) -> Result<bool, Fail> {
     let Outcome { status, text } = run(alloc, script.as_bytes())?;
-    assert!(rt; status == RunStatus::Script(fault), "{script}");
-    assert!(rt; status.code() == 5);
-    assert!(rt; text.is_empty());
-    Ok(())
+    Ok(status == RunStatus::Script(fault) && status.code() == 5 && text.is_empty())
 }
 
 #[test]
 fn scripts_are_empty_or_have_the_fault_of_the_smallest_line(rt: HostRuntime) -> Result<(), Fail> {
     for script in &WITHOUT_COMMANDS {
-        assert!(rt;
-            answers(rt.alloc(), script.as_bytes(), b"END 0 0\n")?,
-            "{script}"
-        );
+        let holds = answers(rt.alloc(), script.as_bytes(), b"END 0 0\n")?;
+        assert!(rt; holds, "{script}");
     }
     for (script, fault) in &FAULTY {
-        compare_fault(&rt, rt.alloc(), script, *fault)?;
+        assert!(rt; is_faulty(rt.alloc(), script, *fault)?, "{script}");
     }
     Ok(())
 }
@@ -68,10 +58,8 @@ static ENDS: [(&str, &str); 4] = [
 fn numbers_and_names_are_taken_up_to_their_ends(rt: HostRuntime) -> Result<(), Fail> {
     for (line, who) in &ENDS {
         let wanted = format!(in rt.alloc(); "1 1 1 {who} R12 NO CONFIGURATION\nEND 1 1\n")?;
-        assert!(rt;
-            answers(rt.alloc(), line.as_bytes(), wanted.as_bytes())?,
-            "{line}"
-        );
+        let holds = answers(rt.alloc(), line.as_bytes(), wanted.as_bytes())?;
+        assert!(rt; holds, "{line}");
     }
     Ok(())
 }
@@ -106,21 +94,20 @@ const ACTIVATED: &[u8] = b"1 1 1 SMSADMIN 1 A04 ACTIVATED 1\n";
 
 const GRANTED: &[u8] = b"JOB1 1 A00 GRANTED\n  CLASS - SC1 - SG1\n  EXTENT VOL001 0 10\nEND 2 2\n";
 
-fn compare_writing(rt: &impl Abort, alloc: Global, deck: &str) -> Result<(), Fail> {
+/// Whether the deck is activated, and an ALLOC is granted its first tracks.
+fn is_same(alloc: Global, deck: &str) -> Result<bool, Fail> {
     let script = format!(in alloc;
         "SMSADMIN 1 ACTIVATE\n{deck}\n./END\nJOB1 1 ALLOC PAY.MASTER SPACE=(TRK,(10,5))\n"
     )?;
     let Outcome { status, text } = run(alloc, script.as_bytes())?;
-    assert!(rt; status == RunStatus::Done);
-    assert!(rt; text.starts_with(ACTIVATED), "{deck}");
-    assert!(rt; text.ends_with(GRANTED), "{deck}");
-    Ok(())
+    let is_done = status == RunStatus::Done;
+    Ok(is_done && text.starts_with(ACTIVATED) && text.ends_with(GRANTED))
 }
 
 #[test]
 fn each_writing_of_the_deck_means_the_same(rt: HostRuntime) -> Result<(), Fail> {
     for deck in &WRITINGS {
-        compare_writing(&rt, rt.alloc(), deck)?;
+        assert!(rt; is_same(rt.alloc(), deck)?, "{deck}");
     }
     Ok(())
 }

@@ -187,10 +187,8 @@ fn a_data_set_is_put_replaced_and_dropped(rt: HostRuntime) -> Result<(), Fail> {
     for (step, wanted) in &SETS {
         number = number.wrapping_add(1);
         assert!(rt; make(alloc, &mut keeper, number, *step)?, "change {number}");
-        assert!(rt;
-            used(alloc, &keeper.rows()?)?.as_str() == *wanted,
-            "change {number}"
-        );
+        let holds = used(alloc, &keeper.rows()?)?.as_str() == *wanted;
+        assert!(rt; holds, "change {number}");
     }
     Ok(())
 }
@@ -218,10 +216,8 @@ fn an_activation_leaves_its_deck_and_its_statuses(rt: HostRuntime) -> Result<(),
     for (step, wanted) in &ACTIVATIONS {
         number = number.wrapping_add(1);
         assert!(rt; make(alloc, &mut keeper, number, *step)?, "change {number}");
-        assert!(rt;
-            statuses(alloc, &keeper.rows()?)?.as_str() == *wanted,
-            "change {number}"
-        );
+        let holds = statuses(alloc, &keeper.rows()?)?.as_str() == *wanted;
+        assert!(rt; holds, "change {number}");
     }
     Ok(())
 }
@@ -246,19 +242,13 @@ fn a_floor_drops_the_replies_of_its_job_below_it(rt: HostRuntime) -> Result<(), 
     let alloc = rt.alloc();
     let mut keeper = MemKeeper::new(alloc);
     for (number, step, kept, floored) in &FLOORS {
-        assert!(rt;
-            make(alloc, &mut keeper, *number, *step)?,
-            "request {number}"
-        );
+        let holds = make(alloc, &mut keeper, *number, *step)?;
+        assert!(rt; holds, "request {number}");
         let rows = keeper.rows()?;
-        assert!(rt;
-            replies(alloc, &rows)?.as_str() == *kept,
-            "request {number}"
-        );
-        assert!(rt;
-            floors(alloc, &rows)?.as_str() == *floored,
-            "request {number}"
-        );
+        let holds = replies(alloc, &rows)?.as_str() == *kept;
+        assert!(rt; holds, "request {number}");
+        let holds = floors(alloc, &rows)?.as_str() == *floored;
+        assert!(rt; holds, "request {number}");
     }
     assert!(rt; keeper.faults() == 0);
     Ok(())
@@ -278,15 +268,11 @@ static FAULTS: [(u32, Step, bool, u64, &str); 7] = [
 
 fn compare_faults(rt: &impl Abort, alloc: Global, keeper: &mut FaultKeeper) -> Result<(), Fail> {
     for (number, step, made, faults, kept) in &FAULTS {
-        assert!(rt;
-            make(alloc, keeper, *number, *step)? == *made,
-            "commit {number}"
-        );
+        let holds = make(alloc, keeper, *number, *step)? == *made;
+        assert!(rt; holds, "commit {number}");
         assert!(rt; keeper.faults() == *faults, "commit {number}");
-        assert!(rt;
-            replies(alloc, &keeper.rows()?)?.as_str() == *kept,
-            "commit {number}"
-        );
+        let holds = replies(alloc, &keeper.rows()?)?.as_str() == *kept;
+        assert!(rt; holds, "commit {number}");
     }
     Ok(())
 }

@@ -108,14 +108,10 @@ fn a_log_finds_each_of_many_replies(rt: HostRuntime) -> Result<(), Fail> {
     }
     enter(alloc, &mut log, ("JOB1", 3000, None))?;
     for number in 1..3000 {
-        assert!(rt;
-            is_found(alloc, &log, ("JOB1", number, "A"), "below 3000")?,
-            "{number}"
-        );
-        assert!(rt;
-            is_found(alloc, &log, ("JOB2", number, "A"), "same 2")?,
-            "{number}"
-        );
+        let holds = is_found(alloc, &log, ("JOB1", number, "A"), "below 3000")?;
+        assert!(rt; holds, "{number}");
+        let holds = is_found(alloc, &log, ("JOB2", number, "A"), "same 2")?;
+        assert!(rt; holds, "{number}");
     }
     assert!(rt; is_found(alloc, &log, ("JOB1", 3000, "A"), "same 1")?);
     assert!(rt; is_found(alloc, &log, ("JOB2", 3000, "A"), "same 2")?);

@@ -62,8 +62,8 @@ static THRESHOLDS: [(u8, u32, u32, u32, Listing); 16] = [
     (99, u32::MAX, 0, 4_252_017_622, Primary), (99, u32::MAX, 0, 4_252_017_623, Secondary),
 ];
 
-// Whether a volume is in an overflow group, whether it has room, how many volumes its group has, how
-// many are asked for, and the volume's list.
+// Whether a volume is in an overflow group, whether it has room, how many volumes its group has,
+// how many are asked for, and the volume's list.
 #[rattlefmt::skip]
 static ROOMS: [(bool, bool, u32, u8, Listing); 8] = [
     (true, true, 2, 2, Secondary),
@@ -80,10 +80,8 @@ static ROOMS: [(bool, bool, u32, u8, Listing); 8] = [
 fn a_volume_stands_in_the_list_of_the_first_test_that_decides(rt: HostRuntime) {
     for (group, status, volumes, wanted) in &STATUSES {
         let view = volume(*group, *status);
-        assert!(rt;
-            is_listed(view, 1, *volumes, *wanted),
-            "{group:?} {status:?}"
-        );
+        let holds = is_listed(view, 1, *volumes, *wanted);
+        assert!(rt; holds, "{group:?} {status:?}");
     }
     for (high, capacity, granted, need, wanted) in &THRESHOLDS {
         let (high, capacity, granted) = (*high, *capacity, *granted);
@@ -93,10 +91,8 @@ fn a_volume_stands_in_the_list_of_the_first_test_that_decides(rt: HostRuntime) {
             granted,
             ..view
         });
-        assert!(rt;
-            is_listed(view, *need, 1, *wanted),
-            "{high} {capacity} {granted} {need}"
-        );
+        let holds = is_listed(view, *need, 1, *wanted);
+        assert!(rt; holds, "{high} {capacity} {granted} {need}");
     }
     for (overflow, fits, group_volumes, volumes, wanted) in &ROOMS {
         let (overflow, fits, group_volumes) = (*overflow, *fits, *group_volumes);
@@ -106,10 +102,8 @@ fn a_volume_stands_in_the_list_of_the_first_test_that_decides(rt: HostRuntime) {
             group_volumes,
             ..view
         });
-        assert!(rt;
-            is_listed(view, 1, *volumes, *wanted),
-            "{overflow} {fits} {group_volumes}"
-        );
+        let holds = is_listed(view, 1, *volumes, *wanted);
+        assert!(rt; holds, "{overflow} {fits} {group_volumes}");
     }
 }
 

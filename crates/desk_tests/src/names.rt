@@ -100,10 +100,8 @@ fn qualifiers_are_counted_from_one_and_names_kept_in_order(rt: HostRuntime) {
     assert!(rt; dsn.count() == 3);
     assert!(rt; dsn.text().bytes() == b"PAY.MASTER.D1".as_slice());
     for (number, wanted) in &[(1, "PAY"), (2, "MASTER"), (3, "D1")] {
-        assert!(rt;
-            dsn.qualifier(*number) == Some(wanted.as_bytes()),
-            "{number}"
-        );
+        let holds = dsn.qualifier(*number) == Some(wanted.as_bytes());
+        assert!(rt; holds, "{number}");
     }
     for number in &[0, 4, usize::MAX] {
         assert!(rt; dsn.qualifier(*number).is_none(), "{number}");

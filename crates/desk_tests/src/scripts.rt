@@ -1,5 +1,8 @@
-//! Scripts as they are read.
+//! Scripts as they are read, their phases and their limits.
+use crate::running::{answers, run};
 use crate::shown::push_op;
+use ScriptErr::{BadLine, OpenBlock, TooManyLines};
+use desk_calls::RunStatus;
 use sms_script::{Item, Phase, Script, ScriptErr, read_script};
 use std::alloc::{AllocError, Global};
 use std::process::Abort;
@@ -164,6 +167,59 @@ fn a_command_line_has_at_most_4096_bytes_before_its_line_end(rt: HostRuntime) ->
         let blanks = " ".repeat(rt.alloc(), length.saturating_sub(front.len()))?;
         let text = format!(in rt.alloc(); "{front}{blanks}{line_end}")?;
         compare(&rt, rt.alloc(), &text, wanted)?;
+    }
+    Ok(())
+}
+
+#[rattlefmt::skip]
+static PHASES: [Row; 12] = [
+    ("SYNC", "|"),
+    (" sync \r\nSYNC\n", "||"),
+    ("SYNC\nJOB1 1 DELETE A", "|2 JOB1 1 DELETE A;"),
+    ("JOB1 1 DELETE A\nSYNC", "1 JOB1 1 DELETE A;|"),
+    ("JOB1 1 DELETE A\nJOB2 1 DELETE B\nSYNC\n* NOTE\nJOB1 2 DELETE C",
+        "1 JOB1 1 DELETE A;2 JOB2 1 DELETE B;|5 JOB1 2 DELETE C;"),
+    ("JOB1 1 DELETE A\nSYNC\nSYNC\nJOB1 2 DELETE C\n", "1 JOB1 1 DELETE A;||4 JOB1 2 DELETE C;"),
+    ("SMSADMIN 1 ACTIVATE\nSYNC\n./END\nSYNC", "1 SMSADMIN 1 ACTIVATE SYNC\n;|"),
+    ("SYNC NOW", "S1 1"),
+    ("JOB1 SYNC", "S1 1"),
+    ("JOB1 NONSENSE\nSMSADMIN 1 ACTIVATE\n", "S1 1"),
+    ("SMSADMIN 1 ACTIVATE\nJOB1 NONSENSE\n", "S2 1"),
+    ("SYNC\n\nJOB1 0 DELETE A.B\nSYNC NOW", "S1 3"),
+];
+
+#[test]
+fn sync_parts_the_phases_which_are_answered_one_after_the_other(
+    rt: HostRuntime,
+) -> Result<(), Fail> {
+    compare_all(&rt, rt.alloc(), &PHASES)?;
+    assert!(rt; answers(rt.alloc(), b"SYNC\n* NOTE\n", b"END 0 0\n")?);
+    let script =
+        b"JOB1 1 ALLOC A.B SPACE=(TRK,1)\nSYNC\nSYNC\nJOB1 1 ALLOC A.B SPACE=(TRK,1)\nSYNC\n";
+    let wanted = b"1 1 1 JOB1 1 R12 NO CONFIGURATION\n4 2 1 JOB1 1 R12 NO CONFIGURATION\nEND 2 2\n";
+    assert!(rt; answers(rt.alloc(), script, wanted)?);
+    Ok(())
+}
+
+/// How often SYNC stands, what stands behind it, and how the run ends.
+#[rattlefmt::skip]
+static COMMAND_LIMITS: [(usize, &str, RunStatus); 7] = [
+    (99_999, "\nSYNC\n* NOTE\n", RunStatus::Done),
+    (100_000, "\n* NOTE\n", RunStatus::Done),
+    (100_000, "\nSYNC\n", RunStatus::Script(TooManyLines(100_002))),
+    (100_000, "JOB1 1 DELETE A", RunStatus::Script(TooManyLines(100_001))),
+    (100_000, "JOB1 0 DELETE A", RunStatus::Script(BadLine(100_001))),
+    (100_000, "SMSADMIN 1 ACTIVATE\n./END", RunStatus::Script(TooManyLines(100_001))),
+    (100_000, "SMSADMIN 1 ACTIVATE\n", RunStatus::Script(OpenBlock(100_001))),
+];
+
+#[test]
+fn a_script_has_at_most_100000_commands(rt: HostRuntime) -> Result<(), Fail> {
+    for (count, last, wanted) in &COMMAND_LIMITS {
+        let mut text = "SYNC\n".repeat(rt.alloc(), *count)?;
+        text.push_str(last)?;
+        let ended = run(rt.alloc(), text.as_bytes())?.status;
+        assert!(rt; ended == *wanted, "{last}");
     }
     Ok(())
 }

@@ -86,10 +86,8 @@ fn compare_failing(
     assert!(rt; answers.len() == 7);
     for (at, answer) in answers.as_slice().iter().enumerate() {
         let fails = at as u64 + 1 == failing;
-        assert!(rt;
-            matches!(&answer.reply, Reply::KeeperFault) == fails,
-            "{failing}"
-        );
+        let holds = matches!(&answer.reply, Reply::KeeperFault) == fails;
+        assert!(rt; holds, "{failing}");
     }
     assert!(rt; core.keeper().faults() == 1);
     Ok(())

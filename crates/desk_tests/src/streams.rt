@@ -35,7 +35,7 @@ fn reads_all(alloc: Global, text: &[u8]) -> Result<bool, Fail> {
     Ok(true)
 }
 
-/// Whether reading the text up to a limit below its length, in pieces of several sizes, leaves this.
+/// Whether reading the text up to a limit below its length, in several sizes, leaves this.
 fn leaves(alloc: Global, limit: usize, wanted: &[u8]) -> Result<bool, Fail> {
     for piece in &[1, 7, 4096] {
         let mut source = MemSource::new(TEXT.to_vec(alloc)?, *piece, Vec::new(alloc));

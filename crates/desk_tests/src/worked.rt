@@ -58,8 +58,8 @@ fn each_refusal_is_repeated(rt: HostRuntime) -> Result<(), Fail> {
     compare_case(&rt, rt.alloc(), &decks, &rows)
 }
 
-/// An ALLOC that is one track past the threshold of two volumes, both of which are then secondary ones:
-/// it may be granted on either.
+/// An ALLOC that is one track past the threshold of two volumes, both of which are then secondary
+/// ones: it may be granted on either.
 #[rattlefmt::skip]
 static EITHER: [[Asked; 1]; 2] = [
     [("J 1", "ALLOC A.B SPACE=(TRK,86)", "A00 GRANTED; CLASS - SC1 - SG1; EXTENT VOL001 0 86")],
