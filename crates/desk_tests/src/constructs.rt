@@ -30,7 +30,7 @@ fn account() -> Result<Account, Fail> {
 
 /// An ALLOC of A.B for one track that has a part more or another.
 fn allocation(alloc: Global, part: Part) -> Result<Op, Fail> {
-    let mut input = Input::new(Dsn::parse(b"A.B").map_err(|_| "dsn")?);
+    let mut input = Input::new(Dsn::parse(b"A.B").ok().ok_or("dsn")?);
     let mut space = Space::new(Unit::Trk, 1, 1).ok_or("space")?;
     let mut dataclas = None;
     let mut volumes = None;
@@ -117,7 +117,7 @@ fn vary_set(dsn: Dsn, action: Action) -> Op {
 
 #[test]
 fn each_op_is_equal_to_its_copy_and_to_no_other(rt: HostRuntime) -> Result<(), Fail> {
-    let dsn = Dsn::parse(b"A.B").map_err(|_| "dsn")?;
+    let dsn = Dsn::parse(b"A.B").ok().ok_or("dsn")?;
     let job = Name::new(b"PAYROLL").ok_or("job")?;
     let one = RequestNumber::new(1).ok_or("number")?;
     let two = RequestNumber::new(2).ok_or("number")?;
@@ -234,7 +234,7 @@ fn a_path_is_cut_to_eighty_bytes(rt: HostRuntime) {
 
 #[test]
 fn the_input_of_a_run_has_the_job_and_the_system(rt: HostRuntime) -> Result<(), Fail> {
-    let input = Input::new(Dsn::parse(b"A.B").map_err(|_| "dsn")?);
+    let input = Input::new(Dsn::parse(b"A.B").ok().ok_or("dsn")?);
     let job = Name::new(b"PAYROLL").ok_or("job")?;
     let under = input.under(&job, Name::new(b"SYSA"), None);
     assert!(rt; under.origin.job.bytes() == b"PAYROLL".as_slice());

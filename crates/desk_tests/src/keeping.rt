@@ -41,7 +41,7 @@ fn name(text: &str) -> Result<Name, Fail> {
 }
 
 fn dsn(text: &str) -> Result<Dsn, Fail> {
-    Ok(Dsn::parse(text.as_bytes()).map_err(|_| "dsn")?)
+    Ok(Dsn::parse(text.as_bytes()).ok().ok_or("dsn")?)
 }
 
 fn group(text: &str) -> Result<Target, Fail> {
@@ -70,11 +70,13 @@ fn data_set(alloc: Global, text: &str, used: u32) -> Result<Effect, Fail> {
     Ok(Effect::PutSet(Shared::new(alloc, set)?))
 }
 
-fn activated(alloc: Global, count: u64, targets: [Target; 2]) -> Result<Effect, Fail> {
-    let rows = targets.map(|target| StatusRow {
-        target,
-        status: Status::Enable,
-    });
+fn enabled(target: Target) -> StatusRow {
+    let status = Status::Enable;
+    StatusRow { target, status }
+}
+
+fn activated(alloc: Global, count: u64, name: &str, volser: &str) -> Result<Effect, Fail> {
+    let rows = [enabled(group(name)?), enabled(volume(volser)?)];
     let statuses = Items::from_slice(alloc, &rows)?;
     Ok(Effect::Activated { count, statuses })
 }
@@ -89,9 +91,7 @@ fn effect(alloc: Global, step: Step) -> Result<Effect, Fail> {
         Keep => Ok(Effect::Nothing),
         Put(name, used) => data_set(alloc, name, used),
         Drop(name) => Ok(Effect::DropSet(dsn(name)?)),
-        Activate(count, name, volser) => {
-            activated(alloc, count, [group(name)?, volume(volser)?])
-        }
+        Activate(count, name, volser) => activated(alloc, count, name, volser),
         DisableVolume(volser) => Ok(disabled(volume(volser)?)),
         DisableGroup(name) => Ok(disabled(group(name)?)),
         Purge(job, floor) => Ok(Effect::Floor {

@@ -45,7 +45,7 @@ fn need_of(unit: Unit, tracks: u32, held: u8) -> Option<Need>
 }
 
 fn owner(name: &str) -> Result<Dsn, Fail> {
-    Ok(Dsn::parse(name.as_bytes()).map_err(|_| "name")?)
+    Ok(Dsn::parse(name.as_bytes()).ok().ok_or("name")?)
 }
 
 fn granted(

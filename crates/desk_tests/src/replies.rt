@@ -33,7 +33,7 @@ const EXTENTS: &str = "\n  EXTENT VOL001 0 10\n  EXTENT VOL001 25 4294967295";
 
 fn data_set(alloc: Global, management: Option<Name>) -> Result<Shared<DataSet>, Fail> {
     let set = DataSet {
-        dsn: Dsn::parse(b"PAY.MASTER").map_err(|_| "dsn")?,
+        dsn: Dsn::parse(b"PAY.MASTER").ok().ok_or("dsn")?,
         dataclas: None,
         storclas: name(b"SC1")?,
         mgmtclas: management,
@@ -83,7 +83,9 @@ const COUNTS: &str = "\n  MORE STORCLAS 4294967295\n  MORE STORGRP 1";
 
 /// The text of one item, the second line of its script, with this reply.
 fn printed(alloc: Global, reply: Reply) -> Result<Vec<u8>, Fail> {
-    let script = read(alloc, b"\nJOB1 7 ALLOC A.B SPACE=(TRK,10)").map_err(|_| "script")?;
+    let script = read(alloc, b"\nJOB1 7 ALLOC A.B SPACE=(TRK,10)")
+        .ok()
+        .ok_or("script")?;
     let mut answers = Vec::new(alloc);
     answers.push(Answer {
         place: 30,
@@ -284,7 +286,7 @@ fn the_lines_of_an_answer_are_its_reply_and_what_stands_behind(
 /// The text of the answers to a script of two lines, an activation and an ALLOC.
 fn two_printed(alloc: Global) -> Result<Vec<u8>, Fail> {
     let text = b"SMSADMIN 1 ACTIVATE\nversion = 1\n./END\nJOB1 1 ALLOC A.B SPACE=(TRK,10)\n";
-    let script = read(alloc, text).map_err(|_| "script")?;
+    let script = read(alloc, text).ok().ok_or("script")?;
     let [phase] = script.as_slice() else {
         return Err(Fail::from("phases"));
     };

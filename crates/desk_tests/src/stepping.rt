@@ -21,7 +21,7 @@ const PURGED: &[u8] =
 
 // The script that a short text writes.
 fn script(alloc: Global, text: &[u8]) -> Result<Script, Fail> {
-    Ok(read(alloc, text).map_err(|_| "script")?)
+    Ok(read(alloc, text).ok().ok_or("script")?)
 }
 
 #[test]
