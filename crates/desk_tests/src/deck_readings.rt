@@ -1,5 +1,5 @@
 //! What a configuration tells.
-use crate::deck_faults::{read, told};
+use crate::deck_faults::{is_told, read};
 use Status::{DisAll, DisNew, Enable, NotCon, QuiAll, QuiNew};
 use Unit::{Cyl, Trk};
 use acs_tree::Kind::{self, DataClas, MgmtClas, StorClas, StorGrp};
@@ -130,11 +130,10 @@ type VolumeRow = (&'static str, &'static str, Status, u32);
 /// A data class's name, its space and its number of volumes.
 type DataRow = (&'static str, Option<(Unit, u32, u32)>, Option<u8>);
 
-/// A management class's name, after how many days its data sets expire, and whether space is released.
+/// A management class's name, the days after which data sets expire, and whether space is released.
 type ManagementRow = (&'static str, Option<u32>, bool);
 
 /// What the configuration of a deck is to tell.
-#[derive(Clone, Copy)]
 struct Readings {
     deck: &'static str,
     told: &'static str,
@@ -153,41 +152,24 @@ struct Readings {
     routines: &'static [Kind],
 }
 
-const READINGS: [Readings; 2] = [
+#[rattlefmt::skip]
+static READINGS: [Readings; 2] = [
     Readings {
         deck: ORDINARY,
         told: "VALID 3 3",
         system: "SYSA",
         sysplex: "PLEX1",
-        groups: &[
-            ("SGPROD", Enable, 85, 1, false),
-            ("SGSPILL", Enable, 85, 1, true),
-            ("SGTEST", Enable, 85, 1, false),
-        ],
-        volumes: &[
-            ("PRD001", "SGPROD", Enable, 50_085),
-            ("SPL001", "SGSPILL", Enable, 150_255),
-            ("TST001", "SGTEST", Enable, 50_085),
-        ],
-        data_classes: &[
-            ("DCTEXT", Some((Trk, 15, 15)), None),
-            ("DCBIG", Some((Cyl, 100, 50)), None),
-        ],
+        groups: &[("SGPROD", Enable, 85, 1, false), ("SGSPILL", Enable, 85, 1, true),
+            ("SGTEST", Enable, 85, 1, false)],
+        volumes: &[("PRD001", "SGPROD", Enable, 50_085), ("SPL001", "SGSPILL", Enable, 150_255),
+            ("TST001", "SGTEST", Enable, 50_085)],
+        data_classes: &[("DCTEXT", Some((Trk, 15, 15)), None),
+            ("DCBIG", Some((Cyl, 100, 50)), None)],
         management_classes: &[("MCTEMP", Some(2), true), ("MCPROD", None, false)],
-        constructs: &[
-            (DataClas, "DCTEXT"),
-            (StorClas, "SCSTD"),
-            (StorClas, "SCFAST"),
-            (MgmtClas, "MCPROD"),
-            (StorGrp, "SGSPILL"),
-        ],
-        others: &[
-            (StorClas, "DCTEXT"),
-            (DataClas, "SCSTD"),
-            (MgmtClas, "SGPROD"),
-            (StorGrp, "MCPROD"),
-            (StorGrp, ""),
-        ],
+        constructs: &[(DataClas, "DCTEXT"), (StorClas, "SCSTD"), (StorClas, "SCFAST"),
+            (MgmtClas, "MCPROD"), (StorGrp, "SGSPILL")],
+        others: &[(StorClas, "DCTEXT"), (DataClas, "SCSTD"), (MgmtClas, "SGPROD"),
+            (StorGrp, "MCPROD"), (StorGrp, "")],
         routines: &[DataClas, StorClas, MgmtClas, StorGrp],
     },
     Readings {
@@ -195,22 +177,12 @@ const READINGS: [Readings; 2] = [
         told: "VALID 3 4",
         system: "",
         sysplex: "",
-        groups: &[
-            ("G0", Enable, 50, 1, false),
-            ("G1", DisAll, 100, 0, false),
-            ("G2", NotCon, 50, 50, true),
-        ],
-        volumes: &[
-            ("V1", "G1", DisAll, 1),
-            ("V2", "G2", DisNew, 982_800),
-            ("V3", "G1", QuiNew, 15),
-            ("V4", "G2", QuiAll, 982_800),
-        ],
-        data_classes: &[
-            ("D1", Some((Trk, 7, 0)), Some(59)),
-            ("D2", None, Some(1)),
-            ("D3", Some((Cyl, 16_777_215, 0)), None),
-        ],
+        groups: &[("G0", Enable, 50, 1, false), ("G1", DisAll, 100, 0, false),
+            ("G2", NotCon, 50, 50, true)],
+        volumes: &[("V1", "G1", DisAll, 1), ("V2", "G2", DisNew, 982_800), ("V3", "G1", QuiNew, 15),
+            ("V4", "G2", QuiAll, 982_800)],
+        data_classes: &[("D1", Some((Trk, 7, 0)), Some(59)), ("D2", None, Some(1)),
+            ("D3", Some((Cyl, 16_777_215, 0)), None)],
         management_classes: &[("M1", Some(9999), false), ("M2", Some(0), false)],
         constructs: &[(DataClas, "D3"), (MgmtClas, "M2"), (StorGrp, "G0")],
         others: &[(DataClas, "D4"), (StorClas, "D3"), (StorGrp, "V1")],
@@ -327,36 +299,30 @@ fn tells_routines(config: &Config, kinds: &[Kind]) -> bool {
     true
 }
 
-/// The first of a configuration's readings that isn't the one that is wanted.
+/// The first of a configuration's readings that isn't the one that is wanted; none where all are.
 fn first_wrong(config: &Config, wanted: &Readings) -> Result<&'static str, Fail> {
-    if config.deck() != wanted.deck.as_bytes() {
-        return Ok("deck");
-    }
-    if !is_name(config.system(), wanted.system) || !is_name(config.sysplex(), wanted.sysplex) {
-        return Ok("system");
-    }
-    if !tells_groups(config, wanted.groups) {
-        return Ok("groups");
-    }
-    if !tells_volumes(config, wanted.volumes) {
-        return Ok("volumes");
-    }
-    if !tells_data_classes(config, wanted.data_classes)? {
-        return Ok("data classes");
-    }
-    if !tells_management_classes(config, wanted.management_classes)? {
-        return Ok("management classes");
-    }
-    if !tells_constructs(config, wanted.constructs, true)? {
-        return Ok("constructs");
-    }
-    if !tells_constructs(config, wanted.others, false)? {
-        return Ok("others");
-    }
-    if !tells_routines(config, wanted.routines) {
-        return Ok("routines");
-    }
-    Ok("")
+    let is_named = is_name(config.system(), wanted.system);
+    Ok(if config.deck() != wanted.deck.as_bytes() {
+        "deck"
+    } else if !is_named || !is_name(config.sysplex(), wanted.sysplex) {
+        "system"
+    } else if !tells_groups(config, wanted.groups) {
+        "groups"
+    } else if !tells_volumes(config, wanted.volumes) {
+        "volumes"
+    } else if !tells_data_classes(config, wanted.data_classes)? {
+        "data classes"
+    } else if !tells_management_classes(config, wanted.management_classes)? {
+        "management classes"
+    } else if !tells_constructs(config, wanted.constructs, true)? {
+        "constructs"
+    } else if !tells_constructs(config, wanted.others, false)? {
+        "others"
+    } else if !tells_routines(config, wanted.routines) {
+        "routines"
+    } else {
+        ""
+    })
 }
 
 /// The first wrong reading of the deck's configuration.
@@ -369,11 +335,10 @@ fn wrong_reading(alloc: Global, wanted: &Readings) -> Result<&'static str, Fail>
 
 #[test]
 fn configurations_tell_what_their_decks_define(rt: HostRuntime) -> Result<(), Fail> {
-    let alloc = rt.alloc();
-    for wanted in READINGS {
-        let text = told(alloc, wanted.deck.as_bytes())?;
-        assert!(rt; text.as_slice() == wanted.told.as_bytes());
-        assert_eq!(rt; wrong_reading(alloc, &wanted)?, "");
+    for wanted in &READINGS {
+        assert!(rt; is_told(rt.alloc(), wanted.deck, wanted.told)?);
+        let wrong = wrong_reading(rt.alloc(), wanted)?;
+        assert!(rt; wrong.is_empty(), "{wrong}");
     }
     Ok(())
 }

@@ -1,215 +1,132 @@
-//! One deck and its allocations, from the bytes in to the bytes out.
-use crate::decks::{BEFORE_TRACKS, BEHIND_TRACKS, OTHER_WRITINGS};
-use crate::running::{Outcome, answers, answers_on_deck, run};
+//! Scripts from the bytes in to the bytes out, their faults, and the same deck in other writings.
+use crate::running::{Outcome, answers, run};
+use ScriptErr::{BadLine, OpenBlock};
 use desk_calls::RunStatus;
 use sms_script::ScriptErr;
+use std::alloc::Global;
 use std::test::Fail;
 
-#[test]
-fn whole_path(rt: HostRuntime) -> Result<(), Fail> {
-    let alloc = rt.alloc();
-    assert!(rt;
-        answers_on_deck(
-            alloc,
-            100,
-            "JOB1 1 ALLOC PAY.MASTER SPACE=(TRK,(10,5))\n",
-            "10 2 2 JOB1 1 A00 GRANTED\n  CLASS - SC1 - SG1\n  EXTENT VOL001 0 10\nEND 2 2\n"
-        )?
-    );
-    Ok(())
+static WITHOUT_COMMANDS: [&str; 5] = ["", "\n", "* NOTE", "* NOTE\r\n\r\n   \r\n*\r\n", "      "];
+
+/// Scripts and their faults, which have the smallest line.
+#[rattlefmt::skip]
+static FAULTY: [(&str, ScriptErr); 10] = [
+    ("SMSADMIN 1 ACTIVATE\nversion = 1\n", OpenBlock(1)),
+    ("SMSADMIN 1 ACTIVATE\nversion = 1\n[storclass.SC1]\n[storgroup.SG1.volume.VOL001]\n\
+        tracks = 100\n[routine]\n\
+        storclass = \"PROC STORCLAS SET &STORCLAS = 'SC1' END\"\n\
+        storgroup = \"PROC STORGRP SET &STORGRP = 'SG1' END\"\n\
+        JOB1 1 ALLOC PAY.MASTER SPACE=(TRK,(10,5))\n", OpenBlock(1)),
+    ("* NOTE\n\nSMSADMIN 1 ACTIVATE", OpenBlock(3)),
+    ("SMSADMIN 1 ACTIVATE\n./END \n", OpenBlock(1)),
+    ("JOB1 1 ALLOC A.B SPACE=(TRK,1)\nJOB1 2 ALLOC\n", BadLine(2)),
+    ("JOB1 1 VARY SMS,VOLUME(VOL001),ENABLE\nSMSADMIN 1 ACTIVATE\n", BadLine(1)),
+    ("JOB1 0 ALLOC A.B SPACE=(TRK,1)", BadLine(1)),
+    ("JOB1 4294967296 ALLOC A.B SPACE=(TRK,1)", BadLine(1)),
+    ("JOB1 1 ALLOC ABCDEFGH.ABCDEFGH.ABCDEFGH.ABCDEFGH.ABCDEFGHI SPACE=(TRK,1)", BadLine(1)),
+    ("JOB1 1 ALLOC ABCDEFGH.ABCDEFGH.ABCDEFGH.ABCDEFGH.ABCDEFG.A SPACE=(TRK,1)", BadLine(1)),
+];
+
+/// Whether the script has the fault, and nothing is written.
+fn is_faulty(alloc: Global, script: &str, fault: ScriptErr) -> Result<bool, Fail> {
+    let Outcome { status, text } = run(alloc, script.as_bytes())?;
+    Ok(status == RunStatus::Script(fault) && status.code() == 5 && text.is_empty())
 }
 
 #[test]
-fn scripts_without_a_command_answer_the_end_line_alone(rt: HostRuntime) -> Result<(), Fail> {
-    let alloc = rt.alloc();
-    for script in ["", "\n", "* NOTE", "* NOTE\r\n\r\n   \r\n*\r\n", "      "] {
-        assert!(rt;
-            answers(alloc, script.as_bytes(), b"END 0 0\n")?,
-            "{script}"
-        );
+fn scripts_are_empty_or_have_the_fault_of_the_smallest_line(rt: HostRuntime) -> Result<(), Fail> {
+    for script in &WITHOUT_COMMANDS {
+        let holds = answers(rt.alloc(), script.as_bytes(), b"END 0 0\n")?;
+        assert!(rt; holds, "{script}");
+    }
+    for (script, fault) in &FAULTY {
+        assert!(rt; is_faulty(rt.alloc(), script, *fault)?, "{script}");
     }
     Ok(())
 }
 
-/// Scripts and their faults.
-const FAULTY: [(&str, ScriptErr); 10] = [
-    (
-        "SMSADMIN 1 ACTIVATE\nversion = 1\n",
-        ScriptErr::OpenBlock(1),
-    ),
-    (
-        "SMSADMIN 1 ACTIVATE\nversion = 1\n[storclass.SC1]\n[storgroup.SG1.volume.VOL001]\ntracks = 100\n[routine]\nstorclass = \"PROC STORCLAS SET &STORCLAS = 'SC1' END\"\nstorgroup = \"PROC STORGRP SET &STORGRP = 'SG1' END\"\nJOB1 1 ALLOC PAY.MASTER SPACE=(TRK,(10,5))\n",
-        ScriptErr::OpenBlock(1),
-    ),
-    ("* NOTE\n\nSMSADMIN 1 ACTIVATE", ScriptErr::OpenBlock(3)),
-    ("SMSADMIN 1 ACTIVATE\n./END \n", ScriptErr::OpenBlock(1)),
-    (
-        "JOB1 1 ALLOC A.B SPACE=(TRK,1)\nJOB1 2 ALLOC\n",
-        ScriptErr::BadLine(2),
-    ),
-    (
-        "JOB1 1 VARY SMS,VOLUME(VOL001),ENABLE\nSMSADMIN 1 ACTIVATE\n",
-        ScriptErr::BadLine(1),
-    ),
-    ("JOB1 0 ALLOC A.B SPACE=(TRK,1)", ScriptErr::BadLine(1)),
-    (
-        "JOB1 4294967296 ALLOC A.B SPACE=(TRK,1)",
-        ScriptErr::BadLine(1),
-    ),
-    (
-        "JOB1 1 ALLOC ABCDEFGH.ABCDEFGH.ABCDEFGH.ABCDEFGH.ABCDEFGHI SPACE=(TRK,1)",
-        ScriptErr::BadLine(1),
-    ),
-    (
-        "JOB1 1 ALLOC ABCDEFGH.ABCDEFGH.ABCDEFGH.ABCDEFGH.ABCDEFG.A SPACE=(TRK,1)",
-        ScriptErr::BadLine(1),
-    ),
+/// A line with an ALLOC, and who it is answered to.
+#[rattlefmt::skip]
+static ENDS: [(&str, &str); 4] = [
+    ("JOB1 1 ALLOC A.B SPACE=(TRK,1)", "JOB1 1"),
+    ("JOB1 4294967295 ALLOC A.B SPACE=(TRK,1)", "JOB1 4294967295"),
+    ("JOB1 0000000001 ALLOC A.B SPACE=(TRK,1)", "JOB1 1"),
+    ("JOB1 1 ALLOC ABCDEFGH.ABCDEFGH.ABCDEFGH.ABCDEFGH.ABCDEFGH SPACE=(TRK,1)", "JOB1 1"),
 ];
 
 #[test]
-fn faults_of_a_script_have_its_smallest_line(rt: HostRuntime) -> Result<(), Fail> {
-    let alloc = rt.alloc();
-    for (script, fault) in FAULTY {
-        let Outcome { status, text } = run(alloc, script.as_bytes())?;
-        assert_eq!(rt; status, RunStatus::Script(fault), "{script}");
-        assert_eq!(rt; status.code(), 5);
-        assert!(rt; text.is_empty());
+fn numbers_and_names_are_taken_up_to_their_ends(rt: HostRuntime) -> Result<(), Fail> {
+    for (line, who) in &ENDS {
+        let wanted = format!(in rt.alloc(); "1 1 1 {who} R12 NO CONFIGURATION\nEND 1 1\n")?;
+        let holds = answers(rt.alloc(), line.as_bytes(), wanted.as_bytes())?;
+        assert!(rt; holds, "{line}");
     }
     Ok(())
 }
 
-#[test]
-fn numbers_and_names_are_taken_up_to_their_ends(rt: HostRuntime) -> Result<(), Fail> {
-    let alloc = rt.alloc();
-    for (line, wanted) in [
-        (
-            "JOB1 1 ALLOC A.B SPACE=(TRK,1)",
-            "1 1 1 JOB1 1 R12 NO CONFIGURATION\nEND 1 1\n",
-        ),
-        (
-            "JOB1 4294967295 ALLOC A.B SPACE=(TRK,1)",
-            "1 1 1 JOB1 4294967295 R12 NO CONFIGURATION\nEND 1 1\n",
-        ),
-        (
-            "JOB1 0000000001 ALLOC A.B SPACE=(TRK,1)",
-            "1 1 1 JOB1 1 R12 NO CONFIGURATION\nEND 1 1\n",
-        ),
-        (
-            "JOB1 1 ALLOC ABCDEFGH.ABCDEFGH.ABCDEFGH.ABCDEFGH.ABCDEFGH SPACE=(TRK,1)",
-            "1 1 1 JOB1 1 R12 NO CONFIGURATION\nEND 1 1\n",
-        ),
-    ] {
-        assert!(rt;
-            answers(alloc, line.as_bytes(), wanted.as_bytes())?,
-            "{line}"
-        );
-    }
-    Ok(())
+/// The deck with one volume of 100 tracks written in other ways.
+#[rattlefmt::skip]
+static WRITINGS: [&str; 5] = [
+    "'version' = 1\n\"storclass\" = { 'SC1' = {} }\n\
+    [storgroup.SG1.volume]\nVOL001 = { tracks = 100 }\n\
+    [routine]\nstorgroup = \"PROC STORGRP SET &STORGRP = 'SG1' END\"\n\
+    storclass = \"PROC STORCLAS SET &STORCLAS = 'SC1' END\"\n",
+    "version = 0x1 # the first\r\nstorclass.SC1 = {}\r\n\
+    storgroup.SG1.volume.VOL001.tracks = 1_00\r\n\
+    routine.storclass = \"PROC STORCLAS SET &STORCLAS = 'SC1' END\"\r\n\
+    routine.storgroup = \"PROC STORGRP SET &STORGRP = 'SG1' END\"\r\n",
+    "version = 1\n[routine]\n\
+    storclass = \"\"\"\nPROC  STORCLAS\n\tSET &STORCLAS =\n'SC1'\nEND\n\"\"\"\n\
+    storgroup = \"PROC STORGRP SET &STORGRP = 'SG1' END\"\n\
+    [storgroup]\n[storgroup.SG1]\n[storgroup.SG1.volume]\n\
+    [storgroup.SG1.volume.VOL001]\ntracks = 100\n[storclass]\n[storclass.SC1]\n",
+    "version = 1\nstorclass = { SC1 = {} }\n\
+    storgroup = { SG1 = { volume = { VOL001 = { tracks = 100 } } } }\n\
+    routine = { storclass = \"PROC STORCLAS SET &STORCLAS = 'SC1' END\", \
+    storgroup = \"PROC STORGRP SET &STORGRP = 'SG1' END\" }\n",
+    "# a deck\n\n  version   =   1\n\n[ storclass . SC1 ]\n\n\
+    [storgroup.SG1.volume.VOL001]\n  tracks=+100\n\n[routine]\n\
+    storclass = \"PROC STORCLAS SET &STORCLAS = 'SC1' END \"\n\
+    storgroup = \" PROC STORGRP SET &STORGRP = 'SG1' END\"",
+];
+
+const ACTIVATED: &[u8] = b"1 1 1 SMSADMIN 1 A04 ACTIVATED 1\n";
+
+const GRANTED: &[u8] = b"JOB1 1 A00 GRANTED\n  CLASS - SC1 - SG1\n  EXTENT VOL001 0 10\nEND 2 2\n";
+
+/// Whether the deck is activated, and an ALLOC is granted its first tracks.
+fn is_same(alloc: Global, deck: &str) -> Result<bool, Fail> {
+    let script = format!(in alloc;
+        "SMSADMIN 1 ACTIVATE\n{deck}\n./END\nJOB1 1 ALLOC PAY.MASTER SPACE=(TRK,(10,5))\n"
+    )?;
+    let Outcome { status, text } = run(alloc, script.as_bytes())?;
+    let is_done = status == RunStatus::Done;
+    Ok(is_done && text.starts_with(ACTIVATED) && text.ends_with(GRANTED))
 }
 
 #[test]
 fn each_writing_of_the_deck_means_the_same(rt: HostRuntime) -> Result<(), Fail> {
-    let alloc = rt.alloc();
-    for deck in OTHER_WRITINGS {
-        let script = format!(in alloc;
-            "SMSADMIN 1 ACTIVATE\n{deck}\n./END\nJOB1 1 ALLOC PAY.MASTER SPACE=(TRK,(10,5))\n"
-        )?;
-        let Outcome { status, text } = run(alloc, script.as_bytes())?;
-        assert_eq!(rt; status, RunStatus::Done);
-        assert!(rt;
-            text.starts_with(b"1 1 1 SMSADMIN 1 A04 ACTIVATED 1\n"),
-            "{deck}"
-        );
-        assert!(rt;
-            text.ends_with(
-                b"JOB1 1 A00 GRANTED\n  CLASS - SC1 - SG1\n  EXTENT VOL001 0 10\nEND 2 2\n"
-            ),
-            "{deck}"
-        );
+    for deck in &WRITINGS {
+        assert!(rt; is_same(rt.alloc(), deck)?, "{deck}");
     }
     Ok(())
 }
+
+/// What is no document.
+#[rattlefmt::skip]
+static NO_DOCUMENTS: [&[u8]; 6] = [
+    b"version", b"version = 1\nversion = 1\n", b"[storclass\n", b"version = 99999999999999999999\n",
+    b"a = \"\\q\"\n", b"\xff",
+];
 
 #[test]
 fn decks_that_are_no_documents_are_refused(rt: HostRuntime) -> Result<(), Fail> {
-    let alloc = rt.alloc();
-    for deck in [
-        "version",
-        "version = 1\nversion = 1\n",
-        "[storclass\n",
-        "version = 99999999999999999999\n",
-        "a = \"\\q\"\n",
-    ] {
-        let script = format!(in alloc; "SMSADMIN 1 ACTIVATE\n{deck}\n./END\n")?;
-        assert!(rt;
-            answers(
-                alloc,
-                script.as_bytes(),
-                b"1 1 1 SMSADMIN 1 R21 DECK K1\nEND 1 1\n"
-            )?,
-            "{deck}"
-        );
+    for deck in &NO_DOCUMENTS {
+        let mut script = b"SMSADMIN 1 ACTIVATE\n".to_vec(rt.alloc())?;
+        script.extend_from_slice(deck)?;
+        script.extend_from_slice(b"\n./END\n")?;
+        let wanted = b"1 1 1 SMSADMIN 1 R21 DECK K1\nEND 1 1\n";
+        assert!(rt; answers(rt.alloc(), &script, wanted)?, "{deck:?}");
     }
-    assert!(rt;
-        answers(
-            alloc,
-            b"SMSADMIN 1 ACTIVATE\n\xff\n./END\n",
-            b"1 1 1 SMSADMIN 1 R21 DECK K1\nEND 1 1\n"
-        )?
-    );
-    Ok(())
-}
-
-#[test]
-fn a_refused_deck_leaves_the_active_one(rt: HostRuntime) -> Result<(), Fail> {
-    let alloc = rt.alloc();
-    let script = format!(in alloc;
-        "{BEFORE_TRACKS}100{BEHIND_TRACKS}SMSADMIN 2 ACTIVATE\nversion\n./END\nSMSADMIN 3 D SMS,VOLUME(VOL001)\n"
-    )?;
-    assert!(rt;
-        answers(
-            alloc,
-            script.as_bytes(),
-            b"1 1 1 SMSADMIN 1 A04 ACTIVATED 1\n10 2 2 SMSADMIN 2 R21 DECK K1\n13 3 3 SMSADMIN 3 A06 VOLUME VOL001 SG1 ENABLE 100 100 0\nEND 3 3\n"
-        )?
-    );
-    Ok(())
-}
-
-#[test]
-fn a_volume_is_granted_to_its_last_track(rt: HostRuntime) -> Result<(), Fail> {
-    let alloc = rt.alloc();
-    assert!(rt;
-        answers_on_deck(
-            alloc,
-            100,
-            "JOB1 1 ALLOC A.B SPACE=(TRK,100)\n",
-            "10 2 2 JOB1 1 A00 GRANTED\n  CLASS - SC1 - SG1\n  EXTENT VOL001 0 100\nEND 2 2\n"
-        )?
-    );
-    assert!(rt;
-        answers_on_deck(
-            alloc,
-            100,
-            "JOB1 1 ALLOC A.B SPACE=(TRK,101)\n",
-            "10 2 2 JOB1 1 R18 NO VOLUME\nEND 2 2\n"
-        )?
-    );
-    assert!(rt;
-        answers_on_deck(
-            alloc,
-            982800,
-            "JOB1 1 ALLOC A.B SPACE=(TRK,(16777215,16777215))\n",
-            "10 2 2 JOB1 1 R18 NO VOLUME\nEND 2 2\n"
-        )?
-    );
-    assert!(rt;
-        answers_on_deck(
-            alloc,
-            1,
-            "JOB1 1 ALLOC A.B SPACE=(TRK,1)\nJOB1 2 ALLOC A.C SPACE=(TRK,1)\n",
-            "10 2 2 JOB1 1 A00 GRANTED\n  CLASS - SC1 - SG1\n  EXTENT VOL001 0 1\n11 3 3 JOB1 2 R18 NO VOLUME\nEND 3 3\n"
-        )?
-    );
     Ok(())
 }

@@ -1,77 +1,61 @@
 //! Runs of the top call over a keeper that fails.
+use crate::cases::Deck::One;
+use crate::cases::{Told, activation};
 use desk_calls::{RunStatus, desk_main};
 use sms_base::{MemSink, MemSource};
 use sms_keeper::{FaultKeeper, Keeper};
 use std::alloc::Global;
+use std::process::Abort;
 use std::test::Fail;
 
-/// A deck, an ALLOC and its repeat.
-const SCRIPT: &[u8] =
-    b"SMSADMIN 1 ACTIVATE\nversion = 1\n[storclass.SC1]\n[storgroup.SG1.volume.VOL001]\ntracks = 100\n[routine]\nstorclass = \"PROC STORCLAS SET &STORCLAS = 'SC1' END\"\nstorgroup = \"PROC STORGRP SET &STORGRP = 'SG1' END\"\n./END\nJOB1 1 ALLOC A.B SPACE=(TRK,1)\nJOB1 1 ALLOC A.B SPACE=(TRK,1)\n";
+/// The commits that fail; how many of them are made; and what an activation, an ALLOC and its
+/// repeat are answered, each with the place of the first answer.
+type Row = (&'static [u64], u64, &'static [(&'static str, u64)]);
 
-/// The commits that fail, how many of them are made, and the text.
-type Row = (&'static [u64], u64, &'static str);
+const GRANTED: &str = "A00 GRANTED; CLASS - SC1 - SG1; EXTENT VOL001 0 1";
 
-const ROWS: [Row; 5] = [
-    (
-        &[],
-        0,
-        "1 1 1 SMSADMIN 1 A04 ACTIVATED 1\n10 2 2 JOB1 1 A00 GRANTED\n  CLASS - SC1 - SG1\n  EXTENT VOL001 0 1\n11 3 2 JOB1 1 A00 GRANTED\n  CLASS - SC1 - SG1\n  EXTENT VOL001 0 1\nEND 3 3\n",
-    ),
-    (
-        &[1],
-        1,
-        "1 1 1 SMSADMIN 1 F30 KEEPER\n10 2 2 JOB1 1 R12 NO CONFIGURATION\n11 3 2 JOB1 1 R12 NO CONFIGURATION\nEND 3 3\n",
-    ),
+#[rattlefmt::skip]
+static ROWS: [Row; 5] = [
+    (&[], 0, &[("A04 ACTIVATED 1", 1), (GRANTED, 2), (GRANTED, 2)]),
+    (&[1], 1, &[("F30 KEEPER", 1), ("R12 NO CONFIGURATION", 2), ("R12 NO CONFIGURATION", 2)]),
     // the number stays fresh, and what comes to it next is granted
-    (
-        &[2],
-        1,
-        "1 1 1 SMSADMIN 1 A04 ACTIVATED 1\n10 2 2 JOB1 1 F30 KEEPER\n11 3 3 JOB1 1 A00 GRANTED\n  CLASS - SC1 - SG1\n  EXTENT VOL001 0 1\nEND 3 3\n",
-    ),
+    (&[2], 1, &[("A04 ACTIVATED 1", 1), ("F30 KEEPER", 2), (GRANTED, 3)]),
     // the repeat makes no commit
-    (
-        &[3],
-        0,
-        "1 1 1 SMSADMIN 1 A04 ACTIVATED 1\n10 2 2 JOB1 1 A00 GRANTED\n  CLASS - SC1 - SG1\n  EXTENT VOL001 0 1\n11 3 2 JOB1 1 A00 GRANTED\n  CLASS - SC1 - SG1\n  EXTENT VOL001 0 1\nEND 3 3\n",
-    ),
-    (
-        &[1, 2, 3],
-        3,
-        "1 1 1 SMSADMIN 1 F30 KEEPER\n10 2 2 JOB1 1 F30 KEEPER\n11 3 3 JOB1 1 F30 KEEPER\nEND 3 3\n",
-    ),
+    (&[3], 0, &[("A04 ACTIVATED 1", 1), (GRANTED, 2), (GRANTED, 2)]),
+    (&[1, 2, 3], 3, &[("F30 KEEPER", 1), ("F30 KEEPER", 2), ("F30 KEEPER", 3)]),
 ];
 
-/// How a run ended, what it wrote, and how many commits failed.
-#[derive(Drop)]
-struct Outcome {
-    status: RunStatus,
-    text: Vec<u8>,
-    faults: u64,
+fn told_of(alloc: Global, answers: &[(&str, u64)]) -> Result<Told, Fail> {
+    let [(activated, first), (granted, second), (repeated, third)] = answers else {
+        return Err(Fail::from("answers"));
+    };
+    let deck = activation(alloc, One(100))?;
+    let asks = "ALLOC A.B SPACE=(TRK,1)";
+    let mut told = Told::new(alloc);
+    told.push(alloc, ("SMSADMIN 1", &deck, activated), *first)?;
+    told.push(alloc, ("JOB1 1", asks, granted), *second)?;
+    told.push(alloc, ("JOB1 1", asks, repeated), *third)?;
+    told.end(alloc)?;
+    Ok(told)
 }
 
-fn run_failing(alloc: Global, fails: &[u64]) -> Result<Outcome, Fail> {
+fn compare_run(rt: &impl Abort, alloc: Global, (fails, failed, answers): &Row) -> Result<(), Fail> {
+    let told = told_of(alloc, answers)?;
     let words = vec![in alloc; String::from_str(alloc, "run")?]?;
-    let mut src = MemSource::new(SCRIPT.to_vec(alloc)?, 16, Vec::new(alloc));
+    let mut src = MemSource::new(told.script.as_bytes().to_vec(alloc)?, 16, Vec::new(alloc));
     let mut out = MemSink::new(vec![in alloc; 0; 1_000]?, 7, Vec::new(alloc));
     let keeper = FaultKeeper::new(alloc, fails)?;
     let (status, keeper) = desk_main(alloc, &words, &mut src, &mut out, keeper);
-    let text = out.taken().to_vec(alloc)?;
-    let faults = keeper.faults();
-    Ok(Outcome {
-        status,
-        text,
-        faults,
-    })
+    assert!(rt; status == RunStatus::Done, "{fails:?}");
+    assert!(rt; out.taken() == told.text.as_bytes(), "{fails:?}");
+    assert!(rt; keeper.faults() == *failed, "{fails:?}");
+    Ok(())
 }
 
 #[test]
 fn a_failed_commit_is_told_and_isn_t_kept(rt: HostRuntime) -> Result<(), Fail> {
-    for (fails, failed, wanted) in ROWS {
-        let outcome = run_failing(rt.alloc(), fails)?;
-        assert_eq!(rt; outcome.status, RunStatus::Done, "{wanted}");
-        assert_eq!(rt; outcome.text.as_slice(), wanted.as_bytes(), "{wanted}");
-        assert_eq!(rt; outcome.faults, failed, "{wanted}");
+    for row in &ROWS {
+        compare_run(&rt, rt.alloc(), row)?;
     }
     Ok(())
 }

@@ -10,23 +10,11 @@ mod constructs;
 #[cfg(test)]
 mod deck_faults;
 #[cfg(test)]
-mod deck_limits;
-#[cfg(test)]
 mod deck_readings;
-#[cfg(test)]
-mod deck_routines;
 #[cfg(test)]
 mod deck_themes;
 #[cfg(test)]
-mod deck_volumes;
-#[cfg(test)]
-mod decks;
-#[cfg(test)]
-mod examples;
-#[cfg(test)]
 mod first_path;
-#[cfg(test)]
-mod hostile;
 #[cfg(test)]
 mod keeper_runs;
 #[cfg(test)]
@@ -38,13 +26,7 @@ mod ledger;
 #[cfg(test)]
 mod listing;
 #[cfg(test)]
-mod loads;
-#[cfg(test)]
 mod names;
-#[cfg(test)]
-mod operations;
-#[cfg(test)]
-mod phases;
 #[cfg(test)]
 mod repeats;
 #[cfg(test)]
@@ -53,6 +35,8 @@ mod replies;
 mod reports;
 #[cfg(test)]
 mod running;
+#[cfg(test)]
+mod runs;
 #[cfg(test)]
 mod scripts;
 #[cfg(test)]
@@ -67,6 +51,8 @@ mod turns;
 mod worked;
 #[cfg(test)]
 mod worked_classes;
+#[cfg(test)]
+mod worked_requests;
 #[cfg(test)]
 mod worked_space;
 #[cfg(test)]

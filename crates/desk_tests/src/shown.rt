@@ -21,9 +21,12 @@ fn push_count(shown: &mut Vec<u8>, word: &str, number: u64) -> Result<(), AllocE
     push_number(shown, number)
 }
 
-/// A word and a value; nothing for the null value.
-fn push_value(shown: &mut Vec<u8>, word: &str, value: &Short) -> Result<(), AllocError> {
-    if value.bytes().is_empty() {
+/// A word and a value; nothing for the default.
+fn push_value(
+    shown: &mut Vec<u8>,
+    (word, value, default): (&str, &Short, &str),
+) -> Result<(), AllocError> {
+    if value.bytes() == default.as_bytes() {
         return Ok(());
     }
     push_word(shown, word, value.bytes())
@@ -64,51 +67,44 @@ fn push_space(shown: &mut Vec<u8>, space: &Option<Space>) -> Result<(), AllocErr
     push_number(shown, u64::from(space.secondary()))
 }
 
-/// Who asks, and for what.
-fn push_origin(shown: &mut Vec<u8>, input: &Input) -> Result<(), AllocError> {
-    push_value(shown, "JOB=", &input.origin.job)?;
-    push_value(shown, "USER=", &input.origin.user)?;
-    push_value(shown, "GROUP=", &input.origin.group)?;
-    push_value(shown, "PGM=", &input.origin.pgm)?;
-    push_value(shown, "DD=", &input.origin.dd)?;
-    push_value(shown, "APPLIC=", &input.origin.applic)?;
-    push_account(shown, "ACCT=", &input.accounting.acct_job)?;
-    push_account(shown, "STEPACCT=", &input.accounting.acct_step)
-}
-
-/// The attributes of the data set, and where the request runs, without the defaults.
-fn push_attributes(shown: &mut Vec<u8>, input: &Input) -> Result<(), AllocError> {
-    push_value(shown, "UNIT=", &input.attributes.unit)?;
-    push_value(shown, "DSORG=", &input.attributes.dsorg)?;
-    push_value(shown, "RECORG=", &input.attributes.recorg)?;
-    push_value(shown, "DSNTYPE=", &input.attributes.dsntype)?;
-    push_other(shown, "DSTYPE=", &input.attributes.dstype, b"PERM")?;
-    push_value(shown, "OWNER=", &input.attributes.dsowner)?;
-    push_value(shown, "EXPDT=", &input.attributes.expdt)?;
-    push_other(shown, "ACSENVIR=", &input.environment.acsenvir, b"ALLOC")?;
-    push_other(shown, "XMODE=", &input.environment.xmode, b"BATCH")?;
-    push_value(shown, "SYSNAME=", &input.environment.sysname)?;
-    push_value(shown, "SYSPLEX=", &input.environment.sysplex)
-}
-
-/// A word and a value; nothing for the default.
-fn push_other(
-    shown: &mut Vec<u8>,
-    word: &str,
-    value: &Short,
-    default: &[u8],
-) -> Result<(), AllocError> {
-    if value.bytes() == default {
-        return Ok(());
+/// A text of a request, with its word and its default: who asks, the attributes of the data set, where
+/// the request runs, and the default classes.
+#[rattlefmt::skip]
+fn value_at(input: &Input, at: u32) -> (&str, &Short, &str) {
+    let Input { origin, attributes, environment, defaults, .. } = input;
+    match at {
+        0 => ("JOB=", &origin.job, ""),
+        1 => ("USER=", &origin.user, ""),
+        2 => ("GROUP=", &origin.group, ""),
+        3 => ("PGM=", &origin.pgm, ""),
+        4 => ("DD=", &origin.dd, ""),
+        5 => ("APPLIC=", &origin.applic, ""),
+        6 => ("UNIT=", &attributes.unit, ""),
+        7 => ("DSORG=", &attributes.dsorg, ""),
+        8 => ("RECORG=", &attributes.recorg, ""),
+        9 => ("DSNTYPE=", &attributes.dsntype, ""),
+        10 => ("DSTYPE=", &attributes.dstype, "PERM"),
+        11 => ("OWNER=", &attributes.dsowner, ""),
+        12 => ("EXPDT=", &attributes.expdt, ""),
+        13 => ("ACSENVIR=", &environment.acsenvir, "ALLOC"),
+        14 => ("XMODE=", &environment.xmode, "BATCH"),
+        15 => ("SYSNAME=", &environment.sysname, ""),
+        16 => ("SYSPLEX=", &environment.sysplex, ""),
+        17 => ("DEFDC=", &defaults.dataclas, ""),
+        18 => ("DEFSC=", &defaults.storclas, ""),
+        _ => ("DEFMC=", &defaults.mgmtclas, ""),
     }
-    push_word(shown, word, value.bytes())
 }
 
-/// The default classes, the numbers and the volumes.
-fn push_amounts(shown: &mut Vec<u8>, input: &Input) -> Result<(), AllocError> {
-    push_value(shown, "DEFDC=", &input.defaults.dataclas)?;
-    push_value(shown, "DEFSC=", &input.defaults.storclas)?;
-    push_value(shown, "DEFMC=", &input.defaults.mgmtclas)?;
+fn push_input(shown: &mut Vec<u8>, input: &Input) -> Result<(), AllocError> {
+    for at in 0..6 {
+        push_value(shown, value_at(input, at))?;
+    }
+    push_account(shown, "ACCT=", &input.accounting.acct_job)?;
+    push_account(shown, "STEPACCT=", &input.accounting.acct_step)?;
+    for at in 6..20 {
+        push_value(shown, value_at(input, at))?;
+    }
     push_count(shown, "RETPD=", u64::from(input.amounts.retpd))?;
     push_count(shown, "BLKSIZE=", u64::from(input.amounts.blksize))?;
     push_count(shown, "SIZE=", input.amounts.size)?;
@@ -130,9 +126,7 @@ fn push_alloc(shown: &mut Vec<u8>, request: &Alloc) -> Result<(), AllocError> {
         push_word(shown, "KEEP=", b"")?;
         push_number(shown, u64::from(retpd))?;
     }
-    push_origin(shown, &request.input)?;
-    push_attributes(shown, &request.input)?;
-    push_amounts(shown, &request.input)
+    push_input(shown, &request.input)
 }
 
 fn push_target(shown: &mut Vec<u8>, target: &Target) -> Result<(), AllocError> {

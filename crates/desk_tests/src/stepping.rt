@@ -1,4 +1,5 @@
 //! The core and a run of a script, called by themselves.
+use crate::cases::script_on;
 use crate::scripts::read;
 use acs_tree::Slate;
 use desk_calls::run_script;
@@ -9,6 +10,7 @@ use sms_core::Core;
 use sms_keeper::{FaultKeeper, Keeper, MemKeeper};
 use sms_script::Script;
 use std::alloc::Global;
+use std::process::Abort;
 use std::test::Fail;
 
 const TWICE: &[u8] = b"JOB1 1 ALLOC A.B SPACE=(TRK,1)\nJOB1 1 ALLOC A.B SPACE=(TRK,1)\n";
@@ -19,10 +21,7 @@ const PURGED: &[u8] =
 
 // The script that a short text writes.
 fn script(alloc: Global, text: &[u8]) -> Result<Script, Fail> {
-    match read(alloc, text) {
-        Ok(script) => Ok(script),
-        Err(_) => Err(Fail::from("script")),
-    }
+    Ok(read(alloc, text).ok().ok_or("script")?)
 }
 
 #[test]
@@ -37,14 +36,13 @@ fn a_core_enters_each_request_that_it_answers(rt: HostRuntime) -> Result<(), Fai
     for (at, item) in phase.as_slice().iter().enumerate() {
         let answer = core.step(&item.request, &mut slate);
         let place = at as u64 + 1;
-        assert_eq!(rt; answer.place, place);
-        assert_eq!(rt; answer.first, 1);
+        assert!(rt; answer.place == place && answer.first == 1);
         assert!(rt; matches!(&answer.reply, Reply::NoConfig));
-        assert_eq!(rt; core.journal().len() as u64, place);
+        assert!(rt; core.journal().len() as u64 == place);
     }
     let (keeper, journal) = core.into_parts();
-    assert_eq!(rt; journal.len(), 2);
-    assert_eq!(rt; keeper.rows()?.replies.len(), 1);
+    assert!(rt; journal.len() == 2);
+    assert!(rt; keeper.rows()?.replies.len() == 1);
     Ok(())
 }
 
@@ -62,32 +60,45 @@ fn a_fault_of_the_keeper_leaves_the_number_fresh(rt: HostRuntime) -> Result<(), 
     assert!(rt; fault.place == 1 && fault.first == 1);
     assert!(rt; matches!(&fresh.reply, Reply::NoConfig));
     assert!(rt; fresh.place == 2 && fresh.first == 2);
-    assert_eq!(rt; core.keeper().faults(), 1);
+    assert!(rt; core.keeper().faults() == 1);
     Ok(())
 }
 
-/// One command of each kind that changes something.
-const CHANGES: &[u8] =
-    b"SMSADMIN 1 ACTIVATE\nversion = 1\n[storclass.SC1]\n[storgroup.SG1.volume.VOL001]\ntracks = 100\n[routine]\nstorclass = \"PROC STORCLAS SET &STORCLAS = 'SC1' END\"\nstorgroup = \"PROC STORGRP SET &STORGRP = 'SG1' END\"\n./END\nJ 1 ALLOC A.B SPACE=(TRK,(10,5))\nJ 2 EXTEND A.B\nJ 3 USED A.B 3\nJ 4 RELEASE A.B\nSMSADMIN 2 VARY SMS,VOLUME(VOL001),DISABLE\nJ 5 DELETE A.B\n";
+/// Behind an activation, one command of each kind that changes something.
+const CHANGES: &str = "J 1 ALLOC A.B SPACE=(TRK,(10,5))
+J 2 EXTEND A.B
+J 3 USED A.B 3
+J 4 RELEASE A.B
+SMSADMIN 2 VARY SMS,VOLUME(VOL001),DISABLE
+J 5 DELETE A.B
+";
+
+/// Compares a run of seven commands in which the commit of this number fails.
+fn compare_failing(
+    rt: &impl Abort,
+    alloc: Global,
+    script: &Script,
+    failing: u64,
+) -> Result<(), Fail> {
+    let keeper = FaultKeeper::new(alloc, &[failing])?;
+    let (answers, core) = run_script(alloc, script, Core::new(alloc, keeper));
+    let answers = answers?;
+    assert!(rt; answers.len() == 7);
+    for (at, answer) in answers.as_slice().iter().enumerate() {
+        let fails = at as u64 + 1 == failing;
+        let holds = matches!(&answer.reply, Reply::KeeperFault) == fails;
+        assert!(rt; holds, "{failing}");
+    }
+    assert!(rt; core.keeper().faults() == 1);
+    Ok(())
+}
 
 #[test]
 fn each_failing_commit_is_told_at_its_own_request(rt: HostRuntime) -> Result<(), Fail> {
-    let alloc = rt.alloc();
-    let script = script(alloc, CHANGES)?;
+    let text = script_on(rt.alloc(), 100, CHANGES)?;
+    let script = script(rt.alloc(), text.as_bytes())?;
     for failing in 1..=7u64 {
-        let keeper = FaultKeeper::new(alloc, &[failing])?;
-        let (answers, core) = run_script(alloc, &script, Core::new(alloc, keeper));
-        let answers = answers?;
-        assert_eq!(rt; answers.len(), 7);
-        for (at, answer) in answers.as_slice().iter().enumerate() {
-            let fails = at as u64 + 1 == failing;
-            assert_eq!(rt;
-                matches!(&answer.reply, Reply::KeeperFault),
-                fails,
-                "{failing}"
-            );
-        }
-        assert_eq!(rt; core.keeper().faults(), 1);
+        compare_failing(&rt, rt.alloc(), &script, failing)?;
     }
     Ok(())
 }
@@ -107,28 +118,27 @@ fn a_floor_refuses_lower_numbers_and_never_falls(rt: HostRuntime) -> Result<(), 
     assert!(rt; matches!(&fresh.reply, Reply::NotFound));
     assert!(rt; matches!(&last.reply, Reply::Purged { floor: 3, .. }));
     assert!(rt; core.active().is_none());
-    assert_eq!(rt; core.vol_rows()?.len(), 0);
+    assert!(rt; core.vol_rows()?.len() == 0);
     Ok(())
+}
+
+/// The request of the administrator with this number.
+fn request(number: u32, op: Op) -> Result<Request, Fail> {
+    let job = Name::new(b"SMSADMIN").ok_or("job")?;
+    let number = RequestNumber::new(number).ok_or("number")?;
+    Ok(Request { job, number, op })
 }
 
 /// The purge with this number, which puts the floor there.
 fn purge(number: u32) -> Result<Request, Fail> {
     let job = Name::new(b"SMSADMIN").ok_or("job")?;
-    let number = RequestNumber::new(number).ok_or("number")?;
-    Ok(Request {
-        job,
-        number,
-        op: Op::Purge { job, floor: number },
-    })
+    let floor = RequestNumber::new(number).ok_or("number")?;
+    request(number, Op::Purge { job, floor })
 }
 
 /// The activation of an empty deck with this number.
 fn activation(alloc: Global, number: u32) -> Result<Request, Fail> {
-    Ok(Request {
-        job: Name::new(b"SMSADMIN").ok_or("job")?,
-        number: RequestNumber::new(number).ok_or("number")?,
-        op: Op::Activate(Shared::new(alloc, Items::new(alloc))?),
-    })
+    request(number, Op::Activate(Shared::new(alloc, Items::new(alloc))?))
 }
 
 #[test]
@@ -145,7 +155,7 @@ fn a_full_journal_answers_no_more(rt: HostRuntime) -> Result<(), Fail> {
         assert!(rt; matches!(&answer.reply, Reply::JournalFull));
         assert!(rt; answer.place == 0 && answer.first == 0);
     }
-    assert_eq!(rt; core.journal().len(), 50_000);
+    assert!(rt; core.journal().len() == 50_000);
     Ok(())
 }
 
@@ -162,6 +172,6 @@ fn a_journal_takes_200_activations(rt: HostRuntime) -> Result<(), Fail> {
     assert!(rt; matches!(&full.reply, Reply::JournalFull));
     let other = core.step(&purge(202)?, &mut slate);
     assert!(rt; matches!(&other.reply, Reply::Purged { .. }));
-    assert_eq!(rt; other.place, 201);
+    assert!(rt; other.place == 201);
     Ok(())
 }

@@ -1,73 +1,83 @@
 //! Worked examples of the desk, from the script to the text of its answers.
 use crate::cases::Deck::Text;
-use crate::cases::{Case, script_of, text_of};
+use crate::cases::{Asked, Deck, Told, compare_case, compare_cases, told_of};
 use crate::running::run;
 use crate::worked_classes::CLASSES;
+use crate::worked_requests::REQUESTS;
 use crate::worked_space::SPACE;
-use crate::worked_volumes::VOLUMES;
+use crate::worked_volumes::{TWO_VOLUMES, VOLUMES};
 use desk_calls::RunStatus;
 use std::alloc::Global;
-use std::process::Abort;
 use std::test::Fail;
 
 #[test]
-fn tracks_lie_where_the_gap_rule_puts_them(rt: HostRuntime) -> Result<(), Fail> {
-    compare_all(&rt, rt.alloc(), &SPACE)
+fn each_script_is_answered_by_the_rules(rt: HostRuntime) -> Result<(), Fail> {
+    compare_cases(&rt, rt.alloc(), &REQUESTS)?;
+    compare_cases(&rt, rt.alloc(), &SPACE)?;
+    compare_cases(&rt, rt.alloc(), &VOLUMES)?;
+    compare_cases(&rt, rt.alloc(), &CLASSES)
 }
 
-#[test]
-fn volumes_are_chosen_by_their_lists(rt: HostRuntime) -> Result<(), Fail> {
-    compare_all(&rt, rt.alloc(), &VOLUMES)
-}
+/// A class and a volume of ten tracks, and a storage group for the data sets below A.
+#[rattlefmt::skip]
+const BELOW_A: Deck = Text(
+    "version = 1\n[dataclass.DC1]\n[storclass.SC1]\n[storgroup.SG1.volume.VOL001]\ntracks = 10\n\
+    [routine]\nstorgroup = \"PROC STORGRP IF &HLQ = 'A' THEN SET &STORGRP = 'SG1' END\"\n",
+);
 
-#[test]
-fn classes_are_those_of_the_routines(rt: HostRuntime) -> Result<(), Fail> {
-    compare_all(&rt, rt.alloc(), &CLASSES)
-}
+const REFUSED_DECK: Deck = Text("version = 2\n");
 
-fn compare_all(rt: &impl Abort, alloc: Global, cases: &[Case]) -> Result<(), Fail> {
-    for case in cases {
-        let script = script_of(alloc, case)?;
-        let wanted = text_of(alloc, case)?;
-        let outcome = run(alloc, script.as_bytes())?;
-        assert_eq!(rt; outcome.status, RunStatus::Done, "{script}");
-        assert_eq!(rt; outcome.text.as_slice(), wanted.as_bytes(), "{script}");
-    }
-    Ok(())
-}
+const EMPTY_DECK: Deck = Text("version = 1\n");
 
-/// An ALLOC that is one track past the threshold of two volumes, both of which are then secondary ones: it may be
-/// granted on either.
-const EITHER: [Case; 2] = [
-    (
-        Text(TWO_VOLUMES),
-        &[(
-            "J 1",
-            "ALLOC A.B SPACE=(TRK,86)",
-            "A00 GRANTED\n  CLASS - SC1 - SG1\n  EXTENT VOL001 0 86",
-        )],
-    ),
-    (
-        Text(TWO_VOLUMES),
-        &[(
-            "J 1",
-            "ALLOC A.B SPACE=(TRK,86)",
-            "A00 GRANTED\n  CLASS - SC1 - SG1\n  EXTENT VOL002 0 86",
-        )],
-    ),
+/// A grant and each refusal.
+#[rattlefmt::skip]
+static REFUSALS: [Asked; 12] = [
+    ("J 1", "ALLOC A.A STORCLAS=SC1 SPACE=(TRK,5)",
+        "A00 GRANTED; CLASS - SC1 - SG1; EXTENT VOL001 0 5"),
+    ("J 2", "ALLOC A.A SPACE=(TRK,5)", "R13 NAME IN USE"),
+    ("J 3", "ALLOC A.B DATACLAS=DC9", "R15 UNKNOWN CLASS DATACLAS DC9"),
+    ("J 4", "ALLOC A.B STORCLAS=SC1 DATACLAS=DC1", "R16 NO QUANTITY"),
+    ("J 5", "ALLOC B.A STORCLAS=SC1 SPACE=(TRK,1)", "R17 NO STORAGE GROUP"),
+    ("J 6", "ALLOC A.B STORCLAS=SC1 SPACE=(TRK,6)", "R18 NO VOLUME"),
+    ("J 7", "EXTEND B.B", "R19 NOT FOUND"),
+    ("J 8", "EXTEND A.A", "R20 NO EXTEND SECONDARY"),
+    ("SMSADMIN 2", "ACTIVATE", "R21 DECK K4 version"),
+    ("SMSADMIN 3", "ACTIVATE", "R22 VOLUME IN USE VOL001"),
+    ("SMSADMIN 4", "VARY SMS,VOLUME(VOL009),ENABLE", "R23 UNKNOWN NAME"),
+    ("J 9", "USED A.A 6", "R25 PAST GRANT 5"),
 ];
 
-const TWO_VOLUMES: &str =
-    "version = 1\n[storclass.SC1]\n[storgroup.SG1.volume.VOL001]\ntracks = 100\n[storgroup.SG1.volume.VOL002]\ntracks = 100\nstatus = \"QUIALL\"\n[routine]\nstorclass = \"PROC STORCLAS SET &STORCLAS = 'SC1' END\"\nstorgroup = \"PROC STORGRP SET &STORGRP = 'SG1' END\"\n";
+#[test]
+fn each_refusal_is_repeated(rt: HostRuntime) -> Result<(), Fail> {
+    let mut rows = Vec::new(rt.alloc());
+    for row in &REFUSALS {
+        rows.push(*row)?;
+        rows.push(*row)?;
+    }
+    let decks = [BELOW_A, REFUSED_DECK, REFUSED_DECK, EMPTY_DECK, EMPTY_DECK];
+    compare_case(&rt, rt.alloc(), &decks, &rows)
+}
+
+/// An ALLOC that is one track past the threshold of two volumes, both of which are then secondary
+/// ones: it may be granted on either.
+#[rattlefmt::skip]
+static EITHER: [[Asked; 1]; 2] = [
+    [("J 1", "ALLOC A.B SPACE=(TRK,86)", "A00 GRANTED; CLASS - SC1 - SG1; EXTENT VOL001 0 86")],
+    [("J 1", "ALLOC A.B SPACE=(TRK,86)", "A00 GRANTED; CLASS - SC1 - SG1; EXTENT VOL002 0 86")],
+];
+
+fn told_on_two(alloc: Global, rows: &[Asked]) -> Result<Told, Fail> {
+    told_of(alloc, &[TWO_VOLUMES], rows)
+}
 
 #[test]
 fn just_past_the_threshold_either_volume_is_granted(rt: HostRuntime) -> Result<(), Fail> {
     let alloc = rt.alloc();
     let [first, second] = &EITHER;
-    let outcome = run(alloc, script_of(alloc, first)?.as_bytes())?;
-    let (one, other) = (text_of(alloc, first)?, text_of(alloc, second)?);
+    let (one, other) = (told_on_two(alloc, first)?, told_on_two(alloc, second)?);
+    let outcome = run(alloc, one.script.as_bytes())?;
     let text = outcome.text.as_slice();
-    assert_eq!(rt; outcome.status, RunStatus::Done);
-    assert!(rt; text == one.as_bytes() || text == other.as_bytes());
+    assert!(rt; outcome.status == RunStatus::Done);
+    assert!(rt; text == one.text.as_bytes() || text == other.text.as_bytes());
     Ok(())
 }
