@@ -1,6 +1,7 @@
 //! The volumes of a configuration that is to become active.
 ghost use Rattle.std.specs.Prelude.{◌≡◌, ◌<◌, ◌≤◌, ◌^◌, bytes_eq, filter, find, length, map, slice_get, IfOk};
 ghost use Rattle.std.specs.List.{AllByRecursion};
+ghost use Rattle.sms_construct.specs.Configuration.{most_volumes};
 ghost use Rattle.sms_construct.specs.declared.volume.VolumeDef.{VolumeDef as Defined};
 ghost use Rattle.desk_law.specs.State.{DeskState};
 ghost use Rattle.desk_law.specs.Lawful.{IsLawful};
@@ -143,10 +144,10 @@ impl ActiveVolumes {
     /// (docs/rules.md, "ACTIVATE").
     pub fn under(&self, alloc: Global, config: &Config) -> Result<ActiveVolumes, AllocError>
         ensures next { IfOk result (λ next. (s : DeskState) → IsLawful s → AreVolumesOf s self.now → AreNext s.statuses config.now next) }
+        ensures few { length config.now.volumes ≤ most_volumes }
     {
         // Facts for the proof; nothing runs.
         let _deck = config.deck();
-
         Ok(ActiveVolumes {
             groups: self.next_groups(alloc, config.groups(), config.volumes())?,
             volumes: self.next_volumes(alloc, config.groups(), config.volumes())?,

@@ -6,8 +6,8 @@ use Rattle.sms_volumes.specs.Making.{IsMade, next_group}
 use Rattle.sms_volumes.proofs.NextLemmas.{all-next}
 use Rattle.sms_volumes.proofs.active_volumes.ActiveVolumes.under.Goals as goal
 
-pub returns : goal.returns
-returns c = λ s lawful are.
+pub returns-clause-next : goal.returns-clause-next
+returns-clause-next c = λ s lawful are.
     let running = c.args.self.now in
     let config = c.args.config.now in
     let groups = c.in_ok-next_groups.ensures
