@@ -39,7 +39,7 @@ use Rattle.desk_law.proofs.QuietLemmas.{alloc-quiet, display-quiet, extend-quiet
 use Rattle.desk_law.proofs.FloorLemmas.{all-rows-append}
 
 -- a reply that changes nothing activates no deck
-quiet-decks : (reply : Reply) (deck : Option (List ℕ)) → may_change reply ≡ false → decks_told reply deck ≡ []
+pub quiet-decks : (reply : Reply) (deck : Option (List ℕ)) → may_change reply ≡ false → decks_told reply deck ≡ []
 quiet-decks (replies.Granted set trace) deck quiet = absurd cc
 quiet-decks (replies.Extended added) deck quiet = absurd cc
 quiet-decks (replies.Deleted tracks) deck quiet = absurd cc
@@ -157,7 +157,7 @@ rule-counts old_floor s job (ops.Purge other floor) reply after rule = counts-le
 abbrev pub AreEarlier : ℕ → List KeptRow → Type 0
 AreEarlier last rows = AllByRecursion (λ (row : KeptRow). row.place ≤ last) rows
 
-earlier-up : (a b : ℕ) (rows : List KeptRow) → a ≤ b → AreEarlier a rows → AreEarlier b rows
+pub earlier-up : (a b : ℕ) (rows : List KeptRow) → a ≤ b → AreEarlier a rows → AreEarlier b rows
 earlier-up a b [] le all = tt
 earlier-up a b (row ∷ rows) le all = (let here = all.0 in omega (arith, le, here), earlier-up a b rows le all.1)
 
@@ -172,7 +172,7 @@ rows-one e = append-none (rows_of_entry e)
     append-none [] = refl
     append-none (x ∷ l) = ap (λ (m : List KeptRow). x ∷ m) (append-none l)
 
-earlier-push : (o : Opening) (before : List Entry) (e : Entry) → e.answer.place ≡ o.base + length before + 1 → AreEarlier (o.base + length before) (all_rows o before)
+pub earlier-push : (o : Opening) (before : List Entry) (e : Entry) → e.answer.place ≡ o.base + length before + 1 → AreEarlier (o.base + length before) (all_rows o before)
     → AreEarlier (o.base + length (before ++ e ∷ [])) (all_rows o (before ++ e ∷ []))
 earlier-push o before e place all =
     let long = length-append before (e ∷ []) in
@@ -182,17 +182,17 @@ earlier-push o before e place all =
     (one-earlier (is_fault e.answer.reply) e (o.base + length (before ++ e ∷ [])) (omega (arith, long, place))))
 
 -- an entry that is no repeat
-own-decks : (e : Entry) → e.answer.first ≡ e.answer.place → decks_of_entry e ≡ decks_told e.answer.reply (deck_of e.request.op)
+pub own-decks : (e : Entry) → e.answer.first ≡ e.answer.place → decks_of_entry e ≡ decks_told e.answer.reply (deck_of e.request.op)
 own-decks e is =
     let test : nat_eq e.answer.first e.answer.place ≡ true = grind (arith, nat_tests) in rw test refl
 
 -- an entry with a reply that changes nothing
-quiet-entry : (b : Bool) (e : Entry) → may_change e.answer.reply ≡ false → cond b (decks_told e.answer.reply (deck_of e.request.op)) [] ≡ []
+pub quiet-entry : (b : Bool) (e : Entry) → may_change e.answer.reply ≡ false → cond b (decks_told e.answer.reply (deck_of e.request.op)) [] ≡ []
 quiet-entry true e quiet = quiet-decks e.answer.reply (deck_of e.request.op) quiet
 quiet-entry false e quiet = refl
 
 -- a repeat has no deck of its own
-repeat-decks : (e : Entry) → e.answer.first < e.answer.place → decks_of_entry e ≡ []
+pub repeat-decks : (e : Entry) → e.answer.first < e.answer.place → decks_of_entry e ≡ []
 repeat-decks e less =
     let test : nat_eq e.answer.first e.answer.place ≡ false = grind (arith, nat_tests) in rw test refl
 

@@ -98,7 +98,7 @@ granted-keeps s alloc wish volume position reply after lawful is there grants =
     let own : tracks_of volume.volser wish.config.volumes ≡ volume.tracks = each-at P (candidates_of wish) position volume each there in
     let now : tracks_of volume.volser (volumes_in s.active) ≡ volume.tracks = ap (λ (o : Option Configuration). tracks_of volume.volser (volumes_in o)) is.active ∙ own in
     let grant = grant-lawful s volume wish.space.unit (primary_tracks_of wish.space) 0 grants.pieces lawful is.some grants.granted in
-    made _ after _ reply (lawful-new s (new_set alloc wish volume grants.pieces) volume.volser volume.tracks (primary_tracks_of wish.space) grants.pieces lawful is.some is.volumes now refl grant) grants.makes
+    made _ after _ reply (lawful-new s (new_set alloc wish volume grants.pieces) volume.volser volume.tracks (primary_tracks_of wish.space) grants.pieces lawful is.some now refl grant) grants.makes
 
 pub alloc-keeps : (s : DeskState) (job : List ℕ) (alloc : Alloc) (reply : Reply) (after : DeskState) → IsLawful s → IsSoundAlloc alloc → AllocRule s job alloc reply after → IsLawful after
 alloc-keeps s job alloc reply after lawful sound rule =

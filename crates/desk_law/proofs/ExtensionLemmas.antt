@@ -27,7 +27,7 @@ mapped : (w : List ℕ) (o : Option (List Piece)) (added : List Extent) (C : Typ
 mapped w None added C is then = absurd cc
 mapped w (Some pieces) added C is then = then pieces refl cc
 
-more-at : (s : DeskState) (set : DataSet) (volume : VolumeDef) (added : List Extent) (C : Type 0) (b : Bool) → bars_growth s volume ≡ b
+pub more-at : (s : DeskState) (set : DataSet) (volume : VolumeDef) (added : List Extent) (C : Type 0) (b : Bool) → bars_growth s volume ≡ b
     → growth_on s set (Some volume) ≡ Some added
     → ((pieces : List Piece) → grant_on s volume set.unit set.secondary (length (pieces_on volume.volser set.extents)) ≡ Some pieces → extents_at volume.volser pieces ≡ added → C) → C
 more-at s set volume added C true bars is then =
@@ -42,14 +42,11 @@ extend-last : (s : DeskState) (dsn : List ℕ) (set : DataSet) (o : Option Volum
 extend-last s dsn set None added reply after lawful found some last is extends = absurd cc
 extend-last s dsn set (Some volume) added reply after lawful found some last is extends =
     more-at s set volume added (IsLawful after) _ refl is (λ pieces granted there_is.
-    let old = each-named (IsLawfulSet (volumes_in s.active)) dsn s.sets set lawful.sets found in
     let there = last-is s set.extents volume last in
     let held = length (pieces_on volume.volser set.extents) in
     let grant = grant-lawful s volume set.unit set.secondary held pieces lawful some granted in
-    let spread : length (volumes_of (set.extents ++ extents_at volume.volser pieces)) ≤ set.volumes =
-    subst (λ n. n ≤ set.volumes) (sym (spread-same volume.volser pieces set.extents [] (inr there.0))) old.spread in
     made _ after _ reply (subst (λ (es : List Extent). IsLawful (with_set s (extended set es))) there_is
-    (lawful-extended s dsn volume.volser volume.tracks set.secondary held set pieces lawful found there.1 refl spread grant)) extends)
+    (lawful-extended s dsn volume.volser volume.tracks set.secondary held set pieces lawful found there.1 refl grant)) extends)
 
 not-true : (b : Bool) → not b ≡ true → b ≡ false
 not-true true is = absurd cc
@@ -69,9 +66,7 @@ extend-further s dsn set (Some first) volume position reply after lawful found s
     let off : is_among volume.volser (volumes_of set.extents) ≡ false = not-true _ passes in
     let missing : count_on volume.volser set.extents ≡ 0 = free-volume volume.volser set.extents [] refl off in
     let grant = grant-lawful s volume set.unit set.secondary 0 extends.pieces lawful some extends.granted in
-    let more = spread-more volume.volser extends.pieces set.extents [] in
-    let spread : length (volumes_of (set.extents ++ extents_at volume.volser extends.pieces)) ≤ set.volumes = omega (arith, more, fewer) in
-    made _ after _ reply (lawful-extended s dsn volume.volser volume.tracks set.secondary 0 set extends.pieces lawful found own missing spread grant) extends.extends
+    made _ after _ reply (lawful-extended s dsn volume.volser volume.tracks set.secondary 0 set extends.pieces lawful found own missing grant) extends.extends
 
 further-keeps : (s : DeskState) (dsn : List ℕ) (set : DataSet) (reply : Reply) (after : DeskState) → IsLawful s → set_named dsn s.sets ≡ Some set → 0 < set.secondary → FurtherRule s set reply after → IsLawful after
 further-keeps s dsn set reply after lawful is some rule =

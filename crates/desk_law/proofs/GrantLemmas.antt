@@ -58,16 +58,15 @@ new-once s w v tracks need most t pieces true is lawful grant =
 new-once s w v tracks need most t pieces false is lawful grant = omega (arith, lawful.once v t, times-off w v pieces t is)
 
 -- a new data set with what a volume grants
-pub lawful-new : (s : DeskState) (set : DataSet) (w : List ℕ) (tracks need : ℕ) (pieces : List Piece) → IsLawful s → 0 < need → 1 ≤ set.volumes → tracks_of w (volumes_in s.active) ≡ tracks
+pub lawful-new : (s : DeskState) (set : DataSet) (w : List ℕ) (tracks need : ℕ) (pieces : List Piece) → IsLawful s → 0 < need → tracks_of w (volumes_in s.active) ≡ tracks
     → set.extents ≡ extents_at w pieces → IsGrant tracks (held_on s w) need (pieces_allowed 0) pieces → IsLawful (with_set s set)
-lawful-new s set w tracks need pieces lawful need_some count is at grant =
+lawful-new s set w tracks need pieces lawful need_some is at grant =
     let few = grant.few in
     lawful-put s set lawful
     (record {
       some = subst (λ (es : List Extent). 0 < length es) (sym at) (some-at w need pieces need_some grant.sum);
       inside = subst (AllByRecursion (IsInside (volumes_in s.active))) (sym at) (inside-at (volumes_in s.active) w tracks pieces is grant.inside);
       few = λ v. subst (λ (es : List Extent). count_on v es ≤ 16) (sym at) (few-at w v 16 pieces _ refl (omega (arith, few)));
-      spread = subst (λ (es : List Extent). length (volumes_of es) ≤ set.volumes) (sym at) (let one = spread-one w pieces [] in omega (arith, one, count));
     })
     (λ v t.
     let once = new-once s w v tracks need (pieces_allowed 0) t pieces _ refl lawful grant in
@@ -84,9 +83,9 @@ more-few w v held es pieces true is before here few =
 more-few w v held es pieces false is before here few = omega (arith, count-append v es (extents_at w pieces), count-off w v pieces is, before)
 
 pub lawful-extended : (s : DeskState) (dsn w : List ℕ) (tracks need held : ℕ) (set : DataSet) (pieces : List Piece) → IsLawful s → set_named dsn s.sets ≡ Some set → tracks_of w (volumes_in s.active) ≡ tracks
-    → count_on w set.extents ≡ held → length (volumes_of (set.extents ++ extents_at w pieces)) ≤ set.volumes → IsGrant tracks (held_on s w) need (pieces_allowed held) pieces
+    → count_on w set.extents ≡ held → IsGrant tracks (held_on s w) need (pieces_allowed held) pieces
     → IsLawful (with_set s (extended set (extents_at w pieces)))
-lawful-extended s dsn w tracks need held set pieces lawful found is here spread grant =
+lawful-extended s dsn w tracks need held set pieces lawful found is here grant =
     let old = each-named (IsLawfulSet (volumes_in s.active)) dsn s.sets set lawful.sets found in
     let some = old.some in
     lawful-more s dsn set (extended set (extents_at w pieces)) lawful found refl
@@ -94,7 +93,6 @@ lawful-extended s dsn w tracks need held set pieces lawful found is here spread 
       some = omega (arith, some, length-append set.extents (extents_at w pieces));
       inside = each-append (IsInside (volumes_in s.active)) set.extents (extents_at w pieces) old.inside (inside-at (volumes_in s.active) w tracks pieces is grant.inside);
       few = λ v. more-few w v held set.extents pieces _ refl (old.few v) here grant.few;
-      spread = spread;
     })
     (λ v t. omega (arith, new-once s w v tracks need (pieces_allowed held) t pieces _ refl lawful grant, times-append v set.extents (extents_at w pieces) t))
 

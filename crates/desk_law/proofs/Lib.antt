@@ -14,6 +14,8 @@ pub mod DeckLemmas
 pub mod RuleLemmas
 pub mod StepLemmas
 pub mod HistoryLemmas
+pub mod EachLemmas
+pub mod SpreadKeeps
 pub mod SumLemmas
 pub mod VolumeLemmas
 pub mod FloorLemmas
@@ -36,3 +38,4 @@ pub mod TwoSetsExamples
 pub mod TraceExamples
 pub mod PurgeExamples
 pub mod RoutineExamples
+pub mod DeckedLemmas

@@ -51,7 +51,7 @@ used-keeps s dsn tracks reply after lawful rule =
     (λ set e makes. let is = used-found s dsn tracks set e in
     let old = each-named (IsLawfulSet (volumes_in s.active)) dsn s.sets set lawful.sets is in
     made _ after _ reply (lawful-less s dsn set (with_extents set tracks set.extents) lawful is refl
-    (record { some = old.some; inside = old.inside; few = old.few; spread = old.spread }) (λ v t. omega arith)) makes)
+    (record { some = old.some; inside = old.inside; few = old.few }) (λ v t. omega arith)) makes)
     (λ answer e leaves. left s after answer reply lawful leaves)
 
 release-keeps : (s : DeskState) (dsn : List ℕ) (reply : Reply) (after : DeskState) → IsLawful s → ReleaseRule s dsn reply after → IsLawful after
@@ -66,7 +66,6 @@ release-keeps s dsn reply after lawful rule =
       some = front-some (tracks_kept set) set.extents keep_some old.some;
       inside = front-inside (volumes_in s.active) (tracks_kept set) set.extents old.inside;
       few = λ v. let few = old.few v in omega (arith, front-count v (tracks_kept set) set.extents, few);
-      spread = let spread = old.spread in omega (arith, front-spread (tracks_kept set) set.extents [], spread);
     }) (λ v t. front-times v (tracks_kept set) set.extents t)) makes)
     (λ answer e leaves. left s after answer reply lawful leaves)
 

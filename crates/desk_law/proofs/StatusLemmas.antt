@@ -112,7 +112,6 @@ sets-activated volumes others (set ∷ sets) large all =
         some = here.some;
         inside = still-inside volumes others set.extents (λ n there. large n (used-left n set.extents (extents_of sets) there)) here.inside;
         few = here.few;
-        spread = here.spread;
       },
       sets-activated volumes others sets (λ n there. large n (used-right n set.extents (extents_of sets) there)) all.1,
     )
