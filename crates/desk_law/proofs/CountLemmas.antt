@@ -73,7 +73,7 @@ pieces-off w v (p ∷ pieces) is = rw is (pieces-off w v pieces is)
 abbrev pub sum_all : (Piece → ℕ) → List ℕ → List DataSet → ℕ
 sum_all f volser sets = sum_on f volser (extents_of sets)
 
-all-cons : (f : Piece → ℕ) (v : List ℕ) (set : DataSet) (sets : List DataSet) → sum_all f v (set ∷ sets) ≡ sum_on f v set.extents + sum_all f v sets
+pub all-cons : (f : Piece → ℕ) (v : List ℕ) (set : DataSet) (sets : List DataSet) → sum_all f v (set ∷ sets) ≡ sum_on f v set.extents + sum_all f v sets
 all-cons f v set sets = sum-append f v set.extents (extents_of sets)
 
 all-push : (f : Piece → ℕ) (v : List ℕ) (sets : List DataSet) (set : DataSet) → sum_all f v (sets ++ set ∷ []) ≡ sum_all f v sets + sum_on f v set.extents
