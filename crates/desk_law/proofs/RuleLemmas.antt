@@ -53,7 +53,7 @@ lawful-released s dsn set lawful found =
     (λ v t. let once = lawful.once v t in omega (arith, once, front-times v (tracks_kept set) set.extents t))
 
 -- what a sound ALLOC is
-sound-alloc : (op : Op) (alloc : Alloc) → op ≡ ops.Alloc alloc → IsSound op → IsSoundAlloc alloc
+pub sound-alloc : (op : Op) (alloc : Alloc) → op ≡ ops.Alloc alloc → IsSound op → IsSoundAlloc alloc
 sound-alloc op alloc is sound = subst IsSound is sound
 
 pub rule-keeps : (old_floor : List ℕ → ℕ) (s : DeskState) (job : List ℕ) (op : Op) (reply : Reply) (after : DeskState) → IsLawful s → IsSound op → Rule old_floor s job op reply after → IsLawful after
