@@ -120,14 +120,25 @@ all-put f v set sets once = omega (arith, all-push f v (without_set set.dsn sets
 pub times-put : (v : List ℕ) (set : DataSet) (sets : List DataSet) (t : ℕ) → times_named set.dsn sets ≤ 1
     → times_on v (extents_of (put_set set sets)) t + times_on v (extents_named set.dsn sets) t ≡ times_on v (extents_of sets) t + times_on v set.extents t
 times-put v set sets t once =
-    omega (arith, all-put (once_of t) v set sets once, times-is (pieces_on v (extents_of (put_set set sets))) t, times-is (pieces_on v (extents_named set.dsn sets)) t,
-    times-is (pieces_on v (extents_of sets)) t, times-is (pieces_on v set.extents) t)
+    omega (
+      arith,
+      all-put (once_of t) v set sets once,
+      times-is (pieces_on v (extents_of (put_set set sets))) t,
+      times-is (pieces_on v (extents_named set.dsn sets)) t,
+      times-is (pieces_on v (extents_of sets)) t,
+      times-is (pieces_on v set.extents) t,
+    )
 
 pub times-without : (v dsn : List ℕ) (sets : List DataSet) (t : ℕ) → times_named dsn sets ≤ 1
     → times_on v (extents_of (without_set dsn sets)) t + times_on v (extents_named dsn sets) t ≡ times_on v (extents_of sets) t
 times-without v dsn sets t once =
-    omega (arith, all-without (once_of t) v dsn sets once, times-is (pieces_on v (extents_of (without_set dsn sets))) t, times-is (pieces_on v (extents_named dsn sets)) t,
-    times-is (pieces_on v (extents_of sets)) t)
+    omega (
+      arith,
+      all-without (once_of t) v dsn sets once,
+      times-is (pieces_on v (extents_of (without_set dsn sets))) t,
+      times-is (pieces_on v (extents_named dsn sets)) t,
+      times-is (pieces_on v (extents_of sets)) t,
+    )
 
 -- Names.
 

@@ -78,10 +78,13 @@ grant-given s volume ask held pieces lawful sound most is found = given grant.as
   where
     need : IsNeed (need_on s volume ask held)
     need = record { some = sound.some; whole = sound.whole; few = most; breakpoint = breakpoint-small s.active volume.group lawful.config }
+
     grant : IsGrant volume.tracks (held_on s volume.volser) (need_on s volume ask held) pieces
     grant = beside-is volume.tracks (need_on s volume ask held) (held_on s volume.volser) pieces need (lawful.once volume.volser) found
+
     of_parts : 0 < length (extents_at volume.volser pieces) → AllByRecursion LiesInPart (extents_at volume.volser pieces) → IsGiven s volume.volser held pieces
     of_parts some parted = record { some = some; inside = inside-at (volumes_in s.active) volume.volser volume.tracks pieces is grant.inside; parted = parted; few = grant.few; once = grant.once }
+
     given : IsAsked 0 border (tracks_in ask.unit) ask.tracks pieces ⊎ IsAsked border volume.tracks tracks_in_managed (rounded_up tracks_in_managed ask.tracks) pieces → IsGiven s volume.volser held pieces
     given (inl low) = of_parts (some-at volume.volser _ pieces sound.some low.sum) (low-parted volume.volser (tracks_in ask.unit) pieces low.placed)
     given (inr high) = of_parts (some-at volume.volser _ pieces (rounded-some tracks_in_managed ask.tracks (omega arith) sound.some) high.sum) (high-parted volume.volser volume.tracks pieces high.placed)

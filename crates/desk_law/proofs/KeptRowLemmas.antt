@@ -226,8 +226,7 @@ each-found o h whole front (row ∷ rest) are is =
     let p = is_reply_of row.job row.number in
     let here : filter p (row ∷ rest) ≡ row ∷ filter p rest = rw (own-key row) refl in
     let parts : kept_rows (nat_lt row.number (floor_of o h row.job)) (find p (all_rows o h)) ≡ filter p front ++ row ∷ filter p rest =
-    sym (are row.job row.number) ∙ (ap (filter p) is ∙ (filter-append p front (row ∷ rest) ∙ ap (λ (l : List KeptRow). filter p front ++ l) here)) in
-    (
+    sym (are row.job row.number) ∙ (ap (filter p) is ∙ (filter-append p front (row ∷ rest) ∙ ap (λ (l : List KeptRow). filter p front ++ l) here)) in (
       only-kept _ _ (filter p front) (filter p rest) row parts,
       each-found o h whole (front ++ row ∷ []) rest are (is ∙ push-front front row rest),
     )

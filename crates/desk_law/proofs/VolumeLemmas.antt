@@ -12,5 +12,15 @@ pub two-sets : (s : DeskState) (front middle rest : List DataSet) (a b : DataSet
 two-sets s front middle rest a b v t lawful is =
     let f = once_of t in
     let same : sum_all f v s.sets ≡ sum_all f v (front ++ a ∷ (middle ++ b ∷ rest)) = ap (λ (l : List DataSet). sum_all f v l) is in
-    omega (arith, lawful.once v t, times-is (pieces_on v (extents_of s.sets)) t, times-is (pieces_on v a.extents) t, times-is (pieces_on v b.extents) t,
-    same, all-append f v front (a ∷ (middle ++ b ∷ rest)), all-cons f v a (middle ++ b ∷ rest), all-append f v middle (b ∷ rest), all-cons f v b rest)
+    omega (
+      arith,
+      lawful.once v t,
+      times-is (pieces_on v (extents_of s.sets)) t,
+      times-is (pieces_on v a.extents) t,
+      times-is (pieces_on v b.extents) t,
+      same,
+      all-append f v front (a ∷ (middle ++ b ∷ rest)),
+      all-cons f v a (middle ++ b ∷ rest),
+      all-append f v middle (b ∷ rest),
+      all-cons f v b rest,
+    )
