@@ -20,7 +20,7 @@ use Rattle.track_ledger.proofs.BesideLemmas.{beside-is}
 use Rattle.desk_law.specs.State.{DeskState, set_named, with_set}
 use Rattle.desk_law.specs.Extents.{extents_at, extents_named, held_on, is_used}
 use Rattle.desk_law.specs.Volumes.{groups_in, times_volume, tracks_of, volumes_in}
-use Rattle.desk_law.specs.Candidates.{Ask, breakpoint_of, grant_on, need_on}
+use Rattle.desk_law.specs.Candidates.{Ask, IsSoundAsk, breakpoint_of, grant_on, need_on}
 use Rattle.desk_law.specs.Extension.{extended, last_volume}
 use Rattle.desk_law.specs.Lawful.{IsInside, IsLawful, IsLawfulSet, IsWhole, LiesInPart}
 use Rattle.desk_law.proofs.ByteLemmas.{bytes-same, bytes-self, bytes-turned, same-bytes}
@@ -28,11 +28,6 @@ use Rattle.desk_law.proofs.PlaceLemmas.{each-both, find-each}
 use Rattle.desk_law.proofs.CountLemmas.{times_on, count_on, times-append, count-append, pieces-at, pieces-off}
 use Rattle.desk_law.proofs.FrontLemmas.{rounded-some}
 use Rattle.desk_law.proofs.SetLemmas.{each-append, each-named, lawful-changed, lawful-put}
-
--- at least one track is asked for, in whole units
-pub record IsSoundAsk (ask : Ask) : Type 0 where
-  pub some : 0 < ask.tracks
-  pub whole : ask.tracks % tracks_in ask.unit ≡ 0
 
 breakpoint-small : (active : Option Configuration) (name : List ℕ) → IfSome active IsConfiguration → breakpoint_of (find (λ (group : StorGroup). bytes_eq group.name name) (groups_in active)) ≤ most_breakpoint
 breakpoint-small None name is = omega arith
