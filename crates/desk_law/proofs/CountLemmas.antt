@@ -1,6 +1,6 @@
 -- What extents hold of a volume, counted.
 use Rattle.std.proofs.Common.{◌≡◌, ◌≤◌, ℕ, zero, suc, ◌+◌, Bool, true, false, cond, List, [], ◌∷◌, ◌++◌, length, refl, sym, ap, ◌∙◌, arith}
-use Rattle.std.specs.Prelude.{Some, bytes_eq, not}
+use Rattle.std.specs.Prelude.{bytes_eq, not}
 use Rattle.std.specs.List.{sum_by}
 use Rattle.std.proofs.lemmas.List.Sums.{sum_by-append, sum_by-cons}
 use Rattle.sms_construct.specs.declared.data_set.DataSet.{DataSet}
@@ -9,7 +9,6 @@ use Rattle.sms_keeper.specs.Tables.{put_set, without_set}
 use Rattle.track_ledger.specs.declared.piece.Piece.{Piece}
 use Rattle.track_ledger.specs.Extents.{AreAlike}
 use Rattle.track_ledger.specs.Gaps.{holds, times_held}
-use Rattle.desk_law.specs.State.{set_named}
 use Rattle.desk_law.specs.Extents.{extents_at, extents_named, extents_of, piece_of, pieces_on}
 use Rattle.desk_law.specs.Lawful.{times_named}
 use Rattle.desk_law.proofs.ByteLemmas.{same-bytes}

@@ -1,5 +1,5 @@
 -- EXTEND leads from a lawful state to a lawful one.
-use Rattle.std.proofs.Common.{◌≡◌, ◌≤◌, ◌<◌, ℕ, Bool, true, false, List, [], ◌++◌, length, refl, subst, arith}
+use Rattle.std.proofs.Common.{◌≡◌, ℕ, Bool, true, false, List, [], length, refl, subst, arith}
 use Rattle.std.specs.Prelude.{Option, None, Some, bytes_eq, option_map, slice_get, not, nat_eq}
 use Rattle.std.proofs.lemmas.Bool.Decides.{nat_tests}
 use Rattle.sms_construct.specs.declared.data_set.DataSet.{DataSet}

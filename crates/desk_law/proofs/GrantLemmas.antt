@@ -1,5 +1,5 @@
 -- What a grant does to the data sets.
-use Rattle.std.proofs.Common.{◌≡◌, ◌≤◌, ◌<◌, ℕ, zero, suc, ◌+◌, ◌%◌, Bool, true, false, cond, List, [], ◌∷◌, ◌++◌, length, refl, sym, ap, ◌∙◌, subst, arith, length-append, inl, inr}
+use Rattle.std.proofs.Common.{◌≡◌, ◌≤◌, ◌<◌, ℕ, zero, suc, ◌+◌, Bool, true, false, cond, List, [], ◌∷◌, ◌++◌, length, refl, sym, ap, ◌∙◌, subst, arith, length-append, inl, inr}
 use Rattle.std.specs.Prelude.{◌⊎◌, Option, None, Some, IfSome, find, bytes_eq}
 use Rattle.std.specs.List.{All, AllByRecursion, sum_by}
 use Rattle.std.proofs.lemmas.List.Elements.{All-head, All-tail}
@@ -18,7 +18,7 @@ use Rattle.track_ledger.specs.Need.{IsNeed}
 use Rattle.track_ledger.specs.Parts.{IsPlaced}
 use Rattle.track_ledger.proofs.BesideLemmas.{beside-is}
 use Rattle.desk_law.specs.State.{DeskState, set_named, with_set}
-use Rattle.desk_law.specs.Extents.{extents_at, extents_named, held_on, is_used}
+use Rattle.desk_law.specs.Extents.{extents_at, held_on, is_used}
 use Rattle.desk_law.specs.Volumes.{groups_in, times_volume, tracks_of, volumes_in}
 use Rattle.desk_law.specs.Candidates.{Ask, IsSoundAsk, breakpoint_of, grant_on, need_on}
 use Rattle.desk_law.specs.Extension.{extended, last_volume}

@@ -1,5 +1,5 @@
 -- The kept rows of the tables of a history.
-use Rattle.std.proofs.Common.{◌≡◌, ◌≤◌, ◌<◌, ℕ, zero, suc, ◌+◌, Bool, true, false, cond, List, [], ◌∷◌, ◌++◌, length, refl, sym, ap, ◌∙◌, subst, arith, length-append, inl, inr}
+use Rattle.std.proofs.Common.{◌≡◌, ◌≤◌, ℕ, zero, suc, ◌+◌, Bool, true, false, cond, List, [], ◌∷◌, ◌++◌, length, refl, sym, ap, ◌∙◌, subst, arith, length-append, inl, inr}
 use Rattle.std.specs.Prelude.{◌⊎◌, Option, None, Some, bytes_eq, filter, find, nat_eq, nat_lt}
 use Rattle.std.specs.List.{AllByRecursion}
 use Rattle.std.proofs.lemmas.Bool.Decides.{nat_tests}
@@ -11,13 +11,13 @@ use Rattle.sms_construct.specs.declared.request.Op.{Op}
 use Rattle.sms_keeper.specs.declared.floor.Floor.{Floor}
 use Rattle.sms_keeper.specs.declared.kept_row.KeptRow.{KeptRow}
 use Rattle.sms_keeper.specs.Tables.{is_reply_of}
-use Rattle.desk_law.specs.State.{DeskState, Opening, start_of}
+use Rattle.desk_law.specs.State.{DeskState, Opening}
 use Rattle.desk_law.specs.Kept.{all_floors, all_rows, floor_of, is_fault, row_of_entry, rows_of}
 use Rattle.desk_law.specs.KeptRows.{AreKeptRows, IsKeptRow, times_placed}
 use Rattle.desk_law.specs.Records.{AreKept, kept_rows}
 use Rattle.desk_law.specs.Rule.{Rule}
 use Rattle.desk_law.specs.Step.{IsFault, IsFresh}
-use Rattle.desk_law.specs.History.{IsLegal, Reaches}
+use Rattle.desk_law.specs.History.{IsLegal}
 use Rattle.desk_law.proofs.ByteLemmas.{bytes-same}
 use Rattle.desk_law.proofs.AnswerLemmas.{step-fresh}
 use Rattle.desk_law.proofs.CaseLemmas.{on-rule}

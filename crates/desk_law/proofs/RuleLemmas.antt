@@ -11,7 +11,7 @@ use Rattle.sms_construct.specs.declared.unit.Unit.{Unit as SpaceUnit}
 use Rattle.sms_construct.specs.declared.unit.Unit.TheVariants.{Trk, Cyl}
 use Rattle.desk_law.specs.State.{DeskState, set_named, with_set}
 use Rattle.desk_law.specs.Extents.{front_tracks, with_extents}
-use Rattle.desk_law.specs.Extension.{first_volume, last_volume}
+use Rattle.desk_law.specs.Extension.{last_volume}
 use Rattle.desk_law.specs.Volumes.{volumes_in}
 use Rattle.desk_law.specs.Releasing.{kept_of, tracks_kept}
 use Rattle.desk_law.specs.Rule.{IsSound, IsSoundAlloc, Rule}

@@ -1,11 +1,11 @@
 -- Each data set lies on at most as many volumes as it may.
-use Rattle.std.proofs.Common.{◌≡◌, ◌≤◌, ◌<◌, ℕ, List, [], ◌++◌, length, sym, subst, arith, inr}
+use Rattle.std.proofs.Common.{◌≡◌, ◌≤◌, List, [], sym, subst, arith, inr}
 use Rattle.std.specs.Prelude.{Some}
 use Rattle.sms_construct.specs.declared.data_set.DataSet.{DataSet}
 use Rattle.sms_construct.specs.declared.volume.VolumeDef.{VolumeDef}
 use Rattle.track_ledger.specs.declared.piece.Piece.{Piece}
 use Rattle.desk_law.specs.State.{DeskState}
-use Rattle.desk_law.specs.Extents.{extents_at, volumes_of}
+use Rattle.desk_law.specs.Extents.{extents_at}
 use Rattle.desk_law.specs.Extension.{extended, last_volume}
 use Rattle.desk_law.specs.Releasing.{tracks_kept}
 use Rattle.desk_law.specs.Lawful.{IsSpread}
