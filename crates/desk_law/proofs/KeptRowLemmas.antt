@@ -23,7 +23,7 @@ use Rattle.desk_law.proofs.AnswerLemmas.{step-fresh}
 use Rattle.desk_law.proofs.CaseLemmas.{on-rule}
 use Rattle.desk_law.proofs.FloorLemmas.{floor-more}
 use Rattle.desk_law.proofs.HistoryLemmas.{legal-stands}
-use Rattle.desk_law.proofs.PlaceLemmas.{find-each}
+use Rattle.desk_law.proofs.PlaceLemmas.{filter-append, find-each}
 use Rattle.desk_law.proofs.RowLemmas.{IsRowOf, found-parts, row-entry}
 
 -- The reply of a rule is kept.
@@ -195,14 +195,6 @@ comes-one o h a b old (inr one) (inr two) same =
     one.row_is ∙ (ap row_of_entry entry ∙ sym two.row_is)
 
 -- The rows of the tables.
-
-filter-append-at : {X : Type 0} (p : X → Bool) (x : X) (a b : List X) (c : Bool) → p x ≡ c → filter p (a ++ b) ≡ filter p a ++ filter p b → filter p (x ∷ (a ++ b)) ≡ filter p (x ∷ a) ++ filter p b
-filter-append-at p x a b true is rest = rw is (ap (λ l. x ∷ l) rest)
-filter-append-at p x a b false is rest = rw is rest
-
-filter-append : {X : Type 0} (p : X → Bool) (a b : List X) → filter p (a ++ b) ≡ filter p a ++ filter p b
-filter-append p [] b = refl
-filter-append p (x ∷ a) b = filter-append-at p x a b _ refl (filter-append p a b)
 
 -- a row among those that are kept is the one that is found
 only-kept : (below : Bool) (found : Option KeptRow) (front rest : List KeptRow) (row : KeptRow) → kept_rows below found ≡ front ++ row ∷ rest → (below ≡ false) × (found ≡ Some row)

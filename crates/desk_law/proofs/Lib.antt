@@ -26,6 +26,7 @@ pub mod AnswerLemmas
 pub mod RowLemmas
 pub mod GrantedLemmas
 pub mod KeptRowLemmas
+pub mod OrderLemmas
 pub mod ActivationLemmas
 pub mod ActiveLemmas
 pub mod ExampleDecks

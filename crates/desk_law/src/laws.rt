@@ -154,3 +154,9 @@ pub fn kept_rows_always()
     ensures { (o : Opening) (history : List Entry) (s : DeskState) (rows : Rows) → AreKeptRows o.base o.rows.replies → Reaches o history s →
         IsTables o history s rows → AreKeptRows (o.base + length history) rows.replies }
 {}
+
+/// The tables of a legal history, in any order of their keys, are rows from which a desk may go on in a lawful way.
+pub fn tables_are_lawful()
+    ensures { (o : Opening) (history : List Entry) (s : DeskState) (rows : Rows) (base : ℕ) → IsLawfulOpening o → Reaches o history s →
+        IsTables o history s rows → IsLawfulOpening (record { rows = rows; config = s.active; base = base }) }
+{}
