@@ -25,6 +25,7 @@ pub mod FloorLemmas
 pub mod AnswerLemmas
 pub mod RowLemmas
 pub mod GrantedLemmas
+pub mod PlacedRowLemmas
 pub mod KeptRowLemmas
 pub mod OrderLemmas
 pub mod ActivationLemmas
