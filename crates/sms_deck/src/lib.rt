@@ -18,6 +18,7 @@ mod sources;
 mod top_table;
 mod value_form;
 mod values;
+mod version;
 mod volume_table;
 
 pub use config::Config;
