@@ -1,5 +1,5 @@
 -- What holds of each configuration that a deck gives.
-use Rattle.std.proofs.Common.{◌≡◌, ◌≤◌, ◌<◌, ◌+◌, ◌*◌, take, drop, ◌||◌, ℕ, Bool, true, false, List, [], ◌∷◌, ◌++◌, map, bytes_eq, length, refl, sym, ap, ◌∙◌, subst, arith, nat_lt}
+use Rattle.std.proofs.Common.{◌≡◌, ◌≤◌, ◌<◌, ◌+◌, take, drop, ◌||◌, ℕ, Bool, true, false, List, [], ◌∷◌, ◌++◌, map, bytes_eq, length, refl, sym, subst, arith, nat_lt}
 use Rattle.std.specs.Prelude.{Option, Some, None, ◌&&◌, ◌==◌, nat_le, IfSome, unwrap_or, position, pos, codes, if◌then◌else◌}
 use Rattle.std.specs.Option.{option_and_then, option_or}
 use Rattle.std.specs.BTreeMap.{insert_entry}
@@ -11,7 +11,7 @@ use Rattle.std.specs.Cmp.Lexicographic.{slice_cmp}
 use Rattle.std.proofs.lemmas.Bool.Decides.{nat_tests}
 use Rattle.std.proofs.lemmas.List.{length-append, length-map}
 use Rattle.std.proofs.lemmas.Slice.Eq.{bytes_eq-Decides}
-use Rattle.toml.specs.Data.{Data, string, integer, Members, no_members, member, get_member, as_table, as_str, members_are_sorted}
+use Rattle.toml.specs.Data.{Data, integer, Members, no_members, member, get_member, as_table, as_str, members_are_sorted}
 use Rattle.desk_common.specs.Limits.{most_tracks}
 use Rattle.dsn_mask.specs.Name.{name_of, volser_of}
 use Rattle.acs_tree.specs.declared.kind.Kind.{Kind}
@@ -24,8 +24,8 @@ use Rattle.sms_construct.specs.declared.status.Status.{Status}
 use Rattle.sms_construct.specs.declared.status.Status.TheVariants.{Enable}
 use Rattle.sms_construct.specs.declared.volume.VolumeDef.{VolumeDef}
 use Rattle.sms_construct.specs.declared.storage_group.StorGroup.{StorGroup}
-use Rattle.sms_construct.specs.Quantities.{IsSpace, IsVolumeCount, Quantities, most_breakpoint, space_of}
-use Rattle.sms_construct.specs.Configuration.{Configuration, IsConfiguration, IsDataClass, Routines, most_volumes, names_of, has_construct, are_ascending, routine_of, is_connected}
+use Rattle.sms_construct.specs.Quantities.{IsSpace, IsVolumeCount, most_breakpoint}
+use Rattle.sms_construct.specs.Configuration.{Configuration, IsConfiguration, IsDataClass, Routines, most_volumes, names_of, are_ascending, routine_of, is_connected}
 use Rattle.sms_deck.specs.declared.place.Place.{Place}
 use Rattle.sms_deck.specs.Limits.{most_cylinders}
 use Rattle.sms_deck.specs.Tables.{tables_fault}
@@ -35,7 +35,7 @@ use Rattle.sms_construct.specs.SpaceText.{space_with, list_of_quantities, quanti
 use Rattle.sms_deck.specs.Values.{Words, devices, volume_statuses, meaning_in, word_in, integer_in, are_whole, cylinders_in, space_in}
 use Rattle.sms_deck.specs.Layout.{key_count, or_empty, table_at}
 use Rattle.sms_deck.specs.Constructs.{read_at, with_named, named, data_class_of, storage_class_of, management_class_of, group_of, size_of, tracks_of, volume_of, group_volumes, all_volumes}
-use Rattle.sms_deck.specs.Places.{Places, has_place, put_volume, put_volumes, groups_in, places_of, volumes_in, volume_count, volume_total, total_fault, twice_fault}
+use Rattle.sms_deck.specs.Places.{Places, has_place, put_volume, put_volumes, groups_in, places_of, volumes_in, volume_total, total_fault, twice_fault}
 use Rattle.sms_deck.specs.Outcomes.{Outcome, Absent, Long, Sound, Faulty, IsOutcomeOf, Outcomes, AreOutcomes, outcomes_from, routines_in, sound_in, source_of}
 use Rattle.sms_deck.specs.Reading.{Configures, MeansTable, configuration_of, fault_of, first_of, form_fault, sources_fault, assigned_faults}
 use Rattle.sms_deck.proofs.OrderLemmas.{ascending, names_ascend, inner_sorted, lined_volumes, volsers_ascend}
@@ -302,18 +302,21 @@ few_where top e =
     let d = length-map (places_of top) (λ place. place.1.volume) in
     grind (arith, nat_tests)
 
-second_none : {A : Type 0} (o p : Option A) → option_or o p ≡ None → p ≡ None
+pub second_none : {A : Type 0} (o p : Option A) → option_or o p ≡ None → p ≡ None
 second_none None p e = e
 second_none (Some x) p e = cc
 
-first_none : {A : Type 0} (o p : Option A) → option_or o p ≡ None → o ≡ None
+pub first_none : {A : Type 0} (o p : Option A) → option_or o p ≡ None → o ≡ None
 first_none None p e = refl
 first_none (Some x) p e = cc
+
+pub no_tables : (top : Members) → form_fault top ≡ None → tables_fault top ≡ None
+no_tables top e = first_none (tables_fault top) (option_or (total_fault top) (option_or (twice_fault top) None)) e
 
 no_total : (top : Members) → form_fault top ≡ None → total_fault top ≡ None
 no_total top e = first_none (total_fault top) (option_or (twice_fault top) None) (second_none (tables_fault top) (option_or (total_fault top) (option_or (twice_fault top) None)) e)
 
-no_form : (top : Members) (outcomes : Outcomes) → fault_of top outcomes ≡ None → form_fault top ≡ None
+pub no_form : (top : Members) (outcomes : Outcomes) → fault_of top outcomes ≡ None → form_fault top ≡ None
 no_form top outcomes e = first_none (form_fault top) (first_of (sources_fault outcomes ∷ assigned_faults top (routines_in outcomes) ∷ [])) e
 
 -- the classes
