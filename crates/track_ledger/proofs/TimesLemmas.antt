@@ -1,5 +1,5 @@
 -- How often the pieces that are held, and the gaps between them, hold a track.
-use Rattle.std.proofs.Common.{◌≡◌, ◌≤◌, ◌<◌, ℕ, ◌+◌, ◌-◌, Bool, true, false, List, [], ◌∷◌, ◌++◌, refl, sym, ap, ◌∙◌, subst, arith}
+use Rattle.std.proofs.Common.{◌≡◌, ◌≤◌, ◌<◌, ℕ, ◌+◌, Bool, true, false, List, [], ◌∷◌, ◌++◌, refl, sym, ap, arith}
 use Rattle.std.specs.Prelude.{nat_eq, nat_lt}
 use Rattle.std.specs.List.{All}
 use Rattle.std.proofs.lemmas.Bool.Decides.{nat_tests}
@@ -93,3 +93,17 @@ from-gaps_at capacity held pieces t false is once in_gaps =
 -- and pieces in the gaps are beside them
 pub from-gaps : (capacity : ℕ) (held pieces : List Piece) → NoTrackTwice held → LieInGaps (gaps_of capacity held) pieces → NoTrackTwice (held ++ pieces)
 from-gaps capacity held pieces once in_gaps t = omega (arith, from-gaps_at capacity held pieces t _ refl once (in_gaps t), times-append held pieces t)
+
+changed_at : (capacity : ℕ) (held pieces : List Piece) (t : ℕ) (b : Bool) → nat_lt t capacity ≡ b → NoTrackTwice held → NoTrackTwice (held ++ pieces) → All (LiesInside capacity) (held ++ pieces)
+    → times_held (gaps_of capacity (held ++ pieces)) t + times_held pieces t ≡ times_held (gaps_of capacity held) t
+changed_at capacity held pieces t true is once both inside =
+    let less : t < capacity = grind (arith, nat_tests) in
+    omega (arith, gaps-times capacity held t once less, gaps-times capacity (held ++ pieces) t both less, times-append held pieces t)
+changed_at capacity held pieces t false is once both inside =
+    let le : capacity ≤ t = grind (arith, nat_tests) in
+    omega (arith, gaps-behind capacity held t le, gaps-behind capacity (held ++ pieces) t le, times-behind capacity (held ++ pieces) t inside le, times-append held pieces t)
+
+-- what pieces take from the gaps
+pub gaps-changed : (capacity : ℕ) (held pieces : List Piece) (t : ℕ) → NoTrackTwice held → NoTrackTwice (held ++ pieces) → All (LiesInside capacity) (held ++ pieces)
+    → times_held (gaps_of capacity (held ++ pieces)) t + times_held pieces t ≡ times_held (gaps_of capacity held) t
+gaps-changed capacity held pieces t once both inside = changed_at capacity held pieces t _ refl once both inside
