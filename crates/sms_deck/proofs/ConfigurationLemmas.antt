@@ -56,11 +56,13 @@ test_if : {A : Type 0} (P : A → Type 0) (b : Bool) (x : A) → (b ≡ true →
 test_if P true x h = h refl
 test_if P false x h = tt
 
-either_if : {A : Type 0} (P : A → Type 0) (b : Bool) (x : A) (o : Option A) → P x → IfSome o P → IfSome (if b then Some x else o) P
+either_if : {A : Type 0} (P : A → Type 0) (b : Bool) (x : A) (o : Option A) → P x → IfSome o P
+    → IfSome (if b then Some x else o) P
 either_if P true x o a c = a
 either_if P false x o a c = c
 
-still_if : {A : Type 0} (P : A → Type 0) (test : A → Bool) (o : Option A) → IfSome o P → IfSome (option_and_then (λ x. if test x then Some x else None) o) P
+still_if : {A : Type 0} (P : A → Type 0) (test : A → Bool) (o : Option A) → IfSome o P
+    → IfSome (option_and_then (λ x. if test x then Some x else None) o) P
 still_if P test None a = tt
 still_if P test (Some x) a = either_if P (test x) x None a tt
 
@@ -81,7 +83,8 @@ integer_within least most (integer (pos number)) = test_if (IsWithin least most)
 integer_within least most _ = tt
 
 cylinders_within : (value : Data) → IfSome (cylinders_in value) (IsWithin 1 most_cylinders)
-cylinders_within value = still_if (IsWithin 1 most_cylinders) are_whole (integer_in 1 most_cylinders value) (integer_within 1 most_cylinders value)
+cylinders_within value =
+    still_if (IsWithin 1 most_cylinders) are_whole (integer_in 1 most_cylinders value) (integer_within 1 most_cylinders value)
 
 is_space : (unit : UnitOf) (primary secondary : ℕ) → (nat_le 1 primary && (nat_le primary 16777215 && nat_le secondary 16777215)) ≡ true → IsSpace (record { unit = unit; primary = primary; secondary = secondary })
 is_space unit primary secondary e = record { some = grind (arith, nat_tests); primary = grind (arith, nat_tests); secondary = grind (arith, nat_tests) }
@@ -135,7 +138,8 @@ size_is_some None None tracks a b c = one_or_more tracks most_tracks c
 
 has_tracks : (keys : Members) → 0 < tracks_of keys
 has_tracks keys =
-    size_is_some (read_at (word_in devices) (codes "device") keys) (read_at cylinders_in (codes "cylinders") keys) (read_at (integer_in 1 most_tracks) (codes "tracks") keys)
+    size_is_some (read_at (word_in devices) (codes "device") keys) (read_at cylinders_in (codes "cylinders") keys)
+    (read_at (integer_in 1 most_tracks) (codes "tracks") keys)
     (then_if (word_in devices) (λ n. 0 < n) device_has_tracks (get_member (codes "device") keys))
     (then_if cylinders_in (IsWithin 1 most_cylinders) cylinders_within (get_member (codes "cylinders") keys))
     (then_if (integer_in 1 most_tracks) (IsWithin 1 most_tracks) (integer_within 1 most_tracks) (get_member (codes "tracks") keys))
@@ -145,12 +149,15 @@ has_tracks keys =
 abbrev IsConnected : Status → Type 0
 IsConnected status = is_connected status ≡ true
 
-words_connect : (words : Words Status) → AllByRecursion (λ word. IsConnected word.1) words → (text : List ℕ) → IfSome (meaning_in words text) IsConnected
+words_connect : (words : Words Status) → AllByRecursion (λ word. IsConnected word.1) words → (text : List ℕ)
+    → IfSome (meaning_in words text) IsConnected
 words_connect [] a text = tt
-words_connect (word ∷ words) a text = either_if IsConnected (bytes_eq text word.0) word.1 (meaning_in words text) a.0 (words_connect words a.1 text)
+words_connect (word ∷ words) a text =
+    either_if IsConnected (bytes_eq text word.0) word.1 (meaning_in words text) a.0 (words_connect words a.1 text)
 
 value_connects : (value : Data) → IfSome (word_in volume_statuses value) IsConnected
-value_connects value = then_if (meaning_in volume_statuses) IsConnected (words_connect volume_statuses (refl, (refl, (refl, (refl, (refl, tt)))))) (as_str value)
+value_connects value =
+    then_if (meaning_in volume_statuses) IsConnected (words_connect volume_statuses (refl, (refl, (refl, (refl, (refl, tt)))))) (as_str value)
 
 volume_connects : (group volser : List ℕ) (keys : Members) → IsConnected (volume_of group volser keys).status
 volume_connects group volser keys =
@@ -159,15 +166,18 @@ volume_connects group volser keys =
 
 -- breakpoints
 
+abbrev IsBreakpoint : ℕ → Type 0
+IsBreakpoint cylinders = cylinders ≤ most_breakpoint
+
+value_is_breakpoint : (value : Data) → IfSome (integer_in 0 most_breakpoint value) IsBreakpoint
+value_is_breakpoint (integer (pos number)) =
+    test_if IsBreakpoint (nat_le 0 number && nat_le number most_breakpoint) number (λ e. (within 0 most_breakpoint number e).1)
+value_is_breakpoint _ = tt
+
 breakpoint_within : (name : List ℕ) (keys : Members) → (group_of name keys).breakpoint ≤ most_breakpoint
 breakpoint_within name keys =
-    or_default (λ cylinders. cylinders ≤ most_breakpoint) (read_at (integer_in 0 most_breakpoint) (codes "breakpoint") keys) 10 (omega arith)
-    (then_if (integer_in 0 most_breakpoint) (λ cylinders. cylinders ≤ most_breakpoint) breakpoint_is_low (get_member (codes "breakpoint") keys))
-  where
-    breakpoint_is_low : (value : Data) → IfSome (integer_in 0 most_breakpoint value) (λ cylinders. cylinders ≤ most_breakpoint)
-    breakpoint_is_low (integer (pos number)) =
-        test_if (λ cylinders. cylinders ≤ most_breakpoint) (nat_le 0 number && nat_le number most_breakpoint) number (λ e. (within 0 most_breakpoint number e).1)
-    breakpoint_is_low _ = tt
+    or_default IsBreakpoint (read_at (integer_in 0 most_breakpoint) (codes "breakpoint") keys) 10 (omega arith)
+    (then_if (integer_in 0 most_breakpoint) IsBreakpoint value_is_breakpoint (get_member (codes "breakpoint") keys))
 
 -- what holds of all that is built
 
@@ -207,14 +217,22 @@ all_put P places (volume ∷ volumes) a b =
 
 -- the volumes
 
-all_in_group : (P : VolumeDef → Type 0) → ((group volser : List ℕ) (keys : Members) → P (volume_of group volser keys)) → (o : Option (List ℕ)) (t : Option Members) → AllByRecursion P (group_volumes o t)
+all_in_group : (P : VolumeDef → Type 0) → ((group volser : List ℕ) (keys : Members) → P (volume_of group volser keys))
+    → (o : Option (List ℕ)) (t : Option Members) → AllByRecursion P (group_volumes o t)
 all_in_group P h None t = tt
 all_in_group P h (Some group) None = tt
 all_in_group P h (Some group) (Some keys) = all_named P volser_of (volume_of group) (h group) (table_at (codes "volume") keys)
 
-all_in_groups : (P : VolumeDef → Type 0) → ((group volser : List ℕ) (keys : Members) → P (volume_of group volser keys)) → (ms : Members) → AllByRecursion P (all_volumes ms)
+all_in_groups : (P : VolumeDef → Type 0) → ((group volser : List ℕ) (keys : Members) → P (volume_of group volser keys))
+    → (ms : Members) → AllByRecursion P (all_volumes ms)
 all_in_groups P h no_members = tt
-all_in_groups P h (member l d ms) = all_append P (group_volumes (name_of l) (as_table d)) (all_volumes ms) (all_in_group P h (name_of l) (as_table d)) (all_in_groups P h ms)
+all_in_groups P h (member l d ms) =
+    all_append P (group_volumes (name_of l) (as_table d)) (all_volumes ms)
+    (all_in_group P h (name_of l) (as_table d)) (all_in_groups P h ms)
+
+all_of_volumes : (P : VolumeDef → Type 0) → ((group volser : List ℕ) (keys : Members) → P (volume_of group volser keys))
+    → (groups : Members) → AllByRecursion P (volumes_in (put_volumes [] (all_volumes groups)))
+all_of_volumes P h groups = all_put P [] (all_volumes groups) (all_in_groups P h groups) tt
 
 abbrev IsAmong : List StorGroup → VolumeDef → Type 0
 IsAmong groups volume = list_any (bytes_eq volume.group) (map (λ group. group.name) groups) ≡ true
@@ -354,8 +372,8 @@ is_configuration bytes top outcomes s a f = record {
   volsers = ascending _ (volsers_ascend (places_of top) (lined_volumes [] (all_volumes (groups_in top)) tt));
   few = few_where top (no_total top f);
   grouped = all_put (IsAmong (named name_of group_of (groups_in top))) [] (all_volumes (groups_in top)) (all_are_among (groups_in top)) tt;
-  tracks = all_put (λ volume. 0 < volume.tracks) [] (all_volumes (groups_in top)) (all_in_groups (λ volume. 0 < volume.tracks) (λ group volser keys. has_tracks keys) (groups_in top)) tt;
-  connected = all_put (λ volume. IsConnected volume.status) [] (all_volumes (groups_in top)) (all_in_groups (λ volume. IsConnected volume.status) volume_connects (groups_in top)) tt;
+  tracks = all_of_volumes (λ volume. 0 < volume.tracks) (λ group volser keys. has_tracks keys) (groups_in top);
+  connected = all_of_volumes (λ volume. IsConnected volume.status) volume_connects (groups_in top);
   breakpoints = all_named (λ group. group.breakpoint ≤ most_breakpoint) name_of group_of breakpoint_within (groups_in top);
   classes = all_named IsDataClass name_of data_class_of is_data_class (table_at (codes "dataclass") top);
   kinds = kinds_of outcomes a;

@@ -23,7 +23,8 @@ device_row = record (plain (codes "device") Device) { is_needed = λ keys. not (
 
 -- the cylinders, which are right where a volume may have so many, and only where no device stands
 abbrev pub cylinders_row : Row
-cylinders_row = record (plain (codes "cylinders") Cylinders) { is_right = λ keys value. not (has (codes "device") keys) && has_form Cylinders value }
+cylinders_row =
+    record (plain (codes "cylinders") Cylinders) { is_right = λ keys value. not (has (codes "device") keys) && has_form Cylinders value }
 
 -- the tracks, which are right in their range, and only where neither of the others stands
 abbrev pub tracks_row : Row
@@ -59,7 +60,11 @@ group_rows =
 
 -- the keys of a data class
 abbrev pub data_class_rows : List Row
-data_class_rows = plain (codes "space") SpaceText ∷ plain (codes "volcount") (Integer 1 most_volume_count) ∷ plain (codes "eattr") OptOrNo ∷ []
+data_class_rows =
+    plain (codes "space") SpaceText
+    ∷ plain (codes "volcount") (Integer 1 most_volume_count)
+    ∷ plain (codes "eattr") OptOrNo
+    ∷ []
 
 -- the keys of a storage class, which has none in the first version
 abbrev pub storage_class_rows : Version → List Row
@@ -121,7 +126,8 @@ top_rows version =
     version_row
     ∷ plain (codes "system") ConstructName
     ∷ plain (codes "sysplex") ConstructName
-    ∷ constructs_row version DataClas ∷ constructs_row version StorClas ∷ constructs_row version MgmtClas ∷ constructs_row version StorGrp
+    ∷ constructs_row version DataClas ∷ constructs_row version StorClas
+    ∷ constructs_row version MgmtClas ∷ constructs_row version StorGrp
     ∷ inner (codes "routine") routine_walk
     ∷ []
 

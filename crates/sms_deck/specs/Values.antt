@@ -61,7 +61,8 @@ are_whole cylinders = nat_le cylinders most_track_managed || (cylinders % cylind
 
 -- the cylinders of a volume, if the value is a number that it may have
 abbrev pub cylinders_in : Data → Option ℕ
-cylinders_in value = option_and_then (λ cylinders. if are_whole cylinders then Some cylinders else None) (integer_in 1 most_cylinders value)
+cylinders_in value =
+    option_and_then (λ cylinders. if are_whole cylinders then Some cylinders else None) (integer_in 1 most_cylinders value)
 
 -- the construct name, if the value is one
 abbrev pub name_in : Data → Option (List ℕ)

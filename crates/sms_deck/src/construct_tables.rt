@@ -151,7 +151,8 @@ fn check_named(
 
 // Checks the constructs of a kind.
 fn check_each(version: Version, kind: Kind, constructs: &Table, path: &Path) -> Result<(), Fault>
-    ensures { fault_told result ≡ names (most_constructs kind) is_name (construct_walk version kind) path.now (table_view constructs.now) }
+    ensures { fault_told result
+        ≡ names (most_constructs kind) is_name (construct_walk version kind) path.now (table_view constructs.now) }
 {
     if count_keys(constructs) > most_constructs(kind) {
         return Err(Fault::TooMany(*path));
@@ -164,7 +165,8 @@ fn check_each(version: Version, kind: Kind, constructs: &Table, path: &Path) -> 
 
 /// Checks the key of the constructs of a kind.
 pub fn check_constructs(top: &Table, version: Version, kind: Kind, path: &Path) -> Result<(), Fault>
-    ensures { fault_told result ≡ row_fault path.now (table_view top.now) (constructs_row version kind) (get_member (key_of kind) (table_view top.now)) }
+    ensures { fault_told result
+        ≡ row_fault path.now (table_view top.now) (constructs_row version kind) (get_member (key_of kind) (table_view top.now)) }
 {
     let key = key_of(kind);
     match value_at(top, key) {

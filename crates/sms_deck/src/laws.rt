@@ -30,5 +30,6 @@ pub fn keys_ascend()
 
 /// In a deck of version 1 no storage class has tiers.
 pub fn first_version()
-    ensures { (bytes : List ℕ) (config : Configuration) (c : Configures bytes config) → version_of c.top ≡ One → AllByRecursion (λ class. class.multi_tier ≡ false) config.storage_classes }
+    ensures { (bytes : List ℕ) (config : Configuration) (c : Configures bytes config) → version_of c.top ≡ One
+        → AllByRecursion (λ class. class.multi_tier ≡ false) config.storage_classes }
 {}
