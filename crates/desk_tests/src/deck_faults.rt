@@ -41,7 +41,10 @@ static NO_TEXTS: [&[u8]; 2] = [b"version = 1\nsystem = '\xff'", b"\xff"];
 #[test]
 fn bytes_that_are_no_text_are_no_deck(rt: HostRuntime) -> Result<(), Fail> {
     for deck in &NO_TEXTS {
-        assert!(rt; told(rt.alloc(), deck)?.as_slice() == b"K1".as_slice(), "{deck:?}");
+        assert!(rt;
+            told(rt.alloc(), deck)?.as_slice() == b"K1".as_slice(),
+            "{deck:?}"
+        );
     }
     Ok(())
 }
