@@ -12,12 +12,6 @@ mod deck_faults;
 #[cfg(test)]
 mod deck_readings;
 #[cfg(test)]
-mod deck_themes;
-#[cfg(test)]
-mod first_path;
-#[cfg(test)]
-mod keeper_runs;
-#[cfg(test)]
 mod keeping;
 #[cfg(test)]
 mod kept_replies;
@@ -47,13 +41,3 @@ mod stepping;
 mod streams;
 #[cfg(test)]
 mod turns;
-#[cfg(test)]
-mod worked;
-#[cfg(test)]
-mod worked_classes;
-#[cfg(test)]
-mod worked_requests;
-#[cfg(test)]
-mod worked_space;
-#[cfg(test)]
-mod worked_volumes;
