@@ -39,7 +39,7 @@ static OF_ADMIN: [Row; 9] = [
 
 /// The operands of an ALLOC of A.B, and what the op has behind its name in words.
 #[rattlefmt::skip]
-static OPERANDS: [Row; 34] = [
+static OPERANDS: [Row; 37] = [
     ("", ""),
     ("SPACE=(TRK,1)", "TRK 1 0 SIZE=56 MAXSIZE=56"),
     ("SPACE=(TRK,(1))", "TRK 1 0 SIZE=56 MAXSIZE=56"),
@@ -73,6 +73,9 @@ static OPERANDS: [Row; 34] = [
     ("RETPD=0", "KEEP=0"),
     ("RETPD=9999", "KEEP=9999 RETPD=9999"),
     ("EXPDT=2026365", "EXPDT=2026365"),
+    ("EATTR=OPT", "EATTR=OPT"),
+    ("eattr=opt SPACE=(TRK,1)", "TRK 1 0 EATTR=OPT SIZE=56 MAXSIZE=56"),
+    ("EATTR=NO", "EATTR=NO"),
     ("BLKSIZE=0", ""),
     ("BLKSIZE=2147483647", "BLKSIZE=2147483647"),
     ("DAY=0", ""),
@@ -153,14 +156,14 @@ fn a_request_names_at_most_59_volumes(rt: HostRuntime) -> Result<(), Fail> {
 
 /// The keys of the operands, each with a value.
 #[rattlefmt::skip]
-static VALUES: [Row; 28] = [
+static VALUES: [Row; 29] = [
     ("SPACE=", "(TRK,1)"), ("DATACLAS=", "DC1"), ("STORCLAS=", "SC1"), ("MGMTCLAS=", "MC1"),
     ("DEFDC=", "DC1"), ("DEFSC=", "SC1"), ("DEFMC=", "MC1"), ("VOL=", "V1"), ("VOLCNT=", "1"),
     ("USER=", "U"), ("GROUP=", "G"), ("PGM=", "P"), ("DD=", "D"), ("UNIT=", "3390"),
     ("DSORG=", "PS"), ("RECORG=", "KS"), ("DSNTYPE=", "LIBRARY"), ("DSTYPE=", "TEMP"),
     ("ACSENVIR=", "RECALL"), ("XMODE=", "TSO"), ("APPLIC=", "A"), ("OWNER=", "O"),
     ("ACCT=", "(A,B)"), ("STEPACCT=", "(A,B)"), ("RETPD=", "1"), ("EXPDT=", "2026365"),
-    ("BLKSIZE=", "1"), ("DAY=", "1"),
+    ("BLKSIZE=", "1"), ("DAY=", "1"), ("EATTR=", "OPT"),
 ];
 
 fn compare_value(rt: &impl Abort, alloc: Global, key: &str, operand: &str) -> Result<(), Fail> {
@@ -181,8 +184,8 @@ fn each_key_stands_once_and_with_a_value(rt: HostRuntime) -> Result<(), Fail> {
         all.push_str(&operand)?;
     }
     assert!(rt; are_read(rt.alloc(), &all)?);
-    // the line has 30 words; with one more it has a word twice, and a list of words ends with 32
-    for words in 31..=33 {
+    // the line has 31 words; with one more it has a word twice, and a list of words ends with 33
+    for words in 32..=34 {
         all.push_str(" DAY=1")?;
         assert!(rt; !are_read(rt.alloc(), &all)?, "{words} words");
     }
