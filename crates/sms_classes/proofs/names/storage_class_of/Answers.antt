@@ -4,4 +4,4 @@ use Rattle.sms_classes.proofs.NameLemmas.{find_turned}
 use Rattle.sms_classes.proofs.names.storage_class_of.Goals as goal
 
 pub returns : goal.returns
-returns c = c.data_class_for.ensures ∙ find_turned (λ (class : StorClass). class.name) c.args.class.now c.args.config.now.storage_classes
+returns c = c.stor_class_for.ensures ∙ find_turned (λ (class : StorClass). class.name) c.args.class.now c.args.config.now.storage_classes
