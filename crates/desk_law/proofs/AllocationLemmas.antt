@@ -18,12 +18,13 @@ use Rattle.desk_law.specs.Replies.{found_or}
 use Rattle.desk_law.specs.Volumes.{tracks_of, volumes_in}
 use Rattle.desk_law.specs.Classification.{Classes, classes_of, trace_of, went_through}
 use Rattle.desk_law.specs.Allocation.{Wish, alloc_case, ask_of, candidates_of, data_class_of, new_set, space_case, space_of, wish_with, GrantsOn}
+use Rattle.desk_law.specs.Candidates.{IsSoundAsk}
 use Rattle.desk_law.specs.Rule.{IsSoundAlloc}
 use Rattle.desk_law.specs.Lawful.{IsLawful}
 use Rattle.desk_law.proofs.AscendLemmas.{volumes-once}
 use Rattle.desk_law.proofs.PlaceLemmas.{each-at, filter-each, find-each}
 use Rattle.desk_law.proofs.LineLemmas.{after-line, found-line, last-line, made}
-use Rattle.desk_law.proofs.GrantLemmas.{IsSoundAsk, each-tracks, grant-given, lawful-new}
+use Rattle.desk_law.proofs.GrantLemmas.{each-tracks, grant-given, lawful-new}
 
 -- what holds of each wish: it is under the active configuration, for at least one track and one volume
 pub record IsWish (s : DeskState) (wish : Wish) : Type 0 where

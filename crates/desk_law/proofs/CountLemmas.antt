@@ -1,14 +1,14 @@
 -- What extents hold of a volume, counted.
-use Rattle.std.proofs.Common.{◌≡◌, ◌≤◌, ℕ, zero, suc, ◌+◌, Bool, true, false, cond, List, [], ◌∷◌, ◌++◌, length, refl, ap, ◌∙◌, arith}
-use Rattle.std.specs.Prelude.{Some, bytes_eq, not}
+use Rattle.std.proofs.Common.{◌≡◌, ◌≤◌, ℕ, zero, suc, ◌+◌, Bool, true, false, cond, List, [], ◌∷◌, ◌++◌, length, refl, sym, ap, ◌∙◌, arith}
+use Rattle.std.specs.Prelude.{bytes_eq, not}
 use Rattle.std.specs.List.{sum_by}
-use Rattle.std.proofs.lemmas.List.Sums.{sum_by-cons}
+use Rattle.std.proofs.lemmas.List.Sums.{sum_by-append, sum_by-cons}
 use Rattle.sms_construct.specs.declared.data_set.DataSet.{DataSet}
 use Rattle.sms_construct.specs.declared.extent.Extent.{Extent}
 use Rattle.sms_keeper.specs.Tables.{put_set, without_set}
 use Rattle.track_ledger.specs.declared.piece.Piece.{Piece}
+use Rattle.track_ledger.specs.Extents.{AreAlike}
 use Rattle.track_ledger.specs.Gaps.{holds, times_held}
-use Rattle.desk_law.specs.State.{set_named}
 use Rattle.desk_law.specs.Extents.{extents_at, extents_named, extents_of, piece_of, pieces_on}
 use Rattle.desk_law.specs.Lawful.{times_named}
 use Rattle.desk_law.proofs.ByteLemmas.{same-bytes}
@@ -73,7 +73,7 @@ pieces-off w v (p ∷ pieces) is = rw is (pieces-off w v pieces is)
 abbrev pub sum_all : (Piece → ℕ) → List ℕ → List DataSet → ℕ
 sum_all f volser sets = sum_on f volser (extents_of sets)
 
-all-cons : (f : Piece → ℕ) (v : List ℕ) (set : DataSet) (sets : List DataSet) → sum_all f v (set ∷ sets) ≡ sum_on f v set.extents + sum_all f v sets
+pub all-cons : (f : Piece → ℕ) (v : List ℕ) (set : DataSet) (sets : List DataSet) → sum_all f v (set ∷ sets) ≡ sum_on f v set.extents + sum_all f v sets
 all-cons f v set sets = sum-append f v set.extents (extents_of sets)
 
 all-push : (f : Piece → ℕ) (v : List ℕ) (sets : List DataSet) (set : DataSet) → sum_all f v (sets ++ set ∷ []) ≡ sum_all f v sets + sum_on f v set.extents
@@ -120,14 +120,44 @@ all-put f v set sets once = omega (arith, all-push f v (without_set set.dsn sets
 pub times-put : (v : List ℕ) (set : DataSet) (sets : List DataSet) (t : ℕ) → times_named set.dsn sets ≤ 1
     → times_on v (extents_of (put_set set sets)) t + times_on v (extents_named set.dsn sets) t ≡ times_on v (extents_of sets) t + times_on v set.extents t
 times-put v set sets t once =
-    omega (arith, all-put (once_of t) v set sets once, times-is (pieces_on v (extents_of (put_set set sets))) t, times-is (pieces_on v (extents_named set.dsn sets)) t,
-    times-is (pieces_on v (extents_of sets)) t, times-is (pieces_on v set.extents) t)
+    omega (
+      arith,
+      all-put (once_of t) v set sets once,
+      times-is (pieces_on v (extents_of (put_set set sets))) t,
+      times-is (pieces_on v (extents_named set.dsn sets)) t,
+      times-is (pieces_on v (extents_of sets)) t,
+      times-is (pieces_on v set.extents) t,
+    )
 
 pub times-without : (v dsn : List ℕ) (sets : List DataSet) (t : ℕ) → times_named dsn sets ≤ 1
     → times_on v (extents_of (without_set dsn sets)) t + times_on v (extents_named dsn sets) t ≡ times_on v (extents_of sets) t
 times-without v dsn sets t once =
-    omega (arith, all-without (once_of t) v dsn sets once, times-is (pieces_on v (extents_of (without_set dsn sets))) t, times-is (pieces_on v (extents_named dsn sets)) t,
-    times-is (pieces_on v (extents_of sets)) t)
+    omega (
+      arith,
+      all-without (once_of t) v dsn sets once,
+      times-is (pieces_on v (extents_of (without_set dsn sets))) t,
+      times-is (pieces_on v (extents_named dsn sets)) t,
+      times-is (pieces_on v (extents_of sets)) t,
+    )
+
+-- Lists of pieces whatever of which is counted comes to as much are alike.
+
+sums-alike : (pieces others : List Piece) → ((f : Piece → ℕ) → sum_by f pieces ≡ sum_by f others) → AreAlike pieces others
+sums-alike pieces others same = record {
+  times = λ t. times-is pieces t ∙ (same (once_of t) ∙ sym (times-is others t));
+  count = length-is pieces ∙ (same (λ (p : Piece). 1) ∙ sym (length-is others));
+}
+
+pub alike-put : (v : List ℕ) (set : DataSet) (sets : List DataSet) → times_named set.dsn sets ≤ 1
+    → AreAlike (pieces_on v (extents_of (put_set set sets)) ++ pieces_on v (extents_named set.dsn sets)) (pieces_on v (extents_of sets) ++ pieces_on v set.extents)
+alike-put v set sets once = sums-alike _ _ (λ f.
+    sum_by-append f (pieces_on v (extents_of (put_set set sets))) (pieces_on v (extents_named set.dsn sets))
+    ∙ (all-put f v set sets once ∙ sym (sum_by-append f (pieces_on v (extents_of sets)) (pieces_on v set.extents))))
+
+pub alike-without : (v dsn : List ℕ) (sets : List DataSet) → times_named dsn sets ≤ 1
+    → AreAlike (pieces_on v (extents_of (without_set dsn sets)) ++ pieces_on v (extents_named dsn sets)) (pieces_on v (extents_of sets))
+alike-without v dsn sets once = sums-alike _ _ (λ f.
+    sum_by-append f (pieces_on v (extents_of (without_set dsn sets))) (pieces_on v (extents_named dsn sets)) ∙ all-without f v dsn sets once)
 
 -- Names.
 

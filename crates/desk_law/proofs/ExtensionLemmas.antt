@@ -1,5 +1,5 @@
 -- EXTEND leads from a lawful state to a lawful one.
-use Rattle.std.proofs.Common.{◌≡◌, ◌≤◌, ◌<◌, ℕ, Bool, true, false, List, [], ◌++◌, length, refl, subst, arith}
+use Rattle.std.proofs.Common.{◌≡◌, ℕ, Bool, true, false, List, [], length, refl, subst, arith}
 use Rattle.std.specs.Prelude.{Option, None, Some, bytes_eq, option_map, slice_get, not, nat_eq}
 use Rattle.std.proofs.lemmas.Bool.Decides.{nat_tests}
 use Rattle.sms_construct.specs.declared.data_set.DataSet.{DataSet}
@@ -10,7 +10,7 @@ use Rattle.track_ledger.specs.declared.piece.Piece.{Piece}
 use Rattle.desk_law.specs.State.{DeskState, with_set}
 use Rattle.desk_law.specs.Extents.{extents_at, is_among, pieces_on, volumes_of}
 use Rattle.desk_law.specs.Volumes.{tracks_of, volumes_in, volumes_of_group}
-use Rattle.desk_law.specs.Candidates.{grant_on}
+use Rattle.desk_law.specs.Candidates.{IsSoundAsk, grant_on}
 use Rattle.desk_law.specs.Extension.{ask_more, bars_growth, extended, first_volume, growth_on, last_volume, others_of, Extends, ExtendsOn}
 use Rattle.desk_law.specs.Lawful.{IsLawful, IsLawfulSet, IsWhole}
 use Rattle.desk_law.proofs.AscendLemmas.{active-volume-once}
@@ -19,7 +19,7 @@ use Rattle.desk_law.proofs.PlaceLemmas.{each-at, filter-each, filter-passes}
 use Rattle.desk_law.proofs.LineLemmas.{made}
 use Rattle.desk_law.proofs.SetLemmas.{each-named}
 use Rattle.desk_law.proofs.SpreadLemmas.{free-volume}
-use Rattle.desk_law.proofs.GrantLemmas.{IsSoundAsk, each-tracks, grant-given, last-is, lawful-extended}
+use Rattle.desk_law.proofs.GrantLemmas.{each-tracks, grant-given, last-is, lawful-extended}
 
 mapped : (w : List ℕ) (o : Option (List Piece)) (added : List Extent) (C : Type 0) → option_map (extents_at w) o ≡ Some added → ((pieces : List Piece) → o ≡ Some pieces → extents_at w pieces ≡ added → C) → C
 mapped w None added C is then = absurd cc

@@ -1,8 +1,7 @@
 -- What a reply says of the state after it: it determines that state.
-use Rattle.std.proofs.Common.{◌≡◌, ℕ, ◌+◌, false, List, [], length, refl, sym, ap, ◌∙◌, subst, arith, inl, inr}
+use Rattle.std.proofs.Common.{◌≡◌, ℕ, ◌+◌, false, List, [], refl, sym, ap, ◌∙◌, subst, inl, inr}
 use Rattle.std.specs.Prelude.{◌⊎◌, Option, Some}
 use Rattle.sms_construct.specs.Configuration.{Configuration}
-use Rattle.sms_construct.specs.Status.{status_of_action}
 use Rattle.sms_construct.specs.declared.data_set.DataSet.{DataSet}
 use Rattle.sms_construct.specs.declared.reply.Reply.{Reply}
 use Rattle.sms_construct.specs.declared.reply.Reply.TheVariants as replies
@@ -16,7 +15,7 @@ use Rattle.desk_law.specs.Releasing.{kept_of}
 use Rattle.desk_law.specs.Activation.{activated}
 use Rattle.desk_law.specs.Changes.{may_change}
 use Rattle.desk_law.specs.Records.{decks_told}
-use Rattle.desk_law.specs.Replies.{Leaves, Makes}
+use Rattle.desk_law.specs.Replies.{Makes}
 use Rattle.desk_law.specs.Rule.{Rule}
 use Rattle.desk_law.proofs.CaseLemmas.{on-rule}
 use Rattle.desk_law.proofs.DeckLemmas.{one-configuration}

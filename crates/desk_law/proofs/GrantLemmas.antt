@@ -1,5 +1,5 @@
 -- What a grant does to the data sets.
-use Rattle.std.proofs.Common.{◌≡◌, ◌≤◌, ◌<◌, ℕ, zero, suc, ◌+◌, ◌%◌, Bool, true, false, cond, List, [], ◌∷◌, ◌++◌, length, refl, sym, ap, ◌∙◌, subst, arith, length-append, inl, inr}
+use Rattle.std.proofs.Common.{◌≡◌, ◌≤◌, ◌<◌, ℕ, zero, suc, ◌+◌, Bool, true, false, cond, List, [], ◌∷◌, ◌++◌, length, refl, sym, ap, ◌∙◌, subst, arith, length-append, inl, inr}
 use Rattle.std.specs.Prelude.{◌⊎◌, Option, None, Some, IfSome, find, bytes_eq}
 use Rattle.std.specs.List.{All, AllByRecursion, sum_by}
 use Rattle.std.proofs.lemmas.List.Elements.{All-head, All-tail}
@@ -18,9 +18,9 @@ use Rattle.track_ledger.specs.Need.{IsNeed}
 use Rattle.track_ledger.specs.Parts.{IsPlaced}
 use Rattle.track_ledger.proofs.BesideLemmas.{beside-is}
 use Rattle.desk_law.specs.State.{DeskState, set_named, with_set}
-use Rattle.desk_law.specs.Extents.{extents_at, extents_named, held_on, is_used}
+use Rattle.desk_law.specs.Extents.{extents_at, held_on, is_used}
 use Rattle.desk_law.specs.Volumes.{groups_in, times_volume, tracks_of, volumes_in}
-use Rattle.desk_law.specs.Candidates.{Ask, breakpoint_of, grant_on, need_on}
+use Rattle.desk_law.specs.Candidates.{Ask, IsSoundAsk, breakpoint_of, grant_on, need_on}
 use Rattle.desk_law.specs.Extension.{extended, last_volume}
 use Rattle.desk_law.specs.Lawful.{IsInside, IsLawful, IsLawfulSet, IsWhole, LiesInPart}
 use Rattle.desk_law.proofs.ByteLemmas.{bytes-same, bytes-self, bytes-turned, same-bytes}
@@ -28,11 +28,6 @@ use Rattle.desk_law.proofs.PlaceLemmas.{each-both, find-each}
 use Rattle.desk_law.proofs.CountLemmas.{times_on, count_on, times-append, count-append, pieces-at, pieces-off}
 use Rattle.desk_law.proofs.FrontLemmas.{rounded-some}
 use Rattle.desk_law.proofs.SetLemmas.{each-append, each-named, lawful-changed, lawful-put}
-
--- at least one track is asked for, in whole units
-pub record IsSoundAsk (ask : Ask) : Type 0 where
-  pub some : 0 < ask.tracks
-  pub whole : ask.tracks % tracks_in ask.unit ≡ 0
 
 breakpoint-small : (active : Option Configuration) (name : List ℕ) → IfSome active IsConfiguration → breakpoint_of (find (λ (group : StorGroup). bytes_eq group.name name) (groups_in active)) ≤ most_breakpoint
 breakpoint-small None name is = omega arith
@@ -78,10 +73,13 @@ grant-given s volume ask held pieces lawful sound most is found = given grant.as
   where
     need : IsNeed (need_on s volume ask held)
     need = record { some = sound.some; whole = sound.whole; few = most; breakpoint = breakpoint-small s.active volume.group lawful.config }
+
     grant : IsGrant volume.tracks (held_on s volume.volser) (need_on s volume ask held) pieces
     grant = beside-is volume.tracks (need_on s volume ask held) (held_on s volume.volser) pieces need (lawful.once volume.volser) found
+
     of_parts : 0 < length (extents_at volume.volser pieces) → AllByRecursion LiesInPart (extents_at volume.volser pieces) → IsGiven s volume.volser held pieces
     of_parts some parted = record { some = some; inside = inside-at (volumes_in s.active) volume.volser volume.tracks pieces is grant.inside; parted = parted; few = grant.few; once = grant.once }
+
     given : IsAsked 0 border (tracks_in ask.unit) ask.tracks pieces ⊎ IsAsked border volume.tracks tracks_in_managed (rounded_up tracks_in_managed ask.tracks) pieces → IsGiven s volume.volser held pieces
     given (inl low) = of_parts (some-at volume.volser _ pieces sound.some low.sum) (low-parted volume.volser (tracks_in ask.unit) pieces low.placed)
     given (inr high) = of_parts (some-at volume.volser _ pieces (rounded-some tracks_in_managed ask.tracks (omega arith) sound.some) high.sum) (high-parted volume.volser volume.tracks pieces high.placed)

@@ -1,5 +1,5 @@
 -- Lines of a rule, and what is chosen.
-use Rattle.std.proofs.Common.{◌≡◌, ℕ, Bool, true, false, List, refl, sym, subst, inl, inr}
+use Rattle.std.proofs.Common.{◌≡◌, Bool, true, false, List, refl, sym, subst, inl, inr}
 use Rattle.std.specs.Prelude.{Option, None, Some, map, Result, Ok, Err, MatchResult, MatchOption, MatchBool}
 use Rattle.sms_construct.specs.declared.reply.Reply.{Reply}
 use Rattle.sms_construct.specs.declared.volume.VolumeDef.{VolumeDef}

@@ -11,7 +11,7 @@ use Rattle.sms_construct.specs.declared.unit.Unit.{Unit as SpaceUnit}
 use Rattle.sms_construct.specs.declared.unit.Unit.TheVariants.{Trk, Cyl}
 use Rattle.desk_law.specs.State.{DeskState, set_named, with_set}
 use Rattle.desk_law.specs.Extents.{front_tracks, with_extents}
-use Rattle.desk_law.specs.Extension.{first_volume, last_volume}
+use Rattle.desk_law.specs.Extension.{last_volume}
 use Rattle.desk_law.specs.Volumes.{volumes_in}
 use Rattle.desk_law.specs.Releasing.{kept_of, tracks_kept}
 use Rattle.desk_law.specs.Rule.{IsSound, IsSoundAlloc, Rule}
@@ -53,7 +53,7 @@ lawful-released s dsn set lawful found =
     (λ v t. let once = lawful.once v t in omega (arith, once, front-times v (tracks_kept set) set.extents t))
 
 -- what a sound ALLOC is
-sound-alloc : (op : Op) (alloc : Alloc) → op ≡ ops.Alloc alloc → IsSound op → IsSoundAlloc alloc
+pub sound-alloc : (op : Op) (alloc : Alloc) → op ≡ ops.Alloc alloc → IsSound op → IsSoundAlloc alloc
 sound-alloc op alloc is sound = subst IsSound is sound
 
 pub rule-keeps : (old_floor : List ℕ → ℕ) (s : DeskState) (job : List ℕ) (op : Op) (reply : Reply) (after : DeskState) → IsLawful s → IsSound op → Rule old_floor s job op reply after → IsLawful after

@@ -1,5 +1,6 @@
 -- What is asked of volumes, which of them a data set gets, and what the volume grants (docs/rules.md, "The lists", "The gap rule").
-use Rattle.std.specs.Prelude.{ℕ, ◌+◌, ◌≡◌, ◌⊎◌, Bool, false, List, [], ◌∷◌, bytes_eq, length, map, slice_get, Option, None, Some, is_some, if◌then◌else◌}
+use Rattle.std.specs.Prelude.{ℕ, ◌+◌, ◌%◌, ◌<◌, ◌≡◌, ◌⊎◌, Bool, false, List, [], ◌∷◌, bytes_eq, length, map, slice_get, Option, None, Some, is_some, if◌then◌else◌}
+use Rattle.sms_construct.specs.Quantities.{tracks_in}
 use Rattle.sms_construct.specs.declared.eattr.Eattr.{Eattr}
 use Rattle.sms_construct.specs.declared.storage_group.StorGroup.{StorGroup}
 use Rattle.sms_construct.specs.declared.unit.Unit.{Unit as SpaceUnit}
@@ -23,6 +24,11 @@ pub record Ask : Type 0 where
   pub eattr : Eattr
   -- the storage groups in their order, where the order counts
   pub tiers : List (List ℕ)
+
+-- at least one track is asked for, in whole units
+pub record IsSoundAsk (ask : Ask) : Type 0 where
+  pub some : 0 < ask.tracks
+  pub whole : ask.tracks % tracks_in ask.unit ≡ 0
 
 -- whether the storage group is an overflow group
 abbrev pub is_overflow : Option StorGroup → Bool

@@ -10,6 +10,7 @@ ghost use Rattle.sms_construct.specs.declared.volume.VolumeDef.{VolumeDef};
 ghost use Rattle.sms_keeper.specs.declared.kept_row.KeptRow.{KeptRow};
 ghost use Rattle.sms_keeper.specs.declared.rows.Rows.{Rows};
 ghost use Rattle.track_ledger.specs.declared.piece.Piece.{Piece};
+ghost use Rattle.track_ledger.specs.Extents.{AreAlike};
 ghost use Rattle.track_ledger.specs.Gaps.{free_tracks, times_held};
 ghost use Rattle.desk_law.specs.State.{DeskState, Opening, start_of, with_set, without_name};
 ghost use Rattle.desk_law.specs.Extents.{extents_named, granted_on, held_on, pieces_on};
@@ -79,16 +80,20 @@ pub fn to_no_other()
         times_held (pieces_on volser set.extents) track + times_held (pieces_on volser other.extents) track ≤ 1 }
 {}
 
-/// Where a data set is put in place of the one of its name, whatever is counted of the pieces held of a volume: the new ones come, the old ones go.
+/// Where a data set is put in place of the one of its name, its pieces come and those of the old one go, whatever is counted of what is held of a volume.
 pub fn held_with_a_set()
-    ensures { (s : DeskState) (set : DataSet) (volser : List ℕ) (count : Piece → ℕ) → IsLawful s →
+    ensures counts { (s : DeskState) (set : DataSet) (volser : List ℕ) (count : Piece → ℕ) → IsLawful s →
         sum_by count (held_on (with_set s set) volser) + sum_by count (pieces_on volser (extents_named set.dsn s.sets)) ≡ sum_by count (held_on s volser) + sum_by count (pieces_on volser set.extents) }
+    ensures alike { (s : DeskState) (set : DataSet) (volser : List ℕ) → IsLawful s →
+        AreAlike (held_on (with_set s set) volser ++ pieces_on volser (extents_named set.dsn s.sets)) (held_on s volser ++ pieces_on volser set.extents) }
 {}
 
 /// Where a data set is catalogued no more, its pieces go.
 pub fn held_without_a_set()
-    ensures { (s : DeskState) (dsn volser : List ℕ) (count : Piece → ℕ) → IsLawful s →
+    ensures counts { (s : DeskState) (dsn volser : List ℕ) (count : Piece → ℕ) → IsLawful s →
         sum_by count (held_on (without_name s dsn) volser) + sum_by count (pieces_on volser (extents_named dsn s.sets)) ≡ sum_by count (held_on s volser) }
+    ensures alike { (s : DeskState) (dsn volser : List ℕ) → IsLawful s →
+        AreAlike (held_on (without_name s dsn) volser ++ pieces_on volser (extents_named dsn s.sets)) (held_on s volser) }
 {}
 
 /// In a legal history each grant, also a repeated one, is that of the opening or of an entry that was lawful where it stands.
