@@ -1,12 +1,13 @@
 -- What becomes of the running volumes when a data set gets tracks or gives them back.
-use Rattle.std.specs.Prelude.{ℕ, ◌≡◌, ◌<◌, ◌≤◌, List, [], ◌∷◌, Option, Some, length, option_map, slice_get}
+use Rattle.std.specs.Prelude.{ℕ, ◌≡◌, ◌<◌, ◌≤◌, List, [], ◌∷◌, ◌++◌, Option, None, Some, length, option_map, slice_get}
 use Rattle.std.specs.List.{All}
 use Rattle.sms_construct.specs.declared.extent.Extent.{Extent}
 use Rattle.sms_construct.specs.declared.volume.VolumeDef.{VolumeDef}
 use Rattle.track_ledger.specs.declared.piece.Piece.{Piece}
 use Rattle.track_ledger.specs.Extents.{LiesInside, LieInGaps}
+use Rattle.track_ledger.specs.Ledger.{IsLedgerOf}
 use Rattle.desk_law.specs.State.{DeskState}
-use Rattle.desk_law.specs.Extents.{extents_named}
+use Rattle.desk_law.specs.Extents.{extents_named, pieces_on}
 use Rattle.desk_law.specs.Lawful.{IsLawful}
 use Rattle.sms_volumes.specs.Holding.{AreVolumesOf}
 use Rattle.sms_volumes.specs.declared.active_volume.ActiveVolume.{ActiveVolume}
@@ -59,3 +60,29 @@ IsFront [] extents = Unit {0}
 IsFront (kept ∷ others) [] = ⊥
 IsFront (kept ∷ []) (extent ∷ extents) = IsCutTo kept extent
 IsFront (kept ∷ next ∷ others) (extent ∷ extents) = (kept ≡ extent) × IsFront (next ∷ others) extents
+
+-- the one extent lies where the other does, with no more tracks, and with some
+pub record IsPartOf (kept extent : Extent) : Type 0 where
+  pub volser : kept.volser ≡ extent.volser
+  pub start : kept.start ≡ extent.start
+  pub some : kept.length < extent.length → 0 < kept.length
+  pub less : kept.length ≤ extent.length
+
+-- the extent, if there is one
+abbrev pub extent_if : Option Extent → List Extent
+extent_if None = []
+extent_if (Some extent) = extent ∷ []
+
+-- among what the ledger of the volume stands for is all that the extents hold of it
+pub record HoldsAll (extents : List Extent) (volume : ActiveVolume) : Type 0 where
+  pub others : List Piece
+  pub is : IsLedgerOf (pieces_on volume.volume.volser extents ++ others) volume.ledger
+
+-- the volume is the same, and its ledger stands for what the second extents hold in place of what the first do
+pub record HasChanged (extents others : List Extent) (before after : ActiveVolume) : Type 0 where
+  pub volume : after.volume ≡ before.volume
+  pub status : after.status ≡ before.status
+  pub group : after.group ≡ before.group
+  pub capacity : after.ledger.capacity ≡ before.ledger.capacity
+  pub ledger : (rest : List Piece) → IsLedgerOf (pieces_on before.volume.volser extents ++ rest) before.ledger
+      → IsLedgerOf (pieces_on before.volume.volser others ++ rest) after.ledger

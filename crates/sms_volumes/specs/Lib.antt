@@ -2,6 +2,7 @@ pub mod Holding
 pub mod Asking
 pub mod Changing
 pub mod Viewing
+pub mod Leading
 pub mod Showing
 pub mod Barring
 pub mod Varied

@@ -1,6 +1,7 @@
 -- Which running volume is chosen.
-use Rattle.std.specs.Prelude.{ℕ, ◌≡◌, Bool, not, ◌&&◌, List, Option, None, Some, MatchOption, bytes_eq, find, map, filter, slice_get}
+use Rattle.std.specs.Prelude.{ℕ, ◌≡◌, ◌≤◌, Bool, not, ◌&&◌, List, Option, None, Some, MatchOption, bytes_eq, find, length, map, filter, slice_get}
 use Rattle.std.specs.List.{list_any}
+use Rattle.desk_common.specs.Limits.{most_pieces}
 use Rattle.sms_construct.specs.declared.volume.VolumeDef.{VolumeDef}
 use Rattle.volume_lists.specs.Choice.{AllRejected, MayChoose}
 use Rattle.desk_law.specs.State.{DeskState}
@@ -29,7 +30,7 @@ running_named volser volumes = find (λ volume. bytes_eq volume.volume.volser vo
 abbrev pub candidates_in : DeskState → Candidates → List VolumeDef
 candidates_in s candidates = filter (is_candidate candidates) (volumes_in s.active)
 
--- the volume at the place of the pick is a candidate that may be chosen, and grants these pieces, which are free
+-- the volume at the place of the pick is a candidate that may be chosen, and grants these few pieces, which are free
 pub record Picks (s : DeskState) (running : ActiveVolumes) (candidates : Candidates) (asked : Asked) (pick : Pick) : Type 0 where
   pub position : ℕ
   pub may : MayChoose (map (view_of s (ask_of asked)) (candidates_in s candidates)) (want_of (ask_of asked)) position
@@ -38,6 +39,7 @@ pub record Picks (s : DeskState) (running : ActiveVolumes) (candidates : Candida
   pub there : slice_get (candidates_in s candidates) position ≡ Some volume.volume
   pub granted : grant_on s volume.volume (ask_of asked) 0 ≡ Some pick.grant.items
   pub free : IsFree volume pick.grant.items
+  pub few : length pick.grant.items ≤ most_pieces
 
 -- a candidate that may be chosen, or none where all are rejected
 abbrev pub IsPick : DeskState → ActiveVolumes → Candidates → Asked → Option Pick → Type 0

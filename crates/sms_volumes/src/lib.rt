@@ -9,6 +9,7 @@ mod barring;
 mod candidates;
 mod changing;
 mod handing;
+mod lead;
 mod next;
 mod pick;
 mod showing;

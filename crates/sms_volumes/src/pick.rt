@@ -2,7 +2,7 @@
 use track_ledger::Grant;
 
 /// The place of the volume that is chosen, and what the gap rule grants there.
-#[derive(Clone, Copy)]
+#[derive(Drop)]
 pub struct Pick {
     pub place: usize,
     pub grant: Grant,

@@ -1,12 +1,13 @@
 //! The choice of a volume.
-ghost use Rattle.std.specs.Prelude.{◌≡◌, ◌≤◌, ◌<◌, length, slice_get, IfSome, MatchOption, None, Some, option_map, true};
-ghost use Rattle.track_ledger.specs.Need.{IsNeed};
+ghost use Rattle.std.specs.Prelude.{◌≡◌, ◌≤◌, ◌<◌, ◌+◌, length, slice_get, take, IfSome, MatchOption, None, Some, option_map};
+ghost use Rattle.desk_common.specs.Limits.{most_pieces};
 ghost use Rattle.desk_law.specs.State.{DeskState};
 ghost use Rattle.desk_law.specs.Candidates.{grant_on, tier_among, want_of};
 ghost use Rattle.desk_law.specs.Lawful.{IsLawful};
 ghost use Rattle.sms_volumes.specs.Asking.{IsAsked, ask_of, need_in};
 ghost use Rattle.sms_volumes.specs.Changing.{IsFreeAt};
 ghost use Rattle.sms_volumes.specs.Holding.{AreVolumesOf, StandForSome};
+ghost use Rattle.sms_volumes.specs.Leading.{Leads, candidates_among, view_in};
 ghost use Rattle.sms_volumes.specs.Viewing.{IsPick, running_named};
 ghost use Rattle.sms_volumes.specs.declared.active_volume.ActiveVolume.{ActiveVolume as Running};
 
@@ -15,10 +16,11 @@ use crate::active_volume::ActiveVolume;
 use crate::active_volumes::ActiveVolumes;
 use crate::asked::Asked;
 use crate::candidates::Candidates;
+use crate::lead::Lead;
 use crate::pick::Pick;
 use dsn_mask::{Name, Volser};
 use track_ledger::{Grant, Need};
-use volume_lists::{BEHIND_ALL_LISTS, VolView, Want, comes_before, listing, rank};
+use volume_lists::{VolView, Want, comes_before, listing, rank};
 
 impl Asked<'_> {
     // What is needed of a volume of the storage group, on which the data set holds so many extents.
@@ -62,6 +64,7 @@ impl Asked<'_> {
     // The volume as it would stand if it had room.
     fn view(&self, volume: &ActiveVolume, group: &ActiveGroup) -> VolView
         requires { length self.now.tiers.now ≤ 15 }
+        ensures { result ≡ view_in self.now volume.now group.now }
     {
         VolView {
             volser: volume.volume.volser,
@@ -77,13 +80,6 @@ impl Asked<'_> {
             tier: self.tier(&volume.volume.group),
         }
     }
-}
-
-// The volume that leads among those looked at so far, with its rank and tier.
-struct Lead {
-    pick: Option<Pick>,
-    rank: u8,
-    tier: u8,
 }
 
 impl ActiveVolumes {
@@ -108,19 +104,25 @@ impl ActiveVolumes {
         requires stand { StandForSome self.now }
         ensures { (s : DeskState) → IsLawful s → AreVolumesOf s self.now → IsPick s self.now candidates.now asked.now result }
     {
-        let mut lead = Lead {
-            pick: None,
-            rank: BEHIND_ALL_LISTS,
-            tier: 0,
-        };
+        let mut lead = Lead::none();
         for place in 0..self.volumes.len() {
             self.look_at(place, candidates, asked, &mut lead);
+            if lead.is_first() {
+                return lead.pick;
+            }
         }
         lead.pick
     }
 
     // The volume at the place takes the lead where it is a candidate, comes before the one that leads, and has room.
-    fn look_at(&self, place: usize, candidates: &Candidates<'_>, asked: &Asked<'_>, lead: &mut Lead) {
+    fn look_at(&self, place: usize, candidates: &Candidates<'_>, asked: &Asked<'_>, lead: &mut Lead)
+        requires place { place < length self.now.volumes.items }
+        requires asked { IsAsked asked.now }
+        requires stand { StandForSome self.now }
+        ensures { (s : DeskState) → IsLawful s → AreVolumesOf s self.now →
+            Leads s self.now (candidates_among candidates.now (take place self.now.volumes.items)) asked.now lead.old →
+            Leads s self.now (candidates_among candidates.now (take (place + 1) self.now.volumes.items)) asked.now lead.new }
+    {
         let volume = &self.volumes[place];
         if !candidates.has(&volume.volume) {
             return;
@@ -153,6 +155,7 @@ impl ActiveVolumes {
         ensures rule { (s : DeskState) (volume : Running) → IsLawful s → AreVolumesOf s self.now → slice_get self.now.volumes.items place ≡ Some volume →
             option_map (λ grant. grant.items) result ≡ grant_on s volume.volume (ask_of asked.now) held }
         ensures free { IfSome result (λ grant. IsFreeAt self.now place grant.items) }
+        ensures few { IfSome result (λ grant. length grant.items ≤ most_pieces) }
     {
         let volume = &self.volumes[place];
         let group = self.groups.get(volume.group)?;
