@@ -97,6 +97,9 @@ before-then r t x y z u is off = grind (arith, nat_tests)
 before-none : (r t : ℕ) → comes_before r t 4 0 ≡ false → 4 ≤ r
 before-none r t off = grind (arith, nat_tests)
 
+pub first-is : (r t : ℕ) → ((r == 1) && (t == 0)) ≡ true → (r ≡ 1) × (t ≡ 0)
+first-is r t is = grind (arith, nat_tests)
+
 -- Lists.
 
 none-of : (b c : Bool) → (b || c) ≡ false → (b ≡ false) × (c ≡ false)

@@ -1,12 +1,17 @@
 -- The front of extents, part by part.
 use Rattle.std.proofs.Common.{◌≡◌, ◌≤◌, ◌<◌, ℕ, zero, suc, ◌+◌, List, [], ◌∷◌, ◌++◌, length, get_or, take, drop, refl, sym, ap, ◌∙◌, subst, arith, append_assoc}
-use Rattle.std.specs.Prelude.{None, Option, Some, IfSome, slice_get}
+use Rattle.std.specs.Prelude.{None, Option, Some, IfSome, is_some, nat_lt, slice_get}
+use Rattle.std.specs.Borrow.{Bor}
+use Rattle.std.specs.Option.{option_copied}
 use Rattle.std.specs.List.{AllByRecursion, AllZip}
+use Rattle.std.proofs.lemmas.Bool.Decides.{nat_tests}
 use Rattle.std.proofs.lemmas.List.{append-nil, drop_all, take_all}
+use Rattle.std.proofs.lemmas.Option.{slice_get_past}
 use Rattle.sms_construct.specs.declared.extent.Extent.{Extent}
 use Rattle.sms_volumes.specs.Changing.{HasChanged, HoldsAll, IsFront, IsPartOf, extent_if}
 use Rattle.sms_volumes.specs.declared.active_volume.ActiveVolume.{ActiveVolume}
-use Rattle.sms_volumes.proofs.ChangeLemmas.{all-changed, all-hold, all-hold-after, all-within}
+use Rattle.sms_volumes.proofs.ChangeLemmas.{all-changed, all-hold, all-within}
+use Rattle.sms_volumes.proofs.RunningLemmas.{there-is}
 
 part-same : (kept extent : Extent) → kept ≡ extent → IsPartOf kept extent
 part-same kept extent same = record {
@@ -34,6 +39,14 @@ front-long (k ∷ kept) [] front = absurd front
 front-long (k ∷ []) (x ∷ extents) front = omega arith
 front-long (k ∷ next ∷ kept) (x ∷ extents) front =
     let rest = front-long (next ∷ kept) extents front.1 in omega (arith, rest)
+
+-- what the slice gives at a place
+pub looked-up : (kept : List Extent) (place : ℕ) (found : Option (Bor Extent)) → is_some found ≡ nat_lt place (length kept) → IfSome found (λ x. x.now ≡ get_or kept place x.now)
+    → slice_get kept place ≡ option_copied found
+looked-up kept place None there same =
+    let past : length kept ≤ place = grind (arith, nat_tests) in slice_get_past kept place past
+looked-up kept place (Some x) there same =
+    let lt : place < length kept = grind (arith, nat_tests) in there-is kept place x.now lt same
 
 -- what is left behind the first so many
 abbrev pub kept_so_far : ℕ → List Extent → List Extent → List Extent

@@ -1,8 +1,10 @@
 -- All running volumes after a change of one data set.
 use Rattle.std.proofs.Common.{◌≡◌, ◌≤◌, ◌<◌, ℕ, zero, suc, ◌+◌, Bool, true, false, cond, List, [], ◌∷◌, ◌++◌, length, map, get_or, refl, sym, ap, ◌∙◌, subst, arith, append_assoc}
-use Rattle.std.specs.Prelude.{None, Option, Some, bytes_eq, option_map, slice_get, slice_set}
+use Rattle.std.specs.Prelude.{Err, IfSome, None, Ok, OnOk, Option, Result, Some, bytes_eq, option_map, slice_get, slice_set}
 use Rattle.std.specs.List.{All, AllByRecursion, AllZip}
+use Rattle.std.specs.declared.alloc.AllocError.{AllocError}
 use Rattle.std.proofs.lemmas.Option.{get_or_from_slice_get, slice_get-get_or}
+use Rattle.desk_common.specs.Limits.{most_pieces}
 use Rattle.sms_construct.specs.declared.data_set.DataSet.{DataSet}
 use Rattle.sms_construct.specs.declared.extent.Extent.{Extent}
 use Rattle.sms_construct.specs.declared.volume.VolumeDef.{VolumeDef}
@@ -36,6 +38,10 @@ there-is xs place x lt read = slice_get-get_or xs place x lt ∙ ap Some (sym re
 
 pub same-at : {X : Type 0} (xs : List X) (place : ℕ) (v x : X) → slice_get xs place ≡ Some v → x ≡ get_or xs place x → x ≡ v
 same-at xs place v x there read = read ∙ get_or_from_slice_get xs place v x there
+
+-- a list that is another
+pub there-in : {X : Type 0} (xs ys : List X) (place : ℕ) (x : X) → ys ≡ xs → place < length ys → x ≡ get_or ys place x → slice_get xs place ≡ Some x
+there-in xs ys place x same lt read = subst (λ (l : List _). slice_get l place ≡ Some x) same (there-is ys place x lt read)
 
 set-there : {X : Type 0} (xs : List X) (place : ℕ) (x : X) → place < length xs → slice_get (slice_set xs place x) place ≡ Some x
 set-there [] place x lt = absurd (omega (arith, lt))
@@ -198,6 +204,12 @@ ready-at running after place x ledger pieces lt read capacity gaps room free vol
       };
     }
 
+pub ready-if : (result : Result (Unit {0}) AllocError) (running after : ActiveVolumes) (place : ℕ) (x : ActiveVolume) (ledger : LedgerView) → place < length running.volumes.items → x ≡ get_or running.volumes.items place x
+    → ledger.capacity ≡ x.ledger.capacity → ledger.gaps ≡ x.ledger.gaps → OnOk result (5 ≤ ledger.spare) → after.volumes.items ≡ slice_set running.volumes.items place (record x { ledger = ledger })
+    → OnOk result ((pieces : List Piece) → length pieces ≤ most_pieces → IsFreeAt running place pieces → IsReadyAt after place pieces)
+ready-if (Ok done) running after place x ledger lt read capacity gaps room volumes = λ pieces few free. ready-at running after place x ledger pieces lt read capacity gaps (omega (arith, few, room)) free volumes
+ready-if (Err error) running after place x ledger lt read capacity gaps room volumes = tt
+
 -- An extent goes, or a part of it stays.
 
 at-extent : (e : Extent) (v : ActiveVolume) → bytes_eq v.volume.volser e.volser ≡ true → pieces_on v.volume.volser (e ∷ []) ≡ piece_of e ∷ []
@@ -294,3 +306,10 @@ pub holds-at : (e : Extent) (volumes : List ActiveVolume) (place : ℕ) (x : Act
 holds-at e volumes place x lt read found all =
     let holds = each-at (HoldsAll (e ∷ [])) volumes place x all (there-is volumes place x lt read) in
     record { others = holds.others; is = subst (λ (l : List Piece). IsLedgerOf (l ++ holds.others) x.ledger) (at-extent e x (serial-at e.volser volumes place x lt read found)) holds.is }
+
+-- What is granted is free.
+
+pub free-if : {G : Type 0} (items : G → List Piece) (running : ActiveVolumes) (place : ℕ) (v : ActiveVolume) (o : Option G) → slice_get running.volumes.items place ≡ Some v
+    → IfSome o (λ g. All (LiesInside v.ledger.capacity) (items g)) → IfSome o (λ g. LieInGaps v.ledger.gaps (items g)) → IfSome o (λ g. IsFreeAt running place (items g))
+free-if items running place v None at inside free = tt
+free-if items running place v (Some g) at inside free = record { volume = v; at = at; free = record { inside = inside; free = free } }

@@ -20,11 +20,12 @@ use Rattle.desk_law.specs.Volumes.{group_named, groups_in, volumes_of_group}
 use Rattle.desk_law.proofs.ByteLemmas.{same-bytes}
 use Rattle.desk_law.proofs.PlaceLemmas.{each-at, find-each}
 use Rattle.sms_volumes.specs.Asking.{IsAsked, ask_of, need_in}
-use Rattle.sms_volumes.specs.Holding.{IsGroupOf, IsVolumeOf}
+use Rattle.sms_volumes.specs.Holding.{AreVolumesOf, IsGroupOf, IsVolumeOf}
 use Rattle.sms_volumes.specs.Leading.{view_in}
 use Rattle.sms_volumes.specs.Viewing.{running_named}
 use Rattle.sms_volumes.specs.declared.active_group.ActiveGroup.{ActiveGroup}
 use Rattle.sms_volumes.specs.declared.active_volume.ActiveVolume.{ActiveVolume}
+use Rattle.sms_volumes.specs.declared.active_volumes.ActiveVolumes.{ActiveVolumes}
 use Rattle.sms_volumes.specs.declared.asked.Asked.{Asked}
 use Rattle.sms_volumes.proofs.HeldLemmas.{ledger-sum}
 
@@ -94,6 +95,24 @@ view-is s groups asked volume group each is there =
     let sum : tracks_held volume.ledger.gaps + tracks_held (held_on s volume.volume.volser) ≡ volume.ledger.capacity = ledger-sum (held_on s volume.volume.volser) volume.ledger is.ledger in
     let granted : volume.ledger.capacity - tracks_held volume.ledger.gaps ≡ granted_on s volume.volume.volser = omega (arith, sum) in
     rw (status, is.status, overflow, high, granted, count) refl
+
+-- The volume at a place.
+
+module _ (s : DeskState) (running : ActiveVolumes) (asked : Asked) (place : ℕ) (v : ActiveVolume) (group : ActiveGroup) (are : AreVolumesOf s running) (at : slice_get running.volumes.items place ≡ Some v)
+    (there : slice_get running.groups.items v.group ≡ Some group) where
+  own-at : IsVolumeOf s running.groups.items v
+  own-at = each-at (IsVolumeOf s running.groups.items) running.volumes.items place v are.each_volume at
+
+  pub needed-at : (held : ℕ) → IsLawful s → IsAsked asked → held ≤ 16 → IsNeed (need_in asked group held)
+  needed-at held lawful sound most = need-sound s running.groups.items asked held v group lawful sound most own-at there
+
+  pub granted-at : (held : ℕ) (need : Need) (found : Option (List Piece)) → need ≡ need_in asked group held
+      → ((pieces : List Piece) → IsLedgerOf pieces v.ledger → found ≡ grant_beside v.ledger.capacity pieces need) → found ≡ grant_on s v.volume (ask_of asked) held
+  granted-at held need found is plan =
+      grant-is s running.groups.items asked held v group found own-at there (subst (λ (n : Need). (pieces : List Piece) → IsLedgerOf pieces v.ledger → found ≡ grant_beside v.ledger.capacity pieces n) is plan)
+
+  pub seen-at : view_in asked v group ≡ record (view_of s (ask_of asked) v.volume) { fits = true }
+  seen-at = view-is s running.groups.items asked v group are.each_group own-at there
 
 -- The tier of a storage group.
 
