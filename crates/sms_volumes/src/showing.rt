@@ -35,6 +35,8 @@ impl ActiveVolume {
         ensures value { result ≡ running_free self.now }
         ensures small { result < 2 ^ 32 }
     {
+        // A fact for the proof.
+        let _granted = self.ledger.granted();
         self.ledger.free()
     }
 
