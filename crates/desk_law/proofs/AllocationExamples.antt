@@ -117,6 +117,13 @@ five_gaps = refl
 no_sixth : grant_on holes (volume (codes "VOL001") 110 Enable) (ask Trk 51 1) 0 ≡ None
 no_sixth = refl
 
+-- so the volume is a candidate for 50 tracks, and not for 51
+five_pieces : listing_of (view_of holes (ask Trk 50 1) (volume (codes "VOL001") 110 Enable)) (want_of (ask Trk 50 1)) ≡ Secondary
+five_pieces = refl
+
+six_pieces : listing_of (view_of holes (ask Trk 51 1) (volume (codes "VOL001") 110 Enable)) (want_of (ask Trk 51 1)) ≡ Rejected reasons_of.Room
+six_pieces = refl
+
 -- EXTEND.
 
 not_found : extend_case new_desk (codes "A.B") ≡ Err replies.NotFound

@@ -25,7 +25,9 @@ pub mod FloorLemmas
 pub mod AnswerLemmas
 pub mod RowLemmas
 pub mod GrantedLemmas
+pub mod PlacedRowLemmas
 pub mod KeptRowLemmas
+pub mod OrderLemmas
 pub mod ActivationLemmas
 pub mod ActiveLemmas
 pub mod ExampleDecks

@@ -12,11 +12,11 @@ use Rattle.sms_construct.specs.declared.target.Target.TheVariants.{Group, Volume
 use Rattle.sms_construct.specs.declared.unit.Unit.TheVariants.{Cyl, Trk}
 use Rattle.sms_construct.specs.declared.volume.VolumeDef.{VolumeDef}
 use Rattle.volume_lists.specs.Choice.{MayChoose}
-use Rattle.desk_law.specs.State.{DeskState}
+use Rattle.desk_law.specs.State.{DeskState, with_status}
 use Rattle.desk_law.specs.Allocation.{Wish, ask_of, candidates_of, tiers_of}
 use Rattle.desk_law.specs.Candidates.{Ask, need_on, view_of, want_of}
 use Rattle.desk_law.specs.Extension.{ask_more}
-use Rattle.desk_law.specs.Lawful.{LiesInPart}
+use Rattle.desk_law.specs.Lawful.{IsLawful, LiesInPart}
 use Rattle.desk_law.specs.Releasing.{ReleaseRule, kept_of}
 use Rattle.desk_law.specs.Statuses.{may_have}
 use Rattle.desk_law.specs.declared.stop.Stop.TheVariants as stops
@@ -86,6 +86,19 @@ no_whole_units : LiesInPart (extent (codes "VOL001") 983115 300) → ⊥
 no_whole_units (inl before) = omega (arith, before)
 no_whole_units (inr managed) =
     let bad : 300 ≡ 0 = managed.length in omega (arith, bad)
+
+-- A state that isn't lawful: its data set meets the border, or has a secondary quantity of ten tracks in cylinders; its volume is NOTCON
+
+border_is_met : IsLawful (desk_with (one 983115) (data_set 0 1 (extent (codes "VOL001") 982799 2 ∷ []))) → ⊥
+border_is_met lawful = meets_border lawful.sets.0.parted.0
+
+part_of_a_cylinder : IsLawful (desk_with (one 100) (record (data_set 10 1 (extent (codes "VOL001") 0 15 ∷ [])) { unit = Cyl })) → ⊥
+part_of_a_cylinder lawful =
+    let bad : 10 ≡ 0 = lawful.sets.0.whole in omega (arith, bad)
+
+volume_not_connected : IsLawful (with_status (desk_under (one 100)) (Volume (codes "VOL001")) NotCon) → ⊥
+volume_not_connected lawful =
+    let bad : false ≡ true = lawful.connected.1.0 in absurd cc
 
 -- The breakpoint is that of the candidate's own storage group, whatever the data set's.
 

@@ -48,7 +48,13 @@ pub record Wish : Type 0 where
 abbrev pub wish_with : Alloc → Configuration → Classes → Quantities → Wish
 wish_with alloc config classes space =
     let class = data_class_of config classes.values.dataclas in
-    record { config = config; classes = classes; space = space; volumes = volume_count_of alloc class; eattr = eattr_of alloc class }
+    record {
+      config = config;
+      classes = classes;
+      space = space;
+      volumes = volume_count_of alloc class;
+      eattr = eattr_of alloc class;
+    }
 
 -- the lines behind the classification: there is no space
 abbrev pub space_case : Alloc → Configuration → Classes → Result Wish Reply
@@ -74,12 +80,18 @@ has_tiers (Some class) = class.multi_tier
 
 -- the listed storage groups, where their order counts
 abbrev pub tiers_of : Wish → List (List ℕ)
-tiers_of wish = if has_tiers (storage_class_of wish.config wish.classes.values.storclas) then wish.classes.values.groups else []
+tiers_of wish =
+    if has_tiers (storage_class_of wish.config wish.classes.values.storclas) then wish.classes.values.groups else []
 
 -- what is asked of the volumes: the primary quantity
 abbrev pub ask_of : Wish → Ask
-ask_of wish =
-    record { unit = wish.space.unit; tracks = primary_tracks_of wish.space; volumes = wish.volumes; eattr = wish.eattr; tiers = tiers_of wish }
+ask_of wish = record {
+  unit = wish.space.unit;
+  tracks = primary_tracks_of wish.space;
+  volumes = wish.volumes;
+  eattr = wish.eattr;
+  tiers = tiers_of wish;
+}
 
 -- the volumes of the listed storage groups
 abbrev pub candidates_of : Wish → List VolumeDef

@@ -1,4 +1,4 @@
--- What is asked of volumes, which of them a data set gets, and what the volume grants (docs/rules.md, "The lists", "The gap rule").
+-- What is asked of volumes, which of them a data set gets, and what it grants (docs/rules.md, "The lists", "The gap rule").
 use Rattle.std.specs.Prelude.{ℕ, ◌+◌, ◌%◌, ◌<◌, ◌≡◌, ◌⊎◌, Bool, false, List, [], ◌∷◌, bytes_eq, length, map, slice_get, Option, None, Some, is_some, if◌then◌else◌}
 use Rattle.sms_construct.specs.Quantities.{tracks_in}
 use Rattle.sms_construct.specs.declared.eattr.Eattr.{Eattr}
@@ -16,7 +16,7 @@ use Rattle.desk_law.specs.Extents.{granted_on, held_on}
 use Rattle.desk_law.specs.Statuses.{group_status, volume_status}
 use Rattle.desk_law.specs.Volumes.{group_named, volumes_of_group}
 
--- what is asked of volumes: so many tracks in this unit, for a data set that may lie on so many volumes and on such space
+-- what is asked of volumes: so many tracks, in a unit, for a data set that may lie on so many volumes and on such space
 pub record Ask : Type 0 where
   pub unit : SpaceUnit
   pub tracks : ℕ
@@ -45,7 +45,7 @@ abbrev pub breakpoint_of : Option StorGroup → ℕ
 breakpoint_of None = 0
 breakpoint_of (Some group) = group.breakpoint
 
--- what the data set needs of this volume, on which it holds so many extents: the breakpoint is that of the volume's own storage group
+-- what the data set needs of this volume, where it holds so many extents; the breakpoint is that of the volume's own group
 abbrev pub need_on : DeskState → VolumeDef → Ask → ℕ → Need
 need_on s volume ask held = record {
   unit = ask.unit;
@@ -85,7 +85,8 @@ abbrev pub want_of : Ask → Want
 want_of ask = record { need = ask.tracks; volumes = ask.volumes }
 
 -- a volume at a position that may be chosen, and this of it
-pub record Chooses (candidates : List VolumeDef) (views : List VolView) (want : Want) (chosen : VolumeDef → Type 0) : Type 0 where
+pub record Chooses (candidates : List VolumeDef) (views : List VolView) (want : Want) (chosen : VolumeDef → Type 0)
+    : Type 0 where
   pub position : ℕ
   pub may : MayChoose views want position
   pub volume : VolumeDef
@@ -95,4 +96,5 @@ pub record Chooses (candidates : List VolumeDef) (views : List VolView) (want : 
 -- all candidates are rejected and the one; or one that may be chosen, and the other of it
 abbrev pub Chosen : DeskState → Ask → List VolumeDef → Type 0 → (VolumeDef → Type 0) → Type 0
 Chosen s ask candidates rejected chosen =
-    (AllRejected (map (view_of s ask) candidates) (want_of ask) × rejected) ⊎ Chooses candidates (map (view_of s ask) candidates) (want_of ask) chosen
+    (AllRejected (map (view_of s ask) candidates) (want_of ask) × rejected)
+    ⊎ Chooses candidates (map (view_of s ask) candidates) (want_of ask) chosen

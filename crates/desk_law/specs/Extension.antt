@@ -38,7 +38,8 @@ abbrev pub growth_on : DeskState → DataSet → Option VolumeDef → Option (Li
 growth_on s set None = None
 growth_on s set (Some volume) =
     if bars_growth s volume then None
-    else option_map (extents_at volume.volser) (grant_on s volume (ask_more set) (length (pieces_on volume.volser set.extents)))
+    else option_map (extents_at volume.volser)
+    (grant_on s volume (ask_more set) (length (pieces_on volume.volser set.extents)))
 
 -- the volumes of the storage group of this one on which the data set doesn't lie
 abbrev pub others_of : DeskState → DataSet → Option VolumeDef → List VolumeDef

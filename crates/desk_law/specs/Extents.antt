@@ -70,11 +70,11 @@ volumes_after seen (extent ∷ extents) =
 abbrev pub volumes_of : List Extent → List (List ℕ)
 volumes_of extents = volumes_after [] extents
 
--- in how many tracks a volume is cut from this track on: one by one before the border, in units of the cylinder-managed part from it on
+-- in how many tracks a volume is cut from this track on: one by one before the border, in managed units from it on
 abbrev pub multiple_at : ℕ → ℕ
 multiple_at track = if nat_lt track border then 1 else tracks_in_managed
 
--- what is kept of an extent when so many tracks are to be kept: they in whole units of its part, and never more than it has
+-- what is kept of an extent when so many tracks are to be kept: these in whole units of its part, and never more than it has
 abbrev pub length_kept : ℕ → Extent → ℕ
 length_kept keep extent = min (rounded_up (multiple_at extent.start) keep) extent.length
 
@@ -82,7 +82,9 @@ length_kept keep extent = min (rounded_up (multiple_at extent.start) keep) exten
 abbrev pub front_tracks : ℕ → List Extent → List Extent
 front_tracks keep [] = []
 front_tracks keep (extent ∷ extents) =
-    if nat_lt 0 keep then record extent { length = length_kept keep extent } ∷ front_tracks (keep - extent.length) extents else []
+    if nat_lt 0 keep
+    then record extent { length = length_kept keep extent } ∷ front_tracks (keep - extent.length) extents
+    else []
 
 -- the data set with these extents, of which so many tracks are used
 abbrev pub with_extents : DataSet → ℕ → List Extent → DataSet

@@ -63,7 +63,8 @@ pub fn lawful_always()
 
 /// Behind a lawful opening whose data sets lie on at most as many volumes as they may, those of each legal history do.
 pub fn spread_always()
-    ensures { (o : Opening) (history : List Entry) (s : DeskState) → IsLawfulOpening o → AllByRecursion IsSpread o.rows.sets → Reaches o history s → AllByRecursion IsSpread s.sets }
+    ensures { (o : Opening) (history : List Entry) (s : DeskState) → IsLawfulOpening o → AllByRecursion IsSpread o.rows.sets → Reaches o history s →
+        AllByRecursion IsSpread s.sets }
 {}
 
 /// In a lawful state the granted and the free tracks of each active volume are its tracks, and the free ones are those that no data set holds.
@@ -80,18 +81,21 @@ pub fn to_no_other()
         times_held (pieces_on volser set.extents) track + times_held (pieces_on volser other.extents) track ≤ 1 }
 {}
 
-/// Where a data set is put in place of the one of its name, its pieces come and those of the old one go, whatever is counted of what is held of a volume.
+/// Where a data set is put in place of the one of its name, its pieces of a volume come and those of the old one go.
 pub fn held_with_a_set()
     ensures counts { (s : DeskState) (set : DataSet) (volser : List ℕ) (count : Piece → ℕ) → IsLawful s →
-        sum_by count (held_on (with_set s set) volser) + sum_by count (pieces_on volser (extents_named set.dsn s.sets)) ≡ sum_by count (held_on s volser) + sum_by count (pieces_on volser set.extents) }
+        sum_by count (held_on (with_set s set) volser) + sum_by count (pieces_on volser (extents_named set.dsn s.sets))
+        ≡ sum_by count (held_on s volser) + sum_by count (pieces_on volser set.extents) }
     ensures alike { (s : DeskState) (set : DataSet) (volser : List ℕ) → IsLawful s →
-        AreAlike (held_on (with_set s set) volser ++ pieces_on volser (extents_named set.dsn s.sets)) (held_on s volser ++ pieces_on volser set.extents) }
+        AreAlike (held_on (with_set s set) volser ++ pieces_on volser (extents_named set.dsn s.sets))
+        (held_on s volser ++ pieces_on volser set.extents) }
 {}
 
 /// Where a data set is catalogued no more, its pieces go.
 pub fn held_without_a_set()
     ensures counts { (s : DeskState) (dsn volser : List ℕ) (count : Piece → ℕ) → IsLawful s →
-        sum_by count (held_on (without_name s dsn) volser) + sum_by count (pieces_on volser (extents_named dsn s.sets)) ≡ sum_by count (held_on s volser) }
+        sum_by count (held_on (without_name s dsn) volser) + sum_by count (pieces_on volser (extents_named dsn s.sets))
+        ≡ sum_by count (held_on s volser) }
     ensures alike { (s : DeskState) (dsn volser : List ℕ) → IsLawful s →
         AreAlike (held_on (without_name s dsn) volser ++ pieces_on volser (extents_named dsn s.sets)) (held_on s volser) }
 {}
@@ -139,12 +143,20 @@ pub fn activations_are_counted()
     ensures { (o : Opening) (history : List Entry) (s : DeskState) → AllByRecursion (λ row. row.place ≤ o.base) o.rows.replies → Reaches o history s → s.activations ≡ length o.rows.decks + length (decks_of history) }
 {}
 
-/// Where the opening's rows have places before its first entry and its decks are those of its activations, so are the decks of each legal history.
+/// Where the opening's rows have places before its first entry and its decks are those of its activations, so are those of each legal history.
 pub fn decks_in_order()
-    ensures { (o : Opening) (history : List Entry) (s : DeskState) → AllByRecursion (λ row. row.place ≤ o.base) o.rows.replies → IsDecked o.rows.decks (start_of o) → Reaches o history s → IsDecked (o.rows.decks ++ decks_of history) s }
+    ensures { (o : Opening) (history : List Entry) (s : DeskState) → AllByRecursion (λ row. row.place ≤ o.base) o.rows.replies →
+        IsDecked o.rows.decks (start_of o) → Reaches o history s → IsDecked (o.rows.decks ++ decks_of history) s }
 {}
 
 /// Where the opening's rows are kept ones, so are those of the tables of each legal history.
 pub fn kept_rows_always()
-    ensures { (o : Opening) (history : List Entry) (s : DeskState) (rows : Rows) → AreKeptRows o.base o.rows.replies → Reaches o history s → IsTables o history s rows → AreKeptRows (o.base + length history) rows.replies }
+    ensures { (o : Opening) (history : List Entry) (s : DeskState) (rows : Rows) → AreKeptRows o.base o.rows.replies → Reaches o history s →
+        IsTables o history s rows → AreKeptRows (o.base + length history) rows.replies }
+{}
+
+/// The tables of a legal history, in any order of their keys, are rows from which a desk may go on in a lawful way.
+pub fn tables_are_lawful()
+    ensures { (o : Opening) (history : List Entry) (s : DeskState) (rows : Rows) (base : ℕ) → IsLawfulOpening o → Reaches o history s →
+        IsTables o history s rows → IsLawfulOpening (record { rows = rows; config = s.active; base = base }) }
 {}
