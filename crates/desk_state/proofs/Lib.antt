@@ -1,3 +1,4 @@
+pub mod Pending
 pub mod ExtentLemmas
 pub mod StandLemmas
 pub mod FewLemmas
