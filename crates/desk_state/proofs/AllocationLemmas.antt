@@ -14,6 +14,7 @@ use Rattle.sms_construct.specs.declared.volume.VolumeDef.{VolumeDef}
 use Rattle.acs_tree.specs.declared.values.Values.{Values}
 use Rattle.desk_law.specs.State.{DeskState, set_named, with_set}
 use Rattle.desk_law.specs.Allocation.{AllocRule, GrantRule, Wish, alloc_case, ask_of, candidates_of, data_class_of, new_set, space_case, space_of, wish_with}
+use Rattle.desk_law.specs.Candidates.{Ask}
 use Rattle.desk_law.specs.Classification.{Classes, answer_of, classes_of, trace_of, went_through}
 use Rattle.desk_law.specs.Extents.{extents_at, extents_if, extents_named}
 use Rattle.desk_law.specs.Replies.{◌⊳◌, Leaves}
@@ -37,11 +38,19 @@ use Rattle.desk_state.proofs.AnswerLemmas.{quiet-answers}
 -- What is granted.
 
 -- the volumes of the listed storage groups
-pub listed-are : (s : DeskState) (wish : Wish) (groups : List (List ℕ)) → s.active ≡ Some wish.config → groups ≡ wish.classes.values.groups
+listed-are : (s : DeskState) (wish : Wish) (groups : List (List ℕ)) → s.active ≡ Some wish.config → groups ≡ wish.classes.values.groups
     → filter (λ (v : VolumeDef). list_any (bytes_eq v.group) groups) (volumes_in s.active) ≡ candidates_of wish
 listed-are s wish groups active same =
     ap (λ (g : List (List ℕ)). filter (λ (v : VolumeDef). list_any (bytes_eq v.group) g) (volumes_in s.active)) same
     ∙ ap (λ (o : Option Configuration). filter (λ (v : VolumeDef). list_any (bytes_eq v.group) wish.classes.values.groups) (volumes_in o)) active
+
+-- what is granted among them is by the law
+pub listed-among : (s : DeskState) (wish : Wish) (groups : List (List ℕ)) (ask : Ask) {given : Option Grant} (found : Option Grant) → s.active ≡ Some wish.config → groups ≡ wish.classes.values.groups → ask ≡ ask_of wish → given ≡ found
+    → IsGrantAmong s (filter (λ (v : VolumeDef). list_any (bytes_eq v.group) groups) (volumes_in s.active)) ask given → IsGrantAmong s (candidates_of wish) (ask_of wish) found
+listed-among s wish groups ask {given} found active same asks is among =
+    subst (IsGrantAmong s (candidates_of wish) (ask_of wish)) is
+    (subst (λ (a : Ask). IsGrantAmong s (candidates_of wish) a given) asks
+    (subst (λ (l : List VolumeDef). IsGrantAmong s l ask given) (listed-are s wish groups active same) among))
 
 -- a data set of a new name has what is granted
 has-granted : (s : DeskState) (running : Running) (set : DataSet) (grant : Grant) → set_named set.dsn s.sets ≡ None → set.extents ≡ extents_at grant.volume.volser grant.pieces.items → IsGranted running grant

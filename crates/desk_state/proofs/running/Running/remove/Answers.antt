@@ -4,7 +4,7 @@ use Rattle.desk_state.proofs.StandLemmas.{found-lies}
 use Rattle.desk_state.proofs.running.Running.remove.Goals as goal
 
 pub release-requires : goal.release-requires
-release-requires c = found-lies c.args.self.now c.requires c.args.dsn.now _ c.get.ensures
+release-requires c = found-lies c.args.self.now c.requires.stands c.args.dsn.now _ c.get.ensures
 
 pub returns : goal.returns
 returns c = λ s lawful is.
