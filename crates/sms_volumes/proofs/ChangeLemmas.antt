@@ -15,7 +15,6 @@ use Rattle.desk_law.specs.State.{DeskState}
 use Rattle.desk_law.specs.Extents.{held_on, pieces_on}
 use Rattle.desk_law.specs.Statuses.{status_in}
 use Rattle.desk_law.specs.Volumes.{groups_in, times_volume, volumes_in}
-use Rattle.desk_law.proofs.ByteLemmas.{bytes-turned, same-bytes}
 use Rattle.sms_volumes.specs.Changing.{HasChanged, HoldsAll}
 use Rattle.sms_volumes.specs.Handing.{AreApart}
 use Rattle.sms_volumes.specs.Holding.{AreVolumesOf, IsGroupOf, IsVolumeOf, StandsAt}

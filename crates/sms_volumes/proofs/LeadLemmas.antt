@@ -1,15 +1,14 @@
 -- The volume that leads, volume by volume.
 use Rattle.std.proofs.Common.{◌≡◌, ◌≤◌, ◌<◌, ℕ, zero, suc, ◌+◌, Bool, true, false, cond, List, [], ◌∷◌, ◌++◌, length, map, take, drop, refl, sym, ap, ◌∙◌, subst, arith}
 use Rattle.std.specs.Prelude.{◌==◌, ◌&&◌, ◌||◌, Option, None, Some, MatchOption, filter, is_some, nat_lt, slice_get}
-use Rattle.std.specs.List.{AllByRecursion, list_all, list_any}
+use Rattle.std.specs.List.{list_all, list_any}
 use Rattle.std.proofs.lemmas.Bool.Decides.{nat_tests}
 use Rattle.std.proofs.lemmas.List.{map-append, take-append-drop, append-nil}
 use Rattle.std.proofs.lemmas.List.Elements.{filter-append}
 use Rattle.std.proofs.lemmas.List.Folds.{list_any-append}
 use Rattle.desk_common.specs.Limits.{most_pieces}
 use Rattle.sms_construct.specs.declared.volume.VolumeDef.{VolumeDef}
-use Rattle.track_ledger.specs.declared.piece.Piece.{Piece}
-use Rattle.volume_lists.specs.Choice.{AllRejected, comes_before, is_earlier, is_rejected, rank_of}
+use Rattle.volume_lists.specs.Choice.{comes_before, is_earlier, is_rejected, rank_of}
 use Rattle.volume_lists.specs.Listing.{bars_group, bars_volume, listing_of}
 use Rattle.volume_lists.specs.declared.lists.Listing.{Listing}
 use Rattle.volume_lists.specs.declared.lists.Listing.TheVariants.{Primary, Secondary, Tertiary, Rejected}
@@ -21,8 +20,8 @@ use Rattle.desk_law.specs.Candidates.{grant_on, tier_among, view_of, want_of}
 use Rattle.sms_volumes.specs.Asking.{ask_of}
 use Rattle.sms_volumes.specs.Changing.{IsFree}
 use Rattle.sms_volumes.specs.Holding.{AreVolumesOf}
-use Rattle.sms_volumes.specs.Leading.{IsLeading, Leads, candidates_among, rank_on}
-use Rattle.sms_volumes.specs.Viewing.{IsPick, Picks, candidates_in, is_candidate}
+use Rattle.sms_volumes.specs.Leading.{IsLeading, Leads, before_lead, candidates_among, rank_on}
+use Rattle.sms_volumes.specs.Viewing.{IsPick, candidates_in, is_candidate}
 use Rattle.sms_volumes.specs.declared.active_volume.ActiveVolume.{ActiveVolume}
 use Rattle.sms_volumes.specs.declared.active_volumes.ActiveVolumes.{ActiveVolumes}
 use Rattle.sms_volumes.specs.declared.asked.Asked.{Asked}
@@ -177,10 +176,6 @@ among-all candidates volumes place =
     ap (candidates_among candidates) (sym (take-append-drop place volumes)) ∙ among-append candidates (take place volumes) (drop place volumes)
 
 -- The lead.
-
--- a volume comes before the lead
-abbrev before_lead : DeskState → Asked → Lead → VolumeDef → Bool
-before_lead s asked lead volume = comes_before (rank_on s asked volume) (tier_among asked.tiers.now volume.group) lead.rank lead.tier
 
 module _ (s : DeskState) (running : ActiveVolumes) (asked : Asked) where
   leading-longer : (lead : Lead) (xs ys : List VolumeDef) (o : Option Pick) → MatchOption o ((lead.rank ≡ 4) × (lead.tier ≡ 0)) (IsLeading s running xs asked lead)

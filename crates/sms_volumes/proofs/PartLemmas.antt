@@ -92,13 +92,6 @@ kept-next place kept extents e xs ys zs lt read before step =
     (all-changed extents (front ++ ((e ∷ []) ++ behind)) (front ++ (extent_if (slice_get kept place) ++ behind)) xs ys zs now
     (all-within front (e ∷ []) (extent_if (slice_get kept place)) behind ys zs step))
 
--- none was
-pub kept-none : (kept extents : List Extent) → kept_so_far 0 kept extents ≡ extents
-kept-none [] [] = refl
-kept-none [] (x ∷ extents) = refl
-kept-none (k ∷ kept) [] = refl
-kept-none (k ∷ kept) (x ∷ extents) = refl
-
 -- all were
 pub kept-all : (place : ℕ) (kept extents : List Extent) → IsFront kept extents → length extents ≤ place → kept_so_far place kept extents ≡ kept
 kept-all place kept extents front le =

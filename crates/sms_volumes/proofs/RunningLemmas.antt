@@ -1,5 +1,5 @@
 -- All running volumes after a change of one data set.
-use Rattle.std.proofs.Common.{◌≡◌, ◌≤◌, ◌<◌, ℕ, zero, suc, ◌+◌, Bool, true, false, cond, List, [], ◌∷◌, ◌++◌, length, map, get_or, refl, sym, ap, ◌∙◌, subst, arith, append_assoc}
+use Rattle.std.proofs.Common.{◌≡◌, ◌≤◌, ◌<◌, ℕ, zero, suc, true, false, List, [], ◌∷◌, ◌++◌, length, get_or, refl, sym, ap, ◌∙◌, subst, arith, append_assoc}
 use Rattle.std.specs.Prelude.{Err, IfSome, None, Ok, OnOk, Option, Result, Some, bytes_eq, option_map, slice_get, slice_set}
 use Rattle.std.specs.List.{All, AllByRecursion, AllZip}
 use Rattle.std.specs.declared.alloc.AllocError.{AllocError}
@@ -27,7 +27,7 @@ use Rattle.sms_volumes.specs.Holding.{AreVolumesOf}
 use Rattle.sms_volumes.specs.Viewing.{running_named}
 use Rattle.sms_volumes.specs.declared.active_volume.ActiveVolume.{ActiveVolume}
 use Rattle.sms_volumes.specs.declared.active_volumes.ActiveVolumes.{ActiveVolumes}
-use Rattle.sms_volumes.proofs.ChangeLemmas.{Becomes, changed-none, each-holds, follow, map-replaced, zip-none, zip-replaced, zip-set, zip-stays}
+use Rattle.sms_volumes.proofs.ChangeLemmas.{Becomes, changed-none, each-holds, follow, zip-none, zip-replaced, zip-set, zip-stays}
 use Rattle.sms_volumes.proofs.HeldLemmas.{ledger-joined, ledger-split, ledger-swap, ledger-turn, pieces-append}
 use Rattle.sms_volumes.proofs.NextLemmas.{volume-some}
 

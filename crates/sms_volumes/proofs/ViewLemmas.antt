@@ -1,6 +1,6 @@
 -- What a running volume is to the law.
-use Rattle.std.proofs.Common.{◌≡◌, ◌≤◌, ◌<◌, ℕ, zero, suc, ◌+◌, ◌-◌, Bool, true, false, List, [], ◌∷◌, length, get_or, drop, refl, sym, ap, ◌∙◌, subst, arith, take}
-use Rattle.std.specs.Prelude.{Option, None, Some, IfSome, bytes_eq, find, option_map, slice_get}
+use Rattle.std.proofs.Common.{◌≡◌, ◌≤◌, ◌<◌, ℕ, zero, suc, ◌+◌, ◌-◌, Bool, true, false, List, [], ◌∷◌, length, get_or, drop, refl, sym, ap, ◌∙◌, subst, arith}
+use Rattle.std.specs.Prelude.{Option, None, Some, IfSome, bytes_eq, find, slice_get}
 use Rattle.std.specs.List.{AllByRecursion}
 use Rattle.sms_construct.specs.Configuration.{Configuration, IsConfiguration}
 use Rattle.sms_construct.specs.Quantities.{most_breakpoint}
@@ -10,7 +10,6 @@ use Rattle.track_ledger.specs.declared.piece.Piece.{Piece}
 use Rattle.track_ledger.specs.Extents.{tracks_held}
 use Rattle.track_ledger.specs.Ledger.{IsLedgerOf}
 use Rattle.track_ledger.specs.Need.{IsNeed, grant_beside}
-use Rattle.volume_lists.specs.declared.view.VolView.{VolView}
 use Rattle.desk_law.specs.State.{DeskState}
 use Rattle.desk_law.specs.Candidates.{breakpoint_of, grant_on, high_of, is_overflow, need_on, tier_among, view_of}
 use Rattle.desk_law.specs.Extents.{granted_on, held_on}

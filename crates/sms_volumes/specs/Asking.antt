@@ -8,7 +8,13 @@ use Rattle.sms_volumes.specs.declared.asked.Asked.{Asked}
 
 -- what the law knows of it
 abbrev pub ask_of : Asked → Ask
-ask_of asked = record { unit = asked.unit; tracks = asked.tracks; volumes = asked.volumes; eattr = asked.eattr; tiers = asked.tiers.now }
+ask_of asked = record {
+  unit = asked.unit;
+  tracks = asked.tracks;
+  volumes = asked.volumes;
+  eattr = asked.eattr;
+  tiers = asked.tiers.now;
+}
 
 -- some tracks in whole units are asked for, and a SET lists at most 15 storage groups
 pub record IsAsked (asked : Asked) : Type 0 where
@@ -18,4 +24,10 @@ pub record IsAsked (asked : Asked) : Type 0 where
 
 -- what the data set needs of a volume of this storage group, on which it holds so many extents
 abbrev pub need_in : Asked → ActiveGroup → ℕ → Need
-need_in asked group held = record { unit = asked.unit; tracks = asked.tracks; held = held; eattr = asked.eattr; breakpoint = group.group.breakpoint }
+need_in asked group held = record {
+  unit = asked.unit;
+  tracks = asked.tracks;
+  held = held;
+  eattr = asked.eattr;
+  breakpoint = group.group.breakpoint;
+}

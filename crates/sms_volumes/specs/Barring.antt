@@ -6,7 +6,8 @@ use Rattle.sms_volumes.specs.declared.active_volume.ActiveVolume.{ActiveVolume}
 
 -- the volume holds an extent, and it is missing among the others or has fewer tracks there
 abbrev pub bars : List VolumeDef → ActiveVolume → Bool
-bars others volume = nat_lt 0 volume.ledger.extents && nat_lt (tracks_of volume.volume.volser others) volume.volume.tracks
+bars others volume =
+    nat_lt 0 volume.ledger.extents && nat_lt (tracks_of volume.volume.volser others) volume.volume.tracks
 
 -- the first of the volumes that bars
 abbrev pub running_barred : List VolumeDef → List ActiveVolume → Option ActiveVolume

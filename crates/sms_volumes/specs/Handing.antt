@@ -8,7 +8,8 @@ use Rattle.sms_volumes.specs.declared.active_volume.ActiveVolume.{ActiveVolume}
 -- the ledger of the running volume, where there is one and it has no more tracks; else its own
 abbrev pub ledger_taken : Option ActiveVolume → ActiveVolume → LedgerView
 ledger_taken None volume = volume.ledger
-ledger_taken (Some running) volume = if nat_lt volume.volume.tracks running.ledger.capacity then volume.ledger else running.ledger
+ledger_taken (Some running) volume =
+    if nat_lt volume.volume.tracks running.ledger.capacity then volume.ledger else running.ledger
 
 -- the volume is the same, and its ledger stands for whatever the one that it takes over stands for
 pub record HasTaken (running : Option ActiveVolume) (before after : ActiveVolume) : Type 0 where

@@ -1,4 +1,4 @@
--- When the running volumes stand for a state of the desk: what they hold is what its data sets hold, and their statuses are its.
+-- When the running volumes stand for a state of the desk: they hold what its data sets hold, with its statuses.
 use Rattle.std.specs.Prelude.{ℕ, ◌≡◌, List, Some, length, map, slice_get}
 use Rattle.std.specs.List.{AllByRecursion}
 use Rattle.track_ledger.specs.Ledger.{IsLedgerOf}

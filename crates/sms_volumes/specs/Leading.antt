@@ -1,5 +1,5 @@
 -- The volume that leads among those looked at so far, while one is chosen.
-use Rattle.std.specs.Prelude.{ℕ, ◌≡◌, ◌-◌, ◌<◌, ◌≤◌, Bool, true, false, List, Some, MatchOption, filter, length, map, slice_get}
+use Rattle.std.specs.Prelude.{ℕ, Bool, ◌≡◌, ◌-◌, ◌<◌, ◌≤◌, true, false, List, Some, MatchOption, filter, length, map, slice_get}
 use Rattle.std.specs.List.{list_any}
 use Rattle.desk_common.specs.Limits.{most_pieces}
 use Rattle.sms_construct.specs.declared.volume.VolumeDef.{VolumeDef}
@@ -44,8 +44,14 @@ candidates_among candidates volumes = filter (is_candidate candidates) (map (λ 
 abbrev pub rank_on : DeskState → Asked → VolumeDef → ℕ
 rank_on s asked volume = rank_of (listing_of (view_of s (ask_of asked) volume) (want_of (ask_of asked)))
 
+-- the volume comes before the lead
+abbrev pub before_lead : DeskState → Asked → Lead → VolumeDef → Bool
+before_lead s asked lead volume =
+    comes_before (rank_on s asked volume) (tier_among asked.tiers.now volume.group) lead.rank lead.tier
+
 -- a volume that stands in a list of the lead's rank, with its tier, and that grants these pieces
-pub record IsLeading (s : DeskState) (running : ActiveVolumes) (looked_at : List VolumeDef) (asked : Asked) (lead : Lead) (pick : Pick) : Type 0 where
+pub record IsLeading (s : DeskState) (running : ActiveVolumes) (looked_at : List VolumeDef) (asked : Asked) (lead : Lead)
+    (pick : Pick) : Type 0 where
   pub position : ℕ
   pub volume : ActiveVolume
   pub at : slice_get running.volumes.items pick.place ≡ Some volume
@@ -58,6 +64,7 @@ pub record IsLeading (s : DeskState) (running : ActiveVolumes) (looked_at : List
   pub listed : lead.rank < 4
 
 -- none of the volumes comes before the lead, which is one of them, or behind all lists
-pub record Leads (s : DeskState) (running : ActiveVolumes) (looked_at : List VolumeDef) (asked : Asked) (lead : Lead) : Type 0 where
-  pub first : list_any (λ other. comes_before (rank_on s asked other) (tier_among asked.tiers.now other.group) lead.rank lead.tier) looked_at ≡ false
+pub record Leads (s : DeskState) (running : ActiveVolumes) (looked_at : List VolumeDef) (asked : Asked) (lead : Lead)
+    : Type 0 where
+  pub first : list_any (before_lead s asked lead) looked_at ≡ false
   pub pick : MatchOption lead.pick ((lead.rank ≡ 4) × (lead.tier ≡ 0)) (IsLeading s running looked_at asked lead)

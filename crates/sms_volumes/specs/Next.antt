@@ -21,7 +21,8 @@ pub record IsPlaceIn (groups : List ActiveGroup) (config : Configuration) (place
   pub named : find (λ other. bytes_eq other.name name) config.groups ≡ Some group.group
 
 -- the status likewise, the place of its group, and all its tracks free
-pub record IsNextVolume (present : List StatusRow) (config : Configuration) (groups : List ActiveGroup) (volume : ActiveVolume) : Type 0 where
+pub record IsNextVolume (present : List StatusRow) (config : Configuration) (groups : List ActiveGroup)
+    (volume : ActiveVolume) : Type 0 where
   pub status : volume.status ≡ (row_of_volume present volume.volume).status
   pub group : IsPlaceIn groups config volume.group volume.volume.group
   pub capacity : volume.ledger.capacity ≡ volume.volume.tracks

@@ -42,4 +42,5 @@ group_in name groups = find (λ group. bytes_eq group.group.name name) groups
 -- the group as DISPLAY shows it
 abbrev pub running_group : ActiveVolumes → ActiveGroup → View
 running_group running group =
-    views.Group group.group.name group.status group.volumes (capacity_in group.group.name running.volumes.items) (free_in group.group.name running.volumes.items)
+    views.Group group.group.name group.status group.volumes
+    (capacity_in group.group.name running.volumes.items) (free_in group.group.name running.volumes.items)

@@ -1,5 +1,5 @@
 -- Which running volume is chosen.
-use Rattle.std.specs.Prelude.{ℕ, ◌≡◌, ◌≤◌, Bool, not, ◌&&◌, List, Option, None, Some, MatchOption, bytes_eq, find, length, map, filter, slice_get}
+use Rattle.std.specs.Prelude.{ℕ, ◌≡◌, ◌≤◌, Bool, not, ◌&&◌, List, Option, Some, MatchOption, bytes_eq, find, length, map, filter, slice_get}
 use Rattle.std.specs.List.{list_any}
 use Rattle.desk_common.specs.Limits.{most_pieces}
 use Rattle.sms_construct.specs.declared.volume.VolumeDef.{VolumeDef}
@@ -31,7 +31,8 @@ abbrev pub candidates_in : DeskState → Candidates → List VolumeDef
 candidates_in s candidates = filter (is_candidate candidates) (volumes_in s.active)
 
 -- the volume at the place of the pick is a candidate that may be chosen, and grants these few pieces, which are free
-pub record Picks (s : DeskState) (running : ActiveVolumes) (candidates : Candidates) (asked : Asked) (pick : Pick) : Type 0 where
+pub record Picks (s : DeskState) (running : ActiveVolumes) (candidates : Candidates) (asked : Asked)
+    (pick : Pick) : Type 0 where
   pub position : ℕ
   pub may : MayChoose (map (view_of s (ask_of asked)) (candidates_in s candidates)) (want_of (ask_of asked)) position
   pub volume : ActiveVolume

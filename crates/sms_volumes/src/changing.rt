@@ -34,7 +34,8 @@ impl ActiveVolumes {
     pub fn reserve(&mut self, place: usize) -> Result<(), AllocError>
         requires place { place < length self.old.volumes.items }
         ensures same { (s : DeskState) → AreVolumesOf s self.old → AreVolumesOf s self.new }
-        ensures ready { OnOk result ((pieces : List Tracks) → length pieces ≤ most_pieces → IsFreeAt self.old place pieces → IsReadyAt self.new place pieces) }
+        ensures ready { OnOk result ((pieces : List Tracks) → length pieces ≤ most_pieces →
+            IsFreeAt self.old place pieces → IsReadyAt self.new place pieces) }
         ensures named { running_at place self.new ≡ running_at place self.old }
     {
         let volume = &mut self.volumes[place];
@@ -44,8 +45,10 @@ impl ActiveVolumes {
     /// A data set holds these pieces of the volume at a place too. It takes no memory.
     pub fn install(&mut self, place: usize, pieces: &[Piece])
         requires { IsReadyAt self.old place pieces.now }
-        ensures { (s : DeskState) (set : DataSet) (volume : Running) → IsLawful s → AreVolumesOf s self.old → slice_get self.old.volumes.items place ≡ Some volume →
-            set.extents ≡ extents_named set.dsn s.sets ++ extents_at volume.volume.volser pieces.now → AreVolumesOf (with_set s set) self.new }
+        ensures { (s : DeskState) (set : DataSet) (volume : Running) → IsLawful s → AreVolumesOf s self.old →
+            slice_get self.old.volumes.items place ≡ Some volume →
+            set.extents ≡ extents_named set.dsn s.sets ++ extents_at volume.volume.volser pieces.now →
+            AreVolumesOf (with_set s set) self.new }
     {
         let volume = &mut self.volumes[place];
         volume.ledger.install(pieces);
@@ -54,7 +57,8 @@ impl ActiveVolumes {
     /// The data set that lies on these extents is dropped: all its tracks are free. It takes no memory.
     pub fn release(&mut self, extents: &[Extent])
         requires { LiesOnSome self.old extents.now }
-        ensures { (s : DeskState) (dsn : List ℕ) → IsLawful s → AreVolumesOf s self.old → extents.now ≡ extents_named dsn s.sets → AreVolumesOf (without_name s dsn) self.new }
+        ensures { (s : DeskState) (dsn : List ℕ) → IsLawful s → AreVolumesOf s self.old →
+            extents.now ≡ extents_named dsn s.sets → AreVolumesOf (without_name s dsn) self.new }
     {
         self.keep_each(extents, &[]);
     }
@@ -63,7 +67,9 @@ impl ActiveVolumes {
     pub fn trim(&mut self, extents: &[Extent], kept: &[Extent])
         requires lies { LiesOnSome self.old extents.now }
         requires front { IsFront kept.now extents.now }
-        ensures { (s : DeskState) (set : DataSet) → IsLawful s → AreVolumesOf s self.old → extents.now ≡ extents_named set.dsn s.sets → set.extents ≡ kept.now → AreVolumesOf (with_set s set) self.new }
+        ensures { (s : DeskState) (set : DataSet) → IsLawful s → AreVolumesOf s self.old →
+            extents.now ≡ extents_named set.dsn s.sets → set.extents ≡ kept.now →
+            AreVolumesOf (with_set s set) self.new }
     {
         self.keep_each(extents, kept);
     }

@@ -85,7 +85,8 @@ impl Asked<'_> {
 impl ActiveVolumes {
     /// The place of the volume of this serial.
     pub fn place_of(&self, volser: &Volser) -> Option<usize>
-        ensures found { MatchOption result (running_named volser.now self.now.volumes.items ≡ None) (λ place. running_named volser.now self.now.volumes.items ≡ slice_get self.now.volumes.items place) }
+        ensures found { MatchOption result (running_named volser.now self.now.volumes.items ≡ None)
+            (λ place. running_named volser.now self.now.volumes.items ≡ slice_get self.now.volumes.items place) }
         ensures within { MatchOption result (Unit {0}) (λ place. place < length self.now.volumes.items) }
     {
         for place in 0..self.volumes.len() {
@@ -102,7 +103,8 @@ impl ActiveVolumes {
     pub fn choose(&self, candidates: &Candidates<'_>, asked: &Asked<'_>) -> Option<Pick>
         requires asked { IsAsked asked.now }
         requires stand { StandForSome self.now }
-        ensures { (s : DeskState) → IsLawful s → AreVolumesOf s self.now → IsPick s self.now candidates.now asked.now result }
+        ensures { (s : DeskState) → IsLawful s → AreVolumesOf s self.now →
+            IsPick s self.now candidates.now asked.now result }
     {
         let mut lead = Lead::none();
         for place in 0..self.volumes.len() {
@@ -152,7 +154,8 @@ impl ActiveVolumes {
         requires asked { IsAsked asked.now }
         requires held { held ≤ 16 }
         requires stand { StandForSome self.now }
-        ensures rule { (s : DeskState) (volume : Running) → IsLawful s → AreVolumesOf s self.now → slice_get self.now.volumes.items place ≡ Some volume →
+        ensures rule { (s : DeskState) (volume : Running) → IsLawful s → AreVolumesOf s self.now →
+            slice_get self.now.volumes.items place ≡ Some volume →
             option_map (λ grant. grant.items) result ≡ grant_on s volume.volume (ask_of asked.now) held }
         ensures free { IfSome result (λ grant. IsFreeAt self.now place grant.items) }
         ensures few { IfSome result (λ grant. length grant.items ≤ most_pieces) }

@@ -1,5 +1,4 @@
-use Rattle.std.proofs.Common.{◌≡◌, Bool, List, ℕ, subst, true, arith, sym}
-use Rattle.std.specs.Prelude.{◌==◌, ◌&&◌}
+use Rattle.std.proofs.Common.{List, subst, arith, sym}
 use Rattle.std.proofs.lemmas.List.{take_all}
 use Rattle.sms_volumes.specs.Leading.{Leads, candidates_among}
 use Rattle.sms_volumes.specs.declared.active_volume.ActiveVolume.{ActiveVolume}

@@ -1,5 +1,5 @@
 use Rattle.std.proofs.Common.{◌≡◌, ◌∙◌, ℕ, ◌+◌, arith, ap, refl, subst, sym, take}
-use Rattle.std.specs.Prelude.{None, Some, option_map}
+use Rattle.std.specs.Prelude.{None, Some}
 use Rattle.track_ledger.specs.Need.{IsNeed}
 use Rattle.volume_lists.specs.Choice.{comes_before, rank_of}
 use Rattle.volume_lists.specs.Listing.{listing_of}

@@ -1,5 +1,4 @@
 use Rattle.std.proofs.Common.{◌≡◌, ◌∙◌, ap, subst, sym}
-use Rattle.std.specs.Prelude.{Some, option_map, slice_get}
 use Rattle.track_ledger.specs.Need.{IsNeed}
 use Rattle.desk_law.specs.Candidates.{grant_on}
 use Rattle.sms_volumes.specs.Asking.{ask_of}

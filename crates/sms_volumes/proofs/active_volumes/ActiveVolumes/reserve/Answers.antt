@@ -1,5 +1,5 @@
-use Rattle.std.proofs.Common.{◌≤◌, arith, refl}
-use Rattle.sms_volumes.proofs.RunningLemmas.{all-roomier, named-at, ready-at, ready-if}
+use Rattle.std.proofs.Common.{refl}
+use Rattle.sms_volumes.proofs.RunningLemmas.{all-roomier, named-at, ready-if}
 use Rattle.sms_volumes.proofs.active_volumes.ActiveVolumes.reserve.Goals as goal
 
 pub returns-clause-same : goal.returns-clause-same
