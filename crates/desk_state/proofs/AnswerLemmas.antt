@@ -16,7 +16,7 @@ use Rattle.desk_law.specs.Varying.{VaryRule}
 use Rattle.desk_law.specs.Volumes.{times_target}
 use Rattle.desk_law.specs.State.{DeskState, set_named}
 use Rattle.desk_law.specs.Deletion.{DeleteRule}
-use Rattle.desk_law.specs.Extents.{extents_named, front_tracks, tracks_of_set, with_extents}
+use Rattle.desk_law.specs.Extents.{front_tracks, tracks_of_set, with_extents}
 use Rattle.desk_law.specs.Releasing.{ReleaseRule, kept_of, tracks_kept}
 use Rattle.desk_law.specs.Usage.{UsedRule}
 use Rattle.desk_law.proofs.SetLemmas.{found-extents}

@@ -17,8 +17,8 @@ use Rattle.desk_law.proofs.ByteLemmas.{same-bytes}
 use Rattle.desk_records.specs.Effects.{state_with}
 use Rattle.sms_volumes.specs.Holding.{AreVolumesOf}
 use Rattle.sms_volumes.specs.declared.active_volumes.ActiveVolumes.{ActiveVolumes}
-use Rattle.desk_state.proofs.Pending.{named-gone, named-put, named-put-other, named-without}
-use Rattle.desk_state.proofs.Pending.{all-same}
+use Rattle.sms_volumes.proofs.NamedLemmas.{named-gone, named-put, named-put-other, named-without}
+use Rattle.sms_volumes.proofs.RunningLemmas.{all-same}
 use Rattle.desk_state.specs.Catalog.{set_in}
 use Rattle.desk_state.specs.Deeds.{HasFront, IsNext}
 use Rattle.desk_state.specs.Standing.{IsRunning}

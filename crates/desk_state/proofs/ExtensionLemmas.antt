@@ -23,8 +23,8 @@ use Rattle.sms_volumes.specs.Viewing.{running_named}
 use Rattle.sms_volumes.specs.declared.active_group.ActiveGroup.{ActiveGroup}
 use Rattle.sms_volumes.specs.declared.active_volume.ActiveVolume.{ActiveVolume}
 use Rattle.sms_volumes.specs.declared.active_volumes.ActiveVolumes.{ActiveVolumes}
-use Rattle.desk_state.proofs.Pending.{named-is}
-use Rattle.desk_state.proofs.Pending.{name-of-found}
+use Rattle.sms_volumes.proofs.ShowLemmas.{named-is}
+use Rattle.sms_volumes.proofs.ViewLemmas.{name-of-found}
 use Rattle.desk_state.specs.Answering.{Answers}
 use Rattle.desk_state.specs.Catalog.{set_in}
 use Rattle.desk_state.specs.Deeds.{HasMore}

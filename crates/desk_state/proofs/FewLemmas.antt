@@ -1,5 +1,5 @@
 -- What is few in a lawful state: the volumes, the extents of a data set, the pieces of a grant.
-use Rattle.std.proofs.Common.{◌≡◌, ◌≤◌, ◌<◌, ℕ, zero, suc, ◌+◌, ◌*◌, Bool, true, false, cond, List, [], ◌∷◌, length, refl, sym, ap, ◌∙◌, subst, arith}
+use Rattle.std.proofs.Common.{◌≡◌, ◌≤◌, ◌<◌, ℕ, zero, suc, ◌+◌, ◌*◌, Bool, true, false, cond, List, [], ◌∷◌, length, refl, sym, ap, ◌∙◌, arith}
 use Rattle.std.specs.Prelude.{Option, Some, None, IfSome, map, option_map, bytes_eq, slice_get, ◌^◌}
 use Rattle.std.specs.List.{AllByRecursion}
 use Rattle.std.proofs.lemmas.List.{length-map}
@@ -88,7 +88,8 @@ few-extents volumes set lawful most =
     let names = map (λ (x : VolumeDef). x.volser) volumes in
     omega (arith, unseen-front names set.extents lawful.few, none-unseen volumes set.extents lawful.inside, unseen-all set.extents, length-map volumes (λ (x : VolumeDef). x.volser), most)
 
-few-in : (o : Option Configuration) → IfSome o IsConfiguration → length (volumes_in o) ≤ 1024
+-- a configuration has few volumes
+pub few-in : (o : Option Configuration) → IfSome o IsConfiguration → length (volumes_in o) ≤ 1024
 few-in None is = omega arith
 few-in (Some config) is = is.few
 

@@ -1,4 +1,3 @@
-pub mod Pending
 pub mod ExtentLemmas
 pub mod StandLemmas
 pub mod FewLemmas

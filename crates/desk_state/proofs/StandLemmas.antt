@@ -2,14 +2,13 @@
 use Rattle.std.proofs.Common.{◌≡◌, ℕ, List, ◌∙◌, sym, ap, subst}
 use Rattle.std.specs.Prelude.{Option, Some, IfSome}
 use Rattle.sms_construct.specs.declared.data_set.DataSet.{DataSet}
-use Rattle.desk_law.specs.State.{DeskState, set_named}
+use Rattle.desk_law.specs.State.{DeskState}
 use Rattle.desk_law.specs.Extents.{extents_if}
 use Rattle.desk_law.specs.Releasing.{kept_of, tracks_kept}
 use Rattle.desk_law.specs.Volumes.{volumes_in}
 use Rattle.desk_law.proofs.SetLemmas.{name-is}
 use Rattle.sms_volumes.specs.Changing.{IsFront, LiesOnSome}
 use Rattle.sms_volumes.specs.Holding.{AreVolumesOf, StandForSome}
-use Rattle.sms_volumes.specs.declared.active_volumes.ActiveVolumes.{ActiveVolumes}
 use Rattle.desk_state.specs.Catalog.{set_in}
 use Rattle.desk_state.specs.Standing.{IsRunning, IsSomeState}
 use Rattle.desk_state.specs.declared.running.Running.{Running}

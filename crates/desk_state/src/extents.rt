@@ -13,6 +13,7 @@ use track_ledger::Piece;
 // The first track of the cylinder-managed part of a volume, and how many tracks its units have (docs/rules.md, "The
 // tracks of a volume").
 const BORDER: u32 = 982_800;
+
 const TRACKS_IN_MANAGED: u64 = 315;
 
 /// The tracks of the extents.
@@ -81,11 +82,7 @@ fn multiple_at(track: u32) -> u64
     ensures some { 1 ≤ result }
     ensures small { result ≤ 315 }
 {
-    if track < BORDER {
-        1
-    } else {
-        TRACKS_IN_MANAGED
-    }
+    if track < BORDER { 1 } else { TRACKS_IN_MANAGED }
 }
 
 /// A number of tracks rounded up to whole units of so many.

@@ -1,8 +1,8 @@
-use Rattle.std.proofs.Common.{◌≡◌, ◌∙◌, refl, sym, ap, subst}
+use Rattle.std.proofs.Common.{◌≡◌, ◌∙◌, sym, ap, subst}
 use Rattle.std.specs.Prelude.{Option, None, Some, IfSome}
 use Rattle.sms_construct.specs.declared.reply.Reply.TheVariants as replies
 use Rattle.sms_construct.specs.declared.trace.Trace.{Trace}
-use Rattle.desk_law.specs.Allocation.{GrantRule, ask_of as primary_of}
+use Rattle.desk_law.specs.Allocation.{GrantRule}
 use Rattle.desk_law.specs.Classification.{trace_of}
 use Rattle.desk_law.specs.Lawful.{IsLawful}
 use Rattle.desk_law.specs.State.{DeskState}

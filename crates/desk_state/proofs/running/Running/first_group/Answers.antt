@@ -1,6 +1,6 @@
 use Rattle.std.proofs.Common.{◌∙◌, ap, sym}
 use Rattle.std.specs.Option.{option_copied}
-use Rattle.desk_state.proofs.Pending.{there-is}
+use Rattle.sms_volumes.proofs.RunningLemmas.{there-is}
 use Rattle.desk_state.proofs.ExtensionLemmas.{first-at, first-nowhere}
 use Rattle.desk_state.proofs.running.Running.first_group.Goals as goal
 

@@ -1,5 +1,5 @@
 use Rattle.std.proofs.Common.{◌∙◌, ap, sym, subst}
-use Rattle.std.specs.Prelude.{Option, IfSome, option_map}
+use Rattle.std.specs.Prelude.{IfSome, option_map}
 use Rattle.sms_volumes.specs.Changing.{IsFreeAt}
 use Rattle.desk_state.proofs.FewLemmas.{grant-few}
 use Rattle.desk_state.proofs.running.Running.grant_at.Goals as goal

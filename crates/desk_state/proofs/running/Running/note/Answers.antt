@@ -1,5 +1,5 @@
 use Rattle.std.proofs.Common.{refl}
-use Rattle.desk_state.proofs.Pending.{all-same}
+use Rattle.sms_volumes.proofs.RunningLemmas.{all-same}
 use Rattle.desk_state.proofs.ApplyLemmas.{put-running}
 use Rattle.desk_state.proofs.running.Running.note.Goals as goal
 
