@@ -20,14 +20,14 @@ named dsn x b same made =
 
 pub alloc_exact : IsExact alloc_form
 alloc_exact = seen_exact (dsn_form & asked_form) alloc_of (λ x. (x.input.dsn, asked_of x))
-  (dsn_exact &-exact input_exact &-exact option_exact _ space_exact &-exact option_exact _ name_exact
+    (dsn_exact &-exact input_exact &-exact option_exact _ space_exact &-exact option_exact _ name_exact
     &-exact option_exact _ name_exact &-exact option_exact _ name_exact &-exact option_exact _ volume_count_exact
     &-exact number_32_exact &-exact option_exact _ number_32_exact &-exact option_exact _ eattr_exact)
-  (λ a b e.
+    (λ a b e.
     let g = guard_some_of (bytes_eq a.0 a.1.0.dsn) (alloc_from a.1) b e in
     named a.0 a.1 b ((bytes_eq-Decides a.0 a.1.0.dsn).0 g.0) g.1)
 
 pub alloc_readable : (x : Alloc) → IsReadable (dsn_form & asked_form) (x.input.dsn, asked_of x) → IsReadable alloc_form x
 alloc_readable x again =
     seen_readable (dsn_form & asked_form) alloc_of (λ y. (y.input.dsn, asked_of y)) x again
-      (rw ((bytes_eq-Decides x.input.dsn x.input.dsn).1 refl) refl)
+    (rw ((bytes_eq-Decides x.input.dsn x.input.dsn).1 refl) refl)

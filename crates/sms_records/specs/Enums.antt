@@ -27,12 +27,12 @@ status_write statuses.QuiNew = 5 ∷ []
 
 abbrev pub status_readers : List (List ℕ → Option (Status × List ℕ))
 status_readers =
-  bare_at statuses.Enable ∷
-  bare_at statuses.NotCon ∷
-  bare_at statuses.DisAll ∷
-  bare_at statuses.DisNew ∷
-  bare_at statuses.QuiAll ∷
-  bare_at statuses.QuiNew ∷ []
+    bare_at statuses.Enable ∷
+    bare_at statuses.NotCon ∷
+    bare_at statuses.DisAll ∷
+    bare_at statuses.DisNew ∷
+    bare_at statuses.QuiAll ∷
+    bare_at statuses.QuiNew ∷ []
 
 abbrev pub status_form : Form Status
 status_form = variants status_write status_readers
@@ -47,11 +47,11 @@ action_write actions.QuiesceNew = 4 ∷ []
 
 abbrev pub action_readers : List (List ℕ → Option (Action × List ℕ))
 action_readers =
-  bare_at actions.Enable ∷
-  bare_at actions.Disable ∷
-  bare_at actions.DisableNew ∷
-  bare_at actions.Quiesce ∷
-  bare_at actions.QuiesceNew ∷ []
+    bare_at actions.Enable ∷
+    bare_at actions.Disable ∷
+    bare_at actions.DisableNew ∷
+    bare_at actions.Quiesce ∷
+    bare_at actions.QuiesceNew ∷ []
 
 abbrev pub action_form : Form Action
 action_form = variants action_write action_readers
@@ -98,10 +98,10 @@ kind_write kinds.StorGrp = 3 ∷ []
 
 abbrev pub kind_readers : List (List ℕ → Option (Kind × List ℕ))
 kind_readers =
-  bare_at kinds.DataClas ∷
-  bare_at kinds.StorClas ∷
-  bare_at kinds.MgmtClas ∷
-  bare_at kinds.StorGrp ∷ []
+    bare_at kinds.DataClas ∷
+    bare_at kinds.StorClas ∷
+    bare_at kinds.MgmtClas ∷
+    bare_at kinds.StorGrp ∷ []
 
 abbrev pub kind_form : Form Kind
 kind_form = variants kind_write kind_readers

@@ -16,14 +16,31 @@ pub text_fault_readable : (x : TextFault) → IsReadable text_fault_fields (x.st
 text_fault_readable = made_again _ _ _ (λ x. refl)
 
 pub fault_exact : IsExact fault_form
-fault_exact = variants_exact fault_write fault_readers
-  (variant_exact _ 0 _ _ path_exact (λ q. refl),
-  (bare_exact _ 1 _ refl,
-  (variant_exact _ 2 _ _ path_exact (λ q. refl),
-  (variant_exact _ 3 _ _ path_exact (λ q. refl),
-  (variant_exact _ 4 _ _ path_exact (λ q. refl),
-  (variant_exact _ 5 _ _ path_exact (λ q. refl),
-  (variant_exact _ 6 _ _ volser_exact (λ q. refl),
-  (variant_exact _ 7 _ _ (kind_exact &-exact text_fault_exact) (λ q. refl),
-  (variant_exact _ 8 _ _ (kind_exact &-exact name_exact) (λ q. refl),
-  (variant_exact _ 9 _ _ path_exact (λ q. refl), tt))))))))))
+fault_exact = variants_exact fault_write fault_readers (
+  variant_exact _ 0 _ _ path_exact (λ q. refl),
+  (
+    bare_exact _ 1 _ refl,
+    (
+      variant_exact _ 2 _ _ path_exact (λ q. refl),
+      (
+        variant_exact _ 3 _ _ path_exact (λ q. refl),
+        (
+          variant_exact _ 4 _ _ path_exact (λ q. refl),
+          (
+            variant_exact _ 5 _ _ path_exact (λ q. refl),
+            (
+              variant_exact _ 6 _ _ volser_exact (λ q. refl),
+              (
+                variant_exact _ 7 _ _ (kind_exact &-exact text_fault_exact) (λ q. refl),
+                (
+                  variant_exact _ 8 _ _ (kind_exact &-exact name_exact) (λ q. refl),
+                  (variant_exact _ 9 _ _ path_exact (λ q. refl), tt),
+                ),
+              ),
+            ),
+          ),
+        ),
+      ),
+    ),
+  ),
+)

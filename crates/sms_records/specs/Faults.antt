@@ -15,8 +15,8 @@ text_fault_fields = stage_form & number_8_form & number_32_form
 
 abbrev pub text_fault_form : Form TextFault
 text_fault_form = made text_fault_fields
-  (λ x. record { stage = x.0; number = x.1.0; at = x.1.1 })
-  (λ x. (x.stage, (x.number, x.at)))
+    (λ x. record { stage = x.0; number = x.1.0; at = x.1.1 })
+    (λ x. (x.stage, (x.number, x.at)))
 
 -- the fault of a deck, K0 to K9
 abbrev pub fault_write : Fault → List ℕ
@@ -33,16 +33,16 @@ fault_write (faults.TooMany path) = 9 ∷ path_form.write path
 
 abbrev pub fault_readers : List (List ℕ → Option (Fault × List ℕ))
 fault_readers =
-  made_at path_form faults.NotBuilt ∷
-  bare_at faults.NotToml ∷
-  made_at path_form faults.UnknownKey ∷
-  made_at path_form faults.Missing ∷
-  made_at path_form faults.BadValue ∷
-  made_at path_form faults.BadName ∷
-  made_at volser_form faults.TwoGroups ∷
-  made_at (kind_form & text_fault_form) (λ x. faults.Routine x.0 x.1) ∷
-  made_at (kind_form & name_form) (λ x. faults.Unassigned x.0 x.1) ∷
-  made_at path_form faults.TooMany ∷ []
+    made_at path_form faults.NotBuilt ∷
+    bare_at faults.NotToml ∷
+    made_at path_form faults.UnknownKey ∷
+    made_at path_form faults.Missing ∷
+    made_at path_form faults.BadValue ∷
+    made_at path_form faults.BadName ∷
+    made_at volser_form faults.TwoGroups ∷
+    made_at (kind_form & text_fault_form) (λ x. faults.Routine x.0 x.1) ∷
+    made_at (kind_form & name_form) (λ x. faults.Unassigned x.0 x.1) ∷
+    made_at path_form faults.TooMany ∷ []
 
 abbrev pub fault_form : Form Fault
 fault_form = variants fault_write fault_readers

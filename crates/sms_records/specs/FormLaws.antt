@@ -295,7 +295,6 @@ past_readers [] tag le = refl
 past_readers (reader ∷ readers) zero le = absurd (omega (arith, le))
 past_readers (reader ∷ readers) (suc tag) le = past_readers readers tag (omega (arith, le))
 
-
 -- ---- a variant, as the code meets it
 
 pub variant_again : {P T : Type 0} (write : T → List ℕ) (readers : List (List ℕ → Option (T × List ℕ))) (tag : ℕ) (payload : Form P) (make : P → T) (p : P) (x : T)

@@ -78,13 +78,22 @@ input_fields = asking_form & wanted_form & setting_form & default_form & system_
 
 -- the fields of what routines see
 abbrev pub fields_of_input : Input → InputFields
-fields_of_input x =
-  ((x.origin.job, (x.origin.user, (x.origin.group, (x.origin.pgm, x.origin.dd)))),
-  ((x.attributes.unit, (x.attributes.dsorg, (x.attributes.recorg, x.attributes.dsntype))),
-  ((x.origin.applic, (x.attributes.expdt, (x.attributes.dstype, (x.environment.acsenvir, (x.environment.xmode, x.attributes.dsowner))))),
-  ((x.defaults.dataclas, (x.defaults.storclas, x.defaults.mgmtclas)),
-  (((x.environment.sysname, x.environment.sysplex), (x.amounts.retpd, x.amounts.blksize)),
-  (x.volumes, ((x.accounting.acct_job, x.accounting.acct_step), (x.amounts.size, x.amounts.maxsize))))))))
+fields_of_input x = (
+  (x.origin.job, (x.origin.user, (x.origin.group, (x.origin.pgm, x.origin.dd)))),
+  (
+    (x.attributes.unit, (x.attributes.dsorg, (x.attributes.recorg, x.attributes.dsntype))),
+    (
+      (x.origin.applic, (x.attributes.expdt, (x.attributes.dstype, (x.environment.acsenvir, (x.environment.xmode, x.attributes.dsowner))))),
+      (
+        (x.defaults.dataclas, (x.defaults.storclas, x.defaults.mgmtclas)),
+        (
+          ((x.environment.sysname, x.environment.sysplex), (x.amounts.retpd, x.amounts.blksize)),
+          (x.volumes, ((x.accounting.acct_job, x.accounting.acct_step), (x.amounts.size, x.amounts.maxsize))),
+        ),
+      ),
+    ),
+  ),
+)
 
 -- what routines see, of a name and these fields
 abbrev pub input_of : List ℕ → InputFields → Input
@@ -92,8 +101,15 @@ input_of its_dsn (asking, (wanted, (setting, (default, (system, given))))) = rec
   dsn = its_dsn;
   origin = record { job = asking.0; user = asking.1.0; group = asking.1.1.0; pgm = asking.1.1.1.0; dd = asking.1.1.1.1; applic = setting.0 };
   accounting = record { acct_job = given.1.0.0; acct_step = given.1.0.1 };
-  attributes = record { unit = wanted.0; dsorg = wanted.1.0; recorg = wanted.1.1.0; dsntype = wanted.1.1.1;
-    dstype = setting.1.1.0; dsowner = setting.1.1.1.1.1; expdt = setting.1.0 };
+  attributes = record {
+    unit = wanted.0;
+    dsorg = wanted.1.0;
+    recorg = wanted.1.1.0;
+    dsntype = wanted.1.1.1;
+    dstype = setting.1.1.0;
+    dsowner = setting.1.1.1.1.1;
+    expdt = setting.1.0;
+  };
   environment = record { acsenvir = setting.1.1.1.0; xmode = setting.1.1.1.1.0; sysname = system.0.0; sysplex = system.0.1 };
   defaults = record { dataclas = default.0; storclas = default.1.0; mgmtclas = default.1.1 };
   amounts = record { retpd = system.1.0; blksize = system.1.1; size = given.1.1.0; maxsize = given.1.1.1 };

@@ -26,7 +26,7 @@ second_true false b e = absurd cc
 
 pub account_exact : IsExact account_form
 account_exact = seen_exact (list short_form) account_of (λ x. x) (list_exact short_form short_exact)
-  (λ a b e. (guard_some_of (nat_le (length a) most_account_fields) a b e).1)
+    (λ a b e. (guard_some_of (nat_le (length a) most_account_fields) a b e).1)
 
 pub account_readable : (x : List (List ℕ)) → length x ≤ most_account_fields → IsReadable (list short_form) x → IsReadable account_form x
 account_readable x few again =
@@ -37,8 +37,8 @@ counted n a b e same = cc
 
 pub volumes_exact : IsExact volumes_form
 volumes_exact = seen_exact (number_form & list volser_form) volumes_of (λ x. (length x, x))
-  (number_exact &-exact list_exact volser_form volser_exact)
-  (λ a b e.
+    (number_exact &-exact list_exact volser_form volser_exact)
+    (λ a b e.
     let test = (a.0 == length a.1) && nat_le (length a.1) most_volume_count in
     let g = guard_some_of test a.1 b e in
     counted a.0 a.1 b (eqb-true _ _ (first_true _ _ g.0)) g.1)
@@ -46,8 +46,8 @@ volumes_exact = seen_exact (number_form & list volser_form) volumes_of (λ x. (l
 pub volumes_readable : (x : List (List ℕ)) → length x ≤ most_volume_count → length x < 2 ^ 64 → IsReadable (list volser_form) x → IsReadable volumes_form x
 volumes_readable x few fits again =
     seen_readable (number_form & list volser_form) volumes_of (λ x. (length x, x)) x
-      (both_readable number_form (list volser_form) (length x) x (number_readable (length x) fits) again)
-      (rw (and_true _ _ ((unsigned_Decides (length x) (length x)).1 refl) (le-leb (length x) most_volume_count few)) refl)
+    (both_readable number_form (list volser_form) (length x) x (number_readable (length x) fits) again)
+    (rw (and_true _ _ ((unsigned_Decides (length x) (length x)).1 refl) (le-leb (length x) most_volume_count few)) refl)
 
 pub volumes_written : (old mid new : List ℕ) (found x : List (List ℕ)) → found ≡ x → mid ≡ old ++ to_be_bytes w64 (length found)
     → new ≡ mid ++ (list volser_form).write found → new ≡ old ++ volumes_form.write x
@@ -66,9 +66,9 @@ path_readable x is =
 
 pub space_exact : IsExact space_form
 space_exact = seen_exact (unit_form & number_32_form & number_32_form)
-  (λ a. space_of a.0 a.1.0 a.1.1) (λ q. (q.unit, (q.primary, q.secondary)))
-  (unit_exact &-exact number_32_exact &-exact number_32_exact)
-  (λ a b e.
+    (λ a. space_of a.0 a.1.0 a.1.1) (λ q. (q.unit, (q.primary, q.secondary)))
+    (unit_exact &-exact number_32_exact &-exact number_32_exact)
+    (λ a b e.
     let test = nat_le 1 a.1.0 && (nat_le a.1.0 most_quantity && nat_le a.1.1 most_quantity) in
     let made : Quantities = record { unit = a.0; primary = a.1.0; secondary = a.1.1 } in
     ap (λ (q : Quantities). (q.unit, (q.primary, q.secondary))) (guard_some_of test made b e).1)
@@ -78,5 +78,5 @@ pub space_readable : (x : Quantities) → IsSpace x
 space_readable x is again =
     let primary = and_true _ _ (le-leb x.primary most_quantity is.primary) (le-leb x.secondary most_quantity is.secondary) in
     seen_readable (unit_form & number_32_form & number_32_form)
-      (λ a. space_of a.0 a.1.0 a.1.1) (λ q. (q.unit, (q.primary, q.secondary))) x again
-      (rw (and_true _ _ (le-leb 1 x.primary is.some) primary) refl)
+    (λ a. space_of a.0 a.1.0 a.1.1) (λ q. (q.unit, (q.primary, q.secondary))) x again
+    (rw (and_true _ _ (le-leb 1 x.primary is.some) primary) refl)

@@ -36,4 +36,4 @@ path_form = seen text_form path_of (λ x. x)
 -- a space: its unit, its primary and its secondary quantity
 abbrev pub space_form : Form Quantities
 space_form = seen (unit_form & number_32_form & number_32_form)
-  (λ x. space_of x.0 x.1.0 x.1.1) (λ q. (q.unit, (q.primary, q.secondary)))
+    (λ x. space_of x.0 x.1.0 x.1.1) (λ q. (q.unit, (q.primary, q.secondary)))

@@ -26,8 +26,13 @@ reply_write (replies.Reused first) = 10 ∷ number_form.write first
 reply_write (replies.Below floor) = 11 ∷ number_32_form.write floor
 reply_write replies.NoConfig = 12 ∷ []
 reply_write replies.NameInUse = 13 ∷ []
-reply_write (replies.Exit kind code trace) = 14 ∷ ((kind_form & number_16_form) & trace_form).write ((kind,
-    code), trace)
+reply_write (replies.Exit kind code trace) = 14 ∷ ((kind_form & number_16_form) & trace_form).write (
+  (
+    kind,
+    code,
+  ),
+  trace,
+)
 reply_write (replies.UnknownClass kind name trace) = 15 ∷ ((kind_form & short_form)
     & trace_form).write ((kind, name), trace)
 reply_write (replies.NoQuantity trace) = 16 ∷ trace_form.write trace
@@ -45,34 +50,34 @@ reply_write replies.Memory = 27 ∷ []
 
 abbrev pub reply_readers : List (List ℕ → Option (Reply × List ℕ))
 reply_readers =
-  made_at (data_set_form & trace_form) (λ x. replies.Granted x.0 x.1) ∷
-  made_at trace_form replies.NotManaged ∷
-  made_at (list extent_form) replies.Extended ∷
-  made_at number_form replies.Deleted ∷
-  made_at number_form replies.Activated ∷
-  made_at (target_form & status_form) (λ x. replies.Varied x.0 x.1) ∷
-  made_at view_form replies.Shown ∷
-  made_at (name_form & number_32_form) (λ x. replies.Purged x.0 x.1) ∷
-  bare_at replies.Noted ∷
-  made_at number_form replies.Released ∷
-  made_at number_form replies.Reused ∷
-  made_at number_32_form replies.Below ∷
-  bare_at replies.NoConfig ∷
-  bare_at replies.NameInUse ∷
-  made_at ((kind_form & number_16_form) & trace_form) (λ x. replies.Exit x.0.0 x.0.1 x.1) ∷
-  made_at ((kind_form & short_form) & trace_form) (λ x. replies.UnknownClass x.0.0 x.0.1 x.1) ∷
-  made_at trace_form replies.NoQuantity ∷
-  made_at trace_form replies.NoGroup ∷
-  made_at trace_form replies.NoVolume ∷
-  bare_at replies.NotFound ∷
-  made_at why_no_extend_form replies.NoExtend ∷
-  made_at fault_form replies.Deck ∷
-  made_at volser_form replies.VolumeInUse ∷
-  bare_at replies.UnknownName ∷
-  bare_at replies.JournalFull ∷
-  made_at number_form replies.PastGrant ∷
-  bare_at replies.KeeperFault ∷
-  bare_at replies.Memory ∷ []
+    made_at (data_set_form & trace_form) (λ x. replies.Granted x.0 x.1) ∷
+    made_at trace_form replies.NotManaged ∷
+    made_at (list extent_form) replies.Extended ∷
+    made_at number_form replies.Deleted ∷
+    made_at number_form replies.Activated ∷
+    made_at (target_form & status_form) (λ x. replies.Varied x.0 x.1) ∷
+    made_at view_form replies.Shown ∷
+    made_at (name_form & number_32_form) (λ x. replies.Purged x.0 x.1) ∷
+    bare_at replies.Noted ∷
+    made_at number_form replies.Released ∷
+    made_at number_form replies.Reused ∷
+    made_at number_32_form replies.Below ∷
+    bare_at replies.NoConfig ∷
+    bare_at replies.NameInUse ∷
+    made_at ((kind_form & number_16_form) & trace_form) (λ x. replies.Exit x.0.0 x.0.1 x.1) ∷
+    made_at ((kind_form & short_form) & trace_form) (λ x. replies.UnknownClass x.0.0 x.0.1 x.1) ∷
+    made_at trace_form replies.NoQuantity ∷
+    made_at trace_form replies.NoGroup ∷
+    made_at trace_form replies.NoVolume ∷
+    bare_at replies.NotFound ∷
+    made_at why_no_extend_form replies.NoExtend ∷
+    made_at fault_form replies.Deck ∷
+    made_at volser_form replies.VolumeInUse ∷
+    bare_at replies.UnknownName ∷
+    bare_at replies.JournalFull ∷
+    made_at number_form replies.PastGrant ∷
+    bare_at replies.KeeperFault ∷
+    bare_at replies.Memory ∷ []
 
 abbrev pub reply_form : Form Reply
 reply_form = variants reply_write reply_readers

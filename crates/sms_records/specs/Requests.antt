@@ -23,15 +23,15 @@ op_write (ops.Purge job floor) = 8 ∷ (name_form.write job ++ request_number_fo
 
 abbrev pub op_readers : List (List ℕ → Option (Op × List ℕ))
 op_readers =
-  made_at alloc_form ops.Alloc ∷
-  made_at dsn_form ops.Extend ∷
-  made_at dsn_form ops.Delete ∷
-  made_at (dsn_form & number_32_form) (λ x. ops.Used x.0 x.1) ∷
-  made_at dsn_form ops.Release ∷
-  made_at target_form ops.Display ∷
-  made_at text_form ops.Activate ∷
-  made_at (target_form & action_form) (λ x. ops.Vary x.0 x.1) ∷
-  made_at (name_form & request_number_form) (λ x. ops.Purge x.0 x.1) ∷ []
+    made_at alloc_form ops.Alloc ∷
+    made_at dsn_form ops.Extend ∷
+    made_at dsn_form ops.Delete ∷
+    made_at (dsn_form & number_32_form) (λ x. ops.Used x.0 x.1) ∷
+    made_at dsn_form ops.Release ∷
+    made_at target_form ops.Display ∷
+    made_at text_form ops.Activate ∷
+    made_at (target_form & action_form) (λ x. ops.Vary x.0 x.1) ∷
+    made_at (name_form & request_number_form) (λ x. ops.Purge x.0 x.1) ∷ []
 
 abbrev pub op_form : Form Op
 op_form = variants op_write op_readers
@@ -42,5 +42,5 @@ request_fields = (name_form & request_number_form) & op_form
 
 abbrev pub request_form : Form Request
 request_form = made request_fields
-  (λ x. record { job = x.0.0; number = x.0.1; op = x.1 })
-  (λ x. ((x.job, x.number), x.op))
+    (λ x. record { job = x.0.0; number = x.0.1; op = x.1 })
+    (λ x. ((x.job, x.number), x.op))

@@ -17,7 +17,7 @@ line_readable = made_again _ _ _ (λ x. refl)
 
 pub more_exact : IsExact more_form
 more_exact =
-  made_exact _ _ _ (number_32_exact &-exact number_32_exact &-exact number_32_exact
+    made_exact _ _ _ (number_32_exact &-exact number_32_exact &-exact number_32_exact
     &-exact number_32_exact) (λ a. refl)
 
 pub more_readable : (x : More) → IsReadable more_fields (x.dataclas, (x.storclas, (x.mgmtclas, x.storgrp)))

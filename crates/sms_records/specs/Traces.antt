@@ -21,8 +21,8 @@ more_fields = number_32_form & number_32_form & number_32_form & number_32_form
 
 abbrev pub more_form : Form More
 more_form = made more_fields
-  (λ x. record { dataclas = x.0; storclas = x.1.0; mgmtclas = x.1.1.0; storgrp = x.1.1.1 })
-  (λ x. (x.dataclas, (x.storclas, (x.mgmtclas, x.storgrp))))
+    (λ x. record { dataclas = x.0; storclas = x.1.0; mgmtclas = x.1.1.0; storgrp = x.1.1.1 })
+    (λ x. (x.dataclas, (x.storclas, (x.mgmtclas, x.storgrp))))
 
 -- what the routines of a request wrote
 abbrev pub trace_fields : Form (List Line × More)

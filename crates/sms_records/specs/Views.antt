@@ -19,9 +19,9 @@ target_write (targets.Set dsn) = 2 ∷ dsn_form.write dsn
 
 abbrev pub target_readers : List (List ℕ → Option (Target × List ℕ))
 target_readers =
-  made_at name_form targets.Group ∷
-  made_at volser_form targets.Volume ∷
-  made_at dsn_form targets.Set ∷ []
+    made_at name_form targets.Group ∷
+    made_at volser_form targets.Volume ∷
+    made_at dsn_form targets.Set ∷ []
 
 abbrev pub target_form : Form Target
 target_form = variants target_write target_readers
@@ -32,9 +32,15 @@ vol_row_fields = volser_form & name_form & status_form & number_32_form & number
 
 abbrev pub vol_row_form : Form VolRow
 vol_row_form = made vol_row_fields
-  (λ x. record { volser = x.0; group = x.1.0; status = x.1.1.0; capacity = x.1.1.1.0; free = x.1.1.1.1.0;
-    extents = x.1.1.1.1.1 })
-  (λ x. (x.volser, (x.group, (x.status, (x.capacity, (x.free, x.extents))))))
+    (λ x. record {
+      volser = x.0;
+      group = x.1.0;
+      status = x.1.1.0;
+      capacity = x.1.1.1.0;
+      free = x.1.1.1.1.0;
+      extents = x.1.1.1.1.1;
+    })
+    (λ x. (x.volser, (x.group, (x.status, (x.capacity, (x.free, x.extents))))))
 
 -- what a DISPLAY shows
 abbrev pub view_write : View → List ℕ
@@ -45,9 +51,9 @@ view_write (views.Set set) = 2 ∷ data_set_form.write set
 
 abbrev pub view_readers : List (List ℕ → Option (View × List ℕ))
 view_readers =
-  made_at (name_form & status_form & number_32_form & number_form & number_form) (λ x. views.Group x.0 x.1.0 x.1.1.0 x.1.1.1.0 x.1.1.1.1) ∷
-  made_at vol_row_form views.Volume ∷
-  made_at data_set_form views.Set ∷ []
+    made_at (name_form & status_form & number_32_form & number_form & number_form) (λ x. views.Group x.0 x.1.0 x.1.1.0 x.1.1.1.0 x.1.1.1.1) ∷
+    made_at vol_row_form views.Volume ∷
+    made_at data_set_form views.Set ∷ []
 
 abbrev pub view_form : Form View
 view_form = variants view_write view_readers

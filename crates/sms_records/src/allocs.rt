@@ -13,7 +13,13 @@ use std::alloc::{AllocError, Global};
 type Others = (Option<VolumeCount>, (u32, (Option<u32>, Option<Eattr>)));
 
 // What routines see, the space, the classes and the others.
-type Asked = (Input, (Option<Space>, (Option<Name>, (Option<Name>, (Option<Name>, Others)))));
+type Asked = (
+    Input,
+    (
+        Option<Space>,
+        (Option<Name>, (Option<Name>, (Option<Name>, Others))),
+    ),
+);
 
 impl Recorded for Alloc {
     ghost use Rattle.sms_records.specs.Allocs.{alloc_form};
@@ -49,5 +55,15 @@ fn alloc_of(asked: Asked) -> Alloc
 {
     let (input, (space, (dataclas, (storclas, (mgmtclas, others))))) = asked;
     let (volumes, (day, (retpd, eattr))) = others;
-    Alloc { input, space, dataclas, storclas, mgmtclas, volumes, day, retpd, eattr }
+    Alloc {
+        input,
+        space,
+        dataclas,
+        storclas,
+        mgmtclas,
+        volumes,
+        day,
+        retpd,
+        eattr,
+    }
 }

@@ -5,7 +5,9 @@ ghost use Rattle.sms_records.specs.Inputs.{fields_of_input, input_of};
 use crate::name_parts::{read_seen_name, write_seen_name};
 use crate::record_err::RecordErr;
 use crate::recorded::Recorded;
-use acs_tree::{Account, Accounting, Amounts, Attributes, Defaults, Environment, Input, Origin, Volumes};
+use acs_tree::{
+    Account, Accounting, Amounts, Attributes, Defaults, Environment, Input, Origin, Volumes,
+};
 use dsn_mask::{Dsn, Short};
 use std::alloc::{AllocError, Global};
 
@@ -59,30 +61,30 @@ impl Recorded for Input {
 fn fields_of(input: &Input) -> Fields
     ensures { result ≡ fields_of_input input.now }
 {
-    let Input { origin, accounting, attributes, environment, defaults, amounts, volumes, .. } = *input;
-    (
-        (origin.job, (origin.user, (origin.group, (origin.pgm, origin.dd)))),
-        (
-            (attributes.unit, (attributes.dsorg, (attributes.recorg, attributes.dsntype))),
-            (
-                (origin.applic, (attributes.expdt, (attributes.dstype, (environment.acsenvir, (environment.xmode, attributes.dsowner))))),
-                (
-                    (defaults.dataclas, (defaults.storclas, defaults.mgmtclas)),
-                    (
-                        ((environment.sysname, environment.sysplex), (amounts.retpd, amounts.blksize)),
-                        (volumes, ((accounting.acct_job, accounting.acct_step), (amounts.size, amounts.maxsize))),
-                    ),
-                ),
-            ),
-        ),
-    )
+    let origin = &input.origin;
+    let attributes = &input.attributes;
+    let environment = &input.environment;
+    let defaults = &input.defaults;
+    let amounts = &input.amounts;
+    let accounting = &input.accounting;
+    let asking = (origin.job, (origin.user, (origin.group, (origin.pgm, origin.dd))));
+    let wanted = (attributes.unit, (attributes.dsorg, (attributes.recorg, attributes.dsntype)));
+    let modes = (environment.acsenvir, (environment.xmode, attributes.dsowner));
+    let setting = (origin.applic, (attributes.expdt, (attributes.dstype, modes)));
+    let classes = (defaults.dataclas, (defaults.storclas, defaults.mgmtclas));
+    let names = (environment.sysname, environment.sysplex);
+    let system = (names, (amounts.retpd, amounts.blksize));
+    let accounts = (accounting.acct_job, accounting.acct_step);
+    let given = (input.volumes, (accounts, (amounts.size, amounts.maxsize)));
+    (asking, (wanted, (setting, (classes, (system, given)))))
 }
 
 // What routines see, of a name and these fields.
 fn input_of(dsn: Dsn, fields: Fields) -> Input
     ensures { result ≡ input_of dsn fields }
 {
-    let ((job, (user, (group, (pgm, dd)))), (wanted, (setting, (classes, (system, given))))) = fields;
+    let ((job, (user, (group, (pgm, dd)))), (wanted, (setting, (classes, (system, given))))) =
+        fields;
     let (unit, (dsorg, (recorg, dsntype))) = wanted;
     let (applic, (expdt, (dstype, (acsenvir, (xmode, dsowner))))) = setting;
     let (dataclas, (storclas, mgmtclas)) = classes;
@@ -90,12 +92,44 @@ fn input_of(dsn: Dsn, fields: Fields) -> Input
     let (volumes, ((acct_job, acct_step), (size, maxsize))) = given;
     Input {
         dsn,
-        origin: Origin { job, user, group, pgm, dd, applic },
-        accounting: Accounting { acct_job, acct_step },
-        attributes: Attributes { unit, dsorg, recorg, dsntype, dstype, dsowner, expdt },
-        environment: Environment { acsenvir, xmode, sysname, sysplex },
-        defaults: Defaults { dataclas, storclas, mgmtclas },
-        amounts: Amounts { retpd, blksize, size, maxsize },
+        origin: Origin {
+            job,
+            user,
+            group,
+            pgm,
+            dd,
+            applic,
+        },
+        accounting: Accounting {
+            acct_job,
+            acct_step,
+        },
+        attributes: Attributes {
+            unit,
+            dsorg,
+            recorg,
+            dsntype,
+            dstype,
+            dsowner,
+            expdt,
+        },
+        environment: Environment {
+            acsenvir,
+            xmode,
+            sysname,
+            sysplex,
+        },
+        defaults: Defaults {
+            dataclas,
+            storclas,
+            mgmtclas,
+        },
+        amounts: Amounts {
+            retpd,
+            blksize,
+            size,
+            maxsize,
+        },
         volumes,
     }
 }

@@ -99,7 +99,11 @@ pub fn write_items<T: Recorded>(items: &[T], out: &mut Vec<u8>) -> Result<(), Al
 }
 
 /// So many items, one behind the other.
-pub fn read_items<T: Recorded>(alloc: Global, count: u64, bytes: &[u8]) -> Result<(Vec<T>, &[u8]), RecordErr>
+pub fn read_items<T: Recorded>(
+    alloc: Global,
+    count: u64,
+    bytes: &[u8],
+) -> Result<(Vec<T>, &[u8]), RecordErr>
     ensures { Gives (λ x. (x.0.items, x.1.now)) result (many_at T.form count bytes.now) }
 {
     let mut items = Vec::new(alloc);

@@ -31,7 +31,9 @@ pub fn read_seen_name(alloc: Global, bytes: &[u8]) -> Result<(Dsn, &[u8]), Recor
 {
     match Dsn::read_from(alloc, bytes) {
         Ok((dsn, rest)) => match read_parts(rest) {
-            Ok(((first, (last, count)), rest)) if are_parts(&dsn, first, last, count) => Ok((dsn, rest)),
+            Ok(((first, (last, count)), rest)) if are_parts(&dsn, first, last, count) => Ok((
+                dsn, rest,
+            )),
             Ok(_) => Err(RecordErr::Bad),
             Err(err) => Err(err),
         },

@@ -79,7 +79,10 @@ impl Recorded for Account {
     #[tactic(auto, unfolding(crate::specs::Form::seen_at))]
     fn read_from(alloc: Global, bytes: &[u8]) -> Result<(Self, &[u8]), RecordErr> {
         match Items::<Short>::read_from(alloc, bytes) {
-            Ok((items, rest)) if items.len() <= MAX_FIELDS => Ok((account_of(items.as_slice()), rest)),
+            Ok((items, rest)) if items.len() <= MAX_FIELDS => Ok((
+                account_of(items.as_slice()),
+                rest,
+            )),
             Ok(_) => Err(RecordErr::Bad),
             Err(err) => Err(err),
         }
@@ -104,7 +107,8 @@ impl Recorded for Volumes {
     #[tactic(auto, unfolding(crate::specs::Form::seen_at))]
     fn read_from(alloc: Global, bytes: &[u8]) -> Result<(Self, &[u8]), RecordErr> {
         match <(u64, Items<Volser>)>::read_from(alloc, bytes) {
-            Ok(((count, items), rest)) if count == items.len() as u64 && items.len() <= MAX_VOLUMES => {
+            Ok(((count, items), rest))
+                if count == items.len() as u64 && items.len() <= MAX_VOLUMES => {
                 Ok((volumes_of(items.as_slice()), rest))
             }
             Ok(_) => Err(RecordErr::Bad),

@@ -1,14 +1,17 @@
 //! Values that are recorded.
-ghost use Rattle.std.specs.Prelude.{◌≡◌, ◌++◌, ◌<◌, ◌^◌, [], ◌∷◌, ℕ, List, IfOk, OnOk, IsErrOf, length, Ok, Option, Some, None};
+ghost use Rattle.std.specs.Prelude.{◌≡◌, ◌++◌, [], ℕ, List, IfOk, OnOk, IsErrOf};
 ghost use Rattle.sms_records.specs.Form.{Form, IsExact, IsReadable, whole};
 ghost use Rattle.sms_records.specs.Reading.{Gives};
 
 use crate::record_err::RecordErr;
 use std::alloc::{AllocError, Global};
 
+// The bytes for which there is room at once: the record of an ordinary request has fewer.
+const ROOM: usize = 512;
+
 /// A value that is written as bytes and read again.
 pub trait Recorded: Sized + Drop {
-    /// How.
+    /// How it is written, and read again.
     ghost form: { Form Self };
 
     /// Puts the value behind what is written.
@@ -20,6 +23,7 @@ pub trait Recorded: Sized + Drop {
     fn read_from(alloc: Global, bytes: &[u8]) -> Result<(Self, &[u8]), RecordErr>
         ensures { Gives (λ x. (x.0, x.1.now)) result (form.read bytes.now) };
 
+    /// What is read is written so.
     ghost exact: { IsExact form };
 }
 
@@ -28,11 +32,12 @@ pub fn record_of<T: Recorded>(alloc: Global, value: &T) -> Result<Vec<u8>, Alloc
     ensures written { IfOk result (λ bytes. bytes.items ≡ T.form.write value.now) }
     ensures readable { IfOk result (λ bytes. IsReadable T.form value.now) }
 {
-    let mut out = Vec::new(alloc);
+    let mut out = Vec::with_capacity(alloc, ROOM)?;
     value.write_to(&mut out)?;
     Ok(out)
 }
 
+// The value whose bytes these are, and nothing behind them.
 #[tactic(auto, unfolding(crate::specs::Form::whole))]
 fn whole<T: Recorded>(alloc: Global, bytes: &[u8]) -> Result<T, RecordErr>
     ensures { Gives (λ x. x) result (whole T.form bytes.now) }
@@ -56,5 +61,4 @@ pub fn read_whole<T: Recorded>(alloc: Global, bytes: &[u8]) -> Result<T, RecordE
 /// No bytes of a value are the front of those of another.
 pub fn no_front<T: Recorded>()
     ensures { (value other : T) (more : List ℕ) → IsReadable T.form value → IsReadable T.form other → T.form.write other ≡ T.form.write value ++ more → (other ≡ value) × (more ≡ []) }
-{
-}
+{}

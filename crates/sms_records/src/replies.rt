@@ -35,8 +35,18 @@ impl Recorded for Reply {
             Reply::Below { floor } => write_variant(11, floor, out),
             Reply::NoConfig => write_byte(12, out),
             Reply::NameInUse => write_byte(13, out),
-            Reply::Exit { kind, code, trace } => write_variant_of_two(14, &(*kind, *code), trace, out),
-            Reply::UnknownClass { kind, name, trace } => write_variant_of_two(15, &(*kind, *name), trace, out),
+            Reply::Exit { kind, code, trace } => write_variant_of_two(
+                14,
+                &(*kind, *code),
+                trace,
+                out,
+            ),
+            Reply::UnknownClass { kind, name, trace } => write_variant_of_two(
+                15,
+                &(*kind, *name),
+                trace,
+                out,
+            ),
             Reply::NoQuantity { trace } => write_variant(16, trace, out),
             Reply::NoGroup { trace } => write_variant(17, trace, out),
             Reply::NoVolume { trace } => write_variant(18, trace, out),
@@ -108,7 +118,10 @@ impl Recorded for Reply {
                 Err(err) => Err(err),
             },
             15 => match <((Kind, Short), Shared<Trace>)>::read_from(alloc, rest) {
-                Ok((((kind, name), trace), rest)) => Ok((Reply::UnknownClass { kind, name, trace }, rest)),
+                Ok((((kind, name), trace), rest)) => Ok((
+                    Reply::UnknownClass { kind, name, trace },
+                    rest,
+                )),
                 Err(err) => Err(err),
             },
             16 => match <Shared<Trace>>::read_from(alloc, rest) {

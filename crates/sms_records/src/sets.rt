@@ -1,5 +1,6 @@
 //! Data sets and their extents as records.
 ghost use Rattle.std.specs.Prelude.{◌≡◌};
+ghost use Rattle.sms_records.specs.Sets.{data_set_of};
 
 use crate::record_err::RecordErr;
 use crate::recorded::Recorded;
@@ -7,6 +8,18 @@ use desk_common::Items;
 use dsn_mask::{Dsn, Name, Volser};
 use sms_construct::{DataSet, Eattr, Extent, Unit, VolumeCount};
 use std::alloc::{AllocError, Global};
+
+// The data class, the storage class, the management class and the group.
+type Classes = (Option<Name>, (Name, (Option<Name>, Name)));
+
+// The unit, the secondary quantity and the number of volumes.
+type Quantities = (Unit, (u32, VolumeCount));
+
+// The day, the retention period and the used tracks.
+type Usage = (u32, (Option<u32>, u32));
+
+// The fields of a data set.
+type Fields = ((Dsn, (Classes, (Quantities, Usage))), (Items<Extent>, Eattr));
 
 impl Recorded for Extent {
     ghost use Rattle.sms_records.specs.Sets.{extent_form};
@@ -23,7 +36,14 @@ impl Recorded for Extent {
     #[tactic(auto, unfolding(crate::specs::Form::seen_at))]
     fn read_from(alloc: Global, bytes: &[u8]) -> Result<(Self, &[u8]), RecordErr> {
         match <(Volser, (u32, u32))>::read_from(alloc, bytes) {
-            Ok(((volser, (start, length)), rest)) => Ok((Extent { volser, start, length }, rest)),
+            Ok(((volser, (start, length)), rest)) => Ok((
+                Extent {
+                    volser,
+                    start,
+                    length,
+                },
+                rest,
+            )),
             Err(err) => Err(err),
         }
     }
@@ -38,16 +58,44 @@ impl Recorded for DataSet {
     ghost exact = { data_set_exact };
 
     fn write_to(&self, out: &mut Vec<u8>) -> Result<(), AllocError> {
-        (self.dsn, (self.dataclas, (self.storclas, (self.mgmtclas, (self.group, (self.unit, (self.secondary, (self.volumes, (self.day, (self.retpd, self.used)))))))))).write_to(out)?;
+        let classes = (self.dataclas, (self.storclas, (self.mgmtclas, self.group)));
+        let quantities = (self.unit, (self.secondary, self.volumes));
+        let usage = (self.day, (self.retpd, self.used));
+        (self.dsn, (classes, (quantities, usage))).write_to(out)?;
         self.extents.write_to(out)?;
         self.eattr.write_to(out)
     }
 
     #[tactic(auto, unfolding(crate::specs::Form::seen_at))]
     fn read_from(alloc: Global, bytes: &[u8]) -> Result<(Self, &[u8]), RecordErr> {
-        match <((Dsn, (Option<Name>, (Name, (Option<Name>, (Name, (Unit, (u32, (VolumeCount, (u32, (Option<u32>, u32)))))))))), (Items<Extent>, Eattr))>::read_from(alloc, bytes) {
-            Ok((((dsn, (dataclas, (storclas, (mgmtclas, (group, (unit, (secondary, (volumes, (day, (retpd, used)))))))))), (extents, eattr)), rest)) => Ok((DataSet { dsn, dataclas, storclas, mgmtclas, group, unit, secondary, volumes, day, retpd, used, extents, eattr }, rest)),
+        match <Fields>::read_from(alloc, bytes) {
+            Ok((fields, rest)) => Ok((data_set_of(fields), rest)),
             Err(err) => Err(err),
         }
+    }
+}
+
+// The data set of these fields.
+fn data_set_of(fields: Fields) -> DataSet
+    ensures { result ≡ data_set_of fields }
+{
+    let ((dsn, (classes, (quantities, usage))), (extents, eattr)) = fields;
+    let (dataclas, (storclas, (mgmtclas, group))) = classes;
+    let (unit, (secondary, volumes)) = quantities;
+    let (day, (retpd, used)) = usage;
+    DataSet {
+        dsn,
+        dataclas,
+        storclas,
+        mgmtclas,
+        group,
+        unit,
+        secondary,
+        volumes,
+        day,
+        retpd,
+        used,
+        extents,
+        eattr,
     }
 }

@@ -39,13 +39,25 @@ impl Recorded for More {
     ghost exact = { more_exact };
 
     fn write_to(&self, out: &mut Vec<u8>) -> Result<(), AllocError> {
-        (self.dataclas, (self.storclas, (self.mgmtclas, self.storgrp))).write_to(out)
+        (
+            self.dataclas,
+            (self.storclas, (self.mgmtclas, self.storgrp)),
+        )
+            .write_to(out)
     }
 
     #[tactic(auto, unfolding(crate::specs::Form::seen_at))]
     fn read_from(alloc: Global, bytes: &[u8]) -> Result<(Self, &[u8]), RecordErr> {
         match <(u32, (u32, (u32, u32)))>::read_from(alloc, bytes) {
-            Ok(((dataclas, (storclas, (mgmtclas, storgrp))), rest)) => Ok((More { dataclas, storclas, mgmtclas, storgrp }, rest)),
+            Ok(((dataclas, (storclas, (mgmtclas, storgrp))), rest)) => Ok((
+                More {
+                    dataclas,
+                    storclas,
+                    mgmtclas,
+                    storgrp,
+                },
+                rest,
+            )),
             Err(err) => Err(err),
         }
     }

@@ -56,13 +56,30 @@ impl Recorded for VolRow {
     ghost exact = { vol_row_exact };
 
     fn write_to(&self, out: &mut Vec<u8>) -> Result<(), AllocError> {
-        (self.volser, (self.group, (self.status, (self.capacity, (self.free, self.extents))))).write_to(out)
+        (
+            self.volser,
+            (
+                self.group,
+                (self.status, (self.capacity, (self.free, self.extents))),
+            ),
+        )
+            .write_to(out)
     }
 
     #[tactic(auto, unfolding(crate::specs::Form::seen_at))]
     fn read_from(alloc: Global, bytes: &[u8]) -> Result<(Self, &[u8]), RecordErr> {
         match <(Volser, (Name, (Status, (u32, (u32, u32)))))>::read_from(alloc, bytes) {
-            Ok(((volser, (group, (status, (capacity, (free, extents))))), rest)) => Ok((VolRow { volser, group, status, capacity, free, extents }, rest)),
+            Ok(((volser, (group, (status, (capacity, (free, extents))))), rest)) => Ok((
+                VolRow {
+                    volser,
+                    group,
+                    status,
+                    capacity,
+                    free,
+                    extents,
+                },
+                rest,
+            )),
             Err(err) => Err(err),
         }
     }
@@ -78,7 +95,13 @@ impl Recorded for View {
 
     fn write_to(&self, out: &mut Vec<u8>) -> Result<(), AllocError> {
         match self {
-            View::Group { name, status, volumes, capacity, free } => write_variant(0, &(*name, (*status, (*volumes, (*capacity, *free)))), out),
+            View::Group {
+                name,
+                status,
+                volumes,
+                capacity,
+                free,
+            } => write_variant(0, &(*name, (*status, (*volumes, (*capacity, *free)))), out),
             View::Volume(row) => write_variant(1, row, out),
             View::Set(set) => write_variant(2, set, out),
         }
@@ -89,7 +112,16 @@ impl Recorded for View {
         let (tag, rest) = read_byte(bytes)?;
         match tag {
             0 => match <(Name, (Status, (u32, (u64, u64))))>::read_from(alloc, rest) {
-                Ok(((name, (status, (volumes, (capacity, free)))), rest)) => Ok((View::Group { name, status, volumes, capacity, free }, rest)),
+                Ok(((name, (status, (volumes, (capacity, free)))), rest)) => Ok((
+                    View::Group {
+                        name,
+                        status,
+                        volumes,
+                        capacity,
+                        free,
+                    },
+                    rest,
+                )),
                 Err(err) => Err(err),
             },
             1 => match VolRow::read_from(alloc, rest) {
