@@ -10,3 +10,8 @@ behind new mid old a b is before = is ∙ ap (λ l. l ++ b) before ∙ append_as
 pub on-behind : {T E : Type 0} (r : Result T E) (new mid old a b : List ℕ) → OnOk r (new ≡ mid ++ b) → mid ≡ old ++ a → OnOk r (new ≡ old ++ (a ++ b))
 on-behind (Ok t) new mid old a b is before = behind new mid old a b is before
 on-behind (Err e) new mid old a b is before = tt
+
+-- the same put
+pub on-same : {T E : Type 0} (r : Result T E) (new old a b : List ℕ) → a ≡ b → OnOk r (new ≡ old ++ a) → OnOk r (new ≡ old ++ b)
+on-same (Ok t) new old a b same is = is ∙ ap (λ l. old ++ l) same
+on-same (Err e) new old a b same is = tt

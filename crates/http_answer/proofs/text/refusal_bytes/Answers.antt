@@ -1,4 +1,4 @@
-use Rattle.std.proofs.Common.{◌++◌, ◌∷◌, []}
+use Rattle.std.proofs.Common.{◌++◌, ◌∷◌, [], ◌∙◌, ap}
 use Rattle.std.specs.Prelude.{codes, decimal, unwrap_or}
 use Rattle.http.specs.StatusCode.{reason_phrase}
 use Rattle.http_answer.proofs.TextLemmas.{behind}
@@ -14,5 +14,6 @@ returns c =
     behind all c.extend_from_slice.new.self.items [] (codes "HTTP/1.1 ") (size ++ (32 ∷ (phrase ++ last)))
     (behind all c.push_number.new.text.items c.extend_from_slice.new.self.items size (32 ∷ (phrase ++ last))
     (behind all c.extend_from_slice-2.new.self.items c.push_number.new.text.items (32 ∷ []) (phrase ++ last)
-    (behind all c.extend_from_slice-3.new.self.items c.extend_from_slice-2.new.self.items phrase last c.in_ok-extend_from_slice-4.ensures.items c.in_ok-extend_from_slice-3.ensures.items)
-    c.in_ok-extend_from_slice-2.ensures.items) c.in_ok-push_number.ensures) c.in_ok-extend_from_slice.ensures.items
+    (behind all c.extend_from_slice-3.new.self.items c.extend_from_slice-2.new.self.items phrase last c.in_ok-extend_from_slice-4.ensures.items
+    (c.in_ok-extend_from_slice-3.ensures.items ∙ ap (λ l. c.extend_from_slice-2.new.self.items ++ l) (c.as_bytes.ensures.value ∙ c.phrase_of.ensures)))
+    c.in_ok-extend_from_slice-2.ensures.items) (c.in_ok-push_number.ensures ∙ ap (λ n. c.extend_from_slice.new.self.items ++ decimal n) c.from.ensures)) (c.in_ok-extend_from_slice.ensures.items ∙ ap (λ l. l ++ codes "HTTP/1.1 ") c.new-text.ensures.items)
