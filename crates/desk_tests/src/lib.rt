@@ -8,6 +8,8 @@ mod commands;
 #[cfg(test)]
 mod constructs;
 #[cfg(test)]
+mod conversations;
+#[cfg(test)]
 mod deck_faults;
 #[cfg(test)]
 mod deck_readings;
@@ -45,6 +47,8 @@ mod shown;
 mod stepping;
 #[cfg(test)]
 mod streams;
+#[cfg(test)]
+mod talking;
 #[cfg(test)]
 mod turns;
 #[cfg(test)]

@@ -15,7 +15,8 @@ pub record IsUntouched (link : LinkInMemory) : Type 0 where
   pub reads : link.source.faults ≡ 0
   pub writes : link.sink.faults ≡ 0
 
--- the links that are left and those that came back, how many were given, whether no further one comes, and how many that came back had failed
+-- the links that are left and those that came back, how many were given, whether no further one comes, and how many of
+-- those that came back had failed
 pub record DoorInMemory : Type 0 where
   pub waiting : List LinkInMemory
   pub back : List LinkInMemory
@@ -28,8 +29,10 @@ abbrev pub door_of : List LinkInMemory → Vec LinkInMemory Global → ℕ → B
 door_of waiting back given ended link_faults =
     record { waiting = waiting; back = back.items; given = given; ended = ended; link_faults = link_faults }
 
--- the links that wait are untouched, none waits where the door has ended, no more came back than were given, and for each link there is room
-pub record IsDoor (waiting : List LinkInMemory) (back : Vec LinkInMemory Global) (given : ℕ) (ended : Bool) : Type 0 where
+-- the links that wait are untouched, none waits where the door has ended, no more came back than were given, and for
+-- each link there is room
+pub record IsDoor (waiting : List LinkInMemory) (back : Vec LinkInMemory Global) (given : ℕ) (ended : Bool)
+    : Type 0 where
   pub untouched : AllByRecursion IsUntouched waiting
   pub none_left : ended ≡ true → waiting ≡ []
   pub few : length back.items ≤ given
