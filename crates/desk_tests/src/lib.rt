@@ -10,6 +10,8 @@ mod commands;
 #[cfg(test)]
 mod constructs;
 #[cfg(test)]
+mod conversations;
+#[cfg(test)]
 mod deck_faults;
 #[cfg(test)]
 mod deck_readings;
@@ -41,5 +43,7 @@ mod shown;
 mod stepping;
 #[cfg(test)]
 mod streams;
+#[cfg(test)]
+mod talking;
 #[cfg(test)]
 mod turns;
