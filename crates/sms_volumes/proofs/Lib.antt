@@ -2,9 +2,11 @@ pub mod UsedLemmas
 pub mod NamedLemmas
 pub mod HeldLemmas
 pub mod ViewLemmas
+pub mod RankLemmas
 pub mod LeadLemmas
 pub mod ChangeLemmas
 pub mod RunningLemmas
+pub mod ExtentLemmas
 pub mod PartLemmas
 pub mod VaryLemmas
 pub mod ZipLemmas

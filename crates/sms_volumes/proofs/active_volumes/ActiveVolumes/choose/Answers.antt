@@ -2,7 +2,8 @@ use Rattle.std.proofs.Common.{List, subst, arith, sym}
 use Rattle.std.proofs.lemmas.List.{take_all}
 use Rattle.sms_volumes.specs.Leading.{Leads, candidates_among}
 use Rattle.sms_volumes.specs.declared.active_volume.ActiveVolume.{ActiveVolume}
-use Rattle.sms_volumes.proofs.LeadLemmas.{first-is, lead-first, lead-none, lead-picked}
+use Rattle.sms_volumes.proofs.LeadLemmas.{lead-first, lead-none, lead-picked}
+use Rattle.sms_volumes.proofs.RankLemmas.{first-is}
 use Rattle.sms_volumes.proofs.active_volumes.ActiveVolumes.choose.Goals as goal
 
 pub loop-place-init : goal.loop-place-init

@@ -2,7 +2,7 @@ use Rattle.std.proofs.Common.{◌∷◌, List, subst, sym}
 use Rattle.track_ledger.specs.declared.piece.Piece.{Piece}
 use Rattle.track_ledger.specs.GapRule.{front_of}
 use Rattle.track_ledger.specs.Ledger.{Holds, IsLedgerOf}
-use Rattle.sms_volumes.proofs.RunningLemmas.{all-cut, all-cut-none, all-whole, holds-at}
+use Rattle.sms_volumes.proofs.ExtentLemmas.{all-cut, all-cut-none, all-whole, holds-at}
 use Rattle.sms_volumes.proofs.active_volumes.ActiveVolumes.cut.Goals as goal
 
 pub returns-then-part-extent-clause-volumes : goal.returns-then-part-extent-clause-volumes

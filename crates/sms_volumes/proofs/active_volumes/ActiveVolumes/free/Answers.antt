@@ -1,7 +1,7 @@
 use Rattle.std.proofs.Common.{◌∷◌, List, subst, sym}
 use Rattle.track_ledger.specs.declared.piece.Piece.{Piece}
 use Rattle.track_ledger.specs.Ledger.{Holds, IsLedgerOf}
-use Rattle.sms_volumes.proofs.RunningLemmas.{all-freed, all-freed-none, holds-at}
+use Rattle.sms_volumes.proofs.ExtentLemmas.{all-freed, all-freed-none, holds-at}
 use Rattle.sms_volumes.proofs.active_volumes.ActiveVolumes.free.Goals as goal
 
 pub release-requires : goal.release-requires

@@ -6,10 +6,17 @@ use Rattle.volume_lists.specs.Listing.{listing_of}
 use Rattle.desk_law.specs.Candidates.{want_of}
 use Rattle.sms_volumes.specs.Asking.{ask_of}
 use Rattle.sms_volumes.specs.Leading.{Leads, candidates_among}
-use Rattle.sms_volumes.proofs.LeadLemmas.{lead-behind, lead-full, lead-taken}
+use Rattle.sms_volumes.proofs.LeadLemmas.{lead-behind, lead-full, lead-past, lead-taken}
 use Rattle.sms_volumes.proofs.RunningLemmas.{there-in, there-is}
 use Rattle.sms_volumes.proofs.ViewLemmas.{granted-at, needed-at, seen-at}
 use Rattle.sms_volumes.proofs.active_volumes.ActiveVolumes.look_at.Goals as goal
+
+pub returns-then-not-has : goal.returns-then-not-has
+returns-then-not-has c = λ s lawful are leads.
+    let running = c.args.self.now in
+    let v = c.index-volume.result.now in
+    let at = there-is running.volumes.items c.args.place v c.requires.place c.index-volume.ensures in
+    lead-past s running c.args.asked.now c.args.lead.now c.args.candidates.now c.args.place v at (sym c.if-not-has.ensures) leads
 
 pub plan-requires : goal.plan-requires
 plan-requires c =
