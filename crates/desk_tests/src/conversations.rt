@@ -2,17 +2,49 @@
 use crate::talking::{Outcome, talk, whole};
 use http_talk::{End, Talk};
 use sms_construct::Request;
-use sms_script::read_script;
+use sms_script::{Item, read_script};
 use std::alloc::Global;
 use std::test::Fail;
 
 /// A message, and its answer.
-const ASKED: &str = "POST /job/PAYROLL/7/alloc/PAY.%23TEMP HTTP/1.1\r\nContent-Length: 2\r\n\r\n{}";
+static ASKED: &str =
+    "POST /job/PAYROLL/7/alloc/PAY.%23TEMP HTTP/1.1\r\nContent-Length: 2\r\n\r\n{}";
 
 #[rattlefmt::skip]
-const ANSWERED: &[u8] = b"HTTP/1.1 200 OK\r\nContent-Type: application/json\r\nContent-Length: 67\r\n\
+static ANSWERED: &[u8] = b"HTTP/1.1 200 OK\r\nContent-Type: application/json\r\nContent-Length: 67\r\n\
     Connection: keep-alive\r\n\r\n\
     {\"code\":\"R12\",\"first\":1,\"lines\":[\"R12 NO CONFIGURATION\"],\"place\":1}";
+
+/// The same, and the beginning of another.
+#[rattlefmt::skip]
+static CUT_BEHIND: &[u8] =
+    b"POST /job/PAYROLL/7/alloc/PAY.%23TEMP HTTP/1.1\r\nContent-Length: 2\r\n\r\n{}POST /jo";
+
+/// Sizes of pieces and numbers of turns, and how that conversation ends; where it is answered.
+#[rattlefmt::skip]
+static WAYS: [(usize, u64, End, bool); 9] = [
+    (1, 1_000_000, End::Closed { cut: true }, true),
+    (2, 1_000_000, End::Closed { cut: true }, true),
+    (7, 1_000_000, End::Closed { cut: true }, true),
+    (64, 1_000_000, End::Closed { cut: true }, true),
+    (4096, 2, End::Closed { cut: true }, true),
+    (4096, 1, End::Turns, true),
+    (1, 5, End::Turns, false),
+    (1, 79, End::Turns, true),
+    (1, 80, End::Closed { cut: true }, true),
+];
+
+/// Heads by their bytes, and by their headers.
+static HEADS: [(usize, u16); 4] = [(8191, 200), (8192, 200), (8193, 431), (20_000, 431)];
+
+static COUNTS: [(usize, u16); 2] = [(32, 200), (33, 431)];
+
+/// Paths, and the most bytes of a body.
+static LIMITS: [(&str, usize); 3] = [
+    ("/job/A/1/alloc/A", 4096),
+    ("/job/A/1/extend/A", 4096),
+    ("/admin/1/activate", 262_144),
+];
 
 /// Statuses with their reason phrases.
 static PHRASES: [(u16, &str); 7] = [
@@ -219,119 +251,146 @@ fn message(alloc: Global, path: &str, body: &str) -> Result<String, Fail> {
     Ok(format!(in alloc; "POST {path} HTTP/1.1\r\nContent-Length: {size}\r\n\r\n{body}")?)
 }
 
+/// Whether a request line and headers are answered with this status.
+fn is_answered(alloc: Global, line: &str, headers: &str, status: u16) -> Result<bool, Fail> {
+    let text = format!(in alloc; "{line}\r\n{headers}\r\n")?;
+    Ok(status_of(alloc, text.as_bytes())? == status)
+}
+
+/// Whether a message with a body is answered with this status.
+fn is_told(alloc: Global, path: &str, body: &str, status: u16) -> Result<bool, Fail> {
+    let text = message(alloc, path, body)?;
+    Ok(status_of(alloc, text.as_bytes())? == status)
+}
+
 #[test]
 fn the_first_cause_is_told(rt: HostRuntime) -> Result<(), Fail> {
     let alloc = rt.alloc();
     for (line, headers, status) in &MESSAGES {
-        let text = format!(in alloc; "{line}\r\n{headers}\r\n")?;
-        assert_eq!(rt;
-            status_of(alloc, text.as_bytes())?,
-            *status,
+        assert!(rt;
+            is_answered(alloc, line, headers, *status)?,
             "{line} {headers}"
         );
     }
     for path in &PATHS {
-        let text = message(alloc, path, "")?;
-        assert_eq!(rt; status_of(alloc, text.as_bytes())?, 400, "{path}");
+        assert!(rt; is_told(alloc, path, "", 400)?, "{path}");
     }
     for body in &BODIES {
-        let text = message(alloc, "/job/JOB1/1/alloc/A", body)?;
-        assert_eq!(rt; status_of(alloc, text.as_bytes())?, 400, "{body}");
+        assert!(rt; is_told(alloc, "/job/JOB1/1/alloc/A", body, 400)?, "{body}");
     }
     let text = b"POST /job/JOB1/1/alloc/A HTTP/1.1\r\nContent-Length: 3\r\n\r\n\"\xff\"";
-    assert_eq!(rt; status_of(alloc, text)?, 400);
+    assert!(rt; status_of(alloc, text)? == 400);
     Ok(())
 }
 
 /// Whether a message asks what the line asks.
-fn asks(alloc: Global, text: &[u8], line: &str) -> Result<bool, Fail> {
-    let Outcome { talks, .. } = whole(alloc, text)?;
-    let script = read_script(alloc, line.as_bytes())?;
-    let Some(phase) = script.as_slice().first() else {
+fn asks(alloc: Global, path: &str, body: &str, line: &str) -> Result<bool, Fail> {
+    let text = message(alloc, path, body)?;
+    let Outcome { talks, .. } = whole(alloc, text.as_bytes())?;
+    if line.len() > 4096 {
         return Ok(false);
-    };
-    match (talks.as_slice(), phase.as_slice()) {
-        ([talk], [item]) => Ok(are_equal(&talk.request, &item.request)),
+    }
+    let script = read_script(alloc, line.as_bytes())?;
+    match (talks.as_slice(), script.as_slice()) {
+        ([talk], [phase]) => Ok(is_asked(&talk.request, phase.as_slice())),
         _ => Ok(false),
     }
 }
 
-fn are_equal(request: &Request, other: &Request) -> bool {
+/// Whether the request is the only one of the items.
+fn is_asked(request: &Request, items: &[Item]) -> bool {
+    let [item] = items else {
+        return false;
+    };
+    let other = &item.request;
     request.job == other.job && request.number == other.number && request.op.equals(&other.op)
 }
 
 #[test]
 fn a_message_asks_what_a_line_asks(rt: HostRuntime) -> Result<(), Fail> {
-    let alloc = rt.alloc();
     for (path, body, line) in &REQUESTS {
-        let text = message(alloc, path, body)?;
-        assert!(rt; asks(alloc, text.as_bytes(), line)?, "{path} {body}");
+        assert!(rt; asks(rt.alloc(), path, body, line)?, "{path} {body}");
     }
     Ok(())
 }
 
-/// A message whose head has so many bytes.
-fn long_head(alloc: Global, size: usize) -> Result<String, Fail> {
+/// Whether a message whose head has so many bytes is answered with this status.
+fn is_head(alloc: Global, size: usize, status: u16) -> Result<bool, Fail> {
     let filling = "x".repeat(alloc, size.saturating_sub(40))?;
-    Ok(format!(in alloc; "POST /job/A/1/extend/A HTTP/1.1\r\nX: {filling}\r\n\r\n")?)
+    let text = format!(in alloc; "POST /job/A/1/extend/A HTTP/1.1\r\nX: {filling}\r\n\r\n")?;
+    Ok(text.len() == size && status_of(alloc, text.as_bytes())? == status)
 }
 
-/// A message with so many headers.
-fn many_headers(alloc: Global, count: usize) -> Result<String, Fail> {
+/// Whether a message with so many headers is answered with this status.
+fn has_headers(alloc: Global, count: usize, status: u16) -> Result<bool, Fail> {
     let headers = "A: b\r\n".repeat(alloc, count)?;
-    Ok(format!(in alloc; "POST /job/A/1/extend/A HTTP/1.1\r\n{headers}\r\n")?)
+    is_answered(alloc, "POST /job/A/1/extend/A HTTP/1.1", &headers, status)
 }
 
-/// A message whose body has so many bytes: blanks behind an empty object.
-fn long_body(alloc: Global, path: &str, size: usize) -> Result<String, Fail> {
+/// Whether an empty object with so many bytes is answered with this status.
+fn is_body(alloc: Global, path: &str, size: usize, status: u16) -> Result<bool, Fail> {
     let filling = " ".repeat(alloc, size.saturating_sub(2))?;
     let body = format!(in alloc; "{{}}{filling}")?;
-    message(alloc, path, &body)
+    is_told(alloc, path, &body, status)
 }
 
 #[test]
 fn heads_and_bodies_have_their_limits(rt: HostRuntime) -> Result<(), Fail> {
     let alloc = rt.alloc();
-    for (size, status) in &[(8191, 200), (8192, 200), (8193, 431), (20_000, 431)] {
-        let text = long_head(alloc, *size)?;
-        assert_eq!(rt; text.len(), *size);
-        assert_eq!(rt; status_of(alloc, text.as_bytes())?, *status, "{size}");
+    for (size, status) in &HEADS {
+        assert!(rt; is_head(alloc, *size, *status)?, "{size}");
     }
-    for (count, status) in &[(32, 200), (33, 431)] {
-        let text = many_headers(alloc, *count)?;
-        assert_eq!(rt; status_of(alloc, text.as_bytes())?, *status, "{count}");
+    for (count, status) in &COUNTS {
+        assert!(rt; has_headers(alloc, *count, *status)?, "{count}");
     }
-    for (path, most) in &[
-        ("/job/A/1/alloc/A", 4096),
-        ("/job/A/1/extend/A", 4096),
-        ("/admin/1/activate", 262_144),
-    ] {
-        let text = long_body(alloc, path, *most)?;
-        assert_eq!(rt; status_of(alloc, text.as_bytes())?, 200, "{path}");
-        let text = long_body(alloc, path, *most + 1)?;
-        assert_eq!(rt; status_of(alloc, text.as_bytes())?, 413, "{path}");
+    for (path, most) in &LIMITS {
+        let more = most.saturating_add(1);
+        let holds = is_body(alloc, path, *most, 200)? && is_body(alloc, path, more, 413)?;
+        assert!(rt; holds, "{path}");
     }
     Ok(())
 }
 
+/// Whether the conversation in these pieces and turns ends so, and is answered or not.
+fn ends(alloc: Global, piece: usize, turns: u64, end: End, answered: bool) -> Result<bool, Fail> {
+    let due: &[u8] = if answered { ANSWERED } else { b"" };
+    let got = talk(alloc, CUT_BEHIND, piece.max(1), turns.max(1), &[], &[])?;
+    Ok(got.end == end && got.sent.as_slice() == due)
+}
+
 #[test]
 fn a_message_is_heard_byte_by_byte(rt: HostRuntime) -> Result<(), Fail> {
-    let alloc = rt.alloc();
-    let text = format!(in alloc; "{ASKED}POST /jo")?;
-    for piece in &[1, 2, 7, 64, 4096] {
-        let Outcome { end, sent, .. } = talk(alloc, text.as_bytes(), *piece, 1_000_000, &[], &[])?;
-        assert!(rt;
-            end == End::Closed { cut: true } && sent.as_slice() == ANSWERED,
-            "{piece}"
-        );
+    for (piece, turns, end, answered) in &WAYS {
+        let holds = ends(rt.alloc(), *piece, *turns, *end, *answered)?;
+        assert!(rt; holds, "{piece} {turns}");
     }
-    let Outcome { end, sent, .. } = talk(alloc, text.as_bytes(), 1, 5, &[], &[])?;
-    assert!(rt; end == End::Turns && sent.is_empty());
-    let pieces = text.len() as u64;
-    let Outcome { end, sent, .. } = talk(alloc, text.as_bytes(), 1, pieces.max(1), &[], &[])?;
-    assert!(rt; end == End::Turns && sent.as_slice() == ANSWERED);
-    let Outcome { end, sent, .. } = whole(alloc, b"")?;
+    let Outcome { end, sent, .. } = whole(rt.alloc(), b"")?;
     assert!(rt; end == End::Closed { cut: false } && sent.is_empty());
+    Ok(())
+}
+
+/// Whether a read that fails ends the conversation, and what was due by then was sent.
+fn fails_reading(alloc: Global, call: usize) -> Result<bool, Fail> {
+    let due: &[u8] = if call > ASKED.len() { ANSWERED } else { b"" };
+    let got = talk(alloc, CUT_BEHIND, 1, 1000, &[call as u64], &[])?;
+    Ok(got.end == End::ReadFault && got.sent.as_slice() == due)
+}
+
+/// Whether a write that fails ends the conversation, and the bytes before it were sent.
+fn fails_writing(alloc: Global, call: usize) -> Result<bool, Fail> {
+    let got = talk(alloc, CUT_BEHIND, 1, 1000, &[], &[call as u64])?;
+    let is_front = got.sent.len() == call.saturating_sub(1) && ANSWERED.starts_with(&got.sent);
+    Ok(got.end == End::WriteFault && got.talks.len() == 1 && is_front)
+}
+
+#[test]
+fn each_call_of_a_link_may_fail(rt: HostRuntime) -> Result<(), Fail> {
+    for call in 1..CUT_BEHIND.len().saturating_add(2) {
+        assert!(rt; fails_reading(rt.alloc(), call)?, "{call}");
+    }
+    for call in 1..ANSWERED.len().saturating_add(1) {
+        assert!(rt; fails_writing(rt.alloc(), call)?, "{call}");
+    }
     Ok(())
 }
 
@@ -347,54 +406,30 @@ fn are_places(talks: &[Talk], count: usize) -> bool {
     talks.len() == count
 }
 
-#[test]
-fn nothing_is_read_behind_a_message_that_closes(rt: HostRuntime) -> Result<(), Fail> {
-    let alloc = rt.alloc();
-    for (version, closes) in &CLOSES {
-        let text = format!(in alloc; "POST /job/A/1/extend/A {version}\r\n{ASKED}GET")?;
-        let Outcome { end, sent, talks } = whole(alloc, text.as_bytes())?;
-        let count = if *closes { 1 } else { 2 };
-        assert!(rt;
-            end == End::Closed { cut: !*closes } && are_places(&talks, count),
-            "{version}"
-        );
-        assert_eq!(rt;
-            has(&sent, b"\r\nConnection: close\r\n"),
-            *closes,
-            "{version}"
-        );
-    }
+/// Whether a message of this version and headers closes the connection or not, before another and the beginning of a
+/// third.
+fn is_closed(alloc: Global, version: &str, closes: bool) -> Result<bool, Fail> {
+    let text = format!(in alloc; "POST /job/A/1/extend/A {version}\r\n{ASKED}GET")?;
+    let Outcome { end, sent, talks } = whole(alloc, text.as_bytes())?;
+    let count = if closes { 1 } else { 2 };
+    let says = sent
+        .windows(19)
+        .any(|window| window == b"\nConnection: close\r".as_slice());
+    Ok(end == End::Closed { cut: !closes } && are_places(&talks, count) && says == closes)
+}
+
+/// Whether two messages are answered before a third is refused, and nothing is read behind it.
+fn stops_at_a_refusal(alloc: Global) -> Result<bool, Fail> {
     let text = format!(in alloc; "{ASKED}{ASKED}GET /job/A/1/extend/A HTTP/1.1\r\n\r\n{ASKED}")?;
     let Outcome { end, sent, talks } = whole(alloc, text.as_bytes())?;
-    assert!(rt; end == End::Refused(405) && are_places(&talks, 2) && sent.starts_with(ANSWERED));
-    Ok(())
-}
-
-/// Whether the part stands in the text.
-fn has(text: &[u8], part: &[u8; 21]) -> bool {
-    text.windows(21).any(|window| window == part.as_slice())
+    Ok(end == End::Refused(405) && are_places(&talks, 2) && sent.starts_with(ANSWERED))
 }
 
 #[test]
-fn each_call_of_a_link_may_fail(rt: HostRuntime) -> Result<(), Fail> {
-    let alloc = rt.alloc();
-    let text = format!(in alloc; "{ASKED}POST /jo")?;
-    for call in 1..text.len() + 2 {
-        let Outcome { end, sent, .. } = talk(alloc, text.as_bytes(), 1, 1000, &[call as u64], &[])?;
-        let due: &[u8] = if call > ASKED.len() { ANSWERED } else { b"" };
-        assert!(rt; end == End::ReadFault && sent.as_slice() == due, "{call}");
+fn nothing_is_read_behind_a_message_that_closes(rt: HostRuntime) -> Result<(), Fail> {
+    for (version, closes) in &CLOSES {
+        assert!(rt; is_closed(rt.alloc(), version, *closes)?, "{version}");
     }
-    for call in 1..ANSWERED.len() + 1 {
-        let Outcome { end, sent, talks } = talk(
-            alloc,
-            text.as_bytes(),
-            1,
-            1000,
-            &[],
-            &[call as u64],
-        )?;
-        assert!(rt; end == End::WriteFault && are_places(&talks, 1), "{call}");
-        assert!(rt; sent.as_slice() == &ANSWERED[..call - 1], "{call}");
-    }
+    assert!(rt; stops_at_a_refusal(rt.alloc())?);
     Ok(())
 }
