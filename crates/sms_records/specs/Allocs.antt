@@ -11,7 +11,8 @@ use Rattle.sms_records.specs.Enums.{eattr_form}
 use Rattle.sms_records.specs.Parts.{space_form}
 use Rattle.sms_records.specs.Inputs.{input_form}
 
--- all but the name: what routines see, the space, the classes, the volumes, the day, the retention period, and whether it may lie on cylinder-managed space
+-- all but the name: what routines see, the space, the classes, the volumes, the day, the retention period, and
+-- whether it may lie on cylinder-managed space
 abbrev pub AskedFields : Type 0
 AskedFields = Input × (Option Quantities × (Option (List ℕ) × (Option (List ℕ) × (Option (List ℕ)
     × (Option ℕ × (ℕ × (Option ℕ × Option Eattr)))))))

@@ -1,4 +1,5 @@
--- The record forms of enums without fields: one byte, the position of the variant, from 0 (docs/records.md, "The record form").
+-- The record forms of enums without fields: one byte, the position of the variant, from 0 (docs/records.md, "The
+-- record form").
 use Rattle.std.specs.Prelude.{◌∷◌, [], ℕ, List, Option}
 use Rattle.acs_tree.specs.declared.kind.Kind.TheVariants as kinds
 use Rattle.acs_tree.specs.declared.kind.Kind.{Kind}

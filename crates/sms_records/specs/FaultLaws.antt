@@ -2,7 +2,8 @@
 use Rattle.std.proofs.Common.{refl}
 use Rattle.sms_construct.specs.declared.text_fault.TextFault.{TextFault}
 use Rattle.sms_records.specs.Form.{IsExact, IsReadable}
-use Rattle.sms_records.specs.FormLaws.{◌&-exact◌, number_32_exact, number_8_exact, made_exact, made_again, variants_exact, variant_exact, bare_exact}
+use Rattle.sms_records.specs.FormLaws.{◌&-exact◌, number_32_exact, number_8_exact, made_exact, made_again}
+use Rattle.sms_records.specs.VariantLaws.{variants_exact, variant_exact, bare_exact}
 use Rattle.sms_records.specs.EnumLaws.{kind_exact, stage_exact}
 use Rattle.sms_records.specs.TextLaws.{name_exact, volser_exact}
 use Rattle.sms_records.specs.PartLaws.{path_exact}

@@ -1,4 +1,5 @@
--- How values are written as bytes, one behind the other, and read off the front of bytes (docs/records.md, "The record form").
+-- How values are written as bytes, one behind the other, and read off the front of bytes (docs/records.md, "The
+-- record form").
 use Rattle.std.specs.Prelude.{◌≡◌, ◌==◌, ℕ, zero, suc, ◌++◌, ◌<◌, List, [], ◌∷◌, length, take, drop, Option, Some, None, nat_lt, nat_le, get_or, slice_get, if◌then◌else◌}
 use Rattle.std.specs.List.{flat_map}
 use Rattle.std.specs.Int.{w64, to_be_bytes, from_be_bytes}
@@ -24,7 +25,8 @@ pub record Takes (bytes front rest : List ℕ) : Type 0 where
   pub rest_fits : AreBytes rest
 
 abbrev pub IsExact : {T : Type 0} → Form T → Type 0
-IsExact {T} form = (bytes rest : List ℕ) (x : T) → AreBytes bytes → form.read bytes ≡ Some (x, rest) → Takes bytes (form.write x) rest
+IsExact {T} form = (bytes rest : List ℕ) (x : T) → AreBytes bytes → form.read bytes ≡ Some (x, rest)
+    → Takes bytes (form.write x) rest
 
 -- what is written of this value is read as it, whatever stands behind
 abbrev pub IsReadable : {T : Type 0} → Form T → T → Type 0
@@ -122,7 +124,8 @@ bare_at x = λ bytes. Some (x, bytes)
 
 -- the variant at this position is written so
 abbrev pub IsVariant : {T : Type 0} → (T → List ℕ) → ℕ → (List ℕ → Option (T × List ℕ)) → Type 0
-IsVariant {T} write tag reader = (bytes rest : List ℕ) (x : T) → AreBytes (tag ∷ bytes) → reader bytes ≡ Some (x, rest) → Takes (tag ∷ bytes) (write x) rest
+IsVariant {T} write tag reader = (bytes rest : List ℕ) (x : T) → AreBytes (tag ∷ bytes)
+    → reader bytes ≡ Some (x, rest) → Takes (tag ∷ bytes) (write x) rest
 
 abbrev pub AreVariants : {T : Type 0} → (T → List ℕ) → ℕ → List (List ℕ → Option (T × List ℕ)) → Type 0
 AreVariants write at [] = Unit {0}

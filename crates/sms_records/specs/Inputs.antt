@@ -1,4 +1,5 @@
--- The record form of what routines see of a request: a field for each read-only variable that isn't always null or 0, in the order of the table of variables (docs/records.md, "The record form").
+-- The record form of what routines see of a request: a field for each read-only variable that isn't always null or 0,
+-- in the order of the table of variables (docs/records.md, "The record form").
 use Rattle.std.specs.Prelude.{◌==◌, ◌&&◌, ℕ, Bool, List, length, Option, Some, None, if◌then◌else◌}
 use Rattle.std.specs.Str.{bytes_eq}
 use Rattle.acs_tree.specs.declared.input.Input.{Input}
@@ -17,7 +18,8 @@ parts_of_name dsn = (first_qualifier dsn, (last_qualifier dsn, length (qualifier
 
 -- whether these are the parts of the name
 abbrev pub are_parts : List ℕ → NameParts → Bool
-are_parts dsn x = bytes_eq x.0 (first_qualifier dsn) && (bytes_eq x.1.0 (last_qualifier dsn) && (x.1.1 == length (qualifiers_of dsn)))
+are_parts dsn x = bytes_eq x.0 (first_qualifier dsn) &&
+    (bytes_eq x.1.0 (last_qualifier dsn) && (x.1.1 == length (qualifiers_of dsn)))
 
 -- the name, where the parts behind it are its own
 abbrev pub name_with_parts : List ℕ × NameParts → Option (List ℕ)
@@ -71,7 +73,8 @@ given_form = volumes_form & (account_form & account_form) & number_form & number
 
 -- all but the name
 abbrev pub InputFields : Type 0
-InputFields = AskingFields × (WantedFields × (SettingFields × ((List ℕ × TwoTexts) × ((TwoTexts × (ℕ × ℕ)) × GivenFields))))
+InputFields = AskingFields × (WantedFields ×
+    (SettingFields × ((List ℕ × TwoTexts) × ((TwoTexts × (ℕ × ℕ)) × GivenFields))))
 
 abbrev pub input_fields : Form InputFields
 input_fields = asking_form & wanted_form & setting_form & default_form & system_form & given_form
@@ -99,7 +102,8 @@ fields_of_input x = (
 abbrev pub input_of : List ℕ → InputFields → Input
 input_of its_dsn (asking, (wanted, (setting, (default, (system, given))))) = record {
   dsn = its_dsn;
-  origin = record { job = asking.0; user = asking.1.0; group = asking.1.1.0; pgm = asking.1.1.1.0; dd = asking.1.1.1.1; applic = setting.0 };
+  origin = record { job = asking.0; user = asking.1.0; group = asking.1.1.0; pgm = asking.1.1.1.0; dd =
+    asking.1.1.1.1; applic = setting.0 };
   accounting = record { acct_job = given.1.0.0; acct_step = given.1.0.1 };
   attributes = record {
     unit = wanted.0;
@@ -110,7 +114,8 @@ input_of its_dsn (asking, (wanted, (setting, (default, (system, given))))) = rec
     dsowner = setting.1.1.1.1.1;
     expdt = setting.1.0;
   };
-  environment = record { acsenvir = setting.1.1.1.0; xmode = setting.1.1.1.1.0; sysname = system.0.0; sysplex = system.0.1 };
+  environment = record { acsenvir = setting.1.1.1.0; xmode = setting.1.1.1.1.0; sysname = system.0.0; sysplex =
+    system.0.1 };
   defaults = record { dataclas = default.0; storclas = default.1.0; mgmtclas = default.1.1 };
   amounts = record { retpd = system.1.0; blksize = system.1.1; size = given.1.1.0; maxsize = given.1.1.1 };
   volumes = given.0;

@@ -2,7 +2,8 @@
 use Rattle.std.proofs.Common.{refl}
 use Rattle.sms_construct.specs.declared.request.Request.{Request}
 use Rattle.sms_records.specs.Form.{IsExact, IsReadable}
-use Rattle.sms_records.specs.FormLaws.{◌&-exact◌, text_exact, number_32_exact, made_exact, made_again, variants_exact, variant_exact}
+use Rattle.sms_records.specs.FormLaws.{◌&-exact◌, text_exact, number_32_exact, made_exact, made_again}
+use Rattle.sms_records.specs.VariantLaws.{variants_exact, variant_exact}
 use Rattle.sms_records.specs.EnumLaws.{action_exact}
 use Rattle.sms_records.specs.TextLaws.{dsn_exact, name_exact, request_number_exact}
 use Rattle.sms_records.specs.ViewLaws.{target_exact}

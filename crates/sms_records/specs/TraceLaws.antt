@@ -4,7 +4,8 @@ use Rattle.acs_tree.specs.declared.line.Line.{Line}
 use Rattle.acs_tree.specs.declared.more.More.{More}
 use Rattle.sms_construct.specs.declared.trace.Trace.{Trace}
 use Rattle.sms_records.specs.Form.{IsExact, IsReadable}
-use Rattle.sms_records.specs.FormLaws.{◌&-exact◌, number_32_exact, made_exact, made_again, list_exact}
+use Rattle.sms_records.specs.FormLaws.{◌&-exact◌, number_32_exact, made_exact, made_again}
+use Rattle.sms_records.specs.ListLaws.{list_exact}
 use Rattle.sms_records.specs.EnumLaws.{kind_exact}
 use Rattle.sms_records.specs.TextLaws.{literal_exact}
 use Rattle.sms_records.specs.Traces.{line_fields, line_form, more_fields, more_form, trace_fields, trace_form}

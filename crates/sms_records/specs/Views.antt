@@ -51,7 +51,8 @@ view_write (views.Set set) = 2 ∷ data_set_form.write set
 
 abbrev pub view_readers : List (List ℕ → Option (View × List ℕ))
 view_readers =
-    made_at (name_form & status_form & number_32_form & number_form & number_form) (λ x. views.Group x.0 x.1.0 x.1.1.0 x.1.1.1.0 x.1.1.1.1) ∷
+    made_at (name_form & status_form & number_32_form & number_form & number_form)
+      (λ x. views.Group x.0 x.1.0 x.1.1.0 x.1.1.1.0 x.1.1.1.1) ∷
     made_at vol_row_form views.Volume ∷
     made_at data_set_form views.Set ∷ []
 
