@@ -1,4 +1,4 @@
--- What it promises.
+-- What this record form promises: what is read is written so, and what is written is read again.
 use Rattle.std.proofs.Common.{◌≡◌, ◌∙◌, ℕ, List, refl, ap}
 use Rattle.std.specs.Str.{bytes_eq}
 use Rattle.std.proofs.lemmas.Slice.Eq.{bytes_eq-Decides}

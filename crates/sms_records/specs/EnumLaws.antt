@@ -1,4 +1,4 @@
--- What they promise.
+-- What these record forms promise: what is read is written so, and what is written is read again.
 use Rattle.std.proofs.Common.{refl}
 use Rattle.acs_tree.specs.declared.kind.Kind.{Kind}
 use Rattle.sms_construct.specs.declared.action.Action.{Action}

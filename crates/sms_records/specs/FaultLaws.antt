@@ -1,4 +1,4 @@
--- What they promise.
+-- What these record forms promise: what is read is written so, and what is written is read again.
 use Rattle.std.proofs.Common.{refl}
 use Rattle.sms_construct.specs.declared.text_fault.TextFault.{TextFault}
 use Rattle.sms_records.specs.Form.{IsExact, IsReadable}

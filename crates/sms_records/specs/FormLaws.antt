@@ -7,7 +7,7 @@ use Rattle.std.specs.Int.{w64, from_be_bytes, to_be_bytes}
 use Rattle.std.proofs.lemmas.Bool.{cases_lt, ltb-false, le-ltb, le-leb}
 use Rattle.std.proofs.lemmas.List.{take_at, drop_at, take-append-drop, length-append, length-take, get_or-drop, get_or-take, get_or_past}
 use Rattle.std.proofs.lemmas.Nat.{be_bytes_8, from_be_bytes-to_be_bytes_8}
-use Rattle.sms_records.specs.Form.{◌>>=◌, Form, AreBytes, Takes, IsExact, IsReadable, number_form, number_at, text_form, text_at, seen, seen_at, number_32_form, number_16_form, number_8_form, small, within_limit, made, ◌&◌, both_at, whole}
+use Rattle.sms_records.specs.Form.{◌>>=◌, Form, AreBytes, Takes, IsExact, IsReadable, number_form, number_at, text_form, text_at, seen, seen_at, number_32_form, number_16_form, number_8_form, small, within_limit, made, ◌&◌, both_at}
 
 AreBytes-drop : (n : ℕ) (bytes : List ℕ) → AreBytes bytes → AreBytes (drop n bytes)
 AreBytes-drop n bytes h i = rw get_or-drop (h (n + i))
@@ -39,8 +39,11 @@ pub some_is : {A : Type 0} (x y : A) → some x ≡ some y → x ≡ y
 some_is x y e = cc
 
 pub Takes-then : (a x b y c : List ℕ) → Takes a x b → Takes b y c → Takes a (x ++ y) c
-Takes-then a x b y c p q = record { parts = p.parts ∙ ap (λ (t : List ℕ). x ++ t) q.parts
-    ∙ sym (append_assoc x y c); rest_fits = q.rest_fits }
+Takes-then a x b y c p q = record {
+  parts = p.parts ∙ ap (λ (t : List ℕ). x ++ t) q.parts
+      ∙ sym (append_assoc x y c);
+  rest_fits = q.rest_fits;
+}
 
 pub number_exact : IsExact number_form
 number_exact bytes rest n fits e =
@@ -49,11 +52,11 @@ number_exact bytes rest n fits e =
     let n-is : from_be_bytes w64 (take 8 bytes) ≡ n = ap (λ (p : ℕ × List ℕ). p.0) g.1 in
     let rest-is : drop 8 bytes ≡ rest = ap (λ (p : ℕ × List ℕ). p.1) g.1 in
     let front : to_be_bytes w64 n ≡ take 8 bytes =
-      rw (← n-is) (be_bytes_8 (take 8 bytes) _ (omega (arith, length-take 8 bytes))
-        (AreBytes-take 8 bytes fits) refl) in
+    rw (← n-is) (be_bytes_8 (take 8 bytes) _ (omega (arith, length-take 8 bytes))
+    (AreBytes-take 8 bytes fits) refl) in
     let parts : bytes ≡ to_be_bytes w64 n ++ rest =
-      sym (ap (λ (t : List ℕ). t ++ rest) front ∙ ap (λ (t : List ℕ). take 8 bytes ++ t) (sym rest-is)
-        ∙ take-append-drop 8 bytes) in
+    sym (ap (λ (t : List ℕ). t ++ rest) front ∙ ap (λ (t : List ℕ). take 8 bytes ++ t) (sym rest-is)
+    ∙ take-append-drop 8 bytes) in
     record { parts = parts; rest_fits = rw (← rest-is) (AreBytes-drop 8 bytes fits) }
 
 front_again : (front rest : List ℕ) (n : ℕ) → length front ≡ 8 → from_be_bytes w64 front ≡ n
@@ -72,17 +75,20 @@ pub text_exact : IsExact text_form
 unfolding text_at
 text_exact bytes rest x fits e =
     let b = bind_some (number_at bytes) (λ n. cond (ltb (length n.1) n.0) None (Some (take n.0 n.1, drop n.0 n.1)))
-      (x, rest) e in
+    (x, rest) e in
     let n = b.0 in
     let t = number_exact bytes n.1 n.0 fits b.1 in
     let g = guard_some (ltb (length n.1) n.0) (take n.0 n.1, drop n.0 n.1) (x, rest) b.2 in
     let long : n.0 ≤ length n.1 = ltb-false _ _ g.0 in
     let len : length (take n.0 n.1) ≡ n.0 = omega (arith, length-take n.0 n.1) in
-    let second : Takes n.1 (take n.0 n.1) (drop n.0 n.1) = record { parts =
-      sym (take-append-drop n.0 n.1); rest_fits = AreBytes-drop n.0 n.1 t.rest_fits } in
+    let second : Takes n.1 (take n.0 n.1) (drop n.0 n.1) = record {
+      parts =
+          sym (take-append-drop n.0 n.1);
+      rest_fits = AreBytes-drop n.0 n.1 t.rest_fits;
+    } in
     let all = Takes-then bytes (to_be_bytes w64 n.0) n.1 (take n.0 n.1) (drop n.0 n.1) t second in
     let whole : Takes bytes (text_form.write (take n.0 n.1)) (drop n.0 n.1) =
-      subst (λ (k : ℕ). Takes bytes (to_be_bytes w64 k ++ take n.0 n.1) (drop n.0 n.1)) (sym len) all in
+    subst (λ (k : ℕ). Takes bytes (to_be_bytes w64 k ++ take n.0 n.1) (drop n.0 n.1)) (sym len) all in
     subst (λ (p : List ℕ × List ℕ). Takes bytes (text_form.write p.0) p.1) g.1 whole
 
 pub text_readable : (x : List ℕ) → length x < 2 ^ 64 → IsReadable text_form x
@@ -90,8 +96,13 @@ unfolding text_at
 text_readable x lt rest =
     let long : ltb (length (x ++ rest)) (length x) ≡ false = le-ltb _ _ (omega (arith, length-append x rest)) in
     ap text_at (append_assoc (to_be_bytes w64 (length x)) x rest)
-      ∙ rw (number_again (length x) (x ++ rest) lt, long, take_at x rest (length x) refl, drop_at x rest
-        (length x) refl) refl
+    ∙ rw (
+      number_again (length x) (x ++ rest) lt,
+      long,
+      take_at x rest (length x) refl,
+      drop_at x rest
+          (length x) refl,
+    ) refl
 
 pub seen_exact : {A B : Type 0} (form : Form A) (test : A → Option B) (back : B → A) → IsExact form
     → ((a : A) (b : B) → test a ≡ Some b → a ≡ back b) → IsExact (seen form test back)
@@ -101,7 +112,7 @@ seen_exact form test back exact same bytes rest x fits e =
     let b = bind_some (test a.0.0) (λ made. Some (made, a.0.1)) (x, rest) a.2 in
     let t = exact bytes a.0.1 a.0.0 fits a.1 in
     let whole : Takes bytes (form.write (back b.0)) a.0.1 =
-      subst (λ (y : _). Takes bytes (form.write y) a.0.1) (same a.0.0 b.0 b.1) t in
+    subst (λ (y : _). Takes bytes (form.write y) a.0.1) (same a.0.0 b.0 b.1) t in
     subst (λ (p : _ × List ℕ). Takes bytes (form.write (back p.0)) p.1) (some_is (b.0, a.0.1) (x, rest) b.2) whole
 
 pub seen_readable : {A B : Type 0} (form : Form A) (test : A → Option B) (back : B → A) (b : B)
@@ -153,7 +164,7 @@ both_exact first second exact-1 exact-2 bytes rest x fits e =
     let t2 = exact-2 a.0.1 b.0.1 b.0.0 t1.rest_fits b.1 in
     let whole = Takes-then bytes (first.write a.0.0) a.0.1 (second.write b.0.0) b.0.1 t1 t2 in
     subst (λ (p : (_ × _) × List ℕ). Takes bytes (first.write p.0.0 ++ second.write p.0.1) p.1)
-      (some_is ((a.0.0, b.0.0), b.0.1) (x, rest) b.2) whole
+    (some_is ((a.0.0, b.0.0), b.0.1) (x, rest) b.2) whole
 
 infixr 60 ◌&-exact◌
 pub ◌&-exact◌ : {A B : Type 0} {first : Form A} {second : Form B} → IsExact first → IsExact second

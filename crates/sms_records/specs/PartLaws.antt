@@ -1,4 +1,4 @@
--- What they promise.
+-- What these record forms promise: what is read is written so, and what is written is read again.
 use Rattle.std.proofs.Common.{arith, ◌≡◌, ◌<◌, ◌≤◌, ◌^◌, ℕ, Bool, true, false, List, length, ◌++◌, ◌∙◌, append_assoc, refl, ap}
 use Rattle.std.specs.Prelude.{◌==◌, nat_le, ◌&&◌}
 use Rattle.std.specs.List.{list_all}
@@ -8,7 +8,7 @@ use Rattle.std.specs.Cmp.{unsigned_Decides}
 use Rattle.desk_common.specs.Limits.{most_account_fields, most_quantity, most_volume_count}
 use Rattle.sms_construct.specs.Path.{is_shown, IsPath}
 use Rattle.sms_construct.specs.Quantities.{Quantities, IsSpace, space_of}
-use Rattle.sms_records.specs.Form.{◌&◌, IsExact, IsReadable, list, number_form, number_32_form, text_form}
+use Rattle.sms_records.specs.Form.{◌&◌, IsExact, IsReadable, list, number_form, number_32_form}
 use Rattle.sms_records.specs.FormLaws.{◌&-exact◌, both_readable, guard_some_of, number_exact, number_32_exact, number_readable, seen_exact, seen_readable}
 use Rattle.sms_records.specs.ListLaws.{list_exact}
 use Rattle.sms_records.specs.Texts.{short_form, volser_form}
@@ -52,7 +52,7 @@ volumes_readable x few fits again =
     seen_readable (number_form & list volser_form) volumes_of (λ x. (length x, x)) x
     (both_readable number_form (list volser_form) (length x) x (number_readable (length x) fits) again)
     (rw (and_true _ _ ((unsigned_Decides (length x) (length x)).1 refl)
-      (le-leb (length x) most_volume_count few)) refl)
+    (le-leb (length x) most_volume_count few)) refl)
 
 pub volumes_written : (old mid new : List ℕ) (found x : List (List ℕ)) → found ≡ x
     → mid ≡ old ++ to_be_bytes w64 (length found)
@@ -81,10 +81,10 @@ space_exact = seen_exact (unit_form & number_32_form & number_32_form)
 
 pub space_readable : (x : Quantities) → IsSpace x
     → IsReadable (unit_form & number_32_form & number_32_form) (x.unit, (x.primary, x.secondary))
-      → IsReadable space_form x
+    → IsReadable space_form x
 space_readable x is again =
     let primary = and_true _ _ (le-leb x.primary most_quantity is.primary)
-      (le-leb x.secondary most_quantity is.secondary) in
+    (le-leb x.secondary most_quantity is.secondary) in
     seen_readable (unit_form & number_32_form & number_32_form)
     (λ a. space_of a.0 a.1.0 a.1.1) (λ q. (q.unit, (q.primary, q.secondary))) x again
     (rw (and_true _ _ (le-leb 1 x.primary is.some) primary) refl)

@@ -1,4 +1,4 @@
--- What they promise.
+-- What these record forms promise: what is read is written so, and what is written is read again.
 use Rattle.std.proofs.Common.{refl}
 use Rattle.sms_records.specs.Form.{IsExact}
 use Rattle.sms_records.specs.FormLaws.{◌&-exact◌, number_exact, number_32_exact, number_16_exact}
@@ -43,10 +43,10 @@ reply_exact = variants_exact reply_write reply_readers (
                             bare_exact _ 13 _ refl,
                             (
                               variant_exact _ 14 _ _ ((kind_exact &-exact number_16_exact) &-exact trace_exact)
-                                (λ q. refl),
+                                  (λ q. refl),
                               (
                                 variant_exact _ 15 _ _ ((kind_exact &-exact short_exact) &-exact trace_exact)
-                                  (λ q. refl),
+                                    (λ q. refl),
                                 (
                                   variant_exact _ 16 _ _ trace_exact (λ q. refl),
                                   (

@@ -1,14 +1,14 @@
--- Their laws.
-use Rattle.std.proofs.Common.{rules, arith, ◌≡◌, ◌<◌, ◌≤◌, ◌^◌, ℕ, Bool, true, false, cond, List, length, Option, Some, None, refl, ap, ◌∙◌}
-use Rattle.std.specs.Prelude.{nat_le, ◌&&◌, All}
+-- What these record forms promise: what is read is written so, and what is written is read again.
+use Rattle.std.proofs.Common.{arith, ◌≡◌, ◌<◌, ◌^◌, ℕ, Bool, true, cond, List, length, Some, None, refl}
+use Rattle.std.specs.Prelude.{nat_le, ◌&&◌}
 use Rattle.std.proofs.lemmas.Bool.{le-leb}
 use Rattle.std.proofs.lemmas.List.Sums.{list_all-from_AllPass}
 use Rattle.desk_common.specs.Limits.{most_literal_bytes, most_name_bytes, most_value_bytes, most_volser_bytes, most_number, most_volume_count}
-use Rattle.dsn_mask.specs.Name.{IsName, IsVolser, IsShort, IsLiteral, is_name, is_volser, is_short, is_literal, is_name_byte, is_short_byte, is_literal_byte, name_of, volser_of, short_of, literal_of}
-use Rattle.dsn_mask.specs.DataSetName.{IsDataSetName, IsQualifier, is_qualifier, is_qualifier_byte, is_data_set_name, dsn_of}
+use Rattle.dsn_mask.specs.Name.{IsName, IsVolser, IsShort, IsLiteral, is_name, is_volser, is_short, is_literal, is_name_byte, is_short_byte, is_literal_byte}
+use Rattle.dsn_mask.specs.DataSetName.{IsDataSetName, IsQualifier, is_qualifier, is_qualifier_byte, is_data_set_name}
 use Rattle.dsn_mask.specs.Qualifiers.{qualifiers_of}
-use Rattle.sms_construct.specs.Quantities.{IsRequestNumber, IsVolumeCount, request_number_of, volume_count_of}
-use Rattle.sms_records.specs.Form.{Form, IsExact, IsReadable, seen, text_form, number_form}
+use Rattle.sms_construct.specs.Quantities.{IsRequestNumber, IsVolumeCount}
+use Rattle.sms_records.specs.Form.{IsExact, IsReadable, seen, text_form, number_form}
 use Rattle.sms_records.specs.FormLaws.{seen_exact, seen_readable, text_exact, text_readable, number_exact, number_readable, guard_some_of}
 use Rattle.sms_records.specs.Texts.{name_form, volser_form, short_form, literal_form, dsn_form, request_number_form, volume_count_form}
 
@@ -39,8 +39,8 @@ name_exact = text_type_exact is_name
 pub name_readable : (a : List ℕ) → IsName a → IsReadable name_form a
 name_readable a h = text_type_readable is_name a (omega (arith, h.1))
     (and_true _ _ (le-leb 1 (length a) h.0)
-      (and_true _ _ (le-leb (length a) most_name_bytes h.1)
-        (and_true _ _ h.2 (list_all-from_AllPass is_name_byte a h.3))))
+    (and_true _ _ (le-leb (length a) most_name_bytes h.1)
+    (and_true _ _ h.2 (list_all-from_AllPass is_name_byte a h.3))))
 
 pub volser_exact : IsExact volser_form
 volser_exact = text_type_exact is_volser
@@ -48,7 +48,7 @@ volser_exact = text_type_exact is_volser
 pub volser_readable : (a : List ℕ) → IsVolser a → IsReadable volser_form a
 volser_readable a h = text_type_readable is_volser a (omega (arith, h.1))
     (and_true _ _ (le-leb 1 (length a) h.0)
-      (and_true _ _ (le-leb (length a) most_volser_bytes h.1) (list_all-from_AllPass is_name_byte a h.2)))
+    (and_true _ _ (le-leb (length a) most_volser_bytes h.1) (list_all-from_AllPass is_name_byte a h.2)))
 
 pub short_exact : IsExact short_form
 short_exact = text_type_exact is_short
@@ -70,12 +70,12 @@ dsn_exact = text_type_exact is_data_set_name
 qualifier_passes : (a : List ℕ) → IsQualifier a → is_qualifier a ≡ true
 qualifier_passes a h = and_true _ _ (le-leb 1 (length a) h.0)
     (and_true _ _ (le-leb (length a) most_name_bytes h.1)
-      (and_true _ _ h.2 (list_all-from_AllPass is_qualifier_byte a h.3)))
+    (and_true _ _ h.2 (list_all-from_AllPass is_qualifier_byte a h.3)))
 
 pub dsn_readable : (a : List ℕ) → IsDataSetName a → IsReadable dsn_form a
 dsn_readable a h = text_type_readable is_data_set_name a (omega (arith, h.0))
     (and_true _ _ (le-leb (length a) most_value_bytes h.0)
-      (list_all-from_AllPass is_qualifier (qualifiers_of a) (λ k x at. qualifier_passes _ (h.1 k x at))))
+    (list_all-from_AllPass is_qualifier (qualifiers_of a) (λ k x at. qualifier_passes _ (h.1 k x at))))
 
 pub request_number_exact : IsExact request_number_form
 request_number_exact = number_type_exact (λ a. nat_le 1 a && nat_le a most_number)

@@ -1,4 +1,4 @@
--- What they promise.
+-- What these record forms promise: what is read is written so, and what is written is read again.
 use Rattle.std.proofs.Common.{refl}
 use Rattle.acs_tree.specs.declared.line.Line.{Line}
 use Rattle.acs_tree.specs.declared.more.More.{More}

@@ -67,10 +67,22 @@ fn fields_of(input: &Input) -> Fields
     let defaults = &input.defaults;
     let amounts = &input.amounts;
     let accounting = &input.accounting;
-    let asking = (origin.job, (origin.user, (origin.group, (origin.pgm, origin.dd))));
-    let wanted = (attributes.unit, (attributes.dsorg, (attributes.recorg, attributes.dsntype)));
-    let modes = (environment.acsenvir, (environment.xmode, attributes.dsowner));
-    let setting = (origin.applic, (attributes.expdt, (attributes.dstype, modes)));
+    let asking = (
+        origin.job,
+        (origin.user, (origin.group, (origin.pgm, origin.dd))),
+    );
+    let wanted = (
+        attributes.unit,
+        (attributes.dsorg, (attributes.recorg, attributes.dsntype)),
+    );
+    let modes = (
+        environment.acsenvir,
+        (environment.xmode, attributes.dsowner),
+    );
+    let setting = (
+        origin.applic,
+        (attributes.expdt, (attributes.dstype, modes)),
+    );
     let classes = (defaults.dataclas, (defaults.storclas, defaults.mgmtclas));
     let names = (environment.sysname, environment.sysplex);
     let system = (names, (amounts.retpd, amounts.blksize));

@@ -11,5 +11,5 @@ returns-in_ok-push-in-None-clause-readable g c =
 pub returns-in_ok-push-in-Some-clause-readable : goal.returns-in_ok-push-in-Some-clause-readable
 returns-in_ok-push-in-Some-clause-readable g c =
     on_ok c.write_to.result (λ h. seen_as (option g.T.Recorded.form) c.args.self.now
-      (Some c.in-Some.value) c.in-Some.is
-        (some_readable g.T.Recorded.form c.in-Some.value h)) c.write_to.ensures.readable
+    (Some c.in-Some.value) c.in-Some.is
+    (some_readable g.T.Recorded.form c.in-Some.value h)) c.write_to.ensures.readable
