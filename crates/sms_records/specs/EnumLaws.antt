@@ -1,4 +1,4 @@
--- What they promise.
+-- What these record forms promise: what is read is written so, and what is written is read again.
 use Rattle.std.proofs.Common.{refl}
 use Rattle.acs_tree.specs.declared.kind.Kind.{Kind}
 use Rattle.sms_construct.specs.declared.action.Action.{Action}
@@ -15,7 +15,7 @@ use Rattle.sms_construct.specs.declared.why_no_extend.WhyNoExtend.TheVariants as
 use Rattle.acs_tree.specs.declared.kind.Kind.TheVariants as kinds
 use Rattle.sms_construct.specs.declared.stage.Stage.TheVariants as stages
 use Rattle.sms_records.specs.Form.{IsExact, IsReadable}
-use Rattle.sms_records.specs.FormLaws.{variants_exact, bare_readable, bare_exact}
+use Rattle.sms_records.specs.VariantLaws.{variants_exact, bare_readable, bare_exact}
 use Rattle.sms_records.specs.Enums.{action_form, action_readers, action_write, eattr_form, eattr_readers, eattr_write, kind_form, kind_readers, kind_write, stage_form, stage_readers, stage_write, status_form, status_readers, status_write, unit_form, unit_readers, unit_write, why_no_extend_form, why_no_extend_readers, why_no_extend_write}
 
 pub status_exact : IsExact status_form

@@ -1,4 +1,5 @@
--- The record forms of enums without fields: one byte, the position of the variant, from 0 (docs/records.md, "The record form").
+-- The record forms of enums without fields: one byte, the position of the variant, from 0 (docs/records.md, "The
+-- record form").
 use Rattle.std.specs.Prelude.{◌∷◌, [], ℕ, List, Option}
 use Rattle.acs_tree.specs.declared.kind.Kind.TheVariants as kinds
 use Rattle.acs_tree.specs.declared.kind.Kind.{Kind}
@@ -25,6 +26,7 @@ status_write statuses.DisNew = 3 ∷ []
 status_write statuses.QuiAll = 4 ∷ []
 status_write statuses.QuiNew = 5 ∷ []
 
+-- the readers of its variants
 abbrev pub status_readers : List (List ℕ → Option (Status × List ℕ))
 status_readers =
     bare_at statuses.Enable ∷
@@ -34,6 +36,7 @@ status_readers =
     bare_at statuses.QuiAll ∷
     bare_at statuses.QuiNew ∷ []
 
+-- its form
 abbrev pub status_form : Form Status
 status_form = variants status_write status_readers
 
@@ -45,6 +48,7 @@ action_write actions.DisableNew = 2 ∷ []
 action_write actions.Quiesce = 3 ∷ []
 action_write actions.QuiesceNew = 4 ∷ []
 
+-- the readers of its variants
 abbrev pub action_readers : List (List ℕ → Option (Action × List ℕ))
 action_readers =
     bare_at actions.Enable ∷
@@ -53,6 +57,7 @@ action_readers =
     bare_at actions.Quiesce ∷
     bare_at actions.QuiesceNew ∷ []
 
+-- its form
 abbrev pub action_form : Form Action
 action_form = variants action_write action_readers
 
@@ -61,9 +66,11 @@ abbrev pub unit_write : UnitOf → List ℕ
 unit_write units.Trk = 0 ∷ []
 unit_write units.Cyl = 1 ∷ []
 
+-- the readers of its variants
 abbrev pub unit_readers : List (List ℕ → Option (UnitOf × List ℕ))
 unit_readers = bare_at units.Trk ∷ bare_at units.Cyl ∷ []
 
+-- its form
 abbrev pub unit_form : Form UnitOf
 unit_form = variants unit_write unit_readers
 
@@ -72,9 +79,11 @@ abbrev pub eattr_write : Eattr → List ℕ
 eattr_write eattrs.No = 0 ∷ []
 eattr_write eattrs.Opt = 1 ∷ []
 
+-- the readers of its variants
 abbrev pub eattr_readers : List (List ℕ → Option (Eattr × List ℕ))
 eattr_readers = bare_at eattrs.No ∷ bare_at eattrs.Opt ∷ []
 
+-- its form
 abbrev pub eattr_form : Form Eattr
 eattr_form = variants eattr_write eattr_readers
 
@@ -83,9 +92,11 @@ abbrev pub why_no_extend_write : WhyNoExtend → List ℕ
 why_no_extend_write reasons.Secondary = 0 ∷ []
 why_no_extend_write reasons.Room = 1 ∷ []
 
+-- the readers of its variants
 abbrev pub why_no_extend_readers : List (List ℕ → Option (WhyNoExtend × List ℕ))
 why_no_extend_readers = bare_at reasons.Secondary ∷ bare_at reasons.Room ∷ []
 
+-- its form
 abbrev pub why_no_extend_form : Form WhyNoExtend
 why_no_extend_form = variants why_no_extend_write why_no_extend_readers
 
@@ -96,6 +107,7 @@ kind_write kinds.StorClas = 1 ∷ []
 kind_write kinds.MgmtClas = 2 ∷ []
 kind_write kinds.StorGrp = 3 ∷ []
 
+-- the readers of its variants
 abbrev pub kind_readers : List (List ℕ → Option (Kind × List ℕ))
 kind_readers =
     bare_at kinds.DataClas ∷
@@ -103,6 +115,7 @@ kind_readers =
     bare_at kinds.MgmtClas ∷
     bare_at kinds.StorGrp ∷ []
 
+-- its form
 abbrev pub kind_form : Form Kind
 kind_form = variants kind_write kind_readers
 
@@ -112,8 +125,10 @@ stage_write stages.Scanner = 0 ∷ []
 stage_write stages.Parser = 1 ∷ []
 stage_write stages.Checks = 2 ∷ []
 
+-- the readers of its variants
 abbrev pub stage_readers : List (List ℕ → Option (Stage × List ℕ))
 stage_readers = bare_at stages.Scanner ∷ bare_at stages.Parser ∷ bare_at stages.Checks ∷ []
 
+-- its form
 abbrev pub stage_form : Form Stage
 stage_form = variants stage_write stage_readers

@@ -1,8 +1,9 @@
--- What they promise.
+-- What these record forms promise: what is read is written so, and what is written is read again.
 use Rattle.std.proofs.Common.{refl}
 use Rattle.sms_construct.specs.declared.text_fault.TextFault.{TextFault}
 use Rattle.sms_records.specs.Form.{IsExact, IsReadable}
-use Rattle.sms_records.specs.FormLaws.{◌&-exact◌, number_32_exact, number_8_exact, made_exact, made_again, variants_exact, variant_exact, bare_exact}
+use Rattle.sms_records.specs.FormLaws.{◌&-exact◌, number_32_exact, number_8_exact, made_exact, made_again}
+use Rattle.sms_records.specs.VariantLaws.{variants_exact, variant_exact, bare_exact}
 use Rattle.sms_records.specs.EnumLaws.{kind_exact, stage_exact}
 use Rattle.sms_records.specs.TextLaws.{name_exact, volser_exact}
 use Rattle.sms_records.specs.PartLaws.{path_exact}

@@ -13,6 +13,7 @@ use Rattle.sms_records.specs.Parts.{path_form}
 abbrev pub text_fault_fields : Form (Stage × (ℕ × ℕ))
 text_fault_fields = stage_form & number_8_form & number_32_form
 
+-- its form
 abbrev pub text_fault_form : Form TextFault
 text_fault_form = made text_fault_fields
     (λ x. record { stage = x.0; number = x.1.0; at = x.1.1 })
@@ -31,6 +32,7 @@ fault_write (faults.Routine kind fault) = 7 ∷ (kind_form.write kind ++ text_fa
 fault_write (faults.Unassigned kind name) = 8 ∷ (kind_form.write kind ++ name_form.write name)
 fault_write (faults.TooMany path) = 9 ∷ path_form.write path
 
+-- the readers of its variants
 abbrev pub fault_readers : List (List ℕ → Option (Fault × List ℕ))
 fault_readers =
     made_at path_form faults.NotBuilt ∷
@@ -44,5 +46,6 @@ fault_readers =
     made_at (kind_form & name_form) (λ x. faults.Unassigned x.0 x.1) ∷
     made_at path_form faults.TooMany ∷ []
 
+-- its form
 abbrev pub fault_form : Form Fault
 fault_form = variants fault_write fault_readers

@@ -1,4 +1,5 @@
--- How values are written as bytes, one behind the other, and read off the front of bytes (docs/records.md, "The record form").
+-- How values are written as bytes, one behind the other, and read off the front of bytes (docs/records.md, "The
+-- record form").
 use Rattle.std.specs.Prelude.{◌≡◌, ◌==◌, ℕ, zero, suc, ◌++◌, ◌<◌, List, [], ◌∷◌, length, take, drop, Option, Some, None, nat_lt, nat_le, get_or, slice_get, if◌then◌else◌}
 use Rattle.std.specs.List.{flat_map}
 use Rattle.std.specs.Int.{w64, to_be_bytes, from_be_bytes}
@@ -23,8 +24,10 @@ pub record Takes (bytes front rest : List ℕ) : Type 0 where
   pub parts : bytes ≡ front ++ rest
   pub rest_fits : AreBytes rest
 
+-- what a form reads, it writes so
 abbrev pub IsExact : {T : Type 0} → Form T → Type 0
-IsExact {T} form = (bytes rest : List ℕ) (x : T) → AreBytes bytes → form.read bytes ≡ Some (x, rest) → Takes bytes (form.write x) rest
+IsExact {T} form = (bytes rest : List ℕ) (x : T) → AreBytes bytes → form.read bytes ≡ Some (x, rest)
+    → Takes bytes (form.write x) rest
 
 -- what is written of this value is read as it, whatever stands behind
 abbrev pub IsReadable : {T : Type 0} → Form T → T → Type 0
@@ -34,6 +37,7 @@ IsReadable form x = (rest : List ℕ) → form.read (form.write x ++ rest) ≡ S
 abbrev pub number_at : List ℕ → Option (ℕ × List ℕ)
 number_at bytes = if nat_lt (length bytes) 8 then None else Some (from_be_bytes w64 (take 8 bytes), drop 8 bytes)
 
+-- the form of a number
 abbrev pub number_form : Form ℕ
 number_form = record { write = λ n. to_be_bytes w64 n; read = number_at }
 
@@ -48,6 +52,7 @@ text_at bytes = do
   n ← number_at bytes
   if nat_lt (length n.1) n.0 then None else Some (take n.0 n.1, drop n.0 n.1)
 
+-- the form of a text
 abbrev pub text_form : Form (List ℕ)
 text_form = record { write = λ bytes. to_be_bytes w64 (length bytes) ++ bytes; read = text_at }
 
@@ -58,6 +63,7 @@ seen_at form test bytes = do
   made ← test found.0
   Some (made, found.1)
 
+-- the form of values of B, written as values of A
 abbrev pub seen : {A B : Type 0} → Form A → (A → Option B) → (B → A) → Form B
 seen form test back = record { write = λ x. form.write (back x); read = seen_at form test }
 
@@ -65,16 +71,19 @@ seen form test back = record { write = λ x. form.write (back x); read = seen_at
 abbrev pub within_limit : ℕ → ℕ → Option ℕ
 within_limit most n = if nat_le n most then Some n else None
 
+-- the form of a number up to this one
 abbrev pub small : ℕ → Form ℕ
 small most = seen number_form (within_limit most) (λ n. n)
 
--- a number of 32 bits, of 16, of 8
+-- a number of 32 bits
 abbrev pub number_32_form : Form ℕ
 number_32_form = small 4294967295
 
+-- a number of 16 bits
 abbrev pub number_16_form : Form ℕ
 number_16_form = small 65535
 
+-- a number of 8 bits
 abbrev pub number_8_form : Form ℕ
 number_8_form = small 255
 
@@ -97,6 +106,7 @@ many_at form (suc n) bytes = do
   others ← many_at form n first.1
   Some (first.0 ∷ others.0, others.1)
 
+-- so many items as the number at the front says
 unfoldable pub list_at : {T : Type 0} → Form T → List ℕ → Option (List T × List ℕ)
 list_at form bytes = do
   n ← number_at bytes
@@ -122,12 +132,15 @@ bare_at x = λ bytes. Some (x, bytes)
 
 -- the variant at this position is written so
 abbrev pub IsVariant : {T : Type 0} → (T → List ℕ) → ℕ → (List ℕ → Option (T × List ℕ)) → Type 0
-IsVariant {T} write tag reader = (bytes rest : List ℕ) (x : T) → AreBytes (tag ∷ bytes) → reader bytes ≡ Some (x, rest) → Takes (tag ∷ bytes) (write x) rest
+IsVariant {T} write tag reader = (bytes rest : List ℕ) (x : T) → AreBytes (tag ∷ bytes)
+    → reader bytes ≡ Some (x, rest) → Takes (tag ∷ bytes) (write x) rest
 
+-- each of the readers is that of its variant, whose positions count from this one
 abbrev pub AreVariants : {T : Type 0} → (T → List ℕ) → ℕ → List (List ℕ → Option (T × List ℕ)) → Type 0
 AreVariants write at [] = Unit {0}
 AreVariants write at (reader ∷ readers) = IsVariant write at reader × AreVariants write (suc at) readers
 
+-- what the reader at the position of the first byte reads
 unfoldable pub variant_at : {T : Type 0} → List (List ℕ → Option (T × List ℕ)) → List ℕ → Option (T × List ℕ)
 variant_at variants bytes = do
   tag ← byte_at bytes
@@ -147,10 +160,12 @@ option_at form (suc zero ∷ rest) = do
   Some (Some x.0, x.1)
 option_at form (suc (suc byte) ∷ rest) = None
 
+-- the bytes of an option
 abbrev pub option_write : {T : Type 0} → Form T → Option T → List ℕ
 option_write form None = 0 ∷ []
 option_write form (Some x) = 1 ∷ form.write x
 
+-- the form of an option
 abbrev pub option : {T : Type 0} → Form T → Form (Option T)
 option form = record { write = option_write form; read = option_at form }
 

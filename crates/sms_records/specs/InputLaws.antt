@@ -1,6 +1,5 @@
--- What it promises.
-use Rattle.std.proofs.Common.{arith, ◌≡◌, ◌<◌, ◌^◌, ℕ, Bool, true, false, List, length, refl, sym, ap, ◌∙◌, ◌++◌, append_assoc}
-use Rattle.std.specs.Prelude.{◌==◌, ◌&&◌}
+-- What this record form promises: what is read is written so, and what is written is read again.
+use Rattle.std.proofs.Common.{◌≡◌, ◌<◌, ◌^◌, ℕ, true, List, length, refl}
 use Rattle.std.specs.Str.{bytes_eq}
 use Rattle.std.specs.Cmp.{unsigned_Decides}
 use Rattle.std.proofs.lemmas.Slice.Eq.{bytes_eq-Decides}
@@ -12,9 +11,10 @@ use Rattle.sms_records.specs.FormLaws.{◌&-exact◌, both_readable, guard_some_
 use Rattle.sms_records.specs.Texts.{dsn_form}
 use Rattle.sms_records.specs.TextLaws.{and_true, dsn_exact, short_exact}
 use Rattle.sms_records.specs.PartLaws.{account_exact, first_true, second_true, volumes_exact}
-use Rattle.sms_records.specs.Inputs.{NameParts, are_parts, asking_form, default_form, fields_of_input, given_form, input_fields, input_form, input_of, name_parts_form, name_with_parts, parts_of_name, seen_name_form, setting_form, system_form, wanted_form}
+use Rattle.sms_records.specs.Inputs.{NameParts, are_parts, fields_of_input, input_fields, input_form, input_of, name_parts_form, name_with_parts, parts_of_name, seen_name_form}
 
-same_parts : (dsn first last : List ℕ) (count : ℕ) → first ≡ first_qualifier dsn → last ≡ last_qualifier dsn → count ≡ length (qualifiers_of dsn)
+same_parts : (dsn first last : List ℕ) (count : ℕ) → first ≡ first_qualifier dsn → last ≡ last_qualifier dsn
+    → count ≡ length (qualifiers_of dsn)
     → let one : NameParts = (first, (last, count)) in one ≡ parts_of_name dsn
 same_parts dsn first last count f l n = cc
 
@@ -24,7 +24,8 @@ parts_are dsn x e =
     same_parts dsn x.0 x.1.0 x.1.1
     ((bytes_eq-Decides x.0 (first_qualifier dsn)).0 (first_true _ _ e))
     ((bytes_eq-Decides x.1.0 (last_qualifier dsn)).0 (first_true _ _ others))
-    ((unsigned_Decides x.1.1 (length (qualifiers_of dsn))).0 (second_true (bytes_eq x.1.0 (last_qualifier dsn)) _ others))
+    ((unsigned_Decides x.1.1 (length (qualifiers_of dsn))).0
+    (second_true (bytes_eq x.1.0 (last_qualifier dsn)) _ others))
 
 own_parts : (dsn : List ℕ) → are_parts dsn (parts_of_name dsn) ≡ true
 own_parts dsn =
@@ -44,9 +45,11 @@ seen_name_exact = seen_exact (dsn_form & name_parts_form) name_with_parts (λ ds
 pub seen_name_readable : (dsn : List ℕ) → IsReadable dsn_form dsn → length (first_qualifier dsn) < 2 ^ 64
     → length (last_qualifier dsn) < 2 ^ 64 → length (qualifiers_of dsn) < 2 ^ 64 → IsReadable seen_name_form dsn
 seen_name_readable dsn again first last count =
-    let parts = both_readable text_form (text_form & number_form) (first_qualifier dsn) (last_qualifier dsn, length (qualifiers_of dsn))
+    let parts = both_readable text_form (text_form & number_form) (first_qualifier dsn)
+    (last_qualifier dsn, length (qualifiers_of dsn))
     (text_readable (first_qualifier dsn) first)
-    (both_readable text_form number_form (last_qualifier dsn) (length (qualifiers_of dsn)) (text_readable (last_qualifier dsn) last) (number_readable (length (qualifiers_of dsn)) count)) in
+    (both_readable text_form number_form (last_qualifier dsn) (length (qualifiers_of dsn))
+    (text_readable (last_qualifier dsn) last) (number_readable (length (qualifiers_of dsn)) count)) in
     seen_readable (dsn_form & name_parts_form) name_with_parts (λ name. (name, parts_of_name name)) dsn
     (both_readable dsn_form name_parts_form dsn (parts_of_name dsn) again parts)
     (rw (own_parts dsn) refl)
@@ -62,7 +65,8 @@ input_exact = made_exact _ _ _
     &-exact volumes_exact &-exact (account_exact &-exact account_exact) &-exact number_exact &-exact number_exact)
     (λ a. refl)
 
-pub input_readable : (x : Input) → IsReadable seen_name_form x.dsn → IsReadable input_fields (fields_of_input x) → IsReadable input_form x
+pub input_readable : (x : Input) → IsReadable seen_name_form x.dsn → IsReadable input_fields (fields_of_input x)
+    → IsReadable input_form x
 input_readable x name others =
     made_again (seen_name_form & input_fields) (λ y. input_of y.0 y.1) (λ y. (y.dsn, fields_of_input y)) (λ y. refl) x
     (both_readable seen_name_form input_fields x.dsn (fields_of_input x) name others)

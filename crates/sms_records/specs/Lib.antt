@@ -2,6 +2,8 @@ pub mod Form
 pub mod FormLaws
 pub mod Reading
 pub mod ListLaws
+pub mod VariantLaws
+pub mod WholeLaws
 pub mod Texts
 pub mod TextLaws
 pub mod Enums

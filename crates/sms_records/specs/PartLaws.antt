@@ -1,4 +1,4 @@
--- What they promise.
+-- What these record forms promise: what is read is written so, and what is written is read again.
 use Rattle.std.proofs.Common.{arith, ◌≡◌, ◌<◌, ◌≤◌, ◌^◌, ℕ, Bool, true, false, List, length, ◌++◌, ◌∙◌, append_assoc, refl, ap}
 use Rattle.std.specs.Prelude.{◌==◌, nat_le, ◌&&◌}
 use Rattle.std.specs.List.{list_all}
@@ -8,8 +8,9 @@ use Rattle.std.specs.Cmp.{unsigned_Decides}
 use Rattle.desk_common.specs.Limits.{most_account_fields, most_quantity, most_volume_count}
 use Rattle.sms_construct.specs.Path.{is_shown, IsPath}
 use Rattle.sms_construct.specs.Quantities.{Quantities, IsSpace, space_of}
-use Rattle.sms_records.specs.Form.{◌&◌, IsExact, IsReadable, list, number_form, number_32_form, text_form}
-use Rattle.sms_records.specs.FormLaws.{◌&-exact◌, both_readable, guard_some_of, list_exact, number_exact, number_32_exact, number_readable, seen_exact, seen_readable}
+use Rattle.sms_records.specs.Form.{◌&◌, IsExact, IsReadable, list, number_form, number_32_form}
+use Rattle.sms_records.specs.FormLaws.{◌&-exact◌, both_readable, guard_some_of, number_exact, number_32_exact, number_readable, seen_exact, seen_readable}
+use Rattle.sms_records.specs.ListLaws.{list_exact}
 use Rattle.sms_records.specs.Texts.{short_form, volser_form}
 use Rattle.sms_records.specs.TextLaws.{short_exact, volser_exact, and_true, text_type_exact, text_type_readable}
 use Rattle.sms_records.specs.Enums.{unit_form}
@@ -28,11 +29,13 @@ pub account_exact : IsExact account_form
 account_exact = seen_exact (list short_form) account_of (λ x. x) (list_exact short_form short_exact)
     (λ a b e. (guard_some_of (nat_le (length a) most_account_fields) a b e).1)
 
-pub account_readable : (x : List (List ℕ)) → length x ≤ most_account_fields → IsReadable (list short_form) x → IsReadable account_form x
+pub account_readable : (x : List (List ℕ)) → length x ≤ most_account_fields → IsReadable (list short_form) x
+    → IsReadable account_form x
 account_readable x few again =
     seen_readable (list short_form) account_of (λ x. x) x again (rw (le-leb (length x) most_account_fields few) refl)
 
-counted : (n : ℕ) (a b : List (List ℕ)) → n ≡ length a → a ≡ b → let one : ℕ × List (List ℕ) = (n, a) in one ≡ (length b, b)
+counted : (n : ℕ) (a b : List (List ℕ)) → n ≡ length a → a ≡ b → let one : ℕ × List (List ℕ) =
+    (n, a) in one ≡ (length b, b)
 counted n a b e same = cc
 
 pub volumes_exact : IsExact volumes_form
@@ -43,13 +46,16 @@ volumes_exact = seen_exact (number_form & list volser_form) volumes_of (λ x. (l
     let g = guard_some_of test a.1 b e in
     counted a.0 a.1 b (eqb-true _ _ (first_true _ _ g.0)) g.1)
 
-pub volumes_readable : (x : List (List ℕ)) → length x ≤ most_volume_count → length x < 2 ^ 64 → IsReadable (list volser_form) x → IsReadable volumes_form x
+pub volumes_readable : (x : List (List ℕ)) → length x ≤ most_volume_count → length x < 2 ^ 64
+    → IsReadable (list volser_form) x → IsReadable volumes_form x
 volumes_readable x few fits again =
     seen_readable (number_form & list volser_form) volumes_of (λ x. (length x, x)) x
     (both_readable number_form (list volser_form) (length x) x (number_readable (length x) fits) again)
-    (rw (and_true _ _ ((unsigned_Decides (length x) (length x)).1 refl) (le-leb (length x) most_volume_count few)) refl)
+    (rw (and_true _ _ ((unsigned_Decides (length x) (length x)).1 refl)
+    (le-leb (length x) most_volume_count few)) refl)
 
-pub volumes_written : (old mid new : List ℕ) (found x : List (List ℕ)) → found ≡ x → mid ≡ old ++ to_be_bytes w64 (length found)
+pub volumes_written : (old mid new : List ℕ) (found x : List (List ℕ)) → found ≡ x
+    → mid ≡ old ++ to_be_bytes w64 (length found)
     → new ≡ mid ++ (list volser_form).write found → new ≡ old ++ volumes_form.write x
 volumes_written old mid new found x same first second =
     second ∙ ap (λ (bytes : List ℕ). bytes ++ (list volser_form).write found) first
@@ -74,9 +80,11 @@ space_exact = seen_exact (unit_form & number_32_form & number_32_form)
     ap (λ (q : Quantities). (q.unit, (q.primary, q.secondary))) (guard_some_of test made b e).1)
 
 pub space_readable : (x : Quantities) → IsSpace x
-    → IsReadable (unit_form & number_32_form & number_32_form) (x.unit, (x.primary, x.secondary)) → IsReadable space_form x
+    → IsReadable (unit_form & number_32_form & number_32_form) (x.unit, (x.primary, x.secondary))
+    → IsReadable space_form x
 space_readable x is again =
-    let primary = and_true _ _ (le-leb x.primary most_quantity is.primary) (le-leb x.secondary most_quantity is.secondary) in
+    let primary = and_true _ _ (le-leb x.primary most_quantity is.primary)
+    (le-leb x.secondary most_quantity is.secondary) in
     seen_readable (unit_form & number_32_form & number_32_form)
     (λ a. space_of a.0 a.1.0 a.1.1) (λ q. (q.unit, (q.primary, q.secondary))) x again
     (rw (and_true _ _ (le-leb 1 x.primary is.some) primary) refl)

@@ -1,10 +1,10 @@
--- The record forms of bounded lists, paths and spaces: each is read where it is in its range (docs/records.md, "The record form").
+-- The record forms of bounded lists, paths and spaces: each is read where it is in its range (docs/records.md, "The
+-- record form").
 use Rattle.std.specs.Prelude.{◌==◌, ℕ, List, length, ◌&&◌, Option, Some, None, nat_le, if◌then◌else◌}
 use Rattle.std.specs.List.{list_all}
 use Rattle.desk_common.specs.Limits.{most_account_fields, most_volume_count}
 use Rattle.sms_construct.specs.Path.{is_shown}
 use Rattle.sms_construct.specs.Quantities.{Quantities, space_of}
-use Rattle.sms_construct.specs.declared.unit.Unit.{Unit as UnitOf}
 use Rattle.sms_records.specs.Form.{◌&◌, Form, list, number_form, number_32_form, seen, text_form}
 use Rattle.sms_records.specs.Texts.{short_form, volser_form}
 use Rattle.sms_records.specs.Enums.{unit_form}

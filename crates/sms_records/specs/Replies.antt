@@ -48,6 +48,7 @@ reply_write (replies.PastGrant granted) = 25 ∷ number_form.write granted
 reply_write replies.KeeperFault = 26 ∷ []
 reply_write replies.Memory = 27 ∷ []
 
+-- the readers of its variants
 abbrev pub reply_readers : List (List ℕ → Option (Reply × List ℕ))
 reply_readers =
     made_at (data_set_form & trace_form) (λ x. replies.Granted x.0 x.1) ∷
@@ -79,5 +80,6 @@ reply_readers =
     bare_at replies.KeeperFault ∷
     bare_at replies.Memory ∷ []
 
+-- the form of replies
 abbrev pub reply_form : Form Reply
 reply_form = variants reply_write reply_readers

@@ -1,7 +1,9 @@
--- What they promise.
+-- What these record forms promise: what is read is written so, and what is written is read again.
 use Rattle.std.proofs.Common.{refl}
 use Rattle.sms_records.specs.Form.{IsExact}
-use Rattle.sms_records.specs.FormLaws.{◌&-exact◌, number_exact, number_32_exact, number_16_exact, list_exact, variants_exact, variant_exact, bare_exact}
+use Rattle.sms_records.specs.FormLaws.{◌&-exact◌, number_exact, number_32_exact, number_16_exact}
+use Rattle.sms_records.specs.ListLaws.{list_exact}
+use Rattle.sms_records.specs.VariantLaws.{variants_exact, variant_exact, bare_exact}
 use Rattle.sms_records.specs.EnumLaws.{kind_exact, status_exact, why_no_extend_exact}
 use Rattle.sms_records.specs.TextLaws.{name_exact, short_exact, volser_exact}
 use Rattle.sms_records.specs.SetLaws.{data_set_exact, extent_exact}
@@ -40,9 +42,11 @@ reply_exact = variants_exact reply_write reply_readers (
                           (
                             bare_exact _ 13 _ refl,
                             (
-                              variant_exact _ 14 _ _ ((kind_exact &-exact number_16_exact) &-exact trace_exact) (λ q. refl),
+                              variant_exact _ 14 _ _ ((kind_exact &-exact number_16_exact) &-exact trace_exact)
+                                  (λ q. refl),
                               (
-                                variant_exact _ 15 _ _ ((kind_exact &-exact short_exact) &-exact trace_exact) (λ q. refl),
+                                variant_exact _ 15 _ _ ((kind_exact &-exact short_exact) &-exact trace_exact)
+                                    (λ q. refl),
                                 (
                                   variant_exact _ 16 _ _ trace_exact (λ q. refl),
                                   (

@@ -1,8 +1,9 @@
--- What they promise.
+-- What these record forms promise: what is read is written so, and what is written is read again.
 use Rattle.std.proofs.Common.{refl}
 use Rattle.sms_construct.specs.declared.request.Request.{Request}
 use Rattle.sms_records.specs.Form.{IsExact, IsReadable}
-use Rattle.sms_records.specs.FormLaws.{◌&-exact◌, text_exact, number_32_exact, made_exact, made_again, variants_exact, variant_exact}
+use Rattle.sms_records.specs.FormLaws.{◌&-exact◌, text_exact, number_32_exact, made_exact, made_again}
+use Rattle.sms_records.specs.VariantLaws.{variants_exact, variant_exact}
 use Rattle.sms_records.specs.EnumLaws.{action_exact}
 use Rattle.sms_records.specs.TextLaws.{dsn_exact, name_exact, request_number_exact}
 use Rattle.sms_records.specs.ViewLaws.{target_exact}

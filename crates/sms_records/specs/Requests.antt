@@ -21,6 +21,7 @@ op_write (ops.Activate deck) = 6 ∷ text_form.write deck
 op_write (ops.Vary target action) = 7 ∷ (target_form.write target ++ action_form.write action)
 op_write (ops.Purge job floor) = 8 ∷ (name_form.write job ++ request_number_form.write floor)
 
+-- the readers of its variants
 abbrev pub op_readers : List (List ℕ → Option (Op × List ℕ))
 op_readers =
     made_at alloc_form ops.Alloc ∷
@@ -33,6 +34,7 @@ op_readers =
     made_at (target_form & action_form) (λ x. ops.Vary x.0 x.1) ∷
     made_at (name_form & request_number_form) (λ x. ops.Purge x.0 x.1) ∷ []
 
+-- its form
 abbrev pub op_form : Form Op
 op_form = variants op_write op_readers
 
@@ -40,6 +42,7 @@ op_form = variants op_write op_readers
 abbrev pub request_fields : Form ((List ℕ × ℕ) × Op)
 request_fields = (name_form & request_number_form) & op_form
 
+-- the form of requests
 abbrev pub request_form : Form Request
 request_form = made request_fields
     (λ x. record { job = x.0.0; number = x.0.1; op = x.1 })

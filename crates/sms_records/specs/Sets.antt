@@ -15,13 +15,14 @@ extent_fields = volser_form & number_32_form & number_32_form
 -- an extent
 abbrev pub extent_form : Form Extent
 extent_form = made extent_fields
-  (λ x. record { volser = x.0; start = x.1.0; length = x.1.1 })
-  (λ x. (x.volser, (x.start, x.length)))
+    (λ x. record { volser = x.0; start = x.1.0; length = x.1.1 })
+    (λ x. (x.volser, (x.start, x.length)))
 
 -- the data class, the storage class, the management class and the group
 abbrev pub ClassFields : Type 0
 ClassFields = Option (List ℕ) × (List ℕ × (Option (List ℕ) × List ℕ))
 
+-- their form
 abbrev pub class_fields : Form ClassFields
 class_fields = option name_form & name_form & option name_form & name_form
 
@@ -37,6 +38,7 @@ use_fields = number_32_form & option number_32_form & number_32_form
 abbrev pub FixedFields : Type 0
 FixedFields = List ℕ × (ClassFields × ((UnitOf × (ℕ × ℕ)) × (ℕ × (Option ℕ × ℕ))))
 
+-- their form
 abbrev pub fixed_fields : Form FixedFields
 fixed_fields = dsn_form & class_fields & quantity_fields & use_fields
 
@@ -44,21 +46,31 @@ fixed_fields = dsn_form & class_fields & quantity_fields & use_fields
 abbrev pub DataSetFields : Type 0
 DataSetFields = FixedFields × (List Extent × Eattr)
 
+-- their form
 abbrev pub data_set_fields : Form DataSetFields
 data_set_fields = fixed_fields & list extent_form & eattr_form
 
+-- the fields of fixed size of a data set
 abbrev pub fixed_fields_of : DataSet → FixedFields
 fixed_fields_of x =
-  (x.dsn, ((x.dataclas, (x.storclas, (x.mgmtclas, x.group))), ((x.unit, (x.secondary, x.volumes)), (x.day, (x.retpd, x.used)))))
+    (x.dsn, ((x.dataclas, (x.storclas, (x.mgmtclas, x.group))), ((x.unit, (x.secondary, x.volumes)), (x.day, (x.retpd, x.used)))))
 
 -- the data set of these fields
 abbrev pub data_set_of : DataSetFields → DataSet
 data_set_of ((its_dsn, (classes, (quantities, usage))), (its_extents, its_eattr)) = record {
   dsn = its_dsn;
-  dataclas = classes.0; storclas = classes.1.0; mgmtclas = classes.1.1.0; group = classes.1.1.1;
-  unit = quantities.0; secondary = quantities.1.0; volumes = quantities.1.1;
-  day = usage.0; retpd = usage.1.0; used = usage.1.1;
-  extents = its_extents; eattr = its_eattr;
+  dataclas = classes.0;
+  storclas = classes.1.0;
+  mgmtclas = classes.1.1.0;
+  group = classes.1.1.1;
+  unit = quantities.0;
+  secondary = quantities.1.0;
+  volumes = quantities.1.1;
+  day = usage.0;
+  retpd = usage.1.0;
+  used = usage.1.1;
+  extents = its_extents;
+  eattr = its_eattr;
 }
 
 -- a catalogued data set

@@ -1,10 +1,11 @@
--- What they promise.
+-- What these record forms promise: what is read is written so, and what is written is read again.
 use Rattle.std.proofs.Common.{refl}
 use Rattle.acs_tree.specs.declared.line.Line.{Line}
 use Rattle.acs_tree.specs.declared.more.More.{More}
 use Rattle.sms_construct.specs.declared.trace.Trace.{Trace}
 use Rattle.sms_records.specs.Form.{IsExact, IsReadable}
-use Rattle.sms_records.specs.FormLaws.{◌&-exact◌, number_32_exact, made_exact, made_again, list_exact}
+use Rattle.sms_records.specs.FormLaws.{◌&-exact◌, number_32_exact, made_exact, made_again}
+use Rattle.sms_records.specs.ListLaws.{list_exact}
 use Rattle.sms_records.specs.EnumLaws.{kind_exact}
 use Rattle.sms_records.specs.TextLaws.{literal_exact}
 use Rattle.sms_records.specs.Traces.{line_fields, line_form, more_fields, more_form, trace_fields, trace_form}

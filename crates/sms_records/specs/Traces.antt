@@ -12,6 +12,7 @@ use Rattle.sms_records.specs.Texts.{literal_form}
 abbrev pub line_fields : Form (Kind × List ℕ)
 line_fields = kind_form & literal_form
 
+-- the form of a line
 abbrev pub line_form : Form Line
 line_form = made line_fields (λ x. record { kind = x.0; text = x.1 }) (λ x. (x.kind, x.text))
 
@@ -19,6 +20,7 @@ line_form = made line_fields (λ x. record { kind = x.0; text = x.1 }) (λ x. (x
 abbrev pub more_fields : Form (ℕ × (ℕ × (ℕ × ℕ)))
 more_fields = number_32_form & number_32_form & number_32_form & number_32_form
 
+-- the form of such counts
 abbrev pub more_form : Form More
 more_form = made more_fields
     (λ x. record { dataclas = x.0; storclas = x.1.0; mgmtclas = x.1.1.0; storgrp = x.1.1.1 })
@@ -28,5 +30,6 @@ more_form = made more_fields
 abbrev pub trace_fields : Form (List Line × More)
 trace_fields = list line_form & more_form
 
+-- the form of a trace
 abbrev pub trace_form : Form Trace
 trace_form = made trace_fields (λ x. record { lines = x.0; more = x.1 }) (λ x. (x.lines, x.more))

@@ -17,12 +17,14 @@ target_write (targets.Group name) = 0 ∷ name_form.write name
 target_write (targets.Volume volser) = 1 ∷ volser_form.write volser
 target_write (targets.Set dsn) = 2 ∷ dsn_form.write dsn
 
+-- the readers of its variants
 abbrev pub target_readers : List (List ℕ → Option (Target × List ℕ))
 target_readers =
     made_at name_form targets.Group ∷
     made_at volser_form targets.Volume ∷
     made_at dsn_form targets.Set ∷ []
 
+-- its form
 abbrev pub target_form : Form Target
 target_form = variants target_write target_readers
 
@@ -30,6 +32,7 @@ target_form = variants target_write target_readers
 abbrev pub vol_row_fields : Form (List ℕ × (List ℕ × (Status × (ℕ × (ℕ × ℕ)))))
 vol_row_fields = volser_form & name_form & status_form & number_32_form & number_32_form & number_32_form
 
+-- its form
 abbrev pub vol_row_form : Form VolRow
 vol_row_form = made vol_row_fields
     (λ x. record {
@@ -49,11 +52,14 @@ view_write (views.Group name status volumes capacity free) = 0 ∷ (name_form & 
 view_write (views.Volume row) = 1 ∷ vol_row_form.write row
 view_write (views.Set set) = 2 ∷ data_set_form.write set
 
+-- the readers of its variants
 abbrev pub view_readers : List (List ℕ → Option (View × List ℕ))
 view_readers =
-    made_at (name_form & status_form & number_32_form & number_form & number_form) (λ x. views.Group x.0 x.1.0 x.1.1.0 x.1.1.1.0 x.1.1.1.1) ∷
+    made_at (name_form & status_form & number_32_form & number_form & number_form)
+    (λ x. views.Group x.0 x.1.0 x.1.1.0 x.1.1.1.0 x.1.1.1.1) ∷
     made_at vol_row_form views.Volume ∷
     made_at data_set_form views.Set ∷ []
 
+-- its form
 abbrev pub view_form : Form View
 view_form = variants view_write view_readers

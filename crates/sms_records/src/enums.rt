@@ -28,7 +28,7 @@ impl Recorded for Status {
         }
     }
 
-    #[tactic(auto, using(crate::specs::FormLaws::past_readers), unfolding(crate::specs::Form::variant_at))]
+    #[tactic(auto, using(crate::specs::VariantLaws::past_readers), unfolding(crate::specs::Form::variant_at))]
     fn read_from(_alloc: Global, bytes: &[u8]) -> Result<(Self, &[u8]), RecordErr> {
         let (tag, rest) = read_byte(bytes)?;
         match tag {
@@ -62,7 +62,7 @@ impl Recorded for Action {
         }
     }
 
-    #[tactic(auto, using(crate::specs::FormLaws::past_readers), unfolding(crate::specs::Form::variant_at))]
+    #[tactic(auto, using(crate::specs::VariantLaws::past_readers), unfolding(crate::specs::Form::variant_at))]
     fn read_from(_alloc: Global, bytes: &[u8]) -> Result<(Self, &[u8]), RecordErr> {
         let (tag, rest) = read_byte(bytes)?;
         match tag {
@@ -92,7 +92,7 @@ impl Recorded for Unit {
         }
     }
 
-    #[tactic(auto, using(crate::specs::FormLaws::past_readers), unfolding(crate::specs::Form::variant_at))]
+    #[tactic(auto, using(crate::specs::VariantLaws::past_readers), unfolding(crate::specs::Form::variant_at))]
     fn read_from(_alloc: Global, bytes: &[u8]) -> Result<(Self, &[u8]), RecordErr> {
         let (tag, rest) = read_byte(bytes)?;
         match tag {
@@ -119,7 +119,7 @@ impl Recorded for Eattr {
         }
     }
 
-    #[tactic(auto, using(crate::specs::FormLaws::past_readers), unfolding(crate::specs::Form::variant_at))]
+    #[tactic(auto, using(crate::specs::VariantLaws::past_readers), unfolding(crate::specs::Form::variant_at))]
     fn read_from(_alloc: Global, bytes: &[u8]) -> Result<(Self, &[u8]), RecordErr> {
         let (tag, rest) = read_byte(bytes)?;
         match tag {
@@ -146,7 +146,7 @@ impl Recorded for WhyNoExtend {
         }
     }
 
-    #[tactic(auto, using(crate::specs::FormLaws::past_readers), unfolding(crate::specs::Form::variant_at))]
+    #[tactic(auto, using(crate::specs::VariantLaws::past_readers), unfolding(crate::specs::Form::variant_at))]
     fn read_from(_alloc: Global, bytes: &[u8]) -> Result<(Self, &[u8]), RecordErr> {
         let (tag, rest) = read_byte(bytes)?;
         match tag {
@@ -175,7 +175,7 @@ impl Recorded for Kind {
         }
     }
 
-    #[tactic(auto, using(crate::specs::FormLaws::past_readers), unfolding(crate::specs::Form::variant_at))]
+    #[tactic(auto, using(crate::specs::VariantLaws::past_readers), unfolding(crate::specs::Form::variant_at))]
     fn read_from(_alloc: Global, bytes: &[u8]) -> Result<(Self, &[u8]), RecordErr> {
         let (tag, rest) = read_byte(bytes)?;
         match tag {
@@ -205,7 +205,7 @@ impl Recorded for Stage {
         }
     }
 
-    #[tactic(auto, using(crate::specs::FormLaws::past_readers), unfolding(crate::specs::Form::variant_at))]
+    #[tactic(auto, using(crate::specs::VariantLaws::past_readers), unfolding(crate::specs::Form::variant_at))]
     fn read_from(_alloc: Global, bytes: &[u8]) -> Result<(Self, &[u8]), RecordErr> {
         let (tag, rest) = read_byte(bytes)?;
         match tag {

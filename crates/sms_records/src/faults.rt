@@ -54,7 +54,7 @@ impl Recorded for Fault {
         }
     }
 
-    #[tactic(auto, using(crate::specs::FormLaws::past_readers), unfolding(crate::specs::Form::variant_at, crate::specs::Form::made_at))]
+    #[tactic(auto, using(crate::specs::VariantLaws::past_readers), unfolding(crate::specs::Form::variant_at, crate::specs::Form::made_at))]
     fn read_from(alloc: Global, bytes: &[u8]) -> Result<(Self, &[u8]), RecordErr> {
         let (tag, rest) = read_byte(bytes)?;
         match tag {

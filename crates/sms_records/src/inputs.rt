@@ -67,10 +67,22 @@ fn fields_of(input: &Input) -> Fields
     let defaults = &input.defaults;
     let amounts = &input.amounts;
     let accounting = &input.accounting;
-    let asking = (origin.job, (origin.user, (origin.group, (origin.pgm, origin.dd))));
-    let wanted = (attributes.unit, (attributes.dsorg, (attributes.recorg, attributes.dsntype)));
-    let modes = (environment.acsenvir, (environment.xmode, attributes.dsowner));
-    let setting = (origin.applic, (attributes.expdt, (attributes.dstype, modes)));
+    let asking = (
+        origin.job,
+        (origin.user, (origin.group, (origin.pgm, origin.dd))),
+    );
+    let wanted = (
+        attributes.unit,
+        (attributes.dsorg, (attributes.recorg, attributes.dsntype)),
+    );
+    let modes = (
+        environment.acsenvir,
+        (environment.xmode, attributes.dsowner),
+    );
+    let setting = (
+        origin.applic,
+        (attributes.expdt, (attributes.dstype, modes)),
+    );
     let classes = (defaults.dataclas, (defaults.storclas, defaults.mgmtclas));
     let names = (environment.sysname, environment.sysplex);
     let system = (names, (amounts.retpd, amounts.blksize));
@@ -83,36 +95,19 @@ fn fields_of(input: &Input) -> Fields
 fn input_of(dsn: Dsn, fields: Fields) -> Input
     ensures { result ≡ input_of dsn fields }
 {
-    let ((job, (user, (group, (pgm, dd)))), (wanted, (setting, (classes, (system, given))))) =
-        fields;
-    let (unit, (dsorg, (recorg, dsntype))) = wanted;
+    let (asking, (wanted, (setting, (classes, (system, given))))) = fields;
     let (applic, (expdt, (dstype, (acsenvir, (xmode, dsowner))))) = setting;
     let (dataclas, (storclas, mgmtclas)) = classes;
     let ((sysname, sysplex), (retpd, blksize)) = system;
     let (volumes, ((acct_job, acct_step), (size, maxsize))) = given;
     Input {
         dsn,
-        origin: Origin {
-            job,
-            user,
-            group,
-            pgm,
-            dd,
-            applic,
-        },
+        origin: origin_of(asking, applic),
         accounting: Accounting {
             acct_job,
             acct_step,
         },
-        attributes: Attributes {
-            unit,
-            dsorg,
-            recorg,
-            dsntype,
-            dstype,
-            dsowner,
-            expdt,
-        },
+        attributes: attributes_of(wanted, expdt, dstype, dsowner),
         environment: Environment {
             acsenvir,
             xmode,
@@ -131,5 +126,36 @@ fn input_of(dsn: Dsn, fields: Fields) -> Input
             maxsize,
         },
         volumes,
+    }
+}
+
+// Who asks, of these fields and the application.
+fn origin_of(asking: Asking, application: Short) -> Origin
+    ensures { result ≡ record { job = asking.0; user = asking.1.0; group = asking.1.1.0; pgm = asking.1.1.1.0; dd = asking.1.1.1.1; applic = application } }
+{
+    let (job, (user, (group, (pgm, dd)))) = asking;
+    Origin {
+        job,
+        user,
+        group,
+        pgm,
+        dd,
+        applic: application,
+    }
+}
+
+// What the data set is to be, of these fields, its expiration date, its type and its owner.
+fn attributes_of(wanted: Wanted, expiration: Short, set_type: Short, owner: Short) -> Attributes
+    ensures { result ≡ record { unit = wanted.0; dsorg = wanted.1.0; recorg = wanted.1.1.0; dsntype = wanted.1.1.1; dstype = set_type; dsowner = owner; expdt = expiration } }
+{
+    let (unit, (dsorg, (recorg, dsntype))) = wanted;
+    Attributes {
+        unit,
+        dsorg,
+        recorg,
+        dsntype,
+        dstype: set_type,
+        dsowner: owner,
+        expdt: expiration,
     }
 }

@@ -15,6 +15,9 @@ use dsn_mask::{Short, Volser};
 use sms_construct::{Path, Space, Unit};
 use std::alloc::{AllocError, Global};
 
+// The most bytes of a path.
+const MAX_PATH: usize = 80;
+
 // The accounting of these fields.
 fn account_of(items: &[Short]) -> Account
     requires { length items.now ≤ most_account_fields }
@@ -38,9 +41,6 @@ fn volumes_of(items: &[Volser]) -> Volumes
     }
     volumes
 }
-
-/// The most bytes of a path.
-const MAX_PATH: usize = 80;
 
 // Whether the bytes are those of a path.
 fn is_path(bytes: &[u8]) -> bool

@@ -9,7 +9,7 @@ use std::alloc::{AllocError, Global};
 // The bytes for which there is room at once: the record of an ordinary request has fewer.
 const ROOM: usize = 512;
 
-/// A value that is written as bytes and read again.
+/// A value that is written as bytes and read again (docs/records.md, "The record form").
 pub trait Recorded: Sized + Drop {
     /// How it is written, and read again.
     ghost form: { Form Self };
@@ -19,7 +19,8 @@ pub trait Recorded: Sized + Drop {
         ensures written { OnOk result (out.new.items ≡ out.old.items ++ form.write self.now) }
         ensures readable { OnOk result (IsReadable form self.now) };
 
-    /// The value at the front of the bytes, and the bytes behind it.
+    /// The value at the front of the bytes, and the bytes behind it; `Bad` exactly where none stands there.
+    /// Otherwise a refusal is want of memory.
     fn read_from(alloc: Global, bytes: &[u8]) -> Result<(Self, &[u8]), RecordErr>
         ensures { Gives (λ x. (x.0, x.1.now)) result (form.read bytes.now) };
 
@@ -27,7 +28,7 @@ pub trait Recorded: Sized + Drop {
     ghost exact: { IsExact form };
 }
 
-/// The bytes of a value.
+/// The record of a value, or want of memory.
 pub fn record_of<T: Recorded>(alloc: Global, value: &T) -> Result<Vec<u8>, AllocError>
     ensures written { IfOk result (λ bytes. bytes.items ≡ T.form.write value.now) }
     ensures readable { IfOk result (λ bytes. IsReadable T.form value.now) }
@@ -49,7 +50,8 @@ fn whole<T: Recorded>(alloc: Global, bytes: &[u8]) -> Result<T, RecordErr>
     Ok(value)
 }
 
-/// The value whose bytes these are.
+/// The value whose record these bytes are. `Bad` exactly where they are the record of none; otherwise a refusal
+/// is want of memory.
 pub fn read_whole<T: Recorded>(alloc: Global, bytes: &[u8]) -> Result<T, RecordErr>
     ensures read { Gives (λ x. x) result (whole T.form bytes.now) }
     ensures found { IfOk result (λ value. bytes.now ≡ T.form.write value) }
@@ -58,7 +60,8 @@ pub fn read_whole<T: Recorded>(alloc: Global, bytes: &[u8]) -> Result<T, RecordE
     whole(alloc, bytes)
 }
 
-/// No bytes of a value are the front of those of another.
+/// No record of a value is the front of another's: where more stands behind it, the values are equal and there is
+/// no more.
 pub fn no_front<T: Recorded>()
     ensures { (value other : T) (more : List ℕ) → IsReadable T.form value → IsReadable T.form other → T.form.write other ≡ T.form.write value ++ more → (other ≡ value) × (more ≡ []) }
 {}

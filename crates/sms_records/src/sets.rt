@@ -19,7 +19,10 @@ type Quantities = (Unit, (u32, VolumeCount));
 type Usage = (u32, (Option<u32>, u32));
 
 // The fields of a data set.
-type Fields = ((Dsn, (Classes, (Quantities, Usage))), (Items<Extent>, Eattr));
+type Fields = (
+    (Dsn, (Classes, (Quantities, Usage))),
+    (Items<Extent>, Eattr),
+);
 
 impl Recorded for Extent {
     ghost use Rattle.sms_records.specs.Sets.{extent_form};

@@ -26,7 +26,7 @@ impl Recorded for Target {
         }
     }
 
-    #[tactic(auto, using(crate::specs::FormLaws::past_readers), unfolding(crate::specs::Form::variant_at, crate::specs::Form::made_at))]
+    #[tactic(auto, using(crate::specs::VariantLaws::past_readers), unfolding(crate::specs::Form::variant_at, crate::specs::Form::made_at))]
     fn read_from(alloc: Global, bytes: &[u8]) -> Result<(Self, &[u8]), RecordErr> {
         let (tag, rest) = read_byte(bytes)?;
         match tag {
@@ -107,7 +107,7 @@ impl Recorded for View {
         }
     }
 
-    #[tactic(auto, using(crate::specs::FormLaws::past_readers), unfolding(crate::specs::Form::variant_at, crate::specs::Form::made_at))]
+    #[tactic(auto, using(crate::specs::VariantLaws::past_readers), unfolding(crate::specs::Form::variant_at, crate::specs::Form::made_at))]
     fn read_from(alloc: Global, bytes: &[u8]) -> Result<(Self, &[u8]), RecordErr> {
         let (tag, rest) = read_byte(bytes)?;
         match tag {

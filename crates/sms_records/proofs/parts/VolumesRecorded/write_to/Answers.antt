@@ -16,5 +16,6 @@ returns-clause-readable c =
     let few = c.as_slice-volsers.ensures.few in
     let same = sym c.as_slice-volsers.ensures.items in
     on_ok c.write_list.result
-    (λ h. volumes_readable c.args.self.now few (omega (arith, few)) (seen_as (list volser_form) c.args.self.now c.as_slice-volsers.result.now same h))
+    (λ h. volumes_readable c.args.self.now few (omega (arith, few))
+    (seen_as (list volser_form) c.args.self.now c.as_slice-volsers.result.now same h))
     c.write_list.ensures.readable
