@@ -26,6 +26,8 @@ mod listing;
 #[cfg(test)]
 mod names;
 #[cfg(test)]
+mod records;
+#[cfg(test)]
 mod repeats;
 #[cfg(test)]
 mod replies;
