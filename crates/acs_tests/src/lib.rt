@@ -5,33 +5,13 @@
 #[cfg(test)]
 mod answer;
 #[cfg(test)]
-mod choice_runs;
-#[cfg(test)]
-mod comparisons;
-#[cfg(test)]
-mod faults;
-#[cfg(test)]
 mod filter_lists;
-#[cfg(test)]
-mod forms;
-#[cfg(test)]
-mod line_runs;
-#[cfg(test)]
-mod list_runs;
-#[cfg(test)]
-mod lists;
 #[cfg(test)]
 mod masks;
 #[cfg(test)]
 mod nestings;
 #[cfg(test)]
-mod number_runs;
-#[cfg(test)]
-mod operands;
-#[cfg(test)]
 mod parsing;
-#[cfg(test)]
-mod parts;
 #[cfg(test)]
 mod routines;
 #[cfg(test)]
@@ -45,11 +25,7 @@ mod shapes;
 #[cfg(test)]
 mod statement_runs;
 #[cfg(test)]
-mod statements;
-#[cfg(test)]
 mod symbols;
-#[cfg(test)]
-mod text_runs;
 #[cfg(test)]
 mod texts;
 #[cfg(test)]
@@ -59,4 +35,4 @@ mod tree_values;
 #[cfg(test)]
 mod trees;
 #[cfg(test)]
-mod variables;
+mod value_runs;

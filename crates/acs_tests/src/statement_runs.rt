@@ -1,30 +1,19 @@
-//! What statements do, one after another.
-use crate::runs::{Run, compare_ending, compare_runs};
+//! What statements do, one after another, as far as no ALLOC shows it.
+use crate::runs::{Ended, Run, compare_ending, compare_endings, compare_runs};
 use acs_tree::Ending::{Exit, Falls};
-use acs_tree::Kind::{DataClas, MgmtClas, StorClas, StorGrp};
+use acs_tree::Kind::{StorClas, StorGrp};
 use std::alloc::{AllocError, Global};
 use std::test::Fail;
-
-#[rattlefmt::skip]
-const CLASSES: [Run; 7] = [
-    (DataClas, "SET &DATACLAS = 'DC1' SET &DATACLAS = 'DC2'", "", "DATACLAS=DC2", &[], Falls),
-    (StorClas, "SET &STORCLAS = ''", "DATACLAS=DC1 STORCLAS=SC1 MGMTCLAS=MC1",
-        "DATACLAS=DC1 MGMTCLAS=MC1", &[], Falls),
-    (MgmtClas, "SET &MGMTCLAS = &STORCLAS", "STORCLAS=SC1 MGMTCLAS=MC1",
-        "STORCLAS=SC1 MGMTCLAS=SC1", &[], Falls),
-    (StorClas, "SET &STORCLAS = &DSN(3)", "STORCLAS=SC1", "", &[], Falls),
-    (StorClas, "SET &STORCLAS = &LLQ SET &STORCLAS = &STORCLAS WRITE &STORCLAS", "DSN=A.B.C-1",
-        "STORCLAS=C-1", &["C-1"], Falls),
-    (StorClas, "", "DATACLAS=DC1 STORCLAS=SC1", "DATACLAS=DC1 STORCLAS=SC1", &[], Falls),
-    (StorClas, "WRITE &STORCLAS SET &STORCLAS = 'SC2' WRITE &STORCLAS", "STORCLAS=SC1",
-        "STORCLAS=SC2", &["SC1", "SC2"], Falls),
-];
 
 const FIFTEEN: &str =
     "STORGRP=A STORGRP=B STORGRP=C STORGRP=D STORGRP=E STORGRP=F STORGRP=G STORGRP=H STORGRP=I STORGRP=J STORGRP=K STORGRP=L STORGRP=M STORGRP=N STORGRP=O";
 
 #[rattlefmt::skip]
-const GROUPS: [Run; 9] = [
+static RUNS: [Run; 16] = [
+    (StorClas, "SET &STORCLAS = ''", "DATACLAS=DC1 STORCLAS=SC1 MGMTCLAS=MC1",
+        "DATACLAS=DC1 MGMTCLAS=MC1", &[], Falls),
+    (StorClas, "SET &STORCLAS = &LLQ SET &STORCLAS = &STORCLAS WRITE &STORCLAS", "DSN=A.B.C-1",
+        "STORCLAS=C-1", &["C-1"], Falls),
     (StorGrp, "SET &STORGRP = 'SG1'", "", "STORGRP=SG1", &[], Falls),
     (StorGrp, "SET &STORGRP = 'SG2', 'SG1'", "STORGRP=SG3 STORCLAS=SC1 MGMTCLAS=MC1",
         "STORGRP=SG2 STORGRP=SG1 STORCLAS=SC1 MGMTCLAS=MC1", &[], Falls),
@@ -43,32 +32,39 @@ const GROUPS: [Run; 9] = [
     (StorGrp,
         "SET &STORGRP = '' SELECT (&STORGRP) WHEN (SG*) EXIT CODE(1) WHEN (*) EXIT CODE(2) END",
         "STORGRP=SG1", "", &[], Exit(2)),
-];
-
-#[rattlefmt::skip]
-const EXITS: [Run; 9] = [
     (StorClas, "EXIT", "", "", &[], Exit(0)),
     (StorClas, "EXIT CODE(0)", "", "", &[], Exit(0)),
-    (StorClas, "EXIT CODE(8)", "", "", &[], Exit(8)),
-    (StorClas, "EXIT CODE(65535)", "", "", &[], Exit(65535)),
-    (StorClas, "EXIT CODE(000256)", "", "", &[], Exit(256)),
     (StorClas,
         "WRITE 'ONE' SET &STORCLAS = 'SC2' EXIT CODE(4) SET &STORCLAS = 'SC3' WRITE 'TWO' EXIT CODE(5)",
         "DATACLAS=DC1 STORCLAS=SC1", "DATACLAS=DC1 STORCLAS=SC2", &["ONE"], Exit(4)),
     (StorClas, "DO WRITE 'ONE' DO EXIT END WRITE 'TWO' END WRITE 'THREE'", "", "", &["ONE"],
         Exit(0)),
-    (StorClas, "IF &HLQ = 'A' THEN EXIT CODE(1) ELSE EXIT CODE(2) WRITE 'NEVER'", "DSN=B.A", "",
-        &[], Exit(2)),
-    (StorClas,
-        "SELECT (&HLQ) WHEN ('A') DO WRITE 'ONE' EXIT CODE(7) END OTHERWISE WRITE 'TWO' END WRITE 'THREE'",
-        "DSN=A.B", "", &["ONE"], Exit(7)),
+    (StorGrp,
+        "IF &STORGRP = '' THEN SET &STORGRP = 'SG1', 'SG2' IF &STORGRP = 'SG2' THEN WRITE 'SET' ELSE WRITE 'NONE'",
+        "", "STORGRP=SG1 STORGRP=SG2", &["SET"], Falls),
+];
+
+const SIZES: &str =
+    "SELECT (&SIZE) WHEN (0KB) EXIT CODE(1) WHEN (1MB, 1GB) EXIT CODE(2) WHEN (&MAXSIZE) EXIT CODE(3) OTHERWISE EXIT CODE(4) END";
+
+const GROUP_ITEMS: &str =
+    "SELECT (&STORGRP) WHEN ('SG1') EXIT CODE(1) WHEN ('') EXIT CODE(2) OTHERWISE EXIT CODE(3) END";
+
+/// A subject is compared with each item.
+static SUBJECTS: [Ended; 7] = [
+    (SIZES, "SIZE=1024", Exit(2)),
+    (SIZES, "SIZE=1048576", Exit(2)),
+    (SIZES, "SIZE=1025", Exit(4)),
+    (GROUP_ITEMS, "", Exit(2)),
+    (GROUP_ITEMS, "STORGRP=SG1", Exit(1)),
+    (GROUP_ITEMS, "STORGRP=SG2 STORGRP=SG1", Exit(1)),
+    (GROUP_ITEMS, "STORGRP=SG2", Exit(3)),
 ];
 
 #[test]
 fn a_set_replaces_what_was_held_and_an_exit_ends_the_run(rt: HostRuntime) -> Result<(), Fail> {
-    compare_runs(&rt, rt.alloc(), &CLASSES)?;
-    compare_runs(&rt, rt.alloc(), &GROUPS)?;
-    compare_runs(&rt, rt.alloc(), &EXITS)
+    compare_runs(&rt, rt.alloc(), &RUNS)?;
+    compare_endings(&rt, rt.alloc(), &SUBJECTS)
 }
 
 /// How many filter lists the routine has, and how often each is asked.

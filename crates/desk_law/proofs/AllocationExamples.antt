@@ -4,6 +4,7 @@ use Rattle.std.specs.Prelude.{codes, Bool, Some, None, Ok, Err, is_some, map}
 use Rattle.acs_tree.specs.Slates.{blank}
 use Rattle.acs_tree.specs.declared.kind.Kind.TheVariants.{StorClas}
 use Rattle.sms_construct.specs.Configuration.{Configuration}
+use Rattle.sms_construct.specs.declared.eattr.Eattr.TheVariants.{No}
 use Rattle.sms_construct.specs.declared.reply.Reply.TheVariants as replies
 use Rattle.sms_construct.specs.declared.status.Status.{Status}
 use Rattle.sms_construct.specs.declared.status.Status.TheVariants.{DisAll, DisNew, Enable, NotCon, QuiAll}
@@ -15,12 +16,12 @@ use Rattle.volume_lists.specs.Listing.{listing_of}
 use Rattle.volume_lists.specs.declared.lists.Listing.TheVariants.{Primary, Rejected, Secondary, Tertiary}
 use Rattle.volume_lists.specs.declared.lists.Why.TheVariants as reasons_of
 use Rattle.desk_law.specs.State.{DeskState, with_status}
-use Rattle.desk_law.specs.Candidates.{grant_on, view_of}
+use Rattle.desk_law.specs.Candidates.{grant_on, view_of, want_of}
 use Rattle.desk_law.specs.Classification.{Classes}
-use Rattle.desk_law.specs.Allocation.{Wish, alloc_case, candidates_of, new_set, space_case, want_of, wish_with}
+use Rattle.desk_law.specs.Allocation.{Wish, alloc_case, candidates_of, new_set, space_case, wish_with}
 use Rattle.desk_law.specs.Extension.{extend_case, first_volume, growth_on, last_volume, others_of}
 use Rattle.desk_law.specs.declared.stop.Stop.TheVariants as stops
-use Rattle.desk_law.proofs.ExampleDecks.{asks, asks_class, asks_nothing, data_set, deck_with, desk_under, desk_with, extent, group, new_desk, one, piece, two, volume}
+use Rattle.desk_law.proofs.ExampleDecks.{ask, asks, asks_class, asks_nothing, data_set, deck_with, desk_under, desk_with, extent, group, new_desk, one, piece, two, volume}
 
 -- what routines gave: these classes and the storage group SG1
 abbrev gave : List ℕ → Classes
@@ -47,51 +48,51 @@ no_quantity : space_case asks_nothing (one 100) (gave []) ≡ Err (replies.NoQua
 no_quantity = refl
 
 -- the space and the number of volumes of the data class, where the request names none
-of_data_class : space_case asks_nothing (one 100) (gave (codes "DC1")) ≡ Ok (record { config = one 100; classes = gave (codes "DC1"); space = record { unit = Cyl; primary = 2; secondary = 1 }; volumes = 2 })
+of_data_class : space_case asks_nothing (one 100) (gave (codes "DC1")) ≡ Ok (record { config = one 100; classes = gave (codes "DC1"); space = record { unit = Cyl; primary = 2; secondary = 1 }; volumes = 2; eattr = No })
 of_data_class = refl
 
 -- the request's own space comes first
-own_space : space_case (asks Trk 10 5) (one 100) (gave (codes "DC1")) ≡ Ok (record { config = one 100; classes = gave (codes "DC1"); space = record { unit = Trk; primary = 10; secondary = 5 }; volumes = 2 })
+own_space : space_case (asks Trk 10 5) (one 100) (gave (codes "DC1")) ≡ Ok (record { config = one 100; classes = gave (codes "DC1"); space = record { unit = Trk; primary = 10; secondary = 5 }; volumes = 2; eattr = No })
 own_space = refl
 
-one_volume : space_case (asks Trk 10 5) (one 100) (gave []) ≡ Ok (record { config = one 100; classes = gave []; space = record { unit = Trk; primary = 10; secondary = 5 }; volumes = 1 })
+one_volume : space_case (asks Trk 10 5) (one 100) (gave []) ≡ Ok (record { config = one 100; classes = gave []; space = record { unit = Trk; primary = 10; secondary = 5 }; volumes = 1; eattr = No })
 one_volume = refl
 
 -- The choice.
 
 abbrev wish : Configuration → ℕ → ℕ → Wish
-wish config primary volumes = record { config = config; classes = gave []; space = record { unit = Trk; primary = primary; secondary = 0 }; volumes = volumes }
+wish config primary volumes = record { config = config; classes = gave []; space = record { unit = Trk; primary = primary; secondary = 0 }; volumes = volumes; eattr = No }
 
 candidates : candidates_of (wish two 10 1) ≡ two.volumes
 candidates = refl
 
 -- 8,500 is not past 85 percent of 100 tracks: the first volume alone is primary
-threshold_met : map (λ v. listing_of v (want_of (wish two 85 1))) (map (view_of (desk_under two) Trk 85) two.volumes) ≡ Primary ∷ Secondary ∷ []
+threshold_met : map (λ v. listing_of v (want_of (ask Trk 85 1))) (map (view_of (desk_under two) (ask Trk 85 1)) two.volumes) ≡ Primary ∷ Secondary ∷ []
 threshold_met = refl
 
-may_choose_first : MayChoose (map (view_of (desk_under two) Trk 85) two.volumes) (want_of (wish two 85 1)) 0
-may_choose_first = record { view = view_of (desk_under two) Trk 85 (volume (codes "VOL001") 100 Enable); there = refl; listed = refl; first = refl }
+may_choose_first : MayChoose (map (view_of (desk_under two) (ask Trk 85 1)) two.volumes) (want_of (ask Trk 85 1)) 0
+may_choose_first = record { view = view_of (desk_under two) (ask Trk 85 1) (volume (codes "VOL001") 100 Enable); there = refl; listed = refl; first = refl }
 
 -- 8,600 is past it: both are secondary, and either may be chosen
-past_threshold : map (λ v. listing_of v (want_of (wish two 86 1))) (map (view_of (desk_under two) Trk 86) two.volumes) ≡ Secondary ∷ Secondary ∷ []
+past_threshold : map (λ v. listing_of v (want_of (ask Trk 86 1))) (map (view_of (desk_under two) (ask Trk 86 1)) two.volumes) ≡ Secondary ∷ Secondary ∷ []
 past_threshold = refl
 
 -- a storage group with fewer volumes than are asked for
-tertiary : map (λ v. listing_of v (want_of (wish two 10 3))) (map (view_of (desk_under two) Trk 10) two.volumes) ≡ Tertiary ∷ Tertiary ∷ []
+tertiary : map (λ v. listing_of v (want_of (ask Trk 10 3))) (map (view_of (desk_under two) (ask Trk 10 1)) two.volumes) ≡ Tertiary ∷ Tertiary ∷ []
 tertiary = refl
 
-no_room : map (λ v. listing_of v (want_of (wish (one 100) 101 1))) (map (view_of (desk_under (one 100)) Trk 101) (one 100).volumes) ≡ Rejected reasons_of.Room ∷ []
+no_room : map (λ v. listing_of v (want_of (ask Trk 101 1))) (map (view_of (desk_under (one 100)) (ask Trk 101 1)) (one 100).volumes) ≡ Rejected reasons_of.Room ∷ []
 no_room = refl
 
-group_barred : map (λ v. listing_of v (want_of (wish (one 100) 1 1))) (map (view_of (with_status (desk_under (one 100)) (Group (codes "SG1")) DisNew) Trk 1) (one 100).volumes) ≡ Rejected reasons_of.Group ∷ []
+group_barred : map (λ v. listing_of v (want_of (ask Trk 1 1))) (map (view_of (with_status (desk_under (one 100)) (Group (codes "SG1")) DisNew) (ask Trk 1 1)) (one 100).volumes) ≡ Rejected reasons_of.Group ∷ []
 group_barred = refl
 
-volume_barred : map (λ v. listing_of v (want_of (wish (one 100) 1 1))) (map (view_of (with_status (desk_under (one 100)) (Volume (codes "VOL001")) DisAll) Trk 1) (one 100).volumes) ≡ Rejected reasons_of.Volume ∷ []
+volume_barred : map (λ v. listing_of v (want_of (ask Trk 1 1))) (map (view_of (with_status (desk_under (one 100)) (Volume (codes "VOL001")) DisAll) (ask Trk 1 1)) (one 100).volumes) ≡ Rejected reasons_of.Volume ∷ []
 volume_barred = refl
 
 -- The grant.
 
-granted : grant_on (desk_under (one 100)) (volume (codes "VOL001") 100 Enable) Trk 10 0 ≡ Some (piece 0 10 ∷ [])
+granted : grant_on (desk_under (one 100)) (volume (codes "VOL001") 100 Enable) (ask Trk 10 1) 0 ≡ Some (piece 0 10 ∷ [])
 granted = refl
 
 catalogued : new_set (asks Trk 10 5) (wish_with (asks Trk 10 5) (one 100) (gave []) (record { unit = Trk; primary = 10; secondary = 5 })) (volume (codes "VOL001") 100 Enable) (piece 0 10 ∷ [])
@@ -103,18 +104,25 @@ in_cylinders : (new_set (asks Cyl 1 2) (wish_with (asks Cyl 1 2) (one 100) (gave
 in_cylinders = refl
 
 -- behind 14 tracks a cylinder begins at the next multiple of 15
-next_cylinder : grant_on (desk_with (one 31) (data_set 0 1 (extent (codes "VOL001") 0 14 ∷ []))) (volume (codes "VOL001") 31 Enable) Cyl 15 0 ≡ Some (piece 15 15 ∷ [])
+next_cylinder : grant_on (desk_with (one 31) (data_set 0 1 (extent (codes "VOL001") 0 14 ∷ []))) (volume (codes "VOL001") 31 Enable) (ask Cyl 15 1) 0 ≡ Some (piece 15 15 ∷ [])
 next_cylinder = refl
 
 -- five gaps of ten tracks: 50 are granted, 51 not
 abbrev holes : DeskState
 holes = desk_with (one 110) (data_set 0 1 (extent (codes "VOL001") 10 10 ∷ extent (codes "VOL001") 30 10 ∷ extent (codes "VOL001") 50 10 ∷ extent (codes "VOL001") 70 10 ∷ extent (codes "VOL001") 90 20 ∷ []))
 
-five_gaps : grant_on holes (volume (codes "VOL001") 110 Enable) Trk 50 0 ≡ Some (piece 0 10 ∷ piece 20 10 ∷ piece 40 10 ∷ piece 60 10 ∷ piece 80 10 ∷ [])
+five_gaps : grant_on holes (volume (codes "VOL001") 110 Enable) (ask Trk 50 1) 0 ≡ Some (piece 0 10 ∷ piece 20 10 ∷ piece 40 10 ∷ piece 60 10 ∷ piece 80 10 ∷ [])
 five_gaps = refl
 
-no_sixth : grant_on holes (volume (codes "VOL001") 110 Enable) Trk 51 0 ≡ None
+no_sixth : grant_on holes (volume (codes "VOL001") 110 Enable) (ask Trk 51 1) 0 ≡ None
 no_sixth = refl
+
+-- so the volume is a candidate for 50 tracks, and not for 51
+five_pieces : listing_of (view_of holes (ask Trk 50 1) (volume (codes "VOL001") 110 Enable)) (want_of (ask Trk 50 1)) ≡ Secondary
+five_pieces = refl
+
+six_pieces : listing_of (view_of holes (ask Trk 51 1) (volume (codes "VOL001") 110 Enable)) (want_of (ask Trk 51 1)) ≡ Rejected reasons_of.Room
+six_pieces = refl
 
 -- EXTEND.
 
@@ -142,7 +150,7 @@ last_is_full = refl
 further : others_of full_first (data_set 10 2 (extent (codes "VOL001") 0 10 ∷ extent (codes "VOL001") 10 10 ∷ [])) (first_volume full_first (extent (codes "VOL001") 0 10 ∷ [])) ≡ volume (codes "VOL002") 20 QuiAll ∷ []
 further = refl
 
-further_grants : grant_on full_first (volume (codes "VOL002") 20 QuiAll) Trk 10 0 ≡ Some (piece 0 10 ∷ [])
+further_grants : grant_on full_first (volume (codes "VOL002") 20 QuiAll) (ask Trk 10 1) 0 ≡ Some (piece 0 10 ∷ [])
 further_grants = refl
 
 -- the last volume is that of the last extent
@@ -186,39 +194,39 @@ abbrev uneven : DeskState
 uneven = desk_with (one 80) (data_set 0 1 (extent (codes "VOL001") 10 5 ∷ extent (codes "VOL001") 35 5 ∷ extent (codes "VOL001") 60 5 ∷ []))
 
 -- the lowest gap that holds the whole need
-lowest_whole : grant_on uneven (volume (codes "VOL001") 80 Enable) Trk 15 0 ≡ Some (piece 15 15 ∷ [])
+lowest_whole : grant_on uneven (volume (codes "VOL001") 80 Enable) (ask Trk 15 1) 0 ≡ Some (piece 15 15 ∷ [])
 lowest_whole = refl
 
 -- else the longest first, of equal ones the lower, and the last one cut
-longest_first_cut : grant_on uneven (volume (codes "VOL001") 80 Enable) Trk 25 0 ≡ Some (piece 15 20 ∷ piece 40 5 ∷ [])
+longest_first_cut : grant_on uneven (volume (codes "VOL001") 80 Enable) (ask Trk 25 1) 0 ≡ Some (piece 15 20 ∷ piece 40 5 ∷ [])
 longest_first_cut = refl
 
-all_four : grant_on uneven (volume (codes "VOL001") 80 Enable) Trk 60 0 ≡ Some (piece 15 20 ∷ piece 40 20 ∷ piece 65 15 ∷ piece 0 5 ∷ [])
+all_four : grant_on uneven (volume (codes "VOL001") 80 Enable) (ask Trk 60 1) 0 ≡ Some (piece 15 20 ∷ piece 40 20 ∷ piece 65 15 ∷ piece 0 5 ∷ [])
 all_four = refl
 
-too_little : grant_on uneven (volume (codes "VOL001") 80 Enable) Trk 66 0 ≡ None
+too_little : grant_on uneven (volume (codes "VOL001") 80 Enable) (ask Trk 66 1) 0 ≡ None
 too_little = refl
 
 -- a data set with 14 extents there may get two pieces
-two_pieces : grant_on uneven (volume (codes "VOL001") 80 Enable) Trk 40 14 ≡ Some (piece 15 20 ∷ piece 40 20 ∷ [])
+two_pieces : grant_on uneven (volume (codes "VOL001") 80 Enable) (ask Trk 40 1) 14 ≡ Some (piece 15 20 ∷ piece 40 20 ∷ [])
 two_pieces = refl
 
-no_third : grant_on uneven (volume (codes "VOL001") 80 Enable) Trk 41 14 ≡ None
+no_third : grant_on uneven (volume (codes "VOL001") 80 Enable) (ask Trk 41 1) 14 ≡ None
 no_third = refl
 
 -- a gap of 29 tracks at 46 holds one cylinder, at 60
-cylinder_inside : grant_on (desk_with (one 75) (data_set 0 1 (extent (codes "VOL001") 0 46 ∷ []))) (volume (codes "VOL001") 75 Enable) Cyl 15 0 ≡ Some (piece 60 15 ∷ [])
+cylinder_inside : grant_on (desk_with (one 75) (data_set 0 1 (extent (codes "VOL001") 0 46 ∷ []))) (volume (codes "VOL001") 75 Enable) (ask Cyl 15 1) 0 ≡ Some (piece 60 15 ∷ [])
 cylinder_inside = refl
 
 -- an overflow group is secondary
 abbrev spill : Configuration
 spill = record { deck = []; system = None; sysplex = None; data_classes = []; storage_classes = []; management_classes = []; groups = group (codes "SG1") 85 true ∷ []; volumes = (one 100).volumes; routines = (one 100).routines }
 
-overflow : map (λ v. listing_of v (want_of (wish spill 10 1))) (map (view_of (desk_under spill) Trk 10) spill.volumes) ≡ Secondary ∷ []
+overflow : map (λ v. listing_of v (want_of (ask Trk 10 1))) (map (view_of (desk_under spill) (ask Trk 10 1)) spill.volumes) ≡ Secondary ∷ []
 overflow = refl
 
 -- tracks that are granted already count for the threshold
-granted_before : map (λ v. listing_of v (want_of (wish (one 100) 10 1))) (map (view_of (desk_with (one 100) (data_set 0 1 (extent (codes "VOL001") 0 80 ∷ []))) Trk 10) (one 100).volumes) ≡ Secondary ∷ []
+granted_before : map (λ v. listing_of v (want_of (ask Trk 10 1))) (map (view_of (desk_with (one 100) (data_set 0 1 (extent (codes "VOL001") 0 80 ∷ []))) (ask Trk 10 1)) (one 100).volumes) ≡ Secondary ∷ []
 granted_before = refl
 
 -- a volume of a storage group that isn't listed is no candidate
@@ -226,5 +234,5 @@ not_listed : candidates_of (record (wish two 10 1) { classes = record { values =
 not_listed = refl
 
 -- the request's own number of volumes comes before that of the data class
-own_count : space_case (record (asks Trk 10 5) { volumes = Some 7 }) (one 100) (gave (codes "DC1")) ≡ Ok (record { config = one 100; classes = gave (codes "DC1"); space = record { unit = Trk; primary = 10; secondary = 5 }; volumes = 7 })
+own_count : space_case (record (asks Trk 10 5) { volumes = Some 7 }) (one 100) (gave (codes "DC1")) ≡ Ok (record { config = one 100; classes = gave (codes "DC1"); space = record { unit = Trk; primary = 10; secondary = 5 }; volumes = 7; eattr = No })
 own_count = refl

@@ -1,8 +1,9 @@
 -- ALLOC leads from a lawful state to a lawful one.
-use Rattle.std.proofs.Common.{◌≡◌, ◌≤◌, ◌<◌, ◌*◌, ℕ, List, refl, ap, ◌∙◌, subst, arith}
+use Rattle.std.proofs.Common.{◌≡◌, ◌≤◌, ◌<◌, ◌*◌, ◌%◌, ℕ, List, refl, ap, ◌∙◌, subst, arith}
 use Rattle.std.specs.Prelude.{Option, None, Some, IfSome, bytes_eq, slice_get, option_and_then, unwrap_or, Ok}
 use Rattle.std.specs.List.{list_any}
 use Rattle.std.specs.Option.{option_or}
+use Rattle.std.proofs.Math.Nat.{mul-mod_left}
 use Rattle.sms_construct.specs.Configuration.{Configuration, IsConfiguration, IsDataClass}
 use Rattle.sms_construct.specs.Quantities.{Quantities, IsSpace, IsVolumeCount, primary_tracks_of, tracks_in}
 use Rattle.sms_construct.specs.declared.alloc.Alloc.{Alloc}
@@ -16,13 +17,14 @@ use Rattle.desk_law.specs.State.{DeskState}
 use Rattle.desk_law.specs.Replies.{found_or}
 use Rattle.desk_law.specs.Volumes.{tracks_of, volumes_in}
 use Rattle.desk_law.specs.Classification.{Classes, classes_of, trace_of, went_through}
-use Rattle.desk_law.specs.Allocation.{Wish, alloc_case, candidates_of, data_class_of, new_set, space_case, space_of, want_of, wish_with, AllocRule, GrantsOn}
+use Rattle.desk_law.specs.Allocation.{Wish, alloc_case, ask_of, candidates_of, data_class_of, new_set, space_case, space_of, wish_with, GrantsOn}
+use Rattle.desk_law.specs.Candidates.{IsSoundAsk}
 use Rattle.desk_law.specs.Rule.{IsSoundAlloc}
 use Rattle.desk_law.specs.Lawful.{IsLawful}
 use Rattle.desk_law.proofs.AscendLemmas.{volumes-once}
 use Rattle.desk_law.proofs.PlaceLemmas.{each-at, filter-each, find-each}
-use Rattle.desk_law.proofs.LineLemmas.{on-result, after-line, found-line, last-line, left, made, on-chosen}
-use Rattle.desk_law.proofs.GrantLemmas.{each-tracks, grant-lawful, lawful-new}
+use Rattle.desk_law.proofs.LineLemmas.{after-line, found-line, last-line, made}
+use Rattle.desk_law.proofs.GrantLemmas.{each-tracks, grant-given, lawful-new}
 
 -- what holds of each wish: it is under the active configuration, for at least one track and one volume
 pub record IsWish (s : DeskState) (wish : Wish) : Type 0 where
@@ -89,22 +91,23 @@ wish-is s job alloc wish lawful sound is =
     (wish-is-with s alloc config classes space lawful sound (found-line replies.NoConfig s.active config e1)
     (found-line (replies.NoQuantity (trace_of classes)) (space_of alloc (data_class_of config classes.values.dataclas)) space e7))))))
 
-granted-keeps : (s : DeskState) (alloc : Alloc) (wish : Wish) (volume : VolumeDef) (position : ℕ) (reply : Reply) (after : DeskState) → IsLawful s → IsWish s wish
-    → slice_get (candidates_of wish) position ≡ Some volume → GrantsOn s alloc wish volume reply after → IsLawful after
-granted-keeps s alloc wish volume position reply after lawful is there grants =
-    let good : IsConfiguration wish.config = subst (λ (o : Option Configuration). IfSome o IsConfiguration) is.active lawful.config in
+unit-whole : (unit : SpaceUnit) (n : ℕ) → n * tracks_in unit % tracks_in unit ≡ 0
+unit-whole unit n = mul-mod_left n (tracks_in unit)
+
+-- the tracks of a candidate
+candidate-tracks : (s : DeskState) (wish : Wish) (volume : VolumeDef) (position : ℕ) → IsLawful s → s.active ≡ Some wish.config → slice_get (candidates_of wish) position ≡ Some volume
+    → tracks_of volume.volser (volumes_in s.active) ≡ volume.tracks
+candidate-tracks s wish volume position lawful active there =
+    let good : IsConfiguration wish.config = subst (λ (o : Option Configuration). IfSome o IsConfiguration) active lawful.config in
     let P : VolumeDef → Type 0 = λ (v : VolumeDef). tracks_of v.volser wish.config.volumes ≡ v.tracks in
     let each = filter-each P (λ (v : VolumeDef). list_any (bytes_eq v.group) wish.classes.values.groups) wish.config.volumes (each-tracks wish.config.volumes (λ n. volumes-once n wish.config.volumes good.volsers)) in
     let own : tracks_of volume.volser wish.config.volumes ≡ volume.tracks = each-at P (candidates_of wish) position volume each there in
-    let now : tracks_of volume.volser (volumes_in s.active) ≡ volume.tracks = ap (λ (o : Option Configuration). tracks_of volume.volser (volumes_in o)) is.active ∙ own in
-    let grant = grant-lawful s volume wish.space.unit (primary_tracks_of wish.space) 0 grants.pieces lawful is.some grants.granted in
-    made _ after _ reply (lawful-new s (new_set alloc wish volume grants.pieces) volume.volser volume.tracks (primary_tracks_of wish.space) grants.pieces lawful is.some is.volumes now refl grant) grants.makes
+    ap (λ (o : Option Configuration). tracks_of volume.volser (volumes_in o)) active ∙ own
 
-pub alloc-keeps : (s : DeskState) (job : List ℕ) (alloc : Alloc) (reply : Reply) (after : DeskState) → IsLawful s → IsSoundAlloc alloc → AllocRule s job alloc reply after → IsLawful after
-alloc-keeps s job alloc reply after lawful sound rule =
-    on-result (alloc_case s job alloc) _ _ (IsLawful after) rule
-    (λ wish e chosen. let is = wish-is s job alloc wish lawful sound e in
-    on-chosen s wish.space.unit (want_of wish) (candidates_of wish) _ _ (IsLawful after) chosen
-    (λ leaves. left s after _ reply lawful leaves)
-    (λ volume position there grants. granted-keeps s alloc wish volume position reply after lawful is there grants))
-    (λ answer e leaves. left s after answer reply lawful leaves)
+-- a new data set
+pub granted-keeps : (s : DeskState) (alloc : Alloc) (wish : Wish) (volume : VolumeDef) (position : ℕ) (reply : Reply) (after : DeskState) → IsLawful s → IsWish s wish
+    → slice_get (candidates_of wish) position ≡ Some volume → GrantsOn s alloc wish volume reply after → IsLawful after
+granted-keeps s alloc wish volume position reply after lawful is there grants =
+    let sound : IsSoundAsk (ask_of wish) = record { some = is.some; whole = unit-whole wish.space.unit wish.space.primary } in
+    let given = grant-given s volume (ask_of wish) 0 grants.pieces lawful sound (omega arith) (candidate-tracks s wish volume position lawful is.active there) grants.granted in
+    made _ after _ reply (lawful-new s (new_set alloc wish volume grants.pieces) volume.volser grants.pieces lawful refl (unit-whole wish.space.unit wish.space.secondary) given) grants.makes

@@ -12,7 +12,10 @@ use Rattle.sms_construct.specs.Configuration.{Configuration}
 use Rattle.sms_construct.specs.declared.fault.Fault.TheVariants.{Missing}
 use Rattle.sms_construct.specs.declared.reply.Reply.TheVariants as replies
 use Rattle.sms_deck.specs.Outcomes.{Outcome, Outcomes}
+use Rattle.sms_deck.specs.Reading.{Configures}
+use Rattle.sms_keeper.specs.declared.deck_row.DeckRow.{DeckRow}
 use Rattle.desk_law.specs.Activation.{ActivateRule}
+use Rattle.desk_law.specs.Decked.{IsDecked}
 use Rattle.desk_law.proofs.ExampleDecks.{desk_under, new_desk}
 
 -- there is no routine
@@ -71,17 +74,41 @@ least_configuration = record {
   routines = record { dataclas = None; storclas = None; mgmtclas = None; storgrp = None };
 }
 
+least_configures : Configures least least_configuration
+least_configures = record {
+  fits = omega arith;
+  top = least_table;
+  means = record { text = IsUtf8-from_ascii least (is-ascii least refl); document = least_document };
+  outcomes = no_routine;
+  read = record { dataclas = tt; storclas = tt; mgmtclas = tt; storgrp = tt };
+  faultless = refl;
+  config_is = refl;
+}
+
 deck_taken : ActivateRule new_desk least (replies.Activated 1) (desk_under least_configuration)
-deck_taken = inr (record {
-  config = least_configuration;
-  configures = record {
-    fits = omega arith;
-    top = least_table;
-    means = record { text = IsUtf8-from_ascii least (is-ascii least refl); document = least_document };
-    outcomes = no_routine;
-    read = record { dataclas = tt; storclas = tt; mgmtclas = tt; storgrp = tt };
-    faultless = refl;
-    config_is = refl;
-  };
-  rule = record { reply_is = refl; after_is = refl };
-})
+deck_taken = inr (record { config = least_configuration; configures = least_configures; rule = record { reply_is = refl; after_is = refl } })
+
+-- The decks of a state.
+
+abbrev deck : ℕ → DeckRow
+deck count = record { count = count; bytes = least }
+
+no_deck : IsDecked [] new_desk
+no_deck = record { counted = refl; numbered = tt; last = refl }
+
+one_deck : IsDecked (deck 1 ∷ []) (desk_under least_configuration)
+one_deck = record { counted = refl; numbered = (refl, tt); last = record { config = least_configuration; configures = least_configures; active_is = refl } }
+
+-- the first deck has the number 1, and what the last one configures is active
+
+wrong_number : IsDecked (deck 2 ∷ []) (desk_under least_configuration) → ⊥
+wrong_number decked = let count : 2 ≡ 1 = decked.numbered.0 in omega (arith, count)
+
+nothing_active : IsDecked (deck 1 ∷ []) (record new_desk { activations = 1 }) → ⊥
+nothing_active decked = let active = decked.last.active_is in absurd cc
+
+active_without_deck : IsDecked [] (record (desk_under least_configuration) { activations = 0 }) → ⊥
+active_without_deck decked = let last : Some least_configuration ≡ None = decked.last in absurd cc
+
+fewer_decks : IsDecked [] (record new_desk { activations = 1 }) → ⊥
+fewer_decks decked = let count : 1 ≡ 0 = decked.counted in omega (arith, count)

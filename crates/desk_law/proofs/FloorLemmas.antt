@@ -8,7 +8,11 @@ use Rattle.sms_keeper.specs.Tables.{is_floor_of, is_reply_of}
 use Rattle.desk_law.specs.State.{Opening}
 use Rattle.desk_law.specs.Kept.{all_floors, all_rows, floor_of, floor_told, floors_of, greatest_floor, kept_for, rows_of, rows_of_entry}
 
-append-assoc : {X : Type 0} (a b c : List X) → (a ++ b) ++ c ≡ a ++ (b ++ c)
+pub append-none : {X : Type 0} (l : List X) → l ++ [] ≡ l
+append-none [] = refl
+append-none (x ∷ l) = ap (λ m. x ∷ m) (append-none l)
+
+pub append-assoc : {X : Type 0} (a b c : List X) → (a ++ b) ++ c ≡ a ++ (b ++ c)
 append-assoc [] b c = refl
 append-assoc (x ∷ a) b c = ap (λ l. x ∷ l) (append-assoc a b c)
 

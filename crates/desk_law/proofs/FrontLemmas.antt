@@ -1,36 +1,39 @@
 -- The first tracks of a data set.
-use Rattle.std.proofs.Common.{◌≡◌, ◌≤◌, ◌<◌, ℕ, suc, ◌+◌, ◌-◌, Bool, true, false, cond, List, [], ◌∷◌, length, refl, arith}
+use Rattle.std.proofs.Common.{◌≡◌, ◌≤◌, ◌<◌, ℕ, suc, ◌+◌, ◌-◌, ◌/◌, ◌%◌, Bool, true, false, cond, List, [], ◌∷◌, length, refl, ap, arith, inl, inr}
 use Rattle.std.specs.Prelude.{bytes_eq, min, nat_lt}
 use Rattle.std.specs.List.{AllByRecursion}
-use Rattle.std.proofs.Math.Nat.{lt-div-mul-add}
+use Rattle.std.proofs.Math.Nat.{lt-div-mul-add, mul-mod_left}
 use Rattle.std.proofs.lemmas.Bool.Decides.{nat_tests}
+use Rattle.sms_construct.specs.Quantities.{border, rounded_up, tracks_in_managed}
 use Rattle.sms_construct.specs.declared.extent.Extent.{Extent}
 use Rattle.sms_construct.specs.declared.volume.VolumeDef.{VolumeDef}
-use Rattle.track_ledger.specs.declared.piece.Piece.{Piece}
-use Rattle.track_ledger.proofs.GrantLemmas.{once_in, once-in-part}
-use Rattle.desk_law.specs.Extents.{front_tracks, is_among, piece_of}
-use Rattle.desk_law.specs.Releasing.{rounded_up}
-use Rattle.desk_law.specs.Lawful.{IsInside}
-use Rattle.desk_law.proofs.CountLemmas.{times_on, count_on, times-cons, count-cons}
+use Rattle.track_ledger.proofs.GrantLemmas.{once-in-part}
+use Rattle.desk_law.specs.Extents.{front_tracks, is_among, length_kept, multiple_at, piece_of, pieces_on}
+use Rattle.desk_law.specs.Lawful.{IsInside, LiesInPart}
+use Rattle.desk_law.proofs.CountLemmas.{count_on, count-cons, once_of, sum_on, sum-cons, times_on, times-is}
 use Rattle.desk_law.proofs.SpreadLemmas.{spread_after}
 
--- an extent that keeps so many tracks at most
+-- an extent of which so many tracks are kept
 abbrev pub cut_to : ℕ → Extent → Extent
-cut_to keep e = record { volser = e.volser; start = e.start; length = min keep e.length }
+cut_to keep e = record e { length = length_kept keep e }
 
-cut-part : (b : Bool) (keep : ℕ) (piece : Piece) (t : ℕ) → cond b (once_in (record { start = piece.start; length = min keep piece.length }) t) 0 ≤ cond b (once_in piece t) 0
-cut-part true keep piece t = once-in-part (record { start = piece.start; length = min keep piece.length }) piece t (omega arith) (omega arith)
-cut-part false keep piece t = omega arith
+cut-part : (b : Bool) (keep : ℕ) (e : Extent) (t : ℕ) → cond b (once_of t (piece_of (cut_to keep e))) 0 ≤ cond b (once_of t (piece_of e)) 0
+cut-part true keep e t = once-in-part (piece_of (cut_to keep e)) (piece_of e) t (omega arith) (omega arith)
+cut-part false keep e t = omega arith
 
-front-times-at : (v : List ℕ) (keep : ℕ) (e : Extent) (es : List Extent) (t : ℕ) (b : Bool) → nat_lt 0 keep ≡ b → times_on v (front_tracks (keep - e.length) es) t ≤ times_on v es t
-    → times_on v (front_tracks keep (e ∷ es)) t ≤ times_on v (e ∷ es) t
-front-times-at v keep e es t true is rest =
-    rw is (omega (arith, times-cons v (cut_to keep e) (front_tracks (keep - e.length) es) t, times-cons v e es t, rest, cut-part (bytes_eq e.volser v) keep (piece_of e) t))
-front-times-at v keep e es t false is rest = rw is (omega arith)
+front-sum-at : (t : ℕ) (v : List ℕ) (keep : ℕ) (e : Extent) (es : List Extent) (b : Bool) → nat_lt 0 keep ≡ b → sum_on (once_of t) v (front_tracks (keep - e.length) es) ≤ sum_on (once_of t) v es
+    → sum_on (once_of t) v (front_tracks keep (e ∷ es)) ≤ sum_on (once_of t) v (e ∷ es)
+front-sum-at t v keep e es true is rest =
+    rw is (omega (arith, sum-cons (once_of t) v (cut_to keep e) (front_tracks (keep - e.length) es), sum-cons (once_of t) v e es, rest, cut-part (bytes_eq e.volser v) keep e t))
+front-sum-at t v keep e es false is rest = rw is (omega arith)
 
+front-sum : (t : ℕ) (v : List ℕ) (keep : ℕ) (es : List Extent) → sum_on (once_of t) v (front_tracks keep es) ≤ sum_on (once_of t) v es
+front-sum t v keep [] = omega arith
+front-sum t v keep (e ∷ es) = front-sum-at t v keep e es _ refl (front-sum t v (keep - e.length) es)
+
+-- no track is held more often
 pub front-times : (v : List ℕ) (keep : ℕ) (es : List Extent) (t : ℕ) → times_on v (front_tracks keep es) t ≤ times_on v es t
-front-times v keep [] t = omega arith
-front-times v keep (e ∷ es) t = front-times-at v keep e es t _ refl (front-times v (keep - e.length) es t)
+front-times v keep es t = omega (arith, times-is (pieces_on v (front_tracks keep es)) t, times-is (pieces_on v es) t, front-sum t v keep es)
 
 front-count-at : (v : List ℕ) (keep : ℕ) (e : Extent) (es : List Extent) (b : Bool) → nat_lt 0 keep ≡ b → count_on v (front_tracks (keep - e.length) es) ≤ count_on v es
     → count_on v (front_tracks keep (e ∷ es)) ≤ count_on v (e ∷ es)
@@ -61,23 +64,56 @@ pub front-spread : (keep : ℕ) (es : List Extent) (seen : List (List ℕ)) → 
 front-spread keep [] seen = omega arith
 front-spread keep (e ∷ es) seen = front-spread-at keep e es seen _ refl (λ others. front-spread (keep - e.length) es others)
 
-front-inside-at : (volumes : List VolumeDef) (keep : ℕ) (e : Extent) (es : List Extent) (b : Bool) → nat_lt 0 keep ≡ b → IsInside volumes e
-    → AllByRecursion (IsInside volumes) (front_tracks (keep - e.length) es) → AllByRecursion (IsInside volumes) (front_tracks keep (e ∷ es))
-front-inside-at volumes keep e es true is here rest =
-    let some : 0 < keep = grind (arith, nat_tests) in
-    let long = here.0 in
-    let within = here.1 in rw is ((omega (arith, some, long), omega (arith, within)), rest)
-front-inside-at volumes keep e es false is here rest = rw is tt
+pub rounded-some : (size tracks : ℕ) → 0 < size → 0 < tracks → 0 < rounded_up size tracks
+rounded-some size tracks size_some some =
+    let h = lt-div-mul-add {a = tracks + (size - 1)} {b = size} size_some in omega (arith, h, some)
 
-pub front-inside : (volumes : List VolumeDef) (keep : ℕ) (es : List Extent) → AllByRecursion (IsInside volumes) es → AllByRecursion (IsInside volumes) (front_tracks keep es)
-front-inside volumes keep [] all = tt
-front-inside volumes keep (e ∷ es) all = front-inside-at volumes keep e es _ refl all.0 (front-inside volumes (keep - e.length) es all.1)
+multiple-some_at : (track : ℕ) (b : Bool) → nat_lt track border ≡ b → 0 < multiple_at track
+multiple-some_at track true is = rw is (omega arith)
+multiple-some_at track false is = rw is (omega arith)
+
+front-each-at : (P : Extent → Type 0) (keep : ℕ) (e : Extent) (es : List Extent) (b : Bool) → nat_lt 0 keep ≡ b → ((k : ℕ) (x : Extent) → 0 < k → P x → P (cut_to k x)) → P e
+    → AllByRecursion P (front_tracks (keep - e.length) es) → AllByRecursion P (front_tracks keep (e ∷ es))
+front-each-at P keep e es true is cut here rest =
+    let some : 0 < keep = grind (arith, nat_tests) in rw is (cut keep e some here, rest)
+front-each-at P keep e es false is cut here rest = rw is tt
+
+-- what a cut leaves of an extent it leaves of each
+pub front-each : (P : Extent → Type 0) (keep : ℕ) (es : List Extent) → ((k : ℕ) (x : Extent) → 0 < k → P x → P (cut_to k x)) → AllByRecursion P es → AllByRecursion P (front_tracks keep es)
+front-each P keep [] cut all = tt
+front-each P keep (e ∷ es) cut all = front-each-at P keep e es _ refl cut all.0 (front-each P (keep - e.length) es cut all.1)
+
+pub cut-inside : (volumes : List VolumeDef) (keep : ℕ) (e : Extent) → 0 < keep → IsInside volumes e → IsInside volumes (cut_to keep e)
+cut-inside volumes keep e some here =
+    let long = here.0 in
+    let within = here.1 in
+    let more = rounded-some (multiple_at e.start) keep (multiple-some_at e.start _ refl) some in
+    (omega (arith, more, long), omega (arith, within))
+
+lower-whole : (a b m : ℕ) → a % m ≡ 0 → b % m ≡ 0 → min a b % m ≡ 0
+lower-whole a b m x y = lower-whole-at (nat_lt a b) refl
+  where
+    lower-whole-at : (c : Bool) → nat_lt a b ≡ c → min a b % m ≡ 0
+    lower-whole-at true is =
+        let same : min a b ≡ a = grind (arith, nat_tests) in rw same x
+    lower-whole-at false is =
+        let same : min a b ≡ b = grind (arith, nat_tests) in rw same y
+
+managed-multiple : (track : ℕ) → border ≤ track → multiple_at track ≡ tracks_in_managed
+managed-multiple track behind =
+    let is : nat_lt track border ≡ false = grind (arith, nat_tests) in rw is refl
+
+pub cut-parted : (keep : ℕ) (e : Extent) → LiesInPart e → LiesInPart (cut_to keep e)
+cut-parted keep e (inl before) = inl (omega (arith, before))
+cut-parted keep e (inr managed) =
+    let same : length_kept keep e ≡ min (rounded_up tracks_in_managed keep) e.length = ap (λ m. min (rounded_up m keep) e.length) (managed-multiple e.start managed.behind) in
+    inr (record {
+      behind = managed.behind;
+      start = managed.start;
+      length = rw same (lower-whole (rounded_up tracks_in_managed keep) e.length tracks_in_managed (mul-mod_left ((keep + (tracks_in_managed - 1)) / tracks_in_managed) tracks_in_managed) managed.length);
+    })
 
 pub front-some : (keep : ℕ) (es : List Extent) → 0 < keep → 0 < length es → 0 < length (front_tracks keep es)
 front-some keep [] some there = there
 front-some keep (e ∷ es) some there =
     let is : nat_lt 0 keep ≡ true = grind (arith, nat_tests) in rw is (omega arith)
-
-pub rounded-some : (size tracks : ℕ) → 0 < size → 0 < tracks → 0 < rounded_up size tracks
-rounded-some size tracks size_some some =
-    let h = lt-div-mul-add {a = tracks + (size - 1)} {b = size} size_some in omega (arith, h, some)

@@ -1,17 +1,15 @@
 -- Entries one after another.
 use Rattle.std.proofs.Common.{◌≡◌, ℕ, List, [], ◌∷◌, ◌++◌, refl, sym, ap, ◌∙◌, subst, inl, inr}
-use Rattle.std.specs.Prelude.{◌⊎◌, nat_lt}
+use Rattle.std.specs.Prelude.{◌⊎◌}
 use Rattle.sms_construct.specs.declared.entry.Entry.{Entry}
-use Rattle.sms_keeper.specs.declared.kept_row.KeptRow.{KeptRow}
 use Rattle.desk_law.specs.State.{DeskState, Opening, start_of}
-use Rattle.desk_law.specs.Kept.{floor_of, kept_for}
+use Rattle.desk_law.specs.Kept.{floor_of}
 use Rattle.desk_law.specs.Rule.{IsSound, Rule}
-use Rattle.desk_law.specs.Step.{IsBelow, IsFault, IsFresh, IsRepeat, IsStep}
+use Rattle.desk_law.specs.Step.{IsFault, IsStep}
 use Rattle.desk_law.specs.History.{IsLegal, Leads}
 use Rattle.desk_law.specs.Lawful.{IsLawful}
-use Rattle.desk_law.proofs.LineLemmas.{on-bool, on-option}
 use Rattle.desk_law.proofs.RuleLemmas.{rule-keeps}
-use Rattle.desk_law.proofs.StepLemmas.{step-one}
+use Rattle.desk_law.proofs.StepLemmas.{on-step, step-one}
 
 push-front : (before : List Entry) (e : Entry) (es : List Entry) → (before ++ e ∷ []) ++ es ≡ before ++ e ∷ es
 push-front [] e es = refl
@@ -77,11 +75,10 @@ fresh-keeps old_floor s e after lawful sound (inr rule) = rule-keeps old_floor s
 
 pub step-keeps : (o : Opening) (before : List Entry) (s : DeskState) (e : Entry) (after : DeskState) → IsLawful s → IsStep o before s e after → IsLawful after
 step-keeps o before s e after lawful step =
-    on-bool (nat_lt e.request.number (floor_of o before e.request.job)) (IsBelow (floor_of o before e.request.job) s e after) _ (IsLawful after) step.answer
-    (λ t below. subst IsLawful (sym below.after_is) lawful)
-    (λ t case. on-option (kept_for o before e.request.job e.request.number) (IsFresh (floor_of o before) s e after) (λ (kept : KeptRow). IsRepeat kept s e after) (IsLawful after) case
-    (λ t2 fresh. fresh-keeps (floor_of o before) s e after lawful step.sound fresh.answer)
-    (λ kept t2 repeat. subst IsLawful (sym repeat.after_is) lawful))
+    on-step o before s e after (IsLawful after) step
+    (λ below. subst IsLawful (sym below.after_is) lawful)
+    (λ fresh. fresh-keeps (floor_of o before) s e after lawful step.sound fresh.answer)
+    (λ row found repeat. subst IsLawful (sym repeat.after_is) lawful)
 
 pub leads-lawful : (o : Opening) (before : List Entry) (s : DeskState) (es : List Entry) (after : DeskState) → IsLawful s → Leads o before s es after → IsLawful after
 leads-lawful o before s [] after lawful same = subst IsLawful (sym same) lawful

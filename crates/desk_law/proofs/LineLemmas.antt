@@ -1,13 +1,11 @@
 -- Lines of a rule, and what is chosen.
-use Rattle.std.proofs.Common.{◌≡◌, ℕ, Bool, true, false, List, refl, sym, subst, inl, inr}
-use Rattle.std.specs.Prelude.{Option, None, Some, slice_get, Result, Ok, Err, MatchResult, MatchOption, MatchBool}
+use Rattle.std.proofs.Common.{◌≡◌, Bool, true, false, List, refl, sym, subst, inl, inr}
+use Rattle.std.specs.Prelude.{Option, None, Some, map, Result, Ok, Err, MatchResult, MatchOption, MatchBool}
 use Rattle.sms_construct.specs.declared.reply.Reply.{Reply}
-use Rattle.sms_construct.specs.declared.unit.Unit.{Unit as SpaceUnit}
 use Rattle.sms_construct.specs.declared.volume.VolumeDef.{VolumeDef}
-use Rattle.volume_lists.specs.declared.view.Want.{Want}
 use Rattle.desk_law.specs.State.{DeskState}
 use Rattle.desk_law.specs.Replies.{found_or, reply_if, ◌⊳◌, Leaves, Makes}
-use Rattle.desk_law.specs.Candidates.{Chosen}
+use Rattle.desk_law.specs.Candidates.{Ask, Chooses, Chosen, view_of, want_of}
 use Rattle.desk_law.specs.Lawful.{IsLawful}
 
 pub on-result : {A B : Type 0} (r : Result A B) (P : A → Type 0) (Q : B → Type 0) (C : Type 0) → MatchResult r P Q → ((x : A) → r ≡ Ok x → P x → C) → ((y : B) → r ≡ Err y → Q y → C) → C
@@ -43,8 +41,12 @@ left s after answer reply lawful leaves = subst IsLawful (sym leaves.after_is) l
 pub made : (next after : DeskState) (answer reply : Reply) → IsLawful next → Makes next answer reply after → IsLawful after
 made next after answer reply lawful makes = subst IsLawful (sym makes.after_is) lawful
 
+-- one that may be chosen among candidates
+abbrev pub OneOf : DeskState → Ask → List VolumeDef → (VolumeDef → Type 0) → Type 0
+OneOf s ask candidates chosen = Chooses candidates (map (view_of s ask) candidates) (want_of ask) chosen
+
 -- what is chosen
-pub on-chosen : (s : DeskState) (unit : SpaceUnit) (want : Want) (candidates : List VolumeDef) (rejected : Type 0) (then : VolumeDef → Type 0) (C : Type 0) → Chosen s unit want candidates rejected then → (rejected → C)
-    → ((volume : VolumeDef) → (position : ℕ) → slice_get candidates position ≡ Some volume → then volume → C) → C
-on-chosen s unit want candidates rejected then C (inl no_one) otherwise next = otherwise no_one.1
-on-chosen s unit want candidates rejected then C (inr one) otherwise next = next one.volume one.position one.there one.does
+pub on-chosen : (s : DeskState) (ask : Ask) (candidates : List VolumeDef) (rejected : Type 0) (chosen : VolumeDef → Type 0) (C : Type 0) → Chosen s ask candidates rejected chosen → (rejected → C)
+    → (OneOf s ask candidates chosen → C) → C
+on-chosen s ask candidates rejected chosen C (inl no_one) otherwise next = otherwise no_one.1
+on-chosen s ask candidates rejected chosen C (inr one) otherwise next = next one

@@ -14,7 +14,7 @@ use Rattle.desk_law.specs.State.{DeskState, with_status}
 use Rattle.desk_law.specs.Candidates.{view_of}
 use Rattle.desk_law.specs.Display.{DisplayRule}
 use Rattle.desk_law.specs.Extension.{ExtendRule, first_volume, others_of}
-use Rattle.desk_law.proofs.ExampleDecks.{data_set, deck_with, desk_with, extent, group, piece}
+use Rattle.desk_law.proofs.ExampleDecks.{ask, data_set, deck_with, desk_with, extent, group, piece}
 
 -- an enabled volume of 20 tracks in this storage group
 abbrev twenty : List ℕ → List ℕ → VolumeDef
@@ -45,7 +45,7 @@ whole = extent (codes "VOL001") 0 10 ∷ extent (codes "VOL001") 10 10 ∷ []
 extend_moved : ExtendRule (desk 2 whole) (codes "A.B") (replies.Extended (extent (codes "VOL002") 0 10 ∷ [])) (desk 2 (extent (codes "VOL001") 0 10 ∷ extent (codes "VOL001") 10 10 ∷ extent (codes "VOL002") 0 10 ∷ []))
 extend_moved = inr (record {
   position = 0;
-  may = record { view = view_of (desk 2 whole) Trk 10 (twenty (codes "VOL002") (codes "SG2")); there = refl; listed = refl; first = refl };
+  may = record { view = view_of (desk 2 whole) (ask Trk 10 1) (twenty (codes "VOL002") (codes "SG2")); there = refl; listed = refl; first = refl };
   volume = twenty (codes "VOL002") (codes "SG2");
   there = refl;
   does = record { pieces = piece 0 10 ∷ []; granted = refl; extends = record { reply_is = refl; after_is = refl } };
@@ -63,7 +63,7 @@ spread = extent (codes "VOL001") 0 20 ∷ extent (codes "VOL003") 0 20 ∷ []
 extend_spread : ExtendRule (desk 3 spread) (codes "A.B") (replies.Extended (extent (codes "VOL002") 0 10 ∷ [])) (desk 3 (extent (codes "VOL001") 0 20 ∷ extent (codes "VOL003") 0 20 ∷ extent (codes "VOL002") 0 10 ∷ []))
 extend_spread = inr (record {
   position = 0;
-  may = record { view = view_of (desk 3 spread) Trk 10 (twenty (codes "VOL002") (codes "SG2")); there = refl; listed = refl; first = refl };
+  may = record { view = view_of (desk 3 spread) (ask Trk 10 1) (twenty (codes "VOL002") (codes "SG2")); there = refl; listed = refl; first = refl };
   volume = twenty (codes "VOL002") (codes "SG2");
   there = refl;
   does = record { pieces = piece 0 10 ∷ []; granted = refl; extends = record { reply_is = refl; after_is = refl } };

@@ -1,5 +1,5 @@
 -- What stands at a position of a list, and what passes a test.
-use Rattle.std.proofs.Common.{◌≡◌, ℕ, zero, suc, Bool, true, false, List, [], ◌∷◌, refl, subst}
+use Rattle.std.proofs.Common.{◌≡◌, ℕ, zero, suc, Bool, true, false, List, [], ◌∷◌, ◌++◌, refl, ap, subst}
 use Rattle.std.specs.Prelude.{Some, filter, find, slice_get}
 use Rattle.std.specs.List.{AllByRecursion}
 
@@ -43,3 +43,11 @@ find-each-at P p x xs found false is here rest there =
 pub find-each : {X : Type 0} (P : X → Type 0) (p : X → Bool) (xs : List X) (found : X) → AllByRecursion P xs → find p xs ≡ Some found → P found
 find-each P p [] found all there = absurd cc
 find-each P p (x ∷ xs) found all there = find-each-at P p x xs found _ refl all.0 (λ e. find-each P p xs found all.1 e) there
+
+filter-append-at : {X : Type 0} (p : X → Bool) (x : X) (a b : List X) (c : Bool) → p x ≡ c → filter p (a ++ b) ≡ filter p a ++ filter p b → filter p (x ∷ (a ++ b)) ≡ filter p (x ∷ a) ++ filter p b
+filter-append-at p x a b true is rest = rw is (ap (λ l. x ∷ l) rest)
+filter-append-at p x a b false is rest = rw is rest
+
+pub filter-append : {X : Type 0} (p : X → Bool) (a b : List X) → filter p (a ++ b) ≡ filter p a ++ filter p b
+filter-append p [] b = refl
+filter-append p (x ∷ a) b = filter-append-at p x a b _ refl (filter-append p a b)

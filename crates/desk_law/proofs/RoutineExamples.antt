@@ -33,7 +33,7 @@ use Rattle.desk_law.specs.Candidates.{view_of}
 use Rattle.desk_law.specs.Classification.{begin, classes_under, went_through}
 use Rattle.desk_law.specs.Allocation.{AllocRule, GrantRule, space_case}
 use Rattle.desk_law.specs.Replies.{◌⊳◌, Leaves}
-use Rattle.desk_law.proofs.ExampleDecks.{asks, asks_nothing, data_set, desk_under, extent, one, piece, volume}
+use Rattle.desk_law.proofs.ExampleDecks.{ask, asks, asks_nothing, data_set, desk_under, extent, one, piece, volume}
 use Rattle.desk_law.proofs.TraceExamples.{line, these, trace}
 
 -- statements: SET of a class or of the storage groups, WRITE, EXIT
@@ -162,7 +162,7 @@ by_fast_and_pool alloc reply after rule =
 alloc_granted : AllocRule bare (codes "JOB1") (asks Trk 10 5) (replies.Granted (data_set 5 1 (extent (codes "VOL001") 0 10 ∷ [])) two_lines) (with_set bare (data_set 5 1 (extent (codes "VOL001") 0 10 ∷ [])))
 alloc_granted = by_fast_and_pool (asks Trk 10 5) _ _ (inr (record {
   position = 0;
-  may = record { view = view_of bare Trk 10 (volume (codes "VOL001") 100 Enable); there = refl; listed = refl; first = refl };
+  may = record { view = view_of bare (ask Trk 10 1) (volume (codes "VOL001") 100 Enable); there = refl; listed = refl; first = refl };
   volume = volume (codes "VOL001") 100 Enable;
   there = refl;
   does = record { pieces = piece 0 10 ∷ []; granted = refl; makes = record { reply_is = refl; after_is = refl } };
@@ -184,7 +184,7 @@ in_cylinders = record (data_set 15 2 (extent (codes "VOL001") 0 30 ∷ [])) { da
 alloc_of_data_class : AllocRule bare (codes "JOB1") (record asks_nothing { dataclas = Some (codes "DC1") }) (replies.Granted in_cylinders two_lines) (with_set bare in_cylinders)
 alloc_of_data_class = by_fast_and_pool (record asks_nothing { dataclas = Some (codes "DC1") }) _ _ (inr (record {
   position = 0;
-  may = record { view = view_of bare Cyl 30 (volume (codes "VOL001") 100 Enable); there = refl; listed = refl; first = refl };
+  may = record { view = view_of bare (ask Cyl 30 1) (volume (codes "VOL001") 100 Enable); there = refl; listed = refl; first = refl };
   volume = volume (codes "VOL001") 100 Enable;
   there = refl;
   does = record { pieces = piece 0 30 ∷ []; granted = refl; makes = record { reply_is = refl; after_is = refl } };

@@ -5,6 +5,7 @@ use Rattle.acs_tree.specs.Slates.{blank}
 use Rattle.sms_construct.specs.Configuration.{Configuration}
 use Rattle.sms_construct.specs.declared.action.Action.TheVariants as actions
 use Rattle.sms_construct.specs.declared.data_set.DataSet.{DataSet}
+use Rattle.sms_construct.specs.declared.eattr.Eattr.TheVariants.{No}
 use Rattle.sms_construct.specs.declared.reply.Reply.TheVariants as replies
 use Rattle.sms_construct.specs.declared.status.Status.TheVariants.{DisAll, DisNew, Enable, QuiAll, QuiNew}
 use Rattle.sms_construct.specs.declared.target.Target.TheVariants.{Group, Set, Volume}
@@ -24,7 +25,7 @@ use Rattle.desk_law.specs.Display.{DisplayRule}
 use Rattle.desk_law.specs.Purging.{PurgeRule}
 use Rattle.desk_law.specs.Activation.{ConfigurationRule}
 use Rattle.desk_law.specs.declared.stop.Stop.TheVariants as stops
-use Rattle.desk_law.proofs.ExampleDecks.{asks, asks_class, data_set, deck_with, desk_under, desk_with, extent, new_desk, one, piece, two, volume}
+use Rattle.desk_law.proofs.ExampleDecks.{ask, asks, asks_class, data_set, deck_with, desk_under, desk_with, extent, new_desk, one, piece, two, volume}
 
 -- A.B with ten tracks of VOL001, of which it uses so many; the desk on which it is catalogued, and the one on which nothing is
 abbrev ten : ℕ → DataSet
@@ -52,13 +53,13 @@ abbrev gave : Classes
 gave = record { values = record { dataclas = []; storclas = codes "SC1"; mgmtclas = []; groups = codes "SG1" ∷ [] }; written = blank; stop = stops.Done }
 
 abbrev wish : Configuration → ℕ → ℕ → Wish
-wish config primary secondary = record { config = config; classes = gave; space = record { unit = Trk; primary = primary; secondary = secondary }; volumes = 1 }
+wish config primary secondary = record { config = config; classes = gave; space = record { unit = Trk; primary = primary; secondary = secondary }; volumes = 1; eattr = No }
 
 -- A00: the data set is catalogued
 alloc_granted : GrantRule bare (asks Trk 10 5) (wish (one 100) 10 5) (replies.Granted (ten 0) (record { lines = []; more = blank.more })) (with_set bare (ten 0))
 alloc_granted = inr (record {
   position = 0;
-  may = record { view = view_of bare Trk 10 (volume (codes "VOL001") 100 Enable); there = refl; listed = refl; first = refl };
+  may = record { view = view_of bare (ask Trk 10 1) (volume (codes "VOL001") 100 Enable); there = refl; listed = refl; first = refl };
   volume = volume (codes "VOL001") 100 Enable;
   there = refl;
   does = record { pieces = piece 0 10 ∷ []; granted = refl; makes = record { reply_is = refl; after_is = refl } };
@@ -98,7 +99,7 @@ extend_further : ExtendRule (filled 2) (codes "A.B") (replies.Extended (extent (
     (desk_with small (data_set 10 2 (extent (codes "VOL001") 0 10 ∷ extent (codes "VOL001") 10 10 ∷ extent (codes "VOL002") 0 10 ∷ [])))
 extend_further = inr (record {
   position = 0;
-  may = record { view = view_of (filled 2) Trk 10 (volume (codes "VOL002") 20 QuiAll); there = refl; listed = refl; first = refl };
+  may = record { view = view_of (filled 2) (ask Trk 10 1) (volume (codes "VOL002") 20 QuiAll); there = refl; listed = refl; first = refl };
   volume = volume (codes "VOL002") 20 QuiAll;
   there = refl;
   does = record { pieces = piece 0 10 ∷ []; granted = refl; extends = record { reply_is = refl; after_is = refl } };

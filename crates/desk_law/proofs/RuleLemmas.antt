@@ -1,105 +1,70 @@
 -- Each rule leads from a lawful state to a lawful one.
-use Rattle.std.proofs.Common.{◌≡◌, ℕ, List, [], refl, ap, ◌∙◌, arith, inl, inr}
-use Rattle.std.specs.Prelude.{Some, max, nat_eq, Ok}
-use Rattle.sms_construct.specs.Configuration.{Configuration, IsConfiguration}
+use Rattle.std.proofs.Common.{◌≡◌, ◌<◌, ℕ, List, refl, subst, arith}
+use Rattle.std.specs.Prelude.{Some, max}
 use Rattle.sms_construct.specs.Quantities.{tracks_in}
-use Rattle.sms_construct.specs.Status.{status_of_action}
-use Rattle.sms_construct.specs.declared.action.Action.{Action}
+use Rattle.sms_construct.specs.declared.alloc.Alloc.{Alloc}
 use Rattle.sms_construct.specs.declared.data_set.DataSet.{DataSet}
 use Rattle.sms_construct.specs.declared.reply.Reply.{Reply}
-use Rattle.sms_construct.specs.declared.reply.Reply.TheVariants as replies
 use Rattle.sms_construct.specs.declared.request.Op.{Op}
 use Rattle.sms_construct.specs.declared.request.Op.TheVariants as ops
-use Rattle.sms_construct.specs.declared.target.Target.{Target}
-use Rattle.desk_law.specs.State.{DeskState, set_named}
-use Rattle.desk_law.specs.Extents.{with_extents}
-use Rattle.desk_law.specs.Volumes.{times_target, volumes_in}
-use Rattle.desk_law.specs.Replies.{found_or, reply_if}
-use Rattle.desk_law.specs.Deletion.{DeleteRule}
-use Rattle.desk_law.specs.Usage.{used_case, UsedRule}
-use Rattle.desk_law.specs.Releasing.{kept_of, tracks_kept, ReleaseRule}
-use Rattle.desk_law.specs.Varying.{VaryRule}
-use Rattle.desk_law.specs.Display.{reply_for_none, view_of_target, DisplayRule}
-use Rattle.desk_law.specs.Activation.{first_barred, ActivateRule, ConfigurationRule}
-use Rattle.desk_law.specs.Rule.{IsSound, Rule}
-use Rattle.desk_law.specs.Lawful.{IsLawful, IsLawfulSet}
-use Rattle.desk_law.proofs.LineLemmas.{on-result, on-option, after-line, found-line, last-line, left, made}
-use Rattle.desk_law.proofs.SetLemmas.{each-named, lawful-less, lawful-without}
-use Rattle.desk_law.proofs.FrontLemmas.{front-count, front-inside, front-some, front-spread, front-times, rounded-some}
-use Rattle.desk_law.proofs.GrantLemmas.{unit-some}
+use Rattle.sms_construct.specs.declared.unit.Unit.{Unit as SpaceUnit}
+use Rattle.sms_construct.specs.declared.unit.Unit.TheVariants.{Trk, Cyl}
+use Rattle.desk_law.specs.State.{DeskState, set_named, with_set}
+use Rattle.desk_law.specs.Extents.{front_tracks, with_extents}
+use Rattle.desk_law.specs.Extension.{last_volume}
+use Rattle.desk_law.specs.Volumes.{volumes_in}
+use Rattle.desk_law.specs.Releasing.{kept_of, tracks_kept}
+use Rattle.desk_law.specs.Rule.{IsSound, IsSoundAlloc, Rule}
+use Rattle.desk_law.specs.Lawful.{IsInside, IsLawful, IsLawfulSet, LiesInPart}
+use Rattle.desk_law.proofs.LineLemmas.{left, made}
+use Rattle.desk_law.proofs.SetLemmas.{each-named, lawful-changed, lawful-without}
+use Rattle.desk_law.proofs.FrontLemmas.{cut-inside, cut-parted, front-count, front-each, front-some, front-times, rounded-some}
 use Rattle.desk_law.proofs.StatusLemmas.{lawful-activated, lawful-varied}
 use Rattle.desk_law.proofs.DeckLemmas.{configures-is}
-use Rattle.desk_law.proofs.AllocationLemmas.{alloc-keeps}
-use Rattle.desk_law.proofs.ExtensionLemmas.{extend-keeps}
+use Rattle.desk_law.proofs.AllocationLemmas.{granted-keeps, wish-is}
+use Rattle.desk_law.proofs.CaseLemmas.{on-rule}
+use Rattle.desk_law.proofs.ExtensionLemmas.{grown-keeps, spread-keeps}
 
-delete-keeps : (s : DeskState) (dsn : List ℕ) (reply : Reply) (after : DeskState) → IsLawful s → DeleteRule s dsn reply after → IsLawful after
-delete-keeps s dsn reply after lawful rule =
-    on-result (found_or replies.NotFound (set_named dsn s.sets)) _ _ (IsLawful after) rule
-    (λ set e makes. made _ after _ reply (lawful-without s dsn lawful) makes)
-    (λ answer e leaves. left s after answer reply lawful leaves)
+-- a data set with its own extents
+lawful-noted : (s : DeskState) (dsn : List ℕ) (tracks : ℕ) (set : DataSet) → IsLawful s → set_named dsn s.sets ≡ Some set → IsLawful (with_set s (with_extents set tracks set.extents))
+lawful-noted s dsn tracks set lawful found =
+    let old = each-named (IsLawfulSet (volumes_in s.active)) dsn s.sets set lawful.sets found in
+    lawful-changed s dsn set tracks set.extents lawful found
+    (record { some = old.some; inside = old.inside; parted = old.parted; few = old.few; whole = old.whole })
+    (λ v t. let once = lawful.once v t in omega (arith, once))
 
--- what the lines of USED come to
-pub used-found : (s : DeskState) (dsn : List ℕ) (tracks : ℕ) (set : DataSet) → used_case s dsn tracks ≡ Ok set → set_named dsn s.sets ≡ Some set
-used-found s dsn tracks set e =
-    after-line _ _ set (set_named dsn s.sets ≡ Some set) e (λ found e1 e2.
-    after-line _ _ set (set_named dsn s.sets ≡ Some set) e2 (λ u e3 e4.
-    found-line replies.NotFound (set_named dsn s.sets) found e1 ∙ ap Some (last-line found set e4)))
+unit-some : (unit : SpaceUnit) → 0 < tracks_in unit
+unit-some Trk = omega arith
+unit-some Cyl = omega arith
 
-used-keeps : (s : DeskState) (dsn : List ℕ) (tracks : ℕ) (reply : Reply) (after : DeskState) → IsLawful s → UsedRule s dsn tracks reply after → IsLawful after
-used-keeps s dsn tracks reply after lawful rule =
-    on-result (used_case s dsn tracks) _ _ (IsLawful after) rule
-    (λ set e makes. let is = used-found s dsn tracks set e in
-    let old = each-named (IsLawfulSet (volumes_in s.active)) dsn s.sets set lawful.sets is in
-    made _ after _ reply (lawful-less s dsn set (with_extents set tracks set.extents) lawful is refl
-    (record { some = old.some; inside = old.inside; few = old.few; spread = old.spread }) (λ v t. omega arith)) makes)
-    (λ answer e leaves. left s after answer reply lawful leaves)
-
-release-keeps : (s : DeskState) (dsn : List ℕ) (reply : Reply) (after : DeskState) → IsLawful s → ReleaseRule s dsn reply after → IsLawful after
-release-keeps s dsn reply after lawful rule =
-    on-result (found_or replies.NotFound (set_named dsn s.sets)) _ _ (IsLawful after) rule
-    (λ set e makes.
-    let is : set_named dsn s.sets ≡ Some set = found-line replies.NotFound (set_named dsn s.sets) set e in
-    let old = each-named (IsLawfulSet (volumes_in s.active)) dsn s.sets set lawful.sets is in
-    let keep_some = rounded-some (tracks_in set.unit) (max set.used 1) (unit-some set.unit) (omega arith) in
-    made _ after _ reply (lawful-less s dsn set (kept_of set) lawful is refl
+-- a data set with the first of its tracks
+lawful-released : (s : DeskState) (dsn : List ℕ) (set : DataSet) → IsLawful s → set_named dsn s.sets ≡ Some set → IsLawful (with_set s (kept_of set))
+lawful-released s dsn set lawful found =
+    let old = each-named (IsLawfulSet (volumes_in s.active)) dsn s.sets set lawful.sets found in
+    let some = rounded-some (tracks_in set.unit) (max set.used 1) (unit-some set.unit) (omega arith) in
+    lawful-changed s dsn set set.used (front_tracks (tracks_kept set) set.extents) lawful found
     (record {
-      some = front-some (tracks_kept set) set.extents keep_some old.some;
-      inside = front-inside (volumes_in s.active) (tracks_kept set) set.extents old.inside;
+      some = front-some (tracks_kept set) set.extents some old.some;
+      inside = front-each (IsInside (volumes_in s.active)) (tracks_kept set) set.extents (cut-inside (volumes_in s.active)) old.inside;
+      parted = front-each LiesInPart (tracks_kept set) set.extents (λ keep e more. cut-parted keep e) old.parted;
       few = λ v. let few = old.few v in omega (arith, front-count v (tracks_kept set) set.extents, few);
-      spread = let spread = old.spread in omega (arith, front-spread (tracks_kept set) set.extents [], spread);
-    }) (λ v t. front-times v (tracks_kept set) set.extents t)) makes)
-    (λ answer e leaves. left s after answer reply lawful leaves)
+      whole = old.whole;
+    })
+    (λ v t. let once = lawful.once v t in omega (arith, once, front-times v (tracks_kept set) set.extents t))
 
-vary-keeps : (s : DeskState) (target : Target) (action : Action) (reply : Reply) (after : DeskState) → IsLawful s → VaryRule s target action reply after → IsLawful after
-vary-keeps s target action reply after lawful rule =
-    on-result (reply_if replies.UnknownName (nat_eq (times_target s.active target) 0)) _ _ (IsLawful after) rule
-    (λ u e makes. made _ after _ reply (lawful-varied s target (status_of_action action) lawful) makes)
-    (λ answer e leaves. left s after answer reply lawful leaves)
+-- what a sound ALLOC is
+pub sound-alloc : (op : Op) (alloc : Alloc) → op ≡ ops.Alloc alloc → IsSound op → IsSoundAlloc alloc
+sound-alloc op alloc is sound = subst IsSound is sound
 
-display-keeps : (s : DeskState) (target : Target) (reply : Reply) (after : DeskState) → IsLawful s → DisplayRule s target reply after → IsLawful after
-display-keeps s target reply after lawful rule =
-    on-result (found_or (reply_for_none target) (view_of_target s target)) _ _ (IsLawful after) rule
-    (λ view e leaves. left s after (replies.Shown view) reply lawful leaves)
-    (λ answer e leaves. left s after answer reply lawful leaves)
-
-configuration-keeps : (s : DeskState) (config : Configuration) (reply : Reply) (after : DeskState) → IsLawful s → IsConfiguration config → ConfigurationRule s config reply after → IsLawful after
-configuration-keeps s config reply after lawful is rule =
-    on-option (first_barred s config) _ _ (IsLawful after) rule
-    (λ missing makes. made _ after _ reply (lawful-activated s config lawful is missing) makes)
-    (λ volume barred leaves. left s after (replies.VolumeInUse volume.volser) reply lawful leaves)
-
-activate-keeps : (s : DeskState) (deck : List ℕ) (reply : Reply) (after : DeskState) → IsLawful s → ActivateRule s deck reply after → IsLawful after
-activate-keeps s deck reply after lawful (inl refused) = left s after (replies.Deck refused.fault) reply lawful refused.leaves
-activate-keeps s deck reply after lawful (inr taken) = configuration-keeps s taken.config reply after lawful (configures-is deck taken.config taken.configures) taken.rule
-
--- each rule does
 pub rule-keeps : (old_floor : List ℕ → ℕ) (s : DeskState) (job : List ℕ) (op : Op) (reply : Reply) (after : DeskState) → IsLawful s → IsSound op → Rule old_floor s job op reply after → IsLawful after
-rule-keeps old_floor s job (ops.Alloc alloc) reply after lawful sound rule = alloc-keeps s job alloc reply after lawful sound rule
-rule-keeps old_floor s job (ops.Activate deck) reply after lawful sound rule = activate-keeps s deck reply after lawful rule
-rule-keeps old_floor s job (ops.Extend dsn) reply after lawful sound rule = extend-keeps s dsn reply after lawful rule
-rule-keeps old_floor s job (ops.Delete dsn) reply after lawful sound rule = delete-keeps s dsn reply after lawful rule
-rule-keeps old_floor s job (ops.Used dsn tracks) reply after lawful sound rule = used-keeps s dsn tracks reply after lawful rule
-rule-keeps old_floor s job (ops.Release dsn) reply after lawful sound rule = release-keeps s dsn reply after lawful rule
-rule-keeps old_floor s job (ops.Display target) reply after lawful sound rule = display-keeps s target reply after lawful rule
-rule-keeps old_floor s job (ops.Vary target action) reply after lawful sound rule = vary-keeps s target action reply after lawful rule
-rule-keeps old_floor s job (ops.Purge other floor) reply after lawful sound rule = left s after _ reply lawful rule
+rule-keeps old_floor s job op reply after lawful sound rule = on-rule old_floor s job op reply after (IsLawful after) rule (record {
+  leaves = λ answer quiet leaves. left s after answer reply lawful leaves;
+  grants = λ alloc wish is case one. granted-keeps s alloc wish one.volume one.position reply after lawful (wish-is s job alloc wish lawful (sound-alloc op alloc is sound) case) one.there one.does;
+  grows = λ dsn set added is may granted extends. grown-keeps s dsn set (last_volume s set.extents) added reply after lawful may refl granted extends;
+  spreads = λ dsn set is may fewer one. spread-keeps s dsn set one.volume one.position reply after lawful may one.there one.does;
+  deletes = λ dsn set is found makes. made _ after _ reply (lawful-without s dsn lawful) makes;
+  notes = λ dsn tracks set is found makes. made _ after _ reply (lawful-noted s dsn tracks set lawful found) makes;
+  releases = λ dsn set tracks is found makes. made _ after _ reply (lawful-released s dsn set lawful found) makes;
+  varies = λ target action makes. made _ after _ reply (lawful-varied s target action lawful) makes;
+  activates = λ deck config is configures free makes. made _ after _ reply (lawful-activated s config lawful (configures-is deck config configures) free) makes;
+})

@@ -3,12 +3,15 @@ use Rattle.std.proofs.Common.{◌≡◌, ◌≤◌, ℕ, ◌+◌, Bool, true, fa
 use Rattle.std.specs.Prelude.{Some, bytes_eq}
 use Rattle.std.specs.List.{AllByRecursion}
 use Rattle.sms_construct.specs.declared.data_set.DataSet.{DataSet}
+use Rattle.sms_construct.specs.declared.extent.Extent.{Extent}
 use Rattle.sms_keeper.specs.Tables.{without_set}
+use Rattle.track_ledger.specs.Gaps.{times_held}
 use Rattle.desk_law.specs.State.{DeskState, set_named, with_set, without_name}
+use Rattle.desk_law.specs.Extents.{extents_if, extents_named, held_on, with_extents}
 use Rattle.desk_law.specs.Volumes.{volumes_in}
 use Rattle.desk_law.specs.Lawful.{IsLawful, IsLawfulSet}
 use Rattle.desk_law.proofs.ByteLemmas.{same-bytes}
-use Rattle.desk_law.proofs.CountLemmas.{times_on, all_on, all-push, all-without, named-all, names-put, names-without}
+use Rattle.desk_law.proofs.CountLemmas.{times_on, times-put, times-without, names-put, names-without}
 
 all-without-at : (P : DataSet → Type 0) (dsn : List ℕ) (set : DataSet) (sets : List DataSet) (b : Bool) → bytes_eq set.dsn dsn ≡ b → P set → AllByRecursion P (without_set dsn sets)
     → AllByRecursion P (without_set dsn (set ∷ sets))
@@ -52,43 +55,36 @@ pub name-is : (dsn : List ℕ) (sets : List DataSet) (old : DataSet) → set_nam
 name-is dsn [] old found = absurd cc
 name-is dsn (set ∷ sets) old found = name-is-at dsn set sets old _ refl (name-is dsn sets old) found
 
--- a lawful data set beside the others
+-- the extents of a data set that is found
+pub found-extents : (dsn : List ℕ) (sets : List DataSet) (old : DataSet) → set_named dsn sets ≡ Some old → extents_named old.dsn sets ≡ old.extents
+found-extents dsn sets old found = ap extents_if (subst (λ n. set_named n sets ≡ Some old) (sym (name-is dsn sets old found)) found)
+
+-- a lawful data set with tracks that were its own or nobody's
 pub lawful-put : (s : DeskState) (set : DataSet) → IsLawful s → IsLawfulSet (volumes_in s.active) set
-    → ((v : List ℕ) (t : ℕ) → all_on v (without_set set.dsn s.sets) t + times_on v set.extents t ≤ 1) → IsLawful (with_set s set)
+    → ((v : List ℕ) (t : ℕ) → times_held (held_on s v) t + times_on v set.extents t ≤ 1 + times_on v (extents_named set.dsn s.sets) t) → IsLawful (with_set s set)
 lawful-put s set lawful here once = record {
   sets = each-push (IsLawfulSet (volumes_in s.active)) (without_set set.dsn s.sets) set (each-without (IsLawfulSet (volumes_in s.active)) set.dsn s.sets lawful.sets) here;
-  once = λ v t. omega (arith, once v t, all-push v (without_set set.dsn s.sets) set t);
+  once = λ v t. omega (arith, once v t, times-put v set s.sets t (lawful.names set.dsn));
   names = λ n. names-put n set s.sets (lawful.names n);
   statuses = lawful.statuses;
+  connected = lawful.connected;
   config = lawful.config;
 }
 
--- a data set with no more than it held
-pub lawful-less : (s : DeskState) (dsn : List ℕ) (old set : DataSet) → IsLawful s → set_named dsn s.sets ≡ Some old → set.dsn ≡ old.dsn → IsLawfulSet (volumes_in s.active) set
-    → ((v : List ℕ) (t : ℕ) → times_on v set.extents t ≤ times_on v old.extents t) → IsLawful (with_set s set)
-lawful-less s dsn old set lawful found same here less =
-    let name : set.dsn ≡ dsn = same ∙ name-is dsn s.sets old found in
-    lawful-put s set lawful here (λ v t.
-    let all = named-all v dsn s.sets old t found in
-    let others : all_on v (without_set set.dsn s.sets) t ≡ all_on v (without_set dsn s.sets) t = ap (λ n. all_on v (without_set n s.sets) t) name in
-    omega (arith, all, others, less v t, lawful.once v t))
-
--- a data set with more tracks of one volume, which nobody held
-pub lawful-more : (s : DeskState) (dsn : List ℕ) (old set : DataSet) → IsLawful s → set_named dsn s.sets ≡ Some old → set.dsn ≡ old.dsn → IsLawfulSet (volumes_in s.active) set
-    → ((v : List ℕ) (t : ℕ) → times_on v set.extents t + all_on v s.sets t ≤ 1 + times_on v old.extents t) → IsLawful (with_set s set)
-lawful-more s dsn old set lawful found same here more =
-    let name : set.dsn ≡ dsn = same ∙ name-is dsn s.sets old found in
-    lawful-put s set lawful here (λ v t.
-    let all = named-all v dsn s.sets old t found in
-    let others : all_on v (without_set set.dsn s.sets) t ≡ all_on v (without_set dsn s.sets) t = ap (λ n. all_on v (without_set n s.sets) t) name in
-    omega (arith, all, others, more v t))
+-- a catalogued data set with other extents
+pub lawful-changed : (s : DeskState) (dsn : List ℕ) (old : DataSet) (used : ℕ) (es : List Extent) → IsLawful s → set_named dsn s.sets ≡ Some old → IsLawfulSet (volumes_in s.active) (with_extents old used es)
+    → ((v : List ℕ) (t : ℕ) → times_held (held_on s v) t + times_on v es t ≤ 1 + times_on v old.extents t) → IsLawful (with_set s (with_extents old used es))
+lawful-changed s dsn old used es lawful found here once = lawful-put s (with_extents old used es) lawful here (λ v t.
+    let same : times_on v (extents_named old.dsn s.sets) t ≡ times_on v old.extents t = ap (λ (l : List Extent). times_on v l t) (found-extents dsn s.sets old found) in
+    omega (arith, same, once v t))
 
 -- without the data set
 pub lawful-without : (s : DeskState) (dsn : List ℕ) → IsLawful s → IsLawful (without_name s dsn)
 lawful-without s dsn lawful = record {
   sets = each-without (IsLawfulSet (volumes_in s.active)) dsn s.sets lawful.sets;
-  once = λ v t. omega (arith, all-without v dsn s.sets t, lawful.once v t);
+  once = λ v t. omega (arith, times-without v dsn s.sets t (lawful.names dsn), lawful.once v t);
   names = λ n. omega (arith, names-without n dsn s.sets, lawful.names n);
   statuses = lawful.statuses;
+  connected = lawful.connected;
   config = lawful.config;
 }

@@ -78,8 +78,8 @@ group_stays_disabled = record { reply_is = refl; after_is = refl }
 -- a deck whose storage group isn't connected and whose volume is disabled, with a second storage group
 abbrev stricter : Configuration
 stricter = record (deck_with 85 (volume (codes "VOL001") 100 DisAll ∷ [])) {
-  groups = record { name = codes "SG1"; status = NotCon; high = 85; low = 1; overflow = false }
-      ∷ record { name = codes "SG2"; status = DisNew; high = 85; low = 1; overflow = false }
+  groups = record { name = codes "SG1"; status = NotCon; high = 85; low = 1; overflow = false; breakpoint = 10 }
+      ∷ record { name = codes "SG2"; status = DisNew; high = 85; low = 1; overflow = false; breakpoint = 10 }
       ∷ [];
 }
 

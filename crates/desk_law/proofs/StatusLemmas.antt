@@ -1,9 +1,12 @@
 -- One status a target, and extents that stay inside when a configuration becomes active.
-use Rattle.std.proofs.Common.{◌≡◌, ◌≤◌, ℕ, ◌+◌, Bool, true, false, cond, List, [], ◌∷◌, ◌++◌, refl, ap, ◌∙◌, arith}
-use Rattle.std.specs.Prelude.{None, Some, find, map, bytes_eq, nat_lt, ◌&&◌}
+use Rattle.std.proofs.Common.{◌≡◌, ◌≤◌, ℕ, ◌+◌, Bool, true, false, cond, List, [], ◌∷◌, ◌++◌, refl, ap, ◌∙◌, arith, inl, inr}
+use Rattle.std.specs.Prelude.{◌⊎◌, None, Some, find, map, bytes_eq, nat_lt, ◌&&◌}
 use Rattle.std.specs.List.{AllByRecursion}
 use Rattle.std.proofs.lemmas.Bool.Decides.{nat_tests}
-use Rattle.sms_construct.specs.Configuration.{Configuration, IsConfiguration}
+use Rattle.sms_construct.specs.Configuration.{Configuration, IsConfiguration, is_connected}
+use Rattle.sms_construct.specs.Status.{status_of_action}
+use Rattle.sms_construct.specs.declared.action.Action.{Action}
+use Rattle.sms_construct.specs.declared.action.Action.TheVariants.{Enable, Disable, DisableNew, Quiesce, QuiesceNew}
 use Rattle.sms_construct.specs.declared.data_set.DataSet.{DataSet}
 use Rattle.sms_construct.specs.declared.extent.Extent.{Extent}
 use Rattle.sms_construct.specs.declared.status.Status.{Status}
@@ -12,15 +15,16 @@ use Rattle.sms_construct.specs.declared.target.Target.{Target}
 use Rattle.sms_construct.specs.declared.target.Target.TheVariants.{Group, Volume, Set}
 use Rattle.sms_construct.specs.declared.volume.VolumeDef.{VolumeDef}
 use Rattle.sms_keeper.specs.declared.status_row.StatusRow.{StatusRow}
-use Rattle.sms_keeper.specs.Tables.{is_status_of, row_with}
+use Rattle.sms_keeper.specs.Tables.{is_status_of, row_with, same_target}
 use Rattle.desk_law.specs.State.{DeskState, with_status}
 use Rattle.desk_law.specs.Extents.{extents_of, is_used}
-use Rattle.desk_law.specs.Statuses.{times_status}
+use Rattle.desk_law.specs.Statuses.{may_have, status_in, times_status}
 use Rattle.desk_law.specs.Volumes.{times_group, times_target, times_volume, tracks_of, volumes_in}
 use Rattle.desk_law.specs.Activation.{activated, first_barred, row_of_group, row_of_volume}
 use Rattle.desk_law.specs.Lawful.{IsInside, IsLawful, IsLawfulSet}
 use Rattle.desk_law.proofs.ByteLemmas.{bytes-self, same-bytes}
 use Rattle.desk_law.proofs.GrantLemmas.{used-tail}
+use Rattle.desk_law.proofs.SetLemmas.{each-append}
 
 status-append : (target : Target) (a b : List StatusRow) → times_status target (a ++ b) ≡ times_status target a + times_status target b
 status-append target [] b = omega arith
@@ -111,11 +115,47 @@ sets-activated volumes others (set ∷ sets) large all =
       record {
         some = here.some;
         inside = still-inside volumes others set.extents (λ n there. large n (used-left n set.extents (extents_of sets) there)) here.inside;
+        parted = here.parted;
         few = here.few;
-        spread = here.spread;
+        whole = here.whole;
       },
       sets-activated volumes others sets (λ n there. large n (used-right n set.extents (extents_of sets) there)) all.1,
     )
+
+-- the row has a status that its target may have
+abbrev pub IsConnected : StatusRow → Type 0
+IsConnected row = may_have row.target row.status ≡ true
+
+present-at : (target : Target) (row : StatusRow) (rows : List StatusRow) (other : Status) (b : Bool) → is_status_of target row ≡ b → may_have target row.status ≡ true ⊎ (b ≡ false) → may_have target (status_in rows target other) ≡ true
+    → may_have target (status_in (row ∷ rows) target other) ≡ true
+present-at target row rows other true is (inl here) rest = rw is here
+present-at target row rows other true is (inr bad) rest = absurd cc
+present-at target row rows other false is here rest = rw is rest
+
+-- the target of a row is the one that is looked for
+same-kind : (target : Target) (row : StatusRow) (b : Bool) → is_status_of target row ≡ b → IsConnected row → may_have target row.status ≡ true ⊎ (b ≡ false)
+same-kind target row false is here = inr refl
+same-kind target row true is here = inl (kinds row.target target is here)
+  where
+    kinds : (own other : Target) → same_target own other ≡ true → may_have own row.status ≡ true → may_have other row.status ≡ true
+    kinds own (Group n) is here = refl
+    kinds own (Set n) is here = refl
+    kinds (Volume m) (Volume n) is here = here
+    kinds (Group m) (Volume n) is here = absurd cc
+    kinds (Set m) (Volume n) is here = absurd cc
+
+present-connected : (target : Target) (rows : List StatusRow) (other : Status) → AllByRecursion IsConnected rows → may_have target other ≡ true → may_have target (status_in rows target other) ≡ true
+present-connected target [] other all here = here
+present-connected target (row ∷ rows) other all here = present-at target row rows other _ refl (same-kind target row _ refl all.0) (present-connected target rows other all.1 here)
+
+groups-connected : (present : List StatusRow) (groups : List StorGroup) → AllByRecursion IsConnected (map (row_of_group present) groups)
+groups-connected present [] = tt
+groups-connected present (g ∷ groups) = (refl, groups-connected present groups)
+
+volumes-connected : (present : List StatusRow) (volumes : List VolumeDef) → AllByRecursion IsConnected present → AllByRecursion (λ (v : VolumeDef). is_connected v.status ≡ true) volumes
+    → AllByRecursion IsConnected (map (row_of_volume present) volumes)
+volumes-connected present [] all own = tt
+volumes-connected present (v ∷ volumes) all own = (present-connected (Volume v.volser) present v.status all own.0, volumes-connected present volumes all own.1)
 
 pub lawful-activated : (s : DeskState) (config : Configuration) → IsLawful s → IsConfiguration config → first_barred s config ≡ None → IsLawful (activated s config)
 lawful-activated s config lawful is found = record {
@@ -123,6 +163,8 @@ lawful-activated s config lawful is found = record {
   once = lawful.once;
   names = lawful.names;
   statuses = statuses-activated s config;
+  connected = each-append IsConnected (map (row_of_group s.statuses) config.groups) (map (row_of_volume s.statuses) config.volumes) (groups-connected s.statuses config.groups)
+      (volumes-connected s.statuses config.volumes lawful.connected is.connected);
   config = is;
 }
 
@@ -132,11 +174,29 @@ varied-times : (target other : Target) (status : Status) (rows : List StatusRow)
 varied-times target other status [] = refl
 varied-times target other status (row ∷ rows) = ap (λ n. cond (is_status_of other row) 1 0 + n) (varied-times target other status rows)
 
-pub lawful-varied : (s : DeskState) (target : Target) (status : Status) → IsLawful s → IsLawful (with_status s target status)
-lawful-varied s target status lawful = record {
+action-connected : (action : Action) (target : Target) → may_have target (status_of_action action) ≡ true
+action-connected action (Group n) = refl
+action-connected action (Set n) = refl
+action-connected Enable (Volume n) = refl
+action-connected Disable (Volume n) = refl
+action-connected DisableNew (Volume n) = refl
+action-connected Quiesce (Volume n) = refl
+action-connected QuiesceNew (Volume n) = refl
+
+varied-one : (target : Target) (action : Action) (row : StatusRow) (b : Bool) → is_status_of target row ≡ b → IsConnected row → IsConnected (row_with target (status_of_action action) row)
+varied-one target action row true is here = rw is (action-connected action row.target)
+varied-one target action row false is here = rw is here
+
+varied-connected : (target : Target) (action : Action) (rows : List StatusRow) → AllByRecursion IsConnected rows → AllByRecursion IsConnected (map (row_with target (status_of_action action)) rows)
+varied-connected target action [] all = tt
+varied-connected target action (row ∷ rows) all = (varied-one target action row _ refl all.0, varied-connected target action rows all.1)
+
+pub lawful-varied : (s : DeskState) (target : Target) (action : Action) → IsLawful s → IsLawful (with_status s target (status_of_action action))
+lawful-varied s target action lawful = record {
   sets = lawful.sets;
   once = lawful.once;
   names = lawful.names;
-  statuses = λ other. varied-times target other status s.statuses ∙ lawful.statuses other;
+  statuses = λ other. varied-times target other (status_of_action action) s.statuses ∙ lawful.statuses other;
+  connected = varied-connected target action s.statuses lawful.connected;
   config = lawful.config;
 }

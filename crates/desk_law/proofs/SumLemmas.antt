@@ -3,15 +3,14 @@ use Rattle.std.proofs.Common.{◌≡◌, ◌≤◌, ◌<◌, ℕ, ◌+◌, Bool,
 use Rattle.std.specs.Prelude.{Option, Some, IfSome, bytes_eq, nat_eq, slice_get}
 use Rattle.std.specs.List.{All, AllByRecursion}
 use Rattle.std.proofs.lemmas.List.Sums.{sum_by-cons}
-use Rattle.std.proofs.lemmas.List.Elements.{All-from_recursion, All-map}
+use Rattle.std.proofs.lemmas.List.Elements.{All-from_recursion}
 use Rattle.sms_construct.specs.Configuration.{Configuration, IsConfiguration}
 use Rattle.sms_construct.specs.declared.data_set.DataSet.{DataSet}
 use Rattle.sms_construct.specs.declared.extent.Extent.{Extent}
 use Rattle.sms_construct.specs.declared.volume.VolumeDef.{VolumeDef}
-use Rattle.track_ledger.specs.declared.owned_extent.OwnedExtent.{OwnedExtent}
 use Rattle.track_ledger.specs.declared.piece.Piece.{Piece}
-use Rattle.track_ledger.specs.Extents.{AllInside, LiesInside, NoTrackTwice, granted_to, pieces_of, tracks_held}
-use Rattle.track_ledger.specs.Gaps.{before_gaps, free_tracks, gaps_of, runs_of, times_held}
+use Rattle.track_ledger.specs.Extents.{LiesInside}
+use Rattle.track_ledger.specs.Gaps.{before_gaps, free_tracks, runs_of, times_held}
 use Rattle.track_ledger.proofs.HolderLemmas.{gaps-sum}
 use Rattle.desk_law.specs.State.{DeskState}
 use Rattle.desk_law.specs.Extents.{extents_of, granted_on, held_on, piece_of, pieces_on, tracks_of_pieces}
@@ -41,27 +40,10 @@ runs-sum : (tracks : List ℕ) → tracks_of_pieces (runs_of tracks) ≡ length 
 runs-sum [] = refl
 runs-sum (track ∷ tracks) = omega (arith, before-sum track (runs_of tracks), runs-sum tracks)
 
-extents-back : (pieces : List Piece) → pieces_of (granted_to [] pieces) ≡ pieces
-extents-back [] = refl
-extents-back (p ∷ pieces) = ap (λ (l : List Piece). p ∷ l) (extents-back pieces)
-
-extents-tracks : (pieces : List Piece) → tracks_held (granted_to [] pieces) ≡ tracks_of_pieces pieces
-extents-tracks [] = refl
-extents-tracks (p ∷ pieces) =
-    let owned : OwnedExtent = record { owner = []; piece = p } in
-    omega (arith, sum_by-cons (λ (r : OwnedExtent). r.piece.length) owned (granted_to [] pieces), sum_by-cons (λ (q : Piece). q.length) p pieces, extents-tracks pieces)
-
 -- pieces that lie inside a volume and apart, and the tracks that are free beside them
-pub pieces-sum : (capacity : ℕ) (pieces : List Piece) → 0 < capacity → ((t : ℕ) → times_held pieces t ≤ 1) → All (LiesInside capacity) pieces
+pieces-sum : (capacity : ℕ) (pieces : List Piece) → 0 < capacity → ((t : ℕ) → times_held pieces t ≤ 1) → All (LiesInside capacity) pieces
     → tracks_of_pieces pieces + length (free_tracks capacity pieces) ≡ capacity
-pieces-sum capacity pieces some once inside =
-    let owned = granted_to [] pieces in
-    let back = extents-back pieces in
-    let apart : NoTrackTwice owned = λ t. let same : times_held (pieces_of owned) t ≡ times_held pieces t = ap (λ (l : List Piece). times_held l t) back in omega (arith, same, once t) in
-    let within : AllInside capacity owned = All-map (λ (r : OwnedExtent). LiesInside capacity r.piece) (λ (p : Piece). record { owner = []; piece = p }) pieces inside in
-    let sum = gaps-sum capacity owned some apart within in
-    let gaps : tracks_of_pieces (gaps_of capacity (pieces_of owned)) ≡ tracks_of_pieces (gaps_of capacity pieces) = ap (λ (l : List Piece). tracks_of_pieces (gaps_of capacity l)) back in
-    omega (arith, sum, gaps, extents-tracks pieces, runs-sum (free_tracks capacity pieces))
+pieces-sum capacity pieces some once inside = omega (arith, gaps-sum capacity pieces some once inside, runs-sum (free_tracks capacity pieces))
 
 pieces-inside-at : (volumes : List VolumeDef) (v : List ℕ) (e : Extent) (es : List Extent) (b : Bool) → bytes_eq e.volser v ≡ b → IsInside volumes e → AllByRecursion (LiesInside (tracks_of v volumes)) (pieces_on v es)
     → AllByRecursion (LiesInside (tracks_of v volumes)) (pieces_on v (e ∷ es))

@@ -15,7 +15,7 @@ use Rattle.desk_law.specs.State.{DeskState, with_set}
 use Rattle.desk_law.specs.Candidates.{view_of}
 use Rattle.desk_law.specs.Classification.{Classes, Meanings, begin, classes_under, went_through}
 use Rattle.desk_law.specs.Allocation.{GrantRule, Wish, space_case, wish_with}
-use Rattle.desk_law.proofs.ExampleDecks.{asks, asks_nothing, data_set, desk_under, extent, one, piece, volume}
+use Rattle.desk_law.proofs.ExampleDecks.{ask, asks, asks_nothing, data_set, desk_under, extent, one, piece, volume}
 
 -- a line of the routine of that kind
 abbrev pub line : Kind → List ℕ → Line
@@ -82,7 +82,7 @@ bare = desk_under (one 100)
 granted : GrantRule bare (asks Trk 10 5) (wish 10) (replies.Granted (data_set 5 1 (extent (codes "VOL001") 0 10 ∷ [])) two_lines) (with_set bare (data_set 5 1 (extent (codes "VOL001") 0 10 ∷ [])))
 granted = inr (record {
   position = 0;
-  may = record { view = view_of bare Trk 10 (volume (codes "VOL001") 100 Enable); there = refl; listed = refl; first = refl };
+  may = record { view = view_of bare (ask Trk 10 1) (volume (codes "VOL001") 100 Enable); there = refl; listed = refl; first = refl };
   volume = volume (codes "VOL001") 100 Enable;
   there = refl;
   does = record { pieces = piece 0 10 ∷ []; granted = refl; makes = record { reply_is = refl; after_is = refl } };

@@ -5,6 +5,7 @@ use Rattle.acs_tree.specs.Slates.{blank}
 use Rattle.sms_construct.specs.Configuration.{Configuration}
 use Rattle.sms_construct.specs.declared.data_set.DataSet.{DataSet}
 use Rattle.sms_construct.specs.declared.extent.Extent.{Extent}
+use Rattle.sms_construct.specs.declared.eattr.Eattr.TheVariants.{No}
 use Rattle.sms_construct.specs.declared.reply.Reply.TheVariants as replies
 use Rattle.sms_construct.specs.declared.status.Status.TheVariants.{Enable}
 use Rattle.sms_construct.specs.declared.target.Target.TheVariants.{Volume}
@@ -19,7 +20,7 @@ use Rattle.desk_law.specs.Usage.{UsedRule}
 use Rattle.desk_law.specs.Releasing.{ReleaseRule}
 use Rattle.desk_law.specs.Display.{DisplayRule}
 use Rattle.desk_law.specs.declared.stop.Stop.TheVariants as stops
-use Rattle.desk_law.proofs.ExampleDecks.{asks, data_set, deck_with, desk_under, extent, piece, volume}
+use Rattle.desk_law.proofs.ExampleDecks.{ask, asks, data_set, deck_with, desk_under, extent, piece, volume}
 
 -- two enabled volumes of 100 tracks
 abbrev pair : Configuration
@@ -56,7 +57,7 @@ extend_past_sixteen : ExtendRule (desk (set sixteen ∷ [])) (codes "A.B") (repl
     (desk (set (sixteen ++ extent (codes "VOL002") 0 5 ∷ []) ∷ []))
 extend_past_sixteen = inr (record {
   position = 0;
-  may = record { view = view_of (desk (set sixteen ∷ [])) Trk 5 (volume (codes "VOL002") 100 Enable); there = refl; listed = refl; first = refl };
+  may = record { view = view_of (desk (set sixteen ∷ [])) (ask Trk 5 1) (volume (codes "VOL002") 100 Enable); there = refl; listed = refl; first = refl };
   volume = volume (codes "VOL002") 100 Enable;
   there = refl;
   does = record { pieces = piece 0 5 ∷ []; granted = refl; extends = record { reply_is = refl; after_is = refl } };
@@ -74,13 +75,14 @@ wish = record {
   classes = record { values = record { dataclas = []; storclas = codes "SC1"; mgmtclas = []; groups = codes "SG1" ∷ [] }; written = blank; stop = stops.Done };
   space = record { unit = Trk; primary = 5; secondary = 5 };
   volumes = 2;
+  eattr = No;
 }
 
 -- a new data set beside the other, whose sixteen extents don't count
 alloc_beside : GrantRule (desk (other ∷ [])) (asks Trk 5 5) wish (replies.Granted (set (extent (codes "VOL001") 17 5 ∷ [])) (record { lines = []; more = blank.more })) (desk (other ∷ set (extent (codes "VOL001") 17 5 ∷ []) ∷ []))
 alloc_beside = inr (record {
   position = 0;
-  may = record { view = view_of (desk (other ∷ [])) Trk 5 (volume (codes "VOL001") 100 Enable); there = refl; listed = refl; first = refl };
+  may = record { view = view_of (desk (other ∷ [])) (ask Trk 5 1) (volume (codes "VOL001") 100 Enable); there = refl; listed = refl; first = refl };
   volume = volume (codes "VOL001") 100 Enable;
   there = refl;
   does = record { pieces = piece 17 5 ∷ []; granted = refl; makes = record { reply_is = refl; after_is = refl } };

@@ -33,12 +33,8 @@ statuses_under config present = map (row_of_group present) config.groups ++ map 
 
 -- the state in which this configuration has become active
 abbrev pub activated : DeskState → Configuration → DeskState
-activated s config = record {
-  activations = s.activations + 1;
-  active = Some config;
-  statuses = statuses_under config s.statuses;
-  sets = s.sets;
-}
+activated s config =
+    record s { activations = s.activations + 1; active = Some config; statuses = statuses_under config s.statuses }
 
 -- a volume in use bars the configuration; else it becomes active
 abbrev pub ConfigurationRule : DeskState → Configuration → Reply → DeskState → Type 0

@@ -7,13 +7,12 @@ use Rattle.sms_construct.specs.declared.reply.Reply.TheVariants as replies
 use Rattle.sms_construct.specs.declared.volume.VolumeDef.{VolumeDef}
 use Rattle.sms_construct.specs.declared.why_no_extend.WhyNoExtend.TheVariants as reasons
 use Rattle.track_ledger.specs.declared.piece.Piece.{Piece}
-use Rattle.volume_lists.specs.declared.view.Want.{Want}
 use Rattle.desk_law.specs.State.{DeskState, set_named, with_set}
 use Rattle.desk_law.specs.Extents.{extents_at, is_among, pieces_on, volumes_of, with_extents}
 use Rattle.desk_law.specs.Statuses.{bars_group_growth, bars_volume_growth, group_status, volume_status}
 use Rattle.desk_law.specs.Volumes.{volume_named, volumes_of_group}
 use Rattle.desk_law.specs.Replies.{found_or, reply_if, ◌⊳◌, Leaves, Makes}
-use Rattle.desk_law.specs.Candidates.{grant_on, Chosen}
+use Rattle.desk_law.specs.Candidates.{Ask, grant_on, Chosen}
 
 -- the volume of the first extent
 abbrev pub first_volume : DeskState → List Extent → Option VolumeDef
@@ -26,6 +25,10 @@ last_volume s [] = None
 last_volume s (extent ∷ []) = volume_named s extent.volser
 last_volume s (extent ∷ next ∷ extents) = last_volume s (next ∷ extents)
 
+-- what is asked for it: the secondary quantity, and no storage group comes before another
+abbrev pub ask_more : DataSet → Ask
+ask_more set = record { unit = set.unit; tracks = set.secondary; volumes = set.volumes; eattr = set.eattr; tiers = [] }
+
 -- the volume's storage group or the volume itself gives no further tracks
 abbrev pub bars_growth : DeskState → VolumeDef → Bool
 bars_growth s volume = bars_group_growth (group_status s volume.group) || bars_volume_growth (volume_status s volume.volser)
@@ -35,16 +38,13 @@ abbrev pub growth_on : DeskState → DataSet → Option VolumeDef → Option (Li
 growth_on s set None = None
 growth_on s set (Some volume) =
     if bars_growth s volume then None
-    else option_map (extents_at volume.volser) (grant_on s volume set.unit set.secondary (length (pieces_on volume.volser set.extents)))
+    else option_map (extents_at volume.volser)
+    (grant_on s volume (ask_more set) (length (pieces_on volume.volser set.extents)))
 
 -- the volumes of the storage group of this one on which the data set doesn't lie
 abbrev pub others_of : DeskState → DataSet → Option VolumeDef → List VolumeDef
 others_of s set None = []
 others_of s set (Some first) = filter (λ volume. not (is_among volume.volser (volumes_of set.extents))) (volumes_of_group s first.group)
-
--- what is asked of them
-abbrev pub want_more : DataSet → Want
-want_more set = record { need = set.secondary; volumes = set.volumes }
 
 -- the data set has these extents too
 abbrev pub extended : DataSet → List Extent → DataSet
@@ -57,7 +57,7 @@ Extends s set added reply after = Makes (with_set s (extended set added)) (repli
 -- a further volume grants the secondary quantity
 pub record ExtendsOn (s : DeskState) (set : DataSet) (volume : VolumeDef) (reply : Reply) (after : DeskState) : Type 0 where
   pub pieces : List Piece
-  pub granted : grant_on s volume set.unit set.secondary 0 ≡ Some pieces
+  pub granted : grant_on s volume (ask_more set) 0 ≡ Some pieces
   pub extends : Extends s set (extents_at volume.volser pieces) reply after
 
 -- the lines up to the question where the tracks come from: no such data set; no secondary quantity
@@ -71,7 +71,7 @@ extend_case s dsn =
 abbrev pub FurtherRule : DeskState → DataSet → Reply → DeskState → Type 0
 FurtherRule s set reply after =
     MatchBool (nat_lt (length (volumes_of set.extents)) set.volumes)
-    (Chosen s set.unit (want_more set) (others_of s set (first_volume s set.extents))
+    (Chosen s (ask_more set) (others_of s set (first_volume s set.extents))
     (Leaves s (replies.NoExtend reasons.Room) reply after)
     (λ volume. ExtendsOn s set volume reply after))
     (Leaves s (replies.NoExtend reasons.Room) reply after)

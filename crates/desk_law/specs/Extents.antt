@@ -1,13 +1,23 @@
 -- Which tracks data sets hold.
-use Rattle.std.specs.Prelude.{ℕ, ◌-◌, ◌||◌, Bool, false, List, [], ◌∷◌, ◌++◌, min, nat_lt, bytes_eq, sum_by, if◌then◌else◌}
+use Rattle.std.specs.Prelude.{ℕ, ◌-◌, ◌||◌, Bool, false, List, [], ◌∷◌, ◌++◌, min, nat_lt, bytes_eq, sum_by, Option, None, Some, if◌then◌else◌}
+use Rattle.sms_construct.specs.Quantities.{border, rounded_up, tracks_in_managed}
 use Rattle.sms_construct.specs.declared.data_set.DataSet.{DataSet}
 use Rattle.sms_construct.specs.declared.extent.Extent.{Extent}
 use Rattle.track_ledger.specs.declared.piece.Piece.{Piece}
-use Rattle.desk_law.specs.State.{DeskState}
+use Rattle.desk_law.specs.State.{DeskState, set_named}
 
 -- an extent as a piece of its volume
 abbrev pub piece_of : Extent → Piece
 piece_of extent = record { start = extent.start; length = extent.length }
+
+-- the extents of a data set, if there is one
+abbrev pub extents_if : Option DataSet → List Extent
+extents_if None = []
+extents_if (Some set) = set.extents
+
+-- the extents of the data set of this name, if there is one
+abbrev pub extents_named : List ℕ → List DataSet → List Extent
+extents_named dsn sets = extents_if (set_named dsn sets)
 
 -- what the extents hold of a volume, in their order
 abbrev pub pieces_on : List ℕ → List Extent → List Piece
@@ -60,27 +70,22 @@ volumes_after seen (extent ∷ extents) =
 abbrev pub volumes_of : List Extent → List (List ℕ)
 volumes_of extents = volumes_after [] extents
 
--- the first so many tracks, in the order of the extents
+-- in how many tracks a volume is cut from this track on: one by one before the border, in managed units from it on
+abbrev pub multiple_at : ℕ → ℕ
+multiple_at track = if nat_lt track border then 1 else tracks_in_managed
+
+-- what is kept of an extent when so many tracks are to be kept: these in whole units of its part, and never more than it has
+abbrev pub length_kept : ℕ → Extent → ℕ
+length_kept keep extent = min (rounded_up (multiple_at extent.start) keep) extent.length
+
+-- the first so many tracks, in the order of the extents; the last extent that is kept is cut by its part of the volume
 abbrev pub front_tracks : ℕ → List Extent → List Extent
 front_tracks keep [] = []
 front_tracks keep (extent ∷ extents) =
     if nat_lt 0 keep
-    then record { volser = extent.volser; start = extent.start; length = min keep extent.length } ∷ front_tracks (keep - extent.length) extents
+    then record extent { length = length_kept keep extent } ∷ front_tracks (keep - extent.length) extents
     else []
 
 -- the data set with these extents, of which so many tracks are used
 abbrev pub with_extents : DataSet → ℕ → List Extent → DataSet
-with_extents set used extents = record {
-  dsn = set.dsn;
-  dataclas = set.dataclas;
-  storclas = set.storclas;
-  mgmtclas = set.mgmtclas;
-  group = set.group;
-  unit = set.unit;
-  secondary = set.secondary;
-  volumes = set.volumes;
-  day = set.day;
-  retpd = set.retpd;
-  used = used;
-  extents = extents;
-}
+with_extents set used extents = record set { used = used; extents = extents }

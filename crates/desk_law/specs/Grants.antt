@@ -8,15 +8,14 @@ use Rattle.sms_construct.specs.declared.request.Request.{Request}
 use Rattle.sms_construct.specs.declared.request.Op.TheVariants as ops
 use Rattle.sms_construct.specs.declared.trace.Trace.{Trace}
 use Rattle.sms_construct.specs.declared.volume.VolumeDef.{VolumeDef}
-use Rattle.sms_construct.specs.Quantities.{primary_tracks_of}
 use Rattle.sms_keeper.specs.declared.kept_row.KeptRow.{KeptRow}
 use Rattle.sms_keeper.specs.Tables.{is_reply_of}
 use Rattle.track_ledger.specs.declared.piece.Piece.{Piece}
 use Rattle.volume_lists.specs.Choice.{MayChoose}
 use Rattle.desk_law.specs.State.{DeskState, Opening}
 use Rattle.desk_law.specs.Classification.{trace_of}
-use Rattle.desk_law.specs.Candidates.{grant_on, view_of}
-use Rattle.desk_law.specs.Allocation.{Wish, alloc_case, candidates_of, new_set, want_of}
+use Rattle.desk_law.specs.Candidates.{grant_on, view_of, want_of}
+use Rattle.desk_law.specs.Allocation.{Wish, alloc_case, ask_of, candidates_of, new_set}
 use Rattle.desk_law.specs.History.{Reaches}
 
 -- in this state an ALLOC of this job gets this data set and trace: the routines of the active configuration give the classes
@@ -25,11 +24,11 @@ pub record IsLawfulGrant (s : DeskState) (job : List ℕ) (alloc : Alloc) (set :
   pub wish : Wish
   pub case : alloc_case s job alloc ≡ Ok wish
   pub position : ℕ
-  pub may : MayChoose (map (view_of s wish.space.unit (want_of wish).need) (candidates_of wish)) (want_of wish) position
+  pub may : MayChoose (map (view_of s (ask_of wish)) (candidates_of wish)) (want_of (ask_of wish)) position
   pub volume : VolumeDef
   pub there : slice_get (candidates_of wish) position ≡ Some volume
   pub pieces : List Piece
-  pub granted : grant_on s volume wish.space.unit (primary_tracks_of wish.space) 0 ≡ Some pieces
+  pub granted : grant_on s volume (ask_of wish) 0 ≡ Some pieces
   pub set_is : set ≡ new_set alloc wish volume pieces
   pub trace_is : trace ≡ trace_of wish.classes
 

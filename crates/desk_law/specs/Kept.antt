@@ -5,47 +5,28 @@ use Rattle.sms_construct.specs.declared.entry.Entry.{Entry}
 use Rattle.sms_construct.specs.declared.fate.Fate.{Fate}
 use Rattle.sms_construct.specs.declared.fate.Fate.TheVariants as fates
 use Rattle.sms_construct.specs.declared.reply.Reply.{Reply}
-use Rattle.sms_construct.specs.declared.reply.Reply.TheVariants as replies
 use Rattle.sms_keeper.specs.declared.floor.Floor.{Floor}
 use Rattle.sms_keeper.specs.declared.kept_row.KeptRow.{KeptRow}
 use Rattle.sms_keeper.specs.Tables.{is_floor_of, is_reply_of}
 use Rattle.desk_law.specs.State.{Opening}
+use Rattle.desk_law.specs.Changes.{Consequence, NoChange, Change, Activation, FloorOf, Fault, consequence_of}
 
 -- the greatest floor of a job among these, 0 without one
 abbrev pub greatest_floor : List ℕ → List Floor → ℕ
 greatest_floor job [] = 0
 greatest_floor job (row ∷ rows) = if is_floor_of job row then max row.floor (greatest_floor job rows) else greatest_floor job rows
 
+-- the floor that was set, if any
+abbrev pub floor_set : Consequence → List Floor
+floor_set NoChange = []
+floor_set Change = []
+floor_set (Activation count) = []
+floor_set (FloorOf job floor) = record { job = job; floor = floor } ∷ []
+floor_set Fault = []
+
 -- the floor that a reply tells, if any
 abbrev pub floor_told : Reply → List Floor
-floor_told (replies.Purged job floor) = record { job = job; floor = floor } ∷ []
-floor_told (replies.Granted set trace) = []
-floor_told (replies.NotManaged trace) = []
-floor_told (replies.Extended added) = []
-floor_told (replies.Deleted tracks) = []
-floor_told (replies.Activated count) = []
-floor_told (replies.Varied target status) = []
-floor_told (replies.Shown view) = []
-floor_told replies.Noted = []
-floor_told (replies.Released tracks) = []
-floor_told (replies.Reused first) = []
-floor_told (replies.Below floor) = []
-floor_told replies.NoConfig = []
-floor_told replies.NameInUse = []
-floor_told (replies.Exit kind code trace) = []
-floor_told (replies.UnknownClass kind name trace) = []
-floor_told (replies.NoQuantity trace) = []
-floor_told (replies.NoGroup trace) = []
-floor_told (replies.NoVolume trace) = []
-floor_told replies.NotFound = []
-floor_told (replies.NoExtend why) = []
-floor_told (replies.Deck fault) = []
-floor_told (replies.VolumeInUse volser) = []
-floor_told replies.UnknownName = []
-floor_told replies.JournalFull = []
-floor_told (replies.PastGrant granted) = []
-floor_told replies.KeeperFault = []
-floor_told replies.Memory = []
+floor_told reply = floor_set (consequence_of reply)
 
 -- the floors that entries tell
 abbrev pub floors_of : List Entry → List Floor
@@ -70,36 +51,17 @@ row_of_entry entry = record {
   reply = entry.answer.reply;
 }
 
+-- the keeper failed
+abbrev pub has_failed : Consequence → Bool
+has_failed NoChange = false
+has_failed Change = false
+has_failed (Activation count) = false
+has_failed (FloorOf job floor) = false
+has_failed Fault = true
+
 -- a fault of the keeper
 abbrev pub is_fault : Reply → Bool
-is_fault replies.KeeperFault = true
-is_fault (replies.Granted set trace) = false
-is_fault (replies.NotManaged trace) = false
-is_fault (replies.Extended added) = false
-is_fault (replies.Deleted tracks) = false
-is_fault (replies.Activated count) = false
-is_fault (replies.Varied target status) = false
-is_fault (replies.Shown view) = false
-is_fault (replies.Purged job floor) = false
-is_fault replies.Noted = false
-is_fault (replies.Released tracks) = false
-is_fault (replies.Reused first) = false
-is_fault (replies.Below floor) = false
-is_fault replies.NoConfig = false
-is_fault replies.NameInUse = false
-is_fault (replies.Exit kind code trace) = false
-is_fault (replies.UnknownClass kind name trace) = false
-is_fault (replies.NoQuantity trace) = false
-is_fault (replies.NoGroup trace) = false
-is_fault (replies.NoVolume trace) = false
-is_fault replies.NotFound = false
-is_fault (replies.NoExtend why) = false
-is_fault (replies.Deck fault) = false
-is_fault (replies.VolumeInUse volser) = false
-is_fault replies.UnknownName = false
-is_fault replies.JournalFull = false
-is_fault (replies.PastGrant granted) = false
-is_fault replies.Memory = false
+is_fault reply = has_failed (consequence_of reply)
 
 -- the row of an entry whose reply is no fault of the keeper
 abbrev pub rows_of_entry : Entry → List KeptRow

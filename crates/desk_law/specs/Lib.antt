@@ -15,11 +15,13 @@ pub mod Varying
 pub mod Display
 pub mod Purging
 pub mod Activation
+pub mod Changes
 pub mod Kept
 pub mod Rule
 pub mod Step
 pub mod History
 pub mod Records
 pub mod Lawful
-pub mod Changes
 pub mod Grants
+pub mod Decked
+pub mod KeptRows

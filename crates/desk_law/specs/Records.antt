@@ -2,7 +2,6 @@
 use Rattle.std.specs.Prelude.{ℕ, ◌≡◌, ◌==◌, nat_lt, Bool, List, [], ◌∷◌, ◌++◌, filter, find, Option, None, Some, if◌then◌else◌}
 use Rattle.sms_construct.specs.declared.entry.Entry.{Entry}
 use Rattle.sms_construct.specs.declared.reply.Reply.{Reply}
-use Rattle.sms_construct.specs.declared.reply.Reply.TheVariants as replies
 use Rattle.sms_construct.specs.declared.target.Target.{Target}
 use Rattle.sms_keeper.specs.declared.deck_row.DeckRow.{DeckRow}
 use Rattle.sms_keeper.specs.declared.floor.Floor.{Floor}
@@ -11,6 +10,7 @@ use Rattle.sms_keeper.specs.declared.rows.Rows.{Rows}
 use Rattle.sms_keeper.specs.Suits.{deck_of}
 use Rattle.sms_keeper.specs.Tables.{deck_rows, is_deck, is_floor_of, is_named, is_reply_of, is_status_of, no_rows}
 use Rattle.desk_law.specs.State.{DeskState, Opening}
+use Rattle.desk_law.specs.Changes.{Consequence, NoChange, Change, Activation, FloorOf, Fault, consequence_of}
 use Rattle.desk_law.specs.Kept.{all_floors, all_rows, greatest_floor}
 
 -- the opening of a new desk
@@ -35,36 +35,17 @@ pub record AreKept (floors : List Floor) (rows : List KeptRow) (kept : List Kept
   pub replies_are : (job : List ℕ) (number : ℕ) → filter (is_reply_of job number) kept ≡ kept_rows (nat_lt number (greatest_floor job floors)) (find (is_reply_of job number) rows)
   pub floors_are : (job : List ℕ) → filter (is_floor_of job) standing ≡ floor_rows job (greatest_floor job floors)
 
--- the decks of a reply that activates one
+-- the deck that became active, if any
+abbrev pub decks_activated : Consequence → Option (List ℕ) → List DeckRow
+decks_activated NoChange deck = []
+decks_activated Change deck = []
+decks_activated (Activation count) deck = deck_rows count deck
+decks_activated (FloorOf job floor) deck = []
+decks_activated Fault deck = []
+
+-- the deck of a reply that activates one
 abbrev pub decks_told : Reply → Option (List ℕ) → List DeckRow
-decks_told (replies.Activated count) deck = deck_rows count deck
-decks_told (replies.Granted set trace) deck = []
-decks_told (replies.NotManaged trace) deck = []
-decks_told (replies.Extended added) deck = []
-decks_told (replies.Deleted tracks) deck = []
-decks_told (replies.Varied target status) deck = []
-decks_told (replies.Shown view) deck = []
-decks_told (replies.Purged job floor) deck = []
-decks_told replies.Noted deck = []
-decks_told (replies.Released tracks) deck = []
-decks_told (replies.Reused first) deck = []
-decks_told (replies.Below floor) deck = []
-decks_told replies.NoConfig deck = []
-decks_told replies.NameInUse deck = []
-decks_told (replies.Exit kind code trace) deck = []
-decks_told (replies.UnknownClass kind name trace) deck = []
-decks_told (replies.NoQuantity trace) deck = []
-decks_told (replies.NoGroup trace) deck = []
-decks_told (replies.NoVolume trace) deck = []
-decks_told replies.NotFound deck = []
-decks_told (replies.NoExtend why) deck = []
-decks_told (replies.Deck fault) deck = []
-decks_told (replies.VolumeInUse volser) deck = []
-decks_told replies.UnknownName deck = []
-decks_told replies.JournalFull deck = []
-decks_told (replies.PastGrant granted) deck = []
-decks_told replies.KeeperFault deck = []
-decks_told replies.Memory deck = []
+decks_told reply deck = decks_activated (consequence_of reply) deck
 
 -- an entry that is no repeat has its own deck
 abbrev pub decks_of_entry : Entry → List DeckRow

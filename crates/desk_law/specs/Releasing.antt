@@ -1,6 +1,6 @@
 -- RELEASE (docs/rules.md, "RELEASE").
-use Rattle.std.specs.Prelude.{ℕ, ◌+◌, ◌-◌, ◌*◌, ◌/◌, List, max, MatchResult}
-use Rattle.sms_construct.specs.Quantities.{tracks_in}
+use Rattle.std.specs.Prelude.{ℕ, ◌-◌, List, max, MatchResult}
+use Rattle.sms_construct.specs.Quantities.{rounded_up, tracks_in}
 use Rattle.sms_construct.specs.declared.data_set.DataSet.{DataSet}
 use Rattle.sms_construct.specs.declared.reply.Reply.{Reply}
 use Rattle.sms_construct.specs.declared.reply.Reply.TheVariants as replies
@@ -8,11 +8,7 @@ use Rattle.desk_law.specs.State.{DeskState, set_named, with_set}
 use Rattle.desk_law.specs.Extents.{front_tracks, tracks_of_set, with_extents}
 use Rattle.desk_law.specs.Replies.{found_or, Leaves, Makes}
 
--- a number of tracks rounded up to whole units of so many
-abbrev pub rounded_up : ℕ → ℕ → ℕ
-rounded_up size tracks = (tracks + (size - 1)) / size * size
-
--- the tracks that a data set keeps: those that it uses, at least one, in whole units
+-- the tracks that a data set is to keep: those that it uses, at least one, in whole units of its space
 abbrev pub tracks_kept : DataSet → ℕ
 tracks_kept set = rounded_up (tracks_in set.unit) (max set.used 1)
 

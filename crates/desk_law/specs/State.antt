@@ -35,12 +35,12 @@ set_named dsn sets = find (is_named dsn) sets
 
 -- the state in which this data set stands in place of the one of its name
 abbrev pub with_set : DeskState → DataSet → DeskState
-with_set s set = record { activations = s.activations; active = s.active; statuses = s.statuses; sets = put_set set s.sets }
+with_set s set = record s { sets = put_set set s.sets }
 
 -- the state in which no data set of this name is catalogued
 abbrev pub without_name : DeskState → List ℕ → DeskState
-without_name s dsn = record { activations = s.activations; active = s.active; statuses = s.statuses; sets = without_set dsn s.sets }
+without_name s dsn = record s { sets = without_set dsn s.sets }
 
 -- the state in which this storage group or volume has this status
 abbrev pub with_status : DeskState → Target → Status → DeskState
-with_status s target status = record { activations = s.activations; active = s.active; statuses = map (row_with target status) s.statuses; sets = s.sets }
+with_status s target status = record s { statuses = map (row_with target status) s.statuses }

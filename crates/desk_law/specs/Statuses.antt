@@ -1,5 +1,6 @@
 -- The present status of storage groups and volumes.
 use Rattle.std.specs.Prelude.{ℕ, ◌+◌, Bool, true, false, List, [], ◌∷◌, if◌then◌else◌}
+use Rattle.sms_construct.specs.Configuration.{is_connected}
 use Rattle.sms_construct.specs.declared.status.Status.{Status}
 use Rattle.sms_construct.specs.declared.status.Status.TheVariants.{Enable, NotCon, DisAll, DisNew, QuiAll, QuiNew}
 use Rattle.sms_construct.specs.declared.target.Target.{Target}
@@ -25,6 +26,12 @@ group_status s name = status_in s.statuses (targets.Group name) NotCon
 -- the present status of a volume
 abbrev pub volume_status : DeskState → List ℕ → Status
 volume_status s volser = status_in s.statuses (targets.Volume volser) NotCon
+
+-- the target may have the status: NOTCON is one of storage groups alone
+abbrev pub may_have : Target → Status → Bool
+may_have (targets.Group name) status = true
+may_have (targets.Volume volser) status = is_connected status
+may_have (targets.Set dsn) status = true
 
 -- a storage group of this status gives the data sets that it has no further tracks
 abbrev pub bars_group_growth : Status → Bool

@@ -1,26 +1,29 @@
 // What holds of each legal history.
-ghost use Rattle.std.specs.Prelude.{◌≡◌, ◌+◌, ◌≤◌, ◌<◌, ◌++◌, [], ◌∷◌, ◌⊎◌, ℕ, true, false, List, Some, None, length, nat_lt, slice_get};
+ghost use Rattle.std.specs.Prelude.{◌≡◌, ◌+◌, ◌≤◌, ◌++◌, [], ◌∷◌, ◌⊎◌, ℕ, true, false, List, Some, None, length, nat_lt, slice_get, sum_by};
 ghost use Rattle.std.specs.List.{AllByRecursion};
 ghost use Rattle.sms_construct.specs.Configuration.{Configuration};
 ghost use Rattle.sms_construct.specs.declared.data_set.DataSet.{DataSet};
 ghost use Rattle.sms_construct.specs.declared.entry.Entry.{Entry};
-ghost use Rattle.sms_construct.specs.declared.extent.Extent.{Extent};
 ghost use Rattle.sms_construct.specs.declared.reply.Reply.TheVariants.{Granted, Below};
 ghost use Rattle.sms_construct.specs.declared.trace.Trace.{Trace};
 ghost use Rattle.sms_construct.specs.declared.volume.VolumeDef.{VolumeDef};
 ghost use Rattle.sms_keeper.specs.declared.kept_row.KeptRow.{KeptRow};
-ghost use Rattle.track_ledger.specs.Extents.{front_pieces};
+ghost use Rattle.sms_keeper.specs.declared.rows.Rows.{Rows};
+ghost use Rattle.track_ledger.specs.declared.piece.Piece.{Piece};
+ghost use Rattle.track_ledger.specs.Extents.{AreAlike};
 ghost use Rattle.track_ledger.specs.Gaps.{free_tracks, times_held};
-ghost use Rattle.desk_law.specs.State.{DeskState, Opening};
-ghost use Rattle.desk_law.specs.Extents.{front_tracks, granted_on, held_on, pieces_on, tracks_of_pieces};
+ghost use Rattle.desk_law.specs.State.{DeskState, Opening, start_of, with_set, without_name};
+ghost use Rattle.desk_law.specs.Extents.{extents_named, granted_on, held_on, pieces_on};
 ghost use Rattle.desk_law.specs.Volumes.{free_on};
 ghost use Rattle.desk_law.specs.Changes.{may_change};
 ghost use Rattle.desk_law.specs.Kept.{floor_of, kept_for};
 ghost use Rattle.desk_law.specs.Step.{IsFresh, IsStep, RepeatsReply, ReusesNumber};
 ghost use Rattle.desk_law.specs.History.{IsLegal, Reaches, WasActive};
 ghost use Rattle.desk_law.specs.Grants.{GrantsLawfully, WasGranted};
-ghost use Rattle.desk_law.specs.Records.{decks_of, empty_opening};
-ghost use Rattle.desk_law.specs.Lawful.{IsLawful, IsLawfulOpening};
+ghost use Rattle.desk_law.specs.Records.{IsTables, decks_of, empty_opening};
+ghost use Rattle.desk_law.specs.Decked.{IsDecked};
+ghost use Rattle.desk_law.specs.KeptRows.{AreKeptRows};
+ghost use Rattle.desk_law.specs.Lawful.{IsLawful, IsLawfulOpening, IsSpread};
 
 /// The entries of a legal history determine the state after it.
 pub fn one_state()
@@ -58,6 +61,12 @@ pub fn lawful_always()
     ensures { (o : Opening) (history : List Entry) (s : DeskState) → IsLawfulOpening o → Reaches o history s → IsLawful s }
 {}
 
+/// Behind a lawful opening whose data sets lie on at most as many volumes as they may, those of each legal history do.
+pub fn spread_always()
+    ensures { (o : Opening) (history : List Entry) (s : DeskState) → IsLawfulOpening o → AllByRecursion IsSpread o.rows.sets → Reaches o history s →
+        AllByRecursion IsSpread s.sets }
+{}
+
 /// In a lawful state the granted and the free tracks of each active volume are its tracks, and the free ones are those that no data set holds.
 pub fn tracks_add_up()
     ensures sum { (s : DeskState) (config : Configuration) (volume : VolumeDef) (position : ℕ) → IsLawful s → s.active ≡ Some config → slice_get config.volumes position ≡ Some volume →
@@ -72,10 +81,23 @@ pub fn to_no_other()
         times_held (pieces_on volser set.extents) track + times_held (pieces_on volser other.extents) track ≤ 1 }
 {}
 
-/// The first tracks of a data set are, on each volume, the first of its tracks there: what a release leaves is what trims leave.
-pub fn release_by_volume()
-    ensures { (volser : List ℕ) (keep : ℕ) (extents : List Extent) → AllByRecursion (λ e. 0 < e.length) extents →
-        pieces_on volser (front_tracks keep extents) ≡ front_pieces (tracks_of_pieces (pieces_on volser (front_tracks keep extents))) (pieces_on volser extents) }
+/// Where a data set is put in place of the one of its name, its pieces of a volume come and those of the old one go.
+pub fn held_with_a_set()
+    ensures counts { (s : DeskState) (set : DataSet) (volser : List ℕ) (count : Piece → ℕ) → IsLawful s →
+        sum_by count (held_on (with_set s set) volser) + sum_by count (pieces_on volser (extents_named set.dsn s.sets))
+        ≡ sum_by count (held_on s volser) + sum_by count (pieces_on volser set.extents) }
+    ensures alike { (s : DeskState) (set : DataSet) (volser : List ℕ) → IsLawful s →
+        AreAlike (held_on (with_set s set) volser ++ pieces_on volser (extents_named set.dsn s.sets))
+        (held_on s volser ++ pieces_on volser set.extents) }
+{}
+
+/// Where a data set is catalogued no more, its pieces go.
+pub fn held_without_a_set()
+    ensures counts { (s : DeskState) (dsn volser : List ℕ) (count : Piece → ℕ) → IsLawful s →
+        sum_by count (held_on (without_name s dsn) volser) + sum_by count (pieces_on volser (extents_named dsn s.sets))
+        ≡ sum_by count (held_on s volser) }
+    ensures alike { (s : DeskState) (dsn volser : List ℕ) → IsLawful s →
+        AreAlike (held_on (without_name s dsn) volser ++ pieces_on volser (extents_named dsn s.sets)) (held_on s volser) }
 {}
 
 /// In a legal history each grant, also a repeated one, is that of the opening or of an entry that was lawful where it stands.
@@ -119,4 +141,22 @@ pub fn was_active_once()
 /// Where the opening's rows have places before its first entry, there were as many activations as decks that the opening has and that entries activated.
 pub fn activations_are_counted()
     ensures { (o : Opening) (history : List Entry) (s : DeskState) → AllByRecursion (λ row. row.place ≤ o.base) o.rows.replies → Reaches o history s → s.activations ≡ length o.rows.decks + length (decks_of history) }
+{}
+
+/// Where the opening's rows have places before its first entry and its decks are those of its activations, so are those of each legal history.
+pub fn decks_in_order()
+    ensures { (o : Opening) (history : List Entry) (s : DeskState) → AllByRecursion (λ row. row.place ≤ o.base) o.rows.replies →
+        IsDecked o.rows.decks (start_of o) → Reaches o history s → IsDecked (o.rows.decks ++ decks_of history) s }
+{}
+
+/// Where the opening's rows are kept ones, so are those of the tables of each legal history.
+pub fn kept_rows_always()
+    ensures { (o : Opening) (history : List Entry) (s : DeskState) (rows : Rows) → AreKeptRows o.base o.rows.replies → Reaches o history s →
+        IsTables o history s rows → AreKeptRows (o.base + length history) rows.replies }
+{}
+
+/// The tables of a legal history, in any order of their keys, are rows from which a desk may go on in a lawful way.
+pub fn tables_are_lawful()
+    ensures { (o : Opening) (history : List Entry) (s : DeskState) (rows : Rows) (base : ℕ) → IsLawfulOpening o → Reaches o history s →
+        IsTables o history s rows → IsLawfulOpening (record { rows = rows; config = s.active; base = base }) }
 {}

@@ -34,6 +34,7 @@ empty-lawful = record {
   once = λ volser track. omega arith;
   names = λ dsn. omega arith;
   statuses = λ target. no-status target;
+  connected = tt;
   config = tt;
 }
 

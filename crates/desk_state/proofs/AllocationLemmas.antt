@@ -2,7 +2,6 @@
 use Rattle.std.proofs.Common.{◌≡◌, ℕ, true, List, [], ◌++◌, refl, sym, ap, ◌∙◌, subst, inl, inr}
 use Rattle.std.specs.Prelude.{Option, None, Some, Result, Ok, Err, MatchResult, bytes_eq, filter, option_map}
 use Rattle.std.specs.List.{list_any}
-use Rattle.acs_tree.specs.declared.values.Values.{Values}
 use Rattle.sms_construct.specs.Configuration.{Configuration}
 use Rattle.sms_construct.specs.Quantities.{Quantities}
 use Rattle.sms_construct.specs.declared.alloc.Alloc.{Alloc}
@@ -12,43 +11,50 @@ use Rattle.sms_construct.specs.declared.reply.Reply.{Reply}
 use Rattle.sms_construct.specs.declared.reply.Reply.TheVariants as replies
 use Rattle.sms_construct.specs.declared.trace.Trace.{Trace}
 use Rattle.sms_construct.specs.declared.volume.VolumeDef.{VolumeDef}
+use Rattle.acs_tree.specs.declared.values.Values.{Values}
 use Rattle.desk_law.specs.State.{DeskState, set_named, with_set}
-use Rattle.desk_law.specs.Allocation.{AllocRule, GrantRule, Wish as Asked, alloc_case, candidates_of, data_class_of, new_set, space_case, space_of, wish_with}
+use Rattle.desk_law.specs.Allocation.{AllocRule, GrantRule, Wish, alloc_case, ask_of, candidates_of, data_class_of, new_set, space_case, space_of, wish_with}
+use Rattle.desk_law.specs.Candidates.{Ask}
 use Rattle.desk_law.specs.Classification.{Classes, answer_of, classes_of, trace_of, went_through}
-use Rattle.desk_law.specs.Extents.{extents_at}
+use Rattle.desk_law.specs.Extents.{extents_at, extents_if, extents_named}
 use Rattle.desk_law.specs.Replies.{◌⊳◌, Leaves}
 use Rattle.desk_law.specs.Volumes.{volumes_in}
 use Rattle.desk_law.specs.declared.stop.Stop.{Stop}
 use Rattle.desk_law.specs.declared.stop.Stop.TheVariants as stops
 use Rattle.desk_records.specs.Effects.{state_with, tells_nothing}
-use Rattle.sms_volumes.specs.Holding.{extents_if, extents_named}
 use Rattle.sms_volumes.specs.declared.active_volume.ActiveVolume.{ActiveVolume}
 use Rattle.desk_state.specs.Answering.{Answers}
 use Rattle.desk_state.specs.Catalog.{set_in}
 use Rattle.desk_state.specs.Deeds.{HasMore, config_of, effect_of}
 use Rattle.desk_state.specs.Granting.{IsGrantAmong, IsGranted}
 use Rattle.desk_state.specs.Standing.{IsRunning}
-use Rattle.desk_state.specs.Wishing.{ClassifiedRule, primary_need, set_granted, wish_of, wish_under}
+use Rattle.desk_state.specs.Wishing.{ClassifiedRule, classes_with, set_granted}
 use Rattle.desk_state.specs.declared.decision.Decision.{Decision}
 use Rattle.desk_state.specs.declared.deed.Deed.TheVariants as deeds
 use Rattle.desk_state.specs.declared.grant.Grant.{Grant}
 use Rattle.desk_state.specs.declared.running.Running.{Running}
-use Rattle.desk_state.proofs.OkLemmas.{none-mapped}
-use Rattle.desk_state.specs.declared.wish.Wish.{Wish}
 use Rattle.desk_state.proofs.AnswerLemmas.{quiet-answers}
 
 -- What is granted.
 
 -- the volumes of the listed storage groups
-pub listed-are : (s : DeskState) (asked : Asked) (groups : List (List ℕ)) → s.active ≡ Some asked.config → groups ≡ asked.classes.values.groups
-    → filter (λ (v : VolumeDef). list_any (bytes_eq v.group) groups) (volumes_in s.active) ≡ candidates_of asked
-listed-are s asked groups active same =
+listed-are : (s : DeskState) (wish : Wish) (groups : List (List ℕ)) → s.active ≡ Some wish.config → groups ≡ wish.classes.values.groups
+    → filter (λ (v : VolumeDef). list_any (bytes_eq v.group) groups) (volumes_in s.active) ≡ candidates_of wish
+listed-are s wish groups active same =
     ap (λ (g : List (List ℕ)). filter (λ (v : VolumeDef). list_any (bytes_eq v.group) g) (volumes_in s.active)) same
-    ∙ ap (λ (o : Option Configuration). filter (λ (v : VolumeDef). list_any (bytes_eq v.group) asked.classes.values.groups) (volumes_in o)) active
+    ∙ ap (λ (o : Option Configuration). filter (λ (v : VolumeDef). list_any (bytes_eq v.group) wish.classes.values.groups) (volumes_in o)) active
+
+-- what is granted among them is by the law
+pub listed-among : (s : DeskState) (wish : Wish) (groups : List (List ℕ)) (ask : Ask) {given : Option Grant} (found : Option Grant) → s.active ≡ Some wish.config → groups ≡ wish.classes.values.groups → ask ≡ ask_of wish → given ≡ found
+    → IsGrantAmong s (filter (λ (v : VolumeDef). list_any (bytes_eq v.group) groups) (volumes_in s.active)) ask given → IsGrantAmong s (candidates_of wish) (ask_of wish) found
+listed-among s wish groups ask {given} found active same asks is among =
+    subst (IsGrantAmong s (candidates_of wish) (ask_of wish)) is
+    (subst (λ (a : Ask). IsGrantAmong s (candidates_of wish) a given) asks
+    (subst (λ (l : List VolumeDef). IsGrantAmong s l ask given) (listed-are s wish groups active same) among))
 
 -- a data set of a new name has what is granted
-pub has-granted : (s : DeskState) (running : Running) (set : DataSet) (grant : Grant) → set_named set.dsn s.sets ≡ None → set.extents ≡ extents_at grant.volume.volser grant.pieces → IsGranted running grant
-    → HasMore s.sets running set grant.place grant.pieces
+has-granted : (s : DeskState) (running : Running) (set : DataSet) (grant : Grant) → set_named set.dsn s.sets ≡ None → set.extents ≡ extents_at grant.volume.volser grant.pieces.items → IsGranted running grant
+    → HasMore s.sets running set grant.place grant.pieces.items
 has-granted s running set grant none extents granted =
     let there = granted.ready.at in
     let two : Some granted.ready.volume.volume ≡ Some grant.volume = sym (ap (option_map (λ (v : ActiveVolume). v.volume)) there) ∙ granted.named in
@@ -57,14 +63,14 @@ has-granted s running set grant none extents granted =
     record {
       volume = granted.ready.volume;
       at = there;
-      extents = extents ∙ (ap (λ (v : VolumeDef). extents_at v.volser grant.pieces) same ∙ sym (ap (λ (l : List Extent). l ++ extents_at granted.ready.volume.volume.volser grant.pieces) empty));
+      extents = extents ∙ (ap (λ (v : VolumeDef). extents_at v.volser grant.pieces.items) same ∙ sym (ap (λ (l : List Extent). l ++ extents_at granted.ready.volume.volume.volser grant.pieces.items) empty));
     }
 
-granted-asked : (s : DeskState) (running : Running) (alloc : Alloc) (asked : Asked) (grant : Grant) → set_named alloc.input.dsn s.sets ≡ None → IsGranted running grant
-    → IsGrantAmong s (candidates_of asked) (primary_need asked.space) asked.volumes (Some grant)
-    → Answers s running (GrantRule s alloc asked) (record { reply = replies.Granted (set_granted alloc (wish_of asked) grant) (trace_of asked.classes); deed = deeds.Get (set_granted alloc (wish_of asked) grant) grant.place grant.pieces })
-granted-asked s running alloc asked grant none granted chosen =
-    let of : VolumeDef → DataSet = λ (v : VolumeDef). new_set alloc asked v grant.pieces in
+pub granted-answers : (s : DeskState) (running : Running) (alloc : Alloc) (wish : Wish) (grant : Grant) → set_named alloc.input.dsn s.sets ≡ None → IsGranted running grant
+    → IsGrantAmong s (candidates_of wish) (ask_of wish) (Some grant)
+    → Answers s running (GrantRule s alloc wish) (record { reply = replies.Granted (set_granted alloc wish grant) (trace_of wish.classes); deed = deeds.Get (set_granted alloc wish grant) grant.place grant.pieces })
+granted-answers s running alloc wish grant none granted chosen =
+    let of : VolumeDef → DataSet = λ (v : VolumeDef). new_set alloc wish v grant.pieces.items in
     record {
       rule = inr (record {
         position = chosen.position;
@@ -72,38 +78,23 @@ granted-asked s running alloc asked grant none granted chosen =
         volume = chosen.volume;
         there = chosen.there;
         does = record {
-          pieces = grant.pieces;
+          pieces = grant.pieces.items;
           granted = chosen.does.rule;
           makes = record {
-            reply_is = ap (λ (v : VolumeDef). replies.Granted (of v) (trace_of asked.classes)) chosen.does.same;
+            reply_is = ap (λ (v : VolumeDef). replies.Granted (of v) (trace_of wish.classes)) chosen.does.same;
             after_is = ap (λ (v : VolumeDef). with_set s (of v)) chosen.does.same;
           };
         };
       });
       tells = refl;
-      fits = has-granted s running (set_granted alloc (wish_of asked) grant) grant none refl granted;
+      fits = has-granted s running (set_granted alloc wish grant) grant none refl granted;
     }
 
-pub granted-answers : (s : DeskState) (running : Running) (alloc : Alloc) (asked : Asked) (wish : Wish) (trace : Trace) (volumes : List VolumeDef) (grant : Grant) → set_named alloc.input.dsn s.sets ≡ None
-    → volumes ≡ candidates_of asked → wish ≡ wish_of asked → trace_of asked.classes ≡ trace → IsGranted running grant → IsGrantAmong s volumes (primary_need wish.space) wish.volumes (Some grant)
-    → Answers s running (GrantRule s alloc asked) (record { reply = replies.Granted (set_granted alloc wish grant) trace; deed = deeds.Get (set_granted alloc wish grant) grant.place grant.pieces })
-granted-answers s running alloc asked wish trace volumes grant none those same written granted chosen =
-    let now : IsGrantAmong s (candidates_of asked) (primary_need asked.space) asked.volumes (Some grant) =
-    subst (λ (w : Wish). IsGrantAmong s (candidates_of asked) (primary_need w.space) w.volumes (Some grant)) same
-    (subst (λ (l : List VolumeDef). IsGrantAmong s l (primary_need wish.space) wish.volumes (Some grant)) those chosen) in
-    subst (λ (t : Trace). Answers s running (GrantRule s alloc asked) (record { reply = replies.Granted (set_granted alloc wish grant) t; deed = deeds.Get (set_granted alloc wish grant) grant.place grant.pieces })) written
-    (subst (λ (w : Wish). Answers s running (GrantRule s alloc asked) (record { reply = replies.Granted (set_granted alloc w grant) (trace_of asked.classes); deed = deeds.Get (set_granted alloc w grant) grant.place grant.pieces })) (sym same)
-    (granted-asked s running alloc asked grant none granted now))
-
 -- no volume grants
-pub ungranted-answers : (s : DeskState) (running : Running) (alloc : Alloc) (asked : Asked) (wish : Wish) (trace : Trace) (volumes : List VolumeDef)
-    → volumes ≡ candidates_of asked → wish ≡ wish_of asked → trace_of asked.classes ≡ trace → IsGrantAmong s volumes (primary_need wish.space) wish.volumes None
-    → Answers s running (GrantRule s alloc asked) (record { reply = replies.NoVolume trace; deed = deeds.Nothing })
-ungranted-answers s running alloc asked wish trace volumes those same written rejected =
-    let now : IsGrantAmong s (candidates_of asked) (primary_need asked.space) asked.volumes None =
-    subst (λ (w : Wish). IsGrantAmong s (candidates_of asked) (primary_need w.space) w.volumes None) same
-    (subst (λ (l : List VolumeDef). IsGrantAmong s l (primary_need wish.space) wish.volumes None) those rejected) in
-    quiet-answers s running (GrantRule s alloc asked) (replies.NoVolume trace) (inl (now, record { reply_is = ap replies.NoVolume (sym written); after_is = refl })) refl
+pub ungranted-answers : (s : DeskState) (running : Running) (alloc : Alloc) (wish : Wish) → IsGrantAmong s (candidates_of wish) (ask_of wish) None
+    → Answers s running (GrantRule s alloc wish) (record { reply = replies.NoVolume (trace_of wish.classes); deed = deeds.Nothing })
+ungranted-answers s running alloc wish rejected =
+    quiet-answers s running (GrantRule s alloc wish) (replies.NoVolume (trace_of wish.classes)) (inl (rejected, record { reply_is = refl; after_is = refl })) refl
 
 -- The lines from the classification on.
 
@@ -112,32 +103,32 @@ classified-err : (s : DeskState) (running : Running) (config : Configuration) (a
     → Answers s running (ClassifiedRule s config alloc classes) (record { reply = reply; deed = deeds.Nothing })
 classified-err s running config alloc classes reply answer case same tells =
     quiet-answers s running (ClassifiedRule s config alloc classes) reply
-    (subst (λ (r : Result Asked Reply). MatchResult r (λ asked. GrantRule s alloc asked reply s) (λ a. Leaves s a reply s)) (sym case) (record { reply_is = same; after_is = refl })) tells
+    (subst (λ (r : Result Wish Reply). MatchResult r (λ wish. GrantRule s alloc wish reply s) (λ a. Leaves s a reply s)) (sym case) (record { reply_is = same; after_is = refl })) tells
 
 -- the classification stops
-stopped-at : (s : DeskState) (running : Running) (config : Configuration) (alloc : Alloc) (classes : Classes) (stop : Stop) (trace : Trace) (reply : Reply) → classes.stop ≡ stop → trace_of classes ≡ trace
-    → MatchResult (answer_of stop classes) (λ done. ◌≡◌ {A = Result Trace Reply} (Err reply) (Ok trace)) (λ answer. ◌≡◌ {A = Result Trace Reply} (Err reply) (Err answer))
-    → Answers s running (ClassifiedRule s config alloc classes) (record { reply = reply; deed = deeds.Nothing })
-stopped-at s running config alloc classes stops.Done trace reply stop written is = absurd cc
-stopped-at s running config alloc classes stops.Unmanaged trace reply stop written is =
-    let same : reply ≡ replies.NotManaged (trace_of classes) = cc in
-    classified-err s running config alloc classes reply (replies.NotManaged (trace_of classes)) (rw stop refl) same (rw same refl)
-stopped-at s running config alloc classes (stops.Exit kind code) trace reply stop written is =
-    let same : reply ≡ replies.Exit kind code (trace_of classes) = cc in
-    classified-err s running config alloc classes reply (replies.Exit kind code (trace_of classes)) (rw stop refl) same (rw same refl)
-stopped-at s running config alloc classes (stops.Unknown kind name) trace reply stop written is =
-    let same : reply ≡ replies.UnknownClass kind name (trace_of classes) = cc in
-    classified-err s running config alloc classes reply (replies.UnknownClass kind name (trace_of classes)) (rw stop refl) same (rw same refl)
-stopped-at s running config alloc classes stops.NoGroup trace reply stop written is =
-    let same : reply ≡ replies.NoGroup (trace_of classes) = cc in
-    classified-err s running config alloc classes reply (replies.NoGroup (trace_of classes)) (rw stop refl) same (rw same refl)
+stopped-at : (s : DeskState) (running : Running) (config : Configuration) (alloc : Alloc) (values : Values) (stop : Stop) (trace : Trace) (reply : Reply)
+    → MatchResult (answer_of stop (classes_with values stop trace)) (λ done. ◌≡◌ {A = Result Trace Reply} (Err reply) (Ok trace)) (λ answer. ◌≡◌ {A = Result Trace Reply} (Err reply) (Err answer))
+    → Answers s running (ClassifiedRule s config alloc (classes_with values stop trace)) (record { reply = reply; deed = deeds.Nothing })
+stopped-at s running config alloc values stops.Done trace reply is = absurd cc
+stopped-at s running config alloc values stops.Unmanaged trace reply is =
+    let same : reply ≡ replies.NotManaged trace = cc in
+    classified-err s running config alloc (classes_with values stops.Unmanaged trace) reply (replies.NotManaged trace) refl same (rw same refl)
+stopped-at s running config alloc values (stops.Exit kind code) trace reply is =
+    let same : reply ≡ replies.Exit kind code trace = cc in
+    classified-err s running config alloc (classes_with values (stops.Exit kind code) trace) reply (replies.Exit kind code trace) refl same (rw same refl)
+stopped-at s running config alloc values (stops.Unknown kind name) trace reply is =
+    let same : reply ≡ replies.UnknownClass kind name trace = cc in
+    classified-err s running config alloc (classes_with values (stops.Unknown kind name) trace) reply (replies.UnknownClass kind name trace) refl same (rw same refl)
+stopped-at s running config alloc values stops.NoGroup trace reply is =
+    let same : reply ≡ replies.NoGroup trace = cc in
+    classified-err s running config alloc (classes_with values stops.NoGroup trace) reply (replies.NoGroup trace) refl same (rw same refl)
 
-pub stopped-answers : (s : DeskState) (running : Running) (config : Configuration) (alloc : Alloc) (classes : Classes) (stop : Stop) (trace : Trace) (reply : Reply) (result : Result Trace Reply) → classes.stop ≡ stop → trace_of classes ≡ trace → result ≡ Err reply
-    → MatchResult (answer_of stop classes) (λ done. result ≡ Ok trace) (λ answer. result ≡ Err answer)
-    → Answers s running (ClassifiedRule s config alloc classes) (record { reply = reply; deed = deeds.Nothing })
-stopped-answers s running config alloc classes stop trace reply result stops written err is =
-    stopped-at s running config alloc classes stop trace reply stops written
-    (subst (λ (r : Result Trace Reply). MatchResult (answer_of stop classes) (λ done. r ≡ Ok trace) (λ answer. r ≡ Err answer)) err is)
+pub stopped-answers : (s : DeskState) (running : Running) (config : Configuration) (alloc : Alloc) (values : Values) (stop : Stop) (trace : Trace) (reply : Reply) (result : Result Trace Reply) → result ≡ Err reply
+    → MatchResult (answer_of stop (classes_with values stop trace)) (λ done. result ≡ Ok trace) (λ answer. result ≡ Err answer)
+    → Answers s running (ClassifiedRule s config alloc (classes_with values stop trace)) (record { reply = reply; deed = deeds.Nothing })
+stopped-answers s running config alloc values stop trace reply result err is =
+    stopped-at s running config alloc values stop trace reply
+    (subst (λ (r : Result Trace Reply). MatchResult (answer_of stop (classes_with values stop trace)) (λ done. r ≡ Ok trace) (λ answer. r ≡ Err answer)) err is)
 
 -- it is done, and the trace is handed back
 pub record IsDone (stop : Stop) (given trace : Trace) : Type 0 where
@@ -153,51 +144,29 @@ done-at classes (stops.Unknown kind name) trace given is = absurd cc
 done-at classes stops.NoGroup trace given is = absurd cc
 
 pub is-done : (values : Values) (stop : Stop) (trace given : Trace) (result : Result Trace Reply) → result ≡ Ok given
-    → ((classes : Classes) → trace_of classes ≡ trace → MatchResult (answer_of stop classes) (λ done. result ≡ Ok trace) (λ answer. result ≡ Err answer)) → IsDone stop given trace
-is-done values stop trace given result ok all =
-    let classes : Classes = record { values = values; written = record { lines = trace.lines; more = trace.more }; stop = stop } in
-    done-at classes stop trace given
-    (subst (λ (r : Result Trace Reply). MatchResult (answer_of stop classes) (λ done. r ≡ Ok trace) (λ answer. r ≡ Err answer)) ok (all classes refl))
+    → MatchResult (answer_of stop (classes_with values stop trace)) (λ done. result ≡ Ok trace) (λ answer. result ≡ Err answer) → IsDone stop given trace
+is-done values stop trace given result ok is =
+    done-at (classes_with values stop trace) stop trace given
+    (subst (λ (r : Result Trace Reply). MatchResult (answer_of stop (classes_with values stop trace)) (λ done. r ≡ Ok trace) (λ answer. r ≡ Err answer)) ok is)
 
--- there is no space
-spaceless-answers : (s : DeskState) (running : Running) (config : Configuration) (alloc : Alloc) (classes : Classes) (trace : Trace) → classes.stop ≡ stops.Done → trace_of classes ≡ trace
-    → space_of alloc (data_class_of config classes.values.dataclas) ≡ None
-    → Answers s running (ClassifiedRule s config alloc classes) (record { reply = replies.NoQuantity trace; deed = deeds.Nothing })
-spaceless-answers s running config alloc classes trace done written none =
-    classified-err s running config alloc classes (replies.NoQuantity trace) (replies.NoQuantity (trace_of classes)) (rw (done, none) refl) (ap replies.NoQuantity (sym written)) refl
+-- it is done, and there is no space
+pub spaceless-answers : (s : DeskState) (running : Running) (config : Configuration) (alloc : Alloc) (values : Values) (stop : Stop) (trace given : Trace) → IsDone stop given trace
+    → space_of alloc (data_class_of config values.dataclas) ≡ None
+    → Answers s running (ClassifiedRule s config alloc (classes_with values stop trace)) (record { reply = replies.NoQuantity given; deed = deeds.Nothing })
+spaceless-answers s running config alloc values stop trace given is none =
+    subst (λ (t : Trace). Answers s running (ClassifiedRule s config alloc (classes_with values stop t)) (record { reply = replies.NoQuantity given; deed = deeds.Nothing })) is.same
+    (subst (λ (p : Stop). Answers s running (ClassifiedRule s config alloc (classes_with values p given)) (record { reply = replies.NoQuantity given; deed = deeds.Nothing })) (sym is.done)
+    (classified-err s running config alloc (classes_with values stops.Done given) (replies.NoQuantity given) (replies.NoQuantity given) (rw none refl) refl refl))
 
-pub wishless-answers : (s : DeskState) (running : Running) (config : Configuration) (alloc : Alloc) (values : Values) (stop : Stop) (classes : Classes) (trace given : Trace) → IsDone stop given trace
-    → None ≡ option_map (wish_under config alloc values) (space_of alloc (data_class_of config values.dataclas)) → classes.values ≡ values → classes.stop ≡ stop → trace_of classes ≡ trace
-    → Answers s running (ClassifiedRule s config alloc classes) (record { reply = replies.NoQuantity given; deed = deeds.Nothing })
-wishless-answers s running config alloc values stop classes trace given is none same stops_so written =
-    spaceless-answers s running config alloc classes given (stops_so ∙ is.done) (written ∙ sym is.same)
-    (ap (λ (v : Values). space_of alloc (data_class_of config v.dataclas)) same ∙ none-mapped (wish_under config alloc values) (space_of alloc (data_class_of config values.dataclas)) none)
-
--- there is a space
-pub spaced-answers : (s : DeskState) (running : Running) (config : Configuration) (alloc : Alloc) (classes : Classes) (space : Quantities) (made : Decision) → classes.stop ≡ stops.Done
-    → space_of alloc (data_class_of config classes.values.dataclas) ≡ Some space → Answers s running (GrantRule s alloc (wish_with alloc config classes space)) made
-    → Answers s running (ClassifiedRule s config alloc classes) made
-spaced-answers s running config alloc classes space made done there answers =
-    let case : (went_through classes ⊳ space_case alloc config) ≡ Ok (wish_with alloc config classes space) = rw (done, there) refl in
-    record { rule = rw case answers.rule; tells = answers.tells; fits = answers.fits }
-
-wished-at : (s : DeskState) (after : Running) (config : Configuration) (alloc : Alloc) (values : Values) (classes : Classes) (given : Trace) (wish : Wish) (made : Decision) (o : Option Quantities)
-    → space_of alloc (data_class_of config values.dataclas) ≡ o → Some wish ≡ option_map (wish_under config alloc values) o → classes.values ≡ values → classes.stop ≡ stops.Done → trace_of classes ≡ given → s.active ≡ Some config
-    → ((asked : Asked) → s.active ≡ Some asked.config → wish ≡ wish_of asked → trace_of asked.classes ≡ given → Answers s after (GrantRule s alloc asked) made)
-    → Answers s after (ClassifiedRule s config alloc classes) made
-wished-at s after config alloc values classes given wish made None space some same done written active next = absurd cc
-wished-at s after config alloc values classes given wish made (Some q) space some same done written active next =
-    let is : wish ≡ wish_under config alloc values q = cc in
-    let asked : wish ≡ wish_of (wish_with alloc config classes q) = is ∙ ap (λ (v : Values). wish_under config alloc v q) (sym same) in
-    spaced-answers s after config alloc classes q made done (ap (λ (v : Values). space_of alloc (data_class_of config v.dataclas)) same ∙ space)
-    (next (wish_with alloc config classes q) active asked written)
-
-pub wished-answers : (s : DeskState) (after : Running) (config : Configuration) (alloc : Alloc) (values : Values) (stop : Stop) (classes : Classes) (trace given : Trace) (wish : Wish) (made : Decision)
-    → IsDone stop given trace → Some wish ≡ option_map (wish_under config alloc values) (space_of alloc (data_class_of config values.dataclas)) → classes.values ≡ values → classes.stop ≡ stop → trace_of classes ≡ trace → s.active ≡ Some config
-    → ((asked : Asked) → s.active ≡ Some asked.config → wish ≡ wish_of asked → trace_of asked.classes ≡ given → Answers s after (GrantRule s alloc asked) made)
-    → Answers s after (ClassifiedRule s config alloc classes) made
-wished-answers s after config alloc values stop classes trace given wish made is some same stops_so written active next =
-    wished-at s after config alloc values classes given wish made _ refl some same (stops_so ∙ is.done) (written ∙ sym is.same) active next
+-- it is done, and there is a space
+pub spaced-answers : (s : DeskState) (running : Running) (config : Configuration) (alloc : Alloc) (values : Values) (stop : Stop) (trace given : Trace) (space : Quantities) (made : Decision) → IsDone stop given trace
+    → space_of alloc (data_class_of config values.dataclas) ≡ Some space → Answers s running (GrantRule s alloc (wish_with alloc config (classes_with values stops.Done given) space)) made
+    → Answers s running (ClassifiedRule s config alloc (classes_with values stop trace)) made
+spaced-answers s running config alloc values stop trace given space made is there answers =
+    let case : (went_through (classes_with values stops.Done given) ⊳ space_case alloc config) ≡ Ok (wish_with alloc config (classes_with values stops.Done given) space) = rw there refl in
+    let done : Answers s running (ClassifiedRule s config alloc (classes_with values stops.Done given)) made = record { rule = rw case answers.rule; tells = answers.tells; fits = answers.fits } in
+    subst (λ (t : Trace). Answers s running (ClassifiedRule s config alloc (classes_with values stop t)) made) is.same
+    (subst (λ (p : Stop). Answers s running (ClassifiedRule s config alloc (classes_with values p given)) made) (sym is.done) done)
 
 -- All lines.
 
@@ -208,18 +177,22 @@ alloc-classified s running after job alloc config made is configured none answer
     let unused : set_named alloc.input.dsn s.sets ≡ None = sym (is.sets alloc.input.dsn) ∙ none in
     let case : alloc_case s job alloc ≡ (went_through (classes_of config job alloc) ⊳ space_case alloc config) = rw (active, unused) refl in
     record {
-      rule = subst (λ (r : Result Asked Reply). MatchResult r (λ asked. GrantRule s alloc asked made.reply (state_with s (effect_of made.deed) (config_of made.deed))) (λ answer. Leaves s answer made.reply (state_with s (effect_of made.deed) (config_of made.deed)))) (sym case) answers.rule;
+      rule = subst (λ (r : Result Wish Reply). MatchResult r (λ wish. GrantRule s alloc wish made.reply (state_with s (effect_of made.deed) (config_of made.deed))) (λ answer. Leaves s answer made.reply (state_with s (effect_of made.deed) (config_of made.deed)))) (sym case) answers.rule;
       tells = answers.tells;
       fits = answers.fits;
     }
 
+-- the classes of a classification, from its parts
+parts-are : (classes : Classes) (values : Values) (stop : Stop) (trace : Trace) → values ≡ classes.values → stop ≡ classes.stop → trace ≡ trace_of classes → classes_with values stop trace ≡ classes
+parts-are classes values stop trace same stops_so written =
+    ap (λ (v : Values). classes_with v stop trace) same ∙ (ap (λ (p : Stop). classes_with classes.values p trace) stops_so ∙ ap (classes_with classes.values classes.stop) written)
+
 pub alloc-made : (s : DeskState) (running after : Running) (job : List ℕ) (alloc : Alloc) (config classified_with decided_with : Configuration) (values : Values) (stop : Stop) (trace : Trace) (made : Decision) → IsRunning s running
     → running.config ≡ Some config → set_in alloc.input.dsn running.catalog.sets ≡ None → classified_with ≡ config → decided_with ≡ config
     → values ≡ (classes_of classified_with job alloc).values → stop ≡ (classes_of classified_with job alloc).stop → trace ≡ trace_of (classes_of classified_with job alloc)
-    → ((classes : Classes) → classes.values ≡ values → classes.stop ≡ stop → trace_of classes ≡ trace → Answers s after (ClassifiedRule s decided_with alloc classes) made)
-    → Answers s after (AllocRule s job alloc) made
-alloc-made s running after job alloc config classified_with decided_with values stop trace made is configured none first second same stops_so written next =
-    let answers = next (classes_of classified_with job alloc) (sym same) (sym stops_so) (sym written) in
+    → Answers s after (ClassifiedRule s decided_with alloc (classes_with values stop trace)) made → Answers s after (AllocRule s job alloc) made
+alloc-made s running after job alloc config classified_with decided_with values stop trace made is configured none first second same stops_so written answers =
     alloc-classified s running after job alloc config made is configured none
     (subst (λ (k : Configuration). Answers s after (ClassifiedRule s config alloc (classes_of k job alloc)) made) first
-    (subst (λ (k : Configuration). Answers s after (ClassifiedRule s k alloc (classes_of classified_with job alloc)) made) second answers))
+    (subst (λ (k : Configuration). Answers s after (ClassifiedRule s k alloc (classes_of classified_with job alloc)) made) second
+    (subst (λ (c : Classes). Answers s after (ClassifiedRule s decided_with alloc c) made) (parts-are (classes_of classified_with job alloc) values stop trace same stops_so written) answers)))

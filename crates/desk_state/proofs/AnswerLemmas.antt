@@ -19,9 +19,8 @@ use Rattle.desk_law.specs.Deletion.{DeleteRule}
 use Rattle.desk_law.specs.Extents.{front_tracks, tracks_of_set, with_extents}
 use Rattle.desk_law.specs.Releasing.{ReleaseRule, kept_of, tracks_kept}
 use Rattle.desk_law.specs.Usage.{UsedRule}
-use Rattle.desk_law.proofs.SetLemmas.{name-is}
+use Rattle.desk_law.proofs.SetLemmas.{found-extents}
 use Rattle.desk_records.specs.Effects.{tells_nothing}
-use Rattle.sms_volumes.specs.Holding.{extents_if, extents_named}
 use Rattle.desk_state.specs.Answering.{Answers}
 use Rattle.desk_state.specs.Catalog.{set_in}
 use Rattle.desk_state.specs.Standing.{IsRunning}
@@ -31,12 +30,6 @@ use Rattle.desk_state.specs.declared.running.Running.{Running}
 -- a decision with which nothing is done
 pub quiet-answers : (s : DeskState) (running : Running) (R : Reply → DeskState → Type 0) (reply : Reply) → R reply s → tells_nothing reply ≡ true → Answers s running R (record { reply = reply; deed = deeds.Nothing })
 quiet-answers s running R reply rule tells = record { rule = rule; tells = tells; fits = tt }
-
--- what the data set of a name holds
-pub named-extents : (dsn : List ℕ) (sets : List DataSet) (set : DataSet) → set_named dsn sets ≡ Some set → extents_named set.dsn sets ≡ set.extents
-named-extents dsn sets set found =
-    let name : set.dsn ≡ dsn = name-is dsn sets set found in
-    ap (λ n. extents_named n sets) name ∙ ap extents_if found
 
 -- USED.
 
@@ -59,7 +52,7 @@ used-noted s running dsn tracks set is found fits =
     record {
       rule = rw (there, fits) (record { reply_is = refl; after_is = refl });
       tells = refl;
-      fits = sym (named-extents dsn s.sets set there);
+      fits = sym (found-extents dsn s.sets set there);
     }
 
 -- DELETE.
@@ -91,7 +84,7 @@ release-done s running dsn set is found =
     record {
       rule = rw there (record { reply_is = refl; after_is = refl });
       tells = refl;
-      fits = record { keep = tracks_kept set; extents = ap (front_tracks (tracks_kept set)) (sym (named-extents dsn s.sets set there)) };
+      fits = record { keep = tracks_kept set; extents = ap (front_tracks (tracks_kept set)) (sym (found-extents dsn s.sets set there)) };
     }
 
 -- PURGE.

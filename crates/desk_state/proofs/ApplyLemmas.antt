@@ -1,46 +1,28 @@
 -- The running state stands for the state that a deed makes.
-use Rattle.std.proofs.Common.{Bor, ◌≡◌, ◌<◌, ℕ, Bool, true, false, cond, List, [], ◌∷◌, length, map, refl, sym, ap, ◌∙◌, subst, arith}
-use Rattle.std.specs.Prelude.{Option, None, Some, IfSome, bytes_eq}
+use Rattle.std.proofs.Common.{Bor, ◌≡◌, ℕ, Bool, true, false, cond, List, [], ◌∷◌, refl, sym, ap, ◌∙◌, subst}
+use Rattle.std.specs.Prelude.{Option, None, Some, bytes_eq}
 use Rattle.std.specs.Option.{option_copied}
-use Rattle.std.proofs.lemmas.List.{length-map}
 use Rattle.sms_construct.specs.Configuration.{Configuration}
 use Rattle.sms_construct.specs.declared.data_set.DataSet.{DataSet}
 use Rattle.sms_construct.specs.declared.status.Status.{Status}
 use Rattle.sms_construct.specs.declared.target.Target.{Target}
-use Rattle.sms_construct.specs.declared.volume.VolumeDef.{VolumeDef}
 use Rattle.sms_keeper.specs.Tables.{put_set, without_set}
 use Rattle.sms_keeper.specs.declared.effect.Effect.TheVariants as effects
 use Rattle.sms_keeper.specs.declared.status_row.StatusRow.{StatusRow}
 use Rattle.desk_law.specs.State.{DeskState, set_named, with_set, with_status, without_name}
 use Rattle.desk_law.specs.Activation.{activated}
-use Rattle.desk_law.specs.Extents.{front_tracks}
-use Rattle.desk_law.specs.Lawful.{IsLawful, IsLawfulSet}
-use Rattle.desk_law.specs.Volumes.{volumes_in}
+use Rattle.desk_law.specs.Extents.{extents_if, extents_named, front_tracks}
+use Rattle.desk_law.specs.Lawful.{IsLawful}
 use Rattle.desk_law.proofs.ByteLemmas.{same-bytes}
-use Rattle.desk_law.proofs.SetLemmas.{each-named}
-use Rattle.desk_law.proofs.VolumeLemmas.{AreSome}
 use Rattle.desk_records.specs.Effects.{state_with}
-use Rattle.desk_records.proofs.TiedLemmas.{each-weaker}
-use Rattle.sms_volumes.specs.Holding.{AreVolumesOf, extents_if, extents_named}
-use Rattle.sms_volumes.specs.declared.active_volume.ActiveVolume.{ActiveVolume}
+use Rattle.sms_volumes.specs.Holding.{AreVolumesOf}
 use Rattle.sms_volumes.specs.declared.active_volumes.ActiveVolumes.{ActiveVolumes}
 use Rattle.sms_volumes.proofs.NamedLemmas.{named-gone, named-put, named-put-other, named-without}
 use Rattle.sms_volumes.proofs.RunningLemmas.{all-same}
 use Rattle.desk_state.specs.Catalog.{set_in}
-use Rattle.desk_state.specs.Deeds.{HasFront, IsInUnits, IsNext}
+use Rattle.desk_state.specs.Deeds.{HasFront, IsNext}
 use Rattle.desk_state.specs.Standing.{IsRunning}
 use Rattle.desk_state.specs.declared.running.Running.{Running}
-
--- the volumes of one configuration are as many
-same-count : (config : List VolumeDef) (a b : List ActiveVolume) → map (λ (v : ActiveVolume). v.volume) a ≡ config → map (λ (v : ActiveVolume). v.volume) b ≡ config → length b ≡ length a
-same-count config a b is also =
-    sym (length-map b (λ (v : ActiveVolume). v.volume)) ∙ (ap length (also ∙ sym is) ∙ length-map a (λ (v : ActiveVolume). v.volume))
-
-few-still : (s t : DeskState) (running after : ActiveVolumes) → t.active ≡ s.active → AreVolumesOf s running → AreVolumesOf t after → length running.volumes.items < 4294967296 → length after.volumes.items < 4294967296
-few-still s t running after active are now few =
-    let same : length after.volumes.items ≡ length running.volumes.items =
-    same-count (volumes_in s.active) running.volumes.items after.volumes.items are.volumes_are (now.volumes_are ∙ ap volumes_in active) in
-    omega (arith, same, few)
 
 -- A data set is put in place of the one of its name.
 
@@ -48,20 +30,14 @@ put-found : (sets : List DataSet) (set : DataSet) (dsn : List ℕ) (old new : Op
 put-found sets set dsn old new true is put same = put ∙ sym (named-put set dsn sets is)
 put-found sets set dsn old new false is put same = put ∙ (same ∙ sym (named-put-other set dsn sets is))
 
-put-units : (set : DataSet) (old new : Option DataSet) (b : Bool) → new ≡ cond b (Some set) old → IsInUnits set → IfSome old IsInUnits → IfSome new IsInUnits
-put-units set old new true put units were = subst (λ (o : Option DataSet). IfSome o IsInUnits) (sym put) units
-put-units set old new false put units were = subst (λ (o : Option DataSet). IfSome o IsInUnits) (sym put) were
-
-pub put-running : (s : DeskState) (set : DataSet) (running after : Running) → after.activations ≡ running.activations → after.config ≡ running.config → IsInUnits set
+pub put-running : (s : DeskState) (set : DataSet) (running after : Running) → after.activations ≡ running.activations → after.config ≡ running.config
     → ((dsn : List ℕ) → set_in dsn after.catalog.sets ≡ cond (bytes_eq set.dsn dsn) (Some set) (set_in dsn running.catalog.sets))
     → AreVolumesOf (with_set s set) after.volumes → IsRunning s running → IsRunning (with_set s set) after
-put-running s set running after activations config units put now is = record {
+put-running s set running after activations config put now is = record {
   activations = activations ∙ is.activations;
   active = config ∙ is.active;
   volumes = now;
   sets = λ dsn. put-found s.sets set dsn (set_in dsn running.catalog.sets) (set_in dsn after.catalog.sets) (bytes_eq set.dsn dsn) refl (put dsn) (is.sets dsn);
-  few = few-still s (with_set s set) running.volumes after.volumes refl is.volumes now is.few;
-  units = λ dsn. put-units set (set_in dsn running.catalog.sets) (set_in dsn after.catalog.sets) (bytes_eq set.dsn dsn) (put dsn) units (is.units dsn);
 }
 
 -- The data set of a name is dropped.
@@ -71,10 +47,6 @@ drop-found sets dsn other old new true is drop same =
     drop ∙ sym (ap (λ n. set_named other (without_set n sets)) (same-bytes dsn other is) ∙ named-gone other sets)
 drop-found sets dsn other old new false is drop same = drop ∙ (same ∙ sym (named-without dsn other sets is))
 
-drop-units : (old new : Option DataSet) (b : Bool) → new ≡ cond b None old → IfSome old IsInUnits → IfSome new IsInUnits
-drop-units old new true drop were = subst (λ (o : Option DataSet). IfSome o IsInUnits) (sym drop) tt
-drop-units old new false drop were = subst (λ (o : Option DataSet). IfSome o IsInUnits) (sym drop) were
-
 pub drop-running : (s : DeskState) (dsn : List ℕ) (running after : Running) → after.activations ≡ running.activations → after.config ≡ running.config
     → ((other : List ℕ) → set_in other after.catalog.sets ≡ cond (bytes_eq dsn other) None (set_in other running.catalog.sets))
     → AreVolumesOf (without_name s dsn) after.volumes → IsRunning s running → IsRunning (without_name s dsn) after
@@ -83,8 +55,6 @@ drop-running s dsn running after activations config drop now is = record {
   active = config ∙ is.active;
   volumes = now;
   sets = λ other. drop-found s.sets dsn other (set_in other running.catalog.sets) (set_in other after.catalog.sets) (bytes_eq dsn other) refl (drop other) (is.sets other);
-  few = few-still s (without_name s dsn) running.volumes after.volumes refl is.volumes now is.few;
-  units = λ other. drop-units (set_in other running.catalog.sets) (set_in other after.catalog.sets) (bytes_eq dsn other) (drop other) (is.units other);
 }
 
 absent-at : (dsn : List ℕ) (set : DataSet) (sets : List DataSet) (b : Bool) → bytes_eq set.dsn dsn ≡ b → (set_named dsn sets ≡ None → without_set dsn sets ≡ sets)
@@ -104,16 +74,6 @@ without-absent s dsn running none are =
     let same : without_name s dsn ≡ s = ap (λ (l : List DataSet). record { activations = s.activations; active = s.active; statuses = s.statuses; sets = l }) (absent dsn s.sets none) in
     subst (λ (t : DeskState). AreVolumesOf t running) (sym same) are
 
--- The extents of lawful data sets.
-
-some-at : (s : DeskState) (dsn : List ℕ) (o : Option DataSet) → set_named dsn s.sets ≡ o → IsLawful s → AreSome (extents_if o)
-some-at s dsn None is lawful = tt
-some-at s dsn (Some set) is lawful = each-weaker _ _ (λ e inside. inside.0) set.extents (each-named (IsLawfulSet (volumes_in s.active)) dsn s.sets set lawful.sets is).inside
-
--- none of them is empty
-pub some-extents : (s : DeskState) (dsn : List ℕ) → IsLawful s → AreSome (extents_named dsn s.sets)
-some-extents s dsn lawful = some-at s dsn (set_named dsn s.sets) refl lawful
-
 -- what is found nowhere
 pub copied-none : (o : Option (Bor DataSet)) → ((x : Bor DataSet) → o ≡ Some x → ⊥) → option_copied o ≡ None
 copied-none None none = refl
@@ -128,18 +88,14 @@ front-none s set running none front lawful are =
 -- A configuration becomes active.
 
 pub become-running : (s : DeskState) (count : ℕ) (config : Configuration) (volumes : ActiveVolumes) (statuses : List StatusRow) (running after : Running)
-    → after.activations ≡ count → after.config ≡ Some config → after.catalog ≡ running.catalog → length volumes.volumes.items < 4294967296
+    → after.activations ≡ count → after.config ≡ Some config → after.catalog ≡ running.catalog
     → IsNext s count config volumes statuses → AreVolumesOf (activated s config) after.volumes → IsRunning s running → IsRunning (activated s config) after
-become-running s count config volumes statuses running after activations active catalog few next now is =
-    let same : length after.volumes.volumes.items ≡ length volumes.volumes.items =
-    same-count config.volumes volumes.volumes.items after.volumes.volumes.items next.next.volumes_are now.volumes_are in
+become-running s count config volumes statuses running after activations active catalog next now is =
     record {
       activations = activations ∙ next.counted;
       active = active;
       volumes = now;
       sets = λ dsn. ap (λ c. set_in dsn c.sets) catalog ∙ is.sets dsn;
-      few = omega (arith, same, few);
-      units = λ dsn. subst (λ (o : Option DataSet). IfSome o IsInUnits) (sym (ap (λ c. set_in dsn c.sets) catalog)) (is.units dsn);
     }
 
 -- the statuses that it brings are those of the state
@@ -157,6 +113,4 @@ vary-running s target status running after activations config catalog now is = r
   active = config ∙ is.active;
   volumes = now;
   sets = λ dsn. ap (λ c. set_in dsn c.sets) catalog ∙ is.sets dsn;
-  few = few-still s (with_status s target status) running.volumes after.volumes refl is.volumes now is.few;
-  units = λ dsn. subst (λ (o : Option DataSet). IfSome o IsInUnits) (sym (ap (λ c. set_in dsn c.sets) catalog)) (is.units dsn);
 }

@@ -20,13 +20,13 @@ use Rattle.sms_keeper.specs.Suits.{SuitsOp, deck_of, has_status}
 use Rattle.sms_keeper.specs.declared.status_row.StatusRow.{StatusRow}
 use Rattle.desk_law.specs.State.{DeskState, set_named}
 use Rattle.desk_law.specs.Activation.{ActivateRule, first_barred, row_of_group, row_of_volume, statuses_under}
-use Rattle.desk_law.specs.Allocation.{AllocRule, GrantsOn, Wish, alloc_case, candidates_of, data_class_of, space_case, space_of, want_of, wish_with}
+use Rattle.desk_law.specs.Allocation.{AllocRule, GrantsOn, Wish, alloc_case, ask_of, candidates_of, data_class_of, space_case, space_of, wish_with}
 use Rattle.desk_law.specs.Candidates.{Chosen}
 use Rattle.desk_law.specs.Classification.{Classes, answer_of, classes_of, trace_of, went_through}
 use Rattle.desk_law.specs.declared.stop.Stop.{Stop}
 use Rattle.desk_law.specs.declared.stop.Stop.TheVariants as stops
 use Rattle.desk_law.specs.Display.{reply_for_none, view_of_target}
-use Rattle.desk_law.specs.Extension.{ExtendRule, ExtendsOn, FurtherRule, extend_case, first_volume, growth_on, last_volume, others_of, want_more}
+use Rattle.desk_law.specs.Extension.{ExtendRule, ExtendsOn, FurtherRule, ask_more, extend_case, first_volume, growth_on, last_volume, others_of}
 use Rattle.desk_law.specs.Extents.{tracks_of_set, volumes_of}
 use Rattle.desk_law.specs.Purging.{PurgeRule}
 use Rattle.desk_law.specs.Replies.{Leaves, Makes, found_or, reply_if, ◌⊳◌}
@@ -133,7 +133,7 @@ alloc-plain s job alloc reply after rule =
     (λ wish e chosen. choice wish chosen)
     (λ answer e leaves. plain-left s answer reply after (none-alloc s job alloc answer e) leaves)
   where
-    choice : (wish : Wish) → Chosen s wish.space.unit (want_of wish) (candidates_of wish) (Leaves s (replies.NoVolume (trace_of wish.classes)) reply after) (λ volume. GrantsOn s alloc wish volume reply after) → IsPlain s reply after
+    choice : (wish : Wish) → Chosen s (ask_of wish) (candidates_of wish) (Leaves s (replies.NoVolume (trace_of wish.classes)) reply after) (λ volume. GrantsOn s alloc wish volume reply after) → IsPlain s reply after
     choice wish (inl rejected) = plain-left s _ reply after refl rejected.1
     choice wish (inr one) = plain-made s _ _ reply after refl refl one.does.makes
 
@@ -141,7 +141,7 @@ further-plain : (s : DeskState) (set : DataSet) (reply : Reply) (after : DeskSta
 further-plain s set reply after rule =
     on-bool (nat_lt (length (volumes_of set.extents)) set.volumes) _ _ (IsPlain s reply after) rule (λ e chosen. choice chosen) (λ e leaves. plain-left s _ reply after refl leaves)
   where
-    choice : Chosen s set.unit (want_more set) (others_of s set (first_volume s set.extents)) (Leaves s (replies.NoExtend reasons.Room) reply after) (λ volume. ExtendsOn s set volume reply after) → IsPlain s reply after
+    choice : Chosen s (ask_more set) (others_of s set (first_volume s set.extents)) (Leaves s (replies.NoExtend reasons.Room) reply after) (λ volume. ExtendsOn s set volume reply after) → IsPlain s reply after
     choice (inl rejected) = plain-left s _ reply after refl rejected.1
     choice (inr one) = plain-made s _ _ reply after refl refl one.does.extends
 

@@ -1,23 +1,22 @@
 -- Decisions that are by the rule of EXTEND.
 use Rattle.std.proofs.Common.{◌≡◌, ℕ, zero, suc, ◌+◌, ◌-◌, Bool, true, false, List, [], ◌∷◌, ◌++◌, length, get_or, refl, sym, ap, ◌∙◌, subst, arith, inl, inr}
-use Rattle.std.specs.Prelude.{◌==◌, ◌||◌, ◌&&◌, ◌%◌, Option, None, Some, IfSome, MatchOption, MatchBool, bytes_eq, filter, nat_lt, not, option_map, slice_get}
+use Rattle.std.specs.Prelude.{◌==◌, ◌||◌, ◌&&◌, Option, None, Some, MatchOption, MatchBool, bytes_eq, filter, nat_lt, not, option_map, slice_get}
 use Rattle.std.proofs.lemmas.Option.{get_or_from_slice_get, slice_get_within}
-use Rattle.sms_construct.specs.Quantities.{tracks_in}
 use Rattle.sms_construct.specs.declared.data_set.DataSet.{DataSet}
 use Rattle.sms_construct.specs.declared.extent.Extent.{Extent}
 use Rattle.sms_construct.specs.declared.reply.Reply.TheVariants as replies
 use Rattle.sms_construct.specs.declared.volume.VolumeDef.{VolumeDef}
 use Rattle.sms_construct.specs.declared.why_no_extend.WhyNoExtend.TheVariants as reasons
-use Rattle.track_ledger.specs.declared.need.Need.{Need}
 use Rattle.desk_law.specs.State.{DeskState, set_named, with_set}
-use Rattle.desk_law.specs.Candidates.{Chosen}
-use Rattle.desk_law.specs.Extension.{ExtendRule, Extends, ExtendsOn, bars_growth, extended, first_volume, growth_on, last_volume, others_of, want_more}
+use Rattle.desk_law.specs.Candidates.{Ask, Chosen}
+use Rattle.desk_law.specs.Extension.{ExtendRule, Extends, ExtendsOn, ask_more, bars_growth, extended, first_volume, growth_on, last_volume, others_of}
 use Rattle.desk_law.specs.Extents.{extents_at, is_among, is_used, volumes_after, volumes_of}
 use Rattle.desk_law.specs.Replies.{Leaves}
 use Rattle.desk_law.specs.Statuses.{bars_group_growth, bars_volume_growth, group_status, volume_status}
 use Rattle.desk_law.specs.Volumes.{groups_in, volume_named, volumes_in}
 use Rattle.desk_law.proofs.ByteLemmas.{same-bytes}
 use Rattle.desk_law.proofs.PlaceLemmas.{each-at}
+use Rattle.desk_law.proofs.SetLemmas.{found-extents}
 use Rattle.sms_volumes.specs.Changing.{running_at}
 use Rattle.sms_volumes.specs.Holding.{AreVolumesOf, IsGroupOf, IsVolumeOf}
 use Rattle.sms_volumes.specs.Viewing.{running_named}
@@ -30,12 +29,12 @@ use Rattle.desk_state.specs.Answering.{Answers}
 use Rattle.desk_state.specs.Catalog.{set_in}
 use Rattle.desk_state.specs.Deeds.{HasMore}
 use Rattle.desk_state.specs.Granting.{IsGrantAmong, IsGranted}
-use Rattle.desk_state.specs.Growing.{Grows, IsGrowable, added_of, need_more}
+use Rattle.desk_state.specs.Growing.{Grows, IsGrowable, added_of}
 use Rattle.desk_state.specs.Standing.{IsSomeState}
 use Rattle.desk_state.specs.declared.deed.Deed.TheVariants as deeds
 use Rattle.desk_state.specs.declared.grant.Grant.{Grant}
 use Rattle.desk_state.specs.declared.running.Running.{Running}
-use Rattle.desk_state.proofs.AnswerLemmas.{named-extents, quiet-answers}
+use Rattle.desk_state.proofs.AnswerLemmas.{quiet-answers}
 use Rattle.desk_state.proofs.FewLemmas.{found-lawful}
 
 -- Which volumes there are.
@@ -124,22 +123,22 @@ others-are group es (d ∷ volumes) = others-at group es d volumes _ _ refl refl
 -- What is granted is by the rule.
 
 grown-at : (s : DeskState) (set : DataSet) (grant : Grant) (o : Option (List Extent)) (b : Bool)
-    → MatchOption o (MatchBool b (IsGrantAmong s (others_of s set (first_volume s set.extents)) (need_more set 0) set.volumes (Some grant)) (◌≡◌ {A = Option Grant} (Some grant) None)) (λ added. ◌≡◌ {A = Option (List Extent)} (Some (added_of grant)) (Some added))
+    → MatchOption o (MatchBool b (IsGrantAmong s (others_of s set (first_volume s set.extents)) (ask_more set) (Some grant)) (◌≡◌ {A = Option Grant} (Some grant) None)) (λ added. ◌≡◌ {A = Option (List Extent)} (Some (added_of grant)) (Some added))
     → MatchOption o
     (MatchBool b
-    (Chosen s set.unit (want_more set) (others_of s set (first_volume s set.extents)) (Leaves s (replies.NoExtend reasons.Room) (replies.Extended (added_of grant)) (with_set s (extended set (added_of grant))))
+    (Chosen s (ask_more set) (others_of s set (first_volume s set.extents)) (Leaves s (replies.NoExtend reasons.Room) (replies.Extended (added_of grant)) (with_set s (extended set (added_of grant))))
     (λ volume. ExtendsOn s set volume (replies.Extended (added_of grant)) (with_set s (extended set (added_of grant)))))
     (Leaves s (replies.NoExtend reasons.Room) (replies.Extended (added_of grant)) (with_set s (extended set (added_of grant)))))
     (λ added. Extends s set added (replies.Extended (added_of grant)) (with_set s (extended set (added_of grant))))
 grown-at s set grant None true chosen =
-    let of : VolumeDef → List Extent = λ (v : VolumeDef). extents_at v.volser grant.pieces in
+    let of : VolumeDef → List Extent = λ (v : VolumeDef). extents_at v.volser grant.pieces.items in
     inr (record {
       position = chosen.position;
       may = chosen.may;
       volume = chosen.volume;
       there = chosen.there;
       does = record {
-        pieces = grant.pieces;
+        pieces = grant.pieces.items;
         granted = chosen.does.rule;
         extends = record {
           reply_is = ap (λ (v : VolumeDef). replies.Extended (of v)) chosen.does.same;
@@ -154,7 +153,7 @@ grown-at s set grant (Some added) b is =
 
 -- a data set has what it had and what is granted
 has-grown : (s : DeskState) (running : Running) (dsn : List ℕ) (set : DataSet) (grant : Grant) → set_named dsn s.sets ≡ Some set → IsGranted running grant
-    → HasMore s.sets running (extended set (added_of grant)) grant.place grant.pieces
+    → HasMore s.sets running (extended set (added_of grant)) grant.place grant.pieces.items
 has-grown s running dsn set grant found granted =
     let there = granted.ready.at in
     let two : Some granted.ready.volume.volume ≡ Some grant.volume = sym (ap (option_map (λ (v : ActiveVolume). v.volume)) there) ∙ granted.named in
@@ -162,8 +161,8 @@ has-grown s running dsn set grant found granted =
     record {
       volume = granted.ready.volume;
       at = there;
-      extents = ap (λ (v : VolumeDef). set.extents ++ extents_at v.volser grant.pieces) same
-          ∙ sym (ap (λ (l : List Extent). l ++ extents_at granted.ready.volume.volume.volser grant.pieces) (named-extents dsn s.sets set found));
+      extents = ap (λ (v : VolumeDef). set.extents ++ extents_at v.volser grant.pieces.items) same
+          ∙ sym (ap (λ (l : List Extent). l ++ extents_at granted.ready.volume.volume.volser grant.pieces.items) (found-extents dsn s.sets set found));
     }
 
 pub extend-grown : (s : DeskState) (running : Running) (dsn : List ℕ) (set : DataSet) (grant : Grant) → set_named dsn s.sets ≡ Some set → (set.secondary == 0) ≡ false → IsGranted running grant → Grows s set (Some grant)
@@ -175,10 +174,10 @@ extend-grown s running dsn set grant found some granted grows = record {
 }
 
 ungrown-at : (s : DeskState) (set : DataSet) (o : Option (List Extent)) (b : Bool)
-    → MatchOption o (MatchBool b (IsGrantAmong s (others_of s set (first_volume s set.extents)) (need_more set 0) set.volumes None) (◌≡◌ {A = Option Grant} None None)) (λ added. ◌≡◌ {A = Option (List Extent)} None (Some added))
+    → MatchOption o (MatchBool b (IsGrantAmong s (others_of s set (first_volume s set.extents)) (ask_more set) None) (◌≡◌ {A = Option Grant} None None)) (λ added. ◌≡◌ {A = Option (List Extent)} None (Some added))
     → MatchOption o
     (MatchBool b
-    (Chosen s set.unit (want_more set) (others_of s set (first_volume s set.extents)) (Leaves s (replies.NoExtend reasons.Room) (replies.NoExtend reasons.Room) s)
+    (Chosen s (ask_more set) (others_of s set (first_volume s set.extents)) (Leaves s (replies.NoExtend reasons.Room) (replies.NoExtend reasons.Room) s)
     (λ volume. ExtendsOn s set volume (replies.NoExtend reasons.Room) s))
     (Leaves s (replies.NoExtend reasons.Room) (replies.NoExtend reasons.Room) s))
     (λ added. Extends s set added (replies.NoExtend reasons.Room) s)
@@ -217,19 +216,17 @@ others-of s set group (Some first) is =
     let same : group ≡ first.group = cc in
     ap (λ (g : List ℕ). filter (λ (v : VolumeDef). bytes_eq v.group g && not (is_used v.volser set.extents)) (volumes_in s.active)) same ∙ others-are first.group set.extents (volumes_in s.active)
 
-pub beside-granted : (s : DeskState) (set : DataSet) (group : List ℕ) (es : List Extent) (need : Need) (found : Option Grant) → es ≡ set.extents → need ≡ need_more set 0
+pub beside-granted : (s : DeskState) (set : DataSet) (group : List ℕ) (es : List Extent) (ask : Ask) (found : Option Grant) → es ≡ set.extents → ask ≡ ask_more set
     → Some group ≡ option_map (λ (d : VolumeDef). d.group) (first_volume s es)
-    → IsGrantAmong s (filter (λ (v : VolumeDef). bytes_eq v.group group && not (is_used v.volser es)) (volumes_in s.active)) need set.volumes found
-    → IsGrantAmong s (others_of s set (first_volume s set.extents)) (need_more set 0) set.volumes found
-beside-granted s set group es need found same needs first among =
+    → IsGrantAmong s (filter (λ (v : VolumeDef). bytes_eq v.group group && not (is_used v.volser es)) (volumes_in s.active)) ask found
+    → IsGrantAmong s (others_of s set (first_volume s set.extents)) (ask_more set) found
+beside-granted s set group es ask found same asks first among =
     let head : Some group ≡ option_map (λ (d : VolumeDef). d.group) (first_volume s set.extents) = subst (λ (l : List Extent). Some group ≡ option_map (λ (d : VolumeDef). d.group) (first_volume s l)) same first in
-    subst (λ (l : List VolumeDef). IsGrantAmong s l (need_more set 0) set.volumes found) (others-of s set group (first_volume s set.extents) head)
-    (subst (λ (n : Need). IsGrantAmong s (filter (λ (v : VolumeDef). bytes_eq v.group group && not (is_used v.volser set.extents)) (volumes_in s.active)) n set.volumes found) needs
-    (subst (λ (l : List Extent). IsGrantAmong s (filter (λ (v : VolumeDef). bytes_eq v.group group && not (is_used v.volser l)) (volumes_in s.active)) need set.volumes found) same among))
+    subst (λ (l : List VolumeDef). IsGrantAmong s l (ask_more set) found) (others-of s set group (first_volume s set.extents) head)
+    (subst (λ (a : Ask). IsGrantAmong s (filter (λ (v : VolumeDef). bytes_eq v.group group && not (is_used v.volser set.extents)) (volumes_in s.active)) a found) asks
+    (subst (λ (l : List Extent). IsGrantAmong s (filter (λ (v : VolumeDef). bytes_eq v.group group && not (is_used v.volser l)) (volumes_in s.active)) ask found) same among))
 
 -- what the catalog finds may grow
 pub found-growable : (running : Running) → IsSomeState running → (dsn : List ℕ) (set : DataSet) → set_in dsn running.catalog.sets ≡ Some set → IsGrowable set
-found-growable running some dsn set found = record {
-  units = subst (λ (o : Option DataSet). IfSome o (λ d. d.secondary % tracks_in d.unit ≡ 0)) found (some.stands.units dsn);
-  few = (found-lawful running some dsn set found).few;
-}
+found-growable running some dsn set found =
+    let lawful = found-lawful running some dsn set found in record { whole = lawful.whole; few = lawful.few }

@@ -1,7 +1,6 @@
 -- What a deed does to the records and to the state.
-use Rattle.std.specs.Prelude.{ℕ, ◌≡◌, ◌<◌, ◌%◌, ◌^◌, ◌++◌, ◌+◌, true, List, Option, None, Some, length, slice_get}
+use Rattle.std.specs.Prelude.{ℕ, ◌≡◌, ◌++◌, ◌+◌, true, List, Option, None, Some, IfSome, slice_get}
 use Rattle.sms_construct.specs.Configuration.{Configuration, IsConfiguration}
-use Rattle.sms_construct.specs.Quantities.{tracks_in}
 use Rattle.sms_construct.specs.declared.data_set.DataSet.{DataSet}
 use Rattle.sms_keeper.specs.Suits.{has_status}
 use Rattle.sms_keeper.specs.declared.effect.Effect.{Effect}
@@ -10,12 +9,12 @@ use Rattle.sms_keeper.specs.declared.status_row.StatusRow.{StatusRow}
 use Rattle.track_ledger.specs.declared.piece.Piece.{Piece}
 use Rattle.desk_law.specs.State.{DeskState}
 use Rattle.desk_law.specs.Activation.{first_barred, statuses_under}
-use Rattle.desk_law.specs.Extents.{extents_at, front_tracks}
+use Rattle.desk_law.specs.Extents.{extents_at, extents_named, front_tracks}
 use Rattle.sms_volumes.specs.declared.active_volume.ActiveVolume.{ActiveVolume}
 use Rattle.sms_volumes.specs.declared.active_volumes.ActiveVolumes.{ActiveVolumes}
-use Rattle.sms_volumes.specs.Changing.{IsReadyAt}
-use Rattle.sms_volumes.specs.Holding.{extents_named}
+use Rattle.sms_volumes.specs.Changing.{IsFront, IsReadyAt}
 use Rattle.sms_volumes.specs.Next.{AreNext}
+use Rattle.desk_state.specs.Catalog.{set_in}
 use Rattle.desk_state.specs.declared.deed.Deed.{Deed}
 use Rattle.desk_state.specs.declared.deed.Deed.TheVariants as deeds
 use Rattle.desk_state.specs.declared.running.Running.{Running}
@@ -42,18 +41,14 @@ config_of (deeds.Become count config volumes statuses) = Some config
 config_of (deeds.Vary target status) = None
 config_of (deeds.Raise job floor) = None
 
--- the secondary quantity is in whole units
-abbrev pub IsInUnits : DataSet → Type 0
-IsInUnits set = set.secondary % tracks_in set.unit ≡ 0
-
--- the deed can be done without memory: for the pieces that a data set gets there is room and nobody holds them, its secondary quantity is in whole units, and extents and volumes are few
+-- the deed can be done without memory: for the pieces that a data set gets there is room and nobody holds them, and what one keeps is the front of what it had
 abbrev pub IsPossible : Running → Deed → Type 0
 IsPossible running deeds.Nothing = Unit {0}
-IsPossible running (deeds.Get set place pieces) = IsReadyAt running.volumes place pieces × IsInUnits set
-IsPossible running (deeds.Note set) = IsInUnits set
-IsPossible running (deeds.Keep set) = (length set.extents < 2 ^ 32) × IsInUnits set
+IsPossible running (deeds.Get set place pieces) = IsReadyAt running.volumes place pieces.items
+IsPossible running (deeds.Note set) = Unit {0}
+IsPossible running (deeds.Keep set) = IfSome (set_in set.dsn running.catalog.sets) (λ old. IsFront set.extents old.extents)
 IsPossible running (deeds.Remove dsn) = Unit {0}
-IsPossible running (deeds.Become count config volumes statuses) = length volumes.volumes.items < 2 ^ 32
+IsPossible running (deeds.Become count config volumes statuses) = Unit {0}
 IsPossible running (deeds.Vary target status) = Unit {0}
 IsPossible running (deeds.Raise job floor) = Unit {0}
 
@@ -79,7 +74,7 @@ pub record IsNext (s : DeskState) (count : ℕ) (config : Configuration) (volume
 -- the deed fits the state that the running one stands for
 abbrev pub Fits : DeskState → Running → Deed → Type 0
 Fits s running deeds.Nothing = Unit {0}
-Fits s running (deeds.Get set place pieces) = HasMore s.sets running set place pieces
+Fits s running (deeds.Get set place pieces) = HasMore s.sets running set place pieces.items
 Fits s running (deeds.Note set) = set.extents ≡ extents_named set.dsn s.sets
 Fits s running (deeds.Keep set) = HasFront s.sets set
 Fits s running (deeds.Remove dsn) = Unit {0}

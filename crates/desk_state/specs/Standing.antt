@@ -1,6 +1,5 @@
 -- When the running state stands for a state of the desk.
-use Rattle.std.specs.Prelude.{ℕ, ◌≡◌, ◌<◌, ◌%◌, ◌^◌, List, IfSome, length}
-use Rattle.sms_construct.specs.Quantities.{tracks_in}
+use Rattle.std.specs.Prelude.{ℕ, ◌≡◌, List}
 use Rattle.desk_law.specs.State.{DeskState, set_named}
 use Rattle.desk_law.specs.Lawful.{IsLawful}
 use Rattle.sms_volumes.specs.Holding.{AreVolumesOf}
@@ -13,10 +12,6 @@ pub record IsRunning (s : DeskState) (running : Running) : Type 0 where
   pub active : running.config ≡ s.active
   pub volumes : AreVolumesOf s running.volumes
   pub sets : (dsn : List ℕ) → set_in dsn running.catalog.sets ≡ set_named dsn s.sets
-  -- the volumes are few, so that their tracks can be added up
-  pub few : length running.volumes.volumes.items < 2 ^ 32
-  -- the secondary quantity of each data set is in whole units
-  pub units : (dsn : List ℕ) → IfSome (set_in dsn running.catalog.sets) (λ set. set.secondary % tracks_in set.unit ≡ 0)
 
 -- it stands for some lawful state
 pub record IsSomeState (running : Running) : Type 0 where

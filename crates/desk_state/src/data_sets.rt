@@ -15,7 +15,7 @@ ghost use Rattle.desk_state.specs.Standing.{IsRunning, IsSomeState};
 
 use crate::decision::Decision;
 use crate::deed::Deed;
-use crate::extents::{front_of, tracks_of, with_extents};
+use crate::extents::{front_of, rounded_up, tracks_of, with_extents};
 use crate::running::Running;
 use desk_common::{Items, Shared};
 use dsn_mask::Dsn;
@@ -29,13 +29,7 @@ impl Running {
         ensures found { option_copied result ≡ set_in dsn.now self.now.catalog.sets }
         ensures few { IfSome (set_in dsn.now self.now.catalog.sets) (λ (set : Catalogued). length set.extents < 2 ^ 32) }
     {
-        match self.catalog.get(dsn) {
-            Some(set) => {
-                set.get().volumes.get();
-                Some(set)
-            }
-            None => None,
-        }
+        self.catalog.get(dsn)
     }
 
     /// What USED is answered (docs/rules.md, "USED"); `tracks` are those that the data set uses.
@@ -138,5 +132,5 @@ fn tracks_kept(set: &DataSet) -> u64
         Unit::Trk => 1,
         Unit::Cyl => 15,
     };
-    (u64::from(set.used.max(1)) + (unit - 1)) / unit * unit
+    rounded_up(unit, u64::from(set.used.max(1)))
 }

@@ -9,7 +9,7 @@ use sms_deck::Config;
 use sms_keeper::{Effect, Statuses};
 use sms_volumes::ActiveVolumes;
 use std::alloc::{AllocError, Global};
-use track_ledger::Piece;
+use track_ledger::Grant;
 
 /// What a decision does to the running state; all room for it was taken when it was made.
 #[derive(Drop)]
@@ -20,7 +20,7 @@ pub enum Deed {
     Get {
         set: Shared<DataSet>,
         place: usize,
-        pieces: Items<Piece>,
+        pieces: Grant,
     },
     /// The data set, which lies as before, is put in place of the one of its name.
     Note {

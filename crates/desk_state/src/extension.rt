@@ -1,17 +1,18 @@
 //! EXTEND.
 ghost use Rattle.std.specs.Prelude.{◌≡◌, ◌<◌, ◌≤◌, length, option_map, slice_get, IfOk, IfSome, MatchOption, None, Some, nat_lt};
-ghost use Rattle.desk_law.specs.Extension.{ExtendRule, bars_growth, extended, first_volume, growth_on, last_volume, others_of};
+ghost use Rattle.desk_law.specs.Extension.{ExtendRule, ask_more, bars_growth, extended, first_volume, growth_on, last_volume, others_of};
 ghost use Rattle.desk_law.specs.Extents.{pieces_on, volumes_of};
 ghost use Rattle.desk_law.specs.Lawful.{IsLawful};
 ghost use Rattle.desk_law.specs.State.{DeskState};
 ghost use Rattle.desk_law.specs.Statuses.{bars_group_growth, bars_volume_growth};
 ghost use Rattle.sms_construct.specs.declared.volume.VolumeDef.{VolumeDef as Defined};
+ghost use Rattle.sms_volumes.specs.Asking.{IsAsked, ask_of};
 ghost use Rattle.sms_volumes.specs.Changing.{running_at};
 ghost use Rattle.sms_volumes.specs.declared.active_volume.ActiveVolume.{ActiveVolume};
 ghost use Rattle.desk_state.specs.Answering.{Answers};
 ghost use Rattle.desk_state.specs.Catalog.{set_in};
 ghost use Rattle.desk_state.specs.Deeds.{IsPossible};
-ghost use Rattle.desk_state.specs.Growing.{Grows, IsGrowable, added_of, need_more};
+ghost use Rattle.desk_state.specs.Growing.{Grows, IsGrowable, added_of};
 ghost use Rattle.desk_state.specs.Granting.{IsGrantAmong, IsGranted};
 ghost use Rattle.desk_state.specs.Standing.{IsRunning, IsSomeState};
 
@@ -23,9 +24,8 @@ use crate::running::Running;
 use desk_common::Shared;
 use dsn_mask::{Dsn, Name, Volser};
 use sms_construct::{DataSet, Extent, Reply, Status, WhyNoExtend};
-use sms_volumes::Candidates;
+use sms_volumes::{Asked, Candidates};
 use std::alloc::{AllocError, Global};
-use track_ledger::Need;
 
 impl Running {
     /// What EXTEND is answered (docs/rules.md, "EXTEND").
@@ -82,7 +82,7 @@ impl Running {
         requires growable { IsGrowable set.now }
         requires some { 0 < set.now.secondary }
         ensures same { (s : DeskState) → IsRunning s self.old → IsRunning s self.new }
-        ensures grows { IfOk result (λ found. (s : DeskState) → IsRunning s self.old → option_map added_of found ≡ growth_on s set.now (last_volume s set.now.extents)) }
+        ensures grows { IfOk result (λ found. (s : DeskState) → IsLawful s → IsRunning s self.old → option_map added_of found ≡ growth_on s set.now (last_volume s set.now.extents)) }
         ensures ready { IfOk result (λ found. IfSome found (IsGranted self.new)) }
     {
         let Some(place) = self.last_place(set.extents.as_slice()) else {
@@ -91,9 +91,8 @@ impl Running {
         if self.bars_growth(place) {
             return Ok(None);
         }
-        let volser = self.volumes.volumes[place].volume.volser;
-        let held = held_on(set, &volser);
-        self.grant_at(place, &secondary_need(set, held))
+        let held = held_on(set, &self.volumes.volumes[place].volume.volser);
+        self.grant_at(place, &asked_more(set), held)
     }
 
     // What a further volume grants the data set, if one may be chosen: one of the storage group of its first volume.
@@ -102,7 +101,7 @@ impl Running {
         requires growable { IsGrowable set.now }
         requires some { 0 < set.now.secondary }
         ensures same { (s : DeskState) → IsRunning s self.old → IsRunning s self.new }
-        ensures chosen { IfOk result (λ found. (s : DeskState) → IsLawful s → IsRunning s self.old → IsGrantAmong s (others_of s set.now (first_volume s set.now.extents)) (need_more set.now 0) set.now.volumes found) }
+        ensures chosen { IfOk result (λ found. (s : DeskState) → IsLawful s → IsRunning s self.old → IsGrantAmong s (others_of s set.now (first_volume s set.now.extents)) (ask_more set.now) found) }
         ensures ready { IfOk result (λ found. IfSome found (IsGranted self.new)) }
     {
         let extents = set.extents.as_slice();
@@ -110,7 +109,7 @@ impl Running {
             return Ok(None);
         };
         let candidates = Candidates::Beside { group, extents };
-        self.grant_among(&candidates, &secondary_need(set, 0), set.volumes)
+        self.grant_among(&candidates, &asked_more(set))
     }
 
     // The place of the volume of the last extent.
@@ -179,14 +178,19 @@ fn held_on(set: &DataSet, volser: &Volser) -> u8
     count_on(set.extents.as_slice(), volser) as u8
 }
 
-// What the secondary quantity needs of a volume on which the data set has so many extents.
-fn secondary_need(set: &DataSet, held: u8) -> Need
-    ensures { result ≡ need_more set.now held }
+// What is asked of the volumes for the data set: the secondary quantity.
+fn asked_more(set: &DataSet) -> Asked<'_>
+    requires growable { IsGrowable set.now }
+    requires some { 0 < set.now.secondary }
+    ensures value { ask_of result ≡ ask_more set.now }
+    ensures asked { IsAsked result }
 {
-    Need {
+    Asked {
         unit: set.unit,
         tracks: set.secondary,
-        held,
+        volumes: set.volumes.get(),
+        eattr: set.eattr,
+        tiers: &[],
     }
 }
 

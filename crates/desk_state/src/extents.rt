@@ -1,6 +1,7 @@
 //! The extents of data sets.
-ghost use Rattle.std.specs.Prelude.{◌≡◌, ◌<◌, ◌^◌, ◌++◌, length, IfOk};
-ghost use Rattle.desk_law.specs.Extents.{extents_at, front_tracks, is_used, pieces_on, volumes_of, with_extents};
+ghost use Rattle.std.specs.Prelude.{◌≡◌, ◌<◌, ◌≤◌, ◌^◌, ◌++◌, length, IfOk};
+ghost use Rattle.sms_construct.specs.Quantities.{rounded_up};
+ghost use Rattle.desk_law.specs.Extents.{extents_at, front_tracks, is_used, length_kept, multiple_at, pieces_on, volumes_of, with_extents};
 ghost use Rattle.desk_state.specs.Sums.{tracks_in};
 
 use desk_common::{Items, Shared};
@@ -8,6 +9,12 @@ use dsn_mask::Volser;
 use sms_construct::{DataSet, Extent, Extents};
 use std::alloc::{AllocError, Global};
 use track_ledger::Piece;
+
+// The first track of the cylinder-managed part of a volume, and how many tracks its units have (docs/rules.md, "The
+// tracks of a volume").
+const BORDER: u32 = 982_800;
+
+const TRACKS_IN_MANAGED: u64 = 315;
 
 /// The tracks of the extents.
 pub fn tracks_of(extents: &[Extent]) -> u64
@@ -28,7 +35,8 @@ fn length_of(extent: &Extent) -> u64
     u64::from(extent.length)
 }
 
-/// The first so many tracks, in the order of the extents, or want of memory.
+/// The first so many tracks, in the order of the extents; the last extent that is kept is cut in whole units of its
+/// part of the volume. Or want of memory.
 pub fn front_of(alloc: Global, extents: &[Extent], keep: u64) -> Result<Extents, AllocError>
     ensures { IfOk result (λ front. front ≡ front_tracks keep extents.now) }
 {
@@ -38,18 +46,53 @@ pub fn front_of(alloc: Global, extents: &[Extent], keep: u64) -> Result<Extents,
         if left == 0 {
             break;
         }
-        let length = left.min(u64::from(extent.length));
-        let cut = Extent {
-            volser: extent.volser,
-            start: extent.start,
-            length: length as u32,
-        };
-        if front.push(cut).is_err() {
+        if front.push(cut_to(extent, left)).is_err() {
             return Err(AllocError);
         }
-        left -= length;
+        left = left.saturating_sub(u64::from(extent.length));
     }
     Ok(Items::from_vec(front))
+}
+
+// The extent when so many tracks are to be kept.
+fn cut_to(extent: &Extent, keep: u64) -> Extent
+    ensures { result ≡ record { volser = extent.now.volser; start = extent.now.start; length = length_kept keep extent.now } }
+{
+    Extent {
+        volser: extent.volser,
+        start: extent.start,
+        length: length_kept(extent, keep),
+    }
+}
+
+// The tracks that are kept of an extent: these in whole units of its part, and never more than it has.
+fn length_kept(extent: &Extent, keep: u64) -> u32
+    ensures { result ≡ length_kept keep extent.now }
+{
+    let length = u64::from(extent.length);
+    if keep >= length {
+        return extent.length;
+    }
+    rounded_up(multiple_at(extent.start), keep).min(length) as u32
+}
+
+// In how many tracks a volume is cut from this track on.
+fn multiple_at(track: u32) -> u64
+    ensures value { result ≡ multiple_at track }
+    ensures some { 1 ≤ result }
+    ensures small { result ≤ 315 }
+{
+    if track < BORDER { 1 } else { TRACKS_IN_MANAGED }
+}
+
+/// A number of tracks rounded up to whole units of so many.
+pub fn rounded_up(multiple: u64, tracks: u64) -> u64
+    requires some { 1 ≤ multiple }
+    requires small { multiple ≤ 315 }
+    requires few { tracks < 2 ^ 32 }
+    ensures { result ≡ rounded_up multiple tracks }
+{
+    (tracks + (multiple - 1)) / multiple * multiple
 }
 
 /// How many extents lie on the volume.
@@ -135,6 +178,7 @@ pub fn with_extents(
         retpd: set.retpd,
         used,
         extents,
+        eattr: set.eattr,
     };
     Shared::new(alloc, changed)
 }

@@ -1,7 +1,8 @@
 //! The running state of the desk.
-ghost use Rattle.std.specs.Prelude.{◌≡◌, ◌<◌, OnOk};
+ghost use Rattle.std.specs.Prelude.{◌≡◌, ◌<◌, ℕ, List, OnOk};
 ghost use Rattle.desk_law.specs.State.{DeskState, start_of};
 ghost use Rattle.desk_law.specs.Records.{empty_opening};
+ghost use Rattle.desk_state.specs.Catalog.{set_in};
 ghost use Rattle.desk_state.specs.Standing.{IsRunning};
 
 use crate::catalog::Catalog;
@@ -40,6 +41,7 @@ impl Running {
         ensures room { OnOk result (0 < self.new.catalog.room) }
         ensures same { (s : DeskState) → IsRunning s self.old → IsRunning s self.new }
         ensures volumes { self.new.volumes ≡ self.old.volumes }
+        ensures sets { (dsn : List ℕ) → set_in dsn self.new.catalog.sets ≡ set_in dsn self.old.catalog.sets }
     {
         self.catalog.reserve()
     }

@@ -1,44 +1,146 @@
 //! What a new data set is to get.
-ghost use Rattle.std.specs.Prelude.{◌≡◌, option_map};
-ghost use Rattle.desk_law.specs.Allocation.{data_class_of, space_of};
+ghost use Rattle.std.specs.Prelude.{◌≡◌, ◌≤◌, length, IfOk};
+ghost use Rattle.desk_common.specs.Limits.{most_groups_set};
+ghost use Rattle.desk_law.specs.Allocation.{ask_of as primary_of, new_set, tiers_of, wish_with};
+ghost use Rattle.desk_law.specs.Classification.{trace_of};
+ghost use Rattle.desk_law.specs.declared.stop.Stop.TheVariants.{Done};
 ghost use Rattle.sms_classes.specs.Known.{AreKnown};
-ghost use Rattle.desk_state.specs.Wishing.{wish_under};
+ghost use Rattle.sms_volumes.specs.Asking.{IsAsked, ask_of};
+ghost use Rattle.desk_state.specs.Wishing.{classes_with};
 
+use crate::extents::extents_at;
 use acs_tree::{Kind, Values};
+use desk_common::Shared;
 use dsn_mask::{Name, Names};
-use sms_classes::{class_name, data_class_of, space_of, volume_count_of};
-use sms_construct::{Alloc, Space, VolumeCount};
+use sms_classes::{class_name, data_class_of, eattr_of, has_tiers, volume_count_of};
+use sms_construct::{Alloc, DataSet, Eattr, Space, Trace, VolumeCount, VolumeDef};
 use sms_deck::Config;
+use sms_volumes::Asked;
+use std::alloc::{AllocError, Global};
+use std::marker::Model;
+use track_ledger::Piece;
 
-/// What a new data set is to get: its classes, the storage groups on whose volumes it may lie, its space, and the
-/// number of volumes on which it may be.
-#[derive(Clone, Copy)]
-pub struct Wish {
-    pub dataclas: Option<Name>,
-    pub storclas: Name,
-    pub mgmtclas: Option<Name>,
-    pub groups: Names,
-    pub space: Space,
-    pub volumes: VolumeCount,
+/// What a new data set is to get: the classes and storage groups to which its classification came, what the routines
+/// wrote, its space, on how many volumes it may lie, and whether it may lie on cylinder-managed space.
+#[derive(Drop)]
+pub struct Wish<'a> {
+    config: &'a Config,
+    values: &'a Values,
+    trace: Shared<Trace>,
+    space: Space,
+    volumes: VolumeCount,
+    eattr: Eattr,
 }
 
-impl Wish {
-    /// What the request is to get where the classification came to these values, or `None` where neither the
-    /// request nor its data class names a space (docs/rules.md, "ALLOC").
-    pub fn under(config: &Config, alloc: &Alloc, values: &Values) -> Option<Self>
+impl<'a> Model for Wish<'a> {
+    ghost use Rattle.acs_tree.specs.contracts.routine.Form as form;
+    ghost use Rattle.std.specs.Coded.{codes};
+    ghost use Rattle.desk_law.specs.Allocation.{Wish};
+    ghost use Rattle.desk_law.specs.declared.stop.Stop.TheVariants.{Done};
+    ghost use Rattle.sms_classes.specs.Known.{AreKnown};
+    ghost use Rattle.desk_state.specs.Wishing.{classes_with};
+
+    ghost Value = { Wish };
+
+    ghost coded = { Prim.hlevel (codes, form.the_row.coded) };
+
+    ghost view = { λ w. record { config = w.config.now; classes = classes_with w.values.now Done w.trace; space = w.space; volumes = w.volumes; eattr = w.eattr } };
+
+    ghost invariant = { λ w. AreKnown w.config.now w.values.now };
+}
+
+impl<'a> Wish<'a> {
+    /// What the request is to get where the classification came to these values and its routines wrote this, and
+    /// where the request or its data class names this space (docs/rules.md, "ALLOC").
+    pub fn of(
+        request: &Alloc,
+        config: &'a Config,
+        values: &'a Values,
+        trace: Shared<Trace>,
+        space: Space,
+    ) -> Self
         requires { AreKnown config.now values.now }
-        ensures { result ≡ option_map (wish_under config.now alloc.now values.now) (space_of alloc.now (data_class_of config.now values.now.dataclas)) }
+        ensures { result ≡ wish_with request.now config.now (classes_with values.now Done trace) space }
     {
         let class = data_class_of(config, &values.dataclas);
-        let space = space_of(alloc, class)?;
-        Some(Wish {
-            dataclas: class_name(config, Kind::DataClas, &values.dataclas),
-            storclas: storage_class(config, values),
-            mgmtclas: class_name(config, Kind::MgmtClas, &values.mgmtclas),
-            groups: values.groups,
+        Wish {
+            config,
+            values,
+            trace,
             space,
-            volumes: volume_count_of(alloc, class),
-        })
+            volumes: volume_count_of(request, class),
+            eattr: eattr_of(request, class),
+        }
+    }
+
+    /// The listed storage groups.
+    pub fn groups(&self) -> &[Name]
+        ensures { result.now ≡ self.now.classes.values.groups }
+    {
+        self.values.groups.as_slice()
+    }
+
+    /// What is asked of the volumes: the primary quantity.
+    pub fn asked(&self) -> Asked<'_>
+        ensures value { ask_of result ≡ primary_of self.now }
+        ensures asked { IsAsked result }
+    {
+        Asked {
+            unit: self.space.unit(),
+            tracks: self.space.primary_tracks(),
+            volumes: self.volumes.get(),
+            eattr: self.eattr,
+            tiers: self.tiers(),
+        }
+    }
+
+    // The listed storage groups where their order counts, and else none.
+    fn tiers(&self) -> &[Name]
+        ensures value { result.now ≡ tiers_of self.now }
+        ensures few { length result.now ≤ most_groups_set }
+    {
+        if has_tiers(self.config, &self.values.storclas) {
+            self.values.groups.as_slice()
+        } else {
+            &[]
+        }
+    }
+
+    /// The new data set with these pieces of the volume, or want of memory.
+    pub fn new_set(
+        &self,
+        alloc: Global,
+        request: &Alloc,
+        volume: &VolumeDef,
+        pieces: &[Piece],
+    ) -> Result<Shared<DataSet>, AllocError>
+        ensures { IfOk result (λ set. set ≡ new_set request.now self.now volume.now pieces.now) }
+    {
+        let values = self.values;
+        let set = DataSet {
+            dsn: request.dsn(),
+            dataclas: class_name(self.config, Kind::DataClas, &values.dataclas),
+            storclas: storage_class(self.config, values),
+            mgmtclas: class_name(self.config, Kind::MgmtClas, &values.mgmtclas),
+            group: volume.group,
+            unit: self.space.unit(),
+            secondary: self.space.secondary_tracks(),
+            volumes: self.volumes,
+            day: request.day,
+            retpd: request.retpd,
+            used: 0,
+            extents: extents_at(alloc, &volume.volser, pieces)?,
+            eattr: self.eattr,
+        };
+        Shared::new(alloc, set)
+    }
+
+    /// What the routines wrote.
+    pub fn into_trace(self) -> Shared<Trace>
+        ensures { result ≡ trace_of self.entry.classes }
+    {
+        let Wish { trace, .. } = self;
+        trace
     }
 }
 

@@ -1,1 +1,2 @@
+mod BookingLemmas
 mod SigningLemmas

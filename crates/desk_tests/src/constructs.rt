@@ -3,8 +3,8 @@ use acs_tree::{Account, Input, kilobytes_of};
 use desk_common::{Items, Shared};
 use dsn_mask::{Dsn, Name, Short};
 use sms_construct::{
-    Action, Alloc, Answer, Entry, Fate, Op, Path, Reply, Request, RequestNumber, Space, Status,
-    Target, Unit, VolumeCount,
+    Action, Alloc, Answer, Eattr, Entry, Fate, Op, Path, Reply, Request, RequestNumber, Space,
+    Status, Target, Unit, VolumeCount,
 };
 use std::alloc::Global;
 use std::mem::size_of;
@@ -19,6 +19,7 @@ enum Part {
     Cylinders,
     Volumes,
     Day,
+    ManagedSpace,
 }
 
 /// The accounting of one department.
@@ -35,6 +36,7 @@ fn allocation(alloc: Global, part: Part) -> Result<Op, Fail> {
     let mut dataclas = None;
     let mut volumes = None;
     let mut day = 0;
+    let mut eattr = None;
     match part {
         Part::None => {}
         Part::Account => input.accounting.acct_job = account()?,
@@ -42,6 +44,7 @@ fn allocation(alloc: Global, part: Part) -> Result<Op, Fail> {
         Part::Cylinders => space = Space::new(Unit::Cyl, 1, 1).ok_or("space")?,
         Part::Volumes => volumes = VolumeCount::new(2),
         Part::Day => day = 1,
+        Part::ManagedSpace => eattr = Some(Eattr::Opt),
     }
     let allocation = Alloc {
         input,
@@ -52,6 +55,7 @@ fn allocation(alloc: Global, part: Part) -> Result<Op, Fail> {
         volumes,
         day,
         retpd: None,
+        eattr,
     };
     Ok(Op::Alloc(Shared::new(alloc, allocation)?))
 }
@@ -73,8 +77,7 @@ fn deck(alloc: Global, text: &[u8]) -> Result<Op, Fail> {
 }
 
 #[rattlefmt::skip]
-static PARTS: [Part; 5] =
-    [Part::Account, Part::DataClass, Part::Cylinders, Part::Volumes, Part::Day];
+static PARTS: [Part; 6] = [Part::Account, Part::DataClass, Part::Cylinders, Part::Volumes, Part::Day, Part::ManagedSpace];
 
 #[test]
 fn ops_are_equal_where_all_their_fields_are(rt: HostRuntime) -> Result<(), Fail> {

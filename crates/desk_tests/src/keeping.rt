@@ -3,7 +3,7 @@ use Step::{Activate, DisableGroup, DisableVolume, Drop, Keep, Purge, Put};
 use desk_common::{Items, Shared};
 use dsn_mask::{Dsn, Name, Volser};
 use sms_construct::{
-    DataSet, Op, Reply, Request, RequestNumber, Status, Target, Unit, VolumeCount,
+    DataSet, Eattr, Op, Reply, Request, RequestNumber, Status, Target, Unit, VolumeCount,
 };
 use sms_keeper::{
     Change, Effect, FaultKeeper, Keeper, KeeperErr, MemKeeper, Rows, StatusRow, Stored,
@@ -66,6 +66,7 @@ fn data_set(alloc: Global, text: &str, used: u32) -> Result<Effect, Fail> {
         retpd: None,
         used,
         extents: Items::new(alloc),
+        eattr: Eattr::No,
     };
     Ok(Effect::PutSet(Shared::new(alloc, set)?))
 }

@@ -2,14 +2,14 @@
 ghost use Rattle.std.specs.Prelude.{◌≡◌, IfSome};
 ghost use Rattle.track_ledger.specs.Need.{IsNeed};
 
-use Step::{Cylinders, Grow, Release, Totals, Tracks, Trim, Volume};
-use desk_common::Items;
+use crate::book::Book;
+use Step::{Cylinders, Grow, Managed, Optional, Release, Totals, Tracks, Trim, Volume};
 use dsn_mask::Dsn;
-use sms_construct::Unit;
+use sms_construct::{Eattr, Unit};
 use std::alloc::Global;
 use std::process::Abort;
 use std::test::Fail;
-use track_ledger::{Ledger, Need, Piece};
+use track_ledger::{Grant, Need};
 
 #[derive(Clone, Copy)]
 enum Step {
@@ -19,6 +19,9 @@ enum Step {
     Tracks(&'static str, u32, u8),
     // the same in whole cylinders of 15 tracks
     Cylinders(&'static str, u32, u8),
+    // so many tracks, and cylinders, for a data set that may lie on cylinder-managed space, from 10 cylinders on
+    Optional(&'static str, u32),
+    Managed(&'static str, u32),
     // the data set keeps its first so many tracks
     Trim(&'static str, u64),
     Release(&'static str),
@@ -31,7 +34,7 @@ enum Step {
 type Row = (Step, &'static str);
 
 // None where the call may not be made.
-fn need_of(unit: Unit, tracks: u32, held: u8) -> Option<Need>
+fn need_of(unit: Unit, tracks: u32, held: u8, eattr: Eattr) -> Option<Need>
     ensures { IfSome result IsNeed }
 {
     let whole = match unit {
@@ -41,35 +44,32 @@ fn need_of(unit: Unit, tracks: u32, held: u8) -> Option<Need>
     if tracks == 0 || !whole || held > 16 {
         return None;
     }
-    Some(Need { unit, tracks, held })
+    Some(Need {
+        unit,
+        tracks,
+        held,
+        eattr,
+        breakpoint: 10,
+    })
 }
 
 fn owner(name: &str) -> Result<Dsn, Fail> {
     Ok(Dsn::parse(name.as_bytes()).ok().ok_or("name")?)
 }
 
-fn granted(
-    alloc: Global,
-    ledger: &mut Ledger,
-    name: &str,
-    need: &Need,
-) -> Result<Option<Items<Piece>>, Fail>
+fn granted(alloc: Global, book: &mut Book, name: &str, need: &Need) -> Result<Option<Grant>, Fail>
     requires { IsNeed need.now }
 {
     let owner = owner(name)?;
-    ledger.reserve(5)?;
-    let fits = ledger.fits(need);
-    let planned = ledger.plan(alloc, need)?;
+    let fits = book.fits(need);
+    let planned = book.grant(alloc, owner, need)?;
     if planned.is_some() != fits {
         return Err("fits and plan differ".into());
-    }
-    if let Some(pieces) = &planned {
-        ledger.install(&owner, pieces.as_slice());
     }
     Ok(planned)
 }
 
-fn text_of(alloc: Global, planned: &Option<Items<Piece>>) -> Result<String, Fail> {
+fn text_of(alloc: Global, planned: &Option<Grant>) -> Result<String, Fail> {
     let Some(pieces) = planned else {
         return Ok(String::from_str(alloc, "none")?);
     };
@@ -85,47 +85,85 @@ fn text_of(alloc: Global, planned: &Option<Items<Piece>>) -> Result<String, Fail
 
 fn grant_text(
     alloc: Global,
-    ledger: &mut Ledger,
-    unit: Unit,
+    book: &mut Book,
     name: &str,
-    tracks: u32,
-    held: u8,
-) -> Result<String, Fail> {
-    let need = need_of(unit, tracks, held).ok_or("need")?;
-    let planned = granted(alloc, ledger, name, &need)?;
+    need: Option<Need>,
+) -> Result<String, Fail>
+    requires { IfSome need IsNeed }
+{
+    let need = need.ok_or("need")?;
+    let planned = granted(alloc, book, name, &need)?;
     text_of(alloc, &planned)
 }
 
-// What a step answers, as a text.
-fn answer_of(alloc: Global, ledger: &mut Ledger, step: Step) -> Result<String, Fail> {
-    match step {
-        Volume(capacity) => {
-            if capacity == 0 {
-                return Err("capacity".into());
+// Frees what the owner holds behind its first so many tracks, and answers how many tracks that is.
+fn trim(book: &mut Book, owner: &Dsn, keep: u64) -> u64 {
+    let before = book.totals().1;
+    let mut left = keep;
+    let mut index = 0;
+    'walk: while index < book.len() {
+        let holding = book.get(index);
+        let length = holding.piece.length;
+        if holding.owner != *owner {
+            index += 1;
+        } else if left == 0 {
+            book.release(index);
+        } else {
+            if left < u64::from(length) {
+                book.cut(index, left as u32);
             }
-            *ledger = Ledger::new(alloc, capacity)?;
+            left = left.saturating_sub(u64::from(length));
+            index += 1;
         }
+    }
+    before.saturating_sub(book.totals().1)
+}
+
+// What a request for space answers, as a text.
+fn space_of(alloc: Global, book: &mut Book, step: Step) -> Result<String, Fail> {
+    match step {
         Tracks(name, tracks, held) => {
-            return grant_text(alloc, ledger, Unit::Trk, name, tracks, held);
+            grant_text(
+                alloc,
+                book,
+                name,
+                need_of(Unit::Trk, tracks, held, Eattr::No),
+            )
         }
         Cylinders(name, tracks, held) => {
-            return grant_text(alloc, ledger, Unit::Cyl, name, tracks, held);
+            grant_text(
+                alloc,
+                book,
+                name,
+                need_of(Unit::Cyl, tracks, held, Eattr::No),
+            )
         }
+        Optional(name, tracks) => {
+            grant_text(alloc, book, name, need_of(Unit::Trk, tracks, 0, Eattr::Opt))
+        }
+        Managed(name, tracks) => {
+            grant_text(alloc, book, name, need_of(Unit::Cyl, tracks, 0, Eattr::Opt))
+        }
+        _ => Err("step".into()),
+    }
+}
+
+// What a step answers, as a text.
+fn answer_of(alloc: Global, book: &mut Book, step: Step) -> Result<String, Fail> {
+    match step {
+        Volume(0) => return Err("capacity".into()),
+        Volume(capacity) => *book = Book::new(alloc, capacity)?,
         Trim(name, keep) => {
-            return Ok(format!(in alloc; "{}", ledger.trim(&owner(name)?, keep))?);
+            return Ok(format!(in alloc; "{}", trim(book, &owner(name)?, keep))?);
         }
         Release(name) => {
-            return Ok(format!(in alloc; "{}", ledger.release(&owner(name)?))?);
+            return Ok(format!(in alloc; "{}", trim(book, &owner(name)?, 0))?);
         }
-        Grow(capacity) => {
-            if u64::from(capacity) < ledger.free() + ledger.granted() {
-                return Err("capacity".into());
-            }
-            ledger.grow(capacity);
-        }
+        Grow(capacity) => book.grow(capacity),
         Totals => {}
+        _ => return space_of(alloc, book, step),
     }
-    let (free, granted, extents) = (ledger.free(), ledger.granted(), ledger.extents());
+    let (free, granted, extents) = book.totals();
     Ok(format!(in alloc; "{free} {granted} {extents}")?)
 }
 
@@ -220,14 +258,32 @@ static FREED: [Row; 35] = [
     (Tracks("C", 14, 0), "1 14"), (Totals, "0 982800 3"),
 ];
 
+// A volume with a track-managed part, and a cylinder-managed one from track 982,800 on in units of 315 tracks.
+#[rattlefmt::skip]
+static PARTS: [Row; 27] = [
+    (Volume(983_115), "983115 0 0"),
+    (Optional("A.A", 150), "982800 315"), (Optional("A.B", 150), "0 150"), (Tracks("A.C", 149, 0), "150 149"),
+    (Release("A.A"), "315"), (Optional("A.D", 149), "299 149"), (Managed("A.E", 982_800), "none"),
+    (Managed("A.F", 150), "982800 315"), (Totals, "982352 763 4"),
+    // a gap across the border gives each part its own tracks
+    (Volume(984_000), "984000 0 0"), (Tracks("A", 982_801, 0), "none"), (Optional("B", 982_801), "none"),
+    (Tracks("A", 982_700, 0), "0 982700"), (Tracks("B", 101, 0), "none"), (Optional("B", 101), "982800 315"),
+    (Optional("C", 100), "982700 100"), (Optional("D", 631), "none"), (Optional("D", 630), "983115 630"),
+    // less than a unit of 315 tracks is no gap there
+    (Volume(983_114), "983114 0 0"), (Optional("A", 150), "0 150"), (Grow(983_115), "982965 150 1"),
+    (Optional("B", 150), "982800 315"), (Trim("B", 1), "314"), (Optional("C", 150), "150 150"),
+    // the greatest volume
+    (Volume(17_730_090), "17730090 0 0"), (Optional("A", 16_747_290), "982800 16747290"), (Totals, "982800 16747290 1"),
+];
+
 fn compare_steps(
     rt: &impl Abort,
     alloc: Global,
-    ledger: &mut Ledger,
+    book: &mut Book,
     rows: &[Row],
 ) -> Result<(), Fail> {
     for (step, wanted) in rows {
-        let answer = answer_of(alloc, ledger, *step)?;
+        let answer = answer_of(alloc, book, *step)?;
         assert!(rt; answer.as_str() == *wanted, "{answer}, not {wanted}");
     }
     Ok(())
@@ -235,11 +291,12 @@ fn compare_steps(
 
 #[test]
 fn tracks_are_granted_kept_and_freed(rt: HostRuntime) -> Result<(), Fail> {
-    let mut ledger = Ledger::new(rt.alloc(), 1)?;
-    compare_steps(&rt, rt.alloc(), &mut ledger, &PIECES)?;
-    compare_steps(&rt, rt.alloc(), &mut ledger, &GAPS)?;
-    compare_steps(&rt, rt.alloc(), &mut ledger, &BOUNDS)?;
-    compare_steps(&rt, rt.alloc(), &mut ledger, &FREED)
+    let mut book = Book::new(rt.alloc(), 1)?;
+    compare_steps(&rt, rt.alloc(), &mut book, &PIECES)?;
+    compare_steps(&rt, rt.alloc(), &mut book, &GAPS)?;
+    compare_steps(&rt, rt.alloc(), &mut book, &BOUNDS)?;
+    compare_steps(&rt, rt.alloc(), &mut book, &FREED)?;
+    compare_steps(&rt, rt.alloc(), &mut book, &PARTS)
 }
 
 // What ten thousand extents of one track leave once every second one is freed.
@@ -254,17 +311,19 @@ static MANY: [Row; 7] = [
 #[test]
 fn ten_thousand_extents_side_by_side(rt: HostRuntime) -> Result<(), Fail> {
     let alloc = rt.alloc();
-    let mut ledger = Ledger::new(alloc, 10_000)?;
+    let mut book = Book::new(alloc, 10_000)?;
     for number in 0..5_000u32 {
         let name = format!(in alloc; "D{number}")?;
-        grant_text(alloc, &mut ledger, Unit::Trk, &name, 1, 0)?;
-        grant_text(alloc, &mut ledger, Unit::Trk, "H", 1, 0)?;
+        grant_text(alloc, &mut book, &name, need_of(Unit::Trk, 1, 0, Eattr::No))?;
+        grant_text(alloc, &mut book, "H", need_of(Unit::Trk, 1, 0, Eattr::No))?;
     }
-    compare_steps(&rt, alloc, &mut ledger, &[(Totals, "0 10000 10000")])?;
-    for number in 0..5_000u32 {
-        let name = format!(in alloc; "D{number}")?;
-        compare_steps(&rt, alloc, &mut ledger, &[(Trim("NOBODY", 0), "0")])?;
-        assert!(rt; ledger.release(&owner(&name)?) == 1, "{number}");
+    compare_steps(&rt, alloc, &mut book, &[(Totals, "0 10000 10000")])?;
+    for number in 0..5_000 {
+        if number >= book.len() {
+            return Err("extents".into());
+        }
+        // D0 to D4999 stand between those of H
+        book.release(number);
     }
-    compare_steps(&rt, alloc, &mut ledger, &MANY)
+    compare_steps(&rt, alloc, &mut book, &MANY)
 }

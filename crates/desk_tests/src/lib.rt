@@ -2,21 +2,19 @@
 #![tactic(auto)]
 
 #[cfg(test)]
+mod book;
+#[cfg(test)]
 mod cases;
 #[cfg(test)]
 mod commands;
 #[cfg(test)]
 mod constructs;
 #[cfg(test)]
+mod conversations;
+#[cfg(test)]
 mod deck_faults;
 #[cfg(test)]
 mod deck_readings;
-#[cfg(test)]
-mod deck_themes;
-#[cfg(test)]
-mod first_path;
-#[cfg(test)]
-mod keeper_runs;
 #[cfg(test)]
 mod keeping;
 #[cfg(test)]
@@ -27,6 +25,8 @@ mod ledger;
 mod listing;
 #[cfg(test)]
 mod names;
+#[cfg(test)]
+mod records;
 #[cfg(test)]
 mod repeats;
 #[cfg(test)]
@@ -46,14 +46,6 @@ mod stepping;
 #[cfg(test)]
 mod streams;
 #[cfg(test)]
+mod talking;
+#[cfg(test)]
 mod turns;
-#[cfg(test)]
-mod worked;
-#[cfg(test)]
-mod worked_classes;
-#[cfg(test)]
-mod worked_requests;
-#[cfg(test)]
-mod worked_space;
-#[cfg(test)]
-mod worked_volumes;

@@ -20,6 +20,7 @@ fn volume(group_status: Status, status: Status) -> Option<VolView> {
         granted: 0,
         group_volumes: 2,
         fits: true,
+        tier: 0,
     })
 }
 

@@ -4,8 +4,8 @@ use acs_tree::{Kind, More, Slate};
 use desk_common::{Items, Shared};
 use dsn_mask::{Dsn, Lit, Name, Short, Volser};
 use sms_construct::{
-    Answer, DataSet, Extent, Extents, Fault, Path, Reply, Stage, Status, Target, TextFault, Trace,
-    Unit, View, VolRow, VolumeCount, WhyNoExtend,
+    Answer, DataSet, Eattr, Extent, Extents, Fault, Path, Reply, Stage, Status, Target, TextFault,
+    Trace, Unit, View, VolRow, VolumeCount, WhyNoExtend,
 };
 use sms_script::{answer_lines, print, view_lines};
 use std::alloc::Global;
@@ -45,6 +45,7 @@ fn data_set(alloc: Global, management: Option<Name>) -> Result<Shared<DataSet>, 
         retpd: None,
         used: 7,
         extents: extents(alloc)?,
+        eattr: Eattr::No,
     };
     Ok(Shared::new(alloc, set)?)
 }

@@ -2,7 +2,7 @@
 use acs_tree::{Account, Input, Volumes};
 use desk_common::push_number;
 use dsn_mask::{Name, Short};
-use sms_construct::{Action, Alloc, Op, Space, Target, Unit};
+use sms_construct::{Action, Alloc, Eattr, Op, Space, Target, Unit};
 use std::alloc::AllocError;
 
 /// A word and what it says.
@@ -125,6 +125,11 @@ fn push_alloc(shown: &mut Vec<u8>, request: &Alloc) -> Result<(), AllocError> {
     if let Some(retpd) = request.retpd {
         push_word(shown, "KEEP=", b"")?;
         push_number(shown, u64::from(retpd))?;
+    }
+    match request.eattr {
+        Some(Eattr::Opt) => push_word(shown, "EATTR=OPT", b"")?,
+        Some(Eattr::No) => push_word(shown, "EATTR=NO", b"")?,
+        None => {}
     }
     push_input(shown, &request.input)
 }

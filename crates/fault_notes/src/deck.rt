@@ -55,12 +55,7 @@ fn deck_sentence(alloc: Global, fault: &Fault) -> Result<String, AllocError> {
         Fault::NotBuilt(path) => around(alloc, "what ", path.bytes(), " asks for isn't built"),
         Fault::UnknownKey(path) => around(alloc, "a deck has no key ", path.bytes(), ""),
         Fault::Missing(path) => around(alloc, "the key ", path.bytes(), " is missing"),
-        Fault::BadValue(path) => around(
-            alloc,
-            "the value of ",
-            path.bytes(),
-            " is wrong, or is a second size of its volume",
-        ),
+        Fault::BadValue(path) => value_sentence(alloc, path.bytes()),
         Fault::BadName(path) => around(
             alloc,
             "in ",
@@ -78,6 +73,24 @@ fn deck_sentence(alloc: Global, fault: &Fault) -> Result<String, AllocError> {
         }
         Fault::NotToml | Fault::Routine(..) | Fault::Unassigned(..) => Ok(String::new(alloc)),
     }
+}
+
+fn value_sentence(alloc: Global, path: &[u8]) -> Result<String, AllocError> {
+    if is_size(path) {
+        around(
+            alloc,
+            "the value of ",
+            path,
+            " is wrong, or is a second size of its volume",
+        )
+    } else {
+        around(alloc, "the value of ", path, " is wrong")
+    }
+}
+
+// Whether the key tells the size of a volume.
+fn is_size(path: &[u8]) -> bool {
+    path.ends_with(b".tracks") || path.ends_with(b".cylinders") || path.ends_with(b".device")
 }
 
 fn limit_sentence(alloc: Global, path: &[u8]) -> Result<String, AllocError> {

@@ -13,6 +13,6 @@ mod stops;
 
 pub use classification::classify;
 pub use classified::Classified;
-pub use names::{class_name, data_class_of};
+pub use names::{class_name, data_class_of, has_tiers};
 pub use replies::stop_reply;
-pub use sizes::{space_of, volume_count_of};
+pub use sizes::{eattr_of, space_of, volume_count_of};

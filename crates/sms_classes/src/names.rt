@@ -1,7 +1,7 @@
 //! Classes by name.
 ghost use Rattle.std.specs.Prelude.{◌≡◌, None, Some, bytes_eq, find, option_copied, option_map, if◌then◌else◌};
 ghost use Rattle.sms_construct.specs.Configuration.{has_construct};
-ghost use Rattle.desk_law.specs.Allocation.{class_if_any, data_class_of};
+ghost use Rattle.desk_law.specs.Allocation.{class_if_any, data_class_of, has_tiers, storage_class_of};
 ghost use Rattle.desk_law.specs.Classification.{class_stop};
 ghost use Rattle.sms_classes.specs.Known.{known_class};
 
@@ -16,6 +16,23 @@ pub fn data_class_of<'a>(config: &'a Config, class: &Short) -> Option<&'a DataCl
     ensures { option_copied result ≡ data_class_of config.now class.now }
 {
     config.data_class_for(class)
+}
+
+fn storage_class_of<'a>(config: &'a Config, class: &Short) -> Option<&'a StorClass>
+    ensures { option_copied result ≡ storage_class_of config.now class.now }
+{
+    config.stor_class_for(class)
+}
+
+/// Whether the order counts in which storage groups are listed for a data set of this storage class
+/// (docs/rules.md, "The lists").
+pub fn has_tiers(config: &Config, class: &Short) -> bool
+    ensures { result ≡ has_tiers (storage_class_of config.now class.now) }
+{
+    match storage_class_of(config, class) {
+        Some(class) => class.multi_tier,
+        None => false,
+    }
 }
 
 /// The name of a class of this kind that isn't null and that the configuration has.

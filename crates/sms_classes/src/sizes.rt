@@ -1,8 +1,8 @@
-//! The space and the number of volumes that a new data set gets.
-ghost use Rattle.std.specs.Prelude.{◌≡◌, option_and_then, option_copied};
-ghost use Rattle.desk_law.specs.Allocation.{space_of, volume_count_of};
+//! The space, the number of volumes and the kind of space that a new data set gets.
+ghost use Rattle.std.specs.Prelude.{◌≡◌, option_and_then, option_copied, option_map};
+ghost use Rattle.desk_law.specs.Allocation.{eattr_of, space_of, volume_count_of};
 
-use sms_construct::{Alloc, DataClass, Space, VolumeCount};
+use sms_construct::{Alloc, DataClass, Eattr, Space, VolumeCount};
 
 /// The space that the request names, else the one of its data class (docs/rules.md, "ALLOC").
 pub fn space_of(alloc: &Alloc, class: Option<&DataClass>) -> Option<Space>
@@ -22,6 +22,14 @@ pub fn volume_count_of(alloc: &Alloc, class: Option<&DataClass>) -> VolumeCount
         .unwrap_or(VolumeCount::one())
 }
 
+/// Whether the data set may lie on cylinder-managed space: as the request says, else as its data class does, else
+/// not (docs/rules.md, "ALLOC").
+pub fn eattr_of(alloc: &Alloc, class: Option<&DataClass>) -> Eattr
+    ensures { result ≡ eattr_of alloc.now (option_copied class.entry) }
+{
+    alloc.eattr.or(class_eattr(class)).unwrap_or(Eattr::No)
+}
+
 fn class_space(class: Option<&DataClass>) -> Option<Space>
     ensures { result ≡ option_and_then (λ class. class.space) (option_copied class.entry) }
 {
@@ -32,4 +40,10 @@ fn class_volumes(class: Option<&DataClass>) -> Option<VolumeCount>
     ensures { result ≡ option_and_then (λ class. class.volumes) (option_copied class.entry) }
 {
     class?.volumes
+}
+
+fn class_eattr(class: Option<&DataClass>) -> Option<Eattr>
+    ensures { result ≡ option_map (λ class. class.eattr) (option_copied class.entry) }
+{
+    Some(class?.eattr)
 }

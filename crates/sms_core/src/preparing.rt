@@ -133,6 +133,7 @@ fn carry_out<P: Keeper>(
 ) -> Result<Prepared, AllocError>
     requires unknown { IsUnknown records.old.log request.now }
     requires suits { SuitsOp request.now.op (effect_of decision.deed) }
+    requires state { IsSomeState running.old }
     requires possible { IsPossible running.old decision.deed }
     requires set_room { 0 < running.old.catalog.room }
     requires reply_room { 0 < records.old.log.reply_room }

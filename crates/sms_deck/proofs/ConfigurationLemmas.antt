@@ -1,5 +1,5 @@
 -- What holds of each configuration that a deck gives.
-use Rattle.std.proofs.Common.{◌≡◌, ◌≤◌, ◌<◌, ◌+◌, ◌*◌, take, drop, ◌||◌, ℕ, Bool, true, false, List, [], ◌∷◌, ◌++◌, map, bytes_eq, length, refl, sym, ap, ◌∙◌, subst, arith, nat_lt}
+use Rattle.std.proofs.Common.{◌≡◌, ◌≤◌, ◌<◌, ◌+◌, take, drop, ◌||◌, ℕ, Bool, true, false, List, [], ◌∷◌, ◌++◌, map, bytes_eq, length, refl, sym, subst, arith, nat_lt}
 use Rattle.std.specs.Prelude.{Option, Some, None, ◌&&◌, ◌==◌, nat_le, IfSome, unwrap_or, position, pos, codes, if◌then◌else◌}
 use Rattle.std.specs.Option.{option_and_then, option_or}
 use Rattle.std.specs.BTreeMap.{insert_entry}
@@ -11,7 +11,7 @@ use Rattle.std.specs.Cmp.Lexicographic.{slice_cmp}
 use Rattle.std.proofs.lemmas.Bool.Decides.{nat_tests}
 use Rattle.std.proofs.lemmas.List.{length-append, length-map}
 use Rattle.std.proofs.lemmas.Slice.Eq.{bytes_eq-Decides}
-use Rattle.toml.specs.Data.{Data, string, integer, Members, no_members, member, get_member, as_table, as_str, members_are_sorted}
+use Rattle.toml.specs.Data.{Data, integer, Members, no_members, member, get_member, as_table, as_str, members_are_sorted}
 use Rattle.desk_common.specs.Limits.{most_tracks}
 use Rattle.dsn_mask.specs.Name.{name_of, volser_of}
 use Rattle.acs_tree.specs.declared.kind.Kind.{Kind}
@@ -20,20 +20,22 @@ use Rattle.sms_construct.specs.declared.unit.Unit.{Unit as UnitOf}
 use Rattle.sms_construct.specs.declared.unit.Unit.TheVariants.{Trk, Cyl}
 use Rattle.sms_construct.specs.declared.fault.Fault.{Fault}
 use Rattle.sms_construct.specs.declared.fault.Fault.TheVariants.{TooMany}
+use Rattle.sms_construct.specs.declared.status.Status.{Status}
+use Rattle.sms_construct.specs.declared.status.Status.TheVariants.{Enable}
 use Rattle.sms_construct.specs.declared.volume.VolumeDef.{VolumeDef}
 use Rattle.sms_construct.specs.declared.storage_group.StorGroup.{StorGroup}
-use Rattle.sms_construct.specs.Quantities.{IsSpace, IsVolumeCount, Quantities, space_of}
-use Rattle.sms_construct.specs.Configuration.{Configuration, IsConfiguration, IsDataClass, Routines, most_volumes, names_of, has_construct, are_ascending, routine_of}
+use Rattle.sms_construct.specs.Quantities.{IsSpace, IsVolumeCount, most_breakpoint}
+use Rattle.sms_construct.specs.Configuration.{Configuration, IsConfiguration, IsDataClass, Routines, most_volumes, names_of, are_ascending, routine_of, is_connected}
 use Rattle.sms_deck.specs.declared.place.Place.{Place}
 use Rattle.sms_deck.specs.Limits.{most_cylinders}
 use Rattle.sms_deck.specs.Tables.{tables_fault}
 use Rattle.sms_construct.specs.Numbers.{small_number_of}
 use Rattle.sms_construct.specs.Parts.{behind_front, in_parentheses}
 use Rattle.sms_construct.specs.SpaceText.{space_with, list_of_quantities, quantities_in, quantities_of, space_behind, space_inside, space_text}
-use Rattle.sms_deck.specs.Values.{devices, meaning_in, word_in, integer_in, space_in}
+use Rattle.sms_deck.specs.Values.{Words, devices, volume_statuses, meaning_in, word_in, integer_in, are_whole, cylinders_in, space_in}
 use Rattle.sms_deck.specs.Layout.{key_count, or_empty, table_at}
-use Rattle.sms_deck.specs.Constructs.{with_named, named, data_class_of, storage_class_of, management_class_of, group_of, size_of, tracks_of, volume_of, group_volumes, all_volumes}
-use Rattle.sms_deck.specs.Places.{Places, has_place, put_volume, put_volumes, groups_in, places_of, volumes_in, volume_count, volume_total, total_fault, twice_fault}
+use Rattle.sms_deck.specs.Constructs.{read_at, with_named, named, data_class_of, storage_class_of, management_class_of, group_of, size_of, tracks_of, volume_of, group_volumes, all_volumes}
+use Rattle.sms_deck.specs.Places.{Places, has_place, put_volume, put_volumes, groups_in, places_of, volumes_in, volume_total, total_fault, twice_fault}
 use Rattle.sms_deck.specs.Outcomes.{Outcome, Absent, Long, Sound, Faulty, IsOutcomeOf, Outcomes, AreOutcomes, outcomes_from, routines_in, sound_in, source_of}
 use Rattle.sms_deck.specs.Reading.{Configures, MeansTable, configuration_of, fault_of, first_of, form_fault, sources_fault, assigned_faults}
 use Rattle.sms_deck.proofs.OrderLemmas.{ascending, names_ascend, inner_sorted, lined_volumes, volsers_ascend}
@@ -54,6 +56,20 @@ test_if : {A : Type 0} (P : A → Type 0) (b : Bool) (x : A) → (b ≡ true →
 test_if P true x h = h refl
 test_if P false x h = tt
 
+either_if : {A : Type 0} (P : A → Type 0) (b : Bool) (x : A) (o : Option A) → P x → IfSome o P
+    → IfSome (if b then Some x else o) P
+either_if P true x o a c = a
+either_if P false x o a c = c
+
+still_if : {A : Type 0} (P : A → Type 0) (test : A → Bool) (o : Option A) → IfSome o P
+    → IfSome (option_and_then (λ x. if test x then Some x else None) o) P
+still_if P test None a = tt
+still_if P test (Some x) a = either_if P (test x) x None a tt
+
+or_default : {A : Type 0} (P : A → Type 0) (o : Option A) (default : A) → P default → IfSome o P → P (unwrap_or o default)
+or_default P None default a b = a
+or_default P (Some x) default a b = b
+
 -- integers and spaces
 
 abbrev IsWithin : ℕ → ℕ → ℕ → Type 0
@@ -65,6 +81,10 @@ within least most number e = (grind (arith, nat_tests), grind (arith, nat_tests)
 integer_within : (least most : ℕ) (value : Data) → IfSome (integer_in least most value) (IsWithin least most)
 integer_within least most (integer (pos number)) = test_if (IsWithin least most) (nat_le least number && nat_le number most) number (within least most number)
 integer_within least most _ = tt
+
+cylinders_within : (value : Data) → IfSome (cylinders_in value) (IsWithin 1 most_cylinders)
+cylinders_within value =
+    still_if (IsWithin 1 most_cylinders) are_whole (integer_in 1 most_cylinders value) (integer_within 1 most_cylinders value)
 
 is_space : (unit : UnitOf) (primary secondary : ℕ) → (nat_le 1 primary && (nat_le primary 16777215 && nat_le secondary 16777215)) ≡ true → IsSpace (record { unit = unit; primary = primary; secondary = secondary })
 is_space unit primary secondary e = record { some = grind (arith, nat_tests); primary = grind (arith, nat_tests); secondary = grind (arith, nat_tests) }
@@ -118,10 +138,46 @@ size_is_some None None tracks a b c = one_or_more tracks most_tracks c
 
 has_tracks : (keys : Members) → 0 < tracks_of keys
 has_tracks keys =
-    size_is_some (option_and_then (word_in devices) (get_member (codes "device") keys)) (option_and_then (integer_in 1 most_cylinders) (get_member (codes "cylinders") keys)) (option_and_then (integer_in 1 most_tracks) (get_member (codes "tracks") keys))
+    size_is_some (read_at (word_in devices) (codes "device") keys) (read_at cylinders_in (codes "cylinders") keys)
+    (read_at (integer_in 1 most_tracks) (codes "tracks") keys)
     (then_if (word_in devices) (λ n. 0 < n) device_has_tracks (get_member (codes "device") keys))
-    (then_if (integer_in 1 most_cylinders) (IsWithin 1 most_cylinders) (integer_within 1 most_cylinders) (get_member (codes "cylinders") keys))
+    (then_if cylinders_in (IsWithin 1 most_cylinders) cylinders_within (get_member (codes "cylinders") keys))
     (then_if (integer_in 1 most_tracks) (IsWithin 1 most_tracks) (integer_within 1 most_tracks) (get_member (codes "tracks") keys))
+
+-- statuses
+
+abbrev IsConnected : Status → Type 0
+IsConnected status = is_connected status ≡ true
+
+words_connect : (words : Words Status) → AllByRecursion (λ word. IsConnected word.1) words → (text : List ℕ)
+    → IfSome (meaning_in words text) IsConnected
+words_connect [] a text = tt
+words_connect (word ∷ words) a text =
+    either_if IsConnected (bytes_eq text word.0) word.1 (meaning_in words text) a.0 (words_connect words a.1 text)
+
+value_connects : (value : Data) → IfSome (word_in volume_statuses value) IsConnected
+value_connects value =
+    then_if (meaning_in volume_statuses) IsConnected (words_connect volume_statuses (refl, (refl, (refl, (refl, (refl, tt)))))) (as_str value)
+
+volume_connects : (group volser : List ℕ) (keys : Members) → IsConnected (volume_of group volser keys).status
+volume_connects group volser keys =
+    or_default IsConnected (read_at (word_in volume_statuses) (codes "status") keys) Enable refl
+    (then_if (word_in volume_statuses) IsConnected value_connects (get_member (codes "status") keys))
+
+-- breakpoints
+
+abbrev IsBreakpoint : ℕ → Type 0
+IsBreakpoint cylinders = cylinders ≤ most_breakpoint
+
+value_is_breakpoint : (value : Data) → IfSome (integer_in 0 most_breakpoint value) IsBreakpoint
+value_is_breakpoint (integer (pos number)) =
+    test_if IsBreakpoint (nat_le 0 number && nat_le number most_breakpoint) number (λ e. (within 0 most_breakpoint number e).1)
+value_is_breakpoint _ = tt
+
+breakpoint_within : (name : List ℕ) (keys : Members) → (group_of name keys).breakpoint ≤ most_breakpoint
+breakpoint_within name keys =
+    or_default IsBreakpoint (read_at (integer_in 0 most_breakpoint) (codes "breakpoint") keys) 10 (omega arith)
+    (then_if (integer_in 0 most_breakpoint) IsBreakpoint value_is_breakpoint (get_member (codes "breakpoint") keys))
 
 -- what holds of all that is built
 
@@ -161,14 +217,22 @@ all_put P places (volume ∷ volumes) a b =
 
 -- the volumes
 
-group_has_tracks : (o : Option (List ℕ)) (t : Option Members) → AllByRecursion (λ volume. 0 < volume.tracks) (group_volumes o t)
-group_has_tracks None t = tt
-group_has_tracks (Some group) None = tt
-group_has_tracks (Some group) (Some keys) = all_named (λ volume. 0 < volume.tracks) volser_of (volume_of group) (λ volser inner. has_tracks inner) (table_at (codes "volume") keys)
+all_in_group : (P : VolumeDef → Type 0) → ((group volser : List ℕ) (keys : Members) → P (volume_of group volser keys))
+    → (o : Option (List ℕ)) (t : Option Members) → AllByRecursion P (group_volumes o t)
+all_in_group P h None t = tt
+all_in_group P h (Some group) None = tt
+all_in_group P h (Some group) (Some keys) = all_named P volser_of (volume_of group) (h group) (table_at (codes "volume") keys)
 
-all_have_tracks : (ms : Members) → AllByRecursion (λ volume. 0 < volume.tracks) (all_volumes ms)
-all_have_tracks no_members = tt
-all_have_tracks (member l d ms) = all_append (λ volume. 0 < volume.tracks) (group_volumes (name_of l) (as_table d)) (all_volumes ms) (group_has_tracks (name_of l) (as_table d)) (all_have_tracks ms)
+all_in_groups : (P : VolumeDef → Type 0) → ((group volser : List ℕ) (keys : Members) → P (volume_of group volser keys))
+    → (ms : Members) → AllByRecursion P (all_volumes ms)
+all_in_groups P h no_members = tt
+all_in_groups P h (member l d ms) =
+    all_append P (group_volumes (name_of l) (as_table d)) (all_volumes ms)
+    (all_in_group P h (name_of l) (as_table d)) (all_in_groups P h ms)
+
+all_of_volumes : (P : VolumeDef → Type 0) → ((group volser : List ℕ) (keys : Members) → P (volume_of group volser keys))
+    → (groups : Members) → AllByRecursion P (volumes_in (put_volumes [] (all_volumes groups)))
+all_of_volumes P h groups = all_put P [] (all_volumes groups) (all_in_groups P h groups) tt
 
 abbrev IsAmong : List StorGroup → VolumeDef → Type 0
 IsAmong groups volume = list_any (bytes_eq volume.group) (map (λ group. group.name) groups) ≡ true
@@ -256,18 +320,21 @@ few_where top e =
     let d = length-map (places_of top) (λ place. place.1.volume) in
     grind (arith, nat_tests)
 
-second_none : {A : Type 0} (o p : Option A) → option_or o p ≡ None → p ≡ None
+pub second_none : {A : Type 0} (o p : Option A) → option_or o p ≡ None → p ≡ None
 second_none None p e = e
 second_none (Some x) p e = cc
 
-first_none : {A : Type 0} (o p : Option A) → option_or o p ≡ None → o ≡ None
+pub first_none : {A : Type 0} (o p : Option A) → option_or o p ≡ None → o ≡ None
 first_none None p e = refl
 first_none (Some x) p e = cc
+
+pub no_tables : (top : Members) → form_fault top ≡ None → tables_fault top ≡ None
+no_tables top e = first_none (tables_fault top) (option_or (total_fault top) (option_or (twice_fault top) None)) e
 
 no_total : (top : Members) → form_fault top ≡ None → total_fault top ≡ None
 no_total top e = first_none (total_fault top) (option_or (twice_fault top) None) (second_none (tables_fault top) (option_or (total_fault top) (option_or (twice_fault top) None)) e)
 
-no_form : (top : Members) (outcomes : Outcomes) → fault_of top outcomes ≡ None → form_fault top ≡ None
+pub no_form : (top : Members) (outcomes : Outcomes) → fault_of top outcomes ≡ None → form_fault top ≡ None
 no_form top outcomes e = first_none (form_fault top) (first_of (sources_fault outcomes ∷ assigned_faults top (routines_in outcomes) ∷ [])) e
 
 -- the classes
@@ -305,7 +372,9 @@ is_configuration bytes top outcomes s a f = record {
   volsers = ascending _ (volsers_ascend (places_of top) (lined_volumes [] (all_volumes (groups_in top)) tt));
   few = few_where top (no_total top f);
   grouped = all_put (IsAmong (named name_of group_of (groups_in top))) [] (all_volumes (groups_in top)) (all_are_among (groups_in top)) tt;
-  tracks = all_put (λ volume. 0 < volume.tracks) [] (all_volumes (groups_in top)) (all_have_tracks (groups_in top)) tt;
+  tracks = all_of_volumes (λ volume. 0 < volume.tracks) (λ group volser keys. has_tracks keys) (groups_in top);
+  connected = all_of_volumes (λ volume. IsConnected volume.status) volume_connects (groups_in top);
+  breakpoints = all_named (λ group. group.breakpoint ≤ most_breakpoint) name_of group_of breakpoint_within (groups_in top);
   classes = all_named IsDataClass name_of data_class_of is_data_class (table_at (codes "dataclass") top);
   kinds = kinds_of outcomes a;
 }

@@ -9,4 +9,5 @@ pub mod PlaceLemmas
 pub mod ReadingLemmas
 pub mod SortedLemmas
 pub mod TableLemmas
+pub mod VersionLemmas
 pub mod WordLemmas

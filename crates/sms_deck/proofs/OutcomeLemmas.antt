@@ -8,9 +8,7 @@ use Rattle.acs_lex.specs.declared.fault.LexErr.TheVariants as lex
 use Rattle.acs_lex.specs.Tokens.{IsCut}
 use Rattle.acs_lex.specs.LexFault.{FirstStopsBy, here, behind_gap, behind_token, IsFirstLexFault}
 use Rattle.acs_lex.proofs.CutLemmas.{CutOrFault, cut_or_fault, may_refuse}
-use Rattle.acs_symbol.specs.declared.symbol.Symbol.{Symbol}
 use Rattle.acs_symbol.specs.Symbols.{symbols_of}
-use Rattle.acs_parse.specs.declared.fault.ParseErr.{ParseErr}
 use Rattle.acs_parse.specs.declared.fault.ParseErr.TheVariants as parse
 use Rattle.acs_parse.specs.Grammar.{limited, IsRoutine}
 use Rattle.acs_parse.specs.ParseFault.{IsParseFault}
@@ -20,7 +18,6 @@ use Rattle.acs_parse.proofs.ExactLemmas as has
 use Rattle.acs_tree.specs.declared.kind.Kind.{Kind}
 use Rattle.acs_tree.specs.declared.check_err.CheckErr.{CheckErr}
 use Rattle.acs_tree.specs.declared.routine.Routine.{Routine}
-use Rattle.acs_tree.specs.Sound.{IsSound, IsFirstFault}
 use Rattle.acs_tree.specs.CheckedRoutine.{CheckedRoutine}
 use Rattle.acs_check.specs.Walk.{first_fault_of}
 use Rattle.acs_check.proofs.FirstLemmas.{found, none_found}
@@ -28,10 +25,10 @@ use Rattle.acs_translate.specs.declared.fault.Stage.TheVariants.{Scanner, Parser
 use Rattle.acs_translate.specs.declared.fault.RoutineFault.{RoutineFault}
 use Rattle.acs_translate.specs.declared.fault.TranslateErr.{TranslateErr}
 use Rattle.acs_translate.specs.declared.fault.TranslateErr.TheVariants as told
-use Rattle.acs_translate.specs.Translation.{IsTranslated, fault_of, lex_err, parse_err, check_fault, IsRoutineFault, in_text, in_tokens, in_tree, IsExact, MayRefuse as TranslateMayRefuse}
+use Rattle.acs_translate.specs.Translation.{IsTranslated, fault_of, check_fault, IsRoutineFault, in_text, in_tokens, in_tree, IsExact, MayRefuse as TranslateMayRefuse}
 use Rattle.acs_translate.proofs.TranslateLemmas.{exact, exact_lex, exact_parse, exact_check}
 use Rattle.sms_deck.specs.Limits.{most_routine_bytes}
-use Rattle.sms_deck.specs.Outcomes.{Outcome, Absent, Long, Sound, Faulty, IsSource, IsFaulty, IsOutcomeOf, Outcomes, AreOutcomes, TellsSource, outcome_from, sound_in, source_fault, source_of, told_as}
+use Rattle.sms_deck.specs.Outcomes.{Outcome, Absent, Long, Sound, Faulty, IsFaulty, IsOutcomeOf, Outcomes, AreOutcomes, TellsSource, outcome_from, sound_in, source_fault, source_of, told_as}
 use Rattle.sms_deck.specs.Reading.{TellsSources}
 use Rattle.sms_deck.specs.declared.deck_err.DeckErr.{DeckErr}
 use Rattle.sms_deck.specs.declared.deck_err.DeckErr.TheVariants.{Fault as Faulted, NoMemory}

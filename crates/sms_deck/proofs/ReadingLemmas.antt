@@ -1,5 +1,5 @@
 -- A deck has a configuration or a first fault, and only one of either.
-use Rattle.std.proofs.Common.{◌≡◌, ◌⊎◌, ◌<◌, ◌≤◌, ℕ, List, inl, inr, refl, sym, ◌∙◌, ap, subst, arith}
+use Rattle.std.proofs.Common.{◌≡◌, ℕ, List, inl, inr, refl, sym, ◌∙◌, ap, subst, arith}
 use Rattle.std.specs.Prelude.{Option, Some, None, Result, Ok, Err, IfOk, IfErr}
 use Rattle.desk_common.specs.Exact.{IsExact, MayRefuse}
 use Rattle.desk_common.proofs.ExactLemmas.{exact_thing, exact_fault, exact_want}
@@ -9,7 +9,7 @@ use Rattle.sms_construct.specs.declared.fault.Fault.{Fault}
 use Rattle.acs_tree.specs.declared.kind.Kind.TheVariants.{DataClas, StorClas, MgmtClas, StorGrp}
 use Rattle.sms_construct.specs.Configuration.{Configuration, Routines}
 use Rattle.sms_deck.specs.Outcomes.{Outcomes, AreOutcomes, outcomes_from, routines_in}
-use Rattle.sms_deck.specs.Reading.{MeansTable, Configures, HasFirstFault, HasTableFault, TellsFirstFault, TellsForm, TellsSources, TellsTable, IsRead, form_fault, sources_fault, assigned_faults, fault_of, configuration_of}
+use Rattle.sms_deck.specs.Reading.{MeansTable, Configures, HasFirstFault, TellsFirstFault, TellsForm, TellsSources, TellsTable, IsRead, form_fault, sources_fault, assigned_faults, fault_of, configuration_of}
 use Rattle.sms_deck.specs.declared.deck_err.DeckErr.{DeckErr}
 use Rattle.sms_deck.specs.declared.deck_err.DeckErr.TheVariants.{Fault as Faulted, NoMemory}
 use Rattle.sms_deck.proofs.OutcomeLemmas.{one_outcomes, some_outcomes, quiet, sound_from}

@@ -12,8 +12,8 @@ use Rattle.toml_parser.specs.Strings.{Key, quoted, starts_string, recursion_limi
 use Rattle.toml_parser.specs.Numbers.{unquoted}
 use Rattle.toml_parser.specs.declared.scalar.Scalar.{Scalar}
 use Rattle.toml_parser.specs.declared.scalar.Scalar.TheVariants.{Boolean, Integer, Float, Datetime}
-use Rattle.toml.specs.Data.{Data, string, integer, float, boolean, datetime, array, table, Items, no_items, item, Members, no_members, member, is_before, is_sorted, items_are_sorted, members_are_sorted, push_item, same_key}
-use Rattle.toml.specs.Tables.{Origin, implicit, dotted, header, Node, Nodes, value, open_table, open_array, no_nodes, node, get_node, insert, replace, close, close_node, Edit, header_node, dot_node, by_header, by_dot, along_header, along_dots, Definition, key_value, std_table, array_table, Expression, new_node, redefine, at_found, at_key, put, Document, define_as, define}
+use Rattle.toml.specs.Data.{Data, string, array, table, Items, no_items, item, Members, is_before, is_sorted, items_are_sorted, members_are_sorted, push_item, same_key}
+use Rattle.toml.specs.Tables.{implicit, dotted, header, Node, Nodes, value, open_table, open_array, no_nodes, node, get_node, insert, replace, close, close_node, Edit, header_node, dot_node, by_header, by_dot, along_header, along_dots, Definition, key_value, std_table, array_table, Expression, new_node, redefine, at_found, at_key, put, Document, define_as, define}
 use Rattle.toml.specs.Parse.{after_element, key_equals, keyval, items, members, scalar_data, atom, val, header_key, expression, ends_line, line, lines, skip_bom, parse_document, read_map, after_byte}
 
 -- options

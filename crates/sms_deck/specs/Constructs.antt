@@ -1,20 +1,20 @@
 -- The constructs that a deck's tables define. What a table with no fault can't hold is passed over, or read as the default.
-use Rattle.std.specs.Prelude.{ℕ, ◌*◌, List, [], ◌∷◌, ◌++◌, Bool, false, Option, None, Some, codes}
+use Rattle.std.specs.Prelude.{ℕ, ◌*◌, List, [], ◌∷◌, ◌++◌, false, Option, None, Some, codes}
 use Rattle.std.specs.Option.{option_and_then, unwrap_or}
 use Rattle.toml.specs.Data.{Data, Members, no_members, member, get_member, as_bool, as_table}
 use Rattle.desk_common.specs.Limits.{most_tracks, most_volume_count}
 use Rattle.dsn_mask.specs.Name.{name_of, volser_of}
 use Rattle.sms_construct.specs.declared.data_class.DataClass.{DataClass}
+use Rattle.sms_construct.specs.declared.eattr.Eattr.TheVariants.{No}
 use Rattle.sms_construct.specs.declared.management_class.MgmtClass.{MgmtClass}
 use Rattle.sms_construct.specs.declared.status.Status.TheVariants.{Enable}
 use Rattle.sms_construct.specs.declared.storage_class.StorClass.{StorClass}
 use Rattle.sms_construct.specs.declared.storage_group.StorGroup.{StorGroup}
 use Rattle.sms_construct.specs.declared.unit.Unit.TheVariants.{Cyl}
 use Rattle.sms_construct.specs.declared.volume.VolumeDef.{VolumeDef}
-use Rattle.sms_construct.specs.Quantities.{tracks_in}
-use Rattle.sms_deck.specs.Limits.{most_cylinders}
+use Rattle.sms_construct.specs.Quantities.{tracks_in, most_breakpoint}
 use Rattle.sms_deck.specs.Layout.{table_at}
-use Rattle.sms_deck.specs.Values.{devices, group_statuses, volume_statuses, releases, word_in, integer_in, space_in}
+use Rattle.sms_deck.specs.Values.{devices, group_statuses, volume_statuses, yes_or_no, eattrs, word_in, integer_in, cylinders_in, space_in}
 use Rattle.sms_deck.specs.Tables.{high_of}
 
 -- what a key's value means, if the key is there and its value means something
@@ -38,18 +38,22 @@ data_class_of name keys = record {
   name = name;
   space = read_at space_in (codes "space") keys;
   volumes = read_at (integer_in 1 most_volume_count) (codes "volcount") keys;
+  eattr = unwrap_or (read_at (word_in eattrs) (codes "eattr") keys) No;
 }
 
--- the storage class of this name, which has no keys
+-- the storage class of this name, by its keys
 abbrev pub storage_class_of : List ℕ → Members → StorClass
-storage_class_of name keys = record { name = name }
+storage_class_of name keys = record {
+  name = name;
+  multi_tier = unwrap_or (read_at (word_in yes_or_no) (codes "multi_tier") keys) false;
+}
 
 -- the management class of this name, by its keys
 abbrev pub management_class_of : List ℕ → Members → MgmtClass
 management_class_of name keys = record {
   name = name;
   expire_after = read_at (integer_in 0 9999) (codes "expire_after") keys;
-  release = unwrap_or (read_at (word_in releases) (codes "release") keys) false;
+  release = unwrap_or (read_at (word_in yes_or_no) (codes "release") keys) false;
 }
 
 -- the storage group of this name, by its keys
@@ -60,6 +64,7 @@ group_of name keys = record {
   high = high_of keys;
   low = unwrap_or (read_at (integer_in 0 (high_of keys)) (codes "low") keys) 1;
   overflow = unwrap_or (read_at as_bool (codes "overflow") keys) false;
+  breakpoint = unwrap_or (read_at (integer_in 0 most_breakpoint) (codes "breakpoint") keys) 10;
 }
 
 -- the tracks of the device, of the cylinders, or as many as are named
@@ -70,7 +75,9 @@ size_of None None tracks = unwrap_or tracks 1
 
 -- the tracks of a volume, by its keys
 abbrev pub tracks_of : Members → ℕ
-tracks_of keys = size_of (read_at (word_in devices) (codes "device") keys) (read_at (integer_in 1 most_cylinders) (codes "cylinders") keys) (read_at (integer_in 1 most_tracks) (codes "tracks") keys)
+tracks_of keys =
+    size_of (read_at (word_in devices) (codes "device") keys) (read_at cylinders_in (codes "cylinders") keys)
+    (read_at (integer_in 1 most_tracks) (codes "tracks") keys)
 
 -- the volume of this serial in this group, by its keys
 abbrev pub volume_of : List ℕ → List ℕ → Members → VolumeDef

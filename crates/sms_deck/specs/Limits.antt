@@ -23,4 +23,12 @@ most_group_volumes = 256
 
 -- the cylinders of a volume
 abbrev pub most_cylinders : ℕ
-most_cylinders = 65520
+most_cylinders = 1182006
+
+-- the cylinders of a volume that may be track-managed; those past them are cylinder-managed
+abbrev pub most_track_managed : ℕ
+most_track_managed = 65520
+
+-- the cylinders of a unit of cylinder-managed space
+abbrev pub cylinders_in_managed : ℕ
+cylinders_in_managed = 21

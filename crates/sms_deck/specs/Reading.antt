@@ -1,6 +1,6 @@
 -- What a deck configures, and its first fault (docs/deck.md, "Order of faults").
 use Rattle.std.specs.Prelude.{ℕ, ◌≡◌, ◌≤◌, ◌<◌, ◌⊎◌, List, [], ◌∷◌, Option, None, Some, length, codes, IsUtf8}
-use Rattle.std.specs.Option.{option_or, option_and_then}
+use Rattle.std.specs.Option.{option_or}
 use Rattle.toml.specs.Data.{Members}
 use Rattle.toml.specs.Parse.{parse_document}
 use Rattle.dsn_mask.specs.Name.{name_of}

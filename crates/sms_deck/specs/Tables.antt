@@ -1,15 +1,18 @@
 -- The tables of a deck and their keys (docs/deck.md, "Keys"): a row is a key with the values that are right there.
-use Rattle.std.specs.Prelude.{ℕ, List, [], ◌∷◌, Bool, true, ◌&&◌, ◌||◌, not, Option, codes}
+use Rattle.std.specs.Prelude.{ℕ, List, [], ◌∷◌, true, ◌&&◌, ◌||◌, not, Option, is_some, codes, if◌then◌else◌}
 use Rattle.std.specs.Option.{option_and_then, unwrap_or}
-use Rattle.toml.specs.Data.{Members, get_member, as_bool, as_str}
+use Rattle.toml.specs.Data.{Members, get_member}
 use Rattle.desk_common.specs.Limits.{most_tracks, most_volume_count}
 use Rattle.dsn_mask.specs.Name.{is_name, is_volser}
 use Rattle.acs_tree.specs.declared.kind.Kind.{Kind}
 use Rattle.acs_tree.specs.declared.kind.Kind.TheVariants.{DataClas, StorClas, MgmtClas, StorGrp}
 use Rattle.sms_construct.specs.declared.fault.Fault.{Fault}
-use Rattle.sms_deck.specs.Limits.{most_classes, most_groups, most_group_volumes, most_cylinders}
+use Rattle.sms_construct.specs.Quantities.{most_breakpoint}
+use Rattle.sms_deck.specs.Limits.{most_classes, most_groups, most_group_volumes}
 use Rattle.sms_deck.specs.Layout.{Walk, Row, has, fixed_keys, names, plain, inner}
-use Rattle.sms_deck.specs.declared.value_form.ValueForm.TheVariants.{Integer, Text, Flag, ConstructName, SpaceText, Pool, GroupStatus, VolumeStatus, Device, Release}
+use Rattle.sms_deck.specs.declared.value_form.ValueForm.TheVariants.{Integer, Text, Flag, ConstructName, SpaceText, Pool, GroupStatus, VolumeStatus, Device, Cylinders, YesOrNo, OptOrNo}
+use Rattle.sms_deck.specs.declared.version.Version.{Version}
+use Rattle.sms_deck.specs.declared.version.Version.TheVariants.{One, Two}
 use Rattle.sms_deck.specs.Values.{integer_in, has_form}
 
 -- a volume: its device, its cylinders or its tracks, just one of the three, and its status
@@ -18,9 +21,10 @@ use Rattle.sms_deck.specs.Values.{integer_in, has_form}
 abbrev pub device_row : Row
 device_row = record (plain (codes "device") Device) { is_needed = λ keys. not (has (codes "cylinders") keys || has (codes "tracks") keys) }
 
--- the cylinders, which are right in their range, and only where no device stands
+-- the cylinders, which are right where a volume may have so many, and only where no device stands
 abbrev pub cylinders_row : Row
-cylinders_row = record (plain (codes "cylinders") (Integer 1 most_cylinders)) { is_right = λ keys value. not (has (codes "device") keys) && has_form (Integer 1 most_cylinders) value }
+cylinders_row =
+    record (plain (codes "cylinders") Cylinders) { is_right = λ keys value. not (has (codes "device") keys) && has_form Cylinders value }
 
 -- the tracks, which are right in their range, and only where neither of the others stands
 abbrev pub tracks_row : Row
@@ -50,16 +54,26 @@ group_rows =
     ∷ plain (codes "high") (Integer 1 100)
     ∷ low_row
     ∷ plain (codes "overflow") Flag
+    ∷ plain (codes "breakpoint") (Integer 0 most_breakpoint)
     ∷ inner (codes "volume") (names most_group_volumes is_volser volume_walk)
     ∷ []
 
 -- the keys of a data class
 abbrev pub data_class_rows : List Row
-data_class_rows = plain (codes "space") SpaceText ∷ plain (codes "volcount") (Integer 1 most_volume_count) ∷ []
+data_class_rows =
+    plain (codes "space") SpaceText
+    ∷ plain (codes "volcount") (Integer 1 most_volume_count)
+    ∷ plain (codes "eattr") OptOrNo
+    ∷ []
+
+-- the keys of a storage class, which has none in the first version
+abbrev pub storage_class_rows : Version → List Row
+storage_class_rows One = []
+storage_class_rows Two = plain (codes "multi_tier") YesOrNo ∷ []
 
 -- the keys of a management class
 abbrev pub management_class_rows : List Row
-management_class_rows = plain (codes "expire_after") (Integer 0 9999) ∷ plain (codes "release") Release ∷ []
+management_class_rows = plain (codes "expire_after") (Integer 0 9999) ∷ plain (codes "release") YesOrNo ∷ []
 
 -- the constructs of a kind and the routine of that kind stand under one key
 abbrev pub key_of : Kind → List ℕ
@@ -68,16 +82,16 @@ key_of StorClas = codes "storclass"
 key_of MgmtClas = codes "mgmtclass"
 key_of StorGrp = codes "storgroup"
 
--- the keys of a construct; a storage class has none
-abbrev pub construct_rows : Kind → List Row
-construct_rows DataClas = data_class_rows
-construct_rows StorClas = []
-construct_rows MgmtClas = management_class_rows
-construct_rows StorGrp = group_rows
+-- the keys of a construct
+abbrev pub construct_rows : Version → Kind → List Row
+construct_rows version DataClas = data_class_rows
+construct_rows version StorClas = storage_class_rows version
+construct_rows version MgmtClas = management_class_rows
+construct_rows version StorGrp = group_rows
 
 -- the table of a construct
-abbrev pub construct_walk : Kind → Walk
-construct_walk kind = fixed_keys (construct_rows kind)
+abbrev pub construct_walk : Version → Kind → Walk
+construct_walk version kind = fixed_keys (construct_rows version kind)
 
 -- how many constructs of a kind there may be
 abbrev pub most_constructs : Kind → ℕ
@@ -87,8 +101,8 @@ most_constructs MgmtClas = most_classes
 most_constructs StorGrp = most_groups
 
 -- the constructs of a kind, by their names
-abbrev pub constructs_row : Kind → Row
-constructs_row kind = inner (key_of kind) (names (most_constructs kind) is_name (construct_walk kind))
+abbrev pub constructs_row : Version → Kind → Row
+constructs_row version kind = inner (key_of kind) (names (most_constructs kind) is_name (construct_walk version kind))
 
 -- the text of a routine
 abbrev pub source_row : Kind → Row
@@ -98,24 +112,29 @@ source_row kind = plain (key_of kind) Text
 abbrev pub routine_walk : Walk
 routine_walk = fixed_keys (source_row DataClas ∷ source_row StorClas ∷ source_row MgmtClas ∷ source_row StorGrp ∷ [])
 
--- the version, which must stand and is 1
+-- the version, which must stand and is 1 or 2
 abbrev pub version_row : Row
-version_row = record (plain (codes "version") (Integer 1 1)) { is_needed = λ keys. true }
+version_row = record (plain (codes "version") (Integer 1 2)) { is_needed = λ keys. true }
+
+-- the version by which a deck is read; the first where it names none
+abbrev pub version_of : Members → Version
+version_of top = if is_some (option_and_then (integer_in 2 2) (get_member (codes "version") top)) then Two else One
 
 -- the keys of the top table
-abbrev pub top_rows : List Row
-top_rows =
+abbrev pub top_rows : Version → List Row
+top_rows version =
     version_row
     ∷ plain (codes "system") ConstructName
     ∷ plain (codes "sysplex") ConstructName
-    ∷ constructs_row DataClas ∷ constructs_row StorClas ∷ constructs_row MgmtClas ∷ constructs_row StorGrp
+    ∷ constructs_row version DataClas ∷ constructs_row version StorClas
+    ∷ constructs_row version MgmtClas ∷ constructs_row version StorGrp
     ∷ inner (codes "routine") routine_walk
     ∷ []
 
 -- the top table, which is the whole deck
-abbrev pub top_walk : Walk
-top_walk = fixed_keys top_rows
+abbrev pub top_walk : Version → Walk
+top_walk version = fixed_keys (top_rows version)
 
 -- the first fault of the top table and of those inside
 abbrev pub tables_fault : Members → Option Fault
-tables_fault = top_walk []
+tables_fault top = top_walk (version_of top) [] top

@@ -1,13 +1,16 @@
 -- What single values of a deck mean (docs/deck.md, "Keys").
-use Rattle.std.specs.Prelude.{ℕ, ◌&&◌, List, [], ◌∷◌, Bool, true, false, Option, None, Some, bytes_eq, codes, is_some, nat_le, pos, if◌then◌else◌}
+use Rattle.std.specs.Prelude.{ℕ, ◌%◌, ◌==◌, ◌&&◌, ◌||◌, List, [], ◌∷◌, Bool, true, false, Option, None, Some, bytes_eq, codes, is_some, nat_le, pos, if◌then◌else◌}
 use Rattle.std.specs.Option.{option_and_then}
 use Rattle.toml.specs.Data.{Data, integer, as_bool, as_str}
 use Rattle.dsn_mask.specs.Name.{name_of}
+use Rattle.sms_construct.specs.declared.eattr.Eattr.{Eattr}
+use Rattle.sms_construct.specs.declared.eattr.Eattr.TheVariants.{Opt, No}
 use Rattle.sms_construct.specs.declared.status.Status.{Status}
 use Rattle.sms_construct.specs.declared.status.Status.TheVariants.{Enable, NotCon, DisAll, DisNew, QuiAll, QuiNew}
 use Rattle.sms_construct.specs.Quantities.{Quantities}
+use Rattle.sms_deck.specs.Limits.{most_cylinders, most_track_managed, cylinders_in_managed}
 use Rattle.sms_deck.specs.declared.value_form.ValueForm.{ValueForm}
-use Rattle.sms_deck.specs.declared.value_form.ValueForm.TheVariants.{Integer, Text, Flag, ConstructName, SpaceText, Pool, GroupStatus, VolumeStatus, Device, Release}
+use Rattle.sms_deck.specs.declared.value_form.ValueForm.TheVariants.{Integer, Text, Flag, ConstructName, SpaceText, Pool, GroupStatus, VolumeStatus, Device, Cylinders, YesOrNo, OptOrNo}
 use Rattle.sms_construct.specs.SpaceText.{space_text}
 
 -- words, each with what it stands for
@@ -31,9 +34,13 @@ group_statuses = (codes "NOTCON", NotCon) ∷ volume_statuses
 abbrev pub devices : Words ℕ
 devices = (codes "3390-3", 50085) ∷ (codes "3390-9", 150255) ∷ []
 
--- whether unused space is released
-abbrev pub releases : Words Bool
-releases = (codes "YES", true) ∷ (codes "NO", false) ∷ []
+-- yes and no
+abbrev pub yes_or_no : Words Bool
+yes_or_no = (codes "YES", true) ∷ (codes "NO", false) ∷ []
+
+-- whether data sets may lie on cylinder-managed space
+abbrev pub eattrs : Words Eattr
+eattrs = (codes "OPT", Opt) ∷ (codes "NO", No) ∷ []
 
 -- the one type of a storage group
 abbrev pub pool : Words Bool
@@ -47,6 +54,15 @@ word_in words value = option_and_then (meaning_in words) (as_str value)
 abbrev pub integer_in : ℕ → ℕ → Data → Option ℕ
 integer_in least most (integer (pos number)) = if nat_le least number && nat_le number most then Some number else None
 integer_in least most _ = None
+
+-- so many cylinders are track-managed, or with what is past them whole units
+abbrev pub are_whole : ℕ → Bool
+are_whole cylinders = nat_le cylinders most_track_managed || (cylinders % cylinders_in_managed == 0)
+
+-- the cylinders of a volume, if the value is a number that it may have
+abbrev pub cylinders_in : Data → Option ℕ
+cylinders_in value =
+    option_and_then (λ cylinders. if are_whole cylinders then Some cylinders else None) (integer_in 1 most_cylinders value)
 
 -- the construct name, if the value is one
 abbrev pub name_in : Data → Option (List ℕ)
@@ -67,4 +83,6 @@ has_form Pool value = is_some (word_in pool value)
 has_form GroupStatus value = is_some (word_in group_statuses value)
 has_form VolumeStatus value = is_some (word_in volume_statuses value)
 has_form Device value = is_some (word_in devices value)
-has_form Release value = is_some (word_in releases value)
+has_form Cylinders value = is_some (cylinders_in value)
+has_form YesOrNo value = is_some (word_in yes_or_no value)
+has_form OptOrNo value = is_some (word_in eattrs value)

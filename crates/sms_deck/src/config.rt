@@ -7,7 +7,7 @@ ghost use Rattle.sms_construct.specs.Configuration.{IsConfiguration, has_constru
 use crate::compiled::Compiled;
 use crate::lookups::{
     data_class_named, has_data_class, has_group, has_management_class, has_storage_class,
-    management_class_named,
+    management_class_named, storage_class_named,
 };
 use acs_code::Code;
 use acs_tree::{Checked, Kind};
@@ -133,15 +133,18 @@ impl Config {
         data_class_named(self.data_classes.as_slice(), name.bytes())
     }
 
+    /// The storage class of this name.
+    pub fn stor_class(&self, name: &Name) -> Option<&StorClass>
+        ensures { option_copied result ≡ find (λ class. bytes_eq name.now class.name) self.now.storage_classes }
+    {
+        storage_class_named(self.storage_classes.as_slice(), name.bytes())
+    }
+
     /// The storage class that a routine's value names; none where it is null.
     pub fn stor_class_for(&self, name: &Short) -> Option<&StorClass>
         ensures { option_copied result ≡ find (λ class. bytes_eq name.now class.name) self.now.storage_classes }
     {
-        let name = name.bytes();
-        self.storage_classes
-            .as_slice()
-            .iter()
-            .find(|class| name == class.name.bytes())
+        storage_class_named(self.storage_classes.as_slice(), name.bytes())
     }
 
     /// The management class of this name.

@@ -5,20 +5,21 @@ ghost use Rattle.toml.specs.View.{table_view};
 ghost use Rattle.dsn_mask.specs.Name.{name_of};
 ghost use Rattle.sms_deck.specs.Layout.{table_at};
 ghost use Rattle.sms_deck.specs.Limits.{most_cylinders};
-ghost use Rattle.sms_deck.specs.Values.{devices, group_statuses, integer_in, name_in, releases, space_in, volume_statuses, word_in};
+ghost use Rattle.sms_deck.specs.Values.{cylinders_in, devices, eattrs, group_statuses, integer_in, name_in, space_in, volume_statuses, word_in, yes_or_no};
 ghost use Rattle.sms_deck.specs.Tables.{high_of};
 ghost use Rattle.sms_deck.specs.Constructs.{data_class_of, group_of, management_class_of, named, read_at, storage_class_of, tracks_of, volume_of};
 
 use crate::construct_tables::high_of;
-use crate::limits::{MAX_CYLINDERS, MAX_TRACKS};
+use crate::limits::{MAX_BREAKPOINT, MAX_TRACKS};
 use crate::rows::value_at;
 use crate::values::{
-    device_in, group_status_in, integer_in, name_in, release_in, space_in, volume_status_in,
+    cylinders_in, device_in, eattr_in, group_status_in, integer_in, name_in, space_in,
+    volume_status_in, yes_or_no_in,
 };
 use desk_common::Items;
 use dsn_mask::{Name, Volser};
 use sms_construct::{
-    DataClass, MgmtClass, Space, Status, StorClass, StorGroup, VolumeCount, VolumeDef,
+    DataClass, Eattr, MgmtClass, Space, Status, StorClass, StorGroup, VolumeCount, VolumeDef,
 };
 use std::alloc::{AllocError, Global};
 use toml::Table;
@@ -62,12 +63,31 @@ fn space(keys: &Table) -> Option<Space>
     }
 }
 
-fn releases(keys: &Table) -> Option<bool>
-    ensures { result ≡ read_at (word_in releases) (codes "release") (table_view keys.now) }
+fn eattr(keys: &Table) -> Option<Eattr>
+    ensures { result ≡ read_at (word_in eattrs) (codes "eattr") (table_view keys.now) }
 {
-    match value_at(keys, "release") {
-        Some(value) => release_in(value),
+    match value_at(keys, "eattr") {
+        Some(value) => eattr_in(value),
         None => None,
+    }
+}
+
+// The yes or no at a key, if there is one.
+fn yes_or_no_at(keys: &Table, key: &str) -> Option<bool>
+    ensures { result ≡ read_at (word_in yes_or_no) key.now (table_view keys.now) }
+{
+    match value_at(keys, key) {
+        Some(value) => yes_or_no_in(value),
+        None => None,
+    }
+}
+
+fn storage_class(name: Name, keys: &Table) -> StorClass
+    ensures { result ≡ storage_class_of name (table_view keys.now) }
+{
+    StorClass {
+        name,
+        multi_tier: yes_or_no_at(keys, "multi_tier").unwrap_or(false),
     }
 }
 
@@ -77,7 +97,7 @@ fn management_class(name: Name, keys: &Table) -> MgmtClass
     MgmtClass {
         name,
         expire_after: integer_at(keys, "expire_after", 0, 9_999),
-        release: releases(keys).unwrap_or(false),
+        release: yes_or_no_at(keys, "release").unwrap_or(false),
     }
 }
 
@@ -110,6 +130,7 @@ fn group(name: Name, keys: &Table) -> StorGroup
         high: high as u8,
         low: low as u8,
         overflow: overflows(keys).unwrap_or(false),
+        breakpoint: integer_at(keys, "breakpoint", 0, MAX_BREAKPOINT).unwrap_or(10),
     }
 }
 
@@ -122,13 +143,23 @@ fn device(keys: &Table) -> Option<u32>
     }
 }
 
+fn cylinders(keys: &Table) -> Option<u32>
+    ensures value { result ≡ read_at cylinders_in (codes "cylinders") (table_view keys.now) }
+    ensures range { IfSome result (λ number. number ≤ most_cylinders) }
+{
+    match value_at(keys, "cylinders") {
+        Some(value) => cylinders_in(value),
+        None => None,
+    }
+}
+
 fn tracks_of(keys: &Table) -> u32
     ensures { result ≡ tracks_of (table_view keys.now) }
 {
     if let Some(tracks) = device(keys) {
         return tracks;
     }
-    match integer_at(keys, "cylinders", 1, MAX_CYLINDERS) {
+    match cylinders(keys) {
         Some(cylinders) => cylinders * 15,
         None => integer_at(keys, "tracks", 1, MAX_TRACKS).unwrap_or(1),
     }
@@ -169,6 +200,7 @@ pub fn data_classes(alloc: Global, table: &Table) -> Result<Items<DataClass>, Al
                     name,
                     space,
                     volumes,
+                    eattr: eattr(keys).unwrap_or(Eattr::No),
                 })?;
             }
         }
@@ -183,8 +215,8 @@ pub fn storage_classes(alloc: Global, table: &Table) -> Result<Items<StorClass>,
     let mut classes = Items::new(alloc);
     for (name, value) in table {
         if let Some(name) = Name::new(name.as_bytes()) {
-            if value.is_table() {
-                classes.push(StorClass { name })?;
+            if let Some(keys) = value.as_table() {
+                classes.push(storage_class(name, keys))?;
             }
         }
     }

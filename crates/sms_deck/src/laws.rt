@@ -1,9 +1,12 @@
 // What holds of each deck.
-ghost use Rattle.std.specs.Prelude.{◌≡◌, ◌⊎◌, true, ℕ, List};
+ghost use Rattle.std.specs.Prelude.{◌≡◌, ◌⊎◌, false, true, ℕ, List};
+ghost use Rattle.std.specs.List.{AllByRecursion};
 ghost use Rattle.toml.specs.Data.{Members, members_are_sorted};
 ghost use Rattle.sms_construct.specs.Configuration.{Configuration, IsConfiguration};
 ghost use Rattle.sms_construct.specs.declared.fault.Fault.{Fault as FaultOf};
 ghost use Rattle.sms_deck.specs.Reading.{Configures, HasFirstFault, MeansTable};
+ghost use Rattle.sms_deck.specs.Tables.{version_of};
+ghost use Rattle.sms_deck.specs.declared.version.Version.TheVariants.{One};
 
 /// A deck has a configuration or a first fault, never both, and at most one of each.
 pub fn one_reading()
@@ -14,7 +17,8 @@ pub fn one_reading()
 {}
 
 /// What a deck configures is a configuration: no construct and no serial stands twice, all stand in byte order,
-/// each volume has a track and a storage group of the configuration, and each quantity is in its range.
+/// each volume has a track, a storage group of the configuration and a status other than NOTCON, and each
+/// quantity and each breakpoint is in its range.
 pub fn lawful_configurations()
     ensures { (bytes : List ℕ) (config : Configuration) → Configures bytes config → IsConfiguration config }
 {}
@@ -22,4 +26,10 @@ pub fn lawful_configurations()
 /// The keys of each table of a deck ascend, so that the first of them is the first in byte order.
 pub fn keys_ascend()
     ensures { (bytes : List ℕ) (top : Members) → MeansTable bytes top → members_are_sorted top ≡ true }
+{}
+
+/// In a deck of version 1 no storage class has tiers.
+pub fn first_version()
+    ensures { (bytes : List ℕ) (config : Configuration) (c : Configures bytes config) → version_of c.top ≡ One
+        → AllByRecursion (λ class. class.multi_tier ≡ false) config.storage_classes }
 {}

@@ -18,10 +18,11 @@ mod sources;
 mod top_table;
 mod value_form;
 mod values;
+mod version;
 mod volume_table;
 
 pub use config::Config;
 pub use deck_err::DeckErr;
-pub use laws::{keys_ascend, lawful_configurations, one_reading};
+pub use laws::{first_version, keys_ascend, lawful_configurations, one_reading};
 pub use limits::{MAX_DECK, MAX_ROUTINE};
 pub use reading::read_deck;

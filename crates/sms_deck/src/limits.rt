@@ -19,7 +19,16 @@ pub const MAX_GROUP_VOLUMES: usize = 256;
 pub const MAX_DECK_VOLUMES: usize = 1_024;
 
 /// The most cylinders of a volume.
-pub const MAX_CYLINDERS: u32 = 65_520;
+pub const MAX_CYLINDERS: u32 = 1_182_006;
+
+/// The most cylinders of a volume that are track-managed.
+pub const MAX_TRACK_MANAGED: u32 = 65_520;
+
+/// The cylinders of a unit of cylinder-managed space.
+pub const MANAGED_CYLINDERS: u32 = 21;
 
 /// The most tracks of a volume.
 pub const MAX_TRACKS: u32 = 982_800;
+
+/// The highest breakpoint, in cylinders.
+pub const MAX_BREAKPOINT: u32 = 65_520;

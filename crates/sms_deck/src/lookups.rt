@@ -11,6 +11,13 @@ pub fn data_class_named<'a>(classes: &'a [DataClass], name: &[u8]) -> Option<&'a
     classes.iter().find(|class| name == class.name.bytes())
 }
 
+/// The first storage class of this name.
+pub fn storage_class_named<'a>(classes: &'a [StorClass], name: &[u8]) -> Option<&'a StorClass>
+    ensures { option_copied result ≡ find (λ class. bytes_eq name.now class.name) classes.entry.now }
+{
+    classes.iter().find(|class| name == class.name.bytes())
+}
+
 /// The first management class of this name.
 pub fn management_class_named<'a>(classes: &'a [MgmtClass], name: &[u8]) -> Option<&'a MgmtClass>
     ensures { option_copied result ≡ find (λ class. bytes_eq name.now class.name) classes.entry.now }

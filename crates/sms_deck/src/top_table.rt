@@ -3,11 +3,13 @@ ghost use Rattle.std.specs.Prelude.{◌≡◌, codes};
 ghost use Rattle.toml.specs.Data.{get_member};
 ghost use Rattle.toml.specs.View.{table_view};
 ghost use Rattle.sms_deck.specs.Layout.{fault_told, inner, row_fault};
-ghost use Rattle.sms_deck.specs.Tables.{routine_walk, tables_fault, top_walk, version_row};
+ghost use Rattle.sms_deck.specs.Tables.{routine_walk, tables_fault, top_walk, version_of, version_row};
 
 use crate::construct_tables::check_constructs;
 use crate::rows::{check_keys, check_row, value_at};
 use crate::value_form::ValueForm;
+use crate::values::integer_in;
+use crate::version::Version;
 use acs_tree::Kind;
 use sms_construct::{Fault, Path};
 use toml::Table;
@@ -29,7 +31,23 @@ fn check_version(top: &Table, path: &Path) -> Result<(), Fault>
     if value_at(top, "version").is_none() {
         return Err(Fault::Missing(path.below(b"version")));
     }
-    check_row(top, "version", ValueForm::Integer(1, 1), path)
+    check_row(top, "version", ValueForm::Integer(1, 2), path)
+}
+
+// The version by which a deck is read.
+fn version_of(top: &Table) -> Version
+    ensures { result ≡ version_of (table_view top.now) }
+{
+    match value_at(top, "version") {
+        Some(value) => {
+            if integer_in(value, 2, 2).is_some() {
+                Version::Two
+            } else {
+                Version::One
+            }
+        }
+        None => Version::One,
+    }
 }
 
 // Checks the table of the routines, but not yet their texts.
@@ -63,17 +81,17 @@ fn check_routines(top: &Table, path: &Path) -> Result<(), Fault>
 }
 
 // Checks the top table at a path.
-fn check_top(top: &Table, path: &Path) -> Result<(), Fault>
-    ensures { fault_told result ≡ top_walk path.now (table_view top.now) }
+fn check_top(top: &Table, version: Version, path: &Path) -> Result<(), Fault>
+    ensures { fault_told result ≡ top_walk version path.now (table_view top.now) }
 {
     check_keys(top, &TOP_KEYS, path)?;
     check_version(top, path)?;
     check_row(top, "system", ValueForm::ConstructName, path)?;
     check_row(top, "sysplex", ValueForm::ConstructName, path)?;
-    check_constructs(top, Kind::DataClas, path)?;
-    check_constructs(top, Kind::StorClas, path)?;
-    check_constructs(top, Kind::MgmtClas, path)?;
-    check_constructs(top, Kind::StorGrp, path)?;
+    check_constructs(top, version, Kind::DataClas, path)?;
+    check_constructs(top, version, Kind::StorClas, path)?;
+    check_constructs(top, version, Kind::MgmtClas, path)?;
+    check_constructs(top, version, Kind::StorGrp, path)?;
     check_routines(top, path)
 }
 
@@ -81,5 +99,5 @@ fn check_top(top: &Table, path: &Path) -> Result<(), Fault>
 pub fn check_tables(top: &Table) -> Result<(), Fault>
     ensures { fault_told result ≡ tables_fault (table_view top.now) }
 {
-    check_top(top, &Path::top())
+    check_top(top, version_of(top), &Path::top())
 }

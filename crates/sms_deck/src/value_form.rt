@@ -4,8 +4,8 @@ ghost use Rattle.toml.specs.View.{view};
 ghost use Rattle.sms_deck.specs.Values.{has_form};
 
 use crate::values::{
-    device_in, group_status_in, integer_in, is_pool, name_in, release_in, space_in,
-    volume_status_in,
+    cylinders_in, device_in, eattr_in, group_status_in, integer_in, is_pool, name_in, space_in,
+    volume_status_in, yes_or_no_in,
 };
 use toml::Value;
 
@@ -23,7 +23,12 @@ pub enum ValueForm {
     GroupStatus,
     VolumeStatus,
     Device,
-    Release,
+    /// As many cylinders as a volume may have.
+    Cylinders,
+    /// `"YES"` or `"NO"`.
+    YesOrNo,
+    /// `"OPT"` or `"NO"`.
+    OptOrNo,
 }
 
 impl ValueForm {
@@ -41,7 +46,9 @@ impl ValueForm {
             ValueForm::GroupStatus => group_status_in(value).is_some(),
             ValueForm::VolumeStatus => volume_status_in(value).is_some(),
             ValueForm::Device => device_in(value).is_some(),
-            ValueForm::Release => release_in(value).is_some(),
+            ValueForm::Cylinders => cylinders_in(value).is_some(),
+            ValueForm::YesOrNo => yes_or_no_in(value).is_some(),
+            ValueForm::OptOrNo => eattr_in(value).is_some(),
         }
     }
 }

@@ -1,10 +1,11 @@
 // What single values of a deck mean.
 ghost use Rattle.std.specs.Prelude.{◌≡◌, is_some};
 ghost use Rattle.toml.specs.View.{view};
-ghost use Rattle.sms_deck.specs.Values.{devices, group_statuses, integer_in, meaning_in, name_in, pool, releases, space_in, volume_statuses, word_in};
+ghost use Rattle.sms_deck.specs.Values.{are_whole, cylinders_in, devices, eattrs, group_statuses, integer_in, meaning_in, name_in, pool, space_in, volume_statuses, word_in, yes_or_no};
 
+use crate::limits::{MANAGED_CYLINDERS, MAX_CYLINDERS, MAX_TRACK_MANAGED};
 use dsn_mask::Name;
-use sms_construct::{Space, Status, read_space};
+use sms_construct::{Eattr, Space, Status, read_space};
 use toml::Value;
 
 /// The integer of the range, if the value is one.
@@ -20,6 +21,25 @@ pub fn integer_in(value: &Value, least: u32, most: u32) -> Option<u32>
             }
         }
         None => None,
+    }
+}
+
+// Whether so many cylinders are track-managed, or with what is past them whole units.
+fn are_whole(cylinders: u32) -> bool
+    ensures { result ≡ are_whole cylinders }
+{
+    cylinders <= MAX_TRACK_MANAGED || cylinders % MANAGED_CYLINDERS == 0
+}
+
+/// The cylinders of a volume, if the value is a number that it may have.
+pub fn cylinders_in(value: &Value) -> Option<u32>
+    ensures { result ≡ cylinders_in (view value.now) }
+{
+    let cylinders = integer_in(value, 1, MAX_CYLINDERS)?;
+    if are_whole(cylinders) {
+        Some(cylinders)
+    } else {
+        None
     }
 }
 
@@ -123,23 +143,45 @@ fn device(text: &str) -> Option<u32>
     }
 }
 
-/// Whether unused space is released, if the value says so.
-pub fn release_in(value: &Value) -> Option<bool>
-    ensures { result ≡ word_in releases (view value.now) }
+/// Yes or no, if the value says one of them.
+pub fn yes_or_no_in(value: &Value) -> Option<bool>
+    ensures { result ≡ word_in yes_or_no (view value.now) }
 {
     match value.as_str() {
-        Some(text) => release(text),
+        Some(text) => yes_or_no(text),
         None => None,
     }
 }
 
-fn release(text: &str) -> Option<bool>
-    ensures { result ≡ meaning_in releases text.now }
+fn yes_or_no(text: &str) -> Option<bool>
+    ensures { result ≡ meaning_in yes_or_no text.now }
 {
     if text == "YES" {
         Some(true)
     } else if text == "NO" {
         Some(false)
+    } else {
+        None
+    }
+}
+
+/// Whether data sets may lie on cylinder-managed space, if the value says so.
+pub fn eattr_in(value: &Value) -> Option<Eattr>
+    ensures { result ≡ word_in eattrs (view value.now) }
+{
+    match value.as_str() {
+        Some(text) => eattr(text),
+        None => None,
+    }
+}
+
+fn eattr(text: &str) -> Option<Eattr>
+    ensures { result ≡ meaning_in eattrs text.now }
+{
+    if text == "OPT" {
+        Some(Eattr::Opt)
+    } else if text == "NO" {
+        Some(Eattr::No)
     } else {
         None
     }

@@ -7,7 +7,7 @@ ghost use Rattle.sms_deck.specs.Layout.{fault_told, inner, name_fault, names, ro
 ghost use Rattle.sms_deck.specs.Limits.{most_group_volumes};
 ghost use Rattle.sms_deck.specs.Tables.{device_row, volume_walk};
 
-use crate::limits::{MAX_CYLINDERS, MAX_GROUP_VOLUMES, MAX_TRACKS};
+use crate::limits::{MAX_GROUP_VOLUMES, MAX_TRACKS};
 use crate::rows::{check_keys, check_row, check_size, count_keys, has_either, has_key, value_at};
 use crate::value_form::ValueForm;
 use dsn_mask::Volser;
@@ -34,7 +34,7 @@ fn check_volume(keys: &Table, path: &Path) -> Result<(), Fault>
         keys,
         "cylinders",
         has_key(keys, "device"),
-        ValueForm::Integer(1, MAX_CYLINDERS),
+        ValueForm::Cylinders,
         path,
     )?;
     check_size(

@@ -68,22 +68,22 @@ at_most (key ∷ ks) operands all =
     let b = at_most ks operands parts.1 in
     omega (arith, a, b)
 
-few_operands : (operands : List (List ℕ)) → are_operands operands ≡ true → length operands ≤ 28
+few_operands : (operands : List (List ℕ)) → are_operands operands ≡ true → length operands ≤ 29
 few_operands operands are =
     let parts = both_parts (list_all is_operand operands) (list_all (is_once operands) keys) are in
     let a = at_least operands parts.0 in
     let b = at_most keys operands parts.1 in
     omega (arith, a, b)
 
-no_request : {X : Type 0} (b : Bool) (operands : List (List ℕ)) (o : Option X) → are_operands operands ≡ b → 28 < length operands → (if b then o else None) ≡ None
+no_request : {X : Type 0} (b : Bool) (operands : List (List ℕ)) (o : Option X) → are_operands operands ≡ b → 29 < length operands → (if b then o else None) ≡ None
 no_request true operands o are many = let a = few_operands operands are in absurd (omega (arith, a, many))
 no_request false operands o are many = refl
 
-no_alloc : (dsn : Option (List ℕ)) (operands : List (List ℕ)) → 28 < length operands → (dsn ⊳ λ name. if are_operands operands then request_in name operands else None) ≡ None
+no_alloc : (dsn : Option (List ℕ)) (operands : List (List ℕ)) → 29 < length operands → (dsn ⊳ λ name. if are_operands operands then request_in name operands else None) ≡ None
 no_alloc None operands many = refl
 no_alloc (Some name) operands many = no_request (are_operands operands) operands (request_in name operands) refl many
 
-none_with : (verb : Verb) (operands : List (List ℕ)) → 29 < length operands → op_with verb operands ≡ None
+none_with : (verb : Verb) (operands : List (List ℕ)) → 30 < length operands → op_with verb operands ≡ None
 none_with verb [] many = absurd (omega (arith, many))
 none_with verb (a ∷ []) many = absurd (omega (arith, many))
 none_with verb (a ∷ b ∷ []) many = absurd (omega (arith, many))
@@ -96,16 +96,16 @@ none_with verbs.Display (a ∷ b ∷ c ∷ operands) many = refl
 none_with verbs.Vary (a ∷ b ∷ c ∷ operands) many = refl
 none_with verbs.Purge (a ∷ b ∷ c ∷ operands) many = refl
 
-none_asked : (may : Bool) (verb : Verb) (operands : List (List ℕ)) → 29 < length operands → (if may then op_with verb operands else None) ≡ None
+none_asked : (may : Bool) (verb : Verb) (operands : List (List ℕ)) → 30 < length operands → (if may then op_with verb operands else None) ≡ None
 none_asked true verb operands many = none_with verb operands many
 none_asked false verb operands many = refl
 
-none_named : (admin : Bool) (verb : Option Verb) (operands : List (List ℕ)) → 29 < length operands → (verb ⊳ λ v. if may_ask admin v then op_with v operands else None) ≡ None
+none_named : (admin : Bool) (verb : Option Verb) (operands : List (List ℕ)) → 30 < length operands → (verb ⊳ λ v. if may_ask admin v then op_with v operands else None) ≡ None
 none_named admin None operands many = refl
 none_named admin (Some verb) operands many = none_asked (may_ask admin verb) verb operands many
 
--- no op has more than 30 words
-pub no_op : (admin : Bool) (words : List (List ℕ)) → 30 < length words → op_in admin words ≡ None
+-- no op has more than 31 words
+pub no_op : (admin : Bool) (words : List (List ℕ)) → 31 < length words → op_in admin words ≡ None
 no_op admin [] many = refl
 no_op admin (word ∷ operands) many = none_named admin (verb_of word) operands (omega (arith, many))
 
@@ -113,19 +113,19 @@ nothing_behind : {A B : Type 0} (o : Option A) (f : A → Option B) → ((x : A)
 nothing_behind None f none = refl
 nothing_behind (Some x) f none = none x
 
-no_whole : (job number : List ℕ) (words : List (List ℕ)) → 30 < length words → request_of job number words ≡ None
+no_whole : (job number : List ℕ) (words : List (List ℕ)) → 31 < length words → request_of job number words ≡ None
 no_whole job number words many =
     nothing_behind (name_of job) _ (λ name. nothing_behind (number_in number) _ (λ n. rw (no_op (is_admin job) words many) refl))
 
-no_line : (b : Bool) (o : Option Command) (job number : List ℕ) (words : List (List ℕ)) → b ≡ false → 30 < length words → (if b then o else request_of job number words) ≡ None
+no_line : (b : Bool) (o : Option Command) (job number : List ℕ) (words : List (List ℕ)) → b ≡ false → 31 < length words → (if b then o else request_of job number words) ≡ None
 no_line b o job number words is many = rw (is, no_whole job number words many) refl
 
 and_none : (b : Bool) → (b && false) ≡ false
 and_none true = refl
 and_none false = refl
 
--- no command has more than 32 words
-pub no_command : (words : List (List ℕ)) → 32 < length words → command_in words ≡ None
+-- no command has more than 33 words
+pub no_command : (words : List (List ℕ)) → 33 < length words → command_in words ≡ None
 no_command [] many = refl
 no_command (word ∷ []) many = absurd (omega (arith, many))
 no_command (job ∷ number ∷ []) many = absurd (omega (arith, many))

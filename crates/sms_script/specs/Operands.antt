@@ -15,7 +15,7 @@ use Rattle.sms_construct.specs.Quantities.{Quantities, size_in_kilobytes, most_i
 use Rattle.sms_script.specs.Found.{◌⊳◌}
 use Rattle.sms_construct.specs.Parts.{behind_front}
 use Rattle.sms_construct.specs.SpaceText.{space_text}
-use Rattle.sms_script.specs.Values.{number_to, plain_of, name_value_of, date_of, volumes_of, account_of, count_of}
+use Rattle.sms_script.specs.Values.{number_to, plain_of, name_value_of, date_of, volumes_of, account_of, count_of, eattr_of}
 
 -- the keys of the operands
 abbrev pub keys : List (List ℕ)
@@ -23,7 +23,7 @@ keys =
     codes "SPACE=" ∷ codes "DATACLAS=" ∷ codes "STORCLAS=" ∷ codes "MGMTCLAS=" ∷ codes "DEFDC=" ∷ codes "DEFSC=" ∷ codes "DEFMC=" ∷ codes "VOL=" ∷ codes "VOLCNT="
     ∷ codes "USER=" ∷ codes "GROUP=" ∷ codes "PGM=" ∷ codes "DD=" ∷ codes "UNIT=" ∷ codes "DSORG=" ∷ codes "RECORG=" ∷ codes "DSNTYPE=" ∷ codes "DSTYPE="
     ∷ codes "ACSENVIR=" ∷ codes "XMODE=" ∷ codes "APPLIC=" ∷ codes "OWNER=" ∷ codes "ACCT=" ∷ codes "STEPACCT=" ∷ codes "RETPD=" ∷ codes "EXPDT=" ∷ codes "BLKSIZE="
-    ∷ codes "DAY=" ∷ []
+    ∷ codes "DAY=" ∷ codes "EATTR=" ∷ []
 
 -- the word has this key
 abbrev pub has_key : List ℕ → List ℕ → Bool
@@ -153,5 +153,16 @@ request_in dsn operands =
     given_or_none (codes "VOLCNT=") count_of operands ⊳ λ volumes.
     given (codes "DAY=") (number_to 9999999) 0 operands ⊳ λ day.
     given_or_none (codes "RETPD=") (number_to 9999) operands ⊳ λ retpd.
+    given_or_none (codes "EATTR=") eattr_of operands ⊳ λ eattr.
     input_in dsn retpd space operands ⊳ λ input.
-    Some (record { input = input; space = space; dataclas = dataclas; storclas = storclas; mgmtclas = mgmtclas; volumes = volumes; day = day; retpd = retpd })
+    Some (record {
+      input = input;
+      space = space;
+      dataclas = dataclas;
+      storclas = storclas;
+      mgmtclas = mgmtclas;
+      volumes = volumes;
+      day = day;
+      retpd = retpd;
+      eattr = eattr;
+    })

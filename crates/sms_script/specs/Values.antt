@@ -1,11 +1,14 @@
 -- The values of operands (docs/script.md, "Operands").
 use Rattle.std.specs.Prelude.{ℕ, ◌==◌, ◌&&◌, Bool, true, List, [], ◌∷◌, length, nat_le, not, Option, None, Some, bytes_eq, codes, if◌then◌else◌}
 use Rattle.std.specs.List.{list_all, list_any}
+use Rattle.std.specs.Map.{lookup}
 use Rattle.std.specs.Option.{option_and_then}
 use Rattle.desk_common.specs.Words.{is_one_of}
 use Rattle.desk_common.specs.Limits.{most_account_fields, most_value_bytes, most_volume_count}
 use Rattle.dsn_mask.specs.Name.{is_digit, is_short, is_volser, name_of, short_of}
 use Rattle.sms_construct.specs.Numbers.{small_number_of}
+use Rattle.sms_construct.specs.declared.eattr.Eattr.{Eattr}
+use Rattle.sms_construct.specs.declared.eattr.Eattr.TheVariants.{Opt, No}
 use Rattle.sms_construct.specs.Quantities.{volume_count_of}
 use Rattle.sms_script.specs.Parts.{listed}
 
@@ -61,3 +64,11 @@ account_of value = if are_fields (listed value) then Some (listed value) else No
 -- a volume count
 abbrev pub count_of : List ℕ → Option ℕ
 count_of value = option_and_then volume_count_of (small_number_of value)
+
+-- the words that say whether the data set may lie on cylinder-managed space
+abbrev pub eattrs : List (List ℕ × Eattr)
+eattrs = (codes "OPT", Opt) ∷ (codes "NO", No) ∷ []
+
+-- what such a word says
+abbrev pub eattr_of : List ℕ → Option Eattr
+eattr_of value = lookup (bytes_eq value) eattrs

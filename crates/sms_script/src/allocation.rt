@@ -4,8 +4,8 @@ ghost use Rattle.sms_script.specs.Operands.{accounting_in, amounts_of, attribute
 ghost use Rattle.sms_script.specs.Ops.{alloc_in};
 
 use crate::operand::{
-    account_at, are_operands, count_at, date_at, name_at, name_value_at, number_at, some_number_at,
-    space_at, volumes_at, word_at,
+    account_at, are_operands, count_at, date_at, eattr_at, name_at, name_value_at, number_at,
+    some_number_at, space_at, volumes_at, word_at,
 };
 use acs_tree::{Accounting, Amounts, Attributes, Defaults, Environment, Input, Origin};
 use dsn_mask::{Dsn, Short};
@@ -35,6 +35,7 @@ fn read_request(dsn: Dsn, operands: &[&[u8]]) -> Option<Alloc>
     let volumes = count_at(b"VOLCNT=", operands)?;
     let day = number_at(b"DAY=", 9_999_999, operands)?;
     let retpd = some_number_at(b"RETPD=", 9_999, operands)?;
+    let eattr = eattr_at(b"EATTR=", operands)?;
     let input = read_input(dsn, retpd, &space, operands)?;
     Some(Alloc {
         input,
@@ -45,6 +46,7 @@ fn read_request(dsn: Dsn, operands: &[&[u8]]) -> Option<Alloc>
         volumes,
         day,
         retpd,
+        eattr,
     })
 }
 

@@ -1,14 +1,14 @@
 //! The words of a line.
 ghost use Rattle.std.specs.Prelude.{◌≡◌, ◌<◌, ◌∷◌, [], length, map, MatchOption};
 ghost use Rattle.desk_common.specs.Bytes.{space_byte};
-ghost use Rattle.desk_common.specs.Limits.{most_words};
 ghost use Rattle.desk_common.specs.Words.{words_of};
+ghost use Rattle.sms_script.specs.Lines.{most_words};
 
 use arrayvec::ArrayVec;
 use desk_common::next_word;
 
-/// The most words of a command line: a job, a request number, a verb, a data set and 28 operands.
-pub const MOST_WORDS: usize = 32;
+/// The most words of a command line: a job, a request number, a verb, a data set and 29 operands.
+pub const MOST_WORDS: usize = 33;
 
 /// The words of the line, if they are no more than a command may have.
 pub fn line_words(line: &[u8]) -> Option<ArrayVec<&[u8], MOST_WORDS>>

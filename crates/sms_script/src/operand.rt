@@ -4,15 +4,17 @@ ghost use Rattle.std.specs.List.{list_all, list_any};
 ghost use Rattle.dsn_mask.specs.Name.{name_of};
 ghost use Rattle.sms_construct.specs.SpaceText.{space_text};
 ghost use Rattle.sms_script.specs.Operands.{are_operands, given, given_or_none, has_key, is_once, is_operand, values_of};
-ghost use Rattle.sms_script.specs.Values.{account_of, count_of, date_of, name_value_of, number_to, plain_of, volumes_of};
+ghost use Rattle.sms_script.specs.Values.{account_of, count_of, date_of, eattr_of, name_value_of, number_to, plain_of, volumes_of};
 
 use crate::lists::{read_account, read_volumes};
-use crate::value::{read_count, read_date, read_name_value, read_number_to, read_plain};
+use crate::value::{
+    read_count, read_date, read_eattr, read_name_value, read_number_to, read_plain,
+};
 use acs_tree::{Account, Volumes};
 use dsn_mask::{Name, Short};
-use sms_construct::{Space, VolumeCount, behind_front, read_space};
+use sms_construct::{Eattr, Space, VolumeCount, behind_front, read_space};
 
-const KEYS: [&[u8]; 28] = [
+const KEYS: [&[u8]; 29] = [
     b"SPACE=",
     b"DATACLAS=",
     b"STORCLAS=",
@@ -41,6 +43,7 @@ const KEYS: [&[u8]; 28] = [
     b"EXPDT=",
     b"BLKSIZE=",
     b"DAY=",
+    b"EATTR=",
 ];
 
 /// Whether each of the words has one of the keys, and no key stands twice.
@@ -218,6 +221,16 @@ pub fn count_at(key: &[u8], words: &[&[u8]]) -> Option<Option<VolumeCount>>
 {
     match first_value(key, words) {
         Some((value, _)) => Some(Some(read_count(value)?)),
+        None => Some(None),
+    }
+}
+
+/// Whether the data set may lie on cylinder-managed space, if a word has the key.
+pub fn eattr_at(key: &[u8], words: &[&[u8]]) -> Option<Option<Eattr>>
+    ensures { result ≡ given_or_none key.now eattr_of (map (λ word. word.now) words.now) }
+{
+    match first_value(key, words) {
+        Some((value, _)) => Some(Some(read_eattr(value)?)),
         None => Some(None),
     }
 }

@@ -2,10 +2,10 @@
 ghost use Rattle.std.specs.Prelude.{◌≡◌};
 ghost use Rattle.std.specs.List.{list_all};
 ghost use Rattle.dsn_mask.specs.Name.{is_digit};
-ghost use Rattle.sms_script.specs.Values.{count_of, date_of, is_open_byte, name_value_of, number_to, plain_of};
+ghost use Rattle.sms_script.specs.Values.{count_of, date_of, eattr_of, is_open_byte, name_value_of, number_to, plain_of};
 
 use dsn_mask::{Name, Short};
-use sms_construct::{VolumeCount, read_number};
+use sms_construct::{Eattr, VolumeCount, read_number};
 
 /// The number up to this one that a text writes, if any.
 pub fn read_number_to(most: u32, bytes: &[u8]) -> Option<u32>
@@ -76,4 +76,17 @@ pub fn read_count(bytes: &[u8]) -> Option<VolumeCount>
         return None;
     }
     VolumeCount::new(number as u8)
+}
+
+/// Whether the data set may lie on cylinder-managed space.
+pub fn read_eattr(bytes: &[u8]) -> Option<Eattr>
+    ensures { result ≡ eattr_of bytes.now }
+{
+    if bytes == b"OPT".as_slice() {
+        Some(Eattr::Opt)
+    } else if bytes == b"NO".as_slice() {
+        Some(Eattr::No)
+    } else {
+        None
+    }
 }

@@ -15,7 +15,6 @@ use Rattle.sms_volumes.specs.Holding.{AreVolumesOf, IsVolumeOf}
 use Rattle.sms_volumes.specs.declared.active_group.ActiveGroup.{ActiveGroup}
 use Rattle.sms_volumes.specs.declared.active_volume.ActiveVolume.{ActiveVolume}
 use Rattle.sms_volumes.specs.declared.active_volumes.ActiveVolumes.{ActiveVolumes}
-use Rattle.sms_volumes.proofs.ShowLemmas.{extents-are}
 
 some-more : (n : ℕ) → nat_lt 0 (suc n) ≡ true
 some-more n = grind (arith, nat_tests)
@@ -35,8 +34,8 @@ bars_by s others volume = is_used volume.volser (extents_of s.sets) && nat_lt (t
 
 bars-is : (s : DeskState) (groups : List ActiveGroup) (others : List VolumeDef) (v : ActiveVolume) → IsVolumeOf s groups v → bars others v ≡ bars_by s others v.volume
 bars-is s groups others v is =
-    let used : nat_lt 0 (length v.ledger.extents) ≡ is_used v.volume.volser (extents_of s.sets) =
-    ap (nat_lt 0) (extents-are s groups v is) ∙ sym (used-count v.volume.volser (extents_of s.sets)) in
+    let used : nat_lt 0 v.ledger.extents ≡ is_used v.volume.volser (extents_of s.sets) =
+    ap (nat_lt 0) is.ledger.extents ∙ sym (used-count v.volume.volser (extents_of s.sets)) in
     ap (λ b. b && nat_lt (tracks_of v.volume.volser others) v.volume.tracks) used
 
 found-at : (s : DeskState) (others : List VolumeDef) (v : ActiveVolume) (volumes : List ActiveVolume) (b : Bool) → bars others v ≡ b → bars others v ≡ bars_by s others v.volume

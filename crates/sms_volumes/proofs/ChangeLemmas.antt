@@ -1,8 +1,7 @@
--- The running volumes stand for the state again when a data set was put or dropped.
-use Rattle.std.proofs.Common.{◌≡◌, ◌≤◌, ℕ, zero, suc, ◌+◌, Bool, true, false, cond, List, [], ◌∷◌, ◌++◌, length, map, refl, sym, ap, ◌∙◌, subst, arith}
-use Rattle.std.specs.Prelude.{Option, Some, bytes_eq, filter, find, slice_get, slice_set}
-use Rattle.std.specs.List.{AllByRecursion, AllZip, sum_by}
-use Rattle.sms_construct.specs.declared.data_set.DataSet.{DataSet}
+-- The running volumes when one of them changed.
+use Rattle.std.proofs.Common.{◌≡◌, ◌≤◌, ℕ, zero, suc, ◌+◌, Bool, true, false, cond, List, [], ◌∷◌, ◌++◌, length, map, refl, sym, ap, ◌∙◌, subst, arith, append_assoc}
+use Rattle.std.specs.Prelude.{None, Option, Some, bytes_eq, filter, find, slice_get, slice_set}
+use Rattle.std.specs.List.{AllByRecursion, AllZip}
 use Rattle.sms_construct.specs.declared.extent.Extent.{Extent}
 use Rattle.sms_construct.specs.Configuration.{Configuration}
 use Rattle.sms_construct.specs.declared.storage_group.StorGroup.{StorGroup}
@@ -10,24 +9,20 @@ use Rattle.sms_construct.specs.declared.status.Status.TheVariants.{NotCon}
 use Rattle.sms_construct.specs.declared.target.Target.TheVariants as targets
 use Rattle.sms_construct.specs.declared.volume.VolumeDef.{VolumeDef}
 use Rattle.sms_keeper.specs.declared.status_row.StatusRow.{StatusRow}
-use Rattle.sms_keeper.specs.Tables.{put_set, without_set}
-use Rattle.track_ledger.specs.declared.owned_extent.OwnedExtent.{OwnedExtent}
 use Rattle.track_ledger.specs.declared.piece.Piece.{Piece}
-use Rattle.track_ledger.specs.Extents.{front_pieces, granted_to, owned_by, pieces_of, released, trimmed}
-use Rattle.track_ledger.proofs.AlikeLemmas.{trimmed-front}
+use Rattle.track_ledger.specs.Ledger.{IsLedgerOf, LedgerView}
 use Rattle.desk_law.specs.State.{DeskState}
-use Rattle.desk_law.specs.Extents.{extents_at, front_tracks, is_used, pieces_on, tracks_of_pieces}
-use Rattle.desk_law.specs.Lawful.{times_named}
+use Rattle.desk_law.specs.Extents.{held_on, pieces_on}
 use Rattle.desk_law.specs.Statuses.{status_in}
 use Rattle.desk_law.specs.Volumes.{groups_in, times_volume, volumes_in}
-use Rattle.desk_law.proofs.ByteLemmas.{bytes-self, bytes-turned}
-use Rattle.desk_law.proofs.VolumeLemmas.{AreSome, front-on}
-use Rattle.sms_volumes.specs.Changing.{HasExtents, cut_to, without_owner}
-use Rattle.sms_volumes.specs.Holding.{IsGroupOf, IsLedgerOf, IsVolumeOf, StandsAt, extents_named}
+use Rattle.sms_volumes.specs.Changing.{HasChanged, HoldsAll}
+use Rattle.sms_volumes.specs.Handing.{AreApart}
+use Rattle.sms_volumes.specs.Holding.{AreVolumesOf, IsGroupOf, IsVolumeOf, StandsAt}
+use Rattle.sms_volumes.specs.Viewing.{running_named}
 use Rattle.sms_volumes.specs.declared.active_group.ActiveGroup.{ActiveGroup}
 use Rattle.sms_volumes.specs.declared.active_volume.ActiveVolume.{ActiveVolume}
-use Rattle.sms_volumes.proofs.CountingLemmas.{pieces-append, pieces-at, pieces-off}
-use Rattle.sms_volumes.proofs.LedgerLemmas.{ledger-drop, ledger-put, owned-installed, released-installed, released-trimmed}
+use Rattle.sms_volumes.specs.declared.active_volumes.ActiveVolumes.{ActiveVolumes}
+use Rattle.sms_volumes.proofs.HeldLemmas.{ledger-swap, pieces-append}
 
 -- Lists.
 
@@ -44,20 +39,9 @@ map-zip R f (x ∷ xs) [] zip step = absurd zip
 map-zip R f (x ∷ xs) (y ∷ ys) zip step =
     let head = step x y zip.0 in let rest = map-zip R f xs ys zip.1 step in rw (head, rest) refl
 
-pub each-set : {X : Type 0} (P : X → Type 0) (xs : List X) (place : ℕ) (x : X) → AllByRecursion P xs → P x → AllByRecursion P (slice_set xs place x)
-each-set P [] place x all here = tt
-each-set P (y ∷ xs) zero x all here = (here, all.1)
-each-set P (y ∷ xs) (suc place) x all here = (all.0, each-set P xs place x all.1 here)
-
 none-head : (b : Bool) (m : ℕ) → cond b 1 0 + m ≡ 0 → b ≡ false
 none-head true m none = absurd (omega (arith, none))
 none-head false m none = refl
-
-each-off : (n : List ℕ) (P Q : ActiveVolume → Type 0) (volumes : List ActiveVolume) → times_volume n (map (λ (v : ActiveVolume). v.volume) volumes) ≡ 0 → AllByRecursion P volumes
-    → ((x : ActiveVolume) → P x → bytes_eq x.volume.volser n ≡ false → Q x) → AllByRecursion Q volumes
-each-off n P Q [] none all step = tt
-each-off n P Q (v ∷ volumes) none all step =
-    (step v all.0 (none-head (bytes_eq v.volume.volser n) _ none), each-off n P Q volumes (omega (arith, none)) all.1 step)
 
 there-once : (n : List ℕ) (volumes : List ActiveVolume) (place : ℕ) (v : ActiveVolume) → slice_get volumes place ≡ Some v → bytes_eq v.volume.volser n ≡ true → 1 ≤ times_volume n (map (λ (w : ActiveVolume). w.volume) volumes)
 there-once n [] place v there is = absurd cc
@@ -69,20 +53,49 @@ there-once n (w ∷ volumes) zero v there is =
 there-once n (w ∷ volumes) (suc place) v there is =
     let rest = there-once n volumes place v there is in omega (arith, rest)
 
--- one volume became another, and no other has its serial
-pub each-replaced : (n : List ℕ) (P Q : ActiveVolume → Type 0) (volumes : List ActiveVolume) (place : ℕ) (v w : ActiveVolume) → slice_get volumes place ≡ Some v → bytes_eq v.volume.volser n ≡ true
-    → times_volume n (map (λ (x : ActiveVolume). x.volume) volumes) ≤ 1 → AllByRecursion P volumes → ((x : ActiveVolume) → P x → bytes_eq x.volume.volser n ≡ false → Q x) → Q w
-    → AllByRecursion Q (slice_set volumes place w)
-each-replaced n P Q [] place v w there is once all step here = absurd cc
-each-replaced n P Q (x ∷ volumes) zero v w there is once all step here =
+zip-off : (n : List ℕ) (R : ActiveVolume → ActiveVolume → Type 0) (volumes : List ActiveVolume) → times_volume n (map (λ (v : ActiveVolume). v.volume) volumes) ≡ 0
+    → ((x : ActiveVolume) → bytes_eq x.volume.volser n ≡ false → R x x) → AllZip R volumes volumes
+zip-off n R [] none stays = tt
+zip-off n R (v ∷ volumes) none stays = (stays v (none-head (bytes_eq v.volume.volser n) _ none), zip-off n R volumes (omega (arith, none)) stays)
+
+zip-none-at : (n : List ℕ) (R : ActiveVolume → ActiveVolume → Type 0) (v : ActiveVolume) (volumes : List ActiveVolume) (b : Bool) → bytes_eq v.volume.volser n ≡ b
+    → ((x : ActiveVolume) → bytes_eq x.volume.volser n ≡ false → R x x) → (running_named n volumes ≡ None → AllZip R volumes volumes) → running_named n (v ∷ volumes) ≡ None → AllZip R (v ∷ volumes) (v ∷ volumes)
+zip-none-at n R v volumes true is stays rest none =
+    let now : Some v ≡ None = rw is at none in absurd cc
+zip-none-at n R v volumes false is stays rest none =
+    let now : running_named n volumes ≡ None = rw is at none in (stays v is, rest now)
+
+-- no volume has the serial
+pub zip-none : (n : List ℕ) (R : ActiveVolume → ActiveVolume → Type 0) (volumes : List ActiveVolume) → running_named n volumes ≡ None
+    → ((x : ActiveVolume) → bytes_eq x.volume.volser n ≡ false → R x x) → AllZip R volumes volumes
+zip-none n R [] none stays = tt
+zip-none n R (v ∷ volumes) none stays = zip-none-at n R v volumes _ refl stays (λ now. zip-none n R volumes now stays) none
+
+-- the volume at a place changed, and no other has its serial
+pub zip-replaced : (n : List ℕ) (R : ActiveVolume → ActiveVolume → Type 0) (volumes : List ActiveVolume) (place : ℕ) (v w : ActiveVolume) → slice_get volumes place ≡ Some v → bytes_eq v.volume.volser n ≡ true
+    → times_volume n (map (λ (x : ActiveVolume). x.volume) volumes) ≤ 1 → R v w → ((x : ActiveVolume) → bytes_eq x.volume.volser n ≡ false → R x x) → AllZip R volumes (slice_set volumes place w)
+zip-replaced n R [] place v w there is once here stays = absurd cc
+zip-replaced n R (x ∷ volumes) zero v w there is once here stays =
     let same : x ≡ v = cc in
     let on : bytes_eq x.volume.volser n ≡ true = ap (λ (y : ActiveVolume). bytes_eq y.volume.volser n) same ∙ is in
     let one : cond (bytes_eq x.volume.volser n) 1 zero ≡ suc zero = rw on refl in
-    (here, each-off n P Q volumes (omega (arith, once, one)) all.1 step)
-each-replaced n P Q (x ∷ volumes) (suc place) v w there is once all step here =
+    (subst (λ (y : ActiveVolume). R y w) (sym same) here, zip-off n R volumes (omega (arith, once, one)) stays)
+zip-replaced n R (x ∷ volumes) (suc place) v w there is once here stays =
     let some = there-once n volumes place v there is in
     let off : bytes_eq x.volume.volser n ≡ false = none-head (bytes_eq x.volume.volser n) 0 (omega (arith, once, some)) in
-    (step x all.0 off, each-replaced n P Q volumes place v w there is (omega (arith, once)) all.1 step here)
+    (stays x off, zip-replaced n R volumes place v w there is (omega (arith, once)) here stays)
+
+pub zip-stays : (R : ActiveVolume → ActiveVolume → Type 0) (volumes : List ActiveVolume) → ((x : ActiveVolume) → R x x) → AllZip R volumes volumes
+zip-stays R [] stays = tt
+zip-stays R (v ∷ volumes) stays = (stays v, zip-stays R volumes stays)
+
+-- the volume at a place changed, and each other stays whatever its serial
+pub zip-set : (R : ActiveVolume → ActiveVolume → Type 0) (volumes : List ActiveVolume) (place : ℕ) (v w : ActiveVolume) → slice_get volumes place ≡ Some v → R v w → ((x : ActiveVolume) → R x x)
+    → AllZip R volumes (slice_set volumes place w)
+zip-set R [] place v w there here stays = absurd cc
+zip-set R (x ∷ volumes) zero v w there here stays =
+    let same : x ≡ v = cc in (subst (λ (y : ActiveVolume). R y w) (sym same) here, zip-stays R volumes stays)
+zip-set R (x ∷ volumes) (suc place) v w there here stays = (stays x, zip-set R volumes place v w there here stays)
 
 pub map-replaced : (volumes : List ActiveVolume) (place : ℕ) (v w : ActiveVolume) → slice_get volumes place ≡ Some v → w.volume ≡ v.volume
     → map (λ (x : ActiveVolume). x.volume) (slice_set volumes place w) ≡ map (λ (x : ActiveVolume). x.volume) volumes
@@ -93,19 +106,103 @@ map-replaced (x ∷ volumes) zero v w there same =
     ap (λ (d : VolumeDef). d ∷ map (λ (y : ActiveVolume). y.volume) volumes) now
 map-replaced (x ∷ volumes) (suc place) v w there same = ap (λ (l : List VolumeDef). x.volume ∷ l) (map-replaced volumes place v w there same)
 
+pub zip-map : (R S : ActiveVolume → ActiveVolume → Type 0) (xs ys : List ActiveVolume) → AllZip R xs ys → ((x y : ActiveVolume) → R x y → S x y) → AllZip S xs ys
+zip-map R S [] [] zip step = tt
+zip-map R S [] (y ∷ ys) zip step = absurd zip
+zip-map R S (x ∷ xs) [] zip step = absurd zip
+zip-map R S (x ∷ xs) (y ∷ ys) zip step = (step x y zip.0, zip-map R S xs ys zip.1 step)
+
+zip-then : (R S T : ActiveVolume → ActiveVolume → Type 0) (xs ys zs : List ActiveVolume) → AllZip R xs ys → AllZip S ys zs → ((x y z : ActiveVolume) → R x y → S y z → T x z) → AllZip T xs zs
+zip-then R S T [] [] [] one two step = tt
+zip-then R S T [] [] (z ∷ zs) one two step = absurd two
+zip-then R S T [] (y ∷ ys) zs one two step = absurd one
+zip-then R S T (x ∷ xs) [] zs one two step = absurd one
+zip-then R S T (x ∷ xs) (y ∷ ys) [] one two step = absurd two
+zip-then R S T (x ∷ xs) (y ∷ ys) (z ∷ zs) one two step = (step x y z one.0 two.0, zip-then R S T xs ys zs one.1 two.1 step)
+
+-- What the extents hold of one volume.
+
+pub changed-none : (es : List Extent) (v : ActiveVolume) → HasChanged es es v v
+changed-none es v = record { volume = refl; status = refl; group = refl; capacity = refl; ledger = λ rest is. is }
+
+changed-then : (a b c : List Extent) (x y z : ActiveVolume) → HasChanged a b x y → HasChanged b c y z → HasChanged a c x z
+changed-then a b c x y z one two = record {
+  volume = two.volume ∙ one.volume;
+  status = two.status ∙ one.status;
+  group = two.group ∙ one.group;
+  capacity = two.capacity ∙ one.capacity;
+  ledger = λ rest is.
+      subst (λ (d : VolumeDef). IsLedgerOf (pieces_on d.volser c ++ rest) z.ledger) one.volume
+      (two.ledger rest (subst (λ (d : VolumeDef). IsLedgerOf (pieces_on d.volser b ++ rest) y.ledger) (sym one.volume) (one.ledger rest is)));
+}
+
+-- the pieces of three parts
+parted : (v : List ℕ) (k f d : List Extent) (rest : List Piece) → pieces_on v (k ++ (f ++ d)) ++ rest ≡ pieces_on v k ++ (pieces_on v f ++ (pieces_on v d ++ rest))
+parted v k f d rest =
+    ap (λ (l : List Piece). l ++ rest) (pieces-append v k (f ++ d) ∙ ap (λ (l : List Piece). pieces_on v k ++ l) (pieces-append v f d))
+    ∙ (append_assoc (pieces_on v k) (pieces_on v f ++ pieces_on v d) rest ∙ ap (λ (l : List Piece). pieces_on v k ++ l) (append_assoc (pieces_on v f) (pieces_on v d) rest))
+
+-- one part changes
+changed-within : (k e f d : List Extent) (x y : ActiveVolume) → HasChanged e f x y → HasChanged (k ++ (e ++ d)) (k ++ (f ++ d)) x y
+changed-within k e f d x y has = record {
+  volume = has.volume;
+  status = has.status;
+  group = has.group;
+  capacity = has.capacity;
+  ledger = λ rest is.
+      let v = x.volume.volser in
+      let left = pieces_on v k in
+      let right = pieces_on v d ++ rest in
+      subst (λ (l : List Piece). IsLedgerOf l y.ledger) (sym (parted v k f d rest))
+      (ledger-swap (pieces_on v f) left right y.ledger
+      (has.ledger (left ++ right) (ledger-swap left (pieces_on v e) right x.ledger (subst (λ (l : List Piece). IsLedgerOf l x.ledger) (parted v k e d rest) is))));
+}
+
+-- what a part holds is held
+holds-part : (k e d : List Extent) (v : ActiveVolume) → HoldsAll (k ++ (e ++ d)) v → HoldsAll e v
+holds-part k e d v holds = record {
+  others = pieces_on v.volume.volser k ++ (pieces_on v.volume.volser d ++ holds.others);
+  is = ledger-swap (pieces_on v.volume.volser k) (pieces_on v.volume.volser e) (pieces_on v.volume.volser d ++ holds.others) v.ledger
+      (subst (λ (l : List Piece). IsLedgerOf l v.ledger) (parted v.volume.volser k e d holds.others) holds.is);
+}
+
+holds-after : (a b : List Extent) (x y : ActiveVolume) → HasChanged a b x y → HoldsAll a x → HoldsAll b y
+holds-after a b x y has holds = record {
+  others = holds.others;
+  is = subst (λ (d : VolumeDef). IsLedgerOf (pieces_on d.volser b ++ holds.others) y.ledger) (sym has.volume) (has.ledger holds.others holds.is);
+}
+
+-- All volumes.
+
+pub all-changed : (a b c : List Extent) (xs ys zs : List ActiveVolume) → AllZip (HasChanged a b) xs ys → AllZip (HasChanged b c) ys zs → AllZip (HasChanged a c) xs zs
+all-changed a b c xs ys zs one two = zip-then (HasChanged a b) (HasChanged b c) (HasChanged a c) xs ys zs one two (changed-then a b c)
+
+pub all-within : (k e f d : List Extent) (xs ys : List ActiveVolume) → AllZip (HasChanged e f) xs ys → AllZip (HasChanged (k ++ (e ++ d)) (k ++ (f ++ d))) xs ys
+all-within k e f d xs ys zip = zip-map (HasChanged e f) (HasChanged (k ++ (e ++ d)) (k ++ (f ++ d))) xs ys zip (changed-within k e f d)
+
+pub all-hold : (k e d : List Extent) (volumes : List ActiveVolume) → AllByRecursion (HoldsAll (k ++ (e ++ d))) volumes → AllByRecursion (HoldsAll e) volumes
+all-hold k e d [] all = tt
+all-hold k e d (v ∷ volumes) all = (holds-part k e d v all.0, all-hold k e d volumes all.1)
+
+pub all-hold-after : (a b : List Extent) (xs ys : List ActiveVolume) → AllZip (HasChanged a b) xs ys → AllByRecursion (HoldsAll a) xs → AllByRecursion (HoldsAll b) ys
+all-hold-after a b xs ys zip all = each-zip (HasChanged a b) (HoldsAll a) (HoldsAll b) xs ys zip all (holds-after a b)
+
+pub apart-after : (a b : List Extent) (xs ys : List ActiveVolume) → AllZip (HasChanged a b) xs ys → AreApart xs → AreApart ys
+apart-after a b xs ys zip apart = λ n. subst (λ (l : List VolumeDef). times_volume n l ≤ 1) (sym (map-zip (HasChanged a b) (λ (v : ActiveVolume). v.volume) xs ys zip (λ x y has. has.volume))) (apart n)
+
 -- States with the same configuration and the same statuses.
 
-pub record AreAlike (s t : DeskState) : Type 0 where
+pub record HaveSame (s t : DeskState) : Type 0 where
   pub active : t.active ≡ s.active
   pub statuses : t.statuses ≡ s.statuses
 
-pub group-stays : (s t : DeskState) (group : ActiveGroup) → AreAlike s t → IsGroupOf s group → IsGroupOf t group
+group-stays : (s t : DeskState) (group : ActiveGroup) → HaveSame s t → IsGroupOf s group → IsGroupOf t group
 group-stays s t group alike is = record {
   status = is.status ∙ ap (λ (rows : List StatusRow). status_in rows (targets.Group group.group.name) NotCon) (sym alike.statuses);
   volumes = is.volumes ∙ ap (λ (o : Option Configuration). length (filter (λ (v : VolumeDef). bytes_eq v.group group.group.name) (volumes_in o))) (sym alike.active);
 }
 
-pub stands-stays : (s t : DeskState) (groups : List ActiveGroup) (place : ℕ) (name : List ℕ) → AreAlike s t → StandsAt s groups place name → StandsAt t groups place name
+stands-stays : (s t : DeskState) (groups : List ActiveGroup) (place : ℕ) (name : List ℕ) → HaveSame s t → StandsAt s groups place name → StandsAt t groups place name
 stands-stays s t groups place name alike is = record {
   group = is.group;
   there = is.there;
@@ -113,122 +210,46 @@ stands-stays s t groups place name alike is = record {
 }
 
 -- a volume with another ledger
-pub volume-follows : (s t : DeskState) (groups : List ActiveGroup) (extents : List OwnedExtent) (before after : ActiveVolume) → AreAlike s t → HasExtents extents before after → IsVolumeOf s groups before
-    → IsLedgerOf t.sets before.volume after.ledger → IsVolumeOf t groups after
-volume-follows s t groups extents before after alike has is ledger = record {
+volume-follows : (s t : DeskState) (groups : List ActiveGroup) (es fs : List Extent) (before after : ActiveVolume) → HaveSame s t → HasChanged es fs before after → IsVolumeOf s groups before
+    → IsLedgerOf (held_on t before.volume.volser) after.ledger → IsVolumeOf t groups after
+volume-follows s t groups es fs before after alike has is ledger = record {
   status = has.status ∙ (is.status ∙ (ap (λ (rows : List StatusRow). status_in rows (targets.Volume before.volume.volser) NotCon) (sym alike.statuses)
       ∙ ap (λ (d : VolumeDef). status_in t.statuses (targets.Volume d.volser) NotCon) (sym has.volume)));
   group = subst (λ (n : ℕ). StandsAt t groups n after.volume.group) (sym has.group)
       (subst (λ (d : VolumeDef). StandsAt t groups before.group d.group) (sym has.volume) (stands-stays s t groups before.group before.volume.group alike is.group));
-  ledger = subst (λ (d : VolumeDef). IsLedgerOf t.sets d after.ledger) (sym has.volume) ledger;
+  capacity = has.capacity ∙ (is.capacity ∙ ap (λ (d : VolumeDef). d.tracks) (sym has.volume));
+  ledger = subst (λ (d : VolumeDef). IsLedgerOf (held_on t d.volser) after.ledger) (sym has.volume) ledger;
 }
 
-pub same-follows : (s t : DeskState) (groups : List ActiveGroup) (volume : ActiveVolume) → AreAlike s t → IsVolumeOf s groups volume → IsLedgerOf t.sets volume.volume volume.ledger → IsVolumeOf t groups volume
-same-follows s t groups volume alike is ledger =
-    volume-follows s t groups volume.ledger.extents volume volume alike (record { volume = refl; status = refl; group = refl; capacity = refl; extents = refl }) is ledger
+groups-stay : (s t : DeskState) (groups : List ActiveGroup) → HaveSame s t → AllByRecursion (IsGroupOf s) groups → AllByRecursion (IsGroupOf t) groups
+groups-stay s t [] alike all = tt
+groups-stay s t (g ∷ groups) alike all = (group-stays s t g alike all.0, groups-stay s t groups alike all.1)
 
--- One ledger.
+-- what the ones hold becomes what the others do
+pub record Becomes (s t : DeskState) (es fs : List Extent) : Type 0 where
+  pub same : HaveSame s t
+  pub others : List ℕ → List Piece
+  pub into : (v : List ℕ) (l : LedgerView) → IsLedgerOf (held_on s v) l → IsLedgerOf (pieces_on v es ++ others v) l
+  pub from : (v : List ℕ) (l : LedgerView) → IsLedgerOf (pieces_on v fs ++ others v) l → IsLedgerOf (held_on t v) l
 
--- it gets pieces for a data set
-pub ledger-installed : (set : DataSet) (sets : List DataSet) (before after : ActiveVolume) (pieces : List Piece) → times_named set.dsn sets ≤ 1 → IsLedgerOf sets before.volume before.ledger
-    → HasExtents (before.ledger.extents ++ granted_to set.dsn pieces) before after → set.extents ≡ extents_named set.dsn sets ++ extents_at before.volume.volser pieces
-    → IsLedgerOf (put_set set sets) before.volume after.ledger
-ledger-installed set sets before after pieces once is has at =
-    let v = before.volume.volser in
-    let own : pieces_of (owned_by set.dsn after.ledger.extents) ≡ pieces_of (owned_by set.dsn before.ledger.extents) ++ pieces =
-    ap (λ (l : List OwnedExtent). pieces_of (owned_by set.dsn l)) has.extents ∙ owned-installed set.dsn before.ledger.extents pieces in
-    let old : pieces_of (owned_by set.dsn before.ledger.extents) ++ pieces ≡ pieces_on v (extents_named set.dsn sets) ++ pieces = ap (λ (l : List Piece). l ++ pieces) (is.owners set.dsn) in
-    let new : pieces_on v set.extents ≡ pieces_on v (extents_named set.dsn sets) ++ pieces =
-    ap (pieces_on v) at ∙ (pieces-append v (extents_named set.dsn sets) (extents_at v pieces) ∙ ap (λ (l : List Piece). pieces_on v (extents_named set.dsn sets) ++ l) (pieces-at v v pieces (bytes-self v))) in
-    ledger-put set sets before.volume before.ledger after.ledger once is has.capacity
-    (ap (released set.dsn) has.extents ∙ released-installed set.dsn before.ledger.extents pieces) (own ∙ (old ∙ sym new))
+-- the running volumes stand for the state after a change
+pub follow : (s t : DeskState) (es fs : List Extent) (running after : ActiveVolumes) → Becomes s t es fs → AreVolumesOf s running → after.groups.items ≡ running.groups.items
+    → AllZip (HasChanged es fs) running.volumes.items after.volumes.items → AreVolumesOf t after
+follow s t es fs running after becomes are groups zip =
+    let same = becomes.same in
+    record {
+      groups_are = ap (map (λ (g : ActiveGroup). g.group)) groups ∙ (are.groups_are ∙ ap groups_in (sym same.active));
+      volumes_are = map-zip (HasChanged es fs) (λ (v : ActiveVolume). v.volume) running.volumes.items after.volumes.items zip (λ x y has. has.volume) ∙ (are.volumes_are ∙ ap volumes_in (sym same.active));
+      each_group = subst (AllByRecursion (IsGroupOf t)) (sym groups) (groups-stay s t running.groups.items same are.each_group);
+      each_volume = subst (λ (l : List ActiveGroup). AllByRecursion (IsVolumeOf t l) after.volumes.items) (sym groups)
+          (each-zip (HasChanged es fs) (IsVolumeOf s running.groups.items) (IsVolumeOf t running.groups.items) running.volumes.items after.volumes.items zip are.each_volume
+          (λ x y has is. volume-follows s t running.groups.items es fs x y same has is
+          (becomes.from x.volume.volser y.ledger (has.ledger (becomes.others x.volume.volser) (becomes.into x.volume.volser x.ledger is.ledger)))));
+    }
 
-none-behind : {X : Type 0} (xs : List X) → xs ++ [] ≡ xs
-none-behind [] = refl
-none-behind {X = X} (x ∷ xs) = ap (λ (l : List X). x ∷ l) (none-behind xs)
-
--- the data set gets pieces of another volume
-pub ledger-beside : (set : DataSet) (sets : List DataSet) (w : List ℕ) (volume : ActiveVolume) (pieces : List Piece) → times_named set.dsn sets ≤ 1 → IsLedgerOf sets volume.volume volume.ledger
-    → bytes_eq volume.volume.volser w ≡ false → set.extents ≡ extents_named set.dsn sets ++ extents_at w pieces → IsLedgerOf (put_set set sets) volume.volume volume.ledger
-ledger-beside set sets w volume pieces once is off at =
-    let v = volume.volume.volser in
-    let new : pieces_on v set.extents ≡ pieces_on v (extents_named set.dsn sets) =
-    ap (pieces_on v) at ∙ (pieces-append v (extents_named set.dsn sets) (extents_at w pieces)
-    ∙ (ap (λ (l : List Piece). pieces_on v (extents_named set.dsn sets) ++ l) (pieces-off w v pieces (bytes-turned v w off)) ∙ none-behind (pieces_on v (extents_named set.dsn sets)))) in
-    ledger-put set sets volume.volume volume.ledger volume.ledger once is refl refl (is.owners set.dsn ∙ sym new)
-
--- the data set lies as before
-pub ledger-same : (set : DataSet) (sets : List DataSet) (volume : ActiveVolume) → times_named set.dsn sets ≤ 1 → IsLedgerOf sets volume.volume volume.ledger → set.extents ≡ extents_named set.dsn sets
-    → IsLedgerOf (put_set set sets) volume.volume volume.ledger
-ledger-same set sets volume once is at =
-    ledger-put set sets volume.volume volume.ledger volume.ledger once is refl refl (is.owners set.dsn ∙ ap (pieces_on volume.volume.volser) (sym at))
-
--- a ledger with only more room
-pub ledger-roomier : (sets : List DataSet) (before after : ActiveVolume) → IsLedgerOf sets before.volume before.ledger → HasExtents before.ledger.extents before after → IsLedgerOf sets before.volume after.ledger
-ledger-roomier sets before after is has = record {
-  capacity = has.capacity ∙ is.capacity;
-  counts = λ f. ap (λ (l : List OwnedExtent). sum_by f (pieces_of l)) has.extents ∙ is.counts f;
-  owners = λ dsn. ap (λ (l : List OwnedExtent). pieces_of (owned_by dsn l)) has.extents ∙ is.owners dsn;
-}
-
-unused-none-at : (v : List ℕ) (e : Extent) (es : List Extent) (b : Bool) → bytes_eq e.volser v ≡ b → (is_used v es ≡ false → pieces_on v es ≡ []) → is_used v (e ∷ es) ≡ false → pieces_on v (e ∷ es) ≡ []
-unused-none-at v e es true is rest off =
-    let now : true ≡ false = rw is at off in absurd cc
-unused-none-at v e es false is rest off =
-    let now : is_used v es ≡ false = rw is at off in rw is (rest now)
-
-pub unused-none : (v : List ℕ) (es : List Extent) → is_used v es ≡ false → pieces_on v es ≡ []
-unused-none v [] off = refl
-unused-none v (e ∷ es) off = unused-none-at v e es _ refl (unused-none v es) off
-
-unused-at : (dsn : List ℕ) (e : OwnedExtent) (extents : List OwnedExtent) (b : Bool) → bytes_eq e.owner dsn ≡ b → (pieces_of (owned_by dsn extents) ≡ [] → released dsn extents ≡ extents)
-    → pieces_of (owned_by dsn (e ∷ extents)) ≡ [] → released dsn (e ∷ extents) ≡ e ∷ extents
-unused-at dsn e extents true is rest empty =
-    let now : e.piece ∷ pieces_of (owned_by dsn extents) ≡ [] = rw is at empty in absurd cc
-unused-at dsn e extents false is rest empty =
-    let now : pieces_of (owned_by dsn extents) ≡ [] = rw is at empty in rw is (ap (λ (l : List OwnedExtent). e ∷ l) (rest now))
-
--- where the owner has no piece, all stays
-pub released-unused : (dsn : List ℕ) (extents : List OwnedExtent) → pieces_of (owned_by dsn extents) ≡ [] → released dsn extents ≡ extents
-released-unused dsn [] none = refl
-released-unused dsn (e ∷ extents) none = unused-at dsn e extents _ refl (released-unused dsn extents) none
-
-released-here : (dsn : List ℕ) (sets : List DataSet) (held : List Extent) (before : ActiveVolume) (b : Bool) → is_used before.volume.volser held ≡ b → IsLedgerOf sets before.volume before.ledger
-    → held ≡ extents_named dsn sets → without_owner dsn held before ≡ released dsn before.ledger.extents
-released-here dsn sets held before true used is at = rw used refl
-released-here dsn sets held before false used is at =
-    let none : pieces_of (owned_by dsn before.ledger.extents) ≡ [] = is.owners dsn ∙ (ap (pieces_on before.volume.volser) (sym at) ∙ unused-none before.volume.volser held used) in
-    rw used (sym (released-unused dsn before.ledger.extents none))
-
-pub ledger-released : (dsn : List ℕ) (sets : List DataSet) (held : List Extent) (before after : ActiveVolume) → times_named dsn sets ≤ 1 → IsLedgerOf sets before.volume before.ledger
-    → held ≡ extents_named dsn sets → HasExtents (without_owner dsn held before) before after → IsLedgerOf (without_set dsn sets) before.volume after.ledger
-ledger-released dsn sets held before after once is at has =
-    ledger-drop dsn sets before.volume before.ledger after.ledger once is has.capacity (has.extents ∙ released-here dsn sets held before _ refl is at)
-
-cut-here : (set : DataSet) (sets : List DataSet) (held : List Extent) (keep : ℕ) (before after : ActiveVolume) (b : Bool) → is_used before.volume.volser held ≡ b → times_named set.dsn sets ≤ 1
-    → IsLedgerOf sets before.volume before.ledger → held ≡ extents_named set.dsn sets → AreSome held → set.extents ≡ front_tracks keep held
-    → HasExtents (cut_to set.dsn held (front_tracks keep held) before) before after → IsLedgerOf (put_set set sets) before.volume after.ledger
-cut-here set sets held keep before after true used once is at some cut has =
-    let v = before.volume.volser in
-    let here : after.ledger.extents ≡ trimmed set.dsn (tracks_of_pieces (pieces_on v (front_tracks keep held))) before.ledger.extents = has.extents ∙ rw used refl in
-    let own : pieces_of (owned_by set.dsn after.ledger.extents) ≡ front_pieces (tracks_of_pieces (pieces_on v (front_tracks keep held))) (pieces_of (owned_by set.dsn before.ledger.extents)) =
-    ap (λ (l : List OwnedExtent). pieces_of (owned_by set.dsn l)) here ∙ trimmed-front set.dsn (tracks_of_pieces (pieces_on v (front_tracks keep held))) before.ledger.extents in
-    let old : pieces_of (owned_by set.dsn before.ledger.extents) ≡ pieces_on v held = is.owners set.dsn ∙ ap (pieces_on v) (sym at) in
-    let front : pieces_on v set.extents ≡ front_pieces (tracks_of_pieces (pieces_on v (front_tracks keep held))) (pieces_on v held) = ap (pieces_on v) cut ∙ front-on v keep held some in
-    ledger-put set sets before.volume before.ledger after.ledger once is has.capacity
-    (ap (released set.dsn) here ∙ released-trimmed set.dsn (tracks_of_pieces (pieces_on v (front_tracks keep held))) before.ledger.extents)
-    (own ∙ (ap (front_pieces (tracks_of_pieces (pieces_on v (front_tracks keep held)))) old ∙ sym front))
-cut-here set sets held keep before after false used once is at some cut has =
-    let v = before.volume.volser in
-    let here : after.ledger.extents ≡ before.ledger.extents = has.extents ∙ rw used refl in
-    let none : pieces_on v held ≡ [] = unused-none v held used in
-    let empty : pieces_of (owned_by set.dsn before.ledger.extents) ≡ [] = is.owners set.dsn ∙ (ap (pieces_on v) (sym at) ∙ none) in
-    let front : pieces_on v set.extents ≡ [] =
-    ap (pieces_on v) cut ∙ (front-on v keep held some ∙ ap (front_pieces (tracks_of_pieces (pieces_on v (front_tracks keep held)))) none) in
-    ledger-put set sets before.volume before.ledger after.ledger once is has.capacity (ap (released set.dsn) here)
-    (ap (λ (l : List OwnedExtent). pieces_of (owned_by set.dsn l)) here ∙ (empty ∙ sym front))
-
-pub ledger-cut : (set : DataSet) (sets : List DataSet) (held : List Extent) (keep : ℕ) (before after : ActiveVolume) → times_named set.dsn sets ≤ 1
-    → IsLedgerOf sets before.volume before.ledger → held ≡ extents_named set.dsn sets → AreSome held → set.extents ≡ front_tracks keep held
-    → HasExtents (cut_to set.dsn held (front_tracks keep held) before) before after → IsLedgerOf (put_set set sets) before.volume after.ledger
-ledger-cut set sets held keep before after once is at some cut has = cut-here set sets held keep before after _ refl once is at some cut has
+-- what all data sets hold, where the extents are those of one
+pub each-holds : (s : DeskState) (groups : List ActiveGroup) (es : List Extent) (volumes : List ActiveVolume) (others : List ℕ → List Piece)
+    → ((v : List ℕ) (l : LedgerView) → IsLedgerOf (held_on s v) l → IsLedgerOf (pieces_on v es ++ others v) l) → AllByRecursion (IsVolumeOf s groups) volumes → AllByRecursion (HoldsAll es) volumes
+each-holds s groups es [] others into all = tt
+each-holds s groups es (v ∷ volumes) others into all =
+    (record { others = others v.volume.volser; is = into v.volume.volser v.ledger all.0.ledger }, each-holds s groups es volumes others into all.1)

@@ -1,7 +1,7 @@
 -- The running volumes stand for the state again when a configuration became active.
 use Rattle.std.proofs.Common.{◌≡◌, ◌≤◌, ◌<◌, ℕ, zero, suc, ◌+◌, Bool, true, false, cond, List, [], ◌∷◌, ◌++◌, length, map, get_or, set, take, refl, sym, ap, ◌∙◌, subst, arith}
 use Rattle.std.specs.Prelude.{Option, None, Some, bytes_eq, find, nat_lt, ◌&&◌, option_map, slice_get, slice_set}
-use Rattle.std.specs.List.{AllByRecursion, AllZip, sum_by}
+use Rattle.std.specs.List.{AllByRecursion, AllZip}
 use Rattle.std.proofs.lemmas.Bool.Decides.{nat_tests}
 use Rattle.sms_construct.specs.Configuration.{Configuration, IsConfiguration}
 use Rattle.acs_tree.specs.declared.kind.Kind.TheVariants.{StorGrp}
@@ -11,13 +11,12 @@ use Rattle.sms_construct.specs.declared.status.Status.TheVariants.{NotCon}
 use Rattle.sms_construct.specs.declared.storage_group.StorGroup.{StorGroup}
 use Rattle.sms_construct.specs.declared.target.Target.TheVariants.{Group, Volume}
 use Rattle.sms_construct.specs.declared.volume.VolumeDef.{VolumeDef}
-use Rattle.sms_keeper.specs.Tables.{is_named}
 use Rattle.sms_keeper.specs.declared.status_row.StatusRow.{StatusRow}
-use Rattle.track_ledger.specs.declared.owned_extent.OwnedExtent.{OwnedExtent}
-use Rattle.track_ledger.specs.Extents.{owned_by, pieces_of}
-use Rattle.desk_law.specs.State.{DeskState, set_named}
+use Rattle.track_ledger.specs.declared.piece.Piece.{Piece}
+use Rattle.track_ledger.specs.Ledger.{IsLedgerOf, LedgerView}
+use Rattle.desk_law.specs.State.{DeskState}
 use Rattle.desk_law.specs.Activation.{activated, first_barred, row_of_group, row_of_volume, statuses_under}
-use Rattle.desk_law.specs.Extents.{extents_of, pieces_on}
+use Rattle.desk_law.specs.Extents.{extents_of, held_on, pieces_on}
 use Rattle.desk_law.specs.Lawful.{IsInside, IsLawful, IsLawfulSet}
 use Rattle.desk_law.specs.Statuses.{status_in}
 use Rattle.desk_law.specs.Volumes.{times_group, times_volume, tracks_of, volumes_in}
@@ -26,8 +25,8 @@ use Rattle.desk_law.proofs.ByteLemmas.{bytes-self, bytes-turned, same-bytes}
 use Rattle.desk_law.proofs.GrantLemmas.{each-tracks}
 use Rattle.desk_law.proofs.PlaceLemmas.{each-both, find-each}
 use Rattle.sms_volumes.specs.Barring.{bars, running_barred}
-use Rattle.sms_volumes.specs.Handing.{AreApart, HasTaken}
-use Rattle.sms_volumes.specs.Holding.{AreVolumesOf, IsGroupOf, IsLedgerOf, IsVolumeOf, extents_if, extents_named}
+use Rattle.sms_volumes.specs.Handing.{AreApart, HasTaken, ledger_taken}
+use Rattle.sms_volumes.specs.Holding.{AreVolumesOf, IsGroupOf, IsVolumeOf}
 use Rattle.sms_volumes.specs.Next.{AreNext, IsNextGroup, IsNextVolume}
 use Rattle.sms_volumes.specs.Viewing.{running_named}
 use Rattle.sms_volumes.specs.declared.active_group.ActiveGroup.{ActiveGroup}
@@ -35,7 +34,7 @@ use Rattle.sms_volumes.specs.declared.active_volume.ActiveVolume.{ActiveVolume}
 use Rattle.sms_volumes.specs.declared.active_volumes.ActiveVolumes.{ActiveVolumes}
 use Rattle.sms_volumes.proofs.BarLemmas.{barred-is}
 use Rattle.sms_volumes.proofs.ChangeLemmas.{each-zip, map-zip}
-use Rattle.sms_volumes.proofs.CountingLemmas.{pieces-append}
+use Rattle.sms_volumes.proofs.HeldLemmas.{pieces-append}
 use Rattle.sms_volumes.proofs.NextLemmas.{volume-none, volume-some}
 use Rattle.sms_volumes.proofs.ZipLemmas.{IsOver, over-all, over-next, over-none, read-same}
 
@@ -194,20 +193,10 @@ none-held n volumes (set ∷ sets) none all =
     let rest = none-held n volumes sets none all.1 in
     pieces-append n set.extents (extents_of sets) ∙ rw (head, rest) refl
 
-none-owned-at : (n dsn : List ℕ) (volumes : List VolumeDef) (sets : List DataSet) (found : Option DataSet) → tracks_of n volumes ≡ 0 → AllByRecursion (IsLawfulSet volumes) sets → set_named dsn sets ≡ found
-    → pieces_on n (extents_if found) ≡ []
-none-owned-at n dsn volumes sets None none all found = refl
-none-owned-at n dsn volumes sets (Some set) none all found =
-    let own = find-each (IsLawfulSet volumes) (is_named dsn) sets set all found in none-lies n volumes set.extents none own.inside
-
-fresh-ledger : (s : DeskState) (v w : ActiveVolume) → IsLawful s → times_volume v.volume.volser (volumes_in s.active) ≡ 0 → w.ledger.capacity ≡ v.volume.tracks → w.ledger.extents ≡ [] → IsLedgerOf s.sets v.volume w.ledger
-fresh-ledger s v w lawful gone capacity free =
-    let n = v.volume.volser in
-    let none = no-tracks n (volumes_in s.active) gone in record {
-      capacity = capacity;
-      counts = λ count. ap (λ (l : List OwnedExtent). sum_by count (pieces_of l)) free ∙ sym (ap (sum_by count) (none-held n (volumes_in s.active) s.sets none lawful.sets));
-      owners = λ dsn. ap (λ (l : List OwnedExtent). pieces_of (owned_by dsn l)) free ∙ sym (none-owned-at n dsn (volumes_in s.active) s.sets _ none lawful.sets refl);
-    }
+-- a volume that wasn't active holds nothing
+fresh-ledger : (s : DeskState) (n : List ℕ) (l : LedgerView) → IsLawful s → times_volume n (volumes_in s.active) ≡ 0 → IsLedgerOf [] l → IsLedgerOf (held_on s n) l
+fresh-ledger s n l lawful gone free =
+    subst (λ (held : List Piece). IsLedgerOf held l) (sym (none-held n (volumes_in s.active) s.sets (no-tracks n (volumes_in s.active) gone) lawful.sets)) free
 
 -- A volume that takes over what is held.
 
@@ -225,27 +214,28 @@ no-running : (found : Option ActiveVolume) → option_map (λ (x : ActiveVolume)
 no-running None is = refl
 no-running (Some x) is = absurd cc
 
-none-long : (l : List OwnedExtent) → nat_lt 0 (length l) ≡ false → l ≡ []
+none-long : (held : List Piece) → nat_lt 0 (length held) ≡ false → held ≡ []
 none-long [] is = refl
-none-long (e ∷ l) is = absurd (let le : suc (length l) ≤ 0 = grind (arith, nat_tests, is) in omega (arith, le))
+none-long (p ∷ held) is = absurd (let le : suc (length held) ≤ 0 = grind (arith, nat_tests, is) in omega (arith, le))
 
 -- a volume that doesn't bar, and would if it held something, holds nothing
-not-barred : (o : ActiveVolume) (others : List VolumeDef) → bars others o ≡ false → nat_lt (tracks_of o.volume.volser others) o.volume.tracks ≡ true → o.ledger.extents ≡ []
-not-barred o others off less =
-    let now : (nat_lt 0 (length o.ledger.extents) && true) ≡ false = rw less at off in none-long o.ledger.extents (only (nat_lt 0 (length o.ledger.extents)) now)
+not-barred : (o : ActiveVolume) (held : List Piece) (others : List VolumeDef) → IsLedgerOf held o.ledger → bars others o ≡ false → nat_lt (tracks_of o.volume.volser others) o.volume.tracks ≡ true → held ≡ []
+not-barred o held others is off less =
+    let now : (nat_lt 0 o.ledger.extents && true) ≡ false = rw less at off in
+    none-long held (ap (nat_lt 0) (sym is.extents) ∙ only (nat_lt 0 o.ledger.extents) now)
   where
     only : (b : Bool) → (b && true) ≡ false → b ≡ false
     only true is = is
     only false is = refl
 
-taken-extents-at : (v o w : ActiveVolume) (b : Bool) → nat_lt v.volume.tracks o.ledger.capacity ≡ b → v.ledger.extents ≡ [] → (b ≡ true → o.ledger.extents ≡ []) → HasTaken (Some o) v w → w.ledger.extents ≡ o.ledger.extents
-taken-extents-at v o w true is free empty has =
-    let now : w.ledger.extents ≡ v.ledger.extents = has.extents ∙ rw is refl in now ∙ (free ∙ sym (empty refl))
-taken-extents-at v o w false is free empty has = has.extents ∙ rw is refl
+taken-held-at : (v o : ActiveVolume) (held : List Piece) (b : Bool) → nat_lt v.volume.tracks o.ledger.capacity ≡ b → IsLedgerOf [] v.ledger → IsLedgerOf held o.ledger → (b ≡ true → held ≡ [])
+    → IsLedgerOf held (ledger_taken (Some o) v)
+taken-held-at v o held true is free own empty = rw is (subst (λ (x : List Piece). IsLedgerOf x v.ledger) (sym (empty refl)) free)
+taken-held-at v o held false is free own empty = rw is own
 
 taken-ledger : (s : DeskState) (old : ActiveVolumes) (config : Configuration) (v w o : ActiveVolume) → AreVolumesOf s old → first_barred s config ≡ None → running_named v.volume.volser old.volumes.items ≡ Some o
-    → tracks_of v.volume.volser config.volumes ≡ v.volume.tracks → v.ledger.capacity ≡ v.volume.tracks → v.ledger.extents ≡ [] → HasTaken (Some o) v w → IsLedgerOf s.sets v.volume w.ledger
-taken-ledger s old config v w o are none found tracks capacity free has =
+    → tracks_of v.volume.volser config.volumes ≡ v.volume.tracks → IsLedgerOf [] v.ledger → HasTaken (Some o) v w → IsLedgerOf (held_on s v.volume.volser) w.ledger
+taken-ledger s old config v w o are none found tracks free has =
     let n = v.volume.volser in
     let own = find-each (IsVolumeOf s old.groups.items) (λ (x : ActiveVolume). bytes_eq x.volume.volser n) old.volumes.items o are.each_volume found in
     let there = volume-some n old.volumes.items o found in
@@ -253,20 +243,17 @@ taken-ledger s old config v w o are none found tracks capacity free has =
     let each = find-none (bars config.volumes) old.volumes.items (no-running (running_barred config.volumes old.volumes.items) (barred-is s old config are ∙ none)) in
     let off : bars config.volumes o ≡ false = find-each (λ (x : ActiveVolume). bars config.volumes x ≡ false) (λ (x : ActiveVolume). bytes_eq x.volume.volser n) old.volumes.items o each found in
     let sizes : nat_lt v.volume.tracks o.ledger.capacity ≡ nat_lt (tracks_of o.volume.volser config.volumes) o.volume.tracks =
-    ap (nat_lt v.volume.tracks) own.ledger.capacity ∙ ap (λ (k : ℕ). nat_lt k o.volume.tracks) (sym (ap (λ (m : List ℕ). tracks_of m config.volumes) serial ∙ tracks)) in
-    let extents : w.ledger.extents ≡ o.ledger.extents = taken-extents-at v o w _ refl free (λ less. not-barred o config.volumes off (sym sizes ∙ less)) has in
-    record {
-      capacity = has.capacity capacity;
-      counts = λ count. ap (λ (l : List OwnedExtent). sum_by count (pieces_of l)) extents ∙ (own.ledger.counts count ∙ ap (λ (m : List ℕ). sum_by count (pieces_on m (extents_of s.sets))) serial);
-      owners = λ dsn. ap (λ (l : List OwnedExtent). pieces_of (owned_by dsn l)) extents ∙ (own.ledger.owners dsn ∙ ap (λ (m : List ℕ). pieces_on m (extents_named dsn s.sets)) serial);
-    }
+    ap (nat_lt v.volume.tracks) own.capacity ∙ ap (λ (k : ℕ). nat_lt k o.volume.tracks) (sym (ap (λ (m : List ℕ). tracks_of m config.volumes) serial ∙ tracks)) in
+    let held : IsLedgerOf (held_on s n) o.ledger = subst (λ (m : List ℕ). IsLedgerOf (held_on s m) o.ledger) serial own.ledger in
+    has.ledger (held_on s n) (taken-held-at v o (held_on s n) _ refl free held (λ less. not-barred o (held_on s n) config.volumes held off (sym sizes ∙ less)))
 
 next-ledger : (s : DeskState) (old : ActiveVolumes) (config : Configuration) (v w : ActiveVolume) (found : Option ActiveVolume) → IsLawful s → AreVolumesOf s old → first_barred s config ≡ None
-    → running_named v.volume.volser old.volumes.items ≡ found → tracks_of v.volume.volser config.volumes ≡ v.volume.tracks → v.ledger.capacity ≡ v.volume.tracks → v.ledger.extents ≡ [] → HasTaken found v w
-    → IsLedgerOf s.sets v.volume w.ledger
-next-ledger s old config v w None lawful are none found tracks capacity free has =
-    fresh-ledger s v w lawful (subst (λ (l : List VolumeDef). times_volume v.volume.volser l ≡ 0) are.volumes_are (volume-none v.volume.volser old.volumes.items found)) (has.capacity capacity) (has.extents ∙ free)
-next-ledger s old config v w (Some o) lawful are none found tracks capacity free has = taken-ledger s old config v w o are none found tracks capacity free has
+    → running_named v.volume.volser old.volumes.items ≡ found → tracks_of v.volume.volser config.volumes ≡ v.volume.tracks → IsLedgerOf [] v.ledger → HasTaken found v w
+    → IsLedgerOf (held_on s v.volume.volser) w.ledger
+next-ledger s old config v w None lawful are none found tracks free has =
+    let gone = subst (λ (l : List VolumeDef). times_volume v.volume.volser l ≡ 0) are.volumes_are (volume-none v.volume.volser old.volumes.items found) in
+    fresh-ledger s v.volume.volser w.ledger lawful gone (has.ledger [] free)
+next-ledger s old config v w (Some o) lawful are none found tracks free has = taken-ledger s old config v w o are none found tracks free has
 
 -- The whole.
 
@@ -282,7 +269,7 @@ volume-taken s old config groups v w lawful are none known has =
     let next = known.next in
     let t = activated s config in
     let place = next.group in
-    let ledger : IsLedgerOf s.sets v.volume w.ledger = next-ledger s old config v w _ lawful are none refl known.tracks next.capacity next.free has in
+    let ledger : IsLedgerOf (held_on s v.volume.volser) w.ledger = next-ledger s old config v w _ lawful are none refl known.tracks next.free has in
     let under : status_in t.statuses (Volume v.volume.volser) NotCon ≡ (row_of_volume s.statuses v.volume).status =
     no-volume s.statuses (map (row_of_volume s.statuses) config.volumes) config.groups v.volume.volser ∙ known.status in
     record {
@@ -292,7 +279,8 @@ volume-taken s old config groups v w lawful are none known has =
         there = ap (slice_get groups) has.group ∙ place.there;
         named = subst (λ (d : VolumeDef). find (λ (g : StorGroup). bytes_eq g.name d.group) config.groups ≡ Some place.group.group) (sym has.volume) place.named;
       };
-      ledger = subst (λ (d : VolumeDef). IsLedgerOf s.sets d w.ledger) (sym has.volume) ledger;
+      capacity = has.capacity next.capacity ∙ ap (λ (d : VolumeDef). d.tracks) (sym has.volume);
+      ledger = subst (λ (d : VolumeDef). IsLedgerOf (held_on s d.volser) w.ledger) (sym has.volume) ledger;
     }
 
 group-taken : (s : DeskState) (config : Configuration) (g : ActiveGroup) → IsNextGroup s.statuses config g

@@ -1,10 +1,13 @@
 pub mod UsedLemmas
-pub mod CountingLemmas
 pub mod NamedLemmas
-pub mod LedgerLemmas
+pub mod HeldLemmas
 pub mod ViewLemmas
+pub mod RankLemmas
+pub mod LeadLemmas
 pub mod ChangeLemmas
 pub mod RunningLemmas
+pub mod ExtentLemmas
+pub mod PartLemmas
 pub mod VaryLemmas
 pub mod ZipLemmas
 pub mod ShowLemmas

@@ -1,44 +1,10 @@
--- The data set of a name, beside the others.
-use Rattle.std.proofs.Common.{◌≡◌, ◌≤◌, ℕ, ◌+◌, Bool, true, false, cond, List, [], ◌∷◌, ◌++◌, refl, sym, ap, ◌∙◌, arith}
+-- The data set of a name after a change.
+use Rattle.std.proofs.Common.{◌≡◌, ℕ, Bool, true, false, List, [], ◌∷◌, ◌++◌, refl, sym, ap, ◌∙◌}
 use Rattle.std.specs.Prelude.{None, Some, bytes_eq}
-use Rattle.std.specs.List.{sum_by}
 use Rattle.sms_construct.specs.declared.data_set.DataSet.{DataSet}
 use Rattle.sms_keeper.specs.Tables.{put_set, without_set}
-use Rattle.track_ledger.specs.declared.piece.Piece.{Piece}
 use Rattle.desk_law.specs.State.{set_named}
-use Rattle.desk_law.specs.Extents.{pieces_on}
-use Rattle.desk_law.specs.Lawful.{times_named}
 use Rattle.desk_law.proofs.ByteLemmas.{bytes-same, same-bytes}
-use Rattle.sms_volumes.specs.Holding.{extents_named}
-use Rattle.sms_volumes.proofs.CountingLemmas.{count_in, count-cons}
-
-without-none-at : (dsn : List ℕ) (set : DataSet) (sets : List DataSet) (b : Bool) → bytes_eq set.dsn dsn ≡ b → cond b 1 0 + times_named dsn sets ≡ 0
-    → (times_named dsn sets ≡ 0 → without_set dsn sets ≡ sets) → without_set dsn (set ∷ sets) ≡ set ∷ sets
-without-none-at dsn set sets true is none rest = absurd (omega (arith, none))
-without-none-at dsn set sets false is none rest = rw is (ap (λ (l : List DataSet). set ∷ l) (rest (omega (arith, none))))
-
--- where no data set has the name, all are without it
-pub without-none : (dsn : List ℕ) (sets : List DataSet) → times_named dsn sets ≡ 0 → without_set dsn sets ≡ sets
-without-none dsn [] none = refl
-without-none dsn (set ∷ sets) none = without-none-at dsn set sets _ refl none (without-none dsn sets)
-
-count-named-at : (f : Piece → ℕ) (v dsn : List ℕ) (set : DataSet) (sets : List DataSet) (b : Bool) → bytes_eq set.dsn dsn ≡ b → cond b 1 0 + times_named dsn sets ≤ 1
-    → (times_named dsn sets ≤ 1 → count_in f v sets ≡ sum_by f (pieces_on v (extents_named dsn sets)) + count_in f v (without_set dsn sets))
-    → count_in f v (set ∷ sets) ≡ sum_by f (pieces_on v (extents_named dsn (set ∷ sets))) + count_in f v (without_set dsn (set ∷ sets))
-count-named-at f v dsn set sets true is once rest =
-    let none : times_named dsn sets ≡ 0 = omega (arith, once) in
-    let same : count_in f v (without_set dsn sets) ≡ count_in f v sets = ap (count_in f v) (without-none dsn sets none) in
-    rw is (omega (arith, count-cons f v set sets, same))
-count-named-at f v dsn set sets false is once rest =
-    rw is (omega (arith, rest (omega (arith, once)), count-cons f v set sets, count-cons f v set (without_set dsn sets)))
-
--- what the data set of a name holds, and the others
-pub count-named : (f : Piece → ℕ) (v dsn : List ℕ) (sets : List DataSet) → times_named dsn sets ≤ 1
-    → count_in f v sets ≡ sum_by f (pieces_on v (extents_named dsn sets)) + count_in f v (without_set dsn sets)
-count-named f v dsn [] once = refl
-count-named f v dsn (set ∷ sets) once = count-named-at f v dsn set sets _ refl once (count-named f v dsn sets)
-
--- Look-ups after a change.
 
 named-without-at : (dsn other : List ℕ) (set : DataSet) (sets : List DataSet) (b c : Bool) → bytes_eq set.dsn dsn ≡ b → bytes_eq set.dsn other ≡ c → bytes_eq dsn other ≡ false
     → set_named other (without_set dsn sets) ≡ set_named other sets → set_named other (without_set dsn (set ∷ sets)) ≡ set_named other (set ∷ sets)

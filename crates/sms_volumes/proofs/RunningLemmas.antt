@@ -1,175 +1,214 @@
--- All running volumes after an installation, a release and a trim.
-use Rattle.std.proofs.Common.{◌≡◌, ◌≤◌, ◌<◌, ℕ, zero, suc, List, [], ◌∷◌, ◌++◌, length, map, get_or, refl, sym, ap, ◌∙◌, subst, arith}
-use Rattle.std.specs.Prelude.{Option, None, Some, Result, Ok, Err, IfOk, IfSome, option_map, slice_get, slice_set}
+-- All running volumes after a change of one data set.
+use Rattle.std.proofs.Common.{◌≡◌, ◌≤◌, ◌<◌, ℕ, zero, suc, true, false, List, [], ◌∷◌, ◌++◌, length, get_or, refl, sym, ap, ◌∙◌, subst, arith, append_assoc}
+use Rattle.std.specs.Prelude.{Err, IfSome, None, Ok, OnOk, Option, Result, Some, bytes_eq, option_map, slice_get, slice_set}
+use Rattle.std.specs.List.{All, AllByRecursion, AllZip}
 use Rattle.std.specs.declared.alloc.AllocError.{AllocError}
 use Rattle.std.proofs.lemmas.Option.{get_or_from_slice_get, slice_get-get_or}
-use Rattle.std.specs.List.{AllByRecursion, AllZip}
+use Rattle.desk_common.specs.Limits.{most_pieces}
 use Rattle.sms_construct.specs.declared.data_set.DataSet.{DataSet}
 use Rattle.sms_construct.specs.declared.extent.Extent.{Extent}
 use Rattle.sms_construct.specs.declared.volume.VolumeDef.{VolumeDef}
-use Rattle.track_ledger.specs.declared.need.Need.{Need}
 use Rattle.track_ledger.specs.declared.piece.Piece.{Piece}
-use Rattle.track_ledger.specs.Extents.{granted_to}
-use Rattle.track_ledger.specs.Need.{granted_for}
-use Rattle.desk_law.specs.Candidates.{grant_on}
-use Rattle.sms_volumes.proofs.ViewLemmas.{grant-is}
+use Rattle.track_ledger.specs.Extents.{LiesInside, LieInGaps}
+use Rattle.track_ledger.specs.Gaps.{gaps_of}
+use Rattle.track_ledger.specs.Ledger.{IsLedgerOf, LedgerView}
 use Rattle.desk_law.specs.State.{DeskState, with_set, without_name}
-use Rattle.desk_law.specs.Extents.{extents_at, front_tracks}
+use Rattle.desk_law.specs.Extents.{extents_at, extents_named, held_on, pieces_on}
 use Rattle.desk_law.specs.Lawful.{IsLawful}
-use Rattle.desk_law.specs.Volumes.{groups_in, times_volume, volumes_in}
+use Rattle.desk_law.specs.Volumes.{times_volume}
 use Rattle.desk_law.proofs.AscendLemmas.{active-volume-once}
-use Rattle.desk_law.proofs.ByteLemmas.{bytes-self}
-use Rattle.desk_law.proofs.PlaceLemmas.{each-at}
-use Rattle.desk_law.proofs.VolumeLemmas.{AreSome}
-use Rattle.sms_volumes.specs.Changing.{HasExtents, IsReady, IsReadyAt, cut_to, running_at, without_owner}
-use Rattle.sms_volumes.specs.Holding.{AreVolumesOf, IsGroupOf, IsVolumeOf, extents_named}
-use Rattle.sms_volumes.specs.declared.active_group.ActiveGroup.{ActiveGroup}
+use Rattle.desk_law.proofs.ByteLemmas.{bytes-self, bytes-turned}
+use Rattle.desk_law.proofs.CountLemmas.{pieces-at, pieces-off}
+use Rattle.sms_volumes.specs.Changing.{HasChanged, HoldsAll, IsFree, IsFreeAt, IsReadyAt, LiesOnSome}
+use Rattle.sms_volumes.specs.Handing.{AreApart}
+use Rattle.sms_volumes.specs.Holding.{AreVolumesOf}
 use Rattle.sms_volumes.specs.declared.active_volume.ActiveVolume.{ActiveVolume}
 use Rattle.sms_volumes.specs.declared.active_volumes.ActiveVolumes.{ActiveVolumes}
-use Rattle.sms_volumes.proofs.ChangeLemmas.{AreAlike, each-replaced, each-set, each-zip, group-stays, ledger-beside, ledger-cut, ledger-installed, ledger-released, ledger-roomier, ledger-same, map-replaced, map-zip, same-follows, volume-follows}
+use Rattle.sms_volumes.proofs.ChangeLemmas.{Becomes, changed-none, each-holds, follow, zip-replaced, zip-set, zip-stays}
+use Rattle.sms_volumes.proofs.HeldLemmas.{ledger-joined, ledger-split, ledger-swap, ledger-turn, pieces-append}
 
-pub groups-stay : (s t : DeskState) (groups : List ActiveGroup) → AreAlike s t → AllByRecursion (IsGroupOf s) groups → AllByRecursion (IsGroupOf t) groups
-groups-stay s t [] alike all = tt
-groups-stay s t (g ∷ groups) alike all = (group-stays s t g alike all.0, groups-stay s t groups alike all.1)
-
-pub alike-with : (s : DeskState) (set : DataSet) → AreAlike s (with_set s set)
-alike-with s set = record { active = refl; statuses = refl }
-
-pub alike-without : (s : DeskState) (dsn : List ℕ) → AreAlike s (without_name s dsn)
-alike-without s dsn = record { active = refl; statuses = refl }
-
--- each volume has other extents
-pub each-follows : (s t : DeskState) (running after : ActiveVolumes) (R : ActiveVolume → ActiveVolume → Type 0) → AreAlike s t → AreVolumesOf s running → after.groups.items ≡ running.groups.items
-    → AllZip R running.volumes.items after.volumes.items → ((x y : ActiveVolume) → R x y → y.volume ≡ x.volume)
-    → ((x y : ActiveVolume) → R x y → IsVolumeOf s running.groups.items x → IsVolumeOf t running.groups.items y) → AreVolumesOf t after
-each-follows s t running after R alike are groups zip same step = record {
-  groups_are = ap (map (λ (g : ActiveGroup). g.group)) groups ∙ (are.groups_are ∙ ap groups_in (sym alike.active));
-  volumes_are = map-zip R (λ (v : ActiveVolume). v.volume) running.volumes.items after.volumes.items zip same ∙ (are.volumes_are ∙ ap volumes_in (sym alike.active));
-  each_group = subst (AllByRecursion (IsGroupOf t)) (sym groups) (groups-stay s t running.groups.items alike are.each_group);
-  each_volume = subst (λ (l : List ActiveGroup). AllByRecursion (IsVolumeOf t l) after.volumes.items) (sym groups)
-      (each-zip R (IsVolumeOf s running.groups.items) (IsVolumeOf t running.groups.items) running.volumes.items after.volumes.items zip are.each_volume step);
-}
-
--- a data set is dropped
-pub all-released : (s : DeskState) (dsn : List ℕ) (held : List Extent) (running after : ActiveVolumes) → IsLawful s → AreVolumesOf s running → after.groups.items ≡ running.groups.items → held ≡ extents_named dsn s.sets
-    → AllZip (λ (x y : ActiveVolume). HasExtents (without_owner dsn held x) x y) running.volumes.items after.volumes.items → AreVolumesOf (without_name s dsn) after
-all-released s dsn held running after lawful are groups at zip =
-    each-follows s (without_name s dsn) running after (λ (x y : ActiveVolume). HasExtents (without_owner dsn held x) x y) (alike-without s dsn) are groups zip (λ x y has. has.volume)
-    (λ x y has is. volume-follows s (without_name s dsn) running.groups.items (without_owner dsn held x) x y (alike-without s dsn) has is (ledger-released dsn s.sets held x y (lawful.names dsn) is.ledger at has))
-
--- a data set keeps the front of its tracks
-pub all-cut : (s : DeskState) (set : DataSet) (held : List Extent) (keep : ℕ) (running after : ActiveVolumes) → IsLawful s → AreVolumesOf s running → after.groups.items ≡ running.groups.items → held ≡ extents_named set.dsn s.sets
-    → AreSome held → set.extents ≡ front_tracks keep held
-    → AllZip (λ (x y : ActiveVolume). HasExtents (cut_to set.dsn held (front_tracks keep held) x) x y) running.volumes.items after.volumes.items → AreVolumesOf (with_set s set) after
-all-cut s set held keep running after lawful are groups at some cut zip =
-    each-follows s (with_set s set) running after (λ (x y : ActiveVolume). HasExtents (cut_to set.dsn held (front_tracks keep held) x) x y) (alike-with s set) are groups zip (λ x y has. has.volume)
-    (λ x y has is. volume-follows s (with_set s set) running.groups.items (cut_to set.dsn held (front_tracks keep held) x) x y (alike-with s set) has is
-    (ledger-cut set s.sets held keep x y (lawful.names set.dsn) is.ledger at some cut has))
-
-same-each : (s : DeskState) (set : DataSet) (groups : List ActiveGroup) (volumes : List ActiveVolume) → IsLawful s → set.extents ≡ extents_named set.dsn s.sets → AllByRecursion (IsVolumeOf s groups) volumes
-    → AllByRecursion (IsVolumeOf (with_set s set) groups) volumes
-same-each s set groups [] lawful at all = tt
-same-each s set groups (v ∷ volumes) lawful at all =
-    (same-follows s (with_set s set) groups v (alike-with s set) all.0 (ledger-same set s.sets v (lawful.names set.dsn) all.0.ledger at), same-each s set groups volumes lawful at all.1)
-
--- a data set that lies as before
-pub all-same : (s : DeskState) (set : DataSet) (running : ActiveVolumes) → IsLawful s → AreVolumesOf s running → set.extents ≡ extents_named set.dsn s.sets → AreVolumesOf (with_set s set) running
-all-same s set running lawful are at = record {
-  groups_are = are.groups_are;
-  volumes_are = are.volumes_are;
-  each_group = groups-stay s (with_set s set) running.groups.items (alike-with s set) are.each_group;
-  each_volume = same-each s set running.groups.items running.volumes.items lawful at are.each_volume;
-}
-
--- a data set gets pieces of one volume
-pub all-installed : (s : DeskState) (set : DataSet) (running after : ActiveVolumes) (place : ℕ) (v w : ActiveVolume) (pieces : List Piece) → IsLawful s → AreVolumesOf s running
-    → slice_get running.volumes.items place ≡ Some v → after.groups.items ≡ running.groups.items → after.volumes.items ≡ slice_set running.volumes.items place w
-    → HasExtents (v.ledger.extents ++ granted_to set.dsn pieces) v w → set.extents ≡ extents_named set.dsn s.sets ++ extents_at v.volume.volser pieces → AreVolumesOf (with_set s set) after
-all-installed s set running after place v w pieces lawful are there groups volumes has at =
-    let once : times_volume v.volume.volser (map (λ (x : ActiveVolume). x.volume) running.volumes.items) ≤ 1 =
-    subst (λ (l : List VolumeDef). times_volume v.volume.volser l ≤ 1) (sym are.volumes_are) (active-volume-once s.active v.volume.volser lawful.config) in
-    let own = each-at (IsVolumeOf s running.groups.items) running.volumes.items place v are.each_volume there in
-    let Q : ActiveVolume → Type 0 = IsVolumeOf (with_set s set) running.groups.items in
-    let each = each-replaced v.volume.volser (IsVolumeOf s running.groups.items) Q running.volumes.items place v w there (bytes-self v.volume.volser) once are.each_volume
-    (λ x is off. same-follows s (with_set s set) running.groups.items x (alike-with s set) is (ledger-beside set s.sets v.volume.volser x pieces (lawful.names set.dsn) is.ledger off at))
-    (volume-follows s (with_set s set) running.groups.items (v.ledger.extents ++ granted_to set.dsn pieces) v w (alike-with s set) has own (ledger-installed set s.sets v w pieces (lawful.names set.dsn) own.ledger has at)) in
-    record {
-      groups_are = ap (map (λ (g : ActiveGroup). g.group)) groups ∙ are.groups_are;
-      volumes_are = ap (map (λ (x : ActiveVolume). x.volume)) volumes ∙ (map-replaced running.volumes.items place v w there has.volume ∙ are.volumes_are);
-      each_group = subst (AllByRecursion (IsGroupOf (with_set s set))) (sym groups) (groups-stay s (with_set s set) running.groups.items (alike-with s set) are.each_group);
-      each_volume = subst (λ (l : List ActiveGroup). AllByRecursion (IsVolumeOf (with_set s set) l) after.volumes.items) (sym groups) (subst (AllByRecursion Q) (sym volumes) each);
-    }
-
--- what stands at a place
-pub same-at : (volumes : List ActiveVolume) (place : ℕ) (volume x : ActiveVolume) → slice_get volumes place ≡ Some volume → x ≡ get_or volumes place x → x ≡ volume
-same-at volumes place volume x there read = read ∙ get_or_from_slice_get volumes place volume x there
-
--- a data set of the owner's name gets pieces of the volume at a place
-pub installed-at : (s : DeskState) (set : DataSet) (owner : List ℕ) (running after : ActiveVolumes) (place : ℕ) (v w x : ActiveVolume) (pieces : List Piece) → IsLawful s → AreVolumesOf s running
-    → slice_get running.volumes.items place ≡ Some v → x ≡ v → after.groups.items ≡ running.groups.items → after.volumes.items ≡ slice_set running.volumes.items place w
-    → HasExtents (x.ledger.extents ++ granted_to owner pieces) x w → set.dsn ≡ owner → set.extents ≡ extents_named owner s.sets ++ extents_at v.volume.volser pieces → AreVolumesOf (with_set s set) after
-installed-at s set owner running after place v w x pieces lawful are there same groups volumes has name at =
-    let ours : HasExtents (v.ledger.extents ++ granted_to owner pieces) v w = subst (λ (y : ActiveVolume). HasExtents (y.ledger.extents ++ granted_to owner pieces) y w) same has in
-    all-installed s set running after place v w pieces lawful are there groups volumes (subst (λ n. HasExtents (v.ledger.extents ++ granted_to n pieces) v w) (sym name) ours)
-    (subst (λ n. set.extents ≡ extents_named n s.sets ++ extents_at v.volume.volser pieces) (sym name) at)
-
--- the volume at a place has only more room
-pub roomier-at : (s : DeskState) (running after : ActiveVolumes) (place : ℕ) (v w : ActiveVolume) → AreVolumesOf s running → slice_get running.volumes.items place ≡ Some v → after.groups.items ≡ running.groups.items
-    → after.volumes.items ≡ slice_set running.volumes.items place w → HasExtents v.ledger.extents v w → AreVolumesOf s after
-roomier-at s running after place v w are there groups volumes has = record {
-  groups_are = ap (map (λ (g : ActiveGroup). g.group)) groups ∙ are.groups_are;
-  volumes_are = ap (map (λ (x : ActiveVolume). x.volume)) volumes ∙ (map-replaced running.volumes.items place v w there has.volume ∙ are.volumes_are);
-  each_group = subst (AllByRecursion (IsGroupOf s)) (sym groups) are.each_group;
-  each_volume = subst (λ (l : List ActiveGroup). AllByRecursion (IsVolumeOf s l) after.volumes.items) (sym groups)
-      (subst (AllByRecursion (IsVolumeOf s running.groups.items)) (sym volumes) (each-set (IsVolumeOf s running.groups.items) running.volumes.items place w are.each_volume
-      (let own = each-at (IsVolumeOf s running.groups.items) running.volumes.items place v are.each_volume there in
-      volume-follows s s running.groups.items v.ledger.extents v w (record { active = refl; statuses = refl }) has own (ledger-roomier s.sets v w own.ledger has))));
-}
-
--- a data set of the owner's name keeps the front of its tracks
-pub cut-at : (s : DeskState) (set : DataSet) (owner : List ℕ) (held kept : List Extent) (keep : ℕ) (running after : ActiveVolumes) → IsLawful s → AreVolumesOf s running → after.groups.items ≡ running.groups.items
-    → held ≡ extents_named owner s.sets → AreSome held → kept ≡ front_tracks keep held → set.dsn ≡ owner → set.extents ≡ kept
-    → AllZip (λ (x y : ActiveVolume). HasExtents (cut_to owner held kept x) x y) running.volumes.items after.volumes.items → AreVolumesOf (with_set s set) after
-cut-at s set owner held kept keep running after lawful are groups at some cut name is zip =
-    let mine : AllZip (λ (x y : ActiveVolume). HasExtents (cut_to set.dsn held kept x) x y) running.volumes.items after.volumes.items =
-    subst (λ n. AllZip (λ (x y : ActiveVolume). HasExtents (cut_to n held kept x) x y) running.volumes.items after.volumes.items) (sym name) zip in
-    all-cut s set held keep running after lawful are groups (at ∙ ap (λ n. extents_named n s.sets) (sym name)) some (is ∙ cut)
-    (subst (λ (l : List Extent). AllZip (λ (x y : ActiveVolume). HasExtents (cut_to set.dsn held l x) x y) running.volumes.items after.volumes.items) cut mine)
-
--- what the volume at a place grants
-pub planned-at : (s : DeskState) (running : ActiveVolumes) (place : ℕ) (v x : ActiveVolume) (need : Need) (found : Option (List Piece)) → AreVolumesOf s running → slice_get running.volumes.items place ≡ Some v → x ≡ v
-    → found ≡ granted_for x.ledger need → found ≡ grant_on s v.volume need.unit need.tracks need.held
-planned-at s running place v x need found are there same plan =
-    let own = each-at (IsVolumeOf s running.groups.items) running.volumes.items place v are.each_volume there in
-    plan ∙ (ap (λ (y : ActiveVolume). granted_for y.ledger need) same ∙ grant-is s v.volume v.ledger need own.ledger)
-
-pub set-there : {X : Type 0} (xs : List X) (place : ℕ) (x : X) → place < length xs → slice_get (slice_set xs place x) place ≡ Some x
-set-there [] place x lt = absurd (omega (arith, lt))
-set-there (y ∷ xs) zero x lt = refl
-set-there (y ∷ xs) (suc place) x lt = set-there xs place x (omega (arith, lt))
+-- What stands at a place.
 
 pub there-is : {X : Type 0} (xs : List X) (place : ℕ) (x : X) → place < length xs → x ≡ get_or xs place x → slice_get xs place ≡ Some x
 there-is xs place x lt read = slice_get-get_or xs place x lt ∙ ap Some (sym read)
 
-pub planned-rule : (running : ActiveVolumes) (place : ℕ) (x : ActiveVolume) (need : Need) (result : Result (Option (List Piece)) AllocError) → x ≡ get_or running.volumes.items place x
-    → IfOk result (λ found. found ≡ granted_for x.ledger need)
-    → IfOk result (λ found. (s : DeskState) (volume : ActiveVolume) → AreVolumesOf s running → slice_get running.volumes.items place ≡ Some volume → found ≡ grant_on s volume.volume need.unit need.tracks need.held)
-planned-rule running place x need (Ok found) read plan = λ s volume are there. planned-at s running place volume x need found are there (same-at running.volumes.items place volume x there read) plan
-planned-rule running place x need (Err error) read plan = tt
+pub same-at : {X : Type 0} (xs : List X) (place : ℕ) (v x : X) → slice_get xs place ≡ Some v → x ≡ get_or xs place x → x ≡ v
+same-at xs place v x there read = read ∙ get_or_from_slice_get xs place v x there
 
-ready-if : (after : ActiveVolumes) (place : ℕ) (w : ActiveVolume) (found : Option (List Piece)) → slice_get after.volumes.items place ≡ Some w → IfSome found (IsReady w) → IfSome found (IsReadyAt after place)
-ready-if after place w None there ready = tt
-ready-if after place w (Some pieces) there ready = record { volume = w; at = there; ready = ready }
+-- a list that is another
+pub there-in : {X : Type 0} (xs ys : List X) (place : ℕ) (x : X) → ys ≡ xs → place < length ys → x ≡ get_or ys place x → slice_get xs place ≡ Some x
+there-in xs ys place x same lt read = subst (λ (l : List _). slice_get l place ≡ Some x) same (there-is ys place x lt read)
 
-pub planned-ready : (running after : ActiveVolumes) (place : ℕ) (w : ActiveVolume) (result : Result (Option (List Piece)) AllocError) → place < length running.volumes.items
-    → after.volumes.items ≡ slice_set running.volumes.items place w → IfOk result (λ found. IfSome found (IsReady w)) → IfOk result (λ found. IfSome found (IsReadyAt after place))
-planned-ready running after place w (Ok found) lt volumes ready =
-    ready-if after place w found (ap (λ (l : List ActiveVolume). slice_get l place) volumes ∙ set-there running.volumes.items place w lt) ready
-planned-ready running after place w (Err error) lt volumes ready = tt
+set-there : {X : Type 0} (xs : List X) (place : ℕ) (x : X) → place < length xs → slice_get (slice_set xs place x) place ≡ Some x
+set-there [] place x lt = absurd (omega (arith, lt))
+set-there (y ∷ xs) zero x lt = refl
+set-there (y ∷ xs) (suc place) x lt = set-there xs place x (omega (arith, lt))
 
-pub planned-named : (running after : ActiveVolumes) (place : ℕ) (x w : ActiveVolume) → place < length running.volumes.items → x ≡ get_or running.volumes.items place x
-    → after.volumes.items ≡ slice_set running.volumes.items place w → w.volume ≡ x.volume → running_at place after ≡ running_at place running
-planned-named running after place x w lt read volumes same =
-    ap (λ (l : List ActiveVolume). option_map (λ (v : ActiveVolume). v.volume) (slice_get l place)) volumes
-    ∙ (ap (option_map (λ (v : ActiveVolume). v.volume)) (set-there running.volumes.items place w lt)
-    ∙ (ap Some same ∙ sym (ap (option_map (λ (v : ActiveVolume). v.volume)) (there-is running.volumes.items place x lt read))))
+-- the definition at the place stays
+pub named-at : (volumes : List ActiveVolume) (place : ℕ) (x w : ActiveVolume) → place < length volumes → x ≡ get_or volumes place x → w.volume ≡ x.volume
+    → option_map (λ (v : ActiveVolume). v.volume) (slice_get (slice_set volumes place w) place) ≡ option_map (λ (v : ActiveVolume). v.volume) (slice_get volumes place)
+named-at volumes place x w lt read same =
+    ap (option_map (λ (v : ActiveVolume). v.volume)) (set-there volumes place w lt)
+    ∙ (ap Some same ∙ sym (ap (option_map (λ (v : ActiveVolume). v.volume)) (there-is volumes place x lt read)))
+
+-- Serials of a lawful state.
+
+pub apart-is : (s : DeskState) (running : ActiveVolumes) → IsLawful s → AreVolumesOf s running → AreApart running.volumes.items
+apart-is s running lawful are = λ n. subst (λ (l : List VolumeDef). times_volume n l ≤ 1) (sym are.volumes_are) (active-volume-once s.active n lawful.config)
+
+pub some-apart : (running : ActiveVolumes) (extents : List Extent) → LiesOnSome running extents → AreApart running.volumes.items
+some-apart running extents lies = apart-is lies.state running lies.lawful lies.stand
+
+-- What the change of a data set is to the ledgers.
+
+put-becomes : (s : DeskState) (set : DataSet) → IsLawful s → Becomes s (with_set s set) (extents_named set.dsn s.sets) set.extents
+put-becomes s set lawful = record {
+  same = record { active = refl; statuses = refl };
+  others = held_on (without_name s set.dsn);
+  into = λ v l is. ledger-split s set.dsn v [] l lawful is;
+  from = λ v l is. ledger-joined s set v l is;
+}
+
+drop-becomes : (s : DeskState) (dsn : List ℕ) → IsLawful s → Becomes s (without_name s dsn) (extents_named dsn s.sets) []
+drop-becomes s dsn lawful = record {
+  same = record { active = refl; statuses = refl };
+  others = held_on (without_name s dsn);
+  into = λ v l is. ledger-split s dsn v [] l lawful is;
+  from = λ v l is. is;
+}
+
+grow-becomes : (s : DeskState) (set : DataSet) (added : List Extent) → IsLawful s → set.extents ≡ extents_named set.dsn s.sets ++ added → Becomes s (with_set s set) [] added
+grow-becomes s set added lawful at = record {
+  same = record { active = refl; statuses = refl };
+  others = held_on s;
+  into = λ v l is. is;
+  from = λ v l is.
+      let new = pieces_on v added in
+      let own = pieces_on v (extents_named set.dsn s.sets) in
+      let rest = held_on (without_name s set.dsn) v in
+      let all : pieces_on v set.extents ++ rest ≡ own ++ (new ++ rest) =
+      ap (λ (l : List Piece). l ++ rest) (ap (pieces_on v) at ∙ pieces-append v (extents_named set.dsn s.sets) added) ∙ append_assoc own new rest in
+      ledger-joined s set v l (subst (λ (x : List Piece). IsLedgerOf x l) (sym all) (ledger-swap new own rest l (ledger-split s set.dsn v new l lawful is)));
+}
+
+-- a data set that lies as before
+pub all-same : (s : DeskState) (set : DataSet) (running : ActiveVolumes) → IsLawful s → AreVolumesOf s running → set.extents ≡ extents_named set.dsn s.sets → AreVolumesOf (with_set s set) running
+all-same s set running lawful are at =
+    let es = extents_named set.dsn s.sets in
+    follow s (with_set s set) es es running running (subst (Becomes s (with_set s set) es) at (put-becomes s set lawful)) are refl (zip-stays (HasChanged es es) running.volumes.items (changed-none es))
+
+-- a data set is dropped
+pub all-released : (s : DeskState) (dsn : List ℕ) (extents : List Extent) (running after : ActiveVolumes) → IsLawful s → AreVolumesOf s running → extents ≡ extents_named dsn s.sets
+    → after.groups.items ≡ running.groups.items → AllZip (HasChanged extents []) running.volumes.items after.volumes.items → AreVolumesOf (without_name s dsn) after
+all-released s dsn extents running after lawful are at groups zip =
+    follow s (without_name s dsn) extents [] running after (subst (λ (es : List Extent). Becomes s (without_name s dsn) es []) (sym at) (drop-becomes s dsn lawful)) are groups zip
+
+-- a data set keeps some of its extents
+pub all-kept : (s : DeskState) (set : DataSet) (extents kept : List Extent) (running after : ActiveVolumes) → IsLawful s → AreVolumesOf s running → extents ≡ extents_named set.dsn s.sets → set.extents ≡ kept
+    → after.groups.items ≡ running.groups.items → AllZip (HasChanged extents kept) running.volumes.items after.volumes.items → AreVolumesOf (with_set s set) after
+all-kept s set extents kept running after lawful are at is groups zip =
+    follow s (with_set s set) extents kept running after
+    (subst (λ (es : List Extent). Becomes s (with_set s set) es kept) (sym at) (subst (Becomes s (with_set s set) (extents_named set.dsn s.sets)) is (put-becomes s set lawful))) are groups zip
+
+-- each volume holds what lies of the extents on it
+pub some-hold : (running : ActiveVolumes) (extents : List Extent) → LiesOnSome running extents → AllByRecursion (HoldsAll extents) running.volumes.items
+some-hold running extents lies =
+    let s = lies.state in
+    let stand = lies.stand in
+    subst (λ (es : List Extent). AllByRecursion (HoldsAll es) running.volumes.items) (sym lies.extents_are)
+    (each-holds s running.groups.items (extents_named lies.dsn s.sets) running.volumes.items (held_on (without_name s lies.dsn)) (λ v l is. ledger-split s lies.dsn v [] l lies.lawful is) stand.each_volume)
+
+-- Pieces of one volume come.
+
+installed-off : (w : List ℕ) (pieces : List Piece) (x : ActiveVolume) → bytes_eq x.volume.volser w ≡ false → HasChanged [] (extents_at w pieces) x x
+installed-off w pieces x off =
+    let none : pieces_on x.volume.volser (extents_at w pieces) ≡ [] = pieces-off w x.volume.volser pieces (bytes-turned x.volume.volser w off) in
+    record { volume = refl; status = refl; group = refl; capacity = refl; ledger = λ rest is. subst (λ (l : List Piece). IsLedgerOf (l ++ rest) x.ledger) (sym none) is }
+
+installed-at : (v : ActiveVolume) (after : LedgerView) (pieces : List Piece) → after.capacity ≡ v.ledger.capacity → ((held : List Piece) → IsLedgerOf held v.ledger → IsLedgerOf (held ++ pieces) after)
+    → HasChanged [] (extents_at v.volume.volser pieces) v (record v { ledger = after })
+installed-at v after pieces capacity held =
+    let w = v.volume.volser in
+    let there : pieces_on w (extents_at w pieces) ≡ pieces = pieces-at w w pieces (bytes-self w) in
+    record {
+      volume = refl;
+      status = refl;
+      group = refl;
+      capacity = capacity;
+      ledger = λ rest is. subst (λ (l : List Piece). IsLedgerOf (l ++ rest) after) (sym there) (ledger-turn rest pieces after (held rest is));
+    }
+
+pub all-installed : (s : DeskState) (set : DataSet) (running after : ActiveVolumes) (place : ℕ) (v x : ActiveVolume) (ledger : LedgerView) (pieces : List Piece) → IsLawful s → AreVolumesOf s running
+    → slice_get running.volumes.items place ≡ Some v → x ≡ get_or running.volumes.items place x → ledger.capacity ≡ x.ledger.capacity
+    → ((held : List Piece) → IsLedgerOf held x.ledger → IsLedgerOf (held ++ pieces) ledger) → set.extents ≡ extents_named set.dsn s.sets ++ extents_at v.volume.volser pieces
+    → after.groups.items ≡ running.groups.items → after.volumes.items ≡ slice_set running.volumes.items place (record x { ledger = ledger }) → AreVolumesOf (with_set s set) after
+all-installed s set running after place v x ledger pieces lawful are there read capacity held at groups volumes =
+    let w = v.volume.volser in
+    let same : x ≡ v = same-at running.volumes.items place v x there read in
+    let on : bytes_eq x.volume.volser w ≡ true = ap (λ (y : ActiveVolume). bytes_eq y.volume.volser w) same ∙ bytes-self w in
+    let here : HasChanged [] (extents_at w pieces) x (record x { ledger = ledger }) =
+    subst (λ (n : List ℕ). HasChanged [] (extents_at n pieces) x (record x { ledger = ledger })) (ap (λ (y : ActiveVolume). y.volume.volser) same) (installed-at x ledger pieces capacity held) in
+    follow s (with_set s set) [] (extents_at w pieces) running after (grow-becomes s set (extents_at w pieces) lawful at) are groups
+    (subst (AllZip (HasChanged [] (extents_at w pieces)) running.volumes.items) (sym volumes)
+    (zip-replaced w (HasChanged [] (extents_at w pieces)) running.volumes.items place x (record x { ledger = ledger }) (there ∙ ap Some (sym same)) on (apart-is s running lawful are w) here
+    (λ y off. installed-off w pieces y off)))
+
+-- Room is made.
+
+roomier : (v : ActiveVolume) (after : LedgerView) → after.capacity ≡ v.ledger.capacity → after.gaps ≡ v.ledger.gaps → after.extents ≡ v.ledger.extents → HasChanged [] [] v (record v { ledger = after })
+roomier v after capacity gaps extents = record {
+  volume = refl;
+  status = refl;
+  group = refl;
+  capacity = capacity;
+  ledger = λ rest is. record {
+    inside = subst (λ (n : ℕ). All (LiesInside n) rest) (sym capacity) is.inside;
+    once = is.once;
+    gaps = gaps ∙ (is.gaps ∙ ap (λ (n : ℕ). gaps_of n rest) (sym capacity));
+    extents = extents ∙ is.extents;
+  };
+}
+
+stay-becomes : (s : DeskState) → Becomes s s [] []
+stay-becomes s = record { same = record { active = refl; statuses = refl }; others = held_on s; into = λ v l is. is; from = λ v l is. is }
+
+pub all-roomier : (s : DeskState) (running after : ActiveVolumes) (place : ℕ) (x : ActiveVolume) (ledger : LedgerView) → AreVolumesOf s running → place < length running.volumes.items
+    → x ≡ get_or running.volumes.items place x → ledger.capacity ≡ x.ledger.capacity → ledger.gaps ≡ x.ledger.gaps → ledger.extents ≡ x.ledger.extents → after.groups.items ≡ running.groups.items
+    → after.volumes.items ≡ slice_set running.volumes.items place (record x { ledger = ledger }) → AreVolumesOf s after
+all-roomier s running after place x ledger are lt read capacity gaps extents groups volumes =
+    follow s s [] [] running after (stay-becomes s) are groups
+    (subst (AllZip (HasChanged [] []) running.volumes.items) (sym volumes)
+    (zip-set (HasChanged [] []) running.volumes.items place x (record x { ledger = ledger }) (there-is running.volumes.items place x lt read) (roomier x ledger capacity gaps extents) (changed-none [])))
+
+-- what is free there fits then
+pub ready-at : (running after : ActiveVolumes) (place : ℕ) (x : ActiveVolume) (ledger : LedgerView) (pieces : List Piece) → place < length running.volumes.items → x ≡ get_or running.volumes.items place x
+    → ledger.capacity ≡ x.ledger.capacity → ledger.gaps ≡ x.ledger.gaps → length pieces ≤ ledger.spare → IsFreeAt running place pieces
+    → after.volumes.items ≡ slice_set running.volumes.items place (record x { ledger = ledger }) → IsReadyAt after place pieces
+ready-at running after place x ledger pieces lt read capacity gaps room free volumes =
+    let own = free.free in
+    let same : x ≡ free.volume = same-at running.volumes.items place free.volume x free.at read in
+    let here : IsFree x pieces = subst (λ (y : ActiveVolume). IsFree y pieces) (sym same) own in
+    record {
+      volume = record x { ledger = ledger };
+      at = ap (λ (l : List ActiveVolume). slice_get l place) volumes ∙ set-there running.volumes.items place (record x { ledger = ledger }) lt;
+      ready = record {
+        room = room;
+        free = record {
+          inside = subst (λ (n : ℕ). All (LiesInside n) pieces) (sym capacity) here.inside;
+          free = subst (λ (l : List Piece). LieInGaps l pieces) (sym gaps) here.free;
+        };
+      };
+    }
+
+pub ready-if : (result : Result (Unit {0}) AllocError) (running after : ActiveVolumes) (place : ℕ) (x : ActiveVolume) (ledger : LedgerView) → place < length running.volumes.items → x ≡ get_or running.volumes.items place x
+    → ledger.capacity ≡ x.ledger.capacity → ledger.gaps ≡ x.ledger.gaps → OnOk result (5 ≤ ledger.spare) → after.volumes.items ≡ slice_set running.volumes.items place (record x { ledger = ledger })
+    → OnOk result ((pieces : List Piece) → length pieces ≤ most_pieces → IsFreeAt running place pieces → IsReadyAt after place pieces)
+ready-if (Ok done) running after place x ledger lt read capacity gaps room volumes = λ pieces few free. ready-at running after place x ledger pieces lt read capacity gaps (omega (arith, few, room)) free volumes
+ready-if (Err error) running after place x ledger lt read capacity gaps room volumes = tt
+
+-- What is granted is free.
+
+pub free-if : {G : Type 0} (items : G → List Piece) (running : ActiveVolumes) (place : ℕ) (v : ActiveVolume) (o : Option G) → slice_get running.volumes.items place ≡ Some v
+    → IfSome o (λ g. All (LiesInside v.ledger.capacity) (items g)) → IfSome o (λ g. LieInGaps v.ledger.gaps (items g)) → IfSome o (λ g. IsFreeAt running place (items g))
+free-if items running place v None at inside free = tt
+free-if items running place v (Some g) at inside free = record { volume = v; at = at; free = record { inside = inside; free = free } }

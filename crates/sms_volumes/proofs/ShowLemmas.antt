@@ -1,5 +1,5 @@
 -- What is shown is what the state has.
-use Rattle.std.proofs.Common.{◌≡◌, ◌<◌, ℕ, zero, suc, ◌+◌, ◌-◌, Bool, true, false, cond, List, [], ◌∷◌, ◌++◌, length, map, get_or, take, refl, sym, ap, ◌∙◌, arith}
+use Rattle.std.proofs.Common.{◌≡◌, ◌<◌, ℕ, zero, suc, ◌+◌, Bool, true, false, cond, List, [], ◌∷◌, ◌++◌, length, map, get_or, take, refl, sym, ap, ◌∙◌, arith}
 use Rattle.std.specs.Prelude.{Option, None, Some, MatchOption, is_some, nat_eq, not, bytes_eq, filter, find, option_map, slice_get, sum_by}
 use Rattle.std.specs.Borrow.{Bor}
 use Rattle.std.specs.Option.{option_copied}
@@ -9,8 +9,7 @@ use Rattle.std.proofs.lemmas.List.{take_more}
 use Rattle.std.proofs.lemmas.List.Sums.{sum_by-cons, sum_by-append}
 use Rattle.sms_construct.specs.declared.storage_group.StorGroup.{StorGroup}
 use Rattle.sms_construct.specs.declared.volume.VolumeDef.{VolumeDef}
-use Rattle.track_ledger.specs.declared.piece.Piece.{Piece}
-use Rattle.track_ledger.specs.Extents.{pieces_of, tracks_held}
+use Rattle.track_ledger.specs.Extents.{tracks_held}
 use Rattle.desk_law.specs.State.{DeskState}
 use Rattle.desk_law.specs.Display.{shown_volume, view_of_group}
 use Rattle.desk_law.specs.Extents.{held_on}
@@ -22,25 +21,19 @@ use Rattle.sms_volumes.specs.Viewing.{running_named}
 use Rattle.sms_volumes.specs.declared.active_group.ActiveGroup.{ActiveGroup}
 use Rattle.sms_volumes.specs.declared.active_volume.ActiveVolume.{ActiveVolume}
 use Rattle.sms_volumes.specs.declared.active_volumes.ActiveVolumes.{ActiveVolumes}
-use Rattle.sms_volumes.proofs.CountingLemmas.{length-is, pieces-length}
-use Rattle.sms_volumes.proofs.ViewLemmas.{granted-is}
+use Rattle.sms_volumes.proofs.HeldLemmas.{ledger-sum}
 
 -- One volume.
 
 pub free-is : (s : DeskState) (groups : List ActiveGroup) (v : ActiveVolume) → IsVolumeOf s groups v → running_free v ≡ free_on s v.volume
 free-is s groups v is =
-    let granted = granted-is s v.volume v.ledger is.ledger in
-    ap (λ n. n - tracks_held v.ledger.extents) is.ledger.capacity ∙ ap (λ n. v.volume.tracks - n) granted
-
-pub extents-are : (s : DeskState) (groups : List ActiveGroup) (v : ActiveVolume) → IsVolumeOf s groups v → length v.ledger.extents ≡ length (held_on s v.volume.volser)
-extents-are s groups v is =
-    sym (pieces-length v.ledger.extents) ∙ (length-is (pieces_of v.ledger.extents) ∙ (is.ledger.counts (λ (p : Piece). 1) ∙ sym (length-is (held_on s v.volume.volser))))
+    let sum : tracks_held v.ledger.gaps + tracks_held (held_on s v.volume.volser) ≡ v.volume.tracks = ledger-sum (held_on s v.volume.volser) v.ledger is.ledger ∙ is.capacity in
+    omega (arith, sum)
 
 pub row-is : (s : DeskState) (groups : List ActiveGroup) (v : ActiveVolume) → IsVolumeOf s groups v → running_row v ≡ shown_volume s v.volume
 row-is s groups v is =
     let free = free-is s groups v is in
-    let extents = extents-are s groups v is in
-    rw (is.status, free, extents) refl
+    rw (is.status, free, is.ledger.extents) refl
 
 rows-of : (s : DeskState) (groups : List ActiveGroup) (volumes : List ActiveVolume) → AllByRecursion (IsVolumeOf s groups) volumes
     → map running_row volumes ≡ map (shown_volume s) (map (λ (v : ActiveVolume). v.volume) volumes)

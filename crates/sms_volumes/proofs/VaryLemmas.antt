@@ -155,6 +155,7 @@ pub volume-under : (s : DeskState) (target : Target) (status : Status) (f : Acti
 volume-under s target status f groups v apart same is = record {
   status = is.status ∙ sym (varied-other target (Volume v.volume.volser) status NotCon s.statuses apart);
   group = stands-mapped s (with_status s target status) f groups v.group v.volume.group refl same is.group;
+  capacity = is.capacity;
   ledger = is.ledger;
 }
 
@@ -209,6 +210,7 @@ volume-varied s volser status groups v true is lawful ours there =
     record {
       status = rw is (sym (subst (λ n. status_in (map (row_with (Volume n) status) s.statuses) (Volume v.volume.volser) NotCon ≡ status) same (varied-same (Volume v.volume.volser) status NotCon s.statuses rows)));
       group = record { group = at.group; there = at.there; named = at.named };
+      capacity = ours.capacity;
       ledger = ours.ledger;
     }
 volume-varied s volser status groups v false is lawful ours there =
@@ -216,6 +218,7 @@ volume-varied s volser status groups v false is lawful ours there =
     record {
       status = rw is (ours.status ∙ sym (varied-other (Volume volser) (Volume v.volume.volser) status NotCon s.statuses (volumes-apart volser v.volume.volser is)));
       group = record { group = at.group; there = at.there; named = at.named };
+      capacity = ours.capacity;
       ledger = ours.ledger;
     }
 

@@ -1,47 +1,32 @@
--- The running volumes show what the state shows.
-use Rattle.std.proofs.Common.{◌≡◌, ◌≤◌, ◌<◌, ℕ, zero, suc, ◌+◌, Bool, true, false, cond, List, [], ◌∷◌, length, map, get_or, refl, sym, ap, ◌∙◌, subst, arith}
-use Rattle.std.specs.Prelude.{Option, None, Some, MatchOption, bytes_eq, drop, find, filter, is_some, option_map, slice_get}
-use Rattle.std.specs.List.{AllByRecursion, filter_map}
-use Rattle.std.proofs.lemmas.Option.{get_or_from_slice_get}
+-- What a running volume is to the law.
+use Rattle.std.proofs.Common.{◌≡◌, ◌≤◌, ◌<◌, ℕ, zero, suc, ◌+◌, ◌-◌, Bool, true, false, List, [], ◌∷◌, length, get_or, drop, refl, sym, ap, ◌∙◌, subst, arith}
+use Rattle.std.specs.Prelude.{Option, None, Some, IfSome, bytes_eq, find, slice_get}
+use Rattle.std.specs.List.{AllByRecursion}
+use Rattle.sms_construct.specs.Configuration.{Configuration, IsConfiguration}
+use Rattle.sms_construct.specs.Quantities.{most_breakpoint}
 use Rattle.sms_construct.specs.declared.storage_group.StorGroup.{StorGroup}
-use Rattle.sms_construct.specs.declared.volume.VolumeDef.{VolumeDef}
 use Rattle.track_ledger.specs.declared.need.Need.{Need}
 use Rattle.track_ledger.specs.declared.piece.Piece.{Piece}
-use Rattle.track_ledger.specs.Extents.{pieces_of, tracks_held}
-use Rattle.track_ledger.specs.Gaps.{times_held}
-use Rattle.track_ledger.specs.Ledger.{LedgerView}
-use Rattle.track_ledger.specs.Need.{granted_for}
-use Rattle.track_ledger.proofs.AlikeLemmas.{granted-alike}
-use Rattle.volume_lists.specs.Choice.{AllRejected, MayChoose}
-use Rattle.volume_lists.specs.declared.view.VolView.{VolView}
-use Rattle.volume_lists.specs.declared.view.Want.{Want}
+use Rattle.track_ledger.specs.Extents.{tracks_held}
+use Rattle.track_ledger.specs.Ledger.{IsLedgerOf}
+use Rattle.track_ledger.specs.Need.{IsNeed, grant_beside}
 use Rattle.desk_law.specs.State.{DeskState}
-use Rattle.desk_law.specs.Candidates.{grant_on, high_of, is_overflow, view_of}
+use Rattle.desk_law.specs.Candidates.{breakpoint_of, grant_on, high_of, is_overflow, need_on, tier_among, view_of}
 use Rattle.desk_law.specs.Extents.{granted_on, held_on}
 use Rattle.desk_law.specs.Lawful.{IsLawful}
 use Rattle.desk_law.specs.Statuses.{group_status}
-use Rattle.desk_law.specs.Volumes.{group_named, groups_in, times_volume, volumes_in, volumes_of_group}
-use Rattle.desk_law.proofs.AscendLemmas.{active-volume-once}
-use Rattle.desk_law.proofs.ByteLemmas.{bytes-self, bytes-turned, same-bytes}
-use Rattle.desk_law.proofs.PlaceLemmas.{each-at, each-both, filter-each}
-use Rattle.sms_volumes.specs.Holding.{AreVolumesOf, IsGroupOf, IsLedgerOf, IsVolumeOf}
-use Rattle.sms_volumes.specs.Viewing.{IsPick, candidates_in, is_candidate, running_named, running_view, running_views, view_if}
+use Rattle.desk_law.specs.Volumes.{group_named, groups_in, volumes_of_group}
+use Rattle.desk_law.proofs.ByteLemmas.{same-bytes}
+use Rattle.desk_law.proofs.PlaceLemmas.{each-at, find-each}
+use Rattle.sms_volumes.specs.Asking.{IsAsked, ask_of, need_in}
+use Rattle.sms_volumes.specs.Holding.{AreVolumesOf, IsGroupOf, IsVolumeOf}
+use Rattle.sms_volumes.specs.Leading.{view_in}
+use Rattle.sms_volumes.specs.Viewing.{running_named}
 use Rattle.sms_volumes.specs.declared.active_group.ActiveGroup.{ActiveGroup}
 use Rattle.sms_volumes.specs.declared.active_volume.ActiveVolume.{ActiveVolume}
 use Rattle.sms_volumes.specs.declared.active_volumes.ActiveVolumes.{ActiveVolumes}
-use Rattle.sms_volumes.specs.declared.candidates.Candidates.{Candidates}
-use Rattle.sms_volumes.proofs.CountingLemmas.{once_of, times-is, tracks-are}
-
--- What a ledger tells.
-
-pub held-alike : (s : DeskState) (volume : VolumeDef) (ledger : LedgerView) (t : ℕ) → IsLedgerOf s.sets volume ledger → times_held (pieces_of ledger.extents) t ≡ times_held (held_on s volume.volser) t
-held-alike s volume ledger t is = times-is (pieces_of ledger.extents) t ∙ (is.counts (once_of t) ∙ sym (times-is (held_on s volume.volser) t))
-
-pub granted-is : (s : DeskState) (volume : VolumeDef) (ledger : LedgerView) → IsLedgerOf s.sets volume ledger → tracks_held ledger.extents ≡ granted_on s volume.volser
-granted-is s volume ledger is = tracks-are ledger.extents ∙ is.counts (λ (p : Piece). p.length)
-
-pub grant-is : (s : DeskState) (volume : VolumeDef) (ledger : LedgerView) (need : Need) → IsLedgerOf s.sets volume ledger → granted_for ledger need ≡ grant_on s volume need.unit need.tracks need.held
-grant-is s volume ledger need is = granted-alike ledger need volume.tracks (held_on s volume.volser) is.capacity (λ t. held-alike s volume ledger t is)
+use Rattle.sms_volumes.specs.declared.asked.Asked.{Asked}
+use Rattle.sms_volumes.proofs.HeldLemmas.{ledger-sum}
 
 -- The group at the place of a volume.
 
@@ -58,126 +43,94 @@ pub name-of-found : (name : List ℕ) (groups : List StorGroup) (group : StorGro
 name-of-found name [] group found = absurd cc
 name-of-found name (g ∷ groups) group found = name-found-at name g groups group _ refl (name-of-found name groups group) found
 
--- the view of a volume
-pub view-is : (s : DeskState) (groups : List ActiveGroup) (need : Need) (volume : ActiveVolume) → AllByRecursion (IsGroupOf s) groups → IsVolumeOf s groups volume → need.held ≡ 0
-    → option_map (running_view need volume) (slice_get groups volume.group) ≡ Some (view_of s need.unit need.tracks volume.volume)
-view-is s groups need volume each is held =
+pub group-is-at : (s : DeskState) (groups : List ActiveGroup) (volume : ActiveVolume) (group : ActiveGroup) → IsVolumeOf s groups volume → slice_get groups volume.group ≡ Some group
+    → group_named s volume.volume.group ≡ Some group.group
+group-is-at s groups volume group is there =
     let at = is.group in
-    let group = at.group in
-    let ours = each-at (IsGroupOf s) groups volume.group group each at.there in
-    let name : group.group.name ≡ volume.volume.group = name-of-found volume.volume.group (groups_in s.active) group.group at.named in
+    let now : Some at.group ≡ Some group = sym at.there ∙ there in
+    let same : at.group ≡ group = cc in
+    at.named ∙ ap (λ (g : ActiveGroup). Some g.group) same
+
+-- What is needed, and what is granted.
+
+pub need-is : (s : DeskState) (groups : List ActiveGroup) (asked : Asked) (held : ℕ) (volume : ActiveVolume) (group : ActiveGroup) → IsVolumeOf s groups volume → slice_get groups volume.group ≡ Some group
+    → need_in asked group held ≡ need_on s volume.volume (ask_of asked) held
+need-is s groups asked held volume group is there =
+    ap (λ n. record { unit = asked.unit; tracks = asked.tracks; held = held; eattr = asked.eattr; breakpoint = n }) (sym (ap breakpoint_of (group-is-at s groups volume group is there)))
+
+breakpoint-small : (active : Option Configuration) (name : List ℕ) → IfSome active IsConfiguration → breakpoint_of (find (λ (group : StorGroup). bytes_eq group.name name) (groups_in active)) ≤ most_breakpoint
+breakpoint-small None name is = omega arith
+breakpoint-small (Some config) name is = found-small (find (λ (group : StorGroup). bytes_eq group.name name) config.groups) refl
+  where
+    found-small : (o : Option StorGroup) → find (λ (group : StorGroup). bytes_eq group.name name) config.groups ≡ o → breakpoint_of o ≤ most_breakpoint
+    found-small None found = omega arith
+    found-small (Some group) found = find-each (λ (g : StorGroup). g.breakpoint ≤ most_breakpoint) (λ (g : StorGroup). bytes_eq g.name name) config.groups group is.breakpoints found
+
+pub need-sound : (s : DeskState) (groups : List ActiveGroup) (asked : Asked) (held : ℕ) (volume : ActiveVolume) (group : ActiveGroup) → IsLawful s → IsAsked asked → held ≤ 16 → IsVolumeOf s groups volume
+    → slice_get groups volume.group ≡ Some group → IsNeed (need_in asked group held)
+need-sound s groups asked held volume group lawful sound most is there =
+    subst IsNeed (sym (need-is s groups asked held volume group is there))
+    (record { some = sound.some; whole = sound.whole; few = most; breakpoint = breakpoint-small s.active volume.volume.group lawful.config })
+
+-- what the ledger grants is what the law says
+pub grant-is : (s : DeskState) (groups : List ActiveGroup) (asked : Asked) (held : ℕ) (volume : ActiveVolume) (group : ActiveGroup) (found : Option (List Piece)) → IsVolumeOf s groups volume
+    → slice_get groups volume.group ≡ Some group → ((pieces : List Piece) → IsLedgerOf pieces volume.ledger → found ≡ grant_beside volume.ledger.capacity pieces (need_in asked group held))
+    → found ≡ grant_on s volume.volume (ask_of asked) held
+grant-is s groups asked held volume group found is there plan =
+    let pieces = held_on s volume.volume.volser in
+    plan pieces is.ledger ∙ (ap (λ (n : ℕ). grant_beside n pieces (need_in asked group held)) is.capacity ∙ ap (grant_beside volume.volume.tracks pieces) (need-is s groups asked held volume group is there))
+
+-- the volume as the lists see it, if it had room
+pub view-is : (s : DeskState) (groups : List ActiveGroup) (asked : Asked) (volume : ActiveVolume) (group : ActiveGroup) → AllByRecursion (IsGroupOf s) groups → IsVolumeOf s groups volume
+    → slice_get groups volume.group ≡ Some group → view_in asked volume group ≡ record (view_of s (ask_of asked) volume.volume) { fits = true }
+view-is s groups asked volume group each is there =
+    let named = group-is-at s groups volume group is there in
+    let ours = each-at (IsGroupOf s) groups volume.group group each there in
+    let name : group.group.name ≡ volume.volume.group = name-of-found volume.volume.group (groups_in s.active) group.group named in
     let status : group.status ≡ group_status s volume.volume.group = ours.status ∙ ap (group_status s) name in
     let count : group.volumes ≡ length (volumes_of_group s volume.volume.group) = ours.volumes ∙ ap (λ n. length (volumes_of_group s n)) name in
-    let overflow : group.group.overflow ≡ is_overflow (group_named s volume.volume.group) = sym (ap is_overflow at.named) in
-    let high : group.group.high ≡ high_of (group_named s volume.volume.group) = sym (ap high_of at.named) in
-    let granted = granted-is s volume.volume volume.ledger is.ledger in
-    let fits : is_some (granted_for volume.ledger need) ≡ is_some (grant_on s volume.volume need.unit need.tracks 0) =
-    ap is_some (grant-is s volume.volume volume.ledger need is.ledger ∙ ap (grant_on s volume.volume need.unit need.tracks) held) in
-    rw (at.there, status, is.status, overflow, high, granted, count, fits) refl
+    let overflow : group.group.overflow ≡ is_overflow (group_named s volume.volume.group) = sym (ap is_overflow named) in
+    let high : group.group.high ≡ high_of (group_named s volume.volume.group) = sym (ap high_of named) in
+    let sum : tracks_held volume.ledger.gaps + tracks_held (held_on s volume.volume.volser) ≡ volume.ledger.capacity = ledger-sum (held_on s volume.volume.volser) volume.ledger is.ledger in
+    let granted : volume.ledger.capacity - tracks_held volume.ledger.gaps ≡ granted_on s volume.volume.volser = omega (arith, sum) in
+    rw (status, is.status, overflow, high, granted, count) refl
 
-views-at : (s : DeskState) (groups : List ActiveGroup) (candidates : Candidates) (need : Need) (volume : ActiveVolume) (volumes : List ActiveVolume) (b : Bool) → is_candidate candidates volume.volume ≡ b
-    → option_map (running_view need volume) (slice_get groups volume.group) ≡ Some (view_of s need.unit need.tracks volume.volume)
-    → filter_map (view_if groups candidates need) volumes ≡ map (view_of s need.unit need.tracks) (filter (is_candidate candidates) (map (λ (v : ActiveVolume). v.volume) volumes))
-    → filter_map (view_if groups candidates need) (volume ∷ volumes) ≡ map (view_of s need.unit need.tracks) (filter (is_candidate candidates) (map (λ (v : ActiveVolume). v.volume) (volume ∷ volumes)))
-views-at s groups candidates need volume volumes true is here rest = rw (is, here) (ap (λ (l : List VolView). view_of s need.unit need.tracks volume.volume ∷ l) rest)
-views-at s groups candidates need volume volumes false is here rest = rw is rest
+-- The volume at a place.
 
-views-of : (s : DeskState) (groups : List ActiveGroup) (candidates : Candidates) (need : Need) (volumes : List ActiveVolume) → AllByRecursion (IsGroupOf s) groups → AllByRecursion (IsVolumeOf s groups) volumes → need.held ≡ 0
-    → filter_map (view_if groups candidates need) volumes ≡ map (view_of s need.unit need.tracks) (filter (is_candidate candidates) (map (λ (v : ActiveVolume). v.volume) volumes))
-views-of s groups candidates need [] each all held = refl
-views-of s groups candidates need (v ∷ volumes) each all held =
-    views-at s groups candidates need v volumes _ refl (view-is s groups need v each all.0 held) (views-of s groups candidates need volumes each all.1 held)
+module _ (s : DeskState) (running : ActiveVolumes) (asked : Asked) (place : ℕ) (v : ActiveVolume) (group : ActiveGroup) (are : AreVolumesOf s running) (at : slice_get running.volumes.items place ≡ Some v)
+    (there : slice_get running.groups.items v.group ≡ Some group) where
+  own-at : IsVolumeOf s running.groups.items v
+  own-at = each-at (IsVolumeOf s running.groups.items) running.volumes.items place v are.each_volume at
 
--- the views of the candidates
-pub views-are : (s : DeskState) (running : ActiveVolumes) (candidates : Candidates) (need : Need) → AreVolumesOf s running → need.held ≡ 0
-    → running_views running candidates need ≡ map (view_of s need.unit need.tracks) (candidates_in s candidates)
-views-are s running candidates need are held =
-    views-of s running.groups.items candidates need running.volumes.items are.each_group are.each_volume held
-    ∙ ap (λ (l : List VolumeDef). map (view_of s need.unit need.tracks) (filter (is_candidate candidates) l)) are.volumes_are
+  pub needed-at : (held : ℕ) → IsLawful s → IsAsked asked → held ≤ 16 → IsNeed (need_in asked group held)
+  needed-at held lawful sound most = need-sound s running.groups.items asked held v group lawful sound most own-at there
 
--- The volume of a serial.
+  pub granted-at : (held : ℕ) (need : Need) (found : Option (List Piece)) → need ≡ need_in asked group held
+      → ((pieces : List Piece) → IsLedgerOf pieces v.ledger → found ≡ grant_beside v.ledger.capacity pieces need) → found ≡ grant_on s v.volume (ask_of asked) held
+  granted-at held need found is plan =
+      grant-is s running.groups.items asked held v group found own-at there (subst (λ (n : Need). (pieces : List Piece) → IsLedgerOf pieces v.ledger → found ≡ grant_beside v.ledger.capacity pieces n) is plan)
 
--- the running volume of this definition is found by its serial
-pub record IsFound (volumes : List ActiveVolume) (volume : VolumeDef) : Type 0 where
-  pub running : ActiveVolume
-  pub found : running_named volume.volser volumes ≡ Some running
-  pub same : running.volume ≡ volume
+  pub seen-at : view_in asked v group ≡ record (view_of s (ask_of asked) v.volume) { fits = true }
+  seen-at = view-is s running.groups.items asked v group are.each_group own-at there
 
-others-off : (n : List ℕ) (volumes : List ActiveVolume) → times_volume n (map (λ (v : ActiveVolume). v.volume) volumes) ≡ 0 → AllByRecursion (λ (d : VolumeDef). bytes_eq d.volser n ≡ false) (map (λ (v : ActiveVolume). v.volume) volumes)
-others-off n [] e = tt
-others-off n (v ∷ volumes) e = (zero-head (bytes_eq v.volume.volser n) _ e, others-off n volumes (omega (arith, e)))
-  where
-    zero-head : (b : Bool) (m : ℕ) → cond b 1 0 + m ≡ 0 → b ≡ false
-    zero-head true m none = absurd (omega (arith, none))
-    zero-head false m none = refl
+-- The tier of a storage group.
 
-found-behind : (v : ActiveVolume) (volumes : List ActiveVolume) (d : VolumeDef) → IsFound volumes d → bytes_eq d.volser v.volume.volser ≡ false → IsFound (v ∷ volumes) d
-found-behind v volumes d is off = record { running = is.running; found = rw (bytes-turned d.volser v.volume.volser off) is.found; same = is.same }
+pub tier-there : (name : List ℕ) (tiers : List (List ℕ)) (i : ℕ) (d : List ℕ) → i < length tiers → bytes_eq (get_or tiers i d) name ≡ true → tier_among (drop i tiers) name ≡ 0
+tier-there name [] i d lt is = absurd (omega (arith, lt))
+tier-there name (t ∷ tiers) zero d lt is = rw is refl
+tier-there name (t ∷ tiers) (suc i) d lt is = tier-there name tiers i d (omega (arith, lt)) is
 
-pub each-found : (volumes : List ActiveVolume) → ((n : List ℕ) → times_volume n (map (λ (v : ActiveVolume). v.volume) volumes) ≤ 1) → AllByRecursion (IsFound volumes) (map (λ (v : ActiveVolume). v.volume) volumes)
-each-found [] once = tt
-each-found (v ∷ volumes) once =
-    let one : cond (bytes_eq v.volume.volser v.volume.volser) 1 zero ≡ suc zero = rw (bytes-self v.volume.volser) refl in
-    let gone : times_volume v.volume.volser (map (λ (w : ActiveVolume). w.volume) volumes) ≡ 0 = omega (arith, once v.volume.volser, one) in (
-      record { running = v; found = rw (bytes-self v.volume.volser) refl; same = refl },
-      each-both (IsFound volumes) (λ (d : VolumeDef). bytes_eq d.volser v.volume.volser ≡ false) (IsFound (v ∷ volumes)) (map (λ (w : ActiveVolume). w.volume) volumes)
-          (λ d is off. found-behind v volumes d is off) (each-found volumes (λ n. omega (arith, once n))) (others-off v.volume.volser volumes gone),
-    )
+pub tier-past : (name : List ℕ) (tiers : List (List ℕ)) (i : ℕ) (d : List ℕ) → i < length tiers → bytes_eq (get_or tiers i d) name ≡ false → tier_among (drop i tiers) name ≡ tier_among (drop (suc i) tiers) name + 1
+tier-past name [] i d lt is = absurd (omega (arith, lt))
+tier-past name (t ∷ []) zero d lt is = rw is refl
+tier-past name (t ∷ (u ∷ tiers)) zero d lt is = rw is refl
+tier-past name (t ∷ tiers) (suc i) d lt is = tier-past name tiers i d (omega (arith, lt)) is
 
-pub active-found : (s : DeskState) (running : ActiveVolumes) → IsLawful s → AreVolumesOf s running → AllByRecursion (IsFound running.volumes.items) (volumes_in s.active)
-active-found s running lawful are =
-    subst (AllByRecursion (IsFound running.volumes.items)) are.volumes_are
-    (each-found running.volumes.items (λ n. subst (λ (l : List VolumeDef). times_volume n l ≤ 1) (sym are.volumes_are) (active-volume-once s.active n lawful.config)))
-
--- Positions.
-
--- what stands at a position of a mapped list is the image of what stands there
-pub record IsImage {X Y : Type 0} (f : X → Y) (xs : List X) (k : ℕ) (y : Y) : Type 0 where
-  pub of : X
-  pub there : slice_get xs k ≡ Some of
-  pub is : f of ≡ y
-
-pub image-at : {X Y : Type 0} (f : X → Y) (xs : List X) (k : ℕ) (y : Y) → slice_get (map f xs) k ≡ Some y → IsImage f xs k y
-image-at f [] k y there = absurd cc
-image-at f (x ∷ xs) zero y there = record { of = x; there = refl; is = cc }
-image-at f (x ∷ xs) (suc k) y there =
-    let rest = image-at f xs k y there in record { of = rest.of; there = rest.there; is = rest.is }
-
--- The choice.
-
-picked-at : (s : DeskState) (running : ActiveVolumes) (candidates : Candidates) (need : Need) (want : Want) (position : ℕ) (volser : List ℕ) (place : Option ℕ)
-    → (may : MayChoose (map (view_of s need.unit need.tracks) (candidates_in s candidates)) want position) → may.view.volser ≡ volser → AllByRecursion (IsFound running.volumes.items) (volumes_in s.active)
-    → MatchOption place (running_named volser running.volumes.items ≡ None) (λ (i : ℕ). running_named volser running.volumes.items ≡ slice_get running.volumes.items i)
-    → IsPick s running candidates need want place
-picked-at s running candidates need want position volser place may serial all named =
-    let image = image-at (view_of s need.unit need.tracks) (candidates_in s candidates) position may.view may.there in
-    let found = each-at (IsFound running.volumes.items) (candidates_in s candidates) position image.of (filter-each (IsFound running.volumes.items) (is_candidate candidates) (volumes_in s.active) all) image.there in
-    let same : image.of.volser ≡ volser = ap (λ (v : VolView). v.volser) image.is ∙ serial in
-    let there : running_named volser running.volumes.items ≡ Some found.running = ap (λ n. running_named n running.volumes.items) (sym same) ∙ found.found in
-    pick place named there image.there found.same
-  where
-    pick : (o : Option ℕ) {d : VolumeDef} {w : ActiveVolume}
-        → MatchOption o (running_named volser running.volumes.items ≡ None) (λ (i : ℕ). running_named volser running.volumes.items ≡ slice_get running.volumes.items i)
-        → running_named volser running.volumes.items ≡ Some w → slice_get (candidates_in s candidates) position ≡ Some d → w.volume ≡ d → IsPick s running candidates need want o
-    pick None none there at is =
-        let now : Some _ ≡ None = sym there ∙ none in absurd cc
-    pick (Some i) here there at is = record { position = position; may = may; volume = _; at = sym here ∙ there; there = at ∙ ap Some (sym is) }
-
-pub pick-is : (s : DeskState) (running : ActiveVolumes) (candidates : Candidates) (need : Need) (want : Want) (views : List VolView) (position : ℕ) (view : VolView) (place : Option ℕ)
-    → IsLawful s → AreVolumesOf s running → need.held ≡ 0 → views ≡ running_views running candidates need → MayChoose views want position → view ≡ get_or views position view
-    → MatchOption place (running_named view.volser running.volumes.items ≡ None) (λ (i : ℕ). running_named view.volser running.volumes.items ≡ slice_get running.volumes.items i)
-    → IsPick s running candidates need want place
-pick-is s running candidates need want views position view place lawful are held views_are may there named =
-    let all = views_are ∙ views-are s running candidates need are held in
-    let chosen = subst (λ (l : List VolView). MayChoose l want position) all may in
-    let same : chosen.view ≡ view =
-    sym (get_or_from_slice_get (map (view_of s need.unit need.tracks) (candidates_in s candidates)) position chosen.view view chosen.there) ∙ (ap (λ (l : List VolView). get_or l position view) (sym all) ∙ sym there) in
-    picked-at s running candidates need want position view.volser place chosen (ap (λ (v : VolView). v.volser) same) (active-found s running lawful are) named
-
-pub none-is : (s : DeskState) (running : ActiveVolumes) (candidates : Candidates) (need : Need) (want : Want) (views : List VolView)
-    → AreVolumesOf s running → need.held ≡ 0 → views ≡ running_views running candidates need → AllRejected views want → IsPick s running candidates need want None
-none-is s running candidates need want views are held views_are rejected =
-    subst (λ (l : List VolView). AllRejected l want) (views_are ∙ views-are s running candidates need are held) rejected
+pub tier-none : (name : List ℕ) (tiers : List (List ℕ)) (i : ℕ) → length tiers ≤ i → tier_among (drop i tiers) name ≡ 0
+tier-none name [] zero le = refl
+tier-none name [] (suc i) le = refl
+tier-none name (t ∷ tiers) zero le = absurd (omega (arith, le))
+tier-none name (t ∷ tiers) (suc i) le = tier-none name tiers i (omega (arith, le))
 
 -- The place of a serial.
 

@@ -1,6 +1,8 @@
 pub mod Holding
-pub mod Viewing
+pub mod Asking
 pub mod Changing
+pub mod Viewing
+pub mod Leading
 pub mod Showing
 pub mod Barring
 pub mod Varied

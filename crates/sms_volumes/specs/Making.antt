@@ -5,6 +5,7 @@ use Rattle.sms_construct.specs.declared.storage_group.StorGroup.{StorGroup}
 use Rattle.sms_construct.specs.declared.volume.VolumeDef.{VolumeDef}
 use Rattle.sms_volumes.specs.Showing.{group_in}
 use Rattle.sms_volumes.specs.Viewing.{running_named}
+use Rattle.track_ledger.specs.Ledger.{IsLedgerOf}
 use Rattle.sms_volumes.specs.declared.active_group.ActiveGroup.{ActiveGroup}
 use Rattle.sms_volumes.specs.declared.active_volume.ActiveVolume.{ActiveVolume}
 
@@ -31,4 +32,4 @@ pub record IsMade (running : List ActiveVolume) (groups : List StorGroup) (volum
   pub status : volume.status ≡ status_of_volume volume.volume (running_named volume.volume.volser running)
   pub group : slice_get groups volume.group ≡ find (λ group. bytes_eq group.name volume.volume.group) groups
   pub capacity : volume.ledger.capacity ≡ volume.volume.tracks
-  pub free : volume.ledger.extents ≡ []
+  pub free : IsLedgerOf [] volume.ledger

@@ -4,6 +4,7 @@ use Rattle.std.specs.List.{AllByRecursion}
 use Rattle.sms_construct.specs.Configuration.{Configuration}
 use Rattle.sms_keeper.specs.declared.status_row.StatusRow.{StatusRow}
 use Rattle.desk_law.specs.Activation.{row_of_group, row_of_volume}
+use Rattle.track_ledger.specs.Ledger.{IsLedgerOf}
 use Rattle.sms_volumes.specs.declared.active_group.ActiveGroup.{ActiveGroup}
 use Rattle.sms_volumes.specs.declared.active_volume.ActiveVolume.{ActiveVolume}
 use Rattle.sms_volumes.specs.declared.active_volumes.ActiveVolumes.{ActiveVolumes}
@@ -20,11 +21,12 @@ pub record IsPlaceIn (groups : List ActiveGroup) (config : Configuration) (place
   pub named : find (λ other. bytes_eq other.name name) config.groups ≡ Some group.group
 
 -- the status likewise, the place of its group, and all its tracks free
-pub record IsNextVolume (present : List StatusRow) (config : Configuration) (groups : List ActiveGroup) (volume : ActiveVolume) : Type 0 where
+pub record IsNextVolume (present : List StatusRow) (config : Configuration) (groups : List ActiveGroup)
+    (volume : ActiveVolume) : Type 0 where
   pub status : volume.status ≡ (row_of_volume present volume.volume).status
   pub group : IsPlaceIn groups config volume.group volume.volume.group
   pub capacity : volume.ledger.capacity ≡ volume.volume.tracks
-  pub free : volume.ledger.extents ≡ []
+  pub free : IsLedgerOf [] volume.ledger
 
 -- the storage groups and volumes of the configuration as they will be, but for the tracks that data sets hold
 pub record AreNext (present : List StatusRow) (config : Configuration) (next : ActiveVolumes) : Type 0 where

@@ -1,5 +1,5 @@
 -- What is shown of a running volume and of a running storage group.
-use Rattle.std.specs.Prelude.{ℕ, ◌-◌, List, bytes_eq, filter, find, length, Option, sum_by}
+use Rattle.std.specs.Prelude.{ℕ, List, bytes_eq, filter, find, Option, sum_by}
 use Rattle.sms_construct.specs.declared.view.View.{View}
 use Rattle.sms_construct.specs.declared.view.View.TheVariants as views
 use Rattle.sms_construct.specs.declared.vol_row.VolRow.{VolRow}
@@ -10,7 +10,7 @@ use Rattle.sms_volumes.specs.declared.active_volumes.ActiveVolumes.{ActiveVolume
 
 -- the tracks of a volume that are free
 abbrev pub running_free : ActiveVolume → ℕ
-running_free volume = volume.ledger.capacity - tracks_held volume.ledger.extents
+running_free volume = tracks_held volume.ledger.gaps
 
 -- the volume as reports show it
 abbrev pub running_row : ActiveVolume → VolRow
@@ -20,7 +20,7 @@ running_row volume = record {
   status = volume.status;
   capacity = volume.volume.tracks;
   free = running_free volume;
-  extents = length volume.ledger.extents;
+  extents = volume.ledger.extents;
 }
 
 -- the running volumes of a storage group
@@ -42,4 +42,5 @@ group_in name groups = find (λ group. bytes_eq group.group.name name) groups
 -- the group as DISPLAY shows it
 abbrev pub running_group : ActiveVolumes → ActiveGroup → View
 running_group running group =
-    views.Group group.group.name group.status group.volumes (capacity_in group.group.name running.volumes.items) (free_in group.group.name running.volumes.items)
+    views.Group group.group.name group.status group.volumes
+    (capacity_in group.group.name running.volumes.items) (free_in group.group.name running.volumes.items)

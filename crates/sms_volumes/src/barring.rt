@@ -46,7 +46,8 @@ impl ActiveVolumes {
     /// The first volume, in byte order, that holds an extent and that the configuration doesn't have, or with
     /// fewer tracks (docs/rules.md, "ACTIVATE").
     pub fn barred(&self, config: &Config) -> Option<Volser>
-        ensures { (s : DeskState) → AreVolumesOf s self.now → result ≡ option_map (λ (volume : Defined). volume.volser) (first_barred s config.now) }
+        ensures { (s : DeskState) → AreVolumesOf s self.now →
+            result ≡ option_map (λ (volume : Defined). volume.volser) (first_barred s config.now) }
     {
         match first_barred(&self.volumes, config.volumes()) {
             Some(volume) => Some(volume.volume.volser),

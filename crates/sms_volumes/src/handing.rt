@@ -30,7 +30,8 @@ impl ActiveVolume {
     // Takes over what is held of the running volume of its serial, if there is one.
     fn take_from(&mut self, old: &mut ActiveVolumes)
         ensures taken { HasTaken (running_named self.old.volume.volser old.old.volumes.items) self.old self.new }
-        ensures others { (volser : List ℕ) → bytes_eq self.old.volume.volser volser ≡ false → running_named volser old.new.volumes.items ≡ running_named volser old.old.volumes.items }
+        ensures others { (volser : List ℕ) → bytes_eq self.old.volume.volser volser ≡ false →
+            running_named volser old.new.volumes.items ≡ running_named volser old.old.volumes.items }
     {
         if let Some(place) = old.place_of(&self.volume.volser) {
             self.take_over(&mut old.volumes[place]);
@@ -40,7 +41,8 @@ impl ActiveVolume {
 
 // Each volume takes over what is held of the running volume of its serial.
 fn take_each(volumes: &mut [ActiveVolume], old: &mut ActiveVolumes)
-    ensures { AreApart volumes.old → AllZip (λ (before after : Running). HasTaken (running_named before.volume.volser old.old.volumes.items) before after) volumes.old volumes.new }
+    ensures { AreApart volumes.old →
+        AllZip (λ (before after : Running). HasTaken (running_named before.volume.volser old.old.volumes.items) before after) volumes.old volumes.new }
 {
     for volume in volumes {
         volume.take_from(old);
@@ -51,7 +53,9 @@ impl ActiveVolumes {
     /// The volumes of a configuration that becomes active take over from the old ones the tracks that data sets
     /// hold (docs/rules.md, "ACTIVATE"). It takes no memory.
     pub fn take_over(&mut self, old: &mut ActiveVolumes)
-        ensures { (s : DeskState) (config : Configuration) → IsLawful s → AreVolumesOf s old.old → AreNext s.statuses config self.old → first_barred s config ≡ None → IsConfiguration config → AreVolumesOf (activated s config) self.new }
+        ensures { (s : DeskState) (config : Configuration) → IsLawful s → AreVolumesOf s old.old →
+            AreNext s.statuses config self.old → first_barred s config ≡ None → IsConfiguration config →
+            AreVolumesOf (activated s config) self.new }
     {
         take_each(&mut self.volumes, old);
     }

@@ -143,7 +143,8 @@ impl ActiveVolumes {
     /// free, or want of memory: each keeps its present status, and what isn't active has that of its deck
     /// (docs/rules.md, "ACTIVATE").
     pub fn under(&self, alloc: Global, config: &Config) -> Result<ActiveVolumes, AllocError>
-        ensures next { IfOk result (λ next. (s : DeskState) → IsLawful s → AreVolumesOf s self.now → AreNext s.statuses config.now next) }
+        ensures next { IfOk result (λ next. (s : DeskState) → IsLawful s → AreVolumesOf s self.now →
+            AreNext s.statuses config.now next) }
         ensures few { length config.now.volumes ≤ most_volumes }
     {
         // Facts for the proof; nothing runs.

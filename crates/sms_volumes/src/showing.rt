@@ -35,6 +35,8 @@ impl ActiveVolume {
         ensures value { result ≡ running_free self.now }
         ensures small { result < 2 ^ 32 }
     {
+        // A fact for the proof.
+        let _granted = self.ledger.granted();
         self.ledger.free()
     }
 
@@ -78,7 +80,8 @@ fn free_in(volumes: &[ActiveVolume], name: &Name) -> u64
 impl ActiveVolumes {
     /// The volume of this serial as reports show it.
     pub fn volume(&self, volser: &Volser) -> Option<VolRow>
-        ensures { (s : DeskState) → AreVolumesOf s self.now → result ≡ option_map (shown_volume s) (volume_named s volser.now) }
+        ensures { (s : DeskState) → AreVolumesOf s self.now →
+            result ≡ option_map (shown_volume s) (volume_named s volser.now) }
     {
         match self.place_of(volser) {
             Some(place) => Some(self.volumes[place].row()),
@@ -88,7 +91,8 @@ impl ActiveVolumes {
 
     /// All volumes as reports show them, in their order, or want of memory.
     pub fn rows(&self, alloc: Global) -> Result<VolRows, AllocError>
-        ensures { IfOk result (λ rows. (s : DeskState) → AreVolumesOf s self.now → rows ≡ map (shown_volume s) (volumes_in s.active)) }
+        ensures { IfOk result (λ rows. (s : DeskState) → AreVolumesOf s self.now →
+            rows ≡ map (shown_volume s) (volumes_in s.active)) }
     {
         let mut rows = Vec::with_capacity(alloc, self.volumes.len())?;
         for volume in &self.volumes {
@@ -120,7 +124,8 @@ impl ActiveVolumes {
     /// What DISPLAY shows of the storage group of this name (docs/rules.md, "DISPLAY").
     pub fn group(&self, name: &Name) -> Option<View>
         requires few { length self.now.volumes.items < 2 ^ 32 }
-        ensures { (s : DeskState) → AreVolumesOf s self.now → result ≡ option_map (view_of_group s) (group_named s name.now) }
+        ensures { (s : DeskState) → AreVolumesOf s self.now →
+            result ≡ option_map (view_of_group s) (group_named s name.now) }
     {
         match self.group_in(name) {
             Some(group) => Some(self.view_of(group)),

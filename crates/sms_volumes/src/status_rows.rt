@@ -27,7 +27,8 @@ impl ActiveVolumes {
     /// (docs/records.md).
     pub fn status_rows(&self, alloc: Global) -> Result<Statuses, AllocError>
         ensures present { IfOk result (λ rows. rows ≡ running_statuses self.now) }
-        ensures next { IfOk result (λ rows. (present : List Row) (config : Configuration) → AreNext present config self.now → rows ≡ statuses_under config present) }
+        ensures next { IfOk result (λ rows. (present : List Row) (config : Configuration) →
+            AreNext present config self.now → rows ≡ statuses_under config present) }
     {
         let mut rows = Vec::new(alloc);
         for group in &self.groups {

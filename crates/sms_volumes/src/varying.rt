@@ -56,7 +56,8 @@ fn vary_volumes(volumes: &mut [ActiveVolume], volser: &Volser, status: Status)
 impl ActiveVolumes {
     /// The storage group or the volume gets this status (docs/rules.md, "VARY"). It takes no memory.
     pub fn vary(&mut self, target: &Target, status: Status)
-        ensures { (s : DeskState) → IsLawful s → AreVolumesOf s self.old → AreVolumesOf (with_status s target.now status) self.new }
+        ensures { (s : DeskState) → IsLawful s → AreVolumesOf s self.old →
+            AreVolumesOf (with_status s target.now status) self.new }
     {
         match target {
             Target::Group(name) => vary_groups(&mut self.groups, name, status),

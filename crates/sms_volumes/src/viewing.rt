@@ -1,82 +1,92 @@
-//! The volumes as they stand when one is to be chosen.
-ghost use Rattle.std.specs.Prelude.{◌≡◌, ◌≤◌, ◌<◌, length, slice_get, IfOk, MatchOption, None, Some};
-ghost use Rattle.track_ledger.specs.Need.{IsNeed};
+//! The choice of a volume.
+ghost use Rattle.std.specs.Prelude.{◌≡◌, ◌≤◌, ◌<◌, ◌+◌, length, slice_get, take, IfSome, MatchOption, None, Some, option_map};
+ghost use Rattle.desk_common.specs.Limits.{most_pieces};
 ghost use Rattle.desk_law.specs.State.{DeskState};
+ghost use Rattle.desk_law.specs.Candidates.{grant_on, tier_among, want_of};
 ghost use Rattle.desk_law.specs.Lawful.{IsLawful};
-ghost use Rattle.sms_volumes.specs.Holding.{AreVolumesOf};
-ghost use Rattle.sms_volumes.specs.Viewing.{IsPick, running_named, running_view, running_views, view_if};
+ghost use Rattle.sms_volumes.specs.Asking.{IsAsked, ask_of, need_in};
+ghost use Rattle.sms_volumes.specs.Changing.{IsFreeAt};
+ghost use Rattle.sms_volumes.specs.Holding.{AreVolumesOf, StandForSome};
+ghost use Rattle.sms_volumes.specs.Leading.{Leads, candidates_among, view_in};
+ghost use Rattle.sms_volumes.specs.Viewing.{IsPick, running_named};
+ghost use Rattle.sms_volumes.specs.declared.active_volume.ActiveVolume.{ActiveVolume as Running};
 
 use crate::active_group::ActiveGroup;
 use crate::active_volume::ActiveVolume;
 use crate::active_volumes::ActiveVolumes;
+use crate::asked::Asked;
 use crate::candidates::Candidates;
-use dsn_mask::Volser;
-use std::alloc::{AllocError, Global};
-use track_ledger::Need;
-use volume_lists::{VolView, Want, choose};
+use crate::lead::Lead;
+use crate::pick::Pick;
+use dsn_mask::{Name, Volser};
+use track_ledger::{Grant, Need};
+use volume_lists::{VolView, Want, comes_before, listing, rank};
 
-// A volume as it stands.
-fn view(need: &Need, volume: &ActiveVolume, group: &ActiveGroup) -> VolView
-    requires { IsNeed need.now }
-    ensures { result ≡ running_view need.now volume.now group.now }
-{
-    VolView {
-        volser: volume.volume.volser,
-        group: volume.volume.group,
-        group_status: group.status,
-        status: volume.status,
-        overflow: group.group.overflow,
-        high: group.group.high,
-        capacity: volume.volume.tracks,
-        granted: volume.ledger.granted() as u32,
-        group_volumes: group.volumes,
-        fits: volume.ledger.fits(need),
+impl Asked<'_> {
+    // What is needed of a volume of the storage group, on which the data set holds so many extents.
+    fn need(&self, group: &ActiveGroup, held: u8) -> Need
+        ensures { result ≡ need_in self.now group.now held }
+    {
+        Need {
+            unit: self.unit,
+            tracks: self.tracks,
+            held,
+            eattr: self.eattr,
+            breakpoint: group.group.breakpoint,
+        }
+    }
+
+    // What the lists look at.
+    fn want(&self) -> Want
+        ensures { result ≡ want_of (ask_of self.now) }
+    {
+        Want {
+            need: self.tracks,
+            volumes: self.volumes,
+        }
+    }
+
+    // The position of the storage group where the order counts.
+    fn tier(&self, name: &Name) -> u8
+        requires { length self.now.tiers.now ≤ 15 }
+        ensures { result ≡ tier_among self.now.tiers.now name.now }
+    {
+        let mut tier = 0;
+        for group in self.tiers {
+            if *group == *name {
+                return tier;
+            }
+            tier += 1;
+        }
+        tier
+    }
+
+    // The volume as it would stand if it had room.
+    fn view(&self, volume: &ActiveVolume, group: &ActiveGroup) -> VolView
+        requires { length self.now.tiers.now ≤ 15 }
+        ensures { result ≡ view_in self.now volume.now group.now }
+    {
+        VolView {
+            volser: volume.volume.volser,
+            group: volume.volume.group,
+            group_status: group.status,
+            status: volume.status,
+            overflow: group.group.overflow,
+            high: group.group.high,
+            capacity: volume.volume.tracks,
+            granted: volume.ledger.granted() as u32,
+            group_volumes: group.volumes,
+            fits: true,
+            tier: self.tier(&volume.volume.group),
+        }
     }
 }
 
 impl ActiveVolumes {
-    // A volume as it stands, where it is a candidate.
-    fn view_if(
-        &self,
-        candidates: &Candidates<'_>,
-        need: &Need,
-        volume: &ActiveVolume,
-    ) -> Option<VolView>
-        requires { IsNeed need.now }
-        ensures { result ≡ view_if self.now.groups.items candidates.now need.now volume.now }
-    {
-        if candidates.has(&volume.volume) {
-            let group = self.groups.get(volume.group)?;
-            Some(view(need, volume, group))
-        } else {
-            None
-        }
-    }
-
-    // The candidates as they stand.
-    fn views(
-        &self,
-        alloc: Global,
-        candidates: &Candidates<'_>,
-        need: &Need,
-    ) -> Result<Vec<VolView>, AllocError>
-        requires { IsNeed need.now }
-        ensures { IfOk result (λ views. views.items ≡ running_views self.now candidates.now need.now) }
-    {
-        let mut views = Vec::with_capacity(alloc, self.volumes.len())?;
-        for volume in &self.volumes {
-            if let Some(view) = self.view_if(candidates, need, volume) {
-                if views.push(view).is_err() {
-                    return Err(AllocError);
-                }
-            }
-        }
-        Ok(views)
-    }
-
     /// The place of the volume of this serial.
     pub fn place_of(&self, volser: &Volser) -> Option<usize>
-        ensures found { MatchOption result (running_named volser.now self.now.volumes.items ≡ None) (λ place. running_named volser.now self.now.volumes.items ≡ slice_get self.now.volumes.items place) }
+        ensures found { MatchOption result (running_named volser.now self.now.volumes.items ≡ None)
+            (λ place. running_named volser.now self.now.volumes.items ≡ slice_get self.now.volumes.items place) }
         ensures within { MatchOption result (Unit {0}) (λ place. place < length self.now.volumes.items) }
     {
         for place in 0..self.volumes.len() {
@@ -87,22 +97,71 @@ impl ActiveVolumes {
         None
     }
 
-    /// The place of a candidate that may be chosen for what is asked for (docs/rules.md, "The lists"), or `None`
-    /// where all are rejected.
-    pub fn choose(
-        &self,
-        alloc: Global,
-        candidates: &Candidates<'_>,
-        need: &Need,
-        want: &Want,
-    ) -> Result<Option<usize>, AllocError>
-        requires { IsNeed need.now }
-        ensures { (s : DeskState) → IsLawful s → AreVolumesOf s self.now → need.now.held ≡ 0 → IfOk result (IsPick s self.now candidates.now need.now want.now) }
+    /// A candidate that may be chosen for what is asked (docs/rules.md, "The lists") and what the gap rule grants on
+    /// it, or `None` where all are rejected. Room is looked for only where a volume would come before those seen.
+    /// Takes no memory.
+    pub fn choose(&self, candidates: &Candidates<'_>, asked: &Asked<'_>) -> Option<Pick>
+        requires asked { IsAsked asked.now }
+        requires stand { StandForSome self.now }
+        ensures { (s : DeskState) → IsLawful s → AreVolumesOf s self.now →
+            IsPick s self.now candidates.now asked.now result }
     {
-        let views = self.views(alloc, candidates, need)?;
-        match choose(&views, want) {
-            Some(position) => Ok(self.place_of(&views[position].volser)),
-            None => Ok(None),
+        let mut lead = Lead::none();
+        for place in 0..self.volumes.len() {
+            self.look_at(place, candidates, asked, &mut lead);
+            if lead.is_first() {
+                return lead.pick;
+            }
         }
+        lead.pick
+    }
+
+    // The volume at the place takes the lead where it is a candidate, comes before the one that leads, and has room.
+    fn look_at(&self, place: usize, candidates: &Candidates<'_>, asked: &Asked<'_>, lead: &mut Lead)
+        requires place { place < length self.now.volumes.items }
+        requires asked { IsAsked asked.now }
+        requires stand { StandForSome self.now }
+        ensures { (s : DeskState) → IsLawful s → AreVolumesOf s self.now →
+            Leads s self.now (candidates_among candidates.now (take place self.now.volumes.items)) asked.now lead.old →
+            Leads s self.now (candidates_among candidates.now (take (place + 1) self.now.volumes.items)) asked.now lead.new }
+    {
+        let volume = &self.volumes[place];
+        if !candidates.has(&volume.volume) {
+            return;
+        }
+        let Some(group) = self.groups.get(volume.group) else {
+            return;
+        };
+        let view = asked.view(volume, group);
+        let rank = rank(listing(&view, &asked.want()));
+        if !comes_before(rank, view.tier, lead.rank, lead.tier) {
+            return;
+        }
+        let Some(grant) = volume.ledger.plan(&asked.need(group, 0)) else {
+            return;
+        };
+        *lead = Lead {
+            pick: Some(Pick { place, grant }),
+            rank,
+            tier: view.tier,
+        };
+    }
+
+    /// What the gap rule grants on the volume at a place to a data set that holds so many extents there, or `None`
+    /// where it grants nothing (docs/rules.md, "The gap rule"). Takes no memory.
+    pub fn plan(&self, place: usize, asked: &Asked<'_>, held: u8) -> Option<Grant>
+        requires place { place < length self.now.volumes.items }
+        requires asked { IsAsked asked.now }
+        requires held { held ≤ 16 }
+        requires stand { StandForSome self.now }
+        ensures rule { (s : DeskState) (volume : Running) → IsLawful s → AreVolumesOf s self.now →
+            slice_get self.now.volumes.items place ≡ Some volume →
+            option_map (λ grant. grant.items) result ≡ grant_on s volume.volume (ask_of asked.now) held }
+        ensures free { IfSome result (λ grant. IsFreeAt self.now place grant.items) }
+        ensures few { IfSome result (λ grant. length grant.items ≤ most_pieces) }
+    {
+        let volume = &self.volumes[place];
+        let group = self.groups.get(volume.group)?;
+        volume.ledger.plan(&asked.need(group, held))
     }
 }

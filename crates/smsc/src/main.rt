@@ -3,24 +3,12 @@
 
 ghost use Rattle.std.specs.Prelude.{◌≡◌};
 ghost use Rattle.std.specs.Process.{exit_status};
-ghost use Rattle.smsc.specs.ExitStatus.{exit_status_of};
-
-mod answering;
-mod limit;
-mod no_answer;
-mod noting;
-#[cfg(test)]
-mod ordinary;
-mod status;
-#[cfg(test)]
-mod tests;
-mod tool;
+ghost use Rattle.tool_calls.specs.ExitStatus.{exit_status_of};
 
 use sms_base::{StdSink, StdSource, Words, read_words};
-use status::ToolStatus;
 use std::io;
 use std::process::ExitCode;
-use tool::smsc_main;
+use tool_calls::{ToolStatus, smsc_main};
 
 fn main(rt: HostRuntime) -> ExitCode {
     let mut note = String::new(rt.alloc());

@@ -3,5 +3,5 @@ use Rattle.desk_state.proofs.ApplyLemmas.{copied-none, without-absent}
 use Rattle.desk_state.proofs.applying.release.Goals as goal
 
 pub returns-in_default : goal.returns-in_default
-returns-in_default c = λ s lawful are found.
-    without-absent s c.args.dsn.now c.args.volumes.now (sym found ∙ copied-none c.args.old c.in_default.not-Some) are
+returns-in_default c = λ s dsn lawful are found.
+    without-absent s dsn c.args.volumes.now (sym found ∙ copied-none c.args.old c.in_default.not-Some) are

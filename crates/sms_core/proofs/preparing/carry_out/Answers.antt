@@ -24,6 +24,9 @@ returns-clause-enters g c = λ o h s mark ready stands decided fits.
     (failed-entered o h s c.args.records.now.log c.commit.new.self.log (g.P.Keeper.told c.args.records.now.keeper) (g.P.Keeper.told c.commit.new.self.keeper) mark _ _ c.args.place
     c.args.request.now c.in_ok-entered.entered c.args.running.now ready c.requires.unknown c.in_ok-entered.ensures same (c.in_ok-commit.ensures.cause c.if-branch.false) stands)
 
+pub returns-in_err-answered-clause-err : goal.returns-in_err-answered-clause-err
+returns-in_err-answered-clause-err g c = on-err _ c.from_residual-in_err-answered.result (record { stays = stays-self (g.P.Keeper.told c.args.records.now.keeper); log_is = refl })
+
 pub returns-in_err-committed-clause-err : goal.returns-in_err-committed-clause-err
 returns-in_err-committed-clause-err g c = on-err _ c.from_residual-in_err-committed.result (record { stays = stays-self (g.P.Keeper.told c.args.records.now.keeper); log_is = refl })
 

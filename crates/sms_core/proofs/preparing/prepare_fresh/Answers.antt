@@ -13,7 +13,7 @@ carry_out-requires-clause-suits g c =
     (c.in_ok-decision.ensures.decided there.state (λ job. floor_in job c.args.records.now.log.floors) there.lawful there.stands c.old_floor-old.ensures).suits
 
 pub carry_out-requires-clause-possible : goal.carry_out-requires-clause-possible
-carry_out-requires-clause-possible g c = possible-same c.decide.new.self c.reserve.new.self c.in_ok-decision.decision.deed c.reserve.ensures.volumes c.in_ok-decision.ensures.possible
+carry_out-requires-clause-possible g c = possible-same c.decide.new.self c.reserve.new.self c.in_ok-decision.decision.deed c.reserve.ensures.volumes c.reserve.ensures.sets c.in_ok-decision.ensures.possible
 
 pub returns-clause-enters : goal.returns-clause-enters
 returns-clause-enters g c = if-ok _ _ c.carry_out.result c.carry_out.ensures.enters (λ made enters o h s mark ready stands.

@@ -9,4 +9,4 @@ abbrev pub invariant-loop-name : goal.invariant-loop-name
 invariant-loop-name l =
     (goal.iterator-loop-name).can_next l.name-iterator
     × (goal.iterator-loop-name).is_finite l.name-iterator
-    × (each_fault is_name (construct_walk l.fn.kind) l.fn.path (table_view l.fn.constructs) ≡ each_fault is_name (construct_walk l.fn.kind) l.fn.path (members_view l.name-iterator))
+    × (each_fault is_name (construct_walk l.fn.version l.fn.kind) l.fn.path (table_view l.fn.constructs) ≡ each_fault is_name (construct_walk l.fn.version l.fn.kind) l.fn.path (members_view l.name-iterator))

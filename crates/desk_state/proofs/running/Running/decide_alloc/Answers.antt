@@ -3,13 +3,13 @@ use Rattle.std.specs.Prelude.{None}
 use Rattle.acs_tree.specs.Slates.{SlateLines}
 use Rattle.sms_construct.specs.declared.trace.Trace.{Trace}
 use Rattle.desk_law.specs.Allocation.{AllocRule}
-use Rattle.desk_law.specs.Classification.{Classes, classes_of, trace_of}
+use Rattle.desk_law.specs.Classification.{classes_of, trace_of}
 use Rattle.desk_law.specs.Lawful.{IsLawful}
 use Rattle.desk_law.specs.State.{DeskState}
 use Rattle.desk_state.specs.Answering.{Answers}
 use Rattle.desk_state.specs.Catalog.{set_in}
 use Rattle.desk_state.specs.Standing.{IsRunning}
-use Rattle.desk_state.specs.Wishing.{ClassifiedRule}
+use Rattle.desk_state.specs.Wishing.{ClassifiedRule, classes_with}
 use Rattle.desk_state.specs.declared.decision.Decision.{Decision}
 use Rattle.desk_state.proofs.AllocationLemmas.{alloc-made}
 use Rattle.desk_state.proofs.OkLemmas.{on-ok}
@@ -30,11 +30,10 @@ returns-clause-answers c =
     let written : c.in_ok-trace.trace ≡ trace_of (classes_of c.get-2.result.now job alloc) =
     c.in_ok-trace.ensures ∙ ap trace_on made_of.ensures.slate in
     on-ok
-    (λ (made : Decision). (s : DeskState) (classes : Classes) → IsLawful s → IsRunning s running → classes.values ≡ made_of.result.values → classes.stop ≡ made_of.result.stop → trace_of classes ≡ c.in_ok-trace.trace → Answers s after (ClassifiedRule s c.get-3.result.now alloc classes) made)
+    (λ (made : Decision). (s : DeskState) → IsLawful s → IsRunning s running → Answers s after (ClassifiedRule s c.get-3.result.now alloc (classes_with made_of.result.values made_of.result.stop c.in_ok-trace.trace)) made)
     (λ (made : Decision). (s : DeskState) → IsLawful s → IsRunning s running → Answers s after (AllocRule s job alloc) made)
     c.decide_classified.result
     (λ made next. λ s lawful is.
     alloc-made s running after job alloc c.in-Some.config c.get-2.result.now c.get-3.result.now made_of.result.values made_of.result.stop c.in_ok-trace.trace made is c.in-Some.is none
-    (c.get-2.ensures ∙ c.in_ok-config.ensures) (c.get-3.ensures ∙ c.in_ok-config.ensures) made_of.ensures.values made_of.ensures.stop written
-    (λ classes same stop told. next s classes lawful is same stop told))
+    (c.get-2.ensures ∙ c.in_ok-config.ensures) (c.get-3.ensures ∙ c.in_ok-config.ensures) made_of.ensures.values made_of.ensures.stop written (next s lawful is))
     c.decide_classified.ensures.answers

@@ -1,8 +1,9 @@
-use Rattle.std.proofs.Common.{◌≡◌, length, sym, ap, ◌∙◌, arith}
+use Rattle.std.proofs.Common.{◌≡◌, length, ap, ◌∙◌, arith}
 use Rattle.std.proofs.lemmas.List.{length-map}
 use Rattle.desk_law.specs.Display.{shown_volume}
 use Rattle.desk_law.specs.Volumes.{volumes_in}
-use Rattle.sms_volumes.specs.declared.active_volume.ActiveVolume.{ActiveVolume}
+use Rattle.desk_records.proofs.TiedLemmas.{tied-lawful}
+use Rattle.desk_state.proofs.FewLemmas.{few-in}
 use Rattle.sms_core.proofs.CoreLemmas.{held-stands, if-ok}
 use Rattle.sms_core.proofs.core_state.Core.vol_rows.Goals as goal
 
@@ -13,8 +14,7 @@ pub returns-clause-few : goal.returns-clause-few
 returns-clause-few g c =
     let held = c.self.invariant.held in
     let volumes = volumes_in held.state.active in
-    let running = c.self.inside.running.volumes.volumes.items in
-    let as_many : length volumes ≡ length running = sym (ap length held.stands.volumes.volumes_are) ∙ length-map running (λ (v : ActiveVolume). v.volume) in
+    let few = few-in held.state.active (tied-lawful _ _ _ _ _ _ _ held.tied).config in
     if-ok _ _ c.rows.result c.rows.ensures (λ rows are.
     let shown : length rows ≡ length volumes = ap length (are held.state held.stands.volumes) ∙ length-map volumes (shown_volume held.state) in
-    omega (arith, shown, as_many, held.stands.few))
+    omega (arith, shown, few))

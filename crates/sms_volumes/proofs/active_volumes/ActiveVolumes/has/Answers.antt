@@ -1,4 +1,4 @@
-use Rattle.std.proofs.Common.{◌≡◌, ◌∙◌, Bool, ap, sym}
+use Rattle.std.proofs.Common.{◌∙◌, ap, sym}
 use Rattle.std.specs.Prelude.{◌==◌, is_some, not}
 use Rattle.sms_construct.specs.declared.target.Target.{Target}
 use Rattle.desk_law.specs.Volumes.{times_target}

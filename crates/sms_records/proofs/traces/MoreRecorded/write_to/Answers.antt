@@ -1,0 +1,7 @@
+use Rattle.sms_records.specs.FormLaws.{on_ok}
+use Rattle.sms_records.specs.TraceLaws.{more_readable}
+use Rattle.sms_records.proofs.traces.MoreRecorded.write_to.Goals as goal
+
+pub returns-clause-readable : goal.returns-clause-readable
+returns-clause-readable c =
+    on_ok c.write_to.result (λ h. more_readable c.args.self.now h) c.write_to.ensures.readable

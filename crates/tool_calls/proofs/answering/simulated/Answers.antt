@@ -1,0 +1,14 @@
+use Rattle.std.proofs.lemmas.Result.{IfOk-weaker, IfErr-weaker}
+use Rattle.tool_calls.proofs.AnswerLemmas.{no_script, simulation_told, simulation_hindered}
+use Rattle.tool_calls.proofs.answering.simulated.Goals as goal
+
+pub returns-in-Err-clause-hindered : goal.returns-in-Err-clause-hindered
+returns-in-Err-clause-hindered c = no_script c.args.bytes.now c.in-Err.fault c.hindrance.result c.in-Err.ensures.refused c.hindrance.ensures
+
+pub returns-in-Ok-simulate-clause-answer : goal.returns-in-Ok-simulate-clause-answer
+returns-in-Ok-simulate-clause-answer c =
+    IfOk-weaker c.simulation.result _ _ (λ found told. simulation_told c.in-Ok.script c.in-Ok-simulate.made c.in-Ok.ensures.script c.in-Ok-simulate.ensures told) c.simulation.ensures.answer
+
+pub returns-in-Ok-simulate-clause-hindered : goal.returns-in-Ok-simulate-clause-hindered
+returns-in-Ok-simulate-clause-hindered c =
+    IfErr-weaker c.simulation.result _ _ (λ why e. simulation_hindered c.args.bytes.now c.in-Ok.script c.in-Ok-simulate.made why c.in-Ok.ensures.script c.in-Ok-simulate.ensures e) c.simulation.ensures.hindered

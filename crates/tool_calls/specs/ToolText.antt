@@ -1,0 +1,92 @@
+-- What the translator prints (docs/tool.md).
+use Rattle.std.specs.Prelude.{◌≡◌, ◌⊎◌, ℕ, List, ◌++◌, Some, Ok, Err, decimal, codes, length}
+use Rattle.acs_tree.specs.declared.kind.Kind.{Kind}
+use Rattle.acs_tree.specs.declared.routine.Routine.{Routine}
+use Rattle.acs_tree.specs.Variables.{name_of}
+use Rattle.acs_translate.specs.declared.fault.Stage.{Stage}
+use Rattle.acs_translate.specs.declared.fault.Stage.TheVariants.{Scanner, Parser, Checks}
+use Rattle.acs_translate.specs.declared.fault.RoutineFault.{RoutineFault}
+use Rattle.acs_translate.specs.declared.fault.TranslateErr.{TranslateErr}
+use Rattle.acs_translate.specs.declared.fault.TranslateErr.TheVariants.{Fault, NoMemory}
+use Rattle.acs_translate.specs.Translation.{IsTranslated, IsRoutineFault}
+use Rattle.sms_construct.specs.Configuration.{Configuration}
+use Rattle.sms_construct.specs.declared.fault.Fault.{Fault as DeckFault}
+use Rattle.sms_deck.specs.Reading.{Configures, HasFirstFault}
+use Rattle.sms_script.specs.FaultText.{fault_text as deck_fault_text}
+use Rattle.sms_script.specs.Script.{items_of, script_of}
+use Rattle.sms_script.specs.declared.item.Item.{Item}
+use Rattle.sms_script.specs.declared.script_err.ScriptErr.{ScriptErr}
+use Rattle.sms_script.specs.declared.script_err.ScriptErr.TheVariants as scripts
+use Rattle.sms_simulation.specs.Simulation.{IsSimulation, first_misplaced}
+use Rattle.sms_simulation.specs.declared.simulated.Simulated.{Simulated}
+use Rattle.sms_simulation.specs.declared.simulated.Simulated.TheVariants as simulations
+use Rattle.tool_calls.specs.declared.no_answer.NoAnswer.{NoAnswer}
+use Rattle.tool_calls.specs.declared.no_answer.NoAnswer.TheVariants as hindrances
+use Rattle.tool_calls.specs.declared.status.ToolStatus.{ToolStatus}
+use Rattle.tool_calls.specs.declared.status.ToolStatus.TheVariants.{Done, FaultFound}
+use Rattle.tool_words.specs.declared.task.Task.{Task}
+use Rattle.tool_words.specs.declared.task.Task.TheVariants.{Translate, Validate, Simulate}
+
+-- L, P or C
+abbrev pub letter_of : Stage → List ℕ
+letter_of Scanner = codes "L"
+letter_of Parser = codes "P"
+letter_of Checks = codes "C"
+
+-- the line of a routine with so many tokens
+abbrev pub translated_text : Kind → ℕ → List ℕ
+translated_text kind count = codes "TRANSLATED " ++ (name_of kind ++ (codes " " ++ (decimal count ++ codes "\n")))
+
+-- the line of a fault
+abbrev pub fault_text : RoutineFault → List ℕ
+fault_text fault = codes "FAULT " ++ (letter_of fault.stage ++ (decimal fault.number ++ (codes " " ++ (decimal fault.at ++ codes "\n"))))
+
+-- the line of a deck with so many storage groups and volumes
+abbrev pub valid_text : ℕ → ℕ → List ℕ
+valid_text groups volumes = codes "VALID " ++ (decimal groups ++ (codes " " ++ (decimal volumes ++ codes "\n")))
+
+-- the line of a deck's fault
+abbrev pub refused_text : DeckFault → List ℕ
+refused_text fault = codes "FAULT " ++ (deck_fault_text fault ++ codes "\n")
+
+-- the answer to an input: its status and what is printed
+pub data IsAnswer (bytes : List ℕ) : Task → ToolStatus → List ℕ → Type 0 where
+  translated : (kind : Kind) (tree : Routine) (count : ℕ) → IsTranslated bytes kind tree count → IsAnswer bytes (Translate kind) Done (translated_text kind count)
+  faulty : (kind : Kind) (fault : RoutineFault) → IsRoutineFault bytes kind fault → IsAnswer bytes (Translate kind) FaultFound (fault_text fault)
+  valid : (config : Configuration) → Configures bytes config → IsAnswer bytes Validate Done (valid_text (length config.groups) (length config.volumes))
+  refused : (fault : DeckFault) → HasFirstFault bytes fault → IsAnswer bytes Validate FaultFound (refused_text fault)
+  simulated : (phases : List (List Item)) (text : List ℕ) → script_of bytes ≡ Ok phases → IsSimulation (items_of phases) (simulations.Shown text) → IsAnswer bytes Simulate Done text
+  unsimulated : (phases : List (List Item)) (fault : DeckFault) → script_of bytes ≡ Ok phases → IsSimulation (items_of phases) (simulations.Refused fault) → IsAnswer bytes Simulate FaultFound (refused_text fault)
+
+-- the input is no script that can be simulated: it has this fault as a script, or is one with an item that isn't the one asked there
+pub data IsScriptFault (bytes : List ℕ) : Task → ScriptErr → Type 0 where
+  unread : (err : ScriptErr) → script_of bytes ≡ Err err → IsScriptFault bytes Simulate err
+  misplaced : (phases : List (List Item)) (line : ℕ) → script_of bytes ≡ Ok phases → first_misplaced (items_of phases) ≡ Some line → IsScriptFault bytes Simulate (scripts.BadLine line)
+
+-- why an input has no answer; want of memory says nothing of it
+abbrev pub Hinders : List ℕ → Task → NoAnswer → Type 0
+Hinders bytes task (hindrances.Script err) = IsScriptFault bytes task err
+Hinders bytes task hindrances.NoMemory = Unit {0}
+
+-- why an input with this fault as a script has no answer
+abbrev pub hindrance_of : ScriptErr → NoAnswer
+hindrance_of (scripts.BadLine line) = hindrances.Script (scripts.BadLine line)
+hindrance_of (scripts.OpenBlock line) = hindrances.Script (scripts.OpenBlock line)
+hindrance_of (scripts.TooManyLines line) = hindrances.Script (scripts.TooManyLines line)
+hindrance_of scripts.NoMemory = hindrances.NoMemory
+
+-- a refusal of the text is told
+abbrev pub TellsFault : TranslateErr → ToolStatus → List ℕ → Type 0
+TellsFault (Fault fault) status text = (status ≡ FaultFound) × (text ≡ fault_text fault)
+TellsFault NoMemory status text = ⊥
+
+-- a simulation is told
+abbrev pub TellsSimulation : Simulated → ToolStatus → List ℕ → Type 0
+TellsSimulation (simulations.Shown shown) status text = (status ≡ Done) × (text ≡ shown)
+TellsSimulation (simulations.Refused fault) status text = (status ≡ FaultFound) × (text ≡ refused_text fault)
+TellsSimulation (simulations.Misplaced line) status text = ⊥
+
+-- why a simulation has no text
+abbrev pub HindersSimulation : Simulated → NoAnswer → Type 0
+HindersSimulation (simulations.Misplaced line) why = (why ≡ hindrances.Script (scripts.BadLine line)) ⊎ (why ≡ hindrances.NoMemory)
+HindersSimulation made why = why ≡ hindrances.NoMemory

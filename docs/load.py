@@ -1,0 +1,19 @@
+#!/usr/bin/env python3
+"""Writes the scripts by which the desk's speed is measured. usage: load.py alloc N | mixed N VOLUMES"""
+import sys, random
+def deck(volumes, tracks):
+    v=''.join(f'[storgroup.SG1.volume.V{i:05d}]\ntracks = {tracks}\n' for i in range(volumes))
+    return f"SMSADMIN 1 ACTIVATE\nversion = 1\n[storclass.SC1]\n{v}[routine]\nstorclass = \"PROC STORCLAS SET &STORCLAS = 'SC1' END\"\nstorgroup = \"PROC STORGRP SET &STORGRP = 'SG1' END\"\n./END\n"
+what,n=sys.argv[1],int(sys.argv[2])
+if what=='alloc':
+    out=[deck(1,982800)]
+    out+= [f'JOB{i%10} {i+1} ALLOC A.D{i} SPACE=(TRK,(1,1))\n' for i in range(n)]
+else:
+    r=random.Random(1); vols=int(sys.argv[3]); out=[deck(vols,50085)]; live=[]; k=0
+    for i in range(n):
+        if live and r.random()<0.4:
+            j=r.randrange(len(live)); live[j],live[-1]=live[-1],live[j]
+            out.append(f'JOB{i%10} {i+1} DELETE A.D{live.pop()}\n')
+        else:
+            out.append(f'JOB{i%10} {i+1} ALLOC A.D{i} SPACE=(TRK,({r.randrange(1,400)},5))\n'); live.append(i)
+sys.stdout.write(''.join(out))
