@@ -26,12 +26,12 @@ static ALLOC: &str = "POST /job/JOB1/1/alloc/PAY.MASTER HTTP/1.1\r\nContent-Leng
 static ANSWERS: &[u8] = b"HTTP/1.1 200 OK\r\nContent-Type: application/json\r\nContent-Length: 62\r\n\
     Connection: keep-alive\r\n\r\n\
     {\"code\":\"A04\",\"first\":1,\"lines\":[\"A04 ACTIVATED 1\"],\"place\":1}\
-    HTTP/1.1 200 OK\r\nContent-Type: application/json\r\nContent-Length: 103\r\n\
+    HTTP/1.1 200 OK\r\nContent-Type: application/json\r\nContent-Length: 99\r\n\
     Connection: keep-alive\r\n\r\n\
-    {\"code\":\"A00\",\"first\":2,\"lines\":[\"A00 GRANTED\",\"  CLASS - SC1 - SG1\",\"  EXTENT VOL001 0 10\"],\"place\":2}\
-    HTTP/1.1 200 OK\r\nContent-Type: application/json\r\nContent-Length: 103\r\n\
+    {\"code\":\"A00\",\"first\":2,\"lines\":[\"A00 GRANTED\",\"CLASS - SC1 - SG1\",\"EXTENT VOL001 0 10\"],\"place\":2}\
+    HTTP/1.1 200 OK\r\nContent-Type: application/json\r\nContent-Length: 99\r\n\
     Connection: keep-alive\r\n\r\n\
-    {\"code\":\"A00\",\"first\":2,\"lines\":[\"A00 GRANTED\",\"  CLASS - SC1 - SG1\",\"  EXTENT VOL001 0 10\"],\"place\":3}";
+    {\"code\":\"A00\",\"first\":2,\"lines\":[\"A00 GRANTED\",\"CLASS - SC1 - SG1\",\"EXTENT VOL001 0 10\"],\"place\":3}";
 
 /// How a conversation ended, what was sent, and how many requests the clerk answered and the desk entered.
 #[derive(Drop)]
