@@ -40,6 +40,8 @@ mod runs;
 #[cfg(test)]
 mod scripts;
 #[cfg(test)]
+mod serving;
+#[cfg(test)]
 mod shown;
 #[cfg(test)]
 mod stepping;
