@@ -1,4 +1,6 @@
 //! Conversations over HTTP with a desk.
+ghost use Rattle.std.specs.Prelude.{◌≤◌};
+
 use acs_tree::Slate;
 use desk_http::CoreClerk;
 use http_talk::{End, serve_connection};
