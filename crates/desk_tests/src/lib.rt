@@ -1,17 +1,23 @@
-//! Tests of the desk across its crates.
+//! Tests of the desk as a whole, and of the texts of its scripts.
 #![tactic(auto)]
 
 #[cfg(test)]
-mod book;
+mod cases;
 #[cfg(test)]
-mod conversations;
+mod commands;
 #[cfg(test)]
-mod ledger;
+mod repeats;
 #[cfg(test)]
-mod names;
+mod replies;
 #[cfg(test)]
-mod records;
+mod running;
 #[cfg(test)]
-mod talking;
+mod runs;
 #[cfg(test)]
-mod turns;
+mod scripts;
+#[cfg(test)]
+mod serving;
+#[cfg(test)]
+mod shown;
+#[cfg(test)]
+mod stepping;

@@ -1,0 +1,62 @@
+//! Runs on words and scripts that no text of a case can give.
+use crate::running::{Outcome, run, run_words};
+use RunStatus::Done;
+use desk_calls::RunStatus;
+use std::test::Fail;
+
+const LINE: &[u8] = b"JOB1 1 ALLOC A.B SPACE=(TRK,1)\n";
+
+/// Words that no program of the desk has, and what the program answers before it asks the desk.
+#[rattlefmt::skip]
+static OTHER_WORDS: [&[&str]; 5] = [&[], &[""], &["run", "--volumes", ""], &["run", ""], &["--help"]];
+
+#[test]
+fn other_words_are_refused_and_nothing_is_read(rt: HostRuntime) -> Result<(), Fail> {
+    for list in &OTHER_WORDS {
+        let Outcome { status, text } = run_words(rt.alloc(), list, LINE, &[1], &[], 100)?;
+        assert!(rt; status == RunStatus::BadWords, "{list:?}");
+        assert!(rt; status.code() == 2);
+        assert!(rt; text.is_empty());
+    }
+    Ok(())
+}
+
+#[test]
+fn a_script_may_have_16777216_bytes_and_no_more(rt: HostRuntime) -> Result<(), Fail> {
+    let mut script = vec![in rt.alloc(); b' '; 16_777_216]?;
+    let Outcome { status, text } = run(rt.alloc(), &script)?;
+    assert!(rt; status == Done);
+    assert!(rt; text.as_slice() == b"END 0 0\n".as_slice());
+    script.push(b'\n')?;
+    let Outcome { status, text } = run(rt.alloc(), &script)?;
+    assert!(rt; status == RunStatus::TooLong);
+    assert!(rt; status.code() == 6);
+    assert!(rt; text.is_empty());
+    Ok(())
+}
+
+/// An ALLOC that is one track past the threshold of two volumes, both of which are then secondary
+/// ones: it may be granted on either.
+const PAST_THE_THRESHOLD: &str = "SMSADMIN 1 ACTIVATE
+version = 1
+[storclass.SC1]
+[storgroup.SG1.volume.VOL001]
+tracks = 100
+[storgroup.SG1.volume.VOL002]
+tracks = 100
+status = 'QUIALL'
+[routine]
+storclass = \"PROC STORCLAS SET &STORCLAS = 'SC1' END\"
+storgroup = \"PROC STORGRP SET &STORGRP = 'SG1' END\"
+./END
+J 1 ALLOC A.B SPACE=(TRK,86)
+";
+
+#[test]
+fn just_past_the_threshold_either_volume_is_granted(rt: HostRuntime) -> Result<(), Fail> {
+    let Outcome { status, text } = run(rt.alloc(), PAST_THE_THRESHOLD.as_bytes())?;
+    assert!(rt; status == Done);
+    let first = text.ends_with(b"EXTENT VOL001 0 86\nEND 2 2\n");
+    assert!(rt; first || text.ends_with(b"EXTENT VOL002 0 86\nEND 2 2\n"));
+    Ok(())
+}
