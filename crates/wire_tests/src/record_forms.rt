@@ -1,5 +1,9 @@
 //! Records of every variant: read and written again, cut, lengthened, changed byte by byte; and what is no record.
 use crate::record_rows::{NO_REPLIES, NO_REQUESTS, NO_SETS, REPLIES, REQUESTS, SETS};
+use acs_tree::{Kind, Slate};
+use desk_common::Shared;
+use dsn_mask::Lit;
+use sms_construct::{Reply, Trace};
 use sms_records::{
     RecordErr, read_reply, read_request, read_set, reply_record, request_record, set_record,
 };
@@ -138,5 +142,36 @@ fn what_is_out_of_its_range_is_no_record(rt: HostRuntime) -> Result<(), Fail> {
     assert_eq!(rt; taken(alloc, &Of::Reply, &NO_REPLIES)?, None);
     assert_eq!(rt; taken(alloc, &Of::Request, &NO_REQUESTS)?, None);
     assert_eq!(rt; taken(alloc, &Of::Set, &NO_SETS)?, None);
+    Ok(())
+}
+
+static KINDS: [Kind; 4] = [
+    Kind::DataClas,
+    Kind::StorClas,
+    Kind::MgmtClas,
+    Kind::StorGrp,
+];
+
+// What four routines that write 70 lines of 110 bytes leave: 64 lines of each.
+fn full_trace(alloc: Global) -> Result<Trace, Fail> {
+    let line = Lit::new(&[b'L'; 110]).ok_or("line")?;
+    let mut slate = Slate::new(alloc)?;
+    for kind in &KINDS {
+        for _ in 0..70 {
+            slate.write(*kind, line);
+        }
+    }
+    Ok(Trace::of(alloc, &slate)?)
+}
+
+#[test]
+fn a_reply_with_all_lines_is_read_again(rt: HostRuntime) -> Result<(), Fail> {
+    let alloc = rt.alloc();
+    let reply = Reply::NoGroup {
+        trace: Shared::new(alloc, full_trace(alloc)?)?,
+    };
+    let record = reply_record(alloc, &reply)?;
+    assert!(rt; record.len() == 30_505);
+    assert!(rt; is_record(alloc, &Of::Reply, record.as_slice())?);
     Ok(())
 }
