@@ -191,8 +191,8 @@ pub static NO_REQUESTS: [(&str, &[u8]); 39] = [
     ("a position past the last", b"\0\0\0\0\0\0\0\x04JOB1\0\0\0\0\0\0\0\x07\x09\0\0\0\0\0\0\0\x03A.B"),
     ("a small letter in a data set name", b"\0\0\0\0\0\0\0\x04JOB1\0\0\0\0\0\0\0\x07\x01\0\0\0\0\0\0\0\x03a.b"),
     ("an empty qualifier", b"\0\0\0\0\0\0\0\x04JOB1\0\0\0\0\0\0\0\x07\x01\0\0\0\0\0\0\0\x04A..B"),
-    ("a name of 45 bytes", b"\0\0\0\0\0\0\0\x04JOB1\0\0\0\0\0\0\0\x07\x01\0\0\0\0\0\0\0,AAAAAAAA.AAAAAAAA.AAAAAAAA.AA\
-      AAAAAA.AAAAAAAA"),
+    ("a name of 45 bytes", b"\0\0\0\0\0\0\0\x04JOB1\0\0\0\0\0\0\0\x07\x01\0\0\0\0\0\0\0-AAAAAAAA.AAAAAAAA.AAAAAAAA.AA\
+      AAAAAA.AAAAAAA.A"),
     ("USED 2^32", b"\0\0\0\0\0\0\0\x04JOB1\0\0\0\0\0\0\0\x07\x03\0\0\0\0\0\0\0\x03A.B\0\0\0\x01\0\0\0\0"),
     ("a target past the last", b"\0\0\0\0\0\0\0\x04JOB1\0\0\0\0\0\0\0\x07\x05\x03\0\0\0\0\0\0\0\x01A"),
     ("a volume of seven bytes", b"\0\0\0\0\0\0\0\x04JOB1\0\0\0\0\0\0\0\x07\x05\x01\0\0\0\0\0\0\0\x07VOL0001"),
