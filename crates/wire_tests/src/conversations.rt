@@ -364,8 +364,20 @@ fn a_message_is_heard_byte_by_byte(rt: HostRuntime) -> Result<(), Fail> {
         let holds = ends(rt.alloc(), *piece, *turns, *end, *answered)?;
         assert!(rt; holds, "{piece} {turns}");
     }
+    for piece in 1..100 {
+        let holds = ends(
+            rt.alloc(),
+            piece,
+            1_000_000,
+            End::Closed { cut: true },
+            true,
+        )?;
+        assert!(rt; holds, "{piece}");
+    }
     let Outcome { end, sent, .. } = whole(rt.alloc(), b"")?;
     assert!(rt; end == End::Closed { cut: false } && sent.is_empty());
+    let Outcome { end, .. } = whole(rt.alloc(), b"GET / HTTP/9.9\r\n")?;
+    assert!(rt; end == End::Refused(400));
     Ok(())
 }
 
