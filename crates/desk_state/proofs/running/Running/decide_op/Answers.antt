@@ -1,4 +1,5 @@
 use Rattle.desk_state.proofs.DecideLemmas.{purge-answers}
+use Rattle.desk_state.proofs.WorkLemmas.{classes-used, deck-used}
 use Rattle.desk_state.proofs.running.Running.decide_op.Goals as goal
 
 pub returns-in-Purge-clause-answers : goal.returns-in-Purge-clause-answers
@@ -8,3 +9,9 @@ returns-in-Purge-clause-answers c = λ s floors lawful is old.
 
 pub returns-in-Purge-clause-possible : goal.returns-in-Purge-clause-possible
 returns-in-Purge-clause-possible c = c.decide_purge.ensures.possible c.args.self.now
+
+pub decide_alloc-requires-clause-before : goal.decide_alloc-requires-clause-before
+decide_alloc-requires-clause-before c = classes-used c.args.self.now c.args.request.now c.args.slate.now c.args.work c.classified_under-before.result _ c.requires.work c.in-Alloc.is c.classified_under-before.ensures
+
+pub decide_activate-requires-clause-before : goal.decide_activate-requires-clause-before
+decide_activate-requires-clause-before c = deck-used c.args.self.now c.args.request.now c.args.slate.now c.args.work c.deck_read.result _ c.requires.work c.in-Activate.is c.deck_read.ensures
