@@ -1,6 +1,7 @@
 -- Work that was done before a step: what of it is used, and that it stays work.
 use Rattle.std.proofs.Common.{◌≡◌, ℕ, List, ◌++◌, Option, None, Some, append_assoc, refl, sym, ap, subst, ◌∙◌}
-use Rattle.std.specs.Prelude.{IfSome, Result}
+use Rattle.std.specs.Prelude.{IfOk, IfSome, Result, Ok, Err}
+use Rattle.std.specs.declared.alloc.AllocError.{AllocError}
 use Rattle.acs_tree.specs.Slates.{SlateLines}
 use Rattle.sms_construct.specs.Configuration.{Configuration}
 use Rattle.sms_construct.specs.declared.alloc.Alloc.{Alloc}
@@ -8,6 +9,7 @@ use Rattle.sms_construct.specs.declared.entry.Entry.{Entry}
 use Rattle.sms_construct.specs.declared.request.Op.TheVariants as ops
 use Rattle.sms_construct.specs.declared.request.Request.{Request}
 use Rattle.sms_deck.specs.declared.deck_err.DeckErr.{DeckErr}
+use Rattle.sms_deck.specs.Reading.{Configures}
 use Rattle.sms_classes.specs.declared.classified.Classified.{Classified}
 use Rattle.desk_law.specs.State.{Opening}
 use Rattle.desk_law.specs.History.{WasActive}
@@ -26,12 +28,24 @@ classes-used running request written work (Some made) alloc is_work op is =
     λ config active. now refl config alloc active op
 
 -- a deck of the work is that of the request
-pub deck-used : (running : Running) (request : Request) (written : SlateLines) (work : Work) (found : Option (Result Configuration DeckErr)) (deck : List ℕ)
-    → IsWorkNow running request written work → request.op ≡ ops.Activate deck → IfSome found (λ read. work ≡ Deck read) → IfSome found (IsReadAs deck)
-deck-used running request written work None deck is_work op is = tt
-deck-used running request written work (Some read) deck is_work op is =
+pub deck-used : (running : Running) (request : Request) (written : SlateLines) (work : Work) (read : Result Configuration DeckErr) (deck : List ℕ)
+    → IsWorkNow running request written work → request.op ≡ ops.Activate deck → work ≡ Deck read → IsReadAs deck read
+deck-used running request written work read deck is_work op is =
     let now : IsWorkNow running request written (Deck read) = subst (IsWorkNow running request written) is is_work in
     now deck op
+
+-- a configuration that was read is shared, or memory is wanting
+pub read-shared : (deck : List ℕ) (read : Result Configuration DeckErr) (config : Configuration) (made : Result Configuration AllocError)
+    → read ≡ Ok config → IfOk made (λ same. same ≡ config) → IsReadAs deck read → IfOk made (Configures deck)
+read-shared deck read config (Ok same) is shared as_read =
+    let configures : Configures deck config = (subst (IsReadAs deck) is as_read).ok in
+    subst (Configures deck) (sym shared) configures
+read-shared deck read config (Err error) is shared as_read = tt
+
+-- the same of one that is read now
+pub made-shared : (deck : List ℕ) (config : Configuration) (made : Result Configuration AllocError) → Configures deck config → IfOk made (λ same. same ≡ config) → IfOk made (Configures deck)
+made-shared deck config (Ok same) configures shared = subst (Configures deck) (sym shared) configures
+made-shared deck config (Err error) configures shared = tt
 
 -- what was classified under the active configuration
 pub classified-active : (running : Running) (job : List ℕ) (alloc : Alloc) (written : SlateLines) (found : Option Classified) (config same : Configuration)

@@ -1,5 +1,7 @@
 //! ACTIVATE.
-ghost use Rattle.std.specs.Prelude.{◌≡◌, ◌<◌, ◌+◌, ◌^◌, IfOk, IfSome, None};
+ghost use Rattle.std.specs.Prelude.{◌≡◌, ◌<◌, ◌+◌, ◌^◌, IfOk, None, Result};
+ghost use Rattle.sms_construct.specs.Configuration.{Configuration};
+ghost use Rattle.sms_deck.specs.declared.deck_err.DeckErr.{DeckErr as DeckError};
 ghost use Rattle.desk_law.specs.State.{DeskState};
 ghost use Rattle.desk_law.specs.Activation.{ActivateRule, ConfigurationRule, first_barred};
 ghost use Rattle.desk_law.specs.Lawful.{IsLawful};
@@ -12,25 +14,26 @@ use crate::decision::Decision;
 use crate::deed::Deed;
 use crate::running::Running;
 use crate::using::configuration;
+use crate::work::Work;
 use desk_common::Shared;
 use sms_construct::{DeckText, Reply};
 use sms_deck::{Config, DeckErr};
 use std::alloc::AllocError;
 
 impl Running {
-    /// What ACTIVATE is answered (docs/rules.md, "ACTIVATE"). Where the deck was read before, it isn't read again.
+    /// What ACTIVATE is answered (docs/rules.md, "ACTIVATE"). A deck that was read before isn't read again.
     pub(crate) fn decide_activate(
         &self,
         deck: &DeckText,
-        before: Option<Result<Shared<Config>, DeckErr>>,
+        work: &Work,
     ) -> Result<Decision, AllocError>
         requires state { IsSomeState self.now }
-        requires before { IfSome before (IsReadAs deck.now) }
+        requires work { (read : Result Configuration DeckError) → work.now ≡ Work.Deck read → IsReadAs deck.now read }
         requires counted { self.now.activations + 1 < 2 ^ 64 }
         ensures answers { IfOk result (λ made. (s : DeskState) → IsLawful s → IsRunning s self.now → Answers s self.now (ActivateRule s deck.now) made) }
         ensures possible { IfOk result (λ made. IsPossible self.now made.deed) }
     {
-        match configuration(self.alloc, deck, before) {
+        match configuration(self.alloc, deck, work) {
             Ok(config) => self.decide_configuration(config),
             Err(DeckErr::Fault(fault)) => Ok(Decision::quiet(Reply::Deck(fault))),
             Err(DeckErr::NoMemory) => Err(AllocError),

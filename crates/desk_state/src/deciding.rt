@@ -12,7 +12,7 @@ ghost use Rattle.desk_state.specs.Working.{IsWorkNow};
 use crate::decision::Decision;
 use crate::operator::decide_purge;
 use crate::running::Running;
-use crate::using::{classified_under, deck_read};
+use crate::using::classified_under;
 use crate::work::Work;
 use acs_tree::Slate;
 use sms_construct::{Op, Request};
@@ -24,13 +24,13 @@ impl Running {
         &mut self,
         request: &Request,
         old: u32,
-        work: Work,
+        work: &Work,
         slate: &mut Slate,
     ) -> Result<Decision, AllocError>
         requires state { IsSomeState self.old }
         requires counted { self.old.activations + 1 < 2 ^ 64 }
         requires sound { IsSound request.now.op }
-        requires work { IsWorkNow self.old request.now slate.old work }
+        requires work { IsWorkNow self.old request.now slate.old work.now }
         ensures same { (s : DeskState) → IsRunning s self.old → IsRunning s self.new }
         ensures answers { IfOk result (λ made. (s : DeskState) (floors : List ℕ → ℕ) → IsLawful s → IsRunning s self.old → IsOldFloor floors request.now.op old → Answers s self.new (Rule floors s request.now.job request.now.op) made) }
         ensures possible { IfOk result (λ made. IsPossible self.new made.deed) }
@@ -40,7 +40,7 @@ impl Running {
                 let before = classified_under(work, self.activations);
                 self.decide_alloc(&request.job, alloc.get(), before, slate)
             },
-            Op::Activate(deck) => self.decide_activate(deck, deck_read(work)),
+            Op::Activate(deck) => self.decide_activate(deck, work),
             Op::Extend(dsn) => self.decide_extend(dsn),
             Op::Delete(dsn) => Ok(self.decide_delete(dsn)),
             Op::Used { dsn, tracks } => self.decide_used(dsn, *tracks),
@@ -58,13 +58,13 @@ impl Running {
         &mut self,
         request: &Request,
         old: u32,
-        work: Work,
+        work: &Work,
         slate: &mut Slate,
     ) -> Result<Decision, AllocError>
         requires state { IsSomeState self.old }
         requires counted { self.old.activations + 1 < 2 ^ 64 }
         requires sound { IsSound request.now.op }
-        requires work { IsWorkNow self.old request.now slate.old work }
+        requires work { IsWorkNow self.old request.now slate.old work.now }
         ensures same { (s : DeskState) → IsRunning s self.old → IsRunning s self.new }
         ensures decided { IfOk result (λ made. (s : DeskState) (floors : List ℕ → ℕ) → IsLawful s → IsRunning s self.old → IsOldFloor floors request.now.op old → IsDecided floors s request.now made.reply (effect_of made.deed) (config_of made.deed)) }
         ensures fits { IfOk result (λ made. (s : DeskState) → IsLawful s → IsRunning s self.old → Fits s self.new made.deed) }

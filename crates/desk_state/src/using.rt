@@ -1,7 +1,8 @@
 // What is used of the work before a step.
-ghost use Rattle.std.specs.Prelude.{◌≡◌, IfErr, IfOk, IfSome, Some};
-ghost use Rattle.desk_common.specs.Exact.{MayRefuse};
-ghost use Rattle.sms_deck.specs.Reading.{Configures, TellsFirstFault};
+ghost use Rattle.std.specs.Prelude.{◌≡◌, List, ℕ, Result, IfOk, IfSome};
+ghost use Rattle.sms_construct.specs.Configuration.{Configuration};
+ghost use Rattle.sms_deck.specs.declared.deck_err.DeckErr.{DeckErr as DeckError};
+ghost use Rattle.sms_deck.specs.Reading.{Configures};
 ghost use Rattle.desk_law.specs.Classification.{classes_of};
 ghost use Rattle.sms_classes.specs.Known.{AreKnown};
 ghost use Rattle.desk_state.specs.Working.{IsClassified, IsReadAs};
@@ -14,25 +15,15 @@ use dsn_mask::Name;
 use sms_classes::{Classified, classes_are_known, classify};
 use sms_construct::{Alloc, DeckText};
 use sms_deck::{Config, DeckErr, read_deck};
-use std::alloc::Global;
+use std::alloc::{AllocError, Global};
 
 /// What was classified under so many activations, if anything was.
-pub fn classified_under(work: Work, activations: u64) -> Option<Classified>
-    ensures { IfSome result (λ made. work ≡ Work.Classes activations made) }
+pub fn classified_under(work: &Work, activations: u64) -> Option<Classified>
+    ensures { IfSome result (λ made. work.now ≡ Work.Classes activations made) }
 {
     match work {
-        Work::Classes { under, classified } if under == activations => Some(classified),
+        Work::Classes { under, classified } if *under == activations => Some(*classified),
         Work::Nothing | Work::Classes { .. } | Work::Deck(_) => None,
-    }
-}
-
-/// How the deck was read, if it was.
-pub fn deck_read(work: Work) -> Option<Result<Shared<Config>, DeckErr>>
-    ensures { IfSome result (λ read. work ≡ Work.Deck read) }
-{
-    match work {
-        Work::Deck(read) => Some(read),
-        Work::Nothing | Work::Classes { .. } => None,
     }
 }
 
@@ -59,26 +50,39 @@ pub fn classes(
 }
 
 /// What a deck configures, or its first fault, or want of memory: as it was read before, else as it is read now.
-pub fn configuration(
-    alloc: Global,
-    deck: &DeckText,
-    before: Option<Result<Shared<Config>, DeckErr>>,
-) -> Result<Shared<Config>, DeckErr>
-    requires { IfSome before (IsReadAs deck.now) }
-    ensures ok { IfOk result (Configures deck.now) }
-    ensures err { IfErr result (MayRefuse (TellsFirstFault deck.now) (Some DeckErr.NoMemory)) }
+pub fn configuration(alloc: Global, deck: &DeckText, work: &Work) -> Result<Shared<Config>, DeckErr>
+    requires { (read : Result Configuration DeckError) → work.now ≡ Work.Deck read → IsReadAs deck.now read }
+    ensures { IsReadAs deck.now result }
 {
-    match before {
-        Some(read) => read,
-        None => read_now(alloc, deck),
+    match work {
+        Work::Deck(read) => shared(read),
+        Work::Nothing | Work::Classes { .. } => read_now(alloc, deck),
+    }
+}
+
+// The same, with one owner more.
+fn shared(read: &Result<Shared<Config>, DeckErr>) -> Result<Shared<Config>, DeckErr>
+    ensures { (deck : List ℕ) → IsReadAs deck read.now → IsReadAs deck result }
+{
+    match read {
+        Ok(config) => or_no_memory(config.share()),
+        Err(error) => Err(*error),
     }
 }
 
 fn read_now(alloc: Global, deck: &DeckText) -> Result<Shared<Config>, DeckErr>
-    ensures ok { IfOk result (Configures deck.now) }
-    ensures err { IfErr result (MayRefuse (TellsFirstFault deck.now) (Some DeckErr.NoMemory)) }
+    ensures { IsReadAs deck.now result }
 {
-    match Shared::new(alloc, read_deck(alloc, deck)?) {
+    match read_deck(alloc, deck) {
+        Ok(config) => or_no_memory(Shared::new(alloc, config)),
+        Err(error) => Err(error),
+    }
+}
+
+fn or_no_memory(made: Result<Shared<Config>, AllocError>) -> Result<Shared<Config>, DeckErr>
+    ensures { (deck : List ℕ) → IfOk made (Configures deck) → IsReadAs deck result }
+{
+    match made {
         Ok(config) => Ok(config),
         Err(_) => Err(DeckErr::NoMemory),
     }

@@ -1,11 +1,13 @@
 //! Work that is done before a step and handed in with its request.
-ghost use Rattle.std.specs.Prelude.{◌≡◌, ◌++◌, List};
+ghost use Rattle.std.specs.Prelude.{◌≡◌, ◌++◌, List, IfErr, IfOk, Some};
+ghost use Rattle.desk_common.specs.Exact.{MayRefuse};
+ghost use Rattle.sms_deck.specs.Reading.{Configures, TellsFirstFault};
 ghost use Rattle.acs_tree.specs.Slates.{SlateLines};
 ghost use Rattle.sms_construct.specs.declared.alloc.Alloc.{Alloc as Allocation};
 ghost use Rattle.sms_construct.specs.declared.entry.Entry.{Entry as Entered};
 ghost use Rattle.sms_construct.specs.declared.request.Request.{Request as Asked};
 ghost use Rattle.desk_law.specs.State.{Opening};
-ghost use Rattle.desk_state.specs.Working.{IsReadAs, IsWork};
+ghost use Rattle.desk_state.specs.Working.{IsWork};
 
 use acs_tree::Slate;
 use desk_common::Shared;
@@ -108,7 +110,8 @@ fn text_of(alloc: Global, answer: &Answer) -> Result<Vec<u8>, AllocError> {
 
 // How the deck is read.
 fn read(alloc: Global, deck: &DeckText) -> Result<Shared<Config>, DeckErr>
-    ensures { IsReadAs deck.now result }
+    ensures ok { IfOk result (Configures deck.now) }
+    ensures err { IfErr result (MayRefuse (TellsFirstFault deck.now) (Some DeckErr.NoMemory)) }
 {
     match Shared::new(alloc, read_deck(alloc, deck)?) {
         Ok(config) => Ok(config),
@@ -117,12 +120,7 @@ fn read(alloc: Global, deck: &DeckText) -> Result<Shared<Config>, DeckErr>
 }
 
 // What can be done for the request before its step.
-fn work_for(
-    alloc: Global,
-    core: &Core<MemKeeper>,
-    request: &Request,
-    slate: &mut Slate,
-) -> Work
+fn work_for(alloc: Global, core: &Core<MemKeeper>, request: &Request, slate: &mut Slate) -> Work
     ensures { IsWork core.now.opening core.now.journal request.now slate.new result }
 {
     match &request.op {

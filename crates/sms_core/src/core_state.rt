@@ -103,7 +103,7 @@ impl<P: Keeper> Core<P> {
             request,
             &mut self.running,
             &mut self.records,
-            work,
+            &work,
             slate,
         );
         let Ok(Prepared { entry, answer }) = made else {

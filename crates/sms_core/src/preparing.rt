@@ -38,12 +38,12 @@ pub fn prepare<P: Keeper>(
     request: &Request,
     running: &mut Running,
     records: &mut Records<P>,
-    work: Work,
+    work: &Work,
     slate: &mut Slate,
 ) -> Result<Prepared, AllocError>
     requires state { IsSomeState running.old }
     requires sound { IsSound request.now.op }
-    requires work { IsWorkNow running.old request.now slate.old work }
+    requires work { IsWorkNow running.old request.now slate.old work.now }
     requires counted { running.old.activations + 1 < 2 ^ 64 }
     requires reply_room { 0 < records.old.log.reply_room }
     requires floor_room { 0 < records.old.log.floor_room }
@@ -84,13 +84,13 @@ fn prepare_fresh<P: Keeper>(
     request: &Request,
     running: &mut Running,
     records: &mut Records<P>,
-    work: Work,
+    work: &Work,
     slate: &mut Slate,
 ) -> Result<Prepared, AllocError>
     requires unknown { IsUnknown records.old.log request.now }
     requires state { IsSomeState running.old }
     requires sound { IsSound request.now.op }
-    requires work { IsWorkNow running.old request.now slate.old work }
+    requires work { IsWorkNow running.old request.now slate.old work.now }
     requires counted { running.old.activations + 1 < 2 ^ 64 }
     requires reply_room { 0 < records.old.log.reply_room }
     requires floor_room { 0 < records.old.log.floor_room }

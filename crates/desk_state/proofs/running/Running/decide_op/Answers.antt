@@ -11,7 +11,7 @@ pub returns-in-Purge-clause-possible : goal.returns-in-Purge-clause-possible
 returns-in-Purge-clause-possible c = c.decide_purge.ensures.possible c.args.self.now
 
 pub decide_alloc-requires-clause-before : goal.decide_alloc-requires-clause-before
-decide_alloc-requires-clause-before c = classes-used c.args.self.now c.args.request.now c.args.slate.now c.args.work c.classified_under-before.result _ c.requires.work c.in-Alloc.is c.classified_under-before.ensures
+decide_alloc-requires-clause-before c = classes-used c.args.self.now c.args.request.now c.args.slate.now c.args.work.now c.classified_under-before.result _ c.requires.work c.in-Alloc.is c.classified_under-before.ensures
 
-pub decide_activate-requires-clause-before : goal.decide_activate-requires-clause-before
-decide_activate-requires-clause-before c = deck-used c.args.self.now c.args.request.now c.args.slate.now c.args.work c.deck_read.result _ c.requires.work c.in-Activate.is c.deck_read.ensures
+pub decide_activate-requires-clause-work : goal.decide_activate-requires-clause-work
+decide_activate-requires-clause-work c = λ read is. deck-used c.args.self.now c.args.request.now c.args.slate.now c.args.work.now read _ c.requires.work c.in-Activate.is is
