@@ -1,6 +1,6 @@
 //! ACTIVATE.
 ghost use Rattle.std.specs.Prelude.{◌≡◌, ◌<◌, ◌+◌, ◌^◌, IfOk, None, Result};
-ghost use Rattle.sms_construct.specs.Configuration.{Configuration};
+ghost use Rattle.sms_construct.specs.Configuration.{Configuration, IsConfiguration};
 ghost use Rattle.sms_deck.specs.declared.deck_err.DeckErr.{DeckErr as DeckError};
 ghost use Rattle.desk_law.specs.State.{DeskState};
 ghost use Rattle.desk_law.specs.Activation.{ActivateRule, ConfigurationRule, first_barred};
@@ -47,6 +47,8 @@ impl Running {
         ensures answers { IfOk result (λ made. (s : DeskState) → IsLawful s → IsRunning s self.now → Answers s self.now (ConfigurationRule s config) made) }
         ensures possible { IfOk result (λ made. IsPossible self.now made.deed) }
     {
+        // A fact for the proof; nothing runs.
+        is_configuration(config.get());
         match self.volumes.barred(config.get()) {
             Some(volser) => Ok(Decision::quiet(Reply::VolumeInUse(volser))),
             None => self.activation(config),
@@ -56,6 +58,7 @@ impl Running {
     fn activation(&self, config: Shared<Config>) -> Result<Decision, AllocError>
         requires state { IsSomeState self.now }
         requires counted { self.now.activations + 1 < 2 ^ 64 }
+        requires sound { IsConfiguration config }
         ensures answers { IfOk result (λ made. (s : DeskState) → IsLawful s → IsRunning s self.now → first_barred s config ≡ None → Answers s self.now (ConfigurationRule s config) made) }
         ensures possible { IfOk result (λ made. IsPossible self.now made.deed) }
     {
@@ -72,4 +75,11 @@ impl Running {
             },
         })
     }
+}
+
+// Tells a proof what holds of each configuration.
+fn is_configuration(config: &Config)
+    ensures { IsConfiguration config.now }
+{
+    let _deck = config.deck();
 }

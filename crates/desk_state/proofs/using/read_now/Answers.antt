@@ -1,4 +1,3 @@
-use Rattle.std.proofs.Common.{subst}
 use Rattle.desk_state.proofs.WorkLemmas.{made-shared}
 use Rattle.desk_state.proofs.using.read_now.Goals as goal
 
