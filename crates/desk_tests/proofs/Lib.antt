@@ -1,3 +1,2 @@
 mod BookingLemmas
 mod SigningLemmas
-mod WorkingLemmas

@@ -15,5 +15,3 @@ mod records;
 mod talking;
 #[cfg(test)]
 mod turns;
-#[cfg(test)]
-mod working;
