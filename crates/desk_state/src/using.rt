@@ -41,7 +41,7 @@ pub fn classes(
     ensures slate { slate.new ≡ (classes_of config.now job.now alloc.now).written }
     ensures known { result.stop ≡ Stop.Done → AreKnown config.now result.values }
 {
-    // A fact for the proof; nothing runs.
+    // Facts for the proof; nothing runs.
     classes_are_known(config);
     match before {
         Some(classified) => classified,

@@ -22,7 +22,7 @@ pub fn classify(config: &Config, job: &Name, alloc: &Alloc, slate: &mut Slate) -
     ensures slate { slate.new ≡ (classes_of config.now job.now alloc.now).written }
     ensures known { result.stop ≡ Stop.Done → AreKnown config.now result.values }
 {
-    // A fact for the proof; nothing runs.
+    // Facts for the proof; nothing runs.
     classes_are_known(config);
     slate.clear();
     let input = alloc.input.under(job, config.system(), config.sysplex());
