@@ -13,7 +13,7 @@ use crate::lawful_history::legal_is_lawful;
 use acs_tree::Slate;
 use desk_common::Items;
 use sms_construct::{Answer, Answers};
-use sms_core::Core;
+use sms_core::{Core, Work};
 use sms_keeper::Keeper;
 use sms_script::{Item, Phase, Script};
 use std::alloc::{AllocError, Global};
@@ -124,7 +124,7 @@ fn answer_items<P: Keeper>(
     ensures mark { core.new.mark ≡ core.old.mark }
 {
     for item in items {
-        let answer = core.step(&item.request, slate);
+        let answer = core.step(&item.request, Work::Nothing, slate);
         answers.push_reserved(answer);
     }
 }

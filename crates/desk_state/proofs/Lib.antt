@@ -9,3 +9,4 @@ pub mod SpreadLemmas
 pub mod ExtensionLemmas
 pub mod ApplyLemmas
 pub mod DecideLemmas
+pub mod WorkLemmas

@@ -6,3 +6,4 @@ pub mod Answering
 pub mod Granting
 pub mod Wishing
 pub mod Growing
+pub mod Working

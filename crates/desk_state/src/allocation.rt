@@ -1,5 +1,6 @@
 //! ALLOC.
-ghost use Rattle.std.specs.Prelude.{◌≡◌, IfOk, None, Some};
+ghost use Rattle.std.specs.Prelude.{◌≡◌, IfOk, IfSome, None, Some};
+ghost use Rattle.sms_construct.specs.Configuration.{Configuration};
 ghost use Rattle.desk_law.specs.Allocation.{AllocRule, GrantRule};
 ghost use Rattle.desk_law.specs.Classification.{trace_of};
 ghost use Rattle.desk_law.specs.Lawful.{IsLawful};
@@ -10,31 +11,37 @@ ghost use Rattle.desk_state.specs.Catalog.{set_in};
 ghost use Rattle.desk_state.specs.Deeds.{IsPossible};
 ghost use Rattle.desk_state.specs.Standing.{IsRunning, IsSomeState};
 ghost use Rattle.desk_state.specs.Wishing.{ClassifiedRule, classes_with, set_granted};
+ghost use Rattle.desk_state.specs.Working.{IsClassified};
 
 use crate::decision::Decision;
 use crate::deed::Deed;
 use crate::grant::Grant;
 use crate::running::Running;
+use crate::using::classes;
 use crate::wish::Wish;
 use acs_tree::Slate;
 use desk_common::Shared;
 use desk_law::Stop;
 use dsn_mask::Name;
-use sms_classes::{Classified, classify, data_class_of, space_of, stop_reply};
+use sms_classes::{Classified, data_class_of, space_of, stop_reply};
 use sms_construct::{Alloc, Reply, Trace};
 use sms_deck::Config;
 use sms_volumes::Candidates;
 use std::alloc::{AllocError, Global};
 
 impl Running {
-    /// What ALLOC is answered (docs/rules.md, "ALLOC"). What was on the slate may be gone.
+    /// What ALLOC is answered (docs/rules.md, "ALLOC"). What it was classified as before, under the active
+    /// configuration, is used. What was on the slate may be gone.
     pub(crate) fn decide_alloc(
         &mut self,
         job: &Name,
         alloc: &Alloc,
+        before: Option<Classified>,
         slate: &mut Slate,
     ) -> Result<Decision, AllocError>
-        requires { IsSomeState self.old }
+        requires state { IsSomeState self.old }
+        requires before { IfSome before (λ made. (config : Configuration) → self.old.config ≡ Some config →
+            IsClassified config job.now alloc.now made slate.old) }
         ensures same { (s : DeskState) → IsRunning s self.old → IsRunning s self.new }
         ensures answers { IfOk result (λ made. (s : DeskState) → IsLawful s → IsRunning s self.old → Answers s self.new (AllocRule s job.now alloc.now) made) }
         ensures possible { IfOk result (λ made. IsPossible self.new made.deed) }
@@ -46,7 +53,7 @@ impl Running {
             return Ok(Decision::quiet(Reply::NameInUse));
         }
         let config = config.share()?;
-        let classified = classify(config.get(), job, alloc, slate);
+        let classified = classes(config.get(), job, alloc, before, slate);
         let trace = trace_of(self.alloc, slate)?;
         self.decide_classified(config.get(), alloc, &classified, trace)
     }

@@ -14,9 +14,14 @@ mod extents;
 mod grant;
 mod operator;
 mod running;
+mod staying;
+mod using;
 mod wish;
+mod work;
 
 pub use catalog::Catalog;
 pub use decision::Decision;
 pub use deed::Deed;
 pub use running::Running;
+pub use staying::work_stays;
+pub use work::Work;

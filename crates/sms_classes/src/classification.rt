@@ -5,7 +5,7 @@ ghost use Rattle.desk_law.specs.Classification.{begin, class_or_null, classes_of
 ghost use Rattle.sms_classes.specs.Known.{AreKnown};
 
 use crate::classified::Classified;
-use crate::leaving::leave_others;
+use crate::knowing::classes_are_known;
 use crate::onward::from_data_class;
 use acs_tree::{Slate, Values};
 use desk_law::Stop;
@@ -23,7 +23,7 @@ pub fn classify(config: &Config, job: &Name, alloc: &Alloc, slate: &mut Slate) -
     ensures known { result.stop ≡ Stop.Done → AreKnown config.now result.values }
 {
     // Facts for the proof; nothing runs.
-    leave_others(config);
+    classes_are_known(config);
     slate.clear();
     let input = alloc.input.under(job, config.system(), config.sysplex());
     let mut values = named_classes(alloc);

@@ -1,3 +1,4 @@
 mod CoreLemmas
 mod DeedLemmas
 mod FreshLemmas
+mod WorkLemmas

@@ -6,9 +6,10 @@ ghost use Rattle.desk_law.specs.State.{DeskState, set_named};
 ghost use Rattle.desk_law.specs.Display.{shown_volume};
 ghost use Rattle.desk_law.specs.Volumes.{volumes_in};
 ghost use Rattle.desk_law.specs.Step.{is_activation};
-ghost use Rattle.desk_law.specs.History.{IsLegal, Reaches};
+ghost use Rattle.desk_law.specs.History.{IsLegal, Reaches, WasActive};
 ghost use Rattle.desk_law.specs.Records.{empty_opening};
 ghost use Rattle.desk_records.specs.Tied.{IsSoundOpening, faults_in};
+ghost use Rattle.desk_state.specs.Working.{IsWork};
 ghost use Rattle.sms_core.specs.Core.{Enters, HasTables, needs_no_commit};
 
 use crate::preparing::{Prepared, prepare};
@@ -16,7 +17,7 @@ use crate::room::take_room;
 use acs_tree::Slate;
 use desk_common::{Items, Shared};
 use desk_records::{Opening, Records, is_full, request_is_sound};
-use desk_state::Running;
+use desk_state::{Running, Work};
 use dsn_mask::Dsn;
 use sms_construct::{Answer, DataSet, Entry, Journal, Op, Reply, Request, VolRows};
 use sms_deck::Config;
@@ -77,9 +78,12 @@ impl<P: Keeper> Core<P> {
         }
     }
 
-    /// Answers one request and enters it in the journal (docs/rules.md, "Order of answers"). Where the journal is
-    /// full or memory is wanting, nothing changes and nothing is entered. What was on the slate may be gone.
-    pub fn step(&mut self, request: &Request, slate: &mut Slate) -> Answer
+    /// Answers one request and enters it in the journal (docs/rules.md, "Order of answers"). Work that was done for
+    /// it before is used where it suits, and makes no difference to the answer ("Work before a step"); where its deck
+    /// was read with want of memory, so is the answer to a fresh number. Where the journal is full or memory is
+    /// wanting, nothing changes and nothing is entered. What was on the slate may be gone.
+    pub fn step(&mut self, request: &Request, work: Work, slate: &mut Slate) -> Answer
+        requires work { IsWork self.old.opening self.old.journal request.now slate.old work }
         ensures opening { self.new.opening ≡ self.old.opening }
         ensures mark { self.new.mark ≡ self.old.mark }
         ensures enters { Enters self.old.opening self.old.journal self.new.journal (P.told self.old.keeper) (P.told self.new.keeper) (P.count self.old.keeper) (P.count self.new.keeper) request.now result }
@@ -94,7 +98,14 @@ impl<P: Keeper> Core<P> {
         // Facts for the proof; nothing runs.
         request_is_sound(request);
         let place = self.base + self.journal.len() as u64 + 1;
-        let made = prepare(place, request, &mut self.running, &mut self.records, slate);
+        let made = prepare(
+            place,
+            request,
+            &mut self.running,
+            &mut self.records,
+            &work,
+            slate,
+        );
         let Ok(Prepared { entry, answer }) = made else {
             return without_entry(Reply::Memory);
         };
@@ -115,9 +126,11 @@ impl<P: Keeper> Core<P> {
         &self.journal
     }
 
-    /// The active configuration, with the number of activations that there were.
+    /// The active configuration, with the number of activations that there were. Who shares it can classify under it
+    /// before a step (docs/rules.md, "Work before a step").
     pub fn active(&self) -> Option<(u64, &Shared<Config>)>
-        ensures { (s : DeskState) → Reaches self.now.opening self.now.journal s → MatchOption result (s.active ≡ None) (λ active. (active.0 ≡ s.activations) × (s.active ≡ Some active.1.now)) }
+        ensures was { IfSome result (λ active. WasActive self.now.opening self.now.journal active.0 active.1.now) }
+        ensures now { (s : DeskState) → Reaches self.now.opening self.now.journal s → MatchOption result (s.active ≡ None) (λ active. (active.0 ≡ s.activations) × (s.active ≡ Some active.1.now)) }
     {
         match &self.running.config {
             Some(config) => Some((self.running.activations, config)),

@@ -8,3 +8,4 @@ mod room;
 
 pub use classifying::classify;
 pub use core_state::Core;
+pub use desk_state::{Work, work_stays};

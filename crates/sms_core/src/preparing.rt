@@ -14,11 +14,12 @@ ghost use Rattle.desk_records.specs.Tied.{IsReady};
 ghost use Rattle.desk_state.specs.Deeds.{Fits, IsPossible, config_of, effect_of};
 ghost use Rattle.desk_state.specs.Answering.{IsOldFloor};
 ghost use Rattle.desk_state.specs.Standing.{IsRunning, IsSomeState};
+ghost use Rattle.desk_state.specs.Working.{IsWorkNow};
 ghost use Rattle.sms_core.specs.Standing.{HasEntered, SameRunning};
 
 use acs_tree::Slate;
 use desk_records::{Records, recall};
-use desk_state::{Decision, Running};
+use desk_state::{Decision, Running, Work};
 use sms_construct::{Answer, Entry, Op, Reply, Request};
 use sms_keeper::{Change, Keeper, RequestLog};
 use std::alloc::AllocError;
@@ -30,17 +31,19 @@ pub struct Prepared {
     pub answer: Answer,
 }
 
-/// Answers a request at this place of the journal, whose room was taken, and makes all that its entry changes.
-/// Where memory is wanting, nothing has changed.
+/// Answers a request at this place of the journal, whose room was taken, and makes all that its entry changes. Work
+/// that suits is used. Where memory is wanting, nothing has changed.
 pub fn prepare<P: Keeper>(
     place: u64,
     request: &Request,
     running: &mut Running,
     records: &mut Records<P>,
+    work: &Work,
     slate: &mut Slate,
 ) -> Result<Prepared, AllocError>
     requires state { IsSomeState running.old }
     requires sound { IsSound request.now.op }
+    requires work { IsWorkNow running.old request.now slate.old work.now }
     requires counted { running.old.activations + 1 < 2 ^ 64 }
     requires reply_room { 0 < records.old.log.reply_room }
     requires floor_room { 0 < records.old.log.floor_room }
@@ -57,7 +60,7 @@ pub fn prepare<P: Keeper>(
 {
     match recall(&records.log, request, place)? {
         Some(answer) => recalled(request, answer),
-        None => prepare_fresh(place, request, running, records, slate),
+        None => prepare_fresh(place, request, running, records, work, slate),
     }
 }
 
@@ -81,11 +84,13 @@ fn prepare_fresh<P: Keeper>(
     request: &Request,
     running: &mut Running,
     records: &mut Records<P>,
+    work: &Work,
     slate: &mut Slate,
 ) -> Result<Prepared, AllocError>
     requires unknown { IsUnknown records.old.log request.now }
     requires state { IsSomeState running.old }
     requires sound { IsSound request.now.op }
+    requires work { IsWorkNow running.old request.now slate.old work.now }
     requires counted { running.old.activations + 1 < 2 ^ 64 }
     requires reply_room { 0 < records.old.log.reply_room }
     requires floor_room { 0 < records.old.log.floor_room }
@@ -100,7 +105,7 @@ fn prepare_fresh<P: Keeper>(
     ensures rises { P.count records.old.keeper ≤ P.count records.new.keeper }
 {
     let old = old_floor(&records.log, &request.op);
-    let decision = running.decide(request, old, slate)?;
+    let decision = running.decide(request, old, work, slate)?;
     running.reserve()?;
     carry_out(place, request, decision, running, records)
 }

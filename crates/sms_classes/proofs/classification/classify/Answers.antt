@@ -1,8 +1,7 @@
 use Rattle.std.proofs.Common.{◌≡◌, ◌∙◌, ap, subst, sym}
-use Rattle.desk_law.specs.Classification.{Classes, begin, classes_of, meanings_of}
+use Rattle.desk_law.specs.Classification.{Classes, classes_of}
 use Rattle.sms_classes.specs.Known.{AreKnown}
 use Rattle.sms_classes.specs.Onward.{classes}
-use Rattle.sms_classes.proofs.KnownLemmas.{done_known}
 use Rattle.sms_classes.proofs.OnwardLemmas.{all_routines}
 use Rattle.sms_classes.proofs.classification.classify.Goals as goal
 
@@ -21,4 +20,4 @@ returns-clause-known c done =
     let same : came ≡ classes_of c.args.config.now c.args.job.now c.args.alloc.now =
     all_routines c.args.config.now c.args.job.now c.args.alloc.now _ c.from_data_class-stop.ensures c.under-input.ensures c.system.ensures c.sysplex.ensures c.named_classes-values.ensures c.clear.ensures in
     subst (λ (came : Classes). AreKnown c.args.config.now came.values) (sym same)
-    (done_known c.args.config.now (meanings_of c.args.config.now) _ (begin c.args.alloc.now) c.leave_others.ensures.storage c.leave_others.ensures.management c.leave_others.ensures.groups (ap (λ (came : Classes). came.stop) (sym same) ∙ done))
+    (c.classes_are_known.ensures c.args.job.now c.args.alloc.now (ap (λ (came : Classes). came.stop) (sym same) ∙ done))

@@ -13,6 +13,7 @@ use Rattle.desk_state.specs.Wishing.{ClassifiedRule, classes_with}
 use Rattle.desk_state.specs.declared.decision.Decision.{Decision}
 use Rattle.desk_state.proofs.AllocationLemmas.{alloc-made}
 use Rattle.desk_state.proofs.OkLemmas.{on-ok}
+use Rattle.desk_state.proofs.WorkLemmas.{classified-active}
 use Rattle.desk_state.proofs.running.Running.decide_alloc.Goals as goal
 
 -- what is on a slate, as a trace
@@ -25,7 +26,7 @@ returns-clause-answers c =
     let job = c.args.job.now in
     let alloc = c.args.alloc.now in
     let after = c.decide_classified.new.self in
-    let made_of = c.classify-classified in
+    let made_of = c.classes-classified in
     let none : set_in alloc.input.dsn running.catalog.sets ≡ None = search rules in
     let written : c.in_ok-trace.trace ≡ trace_of (classes_of c.get-2.result.now job alloc) =
     c.in_ok-trace.ensures ∙ ap trace_on made_of.ensures.slate in
@@ -37,3 +38,7 @@ returns-clause-answers c =
     alloc-made s running after job alloc c.in-Some.config c.get-2.result.now c.get-3.result.now made_of.result.values made_of.result.stop c.in_ok-trace.trace made is c.in-Some.is none
     (c.get-2.ensures ∙ c.in_ok-config.ensures) (c.get-3.ensures ∙ c.in_ok-config.ensures) made_of.ensures.values made_of.ensures.stop written (next s lawful is))
     c.decide_classified.ensures.answers
+
+pub classes-classified-requires : goal.classes-classified-requires
+classes-classified-requires c =
+    classified-active c.args.self.now c.args.job.now c.args.alloc.now c.args.slate.now c.args.before c.in-Some.config c.get-2.result.now c.requires.before c.in-Some.is (c.get-2.ensures ∙ c.in_ok-config.ensures)

@@ -5,6 +5,7 @@ use Rattle.desk_records.specs.Full.{is_full_for}
 use Rattle.desk_records.specs.Tied.{IsReady}
 use Rattle.sms_core.specs.Standing.{IsHeld}
 use Rattle.sms_core.proofs.CoreLemmas.{core-entered, enters-made, held-counted, held-room, held-some, held-untouched, idle-known}
+use Rattle.sms_core.proofs.WorkLemmas.{held-work}
 use Rattle.sms_core.proofs.core_state.Core.step.Goals as goal
 
 pub invariant_of-self : goal.invariant_of-self
@@ -21,6 +22,9 @@ pub prepare-made-requires-clause-counted : goal.prepare-made-requires-clause-cou
 prepare-made-requires-clause-counted g c =
     let not_full : is_full_for c.self.inside.journal.items c.args.request.now.op ≡ false = rw (← c.deref.ensures.value) (sym c.is_full.ensures ∙ c.if-is_full.false) in
     held-counted _ _ _ _ _ _ _ c.args.request.now.op c.self.invariant.held not_full
+
+pub prepare-made-requires-clause-work : goal.prepare-made-requires-clause-work
+prepare-made-requires-clause-work g c = held-work _ _ c.self.inside.running _ _ _ _ c.args.request.now c.args.slate.now c.args.work c.self.invariant.held c.requires.work
 
 pub invariant_of-self-in_default : goal.invariant_of-self-in_default
 invariant_of-self-in_default g c =
