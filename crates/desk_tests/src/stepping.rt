@@ -6,7 +6,7 @@ use desk_calls::run_script;
 use desk_common::{Items, Shared};
 use dsn_mask::Name;
 use sms_construct::{Op, Reply, Request, RequestNumber};
-use sms_core::Core;
+use sms_core::{Core, Work};
 use sms_keeper::{FaultKeeper, Keeper, MemKeeper};
 use sms_script::Script;
 use std::alloc::Global;
@@ -34,7 +34,7 @@ fn a_core_enters_each_request_that_it_answers(rt: HostRuntime) -> Result<(), Fai
         return Err(Fail::from("phases"));
     };
     for (at, item) in phase.as_slice().iter().enumerate() {
-        let answer = core.step(&item.request, &mut slate);
+        let answer = core.step(&item.request, Work::Nothing, &mut slate);
         let place = at as u64 + 1;
         assert!(rt; answer.place == place && answer.first == 1);
         assert!(rt; matches!(&answer.reply, Reply::NoConfig));
@@ -147,11 +147,11 @@ fn a_full_journal_answers_no_more(rt: HostRuntime) -> Result<(), Fail> {
     let mut core = Core::new(alloc, MemKeeper::new(alloc));
     let mut slate = Slate::new(alloc)?;
     for number in 1..=50_000u32 {
-        let answer = core.step(&purge(number)?, &mut slate);
+        let answer = core.step(&purge(number)?, Work::Nothing, &mut slate);
         assert!(rt; matches!(&answer.reply, Reply::Purged { .. }));
     }
     for number in [50_001, 50_000, 1] {
-        let answer = core.step(&purge(number)?, &mut slate);
+        let answer = core.step(&purge(number)?, Work::Nothing, &mut slate);
         assert!(rt; matches!(&answer.reply, Reply::JournalFull));
         assert!(rt; answer.place == 0 && answer.first == 0);
     }
@@ -165,12 +165,12 @@ fn a_journal_takes_200_activations(rt: HostRuntime) -> Result<(), Fail> {
     let mut core = Core::new(alloc, MemKeeper::new(alloc));
     let mut slate = Slate::new(alloc)?;
     for number in 1..=200 {
-        let answer = core.step(&activation(alloc, number)?, &mut slate);
+        let answer = core.step(&activation(alloc, number)?, Work::Nothing, &mut slate);
         assert!(rt; matches!(&answer.reply, Reply::Deck(_)));
     }
-    let full = core.step(&activation(alloc, 201)?, &mut slate);
+    let full = core.step(&activation(alloc, 201)?, Work::Nothing, &mut slate);
     assert!(rt; matches!(&full.reply, Reply::JournalFull));
-    let other = core.step(&purge(202)?, &mut slate);
+    let other = core.step(&purge(202)?, Work::Nothing, &mut slate);
     assert!(rt; matches!(&other.reply, Reply::Purged { .. }));
     assert!(rt; other.place == 201);
     Ok(())
