@@ -4,7 +4,7 @@ use Rattle.sms_core.proofs.WorkLemmas.{held-active}
 use Rattle.sms_core.proofs.core_state.Core.active.Goals as goal
 
 pub returns-in-Some-clause-was : goal.returns-in-Some-clause-was
-returns-in-Some-clause-was g c = rw (← c.self.view_is) (held-active _ _ c.self.inside.running _ _ _ _ c.in-Some.config.entry c.self.invariant.held c.in-Some.is)
+returns-in-Some-clause-was g c = rw (← c.self.view_is) (held-active _ _ c.self.inside.running _ _ _ _ c.in-Some.config c.self.invariant.held c.in-Some.is)
 
 pub returns-in-Some-clause-now : goal.returns-in-Some-clause-now
 returns-in-Some-clause-now g c = rw (← c.self.view_is) (λ s reaches.

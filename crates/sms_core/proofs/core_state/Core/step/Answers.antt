@@ -3,6 +3,7 @@ use Rattle.std.specs.Prelude.{count_by}
 use Rattle.desk_law.specs.Step.{activates, is_activation}
 use Rattle.desk_records.specs.Full.{is_full_for}
 use Rattle.desk_records.specs.Tied.{IsReady}
+use Rattle.desk_state.specs.Working.{IsWork}
 use Rattle.sms_core.specs.Standing.{IsHeld}
 use Rattle.sms_core.proofs.CoreLemmas.{core-entered, enters-made, held-counted, held-room, held-some, held-untouched, idle-known}
 use Rattle.sms_core.proofs.WorkLemmas.{held-work}
@@ -24,7 +25,9 @@ prepare-made-requires-clause-counted g c =
     held-counted _ _ _ _ _ _ _ c.args.request.now.op c.self.invariant.held not_full
 
 pub prepare-made-requires-clause-work : goal.prepare-made-requires-clause-work
-prepare-made-requires-clause-work g c = held-work _ _ c.self.inside.running _ _ _ _ c.args.request.now c.args.slate.now c.args.work c.self.invariant.held c.requires.work
+prepare-made-requires-clause-work g c =
+    let is_work : IsWork c.self.inside.opening.value c.self.inside.journal.items c.args.request.now c.args.slate.now c.args.work = rw (← c.self.view_is) at c.requires.work in
+    held-work _ _ c.self.inside.running _ _ _ _ c.args.request.now c.args.slate.now c.args.work c.self.invariant.held is_work
 
 pub invariant_of-self-in_default : goal.invariant_of-self-in_default
 invariant_of-self-in_default g c =
