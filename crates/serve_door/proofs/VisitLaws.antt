@@ -1,12 +1,13 @@
 -- One more visit.
-use Rattle.std.proofs.Common.{◌≡◌, ◌≤◌, ◌<◌, ◌+◌, ◌==◌, ◌&&◌, ℕ, zero, suc, Bool, true, false, List, [], ◌∷◌, ◌++◌, length, map, refl, ap, sym, ◌∙◌, arith, inl, inr, append-nil, length-append, if◌then◌else◌}
-use Rattle.std.specs.Prelude.{Option, None, Some, MatchOption, All, flat_map}
+use Rattle.std.proofs.Common.{◌≡◌, ◌≤◌, ◌<◌, ◌+◌, ◌==◌, ℕ, false, List, [], ◌∷◌, ◌++◌, length, map, refl, ap, sym, ◌∙◌, arith, inl, inr, append-nil, length-append, if◌then◌else◌}
+use Rattle.std.specs.Prelude.{None, Some, MatchOption}
 use Rattle.std.proofs.Math.Bool.{and-false}
+use Rattle.std.proofs.lemmas.Bool.{ne_eqb}
 use Rattle.std.proofs.lemmas.Grind.{flat_map-append}
 use Rattle.std.proofs.lemmas.List.{map_push, length-map}
 use Rattle.std.proofs.lemmas.List.Elements.{All-nil, All-push}
 use Rattle.desk_common.specs.Causes.{Rose, counted}
-use Rattle.sms_base.specs.Door.{HandsBack, faults_behind}
+use Rattle.sms_base.specs.Door.{faults_behind}
 use Rattle.sms_base.specs.Observed.{Observed}
 use Rattle.http_message.specs.Message.{Message}
 use Rattle.http_talk.specs.Conversation.{IsConversation, IsEnd, NoFault}
@@ -14,7 +15,7 @@ use Rattle.http_talk.specs.declared.end.End.{End}
 use Rattle.http_talk.specs.declared.end.End.TheVariants as ends
 use Rattle.http_talk.specs.declared.talk.Talk.{Talk}
 use Rattle.serve_door.specs.declared.visit.Visit.{Visit}
-use Rattle.serve_door.specs.Doors.{CameBack, DoorMoment, IsFair, WereGiven}
+use Rattle.serve_door.specs.Doors.{DoorMoment}
 use Rattle.serve_door.specs.Visits.{IsServedLink, IsVisit, Served, Serves, counted_for, counted_over, is_link_fault, talks_of}
 use Rattle.serve_door.proofs.DoorLaws.{CameBack-more, CameBack-nil, WereGiven-more, WereGiven-nil, if_told}
 
@@ -30,8 +31,7 @@ unfaulted : (old new : Observed) (faults : ℕ) → old.read_faults ≡ 0 → ol
 unfaulted old new faults reads writes none = rw (none.reading ∙ reads, none.writing ∙ writes) refl
 
 rose-some : (n : ℕ) → Rose 0 n → (n == 0) ≡ false
-rose-some zero rose = absurd (omega (arith, rose))
-rose-some (suc n) rose = refl
+rose-some n rose = ne_eqb n 0 (λ is. absurd (omega (arith, rose, is)))
 
 -- a link whose reads failed is counted
 read-faulted : (old new : Observed) (faults : ℕ) → old.read_faults ≡ 0 → Rose old.read_faults new.read_faults → faults_behind faults new.read_faults new.write_faults ≡ counted faults
@@ -86,9 +86,9 @@ pub record WasGiven {C : Type 0} (seen : C → Observed) (old new : DoorMoment C
   pub door_faults : new.door_faults ≡ old.door_faults
 
 -- one more link was served
-pub Serves-more : {C : Type 0} (seen : C → Observed) (old mid open new : DoorMoment C) (visits : List Visit) (link : C) (visit : Visit)
-    → Serves seen old mid visits → WasGiven seen mid open link → IsServedLink seen open new link visit → Serves seen old new (visits ++ visit ∷ [])
-Serves-more {C} seen old mid open new visits link visit before came served =
+pub Serves-more : {C : Type 0} (seen : C → Observed) (old mid opened new : DoorMoment C) (visits : List Visit) (link : C) (visit : Visit)
+    → Serves seen old mid visits → WasGiven seen mid opened link → IsServedLink seen opened new link visit → Serves seen old new (visits ++ visit ∷ [])
+Serves-more {C} seen old mid opened new visits link visit before came served =
     let one : Served C = record { given = link; back = served.after; visit = visit } in
     let counted : length visits ≡ length (map (λ (s : Served C). s.back) before.served) =
     ap length before.visits_are ∙ length-map before.served (λ (s : Served C). s.visit) ∙ sym (length-map before.served (λ (s : Served C). s.back)) in
@@ -98,11 +98,11 @@ Serves-more {C} seen old mid open new visits link visit before came served =
       each = All-push (IsVisit seen) before.served one before.each (record { reads = came.reads; writes = came.writes; conversation = served.conversation });
       given = omega (arith, served.given, came.given, before.given, length-append visits (visit ∷ []));
       waiting = rw (served.waiting, map_push (λ (s : Served C). s.given) before.served one)
-          (WereGiven-more old.waiting mid.waiting open.waiting (map (λ (s : Served C). s.given) before.served) link before.waiting came.waiting);
+          (WereGiven-more old.waiting mid.waiting opened.waiting (map (λ (s : Served C). s.given) before.served) link before.waiting came.waiting);
       back = λ fair. rw (map_push (λ (s : Served C). s.back) before.served one)
-          (CameBack-more old.back mid.back new.back open.given (map (λ (s : Served C). s.back) before.served) served.after (before.back fair) (rw came.back at served.back)
-          (if_told (λ (back : List C). length back ≤ old.given) (λ (back : List C). length (back ++ map (λ (s : Served C). s.back) before.served) < open.given) old.back
+          (CameBack-more old.back mid.back new.back opened.given (map (λ (s : Served C). s.back) before.served) served.after (before.back fair) (rw came.back at served.back)
+          (if_told (λ (back : List C). length back ≤ old.given) (λ (back : List C). length (back ++ map (λ (s : Served C). s.back) before.served) < opened.given) old.back
           (λ back few. omega (arith, few, counted, came.given, before.given, length-append back (map (λ (s : Served C). s.back) before.served))) fair));
-      link_faults = served.link_faults ∙ visit-counted _ (seen link) (seen served.after) visit open.link_faults came.reads came.writes served.conversation
+      link_faults = served.link_faults ∙ visit-counted _ (seen link) (seen served.after) visit opened.link_faults came.reads came.writes served.conversation
           ∙ ap (λ n. counted_for n visit) (came.link_faults ∙ before.link_faults) ∙ sym (counted_over-push old.link_faults visits visit);
     }

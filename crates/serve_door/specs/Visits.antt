@@ -1,5 +1,5 @@
 -- What serving the links of a door does.
-use Rattle.std.specs.Prelude.{ℕ, ◌≡◌, ◌≤◌, ◌<◌, ◌+◌, Bool, true, false, List, [], ◌∷◌, ◌++◌, length, map, All, flat_map, IfSome, if◌then◌else◌}
+use Rattle.std.specs.Prelude.{ℕ, ◌≡◌, ◌≤◌, ◌<◌, ◌+◌, Bool, true, false, List, [], ◌∷◌, length, map, All, flat_map, IfSome, if◌then◌else◌}
 use Rattle.desk_common.specs.Causes.{Rose, counted}
 use Rattle.sms_base.specs.Door.{HandsBack, faults_behind}
 use Rattle.sms_base.specs.Observed.{Observed}
