@@ -1,5 +1,5 @@
 -- How serving the desk ends: each status and its cause.
-use Rattle.std.specs.Prelude.{◌≡◌, ◌⊎◌, ℕ, Bool, true, false, List, [], ◌∷◌, length, map, All, Contains, Option}
+use Rattle.std.specs.Prelude.{◌≡◌, ◌⊎◌, ℕ, Bool, true, false, List, [], ◌∷◌, ◌++◌, map, All, Option}
 use Rattle.std.specs.Io.KnownBytes.{Appends}
 use Rattle.desk_common.specs.Causes.{Rose}
 use Rattle.desk_common.specs.Fronts.{IsProperPrefix}
@@ -50,6 +50,12 @@ IsOver end = (end ≡ door_ends.Served) ⊎ (end ≡ door_ends.Ended)
 abbrev pub IsOverOrFailed : DoorEnd → Type 0
 IsOverOrFailed end = IsOver end ⊎ (end ≡ door_ends.AcceptFault)
 
+-- one of the doors failed
+pub record HasFailed (ends : List DoorEnd) : Type 0 where
+  pub before : List DoorEnd
+  pub behind : List DoorEnd
+  pub failed : ends ≡ before ++ door_ends.AcceptFault ∷ behind
+
 -- what a sink took, where it tells that, and its count of faults
 pub record Writing : Type 0 where
   pub taken : Option (List ℕ)
@@ -67,6 +73,12 @@ pub record WasCut (old new : Writing) (text : List ℕ) : Type 0 where
   pub written : Appends old.taken new.taken front
   pub rose : Rose old.faults new.faults
 
+-- the whole text was written, and the status is this one; or a proper front of it was; or memory was wanting
+abbrev pub IsTold : ServeStatus → Writing → Writing → List ℕ → ServeStatus → Type 0
+IsTold done old new text status =
+    ((status ≡ done) × WasWritten old new text)
+    ⊎ (((status ≡ WriteFault) × WasCut old new text) ⊎ (status ≡ NoMemory))
+
 -- what each status says of the ends of the doors, and of what was written of the text
 abbrev pub IsServeEnd : List DoorEnd → Writing → Writing → List ℕ → ServeStatus → Type 0
 IsServeEnd ends old new text Done = All IsOver ends × WasWritten old new text
@@ -74,7 +86,7 @@ IsServeEnd ends old new text BadWords = ⊥
 IsServeEnd ends old new text WriteFault = All IsOverOrFailed ends × WasCut old new text
 IsServeEnd ends old new text NoMemory = Unit {0}
 IsServeEnd ends old new text AcceptFault =
-    All IsOverOrFailed ends × Contains ends door_ends.AcceptFault × WasWritten old new text
+    All IsOverOrFailed ends × HasFailed ends × WasWritten old new text
 
 -- the doors were served, and it ended so; so many entries there are
 pub record WereServed {C : Type 0} (seen : C → Observed) (most : ℕ) (old new : List (DoorMoment C))

@@ -2,11 +2,11 @@
 #![tactic(auto)]
 
 mod bench;
+mod connections;
 mod serve;
-mod served_text;
 mod status;
 
 pub use bench::CoreBench;
+pub use connections::served_text;
 pub use serve::{DoorVisits, serve_main};
-pub use served_text::served_text;
 pub use status::ServeStatus;

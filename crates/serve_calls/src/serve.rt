@@ -1,5 +1,5 @@
 //! The top call of the served desk.
-ghost use Rattle.std.specs.Prelude.{◌≡◌, ◌≤◌, ◌↔◌, ◌⊎◌, [], ◌∷◌, None, Some, true, length, map, string_bytes, vec_capacity, IfOk, IfSome, OnErr};
+ghost use Rattle.std.specs.Prelude.{◌≡◌, ◌≤◌, ◌↔◌, ◌⊎◌, [], ◌∷◌, None, Some, true, false, length, map, string_bytes, vec_capacity, IfOk, IfSome, OnErr};
 ghost use Rattle.sms_base.specs.Observed.{Observed};
 ghost use Rattle.sms_keeper.specs.Tables.{AreSame, no_rows};
 ghost use Rattle.desk_law.specs.Records.{empty_opening};
@@ -8,10 +8,10 @@ ghost use Rattle.desk_words.specs.declared.served.ServeWords.{ServeWords as Aske
 ghost use Rattle.desk_calls.specs.Headline.{Keeping};
 ghost use Rattle.serve_calls.specs.OneHistory.{WasHeard};
 ghost use Rattle.serve_calls.specs.ServedText.{served_text};
-ghost use Rattle.serve_calls.specs.ServeEnds.{IsServeEnd, IsServedAlone, WereServed, WereUnasked, Writing, leaves_sink};
+ghost use Rattle.serve_calls.specs.ServeEnds.{IsServeEnd, IsServedAlone, IsTold, WereServed, WereUnasked, Writing, leaves_sink};
 
 use crate::bench::CoreBench;
-use crate::served_text::served_text;
+use crate::connections::served_text;
 use crate::status::ServeStatus;
 use acs_tree::Slate;
 use desk_calls::legal_is_lawful;
@@ -195,17 +195,33 @@ fn write_visits<K: Sink>(
         (record { taken = K.taken out.new; faults = K.write_faults out.new })
         (served_text visits.now entries) result }
 {
-    if end == DoorEnd::NoMemory {
-        return ServeStatus::NoMemory;
+    match end {
+        DoorEnd::NoMemory => ServeStatus::NoMemory,
+        DoorEnd::Served => write_text(alloc, ServeStatus::Done, visits, entries, out),
+        DoorEnd::Ended => write_text(alloc, ServeStatus::Done, visits, entries, out),
+        DoorEnd::AcceptFault => write_text(alloc, ServeStatus::AcceptFault, visits, entries, out),
     }
+}
+
+// Writes the text of visits, and answers the status where the whole of it was written.
+fn write_text<K: Sink>(
+    alloc: Global,
+    done: ServeStatus,
+    visits: &[Visits],
+    entries: u64,
+    out: &mut K,
+) -> ServeStatus
+    ensures told { IsTold done
+        (record { taken = K.taken out.old; faults = K.write_faults out.old })
+        (record { taken = K.taken out.new; faults = K.write_faults out.new })
+        (served_text visits.now entries) result }
+    ensures unwritten { leaves_sink done ≡ false → leaves_sink result ≡ true → out.new ≡ out.old }
+{
     let Ok(text) = served_text(alloc, visits, entries) else {
         return ServeStatus::NoMemory;
     };
-    if write_all(out, &text).is_err() {
-        return ServeStatus::WriteFault;
+    match write_all(out, &text) {
+        Ok(()) => done,
+        Err(_) => ServeStatus::WriteFault,
     }
-    if end == DoorEnd::AcceptFault {
-        return ServeStatus::AcceptFault;
-    }
-    ServeStatus::Done
 }
