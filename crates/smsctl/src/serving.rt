@@ -1,6 +1,8 @@
 //! The desk served on a port of this machine.
-ghost use Rattle.std.specs.Prelude.{◌≡◌, ◌≤◌};
+ghost use Rattle.std.specs.Prelude.{◌≡◌, Some, map, string_bytes};
 ghost use Rattle.std.specs.Process.{exit_status};
+ghost use Rattle.desk_words.specs.Serving.{serving_in};
+ghost use Rattle.desk_words.specs.declared.served.ServeWords.{ServeWords as Asked};
 ghost use Rattle.serve_calls.specs.ServeStatuses.{serve_status_of};
 
 use desk_words::ServeWords;
@@ -15,7 +17,9 @@ use std::process::ExitCode;
 const NOT_BOUND: u8 = 9;
 
 /// Serves the desk on the port of 127.0.0.1, as the words ask, and ends the program.
-pub fn serve(rt: &HostRuntime, asked: ServeWords, words: &[String]) -> ExitCode {
+pub fn serve(rt: &HostRuntime, asked: ServeWords, words: &[String]) -> ExitCode
+    requires { (other : Asked) → serving_in (map string_bytes words.now) ≡ Some other → other.workers ≡ 1 }
+{
     match TcpListener::bind(rt, (Ipv4Addr::LOCALHOST, asked.port)) {
         Ok(listener) => {
             let _ = eprintln!(rt; "smsctl: listening on 127.0.0.1:{}", asked.port);
@@ -27,7 +31,9 @@ pub fn serve(rt: &HostRuntime, asked: ServeWords, words: &[String]) -> ExitCode 
 }
 
 // Serves the desk to the connections of a listener.
-fn serve_on(rt: &HostRuntime, listener: &TcpListener, words: &[String]) -> ServeStatus {
+fn serve_on(rt: &HostRuntime, listener: &TcpListener, words: &[String]) -> ServeStatus
+    requires { (other : Asked) → serving_in (map string_bytes words.now) ≡ Some other → other.workers ≡ 1 }
+{
     let Ok(doors) = vec![in rt.alloc(); TcpAccept::new(listener)] else {
         return ServeStatus::NoMemory;
     };
