@@ -27,7 +27,7 @@ static ANSWERED: &[u8] = b"HTTP/1.1 200 OK\r\nContent-Type: application/json\r\n
 #[rattlefmt::skip]
 static ACTIVATE_AND_ALLOC: &[u8] = b"POST /admin/1/activate HTTP/1.1\r\nHost: 127.0.0.1:8080\r\n\
     User-Agent: curl/8.5.0\r\nAccept: */*\r\nContent-Type: application/x-www-form-urlencoded\r\n\
-    Content-Length: 207\r\n\r\n\
+    Content-Length: 187\r\n\r\n\
     version = 1\n[storclass.SC1]\n[storgroup.SG1.volume.VOL001]\ntracks = 100\n\
     [routine]\nstorclass = \"PROC STORCLAS SET &STORCLAS = 'SC1' END\"\n\
     storgroup = \"PROC STORGRP SET &STORGRP = 'SG1' END\"\n\

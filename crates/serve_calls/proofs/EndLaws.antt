@@ -1,5 +1,5 @@
 -- How serving one door ends.
-use Rattle.std.proofs.Common.{◌≡◌, ◌⊎◌, ℕ, List, [], ◌∷◌, ◌++◌, length, map, refl, subst, sym, inl, inr, arith}
+use Rattle.std.proofs.Common.{◌≡◌, ◌⊎◌, ℕ, List, [], ◌∷◌, ◌++◌, length, map, refl, ap, subst, ◌∙◌, inl, inr, arith}
 use Rattle.std.specs.Prelude.{All, slice_index_or, slice_set}
 use Rattle.std.proofs.lemmas.List.Elements.{All-cons, All-nil}
 use Rattle.sms_base.specs.Observed.{Observed}
@@ -9,9 +9,9 @@ use Rattle.serve_door.specs.declared.visit.Visit.{Visit}
 use Rattle.serve_door.specs.Doors.{DoorMoment}
 use Rattle.serve_door.specs.Visits.{WasServed}
 use Rattle.serve_calls.specs.ServedText.{served_text}
-use Rattle.serve_calls.specs.ServeEnds.{AreServed, IsOverOrFailed, IsServeEnd, IsServedAlone, IsTold, ServedDoor, WereServed, Writing}
+use Rattle.serve_calls.specs.ServeEnds.{AreServed, IsOverOrFailed, IsServeEnd, IsServedAlone, IsTold, ServedDoor, WereServed, WereUnasked, Writing}
 use Rattle.serve_calls.specs.declared.status.ServeStatus.{ServeStatus}
-use Rattle.serve_calls.specs.declared.status.ServeStatus.TheVariants.{AcceptFault}
+use Rattle.serve_calls.specs.declared.status.ServeStatus.TheVariants.{AcceptFault, NoMemory}
 
 only : {X : Type 0} (P : X → Type 0) (x : X) → P x → All P (x ∷ [])
 only P x p = All-cons P x [] p (All-nil P)
@@ -44,5 +44,12 @@ pub WereServed-one : {C X : Type 0} (seen : C → Observed) (most : ℕ) (moment
 WereServed-one seen most moment [] old new all end entries before after status one is alone told = absurd (omega (arith, one))
 WereServed-one {C} {X} seen most moment (x ∷ []) old new all end entries before after status one is alone told =
     subst (λ (door : X). WereServed seen most (moment door ∷ []) (moment new ∷ []) all entries before after status) is
-        (record { ends = end ∷ []; served = AreServed-one seen most (moment old) (moment new) all end alone; is_end = told })
+    (record { ends = end ∷ []; served = AreServed-one seen most (moment old) (moment new) all end alone; is_end = told })
 WereServed-one seen most moment (x ∷ y ∷ doors) old new all end entries before after status one is alone told = absurd (omega (arith, one))
+
+-- the one door of a list is as it was
+pub WereUnasked-one : {X : Type 0} (doors : List X) (old new : X) (all : List (List Visit)) (status : ServeStatus) → length doors ≡ 1 → old ≡ slice_index_or doors 0 old → new ≡ old
+    → all ≡ [] → status ≡ NoMemory → WereUnasked doors (slice_set doors 0 new) all status
+WereUnasked-one [] old new all status one is same none wanting = absurd (omega (arith, one))
+WereUnasked-one (x ∷ []) old new all status one is same none wanting = record { doors = ap (λ d. d ∷ []) (same ∙ is); none = none; wanting = wanting }
+WereUnasked-one (x ∷ y ∷ doors) old new all status one is same none wanting = absurd (omega (arith, one))

@@ -79,12 +79,63 @@ pub fn serve_main<A: Accept, K: Sink, P: Keeper>(
         (record { taken = K.taken out.new; faults = K.write_faults out.new })
         result.0 }
 {
-    let Some(asked) = serve_words(words) else {
-        let core = new_core(alloc, keeper);
-        return (ServeStatus::BadWords, core, doors, Items::new(alloc));
-    };
+    match serve_words(words) {
+        Some(asked) => serve_doors(alloc, asked.connections, doors, out, keeper),
+        None => {
+            let core = new_core(alloc, keeper);
+            (ServeStatus::BadWords, core, doors, Items::new(alloc))
+        }
+    }
+}
+
+// Serves a new desk over the keeper to the links of the one door, and writes the text of the visits.
+fn serve_doors<A: Accept, K: Sink, P: Keeper>(
+    alloc: Global,
+    most: u32,
+    doors: Vec<A>,
+    out: &mut K,
+    keeper: P,
+) -> (ServeStatus, Core<P>, Vec<A>, DoorVisits)
+    requires tables { IfSome (P.told keeper) (λ rows. AreSame rows no_rows) }
+    requires doors { length doors.items ≡ 1 }
+    ensures words { result.0 ≡ ServeStatus.BadWords → ⊥ }
+    ensures unwritten { leaves_sink result.0 ≡ true → out.new ≡ out.old }
+    ensures history { WasHeard
+        (record { told = P.told keeper; count = P.count keeper })
+        (record { told = P.told result.1.keeper; count = P.count result.1.keeper })
+        result.3 result.1.journal }
+    ensures ends { WereUnasked doors.items result.2.items result.3 result.0
+        ⊎ WereServed
+        (λ link. record {
+          left = A.Conn.left link;
+          read_faults = A.Conn.read_faults link;
+          taken = A.Conn.taken link;
+          write_faults = A.Conn.write_faults link;
+        })
+        most
+        (map (λ door. record {
+          given = A.given door;
+          ended = A.ended door;
+          door_faults = A.door_faults door;
+          link_faults = A.link_faults door;
+          waiting = A.waiting door;
+          back = A.back door;
+        }) doors.items)
+        (map (λ door. record {
+          given = A.given door;
+          ended = A.ended door;
+          door_faults = A.door_faults door;
+          link_faults = A.link_faults door;
+          waiting = A.waiting door;
+          back = A.back door;
+        }) result.2.items)
+        result.3 (length result.1.journal)
+        (record { taken = K.taken out.old; faults = K.write_faults out.old })
+        (record { taken = K.taken out.new; faults = K.write_faults out.new })
+        result.0 }
+{
     let mut doors = doors;
-    let (served, core) = serve_new(alloc, asked.connections, &mut doors[0], keeper);
+    let (served, core) = serve_new(alloc, most, &mut doors[0], keeper);
     match served {
         Ok((end, visits)) => {
             let entries = core.journal().len() as u64;

@@ -1,15 +1,16 @@
-use Rattle.std.proofs.Common.{inr, map, ◌≡◌, [], ◌∷◌, slice_set, length, sym, ◌∙◌}
-use Rattle.serve_calls.proofs.EndLaws.{WereServed-one}
+use Rattle.std.proofs.Common.{rules, ◌≡◌, Some, map, string_bytes, arith, ◌∙◌}
+use Rattle.desk_words.specs.Serving.{serving_in}
 use Rattle.serve_calls.proofs.serve.serve_main.Goals as goal
 
--- the one door was served
-pub returns-in-Ok-clause-ends : goal.returns-in-Ok-clause-ends
-returns-in-Ok-clause-ends g c =
-    inr (WereServed-one _ c.args.asked (λ door. record {
-      given = g.A.Accept.given door;
-      ended = g.A.Accept.ended door;
-      door_faults = g.A.Accept.door_faults door;
-      link_faults = g.A.Accept.link_faults door;
-      waiting = g.A.Accept.waiting door;
-      back = g.A.Accept.back door;
-    }) c.args.doors.items c.index_mut.result.now c.serve_new-served.new.door c.in-Ok.visits c.in-Ok.end _ _ _ _ c.requires c.index_mut.ensures.value c.in-Ok.ensures.served c.write_visits-status.ensures.ends)
+-- the words ask for one worker
+pub serve_doors-requires-clause-doors : goal.serve_doors-requires-clause-doors
+serve_doors-requires-clause-doors g c =
+    let this : serving_in (map string_bytes c.args.words.now) ≡ Some c.in-Some.asked = search rules in
+    omega (arith, c.requires.doors c.in-Some.asked this, c.in-Some.ensures.limits.workers.0, c.in-Some.ensures.limits.workers.1)
+
+-- what was asked is what the words ask
+pub returns-in-Some-clause-ends : goal.returns-in-Some-clause-ends
+returns-in-Some-clause-ends g c = λ asked is.
+    let this : serving_in (map string_bytes c.args.words.now) ≡ Some c.in-Some.asked = search rules in
+    let same : c.in-Some.asked ≡ asked = cc in
+    rw (← same) c.serve_doors.ensures.ends
