@@ -1,4 +1,4 @@
-use Rattle.std.proofs.Common.{rules, ◌≡◌, inl, inr, length, refl}
+use Rattle.std.proofs.Common.{rules, inl, inr, refl}
 use Rattle.serve_calls.proofs.EndLaws.{WereServed-one, WereUnasked-one}
 use Rattle.serve_calls.proofs.serve.serve_doors.Goals as goal
 
@@ -12,7 +12,7 @@ returns-in-Ok-clause-ends g c =
       link_faults = g.A.Accept.link_faults door;
       waiting = g.A.Accept.waiting door;
       back = g.A.Accept.back door;
-    }) c.args.doors.items c.index_mut.result.now c.serve_new-served.new.door c.in-Ok.visits c.in-Ok.end _ _ _ _ c.requires.doors (search rules) c.in-Ok.ensures.served (search rules))
+    }) c.args.doors.items c.index_mut.result.now c.serve_new-served.new.door c.in-Ok.visits c.in-Ok.end _ _ _ _ c.requires.doors (search rules) (rw c.in-Ok.is at c.serve_new-served.ensures.served) (search rules))
 
 -- the door is as it was
 pub returns-in-Err-clause-ends : goal.returns-in-Err-clause-ends

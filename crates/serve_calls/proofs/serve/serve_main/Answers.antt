@@ -1,4 +1,4 @@
-use Rattle.std.proofs.Common.{rules, ◌≡◌, Some, map, string_bytes, arith, ◌∙◌}
+use Rattle.std.proofs.Common.{rules, ◌≡◌, Some, map, string_bytes, arith}
 use Rattle.desk_words.specs.Serving.{serving_in}
 use Rattle.serve_calls.proofs.serve.serve_main.Goals as goal
 
