@@ -10,5 +10,6 @@ mod script_run;
 mod status;
 
 pub use desk::{MAX_SCRIPT, desk_main};
+pub use lawful_history::legal_is_lawful;
 pub use script_run::run_script;
 pub use status::RunStatus;

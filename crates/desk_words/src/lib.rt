@@ -2,7 +2,11 @@
 #![tactic(auto)]
 
 mod asked;
+mod served;
+mod serving;
 mod task;
 
 pub use asked::task_asked;
+pub use served::ServeWords;
+pub use serving::serve_words;
 pub use task::Task;

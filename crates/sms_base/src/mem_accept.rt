@@ -72,10 +72,6 @@ impl Accept for MemAccept {
 
     ghost back = { λ d. Some d.back };
 
-    ghost reads_failed = { λ l. l.source.faults };
-
-    ghost writes_failed = { λ l. l.sink.faults };
-
     fn accept(&mut self) -> Result<Option<MemLink>, Failed> {
         let Some(link) = self.waiting.pop_front() else {
             self.ended = true;

@@ -1,4 +1,4 @@
-//! The desk as a program: it answers the script on standard input.
+//! The desk as a program: it answers the script on standard input, or serves the desk over HTTP.
 #![tactic(auto)]
 
 ghost use Rattle.std.specs.Prelude.{◌≡◌};
@@ -6,8 +6,10 @@ ghost use Rattle.std.specs.Process.{exit_status};
 ghost use Rattle.desk_calls.specs.ExitStatus.{exit_status_of};
 
 mod help;
+mod serving;
 
 use desk_calls::{RunStatus, desk_main};
+use desk_words::serve_words;
 use sms_base::{StdSink, StdSource, Words, read_words};
 use sms_keeper::MemKeeper;
 use sms_script::ScriptErr;
@@ -15,15 +17,23 @@ use std::io::{self, Write};
 use std::process::ExitCode;
 
 fn main(rt: HostRuntime) -> ExitCode {
-    let status = match read_words(&rt) {
-        Words::Faulty => RunStatus::BadWords,
-        Words::NoMemory => RunStatus::NoMemory,
-        Words::Read(words) => match help::text_for(&words) {
-            Some(text) => show(&rt, text),
-            None => answer(&rt, &words),
-        },
-    };
-    end(&rt, status)
+    match read_words(&rt) {
+        Words::Faulty => end(&rt, RunStatus::BadWords),
+        Words::NoMemory => end(&rt, RunStatus::NoMemory),
+        Words::Read(words) => obey(&rt, &words),
+    }
+}
+
+// Does what the words of the command line ask, and ends the program.
+#[tactic(auto, using(crate::proofs::WordLaws::one_worker))]
+fn obey(rt: &HostRuntime, words: &[String]) -> ExitCode {
+    if let Some(text) = help::text_for(words) {
+        return end(rt, show(rt, text));
+    }
+    match serve_words(words) {
+        Some(asked) => serving::serve(rt, asked, words),
+        None => end(rt, answer(rt, words)),
+    }
 }
 
 // Answers the script on standard input.

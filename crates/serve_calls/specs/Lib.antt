@@ -1,0 +1,4 @@
+pub mod OneHistory
+pub mod ServedText
+pub mod ServeEnds
+pub mod ServeStatuses

@@ -1,0 +1,62 @@
+//! The desk served on a port of this machine.
+ghost use Rattle.std.specs.Prelude.{◌≡◌, Some, map, string_bytes};
+ghost use Rattle.std.specs.Process.{exit_status};
+ghost use Rattle.desk_words.specs.Serving.{serving_in};
+ghost use Rattle.desk_words.specs.declared.served.ServeWords.{ServeWords as Asked};
+ghost use Rattle.serve_calls.specs.ServeStatuses.{serve_status_of};
+
+use desk_words::ServeWords;
+use serve_calls::{ServeStatus, serve_main};
+use sms_base::{StdSink, TcpAccept};
+use sms_keeper::MemKeeper;
+use std::io::{self, ErrorKind, Write};
+use std::net::{Ipv4Addr, TcpListener};
+use std::process::ExitCode;
+
+// The exit status where the port can't be had.
+const NOT_BOUND: u8 = 9;
+
+/// Serves the desk on the port of 127.0.0.1, as the words ask, and ends the program.
+pub fn serve(rt: &HostRuntime, asked: ServeWords, words: &[String]) -> ExitCode
+    requires { (other : Asked) → serving_in (map string_bytes words.now) ≡ Some other → other.workers ≡ 1 }
+{
+    match TcpListener::bind(rt, (Ipv4Addr::LOCALHOST, asked.port)) {
+        Ok(listener) => {
+            let _ = eprintln!(rt; "smsctl: listening on 127.0.0.1:{}", asked.port);
+            end(rt, serve_on(rt, &listener, words))
+        }
+        Err(error) if error.kind() == ErrorKind::OutOfMemory => end(rt, ServeStatus::NoMemory),
+        Err(_) => end_with(rt, NOT_BOUND),
+    }
+}
+
+// Serves the desk to the connections of a listener.
+fn serve_on(rt: &HostRuntime, listener: &TcpListener, words: &[String]) -> ServeStatus
+    requires { (other : Asked) → serving_in (map string_bytes words.now) ≡ Some other → other.workers ≡ 1 }
+{
+    let Ok(doors) = vec![in rt.alloc(); TcpAccept::new(listener)] else {
+        return ServeStatus::NoMemory;
+    };
+    let mut out = StdSink::new(io::writer(rt));
+    let keeper = MemKeeper::new(rt.alloc());
+    let (status, _core, _doors, _visits) = serve_main(rt.alloc(), words, doors, &mut out, keeper);
+    status
+}
+
+// Ends the program with the status.
+fn end(rt: &HostRuntime, status: ServeStatus) -> ExitCode
+    ensures { exit_status result ≡ serve_status_of status }
+{
+    match status {
+        ServeStatus::Done => ExitCode::from(0),
+        _ => end_with(rt, status.code()),
+    }
+}
+
+// Says a status other than 0 on standard error, and ends the program with it.
+fn end_with(rt: &HostRuntime, code: u8) -> ExitCode
+    ensures { exit_status result ≡ code }
+{
+    let _ = eprintln!(rt; "smsctl: status {code}");
+    ExitCode::from(code)
+}
