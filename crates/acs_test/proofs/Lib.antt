@@ -1,0 +1,2 @@
+mod LayoutLemmas
+mod FieldLemmas

@@ -1,0 +1,17 @@
+//! The cases of a table.
+use crate::case::Case;
+use desk_common::Items;
+use sms_deck::Config;
+
+/// Cases in the order of their records.
+pub type CaseList = Items<Case>;
+
+/// Cases, and the two configurations under which they are compared.
+#[derive(Drop)]
+pub struct Cases {
+    /// The configuration of the deck behind OLD.
+    pub before: Config,
+    /// The configuration of the deck behind NEW.
+    pub after: Config,
+    pub list: CaseList,
+}

@@ -1,0 +1,21 @@
+//! A table of cases that is run under two decks, and how the cases differ.
+#![tactic(auto)]
+
+mod case;
+mod cases;
+mod cases_err;
+mod columns;
+mod fields;
+mod layout;
+mod line;
+mod listing;
+mod outcome;
+mod reading;
+mod record_case;
+mod table;
+
+pub use case::Case;
+pub use cases::{CaseList, Cases};
+pub use cases_err::{CasesErr, Side};
+pub use listing::compare;
+pub use reading::read_cases;

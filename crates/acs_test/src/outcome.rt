@@ -1,0 +1,84 @@
+//! What a case comes to.
+ghost use Rattle.std.specs.Prelude.{◌≡◌, ◌↔◌, ◌++◌, IsTrue, OnOk};
+ghost use Rattle.acs_test.specs.Listing.{classes_for, classes_made, outcome_lines};
+
+use crate::case::Case;
+use acs_tree::{Kind, Slate};
+use desk_law::Stop;
+use sms_classes::{Classified, classify};
+use sms_construct::Trace;
+use sms_deck::Config;
+use sms_simulation::{push_outcome, push_written};
+use std::alloc::{AllocError, Global};
+
+/// What a case comes to under a configuration; what the routines wrote is on the slate afterwards.
+pub fn classified(config: &Config, case: &Case, slate: &mut Slate) -> Classified
+    ensures { classes_made result slate.new ≡ classes_for config.now case.now }
+{
+    classify(config, &case.job, case.alloc.get(), slate)
+}
+
+/// Whether two classifications come to the same: their values, what was written, and how they end.
+pub fn are_same(one: &Classified, written: &Slate, other: &Classified, others: &Slate) -> bool
+    ensures { IsTrue result ↔ (classes_made one.now written.now ≡ classes_made other.now others.now) }
+{
+    one.values == other.values
+        && is_same_stop(one.stop, other.stop)
+        && are_same_lines(written, others)
+}
+
+fn is_same_stop(one: Stop, other: Stop) -> bool
+    ensures { IsTrue result ↔ (one ≡ other) }
+{
+    match (one, other) {
+        (Stop::Done, Stop::Done)
+        | (Stop::Unmanaged, Stop::Unmanaged)
+        | (Stop::NoGroup, Stop::NoGroup) => true,
+        (
+            Stop::Exit { kind, code },
+            Stop::Exit {
+                kind: other,
+                code: others,
+            },
+        ) => kind == other && code == others,
+        (
+            Stop::Unknown { kind, name },
+            Stop::Unknown {
+                kind: other,
+                name: others,
+            },
+        ) => kind == other && name == others,
+        _ => false,
+    }
+}
+
+fn are_same_lines(one: &Slate, other: &Slate) -> bool
+    ensures { IsTrue result ↔ (one.now ≡ other.now) }
+{
+    one.lines() == other.lines() && are_same_counts(one, other)
+}
+
+// Whether each kind of routine wrote as many further lines.
+fn are_same_counts(one: &Slate, other: &Slate) -> bool
+    ensures { IsTrue result ↔ (one.now.more ≡ other.now.more) }
+{
+    one.more(Kind::DataClas) == other.more(Kind::DataClas)
+        && one.more(Kind::StorClas) == other.more(Kind::StorClas)
+        && one.more(Kind::MgmtClas) == other.more(Kind::MgmtClas)
+        && one.more(Kind::StorGrp) == other.more(Kind::StorGrp)
+}
+
+/// Puts an outcome behind a text, and what the routines wrote, each line behind this front.
+pub fn push_outcome_lines(
+    alloc: Global,
+    text: &mut Vec<u8>,
+    front: &[u8],
+    made: &Classified,
+    written: &Slate,
+) -> Result<(), AllocError>
+    ensures { OnOk result (text.new.items ≡ text.old.items ++ outcome_lines front.now (classes_made made.now written.now)) }
+{
+    push_outcome(text, made.stop, &made.values)?;
+    text.extend_from_slice(b"\n")?;
+    push_written(alloc, text, front, &Trace::of(alloc, written)?)
+}
