@@ -1,5 +1,7 @@
 -- The fields of a record, one after the other.
 use Rattle.std.proofs.Common.{◌≡◌, ◌<◌, ◌+◌, ℕ, zero, suc, List, [], ◌∷◌, ◌++◌, None, Some, length, take, refl, sym, ap, ◌∙◌, add-one, arith}
+use Rattle.std.specs.Prelude.{Option, map, option_map, slice_get}
+use Rattle.std.specs.Borrow.{Bor}
 use Rattle.csv.specs.Records.{field_at}
 
 -- one field more
@@ -18,3 +20,9 @@ unfolding field_at
 field_there [] at less none = absurd (omega arith)
 field_there (first ∷ fields) zero less none = cc
 field_there (first ∷ fields) (suc at) less none = field_there fields at (omega arith) none
+
+-- what is behind the reference at a place
+pub field_seen : (fields : List (Bor (List ℕ))) (at : ℕ) → slice_get (map (λ (field : Bor (List ℕ)). field.now) fields) at ≡ option_map (λ (field : Bor (List ℕ)). field.now) (slice_get fields at)
+field_seen [] at = refl
+field_seen (field ∷ fields) zero = refl
+field_seen (field ∷ fields) (suc at) = field_seen fields at

@@ -1,2 +1,5 @@
 mod LayoutLemmas
 mod FieldLemmas
+mod TableLemmas
+mod RecordLemmas
+mod ReadingLemmas

@@ -1,5 +1,5 @@
 -- The cases that the records of a table write (docs/tool.md, "Comparing two decks").
-use Rattle.std.specs.Prelude.{ℕ, ◌+◌, ◌==◌, false, not, List, [], ◌∷◌, codes, length, nat_le, Option, None, Some, Result, Ok, Err, if◌then◌else◌}
+use Rattle.std.specs.Prelude.{ℕ, ◌≡◌, ◌+◌, ◌==◌, false, not, List, [], ◌∷◌, codes, length, nat_le, Option, None, Some, Result, Ok, Err, if◌then◌else◌}
 use Rattle.std.specs.List.{list_any}
 use Rattle.dsn_mask.specs.Name.{name_of}
 use Rattle.sms_construct.specs.declared.alloc.Alloc.{Alloc}
@@ -9,6 +9,7 @@ use Rattle.sms_script.specs.Ops.{op_of}
 use Rattle.sms_simulation.specs.Simulation.{alloc_of}
 use Rattle.acs_test.specs.AllocLine.{alloc_line, field_of, has_blank}
 use Rattle.acs_test.specs.Columns.{columns_of, header_fault}
+use Rattle.acs_test.specs.Table.{IsTable}
 use Rattle.acs_test.specs.declared.case.Case.{Case}
 use Rattle.acs_test.specs.declared.cases_err.CasesErr.{CasesErr}
 use Rattle.acs_test.specs.declared.cases_err.CasesErr.TheVariants.{Fields, Header, BadCase, TooMany}
@@ -76,3 +77,9 @@ cases_under None columns records = cases_behind columns 0 records
 abbrev pub cases_of : List (List (List ℕ)) → Result (List Case) CasesErr
 cases_of [] = Err (Header 1)
 cases_of (header ∷ records) = cases_under (header_fault (columns_of header)) (columns_of header) records
+
+-- what the records of a table come to
+pub record TableGives (bytes : List ℕ) (result : Result (List Case) CasesErr) : Type 0 where
+  pub records : List (List (List ℕ))
+  pub table : IsTable bytes records
+  pub gives : cases_of records ≡ result

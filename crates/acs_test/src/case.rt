@@ -1,4 +1,5 @@
 //! One case.
+use desk_common::Shared;
 use dsn_mask::Name;
 use sms_construct::{Alloc, RequestNumber};
 
@@ -10,5 +11,5 @@ pub struct Case {
     pub name: Name,
     pub job: Name,
     pub number: RequestNumber,
-    pub alloc: Alloc,
+    pub alloc: Shared<Alloc>,
 }

@@ -3,9 +3,6 @@ use crate::case::Case;
 use desk_common::Items;
 use sms_deck::Config;
 
-/// Cases in the order of their records.
-pub type CaseList = Items<Case>;
-
 /// Cases, and the two configurations under which they are compared.
 #[derive(Drop)]
 pub struct Cases {
@@ -13,5 +10,6 @@ pub struct Cases {
     pub before: Config,
     /// The configuration of the deck behind NEW.
     pub after: Config,
-    pub list: CaseList,
+    /// The cases in the order of their records.
+    pub list: Items<Case>,
 }

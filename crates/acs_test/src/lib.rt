@@ -13,9 +13,10 @@ mod outcome;
 mod reading;
 mod record_case;
 mod table;
+mod table_cases;
 
 pub use case::Case;
-pub use cases::{CaseList, Cases};
+pub use cases::Cases;
 pub use cases_err::{CasesErr, Side};
 pub use listing::compare;
 pub use reading::read_cases;

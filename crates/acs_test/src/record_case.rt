@@ -1,5 +1,5 @@
 //! The case that a record writes.
-ghost use Rattle.std.specs.Prelude.{◌≡◌, ◌≤◌, ◌<◌, ◌+◌, Some, Ok, Err, length, map, IfOk, IfErr};
+ghost use Rattle.std.specs.Prelude.{◌≡◌, ◌≤◌, ◌<◌, ◌+◌, Some, Ok, Err, bytes_eq, length, map, position, slice_get, IfOk, IfErr};
 ghost use Rattle.std.specs.Option.{option_copied};
 ghost use Rattle.std.specs.List.{list_any};
 ghost use Rattle.csv.specs.Records.{fields_of};
@@ -52,6 +52,7 @@ pub fn read_record(
 }
 
 // The case that the fields of the record with this number write, if any.
+#[tactic(auto, using(crate::proofs::RecordLemmas::case_found))]
 fn read_case(
     alloc: Global,
     buffer: &mut Vec<u8>,
@@ -63,7 +64,7 @@ fn read_case(
     requires some { 0 < number }
     ensures { IfOk result (λ case. case ≡ case_of columns.now number (map (λ field. field.now) fields.now)) }
 {
-    if fields.iter().any(|field| has_blank(field)) {
+    if has_any_blank(fields) {
         return Ok(None);
     }
     let Some(name) = name_in(columns, fields) else {
@@ -84,6 +85,17 @@ fn read_case(
         number: request_number(number),
         alloc,
     }))
+}
+
+fn has_any_blank(fields: &[&[u8]]) -> bool
+    ensures { result ≡ list_any has_blank (map (λ field. field.now) fields.now) }
+{
+    for field in fields {
+        if has_blank(field) {
+            return true;
+        }
+    }
+    false
 }
 
 fn has_blank(field: &[u8]) -> bool
@@ -125,9 +137,19 @@ fn job_of(field: &[u8]) -> Option<Name>
 fn field_of<'a>(name: &[u8], columns: &[Items<u8>], fields: &[&'a [u8]]) -> Option<&'a [u8]>
     ensures { option_copied result ≡ field_of name.now columns.now (map (λ field. field.now) fields.now) }
 {
-    let at = columns
-        .iter()
-        .position(|column| name == column.as_slice())?;
+    field_at(fields, place_of(name, columns)?)
+}
+
+fn place_of(name: &[u8], columns: &[Items<u8>]) -> Option<usize>
+    ensures { result ≡ position (bytes_eq name.now) columns.now }
+{
+    columns.iter().position(|column| name == column.as_slice())
+}
+
+#[tactic(auto, using(crate::proofs::FieldLemmas::field_seen))]
+fn field_at<'a>(fields: &[&'a [u8]], at: usize) -> Option<&'a [u8]>
+    ensures { option_copied result ≡ slice_get (map (λ field. field.now) fields.now) at }
+{
     match fields.get(at) {
         Some(field) => Some(field),
         None => None,
