@@ -3,3 +3,4 @@ mod FieldLemmas
 mod TableLemmas
 mod RecordLemmas
 mod ReadingLemmas
+mod ListingLemmas

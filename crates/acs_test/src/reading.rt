@@ -16,7 +16,6 @@ use std::alloc::{AllocError, Global};
 
 /// The configurations of both decks and the cases of the table, or the first fault of the input (docs/tool.md,
 /// "Comparing two decks").
-#[tactic(auto, using(crate::proofs::ReadingLemmas::laid_exactly, crate::proofs::ReadingLemmas::laid_may_refuse, crate::proofs::ReadingLemmas::unlaid_exactly))]
 pub fn read_cases(alloc: Global, bytes: &[u8]) -> Result<Cases, CasesErr>
     requires { length bytes.now < 2 ^ 32 }
     ensures ok { IfOk result (IsReading bytes.now) }
@@ -30,7 +29,6 @@ pub fn read_cases(alloc: Global, bytes: &[u8]) -> Result<Cases, CasesErr>
 }
 
 // The configurations of both decks, and the cases of the table.
-#[tactic(auto, using(crate::proofs::ReadingLemmas::old_ends, crate::proofs::ReadingLemmas::new_ends, crate::proofs::ReadingLemmas::cases_end, crate::proofs::ReadingLemmas::cases_read, crate::proofs::ReadingLemmas::cases_refused, crate::proofs::ReadingLemmas::old_refused, crate::proofs::ReadingLemmas::new_refused))]
 fn read_parts(alloc: Global, parts: InputParts<'_>) -> Result<Cases, CasesErr>
     requires { length parts.table.now + 2 < 2 ^ 32 }
     ensures ok { IfOk result (Gives (parts_seen parts.entry)) }
@@ -56,7 +54,6 @@ fn read_parts(alloc: Global, parts: InputParts<'_>) -> Result<Cases, CasesErr>
 }
 
 // The configuration of the deck of this side.
-#[tactic(auto, using(crate::proofs::ReadingLemmas::side_configures, crate::proofs::ReadingLemmas::side_faulty, crate::proofs::ReadingLemmas::side_wanting))]
 fn read_side(alloc: Global, side: Side, bytes: &[u8]) -> Result<Config, CasesErr>
     ensures ok { IfOk result (Configures bytes.now) }
     ensures err { IfErr result (MayRefuse (TellsDeck side bytes.now) (Some CasesErr.NoMemory)) }
