@@ -16,6 +16,7 @@ use std::alloc::{AllocError, Global};
 
 /// The configurations of both decks and the cases of the table, or the first fault of the input (docs/tool.md,
 /// "Comparing two decks").
+#[tactic(none)]
 pub fn read_cases(alloc: Global, bytes: &[u8]) -> Result<Cases, CasesErr>
     requires { length bytes.now < 2 ^ 32 }
     ensures ok { IfOk result (IsReading bytes.now) }
@@ -29,6 +30,7 @@ pub fn read_cases(alloc: Global, bytes: &[u8]) -> Result<Cases, CasesErr>
 }
 
 // The configurations of both decks, and the cases of the table.
+#[tactic(none)]
 fn read_parts(alloc: Global, parts: InputParts<'_>) -> Result<Cases, CasesErr>
     requires { length parts.table.now + 2 < 2 ^ 32 }
     ensures ok { IfOk result (Gives (parts_seen parts.entry)) }
