@@ -31,6 +31,6 @@ listed_more before after cases i case same differing text grown less here is lon
     let shown = case_text case (classes_for before case) (classes_for after case) same in
     let next : drop i cases ≡ case ∷ drop (i + 1) cases = at_drop_more (λ (cs : List Case). cs) cases i case less ∙ ap (λ (c : Case). c ∷ drop (i + 1) cases) (sym here) in
     let joined = so_far (count_differing same count) (shown ++ more)
-        (subst (λ (cs : List Case). IsListed before after cs (count_differing same count) (shown ++ more)) (sym next) (one case (drop (i + 1) cases) count more same is listed)) in
+    (subst (λ (cs : List Case). IsListed before after cs (count_differing same count) (shown ++ more)) (sym next) (one case (drop (i + 1) cases) count more same is listed)) in
     subst (λ (n : ℕ). IsListed before after cases n (grown ++ more)) (counted same differing count)
     (subst (λ (t : List ℕ). IsListed before after cases (differing + count_differing same count) t) (sym (append_assoc text shown more) ∙ ap (λ (t : List ℕ). t ++ more) (sym longer)) joined)

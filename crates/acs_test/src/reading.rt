@@ -1,5 +1,5 @@
 //! Reading the input of a comparison.
-ghost use Rattle.std.specs.Prelude.{◌≡◌, ◌<◌, ◌+◌, ◌^◌, Some, length, IfOk, IfErr};
+ghost use Rattle.std.specs.Prelude.{◌≡◌, ◌<◌, ◌+◌, ◌^◌, Ok, Some, length, IfOk, IfErr};
 ghost use Rattle.desk_common.specs.Exact.{IsExact, MayRefuse};
 ghost use Rattle.sms_deck.specs.Reading.{Configures};
 ghost use Rattle.acs_test.specs.Parts.{parts_seen};
@@ -16,7 +16,6 @@ use std::alloc::{AllocError, Global};
 
 /// The configurations of both decks and the cases of the table, or the first fault of the input (docs/tool.md,
 /// "Comparing two decks").
-#[tactic(none)]
 pub fn read_cases(alloc: Global, bytes: &[u8]) -> Result<Cases, CasesErr>
     requires { length bytes.now < 2 ^ 32 }
     ensures ok { IfOk result (IsReading bytes.now) }
@@ -30,21 +29,49 @@ pub fn read_cases(alloc: Global, bytes: &[u8]) -> Result<Cases, CasesErr>
 }
 
 // The configurations of both decks, and the cases of the table.
-#[tactic(none)]
 fn read_parts(alloc: Global, parts: InputParts<'_>) -> Result<Cases, CasesErr>
     requires { length parts.table.now + 2 < 2 ^ 32 }
     ensures ok { IfOk result (Gives (parts_seen parts.entry)) }
     ensures err { IfErr result (MayRefuse (Refuses (parts_seen parts.entry)) (Some CasesErr.NoMemory)) }
     ensures exactly { IsExact (Gives (parts_seen parts.entry)) (Refuses (parts_seen parts.entry)) (Some CasesErr.NoMemory) result }
 {
-    let before = match read_side(alloc, Side::Old, parts.before) {
-        Ok(config) => config,
-        Err(err) => return Err(err),
-    };
-    let after = match read_side(alloc, Side::New, parts.after) {
-        Ok(config) => config,
-        Err(err) => return Err(err),
-    };
+    match read_side(alloc, Side::Old, parts.before) {
+        Ok(before) => read_new(alloc, before, parts),
+        Err(err) => Err(err),
+    }
+}
+
+// The same, where the deck of OLD gives this configuration.
+fn read_new(alloc: Global, before: Config, parts: InputParts<'_>) -> Result<Cases, CasesErr>
+    requires table { length parts.table.now + 2 < 2 ^ 32 }
+    requires old { Configures parts.before.now before }
+    requires only { IsExact (Configures parts.before.now) (TellsDeck Side.Old parts.before.now) (Some CasesErr.NoMemory) (Ok before) }
+    ensures ok { IfOk result (Gives (parts_seen parts.entry)) }
+    ensures err { IfErr result (MayRefuse (Refuses (parts_seen parts.entry)) (Some CasesErr.NoMemory)) }
+    ensures exactly { IsExact (Gives (parts_seen parts.entry)) (Refuses (parts_seen parts.entry)) (Some CasesErr.NoMemory) result }
+{
+    match read_side(alloc, Side::New, parts.after) {
+        Ok(after) => read_list(alloc, before, after, parts),
+        Err(err) => Err(err),
+    }
+}
+
+// The same, where the decks give these configurations.
+fn read_list(
+    alloc: Global,
+    before: Config,
+    after: Config,
+    parts: InputParts<'_>,
+) -> Result<Cases, CasesErr>
+    requires table { length parts.table.now + 2 < 2 ^ 32 }
+    requires old { Configures parts.before.now before }
+    requires only { IsExact (Configures parts.before.now) (TellsDeck Side.Old parts.before.now) (Some CasesErr.NoMemory) (Ok before) }
+    requires new { Configures parts.after.now after }
+    requires only_new { IsExact (Configures parts.after.now) (TellsDeck Side.New parts.after.now) (Some CasesErr.NoMemory) (Ok after) }
+    ensures ok { IfOk result (Gives (parts_seen parts.entry)) }
+    ensures err { IfErr result (MayRefuse (Refuses (parts_seen parts.entry)) (Some CasesErr.NoMemory)) }
+    ensures exactly { IsExact (Gives (parts_seen parts.entry)) (Refuses (parts_seen parts.entry)) (Some CasesErr.NoMemory) result }
+{
     match read_table(alloc, parts.table) {
         Ok(list) => Ok(Cases {
             before,
