@@ -1,5 +1,5 @@
 -- The listing, case by case.
-use Rattle.std.proofs.Common.{◌≡◌, ◌<◌, ℕ, ◌+◌, Bool, true, false, List, [], ◌∷◌, ◌++◌, length, get_or, drop, refl, sym, ap, ◌∙◌, subst, arith, append_assoc, append-nil}
+use Rattle.std.proofs.Common.{◌≡◌, ◌<◌, ◌≤◌, ℕ, zero, suc, ◌+◌, Bool, true, false, List, [], ◌∷◌, ◌++◌, length, get_or, drop, refl, sym, ap, ◌∙◌, subst, arith, append_assoc, append-nil}
 use Rattle.std.proofs.lemmas.List.{at_drop_more}
 use Rattle.sms_construct.specs.Configuration.{Configuration}
 use Rattle.acs_test.specs.Listing.{IsListed, IsSame, case_text, classes_for, count_differing, none, one}
@@ -34,3 +34,14 @@ listed_more before after cases i case same differing text grown less here is lon
     (subst (λ (cs : List Case). IsListed before after cs (count_differing same count) (shown ++ more)) (sym next) (one case (drop (i + 1) cases) count more same is listed)) in
     subst (λ (n : ℕ). IsListed before after cases n (grown ++ more)) (counted same differing count)
     (subst (λ (t : List ℕ). IsListed before after cases (differing + count_differing same count) t) (sym (append_assoc text shown more) ∙ ap (λ (t : List ℕ). t ++ more) (sym longer)) joined)
+
+-- behind the last case there is none
+pub drop_all : (cases : List Case) (i : ℕ) → length cases ≤ i → drop i cases ≡ []
+drop_all [] zero less = refl
+drop_all [] (suc i) less = refl
+drop_all (case ∷ cases) zero less = absurd (omega arith)
+drop_all (case ∷ cases) (suc i) less = drop_all cases i (omega arith)
+
+pub counted_few : (same : Bool) (differing i : ℕ) → differing ≤ i → count_differing same differing ≤ i + 1
+counted_few true differing i few = omega arith
+counted_few false differing i few = omega arith

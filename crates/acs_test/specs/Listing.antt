@@ -1,10 +1,12 @@
 -- How cases come out under two configurations (docs/tool.md, "Comparing two decks").
 use Rattle.std.specs.Prelude.{ℕ, ◌≡◌, ◌↔◌, ◌+◌, Bool, true, false, List, [], ◌∷◌, ◌++◌, codes, decimal, flat_map, length, if◌then◌else◌}
 use Rattle.acs_tree.specs.Slates.{SlateLines}
+use Rattle.acs_tree.specs.declared.values.Values.{Values}
 use Rattle.sms_construct.specs.Configuration.{Configuration}
 use Rattle.sms_script.specs.NameText.{spaced}
 use Rattle.sms_script.specs.TraceText.{trace_lines}
-use Rattle.desk_law.specs.Classification.{Classes, classes_of, trace_of}
+use Rattle.desk_law.specs.Classification.{Classes, classes_of}
+use Rattle.desk_law.specs.declared.stop.Stop.{Stop}
 use Rattle.sms_classes.specs.declared.classified.Classified.{Classified}
 use Rattle.sms_simulation.specs.OutcomeText.{behind, outcome_text}
 use Rattle.acs_test.specs.declared.case.Case.{Case}
@@ -17,9 +19,17 @@ classes_for config case = classes_of config case.job case.alloc
 abbrev pub classes_made : Classified → SlateLines → Classes
 classes_made classified written = record { values = classified.values; written = written; stop = classified.stop }
 
+-- the line of an outcome
+abbrev pub outcome_line : Stop → Values → List ℕ
+outcome_line stop values = outcome_text stop values ++ 10 ∷ []
+
+-- the lines that the routines wrote, each behind this front
+abbrev pub written_text : List ℕ → SlateLines → List ℕ
+written_text front written = flat_map (behind front) (trace_lines (record { lines = written.lines; more = written.more }))
+
 -- the outcome, and the lines that the routines wrote, each behind this front
 abbrev pub outcome_lines : List ℕ → Classes → List ℕ
-outcome_lines front classes = outcome_text classes.stop classes.values ++ (10 ∷ [] ++ flat_map (behind front) (trace_lines (trace_of classes)))
+outcome_lines front classes = outcome_line classes.stop classes.values ++ written_text front classes.written
 
 -- a case that comes to the same
 abbrev pub same_text : Case → Classes → List ℕ

@@ -1,6 +1,6 @@
 //! The listing of a comparison.
-ghost use Rattle.std.specs.Prelude.{◌≡◌, ◌≤◌, ◌<◌, ◌++◌, length, IfOk, OnOk};
-ghost use Rattle.acs_test.specs.Listing.{IsListing, IsSame, case_text, classes_for, classes_made, differing_text, end_text, same_text, side_text};
+ghost use Rattle.std.specs.Prelude.{◌≡◌, ◌<◌, ◌+◌, ◌^◌, ◌++◌, IfOk, OnOk};
+ghost use Rattle.acs_test.specs.Listing.{IsListing, IsSame, case_text, classes_for, classes_made, count_differing, end_text, same_text, side_text};
 
 use crate::case::Case;
 use crate::cases::Cases;
@@ -23,12 +23,19 @@ pub fn compare(alloc: Global, cases: &Cases) -> Result<Vec<u8>, AllocError>
     let list = cases.list.as_slice();
     let mut differing: u64 = 0;
     for case in list {
-        if !push_case(alloc, &mut text, cases, case, &mut old, &mut new)? {
-            differing += 1;
-        }
+        let same = push_case(alloc, &mut text, cases, case, &mut old, &mut new)?;
+        differing = counted(differing, same);
     }
     push_end(&mut text, list.len() as u64, differing)?;
     Ok(text)
+}
+
+// One more where the case isn't the same.
+fn counted(differing: u64, same: bool) -> u64
+    requires { differing + 1 < 2 ^ 64 }
+    ensures { result ≡ count_differing same differing }
+{
+    if same { differing } else { differing + 1 }
 }
 
 // Puts the lines of a case behind a text, and tells whether it comes to the same under both configurations.

@@ -1,10 +1,11 @@
 //! What a case comes to.
 ghost use Rattle.std.specs.Prelude.{◌≡◌, ◌↔◌, ◌++◌, IsTrue, OnOk};
-ghost use Rattle.acs_test.specs.Listing.{classes_for, classes_made, outcome_lines};
+ghost use Rattle.acs_test.specs.Listing.{classes_for, classes_made, outcome_line, outcome_lines, written_text};
 
 use crate::case::Case;
-use acs_tree::{Kind, Slate};
+use acs_tree::{Kind, Line, Slate};
 use desk_law::Stop;
+use dsn_mask::Short;
 use sms_classes::{Classified, classify};
 use sms_construct::Trace;
 use sms_deck::Config;
@@ -23,31 +24,42 @@ pub fn are_same(one: &Classified, written: &Slate, other: &Classified, others: &
     ensures { IsTrue result ↔ (classes_made one.now written.now ≡ classes_made other.now others.now) }
 {
     one.values == other.values
-        && is_same_stop(one.stop, other.stop)
+        && is_same_stop(&one.stop, &other.stop)
         && are_same_lines(written, others)
 }
 
-fn is_same_stop(one: Stop, other: Stop) -> bool
-    ensures { IsTrue result ↔ (one ≡ other) }
+fn is_same_stop(one: &Stop, other: &Stop) -> bool
+    ensures { IsTrue result ↔ (one.now ≡ other.now) }
 {
-    match (one, other) {
-        (Stop::Done, Stop::Done)
-        | (Stop::Unmanaged, Stop::Unmanaged)
-        | (Stop::NoGroup, Stop::NoGroup) => true,
-        (
-            Stop::Exit { kind, code },
-            Stop::Exit {
-                kind: other,
-                code: others,
-            },
-        ) => kind == other && code == others,
-        (
-            Stop::Unknown { kind, name },
-            Stop::Unknown {
-                kind: other,
-                name: others,
-            },
-        ) => kind == other && name == others,
+    match one {
+        Stop::Done => matches!(other, Stop::Done),
+        Stop::Unmanaged => matches!(other, Stop::Unmanaged),
+        Stop::Exit { kind, code } => is_exit(other, *kind, *code),
+        Stop::Unknown { kind, name } => is_unknown(other, *kind, name),
+        Stop::NoGroup => matches!(other, Stop::NoGroup),
+    }
+}
+
+fn is_exit(stop: &Stop, kind: Kind, code: u16) -> bool
+    ensures { IsTrue result ↔ (Stop.Exit kind code ≡ stop.now) }
+{
+    match stop {
+        Stop::Exit {
+            kind: other,
+            code: others,
+        } => kind == *other && code == *others,
+        _ => false,
+    }
+}
+
+fn is_unknown(stop: &Stop, kind: Kind, name: &Short) -> bool
+    ensures { IsTrue result ↔ (Stop.Unknown kind name.now ≡ stop.now) }
+{
+    match stop {
+        Stop::Unknown {
+            kind: other,
+            name: others,
+        } => kind == *other && name == others,
         _ => false,
     }
 }
@@ -55,7 +67,13 @@ fn is_same_stop(one: Stop, other: Stop) -> bool
 fn are_same_lines(one: &Slate, other: &Slate) -> bool
     ensures { IsTrue result ↔ (one.now ≡ other.now) }
 {
-    one.lines() == other.lines() && are_same_counts(one, other)
+    are_lines(one.lines(), other.lines()) && are_same_counts(one, other)
+}
+
+fn are_lines(one: &[Line], other: &[Line]) -> bool
+    ensures { IsTrue result ↔ (one.now ≡ other.now) }
+{
+    one == other
 }
 
 // Whether each kind of routine wrote as many further lines.
@@ -78,7 +96,27 @@ pub fn push_outcome_lines(
 ) -> Result<(), AllocError>
     ensures { OnOk result (text.new.items ≡ text.old.items ++ outcome_lines front.now (classes_made made.now written.now)) }
 {
+    push_outcome_line(text, made)?;
+    push_slate(alloc, text, front, written)?;
+    Ok(())
+}
+
+fn push_outcome_line(text: &mut Vec<u8>, made: &Classified) -> Result<(), AllocError>
+    ensures { OnOk result (text.new.items ≡ text.old.items ++ outcome_line made.now.stop made.now.values) }
+{
     push_outcome(text, made.stop, &made.values)?;
-    text.extend_from_slice(b"\n")?;
-    push_written(alloc, text, front, &Trace::of(alloc, written)?)
+    text.extend_from_slice(b"\n")
+}
+
+fn push_slate(
+    alloc: Global,
+    text: &mut Vec<u8>,
+    front: &[u8],
+    written: &Slate,
+) -> Result<(), AllocError>
+    ensures { OnOk result (text.new.items ≡ text.old.items ++ written_text front.now written.now) }
+{
+    let trace = Trace::of(alloc, written)?;
+    push_written(alloc, text, front, &trace)?;
+    Ok(())
 }
