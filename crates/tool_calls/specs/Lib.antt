@@ -1,5 +1,4 @@
 pub mod ExitStatus
 pub mod Limits
-pub mod CasesText
 pub mod ToolText
 pub mod ToolEnds

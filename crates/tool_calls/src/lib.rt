@@ -2,7 +2,6 @@
 #![tactic(auto)]
 
 mod answering;
-mod comparing;
 mod limit;
 mod no_answer;
 mod noting;

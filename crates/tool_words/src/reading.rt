@@ -57,9 +57,6 @@ fn task_in(matches: &ArgMatches<'_>) -> Result<Task, WordsErr>
     if name == "simulate" {
         return Ok(Task::Simulate);
     }
-    if name == "compare" {
-        return Ok(Task::Compare);
-    }
     Err(WordsErr::NoMemory)
 }
 
