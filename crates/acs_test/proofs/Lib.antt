@@ -3,4 +3,5 @@ mod FieldLemmas
 mod TableLemmas
 mod RecordLemmas
 mod ReadingLemmas
+mod LineLemmas
 mod ListingLemmas

@@ -177,7 +177,7 @@ cases_read parts before after list old new gives = record {
       let one = same_config Old parts.before before made.before old is.before in
       let two = same_config New parts.after after made.after new is.after in
       let three : list ≡ made.list = cc (same_table parts.table (Ok list) (Ok made.list) gives is.listed) in
-      inl (cc (one, two, three));
+      inl (λ i. Ok (record { before = one i; after = two i; list = three i }));
   refused = λ err refuses. absurd (cc (same_table parts.table (Ok list) (Err err) gives (table_fault parts before after err old new refuses)));
 }
 
