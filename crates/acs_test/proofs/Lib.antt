@@ -4,4 +4,5 @@ mod TableLemmas
 mod RecordLemmas
 mod ReadingLemmas
 mod LineLemmas
+mod SameLemmas
 mod ListingLemmas

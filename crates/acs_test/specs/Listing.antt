@@ -39,10 +39,13 @@ same_text case classes = spaced (case.name ∷ codes "SAME" ∷ outcome_lines (c
 abbrev pub side_text : List ℕ → Classes → List ℕ
 side_text side classes = side ++ outcome_lines (codes "    ") classes
 
+-- the first line of a case that comes to something else
+abbrev pub differing_head : Case → List ℕ
+differing_head case = spaced (case.name ∷ codes "DIFFERS\n" ∷ [])
+
 -- a case that comes to something else
 abbrev pub differing_text : Case → Classes → Classes → List ℕ
-differing_text case old new =
-    spaced (case.name ∷ codes "DIFFERS\n" ∷ []) ++ (side_text (codes "  OLD ") old ++ side_text (codes "  NEW ") new)
+differing_text case old new = differing_head case ++ (side_text (codes "  OLD ") old ++ side_text (codes "  NEW ") new)
 
 -- the lines of a case that comes to this under the one and the other configuration, and whether that is the same
 abbrev pub case_text : Case → Classes → Classes → Bool → List ℕ

@@ -1,6 +1,6 @@
 //! The listing of a comparison.
 ghost use Rattle.std.specs.Prelude.{◌≡◌, ◌<◌, ◌+◌, ◌^◌, ◌++◌, IfOk, OnOk};
-ghost use Rattle.acs_test.specs.Listing.{IsListing, IsSame, case_text, classes_for, classes_made, count_differing, end_text, same_text, side_text};
+ghost use Rattle.acs_test.specs.Listing.{IsListing, IsSame, case_text, classes_for, classes_made, count_differing, differing_head, differing_text, end_text, same_text, side_text};
 
 use crate::case::Case;
 use crate::cases::Cases;
@@ -56,10 +56,7 @@ fn push_case(
     if same {
         push_same(alloc, text, case, &before, old)?;
     } else {
-        push_word_and_blank(text, case.name.bytes())?;
-        text.extend_from_slice(b"DIFFERS\n")?;
-        push_side(alloc, text, b"  OLD ", &before, old)?;
-        push_side(alloc, text, b"  NEW ", &after, new)?;
+        push_differing(alloc, text, case, &before, old, &after, new)?;
     }
     Ok(same)
 }
@@ -76,6 +73,31 @@ fn push_same(
     push_word_and_blank(text, case.name.bytes())?;
     push_word_and_blank(text, b"SAME")?;
     push_outcome_lines(alloc, text, b"  ", made, written)
+}
+
+// Puts the lines of a case behind a text that comes to the one and to the other.
+fn push_differing(
+    alloc: Global,
+    text: &mut Vec<u8>,
+    case: &Case,
+    before: &Classified,
+    old: &Slate,
+    after: &Classified,
+    new: &Slate,
+) -> Result<(), AllocError>
+    ensures { OnOk result (text.new.items ≡ text.old.items ++ differing_text case.now (classes_made before.now old.now) (classes_made after.now new.now)) }
+{
+    push_head(text, case)?;
+    push_side(alloc, text, b"  OLD ", before, old)?;
+    push_side(alloc, text, b"  NEW ", after, new)?;
+    Ok(())
+}
+
+fn push_head(text: &mut Vec<u8>, case: &Case) -> Result<(), AllocError>
+    ensures { OnOk result (text.new.items ≡ text.old.items ++ differing_head case.now) }
+{
+    push_word_and_blank(text, case.name.bytes())?;
+    text.extend_from_slice(b"DIFFERS\n")
 }
 
 fn push_side(

@@ -23,9 +23,14 @@ pub fn classified(config: &Config, case: &Case, slate: &mut Slate) -> Classified
 pub fn are_same(one: &Classified, written: &Slate, other: &Classified, others: &Slate) -> bool
     ensures { IsTrue result ↔ (classes_made one.now written.now ≡ classes_made other.now others.now) }
 {
-    one.values == other.values
-        && is_same_stop(&one.stop, &other.stop)
-        && are_same_lines(written, others)
+    is_same_end(one, other) && are_same_lines(written, others)
+}
+
+// Whether values and end are equal.
+fn is_same_end(one: &Classified, other: &Classified) -> bool
+    ensures { IsTrue result ↔ (one.now ≡ other.now) }
+{
+    one.values == other.values && is_same_stop(&one.stop, &other.stop)
 }
 
 fn is_same_stop(one: &Stop, other: &Stop) -> bool
