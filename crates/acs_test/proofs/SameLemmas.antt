@@ -17,3 +17,14 @@ pub ends_differ : (one other : Classified) (written others : SlateLines) (result
 ends_differ one other written others result ends differ e =
     let same : result ≡ true = ends.1 (same_end one other written others e) in
     cc
+
+-- where the values are equal, the ends decide
+pub ends_decide : (one other : Classified) (result : Bool) → one.values ≡ other.values → Decides result (one.stop ≡ other.stop) → Decides result (one ≡ other)
+ends_decide one other result same stops =
+    (λ t. let stop : one.stop ≡ other.stop = stops.0 t in λ i. record { values = same i; stop = stop i }, λ e. stops.1 (ap (λ (classified : Classified). classified.stop) e))
+
+-- where they aren't, nothing is equal
+pub values_differ : (one other : Classified) (result : Bool) → Decides result (one.values ≡ other.values) → result ≡ false → one ≡ other → ⊥
+values_differ one other result values differ e =
+    let same : result ≡ true = values.1 (ap (λ (classified : Classified). classified.values) e) in
+    cc

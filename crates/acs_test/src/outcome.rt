@@ -3,7 +3,7 @@ ghost use Rattle.std.specs.Prelude.{◌≡◌, ◌↔◌, ◌++◌, IsTrue, OnOk
 ghost use Rattle.acs_test.specs.Listing.{classes_for, classes_made, outcome_line, outcome_lines, written_text};
 
 use crate::case::Case;
-use acs_tree::{Kind, Line, Slate};
+use acs_tree::{Kind, Line, Slate, Values};
 use desk_law::Stop;
 use dsn_mask::Short;
 use sms_classes::{Classified, classify};
@@ -30,7 +30,16 @@ pub fn are_same(one: &Classified, written: &Slate, other: &Classified, others: &
 fn is_same_end(one: &Classified, other: &Classified) -> bool
     ensures { IsTrue result ↔ (one.now ≡ other.now) }
 {
-    one.values == other.values && is_same_stop(&one.stop, &other.stop)
+    are_same_values(&one.values, &other.values) && is_same_stop(&one.stop, &other.stop)
+}
+
+fn are_same_values(one: &Values, other: &Values) -> bool
+    ensures { IsTrue result ↔ (one.now ≡ other.now) }
+{
+    one.dataclas == other.dataclas
+        && one.storclas == other.storclas
+        && one.mgmtclas == other.mgmtclas
+        && one.groups.equals(&other.groups)
 }
 
 fn is_same_stop(one: &Stop, other: &Stop) -> bool
