@@ -1,10 +1,10 @@
 -- The lines of an input, one after the other.
-use Rattle.std.proofs.Common.{◌≡◌, ◌≤◌, ℕ, ◌+◌, ◌-◌, Bool, true, false, List, [], ◌∷◌, ◌++◌, Ok, Err, length, take, refl, sym, ap, ◌∙◌, append_assoc, length-append, arith}
+use Rattle.std.proofs.Common.{◌≡◌, ℕ, ◌+◌, ◌-◌, Bool, true, false, List, [], ◌∷◌, ◌++◌, Ok, Err, length, take, refl, sym, ap, ◌∙◌, append_assoc, length-append, arith}
 use Rattle.std.specs.Prelude.{◌==◌, Result, codes, if◌then◌else◌}
 use Rattle.desk_common.specs.Words.{onto}
 use Rattle.std.proofs.lemmas.List.{take_at}
 use Rattle.sms_script.specs.Lines.{is_block_end, lines_of}
-use Rattle.acs_test.specs.Layout.{Block, Numbered, Parts, behind_word, block_of, bytes_of, parts_of, with_line}
+use Rattle.acs_test.specs.Layout.{Block, Numbered, behind_word, block_of, bytes_of, parts_of, with_line}
 
 -- bytes before those of a deck
 abbrev pub onto_deck : List ℕ → Result Block ℕ → Result Block ℕ

@@ -1,6 +1,6 @@
 -- The reading of an input, exactly.
 use Rattle.std.proofs.Common.{◌≡◌, ◌⊎◌, ◌+◌, ℕ, List, [], ◌∷◌, Ok, Err, Some, inl, inr, refl, sym, ap, ◌∙◌, subst}
-use Rattle.std.specs.Prelude.{◌==◌, Option, None, Bool, true, false, length, nat_le, not, Result, IsErrAnd, if◌then◌else◌}
+use Rattle.std.specs.Prelude.{◌==◌, Option, None, Bool, true, false, length, nat_le, not, Result, if◌then◌else◌}
 use Rattle.desk_common.specs.Exact.{IsExact, IsWant, MayRefuse}
 use Rattle.sms_construct.specs.Configuration.{Configuration}
 use Rattle.sms_construct.specs.declared.fault.Fault.{Fault}

@@ -1,5 +1,5 @@
 -- Two classifications that come to the same, and two that don't.
-use Rattle.std.proofs.Common.{◌≡◌, Bool, true, false, Decides, ap, ap₂, sym, ◌∙◌}
+use Rattle.std.proofs.Common.{◌≡◌, Bool, true, false, Decides, ap, ap₂}
 use Rattle.acs_tree.specs.Slates.{SlateLines}
 use Rattle.desk_law.specs.Classification.{Classes}
 use Rattle.sms_classes.specs.declared.classified.Classified.{Classified}

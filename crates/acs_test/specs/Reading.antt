@@ -5,7 +5,6 @@ use Rattle.sms_construct.specs.declared.fault.Fault.{Fault}
 use Rattle.sms_deck.specs.Reading.{Configures, HasFirstFault}
 use Rattle.acs_test.specs.Layout.{Parts, parts_of}
 use Rattle.acs_test.specs.Records.{TableGives}
-use Rattle.acs_test.specs.declared.case.Case.{Case}
 use Rattle.acs_test.specs.declared.cases.Cases.{Cases}
 use Rattle.acs_test.specs.declared.cases_err.CasesErr.{CasesErr}
 use Rattle.acs_test.specs.declared.cases_err.CasesErr.TheVariants as errs

@@ -1,4 +1,4 @@
-use Rattle.std.proofs.Common.{◌≡◌, ◌++◌, ◌∷◌, [], ◌∙◌, List, ℕ, Bor, Some, None, ap, map, sym, arith}
+use Rattle.std.proofs.Common.{◌≡◌, ◌++◌, ◌∷◌, [], ◌∙◌, List, ℕ, Bor, Some, ap, map, sym, arith}
 use Rattle.std.proofs.lemmas.List.{map-append}
 use Rattle.csv.specs.Records.{field_at, fields_of}
 use Rattle.acs_test.proofs.FieldLemmas.{field_there, next_field}

@@ -1,5 +1,4 @@
-use Rattle.std.proofs.Common.{◌≡◌, ◌∙◌, List, ℕ, Ok, ap}
-use Rattle.sms_script.specs.Lines.{lines_of}
+use Rattle.std.proofs.Common.{◌∙◌, List, ℕ, Ok, ap}
 use Rattle.acs_test.specs.Layout.{Parts}
 use Rattle.acs_test.specs.Parts.{block_seen, numbered_in}
 use Rattle.acs_test.proofs.LayoutLemmas.{lines_whole, parts_found}

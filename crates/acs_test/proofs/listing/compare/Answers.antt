@@ -1,4 +1,4 @@
-use Rattle.std.proofs.Common.{◌≡◌, ◌≤◌, ◌+◌, ◌++◌, ℕ, List, length, ap, drop, sym, ◌∙◌, subst, arith}
+use Rattle.std.proofs.Common.{◌≤◌, ◌+◌, ◌++◌, ℕ, List, length, ap, drop, sym, ◌∙◌, subst, arith}
 use Rattle.acs_test.specs.Listing.{IsListed, end_text}
 use Rattle.acs_test.specs.declared.case.Case.{Case}
 use Rattle.acs_test.proofs.ListingLemmas.{IsListedSo, counted_few, drop_all, listed_all, listed_more, listed_none}
