@@ -5,3 +5,4 @@ mod PieceLemmas
 mod ListLemmas
 mod PhaseTextLemmas
 mod FewLemmas
+mod KeyLemmas

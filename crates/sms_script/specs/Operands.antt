@@ -1,5 +1,5 @@
 -- The operands of ALLOC (docs/script.md, "Operands"): which stand in a line, and what each gives.
-use Rattle.std.specs.Prelude.{ℕ, Bool, true, false, not, ◌&&◌, List, [], ◌∷◌, Option, None, Some, is_some, codes, option_map, unwrap_or}
+use Rattle.std.specs.Prelude.{ℕ, Bool, true, false, not, ◌&&◌, List, [], ◌∷◌, ◌++◌, Option, None, Some, bytes_eq, is_some, codes, option_map, unwrap_or}
 use Rattle.std.specs.List.{filter_map, list_all, list_any}
 use Rattle.acs_tree.specs.declared.accounting.Accounting.{Accounting}
 use Rattle.acs_tree.specs.declared.amounts.Amounts.{Amounts}
@@ -24,6 +24,14 @@ keys =
     ∷ codes "USER=" ∷ codes "GROUP=" ∷ codes "PGM=" ∷ codes "DD=" ∷ codes "UNIT=" ∷ codes "DSORG=" ∷ codes "RECORG=" ∷ codes "DSNTYPE=" ∷ codes "DSTYPE="
     ∷ codes "ACSENVIR=" ∷ codes "XMODE=" ∷ codes "APPLIC=" ∷ codes "OWNER=" ∷ codes "ACCT=" ∷ codes "STEPACCT=" ∷ codes "RETPD=" ∷ codes "EXPDT=" ∷ codes "BLKSIZE="
     ∷ codes "DAY=" ∷ codes "EATTR=" ∷ []
+
+-- the key is this name and an equals sign
+abbrev pub is_key_of : List ℕ → List ℕ → Bool
+is_key_of name key = bytes_eq key (name ++ codes "=")
+
+-- the name is the key of an operand
+abbrev pub is_key : List ℕ → Bool
+is_key name = list_any (is_key_of name) keys
 
 -- the word has this key
 abbrev pub has_key : List ℕ → List ℕ → Bool

@@ -28,8 +28,10 @@ mod written;
 
 pub use fault_text::push_fault;
 pub use item::{Item, Phase, Script};
+pub use lines::{first_line, is_block_end, line_text};
 pub use op::read_op;
-pub use printing::{answer_lines, print, push_indented, view_lines};
+pub use operand::is_key;
+pub use printing::{answer_lines, print, view_lines};
 pub use pushing::{push_number_and_blank, push_word_and_blank, status_bytes, value_bytes};
 pub use reading::read_script;
 pub use script_err::ScriptErr;

@@ -3,7 +3,7 @@ ghost use Rattle.std.specs.Prelude.{◌≡◌, ◌∷◌, [], true, map, MatchOp
 ghost use Rattle.std.specs.List.{list_all, list_any};
 ghost use Rattle.dsn_mask.specs.Name.{name_of};
 ghost use Rattle.sms_construct.specs.SpaceText.{space_text};
-ghost use Rattle.sms_script.specs.Operands.{are_operands, given, given_or_none, has_key, is_once, is_operand, values_of};
+ghost use Rattle.sms_script.specs.Operands.{are_operands, given, given_or_none, has_key, is_key, is_key_of, is_once, is_operand, values_of};
 ghost use Rattle.sms_script.specs.Values.{account_of, count_of, date_of, eattr_of, name_value_of, number_to, plain_of, volumes_of};
 
 use crate::lists::{read_account, read_volumes};
@@ -45,6 +45,36 @@ const KEYS: [&[u8]; 29] = [
     b"DAY=",
     b"EATTR=",
 ];
+
+/// Whether the name is the key of an operand, in capitals and without the equals sign.
+pub fn is_key(name: &[u8]) -> bool
+    ensures { result ≡ is_key name.now }
+{
+    is_key_among(name, &KEYS)
+}
+
+fn is_key_among(name: &[u8], mut keys: &[&[u8]]) -> bool
+    ensures { result ≡ list_any (is_key_of name.now) (map (λ key. key.now) keys.entry.now) }
+{
+    while let [key, others @ ..] = keys {
+        if is_key_of(name, key) {
+            return true;
+        }
+        keys = others;
+    }
+    false
+}
+
+// Whether the key is this name and an equals sign.
+#[tactic(auto, using(crate::proofs::KeyLemmas::key_is))]
+fn is_key_of(name: &[u8], key: &[u8]) -> bool
+    ensures { result ≡ is_key_of name.now key.now }
+{
+    match behind_front(name, key) {
+        Some(end) => end == b"=".as_slice(),
+        None => false,
+    }
+}
 
 /// Whether each of the words has one of the keys, and no key stands twice.
 pub fn are_operands(words: &[&[u8]]) -> bool

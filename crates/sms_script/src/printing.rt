@@ -117,8 +117,8 @@ fn further_of(alloc: Global, reply: &Reply) -> Result<TextLines, AllocError>
     Ok(lines)
 }
 
-/// Puts each line behind a text, with two spaces before it and LF behind it.
-pub fn push_indented(text: &mut Vec<u8>, lines: &[Items<u8>]) -> Result<(), AllocError>
+// Puts each line behind a text, with two spaces before it and LF behind it.
+fn push_indented(text: &mut Vec<u8>, lines: &[Items<u8>]) -> Result<(), AllocError>
     ensures { OnOk result (text.new.items ≡ text.old.items ++ flat_map indented lines.now) }
 {
     for line in lines {

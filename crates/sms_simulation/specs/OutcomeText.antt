@@ -5,7 +5,6 @@ use Rattle.acs_tree.specs.Variables.{name_of}
 use Rattle.acs_tree.specs.declared.values.Values.{Values}
 use Rattle.desk_common.specs.Bytes.{comma}
 use Rattle.sms_construct.specs.declared.trace.Trace.{Trace}
-use Rattle.sms_script.specs.AnswerText.{indented}
 use Rattle.sms_script.specs.NameText.{spaced, value_text}
 use Rattle.sms_script.specs.TraceText.{trace_lines}
 use Rattle.desk_law.specs.Classification.{Classes, trace_of}
@@ -32,9 +31,13 @@ outcome_text stops.NoGroup values = codes "NO GROUP"
 abbrev pub outcome_line : ℕ → List ℕ → ℕ → Stop → Values → List ℕ
 outcome_line line job number stop values = spaced (decimal line ∷ job ∷ decimal number ∷ outcome_text stop values ∷ [])
 
--- that line, and the lines that the routines wrote
+-- a line with this front, and LF behind it
+abbrev pub behind : List ℕ → List ℕ → List ℕ
+behind front line = front ++ line ++ 10 ∷ []
+
+-- that line, and the lines that the routines wrote, each behind two blanks
 abbrev pub classified_text : ℕ → List ℕ → ℕ → Stop → Values → Trace → List ℕ
-classified_text line job number stop values trace = outcome_line line job number stop values ++ 10 ∷ [] ++ flat_map indented (trace_lines trace)
+classified_text line job number stop values trace = outcome_line line job number stop values ++ 10 ∷ [] ++ flat_map (behind (codes "  ")) (trace_lines trace)
 
 -- the same of classes
 abbrev pub text_of_classes : ℕ → List ℕ → ℕ → Classes → List ℕ

@@ -6,5 +6,6 @@ mod outcome;
 mod simulated;
 mod simulating;
 
+pub use outcome::{push_outcome, push_written};
 pub use simulated::Simulated;
 pub use simulating::simulate;

@@ -1,9 +1,8 @@
-// What a classification comes to, as text.
+//! What a classification comes to, as text.
 ghost use Rattle.std.specs.Prelude.{◌≡◌, ◌++◌, ◌∷◌, [], OnOk, decimal, flat_map};
 ghost use Rattle.desk_common.specs.Bytes.{comma};
-ghost use Rattle.sms_script.specs.AnswerText.{indented};
 ghost use Rattle.sms_script.specs.TraceText.{trace_lines};
-ghost use Rattle.sms_simulation.specs.OutcomeText.{classes_text, classified_text, groups_text, outcome_line, outcome_text};
+ghost use Rattle.sms_simulation.specs.OutcomeText.{behind, classes_text, classified_text, groups_text, outcome_line, outcome_text};
 
 use acs_tree::Values;
 use desk_common::{Items, push_number};
@@ -11,9 +10,7 @@ use desk_law::Stop;
 use dsn_mask::Name;
 use sms_classes::Classified;
 use sms_construct::{Request, Trace};
-use sms_script::{
-    push_indented, push_number_and_blank, push_trace, push_word_and_blank, value_bytes,
-};
+use sms_script::{push_number_and_blank, push_trace, push_word_and_blank, value_bytes};
 use std::alloc::{AllocError, Global};
 
 /// Puts what the classification of a request comes to behind a text, and what its routines wrote.
@@ -29,7 +26,7 @@ pub fn push_classified(
 {
     push_line(text, line, request, classified)?;
     text.extend_from_slice(b"\n")?;
-    push_written(alloc, text, trace)
+    push_written(alloc, text, b"  ", trace)
 }
 
 fn push_line(
@@ -46,7 +43,9 @@ fn push_line(
     push_outcome(text, classified.stop, &classified.values)
 }
 
-fn push_outcome(text: &mut Vec<u8>, stop: Stop, values: &Values) -> Result<(), AllocError>
+/// Puts the outcome behind a text: how a classification ends, and where it is done its classes and storage groups
+/// (docs/tool.md, "Simulating a script").
+pub fn push_outcome(text: &mut Vec<u8>, stop: Stop, values: &Values) -> Result<(), AllocError>
     ensures { OnOk result (text.new.items ≡ text.old.items ++ outcome_text stop values.now) }
 {
     match stop {
@@ -106,10 +105,33 @@ fn push_others(text: &mut Vec<u8>, groups: &[Name]) -> Result<(), AllocError>
     Ok(())
 }
 
-fn push_written(alloc: Global, text: &mut Vec<u8>, trace: &Trace) -> Result<(), AllocError>
-    ensures { OnOk result (text.new.items ≡ text.old.items ++ flat_map indented (trace_lines trace.now)) }
+/// Puts the lines of a trace behind a text, each with this front before it and LF behind it.
+pub fn push_written(
+    alloc: Global,
+    text: &mut Vec<u8>,
+    front: &[u8],
+    trace: &Trace,
+) -> Result<(), AllocError>
+    ensures { OnOk result (text.new.items ≡ text.old.items ++ flat_map (behind front.now) (trace_lines trace.now)) }
 {
     let mut lines = Items::new(alloc);
     push_trace(alloc, &mut lines, trace)?;
-    push_indented(text, lines.as_slice())
+    push_lines(text, front, lines.as_slice())
+}
+
+fn push_lines(text: &mut Vec<u8>, front: &[u8], lines: &[Items<u8>]) -> Result<(), AllocError>
+    ensures { OnOk result (text.new.items ≡ text.old.items ++ flat_map (behind front.now) lines.now) }
+{
+    for line in lines {
+        push_behind(text, front, line.as_slice())?;
+    }
+    Ok(())
+}
+
+fn push_behind(text: &mut Vec<u8>, front: &[u8], line: &[u8]) -> Result<(), AllocError>
+    ensures { OnOk result (text.new.items ≡ text.old.items ++ behind front.now line.now) }
+{
+    text.extend_from_slice(front)?;
+    text.extend_from_slice(line)?;
+    text.extend_from_slice(b"\n")
 }

@@ -1,0 +1,15 @@
+//! The cases of a table.
+use crate::case::Case;
+use desk_common::Items;
+use sms_deck::Config;
+
+/// Cases, and the two configurations under which they are compared.
+#[derive(Drop)]
+pub struct Cases {
+    /// The configuration of the deck behind OLD.
+    pub before: Config,
+    /// The configuration of the deck behind NEW.
+    pub after: Config,
+    /// The cases in the order of their records.
+    pub list: Items<Case>,
+}

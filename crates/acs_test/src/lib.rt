@@ -1,0 +1,22 @@
+//! A table of cases that is run under two decks, and how the cases differ.
+#![tactic(auto)]
+
+mod case;
+mod cases;
+mod cases_err;
+mod columns;
+mod fields;
+mod layout;
+mod line;
+mod listing;
+mod outcome;
+mod reading;
+mod record_case;
+mod table;
+mod table_cases;
+
+pub use case::Case;
+pub use cases::Cases;
+pub use cases_err::{CasesErr, Side};
+pub use listing::compare;
+pub use reading::read_cases;
