@@ -10,7 +10,7 @@ invariant_of-clerk-2 g c =
     let whole : c.push_reserved.new.self.items ≡ c.clerk.inside.talks.items ++ talk ∷ [] = c.push_reserved.ensures.items ∙ ap (λ l. l ++ talk ∷ []) c.reserve.ensures.items in
     let enters = c.step-answer.ensures.enters in
     rw whole (HasEntered-more c.clerk.inside.start.value c.clerk.inside.core c.step-answer.new.self c.clerk.inside.talks.items talk c.clerk.invariant
-        c.step-answer.ensures.opening c.step-answer.ensures.mark enters.journal_is enters.no_place enters.full)
+    c.step-answer.ensures.opening c.step-answer.ensures.mark enters.journal_is enters.no_place enters.full)
 
 -- the talk is the last
 pub returns-clause-ok : goal.returns-clause-ok
