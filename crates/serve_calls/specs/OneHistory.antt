@@ -16,8 +16,8 @@ made_by worker (maker ∷ makers) [] = []
 made_by worker (maker ∷ makers) (entry ∷ history) =
     if maker == worker then entry ∷ made_by worker makers history else made_by worker makers history
 
--- each request that was heard is in the history once: each entry was made by one of the workers, and those of each worker
--- are those of the talks of its visits, in their order; a talk without an entry has its place in the history too
+-- each request that was heard is in the history once: each entry was made by one of the workers, and those of each
+-- worker are those of the talks of its visits, in their order; a talk without an entry has its place there too
 pub record IsOneHistory (visits : List (List Visit)) (history : List Entry) : Type 0 where
   pub makers : List ℕ
   pub each : length makers ≡ length history

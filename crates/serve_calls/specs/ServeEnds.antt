@@ -39,8 +39,10 @@ pub record AreServed {C : Type 0} (seen : C → Observed) (most : ℕ) (old new 
   pub each : All (λ door. WasServed seen most door.before door.after door.visits door.end) doors
 
 -- one door was served, and these are its visits
-abbrev pub IsServedAlone : {C : Type 0} → (C → Observed) → ℕ → DoorMoment C → DoorMoment C → List (List Visit) → DoorEnd → Type 0
-IsServedAlone seen most old new all end = (visits : List Visit) × (all ≡ visits ∷ []) × WasServed seen most old new visits end
+abbrev pub IsServedAlone : {C : Type 0} → (C → Observed) → ℕ → DoorMoment C → DoorMoment C → List (List Visit) → DoorEnd
+    → Type 0
+IsServedAlone seen most old new all end =
+    (visits : List Visit) × (all ≡ visits ∷ []) × WasServed seen most old new visits end
 
 -- the door was served as often as was asked, or has ended
 abbrev pub IsOver : DoorEnd → Type 0
@@ -96,7 +98,8 @@ pub record WereServed {C : Type 0} (seen : C → Observed) (most : ℕ) (old new
   pub is_end : IsServeEnd ends before after (served_text visits entries) status
 
 -- memory was wanting before any door was asked for a link
-pub record WereUnasked {D : Type 0} (old new : List D) (visits : List (List Visit)) (status : ServeStatus) : Type 0 where
+pub record WereUnasked {D : Type 0} (old new : List D) (visits : List (List Visit)) (status : ServeStatus)
+    : Type 0 where
   pub doors : new ≡ old
   pub none : visits ≡ []
   pub wanting : status ≡ NoMemory

@@ -32,8 +32,8 @@ abbrev pub worker_lines : ℕ → List (List Visit) → List ℕ
 worker_lines worker [] = []
 worker_lines worker (visits ∷ others) = visit_lines worker 1 visits ++ worker_lines (worker + 1) others
 
--- a line for each connection, by worker and in their order, and the last line with the number of entries of the desk and
--- that of the connections
+-- a line for each connection, by worker and in their order, and the last line with the number of entries of the desk
+-- and that of the connections
 abbrev pub served_text : List (List Visit) → ℕ → List ℕ
 served_text visits entries =
     worker_lines 1 visits ++ end_text entries (length (flat_map (λ of_door. of_door) visits))

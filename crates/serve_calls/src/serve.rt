@@ -28,8 +28,8 @@ use std::alloc::{AllocError, Global};
 pub type DoorVisits = Items<Visits>;
 
 /// Does what the words of the command line ask: serves a new desk over a keeper of empty tables to the links of the
-/// doors, one door a worker, and writes a line for each connection to the sink. It hands back the desk's core, the doors
-/// and their visits; where no door was asked for a link there are none. It waits where a door or a link waits
+/// doors, one door a worker, and writes a line for each connection to the sink. It hands back the desk's core, the
+/// doors and their visits; where no door was asked for a link there are none. It waits where a door or a link waits
 /// (docs/http.md, "The program").
 pub fn serve_main<A: Accept, K: Sink, P: Keeper>(
     alloc: Global,

@@ -15,7 +15,8 @@ module _ {C : Type 0} where
   -- these links were given, in this order, of those that were left
   abbrev pub WereGiven : Option (List C) → Option (List C) → List C → Type 0
   WereGiven waiting waiting' links =
-      MatchOption waiting (waiting' ≡ None) (λ before. (rest : List C) × (before ≡ links ++ rest) × (waiting' ≡ Some rest))
+      MatchOption waiting (waiting' ≡ None) (λ before.
+      (rest : List C) × (before ≡ links ++ rest) × (waiting' ≡ Some rest))
 
   -- no more links came back than were given
   abbrev pub IsFair : DoorMoment C → Type 0
