@@ -44,6 +44,11 @@ struct Served {
     entered: usize,
 }
 
+/// A desk on which nothing was asked yet.
+fn new_desk(alloc: Global) -> Core<MemKeeper> {
+    Core::new(alloc, MemKeeper::new(alloc))
+}
+
 /// A conversation of a fresh desk over a link that gives and takes at most `piece` bytes at a call.
 fn serve(alloc: Global, input: &[u8], piece: usize, turns: u64) -> Result<Served, Fail>
     requires piece { 1 ≤ piece }
@@ -57,8 +62,7 @@ fn serve(alloc: Global, input: &[u8], piece: usize, turns: u64) -> Result<Served
         Vec::new(alloc),
         Vec::new(alloc),
     );
-    let core = Core::new(alloc, MemKeeper::new(alloc));
-    let mut clerk = CoreClerk::new(alloc, core, Slate::new(alloc)?);
+    let mut clerk = CoreClerk::new(alloc, new_desk(alloc), Slate::new(alloc)?);
     let end = serve_connection(alloc, &mut clerk, &mut link, turns);
     let sent = link.taken().to_vec(alloc)?;
     let (core, _slate, talks) = clerk.into_parts();
