@@ -6,6 +6,8 @@ mod cases;
 #[cfg(test)]
 mod commands;
 #[cfg(test)]
+mod failing_door;
+#[cfg(test)]
 mod repeats;
 #[cfg(test)]
 mod replies;
@@ -15,6 +17,8 @@ mod running;
 mod runs;
 #[cfg(test)]
 mod scripts;
+#[cfg(test)]
+mod served;
 #[cfg(test)]
 mod serving;
 #[cfg(test)]
