@@ -1,2 +1,3 @@
 mod BookingLemmas
 mod SigningLemmas
+mod WorkingLemmas

@@ -15,3 +15,5 @@ mod records;
 mod talking;
 #[cfg(test)]
 mod turns;
+#[cfg(test)]
+mod working;
