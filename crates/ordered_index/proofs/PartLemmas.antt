@@ -1,9 +1,9 @@
 -- A chunk that is parted, dropped, or joined with the next one.
-use Rattle.std.proofs.Common.{◌≡◌, ◌≤◌, ◌<◌, ◌+◌, ℕ, zero, suc, List, [], ◌∷◌, ◌++◌, length, get_or, take, drop, set, Vec, Global, Ordering, refl, sym, ap, ◌∙◌, subst, append_assoc, arith}
+use Rattle.std.proofs.Common.{◌≡◌, ◌<◌, ◌+◌, ℕ, zero, suc, List, [], ◌∷◌, ◌++◌, length, get_or, take, drop, Vec, Global, Ordering, refl, sym, ap, ◌∙◌, append_assoc, length-append, arith}
 use Rattle.std.specs.BTreeMap.{insert_entry, is_at}
 use Rattle.std.specs.List.{All, insert, remove}
 use Rattle.std.specs.Map.{remove_entry}
-use Rattle.std.proofs.lemmas.List.Elements.{All-append, All-cons, All-take, All-drop}
+use Rattle.std.proofs.lemmas.List.Elements.{All-append, All-cons, All-drop, All-head, All-nil, All-tail, All-take}
 use Rattle.ordered_index.specs.Chunks.{IsChunkOf, rows_of}
 use Rattle.ordered_index.proofs.ChunkLemmas.{rows-parts, put-past, put-short, take-past, take-short}
 
@@ -65,3 +65,37 @@ module _ {K V : Type 0} (R : K → K → Ordering) (k : K) (cs : List (Vec (K ×
   pub take-parts : (rows : List (K × V)) → rows ≡ remove_entry (is_at (R k)) (get_or cs i d).items → rows_of (take i cs) ++ (rows ++ rows_of (drop (suc i) cs)) ≡ remove_entry (is_at (R k)) (rows_of cs)
   take-parts rows items =
       ap (λ l. rows_of (take i cs) ++ (l ++ rows_of (drop (suc i) cs))) items ∙ ap (λ l. rows_of (take i cs) ++ l) (sym (take-short R k (get_or cs i d).items _ is.behind)) ∙ sym (take-past R k (rows_of (take i cs)) _ is.before) ∙ ap (remove_entry (is_at (R k))) (sym (rows-parts cs i d is.at))
+
+pub join-chunks : {X : Type 0} (xs ys zs out : List X) (i n : ℕ) (x : X) → n ≡ suc i → suc i < length xs → ys ≡ remove xs n → zs ≡ remove ys i → out ≡ insert zs i x → out ≡ take i xs ++ (x ∷ drop (suc (suc i)) xs)
+join-chunks xs ys zs out i n x n-is less ys-is zs-is out-is =
+    out-is ∙ ap (λ l. insert l i x) (zs-is ∙ ap (λ l. remove l i) (ys-is ∙ ap (remove xs) n-is)) ∙ insert-joined xs i x less
+
+-- the chunk at a place, as it is taken out behind the next one, and that next one
+module _ {K V : Type 0} (cs : List (Vec (K × V) Global)) (i n : ℕ) (ch nx : Vec (K × V) Global) (n-is : n ≡ suc i) (less : suc i < length cs)
+    (ch-is : ch ≡ get_or (remove cs (suc i)) i ch) (nx-is : nx ≡ get_or cs n nx) where
+  pub first-is : ch ≡ get_or cs i ch
+  first-is = ch-is ∙ get-removed cs i ch less
+
+  pub next-is : nx ≡ get_or cs (suc i) nx
+  next-is = nx-is ∙ ap (λ m. get_or cs m nx) n-is
+
+  pub join-rows : (j : Vec (K × V) Global) (out : List (Vec (K × V) Global)) → j.items ≡ ch.items ++ nx.items → out ≡ take i cs ++ (j ∷ drop (suc (suc i)) cs) → rows_of out ≡ rows_of cs
+  join-rows j out j-is out-is =
+      ap rows_of out-is ∙ rows-append (take i cs) (j ∷ drop (suc (suc i)) cs)
+      ∙ ap (λ l. rows_of (take i cs) ++ (l ++ rows_of (drop (suc (suc i)) cs))) (j-is ∙ ap (λ v. v.items ++ nx.items) first-is ∙ ap (λ v. (get_or cs i ch).items ++ v.items) next-is)
+      ∙ rows-joined cs i ch nx less
+
+  pub join-length : (j : Vec (K × V) Global) → j.items ≡ ch.items ++ nx.items → length j.items ≡ length (get_or cs i ch).items + length (get_or cs (suc i) nx).items
+  join-length j j-is = ap length j-is ∙ length-append ch.items nx.items ∙ ap (λ v. length v.items + length nx.items) first-is ∙ ap (λ v. length (get_or cs i ch).items + length v.items) next-is
+
+pub parted-chunks-are : {X : Type 0} (xs ys zs out : List X) (i : ℕ) (behind front : X) → i < length xs → ys ≡ remove xs i → zs ≡ insert ys i behind → out ≡ insert zs i front → out ≡ take i xs ++ (front ∷ (behind ∷ drop (suc i) xs))
+parted-chunks-are xs ys zs out i behind front less ys-is zs-is out-is =
+    out-is ∙ ap (λ l. insert l i front) (zs-is ∙ ap (λ l. insert l i behind) ys-is) ∙ insert-both xs i behind front less
+
+pub last-is : {X : Type 0} (P : X → Type 0) (xs : List X) (x : X) → All P (xs ++ (x ∷ [])) → P x
+last-is P [] x all = All-head P x [] all
+last-is P (y ∷ xs) x all = last-is P xs x (All-tail P y (xs ++ (x ∷ [])) all)
+
+pub front-all : {X : Type 0} (P : X → Type 0) (xs : List X) (x : X) → All P (xs ++ (x ∷ [])) → All P xs
+front-all P [] x all = All-nil P
+front-all P (y ∷ xs) x all = All-cons P y xs (All-head P y (xs ++ (x ∷ [])) all) (front-all P xs x (All-tail P y (xs ++ (x ∷ [])) all))

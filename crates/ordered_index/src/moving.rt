@@ -25,7 +25,7 @@ pub fn move_half<K, V>(chunk: &mut Vec<(K, V)>, behind: &mut Vec<(K, V)>)
     ensures front { length chunk.new.items ≡ 64 }
     ensures back { length behind.new.items ≡ 64 }
     ensures capacity { vec_capacity chunk.new ≡ vec_capacity chunk.old }
-    ensures room { vec_capacity behind.new ≡ chunk_room }
+    ensures room { vec_capacity behind.new ≡ vec_capacity behind.old }
 {
     while chunk.len() > HALF {
         behind.push_reserved(chunk.take_last());
@@ -121,7 +121,7 @@ fn join_next<K: Drop, V: Drop>(chunks: &mut Vec<Vec<(K, V)>>, place: usize)
 fn append_rows<K: Drop, V: Drop>(chunk: &mut Vec<(K, V)>, rows: Vec<(K, V)>)
     requires { length chunk.old.items + length rows.items ≤ vec_capacity chunk.old }
     ensures rows { chunk.new.items ≡ chunk.old.items ++ rows.items }
-    ensures capacity { vec_capacity chunk.new ≡ vec_capacity chunk.old }
+    ensures capacity { vec_capacity chunk.old ≤ vec_capacity chunk.new }
 {
     let mut rows = rows;
     if chunk.append(&mut rows).is_err() {
