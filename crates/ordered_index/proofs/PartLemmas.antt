@@ -99,3 +99,13 @@ last-is P (y ∷ xs) x all = last-is P xs x (All-tail P y (xs ++ (x ∷ [])) all
 pub front-all : {X : Type 0} (P : X → Type 0) (xs : List X) (x : X) → All P (xs ++ (x ∷ [])) → All P xs
 front-all P [] x all = All-nil P
 front-all P (y ∷ xs) x all = All-cons P y xs (All-head P y (xs ++ (x ∷ [])) all) (front-all P xs x (All-tail P y (xs ++ (x ∷ [])) all))
+
+pub one-chunk-is : {X : Type 0} (xs ys out : List X) (i : ℕ) (x : X) → i < length xs → ys ≡ remove xs i → out ≡ insert ys i x → out ≡ take i xs ++ (x ∷ drop (suc i) xs)
+one-chunk-is xs ys out i x less ys-is out-is = out-is ∙ ap (λ l. insert l i x) ys-is ∙ insert-remove xs i x less
+
+pub rows-without : {K V : Type 0} (cs : List (Vec (K × V) Global)) (i : ℕ) → rows_of (remove cs i) ≡ rows_of (take i cs) ++ ([] ++ rows_of (drop (suc i) cs))
+rows-without cs i = rows-append (take i cs) (drop (suc i) cs)
+
+pub none-of : {X : Type 0} (xs : List X) → length xs ≡ 0 → xs ≡ []
+none-of [] is = refl
+none-of (x ∷ xs) is = absurd (omega (arith, is))
