@@ -2,6 +2,7 @@
 #![tactic(auto)]
 
 mod assigned;
+mod cases;
 mod deck;
 mod deck_part;
 mod finding;
@@ -14,6 +15,7 @@ mod source;
 mod spot;
 mod wording;
 
+pub use cases::{compared_deck, header_note, layout_note, record_note};
 pub use deck::deck_note;
 pub use deck_part::DeckPart;
 pub use routine::routine_note;

@@ -1,4 +1,5 @@
 pub mod ExitStatus
 pub mod Limits
+pub mod CasesText
 pub mod ToolText
 pub mod ToolEnds

@@ -20,12 +20,17 @@ use Rattle.sms_script.specs.declared.script_err.ScriptErr.TheVariants as scripts
 use Rattle.sms_simulation.specs.Simulation.{IsSimulation, first_misplaced}
 use Rattle.sms_simulation.specs.declared.simulated.Simulated.{Simulated}
 use Rattle.sms_simulation.specs.declared.simulated.Simulated.TheVariants as simulations
+use Rattle.acs_test.specs.Listing.{IsListing}
+use Rattle.acs_test.specs.Reading.{IsReading, IsRefusal}
+use Rattle.acs_test.specs.declared.cases.Cases.{Cases}
+use Rattle.acs_test.specs.declared.cases_err.CasesErr.{CasesErr}
+use Rattle.tool_calls.specs.CasesText.{cases_fault_text}
 use Rattle.tool_calls.specs.declared.no_answer.NoAnswer.{NoAnswer}
 use Rattle.tool_calls.specs.declared.no_answer.NoAnswer.TheVariants as hindrances
 use Rattle.tool_calls.specs.declared.status.ToolStatus.{ToolStatus}
 use Rattle.tool_calls.specs.declared.status.ToolStatus.TheVariants.{Done, FaultFound}
 use Rattle.tool_words.specs.declared.task.Task.{Task}
-use Rattle.tool_words.specs.declared.task.Task.TheVariants.{Translate, Validate, Simulate}
+use Rattle.tool_words.specs.declared.task.Task.TheVariants.{Translate, Validate, Simulate, Compare}
 
 -- L, P or C
 abbrev pub letter_of : Stage → List ℕ
@@ -57,6 +62,8 @@ pub data IsAnswer (bytes : List ℕ) : Task → ToolStatus → List ℕ → Type
   refused : (fault : DeckFault) → HasFirstFault bytes fault → IsAnswer bytes Validate FaultFound (refused_text fault)
   simulated : (phases : List (List Item)) (text : List ℕ) → script_of bytes ≡ Ok phases → IsSimulation (items_of phases) (simulations.Shown text) → IsAnswer bytes Simulate Done text
   unsimulated : (phases : List (List Item)) (fault : DeckFault) → script_of bytes ≡ Ok phases → IsSimulation (items_of phases) (simulations.Refused fault) → IsAnswer bytes Simulate FaultFound (refused_text fault)
+  compared : (cases : Cases) (text : List ℕ) → IsReading bytes cases → IsListing cases.before cases.after cases.list text → IsAnswer bytes Compare Done text
+  uncompared : (err : CasesErr) → IsRefusal bytes err → IsAnswer bytes Compare FaultFound (cases_fault_text err)
 
 -- the input is no script that can be simulated: it has this fault as a script, or is one with an item that isn't the one asked there
 pub data IsScriptFault (bytes : List ℕ) : Task → ScriptErr → Type 0 where

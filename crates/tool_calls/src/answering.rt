@@ -4,6 +4,7 @@ ghost use Rattle.sms_deck.specs.Reading.{HasFirstFault};
 ghost use Rattle.tool_calls.specs.ToolText.{letter_of, translated_text, fault_text, refused_text, valid_text, IsAnswer, Hinders, hindrance_of, TellsFault, TellsSimulation, HindersSimulation};
 ghost use Rattle.tool_words.specs.declared.task.Task.TheVariants.{Translate, Validate, Simulate};
 
+use crate::comparing::compared;
 use crate::no_answer::NoAnswer;
 use crate::noting::{note_deck, note_refusal, note_script, note_simulation};
 use crate::status::ToolStatus;
@@ -34,6 +35,7 @@ pub fn answer(
         }
         Task::Validate => validated(alloc, bytes, note).map_err(|_| NoAnswer::NoMemory),
         Task::Simulate => simulated(alloc, &bytes, note),
+        Task::Compare => compared(alloc, &bytes, note).map_err(|_| NoAnswer::NoMemory),
     }
 }
 

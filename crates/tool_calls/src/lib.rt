@@ -2,6 +2,7 @@
 #![tactic(auto)]
 
 mod answering;
+mod comparing;
 mod limit;
 mod no_answer;
 mod noting;

@@ -7,7 +7,7 @@ use tool_words::Task;
 /// The longest routine, in bytes.
 const MAX_ROUTINE: usize = 65_536;
 
-/// The longest input that holds a deck or a script, in bytes.
+/// The longest input that holds a deck, a script or a comparison, in bytes.
 const MAX_INPUT: usize = 16_777_216;
 
 /// The most bytes of the input of a task.
@@ -16,6 +16,6 @@ pub fn most_bytes(task: Task) -> usize
 {
     match task {
         Task::Translate(_) => MAX_ROUTINE,
-        Task::Validate | Task::Simulate => MAX_INPUT,
+        Task::Validate | Task::Simulate | Task::Compare => MAX_INPUT,
     }
 }

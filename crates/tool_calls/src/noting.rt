@@ -1,7 +1,11 @@
 //! What is said of a fault beside the answer, for the person at the terminal (docs/tool.md, "What a fault means").
 //! Where memory for it is wanting, nothing is said.
+use acs_test::{CasesErr, Side};
 use acs_translate::{RoutineFault, TranslateErr};
-use fault_notes::{DeckPart, deck_note, misplaced_note, routine_note, script_note};
+use fault_notes::{
+    DeckPart, compared_deck, deck_note, header_note, layout_note, misplaced_note, record_note,
+    routine_note, script_note,
+};
 use sms_construct::{Fault, Op, Stage, TextFault};
 use sms_script::{Item, Script, ScriptErr};
 use sms_simulation::Simulated;
@@ -40,6 +44,32 @@ pub fn note_simulation(
         (Simulated::Refused(fault), Some(deck)) => keep(note, deck_note(alloc, deck, fault)),
         (Simulated::Misplaced(line), _) => keep(note, misplaced_note(alloc, text, *line)),
         _ => (),
+    }
+}
+
+/// Notes why two decks and a table of cases aren't compared.
+pub fn note_cases(alloc: Global, note: &mut String, text: &[u8], err: &CasesErr) {
+    match err {
+        CasesErr::Layout(line) => keep(note, layout_note(alloc, text, *line)),
+        CasesErr::Deck(side, fault) => {
+            let deck = compared_deck(text, is_new(*side));
+            keep(note, deck_note(alloc, deck, fault));
+        }
+        CasesErr::Fields(number) => {
+            let sentence = "has another number of fields than the header";
+            keep(note, record_note(alloc, *number, sentence));
+        }
+        CasesErr::Header(column) => keep(note, header_note(alloc, *column)),
+        CasesErr::BadCase(number) => keep(note, record_note(alloc, *number, "is no case")),
+        CasesErr::TooMany => keep(note, record_note(alloc, 10_002, "is the 10001st case")),
+        CasesErr::NoMemory => (),
+    }
+}
+
+fn is_new(side: Side) -> bool {
+    match side {
+        Side::Old => false,
+        Side::New => true,
     }
 }
 

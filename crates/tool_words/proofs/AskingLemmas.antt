@@ -143,17 +143,20 @@ pub translation_found : (found : Option (Text × List Row)) (inner : ArgMatches)
 translation_found found inner (tasks.Translate kind) e asks = (rows_of (found_of inner), e, sym (first_value-rows (found_of inner) (codes "kind")) ∙ asks)
 translation_found found inner tasks.Validate e asks = absurd asks
 translation_found found inner tasks.Simulate e asks = absurd asks
+translation_found found inner tasks.Compare e asks = absurd asks
 
 -- the subcommand of each task's words
 abbrev name_in : Task → Text
 name_in (tasks.Translate kind) = codes "translate"
 name_in tasks.Validate = codes "validate"
 name_in tasks.Simulate = codes "simulate"
+name_in tasks.Compare = codes "compare"
 
 abbrev values_in : Task → Option Text
 values_in (tasks.Translate kind) = Some (name_of kind)
 values_in tasks.Validate = None
 values_in tasks.Simulate = None
+values_in tasks.Compare = None
 
 -- the name of what is found, and the text of its word KIND
 abbrev name_found : Option (Text × List Row) → Text
@@ -172,6 +175,7 @@ names_found (tasks.Translate MgmtClas) = refl
 names_found (tasks.Translate StorGrp) = refl
 names_found tasks.Validate = refl
 names_found tasks.Simulate = refl
+names_found tasks.Compare = refl
 
 kinds_found : (kind : Kind) → kind_found (subcommand_of tool (words_of (tasks.Translate kind))) ≡ Some (name_of kind)
 unfolding clap_on_literals
@@ -211,6 +215,7 @@ found_names : (found : Option (Text × List Row)) (task : Task) → Finds found 
 found_names found (tasks.Translate kind) finds = ap name_found finds.1
 found_names found tasks.Validate finds = ap name_found finds.1
 found_names found tasks.Simulate finds = ap name_found finds.1
+found_names found tasks.Compare finds = ap name_found finds.1
 
 found_kinds : (found : Option (Text × List Row)) (kind : Kind) → Finds found (tasks.Translate kind) → kind_found found ≡ Some (name_of kind)
 found_kinds found kind finds = ap kind_found finds.1 ∙ finds.2
@@ -221,12 +226,19 @@ one_task (tasks.Translate one) (tasks.Translate two) found a b e =
     ap tasks.Translate (one_name one two (ap text_or_none (sym (found_kinds found one a) ∙ found_kinds found two b)))
 one_task (tasks.Translate one) tasks.Validate found a b e = absurd (omega (arith, ap first e))
 one_task (tasks.Translate one) tasks.Simulate found a b e = absurd (omega (arith, ap first e))
+one_task (tasks.Translate one) tasks.Compare found a b e = absurd (omega (arith, ap first e))
 one_task tasks.Validate (tasks.Translate two) found a b e = absurd (omega (arith, ap first e))
 one_task tasks.Validate tasks.Validate found a b e = refl
 one_task tasks.Validate tasks.Simulate found a b e = absurd (omega (arith, ap first e))
+one_task tasks.Validate tasks.Compare found a b e = absurd (omega (arith, ap first e))
 one_task tasks.Simulate (tasks.Translate two) found a b e = absurd (omega (arith, ap first e))
 one_task tasks.Simulate tasks.Validate found a b e = absurd (omega (arith, ap first e))
 one_task tasks.Simulate tasks.Simulate found a b e = refl
+one_task tasks.Simulate tasks.Compare found a b e = absurd (omega (arith, ap first e))
+one_task tasks.Compare (tasks.Translate two) found a b e = absurd (omega (arith, ap first e))
+one_task tasks.Compare tasks.Validate found a b e = absurd (omega (arith, ap first e))
+one_task tasks.Compare tasks.Simulate found a b e = absurd (omega (arith, ap first e))
+one_task tasks.Compare tasks.Compare found a b e = refl
 
 -- words ask for one task at most
 pub one_asked : (words : List Text) (one two : Task) → AskFor words one → AskFor words two → one ≡ two
@@ -261,12 +273,19 @@ of_words (tasks.Translate one) (tasks.Translate two) finds e =
     ap tasks.Translate (one_name two one (ap text_or_none (sym (found_kinds _ two finds) ∙ kinds_found one)))
 of_words (tasks.Translate one) tasks.Validate finds e = absurd (omega (arith, ap first e))
 of_words (tasks.Translate one) tasks.Simulate finds e = absurd (omega (arith, ap first e))
+of_words (tasks.Translate one) tasks.Compare finds e = absurd (omega (arith, ap first e))
 of_words tasks.Validate (tasks.Translate two) finds e = absurd (omega (arith, ap first e))
 of_words tasks.Validate tasks.Validate finds e = refl
 of_words tasks.Validate tasks.Simulate finds e = absurd (omega (arith, ap first e))
+of_words tasks.Validate tasks.Compare finds e = absurd (omega (arith, ap first e))
 of_words tasks.Simulate (tasks.Translate two) finds e = absurd (omega (arith, ap first e))
 of_words tasks.Simulate tasks.Validate finds e = absurd (omega (arith, ap first e))
 of_words tasks.Simulate tasks.Simulate finds e = refl
+of_words tasks.Simulate tasks.Compare finds e = absurd (omega (arith, ap first e))
+of_words tasks.Compare (tasks.Translate two) finds e = absurd (omega (arith, ap first e))
+of_words tasks.Compare tasks.Validate finds e = absurd (omega (arith, ap first e))
+of_words tasks.Compare tasks.Simulate finds e = absurd (omega (arith, ap first e))
+of_words tasks.Compare tasks.Compare finds e = refl
 
 -- the words of a task ask for no other
 task_found : (words : List Text) (task found : Task) → words ≡ words_of task → AskFor words found → found ≡ task

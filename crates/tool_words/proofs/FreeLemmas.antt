@@ -83,7 +83,10 @@ stop_asks (Some p) has e = elim (cases_Bool (answers_to p.0 (codes "translate", 
     | inl b ↦ (tasks.Validate, rw (a, b) (rows_after alone [] p.1, refl))
     | inr b ↦ elim (cases_Bool (answers_to p.0 (codes "simulate", []))) [
       | inl c ↦ (tasks.Simulate, rw (a, b, c) (rows_after alone [] p.1, refl))
-      | inr c ↦ absurd (cc (rw (a, b, c) at has))
+      | inr c ↦ elim (cases_Bool (answers_to p.0 (codes "compare", []))) [
+        | inl d ↦ (tasks.Compare, rw (a, b, c, d) (rows_after alone [] p.1, refl))
+        | inr d ↦ absurd (cc (rw (a, b, c, d) at has))
+      ]
     ]
   ]
 ]

@@ -36,6 +36,7 @@ abbrev pub Finds : Option (Text × List Row) → Task → Type 0
 Finds found (tasks.Translate kind) = (rows : List Row) × (found ≡ Some (codes "translate", rows)) × (first_of (codes "kind") rows ≡ Some (name_of kind))
 Finds found tasks.Validate = (rows : List Row) × (found ≡ Some (codes "validate", rows))
 Finds found tasks.Simulate = (rows : List Row) × (found ≡ Some (codes "simulate", rows))
+Finds found tasks.Compare = (rows : List Row) × (found ≡ Some (codes "compare", rows))
 
 -- by the tool's command the words are free of faults and ask for this task
 pub record AskFor (words : List Text) (task : Task) : Type 0 where

@@ -18,6 +18,7 @@ pub fn tool_command<'a>(alloc: Global) -> Result<Command<'a>, AllocError>
     let translate = Command::new(alloc, "translate").arg(kind)?;
     let validate = Command::new(alloc, "validate");
     let simulate = Command::new(alloc, "simulate");
+    let compare = Command::new(alloc, "compare");
     let tool = Command::new(alloc, "smsc")
         .version("0.1.0")
         .no_binary_name(true)
@@ -25,5 +26,6 @@ pub fn tool_command<'a>(alloc: Global) -> Result<Command<'a>, AllocError>
         .subcommand_required(true);
     tool.subcommand(translate)?
         .subcommand(validate)?
-        .subcommand(simulate)
+        .subcommand(simulate)?
+        .subcommand(compare)
 }

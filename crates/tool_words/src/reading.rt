@@ -57,6 +57,9 @@ fn task_in(matches: &ArgMatches<'_>) -> Result<Task, WordsErr>
     if name == "simulate" {
         return Ok(Task::Simulate);
     }
+    if name == "compare" {
+        return Ok(Task::Compare);
+    }
     Err(WordsErr::NoMemory)
 }
 

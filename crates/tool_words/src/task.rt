@@ -10,4 +10,6 @@ pub enum Task {
     Validate,
     /// It is a script, of which the allocations are to be simulated.
     Simulate,
+    /// It has two decks and a table of cases, under which the decks are to be compared.
+    Compare,
 }

@@ -20,9 +20,11 @@ returns c =
     ∙ ap₂ with_subcommand tool_is (ap (λ (a : App). a.top) translate_is) in
     let two = c.in_ok-subcommand-2.ensures.shape (search rules)
     ∙ ap₂ with_subcommand one (ap (λ (a : App). a.top) c.new-validate.ensures.app) in
-    IfOk-weaker c.subcommand-3.result _ _ (λ r h. (
+    let three = c.in_ok-subcommand-3.ensures.shape (search rules)
+    ∙ ap₂ with_subcommand two (ap (λ (a : App). a.top) c.new-simulate.ensures.app) in
+    IfOk-weaker c.subcommand-4.result _ _ (λ r h. (
       names,
       kinds,
       h.shape (search rules)
-          ∙ ap₂ with_subcommand two (ap (λ (a : App). a.top) c.new-simulate.ensures.app),
-    )) c.subcommand-3.ensures
+          ∙ ap₂ with_subcommand three (ap (λ (a : App). a.top) c.new-compare.ensures.app),
+    )) c.subcommand-4.ensures

@@ -1,0 +1,88 @@
+//! From the bytes of two decks and a table of cases to the text of the answer.
+ghost use Rattle.std.specs.Prelude.{◌≡◌, ◌<◌, ◌^◌, length, IfOk};
+ghost use Rattle.acs_test.specs.Listing.{IsListing};
+ghost use Rattle.tool_calls.specs.CasesText.{TellsCases, cases_fault_text, numbered, side_code};
+ghost use Rattle.tool_calls.specs.ToolText.{IsAnswer};
+ghost use Rattle.tool_words.specs.declared.task.Task.TheVariants.{Compare};
+
+use crate::noting::note_cases;
+use crate::status::ToolStatus;
+use acs_test::{Cases, CasesErr, Side, compare, read_cases};
+use desk_common::{Items, push_number};
+use sms_construct::Fault;
+use sms_script::push_fault;
+use std::alloc::{AllocError, Global};
+
+/// The answer to two decks and a table of cases. What a fault means is noted.
+#[tactic(auto, using(crate::proofs::AnswerLemmas::compared_told, crate::proofs::AnswerLemmas::uncompared_told))]
+pub fn compared(
+    alloc: Global,
+    bytes: &[u8],
+    note: &mut String,
+) -> Result<(ToolStatus, Items<u8>), AllocError>
+    requires { length bytes.now < 2 ^ 32 }
+    ensures { IfOk result (λ found. IsAnswer bytes.now Compare found.0 found.1) }
+{
+    match read_cases(alloc, bytes) {
+        Ok(cases) => listed(alloc, &cases),
+        Err(err) => {
+            note_cases(alloc, note, bytes, &err);
+            told(alloc, &err)
+        }
+    }
+}
+
+fn listed(alloc: Global, cases: &Cases) -> Result<(ToolStatus, Items<u8>), AllocError>
+    ensures { IfOk result (λ found. (found.0 ≡ ToolStatus.Done) × IsListing cases.now.before cases.now.after cases.now.list found.1) }
+{
+    let text = compare(alloc, cases)?;
+    Ok((ToolStatus::Done, Items::from_vec(text)))
+}
+
+fn told(alloc: Global, err: &CasesErr) -> Result<(ToolStatus, Items<u8>), AllocError>
+    ensures { IfOk result (λ found. (found.0 ≡ ToolStatus.FaultFound) × TellsCases err.now found.1) }
+{
+    let text = fault_text(alloc, err)?;
+    Ok((ToolStatus::FaultFound, Items::from_vec(text)))
+}
+
+fn fault_text(alloc: Global, err: &CasesErr) -> Result<Vec<u8>, AllocError>
+    ensures { IfOk result (λ text. TellsCases err.now text.items) }
+{
+    match err {
+        CasesErr::Layout(line) => numbered(alloc, b"FAULT U1 ", *line),
+        CasesErr::Deck(side, fault) => deck_text(alloc, *side, fault),
+        CasesErr::Fields(number) => numbered(alloc, b"FAULT U3 ", *number),
+        CasesErr::Header(column) => numbered(alloc, b"FAULT U4 ", *column),
+        CasesErr::BadCase(number) => numbered(alloc, b"FAULT U5 ", *number),
+        CasesErr::TooMany => Vec::from_slice(alloc, b"FAULT U6\n"),
+        CasesErr::NoMemory => Err(AllocError),
+    }
+}
+
+fn numbered(alloc: Global, code: &[u8], number: u32) -> Result<Vec<u8>, AllocError>
+    ensures { IfOk result (λ text. text.items ≡ numbered code.now number) }
+{
+    let mut text = Vec::from_slice(alloc, code)?;
+    push_number(&mut text, u64::from(number))?;
+    text.extend_from_slice(b"\n")?;
+    Ok(text)
+}
+
+fn deck_text(alloc: Global, side: Side, fault: &Fault) -> Result<Vec<u8>, AllocError>
+    ensures { IfOk result (λ text. text.items ≡ cases_fault_text (CasesErr.Deck side fault.now)) }
+{
+    let mut text = Vec::from_slice(alloc, side_code(side))?;
+    push_fault(&mut text, fault)?;
+    text.extend_from_slice(b"\n")?;
+    Ok(text)
+}
+
+fn side_code(side: Side) -> &'static [u8]
+    ensures { result.now ≡ side_code side }
+{
+    match side {
+        Side::Old => b"FAULT U2 OLD ",
+        Side::New => b"FAULT U2 NEW ",
+    }
+}
