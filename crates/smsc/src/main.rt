@@ -1,4 +1,5 @@
-//! The translator as a program: it translates the routine, validates the deck or simulates the script on standard input.
+//! The translator as a program: it translates the routine, validates the deck, simulates the script or compares the
+//! two decks on standard input.
 #![tactic(auto)]
 
 ghost use Rattle.std.specs.Prelude.{◌≡◌};
