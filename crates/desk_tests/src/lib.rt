@@ -25,3 +25,5 @@ mod serving;
 mod shown;
 #[cfg(test)]
 mod stepping;
+#[cfg(test)]
+mod working;
