@@ -38,8 +38,8 @@ pub fn desk_main<S: Source, K: Sink, P: Keeper>(
     ensures unwritten { leaves_sink result.0 ≡ true → out.new ≡ out.old }
     ensures unrun { leaves_keeper result.0 ≡ true → result.1 ≡ keeper }
     ensures ends { (task : Asked) → task_in (map string_bytes words.now) ≡ Some task → Ends task
-        (record { left = S.left src.old; read_faults = S.read_faults src.old; taken = K.taken out.old; write_faults = K.write_faults out.old })
-        (record { left = S.left src.new; read_faults = S.read_faults src.new; taken = K.taken out.new; write_faults = K.write_faults out.new })
+        (record { left = S.left src.old; reads = S.reads src.old; read_faults = S.read_faults src.old; taken = K.taken out.old; write_faults = K.write_faults out.old })
+        (record { left = S.left src.new; reads = S.reads src.new; read_faults = S.read_faults src.new; taken = K.taken out.new; write_faults = K.write_faults out.new })
         (record { told = P.told keeper; count = P.count keeper }) (record { told = P.told result.1; count = P.count result.1 })
         result.0 }
 {
@@ -63,8 +63,8 @@ fn run<S: Source, K: Sink, P: Keeper>(
     ensures unwritten { leaves_sink result.0 ≡ true → out.new ≡ out.old }
     ensures unrun { leaves_keeper result.0 ≡ true → result.1 ≡ keeper }
     ensures ends { RunEnds volumes
-        (record { left = S.left src.old; read_faults = S.read_faults src.old; taken = K.taken out.old; write_faults = K.write_faults out.old })
-        (record { left = S.left src.new; read_faults = S.read_faults src.new; taken = K.taken out.new; write_faults = K.write_faults out.new })
+        (record { left = S.left src.old; reads = S.reads src.old; read_faults = S.read_faults src.old; taken = K.taken out.old; write_faults = K.write_faults out.old })
+        (record { left = S.left src.new; reads = S.reads src.new; read_faults = S.read_faults src.new; taken = K.taken out.new; write_faults = K.write_faults out.new })
         (record { told = P.told keeper; count = P.count keeper }) (record { told = P.told result.1; count = P.count result.1 })
         result.0 }
 {
@@ -102,8 +102,8 @@ fn load<S: Source, K: Sink, P: Keeper>(
     ensures unwritten { leaves_sink result.0 ≡ true → out.new ≡ out.old }
     ensures unrun { leaves_keeper result.0 ≡ true → result.1 ≡ keeper }
     ensures ends { LoadEnds seed count
-        (record { left = S.left src.old; read_faults = S.read_faults src.old; taken = K.taken out.old; write_faults = K.write_faults out.old })
-        (record { left = S.left src.new; read_faults = S.read_faults src.new; taken = K.taken out.new; write_faults = K.write_faults out.new })
+        (record { left = S.left src.old; reads = S.reads src.old; read_faults = S.read_faults src.old; taken = K.taken out.old; write_faults = K.write_faults out.old })
+        (record { left = S.left src.new; reads = S.reads src.new; read_faults = S.read_faults src.new; taken = K.taken out.new; write_faults = K.write_faults out.new })
         (record { told = P.told keeper; count = P.count keeper }) (record { told = P.told result.1; count = P.count result.1 })
         result.0 }
 {

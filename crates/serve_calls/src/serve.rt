@@ -44,6 +44,7 @@ pub fn serve_main<A: Accept, K: Sink, P: Keeper>(
     ensures words { result.0 ≡ ServeStatus.BadWords ↔ (serving_in (map string_bytes words.now) ≡ None) }
     ensures unserved { result.0 ≡ ServeStatus.BadWords → (result.2.items ≡ doors.items) × (result.3 ≡ []) }
     ensures unwritten { leaves_sink result.0 ≡ true → out.new ≡ out.old }
+    ensures opening { result.1.opening ≡ empty_opening }
     ensures history { WasHeard
         (record { told = P.told keeper; count = P.count keeper })
         (record { told = P.told result.1.keeper; count = P.count result.1.keeper })
@@ -53,12 +54,14 @@ pub fn serve_main<A: Accept, K: Sink, P: Keeper>(
         ⊎ WereServed
         (λ link. record {
           left = A.Conn.left link;
+          reads = A.Conn.reads link;
           read_faults = A.Conn.read_faults link;
           taken = A.Conn.taken link;
           write_faults = A.Conn.write_faults link;
         })
         asked.connections
         (map (λ door. record {
+          asked = A.asked door;
           given = A.given door;
           ended = A.ended door;
           door_faults = A.door_faults door;
@@ -67,6 +70,7 @@ pub fn serve_main<A: Accept, K: Sink, P: Keeper>(
           back = A.back door;
         }) doors.items)
         (map (λ door. record {
+          asked = A.asked door;
           given = A.given door;
           ended = A.ended door;
           door_faults = A.door_faults door;
@@ -100,6 +104,7 @@ fn serve_doors<A: Accept, K: Sink, P: Keeper>(
     requires doors { length doors.items ≡ 1 }
     ensures words { result.0 ≡ ServeStatus.BadWords → ⊥ }
     ensures unwritten { leaves_sink result.0 ≡ true → out.new ≡ out.old }
+    ensures opening { result.1.opening ≡ empty_opening }
     ensures history { WasHeard
         (record { told = P.told keeper; count = P.count keeper })
         (record { told = P.told result.1.keeper; count = P.count result.1.keeper })
@@ -108,12 +113,14 @@ fn serve_doors<A: Accept, K: Sink, P: Keeper>(
         ⊎ WereServed
         (λ link. record {
           left = A.Conn.left link;
+          reads = A.Conn.reads link;
           read_faults = A.Conn.read_faults link;
           taken = A.Conn.taken link;
           write_faults = A.Conn.write_faults link;
         })
         most
         (map (λ door. record {
+          asked = A.asked door;
           given = A.given door;
           ended = A.ended door;
           door_faults = A.door_faults door;
@@ -122,6 +129,7 @@ fn serve_doors<A: Accept, K: Sink, P: Keeper>(
           back = A.back door;
         }) doors.items)
         (map (λ door. record {
+          asked = A.asked door;
           given = A.given door;
           ended = A.ended door;
           door_faults = A.door_faults door;
@@ -175,12 +183,14 @@ fn serve_new<A: Accept, P: Keeper>(
     ensures served { IfOk result.0 (λ found. IsServedAlone
         (λ link. record {
           left = A.Conn.left link;
+          reads = A.Conn.reads link;
           read_faults = A.Conn.read_faults link;
           taken = A.Conn.taken link;
           write_faults = A.Conn.write_faults link;
         })
         most
         (record {
+          asked = A.asked door.old;
           given = A.given door.old;
           ended = A.ended door.old;
           door_faults = A.door_faults door.old;
@@ -189,6 +199,7 @@ fn serve_new<A: Accept, P: Keeper>(
           back = A.back door.old;
         })
         (record {
+          asked = A.asked door.new;
           given = A.given door.new;
           ended = A.ended door.new;
           door_faults = A.door_faults door.new;
@@ -201,6 +212,7 @@ fn serve_new<A: Accept, P: Keeper>(
         (record { told = P.told keeper; count = P.count keeper })
         (record { told = P.told result.1.keeper; count = P.count result.1.keeper })
         found.1 result.1.journal) }
+    ensures opening { result.1.opening ≡ empty_opening }
     ensures unheard { OnErr result.0 (WasHeard
         (record { told = P.told keeper; count = P.count keeper })
         (record { told = P.told result.1.keeper; count = P.count result.1.keeper })

@@ -29,14 +29,14 @@ CameBack-nil (Some links) = ap (λ l. Some l) (sym (append-nil links))
 
 -- one more link came back, and there was one to come
 pub CameBack-more : {C : Type 0} (before mid after : Option (List C)) (given : ℕ) (links : List C) (link : C) → CameBack before mid links
-    → HandsBack given mid after link → IfSome before (λ back. length (back ++ links) < given) → CameBack before after (links ++ link ∷ [])
+    → HandsBack given mid after link → IfSome mid (λ back. length back < given) → CameBack before after (links ++ link ∷ [])
 CameBack-more None None after given links link none hands few = hands
 CameBack-more None (Some mid) after given links link none hands few = let is : Some mid ≡ None = none in absurd cc
 CameBack-more (Some before) None after given links link came hands few = let is : None ≡ Some (before ++ links) = came in absurd cc
 CameBack-more (Some before) (Some mid) after given links link came hands few =
     let is : Some mid ≡ Some (before ++ links) = came in
     let same : mid ≡ before ++ links = cc in
-    let less : nat_lt (length mid) given ≡ true = lt-ltb (length mid) given (rw same few) in
+    let less : nat_lt (length mid) given ≡ true = lt-ltb (length mid) given few in
     let put : after ≡ Some (mid ++ link ∷ []) = rw less at hands in
     put ∙ ap (λ l. Some (l ++ link ∷ [])) same ∙ ap (λ l. Some l) (append_assoc before links (link ∷ []))
 

@@ -1,13 +1,14 @@
 -- One more visit.
 use Rattle.std.proofs.Common.{◌≡◌, ◌≤◌, ◌<◌, ◌+◌, ◌==◌, ℕ, false, List, [], ◌∷◌, ◌++◌, length, map, refl, ap, sym, ◌∙◌, arith, inl, inr, append-nil, length-append, if◌then◌else◌}
-use Rattle.std.specs.Prelude.{None, Some, MatchOption}
+use Rattle.std.specs.Prelude.{suc, Option, None, Some, MatchOption}
 use Rattle.std.proofs.Math.Bool.{and-false}
 use Rattle.std.proofs.lemmas.Bool.{ne_eqb}
 use Rattle.std.proofs.lemmas.Grind.{flat_map-append}
 use Rattle.std.proofs.lemmas.List.{map_push, length-map}
 use Rattle.std.proofs.lemmas.List.Elements.{All-nil, All-push}
 use Rattle.desk_common.specs.Causes.{Rose, counted}
-use Rattle.sms_base.specs.Door.{faults_behind}
+use Rattle.sms_base.specs.Counts.{after_calls, one_call_more}
+use Rattle.sms_base.specs.Door.{IsFair, faults_behind}
 use Rattle.sms_base.specs.Observed.{Observed}
 use Rattle.http_message.specs.Message.{Message}
 use Rattle.http_talk.specs.Conversation.{IsConversation, IsEnd, NoFault}
@@ -23,6 +24,22 @@ use Rattle.serve_door.proofs.DoorLaws.{CameBack-more, CameBack-nil, WereGiven-mo
 
 pub talks_of-push : (visits : List Visit) (visit : Visit) → talks_of (visits ++ visit ∷ []) ≡ talks_of visits ++ visit.talks
 talks_of-push visits visit = flat_map-append (λ (v : Visit). v.talks) visits (visit ∷ []) ∙ ap (λ l. talks_of visits ++ l) (append-nil visit.talks)
+
+-- Calls of the door.
+
+-- one link more was asked for
+pub after_calls-push : (told : Option ℕ) (visits : List Visit) (visit : Visit) → after_calls told (length (visits ++ visit ∷ [])) ≡ one_call_more (after_calls told (length visits))
+after_calls-push told visits visit =
+    let e : length (visits ++ visit ∷ []) ≡ suc (length visits) = omega (arith, length-append visits (visit ∷ [])) in
+    rw e refl
+
+-- no call more
+pub after_calls-none : (told : Option ℕ) (n : ℕ) → after_calls told (n + 0) ≡ after_calls told n
+after_calls-none told n = let e : n + 0 ≡ n = omega arith in rw e refl
+
+-- one call more
+pub after_calls-one : (told : Option ℕ) (n : ℕ) → after_calls told (n + 1) ≡ one_call_more (after_calls told n)
+after_calls-one told n = let e : n + 1 ≡ suc n = omega arith in rw e refl
 
 -- Counts of link faults.
 
@@ -71,7 +88,7 @@ Serves-nil {C} seen door = record {
   each = All-nil (IsVisit seen);
   given = omega arith;
   waiting = WereGiven-nil door.waiting;
-  back = λ fair. CameBack-nil door.back;
+  back = CameBack-nil door.back;
   link_faults = refl;
 }
 
@@ -81,6 +98,7 @@ pub record WasGiven {C : Type 0} (seen : C → Observed) (old new : DoorMoment C
   pub waiting : MatchOption old.waiting (new.waiting ≡ None) (λ all. (rest : List C) × (all ≡ link ∷ rest) × (new.waiting ≡ Some rest))
   pub reads : (seen link).read_faults ≡ 0
   pub writes : (seen link).write_faults ≡ 0
+  pub fair : IsFair old.given old.back
   pub back : new.back ≡ old.back
   pub link_faults : new.link_faults ≡ old.link_faults
   pub door_faults : new.door_faults ≡ old.door_faults
@@ -90,8 +108,6 @@ pub Serves-more : {C : Type 0} (seen : C → Observed) (old mid opened new : Doo
     → Serves seen old mid visits → WasGiven seen mid opened link → IsServedLink seen opened new link visit → Serves seen old new (visits ++ visit ∷ [])
 Serves-more {C} seen old mid opened new visits link visit before came served =
     let one : Served C = record { given = link; back = served.after; visit = visit } in
-    let counted : length visits ≡ length (map (λ (s : Served C). s.back) before.served) =
-    ap length before.visits_are ∙ length-map before.served (λ (s : Served C). s.visit) ∙ sym (length-map before.served (λ (s : Served C). s.back)) in
     record {
       served = before.served ++ one ∷ [];
       visits_are = ap (λ l. l ++ visit ∷ []) before.visits_are ∙ sym (map_push (λ (s : Served C). s.visit) before.served one);
@@ -99,10 +115,10 @@ Serves-more {C} seen old mid opened new visits link visit before came served =
       given = omega (arith, served.given, came.given, before.given, length-append visits (visit ∷ []));
       waiting = rw (served.waiting, map_push (λ (s : Served C). s.given) before.served one)
           (WereGiven-more old.waiting mid.waiting opened.waiting (map (λ (s : Served C). s.given) before.served) link before.waiting came.waiting);
-      back = λ fair. rw (map_push (λ (s : Served C). s.back) before.served one)
-          (CameBack-more old.back mid.back new.back opened.given (map (λ (s : Served C). s.back) before.served) served.after (before.back fair) (rw came.back at served.back)
-          (if_told (λ (back : List C). length back ≤ old.given) (λ (back : List C). length (back ++ map (λ (s : Served C). s.back) before.served) < opened.given) old.back
-          (λ back few. omega (arith, few, counted, came.given, before.given, length-append back (map (λ (s : Served C). s.back) before.served))) fair));
+      back = rw (map_push (λ (s : Served C). s.back) before.served one)
+          (CameBack-more old.back mid.back new.back opened.given (map (λ (s : Served C). s.back) before.served) served.after before.back (rw came.back at served.back)
+          (if_told (λ (back : List C). length back ≤ mid.given) (λ (back : List C). length back < opened.given) mid.back
+          (λ back few. omega (arith, few, came.given)) came.fair));
       link_faults = served.link_faults ∙ visit-counted _ (seen link) (seen served.after) visit opened.link_faults came.reads came.writes served.conversation
           ∙ ap (λ n. counted_for n visit) (came.link_faults ∙ before.link_faults) ∙ sym (counted_over-push old.link_faults visits visit);
     }

@@ -1,9 +1,10 @@
 -- What contracts see of a door, and what becomes of the links that it gives.
-use Rattle.std.specs.Prelude.{ℕ, ◌≡◌, ◌≤◌, Bool, List, ◌++◌, length, Option, None, Some, MatchOption, IfSome}
+use Rattle.std.specs.Prelude.{ℕ, ◌≡◌, Bool, List, ◌++◌, Option, None, Some, MatchOption}
 
--- how many links a door gave, whether no further one comes, how often it failed, how many of the links that came back
+-- how often a door was asked for a link, where it tells that, how many links it gave, whether no further one comes, how often it failed, how many of the links that came back
 -- had failed, and, where they are told, the links that are left and those that came back
 pub record DoorMoment (C : Type 0) : Type 0 where
+  pub asked : Option ℕ
   pub given : ℕ
   pub ended : Bool
   pub door_faults : ℕ
@@ -17,10 +18,6 @@ module _ {C : Type 0} where
   WereGiven waiting waiting' links =
       MatchOption waiting (waiting' ≡ None) (λ before.
       (rest : List C) × (before ≡ links ++ rest) × (waiting' ≡ Some rest))
-
-  -- no more links came back than were given
-  abbrev pub IsFair : DoorMoment C → Type 0
-  IsFair door = IfSome door.back (λ back. length back ≤ door.given)
 
   -- these links came back, in this order, behind the others
   abbrev pub CameBack : Option (List C) → Option (List C) → List C → Type 0

@@ -1,6 +1,7 @@
 -- What serving the links of a door does.
 use Rattle.std.specs.Prelude.{ℕ, ◌≡◌, ◌≤◌, ◌<◌, ◌+◌, Bool, true, false, List, [], ◌∷◌, length, map, All, flat_map, IfSome, if◌then◌else◌}
 use Rattle.desk_common.specs.Causes.{Rose, counted}
+use Rattle.sms_base.specs.Counts.{after_calls}
 use Rattle.sms_base.specs.Door.{HandsBack, faults_behind}
 use Rattle.sms_base.specs.Observed.{Observed}
 use Rattle.http_talk.specs.Conversation.{IsConversation}
@@ -10,7 +11,7 @@ use Rattle.http_talk.specs.declared.talk.Talk.{Talk}
 use Rattle.serve_door.specs.declared.door_end.DoorEnd.{DoorEnd}
 use Rattle.serve_door.specs.declared.door_end.DoorEnd.TheVariants as door_ends
 use Rattle.serve_door.specs.declared.visit.Visit.{Visit}
-use Rattle.serve_door.specs.Doors.{CameBack, DoorMoment, IsFair, WereGiven}
+use Rattle.serve_door.specs.Doors.{CameBack, DoorMoment, WereGiven}
 
 -- the pieces of a connection that are read at most
 abbrev pub most_turns : ℕ
@@ -57,16 +58,23 @@ pub record Serves {C : Type 0} (seen : C → Observed) (old new : DoorMoment C) 
   pub each : All (IsVisit seen) served
   pub given : new.given ≡ old.given + length visits
   pub waiting : WereGiven old.waiting new.waiting (map (λ one. one.given) served)
-  pub back : IsFair old → CameBack old.back new.back (map (λ one. one.back) served)
+  pub back : CameBack old.back new.back (map (λ one. one.back) served)
   pub link_faults : new.link_faults ≡ counted_over old.link_faults visits
 
--- why no further link is served
+-- the door was asked for the links of these visits, and so often more
+abbrev pub WasAsked : {C : Type 0} → DoorMoment C → DoorMoment C → List Visit → ℕ → Type 0
+WasAsked old new visits further = new.asked ≡ after_calls old.asked (length visits + further)
+
+-- why no further link is served; a door that ended or failed is asked no more
 abbrev pub IsDoorEnd : {C : Type 0} → ℕ → DoorMoment C → DoorMoment C → List Visit → DoorEnd → Type 0
-IsDoorEnd most old new visits door_ends.Served = (length visits ≡ most) × (new.door_faults ≡ old.door_faults)
+IsDoorEnd most old new visits door_ends.Served =
+    (length visits ≡ most) × (new.door_faults ≡ old.door_faults) × WasAsked old new visits 0
 IsDoorEnd most old new visits door_ends.Ended =
     (new.ended ≡ true) × IfSome new.waiting (λ links. links ≡ []) × (new.door_faults ≡ old.door_faults)
-IsDoorEnd most old new visits door_ends.AcceptFault = Rose old.door_faults new.door_faults × (length visits < most)
-IsDoorEnd most old new visits door_ends.NoMemory = new.door_faults ≡ old.door_faults
+    × WasAsked old new visits 1
+IsDoorEnd most old new visits door_ends.AcceptFault =
+    Rose old.door_faults new.door_faults × (length visits < most) × WasAsked old new visits 1
+IsDoorEnd most old new visits door_ends.NoMemory = (new.door_faults ≡ old.door_faults) × WasAsked old new visits 0
 
 -- at most so many links of the door were served, and it ended so
 pub record WasServed {C : Type 0} (seen : C → Observed) (most : ℕ) (old new : DoorMoment C) (visits : List Visit)
@@ -83,6 +91,7 @@ pub record IsServedLink {C : Type 0} (seen : C → Observed) (old new : DoorMome
   pub back : HandsBack old.given old.back new.back after
   pub link_faults : new.link_faults
       ≡ faults_behind old.link_faults (seen after).read_faults (seen after).write_faults
+  pub asked : new.asked ≡ old.asked
   pub given : new.given ≡ old.given
   pub ended : new.ended ≡ old.ended
   pub door_faults : new.door_faults ≡ old.door_faults

@@ -27,12 +27,14 @@ pub fn serve_door<A: Accept, B: Bench>(
     ensures served { WasServed
         (λ link. record {
           left = A.Conn.left link;
+          reads = A.Conn.reads link;
           read_faults = A.Conn.read_faults link;
           taken = A.Conn.taken link;
           write_faults = A.Conn.write_faults link;
         })
         most
         (record {
+          asked = A.asked door.old;
           given = A.given door.old;
           ended = A.ended door.old;
           door_faults = A.door_faults door.old;
@@ -41,6 +43,7 @@ pub fn serve_door<A: Accept, B: Bench>(
           back = A.back door.old;
         })
         (record {
+          asked = A.asked door.new;
           given = A.given door.new;
           ended = A.ended door.new;
           door_faults = A.door_faults door.new;
@@ -80,11 +83,13 @@ fn serve_link<A: Accept, B: Bench>(
     ensures served { IsServedLink
         (λ link. record {
           left = A.Conn.left link;
+          reads = A.Conn.reads link;
           read_faults = A.Conn.read_faults link;
           taken = A.Conn.taken link;
           write_faults = A.Conn.write_faults link;
         })
         (record {
+          asked = A.asked door.old;
           given = A.given door.old;
           ended = A.ended door.old;
           door_faults = A.door_faults door.old;
@@ -93,6 +98,7 @@ fn serve_link<A: Accept, B: Bench>(
           back = A.back door.old;
         })
         (record {
+          asked = A.asked door.new;
           given = A.given door.new;
           ended = A.ended door.new;
           door_faults = A.door_faults door.new;

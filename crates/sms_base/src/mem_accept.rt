@@ -15,6 +15,7 @@ use std::marker::Model;
 pub struct MemAccept {
     waiting: VecDeque<MemLink>,
     back: Vec<MemLink>,
+    asked: u64,
     given: usize,
     ended: bool,
     link_faults: u64,
@@ -25,7 +26,7 @@ impl Model for MemAccept {
 
     ghost Value = { DoorInMemory };
 
-    ghost view = { λ d. door_of d.waiting.items d.back d.given d.ended d.link_faults };
+    ghost view = { λ d. door_of d.waiting.items d.back d.asked d.given d.ended d.link_faults };
 
     ghost invariant = { λ d. IsDoor d.waiting.items d.back d.given d.ended };
 }
@@ -36,6 +37,7 @@ impl MemAccept {
         requires { AllByRecursion IsUntouched links.items }
         ensures waiting { IfOk result (λ door. door.waiting ≡ links.items) }
         ensures back { IfOk result (λ door. door.back ≡ []) }
+        ensures asked { IfOk result (λ door. door.asked ≡ 0) }
         ensures given { IfOk result (λ door. door.given ≡ 0) }
         ensures ended { IfOk result (λ door. door.ended ≡ false) }
         ensures link_faults { IfOk result (λ door. door.link_faults ≡ 0) }
@@ -43,6 +45,7 @@ impl MemAccept {
         Ok(MemAccept {
             back: Vec::with_capacity(alloc, links.len())?,
             waiting: VecDeque::from(links),
+            asked: 0,
             given: 0,
             ended: false,
             link_faults: 0,
@@ -60,6 +63,8 @@ impl MemAccept {
 impl Accept for MemAccept {
     type Conn = MemLink;
 
+    ghost asked = { λ d. Some d.asked };
+
     ghost given = { λ d. d.given };
 
     ghost ended = { λ d. d.ended };
@@ -73,6 +78,7 @@ impl Accept for MemAccept {
     ghost back = { λ d. Some d.back };
 
     fn accept(&mut self) -> Result<Option<MemLink>, Failed> {
+        self.asked = self.asked.saturating_add(1);
         let Some(link) = self.waiting.pop_front() else {
             self.ended = true;
             return Ok(None);

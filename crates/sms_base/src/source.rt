@@ -1,10 +1,11 @@
 //! Where bytes come from.
-ghost use Rattle.std.specs.Prelude.{◌≡◌, List, ℕ};
+ghost use Rattle.std.specs.Prelude.{◌≡◌, List, None, ℕ};
 ghost use Rattle.std.specs.declared.option.Option.{Option};
 ghost use Rattle.std.specs.Io.{ReadsAtMost};
 ghost use Rattle.std.specs.Io.KnownBytes.{ReadConsumes};
 ghost use Rattle.desk_common.specs.Causes.{HasCause};
 ghost use Rattle.sms_base.specs.Beside.{Beside, no_half};
+ghost use Rattle.sms_base.specs.Counts.{one_call_more};
 
 use thiserror::Error;
 
@@ -32,6 +33,9 @@ pub trait Source {
     /// How often a read has failed.
     ghost read_faults: { Self → ℕ };
 
+    /// How many reads were made, where they are told.
+    ghost reads: { Self → Option ℕ } = { λ _. None };
+
     /// The other half of a link, which a read never changes.
     ghost beside_reading: { Self → Beside } = { λ _. no_half };
 
@@ -40,6 +44,7 @@ pub trait Source {
     fn read(&mut self, buf: &mut [u8]) -> Result<usize, Failed>
         ensures bound { ReadsAtMost result buf.new }
         ensures bytes { ReadConsumes (left self.old) (left self.new) result buf.new }
+        ensures reads { reads self.new ≡ one_call_more (reads self.old) }
         ensures beside { beside_reading self.new ≡ beside_reading self.old }
         ensures cause { HasCause (read_faults self.old) (read_faults self.new) result };
 }

@@ -6,6 +6,7 @@ use Rattle.serve_calls.proofs.serve.serve_doors.Goals as goal
 pub returns-in-Ok-clause-ends : goal.returns-in-Ok-clause-ends
 returns-in-Ok-clause-ends g c =
     inr (WereServed-one _ c.args.most (λ door. record {
+      asked = g.A.Accept.asked door;
       given = g.A.Accept.given door;
       ended = g.A.Accept.ended door;
       door_faults = g.A.Accept.door_faults door;
