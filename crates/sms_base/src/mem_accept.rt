@@ -52,9 +52,10 @@ impl MemAccept {
         })
     }
 
-    /// The links that came back, in that order.
+    /// The links that came back, in that order: no more than were given.
     pub fn back(&self) -> &[MemLink]
-        ensures { result.now ≡ self.now.back }
+        ensures back { result.now ≡ self.now.back }
+        ensures fair { length self.now.back ≤ self.now.given }
     {
         &self.back
     }

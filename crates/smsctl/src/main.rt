@@ -5,9 +5,13 @@ ghost use Rattle.std.specs.Prelude.{◌≡◌};
 ghost use Rattle.std.specs.Process.{exit_status};
 ghost use Rattle.desk_calls.specs.ExitStatus.{exit_status_of};
 
+mod explaining;
 mod help;
+mod kept_source;
 mod serving;
 
+use crate::explaining::{note_status, note_words};
+use crate::kept_source::KeptSource;
 use desk_calls::{RunStatus, desk_main};
 use desk_words::serve_words;
 use sms_base::{StdSink, StdSource, Words, read_words};
@@ -18,8 +22,8 @@ use std::process::ExitCode;
 
 fn main(rt: HostRuntime) -> ExitCode {
     match read_words(&rt) {
-        Words::Faulty => end(&rt, RunStatus::BadWords),
-        Words::NoMemory => end(&rt, RunStatus::NoMemory),
+        Words::Faulty => end(&rt, RunStatus::BadWords, "a word of the command line isn't UTF-8\n"),
+        Words::NoMemory => end(&rt, RunStatus::NoMemory, ""),
         Words::Read(words) => obey(&rt, &words),
     }
 }
@@ -28,20 +32,31 @@ fn main(rt: HostRuntime) -> ExitCode {
 #[tactic(auto, using(crate::proofs::WordLaws::one_worker))]
 fn obey(rt: &HostRuntime, words: &[String]) -> ExitCode {
     if let Some(text) = help::text_for(words) {
-        return end(rt, show(rt, text));
+        return end(rt, show(rt, text), "");
     }
     match serve_words(words) {
         Some(asked) => serving::serve(rt, asked, words),
-        None => end(rt, answer(rt, words)),
+        None => run(rt, words),
     }
 }
 
+// Runs the desk, says what failed, and ends the program.
+fn run(rt: &HostRuntime, words: &[String]) -> ExitCode {
+    let mut note = String::new(rt.alloc());
+    let status = answer(rt, words, &mut note);
+    if status == RunStatus::BadWords {
+        note_words(&mut note, words);
+    }
+    end(rt, status, &note)
+}
+
 // Answers the script on standard input.
-fn answer(rt: &HostRuntime, words: &[String]) -> RunStatus {
-    let mut src = StdSource::new(rt.reader());
+fn answer(rt: &HostRuntime, words: &[String], note: &mut String) -> RunStatus {
+    let mut src = KeptSource::new(rt.alloc(), StdSource::new(rt.reader()));
     let mut out = StdSink::new(io::writer(rt));
     let keeper = MemKeeper::new(rt.alloc());
     let (status, _keeper) = desk_main(rt.alloc(), words, &mut src, &mut out, keeper);
+    note_status(rt.alloc(), note, status, src.given());
     status
 }
 
@@ -53,8 +68,8 @@ fn show(rt: &HostRuntime, text: &str) -> RunStatus {
     }
 }
 
-// Says a status other than 0 on standard error, with the script's fault, and ends the program with it.
-fn end(rt: &HostRuntime, status: RunStatus) -> ExitCode
+// Says a status other than 0 on standard error, with the script's fault and what it means, and ends the program with it.
+fn end(rt: &HostRuntime, status: RunStatus, note: &str) -> ExitCode
     ensures { exit_status result ≡ exit_status_of status }
 {
     let code = status.code();
@@ -63,5 +78,8 @@ fn end(rt: &HostRuntime, status: RunStatus) -> ExitCode
         RunStatus::Script(fault) => eprintln!(rt; "smsctl: status {code} {fault}"),
         _ => eprintln!(rt; "smsctl: status {code}"),
     };
+    if !note.is_empty() {
+        let _ = eprint!(rt; "smsctl: {note}");
+    }
     ExitCode::from(code)
 }

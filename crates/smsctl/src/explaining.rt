@@ -1,0 +1,59 @@
+//! What is said of a run that didn't end well, for the person at the terminal (docs/script.md, "What is said of a
+//! fault"). Where memory for it is wanting, nothing is said.
+use desk_calls::RunStatus;
+use fault_notes::script_note;
+use std::alloc::Global;
+
+/// What the command line asks for where its words are none that the desk knows.
+pub fn note_words(note: &mut String, words: &[String]) {
+    say(note, sentence_of_words(words));
+}
+
+/// What failed, and what stands.
+pub fn note_status(alloc: Global, note: &mut String, status: RunStatus, script: &[u8]) {
+    match status {
+        RunStatus::Done | RunStatus::BadWords => (),
+        RunStatus::Script(fault) => {
+            if let Ok(made) = script_note(alloc, script, fault) {
+                *note = made;
+            }
+        }
+        RunStatus::ReadFault => say(note, "standard input can't be read; nothing was answered\n"),
+        RunStatus::WriteFault => say(note, WRITE_FAULT),
+        RunStatus::TooLong => say(note, TOO_LONG),
+        RunStatus::NoMemory => say(note, NO_MEMORY),
+    }
+}
+
+const WRITE_FAULT: &str =
+    "standard output can't be written; all was answered, and a front of the answers may be there\n";
+
+const TOO_LONG: &str = "the script has more than 16777216 bytes; nothing was answered\n";
+
+const NO_MEMORY: &str = "memory is wanting; no answer was written\n";
+
+fn sentence_of_words(words: &[String]) -> &'static str {
+    match first_word(words) {
+        "run" => "run takes one further word at most: smsctl run [--volumes]\n",
+        "gen" => GEN,
+        "serve" => SERVE,
+        _ => "the first word is run, gen or serve; smsctl --help says what each does\n",
+    }
+}
+
+const GEN: &str =
+    "gen takes SEED, 0 to 4294967295, and COUNT, 1 to 40000: smsctl gen SEED COUNT\n";
+
+const SERVE: &str = "serve takes a port, 1 to 65535, and a number of connections, 1 to 1000000: \
+    smsctl serve PORT CONNECTIONS\n";
+
+fn first_word(words: &[String]) -> &str {
+    match words.first() {
+        Some(word) => word.as_str(),
+        None => "",
+    }
+}
+
+fn say(note: &mut String, sentence: &str) {
+    let _ = note.push_str(sentence);
+}
