@@ -28,6 +28,8 @@ impl Accept for FailingDoor {
     ghost back = { λ d. Some d.door.back };
 
     fn accept(&mut self) -> Result<Option<MemLink>, Failed> {
+        // Facts for the proof; nothing runs.
+        let _back = self.door.back();
         if self.left == 0 {
             self.ended = false;
             self.faults = self.faults.saturating_add(1);
