@@ -1,0 +1,6 @@
+mod ChunkLemmas
+mod EitherLemmas
+mod FirstLemmas
+mod PartLemmas
+mod RowLemmas
+mod SortedLemmas
