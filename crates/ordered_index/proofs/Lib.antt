@@ -4,3 +4,4 @@ mod FirstLemmas
 mod PartLemmas
 mod RowLemmas
 mod SortedLemmas
+pub mod LookupLemmas

@@ -1,5 +1,6 @@
 //! A map in the order of its keys.
-ghost use Rattle.std.specs.Prelude.{◌≡◌, ◌<◌, ◌≤◌, [], OnOk, Some, None, length, vec_capacity};
+ghost use Rattle.std.specs.Prelude.{◌≡◌, ◌<◌, ◌≤◌, [], OnOk, Some, None, length, vec_capacity, if◌then◌else◌};
+ghost use Rattle.std.specs.Ordering.{is_eq};
 ghost use Rattle.std.specs.BTreeMap.{insert_entry, is_at};
 ghost use Rattle.std.specs.Map.{lookup, remove_entry};
 ghost use Rattle.std.specs.Option.{option_copied};
@@ -89,6 +90,8 @@ impl<K: Ord + Drop, V: Drop> OrderedIndex<K, V> {
     pub fn put(&mut self, key: K, value: V) -> Option<V>
         requires { 0 < self.old.room }
         ensures rows { self.new.rows ≡ insert_entry K.cmp self.old.rows key value }
+        ensures found { (other : K) → lookup (is_at (K.cmp other)) self.new.rows
+            ≡ (if is_eq (K.cmp key other) then Some value else lookup (is_at (K.cmp other)) self.old.rows) }
         ensures value { result ≡ lookup (is_at (K.cmp key)) self.old.rows }
     {
         put_row(&mut self.chunks, &mut self.spares, key, value)
@@ -97,6 +100,8 @@ impl<K: Ord + Drop, V: Drop> OrderedIndex<K, V> {
     /// Takes the row of the key, and gives its value. It takes no memory.
     pub fn remove(&mut self, key: &K) -> Option<V>
         ensures rows { self.new.rows ≡ remove_entry (is_at (K.cmp key.now)) self.old.rows }
+        ensures found { (other : K) → lookup (is_at (K.cmp other)) self.new.rows
+            ≡ (if is_eq (K.cmp key.now other) then None else lookup (is_at (K.cmp other)) self.old.rows) }
         ensures value { result ≡ lookup (is_at (K.cmp key.now)) self.old.rows }
         ensures room { self.new.room ≡ self.old.room }
     {
