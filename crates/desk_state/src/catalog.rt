@@ -5,24 +5,23 @@ ghost use Rattle.desk_state.specs.Catalog.{set_in};
 
 use desk_common::Shared;
 use dsn_mask::Dsn;
+use ordered_index::OrderedIndex;
 use sms_construct::DataSet;
 use std::alloc::{AllocError, Global};
-use std::collections::HashMap;
 use std::marker::Model;
 
-/// The catalogued data sets by name.
+/// The catalogued data sets, in the order of their names' bytes.
 #[derive(Drop)]
 pub struct Catalog {
-    sets: HashMap<Dsn, Shared<DataSet>>,
+    sets: OrderedIndex<Dsn, Shared<DataSet>>,
 }
 
 impl Model for Catalog {
-    ghost use Rattle.std.specs.HashMap.{spare};
     ghost use Rattle.desk_state.specs.Catalog.{CatalogView};
 
     ghost Value = { CatalogView };
 
-    ghost view = { λ c. record { sets = c.sets.entries; room = spare c.sets } };
+    ghost view = { λ c. record { sets = c.sets.rows; room = c.sets.room } };
 }
 
 impl Catalog {
@@ -31,7 +30,7 @@ impl Catalog {
         ensures { result.sets ≡ [] }
     {
         Catalog {
-            sets: HashMap::new(alloc),
+            sets: OrderedIndex::new(alloc),
         }
     }
 
@@ -47,7 +46,7 @@ impl Catalog {
         ensures room { OnOk result (0 < self.new.room) }
         ensures same { (dsn : List ℕ) → set_in dsn self.new.sets ≡ set_in dsn self.old.sets }
     {
-        self.sets.reserve(1)
+        self.sets.reserve()
     }
 
     /// Puts a data set in place of the one of its name, or adds it. It takes no memory.
@@ -56,10 +55,7 @@ impl Catalog {
         ensures { (dsn : List ℕ) → set_in dsn self.new.sets ≡ (if bytes_eq set.dsn dsn then Some set else set_in dsn self.old.sets) }
     {
         let dsn = set.get().dsn;
-        match self.sets.insert(dsn, set) {
-            Ok(_) => (),
-            Err(_) => unreachable!(),
-        }
+        self.sets.put(dsn, set);
     }
 
     /// Drops the data set of this name.

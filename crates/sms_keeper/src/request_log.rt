@@ -1,30 +1,30 @@
 //! The log of the replies that are kept.
 ghost use Rattle.std.specs.Prelude.{◌≡◌, ◌≤◌, ◌<◌, ℕ, List, [], OnOk, Some, if◌then◌else◌};
+ghost use Rattle.std.specs.Option.{option_copied};
 ghost use Rattle.sms_keeper.specs.Log.{IsKept, floor_in, kept_in, kept_with, floor_with, same_key, is_open};
 
 use crate::kept::{Kept, KeptReply};
 use crate::request_key::RequestKey;
 use dsn_mask::Name;
+use ordered_index::OrderedIndex;
 use sms_construct::{Reply, Request};
 use std::alloc::{AllocError, Global};
-use std::collections::HashMap;
 use std::marker::Model;
 
 /// The kept replies by job and request number, and the floors by job. Replies below the floor of their job stay in
 /// memory, and are found no more.
 #[derive(Drop)]
 pub struct RequestLog {
-    kept: HashMap<RequestKey, KeptReply>,
-    floors: HashMap<Name, u32>,
+    kept: OrderedIndex<RequestKey, KeptReply>,
+    floors: OrderedIndex<Name, u32>,
 }
 
 impl Model for RequestLog {
-    ghost use Rattle.std.specs.HashMap.{spare};
     ghost use Rattle.sms_keeper.specs.Log.{LogView};
 
     ghost Value = { LogView };
 
-    ghost view = { λ l. record { kept = l.kept.entries; floors = l.floors.entries; reply_room = spare l.kept; floor_room = spare l.floors } };
+    ghost view = { λ l. record { kept = l.kept.rows; floors = l.floors.rows; reply_room = l.kept.room; floor_room = l.floors.room } };
 }
 
 impl RequestLog {
@@ -34,8 +34,8 @@ impl RequestLog {
         ensures floors { result.floors ≡ [] }
     {
         RequestLog {
-            kept: HashMap::new(alloc),
-            floors: HashMap::new(alloc),
+            kept: OrderedIndex::new(alloc),
+            floors: OrderedIndex::new(alloc),
         }
     }
 
@@ -51,7 +51,7 @@ impl RequestLog {
             job: request.job,
             number: request.number,
         };
-        let Some(kept) = self.kept.get(&key) else {
+        let Some(kept) = self.kept(&key) else {
             return Kept::New;
         };
         if !request.op.equals(&kept.op) {
@@ -61,6 +61,13 @@ impl RequestLog {
             first: kept.place,
             reply: &kept.reply,
         }
+    }
+
+    // What is kept under a key.
+    fn kept(&self, key: &RequestKey) -> Option<&KeptReply>
+        ensures { option_copied result ≡ kept_in key.now self.now.kept }
+    {
+        self.kept.get(key)
     }
 
     /// The floor of a job, 0 where it has none.
@@ -80,8 +87,8 @@ impl RequestLog {
         ensures kept { (key : RequestKey) → kept_in key self.new.kept ≡ kept_in key self.old.kept }
         ensures floors { (job : List ℕ) → floor_in job self.new.floors ≡ floor_in job self.old.floors }
     {
-        self.kept.reserve(1)?;
-        self.floors.reserve(1)
+        self.kept.reserve()?;
+        self.floors.reserve()
     }
 
     /// Keeps a reply under the job and the number of its request, unless the number is below its job's floor or a
@@ -110,7 +117,7 @@ impl RequestLog {
             job: request.job,
             number: request.number,
         };
-        request.number.get() >= self.floor(&request.job) && !self.kept.contains_key(&key)
+        request.number.get() >= self.floor(&request.job) && self.kept(&key).is_none()
     }
 
     fn put(&mut self, key: RequestKey, kept: KeptReply)
@@ -119,10 +126,7 @@ impl RequestLog {
         ensures floors { self.new.floors ≡ self.old.floors }
         ensures room { self.new.floor_room ≡ self.old.floor_room }
     {
-        match self.kept.insert(key, kept) {
-            Ok(_) => (),
-            Err(_) => unreachable!(),
-        }
+        self.kept.put(key, kept);
     }
 
     /// Raises the floor of a job to this number; a floor never falls. It takes no memory.
@@ -135,8 +139,6 @@ impl RequestLog {
         if floor <= self.floor(job) {
             return;
         }
-        if self.floors.insert(*job, floor).is_err() {
-            unreachable!();
-        }
+        self.floors.put(*job, floor);
     }
 }

@@ -1,0 +1,7 @@
+mod ChunkLemmas
+mod EitherLemmas
+mod FirstLemmas
+mod PartLemmas
+mod RowLemmas
+mod SortedLemmas
+pub mod LookupLemmas
