@@ -6,8 +6,6 @@ mod cases;
 #[cfg(test)]
 mod commands;
 #[cfg(test)]
-mod failing_door;
-#[cfg(test)]
 mod repeats;
 #[cfg(test)]
 mod replies;
@@ -18,12 +16,6 @@ mod runs;
 #[cfg(test)]
 mod scripts;
 #[cfg(test)]
-mod served;
-#[cfg(test)]
-mod serving;
-#[cfg(test)]
 mod shown;
 #[cfg(test)]
 mod stepping;
-#[cfg(test)]
-mod working;

@@ -20,6 +20,8 @@ mod listing;
 #[cfg(test)]
 mod names;
 #[cfg(test)]
+mod ordered;
+#[cfg(test)]
 mod reports;
 #[cfg(test)]
 mod turns;
