@@ -1,4 +1,5 @@
 -- What an answer says of the status and the sink.
+use Rattle.std.specs.Prelude.{Err, IfOk, Result}
 use Rattle.std.proofs.Common.{◌≡◌, true, List, ℕ, Ok, Some, length, sym, subst, inl, inr}
 use Rattle.std.specs.Io.KnownBytes.{Appends}
 use Rattle.acs_tree.specs.declared.kind.Kind.{Kind}
@@ -81,6 +82,12 @@ no_script bytes err why is e = subst (λ x. Hinders bytes Simulate x) (sym e) (r
 -- a listing is the answer to its input
 pub compared_told : {bytes text : List ℕ} {status : ToolStatus} (cases : Cases) → IsReading bytes cases → (status ≡ Done) × IsListing cases.before cases.after cases.list text → IsAnswer bytes Compare status text
 compared_told {bytes} {text} {status} cases reading e = subst (λ x. IsAnswer bytes Compare x text) (sym e.0) (compared cases text reading e.1)
+
+-- where the cases were listed, the listing is the answer
+pub listed_told : {E : Type 0} {bytes : List ℕ} (cases : Cases) (listed : Result (ToolStatus × List ℕ) E) → IsReading bytes cases
+    → IfOk listed (λ found. (found.0 ≡ Done) × IsListing cases.before cases.after cases.list found.1) → IfOk listed (λ found. IsAnswer bytes Compare found.0 found.1)
+listed_told cases (Ok found) reading e = compared_told cases reading e
+listed_told cases (Err err) reading e = tt
 
 refused_told : (bytes text : List ℕ) (err : CasesErr) → MayRefuseAs (IsCasesRefusal bytes) (Some cases_errs.NoMemory) err → text ≡ cases_fault_text err → (cases_errs.NoMemory ≡ err → ⊥) → IsAnswer bytes Compare FaultFound text
 refused_told bytes text err (inl is) e other = subst (λ x. IsAnswer bytes Compare FaultFound x) (sym e) (uncompared err is)

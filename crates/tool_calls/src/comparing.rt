@@ -14,7 +14,7 @@ use sms_script::push_fault;
 use std::alloc::{AllocError, Global};
 
 /// The answer to two decks and a table of cases. What a fault means is noted.
-#[tactic(auto, using(crate::proofs::AnswerLemmas::compared_told, crate::proofs::AnswerLemmas::uncompared_told))]
+#[tactic(auto, using(crate::proofs::AnswerLemmas::uncompared_told))]
 pub fn compared(
     alloc: Global,
     bytes: &[u8],
