@@ -9,11 +9,11 @@ ghost use Rattle.acs_run.specs.Seen.{seen};
 use crate::value::Value;
 use crate::values::value;
 use acs_code::Part;
-use acs_tree::{Input, Kind, Values};
+use acs_tree::{Kind, Seen, Values};
 use dsn_mask::{Lit, Short};
 
 /// What a class is set to.
-pub fn class(part: &Part, input: &Input, values: &Values) -> Short
+pub fn class(part: &Part, input: &Seen<'_>, values: &Values) -> Short
     ensures { result ≡ part_class part.now input.now values.now }
 {
     match part {

@@ -13,13 +13,13 @@ use crate::short::{of_name, of_volser};
 use crate::value::Value;
 use crate::values::value;
 use acs_code::{Probe, Right};
-use acs_tree::{Compare, Input, Values};
+use acs_tree::{Compare, Seen, Values};
 use dsn_mask::{FilterIndex, Short, Steps, Volser};
 use std::marker::Brand;
 use std::sync::ledger::{Blank, Ledger};
 
 /// Whether the probe holds.
-pub fn holds(filters: &[FilterIndex], probe: &Probe, input: &Input, values: &Values) -> bool
+pub fn holds(filters: &[FilterIndex], probe: &Probe, input: &Seen<'_>, values: &Values) -> bool
     ensures { result ≡ probe_holds filters.now probe.now input.now values.now }
 {
     let left = value(&probe.left, input, values);
@@ -31,7 +31,7 @@ fn compares(
     op: Compare,
     left: &Value,
     right: &Right,
-    input: &Input,
+    input: &Seen<'_>,
     values: &Values,
 ) -> bool
     ensures { result ≡ compares input.now values.now op (seen input.now values.now left.now) (right_comparand filters.now right.now) }
@@ -53,7 +53,7 @@ fn compares(
 fn equals(
     filters: &[FilterIndex],
     right: &Right,
-    input: &Input,
+    input: &Seen<'_>,
     values: &Values,
     text: &Short,
 ) -> bool
@@ -97,24 +97,24 @@ fn has<L: Ledger>(filter: &FilterIndex, text: &Short, blank: Blank) -> bool
     filter.has(text, &mut steps)
 }
 
-fn any_volume(filters: &[FilterIndex], right: &Right, input: &Input, values: &Values) -> bool
+fn any_volume(filters: &[FilterIndex], right: &Right, input: &Seen<'_>, values: &Values) -> bool
     ensures { result ≡ list_any (text_equals input.now values.now (right_comparand filters.now right.now)) input.now.volumes }
 {
-    let volumes = input.volumes.as_slice();
+    let volumes = input.volumes();
     volumes.iter().any(|volume| equals(filters, right, input, values, &of_volser(volume)))
 }
 
-fn all_volumes(filters: &[FilterIndex], right: &Right, input: &Input, values: &Values) -> bool
+fn all_volumes(filters: &[FilterIndex], right: &Right, input: &Seen<'_>, values: &Values) -> bool
     ensures { result ≡ (not (is_empty input.now.volumes) && list_all (text_equals input.now values.now (right_comparand filters.now right.now)) input.now.volumes) }
 {
-    let volumes = input.volumes.as_slice();
+    let volumes = input.volumes();
     !volumes.is_empty() && all_equal(filters, right, input, values, volumes)
 }
 
 fn all_equal(
     filters: &[FilterIndex],
     right: &Right,
-    input: &Input,
+    input: &Seen<'_>,
     values: &Values,
     volumes: &[Volser],
 ) -> bool
@@ -124,7 +124,7 @@ fn all_equal(
 }
 
 // An empty list counts as the null text.
-fn any_group(filters: &[FilterIndex], right: &Right, input: &Input, values: &Values) -> bool
+fn any_group(filters: &[FilterIndex], right: &Right, input: &Seen<'_>, values: &Values) -> bool
     ensures { result ≡ list_any (text_equals input.now values.now (right_comparand filters.now right.now)) (groups_or_null values.now.groups) }
 {
     let groups = values.groups.as_slice();
@@ -146,7 +146,7 @@ fn texts_compare(op: Compare, are_equal: bool) -> bool
 }
 
 // The number on the right, if it is one.
-fn number_beside(right: &Right, input: &Input, values: &Values) -> Option<u64>
+fn number_beside(right: &Right, input: &Seen<'_>, values: &Values) -> Option<u64>
     ensures { (filters : List FilterLists) → result ≡ number_beside input.now values.now (right_comparand filters right.now) }
 {
     match right {

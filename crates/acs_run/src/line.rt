@@ -9,12 +9,12 @@ use crate::draft::Draft;
 use crate::value::Value;
 use crate::values::value;
 use acs_code::Part;
-use acs_tree::{Input, Values};
+use acs_tree::{Seen, Values};
 use dsn_mask::{Lit, Name, Short, Volser};
 use itoa::Buffer;
 
 /// The parts with nothing between them, cut to a line.
-pub fn line(parts: &[Part], input: &Input, values: &Values) -> Lit
+pub fn line(parts: &[Part], input: &Seen<'_>, values: &Values) -> Lit
     ensures { result ≡ parts_line parts.now input.now values.now }
 {
     let mut draft = Draft::new();
@@ -24,7 +24,7 @@ pub fn line(parts: &[Part], input: &Input, values: &Values) -> Lit
     draft.text()
 }
 
-fn put_part(draft: &mut Draft, part: &Part, input: &Input, values: &Values)
+fn put_part(draft: &mut Draft, part: &Part, input: &Seen<'_>, values: &Values)
     requires { length draft.old ≤ 110 }
     ensures { draft.new ≡ take 110 (draft.old ++ part_text part.now input.now values.now) }
 {
@@ -34,7 +34,7 @@ fn put_part(draft: &mut Draft, part: &Part, input: &Input, values: &Values)
     }
 }
 
-fn put_value(draft: &mut Draft, value: &Value, input: &Input, values: &Values)
+fn put_value(draft: &mut Draft, value: &Value, input: &Seen<'_>, values: &Values)
     requires { length draft.old ≤ 110 }
     ensures { draft.new ≡ take 110 (draft.old ++ printed (seen input.now values.now value.now)) }
 {
@@ -42,7 +42,7 @@ fn put_value(draft: &mut Draft, value: &Value, input: &Input, values: &Values)
         Value::Text(text) => put_text(draft, text),
         Value::Number(number) => put_number(draft, *number),
         Value::Size(kilobytes) => put_size(draft, *kilobytes),
-        Value::AnyVolume | Value::AllVolumes => put_volumes(draft, input.volumes.as_slice()),
+        Value::AnyVolume | Value::AllVolumes => put_volumes(draft, input.volumes()),
         Value::StorageGroups => put_groups(draft, values.groups.as_slice()),
     }
 }

@@ -10,7 +10,7 @@ use crate::classes::{class, set_class};
 use crate::compare::holds;
 use crate::line::line;
 use acs_code::{Code, Instr};
-use acs_tree::{Ending, Input, Slate, Values};
+use acs_tree::{Ending, Seen, Slate, Values};
 
 /// Where one instruction leads: on at a place, or to an exit with that code.
 #[derive(Clone, Copy)]
@@ -20,7 +20,7 @@ pub enum Next {
 }
 
 /// Runs a code. Each instruction goes on at a later place, so that at most as many run as the code has.
-pub fn run(code: &Code, input: &Input, values: &mut Values, slate: &mut Slate) -> Ending
+pub fn run(code: &Code, input: &Seen<'_>, values: &mut Values, slate: &mut Slate) -> Ending
     requires { count_of code.now.kind slate.old.lines ≡ 0 }
     ensures comes { (came : Outcome) × ComesTo code.now input.now values.old came }
     ensures ending { (came : Outcome) → ComesTo code.now input.now values.old came → result ≡ came.ending }
@@ -41,7 +41,7 @@ pub fn run(code: &Code, input: &Input, values: &mut Values, slate: &mut Slate) -
 }
 
 // One instruction.
-fn step(code: &Code, input: &Input, place: usize, values: &mut Values, slate: &mut Slate) -> Next
+fn step(code: &Code, input: &Seen<'_>, place: usize, values: &mut Values, slate: &mut Slate) -> Next
     requires { place < length code.now.instrs }
     ensures { Leads code.now input.now place values.old slate.old values.new slate.new result }
 {

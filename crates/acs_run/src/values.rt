@@ -11,11 +11,11 @@ ghost use Rattle.acs_run.specs.Seen.{accounting_variables, attribute_variables, 
 use crate::short::qualifier;
 use crate::value::Value;
 use acs_code::Slot;
-use acs_tree::{Account, Input, Values};
+use acs_tree::{Seen, Values};
 use dsn_mask::{Dsn, Short};
 
 /// What a variable holds.
-pub fn value(slot: &Slot, input: &Input, values: &Values) -> Value
+pub fn value(slot: &Slot, input: &Seen<'_>, values: &Values) -> Value
     ensures { seen input.now values.now result ≡ slot_value slot.now input.now values.now }
 {
     let name = slot.name.bytes();
@@ -31,7 +31,7 @@ pub fn value(slot: &Slot, input: &Input, values: &Values) -> Value
     }
 }
 
-fn input_value(input: &Input, name: &[u8], index: u8) -> Option<Value>
+fn input_value(input: &Seen<'_>, name: &[u8], index: u8) -> Option<Value>
     ensures { (values : Values) → option_map (seen input.now values) result ≡ held_in input_variables name.now index input.now values }
 {
     if let Some(text) = origin_text(input, name) {
@@ -46,7 +46,7 @@ fn input_value(input: &Input, name: &[u8], index: u8) -> Option<Value>
     given_value(input, name, index)
 }
 
-fn given_value(input: &Input, name: &[u8], index: u8) -> Option<Value>
+fn given_value(input: &Seen<'_>, name: &[u8], index: u8) -> Option<Value>
     ensures { (values : Values) → option_map (seen input.now values) result ≡ held_in given_variables name.now index input.now values }
 {
     if let Some(kilobytes) = size(input, name) {
@@ -58,7 +58,7 @@ fn given_value(input: &Input, name: &[u8], index: u8) -> Option<Value>
     given_text(input, name, index)
 }
 
-fn given_text(input: &Input, name: &[u8], index: u8) -> Option<Value>
+fn given_text(input: &Seen<'_>, name: &[u8], index: u8) -> Option<Value>
     ensures { (values : Values) → option_map (seen input.now values) result ≡ held_in text_variables name.now index input.now values }
 {
     if let Some(text) = accounting_text(input, name, index) {
@@ -86,10 +86,10 @@ fn text_in(mut rows: &[(&[u8], &Short)], name: &[u8]) -> Option<Short>
     None
 }
 
-fn name_value(input: &Input, name: &[u8], index: u8) -> Option<Value>
+fn name_value(input: &Seen<'_>, name: &[u8], index: u8) -> Option<Value>
     ensures { (values : Values) → option_map (seen input.now values) result ≡ held_in name_variables name.now index input.now values }
 {
-    let dsn = &input.dsn;
+    let dsn = input.dsn();
     if name == b"DSN".as_slice() {
         Some(Value::Text(part_of_name(dsn, index)))
     } else if name == b"HLQ".as_slice() {
@@ -129,10 +129,10 @@ fn class_value(values: &Values, name: &[u8]) -> Option<Value>
     }
 }
 
-fn origin_text(input: &Input, name: &[u8]) -> Option<Short>
+fn origin_text(input: &Seen<'_>, name: &[u8]) -> Option<Short>
     ensures { (index : ℕ) (values : Values) → option_map Text result ≡ held_in origin_variables name.now index input.now values }
 {
-    let origin = &input.origin;
+    let origin = input.origin();
     let rows: [(&[u8], &Short); 6] = [
         (b"JOB", &origin.job),
         (b"USER", &origin.user),
@@ -144,10 +144,10 @@ fn origin_text(input: &Input, name: &[u8]) -> Option<Short>
     text_in(&rows, name)
 }
 
-fn attribute_text(input: &Input, name: &[u8]) -> Option<Short>
+fn attribute_text(input: &Seen<'_>, name: &[u8]) -> Option<Short>
     ensures { (index : ℕ) (values : Values) → option_map Text result ≡ held_in attribute_variables name.now index input.now values }
 {
-    let attributes = &input.attributes;
+    let attributes = input.attributes();
     let rows: [(&[u8], &Short); 7] = [
         (b"UNIT", &attributes.unit),
         (b"DSORG", &attributes.dsorg),
@@ -160,13 +160,13 @@ fn attribute_text(input: &Input, name: &[u8]) -> Option<Short>
     text_in(&rows, name)
 }
 
-fn number(input: &Input, name: &[u8]) -> Option<u64>
+fn number(input: &Seen<'_>, name: &[u8]) -> Option<u64>
     ensures { (index : ℕ) (values : Values) → option_map Number result ≡ held_in number_variables name.now index input.now values }
 {
     if name == b"RETPD".as_slice() {
-        Some(input.amounts.retpd as u64)
+        Some(input.amounts().retpd as u64)
     } else if name == b"BLKSIZE".as_slice() {
-        Some(input.amounts.blksize as u64)
+        Some(input.amounts().blksize as u64)
     } else if name == b"FILENUM".as_slice() {
         Some(0)
     } else if name == b"MEMNQUAL".as_slice() {
@@ -176,23 +176,23 @@ fn number(input: &Input, name: &[u8]) -> Option<u64>
     }
 }
 
-fn size(input: &Input, name: &[u8]) -> Option<u64>
+fn size(input: &Seen<'_>, name: &[u8]) -> Option<u64>
     ensures { (index : ℕ) (values : Values) → option_map Size result ≡ held_in size_variables name.now index input.now values }
 {
     if name == b"SIZE".as_slice() {
-        Some(input.amounts.size)
+        Some(input.amounts().size)
     } else if name == b"MAXSIZE".as_slice() {
-        Some(input.amounts.maxsize)
+        Some(input.amounts().maxsize)
     } else {
         None
     }
 }
 
-fn volume_value(input: &Input, name: &[u8]) -> Option<Value>
+fn volume_value(input: &Seen<'_>, name: &[u8]) -> Option<Value>
     ensures { (index : ℕ) (values : Values) → option_map (seen input.now values) result ≡ held_in volume_variables name.now index input.now values }
 {
     if name == b"NVOL".as_slice() {
-        Some(Value::Number(input.volumes.as_slice().len() as u64))
+        Some(Value::Number(input.volumes().len() as u64))
     } else if name == b"ANYVOL".as_slice() {
         Some(Value::AnyVolume)
     } else if name == b"ALLVOL".as_slice() {
@@ -202,34 +202,34 @@ fn volume_value(input: &Input, name: &[u8]) -> Option<Value>
     }
 }
 
-fn accounting_text(input: &Input, name: &[u8], index: u8) -> Option<Short>
+fn accounting_text(input: &Seen<'_>, name: &[u8], index: u8) -> Option<Short>
     ensures { (values : Values) → option_map Text result ≡ held_in accounting_variables name.now index input.now values }
 {
     if name == b"ACCT_JOB".as_slice() {
-        Some(field(&input.accounting.acct_job, index))
+        Some(field(input.acct_job(), index))
     } else if name == b"ACCT_STEP".as_slice() {
-        Some(field(&input.accounting.acct_step, index))
+        Some(field(input.acct_step(), index))
     } else {
         None
     }
 }
 
-fn field(account: &Account, number: u8) -> Short
-    ensures { result ≡ text_at account.now number }
+fn field(fields: &[Short], number: u8) -> Short
+    ensures { result ≡ text_at fields.now number }
 {
     if number == 0 {
         return Short::null();
     }
-    match account.as_slice().get(number as usize - 1) {
+    match fields.get(number as usize - 1) {
         Some(text) => *text,
         None => Short::null(),
     }
 }
 
-fn environment_text(input: &Input, name: &[u8]) -> Option<Short>
+fn environment_text(input: &Seen<'_>, name: &[u8]) -> Option<Short>
     ensures { (index : ℕ) (values : Values) → option_map Text result ≡ held_in environment_variables name.now index input.now values }
 {
-    let environment = &input.environment;
+    let environment = input.environment();
     let rows: [(&[u8], &Short); 4] = [
         (b"ACSENVIR", &environment.acsenvir),
         (b"XMODE", &environment.xmode),
@@ -239,10 +239,10 @@ fn environment_text(input: &Input, name: &[u8]) -> Option<Short>
     text_in(&rows, name)
 }
 
-fn default_text(input: &Input, name: &[u8]) -> Option<Short>
+fn default_text(input: &Seen<'_>, name: &[u8]) -> Option<Short>
     ensures { (index : ℕ) (values : Values) → option_map Text result ≡ held_in default_variables name.now index input.now values }
 {
-    let defaults = &input.defaults;
+    let defaults = input.defaults();
     let rows: [(&[u8], &Short); 3] = [
         (b"DEF_DATACLAS", &defaults.dataclas),
         (b"DEF_STORCLAS", &defaults.storclas),

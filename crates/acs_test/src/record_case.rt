@@ -168,11 +168,8 @@ fn read_alloc(
     ensures { IfOk result (λ asked. asked ≡ alloc_in dsn.now columns.now (map (λ field. field.now) fields.now)) }
 {
     fill_line(buffer, dsn, columns, fields)?;
-    let Some(written) = read_op(buffer, false) else {
-        return Ok(None);
-    };
-    match written.share(alloc)? {
-        Op::Alloc(asked) => Ok(Some(asked)),
+    match read_op(alloc, buffer, false)? {
+        Some(Op::Alloc(asked)) => Ok(Some(asked)),
         _ => Ok(None),
     }
 }

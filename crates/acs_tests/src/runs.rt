@@ -4,7 +4,7 @@ use crate::texts::{routine_of, text_of};
 use acs_code::{Code, compile};
 use acs_run::run;
 use acs_translate::translate;
-use acs_tree::{Ending, Kind, Slate, Values};
+use acs_tree::{Ending, Kind, Seen, Slate, Values};
 use std::alloc::{AllocError, Global};
 use std::process::Abort;
 use std::test::Fail;
@@ -162,7 +162,7 @@ fn run_of(
     let mut slate = Slate::new(alloc)?;
     let mut values = values_of(rt, given);
     let input = input_of(rt, given);
-    let ending = run(code, &input, &mut values, &mut slate);
+    let ending = run(code, &Seen::of(&input), &mut values, &mut slate);
     Ok((values, slate, ending))
 }
 

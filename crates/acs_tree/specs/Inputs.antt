@@ -1,22 +1,42 @@
 -- What runs begin with.
 use Rattle.std.specs.Prelude.{ℕ, ◌*◌, List, [], Option, codes}
 use Rattle.std.specs.Int.{div_ceil}
+use Rattle.acs_tree.specs.declared.amounts.Amounts.{Amounts}
+use Rattle.acs_tree.specs.declared.given_lists.GivenLists.{GivenLists}
+use Rattle.acs_tree.specs.declared.given_texts.GivenTexts.{GivenTexts}
 use Rattle.acs_tree.specs.declared.input.Input.{Input}
 use Rattle.acs_tree.specs.declared.values.Values.{Values}
 use Rattle.acs_tree.specs.Value.{or_null}
 
--- a request that names a data set and gives nothing else
-abbrev pub bare_input : List ℕ → Input
-bare_input dsn = record {
+-- an input in its parts: a name, amounts, texts and lists
+abbrev pub input_with : List ℕ → Amounts → GivenTexts → GivenLists → Input
+input_with dsn amounts texts lists = record {
   dsn = dsn;
+  origin = texts.origin;
+  accounting = lists.accounting;
+  attributes = texts.attributes;
+  environment = texts.environment;
+  defaults = texts.defaults;
+  amounts = amounts;
+  volumes = lists.volumes;
+}
+
+-- the texts where none is given
+abbrev pub no_texts : GivenTexts
+no_texts = record {
   origin = record { job = []; user = []; group = []; pgm = []; dd = []; applic = [] };
-  accounting = record { acct_job = []; acct_step = [] };
   attributes = record { unit = []; dsorg = []; recorg = []; dsntype = []; dstype = codes "PERM"; dsowner = []; expdt = [] };
   environment = record { acsenvir = codes "ALLOC"; xmode = codes "BATCH"; sysname = []; sysplex = [] };
   defaults = record { dataclas = []; storclas = []; mgmtclas = [] };
-  amounts = record { retpd = 0; blksize = 0; size = 0; maxsize = 0 };
-  volumes = [];
 }
+
+-- the lists where none is given
+abbrev pub no_lists : GivenLists
+no_lists = record { accounting = record { acct_job = []; acct_step = [] }; volumes = [] }
+
+-- a request that names a data set and gives nothing else
+abbrev pub bare_input : List ℕ → Input
+bare_input dsn = input_with dsn (record { retpd = 0; blksize = 0; size = 0; maxsize = 0 }) no_texts no_lists
 
 -- so many tracks in KB, rounded up: a track holds 56,664 bytes
 abbrev pub kilobytes_of : ℕ → ℕ

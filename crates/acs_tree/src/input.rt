@@ -1,7 +1,6 @@
 // What the read-only variables hold.
-ghost use Rattle.std.specs.Prelude.{◌≡◌, ◌↔◌, IsTrue};
-ghost use Rattle.acs_tree.specs.Inputs.{bare_input, input_under, kilobytes_of};
-ghost use Rattle.acs_tree.specs.Value.{or_null};
+ghost use Rattle.std.specs.Prelude.{◌≡◌};
+ghost use Rattle.acs_tree.specs.Inputs.{bare_input, kilobytes_of};
 
 use crate::accounting::Accounting;
 use crate::amounts::Amounts;
@@ -10,7 +9,7 @@ use crate::defaults::Defaults;
 use crate::environment::Environment;
 use crate::origin::Origin;
 use crate::volumes::Volumes;
-use dsn_mask::{Dsn, Name, Short};
+use dsn_mask::Dsn;
 
 /// The bytes that a track of a 3390 volume holds.
 const TRACK_BYTES: u64 = 56_664;
@@ -48,32 +47,6 @@ impl Input {
             volumes: Volumes::new(),
         }
     }
-
-    /// The input as routines see it: that of a request of this job under a configuration with this system and
-    /// sysplex, where it names them.
-    pub fn under(&self, job: &Name, system: Option<Name>, sysplex: Option<Name>) -> Self
-        ensures { result ≡ input_under self.now job.now system sysplex }
-    {
-        let mut input = *self;
-        input.origin.job = text_of(job);
-        input.environment.sysname = text_or_null(system);
-        input.environment.sysplex = text_or_null(sysplex);
-        input
-    }
-
-    /// Whether all parts of the two are equal.
-    pub fn equals(&self, other: &Self) -> bool
-        ensures { IsTrue result ↔ (self.now ≡ other.now) }
-    {
-        self.dsn == other.dsn
-            && self.origin.equals(&other.origin)
-            && self.accounting.equals(&other.accounting)
-            && self.attributes.equals(&other.attributes)
-            && self.environment.equals(&other.environment)
-            && self.defaults.equals(&other.defaults)
-            && self.amounts.equals(&other.amounts)
-            && self.volumes.equals(&other.volumes)
-    }
 }
 
 /// So many tracks in KB, rounded up.
@@ -81,21 +54,4 @@ pub fn kilobytes_of(tracks: u32) -> u64
     ensures { result ≡ kilobytes_of tracks }
 {
     (u64::from(tracks) * TRACK_BYTES).div_ceil(KILOBYTE)
-}
-
-// A name as a value of routines, if there is one.
-fn text_or_null(name: Option<Name>) -> Short
-    ensures { result ≡ or_null name }
-{
-    match name {
-        Some(name) => text_of(&name),
-        None => Short::null(),
-    }
-}
-
-// A name as a value of routines.
-fn text_of(name: &Name) -> Short
-    ensures { result ≡ name.now }
-{
-    Short::new(name.bytes()).unwrap()
 }

@@ -11,6 +11,9 @@ mod checked;
 mod defaults;
 mod ending;
 mod environment;
+mod given;
+mod given_lists;
+mod given_texts;
 mod ident;
 mod input;
 mod kind;
@@ -19,6 +22,7 @@ mod more;
 mod numbers;
 mod origin;
 mod routine;
+mod seen;
 mod slate;
 mod values;
 mod variable;
@@ -35,6 +39,9 @@ pub use checked::Checked;
 pub use defaults::Defaults;
 pub use ending::Ending;
 pub use environment::Environment;
+pub use given::Given;
+pub use given_lists::GivenLists;
+pub use given_texts::GivenTexts;
 pub use ident::{Ident, MAX_IDENT};
 pub use input::{Input, kilobytes_of};
 pub use kind::Kind;
@@ -46,6 +53,7 @@ pub use routine::{
     Block, Compare, Cond, Form, Operand, OperandForm, Operands, Ref, Routine, Stmt, When, WhenTest,
     Whens,
 };
+pub use seen::Seen;
 pub use slate::{MAX_LINES, Slate, same_kind};
 pub use values::Values;
 pub use variable::{Indexing, Variable, VariableKind};

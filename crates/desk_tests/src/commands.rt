@@ -86,10 +86,10 @@ static OPERANDS: [Row; 37] = [
 fn shown(alloc: Global, line: &[u8], admin: bool) -> Result<Vec<u8>, AllocError> {
     let mut shown = Vec::new(alloc);
     let mut line = Vec::from_slice(alloc, line)?;
-    let Some(op) = read_op(&mut line, admin) else {
+    let Some(op) = read_op(alloc, &mut line, admin)? else {
         return Ok(shown);
     };
-    push_op(&mut shown, &op.share(alloc)?)?;
+    push_op(&mut shown, &op)?;
     match shown.split_first() {
         Some((_, words)) => Vec::from_slice(alloc, words),
         None => Ok(shown),
@@ -120,7 +120,7 @@ fn compare_operands(rt: &impl Abort, alloc: Global) -> Result<(), Fail> {
 /// Whether these operands of an ALLOC are read.
 fn are_read(alloc: Global, operands: &str) -> Result<bool, AllocError> {
     let mut line = format!(in alloc; "ALLOC A.B {operands}")?.into_bytes();
-    Ok(read_op(&mut line, false).is_some())
+    Ok(read_op(alloc, &mut line, false)?.is_some())
 }
 
 #[test]

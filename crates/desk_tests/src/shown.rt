@@ -131,7 +131,7 @@ fn push_alloc(shown: &mut Vec<u8>, request: &Alloc) -> Result<(), AllocError> {
         Some(Eattr::No) => push_word(shown, "EATTR=NO", b"")?,
         None => {}
     }
-    push_input(shown, &request.input)
+    push_input(shown, &request.input.whole())
 }
 
 fn push_target(shown: &mut Vec<u8>, target: &Target) -> Result<(), AllocError> {

@@ -1,5 +1,5 @@
 //! Constructs and requests: their sizes, ranges and equality.
-use acs_tree::{Account, Input, kilobytes_of};
+use acs_tree::{Account, Given, Input, kilobytes_of};
 use desk_common::{Items, Shared};
 use dsn_mask::{Dsn, Name, Short};
 use sms_construct::{
@@ -47,7 +47,7 @@ fn allocation(alloc: Global, part: Part) -> Result<Op, Fail> {
         Part::ManagedSpace => eattr = Some(Eattr::Opt),
     }
     let allocation = Alloc {
-        input,
+        input: Given::of(alloc, &input)?,
         space: Some(space),
         dataclas,
         storclas: None,
@@ -194,7 +194,7 @@ fn types_keep_their_ranges_and_are_small(rt: HostRuntime) {
     for (action, status) in &ACTIONS {
         assert!(rt; action.status() == *status, "{status:?}");
     }
-    assert!(rt; size_of::<Input>() <= 2200 && size_of::<Request>() <= 300);
+    assert!(rt; size_of::<Alloc>() <= 200 && size_of::<Request>() <= 300);
     assert!(rt; size_of::<Answer>() <= 300 && size_of::<Entry>() <= 300);
 }
 
@@ -239,10 +239,11 @@ fn a_path_is_cut_to_eighty_bytes(rt: HostRuntime) {
 fn the_input_of_a_run_has_the_job_and_the_system(rt: HostRuntime) -> Result<(), Fail> {
     let input = Input::new(Dsn::parse(b"A.B").ok().ok_or("dsn")?);
     let job = Name::new(b"PAYROLL").ok_or("job")?;
-    let under = input.under(&job, Name::new(b"SYSA"), None);
-    assert!(rt; under.origin.job.bytes() == b"PAYROLL".as_slice());
-    assert!(rt; under.environment.sysname.bytes() == b"SYSA".as_slice());
-    assert!(rt; under.environment.sysplex.bytes().is_empty());
-    assert!(rt; under.dsn == input.dsn && under.attributes == input.attributes);
+    let given = Given::of(rt.alloc(), &input)?;
+    let under = given.under(&job, Name::new(b"SYSA"), None);
+    assert!(rt; under.origin().job.bytes() == b"PAYROLL".as_slice());
+    assert!(rt; under.environment().sysname.bytes() == b"SYSA".as_slice());
+    assert!(rt; under.environment().sysplex.bytes().is_empty());
+    assert!(rt; *under.dsn() == input.dsn && *under.attributes() == input.attributes);
     Ok(())
 }

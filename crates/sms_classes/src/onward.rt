@@ -5,14 +5,14 @@ ghost use Rattle.sms_classes.specs.Onward.{NoneFrom, classes, from_data_class, f
 
 use crate::routine::{run_class, run_routine};
 use crate::stops::{exit_stop, groups_stop, is_null};
-use acs_tree::{Input, Kind, Slate, Values};
+use acs_tree::{Kind, Seen, Slate, Values};
 use desk_law::Stop;
 use sms_deck::Config;
 
 /// Runs all routines, and tells how it ends.
 pub fn from_data_class(
     config: &Config,
-    input: &Input,
+    input: &Seen<'_>,
     values: &mut Values,
     slate: &mut Slate,
 ) -> Stop
@@ -27,7 +27,7 @@ pub fn from_data_class(
 
 fn from_storage_class(
     config: &Config,
-    input: &Input,
+    input: &Seen<'_>,
     values: &mut Values,
     slate: &mut Slate,
 ) -> Stop
@@ -43,7 +43,7 @@ fn from_storage_class(
 
 fn from_management_class(
     config: &Config,
-    input: &Input,
+    input: &Seen<'_>,
     values: &mut Values,
     slate: &mut Slate,
 ) -> Stop
@@ -56,7 +56,7 @@ fn from_management_class(
     }
 }
 
-fn from_groups(config: &Config, input: &Input, values: &mut Values, slate: &mut Slate) -> Stop
+fn from_groups(config: &Config, input: &Seen<'_>, values: &mut Values, slate: &mut Slate) -> Stop
     requires { NoneFrom 3 slate.old }
     ensures { classes values.new slate.new result ≡ from_groups (meanings_of config.now) input.now values.old slate.old }
 {

@@ -7,7 +7,7 @@ ghost use Rattle.sms_classes.specs.Onward.{NoneFrom, progress, run_on};
 
 use crate::stops::{class_stop, exit_stop};
 use acs_run::run;
-use acs_tree::{Ending, Input, Kind, Slate, Values};
+use acs_tree::{Ending, Kind, Seen, Slate, Values};
 use desk_law::Stop;
 use dsn_mask::Short;
 use sms_deck::Config;
@@ -16,7 +16,7 @@ use sms_deck::Config;
 pub fn run_routine(
     config: &Config,
     kind: Kind,
-    input: &Input,
+    input: &Seen<'_>,
     values: &mut Values,
     slate: &mut Slate,
 ) -> Ending
@@ -36,7 +36,7 @@ pub fn run_routine(
 pub fn run_class(
     config: &Config,
     kind: Kind,
-    input: &Input,
+    input: &Seen<'_>,
     values: &mut Values,
     slate: &mut Slate,
 ) -> Option<Stop>

@@ -1,10 +1,10 @@
 //! What an ALLOC asks for, as a record.
-ghost use Rattle.std.specs.Prelude.{◌≡◌};
+ghost use Rattle.std.specs.Prelude.{◌≡◌, IfOk};
 ghost use Rattle.sms_records.specs.Allocs.{alloc_from};
 
 use crate::record_err::RecordErr;
 use crate::recorded::Recorded;
-use acs_tree::Input;
+use acs_tree::{Given, Input};
 use dsn_mask::{Dsn, Name};
 use sms_construct::{Alloc, Eattr, Space, VolumeCount};
 use std::alloc::{AllocError, Global};
@@ -32,7 +32,8 @@ impl Recorded for Alloc {
     fn write_to(&self, out: &mut Vec<u8>) -> Result<(), AllocError> {
         let others = (self.volumes, (self.day, (self.retpd, self.eattr)));
         let classes = (self.dataclas, (self.storclas, (self.mgmtclas, others)));
-        (self.input.dsn, (self.input, (self.space, classes))).write_to(out)
+        let input = self.input.whole();
+        (input.dsn, (input, (self.space, classes))).write_to(out)
     }
 
     #[tactic(auto, unfolding(crate::specs::Form::seen_at))]
@@ -42,21 +43,21 @@ impl Recorded for Alloc {
                 if dsn != asked.0.dsn {
                     return Err(RecordErr::Bad);
                 }
-                Ok((alloc_of(asked), rest))
+                Ok((alloc_of(alloc, asked)?, rest))
             }
             Err(err) => Err(err),
         }
     }
 }
 
-// The ALLOC of these fields.
-fn alloc_of(asked: Asked) -> Alloc
-    ensures { result ≡ alloc_from asked }
+// The ALLOC of these fields, or want of memory.
+fn alloc_of(alloc: Global, asked: Asked) -> Result<Alloc, AllocError>
+    ensures { IfOk result (λ made. made ≡ alloc_from asked) }
 {
     let (input, (space, (dataclas, (storclas, (mgmtclas, others))))) = asked;
     let (volumes, (day, (retpd, eattr))) = others;
-    Alloc {
-        input,
+    Ok(Alloc {
+        input: Given::of(alloc, &input)?,
         space,
         dataclas,
         storclas,
@@ -65,5 +66,5 @@ fn alloc_of(asked: Asked) -> Alloc
         day,
         retpd,
         eattr,
-    }
+    })
 }

@@ -6,3 +6,4 @@ mod ListLemmas
 mod PhaseTextLemmas
 mod FewLemmas
 mod KeyLemmas
+mod GivenLemmas

@@ -52,7 +52,7 @@ distinct_stops : (xs ys : List (List ℕ)) (x : List ℕ) → list_any (bytes_eq
 distinct_stops [] ys x there = absurd (cc there)
 distinct_stops (y ∷ xs) ys x there = distinct_stops_at y x xs ys (bytes_eq x y) refl there (distinct_stops xs ys x)
 
-neither : (a b : Bool) → (a || b) ≡ false → (a ≡ false) × (b ≡ false)
+pub neither : (a b : Bool) → (a || b) ≡ false → (a ≡ false) × (b ≡ false)
 neither true b none = absurd (cc none)
 neither false b none = (refl, none)
 

@@ -6,8 +6,11 @@ use Rattle.acs_tree.specs.declared.amounts.Amounts.{Amounts}
 use Rattle.acs_tree.specs.declared.attributes.Attributes.{Attributes}
 use Rattle.acs_tree.specs.declared.defaults.Defaults.{Defaults}
 use Rattle.acs_tree.specs.declared.environment.Environment.{Environment}
+use Rattle.acs_tree.specs.declared.given_lists.GivenLists.{GivenLists}
+use Rattle.acs_tree.specs.declared.given_texts.GivenTexts.{GivenTexts}
 use Rattle.acs_tree.specs.declared.input.Input.{Input}
 use Rattle.acs_tree.specs.declared.origin.Origin.{Origin}
+use Rattle.acs_tree.specs.Inputs.{input_with}
 use Rattle.desk_common.specs.Limits.{most_name_bytes}
 use Rattle.dsn_mask.specs.Name.{name_of}
 use Rattle.sms_construct.specs.declared.alloc.Alloc.{Alloc}
@@ -29,6 +32,16 @@ keys =
 abbrev pub is_key_of : List ℕ → List ℕ → Bool
 is_key_of name key = bytes_eq key (name ++ codes "=")
 
+-- the keys of the texts that routines see
+abbrev pub text_keys : List (List ℕ)
+text_keys =
+    codes "USER=" ∷ codes "GROUP=" ∷ codes "PGM=" ∷ codes "DD=" ∷ codes "APPLIC=" ∷ codes "UNIT=" ∷ codes "DSORG=" ∷ codes "RECORG=" ∷ codes "DSNTYPE="
+    ∷ codes "DSTYPE=" ∷ codes "OWNER=" ∷ codes "EXPDT=" ∷ codes "ACSENVIR=" ∷ codes "XMODE=" ∷ codes "DEFDC=" ∷ codes "DEFSC=" ∷ codes "DEFMC=" ∷ []
+
+-- the keys of the lists that routines see
+abbrev pub list_keys : List (List ℕ)
+list_keys = codes "ACCT=" ∷ codes "STEPACCT=" ∷ codes "VOL=" ∷ []
+
 -- the name is the key of an operand
 abbrev pub is_key : List ℕ → Bool
 is_key name = list_any (is_key_of name) keys
@@ -40,6 +53,10 @@ has_key word key = is_some (behind_front key word)
 -- the word has one of the keys
 abbrev pub is_operand : List ℕ → Bool
 is_operand word = list_any (has_key word) keys
+
+-- one of the words has one of these keys
+abbrev pub have_any : List (List ℕ) → List (List ℕ) → Bool
+have_any keys words = list_any (λ word. list_any (has_key word) keys) words
 
 -- the values that stand behind a key
 abbrev pub values_of : List ℕ → List (List ℕ) → List (List ℕ)
@@ -116,6 +133,22 @@ defaults_in operands =
     given (codes "DEFMC=") name_value_of [] operands ⊳ λ mgmtclas.
     Some (record { dataclas = dataclas; storclas = storclas; mgmtclas = mgmtclas })
 
+-- the texts that the routines see
+abbrev pub texts_in : List (List ℕ) → Option GivenTexts
+texts_in operands =
+    origin_in operands ⊳ λ origin.
+    attributes_in operands ⊳ λ attributes.
+    environment_in operands ⊳ λ environment.
+    defaults_in operands ⊳ λ defaults.
+    Some (record { origin = origin; attributes = attributes; environment = environment; defaults = defaults })
+
+-- the lists that the routines see
+abbrev pub lists_in : List (List ℕ) → Option GivenLists
+lists_in operands =
+    accounting_in operands ⊳ λ accounting.
+    given (codes "VOL=") volumes_of [] operands ⊳ λ volumes.
+    Some (record { accounting = accounting; volumes = volumes })
+
 -- the size of a space in KB; 0 without one
 abbrev pub size_of : Option Quantities → ℕ
 size_of None = 0
@@ -133,23 +166,10 @@ amounts_of retpd blksize space = record { retpd = unwrap_or retpd 0; blksize = b
 -- the input that an ALLOC gives its routines; the job and the system join later
 abbrev pub input_in : List ℕ → Option ℕ → Option Quantities → List (List ℕ) → Option Input
 input_in dsn retpd space operands =
-    origin_in operands ⊳ λ origin.
-    accounting_in operands ⊳ λ accounting.
-    attributes_in operands ⊳ λ attributes.
-    environment_in operands ⊳ λ environment.
-    defaults_in operands ⊳ λ defaults.
+    texts_in operands ⊳ λ texts.
+    lists_in operands ⊳ λ lists.
     given (codes "BLKSIZE=") (number_to 2147483647) 0 operands ⊳ λ blksize.
-    given (codes "VOL=") volumes_of [] operands ⊳ λ volumes.
-    Some (record {
-      dsn = dsn;
-      origin = origin;
-      accounting = accounting;
-      attributes = attributes;
-      environment = environment;
-      defaults = defaults;
-      amounts = amounts_of retpd blksize space;
-      volumes = volumes;
-    })
+    Some (input_with dsn (amounts_of retpd blksize space) texts lists)
 
 -- what the operands of an ALLOC of this data set ask for
 abbrev pub request_in : List ℕ → List (List ℕ) → Option Alloc

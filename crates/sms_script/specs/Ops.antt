@@ -20,8 +20,6 @@ use Rattle.sms_construct.specs.declared.target.Target.TheVariants.{Group, Volume
 use Rattle.sms_script.specs.Found.{◌⊳◌}
 use Rattle.sms_script.specs.Operands.{are_operands, request_in}
 use Rattle.sms_script.specs.Parts.{in_call, before_end}
-use Rattle.sms_script.specs.declared.written.Written.{Written}
-use Rattle.sms_script.specs.declared.written.Written.TheVariants as written
 use Rattle.sms_script.specs.declared.verb.Verb.{Verb}
 use Rattle.sms_script.specs.declared.verb.Verb.TheVariants as verbs
 
@@ -152,8 +150,3 @@ upper_words line = words_of (space_byte ∷ []) (map to_ascii_uppercase line)
 -- the op that the part of a line behind the request number writes
 abbrev pub op_of : Bool → List ℕ → Option Op
 op_of admin line = op_in admin (upper_words line)
-
--- the op that is so written
-abbrev pub op_written : Written → Op
-op_written (written.Alloc allocation) = ops.Alloc allocation
-op_written (written.Other op) = op

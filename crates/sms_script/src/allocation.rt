@@ -1,43 +1,75 @@
 //! What an ALLOC asks for.
-ghost use Rattle.std.specs.Prelude.{◌≡◌, map};
-ghost use Rattle.sms_script.specs.Operands.{accounting_in, amounts_of, attributes_in, defaults_in, environment_in, input_in, origin_in, request_in};
+ghost use Rattle.std.specs.Prelude.{◌≡◌, map, option_map, unwrap_or, IfOk};
+ghost use Rattle.acs_tree.specs.Inputs.{no_lists, no_texts};
+ghost use Rattle.sms_script.specs.Operands.{accounting_in, amounts_of, attributes_in, defaults_in, environment_in, input_in, lists_in, origin_in, request_in, texts_in};
 ghost use Rattle.sms_script.specs.Ops.{alloc_in};
 
 use crate::operand::{
-    account_at, are_operands, count_at, date_at, eattr_at, name_at, name_value_at, number_at,
-    some_number_at, space_at, volumes_at, word_at,
+    account_at, are_operands, count_at, date_at, eattr_at, has_list, has_text, name_at,
+    name_value_at, number_at, some_number_at, space_at, volumes_at, word_at,
 };
-use acs_tree::{Accounting, Amounts, Attributes, Defaults, Environment, Input, Origin};
+use acs_tree::{
+    Accounting, Amounts, Attributes, Defaults, Environment, Given, GivenLists, GivenTexts, Origin,
+};
+use desk_common::{Boxed, Shared};
 use dsn_mask::{Dsn, Short};
 use sms_construct::{Alloc, Space};
+use std::alloc::{AllocError, Global};
 
-/// What the data set's name and the operands behind it ask for, if all are in form.
-pub fn read_allocation(words: &[&[u8]]) -> Option<Alloc>
-    ensures { result ≡ alloc_in (map (λ word. word.now) words.now) }
+/// What the data set's name and the operands behind it ask for, if all are in form; or want of memory.
+pub fn read_allocation(
+    alloc: Global,
+    words: &[&[u8]],
+) -> Result<Option<Shared<Alloc>>, AllocError>
+    ensures { IfOk result (λ read. read ≡ alloc_in (map (λ word. word.now) words.now)) }
 {
     let [word, operands @ ..] = words else {
-        return None;
+        return Ok(None);
     };
-    let dsn = Dsn::parse(word).ok()?;
+    let Ok(dsn) = Dsn::parse(word) else {
+        return Ok(None);
+    };
     if !are_operands(operands) {
-        return None;
+        return Ok(None);
     }
-    read_request(dsn, operands)
+    read_request(alloc, dsn, operands)
 }
 
-fn read_request(dsn: Dsn, operands: &[&[u8]]) -> Option<Alloc>
-    ensures { result ≡ request_in dsn (map (λ word. word.now) operands.now) }
+fn read_request(
+    alloc: Global,
+    dsn: Dsn,
+    operands: &[&[u8]],
+) -> Result<Option<Shared<Alloc>>, AllocError>
+    ensures { IfOk result (λ read. read ≡ request_in dsn (map (λ word. word.now) operands.now)) }
 {
-    let space = space_at(b"SPACE=", operands)?;
-    let dataclas = name_at(b"DATACLAS=", operands)?;
-    let storclas = name_at(b"STORCLAS=", operands)?;
-    let mgmtclas = name_at(b"MGMTCLAS=", operands)?;
-    let volumes = count_at(b"VOLCNT=", operands)?;
-    let day = number_at(b"DAY=", 9_999_999, operands)?;
-    let retpd = some_number_at(b"RETPD=", 9_999, operands)?;
-    let eattr = eattr_at(b"EATTR=", operands)?;
-    let input = read_input(dsn, retpd, &space, operands)?;
-    Some(Alloc {
+    let Some(space) = space_at(b"SPACE=", operands) else {
+        return Ok(None);
+    };
+    let Some(dataclas) = name_at(b"DATACLAS=", operands) else {
+        return Ok(None);
+    };
+    let Some(storclas) = name_at(b"STORCLAS=", operands) else {
+        return Ok(None);
+    };
+    let Some(mgmtclas) = name_at(b"MGMTCLAS=", operands) else {
+        return Ok(None);
+    };
+    let Some(volumes) = count_at(b"VOLCNT=", operands) else {
+        return Ok(None);
+    };
+    let Some(day) = number_at(b"DAY=", 9_999_999, operands) else {
+        return Ok(None);
+    };
+    let Some(retpd) = some_number_at(b"RETPD=", 9_999, operands) else {
+        return Ok(None);
+    };
+    let Some(eattr) = eattr_at(b"EATTR=", operands) else {
+        return Ok(None);
+    };
+    let Some(input) = read_input(alloc, dsn, retpd, &space, operands)? else {
+        return Ok(None);
+    };
+    let asked = Alloc {
         input,
         space,
         dataclas,
@@ -47,32 +79,108 @@ fn read_request(dsn: Dsn, operands: &[&[u8]]) -> Option<Alloc>
         day,
         retpd,
         eattr,
-    })
+    };
+    Ok(Some(Shared::new(alloc, asked)?))
 }
 
 fn read_input(
+    alloc: Global,
     dsn: Dsn,
     retpd: Option<u32>,
     space: &Option<Space>,
     operands: &[&[u8]],
-) -> Option<Input>
-    ensures { result ≡ input_in dsn retpd space.now (map (λ word. word.now) operands.now) }
+) -> Result<Option<Given>, AllocError>
+    ensures { IfOk result (λ read. read ≡ input_in dsn retpd space.now (map (λ word. word.now) operands.now)) }
+{
+    let Some(texts) = read_texts(alloc, operands)? else {
+        return Ok(None);
+    };
+    let Some(lists) = read_lists(alloc, operands)? else {
+        return Ok(None);
+    };
+    let Some(blksize) = number_at(b"BLKSIZE=", 2_147_483_647, operands) else {
+        return Ok(None);
+    };
+    let amounts = amounts_of(retpd, blksize, space);
+    Ok(Some(Given::new(dsn, amounts, texts, lists)))
+}
+
+// The texts that the operands give, in memory of their own if one is given.
+#[tactic(auto, using(crate::proofs::GivenLemmas::no_text_given))]
+fn read_texts(
+    alloc: Global,
+    operands: &[&[u8]],
+) -> Result<Option<Option<Boxed<GivenTexts>>>, AllocError>
+    ensures { IfOk result (λ read. option_map (λ texts. unwrap_or texts no_texts) read ≡ texts_in (map (λ word. word.now) operands.now)) }
+{
+    if has_text(operands) {
+        boxed_texts(alloc, operands)
+    } else {
+        Ok(Some(None))
+    }
+}
+
+fn boxed_texts(
+    alloc: Global,
+    operands: &[&[u8]],
+) -> Result<Option<Option<Boxed<GivenTexts>>>, AllocError>
+    ensures { IfOk result (λ read. option_map (λ texts. unwrap_or texts no_texts) read ≡ texts_in (map (λ word. word.now) operands.now)) }
+{
+    match texts_at(operands) {
+        Some(texts) => Ok(Some(Some(Boxed::new(alloc, texts)?))),
+        None => Ok(None),
+    }
+}
+
+fn texts_at(operands: &[&[u8]]) -> Option<GivenTexts>
+    ensures { result ≡ texts_in (map (λ word. word.now) operands.now) }
 {
     let origin = read_origin(operands)?;
-    let accounting = read_accounting(operands)?;
     let attributes = read_attributes(operands)?;
     let environment = read_environment(operands)?;
     let defaults = read_defaults(operands)?;
-    let blksize = number_at(b"BLKSIZE=", 2_147_483_647, operands)?;
-    let volumes = volumes_at(b"VOL=", operands)?;
-    Some(Input {
-        dsn,
+    Some(GivenTexts {
         origin,
-        accounting,
         attributes,
         environment,
         defaults,
-        amounts: amounts_of(retpd, blksize, space),
+    })
+}
+
+// The lists that the operands give, in memory of their own if one is given.
+#[tactic(auto, using(crate::proofs::GivenLemmas::no_list_given))]
+fn read_lists(
+    alloc: Global,
+    operands: &[&[u8]],
+) -> Result<Option<Option<Boxed<GivenLists>>>, AllocError>
+    ensures { IfOk result (λ read. option_map (λ lists. unwrap_or lists no_lists) read ≡ lists_in (map (λ word. word.now) operands.now)) }
+{
+    if has_list(operands) {
+        boxed_lists(alloc, operands)
+    } else {
+        Ok(Some(None))
+    }
+}
+
+fn boxed_lists(
+    alloc: Global,
+    operands: &[&[u8]],
+) -> Result<Option<Option<Boxed<GivenLists>>>, AllocError>
+    ensures { IfOk result (λ read. option_map (λ lists. unwrap_or lists no_lists) read ≡ lists_in (map (λ word. word.now) operands.now)) }
+{
+    match lists_at(operands) {
+        Some(lists) => Ok(Some(Some(Boxed::new(alloc, lists)?))),
+        None => Ok(None),
+    }
+}
+
+fn lists_at(operands: &[&[u8]]) -> Option<GivenLists>
+    ensures { result ≡ lists_in (map (λ word. word.now) operands.now) }
+{
+    let accounting = read_accounting(operands)?;
+    let volumes = volumes_at(b"VOL=", operands)?;
+    Some(GivenLists {
+        accounting,
         volumes,
     })
 }

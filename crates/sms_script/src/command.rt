@@ -110,11 +110,8 @@ fn read_request(
     let (Some(job), Some(number)) = (Name::new(job), read_request_number(number)) else {
         return Ok(None);
     };
-    match read_words(rest, admin) {
-        Some(op) => {
-            let op = op.share(alloc)?;
-            Ok(Some(Command::Whole(Request { job, number, op })))
-        }
+    match read_words(alloc, rest, admin)? {
+        Some(op) => Ok(Some(Command::Whole(Request { job, number, op }))),
         None => Ok(None),
     }
 }

@@ -24,7 +24,6 @@ mod text_lines;
 mod trace_text;
 mod value;
 mod verb;
-mod written;
 
 pub use fault_text::push_fault;
 pub use item::{Item, Phase, Script};
@@ -37,4 +36,3 @@ pub use reading::read_script;
 pub use script_err::ScriptErr;
 pub use text_lines::TextLines;
 pub use trace_text::push_trace;
-pub use written::Written;

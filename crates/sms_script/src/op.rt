@@ -1,54 +1,57 @@
 //! The ops that words write.
-ghost use Rattle.std.specs.Prelude.{◌≡◌, ◌∷◌, [], map, option_map, Some};
+ghost use Rattle.std.specs.Prelude.{◌≡◌, ◌∷◌, [], map, option_map, Some, IfOk};
 ghost use Rattle.std.specs.Char.{to_ascii_uppercase};
 ghost use Rattle.std.specs.Option.{option_copied};
-ghost use Rattle.sms_script.specs.Ops.{alloc_in, dsn_in, number_in, only, only_two, op_in, op_of, op_with, op_written, purge_in, used_in};
+ghost use Rattle.sms_script.specs.Ops.{alloc_in, dsn_in, number_in, only, only_two, op_in, op_of, op_with, purge_in, used_in};
 
 use crate::allocation::read_allocation;
 use crate::line_words::line_words;
 use crate::targets::{read_target, read_vary};
 use crate::verb::Verb;
-use crate::written::Written;
 use dsn_mask::{Dsn, Name};
 use sms_construct::{Op, RequestNumber, read_number};
+use std::alloc::{AllocError, Global};
 
 /// The op that the part of a command line behind the request number writes, if any: of the administrator, or of
-/// another job (docs/script.md, "Commands"). ACTIVATE is none, since its deck stands in other lines. The letters
-/// of the line become upper case, as they are read; no memory is taken.
+/// another job (docs/script.md, "Commands"); or want of memory. ACTIVATE is none, since its deck stands in other
+/// lines. The letters of the line become upper case, as they are read.
 #[tactic(auto, using(crate::proofs::FewLemmas::no_op))]
-pub fn read_op(line: &mut [u8], admin: bool) -> Option<Written>
-    ensures op { option_map op_written result ≡ op_of admin line.old }
+pub fn read_op(alloc: Global, line: &mut [u8], admin: bool) -> Result<Option<Op>, AllocError>
+    ensures op { IfOk result (λ op. op ≡ op_of admin line.old) }
     ensures line { line.new ≡ map to_ascii_uppercase line.old }
 {
     line.make_ascii_uppercase();
-    read_words(&line_words(line)?, admin)
-}
-
-/// The op that the words behind a request number write, if any.
-pub fn read_words(words: &[&[u8]], admin: bool) -> Option<Written>
-    ensures { option_map op_written result ≡ op_in admin (map (λ word. word.now) words.now) }
-{
-    let [word, operands @ ..] = words else {
-        return None;
-    };
-    match Verb::named(word) {
-        Some(verb) if verb.may_ask(admin) => read_form(verb, operands),
-        _ => None,
+    match line_words(line) {
+        Some(words) => read_words(alloc, &words, admin),
+        None => Ok(None),
     }
 }
 
-fn read_form(verb: Verb, operands: &[&[u8]]) -> Option<Written>
-    ensures { option_map op_written result ≡ op_with verb (map (λ word. word.now) operands.now) }
+/// The op that the words behind a request number write, if any; or want of memory.
+pub fn read_words(alloc: Global, words: &[&[u8]], admin: bool) -> Result<Option<Op>, AllocError>
+    ensures { IfOk result (λ op. op ≡ op_in admin (map (λ word. word.now) words.now)) }
+{
+    let [word, operands @ ..] = words else {
+        return Ok(None);
+    };
+    match Verb::named(word) {
+        Some(verb) if verb.may_ask(admin) => read_form(alloc, verb, operands),
+        _ => Ok(None),
+    }
+}
+
+fn read_form(alloc: Global, verb: Verb, operands: &[&[u8]]) -> Result<Option<Op>, AllocError>
+    ensures { IfOk result (λ op. op ≡ op_with verb (map (λ word. word.now) operands.now)) }
 {
     match verb {
-        Verb::Alloc => Some(Written::Alloc(read_allocation(operands)?)),
-        Verb::Extend => Some(Written::Other(Op::Extend(read_dsn(operands)?))),
-        Verb::Delete => Some(Written::Other(Op::Delete(read_dsn(operands)?))),
-        Verb::Release => Some(Written::Other(Op::Release(read_dsn(operands)?))),
-        Verb::Used => Some(Written::Other(read_used(operands)?)),
-        Verb::Display => Some(Written::Other(read_display(operands)?)),
-        Verb::Vary => Some(Written::Other(read_vary_op(operands)?)),
-        Verb::Purge => Some(Written::Other(read_purge(operands)?)),
+        Verb::Alloc => Ok(read_allocation(alloc, operands)?.map(Op::Alloc)),
+        Verb::Extend => Ok(read_dsn(operands).map(Op::Extend)),
+        Verb::Delete => Ok(read_dsn(operands).map(Op::Delete)),
+        Verb::Release => Ok(read_dsn(operands).map(Op::Release)),
+        Verb::Used => Ok(read_used(operands)),
+        Verb::Display => Ok(read_display(operands)),
+        Verb::Vary => Ok(read_vary_op(operands)),
+        Verb::Purge => Ok(read_purge(operands)),
     }
 }
 

@@ -3,7 +3,7 @@ ghost use Rattle.std.specs.Prelude.{◌≡◌, ◌∷◌, [], true, map, MatchOp
 ghost use Rattle.std.specs.List.{list_all, list_any};
 ghost use Rattle.dsn_mask.specs.Name.{name_of};
 ghost use Rattle.sms_construct.specs.SpaceText.{space_text};
-ghost use Rattle.sms_script.specs.Operands.{are_operands, given, given_or_none, has_key, is_key, is_key_of, is_once, is_operand, values_of};
+ghost use Rattle.sms_script.specs.Operands.{are_operands, given, given_or_none, has_key, have_any, is_key, is_key_of, is_once, is_operand, list_keys, text_keys, values_of};
 ghost use Rattle.sms_script.specs.Values.{account_of, count_of, date_of, eattr_of, name_value_of, number_to, plain_of, volumes_of};
 
 use crate::lists::{read_account, read_volumes};
@@ -45,6 +45,28 @@ const KEYS: [&[u8]; 29] = [
     b"DAY=",
     b"EATTR=",
 ];
+
+const TEXT_KEYS: [&[u8]; 17] = [
+    b"USER=",
+    b"GROUP=",
+    b"PGM=",
+    b"DD=",
+    b"APPLIC=",
+    b"UNIT=",
+    b"DSORG=",
+    b"RECORG=",
+    b"DSNTYPE=",
+    b"DSTYPE=",
+    b"OWNER=",
+    b"EXPDT=",
+    b"ACSENVIR=",
+    b"XMODE=",
+    b"DEFDC=",
+    b"DEFSC=",
+    b"DEFMC=",
+];
+
+const LIST_KEYS: [&[u8]; 3] = [b"ACCT=", b"STEPACCT=", b"VOL="];
 
 /// Whether the name is the key of an operand, in capitals and without the equals sign.
 pub fn is_key(name: &[u8]) -> bool
@@ -130,6 +152,33 @@ fn has_any(word: &[u8], mut keys: &[&[u8]]) -> bool
             return true;
         }
         keys = others;
+    }
+    false
+}
+
+/// Whether one of these words gives a text that routines see.
+pub fn has_text(words: &[&[u8]]) -> bool
+    ensures { result ≡ have_any text_keys (map (λ word. word.now) words.now) }
+{
+    have_any(words, &TEXT_KEYS)
+}
+
+/// Whether one of these words gives a list that routines see.
+pub fn has_list(words: &[&[u8]]) -> bool
+    ensures { result ≡ have_any list_keys (map (λ word. word.now) words.now) }
+{
+    have_any(words, &LIST_KEYS)
+}
+
+// Whether one of these words has one of these keys.
+fn have_any(mut words: &[&[u8]], keys: &[&[u8]]) -> bool
+    ensures { result ≡ have_any (map (λ key. key.now) keys.now) (map (λ word. word.now) words.entry.now) }
+{
+    while let [word, others @ ..] = words {
+        if has_any(word, keys) {
+            return true;
+        }
+        words = others;
     }
     false
 }

@@ -1,6 +1,6 @@
 use Rattle.std.proofs.Common.{rules}
 use Rattle.acs_tree.proofs.NameLemmas.{name_is_short}
-use Rattle.acs_tree.proofs.input.text_of.Goals as goal
+use Rattle.acs_tree.proofs.given.text_of.Goals as goal
 
 -- a name is a value
 pub unwrap-requires : goal.unwrap-requires

@@ -1,0 +1,138 @@
+//! What routines see.
+ghost use Rattle.std.specs.Prelude.{◌≡◌, unwrap_or, option_copied};
+ghost use Rattle.acs_tree.specs.Inputs.{input_with, no_lists};
+
+use crate::amounts::Amounts;
+use crate::attributes::Attributes;
+use crate::defaults::Defaults;
+use crate::environment::Environment;
+use crate::given_lists::GivenLists;
+use crate::given_texts::GivenTexts;
+use crate::input::Input;
+use crate::origin::Origin;
+use dsn_mask::{Dsn, Short, Volser};
+use std::marker::Model;
+
+/// What routines see in a run. The name, the amounts and the lists are the request's.
+#[derive(Drop)]
+pub struct Seen<'a> {
+    dsn: &'a Dsn,
+    amounts: &'a Amounts,
+    texts: GivenTexts,
+    acct_job: &'a [Short],
+    acct_step: &'a [Short],
+    volumes: &'a [Volser],
+}
+
+impl<'a> Model for Seen<'a> {
+    ghost use Rattle.acs_tree.specs.declared.input.Input.{Input};
+    ghost use Rattle.acs_tree.specs.Inputs.{input_with};
+
+    ghost Value = { Input };
+
+    ghost view = { λ s. input_with s.dsn.now s.amounts.now s.texts (record { accounting = record { acct_job = s.acct_job.now; acct_step = s.acct_step.now }; volumes = s.volumes.now }) };
+}
+
+impl<'a> Seen<'a> {
+    /// What routines see of a whole input.
+    pub fn of(input: &'a Input) -> Self
+        ensures { result ≡ input.now }
+    {
+        Seen {
+            dsn: &input.dsn,
+            amounts: &input.amounts,
+            texts: GivenTexts {
+                origin: input.origin,
+                attributes: input.attributes,
+                environment: input.environment,
+                defaults: input.defaults,
+            },
+            acct_job: input.accounting.acct_job.as_slice(),
+            acct_step: input.accounting.acct_step.as_slice(),
+            volumes: input.volumes.as_slice(),
+        }
+    }
+
+    // The same in parts, with the lists of the request if it gives some.
+    pub(crate) fn new(
+        dsn: &'a Dsn,
+        amounts: &'a Amounts,
+        texts: GivenTexts,
+        lists: Option<&'a GivenLists>,
+    ) -> Self
+        ensures { result ≡ input_with dsn.now amounts.now texts (unwrap_or (option_copied lists.entry) no_lists) }
+    {
+        match lists {
+            Some(lists) => Seen {
+                dsn,
+                amounts,
+                texts,
+                acct_job: lists.accounting.acct_job.as_slice(),
+                acct_step: lists.accounting.acct_step.as_slice(),
+                volumes: lists.volumes.as_slice(),
+            },
+            None => Seen {
+                dsn,
+                amounts,
+                texts,
+                acct_job: &[],
+                acct_step: &[],
+                volumes: &[],
+            },
+        }
+    }
+
+    pub fn dsn(&self) -> &Dsn
+        ensures { result.now ≡ self.now.dsn }
+    {
+        self.dsn
+    }
+
+    pub fn amounts(&self) -> &Amounts
+        ensures { result.now ≡ self.now.amounts }
+    {
+        self.amounts
+    }
+
+    pub fn origin(&self) -> &Origin
+        ensures { result.now ≡ self.now.origin }
+    {
+        &self.texts.origin
+    }
+
+    pub fn attributes(&self) -> &Attributes
+        ensures { result.now ≡ self.now.attributes }
+    {
+        &self.texts.attributes
+    }
+
+    pub fn environment(&self) -> &Environment
+        ensures { result.now ≡ self.now.environment }
+    {
+        &self.texts.environment
+    }
+
+    pub fn defaults(&self) -> &Defaults
+        ensures { result.now ≡ self.now.defaults }
+    {
+        &self.texts.defaults
+    }
+
+    pub fn acct_job(&self) -> &[Short]
+        ensures { result.now ≡ self.now.accounting.acct_job }
+    {
+        self.acct_job
+    }
+
+    pub fn acct_step(&self) -> &[Short]
+        ensures { result.now ≡ self.now.accounting.acct_step }
+    {
+        self.acct_step
+    }
+
+    pub fn volumes(&self) -> &[Volser]
+        ensures { result.now ≡ self.now.volumes }
+    {
+        self.volumes
+    }
+}
