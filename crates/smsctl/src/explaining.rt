@@ -41,8 +41,7 @@ fn sentence_of_words(words: &[String]) -> &'static str {
     }
 }
 
-const GEN: &str =
-    "gen takes SEED, 0 to 4294967295, and COUNT, 1 to 40000: smsctl gen SEED COUNT\n";
+const GEN: &str = "gen takes SEED, 0 to 4294967295, and COUNT, 1 to 40000: smsctl gen SEED COUNT\n";
 
 const SERVE: &str = "serve takes a port, 1 to 65535, and a number of connections, 1 to 1000000: \
     smsctl serve PORT CONNECTIONS\n";

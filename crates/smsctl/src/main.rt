@@ -22,7 +22,11 @@ use std::process::ExitCode;
 
 fn main(rt: HostRuntime) -> ExitCode {
     match read_words(&rt) {
-        Words::Faulty => end(&rt, RunStatus::BadWords, "a word of the command line isn't UTF-8\n"),
+        Words::Faulty => end(
+            &rt,
+            RunStatus::BadWords,
+            "a word of the command line isn't UTF-8\n",
+        ),
         Words::NoMemory => end(&rt, RunStatus::NoMemory, ""),
         Words::Read(words) => obey(&rt, &words),
     }
