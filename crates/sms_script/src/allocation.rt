@@ -17,10 +17,7 @@ use sms_construct::{Alloc, Space};
 use std::alloc::{AllocError, Global};
 
 /// What the data set's name and the operands behind it ask for, if all are in form; or want of memory.
-pub fn read_allocation(
-    alloc: Global,
-    words: &[&[u8]],
-) -> Result<Option<Shared<Alloc>>, AllocError>
+pub fn read_allocation(alloc: Global, words: &[&[u8]]) -> Result<Option<Shared<Alloc>>, AllocError>
     ensures { IfOk result (λ read. read ≡ alloc_in (map (λ word. word.now) words.now)) }
 {
     let [word, operands @ ..] = words else {
