@@ -1,6 +1,6 @@
 //! What an ALLOC asks for, as a record.
 ghost use Rattle.std.specs.Prelude.{◌≡◌, IfOk};
-ghost use Rattle.sms_records.specs.Allocs.{alloc_from};
+ghost use Rattle.sms_records.specs.Allocs.{alloc_from, asked_of};
 
 use crate::record_err::RecordErr;
 use crate::recorded::Recorded;
@@ -30,10 +30,7 @@ impl Recorded for Alloc {
     ghost exact = { alloc_exact };
 
     fn write_to(&self, out: &mut Vec<u8>) -> Result<(), AllocError> {
-        let others = (self.volumes, (self.day, (self.retpd, self.eattr)));
-        let classes = (self.dataclas, (self.storclas, (self.mgmtclas, others)));
-        let input = self.input.whole();
-        (input.dsn, (input, (self.space, classes))).write_to(out)
+        fields_of(self).write_to(out)
     }
 
     #[tactic(auto, unfolding(crate::specs::Form::seen_at))]
@@ -48,6 +45,22 @@ impl Recorded for Alloc {
             Err(err) => Err(err),
         }
     }
+}
+
+// The name and the other fields.
+fn fields_of(request: &Alloc) -> (Dsn, Asked)
+    ensures { result ≡ (request.now.input.dsn, asked_of request.now) }
+{
+    let others = (
+        request.volumes,
+        (request.day, (request.retpd, request.eattr)),
+    );
+    let classes = (
+        request.dataclas,
+        (request.storclas, (request.mgmtclas, others)),
+    );
+    let asked = (request.input.whole(), (request.space, classes));
+    (request.dsn(), asked)
 }
 
 // The ALLOC of these fields, or want of memory.

@@ -1,5 +1,5 @@
 -- Where no operand gives a text or a list that routines see.
-use Rattle.std.proofs.Common.{◌≡◌, ℕ, Bool, true, false, List, [], ◌∷◌, refl}
+use Rattle.std.proofs.Common.{◌≡◌, ℕ, false, List, [], ◌∷◌, refl}
 use Rattle.std.specs.Prelude.{Option, None, Some, is_some}
 use Rattle.std.specs.List.{cons_option, list_any}
 use Rattle.acs_tree.specs.Inputs.{no_lists, no_texts}
