@@ -3,7 +3,7 @@ use Rattle.std.specs.Prelude.{ℕ, List, Option, None, Some, slice_get}
 use Rattle.std.specs.declared.cmp.Ordering.{Ordering}
 use Rattle.ordered_index.specs.Rows.{row_after}
 
--- the rows in the order of their keys, and how many more can be put
+-- the rows in the order of their keys, and how many more can be put at least
 pub record IndexView (K V : Type 0) : Type 0 where
   pub rows : List (K × V)
   pub room : ℕ

@@ -1,5 +1,5 @@
 //! A map in the order of its keys.
-ghost use Rattle.std.specs.Prelude.{◌≡◌, ◌<◌, ◌≤◌, [], OnOk, Some, None, length, vec_capacity, if◌then◌else◌};
+ghost use Rattle.std.specs.Prelude.{◌≡◌, ◌<◌, ◌≤◌, ◌+◌, [], OnOk, Some, None, length, vec_capacity, if◌then◌else◌};
 ghost use Rattle.std.specs.Ordering.{is_eq};
 ghost use Rattle.std.specs.BTreeMap.{insert_entry, is_at};
 ghost use Rattle.std.specs.Map.{lookup, remove_entry};
@@ -10,14 +10,14 @@ ghost use Rattle.ordered_index.specs.Rows.{AreRows, row_after};
 ghost use Rattle.ordered_index.specs.Index.{next_row};
 
 use crate::chunks::{chunk_of, first_from, put_among, take_among, value_among};
-use crate::moving::{ROOM, insert_chunk, join_small, put_in_full};
+use crate::moving::{ROOM, insert_chunk, join_around, put_in_full};
 use crate::rows::{first_after, take_from};
 use std::alloc::{AllocError, Global};
 use std::marker::Model;
 
 /// Rows of keys and values in the order of the keys, in chunks of at most 128 rows that are searched by halving.
-/// Room is taken ahead, and then a row is put without memory. A removal takes none either, and joins neighbours
-/// that have few rows, so that memory falls with the rows.
+/// Room is taken ahead, and then a row is put without memory. A removal takes none either, and joins the chunk with
+/// its neighbours where they have few rows together, so that memory falls with the rows.
 #[derive(Drop)]
 pub struct OrderedIndex<K: Ord, V> {
     alloc: Global,
@@ -93,6 +93,7 @@ impl<K: Ord + Drop, V: Drop> OrderedIndex<K, V> {
         ensures found { (other : K) → lookup (is_at (K.cmp other)) self.new.rows
             ≡ (if is_eq (K.cmp key other) then Some value else lookup (is_at (K.cmp other)) self.old.rows) }
         ensures value { result ≡ lookup (is_at (K.cmp key)) self.old.rows }
+        ensures room { self.old.room ≤ self.new.room + 1 }
     {
         put_row(&mut self.chunks, &mut self.spares, key, value)
     }
@@ -119,6 +120,7 @@ fn put_row<K: Ord + Drop, V: Drop>(
     requires index { IsIndex K.cmp chunks.old spares.old }
     requires some { 0 < length spares.old.items }
     ensures index { IsIndex K.cmp chunks.new spares.new }
+    ensures spares { length spares.old.items ≤ length spares.new.items + 1 }
     ensures rows { rows_of chunks.new.items ≡ insert_entry K.cmp (rows_of chunks.old.items) key value }
     ensures value { result ≡ lookup (is_at (K.cmp key)) (rows_of chunks.old.items) }
 {
@@ -145,6 +147,7 @@ fn put_first<K: Ord + Drop, V: Drop>(
     requires none { length chunks.old.items ≡ 0 }
     requires some { 0 < length spares.old.items }
     ensures index { IsIndex K.cmp chunks.new spares.new }
+    ensures spares { length spares.old.items ≤ length spares.new.items + 1 }
     ensures rows { rows_of chunks.new.items ≡ insert_entry K.cmp [] key value }
 {
     let mut chunk = spares.take_last();
@@ -168,10 +171,12 @@ fn take_row<K: Ord + Drop, V: Drop>(
     }
     let place = chunk_of(chunks, key);
     if chunks[place].len() < 2 {
-        return take_only(chunks, place, key);
+        let value = take_only(chunks, place, key);
+        join_around(chunks, place);
+        return value;
     }
     let value = take_among(chunks, place, key);
-    join_small(chunks, place);
+    join_around(chunks, place);
     value
 }
 

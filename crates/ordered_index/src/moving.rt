@@ -69,6 +69,7 @@ pub fn put_in_full<K: Ord + Drop, V: Drop>(
     requires full { (d : Vec (K × V) Global) → length (slice_index_or chunks.old.items place d).items ≡ chunk_room }
     requires some { 0 < length spares.old.items }
     ensures index { IsIndex K.cmp chunks.new spares.new }
+    ensures spares { length spares.old.items ≤ length spares.new.items + 1 }
     ensures rows { rows_of chunks.new.items ≡ insert_entry K.cmp (rows_of chunks.old.items) key value }
     ensures value { result ≡ lookup (is_at (K.cmp key)) (rows_of chunks.old.items) }
 {
@@ -81,8 +82,24 @@ pub fn put_in_full<K: Ord + Drop, V: Drop>(
     old
 }
 
-/// Joins the chunk at the place with the next one, where they have few rows together.
-pub fn join_small<K: Drop, V: Drop>(chunks: &mut Vec<Vec<(K, V)>>, place: usize)
+/// Joins the chunk at the place with its neighbours, where they have few rows together.
+pub fn join_around<K: Drop, V: Drop>(chunks: &mut Vec<Vec<(K, V)>>, place: usize)
+    requires filled { AreFilled chunks.old.items }
+    requires roomy { AreRoomy chunks.old.items }
+    ensures rows { rows_of chunks.new.items ≡ rows_of chunks.old.items }
+    ensures filled { AreFilled chunks.new.items }
+    ensures roomy { AreRoomy chunks.new.items }
+    ensures fewer { length chunks.new.items ≤ length chunks.old.items }
+    ensures capacity { vec_capacity chunks.new ≡ vec_capacity chunks.old }
+{
+    join_small(chunks, place);
+    if place > 0 {
+        join_small(chunks, place - 1);
+    }
+}
+
+// Joins the chunk at the place with the next one, where they have few rows together.
+fn join_small<K: Drop, V: Drop>(chunks: &mut Vec<Vec<(K, V)>>, place: usize)
     requires filled { AreFilled chunks.old.items }
     requires roomy { AreRoomy chunks.old.items }
     ensures rows { rows_of chunks.new.items ≡ rows_of chunks.old.items }

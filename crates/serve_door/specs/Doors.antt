@@ -1,8 +1,9 @@
 -- What contracts see of a door, and what becomes of the links that it gives.
 use Rattle.std.specs.Prelude.{ℕ, ◌≡◌, Bool, List, ◌++◌, Option, None, Some, MatchOption}
 
--- how often a door was asked for a link, where it tells that, how many links it gave, whether no further one comes, how often it failed, how many of the links that came back
--- had failed, and, where they are told, the links that are left and those that came back
+-- how often a door was asked for a link, where it tells that, how many links it gave, whether no further one comes, how
+-- often it failed, how many of the links that came back had failed, and, where they are told, the links that are left
+-- and those that came back
 pub record DoorMoment (C : Type 0) : Type 0 where
   pub asked : Option ℕ
   pub given : ℕ

@@ -71,7 +71,7 @@ IsDoorEnd most old new visits door_ends.Served =
     (length visits ≡ most) × (new.door_faults ≡ old.door_faults) × WasAsked old new visits 0
 IsDoorEnd most old new visits door_ends.Ended =
     (new.ended ≡ true) × IfSome new.waiting (λ links. links ≡ []) × (new.door_faults ≡ old.door_faults)
-    × WasAsked old new visits 1
+    × (length visits < most) × WasAsked old new visits 1
 IsDoorEnd most old new visits door_ends.AcceptFault =
     Rose old.door_faults new.door_faults × (length visits < most) × WasAsked old new visits 1
 IsDoorEnd most old new visits door_ends.NoMemory = (new.door_faults ≡ old.door_faults) × WasAsked old new visits 0

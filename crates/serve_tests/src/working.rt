@@ -32,43 +32,43 @@ storgroup = \"PROC STORGRP SET &STORGRP = 'SG1' END\"
 ";
 
 /// Commands, where `<1>` and `<2>` stand for the activations of two decks and `<no>` for that of a deck with a fault; how
-/// many of them come before the work for the last one is done; and what that one is answered.
-type Row = (&'static str, usize, &'static str);
+/// many of them come before the work for the last one is done; and that one's place, first place and answer.
+type Row = (&'static str, usize, u64, u64, &'static str);
 
 #[rattlefmt::skip]
 static ROWS: [Row; 14] = [
     // classes under the active count
-    ("<1>J 1 ALLOC A.B SPACE=(TRK,1)", 1, FIRST),
+    ("<1>J 1 ALLOC A.B SPACE=(TRK,1)", 1, 2, 2, FIRST),
     // under an older count: another activation came between, and what its routines wrote is gone
-    ("<1><2>J 1 ALLOC A.B SPACE=(TRK,1)", 1, SECOND),
-    ("<1><2>J 1 ALLOC A.B SPACE=(TRK,1)", 2, SECOND),
+    ("<1><2>J 1 ALLOC A.B SPACE=(TRK,1)", 1, 3, 3, SECOND),
+    ("<1><2>J 1 ALLOC A.B SPACE=(TRK,1)", 2, 3, 3, SECOND),
     // a refused activation is none
-    ("<1><no>J 1 ALLOC A.B SPACE=(TRK,1)", 1, FIRST),
-    // the first activation came between
-    ("<1>J 1 ALLOC A.B SPACE=(TRK,1)", 0, FIRST),
-    ("J 1 ALLOC A.B SPACE=(TRK,1)", 0, "R12 NO CONFIGURATION"),
+    ("<1><no>J 1 ALLOC A.B SPACE=(TRK,1)", 1, 3, 3, FIRST),
+    // the first activation came between: there was nothing to classify under
+    ("<1>J 1 ALLOC A.B SPACE=(TRK,1)", 0, 2, 2, FIRST),
+    ("J 1 ALLOC A.B SPACE=(TRK,1)", 0, 1, 1, "R12 NO CONFIGURATION"),
     // what comes before the classification
-    ("<1>J 1 ALLOC A.B SPACE=(TRK,1)\nJ 2 ALLOC A.B SPACE=(TRK,2)", 1, "R13 NAME IN USE"),
-    ("<1>J 1 DELETE A.B\nJ 1 ALLOC A.B SPACE=(TRK,1)", 1, "R10 REUSED NUMBER 2"),
-    ("<1>SMSADMIN 9 PURGE J 2\nJ 1 ALLOC A.B SPACE=(TRK,1)", 1, "R11 PURGED NUMBER 2"),
-    ("<1>J 1 ALLOC A.B SPACE=(TRK,1)\n<2>J 1 ALLOC A.B SPACE=(TRK,1)", 3, FIRST),
+    ("<1>J 1 ALLOC A.B SPACE=(TRK,1)\nJ 2 ALLOC A.B SPACE=(TRK,2)", 1, 3, 3, "R13 NAME IN USE"),
+    ("<1>J 1 DELETE A.B\nJ 1 ALLOC A.B SPACE=(TRK,1)", 1, 3, 3, "R10 REUSED NUMBER 2"),
+    ("<1>SMSADMIN 9 PURGE J 2\nJ 1 ALLOC A.B SPACE=(TRK,1)", 1, 3, 3, "R11 PURGED NUMBER 2"),
+    ("<1>J 1 ALLOC A.B SPACE=(TRK,1)\n<2>J 1 ALLOC A.B SPACE=(TRK,1)", 3, 4, 2, FIRST),
     // decks that were read
-    ("<1>", 0, "A04 ACTIVATED 1"),
-    ("<1><2>", 0, "A04 ACTIVATED 2"),
-    ("<1><no>", 1, "R21 DECK K1"),
-    ("<1>J 1 ALLOC A.B SPACE=(TRK,1)\n<1>", 1, "A04 ACTIVATED 1"),
+    ("<1>", 0, 1, 1, "A04 ACTIVATED 1"),
+    ("<1><2>", 0, 2, 2, "A04 ACTIVATED 2"),
+    ("<1><no>", 1, 2, 2, "R21 DECK K1"),
+    ("<1>J 1 ALLOC A.B SPACE=(TRK,1)\n<1>", 1, 3, 1, "A04 ACTIVATED 1"),
 ];
 
 const FIRST: &str = "A00 GRANTED; CLASS - SC1 - SG1; EXTENT VOL001 0 1; WRITE STORCLAS DECK 1";
 
 const SECOND: &str = "A00 GRANTED; CLASS - SC2 - SG1; EXTENT VOL001 0 1; WRITE STORCLAS DECK 2";
 
-/// Commands, and what the last one is answered with a deck that was read without memory.
-static WANTING: [(&str, &str); 4] = [
-    ("<1>", "M31 MEMORY"),
-    ("<1><1>", "A04 ACTIVATED 1"),
-    ("<1>J 1 ALLOC A.B SPACE=(TRK,1)", FIRST),
-    ("<1>J 1 DELETE A.B", "R19 NOT FOUND"),
+/// Commands, and the place, the first place and the answer of the last one with a deck that was read without memory.
+static WANTING: [(&str, u64, u64, &str); 4] = [
+    ("<1>", 0, 0, "M31 MEMORY"),
+    ("<1><1>", 2, 1, "A04 ACTIVATED 1"),
+    ("<1>J 1 ALLOC A.B SPACE=(TRK,1)", 2, 2, FIRST),
+    ("<1>J 1 DELETE A.B", 2, 2, "R19 NOT FOUND"),
 ];
 
 // The activation of the deck with this number.
@@ -106,6 +106,18 @@ fn text_of(alloc: Global, answer: &Answer) -> Result<Vec<u8>, AllocError> {
         text.extend_from_slice(line.as_slice())?;
     }
     Ok(text)
+}
+
+// Whether the answer has this place, this first place and these lines.
+fn is_answer(
+    alloc: Global,
+    answer: &Answer,
+    place: u64,
+    first: u64,
+    wanted: &str,
+) -> Result<bool, AllocError> {
+    let text = text_of(alloc, answer)?;
+    Ok(answer.place == place && answer.first == first && text.as_slice() == wanted.as_bytes())
 }
 
 // How the deck is read.
@@ -187,10 +199,10 @@ fn wanting() -> Work
 
 #[test]
 fn work_never_shows_in_an_answer(rt: HostRuntime) -> Result<(), Fail> {
-    for (commands, made_at, wanted) in &ROWS {
+    for (commands, made_at, place, first, wanted) in &ROWS {
         let script = script_of(rt.alloc(), commands)?;
         let answer = answer_last(rt.alloc(), items_of(&script)?, *made_at)?;
-        let holds = text_of(rt.alloc(), &answer)?.as_slice() == wanted.as_bytes();
+        let holds = is_answer(rt.alloc(), &answer, *place, *first, wanted)?;
         assert!(rt; holds, "{commands} {made_at}");
     }
     Ok(())
@@ -198,10 +210,10 @@ fn work_never_shows_in_an_answer(rt: HostRuntime) -> Result<(), Fail> {
 
 #[test]
 fn a_deck_read_without_memory_is_told_of_that_deck_alone(rt: HostRuntime) -> Result<(), Fail> {
-    for (commands, wanted) in &WANTING {
+    for (commands, place, first, wanted) in &WANTING {
         let script = script_of(rt.alloc(), commands)?;
         let answer = answer_wanting(rt.alloc(), items_of(&script)?)?;
-        let holds = text_of(rt.alloc(), &answer)?.as_slice() == wanted.as_bytes();
+        let holds = is_answer(rt.alloc(), &answer, *place, *first, wanted)?;
         assert!(rt; holds, "{commands}");
     }
     Ok(())

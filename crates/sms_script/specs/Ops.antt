@@ -1,5 +1,5 @@
 -- The ops that words write (docs/script.md, "Commands").
-use Rattle.std.specs.Prelude.{ℕ, ◌+◌, ◌==◌, Bool, true, not, List, [], ◌∷◌, map, take, drop, position, Option, None, Some, bytes_eq, codes, option_map, unwrap_or, if◌then◌else◌}
+use Rattle.std.specs.Prelude.{ℕ, ◌≡◌, ◌+◌, ◌==◌, Bool, true, not, List, [], ◌∷◌, map, take, drop, position, Option, None, Some, bytes_eq, codes, option_map, unwrap_or, if◌then◌else◌}
 use Rattle.std.specs.Map.{lookup}
 use Rattle.std.specs.Option.{option_and_then, option_or}
 use Rattle.std.specs.Char.{to_ascii_uppercase}
@@ -32,6 +32,11 @@ verb_words =
 -- the verb that a word is, if any
 abbrev pub verb_of : List ℕ → Option Verb
 verb_of word = lookup (bytes_eq word) verb_words
+
+-- the words begin with ALLOC
+abbrev pub AskAlloc : List (List ℕ) → Type 0
+AskAlloc [] = ⊥
+AskAlloc (word ∷ operands) = verb_of word ≡ Some verbs.Alloc
 
 -- who asks it: the administrator varies and purges, and the others ask the rest; both display
 abbrev pub may_ask : Bool → Verb → Bool

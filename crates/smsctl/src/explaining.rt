@@ -2,6 +2,7 @@
 //! fault"). Where memory for it is wanting, nothing is said.
 use desk_calls::RunStatus;
 use fault_notes::script_note;
+use sms_script::ScriptErr;
 use std::alloc::Global;
 
 /// What the command line asks for where its words are none that the desk knows.
@@ -10,12 +11,12 @@ pub fn note_words(note: &mut String, words: &[String]) {
 }
 
 /// What failed, and what stands.
-pub fn note_status(alloc: Global, note: &mut String, status: RunStatus, script: &[u8]) {
+pub fn note_status(alloc: Global, note: &mut String, status: RunStatus, script: Option<&[u8]>) {
     match status {
         RunStatus::Done | RunStatus::BadWords => (),
         RunStatus::Script(fault) => {
-            if let Ok(made) = script_note(alloc, script, fault) {
-                *note = made;
+            if let Some(text) = script {
+                note_fault(alloc, note, text, fault);
             }
         }
         RunStatus::ReadFault => say(note, "standard input can't be read; nothing was answered\n"),
@@ -25,8 +26,15 @@ pub fn note_status(alloc: Global, note: &mut String, status: RunStatus, script: 
     }
 }
 
+// The line of a script's fault, and what it means.
+fn note_fault(alloc: Global, note: &mut String, text: &[u8], fault: ScriptErr) {
+    if let Ok(made) = script_note(alloc, text, fault) {
+        *note = made;
+    }
+}
+
 const WRITE_FAULT: &str =
-    "standard output can't be written; all was answered, and a front of the answers may be there\n";
+    "standard output can't be written; all was answered, and a front of the text may be there\n";
 
 const TOO_LONG: &str = "the script has more than 16777216 bytes; nothing was answered\n";
 
@@ -34,12 +42,15 @@ const NO_MEMORY: &str = "memory is wanting; no answer was written\n";
 
 fn sentence_of_words(words: &[String]) -> &'static str {
     match first_word(words) {
-        "run" => "run takes one further word at most: smsctl run [--volumes]\n",
+        "run" => "run takes no further word but --volumes: smsctl run [--volumes]\n",
         "gen" => GEN,
         "serve" => SERVE,
-        _ => "the first word is run, gen or serve; smsctl --help says what each does\n",
+        _ => FIRST,
     }
 }
+
+const FIRST: &str = "the first word is run, gen or serve, or --help or --version alone; \
+    smsctl --help says what each does\n";
 
 const GEN: &str = "gen takes SEED, 0 to 4294967295, and COUNT, 1 to 40000: smsctl gen SEED COUNT\n";
 

@@ -20,10 +20,10 @@ impl<S: Source> KeptSource<S> {
     }
 
     /// What was given so far, if it was kept.
-    pub fn given(&self) -> &[u8] {
+    pub fn given(&self) -> Option<&[u8]> {
         match &self.given {
-            Some(bytes) => bytes.as_slice(),
-            None => &[],
+            Some(bytes) => Some(bytes.as_slice()),
+            None => None,
         }
     }
 
