@@ -19,7 +19,7 @@ pub enum ToolStatus {
     WriteFault,
     /// The input has this fault as a script, and nothing was simulated. Its fault is never NoMemory.
     Script(ScriptErr),
-    /// The input has more bytes than it may: a routine 65,536, a deck's input and a script 16,777,216.
+    /// The input has more bytes than it may: a routine 65,536, any other input 16,777,216.
     TooLong,
     /// Memory was wanting; nothing was written.
     NoMemory,
