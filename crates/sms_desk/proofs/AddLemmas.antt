@@ -1,5 +1,5 @@
 -- What a step adds to the signed list.
-use Rattle.std.proofs.Common.{◌≡◌, inl, inr, ℕ, ◌+◌, ◌++◌, ◌∷◌, true, false, List, [], length, append-nil, append_assoc, refl, sym, ap, subst, ◌∙◌}
+use Rattle.std.proofs.Common.{◌≡◌, inl, inr, ℕ, ◌+◌, ◌++◌, ◌∷◌, true, false, List, [], length, append-nil, refl, sym, ap, ◌∙◌}
 use Rattle.std.specs.Prelude.{Option}
 use Rattle.sms_construct.specs.declared.entry.Answer.{Answer}
 use Rattle.sms_construct.specs.declared.entry.Entry.{Entry}

@@ -1,6 +1,6 @@
 -- What a seat knows after its turn.
-use Rattle.std.proofs.Common.{◌≡◌, inl, inr, ℕ, ◌<◌, ◌++◌, ◌+◌, true, false, List, [], ◌∷◌, length, length-append, append-nil, append_assoc, refl, sym, ap, subst, ◌∙◌, arith}
-use Rattle.std.specs.Prelude.{Option, None, Some}
+use Rattle.std.proofs.Common.{◌≡◌, inl, inr, ℕ, ◌<◌, ◌++◌, true, false, List, [], length, length-append, append-nil, append_assoc, refl, sym, ap, subst, ◌∙◌, arith}
+use Rattle.std.specs.Prelude.{Option, Some}
 use Rattle.atomic_table.specs.Seated.{TableId}
 use Rattle.sms_construct.specs.Configuration.{Configuration}
 use Rattle.sms_construct.specs.declared.entry.Answer.{Answer}
@@ -17,14 +17,14 @@ use Rattle.desk_law.specs.History.{IsLegal}
 use Rattle.desk_law.specs.Kept.{is_entered}
 use Rattle.sms_core.specs.Core.{entry_of}
 use Rattle.desk_signing.specs.declared.event.Event.{Event}
-use Rattle.desk_signing.specs.Signing.{IsLegalList, by_seat, entries_in, events, opening_in, signed}
+use Rattle.desk_signing.specs.Signing.{IsLegalList, by_seat, entries_in, events}
 use Rattle.desk_signing.proofs.SignLemmas.{by_seat_mine, mine_more, opening-starts, signed_entries}
 use Rattle.sms_desk.specs.declared.held.Held.{Held}
 use Rattle.sms_desk.specs.declared.job_seat.JobSeat.{JobSeat}
 use Rattle.sms_desk.specs.declared.signed_core.SignedCore.{SignedCore}
 use Rattle.sms_desk.specs.Holding.{GoesOn, IsCurrent, IsHolding, IsOwn}
 use Rattle.sms_desk.specs.Signed.{Adds, list_of}
-use Rattle.sms_desk.specs.Seats.{HasLooked, HoldsNow, HoldsOf, IsJobOf, IsSeated, KeepsUp, Submits, Submitted, TookTurn, job_mine, job_number, job_seen, mine_of, number_at, seen_at}
+use Rattle.sms_desk.specs.Seats.{HasLooked, HoldsNow, HoldsOf, IsJobOf, IsSeated, KeepsUp, Submitted, TookTurn, job_mine, job_number, job_seen, mine_of, number_at, seen_at}
 use Rattle.sms_desk.proofs.AddLemmas.{adds-goes-on, adds-nothing}
 use Rattle.sms_desk.proofs.HoldLemmas.{current-holding}
 

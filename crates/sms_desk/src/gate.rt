@@ -36,8 +36,7 @@ impl Gate for FreeGate {
         _config: &Config,
         _made: &Classified,
         _round: u8,
-    ) {
-    }
+    ) {}
 
     fn after<R: Wait>(&self, _rt: &R, _job: &Name, _number: u32) {}
 }

@@ -19,13 +19,7 @@ impl<P: Keeper> Journaled<Event> for SignedCore<P> {
 
 impl<P: Keeper> SignedCore<P> {
     /// Answers a request for the seat of this number.
-    pub fn step(
-        &mut self,
-        number: u32,
-        request: &Request,
-        work: Work,
-        slate: &mut Slate,
-    ) -> Answer
+    pub fn step(&mut self, number: u32, request: &Request, work: Work, slate: &mut Slate) -> Answer
         requires { IsWorkFor (list_of self.old) request.now slate.old work }
         ensures { Adds (list_of self.old) (list_of self.new) number request.now result }
     {

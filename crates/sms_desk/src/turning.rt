@@ -92,10 +92,7 @@ impl<P: Keeper> Desk<P> {
     }
 
     // Gives a turn back as it came, with what is active there.
-    fn look(
-        &self,
-        turn: Turn<SignedCore<P>, Event>,
-    ) -> (Seat<SignedCore<P>, Event>, Option<Held>)
+    fn look(&self, turn: Turn<SignedCore<P>, Event>) -> (Seat<SignedCore<P>, Event>, Option<Held>)
         requires lock { IsTurnOf self.now.lock.table.shared.table_id turn }
         requires untouched { taken turn ≡ list_of turn.value }
         ensures same { IsOf self.now.lock.table.shared.table_id result.0 × (result.0.number ≡ turn.number) }

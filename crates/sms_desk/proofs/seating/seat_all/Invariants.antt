@@ -1,4 +1,4 @@
-use Rattle.std.proofs.Common.{◌≡◌, ℕ, ◌+◌, ◌≤◌, ◌<◌, List, All, length, vec_len, vec_capacity}
+use Rattle.std.proofs.Common.{◌≡◌, ◌+◌, ◌≤◌, ◌<◌, List, All, length, vec_len, vec_capacity}
 use Rattle.atomic_table.specs.Seated.{TableId}
 use Rattle.turn_lock.specs.declared.signed.Signed.{Signed}
 use Rattle.turn_lock.specs.Contract.{AreNumbered, IsNew}
@@ -15,7 +15,7 @@ invariant-loop-seat g l =
     × (vec_len l.outfits ≡ vec_len l.seats)
     × All HasNoAnswers l.jobs.items
     × ((lock : TableId) (list : List (Signed Event)) → 0 < length list → IsLegalList list → All (IsNew lock list) l.fn.seats.items → All (IsOutfit (opening_in list) (entries_in list)) l.fn.outfits.items
-        → All (IsNew lock list) l.seats.items × All (IsOutfit (opening_in list) (entries_in list)) l.outfits.items × All (IsNewJob lock list) l.jobs.items)
+    → All (IsNew lock list) l.seats.items × All (IsOutfit (opening_in list) (entries_in list)) l.outfits.items × All (IsNewJob lock list) l.jobs.items)
     × (AreNumbered l.fn.seats.items → AreNumbered l.seats.items × AreNumberedDown (length l.fn.seats.items) l.jobs.items)
 
 abbrev pub decreases-loop-seat : goal.decreases-loop-seat

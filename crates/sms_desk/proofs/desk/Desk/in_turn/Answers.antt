@@ -1,4 +1,4 @@
-use Rattle.std.proofs.Common.{◌≡◌, ◌++◌, [], append-nil, sym, subst, ◌∙◌}
+use Rattle.std.proofs.Common.{◌≡◌, [], append-nil, sym, subst, ◌∙◌}
 use Rattle.turn_lock.specs.Contract.{taken}
 use Rattle.desk_law.specs.History.{IsLegal}
 use Rattle.sms_desk.proofs.HoldLemmas.{on-err, on-ok}

@@ -1,4 +1,4 @@
-use Rattle.std.proofs.Common.{◌≡◌, ◌++◌, [], append-nil, sym, subst, ap, ◌∙◌}
+use Rattle.std.proofs.Common.{[], append-nil, sym, subst, ◌∙◌}
 use Rattle.turn_lock.specs.Contract.{taken}
 use Rattle.desk_signing.specs.Signing.{IsLegalList}
 use Rattle.sms_desk.specs.Signed.{list_of}

@@ -1,4 +1,4 @@
-use Rattle.std.proofs.Common.{◌≡◌, rules, refl}
+use Rattle.std.proofs.Common.{rules, refl}
 use Rattle.sms_desk.proofs.HoldLemmas.{holding-starts, work-starts}
 use Rattle.sms_desk.proofs.TurnLemmas.{begun-turn, turn-submitted}
 use Rattle.sms_desk.specs.Seats.{job_seen}
