@@ -9,6 +9,7 @@ use crate::journaled::Journaled;
 use crate::lock::TurnLock;
 use crate::seat::{Held, Seat};
 use crate::steps::{Draw, Look};
+use std::sync::Wait;
 
 impl<T: Journaled<E> + Drop, E> TurnLock<T, E> {
     pub(crate) fn draw(&self, seat: Seat<T, E>) -> (u64, Held<T, E>)
@@ -37,5 +38,16 @@ impl<T: Journaled<E> + Drop, E> TurnLock<T, E> {
             return None;
         }
         self.table.shared.exchange(held, 0, None)
+    }
+
+    // Lets others run: whoever is next soon looks again, and the others sleep until a ticket is served.
+    pub(crate) fn rest<R: Wait>(&self, rt: &R, ticket: u64) {
+        let serving = self.table.shared.peek(1);
+        if serving.wrapping_add(1) == ticket || serving == ticket {
+            std::thread::yield_now();
+        } else {
+            let shown = (serving % 4_294_967_296) as u32;
+            self.table.shared.park(rt, 1, shown);
+        }
     }
 }

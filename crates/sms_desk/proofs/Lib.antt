@@ -1,0 +1,4 @@
+pub mod AddLemmas
+pub mod HoldLemmas
+pub mod TurnLemmas
+pub mod JobLemmas

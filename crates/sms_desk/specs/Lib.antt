@@ -1,0 +1,4 @@
+pub mod Signed
+pub mod Holding
+pub mod Showing
+pub mod Seats
