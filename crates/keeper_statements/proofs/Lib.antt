@@ -1,0 +1,13 @@
+pub mod TextLemmas
+pub mod RowLemmas
+pub mod FoundLemmas
+pub mod EditLemmas
+pub mod InsertLemmas
+pub mod ReplaceLemmas
+pub mod DeleteLemmas
+pub mod TableLemmas
+pub mod MakesLemmas
+pub mod StayLemmas
+pub mod QueryLemmas
+pub mod CreateLemmas
+pub mod StatementLemmas

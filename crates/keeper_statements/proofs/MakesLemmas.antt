@@ -1,0 +1,171 @@
+-- What each writing text makes of the tables.
+use Rattle.std.proofs.Common.{◌≡◌, ◌&&◌, ◌||◌, codes, ℕ, ℤ, Bool, true, false, not, cond, List, [], ◌∷◌, ◌++◌, map, filter, drop, length, Ok, None, Some, refl, sym, ap, ap₂, subst, ◌∙◌, inl, inr, arith}
+use Rattle.std.specs.List.{list_all}
+use Rattle.std.proofs.lemmas.List.{map-append}
+use Rattle.sqlite.specs.declared.types.Value.TheVariants.{Null, Int, Text, Blob}
+use Rattle.sqlite.specs.Effect.{Database}
+use Rattle.sqlite.specs.Order.{Row}
+use Rattle.sqlite.specs.State.{State, Executes}
+use Rattle.sqlite.specs.Term.{Term, holds}
+use Rattle.sqlite_value.specs.Order.{column}
+use Rattle.sqlite_value.specs.Keys.{first_key}
+use Rattle.sqlite_trees.specs.Tree.{put_row, rowid}
+use Rattle.sqlite_trees.proofs.ListLemmas.{filter-map}
+use Rattle.sqlite_rules.specs.Lists.{Has}
+use Rattle.sqlite_rules.specs.Edit.{next_rowid, is_taken}
+use Rattle.sqlite_rules.specs.Keys.{conflicts}
+use Rattle.keeper_statements.specs.Changes.{with_set, without_set, with_reply, without_below, with_deck, without_statuses, with_status, without_status, with_floor}
+use Rattle.keeper_statements.specs.Schema.{sets_table, floors_table, sets_columns, replies_columns, decks_columns, statuses_columns, floors_columns, desk_schema}
+use Rattle.keeper_statements.specs.Steps.{Makes}
+use Rattle.keeper_statements.specs.Tables.{IsKeyed, IsReady, bodies, tables_in}
+use Rattle.keeper_statements.specs.Tests.{set_row, reply_row, deck_row, status_row, floor_row, is_of, is_status, is_below, is_equal, is_less, without, HasFound}
+use Rattle.keeper_statements.proofs.TextLemmas as texts
+use Rattle.keeper_statements.proofs.RowLemmas.{put_next, keyed_next, bodies_next, keyed_filter, keyed_push, keyed_put, next_above, cast_null, cast_int}
+use Rattle.keeper_statements.proofs.FoundLemmas.{column_dropped, and_true, found_count, IsFound}
+use Rattle.keeper_statements.proofs.EditLemmas.{Edits}
+use Rattle.keeper_statements.proofs.InsertLemmas.{inserts, Puts}
+use Rattle.keeper_statements.proofs.ReplaceLemmas.{replaces, replaced}
+use Rattle.keeper_statements.proofs.DeleteLemmas.{removes, Removes}
+use Rattle.keeper_statements.proofs.TableLemmas.{makes_sets, makes_replies, makes_decks, makes_statuses, makes_floors}
+
+-- the tests of SQL are those of the rows without their numbers
+first_alike : (key : Row) (text : List ℕ) (r : Row) → list_all (holds ((Text text ∷ key) ∷ r ∷ [])) (texts.first_is ∷ []) ≡ is_of text (drop 1 r)
+first_alike key text r = and_true _ ∙ ap (λ v. is_equal v (Text text)) (sym (column_dropped r 0))
+
+below_alike : (job : List ℕ) (limit : ℤ) (r : Row) → list_all (holds ((Text job ∷ Int limit ∷ []) ∷ r ∷ [])) (texts.first_is ∷ texts.second_below ∷ []) ≡ is_below job limit (drop 1 r)
+below_alike job limit r =
+    ap (λ b. is_equal (column r 1) (Text job) && b) (and_true _)
+    ∙ ap₂ (λ a b. is_equal a (Text job) && is_less b (Int limit)) (sym (column_dropped r 0)) (sym (column_dropped r 1))
+
+status_alike : (kind : ℤ) (name : List ℕ) (r : Row) → list_all (holds ((Int kind ∷ Text name ∷ []) ∷ r ∷ [])) (texts.first_is ∷ texts.second_is ∷ []) ≡ is_status kind name (drop 1 r)
+status_alike kind name r =
+    ap (λ b. is_equal (column r 1) (Int kind) && b) (and_true _)
+    ∙ ap₂ (λ a b. is_equal a (Int kind) && is_equal b (Text name)) (sym (column_dropped r 0)) (sym (column_dropped r 1))
+
+any_alike : (r : Row) → list_all (holds ([] ∷ r ∷ [])) [] ≡ true
+any_alike r = refl
+
+none_left : (rows : List Row) → filter (λ r. not true) rows ≡ []
+none_left [] = refl
+none_left (r ∷ rows) = none_left rows
+
+bodies_left : (q : Row → Bool) (rows : List Row) → bodies (filter (λ r. not (q (drop 1 r))) rows) ≡ without q (bodies rows)
+bodies_left q rows = sym (filter-map (λ b. not (q b)) (drop 1) rows)
+
+-- the row of the key is replaced by one that comes last
+bodies_replaced : (key : List ℕ) (rest : Row) (rows : List Row) → bodies (replaced key rest rows) ≡ without (is_of key) (bodies rows) ++ rest ∷ []
+bodies_replaced key rest rows =
+    map-append (drop 1) (filter (λ r. not (is_of key (drop 1 r))) rows) ((Int (next_rowid rows) ∷ rest) ∷ [])
+    ∙ ap (λ (l : List Row). l ++ rest ∷ []) (bodies_left (is_of key) rows)
+
+keyed_replaced : (key : List ℕ) (rest : Row) (rows : List Row) → IsKeyed rows → IsKeyed (replaced key rest rows)
+keyed_replaced key rest rows keyed =
+    let p = λ (r : Row). not (is_of key (drop 1 r)) in
+    keyed_push (filter p rows) (next_rowid rows) rest (keyed_filter p rows keyed)
+    (λ r h. next_above rows keyed r (Rattle.sqlite_rules.proofs.ListLemmas.has_filtered p rows r h).0)
+
+sets_conflict : (new r : Row) → conflicts None desk_schema.indexes sets_table new r ≡ ((is_equal (column r 0) (column new 0) && true) || ((is_equal (column r 1) (column new 1) && true) || false))
+unfolding first_key
+sets_conflict new r = refl
+
+floors_conflict : (new r : Row) → conflicts None desk_schema.indexes floors_table new r ≡ ((is_equal (column r 0) (column new 0) && true) || ((is_equal (column r 1) (column new 1) && true) || false))
+unfolding first_key
+floors_conflict new r = refl
+
+pub puts_set : (old new : State) (dsn bytes : List ℕ) (count : ℕ) → IsReady old.now → Executes texts.put_set_text (set_row dsn bytes) old new (Ok count) → Makes (with_set dsn bytes) old.now new.now
+puts_set old new dsn bytes count ready h =
+    let rest = set_row dsn bytes in
+    let edits = replaces 0 0 (codes "sets") sets_columns None (1 ∷ []) ((1 ∷ []) ∷ []) dsn (Blob bytes) sets_conflict
+    (λ id. rw (cast_int id)) (rw cast_null) texts.two_terms texts.put_set_text old new count refl texts.put_set_is texts.put_set_plain refl ready.schema ready.keyed.0 h in
+    makes_sets (replaced dsn rest) (λ sets. without (is_of dsn) sets ++ rest ∷ []) old.now new.now edits ready
+    (keyed_replaced dsn rest (old.now.trees 0) ready.keyed.0) (bodies_replaced dsn rest (old.now.trees 0))
+
+pub puts_floor : (old new : State) (job : List ℕ) (floor : ℤ) (count : ℕ) → IsReady old.now → Executes texts.floor_text (floor_row job floor) old new (Ok count) → Makes (with_floor job floor) old.now new.now
+puts_floor old new job floor count ready h =
+    let rest = floor_row job floor in
+    let edits = replaces 4 8 (codes "floors") floors_columns None (1 ∷ []) ((1 ∷ []) ∷ []) job (Int floor) floors_conflict
+    (λ id. rw (cast_int id, cast_int floor)) (rw (cast_null, cast_int floor)) texts.two_terms texts.floor_text old new count refl texts.floor_is texts.floor_plain refl ready.schema ready.keyed.1.1.1.1.0 h in
+    makes_floors (replaced job rest) (λ floors. without (is_of job) floors ++ rest ∷ []) old.now new.now edits ready
+    (keyed_replaced job rest (old.now.trees 8) ready.keyed.1.1.1.1.0) (bodies_replaced job rest (old.now.trees 8))
+
+pub drops_set : (old new : State) (dsn : List ℕ) (count : ℕ) → IsReady old.now → Executes texts.drop_set_text (Text dsn ∷ []) old new (Ok count) → Makes (without_set dsn) old.now new.now
+drops_set old new dsn count ready h =
+    let p = λ (r : Row). is_of dsn (drop 1 r) in
+    let it = removes 0 0 (codes "sets") sets_columns None (1 ∷ []) ((1 ∷ []) ∷ []) (texts.first_is ∷ []) texts.drop_set_text (Text dsn ∷ []) p old new count
+    refl texts.drop_set_is texts.drop_set_plain (first_alike [] dsn) (λ db. refl) ready.schema ready.keyed.0 h in
+    makes_sets (filter (λ r. not (p r))) (without (is_of dsn)) old.now new.now it.edits ready
+    (keyed_filter (λ r. not (p r)) (old.now.trees 0) ready.keyed.0) (bodies_left (is_of dsn) (old.now.trees 0))
+
+pub drops_below : (old new : State) (job : List ℕ) (limit : ℤ) (count : ℕ) → IsReady old.now → Executes texts.below_text (Text job ∷ Int limit ∷ []) old new (Ok count) → Makes (without_below job limit) old.now new.now
+drops_below old new job limit count ready h =
+    let p = λ (r : Row). is_below job limit (drop 1 r) in
+    let it = removes 1 2 (codes "replies") replies_columns None (1 ∷ 2 ∷ []) ((3 ∷ []) ∷ (1 ∷ 2 ∷ []) ∷ []) (texts.first_is ∷ texts.second_below ∷ []) texts.below_text
+    (Text job ∷ Int limit ∷ []) p old new count refl texts.below_is texts.below_plain (below_alike job limit) (λ db. refl) ready.schema ready.keyed.1.0 h in
+    makes_replies (filter (λ r. not (p r))) (without (is_below job limit)) old.now new.now it.edits ready
+    (keyed_filter (λ r. not (p r)) (old.now.trees 2) ready.keyed.1.0) (bodies_left (is_below job limit) (old.now.trees 2))
+
+pub clears_statuses : (old new : State) (count : ℕ) → IsReady old.now → Executes texts.clear_text [] old new (Ok count) → Makes without_statuses old.now new.now
+clears_statuses old new count ready h =
+    let it = removes 3 6 (codes "statuses") statuses_columns None (1 ∷ 2 ∷ []) ((1 ∷ 2 ∷ []) ∷ []) [] texts.clear_text [] (λ r. true) old new count
+    refl texts.clear_is texts.clear_plain any_alike (λ db. refl) ready.schema ready.keyed.1.1.1.0 h in
+    makes_statuses (filter (λ r. not true)) (λ rows. []) old.now new.now it.edits ready
+    (keyed_filter (λ r. not true) (old.now.trees 6) ready.keyed.1.1.1.0) (ap bodies (none_left (old.now.trees 6)))
+
+removes_status : (old new : State) (kind : ℤ) (name : List ℕ) (count : ℕ) → IsReady old.now → Executes texts.drop_status_text (Int kind ∷ Text name ∷ []) old new (Ok count)
+    → Removes 6 (λ r. is_status kind name (drop 1 r)) old.now new.now count
+removes_status old new kind name count ready h =
+    removes 3 6 (codes "statuses") statuses_columns None (1 ∷ 2 ∷ []) ((1 ∷ 2 ∷ []) ∷ []) (texts.first_is ∷ texts.second_is ∷ []) texts.drop_status_text
+    (Int kind ∷ Text name ∷ []) (λ r. is_status kind name (drop 1 r)) old new count refl texts.drop_status_is texts.drop_status_plain (status_alike kind name) (λ db. refl) ready.schema ready.keyed.1.1.1.0 h
+
+pub drops_status : (old new : State) (kind : ℤ) (name : List ℕ) (count : ℕ) → IsReady old.now → Executes texts.drop_status_text (Int kind ∷ Text name ∷ []) old new (Ok count)
+    → Makes (without_status kind name) old.now new.now
+drops_status old new kind name count ready h =
+    let p = λ (r : Row). is_status kind name (drop 1 r) in
+    let it = removes_status old new kind name count ready h in
+    makes_statuses (filter (λ r. not (p r))) (without (is_status kind name)) old.now new.now it.edits ready
+    (keyed_filter (λ r. not (p r)) (old.now.trees 6) ready.keyed.1.1.1.0) (bodies_left (is_status kind name) (old.now.trees 6))
+
+pub counts_status : (old new : State) (kind : ℤ) (name : List ℕ) (count : ℕ) → IsReady old.now → Executes texts.drop_status_text (Int kind ∷ Text name ∷ []) old new (Ok count)
+    → HasFound (is_status kind name) (tables_in old.now.trees).statuses count
+counts_status old new kind name count ready h =
+    let it = removes_status old new kind name count ready h in
+    found_count (is_status kind name) (old.now.trees 6) it.found count ready.keyed.1.1.1.0 it.is it.counted
+
+-- a row that gets the next number
+abbrev next_row : Row → List Row → Row
+next_row rest rows = Int (next_rowid rows) ∷ rest
+
+pub adds_reply : (old new : State) (job : List ℕ) (number place : ℤ) (request reply : List ℕ) (count : ℕ) → IsReady old.now
+    → Executes texts.reply_text (reply_row job number place request reply) old new (Ok count) → Makes (with_reply job number place request reply) old.now new.now
+adds_reply old new job number place request reply count ready h =
+    let rest = reply_row job number place request reply in
+    let it = inserts 1 2 (codes "replies") replies_columns None (1 ∷ 2 ∷ []) ((3 ∷ []) ∷ (1 ∷ 2 ∷ []) ∷ []) texts.five_terms 6 texts.reply_text rest (next_row rest) old new count
+    refl texts.reply_is texts.reply_plain (λ rows. rw (cast_null, cast_int number, cast_int place)) ready.schema h in
+    makes_replies (λ rows. put_row (next_row rest rows) rows) (λ rows. rows ++ rest ∷ []) old.now new.now it.edits ready
+    (keyed_next (old.now.trees 2) rest ready.keyed.1.0) (bodies_next (old.now.trees 2) rest ready.keyed.1.0)
+
+pub adds_status : (old new : State) (kind : ℤ) (name : List ℕ) (status : ℤ) (count : ℕ) → IsReady old.now
+    → Executes texts.status_text (status_row kind name status) old new (Ok count) → Makes (with_status kind name status) old.now new.now
+adds_status old new kind name status count ready h =
+    let rest = status_row kind name status in
+    let it = inserts 3 6 (codes "statuses") statuses_columns None (1 ∷ 2 ∷ []) ((1 ∷ 2 ∷ []) ∷ []) texts.three_terms 4 texts.status_text rest (next_row rest) old new count
+    refl texts.status_is texts.status_plain (λ rows. rw (cast_null, cast_int kind, cast_int status)) ready.schema h in
+    makes_statuses (λ rows. put_row (next_row rest rows) rows) (λ rows. rows ++ rest ∷ []) old.now new.now it.edits ready
+    (keyed_next (old.now.trees 6) rest ready.keyed.1.1.1.0) (bodies_next (old.now.trees 6) rest ready.keyed.1.1.1.0)
+
+inserts_deck : (old new : State) (number : ℤ) (bytes : List ℕ) (count : ℕ) → IsReady old.now → Executes texts.deck_text (Int number ∷ Blob bytes ∷ []) old new (Ok count)
+    → Puts 5 (λ rows. deck_row number bytes) old.now new.now
+inserts_deck old new number bytes count ready h =
+    inserts 2 5 (codes "decks") decks_columns (Some 0) (0 ∷ []) [] texts.deck_terms 3 texts.deck_text (Int number ∷ Blob bytes ∷ []) (λ rows. deck_row number bytes) old new count
+    refl texts.deck_is texts.deck_plain (λ rows. rw (cast_null, cast_int number)) ready.schema h
+
+pub adds_deck : (old new : State) (number : ℤ) (bytes : List ℕ) (count : ℕ) → IsReady old.now → Executes texts.deck_text (Int number ∷ Blob bytes ∷ []) old new (Ok count)
+    → Makes (with_deck number bytes) old.now new.now
+adds_deck old new number bytes count ready h =
+    let it = inserts_deck old new number bytes count ready h in
+    makes_decks (put_row (deck_row number bytes)) (put_row (deck_row number bytes)) old.now new.now it.edits ready
+    (keyed_put (old.now.trees 5) number (Null ∷ Blob bytes ∷ []) ready.keyed.1.1.0) refl
+
+pub deck_is_free : (old new : State) (number : ℤ) (bytes : List ℕ) (count : ℕ) → IsReady old.now → Executes texts.deck_text (Int number ∷ Blob bytes ∷ []) old new (Ok count)
+    → is_taken (tables_in old.now.trees).decks (deck_row number bytes) ≡ false
+deck_is_free old new number bytes count ready h = (inserts_deck old new number bytes count ready h).free

@@ -1,0 +1,76 @@
+-- What the search for a higher floor finds.
+use Rattle.std.proofs.Common.{◌≡◌, ◌&&◌, ℕ, ℤ, Bool, true, false, not, List, [], ◌∷◌, map, drop, length, eqb, Ok, None, Some, refl, sym, ap, ap₂, subst, ◌∙◌, inl, inr, arith, ne_eqb, codes}
+use Rattle.std.proofs.lemmas.Bool.{false_from_ne_true}
+use Rattle.std.specs.List.{list_all, list_any}
+use Rattle.sqlite.specs.declared.types.Value.TheVariants.{Null, Int, Text}
+use Rattle.sqlite.specs.Effect.{Database, Answers}
+use Rattle.sqlite.specs.Order.{Row}
+use Rattle.sqlite.specs.Program.{overlay}
+use Rattle.sqlite.specs.Query.{IsAnswer}
+use Rattle.sqlite.specs.State.{State, Shown, IsUnchanged}
+use Rattle.sqlite.specs.Term.{holds}
+use Rattle.sqlite.specs.Command.TheVariants.{Select}
+use Rattle.sqlite.specs.Listing.{understood}
+use Rattle.sqlite.proofs.Callers.{reads_as, IsPlain}
+use Rattle.sqlite_value.specs.Order.{column}
+use Rattle.sqlite_trees.specs.Tree.{rowid}
+use Rattle.sqlite_rules.specs.Lists.{Has}
+use Rattle.sqlite_rules.proofs.ListLemmas.{some_has, some_from}
+use Rattle.sqlite_rules.proofs.ProbeLemmas.{has_mapped, mapped_has}
+use Rattle.keeper_statements.specs.Schema.{desk_schema}
+use Rattle.keeper_statements.specs.Tables.{IsReady, bodies, tables_in}
+use Rattle.keeper_statements.specs.Tests.{is_above, is_equal, is_greater}
+use Rattle.keeper_statements.proofs.TextLemmas as texts
+use Rattle.keeper_statements.proofs.FoundLemmas.{column_dropped, and_true}
+use Rattle.keeper_statements.proofs.DeleteLemmas.{finds}
+
+above_alike : (job : List ℕ) (number : ℤ) (r : Row) → list_all (holds ((Text job ∷ Int number ∷ []) ∷ r ∷ [])) (texts.first_is ∷ texts.second_above ∷ []) ≡ is_above job number (drop 1 r)
+above_alike job number r =
+    ap (λ b. is_equal (column r 1) (Text job) && b) (and_true _)
+    ∙ ap₂ (λ a b. is_equal a (Text job) && is_greater b (Int number)) (sym (column_dropped r 0)) (sym (column_dropped r 1))
+
+abbrev is_empty : List Row → Bool
+is_empty rows = eqb (length rows) 0
+
+empty_is : (rows : List Row) → ((x : Row) → Has rows x → ⊥) → is_empty rows ≡ true
+empty_is [] none = refl
+empty_is (x ∷ rows) none = absurd (none x (inl refl))
+
+full_is : (rows : List Row) (x : Row) → Has rows x → is_empty rows ≡ false
+full_is [] x h = absurd h
+full_is (y ∷ rows) x h = ne_eqb _ 0 (omega arith)
+
+pub above_found : (old new : State) (job : List ℕ) (number : ℤ) (rows : List Row) → IsReady old.now → Shown texts.above_text (Text job ∷ Int number ∷ []) old new rows
+    → not (is_empty rows) ≡ list_any (is_above job number) (tables_in old.now.trees).floors
+above_found old new job number rows ready h =
+    let params = Text job ∷ Int number ∷ [] in
+    let q = texts.deleting 8 (texts.first_is ∷ texts.second_above ∷ []) in
+    let reads : Answers old.now q params rows =
+    reads_as texts.above_text params old new desk_schema ready.schema (Select q (codes "rowid" ∷ [])) texts.above_is texts.above_plain texts.above_unlisted rows h in
+    let answer : IsAnswer q.body (overlay old.now.trees []) params rows = reads.answer Null in
+    let found = finds 8 (texts.first_is ∷ texts.second_above ∷ []) (overlay old.now.trees []) params [] rows answer in
+    by (list_any (is_above job number) (bodies (old.now.trees 8))) refl found.sound found.complete
+  where
+    by : (b : Bool) → list_any (is_above job number) (bodies (old.now.trees 8)) ≡ b
+        → ((x : Row) → Has rows x → (r : Row) × Has (old.now.trees 8) r × (list_all (holds ((Text job ∷ Int number ∷ []) ∷ r ∷ [])) (texts.first_is ∷ texts.second_above ∷ []) ≡ true) × (x ≡ rowid r ∷ []))
+        → ((r : Row) → Has (old.now.trees 8) r → list_all (holds ((Text job ∷ Int number ∷ []) ∷ r ∷ [])) (texts.first_is ∷ texts.second_above ∷ []) ≡ true → Has rows (rowid r ∷ []))
+        → not (is_empty rows) ≡ b
+    by true is sound complete =
+        let some = some_has (is_above job number) (bodies (old.now.trees 8)) is in
+        let at = has_mapped (drop 1) (old.now.trees 8) some.0 some.1 in
+        let passes : is_above job number (drop 1 at.0) ≡ true = ap (is_above job number) (sym at.2) ∙ some.2 in
+        ap not (full_is rows _ (complete at.0 at.1 (above_alike job number at.0 ∙ passes)))
+    by false is sound complete =
+        ap not (empty_is rows (λ x h.
+            let hit = sound x h in
+            let passes : is_above job number (drop 1 hit.0) ≡ true = sym (above_alike job number hit.0) ∙ hit.2 in
+            let some : list_any (is_above job number) (bodies (old.now.trees 8)) ≡ true = some_from (is_above job number) (bodies (old.now.trees 8)) (drop 1 hit.0) (mapped_has (drop 1) (old.now.trees 8) hit.0 hit.1) passes in
+            cc))
+
+pub above_same : (old new : State) (job : List ℕ) (number : ℤ) (rows : List Row) → IsReady old.now → Shown texts.above_text (Text job ∷ Int number ∷ []) old new rows → new.now ≡ old.now
+unfolding Shown
+above_same old new job number rows ready h =
+    let known = sym h.1.is ∙ ap (λ s. understood s texts.above_text) ready.schema in
+    let bare = subst IsPlain (sym known) texts.above_plain in
+    let it = rw bare.0 at h.2 in
+    it.3.0.now_is

@@ -1,0 +1,12 @@
+use Rattle.std.proofs.Common.{to_z-of_z}
+use Rattle.sqlite.specs.Held.{state}
+use Rattle.keeper_statements.proofs.MakesLemmas.{adds_reply}
+use Rattle.keeper_statements.proofs.StatementLemmas.{on_ok}
+use Rattle.keeper_statements.proofs.StayLemmas.{executes_stays}
+use Rattle.keeper_statements.proofs.replies.add_reply.Goals as goal
+
+pub returns-clause-made : goal.returns-clause-made
+returns-clause-made g c clean inside ready = on_ok _ _ (state g.S.Store c.args.tx.now.conn.now) (state g.S.Store c.execute.new.self.conn.now) c.execute.result _ (λ count h. adds_reply _ _ c.args.job.now c.args.number c.args.place c.args.request.now c.args.reply.now count ready h) (rw (to_z-of_z c.ranges.number, to_z-of_z c.ranges.place) at (c.execute.ensures.runs clean inside))
+
+pub returns-clause-stays : goal.returns-clause-stays
+returns-clause-stays g c clean inside = executes_stays _ _ (state g.S.Store c.args.tx.now.conn.now) (state g.S.Store c.execute.new.self.conn.now) c.execute.result (c.execute.ensures.runs clean inside)

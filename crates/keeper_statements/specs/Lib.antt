@@ -1,0 +1,5 @@
+pub mod Schema
+pub mod Tables
+pub mod Tests
+pub mod Changes
+pub mod Steps

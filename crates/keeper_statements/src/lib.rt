@@ -1,0 +1,16 @@
+//! The writing texts of the desk's database, a function for each, with what it does to the rows of the five tables.
+#![tactic(auto)]
+
+mod decks;
+mod floors;
+mod making;
+mod replies;
+mod sets;
+mod statuses;
+
+pub use decks::add_deck;
+pub use floors::{has_floor_above, put_floor};
+pub use making::make_tables;
+pub use replies::{add_reply, drop_replies_below};
+pub use sets::{drop_set, put_set};
+pub use statuses::{add_status, clear_statuses, drop_status};
