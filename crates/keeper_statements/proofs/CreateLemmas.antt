@@ -84,6 +84,7 @@ record Creates (before : Schema) (table : Table) (old new : Database) : Type 0 w
   schema : new.schema ≡ created before table
   empty : new.trees (next_tree before) ≡ []
   others : KeepsRows before.tables old.trees new.trees
+
 creates : (before : Schema) (text : List ℕ) (table : Table) → IsMaking before text
     → table_defined_by text ≡ Ok table → lacks_sequence (created before table) ≡ false
     → (old new : State) (count : ℕ) → old.now.schema ≡ before → Executes text [] old new (Ok count) → Creates before table old.now new.now

@@ -123,15 +123,15 @@ found_count q rows found count keyed is counted = record {
   none = λ zero.
       let gone = none_long found (sym counted ∙ zero) in
       filter-map q (drop 1) rows ∙ ap bodies (empty_by (filter p rows) (λ x h.
-          let had = has_filtered p rows x h in
-          subst (λ (l : List Row). Has l (rowid x ∷ [])) gone (is.complete x had.0 had.1)));
+      let had = has_filtered p rows x h in
+      subst (λ (l : List Row). Has l (rowid x ∷ [])) gone (is.complete x had.0 had.1)));
   one = λ single.
       let only = one_long found (sym counted ∙ single) in
       let here : Has found only.0 = subst (λ (l : List Row). Has l only.0) (sym only.1) (inl refl) in
       let hit = is.sound only.0 here in
       let xs = one_by only.0 (filter p rows) hit.0 (keyed_filter p rows keyed) (has_kept p rows hit.0 hit.1 hit.2) (λ y h.
-          let had = has_filtered p rows y h in
-          has_only (rowid y ∷ []) only.0 (subst (λ (l : List Row). Has l (rowid y ∷ [])) only.1 (is.complete y had.0 had.1))) in
+      let had = has_filtered p rows y h in
+      has_only (rowid y ∷ []) only.0 (subst (λ (l : List Row). Has l (rowid y ∷ [])) only.1 (is.complete y had.0 had.1))) in
       (drop 1 xs.0, filter-map q (drop 1) rows ∙ ap bodies xs.1);
 }
   where

@@ -62,10 +62,10 @@ above_found old new job number rows ready h =
         ap not (full_is rows _ (complete at.0 at.1 (above_alike job number at.0 ∙ passes)))
     by false is sound complete =
         ap not (empty_is rows (λ x h.
-            let hit = sound x h in
-            let passes : is_above job number (drop 1 hit.0) ≡ true = sym (above_alike job number hit.0) ∙ hit.2 in
-            let some : list_any (is_above job number) (bodies (old.now.trees 8)) ≡ true = some_from (is_above job number) (bodies (old.now.trees 8)) (drop 1 hit.0) (mapped_has (drop 1) (old.now.trees 8) hit.0 hit.1) passes in
-            cc))
+        let hit = sound x h in
+        let passes : is_above job number (drop 1 hit.0) ≡ true = sym (above_alike job number hit.0) ∙ hit.2 in
+        let some : list_any (is_above job number) (bodies (old.now.trees 8)) ≡ true = some_from (is_above job number) (bodies (old.now.trees 8)) (drop 1 hit.0) (mapped_has (drop 1) (old.now.trees 8) hit.0 hit.1) passes in
+        cc))
 
 pub above_same : (old new : State) (job : List ℕ) (number : ℤ) (rows : List Row) → IsReady old.now → Shown texts.above_text (Text job ∷ Int number ∷ []) old new rows → new.now ≡ old.now
 unfolding Shown

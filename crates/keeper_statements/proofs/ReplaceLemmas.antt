@@ -66,7 +66,6 @@ module _ (at tree : ℕ) (name : List ℕ) (columns : List Column) (number : Opt
   module _ (conflict_is : (new r : Row) → conflicts None desk_schema.indexes table new r ≡ ((equal Binary (column r 0) (column new 0) && true) || ((equal Binary (column r 1) (column new 1) && true) || false)))
       (cast_is : (id : ℤ) → cast_row table (Int id ∷ rest) ≡ Int id ∷ rest)
       (new_is : cast_row table (mended Replace table (Null ∷ rest)) ≡ Null ∷ rest) where
-
     are_conflicts : (rows : List Row) → IsKeyed rows → (r : Row) → Has rows r
         → conflicts None desk_schema.indexes table (Int (next_rowid rows) ∷ rest) r ≡ is_of key (drop 1 r)
     are_conflicts rows keyed r h =

@@ -68,12 +68,12 @@ keyed_next rows rest keyed = subst IsKeyed (sym (put_next rows rest keyed)) (key
 -- a row with a number keeps the order
 pub keyed_put : (rows : List Row) (id : ℤ) (rest : Row) → IsKeyed rows → IsKeyed (put_row (Int id ∷ rest) rows)
 keyed_put rows id rest keyed = (
-    IsTable-put_row (Int id ∷ rest) rows keyed.0,
-    all_from (λ r. IsTrue (is_int (rowid r))) (put_row (Int id ∷ rest) rows) (λ y h. elim (put_has (Int id ∷ rest) rows y h) [
-      | inl is ↦ ap (λ (r : Row). is_int (rowid r)) is
-      | inr there ↦ all_has (λ r. IsTrue (is_int (rowid r))) rows y keyed.1 there
-    ]),
-  )
+  IsTable-put_row (Int id ∷ rest) rows keyed.0,
+  all_from (λ r. IsTrue (is_int (rowid r))) (put_row (Int id ∷ rest) rows) (λ y h. elim (put_has (Int id ∷ rest) rows y h) [
+    | inl is ↦ ap (λ (r : Row). is_int (rowid r)) is
+    | inr there ↦ all_has (λ r. IsTrue (is_int (rowid r))) rows y keyed.1 there
+  ]),
+)
 
 pub keyed_filter : (p : Row → Bool) (rows : List Row) → IsKeyed rows → IsKeyed (filter p rows)
 keyed_filter p [] keyed = (tt, tt)
@@ -106,4 +106,3 @@ went (inr on) = on
 
 pub same_value : {B E : Type 0} {a b : B} → ◌≡◌ {A = Rattle.std.proofs.Common.Result B E} (Ok a) (Ok b) → a ≡ b
 same_value e = cc
-
