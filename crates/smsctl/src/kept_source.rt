@@ -26,16 +26,6 @@ impl<S: Source> KeptSource<S> {
             None => None,
         }
     }
-
-    fn keep(&mut self, piece: &[u8]) {
-        let is_kept = match &mut self.given {
-            Some(bytes) => bytes.extend_from_slice(piece).is_ok(),
-            None => false,
-        };
-        if !is_kept {
-            self.given = None;
-        }
-    }
 }
 
 impl<S: Source> Source for KeptSource<S> {
@@ -47,7 +37,18 @@ impl<S: Source> Source for KeptSource<S> {
 
     fn read(&mut self, buf: &mut [u8]) -> Result<usize, Failed> {
         let count = self.source.read(buf)?;
-        self.keep(&buf[..count]);
+        keep(&mut self.given, &buf[..count]);
         Ok(count)
+    }
+}
+
+// Keeps a piece behind the others. Where memory for it is wanting nothing is kept.
+fn keep(given: &mut Option<Vec<u8>>, piece: &[u8]) {
+    let is_kept = match given {
+        Some(bytes) => bytes.extend_from_slice(piece).is_ok(),
+        None => false,
+    };
+    if !is_kept {
+        *given = None;
     }
 }
