@@ -1,2 +1,3 @@
 mod NameLemmas
 mod GeneratedLemmas
+mod CountLemmas

@@ -1,61 +1,70 @@
 // How often each code was answered.
-ghost use Rattle.std.specs.Prelude.{◌≡◌, ◌≤◌, length};
-ghost use Rattle.desk_generator.specs.Summary.{code_of, times_answered};
+ghost use Rattle.std.specs.Prelude.{◌≡◌, ◌<◌, ◌+◌, ◌^◌, Some, length, map, slice_get, slice_index, slice_set};
+ghost use Rattle.desk_generator.specs.Summary.{all_codes, code_of, times_answered};
 
 use sms_construct::{Answer, Reply, View, WhyNoExtend};
 
+/// How many codes there are.
+pub const CODE_COUNT: usize = 28;
+
 /// All codes, in byte order.
-pub const CODES: [&[u8]; 28] = [
+pub const CODES: [&[u8]; CODE_COUNT] = [
     b"A00", b"A01", b"A02", b"A03", b"A04", b"A05", b"A06", b"A07", b"A08", b"A09", b"F30", b"M31",
     b"R10", b"R11", b"R12", b"R13", b"R14", b"R15", b"R16", b"R17", b"R18", b"R19", b"R20", b"R21",
     b"R22", b"R23", b"R24", b"R25",
 ];
 
-/// How many of the answers have the code.
-pub fn times_answered(code: &[u8], answers: &[Answer]) -> u64
-    ensures { result ≡ times_answered code.now answers.now }
+/// How many of the answers have each code, in the order of the codes.
+pub fn counts_of(answers: &[Answer]) -> [u64; CODE_COUNT]
+    ensures { result ≡ map (λ code. times_answered code answers.now) all_codes }
 {
-    let mut times = 0;
+    let mut counts = [0; CODE_COUNT];
     for answer in answers {
-        if code_of(&answer.reply) == code {
-            times += 1;
-        }
+        count_at(&mut counts, place_of(&answer.reply));
     }
-    times
+    counts
 }
 
-// The code of a reply.
-fn code_of(reply: &Reply) -> &'static [u8]
-    ensures { result.now ≡ code_of reply.now }
+fn count_at(counts: &mut [u64], place: usize)
+    requires inside { place < length counts.old }
+    requires small { slice_index counts.old place + 1 < 2 ^ 64 }
+    ensures { counts.new ≡ slice_set counts.old place (slice_index counts.old place + 1) }
+{
+    counts[place] += 1;
+}
+
+// The place of a reply's code among all codes.
+fn place_of(reply: &Reply) -> usize
+    ensures { slice_get all_codes result ≡ Some (code_of reply.now) }
 {
     match reply {
-        Reply::Granted { .. } => b"A00",
-        Reply::NotManaged { .. } => b"A01",
-        Reply::Extended { .. } => b"A02",
-        Reply::Deleted { .. } => b"A03",
-        Reply::Activated { .. } => b"A04",
-        Reply::Varied { .. } => b"A05",
-        Reply::Shown(View::Group { .. } | View::Volume(_) | View::Set(_)) => b"A06",
-        Reply::Purged { .. } => b"A07",
-        Reply::Noted => b"A08",
-        Reply::Released { .. } => b"A09",
-        Reply::Reused { .. } => b"R10",
-        Reply::Below { .. } => b"R11",
-        Reply::NoConfig => b"R12",
-        Reply::NameInUse => b"R13",
-        Reply::Exit { .. } => b"R14",
-        Reply::UnknownClass { .. } => b"R15",
-        Reply::NoQuantity { .. } => b"R16",
-        Reply::NoGroup { .. } => b"R17",
-        Reply::NoVolume { .. } => b"R18",
-        Reply::NotFound => b"R19",
-        Reply::NoExtend(WhyNoExtend::Secondary | WhyNoExtend::Room) => b"R20",
-        Reply::Deck(_) => b"R21",
-        Reply::VolumeInUse(_) => b"R22",
-        Reply::UnknownName => b"R23",
-        Reply::JournalFull => b"R24",
-        Reply::PastGrant { .. } => b"R25",
-        Reply::KeeperFault => b"F30",
-        Reply::Memory => b"M31",
+        Reply::Granted { .. } => 0,
+        Reply::NotManaged { .. } => 1,
+        Reply::Extended { .. } => 2,
+        Reply::Deleted { .. } => 3,
+        Reply::Activated { .. } => 4,
+        Reply::Varied { .. } => 5,
+        Reply::Shown(View::Group { .. } | View::Volume(_) | View::Set(_)) => 6,
+        Reply::Purged { .. } => 7,
+        Reply::Noted => 8,
+        Reply::Released { .. } => 9,
+        Reply::KeeperFault => 10,
+        Reply::Memory => 11,
+        Reply::Reused { .. } => 12,
+        Reply::Below { .. } => 13,
+        Reply::NoConfig => 14,
+        Reply::NameInUse => 15,
+        Reply::Exit { .. } => 16,
+        Reply::UnknownClass { .. } => 17,
+        Reply::NoQuantity { .. } => 18,
+        Reply::NoGroup { .. } => 19,
+        Reply::NoVolume { .. } => 20,
+        Reply::NotFound => 21,
+        Reply::NoExtend(WhyNoExtend::Secondary | WhyNoExtend::Room) => 22,
+        Reply::Deck(_) => 23,
+        Reply::VolumeInUse(_) => 24,
+        Reply::UnknownName => 25,
+        Reply::JournalFull => 26,
+        Reply::PastGrant { .. } => 27,
     }
 }

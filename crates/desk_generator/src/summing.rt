@@ -1,9 +1,9 @@
 //! The summary of a generated run.
-ghost use Rattle.std.specs.Prelude.{◌≡◌, ◌≤◌, ◌<◌, ◌-◌, ◌^◌, ◌++◌, ◌∷◌, [], codes, decimal, flat_map, length, map, IfOk, OnOk};
+ghost use Rattle.std.specs.Prelude.{◌≡◌, ◌≤◌, ◌<◌, ◌-◌, ◌^◌, ◌++◌, ◌∷◌, [], List, ℕ, codes, decimal, flat_map, length, map, IfOk, OnOk};
 ghost use Rattle.sms_script.specs.AnswerText.{end_text};
-ghost use Rattle.desk_generator.specs.Summary.{count_line, counts_text, free_in, granted_in, line_of, summary_of, times_answered, tracks_text};
+ghost use Rattle.desk_generator.specs.Summary.{count_line, counts_text, free_in, granted_in, line_of, summary_of, tracks_text};
 
-use crate::counting::{CODES, times_answered};
+use crate::counting::{CODES, counts_of};
 use desk_common::push_number;
 use sms_construct::{Answer, VolRow};
 use std::alloc::{AllocError, Global};
@@ -46,22 +46,23 @@ fn push_end(text: &mut Vec<u8>, entries: u64, items: u64) -> Result<(), AllocErr
 fn push_counts(text: &mut Vec<u8>, answers: &[Answer]) -> Result<(), AllocError>
     ensures { OnOk result (text.new.items ≡ text.old.items ++ counts_text answers.now) }
 {
-    push_each(text, &CODES, answers)
+    push_each(text, &CODES, &counts_of(answers))
 }
 
-fn push_each(text: &mut Vec<u8>, all: &[&[u8]], answers: &[Answer]) -> Result<(), AllocError>
-    ensures { OnOk result (text.new.items ≡ text.old.items ++ flat_map (λ code. count_line code (times_answered code answers.now)) (map (λ code. code.now) all.now)) }
+fn push_each(text: &mut Vec<u8>, all: &[&[u8]], counts: &[u64]) -> Result<(), AllocError>
+    requires { length counts.now ≡ length all.now }
+    ensures { (times : List ℕ → ℕ) → counts.now ≡ map times (map (λ code. code.now) all.now) → OnOk result (text.new.items ≡ text.old.items ++ flat_map (λ code. count_line code (times code)) (map (λ code. code.now) all.now)) }
 {
-    for code in all {
-        push_count(text, code, answers)?;
+    for (at, code) in all.iter().enumerate() {
+        push_count(text, code, counts[at])?;
     }
     Ok(())
 }
 
-fn push_count(text: &mut Vec<u8>, code: &[u8], answers: &[Answer]) -> Result<(), AllocError>
-    ensures { OnOk result (text.new.items ≡ text.old.items ++ count_line code.now (times_answered code.now answers.now)) }
+fn push_count(text: &mut Vec<u8>, code: &[u8], times: u64) -> Result<(), AllocError>
+    ensures { OnOk result (text.new.items ≡ text.old.items ++ count_line code.now times) }
 {
-    match times_answered(code, answers) {
+    match times {
         0 => Ok(()),
         times => push_one(text, code, times),
     }
