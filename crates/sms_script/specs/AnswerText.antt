@@ -1,8 +1,9 @@
 -- Answers as text.
-use Rattle.std.specs.Prelude.{ℕ, List, [], ◌∷◌, ◌++◌, decimal, codes, flat_map, length, map}
+use Rattle.std.specs.Prelude.{ℕ, List, [], ◌∷◌, ◌++◌, Option, None, Some, decimal, codes, flat_map, length, map}
 use Rattle.acs_tree.specs.Variables.{name_of}
 use Rattle.sms_construct.specs.declared.data_set.DataSet.{DataSet}
 use Rattle.sms_construct.specs.declared.entry.Answer.{Answer}
+use Rattle.sms_construct.specs.declared.extent.Extent.{Extent}
 use Rattle.sms_construct.specs.declared.reply.Reply.{Reply}
 use Rattle.sms_construct.specs.declared.reply.Reply.TheVariants.{Granted, NotManaged, Extended, Deleted, Activated, Varied, Shown, Purged, Noted, Released, Reused, Below, NoConfig, NameInUse, Exit, UnknownClass, NoQuantity, NoGroup, NoVolume, NotFound, NoExtend, Deck, VolumeInUse, UnknownName, JournalFull, PastGrant, KeeperFault, Memory}
 use Rattle.sms_construct.specs.declared.trace.Trace.{Trace}
@@ -108,6 +109,25 @@ further_lines JournalFull = []
 further_lines (PastGrant granted) = []
 further_lines KeeperFault = []
 further_lines Memory = []
+
+-- the line of a data set's classes, where one is told
+abbrev pub class_lines : Option DataSet → List (List ℕ)
+class_lines None = []
+class_lines (Some set) = class_text set ∷ []
+
+-- the line of the tracks that are used, where they are told
+abbrev pub used_lines : Option ℕ → List (List ℕ)
+used_lines None = []
+used_lines (Some used) = used_text used ∷ []
+
+-- the lines of a trace, where one is told
+abbrev pub told_lines : Option Trace → List (List ℕ)
+told_lines None = []
+told_lines (Some trace) = trace_lines trace
+
+-- the lines of what may stand behind the first one
+abbrev pub behind_lines : Option DataSet → Option ℕ → List Extent → Option Trace → List (List ℕ)
+behind_lines class used extents trace = class_lines class ++ (used_lines used ++ (map extent_text extents ++ told_lines trace))
 
 -- the lines of an answer: its reply, and what stands behind that
 abbrev pub answer_lines : Answer → List (List ℕ)

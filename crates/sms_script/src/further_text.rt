@@ -1,118 +1,169 @@
-//! The lines behind the first one of an answer.
-ghost use Rattle.std.specs.Prelude.{◌≡◌, ◌++◌, map, IfOk, OnOk};
-ghost use Rattle.sms_script.specs.AnswerText.{further_lines, granted_lines, shown_lines, used_text, view_lines};
+// The lines behind the first one of an answer, as lines and as text.
+ghost use Rattle.std.specs.Prelude.{◌≡◌, ◌++◌, flat_map, map, OnOk};
+ghost use Rattle.std.specs.Option.{option_copied};
+ghost use Rattle.sms_script.specs.AnswerText.{behind_lines, class_lines, indented, told_lines, used_lines, used_text};
 ghost use Rattle.sms_script.specs.NameText.{class_text, extent_text};
 
-use crate::pushing::{name_bytes, push_number_and_blank, push_word_and_blank};
+use crate::behind::Behind;
+use crate::pushing::{name_bytes, push_counted, push_number_and_blank, push_word_and_blank};
 use crate::text_lines::{TextLines, push_line};
-use crate::trace_text::push_trace;
+use crate::trace_text::{push_trace, push_trace_text};
 use desk_common::push_number;
-use sms_construct::{DataSet, Extent, Reply, Trace, View};
+use sms_construct::{DataSet, Extent, Trace};
 use std::alloc::{AllocError, Global};
 
-/// Puts the lines behind the first one of a reply behind others.
-pub fn push_further(alloc: Global, lines: &mut TextLines, reply: &Reply) -> Result<(), AllocError>
-    ensures { OnOk result (lines.new ≡ lines.old ++ further_lines reply.now) }
-{
-    match reply {
-        Reply::Granted { set, trace } => push_granted(alloc, lines, set.get(), trace.get()),
-        Reply::Extended { added } => push_extents(alloc, lines, added.get().as_slice()),
-        Reply::Shown(view) => push_view_lines(alloc, lines, view),
-        Reply::NotManaged { trace } => push_trace(alloc, lines, trace.get()),
-        Reply::Exit { trace, .. } => push_trace(alloc, lines, trace.get()),
-        Reply::UnknownClass { trace, .. } => push_trace(alloc, lines, trace.get()),
-        Reply::NoQuantity { trace } => push_trace(alloc, lines, trace.get()),
-        Reply::NoGroup { trace } => push_trace(alloc, lines, trace.get()),
-        Reply::NoVolume { trace } => push_trace(alloc, lines, trace.get()),
-        Reply::Deleted { .. }
-        | Reply::Activated { .. }
-        | Reply::Varied { .. }
-        | Reply::Purged { .. }
-        | Reply::Noted
-        | Reply::Released { .. }
-        | Reply::Reused { .. }
-        | Reply::Below { .. }
-        | Reply::NoConfig
-        | Reply::NameInUse
-        | Reply::NotFound
-        | Reply::NoExtend(_)
-        | Reply::Deck(_)
-        | Reply::VolumeInUse(_)
-        | Reply::UnknownName
-        | Reply::JournalFull
-        | Reply::PastGrant { .. }
-        | Reply::KeeperFault
-        | Reply::Memory => Ok(()),
-    }
-}
-
-// The lines of a data set that was allocated, and what its routines wrote.
-fn push_granted(
+/// Puts the lines behind others.
+pub fn push_behind(
     alloc: Global,
     lines: &mut TextLines,
-    set: &DataSet,
-    trace: &Trace,
+    behind: &Behind<'_>,
 ) -> Result<(), AllocError>
-    ensures { OnOk result (lines.new ≡ lines.old ++ granted_lines set.now trace.now) }
+    ensures { OnOk result (lines.new ≡ lines.old ++ behind_lines (option_copied behind.now.class) behind.now.used behind.now.extents.now (option_copied behind.now.trace)) }
 {
-    push_line(lines, class_text(alloc, set)?)?;
-    push_extents(alloc, lines, set.extents.as_slice())?;
-    push_trace(alloc, lines, trace)
+    push_class_line(alloc, lines, behind.class)?;
+    push_used_line(alloc, lines, behind.used)?;
+    push_extent_lines(alloc, lines, behind.extents)?;
+    push_trace_lines(alloc, lines, behind.trace)
 }
 
-/// Puts the lines behind the first one of a view behind others.
-pub fn push_view_lines(alloc: Global, lines: &mut TextLines, view: &View) -> Result<(), AllocError>
-    ensures { OnOk result (lines.new ≡ lines.old ++ view_lines view.now) }
+/// Puts the text of the lines behind another: two spaces before each and LF behind it.
+pub fn push_behind_text(text: &mut Vec<u8>, behind: &Behind<'_>) -> Result<(), AllocError>
+    ensures { OnOk result (text.new.items ≡ text.old.items ++ flat_map indented (behind_lines (option_copied behind.now.class) behind.now.used behind.now.extents.now (option_copied behind.now.trace))) }
 {
-    match view {
-        View::Set(set) => push_set_lines(alloc, lines, set.get()),
-        View::Group { .. } | View::Volume(_) => Ok(()),
-    }
+    push_class_text(text, behind.class)?;
+    push_used_text(text, behind.used)?;
+    push_extents_text(text, behind.extents)?;
+    push_further_trace(text, behind.trace)
 }
 
-// The lines of a data set that is shown.
-fn push_set_lines(alloc: Global, lines: &mut TextLines, set: &DataSet) -> Result<(), AllocError>
-    ensures { OnOk result (lines.new ≡ lines.old ++ shown_lines set.now) }
+fn push_class_line(
+    alloc: Global,
+    lines: &mut TextLines,
+    set: Option<&DataSet>,
+) -> Result<(), AllocError>
+    ensures { OnOk result (lines.new ≡ lines.old ++ class_lines (option_copied set)) }
 {
-    push_line(lines, class_text(alloc, set)?)?;
-    push_line(lines, used_text(alloc, set.used)?)?;
-    push_extents(alloc, lines, set.extents.as_slice())
+    let Some(set) = set else {
+        return Ok(());
+    };
+    let mut line = Vec::new(alloc);
+    push_class(&mut line, set)?;
+    push_line(lines, line)
 }
 
-fn used_text(alloc: Global, used: u32) -> Result<Vec<u8>, AllocError>
-    ensures { IfOk result (λ text. text.items ≡ used_text used) }
+fn push_class_text(text: &mut Vec<u8>, set: Option<&DataSet>) -> Result<(), AllocError>
+    ensures { OnOk result (text.new.items ≡ text.old.items ++ flat_map indented (class_lines (option_copied set))) }
 {
-    let mut text = Vec::from_slice(alloc, b"USED ")?;
-    push_number(&mut text, u64::from(used))?;
-    Ok(text)
+    let Some(set) = set else {
+        return Ok(());
+    };
+    text.extend_from_slice(b"  ")?;
+    push_class(text, set)?;
+    text.extend_from_slice(b"\n")
 }
 
-fn class_text(alloc: Global, set: &DataSet) -> Result<Vec<u8>, AllocError>
-    ensures { IfOk result (λ text. text.items ≡ class_text set.now) }
+// The classes of a data set and its storage group.
+fn push_class(text: &mut Vec<u8>, set: &DataSet) -> Result<(), AllocError>
+    ensures { OnOk result (text.new.items ≡ text.old.items ++ class_text set.now) }
 {
-    let mut text = Vec::from_slice(alloc, b"CLASS ")?;
-    push_word_and_blank(&mut text, name_bytes(&set.dataclas))?;
-    push_word_and_blank(&mut text, set.storclas.bytes())?;
-    push_word_and_blank(&mut text, name_bytes(&set.mgmtclas))?;
-    text.extend_from_slice(set.group.bytes())?;
-    Ok(text)
+    text.extend_from_slice(b"CLASS ")?;
+    push_word_and_blank(text, name_bytes(&set.dataclas))?;
+    push_word_and_blank(text, set.storclas.bytes())?;
+    push_word_and_blank(text, name_bytes(&set.mgmtclas))?;
+    text.extend_from_slice(set.group.bytes())
 }
 
-fn push_extents(alloc: Global, lines: &mut TextLines, extents: &[Extent]) -> Result<(), AllocError>
+fn push_used_line(
+    alloc: Global,
+    lines: &mut TextLines,
+    used: Option<u32>,
+) -> Result<(), AllocError>
+    ensures { OnOk result (lines.new ≡ lines.old ++ used_lines used) }
+{
+    let Some(used) = used else {
+        return Ok(());
+    };
+    let mut line = Vec::new(alloc);
+    push_used(&mut line, used)?;
+    push_line(lines, line)
+}
+
+fn push_used_text(text: &mut Vec<u8>, used: Option<u32>) -> Result<(), AllocError>
+    ensures { OnOk result (text.new.items ≡ text.old.items ++ flat_map indented (used_lines used)) }
+{
+    let Some(used) = used else {
+        return Ok(());
+    };
+    text.extend_from_slice(b"  ")?;
+    push_used(text, used)?;
+    text.extend_from_slice(b"\n")
+}
+
+fn push_used(text: &mut Vec<u8>, used: u32) -> Result<(), AllocError>
+    ensures { OnOk result (text.new.items ≡ text.old.items ++ used_text used) }
+{
+    push_counted(text, b"USED ", u64::from(used))
+}
+
+fn push_extent_lines(
+    alloc: Global,
+    lines: &mut TextLines,
+    extents: &[Extent],
+) -> Result<(), AllocError>
     ensures { OnOk result (lines.new ≡ lines.old ++ map extent_text extents.now) }
 {
     for extent in extents {
-        push_line(lines, extent_text(alloc, extent)?)?;
+        let mut line = Vec::new(alloc);
+        push_extent(&mut line, extent)?;
+        push_line(lines, line)?;
     }
     Ok(())
 }
 
-fn extent_text(alloc: Global, extent: &Extent) -> Result<Vec<u8>, AllocError>
-    ensures { IfOk result (λ text. text.items ≡ extent_text extent.now) }
+fn push_extents_text(text: &mut Vec<u8>, extents: &[Extent]) -> Result<(), AllocError>
+    ensures { OnOk result (text.new.items ≡ text.old.items ++ flat_map indented (map extent_text extents.now)) }
 {
-    let mut text = Vec::from_slice(alloc, b"EXTENT ")?;
-    push_word_and_blank(&mut text, extent.volser.bytes())?;
-    push_number_and_blank(&mut text, u64::from(extent.start))?;
-    push_number(&mut text, u64::from(extent.length))?;
-    Ok(text)
+    for extent in extents {
+        push_extent_text(text, extent)?;
+    }
+    Ok(())
+}
+
+fn push_extent_text(text: &mut Vec<u8>, extent: &Extent) -> Result<(), AllocError>
+    ensures { OnOk result (text.new.items ≡ text.old.items ++ indented (extent_text extent.now)) }
+{
+    text.extend_from_slice(b"  ")?;
+    push_extent(text, extent)?;
+    text.extend_from_slice(b"\n")
+}
+
+fn push_extent(text: &mut Vec<u8>, extent: &Extent) -> Result<(), AllocError>
+    ensures { OnOk result (text.new.items ≡ text.old.items ++ extent_text extent.now) }
+{
+    text.extend_from_slice(b"EXTENT ")?;
+    push_word_and_blank(text, extent.volser.bytes())?;
+    push_number_and_blank(text, u64::from(extent.start))?;
+    push_number(text, u64::from(extent.length))
+}
+
+fn push_trace_lines(
+    alloc: Global,
+    lines: &mut TextLines,
+    trace: Option<&Trace>,
+) -> Result<(), AllocError>
+    ensures { OnOk result (lines.new ≡ lines.old ++ told_lines (option_copied trace)) }
+{
+    match trace {
+        Some(trace) => push_trace(alloc, lines, trace),
+        None => Ok(()),
+    }
+}
+
+fn push_further_trace(text: &mut Vec<u8>, trace: Option<&Trace>) -> Result<(), AllocError>
+    ensures { OnOk result (text.new.items ≡ text.old.items ++ flat_map indented (told_lines (option_copied trace))) }
+{
+    match trace {
+        Some(trace) => push_trace_text(text, trace),
+        None => Ok(()),
+    }
 }

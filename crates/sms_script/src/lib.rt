@@ -2,6 +2,7 @@
 #![tactic(auto)]
 
 mod allocation;
+mod behind;
 mod command;
 mod deck_block;
 mod fault_text;

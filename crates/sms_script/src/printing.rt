@@ -1,16 +1,17 @@
 //! Answers as text.
-ghost use Rattle.std.specs.Prelude.{◌≡◌, ◌++◌, ◌∷◌, [], flat_map, length, IfOk, OnOk, decimal};
+ghost use Rattle.std.specs.Prelude.{◌≡◌, ◌++◌, ◌∷◌, [], length, IfOk, OnOk, decimal};
 ghost use Rattle.desk_common.specs.Bytes.{space_byte};
 ghost use Rattle.sms_script.specs.Script.{items_of};
-ghost use Rattle.sms_script.specs.AnswerText.{answer_lines, end_text, further_lines, head_text, indented, item_text, items_text, text_of, view_lines, view_text};
+ghost use Rattle.sms_script.specs.AnswerText.{answer_lines, end_text, head_text, item_text, items_text, text_of, view_lines, view_text};
 
-use crate::further_text::{push_further, push_view_lines};
+use crate::behind::{behind_reply, behind_view};
+use crate::further_text::{push_behind, push_behind_text};
 use crate::item::{Item, Phase, Script};
 use crate::pushing::{push_number_and_blank, push_word_and_blank};
 use crate::reply_text::{push_reply, push_view};
 use crate::text_lines::{TextLines, push_line};
 use desk_common::{Items, push_number};
-use sms_construct::{Answer, Reply, View};
+use sms_construct::{Answer, View};
 use std::alloc::{AllocError, Global};
 
 /// The lines of an answer: its reply, and what stands behind that (docs/script.md, "Answers").
@@ -21,7 +22,7 @@ pub fn answer_lines(alloc: Global, answer: &Answer) -> Result<TextLines, AllocEr
     push_reply(&mut first, &answer.reply)?;
     let mut lines = Items::new(alloc);
     push_line(&mut lines, first)?;
-    push_further(alloc, &mut lines, &answer.reply)?;
+    push_behind(alloc, &mut lines, &behind_reply(&answer.reply))?;
     Ok(lines)
 }
 
@@ -33,7 +34,7 @@ pub fn view_lines(alloc: Global, view: &View) -> Result<TextLines, AllocError>
     push_view(&mut first, view)?;
     let mut lines = Items::new(alloc);
     push_line(&mut lines, first)?;
-    push_view_lines(alloc, &mut lines, view)?;
+    push_behind(alloc, &mut lines, &behind_view(view))?;
     Ok(lines)
 }
 
@@ -48,13 +49,12 @@ pub fn print(
     ensures { IfOk result (λ text. text.items ≡ text_of script.now answers.now entries) }
 {
     let mut text = Vec::new(alloc);
-    push_phases(alloc, &mut text, script.as_slice(), answers)?;
+    push_phases(&mut text, script.as_slice(), answers)?;
     push_end(&mut text, entries, answers.len() as u64)?;
     Ok(text)
 }
 
 fn push_phases(
-    alloc: Global,
     text: &mut Vec<u8>,
     phases: &[Phase],
     answers: &[Answer],
@@ -65,23 +65,18 @@ fn push_phases(
     let mut rest = answers;
     for phase in phases {
         let (answers, others) = rest.split_at(phase.len());
-        push_items(alloc, text, phase.as_slice(), answers)?;
+        push_items(text, phase.as_slice(), answers)?;
         rest = others;
     }
     Ok(())
 }
 
-fn push_items(
-    alloc: Global,
-    text: &mut Vec<u8>,
-    items: &[Item],
-    answers: &[Answer],
-) -> Result<(), AllocError>
+fn push_items(text: &mut Vec<u8>, items: &[Item], answers: &[Answer]) -> Result<(), AllocError>
     requires { length answers.now ≡ length items.now }
     ensures { OnOk result (text.new.items ≡ text.old.items ++ items_text items.now answers.now) }
 {
     for (at, item) in items.iter().enumerate() {
-        push_item(alloc, text, item, &answers[at])?;
+        push_item(text, item, &answers[at])?;
     }
     Ok(())
 }
@@ -95,44 +90,12 @@ fn push_end(text: &mut Vec<u8>, entries: u64, items: u64) -> Result<(), AllocErr
     text.extend_from_slice(b"\n")
 }
 
-fn push_item(
-    alloc: Global,
-    text: &mut Vec<u8>,
-    item: &Item,
-    answer: &Answer,
-) -> Result<(), AllocError>
+fn push_item(text: &mut Vec<u8>, item: &Item, answer: &Answer) -> Result<(), AllocError>
     ensures { OnOk result (text.new.items ≡ text.old.items ++ item_text item.now answer.now) }
 {
     push_head(text, item, answer)?;
     text.extend_from_slice(b"\n")?;
-    let lines = further_of(alloc, &answer.reply)?;
-    push_indented(text, lines.as_slice())
-}
-
-fn further_of(alloc: Global, reply: &Reply) -> Result<TextLines, AllocError>
-    ensures { IfOk result (λ lines. lines ≡ further_lines reply.now) }
-{
-    let mut lines = Items::new(alloc);
-    push_further(alloc, &mut lines, reply)?;
-    Ok(lines)
-}
-
-// Puts each line behind a text, with two spaces before it and LF behind it.
-fn push_indented(text: &mut Vec<u8>, lines: &[Items<u8>]) -> Result<(), AllocError>
-    ensures { OnOk result (text.new.items ≡ text.old.items ++ flat_map indented lines.now) }
-{
-    for line in lines {
-        push_one(text, line.as_slice())?;
-    }
-    Ok(())
-}
-
-fn push_one(text: &mut Vec<u8>, line: &[u8]) -> Result<(), AllocError>
-    ensures { OnOk result (text.new.items ≡ text.old.items ++ indented line.now) }
-{
-    text.extend_from_slice(b"  ")?;
-    text.extend_from_slice(line)?;
-    text.extend_from_slice(b"\n")
+    push_behind_text(text, &behind_reply(&answer.reply))
 }
 
 fn push_head(text: &mut Vec<u8>, item: &Item, answer: &Answer) -> Result<(), AllocError>

@@ -1,6 +1,7 @@
-//! The lines of a trace.
-ghost use Rattle.std.specs.Prelude.{◌≡◌, ◌++◌, flat_map, OnOk, IfOk};
+//! The lines of a trace, as lines and as text.
+ghost use Rattle.std.specs.Prelude.{◌≡◌, ◌++◌, flat_map, OnOk};
 ghost use Rattle.acs_tree.specs.Slates.{more_of};
+ghost use Rattle.sms_script.specs.AnswerText.{indented};
 ghost use Rattle.sms_script.specs.TraceText.{kind_lines, more_lines, more_text, trace_lines, write_text, written_by};
 
 use crate::pushing::push_word_and_blank;
@@ -20,6 +21,16 @@ pub fn push_trace(alloc: Global, lines: &mut TextLines, trace: &Trace) -> Result
     push_kind(alloc, lines, Kind::StorGrp, trace)
 }
 
+/// Puts the text of these lines behind another: two spaces before each and LF behind it.
+pub fn push_trace_text(text: &mut Vec<u8>, trace: &Trace) -> Result<(), AllocError>
+    ensures { OnOk result (text.new.items ≡ text.old.items ++ flat_map indented (trace_lines trace.now)) }
+{
+    push_kind_text(text, Kind::DataClas, trace)?;
+    push_kind_text(text, Kind::StorClas, trace)?;
+    push_kind_text(text, Kind::MgmtClas, trace)?;
+    push_kind_text(text, Kind::StorGrp, trace)
+}
+
 fn push_kind(
     alloc: Global,
     lines: &mut TextLines,
@@ -30,6 +41,13 @@ fn push_kind(
 {
     push_written(alloc, lines, kind, trace.lines.as_slice())?;
     push_more(alloc, lines, kind, trace.more.of(kind))
+}
+
+fn push_kind_text(text: &mut Vec<u8>, kind: Kind, trace: &Trace) -> Result<(), AllocError>
+    ensures { OnOk result (text.new.items ≡ text.old.items ++ flat_map indented (kind_lines kind trace.now)) }
+{
+    push_written_text(text, kind, trace.lines.as_slice())?;
+    push_more_text(text, kind, trace.more.of(kind))
 }
 
 fn push_written(
@@ -46,6 +64,15 @@ fn push_written(
     Ok(())
 }
 
+fn push_written_text(text: &mut Vec<u8>, kind: Kind, written: &[Line]) -> Result<(), AllocError>
+    ensures { OnOk result (text.new.items ≡ text.old.items ++ flat_map indented (flat_map (written_by kind) written.now)) }
+{
+    for line in written {
+        push_text_of(text, kind, line)?;
+    }
+    Ok(())
+}
+
 // The line, if a routine of this kind wrote it.
 fn push_line_of(
     alloc: Global,
@@ -55,20 +82,32 @@ fn push_line_of(
 ) -> Result<(), AllocError>
     ensures { OnOk result (lines.new ≡ lines.old ++ written_by kind line.now) }
 {
-    if same_kind(line.kind, kind) {
-        push_line(lines, write_text(alloc, line)?)
-    } else {
-        Ok(())
+    if !same_kind(line.kind, kind) {
+        return Ok(());
     }
+    let mut text = Vec::new(alloc);
+    push_write(&mut text, line)?;
+    push_line(lines, text)
 }
 
-fn write_text(alloc: Global, line: &Line) -> Result<Vec<u8>, AllocError>
-    ensures { IfOk result (λ text. text.items ≡ write_text line.now) }
+// Its text, if a routine of this kind wrote it.
+fn push_text_of(text: &mut Vec<u8>, kind: Kind, line: &Line) -> Result<(), AllocError>
+    ensures { OnOk result (text.new.items ≡ text.old.items ++ flat_map indented (written_by kind line.now)) }
 {
-    let mut text = Vec::from_slice(alloc, b"WRITE ")?;
-    push_word_and_blank(&mut text, line.kind.name())?;
-    text.extend_from_slice(line.text.bytes())?;
-    Ok(text)
+    if !same_kind(line.kind, kind) {
+        return Ok(());
+    }
+    text.extend_from_slice(b"  ")?;
+    push_write(text, line)?;
+    text.extend_from_slice(b"\n")
+}
+
+fn push_write(text: &mut Vec<u8>, line: &Line) -> Result<(), AllocError>
+    ensures { OnOk result (text.new.items ≡ text.old.items ++ write_text line.now) }
+{
+    text.extend_from_slice(b"WRITE ")?;
+    push_word_and_blank(text, line.kind.name())?;
+    text.extend_from_slice(line.text.bytes())
 }
 
 fn push_more(alloc: Global, lines: &mut TextLines, kind: Kind, count: u32) -> Result<(), AllocError>
@@ -77,14 +116,26 @@ fn push_more(alloc: Global, lines: &mut TextLines, kind: Kind, count: u32) -> Re
     if count == 0 {
         return Ok(());
     }
-    push_line(lines, more_text(alloc, kind, count)?)
+    let mut text = Vec::new(alloc);
+    push_count(&mut text, kind, count)?;
+    push_line(lines, text)
 }
 
-fn more_text(alloc: Global, kind: Kind, count: u32) -> Result<Vec<u8>, AllocError>
-    ensures { IfOk result (λ text. text.items ≡ more_text kind count) }
+fn push_more_text(text: &mut Vec<u8>, kind: Kind, count: u32) -> Result<(), AllocError>
+    ensures { OnOk result (text.new.items ≡ text.old.items ++ flat_map indented (more_lines kind count)) }
 {
-    let mut text = Vec::from_slice(alloc, b"MORE ")?;
-    push_word_and_blank(&mut text, kind.name())?;
-    push_number(&mut text, u64::from(count))?;
-    Ok(text)
+    if count == 0 {
+        return Ok(());
+    }
+    text.extend_from_slice(b"  ")?;
+    push_count(text, kind, count)?;
+    text.extend_from_slice(b"\n")
+}
+
+fn push_count(text: &mut Vec<u8>, kind: Kind, count: u32) -> Result<(), AllocError>
+    ensures { OnOk result (text.new.items ≡ text.old.items ++ more_text kind count) }
+{
+    text.extend_from_slice(b"MORE ")?;
+    push_word_and_blank(text, kind.name())?;
+    push_number(text, u64::from(count))
 }
