@@ -1,5 +1,5 @@
 -- What is read off rows that are added and dropped.
-use Rattle.std.proofs.Common.{◌≡◌, Bool, true, false, not, cond, List, [], ◌∷◌, ◌++◌, filter, map, Option, Some, None, refl, ap, sym, subst, ◌∙◌}
+use Rattle.std.proofs.Common.{◌≡◌, Bool, true, false, not, cond, List, [], ◌∷◌, ◌++◌, filter, map, Option, Some, None, refl, ap, ap₂, sym, subst, ◌∙◌}
 use Rattle.std.specs.List.{list_any}
 use Rattle.sms_sqlite.specs.Values.{each_in, joined}
 
@@ -51,11 +51,6 @@ module _ {A B : Type 0} (read : A → Option B) where
       let p = joins (read r) (each_in read rows) xs all in
       rw (alike r p.first p.here, each_any test test′ alike rows p.others p.there) (ap (list_any test′) (sym p.is))
 
-  -- rows that are written and read again
-  pub each_map : (write : B → A) (xs : List B) → (P : B → Type 0) → ((x : B) → P x → read (write x) ≡ Some x) → Rattle.std.specs.List.AllByRecursion P xs → each_in read (map write xs) ≡ Some xs
-  each_map write [] P again all = refl
-  each_map write (x ∷ xs) P again all = rw (again x all.0, each_map write xs P again all.1) refl
-
   -- rows in two parts
   pub record Parts (front back : List A) (xs : List B) : Type 0 where
     pub before : List B
@@ -69,7 +64,7 @@ module _ {A B : Type 0} (read : A → Option B) where
   each_parts (r ∷ front) back xs all =
       let p = joins (read r) (each_in read (front ++ back)) xs all in
       let more = each_parts front back p.others p.there in
-      record { before = p.first ∷ more.before; behind = more.behind; front_is = rw (p.here, more.front_is) refl; back_is = more.back_is; is = p.is ∙ ap (λ (l : List _). p.first ∷ l) more.is }
+      record { before = p.first ∷ more.before; behind = more.behind; front_is = ap₂ joined p.here more.front_is; back_is = more.back_is; is = p.is ∙ ap (λ (l : List _). p.first ∷ l) more.is }
 
   pub each_append : (front back : List A) (before behind : List B) → each_in read front ≡ Some before → each_in read back ≡ Some behind → each_in read (front ++ back) ≡ Some (before ++ behind)
   each_append [] back before behind one two = two ∙ ap (λ (l : List _). some (l ++ behind)) (some_is [] before one)

@@ -58,51 +58,79 @@ module _ (target : Target) (status : Status) where
   abbrev new : StatusRow
   new = record { target = target; status = status }
 
+  -- the rows that a test leaves of a row and more
+  after_row : (x : StatusRow) (rows : List StatusRow) (b : Bool) → here x ≡ b → filter here (x ∷ rows) ≡ cond b (x ∷ filter here rows) (filter here rows)
+  after_row x rows b is = ap (λ c. cond c (x ∷ filter here rows) (filter here rows)) is
+
+  row_as : (x : StatusRow) (b : Bool) → here x ≡ b → row_with target status x ≡ record { target = x.target; status = cond b status x.status }
+  row_as x b is = ap (λ c. let r : StatusRow = record { target = x.target; status = cond c status x.status } in r) is
+
+  none_set_at : (x : StatusRow) (rows : List StatusRow) (b : Bool) → here x ≡ b → filter here (x ∷ rows) ≡ [] → (filter here rows ≡ [] → map (row_with target status) rows ≡ rows)
+      → map (row_with target status) (x ∷ rows) ≡ x ∷ rows
+  none_set_at x rows true is none next = absurd (let e : x ∷ filter here rows ≡ [] = sym (after_row x rows true is) ∙ none in cc)
+  none_set_at x rows false is none next =
+      ap₂ (λ (y : StatusRow) (ys : List StatusRow). y ∷ ys) (row_as x false is) (next (sym (after_row x rows false is) ∙ none))
+
   -- where no row is the target's, none is changed
   pub none_set : (rows : List StatusRow) → filter here rows ≡ [] → map (row_with target status) rows ≡ rows
   none_set [] none = refl
-  none_set (x ∷ rows) none = by (here x) refl
-    where
-      by : (b : Bool) → here x ≡ b → map (row_with target status) (x ∷ rows) ≡ x ∷ rows
-      by true is = absurd (let e : x ∷ filter here rows ≡ [] = sym (ap (λ b. cond b (x ∷ filter here rows) (filter here rows)) is) ∙ none in cc)
-      by false is =
-          let less : filter here rows ≡ [] = sym (ap (λ b. cond b (x ∷ filter here rows) (filter here rows)) is) ∙ none in
-          ap₂ (λ (y : StatusRow) (ys : List StatusRow). y ∷ ys) (ap (λ b. let r : StatusRow = record { target = x.target; status = cond b status x.status } in r) is) (none_set rows less)
+  none_set (x ∷ rows) none = none_set_at x rows (here x) refl none (λ less. none_set rows less)
+
+  none_dropped_at : (x : StatusRow) (rows : List StatusRow) (b : Bool) → here x ≡ b → filter here (x ∷ rows) ≡ [] → (filter here rows ≡ [] → filter (λ row. not (here row)) rows ≡ rows)
+      → filter (λ row. not (here row)) (x ∷ rows) ≡ x ∷ rows
+  none_dropped_at x rows true is none next = absurd (let e : x ∷ filter here rows ≡ [] = sym (after_row x rows true is) ∙ none in cc)
+  none_dropped_at x rows false is none next =
+      ap (λ c. cond (not c) (x ∷ filter (λ row. not (here row)) rows) (filter (λ row. not (here row)) rows)) is
+      ∙ ap (λ (l : List StatusRow). x ∷ l) (next (sym (after_row x rows false is) ∙ none))
+
+  -- and none is dropped
+  pub none_dropped : (rows : List StatusRow) → filter here rows ≡ [] → filter (λ row. not (here row)) rows ≡ rows
+  none_dropped [] none = refl
+  none_dropped (x ∷ rows) none = none_dropped_at x rows (here x) refl none (λ less. none_dropped rows less)
 
   -- under another key the rows stay
   other_key : (key : Target) (x : StatusRow) → same_target target key ≡ false → here x ≡ true → is_status_of key x ≡ false
   other_key key x apart is = ap (λ t. same_target t key) (target_same x.target target is) ∙ apart
 
-  others_stay : (key : Target) → same_target target key ≡ false → (rows : List StatusRow)
-      → filter (is_status_of key) (filter (λ row. not (here row)) rows) ≡ filter (is_status_of key) (map (row_with target status) rows)
-  others_stay key apart [] = refl
-  others_stay key apart (x ∷ rows) = by (here x) refl
-    where
-      rest : filter (is_status_of key) (filter (λ row. not (here row)) rows) ≡ filter (is_status_of key) (map (row_with target status) rows)
-      rest = others_stay key apart rows
+  abbrev left : List StatusRow → List StatusRow
+  left = filter (λ row. not (here row))
 
-      by : (b : Bool) → here x ≡ b → filter (is_status_of key) (filter (λ row. not (here row)) (x ∷ rows)) ≡ filter (is_status_of key) (map (row_with target status) (x ∷ rows))
-      by true is = rw (is, other_key key x apart is) rest
-      by false is =
-          let same : row_with target status x ≡ x = ap (λ b. let r : StatusRow = record { target = x.target; status = cond b status x.status } in r) is in
-          rw (is, same) (ap (λ l. cond (is_status_of key x) (x ∷ l) l) rest)
+  abbrev changed : List StatusRow → List StatusRow
+  changed = map (row_with target status)
+
+  others_stay_at : (key : Target) (x : StatusRow) (rows : List StatusRow) (b : Bool) → here x ≡ b → same_target target key ≡ false
+      → filter (is_status_of key) (left rows) ≡ filter (is_status_of key) (changed rows) → filter (is_status_of key) (left (x ∷ rows)) ≡ filter (is_status_of key) (changed (x ∷ rows))
+  others_stay_at key x rows true is apart rest =
+      ap (λ c. filter (is_status_of key) (cond (not c) (x ∷ left rows) (left rows))) is ∙ rest
+      ∙ sym (ap (λ c. cond c (row_with target status x ∷ filter (is_status_of key) (changed rows)) (filter (is_status_of key) (changed rows))) (other_key key x apart is))
+  others_stay_at key x rows false is apart rest =
+      ap (λ c. filter (is_status_of key) (cond (not c) (x ∷ left rows) (left rows))) is
+      ∙ ap (λ (l : List StatusRow). cond (is_status_of key x) (x ∷ l) l) rest
+      ∙ ap (λ (y : StatusRow). cond (is_status_of key x) (y ∷ filter (is_status_of key) (changed rows)) (filter (is_status_of key) (changed rows))) (sym (row_as x false is))
+
+  others_stay : (key : Target) → same_target target key ≡ false → (rows : List StatusRow) → filter (is_status_of key) (left rows) ≡ filter (is_status_of key) (changed rows)
+  others_stay key apart [] = refl
+  others_stay key apart (x ∷ rows) = others_stay_at key x rows (here x) refl apart (others_stay key apart rows)
+
+  gone_here_at : (x : StatusRow) (rows : List StatusRow) (b : Bool) → here x ≡ b → filter here (left rows) ≡ [] → filter here (left (x ∷ rows)) ≡ []
+  gone_here_at x rows true is rest = ap (λ c. filter here (cond (not c) (x ∷ left rows) (left rows))) is ∙ rest
+  gone_here_at x rows false is rest = ap (λ c. filter here (cond (not c) (x ∷ left rows) (left rows))) is ∙ after_row x (left rows) false is ∙ rest
 
   -- under the target's key there is the one row
-  pub gone_here : (rows : List StatusRow) → filter here (filter (λ row. not (here row)) rows) ≡ []
+  pub gone_here : (rows : List StatusRow) → filter here (left rows) ≡ []
   gone_here [] = refl
-  gone_here (x ∷ rows) = by (here x) refl
-    where
-      by : (b : Bool) → here x ≡ b → filter here (filter (λ row. not (here row)) (x ∷ rows)) ≡ []
-      by true is = rw is (gone_here rows)
-      by false is = rw (is, is) (gone_here rows)
+  gone_here (x ∷ rows) = gone_here_at x rows (here x) refl (gone_here rows)
 
-  mapped_here : (rows : List StatusRow) → filter here (map (row_with target status) rows) ≡ map (row_with target status) (filter here rows)
+  mapped_here_at : (x : StatusRow) (rows : List StatusRow) (b : Bool) → here x ≡ b → filter here (changed rows) ≡ changed (filter here rows) → filter here (changed (x ∷ rows)) ≡ changed (filter here (x ∷ rows))
+  mapped_here_at x rows true is rest =
+      ap (λ c. cond c (row_with target status x ∷ filter here (changed rows)) (filter here (changed rows))) is
+      ∙ ap (λ (l : List StatusRow). row_with target status x ∷ l) rest ∙ sym (ap changed (after_row x rows true is))
+  mapped_here_at x rows false is rest =
+      ap (λ c. cond c (row_with target status x ∷ filter here (changed rows)) (filter here (changed rows))) is ∙ rest ∙ sym (ap changed (after_row x rows false is))
+
+  mapped_here : (rows : List StatusRow) → filter here (changed rows) ≡ changed (filter here rows)
   mapped_here [] = refl
-  mapped_here (x ∷ rows) = by (here x) refl
-    where
-      by : (b : Bool) → here x ≡ b → filter here (map (row_with target status) (x ∷ rows)) ≡ map (row_with target status) (filter here (x ∷ rows))
-      by true is = rw (is, is) (ap (λ (l : List StatusRow). (let r : StatusRow = record { target = x.target; status = status } in r) ∷ l) (mapped_here rows))
-      by false is = rw is (mapped_here rows)
+  mapped_here (x ∷ rows) = mapped_here_at x rows (here x) refl (mapped_here rows)
 
   new_here : here new ≡ true
   new_here = target_self target
@@ -115,35 +143,31 @@ module _ (target : Target) (status : Status) where
       joined true y l m = refl
       joined false y l m = refl
 
+  head_is : (y x : StatusRow) (l m : List StatusRow) → y ∷ l ≡ x ∷ m → y ≡ x
+  head_is y x l m e = cc
+
+  first_is_at : (y x : StatusRow) (rows : List StatusRow) (b : Bool) → here y ≡ b → filter here (y ∷ rows) ≡ x ∷ [] → (filter here rows ≡ x ∷ [] → here x ≡ true) → here x ≡ true
+  first_is_at y x rows true is e next = ap here (sym (head_is y x (filter here rows) [] (sym (after_row y rows true is) ∙ e))) ∙ is
+  first_is_at y x rows false is e next = next (sym (after_row y rows false is) ∙ e)
+
   first_is : (rows : List StatusRow) (x : StatusRow) → filter here rows ≡ x ∷ [] → here x ≡ true
   first_is [] x e = absurd cc
-  first_is (y ∷ rows) x e = by (here y) refl
-    where
-      by : (b : Bool) → here y ≡ b → here x ≡ true
-      by true is =
-          let both : y ∷ filter here rows ≡ x ∷ [] = sym (ap (λ b. cond b (y ∷ filter here rows) (filter here rows)) is) ∙ e in
-          let same : y ≡ x = cc in
-          ap here (sym same) ∙ is
-      by false is = first_is rows x (sym (ap (λ b. cond b (y ∷ filter here rows) (filter here rows)) is) ∙ e)
+  first_is (y ∷ rows) x e = first_is_at y x rows (here y) refl e (λ later. first_is rows x later)
+
+  one_set_at : (rows : List StatusRow) (x : StatusRow) → filter here rows ≡ x ∷ [] → here x ≡ true → (key : Target) (b : Bool) → same_target target key ≡ b
+      → filter (is_status_of key) (left rows ++ new ∷ []) ≡ filter (is_status_of key) (changed rows)
+  one_set_at rows x one passes key false apart = filter_behind (is_status_of key) (left rows) new false apart ∙ append-nil _ ∙ others_stay key apart rows
+  one_set_at rows x one passes key true same =
+      let is : row_with target status x ≡ new =
+      ap₂ (λ (t : Target) (b : Bool). let r : StatusRow = record { target = t; status = cond b status x.status } in r) (target_same x.target target passes) passes in
+      subst (λ k. filter (is_status_of k) (left rows ++ new ∷ []) ≡ filter (is_status_of k) (changed rows)) (target_same target key same)
+      (filter_behind here (left rows) new true new_here ∙ ap (λ (l : List StatusRow). l ++ new ∷ []) (gone_here rows)
+      ∙ sym (mapped_here rows ∙ ap changed one ∙ ap (λ (r : StatusRow). r ∷ []) is))
 
   -- one row is the target's: it is changed, or dropped and added
   pub one_set : (rows : List StatusRow) (x : StatusRow) → filter here rows ≡ x ∷ [] → (key : Target)
       → filter (is_status_of key) (filter (λ row. not (here row)) rows ++ new ∷ []) ≡ filter (is_status_of key) (map (row_with target status) rows)
-  one_set rows x one key = by (same_target target key) refl
-    where
-      by : (b : Bool) → same_target target key ≡ b → filter (is_status_of key) (filter (λ row. not (here row)) rows ++ new ∷ []) ≡ filter (is_status_of key) (map (row_with target status) rows)
-      by false apart =
-          filter_behind (is_status_of key) (filter (λ row. not (here row)) rows) new false apart ∙ append-nil _ ∙ others_stay key apart rows
-      by true same =
-          subst (λ k. filter (is_status_of k) (filter (λ row. not (here row)) rows ++ new ∷ []) ≡ filter (is_status_of k) (map (row_with target status) rows)) (target_same target key same)
-          (filter_behind here (filter (λ row. not (here row)) rows) new true new_here ∙ ap (λ (l : List StatusRow). l ++ new ∷ []) (gone_here rows)
-          ∙ sym (mapped_here rows ∙ ap (map (row_with target status)) one ∙ ap (λ (r : StatusRow). r ∷ []) changed))
-        where
-          passes : here x ≡ true
-          passes = first_is rows x one
-
-          changed : row_with target status x ≡ new
-          changed = ap₂ (λ (t : Target) (b : Bool). let r : StatusRow = record { target = t; status = cond b status x.status } in r) (target_same x.target target passes) passes
+  one_set rows x one key = one_set_at rows x one (first_is rows x one) key (same_target target key) refl
 
 -- statuses added one by one
 

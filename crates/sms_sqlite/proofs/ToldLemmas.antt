@@ -4,6 +4,7 @@ use Rattle.std.specs.Prelude.{IfSome, is_some}
 use Rattle.std.specs.List.{AllByRecursion, list_all}
 use Rattle.sqlite.specs.Effect.{Database}
 use Rattle.sqlite.specs.Order.{Row}
+use Rattle.sqlite.specs.Schema.{Schema}
 use Rattle.sqlite.specs.State.{State, HasCleanDisk, Survives}
 use Rattle.sqlite.specs.Table.{Table}
 use Rattle.sqlite.specs.Tree.{Trees}
@@ -19,6 +20,7 @@ use Rattle.sms_keeper.specs.declared.change.Change.{Change}
 use Rattle.sms_keeper.specs.declared.rows.Rows.{Rows}
 use Rattle.keeper_statements.specs.Schema.{no_schema, desk_schema}
 use Rattle.keeper_statements.specs.Tables.{IsKeyed, IsReady}
+use Rattle.sms_sqlite.specs.Same.{is_same}
 use Rattle.sms_sqlite.specs.Told.{is_keyed, is_new, is_ready, tables_of, is_shown, told_of, IsReadable}
 use Rattle.sms_sqlite.specs.Values.{rows_in}
 use Rattle.sms_sqlite.specs.Writing.{Holds, HoldsLike, AreAlike, HasRows, IsCommitted}
@@ -61,10 +63,7 @@ pub new_is : (db : Database) → is_new db ≡ true → db.schema ≡ no_schema
 new_is db e = same_is the_row.coded db.schema no_schema e
 
 pub new_so : (db : Database) → db.schema ≡ no_schema → is_new db ≡ true
-new_so db e = same_self_at db.schema no_schema e
-  where
-    same_self_at : (s t : _) → s ≡ t → Rattle.sms_sqlite.specs.Same.is_same the_row.coded s t ≡ true
-    same_self_at s t same = subst (λ x. Rattle.sms_sqlite.specs.Same.is_same the_row.coded s x ≡ true) same (same_self the_row.coded s)
+new_so db e = subst (λ x. is_same the_row.coded db.schema x ≡ true) e (same_self the_row.coded db.schema)
 
 ready_is : (db : Database) → is_ready db ≡ true → IsReady db
 ready_is db e =
@@ -73,14 +72,14 @@ ready_is db e =
 
 ready_so : (db : Database) → IsReady db → is_ready db ≡ true
 ready_so db ready = and_true _ _
-    (subst (λ x. Rattle.sms_sqlite.specs.Same.is_same the_row.coded db.schema x ≡ true) ready.schema (same_self the_row.coded db.schema))
+    (subst (λ x. is_same the_row.coded db.schema x ≡ true) ready.schema (same_self the_row.coded db.schema))
     (keyed_tables desk_schema.tables db.trees ready.keyed)
 
 made_is_not_new : (db : Database) → db.schema ≡ desk_schema → is_new db ≡ false
 made_is_not_new db made = by (is_new db) refl
   where
     by : (b : Bool) → is_new db ≡ b → is_new db ≡ false
-    by true is = absurd (let e : ◌≡◌ {A = ℕ} 0 5 = ap (λ (s : _). length s.tables) (sym (new_is db is) ∙ made) in omega (arith, e))
+    by true is = absurd (let e : ◌≡◌ {A = ℕ} 0 5 = ap (λ (s : Schema). length s.tables) (sym (new_is db is) ∙ made) in omega (arith, e))
     by false is = is
 
 pub tables_of_holds : (db : Database) (rows : Rows) → Holds db rows → tables_of db ≡ Some rows

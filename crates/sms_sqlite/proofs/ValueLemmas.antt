@@ -80,8 +80,8 @@ pub set_named : (row : Row) (set : DataSet) → set_in row ≡ Some set → colu
 unfolding set_in
 set_named row set e =
     let a = bind_some _ _ set e in
-    let b = bind_some _ _ set a.2 in
-    let c = bind_some _ _ set b.2 in
+    let b = bind_some (bytes_in (column row 1)) _ set a.2 in
+    let c = bind_some (whole data_set_form b.0) _ set b.2 in
     let d = guard_some_of (bytes_eq c.0.dsn a.0) c.0 set c.2 in
     let name : c.0.dsn ≡ a.0 = (bytes_eq-Decides c.0.dsn a.0).0 d.0 in
     text_is (column row 0) a.0 a.1 ∙ ap Text (sym name ∙ ap (λ (x : DataSet). x.dsn) d.1)
@@ -93,12 +93,12 @@ reply_numbered row x e =
     let b = bind_some _ _ x a.2 in
     let c = bind_some _ _ x b.2 in
     let d = bind_some _ _ x c.2 in
-    let f = bind_some _ _ x d.2 in
-    let h = bind_some _ _ x f.2 in
-    let i = bind_some _ _ x h.2 in
-    let j = bind_some _ _ x i.2 in
-    let k = bind_some _ _ x j.2 in
-    let is = some_is _ x k.2 in (
+    let f = bind_some (number_in (column row 2)) _ x d.2 in
+    let h = bind_some (bytes_in (column row 3)) _ x f.2 in
+    let i = bind_some (whole request_form h.0) _ x h.2 in
+    let j = bind_some (bytes_in (column row 4)) _ x i.2 in
+    let k = bind_some (whole reply_form j.0) _ x j.2 in
+    let is = some_is (record { job = b.0; number = d.0; place = f.0; request = i.0; reply = k.0 }) x k.2 in (
       text_is (column row 0) a.0 a.1 ∙ ap Text (name_is a.0 b.0 b.1 ∙ ap (λ (r : KeptRow). r.job) is),
       number_is (column row 1) c.0 c.1 ∙ ap (λ n. Int (pos n)) (number_same c.0 d.0 d.1 ∙ ap (λ (r : KeptRow). r.number) is),
     )
@@ -107,8 +107,8 @@ pub deck_numbered : (row : Row) (x : DeckRow) → deck_in row ≡ Some x → col
 unfolding deck_in
 deck_numbered row x e =
     let a = bind_some _ _ x e in
-    let b = bind_some _ _ x a.2 in
-    number_is (column row 0) a.0 a.1 ∙ ap (λ (r : DeckRow). Int (pos r.count)) (some_is _ x b.2)
+    let b = bind_some (bytes_in (column row 2)) _ x a.2 in
+    number_is (column row 0) a.0 a.1 ∙ ap (λ (r : DeckRow). Int (pos r.count)) (some_is (record { count = a.0; bytes = b.0 }) x b.2)
 
 option_is : {A B : Type 0} (f : A → B) (o : Option A) (y : B) → option_map f o ≡ Some y → (x : A) × (o ≡ Some x) × (f x ≡ y)
 option_is f (Some x) y e = (x, refl, some_is (f x) y e)
@@ -129,9 +129,9 @@ status_keyed row x e =
     let a = bind_some _ _ x e in
     let b = bind_some _ _ x a.2 in
     let c = bind_some _ _ x b.2 in
-    let d = bind_some _ _ x c.2 in
-    let f = bind_some _ _ x d.2 in
-    let is = ap (λ (r : StatusRow). r.target) (some_is _ x f.2) in
+    let d = bind_some (number_in (column row 2)) _ x c.2 in
+    let f = bind_some (slice_get all_statuses d.0) _ x d.2 in
+    let is = ap (λ (r : StatusRow). r.target) (some_is (record { target = c.0; status = f.0 }) x f.2) in
     let key = target_is a.0 b.0 c.0 c.1 in (
       number_is (column row 0) a.0 a.1 ∙ ap (λ n. Int (pos n)) (key.0 ∙ ap kind_column is),
       text_is (column row 1) b.0 b.1 ∙ ap Text (key.1 ∙ ap name_column is),
@@ -144,7 +144,7 @@ floor_named row x e =
     let b = bind_some _ _ x a.2 in
     let c = bind_some _ _ x b.2 in
     let d = bind_some _ _ x c.2 in
-    let is = some_is _ x d.2 in (
+    let is = some_is (record { job = b.0; floor = d.0 }) x d.2 in (
       text_is (column row 0) a.0 a.1 ∙ ap Text (name_is a.0 b.0 b.1 ∙ ap (λ (r : Floor). r.job) is),
       number_is (column row 1) c.0 c.1 ∙ ap (λ n. Int (pos n)) ((guard_some_of (nat_le c.0 4294967295) c.0 d.0 d.1).1 ∙ ap (λ (r : Floor). r.floor) is),
     )

@@ -32,8 +32,8 @@ use Rattle.sms_sqlite.specs.Columns.{kind_column, name_column, status_column, wi
 use Rattle.sms_sqlite.specs.Values.{each_in, set_in, reply_in, deck_in, status_in, floor_in, target_of}
 use Rattle.sms_sqlite.specs.Writing.{AreAlike}
 use Rattle.sms_sqlite.proofs.DeckLemmas.{deck_put}
-use Rattle.sms_sqlite.proofs.ReadLemmas.{each_push, each_filter, joins}
-use Rattle.sms_sqlite.proofs.StatusLemmas.{statuses_read, status_reads, none_set, one_set}
+use Rattle.sms_sqlite.proofs.ReadLemmas.{each_push, each_filter, joins, some_is}
+use Rattle.sms_sqlite.proofs.StatusLemmas.{statuses_read, status_reads, none_set, none_dropped, one_set}
 use Rattle.sms_sqlite.proofs.TablesLemmas.{AreRead, AreLike, exactly, alike_self}
 use Rattle.sms_sqlite.proofs.ValueLemmas.{set_alike, below_alike, floor_alike, status_alike}
 
@@ -185,23 +185,13 @@ none_set_at target status t rows found read =
         sets = refl;
         replies = refl;
         decks = λ count. refl;
-        statuses = λ key. ap (filter (is_status_of key)) (none_dropped rows.statuses none ∙ sym (none_set target status rows.statuses none));
+        statuses = λ key. ap (filter (is_status_of key)) (none_dropped target status rows.statuses none ∙ sym (none_set target status rows.statuses none));
         floors = refl;
       };
     }
   where
     none_read : (raw : List _) (xs : List StatusRow) → raw ≡ [] → each_in status_in raw ≡ Some xs → xs ≡ []
-    none_read raw xs gone all = sym (let e : each_in status_in [] ≡ Some xs = ap (each_in status_in) (sym gone) ∙ all in Rattle.sms_sqlite.proofs.ReadLemmas.some_is [] xs e)
-
-    none_dropped : (xs : List StatusRow) → filter (is_status_of target) xs ≡ [] → filter (λ row. not (is_status_of target row)) xs ≡ xs
-    none_dropped [] none = refl
-    none_dropped (x ∷ xs) none = by (is_status_of target x) refl
-      where
-        by : (b : Bool) → is_status_of target x ≡ b → filter (λ row. not (is_status_of target row)) (x ∷ xs) ≡ x ∷ xs
-        by true is = absurd (let e : x ∷ filter (is_status_of target) xs ≡ [] = sym (ap (λ b. cond b (x ∷ filter (is_status_of target) xs) (filter (is_status_of target) xs)) is) ∙ none in cc)
-        by false is =
-            let less = sym (ap (λ b. cond b (x ∷ filter (is_status_of target) xs) (filter (is_status_of target) xs)) is) ∙ none in
-            rw is (ap (λ (l : List StatusRow). x ∷ l) (none_dropped xs less))
+    none_read raw xs gone all = sym (let e : each_in status_in [] ≡ Some xs = ap (each_in status_in) (sym gone) ∙ all in some_is [] xs e)
 
 -- one status is the target's: it is dropped, and the new one added
 one_set_at : (target : Target) (status : Status) (t : Tables) (rows : Rows) → HasFound (is_status (pos (kind_column target)) (name_column target)) t.statuses 1
@@ -214,7 +204,7 @@ one_set_at target status t rows found again read =
     let one = found.one refl in
     let p = joins (status_in one.0) (Some []) (filter (is_status_of target) rows.statuses)
     (sym (ap (each_in status_in) one.1) ∙ each_filter status_in test (is_status_of target) (status_alike target) t.statuses rows.statuses read.statuses) in
-    let single : filter (is_status_of target) rows.statuses ≡ p.first ∷ [] = p.is ∙ ap (λ (l : List StatusRow). p.first ∷ l) (sym (Rattle.sms_sqlite.proofs.ReadLemmas.some_is [] p.others p.there)) in
+    let single : filter (is_status_of target) rows.statuses ≡ p.first ∷ [] = p.is ∙ ap (λ (l : List StatusRow). p.first ∷ l) (sym (some_is [] p.others p.there)) in
     record {
       found = record rows { statuses = filter (λ row. not (is_status_of target row)) rows.statuses ++ new ∷ [] };
       read = record {
