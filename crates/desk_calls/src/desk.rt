@@ -45,13 +45,14 @@ pub fn desk_main<S: Source, K: Sink, P: Keeper>(
 {
     match task_asked(words) {
         None => (RunStatus::BadWords, keeper),
-        Some(Task::Run { volumes }) => run(alloc, volumes, src, out, keeper),
+        Some(Task::Run { volumes }) => run_source(alloc, volumes, src, out, keeper),
         Some(Task::Generate { seed, count }) => load(alloc, seed, count, src, out, keeper),
     }
 }
 
-// Answers the script of the source.
-fn run<S: Source, K: Sink, P: Keeper>(
+/// Answers the script of the source on an empty desk over a keeper of empty tables, which it hands back, and writes
+/// the text of the answers to the sink; with `volumes` the table of volumes stands behind it.
+pub fn run_source<S: Source, K: Sink, P: Keeper>(
     alloc: Global,
     volumes: bool,
     src: &mut S,
