@@ -31,6 +31,7 @@ pub record WasReadied (old new : Observed) (before after : Keeping) (status : Ru
 -- the keeper couldn't be made ready for want of memory; the source is unread
 pub record IsUnready (old new : Observed) (before after : Keeping) : Type 0 where
   pub unread : new.left ≡ old.left
+  pub reads : new.reads ≡ old.reads
   pub read_faults : new.read_faults ≡ old.read_faults
   pub tables : Stays before.told after.told
   pub count : after.count ≡ before.count

@@ -31,8 +31,8 @@ pub fn db_main<S: Source, K: Sink, P: Stored>(
     ensures unwritten { leaves_sink_of result.0 ≡ true → out.new ≡ out.old }
     ensures unrun { result.0 ≡ DbStatus.Ran BadWords → result.1 ≡ keeper }
     ensures ends { (file : List ℕ) → database_in (map string_bytes words.now) ≡ Some file → DbEnds
-        (record { left = S.left src.old; read_faults = S.read_faults src.old; taken = K.taken out.old; write_faults = K.write_faults out.old })
-        (record { left = S.left src.new; read_faults = S.read_faults src.new; taken = K.taken out.new; write_faults = K.write_faults out.new })
+        (record { left = S.left src.old; reads = S.reads src.old; read_faults = S.read_faults src.old; taken = K.taken out.old; write_faults = K.write_faults out.old })
+        (record { left = S.left src.new; reads = S.reads src.new; read_faults = S.read_faults src.new; taken = K.taken out.new; write_faults = K.write_faults out.new })
         (record { told = P.Keeper.told keeper; count = P.Keeper.count keeper }) (record { told = P.Keeper.told result.1; count = P.Keeper.count result.1 })
         result.0 }
 {

@@ -22,26 +22,26 @@ record Between (row : Row) (rows : List Row) : Type 0 where
 
 between : (row : Row) (rows : List Row) → is_taken rows row ≡ false → Between row rows
 between row [] free = record { front = []; back = []; parts = refl; put = refl }
-between row (r ∷ rows) free = by (value_cmp (rowid r) (rowid row)) refl
+between row (r ∷ rows) free = by (value_cmp (rowid r) (rowid row)) refl (λ later. between row rows later)
   where
-    by : (o : Ordering) → value_cmp (rowid r) (rowid row) ≡ o → Between row (r ∷ rows)
-    by Less is =
+    by : (o : Ordering) → value_cmp (rowid r) (rowid row) ≡ o → (is_taken rows row ≡ false → Between row rows) → Between row (r ∷ rows)
+    by Less is rest =
         let later : is_taken rows row ≡ false = rw is at free in
-        let more = between row rows later in
+        let more = rest later in
         record { front = r ∷ more.front; back = more.back; parts = ap (λ (l : List Row). r ∷ l) more.parts; put = rw is (ap (λ (l : List Row). r ∷ l) more.put) }
-    by Equal is = absurd (let e = rw is at free in cc)
-    by Greater is = record { front = []; back = r ∷ rows; parts = refl; put = rw is refl }
+    by Equal is rest = absurd (let e = rw is at free in cc)
+    by Greater is rest = record { front = []; back = r ∷ rows; parts = refl; put = rw is refl }
 
 deck_tied : (count : ℕ) (bytes : List ℕ) (row : Row) (x : DeckRow) → deck_in row ≡ Some x → is_eq (value_cmp (rowid row) (rowid (deck_row (pos count) bytes))) ≡ is_deck count x
 deck_tied count bytes row x e = ap (λ v. is_eq (value_cmp v (Int (pos count)))) (deck_numbered row x e) ∙ int_tie x.count count
 
 no_deck : (count : ℕ) (xs : List DeckRow) → list_any (is_deck count) xs ≡ false → filter (is_deck count) xs ≡ []
 no_deck count [] none = refl
-no_deck count (x ∷ xs) none = by (is_deck count x) refl
+no_deck count (x ∷ xs) none = by (is_deck count x) refl (λ less. no_deck count xs less)
   where
-    by : (b : Bool) → is_deck count x ≡ b → filter (is_deck count) (x ∷ xs) ≡ []
-    by true is = absurd (let e = rw is at none in cc)
-    by false is = rw is (no_deck count xs (rw is at none))
+    by : (b : Bool) → is_deck count x ≡ b → (list_any (is_deck count) xs ≡ false → filter (is_deck count) xs ≡ []) → filter (is_deck count) (x ∷ xs) ≡ []
+    by true is rest = absurd (let e = rw is at none in cc)
+    by false is rest = rw is (rest (rw is at none))
 
 pub filter_append : (test : DeckRow → Bool) (xs ys : List DeckRow) → filter test (xs ++ ys) ≡ filter test xs ++ filter test ys
 filter_append test [] ys = refl

@@ -1,4 +1,5 @@
 pub mod SameLemmas
+pub mod NumberLemmas
 pub mod ReadLemmas
 pub mod ValueLemmas
 pub mod StatusLemmas

@@ -1,5 +1,5 @@
 -- What is read off rows that are added and dropped.
-use Rattle.std.proofs.Common.{◌≡◌, Bool, true, false, not, cond, List, [], ◌∷◌, ◌++◌, filter, map, Option, Some, None, refl, ap, sym, subst, ◌∙◌}
+use Rattle.std.proofs.Common.{◌≡◌, Bool, true, false, not, cond, List, [], ◌∷◌, ◌++◌, filter, map, Option, Some, None, refl, ap, ap₂, sym, subst, ◌∙◌}
 use Rattle.std.specs.List.{list_any}
 use Rattle.sms_sqlite.specs.Values.{each_in, joined}
 
@@ -69,7 +69,7 @@ module _ {A B : Type 0} (read : A → Option B) where
   each_parts (r ∷ front) back xs all =
       let p = joins (read r) (each_in read (front ++ back)) xs all in
       let more = each_parts front back p.others p.there in
-      record { before = p.first ∷ more.before; behind = more.behind; front_is = rw (p.here, more.front_is) refl; back_is = more.back_is; is = p.is ∙ ap (λ (l : List _). p.first ∷ l) more.is }
+      record { before = p.first ∷ more.before; behind = more.behind; front_is = ap₂ joined p.here more.front_is; back_is = more.back_is; is = p.is ∙ ap (λ (l : List _). p.first ∷ l) more.is }
 
   pub each_append : (front back : List A) (before behind : List B) → each_in read front ≡ Some before → each_in read back ≡ Some behind → each_in read (front ++ back) ≡ Some (before ++ behind)
   each_append [] back before behind one two = two ∙ ap (λ (l : List _). some (l ++ behind)) (some_is [] before one)

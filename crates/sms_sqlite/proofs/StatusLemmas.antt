@@ -61,13 +61,13 @@ module _ (target : Target) (status : Status) where
   -- where no row is the target's, none is changed
   pub none_set : (rows : List StatusRow) → filter here rows ≡ [] → map (row_with target status) rows ≡ rows
   none_set [] none = refl
-  none_set (x ∷ rows) none = by (here x) refl
+  none_set (x ∷ rows) none = by (here x) refl (λ less. none_set rows less)
     where
-      by : (b : Bool) → here x ≡ b → map (row_with target status) (x ∷ rows) ≡ x ∷ rows
-      by true is = absurd (let e : x ∷ filter here rows ≡ [] = sym (ap (λ b. cond b (x ∷ filter here rows) (filter here rows)) is) ∙ none in cc)
-      by false is =
+      by : (b : Bool) → here x ≡ b → (filter here rows ≡ [] → map (row_with target status) rows ≡ rows) → map (row_with target status) (x ∷ rows) ≡ x ∷ rows
+      by true is rest = absurd (let e : x ∷ filter here rows ≡ [] = sym (ap (λ b. cond b (x ∷ filter here rows) (filter here rows)) is) ∙ none in cc)
+      by false is rest =
           let less : filter here rows ≡ [] = sym (ap (λ b. cond b (x ∷ filter here rows) (filter here rows)) is) ∙ none in
-          ap₂ (λ (y : StatusRow) (ys : List StatusRow). y ∷ ys) (ap (λ b. let r : StatusRow = record { target = x.target; status = cond b status x.status } in r) is) (none_set rows less)
+          ap₂ (λ (y : StatusRow) (ys : List StatusRow). y ∷ ys) (ap (λ b. let r : StatusRow = record { target = x.target; status = cond b status x.status } in r) is) (rest less)
 
   -- under another key the rows stay
   other_key : (key : Target) (x : StatusRow) → same_target target key ≡ false → here x ≡ true → is_status_of key x ≡ false
@@ -76,33 +76,31 @@ module _ (target : Target) (status : Status) where
   others_stay : (key : Target) → same_target target key ≡ false → (rows : List StatusRow)
       → filter (is_status_of key) (filter (λ row. not (here row)) rows) ≡ filter (is_status_of key) (map (row_with target status) rows)
   others_stay key apart [] = refl
-  others_stay key apart (x ∷ rows) = by (here x) refl
+  others_stay key apart (x ∷ rows) = by (here x) refl (others_stay key apart rows)
     where
-      rest : filter (is_status_of key) (filter (λ row. not (here row)) rows) ≡ filter (is_status_of key) (map (row_with target status) rows)
-      rest = others_stay key apart rows
-
-      by : (b : Bool) → here x ≡ b → filter (is_status_of key) (filter (λ row. not (here row)) (x ∷ rows)) ≡ filter (is_status_of key) (map (row_with target status) (x ∷ rows))
-      by true is = rw (is, other_key key x apart is) rest
-      by false is =
-          let same : row_with target status x ≡ x = ap (λ b. let r : StatusRow = record { target = x.target; status = cond b status x.status } in r) is in
-          rw (is, same) (ap (λ l. cond (is_status_of key x) (x ∷ l) l) rest)
+      by : (b : Bool) → here x ≡ b → filter (is_status_of key) (filter (λ row. not (here row)) rows) ≡ filter (is_status_of key) (map (row_with target status) rows)
+          → filter (is_status_of key) (filter (λ row. not (here row)) (x ∷ rows)) ≡ filter (is_status_of key) (map (row_with target status) (x ∷ rows))
+      by true is rest = rw (is, other_key key x apart is) rest
+      by false is rest =
+          rw is (ap (λ (l : List StatusRow). cond (is_status_of key x) (x ∷ l) l) rest)
 
   -- under the target's key there is the one row
   pub gone_here : (rows : List StatusRow) → filter here (filter (λ row. not (here row)) rows) ≡ []
   gone_here [] = refl
-  gone_here (x ∷ rows) = by (here x) refl
+  gone_here (x ∷ rows) = by (here x) refl (gone_here rows)
     where
-      by : (b : Bool) → here x ≡ b → filter here (filter (λ row. not (here row)) (x ∷ rows)) ≡ []
-      by true is = rw is (gone_here rows)
-      by false is = rw (is, is) (gone_here rows)
+      by : (b : Bool) → here x ≡ b → filter here (filter (λ row. not (here row)) rows) ≡ [] → filter here (filter (λ row. not (here row)) (x ∷ rows)) ≡ []
+      by true is rest = rw is rest
+      by false is rest = rw (is, is) rest
 
   mapped_here : (rows : List StatusRow) → filter here (map (row_with target status) rows) ≡ map (row_with target status) (filter here rows)
   mapped_here [] = refl
-  mapped_here (x ∷ rows) = by (here x) refl
+  mapped_here (x ∷ rows) = by (here x) refl (mapped_here rows)
     where
-      by : (b : Bool) → here x ≡ b → filter here (map (row_with target status) (x ∷ rows)) ≡ map (row_with target status) (filter here (x ∷ rows))
-      by true is = rw (is, is) (ap (λ (l : List StatusRow). (let r : StatusRow = record { target = x.target; status = status } in r) ∷ l) (mapped_here rows))
-      by false is = rw is (mapped_here rows)
+      by : (b : Bool) → here x ≡ b → filter here (map (row_with target status) rows) ≡ map (row_with target status) (filter here rows)
+          → filter here (map (row_with target status) (x ∷ rows)) ≡ map (row_with target status) (filter here (x ∷ rows))
+      by true is rest = rw (is, is) (ap (λ (l : List StatusRow). (let r : StatusRow = record { target = x.target; status = status } in r) ∷ l) rest)
+      by false is rest = rw is rest
 
   new_here : here new ≡ true
   new_here = target_self target
@@ -117,14 +115,14 @@ module _ (target : Target) (status : Status) where
 
   first_is : (rows : List StatusRow) (x : StatusRow) → filter here rows ≡ x ∷ [] → here x ≡ true
   first_is [] x e = absurd cc
-  first_is (y ∷ rows) x e = by (here y) refl
+  first_is (y ∷ rows) x e = by (here y) refl (λ less. first_is rows x less)
     where
-      by : (b : Bool) → here y ≡ b → here x ≡ true
-      by true is =
+      by : (b : Bool) → here y ≡ b → (filter here rows ≡ x ∷ [] → here x ≡ true) → here x ≡ true
+      by true is rest =
           let both : y ∷ filter here rows ≡ x ∷ [] = sym (ap (λ b. cond b (y ∷ filter here rows) (filter here rows)) is) ∙ e in
           let same : y ≡ x = cc in
           ap here (sym same) ∙ is
-      by false is = first_is rows x (sym (ap (λ b. cond b (y ∷ filter here rows) (filter here rows)) is) ∙ e)
+      by false is rest = rest (sym (ap (λ b. cond b (y ∷ filter here rows) (filter here rows)) is) ∙ e)
 
   -- one row is the target's: it is changed, or dropped and added
   pub one_set : (rows : List StatusRow) (x : StatusRow) → filter here rows ≡ x ∷ [] → (key : Target)

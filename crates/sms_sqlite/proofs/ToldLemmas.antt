@@ -123,7 +123,7 @@ shown_before old new clean opened shown =
     let p = and_parts new.is_open new.is_clean shown in
     let now : HasCleanDisk new = no_doubt new.is_clean p.1 in
     let before : doubt old.is_clean ≡ 0 = omega (arith, clean, now) in
-    (and_true old.is_open old.is_clean (opened now p.0) (clean_of old.is_clean before), (now, p.0))
+    (and_true old.is_open old.is_clean (opened now p.0) (clean_of old.is_clean before), now, p.0)
 
 -- what was told before, if the connection is shown now
 told_before : (base : Database) (old : State) → IsReadable base old → IsTrue (is_shown old) → IsTrue (is_new base) → (rows : Rows) × (tables_of old.now ≡ Some rows) × (told_of base old ≡ Some rows)

@@ -1,6 +1,6 @@
 -- What the columns of a row are, where it stands for something, and the tests of SQL on them.
 use Rattle.std.proofs.Common.{◌≡◌, ◌&&◌, ◌==◌, ◌∷◌, [], ℕ, zero, suc, ℤ, pos, negsuc, Bool, true, false, cond, List, Option, Some, None, refl, ap, ap₂, sym, subst, ◌∙◌, arith, is_eq, is_lt, is_gt, nat_cmp, int_cmp, nat_eq, nat_lt}
-use Rattle.std.specs.Prelude.{bytes_eq, option_map, slice_get, nat_le}
+use Rattle.std.specs.Prelude.{bytes_eq, option_map, slice_get, nat_le, if◌then◌else◌}
 use Rattle.std.specs.Cmp.Lexicographic.{slice_cmp}
 use Rattle.std.proofs.lemmas.Bool.{eqb-true}
 use Rattle.std.proofs.lemmas.Bool.Decides.{nat_tests}
@@ -16,6 +16,7 @@ use Rattle.sqlite_sql.specs.Ops.{binary, is_true, from_truth}
 use Rattle.dsn_mask.specs.Name.{name_of, volser_of, is_name, is_volser}
 use Rattle.sms_construct.specs.Quantities.{request_number_of}
 use Rattle.sms_construct.specs.declared.data_set.DataSet.{DataSet}
+use Rattle.sms_construct.specs.declared.request.Request.{Request}
 use Rattle.sms_construct.specs.declared.target.Target.{Target}
 use Rattle.sms_construct.specs.declared.target.Target.TheVariants as targets
 use Rattle.sms_keeper.specs.Tables.{is_named, is_reply_below, is_floor_of, is_below_floor, is_status_of, same_target, is_deck}
@@ -76,39 +77,75 @@ volser_is text volser e = (guard_some_of (is_volser text) text volser e).1
 number_same : (n number : ℕ) → request_number_of n ≡ Some number → n ≡ number
 number_same n number e = (guard_some_of _ n number e).1
 
+abbrev set_2 : List ℕ → List ℕ → Option DataSet
+set_2 dsn bytes = whole data_set_form bytes >>= λ set. if bytes_eq set.dsn dsn then Some set else None
+
+abbrev set_1 : Row → List ℕ → Option DataSet
+set_1 row dsn = bytes_in (column row 1) >>= set_2 dsn
+
 pub set_named : (row : Row) (set : DataSet) → set_in row ≡ Some set → column row 0 ≡ Text set.dsn
 unfolding set_in
 set_named row set e =
-    let a = bind_some _ _ set e in
-    let b = bind_some _ _ set a.2 in
-    let c = bind_some _ _ set b.2 in
+    let a = bind_some (text_in (column row 0)) (set_1 row) set e in
+    let b = bind_some (bytes_in (column row 1)) (set_2 a.0) set a.2 in
+    let c = bind_some (whole data_set_form b.0) (λ set. if bytes_eq set.dsn a.0 then Some set else None) set b.2 in
     let d = guard_some_of (bytes_eq c.0.dsn a.0) c.0 set c.2 in
     let name : c.0.dsn ≡ a.0 = (bytes_eq-Decides c.0.dsn a.0).0 d.0 in
     text_is (column row 0) a.0 a.1 ∙ ap Text (sym name ∙ ap (λ (x : DataSet). x.dsn) d.1)
 
+-- the steps by which a reply is read
+abbrev reply_8 : List ℕ → ℕ → ℕ → Request → List ℕ → Option KeptRow
+reply_8 job number place request answered = whole reply_form answered >>= λ reply. Some (record { job = job; number = number; place = place; request = request; reply = reply })
+
+abbrev reply_7 : Row → List ℕ → ℕ → ℕ → Request → Option KeptRow
+reply_7 row job number place request = bytes_in (column row 4) >>= reply_8 job number place request
+
+abbrev reply_6 : Row → List ℕ → ℕ → ℕ → List ℕ → Option KeptRow
+reply_6 row job number place asked = whole request_form asked >>= reply_7 row job number place
+
+abbrev reply_5 : Row → List ℕ → ℕ → ℕ → Option KeptRow
+reply_5 row job number place = bytes_in (column row 3) >>= reply_6 row job number place
+
+abbrev reply_4 : Row → List ℕ → ℕ → Option KeptRow
+reply_4 row job number = number_in (column row 2) >>= reply_5 row job number
+
+abbrev reply_3 : Row → List ℕ → ℕ → Option KeptRow
+reply_3 row job n = request_number_of n >>= reply_4 row job
+
+abbrev reply_2 : Row → List ℕ → Option KeptRow
+reply_2 row job = number_in (column row 1) >>= reply_3 row job
+
+abbrev reply_1 : Row → List ℕ → Option KeptRow
+reply_1 row text = name_of text >>= reply_2 row
+
+reply_key : (row : Row) (job : List ℕ) (number : ℕ) (x : KeptRow) → reply_4 row job number ≡ Some x → (job ≡ x.job) × (number ≡ x.number)
+reply_key row job number x e =
+    let f = bind_some (number_in (column row 2)) (reply_5 row job number) x e in
+    let h = bind_some (bytes_in (column row 3)) (reply_6 row job number f.0) x f.2 in
+    let i = bind_some (whole request_form h.0) (reply_7 row job number f.0) x h.2 in
+    let j = bind_some (bytes_in (column row 4)) (reply_8 job number f.0 i.0) x i.2 in
+    let k = bind_some (whole reply_form j.0) (λ reply. Some (record { job = job; number = number; place = f.0; request = i.0; reply = reply })) x j.2 in
+    let is = some_is (record { job = job; number = number; place = f.0; request = i.0; reply = k.0 }) x k.2 in
+    (ap (λ (r : KeptRow). r.job) is, ap (λ (r : KeptRow). r.number) is)
+
 pub reply_numbered : (row : Row) (x : KeptRow) → reply_in row ≡ Some x → (column row 0 ≡ Text x.job) × (column row 1 ≡ Int (pos x.number))
 unfolding reply_in
 reply_numbered row x e =
-    let a = bind_some _ _ x e in
-    let b = bind_some _ _ x a.2 in
-    let c = bind_some _ _ x b.2 in
-    let d = bind_some _ _ x c.2 in
-    let f = bind_some _ _ x d.2 in
-    let h = bind_some _ _ x f.2 in
-    let i = bind_some _ _ x h.2 in
-    let j = bind_some _ _ x i.2 in
-    let k = bind_some _ _ x j.2 in
-    let is = some_is _ x k.2 in (
-      text_is (column row 0) a.0 a.1 ∙ ap Text (name_is a.0 b.0 b.1 ∙ ap (λ (r : KeptRow). r.job) is),
-      number_is (column row 1) c.0 c.1 ∙ ap (λ n. Int (pos n)) (number_same c.0 d.0 d.1 ∙ ap (λ (r : KeptRow). r.number) is),
+    let a = bind_some (text_in (column row 0)) (reply_1 row) x e in
+    let b = bind_some (name_of a.0) (reply_2 row) x a.2 in
+    let c = bind_some (number_in (column row 1)) (reply_3 row b.0) x b.2 in
+    let d = bind_some (request_number_of c.0) (reply_4 row b.0) x c.2 in
+    let key = reply_key row b.0 d.0 x d.2 in (
+      text_is (column row 0) a.0 a.1 ∙ ap Text (name_is a.0 b.0 b.1 ∙ key.0),
+      number_is (column row 1) c.0 c.1 ∙ ap (λ n. Int (pos n)) (number_same c.0 d.0 d.1 ∙ key.1),
     )
 
 pub deck_numbered : (row : Row) (x : DeckRow) → deck_in row ≡ Some x → column row 0 ≡ Int (pos x.count)
 unfolding deck_in
 deck_numbered row x e =
-    let a = bind_some _ _ x e in
-    let b = bind_some _ _ x a.2 in
-    number_is (column row 0) a.0 a.1 ∙ ap (λ (r : DeckRow). Int (pos r.count)) (some_is _ x b.2)
+    let a = bind_some (number_in (column row 0)) (λ count. bytes_in (column row 2) >>= λ bytes. Some (record { count = count; bytes = bytes })) x e in
+    let b = bind_some (bytes_in (column row 2)) (λ bytes. Some (record { count = a.0; bytes = bytes })) x a.2 in
+    number_is (column row 0) a.0 a.1 ∙ ap (λ (r : DeckRow). Int (pos r.count)) (some_is (record { count = a.0; bytes = b.0 }) x b.2)
 
 option_is : {A B : Type 0} (f : A → B) (o : Option A) (y : B) → option_map f o ≡ Some y → (x : A) × (o ≡ Some x) × (f x ≡ y)
 option_is f (Some x) y e = (x, refl, some_is (f x) y e)
@@ -123,15 +160,32 @@ target_is (suc zero) name target e =
     (ap kind_column o.2, volser_is name o.0 o.1 ∙ ap name_column o.2)
 target_is (suc (suc kind)) name target e = absurd cc
 
+-- the steps by which a status is read
+abbrev status_4 : Target → ℕ → Option StatusRow
+status_4 target n = slice_get all_statuses n >>= λ status. Some (record { target = target; status = status })
+
+abbrev status_3 : Row → Target → Option StatusRow
+status_3 row target = number_in (column row 2) >>= status_4 target
+
+abbrev status_2 : Row → ℕ → List ℕ → Option StatusRow
+status_2 row kind name = target_of kind name >>= status_3 row
+
+abbrev status_1 : Row → ℕ → Option StatusRow
+status_1 row kind = text_in (column row 1) >>= status_2 row kind
+
+status_key : (row : Row) (target : Target) (x : StatusRow) → status_3 row target ≡ Some x → target ≡ x.target
+status_key row target x e =
+    let d = bind_some (number_in (column row 2)) (status_4 target) x e in
+    let f = bind_some (slice_get all_statuses d.0) (λ status. Some (record { target = target; status = status })) x d.2 in
+    ap (λ (r : StatusRow). r.target) (some_is (record { target = target; status = f.0 }) x f.2)
+
 pub status_keyed : (row : Row) (x : StatusRow) → status_in row ≡ Some x → (column row 0 ≡ Int (pos (kind_column x.target))) × (column row 1 ≡ Text (name_column x.target))
 unfolding status_in
 status_keyed row x e =
-    let a = bind_some _ _ x e in
-    let b = bind_some _ _ x a.2 in
-    let c = bind_some _ _ x b.2 in
-    let d = bind_some _ _ x c.2 in
-    let f = bind_some _ _ x d.2 in
-    let is = ap (λ (r : StatusRow). r.target) (some_is _ x f.2) in
+    let a = bind_some (number_in (column row 0)) (status_1 row) x e in
+    let b = bind_some (text_in (column row 1)) (status_2 row a.0) x a.2 in
+    let c = bind_some (target_of a.0 b.0) (status_3 row) x b.2 in
+    let is = status_key row c.0 x c.2 in
     let key = target_is a.0 b.0 c.0 c.1 in (
       number_is (column row 0) a.0 a.1 ∙ ap (λ n. Int (pos n)) (key.0 ∙ ap kind_column is),
       text_is (column row 1) b.0 b.1 ∙ ap Text (key.1 ∙ ap name_column is),

@@ -195,13 +195,13 @@ none_set_at target status t rows found read =
 
     none_dropped : (xs : List StatusRow) → filter (is_status_of target) xs ≡ [] → filter (λ row. not (is_status_of target row)) xs ≡ xs
     none_dropped [] none = refl
-    none_dropped (x ∷ xs) none = by (is_status_of target x) refl
+    none_dropped (x ∷ xs) none = by (is_status_of target x) refl (λ less. none_dropped xs less)
       where
-        by : (b : Bool) → is_status_of target x ≡ b → filter (λ row. not (is_status_of target row)) (x ∷ xs) ≡ x ∷ xs
-        by true is = absurd (let e : x ∷ filter (is_status_of target) xs ≡ [] = sym (ap (λ b. cond b (x ∷ filter (is_status_of target) xs) (filter (is_status_of target) xs)) is) ∙ none in cc)
-        by false is =
+        by : (b : Bool) → is_status_of target x ≡ b → (filter (is_status_of target) xs ≡ [] → filter (λ row. not (is_status_of target row)) xs ≡ xs) → filter (λ row. not (is_status_of target row)) (x ∷ xs) ≡ x ∷ xs
+        by true is rest = absurd (let e : x ∷ filter (is_status_of target) xs ≡ [] = sym (ap (λ b. cond b (x ∷ filter (is_status_of target) xs) (filter (is_status_of target) xs)) is) ∙ none in cc)
+        by false is rest =
             let less = sym (ap (λ b. cond b (x ∷ filter (is_status_of target) xs) (filter (is_status_of target) xs)) is) ∙ none in
-            rw is (ap (λ (l : List StatusRow). x ∷ l) (none_dropped xs less))
+            rw is (ap (λ (l : List StatusRow). x ∷ l) (rest less))
 
 -- one status is the target's: it is dropped, and the new one added
 one_set_at : (target : Target) (status : Status) (t : Tables) (rows : Rows) → HasFound (is_status (pos (kind_column target)) (name_column target)) t.statuses 1

@@ -1,5 +1,5 @@
 // Numbers as columns hold them.
-ghost use Rattle.std.specs.Prelude.{◌≡◌, ◌≤◌, ◌^◌, MatchOption, pos};
+ghost use Rattle.std.specs.Prelude.{◌≡◌, ◌<◌, ◌≤◌, ◌^◌, MatchOption, pos};
 
 // The number as a column holds it.
 pub fn in_column(number: u32) -> i64
@@ -10,7 +10,7 @@ pub fn in_column(number: u32) -> i64
 
 // The number as a column holds it; None exactly where it is too great for one.
 pub fn fits_column(number: u64) -> Option<i64>
-    ensures { MatchOption result (2 ^ 63 ≤ number) (λ held. held ≡ pos number) }
+    ensures { MatchOption result (2 ^ 63 ≤ number) (λ held. (held ≡ pos number) × (number < 2 ^ 63)) }
 {
     match i64::try_from(number) {
         Ok(held) => Some(held),

@@ -2,6 +2,7 @@ use Rattle.std.proofs.Common.{◌≤◌, arith}
 use Rattle.sqlite.specs.Held.{state}
 use Rattle.sqlite.specs.State.{HasCleanDisk}
 use Rattle.sms_sqlite.proofs.LeadLemmas.{makes_then}
+use Rattle.sms_sqlite.proofs.NumberLemmas.{column_is, word_low}
 use Rattle.sms_sqlite.proofs.TablesLemmas.{makes_like}
 use Rattle.sms_sqlite.proofs.WriteLemmas.{raises_floor}
 use Rattle.sms_sqlite.proofs.effects.raise_floor.Goals as goal
@@ -14,4 +15,4 @@ returns-clause-leads g c clean inside rows holds =
     let two = c.in_ok-drop_replies_below.ensures.made clean on one.ready in
     let low : c.args.floor ≤ 4294967295 = omega (arith, c.ranges.floor.fits) in
     makes_like _ _ _ rows _ (makes_then _ _ _ _ _ one two) holds
-    (raises_floor c.args.job.now c.args.floor c.bytes.result.now c.bytes-2.result.now c.in_column-floor.result c.bytes.ensures.bytes c.bytes-2.ensures.bytes c.in_column-floor.ensures c.bytes.ensures.form low _ rows)
+    (raises_floor c.args.job.now c.args.floor c.bytes.result.now c.bytes-2.result.now _ c.bytes.ensures.bytes c.bytes-2.ensures.bytes (column_is c.in_column-floor.result _ c.in_column-floor.ensures (word_low _ low)) c.bytes.ensures.form low _ rows)

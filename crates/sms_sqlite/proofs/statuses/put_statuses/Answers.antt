@@ -10,10 +10,10 @@ use Rattle.sms_sqlite.proofs.statuses.put_statuses.Goals as goal
 pub loop-row-init : goal.loop-row-init
 loop-row-init g c = (
     refl,
-    (survives_itself _,
-    ((λ clean inside. record { inside = inside; was_open = λ h. h; committed = λ _. refl }),
-    ((λ clean inside ready. none_added _ ready),
-    tt))),
+    survives_itself _,
+    (λ clean inside. record { inside = inside; was_open = λ h. h; committed = λ _. refl }),
+    (λ clean inside ready. none_added _ ready),
+    tt,
   )
 
 pub loop-row-preserved : goal.loop-row-preserved
@@ -24,15 +24,15 @@ loop-row-preserved g c =
     let new = state g.S.Store c.put_status.new.tx.conn.now in
     let before = λ (clean : HasCleanDisk new). (let it : HasCleanDisk mid = omega (arith, clean, c.put_status.ensures.survives.clean) in it) in (
       c.put_status.ensures.same_reference ∙ was.0,
-      (survives_then old mid new _ _ (λ _. ⊥) (λ _ db none. none) (λ _ db none. none) was.1 c.put_status.ensures.survives,
-      ((λ clean inside.
+      survives_then old mid new _ _ (λ _. ⊥) (λ _ db none. none) (λ _ db none. none) was.1 c.put_status.ensures.survives,
+      (λ clean inside.
           let one = was.2 (before clean) inside in
           stays_then old mid new _ _ one (c.in_ok-put_status.ensures.stays clean one.inside)),
-      ((λ clean inside ready.
+      (λ clean inside ready.
           let one = was.2 (before clean) inside in
           let made = was.3 (before clean) inside ready in
           one_added c.args.statuses.now c.loop-row.row-index c.row-item.result old.now mid.now new.now c.loop-row-test.true c.row-item.is made (c.in_ok-put_status.ensures.made clean one.inside made.ready)),
-      one_readable c.args.statuses.now c.loop-row.row-index c.row-item.result c.loop-row-test.true c.row-item.is was.4 c.put_status.ensures.read))),
+      one_readable c.args.statuses.now c.loop-row.row-index c.row-item.result c.loop-row-test.true c.row-item.is was.4 c.put_status.ensures.read,
     )
 
 pub returns-in_err-put_status-clause-stays : goal.returns-in_err-put_status-clause-stays
