@@ -1,19 +1,21 @@
 -- What follows of an answer, whatever it is, and of one effect behind the other.
-use Rattle.std.proofs.Common.{◌≡◌, ◌++◌, ◌∷◌, [], ℕ, ℤ, pos, Bool, true, false, cond, arith, inl, inr, List, Ok, Err, Result, OnOk, IsTrue, filter, refl, ap, ap₂, sym, subst, ◌∙◌}
+use Rattle.std.proofs.Common.{◌≡◌, ◌++◌, ◌∷◌, [], ℕ, ℤ, pos, Bool, true, false, cond, arith, inl, inr, not, append-nil, List, Ok, Err, Result, OnOk, IsTrue, filter, refl, ap, ap₂, sym, subst, ◌∙◌}
 use Rattle.std.specs.List.{list_any}
 use Rattle.sqlite.specs.Effect.{Database}
 use Rattle.sqlite.specs.State.{State, Survives}
 use Rattle.sqlite.specs.declared.error.Error.{Error}
 use Rattle.sms_construct.specs.declared.target.Target.{Target}
-use Rattle.sms_keeper.specs.Tables.{is_below_floor, row_of, is_deck}
+use Rattle.sms_keeper.specs.Tables.{is_below_floor, row_of, is_deck, is_reply_below, put_floor, sets_with, replies_left, decks_added, statuses_with, floors_with}
 use Rattle.sms_keeper.specs.declared.change.Change.{Change}
 use Rattle.sms_keeper.specs.declared.deck_row.DeckRow.{DeckRow}
+use Rattle.sms_keeper.specs.declared.effect.Effect.{Effect}
+use Rattle.sms_keeper.specs.declared.effect.Effect.TheVariants as effects
 use Rattle.sms_keeper.specs.declared.rows.Rows.{Rows}
 use Rattle.sms_keeper.specs.declared.status_row.StatusRow.{StatusRow}
 use Rattle.keeper_statements.specs.Steps.{StaysInside, Makes}
 use Rattle.keeper_statements.specs.Tables.{Tables, tables_in}
 use Rattle.keeper_statements.specs.Tests.{is_above}
-use Rattle.sms_sqlite.specs.Writing.{Holds, HoldsLike, AreAlike, with_row}
+use Rattle.sms_sqlite.specs.Writing.{Holds, HoldsLike, AreAlike, MayLead, with_effect, with_row}
 use Rattle.sms_sqlite.specs.Values.{floor_in}
 use Rattle.sms_sqlite.proofs.DeckLemmas.{filter_append}
 use Rattle.sms_sqlite.proofs.ReadLemmas.{each_any}
@@ -80,3 +82,26 @@ deck_behind new rows statuses deck found alike next = record {
     floors = alike.floors;
   });
 }
+
+-- a floor set, and the replies below it dropped
+
+abbrev raised : List ℕ → ℕ → Rows → Rows
+raised job floor rows = record rows { replies = filter (λ row. not (is_reply_below job floor row)) rows.replies; floors = put_floor job floor rows.floors }
+
+raised_is : (change : Change) (job : List ℕ) (floor : ℕ) (rows : Rows) → change.effect ≡ effects.Floor job floor → raised job floor rows ≡ with_effect change rows
+raised_is change job floor rows is =
+    ap (λ (decks : List DeckRow). let r : Rows = record (raised job floor rows) { decks = decks } in r) (sym (append-nil rows.decks))
+    ∙ ap
+    (λ (effect : Effect).
+    let r : Rows = record {
+      sets = sets_with effect rows.sets;
+      replies = replies_left effect rows.replies;
+      decks = rows.decks ++ decks_added change.request.op effect;
+      statuses = statuses_with effect rows.statuses;
+      floors = floors_with effect rows.floors;
+    } in r) (sym is)
+
+pub floor_leads : {X : Type 0} (change : Change) (job : List ℕ) (floor : ℕ) (old new : State) (r : Result X Error) → change.effect ≡ effects.Floor job floor
+    → MayLead (raised job floor) old new r → MayLead (with_effect change) old new r
+floor_leads change job floor old new r is leads clean inside rows holds =
+    subst (λ (after : Rows). OnOk r (HoldsLike new.now after)) (raised_is change job floor rows is) (leads clean inside rows holds)

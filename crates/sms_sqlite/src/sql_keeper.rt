@@ -92,6 +92,7 @@ impl<S: Alter + Drop> SqlKeeper<S> {
         ensures base { self.new.base ≡ self.old.base }
         ensures memory { result ≡ KeeperErr.NoMemory → self.new.faults ≡ self.old.faults }
         ensures failed { result ≡ KeeperErr.Failed → self.new.faults ≡ counted self.old.faults }
+        ensures rises { self.old.faults ≤ self.new.faults }
     {
         match error {
             Error::SqliteFailure(ErrorCode::OutOfMemory) => KeeperErr::NoMemory,
@@ -111,6 +112,7 @@ impl<S: Alter + Drop> Keeper for SqlKeeper<S> {
     ghost count = { λ k. k.faults };
 
     fn commit(&mut self, change: &Change) -> Result<(), KeeperErr>
+        requires { Suits change.now }
         ensures applied { OnOk result (Applies change.now (told_by S.Store self.old) (told_by S.Store self.new)) }
         ensures kept { OnErr result (Stays (told_by S.Store self.old) (told_by S.Store self.new)) }
         ensures cause { IsErrOf result KeeperErr.Failed → Rose self.old.faults self.new.faults }
