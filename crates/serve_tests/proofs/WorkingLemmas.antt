@@ -1,5 +1,5 @@
 -- What may be handed in as work.
-use Rattle.std.proofs.Common.{◌≡◌, ℕ, List, ◌++◌, Some, refl, sym, subst, ◌∙◌, inr}
+use Rattle.std.proofs.Common.{◌≡◌, ℕ, List, ◌++◌, Some, refl, sym, ap, subst, ◌∙◌, append_assoc, inr}
 use Rattle.std.specs.Prelude.{Result, Err, IfOk, IfErr}
 use Rattle.acs_tree.specs.Slates.{SlateLines}
 use Rattle.desk_common.specs.Exact.{MayRefuse}
@@ -16,7 +16,7 @@ use Rattle.desk_law.specs.Classification.{classes_of}
 use Rattle.desk_law.specs.State.{Opening}
 use Rattle.desk_law.specs.History.{WasActive}
 use Rattle.desk_state.specs.declared.work.Work.{Work}
-use Rattle.desk_state.specs.declared.work.Work.TheVariants.{Classes, Deck}
+use Rattle.desk_state.specs.declared.work.Work.TheVariants.{Classes, Deck, Nothing}
 use Rattle.desk_state.specs.Working.{IsReadAs, IsWork}
 
 same-deck : (a b : List ℕ) → ops.Activate a ≡ ops.Activate b → a ≡ b
@@ -48,3 +48,13 @@ pub later-work : (o o' : Opening) (h h' more : List Entry) (request : Request) (
     → IsWork o (h ++ more) request written work → IsWork o' h' request written work
 later-work o o' h h' more request written work opening grown is =
     subst (λ (list : List Entry). IsWork o' list request written work) (sym grown) (subst (λ (p : Opening). IsWork p (h ++ more) request written work) (sym opening) is)
+
+-- more entries behind those that were added
+pub grown : (start old new more entries : List Entry) → old ≡ start ++ more → new ≡ old ++ entries → (all : List Entry) × (new ≡ start ++ all)
+grown start old new more entries before step = (more ++ entries, step ∙ ap (λ list. list ++ entries) before ∙ append_assoc start more entries)
+
+-- any work may be handed in with a DELETE
+pub beside-work : (o : Opening) (h : List Entry) (request : Request) (written : SlateLines) (work : Work) (dsn : List ℕ) → request.op ≡ ops.Delete dsn → IsWork o h request written work
+beside-work o h request written Nothing dsn is = tt
+beside-work o h request written (Classes under made) dsn is = λ alloc op. absurd cc
+beside-work o h request written (Deck read) dsn is = λ deck op. absurd cc

@@ -11,11 +11,10 @@ ghost use Rattle.desk_state.specs.Working.{IsWork};
 
 use acs_tree::Slate;
 use desk_common::Shared;
-use dsn_mask::{Dsn, Name};
-use sms_construct::{Answer, DeckText, Op, Reply, Request, RequestNumber};
+use sms_construct::{Answer, DeckText, Op, Request};
 use sms_core::{Core, Work, classify, work_stays};
 use sms_deck::{Config, DeckErr, read_deck};
-use sms_keeper::MemKeeper;
+use sms_keeper::FaultKeeper;
 use sms_script::{Item, Script, answer_lines, read_script};
 use std::alloc::{AllocError, Global};
 use std::test::Fail;
@@ -31,12 +30,13 @@ storgroup = \"PROC STORGRP SET &STORGRP = 'SG1' END\"
 ./END
 ";
 
-/// Commands, where `<1>` and `<2>` stand for the activations of two decks and `<no>` for that of a deck with a fault; how
-/// many of them come before the work for the last one is done; and that one's place, first place and answer.
+/// Commands, where `<1>` and `<2>` stand for the activations of two decks, `<gone>` for that of a deck without their
+/// volume, and `<no>` for that of a deck with a fault; how many of them come before the work for the last one is done;
+/// and that one's place, first place and answer.
 type Row = (&'static str, usize, u64, u64, &'static str);
 
 #[rattlefmt::skip]
-static ROWS: [Row; 14] = [
+static ROWS: [Row; 16] = [
     // classes under the active count
     ("<1>J 1 ALLOC A.B SPACE=(TRK,1)", 1, 2, 2, FIRST),
     // under an older count: another activation came between, and what its routines wrote is gone
@@ -44,6 +44,7 @@ static ROWS: [Row; 14] = [
     ("<1><2>J 1 ALLOC A.B SPACE=(TRK,1)", 2, 3, 3, SECOND),
     // a refused activation is none
     ("<1><no>J 1 ALLOC A.B SPACE=(TRK,1)", 1, 3, 3, FIRST),
+    ("<1>J 1 ALLOC X.Y SPACE=(TRK,1)\n<gone>J 2 ALLOC A.B SPACE=(TRK,1)", 2, 4, 4, BEHIND),
     // the first activation came between: there was nothing to classify under
     ("<1>J 1 ALLOC A.B SPACE=(TRK,1)", 0, 2, 2, FIRST),
     ("J 1 ALLOC A.B SPACE=(TRK,1)", 0, 1, 1, "R12 NO CONFIGURATION"),
@@ -56,12 +57,38 @@ static ROWS: [Row; 14] = [
     ("<1>", 0, 1, 1, "A04 ACTIVATED 1"),
     ("<1><2>", 0, 2, 2, "A04 ACTIVATED 2"),
     ("<1><no>", 1, 2, 2, "R21 DECK K1"),
+    ("<1>J 1 ALLOC X.Y SPACE=(TRK,1)\n<gone>", 1, 3, 3, "R22 VOLUME IN USE VOL001"),
     ("<1>J 1 ALLOC A.B SPACE=(TRK,1)\n<1>", 1, 3, 1, "A04 ACTIVATED 1"),
 ];
 
 const FIRST: &str = "A00 GRANTED; CLASS - SC1 - SG1; EXTENT VOL001 0 1; WRITE STORCLAS DECK 1";
 
 const SECOND: &str = "A00 GRANTED; CLASS - SC2 - SG1; EXTENT VOL001 0 1; WRITE STORCLAS DECK 2";
+
+const BEHIND: &str = "A00 GRANTED; CLASS - SC1 - SG1; EXTENT VOL001 1 1; WRITE STORCLAS DECK 1";
+
+/// Commands; which commit fails; how many of them come before the work for the last one is done; and that one's place,
+/// first place and answer.
+static FAILING: [(&str, u64, usize, u64, u64, &str); 4] = [
+    ("<1>J 1 ALLOC A.B SPACE=(TRK,1)", 2, 1, 2, 2, "F30 KEEPER"),
+    (
+        "<1>J 1 ALLOC A.B SPACE=(TRK,1)\nJ 1 ALLOC A.B SPACE=(TRK,1)",
+        2,
+        1,
+        3,
+        3,
+        FIRST,
+    ),
+    ("<1>", 1, 0, 1, 1, "F30 KEEPER"),
+    ("<1><1>", 1, 0, 2, 2, "A04 ACTIVATED 1"),
+];
+
+/// An activation, a request that isn't asked, and a DELETE with which the work for that one is handed in.
+static BESIDE: [&str; 3] = [
+    "<1>J 1 ALLOC A.B SPACE=(TRK,1)\nJ 2 DELETE A.B",
+    "<1><2>J 2 DELETE A.B",
+    "<1><no>J 2 DELETE A.B",
+];
 
 /// Commands, and the place, the first place and the answer of the last one with a deck that was read without memory.
 static WANTING: [(&str, u64, u64, &str); 4] = [
@@ -82,6 +109,8 @@ fn script_of(alloc: Global, commands: &str) -> Result<Script, Fail> {
     let text = commands.replace(alloc, "<1>", &activation(alloc, 1)?)?;
     let text = text.replace(alloc, "<2>", &activation(alloc, 2)?)?;
     let text = text.replace(alloc, "<no>", "SMSADMIN 3 ACTIVATE\nversion\n./END\n")?;
+    let gone = activation(alloc, 4)?.replace(alloc, "VOL001", "VOL002")?;
+    let text = text.replace(alloc, "<gone>", &gone)?;
     if text.len() > 10_000 {
         return Err(Fail::from("long"));
     }
@@ -132,7 +161,7 @@ fn read(alloc: Global, deck: &DeckText) -> Result<Shared<Config>, DeckErr>
 }
 
 // What can be done for the request before its step.
-fn work_for(alloc: Global, core: &Core<MemKeeper>, request: &Request, slate: &mut Slate) -> Work
+fn work_for(alloc: Global, core: &Core<FaultKeeper>, request: &Request, slate: &mut Slate) -> Work
     ensures { IsWork core.now.opening core.now.journal request.now slate.new result }
 {
     match &request.op {
@@ -143,7 +172,7 @@ fn work_for(alloc: Global, core: &Core<MemKeeper>, request: &Request, slate: &mu
 }
 
 // The classes of an ALLOC under what is active, if anything is.
-fn classes_for(core: &Core<MemKeeper>, request: &Request, slate: &mut Slate) -> Work
+fn classes_for(core: &Core<FaultKeeper>, request: &Request, slate: &mut Slate) -> Work
     requires { (alloc : Allocation) × (request.now.op ≡ Op.Alloc alloc) }
     ensures { IsWork core.now.opening core.now.journal request.now slate.new result }
 {
@@ -157,7 +186,7 @@ fn classes_for(core: &Core<MemKeeper>, request: &Request, slate: &mut Slate) -> 
 }
 
 // Answers the items without work.
-fn answer_all(core: &mut Core<MemKeeper>, items: &[Item], slate: &mut Slate)
+fn answer_all(core: &mut Core<FaultKeeper>, items: &[Item], slate: &mut Slate)
     ensures opening { core.new.opening ≡ core.old.opening }
     ensures journal { (more : List Entered) × (core.new.journal ≡ core.old.journal ++ more) }
 {
@@ -166,24 +195,45 @@ fn answer_all(core: &mut Core<MemKeeper>, items: &[Item], slate: &mut Slate)
     }
 }
 
-// What the last item is answered on a new desk, with the work that was done for it behind so many others.
-fn answer_last(alloc: Global, items: &[Item], made_at: usize) -> Result<Answer, Fail> {
-    let mut core = Core::new(alloc, MemKeeper::new(alloc));
+// Answers the items without work, while work for another request waits.
+fn answer_waiting(
+    core: &mut Core<FaultKeeper>,
+    items: &[Item],
+    slate: &mut Slate,
+    request: &Request,
+    work: &Work,
+    written: &Slate,
+)
+    requires { IsWork core.old.opening core.old.journal request.now written.now work.now }
+    ensures { IsWork core.new.opening core.new.journal request.now written.now work.now }
+{
+    answer_all(core, items, slate);
+    // A fact for the proof; nothing runs.
+    work_stays();
+}
+
+// What the last item is answered on a new desk that fails these commits, with the work that was done for it behind so
+// many others.
+fn answer_last(
+    alloc: Global,
+    items: &[Item],
+    fails: &[u64],
+    made_at: usize,
+) -> Result<Answer, Fail> {
+    let mut core = Core::new(alloc, FaultKeeper::new(alloc, fails)?);
     let mut slate = Slate::new(alloc)?;
     let mut written = Slate::new(alloc)?;
     let (last, others) = items.split_last().ok_or("items")?;
     let (early, late) = others.split_at_checked(made_at).ok_or("made at")?;
     answer_all(&mut core, early, &mut slate);
     let work = work_for(alloc, &core, &last.request, &mut written);
-    answer_all(&mut core, late, &mut slate);
-    // A fact for the proof; nothing runs.
-    work_stays();
+    answer_waiting(&mut core, late, &mut slate, &last.request, &work, &written);
     Ok(core.step(&last.request, work, &mut written))
 }
 
 // What the last item is answered on a new desk, where its deck, if it has one, was read without memory.
 fn answer_wanting(alloc: Global, items: &[Item]) -> Result<Answer, Fail> {
-    let mut core = Core::new(alloc, MemKeeper::new(alloc));
+    let mut core = Core::new(alloc, FaultKeeper::new(alloc, &[])?);
     let mut slate = Slate::new(alloc)?;
     let (last, others) = items.split_last().ok_or("items")?;
     answer_all(&mut core, others, &mut slate);
@@ -201,9 +251,20 @@ fn wanting() -> Work
 fn work_never_shows_in_an_answer(rt: HostRuntime) -> Result<(), Fail> {
     for (commands, made_at, place, first, wanted) in &ROWS {
         let script = script_of(rt.alloc(), commands)?;
-        let answer = answer_last(rt.alloc(), items_of(&script)?, *made_at)?;
+        let answer = answer_last(rt.alloc(), items_of(&script)?, &[], *made_at)?;
         let holds = is_answer(rt.alloc(), &answer, *place, *first, wanted)?;
         assert!(rt; holds, "{commands} {made_at}");
+    }
+    Ok(())
+}
+
+#[test]
+fn work_goes_with_a_fault_of_the_keeper(rt: HostRuntime) -> Result<(), Fail> {
+    for (commands, failing, made_at, place, first, wanted) in &FAILING {
+        let script = script_of(rt.alloc(), commands)?;
+        let answer = answer_last(rt.alloc(), items_of(&script)?, &[*failing], *made_at)?;
+        let holds = is_answer(rt.alloc(), &answer, *place, *first, wanted)?;
+        assert!(rt; holds, "{commands} {failing} {made_at}");
     }
     Ok(())
 }
@@ -219,32 +280,38 @@ fn a_deck_read_without_memory_is_told_of_that_deck_alone(rt: HostRuntime) -> Res
     Ok(())
 }
 
-// The classes of the ALLOC of these items are handed in with a DELETE.
-fn answer_delete(alloc: Global, items: &[Item]) -> Result<Answer, Fail> {
-    let mut core = Core::new(alloc, MemKeeper::new(alloc));
+// What a DELETE is answered with any work.
+fn delete_with(
+    core: &mut Core<FaultKeeper>,
+    request: &Request,
+    work: Work,
+    slate: &mut Slate,
+) -> Result<Answer, Fail> {
+    match &request.op {
+        Op::Delete(_) => Ok(core.step(request, work, slate)),
+        _ => Err(Fail::from("op")),
+    }
+}
+
+// What the third item, a DELETE, is answered behind the first, with the work for the second, which isn't asked.
+fn answer_beside(alloc: Global, items: &[Item]) -> Result<Answer, Fail> {
+    let mut core = Core::new(alloc, FaultKeeper::new(alloc, &[])?);
     let mut slate = Slate::new(alloc)?;
-    let [activation, allocation] = items else {
+    let [first, other, deletion] = items else {
         return Err(Fail::from("items"));
     };
-    let _activated = core.step(&activation.request, Work::Nothing, &mut slate);
-    let work = work_for(alloc, &core, &allocation.request, &mut slate);
-    let deletion = Request {
-        job: Name::new(b"J").ok_or("job")?,
-        number: RequestNumber::new(2).ok_or("number")?,
-        op: Op::Delete(Dsn::parse(b"A.B").ok().ok_or("name")?),
-    };
-    let Work::Classes { under, classified } = work else {
-        return Err(Fail::from("classes"));
-    };
-    let work = Work::Classes { under, classified };
-    Ok(core.step(&deletion, work, &mut slate))
+    let _answer = core.step(&first.request, Work::Nothing, &mut slate);
+    let work = work_for(alloc, &core, &other.request, &mut slate);
+    delete_with(&mut core, &deletion.request, work, &mut slate)
 }
 
 #[test]
-fn classes_of_another_op_are_passed_over(rt: HostRuntime) -> Result<(), Fail> {
-    let script = script_of(rt.alloc(), "<1>J 1 ALLOC A.B SPACE=(TRK,1)")?;
-    let answer = answer_delete(rt.alloc(), items_of(&script)?)?;
-    assert!(rt; matches!(&answer.reply, Reply::NotFound));
-    assert!(rt; answer.place == 2);
+fn work_for_another_op_is_passed_over(rt: HostRuntime) -> Result<(), Fail> {
+    for commands in &BESIDE {
+        let script = script_of(rt.alloc(), commands)?;
+        let answer = answer_beside(rt.alloc(), items_of(&script)?)?;
+        let holds = is_answer(rt.alloc(), &answer, 2, 2, "R19 NOT FOUND")?;
+        assert!(rt; holds, "{commands}");
+    }
     Ok(())
 }
