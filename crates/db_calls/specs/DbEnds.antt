@@ -5,7 +5,7 @@ use Rattle.sms_base.specs.Observed.{Observed}
 use Rattle.sms_keeper.specs.Told.{Stays}
 use Rattle.desk_calls.specs.ExitStatus.{exit_status_of}
 use Rattle.desk_calls.specs.Headline.{Keeping}
-use Rattle.desk_calls.specs.RunFault.{RunEnds, leaves_sink}
+use Rattle.desk_calls.specs.RunFault.{RunEnds, leaves_keeper, leaves_sink}
 use Rattle.desk_calls.specs.declared.status.RunStatus.{RunStatus}
 use Rattle.desk_calls.specs.declared.status.RunStatus.TheVariants as runs
 use Rattle.db_calls.specs.declared.status.DbStatus.{DbStatus}
@@ -27,6 +27,8 @@ pub record WasReadied (old new : Observed) (before after : Keeping) (status : Ru
   pub tables : Stays before.told mid.told
   pub count : mid.count ≡ before.count
   pub ends : RunEnds false old new mid after status
+  -- where nothing was run, the keeper is as it was made ready
+  pub unrun : leaves_keeper status ≡ true → after ≡ mid
 
 -- the keeper couldn't be made ready for want of memory; the source is unread
 pub record IsUnready (old new : Observed) (before after : Keeping) : Type 0 where
