@@ -50,8 +50,7 @@ const NO_MEMORY: &str = "memory is wanting; no answer was written\n";
 
 fn sentence_of_words(words: &[String]) -> &'static str {
     match first_word(words) {
-        "run" =>
-            "run takes --volumes, or --db and a file, and no more: smsctl run [--volumes | --db FILE]\n",
+        "run" => "run takes no further word but --volumes: smsctl run [--volumes]\n",
         "gen" => GEN,
         "serve" => SERVE,
         _ => FIRST,

@@ -4,7 +4,6 @@ const HELP: &str = "smsctl - the allocation desk
 
 smsctl run             answer the script on standard input
 smsctl run --volumes   the same, with the table of volumes behind the answers
-smsctl run --db FILE   the same as run, with the records in a new SQLite file
 smsctl gen SEED COUNT  answer a generated script, and sum up the answers
 smsctl serve PORT CONNECTIONS
                        serve the desk over HTTP on 127.0.0.1 to so many
@@ -15,13 +14,11 @@ smsctl --version       the version
 For example:
 
     smsctl run --volumes < morning.txt > answers.txt
-    smsctl run --db desk.db < morning.txt > answers.txt
     smsctl gen 1 40000
     smsctl serve 8080 100
 
 docs/script.md has the script's lines, the answers and the exit statuses,
-docs/generator.md the generated script, docs/records.md the file,
-docs/http.md the desk over HTTP.
+docs/generator.md the generated script, docs/http.md the desk over HTTP.
 ";
 
 const VERSION: &str = "smsctl 0.1.0\n";
