@@ -6,6 +6,7 @@ smsctl run             answer the script on standard input
 smsctl run --workers N by so many workers, 1 to 16
 smsctl run --volumes   with the table of volumes behind the answers; it stands
                        behind --workers N where both are asked for
+smsctl run --db FILE   by one worker, with the records in a new SQLite file
 smsctl gen SEED COUNT  answer a generated script, and sum up the answers
 smsctl serve PORT CONNECTIONS
                        serve the desk over HTTP on 127.0.0.1 to so many
@@ -21,7 +22,8 @@ For example:
     smsctl serve 8080 100
 
 docs/script.md has the script's lines, the answers and the exit statuses,
-docs/generator.md the generated script, docs/http.md the desk over HTTP.
+docs/generator.md the generated script, docs/records.md the file,
+docs/http.md the desk over HTTP.
 ";
 
 const VERSION: &str = "smsctl 0.1.0\n";

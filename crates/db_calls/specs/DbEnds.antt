@@ -1,0 +1,53 @@
+-- How a run over a stored keeper ends: each status and its cause.
+use Rattle.std.specs.Prelude.{◌≡◌, ◌⊎◌, ℕ, Bool, true, false}
+use Rattle.desk_common.specs.Causes.{Rose}
+use Rattle.sms_base.specs.Observed.{Observed}
+use Rattle.sms_keeper.specs.Told.{Stays}
+use Rattle.desk_calls.specs.ExitStatus.{exit_status_of}
+use Rattle.desk_calls.specs.Headline.{Keeping}
+use Rattle.desk_calls.specs.RunFault.{RunEnds, leaves_sink}
+use Rattle.desk_calls.specs.declared.status.RunStatus.{RunStatus}
+use Rattle.desk_calls.specs.declared.status.RunStatus.TheVariants as runs
+use Rattle.db_calls.specs.declared.status.DbStatus.{DbStatus}
+use Rattle.db_calls.specs.declared.status.DbStatus.TheVariants.{Ran, StoreFault}
+
+-- the number that each ending is told by
+abbrev pub db_status_of : DbStatus → ℕ
+db_status_of (Ran status) = exit_status_of status
+db_status_of StoreFault = 10
+
+-- the statuses with which nothing is written
+abbrev pub leaves_sink_of : DbStatus → Bool
+leaves_sink_of (Ran status) = leaves_sink status
+leaves_sink_of StoreFault = true
+
+-- the keeper was made ready, and then the script of the source was answered over it
+pub record WasReadied (old new : Observed) (before after : Keeping) (status : RunStatus) : Type 0 where
+  pub mid : Keeping
+  pub tables : Stays before.told mid.told
+  pub count : mid.count ≡ before.count
+  pub ends : RunEnds false old new mid after status
+
+-- the keeper couldn't be made ready for want of memory; the source is unread
+pub record IsUnready (old new : Observed) (before after : Keeping) : Type 0 where
+  pub unread : new.left ≡ old.left
+  pub reads : new.reads ≡ old.reads
+  pub read_faults : new.read_faults ≡ old.read_faults
+  pub tables : Stays before.told after.told
+  pub count : after.count ≡ before.count
+
+-- the keeper failed when it was made ready
+pub record HasStoreFault (before after : Keeping) : Type 0 where
+  pub rose : Rose before.count after.count
+  pub tables : Stays before.told after.told
+
+-- what each status says, where the words name a file
+abbrev pub DbEnds : Observed → Observed → Keeping → Keeping → DbStatus → Type 0
+DbEnds old new before after (Ran runs.Done) = WasReadied old new before after runs.Done
+DbEnds old new before after (Ran runs.BadWords) = ⊥
+DbEnds old new before after (Ran runs.ReadFault) = WasReadied old new before after runs.ReadFault
+DbEnds old new before after (Ran runs.WriteFault) = WasReadied old new before after runs.WriteFault
+DbEnds old new before after (Ran (runs.Script err)) = WasReadied old new before after (runs.Script err)
+DbEnds old new before after (Ran runs.TooLong) = WasReadied old new before after runs.TooLong
+DbEnds old new before after (Ran runs.NoMemory) = WasReadied old new before after runs.NoMemory ⊎ IsUnready old new before after
+DbEnds old new before after StoreFault = HasStoreFault before after

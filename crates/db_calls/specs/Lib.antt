@@ -1,0 +1,2 @@
+pub mod DbWords
+pub mod DbEnds

@@ -1,0 +1,26 @@
+//! How a run over a stored keeper ends.
+ghost use Rattle.std.specs.Prelude.{◌≡◌};
+ghost use Rattle.db_calls.specs.DbEnds.{db_status_of};
+
+use desk_calls::RunStatus;
+
+/// How a run over a stored keeper ends; docs/script.md has the cause of each.
+#[derive(Clone, Copy, Debug, PartialEq, Eq)]
+pub enum DbStatus {
+    /// As a run ends.
+    Ran(RunStatus),
+    /// The keeper couldn't be made ready; nothing was run.
+    StoreFault,
+}
+
+impl DbStatus {
+    /// The exit status of the program.
+    pub fn code(&self) -> u8
+        ensures { result ≡ db_status_of self.now }
+    {
+        match self {
+            DbStatus::Ran(status) => status.code(),
+            DbStatus::StoreFault => 10,
+        }
+    }
+}

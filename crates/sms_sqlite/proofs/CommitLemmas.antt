@@ -1,0 +1,114 @@
+-- A transaction from its beginning to its end.
+use Rattle.std.proofs.Common.{◌≡◌, ◌⊎◌, ℕ, Bool, true, false, List, [], Ok, Err, Result, OnOk, OnErr, IfErr, Some, IsTrue, inl, inr, refl, sym, ap, subst, ◌∙◌}
+use Rattle.sqlite.specs.Effect.{Database}
+use Rattle.sqlite.specs.Schema.{Schema}
+use Rattle.sqlite.specs.State.{State, HasCleanDisk, IsRolledBack, Shows, KeepsCounts, Survives}
+use Rattle.sqlite.specs.Steps.{FailsToCommit}
+use Rattle.sqlite.specs.Tree.{Trees}
+use Rattle.sqlite.specs.declared.error.Error.{Error}
+use Rattle.sms_keeper.specs.Tables.{with_change, keep_row, row_of, no_rows}
+use Rattle.sms_keeper.specs.declared.change.Change.{Change}
+use Rattle.sms_keeper.specs.declared.rows.Rows.{Rows}
+use Rattle.keeper_statements.specs.Schema.{no_schema, desk_schema}
+use Rattle.keeper_statements.specs.Steps.{StaysInside, HasMade, Makes}
+use Rattle.keeper_statements.specs.Tables.{Tables, IsReady, tables_in}
+use Rattle.sms_sqlite.specs.Told.{tables_of, is_new}
+use Rattle.sms_sqlite.specs.Values.{rows_in, rows_of}
+use Rattle.sms_sqlite.specs.Writing.{Holds, HoldsLike, AreAlike, HasRows, IsCommitted, with_effect, with_row}
+use Rattle.sms_sqlite.proofs.ReadLemmas.{some, some_is}
+use Rattle.sms_sqlite.proofs.TablesLemmas.{alike_self, alike_then}
+use Rattle.sms_sqlite.proofs.ToldLemmas.{alike_same, holds_of, new_is, tables_of_new}
+
+-- after a refusal inside the transaction it is undone
+pub undone_now : {X : Type 0} (old begun last end : State) (r : Result X Error) → (IsTrue begun.is_open → IsTrue old.is_open) → begun.committed ≡ old.committed → StaysInside begun last r
+    → IsRolledBack last end → (IsTrue old.is_open → old.now ≡ old.committed) → IsTrue end.is_open → end.now ≡ old.now
+undone_now old begun last end r opens same stays back settled is_open =
+    let last_open = back.was_open is_open in
+    (back.undone is_open).0 ∙ stays.committed last_open ∙ same ∙ sym (settled (opens (stays.was_open last_open)))
+
+pub undone_open : {X : Type 0} (old begun last end : State) (r : Result X Error) → (IsTrue begun.is_open → IsTrue old.is_open) → StaysInside begun last r → IsRolledBack last end → IsTrue end.is_open → IsTrue old.is_open
+undone_open old begun last end r opens stays back is_open = opens (stays.was_open (back.was_open is_open))
+
+-- a commit that is refused undoes the transaction too
+pub refused_back : (last end : State) (e : Error) → IsTrue last.in_transaction → FailsToCommit last end e → IsRolledBack last end
+refused_back last end e inside (inl fails) = fails.3
+refused_back last end e inside (inr late) = absurd (let a = sym inside ∙ late.1 in cc)
+
+pub refused_now : {X : Type 0} (old begun last end : State) (r : Result X Error) (done : Result (Unit {0}) Error) → (IsTrue begun.is_open → IsTrue old.is_open) → begun.committed ≡ old.committed
+    → StaysInside begun last r → IsTrue last.in_transaction → IfErr done (FailsToCommit last end) → (IsTrue old.is_open → old.now ≡ old.committed) → IsTrue end.is_open → OnErr done (end.now ≡ old.now)
+refused_now old begun last end r (Ok x) opens same stays inside fails settled is_open = tt
+refused_now old begun last end r (Err e) opens same stays inside fails settled is_open =
+    undone_now old begun last end r opens same stays (refused_back last end e inside fails) settled is_open
+
+-- the connection was open before a commit after which it is
+pub commit_open : {X : Type 0} (old begun last end : State) (r : Result X Error) (done : Result (Unit {0}) Error) → (IsTrue begun.is_open → IsTrue old.is_open) → StaysInside begun last r → IsTrue last.in_transaction
+    → OnOk done (IsTrue last.in_transaction × Shows last end last.now last.now false × KeepsCounts last end × (end.marks ≡ [])) → IfErr done (FailsToCommit last end) → IsTrue end.is_open → IsTrue old.is_open
+commit_open old begun last end r (Ok x) opens stays inside shown fails is_open = opens (stays.was_open shown.1.was_open)
+commit_open old begun last end r (Err e) opens stays inside shown fails is_open = undone_open old begun last end r opens stays (refused_back last end e inside fails) is_open
+
+-- the last state of the transaction is the committed one
+pub commit_made : (last end : State) (rows : Rows) (done : Result (Unit {0}) Error) → HoldsLike last.now rows
+    → OnOk done (IsTrue last.in_transaction × Shows last end last.now last.now false × KeepsCounts last end × (end.marks ≡ [])) → OnOk done (IsCommitted end rows)
+commit_made last end rows (Ok x) holds shown = record {
+  holds = subst (λ db. HoldsLike db rows) (sym shown.1.now_is) holds;
+  committed = shown.1.committed_is ∙ sym shown.1.now_is;
+  is_open = shown.1.is_open;
+}
+commit_made last end rows (Err e) holds shown = tt
+
+-- what the last state holds is what a stop in the commit may leave
+pub last_rows : (last : State) (rows : Rows) (db : Trees) → HoldsLike last.now rows → db ≡ last.now.trees → HasRows db rows
+last_rows last rows db holds is = record { found = holds.found; read = ap rows_in is ∙ holds.holds.read; same = alike_same holds.found rows holds.alike }
+
+-- the row of a reply is added to alike rows alike
+row_alike : (change : Change) (a b : Rows) → AreAlike a b → AreAlike (with_row change a) (with_row change b)
+row_alike change a b p = record {
+  sets = p.sets;
+  replies = λ i. keep_row (p.floors i) (row_of change) (p.replies i);
+  decks = p.decks;
+  statuses = p.statuses;
+  floors = p.floors;
+}
+
+-- the effect, and then the row
+pub both_made : (change : Change) (mid new : Database) (rows : Rows) → HoldsLike mid (with_effect change rows) → ((found : Rows) → Holds mid found → HoldsLike new (with_row change found)) → HoldsLike new (with_change rows change)
+both_made change mid new rows first second =
+    let next = second first.found first.holds in
+    record { found = next.found; holds = next.holds; alike = alike_then _ _ _ next.alike (row_alike change first.found (with_effect change rows) first.alike) }
+
+-- another name for the rows
+pub holds_as : (db : Database) (a b : Rows) → AreAlike a b → HoldsLike db a → HoldsLike db b
+holds_as db a b same h = record { found = h.found; holds = h.holds; alike = alike_then _ _ _ h.alike same }
+
+-- the tables were made: what was told stands
+pub made_like : (old new : Database) (rows : Rows) → HasMade old new → tables_of old ≡ Some rows → HoldsLike new rows
+made_like old new rows made told = by (is_new old) refl
+  where
+    by : (b : Bool) → is_new old ≡ b → HoldsLike new rows
+    by true is =
+        let schema = new_is old is in
+        let none : no_rows ≡ rows = some_is no_rows rows (sym (tables_of_new old schema) ∙ told) in
+        record {
+          found = rows;
+          holds = record { ready = made.ready schema; read = ap rows_of (made.empty schema) ∙ ap (λ (r : Rows). some r) none };
+          alike = alike_self rows;
+        }
+    by false is = absurd (made.free (holds_of old rows is told).ready.schema)
+
+pub survives_weaker : (old new : State) (P Q : Trees → Type 0) → ((db : Trees) → P db → Q db) → Survives old new P → Survives old new Q
+survives_weaker old new P Q f s = record {
+  clean = s.clean;
+  shield = s.shield;
+  counts = s.counts;
+  limit = s.limit;
+  closes = s.closes;
+  crash = λ clean db left. elim (s.crash clean db left) [ inl before ↦ inl before | inr has ↦ inr (f db has) ];
+}
+
+-- a database with tables is none without
+pub not_new : (db : Database) → (db.schema.tables ≡ [] → ⊥) → is_new db ≡ false
+not_new db some = by (is_new db) refl
+  where
+    by : (b : Bool) → is_new db ≡ b → is_new db ≡ false
+    by true is = absurd (some (ap (λ (s : Schema). s.tables) (new_is db is)))
+    by false is = is

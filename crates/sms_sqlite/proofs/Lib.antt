@@ -1,0 +1,11 @@
+pub mod SameLemmas
+pub mod NumberLemmas
+pub mod ReadLemmas
+pub mod ValueLemmas
+pub mod StatusLemmas
+pub mod DeckLemmas
+pub mod TablesLemmas
+pub mod WriteLemmas
+pub mod LeadLemmas
+pub mod ToldLemmas
+pub mod CommitLemmas

@@ -1,0 +1,5 @@
+pub mod Same
+pub mod Values
+pub mod Told
+pub mod Columns
+pub mod Writing

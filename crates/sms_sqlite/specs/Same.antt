@@ -1,0 +1,19 @@
+-- Whether two values are the same, as a test, for each type that has a code.
+use Rattle.std.specs.Prelude.{ℕ, Bool, false, true, ◌&&◌, ◌==◌}
+use base.Stored.{Coded, Gv, gnil, gnum, gcons}
+
+-- the codes are the same
+abbrev pub same_code : Gv → Gv → Bool
+same_code gnil gnil = true
+same_code gnil (gnum n) = false
+same_code gnil (gcons c d) = false
+same_code (gnum m) gnil = false
+same_code (gnum m) (gnum n) = m == n
+same_code (gnum m) (gcons c d) = false
+same_code (gcons a b) gnil = false
+same_code (gcons a b) (gnum n) = false
+same_code (gcons a b) (gcons c d) = same_code a c && same_code b d
+
+-- the values are the same
+abbrev pub is_same : {A : Type 0} → Coded A → A → A → Bool
+is_same coded x y = same_code (coded.code x) (coded.code y)

@@ -1,0 +1,65 @@
+-- What the keeper over a database tells.
+use Rattle.std.specs.Prelude.{◌≡◌, ◌&&◌, ℕ, Bool, true, List, [], ◌∷◌, Option, Some, None, IfSome, IsTrue, is_some, refl, if◌then◌else◌}
+use Rattle.std.specs.Coded.{Coded, code_by, coded×, coded_ℕ}
+use Rattle.std.specs.List.{list_all}
+use Rattle.std.specs.Ordering.{is_lt}
+use Rattle.sqlite.specs.Effect.{Database}
+use Rattle.sqlite.specs.Held.{Held, held_code, state}
+use Rattle.sqlite.specs.Order.{Row}
+use Rattle.sqlite.specs.State.{State}
+use Rattle.sqlite_schema.specs.contracts.schema.Schema.{the_row}
+use Rattle.sqlite_trees.specs.Tree.{rowid}
+use Rattle.sqlite_trees.specs.View.{is_int}
+use Rattle.sqlite_trees.specs.declared.store.Store.{Ghosts}
+use Rattle.sqlite_value.specs.Order.{value_cmp}
+use Rattle.sms_keeper.specs.Tables.{no_rows}
+use Rattle.sms_keeper.specs.declared.rows.Rows.{Rows}
+use Rattle.keeper_statements.specs.Schema.{no_schema, desk_schema}
+use Rattle.keeper_statements.specs.Tables.{IsReady}
+use Rattle.sms_sqlite.specs.Same.{is_same}
+use Rattle.sms_sqlite.specs.Values.{rows_in}
+
+-- the rows' numbers rise
+abbrev pub is_keyed : List Row → Bool
+is_keyed [] = true
+is_keyed (r ∷ rows) = is_int (rowid r) && (list_all (λ x. is_lt (value_cmp (rowid r) (rowid x))) rows && is_keyed rows)
+
+-- the database has no tables
+abbrev pub is_new : Database → Bool
+is_new db = is_same the_row.coded db.schema no_schema
+
+-- the five tables are made, and the numbers of their rows rise
+abbrev pub is_ready : Database → Bool
+is_ready db = is_same the_row.coded db.schema desk_schema && list_all (λ t. is_keyed (db.trees t.tree)) desk_schema.tables
+
+-- the tables of a database: without rows where none is made, and else what their rows stand for
+abbrev pub tables_of : Database → Option Rows
+tables_of db = if is_new db then Some no_rows else if is_ready db then rows_in db.trees else None
+
+-- what contracts see of a keeper over a database: the connection, the connection as it was handed in, and the count of faults
+pub record Kept (S : Type 0) : Type 0 where
+  pub connection : Held S
+  pub base : Held S
+  pub faults : ℕ
+
+-- its code
+abbrev pub kept_code : {S : Type 0} → Coded S → Coded (Kept S)
+kept_code {S} store =
+    code_by (Held S × (Held S × ℕ)) (coded× (held_code store) (coded× (held_code store) coded_ℕ))
+    (λ k. (k.connection, (k.base, k.faults))) (λ p. record { connection = p.0; base = p.1.0; faults = p.1.1 }) (λ _. refl)
+
+-- what the database holds can be told: so far the disk returned what was written, and the connection is open
+abbrev pub is_shown : State → Bool
+is_shown s = s.is_open && s.is_clean
+
+-- what is told of a database that is seen so, where it had no tables as it was handed in
+abbrev pub told_of : Database → State → Option Rows
+told_of base s = if is_shown s && is_new base then tables_of s.now else None
+
+-- the tables that the keeper tells
+abbrev pub told_by : {S : Type 0} → Ghosts S → Kept S → Option Rows
+told_by g k = told_of (state g k.base).now (state g k.connection)
+
+-- the keeper keeps its tables readable
+abbrev pub IsReadable : Database → State → Type 0
+IsReadable base s = IsTrue (is_shown s) → IsTrue (is_new base) → IsTrue (is_some (tables_of s.now))

@@ -1,0 +1,61 @@
+-- What a change does to the rows of a database.
+use Rattle.std.specs.Prelude.{◌≡◌, ◌++◌, ℕ, List, Some, Result, OnOk, OnErr, IsTrue, filter}
+use Rattle.sqlite.specs.Effect.{Database}
+use Rattle.sqlite.specs.State.{State, HasCleanDisk}
+use Rattle.sqlite.specs.declared.error.Error.{Error}
+use Rattle.sqlite_trees.specs.Tree.{Trees}
+use Rattle.sms_keeper.specs.Tables.{AreSame, sets_with, floors_with, replies_left, statuses_with, decks_added, keep_row, row_of, is_deck, is_status_of}
+use Rattle.sms_keeper.specs.declared.change.Change.{Change}
+use Rattle.sms_keeper.specs.declared.rows.Rows.{Rows}
+use Rattle.sms_construct.specs.declared.target.Target.{Target}
+use Rattle.keeper_statements.specs.Tables.{IsReady}
+use Rattle.sms_sqlite.specs.Values.{rows_in}
+
+-- the tables are made, and these are their rows
+pub record Holds (db : Database) (rows : Rows) : Type 0 where
+  pub ready : IsReady db
+  pub read : rows_in db.trees ≡ Some rows
+
+-- the same rows; decks and statuses may stand in another order of their keys
+pub record AreAlike (a b : Rows) : Type 0 where
+  pub sets : a.sets ≡ b.sets
+  pub replies : a.replies ≡ b.replies
+  pub decks : (count : ℕ) → filter (is_deck count) a.decks ≡ filter (is_deck count) b.decks
+  pub statuses : (target : Target) → filter (is_status_of target) a.statuses ≡ filter (is_status_of target) b.statuses
+  pub floors : a.floors ≡ b.floors
+
+-- the database holds rows like these
+pub record HoldsLike (db : Database) (rows : Rows) : Type 0 where
+  pub found : Rows
+  pub holds : Holds db found
+  pub alike : AreAlike found rows
+
+-- the trees have these rows, in any order of the keys
+pub record HasRows (trees : Trees) (rows : Rows) : Type 0 where
+  pub found : Rows
+  pub read : rows_in trees ≡ Some found
+  pub same : AreSame found rows
+
+-- while the disk is clean, what isn't refused makes this change of the rows, inside its transaction
+abbrev pub MayLead : {X : Type 0} → (Rows → Rows) → State → State → Result X Error → Type 0
+MayLead change old new result = HasCleanDisk new → IsTrue old.in_transaction → (rows : Rows) → Holds old.now rows → OnOk result (HoldsLike new.now (change rows))
+
+-- the tables with the effect of a change, and without the row of its reply
+abbrev pub with_effect : Change → Rows → Rows
+with_effect change rows = record {
+  sets = sets_with change.effect rows.sets;
+  replies = replies_left change.effect rows.replies;
+  decks = rows.decks ++ decks_added change.request.op change.effect;
+  statuses = statuses_with change.effect rows.statuses;
+  floors = floors_with change.effect rows.floors;
+}
+
+-- the tables with the row of a change's reply, where it is kept
+abbrev pub with_row : Change → Rows → Rows
+with_row change rows = record rows { replies = keep_row rows.floors (row_of change) rows.replies }
+
+-- the database holds rows like these, and they are committed
+pub record IsCommitted (new : State) (rows : Rows) : Type 0 where
+  pub holds : HoldsLike new.now rows
+  pub committed : new.committed ≡ new.now
+  pub is_open : IsTrue new.is_open

@@ -1,0 +1,152 @@
+//! A keeper over a database.
+ghost use Rattle.std.specs.Prelude.{◌≡◌, ◌≤◌, IfSome, IsErrOf, OnErr, OnOk};
+ghost use Rattle.desk_common.specs.Causes.{Rose, counted};
+ghost use Rattle.sqlite.specs.Held.{state};
+ghost use Rattle.sqlite.specs.State.{Survives};
+ghost use Rattle.sqlite.specs.Tree.{Trees};
+ghost use Rattle.sms_keeper.specs.Faults.{faults_counted};
+ghost use Rattle.sms_keeper.specs.Suits.{Suits};
+ghost use Rattle.sms_keeper.specs.Tables.{AreSame, no_rows, with_change};
+ghost use Rattle.sms_keeper.specs.Told.{Applies, Stays};
+ghost use Rattle.sms_sqlite.specs.Told.{told_by};
+ghost use Rattle.sms_sqlite.specs.Writing.{HasRows};
+
+use crate::writing::{write_change, write_tables};
+use sms_keeper::{Change, Keeper, KeeperErr, Stored};
+use sqlite::{Alter, Connection, Error, ErrorCode};
+use std::alloc::Global;
+use std::marker::Model;
+use std::snapshot::Snapshot;
+
+/// Keeps the records in a database (docs/records.md, "The database"). It tells its tables where the database had none
+/// as it was handed in, while the connection is open and the disk has returned what was written.
+#[derive(Drop)]
+pub struct SqlKeeper<S: Alter + Drop> {
+    alloc: Global,
+    connection: Connection<S>,
+    base: Snapshot<Connection<S>>,
+    faults: u64,
+}
+
+impl<S: Alter + Drop> Model for SqlKeeper<S> {
+    ghost use Rattle.sqlite.specs.Held.{state};
+    ghost use Rattle.sms_sqlite.specs.Told.{IsReadable, Kept, kept_code};
+
+    ghost Value = { Kept S };
+
+    ghost coded = { kept_code S.code };
+
+    ghost view = { λ k. record { connection = k.connection; base = k.base.value; faults = k.faults } };
+
+    ghost invariant = { λ k. IsReadable (state S.Store k.base.value).now (state S.Store k.connection) };
+}
+
+impl<S: Alter + Drop> SqlKeeper<S> {
+    /// A keeper over the database of this connection. It takes no memory.
+    pub fn new(alloc: Global, connection: Connection<S>) -> Self
+        ensures made { result ≡ record { connection = connection; base = connection; faults = 0 } }
+        ensures tables { IfSome (told_by S.Store result) (λ rows. AreSame rows no_rows) }
+    {
+        let base = Snapshot::of(&connection);
+        SqlKeeper {
+            alloc,
+            connection,
+            base,
+            faults: 0,
+        }
+    }
+
+    /// The connection. It takes no memory.
+    pub fn into_connection(self) -> Connection<S>
+        ensures { result ≡ self.connection }
+    {
+        self.connection
+    }
+
+    // Makes the change in one transaction.
+    fn write(&mut self, change: &Change) -> Result<(), Error>
+        requires { Suits change.now }
+        ensures base { self.new.base ≡ self.old.base }
+        ensures faults { self.new.faults ≡ self.old.faults }
+        ensures applied { OnOk result (Applies change.now (told_by S.Store self.old) (told_by S.Store self.new)) }
+        ensures kept { OnErr result (Stays (told_by S.Store self.old) (told_by S.Store self.new)) }
+        ensures crash { Survives (state S.Store self.old.connection) (state S.Store self.new.connection) (λ db. IfSome (told_by S.Store self.old) (λ rows. HasRows db (with_change rows change.now))) }
+        ensures alone { OnOk result (IfSome (told_by S.Store self.new) (λ rows. (db : Trees) → (state S.Store self.new.connection).may_leave db → HasRows db rows)) }
+    {
+        write_change(&mut self.connection, self.alloc, change)
+    }
+
+    // Makes the tables in one transaction.
+    fn make(&mut self) -> Result<(), Error>
+        ensures base { self.new.base ≡ self.old.base }
+        ensures faults { self.new.faults ≡ self.old.faults }
+        ensures kept { Stays (told_by S.Store self.old) (told_by S.Store self.new) }
+        ensures crash { Survives (state S.Store self.old.connection) (state S.Store self.new.connection) (λ db. IfSome (told_by S.Store self.old) (HasRows db)) }
+    {
+        write_tables(&mut self.connection)
+    }
+
+    // What the keeper answers to a refusal of the database: each but want of memory is counted.
+    fn refuse(&mut self, error: Error) -> KeeperErr
+        ensures connection { self.new.connection ≡ self.old.connection }
+        ensures base { self.new.base ≡ self.old.base }
+        ensures memory { result ≡ KeeperErr.NoMemory → self.new.faults ≡ self.old.faults }
+        ensures failed { result ≡ KeeperErr.Failed → self.new.faults ≡ counted self.old.faults }
+        ensures rises { self.old.faults ≤ self.new.faults }
+    {
+        match error {
+            Error::SqliteFailure(ErrorCode::OutOfMemory) => KeeperErr::NoMemory,
+            _ => {
+                self.faults = self.faults.saturating_add(1);
+                KeeperErr::Failed
+            }
+        }
+    }
+}
+
+impl<S: Alter + Drop> Keeper for SqlKeeper<S> {
+    ghost use Rattle.sms_sqlite.specs.Told.{told_by};
+
+    ghost told = { told_by S.Store };
+
+    ghost count = { λ k. k.faults };
+
+    fn commit(&mut self, change: &Change) -> Result<(), KeeperErr>
+        requires { Suits change.now }
+        ensures applied { OnOk result (Applies change.now (told_by S.Store self.old) (told_by S.Store self.new)) }
+        ensures kept { OnErr result (Stays (told_by S.Store self.old) (told_by S.Store self.new)) }
+        ensures cause { IsErrOf result KeeperErr.Failed → Rose self.old.faults self.new.faults }
+        ensures stands { (IsErrOf result KeeperErr.Failed → ⊥) → self.new.faults ≡ self.old.faults }
+        ensures rises { self.old.faults ≤ self.new.faults }
+        ensures faults { self.new.faults ≡ faults_counted self.old.faults result }
+        ensures base { self.new.base ≡ self.old.base }
+        ensures crash { Survives (state S.Store self.old.connection) (state S.Store self.new.connection) (λ db. IfSome (told_by S.Store self.old) (λ rows. HasRows db (with_change rows change.now))) }
+        ensures alone { OnOk result (IfSome (told_by S.Store self.new) (λ rows. (db : Trees) → (state S.Store self.new.connection).may_leave db → HasRows db rows)) }
+    {
+        match self.write(change) {
+            Ok(()) => Ok(()),
+            Err(error) => Err(self.refuse(error)),
+        }
+    }
+
+    fn faults(&self) -> u64 {
+        self.faults
+    }
+}
+
+impl<S: Alter + Drop> Stored for SqlKeeper<S> {
+    fn ready(&mut self) -> Result<(), KeeperErr>
+        ensures kept { Stays (told_by S.Store self.old) (told_by S.Store self.new) }
+        ensures cause { IsErrOf result KeeperErr.Failed → Rose self.old.faults self.new.faults }
+        ensures stands { (IsErrOf result KeeperErr.Failed → ⊥) → self.new.faults ≡ self.old.faults }
+        ensures rises { self.old.faults ≤ self.new.faults }
+        ensures faults { self.new.faults ≡ faults_counted self.old.faults result }
+        ensures base { self.new.base ≡ self.old.base }
+        ensures crash { Survives (state S.Store self.old.connection) (state S.Store self.new.connection) (λ db. IfSome (told_by S.Store self.old) (HasRows db)) }
+    {
+        match self.make() {
+            Ok(()) => Ok(()),
+            Err(error) => Err(self.refuse(error)),
+        }
+    }
+}
