@@ -26,7 +26,7 @@ pub record WasReadied (old new : Observed) (before after : Keeping) (status : Ru
   pub mid : Keeping
   pub tables : Stays before.told mid.told
   pub count : mid.count ≡ before.count
-  pub ends : RunEnds false old new mid after status
+  pub ends : RunEnds false 1 old new mid after status
 
 -- the keeper couldn't be made ready for want of memory; the source is unread
 pub record IsUnready (old new : Observed) (before after : Keeping) : Type 0 where
