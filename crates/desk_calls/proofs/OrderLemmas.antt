@@ -85,3 +85,10 @@ in_order_answered (items ∷ phases) answers old new done =
       due = due-behind old xs ys items (items_of phases) each both.due;
     } in
     (xs, ys, old ++ entries_for xs items, parts, phase-in_order items xs old (old ++ entries_for xs items) first, in_order_answered phases ys (old ++ entries_for xs items) new rest)
+
+-- each item has its answer
+pub answered-length : (phases : List (List Item)) (answers : List Answer) (old new : List Entry) → AreAnswered phases answers old new → length answers ≡ length (items_of phases)
+answered-length [] answers old new done = ap length done.0
+answered-length (items ∷ phases) answers old new done =
+    let rest = answered-length phases done.1 done.2 new done.5 in
+    omega (arith, ap length done.3, length-append done.0 done.1, done.4.each, rest, length-append items (items_of phases))

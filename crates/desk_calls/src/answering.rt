@@ -1,5 +1,5 @@
 // From the bytes of a script to the text of its answers.
-ghost use Rattle.std.specs.Prelude.{◌≡◌, ◌<◌, ◌≤◌, ◌^◌, ◌×◌, List, ℕ, length, Ok, IfErr, IfOk, IfSome};
+ghost use Rattle.std.specs.Prelude.{◌≡◌, ◌<◌, ◌≤◌, ◌^◌, List, ℕ, length, Ok, IfErr, IfOk, IfSome};
 ghost use Rattle.sms_keeper.specs.Tables.{AreSame, no_rows};
 ghost use Rattle.sms_script.specs.Script.{IsRefusal, script_of};
 ghost use Rattle.desk_calls.specs.Headline.{IsAnswered, IsLeft};

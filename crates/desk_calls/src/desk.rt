@@ -1,5 +1,5 @@
 //! The top call of the desk.
-ghost use Rattle.std.specs.Prelude.{◌≡◌, ◌≤◌, ◌×◌, ◌↔◌, ℕ, None, Some, true, map, string_bytes, IfSome};
+ghost use Rattle.std.specs.Prelude.{◌≡◌, ◌≤◌, ◌↔◌, ℕ, None, Some, true, map, string_bytes, IfSome};
 ghost use Rattle.sms_base.specs.Observed.{Observed};
 ghost use Rattle.sms_keeper.specs.Tables.{AreSame, no_rows};
 ghost use Rattle.desk_words.specs.Words.{task_in};

@@ -1,5 +1,5 @@
 //! A run of a script on one core.
-ghost use Rattle.std.specs.Prelude.{◌≡◌, ◌≤◌, ◌+◌, ◌-◌, ◌^◌, ◌×◌, [], length, min, IfOk, IfSome, OnErr, vec_capacity, vec_len};
+ghost use Rattle.std.specs.Prelude.{◌≡◌, ◌≤◌, ◌+◌, ◌-◌, ◌^◌, [], length, min, IfOk, IfSome, OnErr, vec_capacity, vec_len};
 ghost use Rattle.sms_keeper.specs.Tables.{AreSame, no_rows};
 ghost use Rattle.desk_law.specs.History.{IsLegal};
 ghost use Rattle.desk_law.specs.Records.{empty_opening};
