@@ -1,50 +1,20 @@
 -- A transaction from its beginning to its end.
-use Rattle.std.proofs.Common.{◌≡◌, ◌⊎◌, ℕ, Bool, true, false, List, [], Ok, Err, Result, OnOk, OnErr, IfErr, Some, IsTrue, inl, inr, refl, sym, ap, subst, ◌∙◌}
+use Rattle.std.proofs.Common.{◌≡◌, Bool, true, false, [], Ok, Err, Result, OnOk, Some, IsTrue, inl, inr, refl, sym, ap, subst, ◌∙◌}
 use Rattle.sqlite.specs.Effect.{Database}
 use Rattle.sqlite.specs.Schema.{Schema}
-use Rattle.sqlite.specs.State.{State, HasCleanDisk, IsRolledBack, Shows, KeepsCounts, Survives}
-use Rattle.sqlite.specs.Steps.{FailsToCommit}
+use Rattle.sqlite.specs.State.{State, Shows, KeepsCounts, Survives}
 use Rattle.sqlite.specs.Tree.{Trees}
 use Rattle.sqlite.specs.declared.error.Error.{Error}
 use Rattle.sms_keeper.specs.Tables.{with_change, keep_row, row_of, no_rows}
 use Rattle.sms_keeper.specs.declared.change.Change.{Change}
 use Rattle.sms_keeper.specs.declared.rows.Rows.{Rows}
-use Rattle.keeper_statements.specs.Schema.{no_schema, desk_schema}
-use Rattle.keeper_statements.specs.Steps.{StaysInside, HasMade, Makes}
-use Rattle.keeper_statements.specs.Tables.{Tables, IsReady, tables_in}
+use Rattle.keeper_statements.specs.Steps.{HasMade}
 use Rattle.sms_sqlite.specs.Told.{tables_of, is_new}
 use Rattle.sms_sqlite.specs.Values.{rows_in, rows_of}
 use Rattle.sms_sqlite.specs.Writing.{Holds, HoldsLike, AreAlike, HasRows, IsCommitted, with_effect, with_row}
 use Rattle.sms_sqlite.proofs.ReadLemmas.{some, some_is}
 use Rattle.sms_sqlite.proofs.TablesLemmas.{alike_self, alike_then}
 use Rattle.sms_sqlite.proofs.ToldLemmas.{alike_same, holds_of, new_is, tables_of_new}
-
--- after a refusal inside the transaction it is undone
-pub undone_now : {X : Type 0} (old begun last end : State) (r : Result X Error) → (IsTrue begun.is_open → IsTrue old.is_open) → begun.committed ≡ old.committed → StaysInside begun last r
-    → IsRolledBack last end → (IsTrue old.is_open → old.now ≡ old.committed) → IsTrue end.is_open → end.now ≡ old.now
-undone_now old begun last end r opens same stays back settled is_open =
-    let last_open = back.was_open is_open in
-    (back.undone is_open).0 ∙ stays.committed last_open ∙ same ∙ sym (settled (opens (stays.was_open last_open)))
-
-pub undone_open : {X : Type 0} (old begun last end : State) (r : Result X Error) → (IsTrue begun.is_open → IsTrue old.is_open) → StaysInside begun last r → IsRolledBack last end → IsTrue end.is_open → IsTrue old.is_open
-undone_open old begun last end r opens stays back is_open = opens (stays.was_open (back.was_open is_open))
-
--- a commit that is refused undoes the transaction too
-pub refused_back : (last end : State) (e : Error) → IsTrue last.in_transaction → FailsToCommit last end e → IsRolledBack last end
-refused_back last end e inside (inl fails) = fails.3
-refused_back last end e inside (inr late) = absurd (let a = sym inside ∙ late.1 in cc)
-
-pub refused_now : {X : Type 0} (old begun last end : State) (r : Result X Error) (done : Result (Unit {0}) Error) → (IsTrue begun.is_open → IsTrue old.is_open) → begun.committed ≡ old.committed
-    → StaysInside begun last r → IsTrue last.in_transaction → IfErr done (FailsToCommit last end) → (IsTrue old.is_open → old.now ≡ old.committed) → IsTrue end.is_open → OnErr done (end.now ≡ old.now)
-refused_now old begun last end r (Ok x) opens same stays inside fails settled is_open = tt
-refused_now old begun last end r (Err e) opens same stays inside fails settled is_open =
-    undone_now old begun last end r opens same stays (refused_back last end e inside fails) settled is_open
-
--- the connection was open before a commit after which it is
-pub commit_open : {X : Type 0} (old begun last end : State) (r : Result X Error) (done : Result (Unit {0}) Error) → (IsTrue begun.is_open → IsTrue old.is_open) → StaysInside begun last r → IsTrue last.in_transaction
-    → OnOk done (IsTrue last.in_transaction × Shows last end last.now last.now false × KeepsCounts last end × (end.marks ≡ [])) → IfErr done (FailsToCommit last end) → IsTrue end.is_open → IsTrue old.is_open
-commit_open old begun last end r (Ok x) opens stays inside shown fails is_open = opens (stays.was_open shown.1.was_open)
-commit_open old begun last end r (Err e) opens stays inside shown fails is_open = undone_open old begun last end r opens stays (refused_back last end e inside fails) is_open
 
 -- the last state of the transaction is the committed one
 pub commit_made : (last end : State) (rows : Rows) (done : Result (Unit {0}) Error) → HoldsLike last.now rows
@@ -75,10 +45,6 @@ pub both_made : (change : Change) (mid new : Database) (rows : Rows) → HoldsLi
 both_made change mid new rows first second =
     let next = second first.found first.holds in
     record { found = next.found; holds = next.holds; alike = alike_then _ _ _ next.alike (row_alike change first.found (with_effect change rows) first.alike) }
-
--- another name for the rows
-pub holds_as : (db : Database) (a b : Rows) → AreAlike a b → HoldsLike db a → HoldsLike db b
-holds_as db a b same h = record { found = h.found; holds = h.holds; alike = alike_then _ _ _ h.alike same }
 
 -- the tables were made: what was told stands
 pub made_like : (old new : Database) (rows : Rows) → HasMade old new → tables_of old ≡ Some rows → HoldsLike new rows

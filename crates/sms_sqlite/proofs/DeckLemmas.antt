@@ -1,16 +1,16 @@
 -- A deck put where its number belongs.
-use Rattle.std.proofs.Common.{◌≡◌, Bool, true, false, not, cond, ℕ, pos, List, [], ◌∷◌, ◌++◌, filter, Some, refl, ap, ap₂, sym, subst, ◌∙◌, append-nil, Ordering, Less, Equal, Greater, is_eq, nat_eq}
+use Rattle.std.proofs.Common.{◌≡◌, Bool, true, false, cond, ℕ, pos, List, [], ◌∷◌, ◌++◌, filter, Some, refl, ap, ap₂, sym, subst, ◌∙◌, append-nil, Ordering, Less, Equal, Greater, is_eq, nat_eq}
 use Rattle.std.specs.List.{list_any}
 use Rattle.sqlite.specs.Order.{Row}
 use Rattle.sqlite.specs.declared.types.Value.TheVariants.{Int}
-use Rattle.sqlite_value.specs.Order.{column, value_cmp}
+use Rattle.sqlite_value.specs.Order.{value_cmp}
 use Rattle.sqlite_trees.specs.Tree.{put_row, rowid}
 use Rattle.sqlite_rules.specs.Edit.{is_taken}
 use Rattle.sms_keeper.specs.Tables.{is_deck}
 use Rattle.sms_keeper.specs.declared.deck_row.DeckRow.{DeckRow}
 use Rattle.keeper_statements.specs.Tests.{deck_row}
 use Rattle.sms_sqlite.specs.Values.{each_in, deck_in}
-use Rattle.sms_sqlite.proofs.ReadLemmas.{each_append, each_parts, each_any, each_filter, each_push}
+use Rattle.sms_sqlite.proofs.ReadLemmas.{each_append, each_parts, each_any}
 use Rattle.sms_sqlite.proofs.ValueLemmas.{deck_numbered, int_tie}
 
 -- the parts of rows between which a row is put

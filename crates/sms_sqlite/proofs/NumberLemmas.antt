@@ -1,6 +1,5 @@
 -- A number is the same in a column.
-use Rattle.std.proofs.Common.{◌≡◌, ◌<◌, ◌≤◌, ◌^◌, ℕ, ℤ, pos, arith, w64, of_z, to_z, to_z-of_z, subst, sym, ap, ◌∙◌}
-use Rattle.sms_construct.specs.Quantities.{IsRequestNumber}
+use Rattle.std.proofs.Common.{◌≡◌, ◌<◌, ◌≤◌, ◌^◌, ℕ, ℤ, pos, arith, w64, of_z, to_z, to_z-of_z, subst, sym}
 use Rattle.sms_construct.specs.declared.target.Target.{Target}
 use Rattle.sms_construct.specs.declared.target.Target.TheVariants as targets
 use Rattle.sms_sqlite.specs.Columns.{kind_column}

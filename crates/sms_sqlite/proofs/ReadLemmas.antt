@@ -1,5 +1,5 @@
 -- What is read off rows that are added and dropped.
-use Rattle.std.proofs.Common.{◌≡◌, Bool, true, false, not, cond, List, [], ◌∷◌, ◌++◌, filter, map, Option, Some, None, refl, ap, ap₂, sym, subst, ◌∙◌}
+use Rattle.std.proofs.Common.{◌≡◌, Bool, true, false, List, [], ◌∷◌, ◌++◌, filter, Option, Some, None, refl, ap, ap₂, sym, subst, ◌∙◌}
 use Rattle.std.specs.List.{list_any}
 use Rattle.sms_sqlite.specs.Values.{each_in, joined}
 
@@ -50,11 +50,6 @@ module _ {A B : Type 0} (read : A → Option B) where
   each_any test test′ alike (r ∷ rows) xs all =
       let p = joins (read r) (each_in read rows) xs all in
       rw (alike r p.first p.here, each_any test test′ alike rows p.others p.there) (ap (list_any test′) (sym p.is))
-
-  -- rows that are written and read again
-  pub each_map : (write : B → A) (xs : List B) → (P : B → Type 0) → ((x : B) → P x → read (write x) ≡ Some x) → Rattle.std.specs.List.AllByRecursion P xs → each_in read (map write xs) ≡ Some xs
-  each_map write [] P again all = refl
-  each_map write (x ∷ xs) P again all = rw (again x all.0, each_map write xs P again all.1) refl
 
   -- rows in two parts
   pub record Parts (front back : List A) (xs : List B) : Type 0 where

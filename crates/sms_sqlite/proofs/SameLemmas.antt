@@ -1,5 +1,5 @@
 -- The test holds exactly of equal values.
-use Rattle.std.proofs.Common.{◌≡◌, ℕ, Bool, true, false, ◌&&◌, nat_eq, refl, ap, ap₂, sym, ◌∙◌, eq-eqb}
+use Rattle.std.proofs.Common.{◌≡◌, Bool, true, false, ◌&&◌, refl, ap, ap₂, eq-eqb}
 use Rattle.std.proofs.lemmas.Bool.{eqb-true}
 use base.Stored.{Coded, Gv, gnil, gnum, gcons}
 use Rattle.sms_sqlite.specs.Same.{is_same, same_code}

@@ -1,6 +1,6 @@
 -- A status set, and what is written of statuses.
-use Rattle.std.proofs.Common.{◌≡◌, ◌&&◌, Bool, true, false, not, cond, ℕ, pos, List, [], ◌∷◌, ◌++◌, filter, map, Some, None, Option, ◌+◌, ◌<◌, length, take, get_or, append_assoc, append-nil, refl, ap, ap₂, sym, subst, ◌∙◌}
-use Rattle.std.specs.Prelude.{bytes_eq, slice_get}
+use Rattle.std.proofs.Common.{◌≡◌, Bool, true, false, not, cond, ℕ, pos, List, [], ◌∷◌, ◌++◌, filter, map, Some, ◌+◌, ◌<◌, length, take, get_or, append_assoc, append-nil, refl, ap, ap₂, sym, subst, ◌∙◌}
+use Rattle.std.specs.Prelude.{slice_get}
 use Rattle.std.proofs.lemmas.Grind.{take_at_read}
 use Rattle.std.proofs.lemmas.List.{map-append}
 use Rattle.std.proofs.lemmas.Slice.Eq.{bytes_eq-Decides}

@@ -1,5 +1,5 @@
 -- The tables, part by part.
-use Rattle.std.proofs.Common.{◌≡◌, List, Option, Some, refl, ap, sym, subst, ◌∙◌}
+use Rattle.std.proofs.Common.{◌≡◌, List, Some, refl, ap, ◌∙◌}
 use Rattle.sqlite.specs.Effect.{Database}
 use Rattle.sqlite.specs.Order.{Row}
 use Rattle.sms_construct.specs.declared.data_set.DataSet.{DataSet}
@@ -8,11 +8,10 @@ use Rattle.sms_keeper.specs.declared.floor.Floor.{Floor}
 use Rattle.sms_keeper.specs.declared.kept_row.KeptRow.{KeptRow}
 use Rattle.sms_keeper.specs.declared.rows.Rows.{Rows}
 use Rattle.sms_keeper.specs.declared.status_row.StatusRow.{StatusRow}
-use Rattle.sms_records.specs.Form.{◌>>=◌}
 use Rattle.sms_records.specs.FormLaws.{bind_some, some_is}
 use Rattle.keeper_statements.specs.Steps.{Makes}
-use Rattle.keeper_statements.specs.Tables.{Tables, IsReady, tables_in}
-use Rattle.sms_sqlite.specs.Values.{each_in, set_in, reply_in, deck_in, status_in, floor_in, rows_of, rows_in}
+use Rattle.keeper_statements.specs.Tables.{Tables, tables_in}
+use Rattle.sms_sqlite.specs.Values.{each_in, set_in, reply_in, deck_in, status_in, floor_in, rows_of}
 use Rattle.sms_sqlite.specs.Writing.{Holds, HoldsLike, AreAlike}
 
 -- what each table reads as

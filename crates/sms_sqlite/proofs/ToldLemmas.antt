@@ -10,8 +10,8 @@ use Rattle.sqlite.specs.Tree.{Trees}
 use Rattle.sqlite.specs.declared.error.Error.{Error}
 use Rattle.sqlite_schema.specs.contracts.schema.Schema.{the_row}
 use Rattle.sqlite_trees.proofs.Doubt.{clean_of, no_doubt}
-use Rattle.sqlite_trees.specs.Tree.{IsTable, rowid}
-use Rattle.sqlite_trees.specs.View.{doubt, is_int}
+use Rattle.sqlite_trees.specs.Tree.{rowid}
+use Rattle.sqlite_trees.specs.View.{doubt}
 use Rattle.sqlite_value.specs.Order.{value_cmp}
 use Rattle.sms_keeper.specs.Tables.{AreSame, no_rows, is_named, is_reply_of, is_floor_of, with_change}
 use Rattle.sms_keeper.specs.Told.{Applies, Stays}
@@ -21,7 +21,7 @@ use Rattle.keeper_statements.specs.Schema.{no_schema, desk_schema}
 use Rattle.keeper_statements.specs.Tables.{IsKeyed, IsReady}
 use Rattle.sms_sqlite.specs.Told.{is_keyed, is_new, is_ready, tables_of, is_shown, told_of, IsReadable}
 use Rattle.sms_sqlite.specs.Values.{rows_in}
-use Rattle.sms_sqlite.specs.Writing.{Holds, HoldsLike, AreAlike, HasRows, IsCommitted}
+use Rattle.sms_sqlite.specs.Writing.{Holds, AreAlike, HasRows, IsCommitted}
 use Rattle.sms_sqlite.proofs.SameLemmas.{and_parts, and_true, same_is, same_self}
 
 less_is : (o : Ordering) → is_lt o ≡ true → o ≡ Less
@@ -144,7 +144,6 @@ on_told base new P f = by (is_shown new && is_new base) refl
 
 module _ (base : Database) (old new : State) (readable : IsReadable base old) (clean : doubt old.is_clean ≤ doubt new.is_clean)
     (opened : HasCleanDisk new → IsTrue new.is_open → IsTrue old.is_open) where
-
   -- the new rows, where the transaction was committed
   committed_rows : (f : Rows → Rows) → (HasCleanDisk new → (rows : Rows) → tables_of old.now ≡ Some rows → IsCommitted new (f rows)) → IsTrue (is_shown new) → IsTrue (is_new base)
       → (before : Rows) × (after : Rows) × (told_of base old ≡ Some before) × (tables_of new.now ≡ Some after) × AreSame after (f before)
@@ -243,10 +242,3 @@ crash_told base old new f s = record {
     by : (b : Bool) → (is_shown old && is_new base) ≡ b → (db : Trees) → ((rows : Rows) → tables_of old.now ≡ Some rows → HasRows db (f rows)) → IfSome (told_of base old) (λ rows. HasRows db (f rows))
     by true is db has = subst (λ b. IfSome (cond b (tables_of old.now) None) (λ rows. HasRows db (f rows))) (sym is) (some_rows (tables_of old.now) (λ rows. HasRows db (f rows)) has)
     by false is db has = subst (λ b. IfSome (cond b (tables_of old.now) None) (λ rows. HasRows db (f rows))) (sym is) tt
-
--- a connection that is handed in
-pub told_new : (s : State) → IfSome (told_of s.now s) (λ rows. AreSame rows no_rows)
-told_new s = on_told s.now s _ (λ shown new_base. (no_rows, tables_of_new s.now (new_is s.now new_base), same_self_rows no_rows))
-
-pub readable_new : (s : State) → IsReadable s.now s
-readable_new s shown new_base = some_there (tables_of s.now) no_rows (tables_of_new s.now (new_is s.now new_base))

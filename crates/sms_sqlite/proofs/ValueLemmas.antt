@@ -1,8 +1,7 @@
 -- What the columns of a row are, where it stands for something, and the tests of SQL on them.
-use Rattle.std.proofs.Common.{◌≡◌, ◌&&◌, ◌==◌, ◌∷◌, [], ℕ, zero, suc, ℤ, pos, negsuc, Bool, true, false, cond, List, Option, Some, None, refl, ap, ap₂, sym, subst, ◌∙◌, arith, is_eq, is_lt, is_gt, nat_cmp, int_cmp, nat_eq, nat_lt}
+use Rattle.std.proofs.Common.{◌≡◌, ◌&&◌, ℕ, zero, suc, pos, negsuc, Bool, true, false, List, Option, Some, None, refl, ap, ap₂, sym, ◌∙◌, arith, is_eq, is_lt, is_gt, nat_eq, nat_lt}
 use Rattle.std.specs.Prelude.{bytes_eq, option_map, slice_get, nat_le, if◌then◌else◌}
 use Rattle.std.specs.Cmp.Lexicographic.{slice_cmp}
-use Rattle.std.proofs.lemmas.Bool.{eqb-true}
 use Rattle.std.proofs.lemmas.Bool.Decides.{nat_tests}
 use Rattle.std.proofs.lemmas.Int.{ints}
 use Rattle.std.proofs.lemmas.Map.Text.{is_eq-slice_cmp}
@@ -19,12 +18,12 @@ use Rattle.sms_construct.specs.declared.data_set.DataSet.{DataSet}
 use Rattle.sms_construct.specs.declared.request.Request.{Request}
 use Rattle.sms_construct.specs.declared.target.Target.{Target}
 use Rattle.sms_construct.specs.declared.target.Target.TheVariants as targets
-use Rattle.sms_keeper.specs.Tables.{is_named, is_reply_below, is_floor_of, is_below_floor, is_status_of, same_target, is_deck}
+use Rattle.sms_keeper.specs.Tables.{is_named, is_reply_below, is_floor_of, is_below_floor, is_status_of, same_target}
 use Rattle.sms_keeper.specs.declared.deck_row.DeckRow.{DeckRow}
 use Rattle.sms_keeper.specs.declared.floor.Floor.{Floor}
 use Rattle.sms_keeper.specs.declared.kept_row.KeptRow.{KeptRow}
 use Rattle.sms_keeper.specs.declared.status_row.StatusRow.{StatusRow}
-use Rattle.sms_records.specs.Form.{◌>>=◌, whole, within_limit}
+use Rattle.sms_records.specs.Form.{◌>>=◌, whole}
 use Rattle.sms_records.specs.FormLaws.{bind_some, some_is, guard_some_of}
 use Rattle.sms_records.specs.Replies.{reply_form}
 use Rattle.sms_records.specs.Requests.{request_form}

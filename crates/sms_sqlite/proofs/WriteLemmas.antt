@@ -1,8 +1,7 @@
 -- What each written row reads as, and each change of the tables.
-use Rattle.std.proofs.Common.{◌≡◌, ◌≤◌, ◌&&◌, ◌++◌, ◌∷◌, [], ℕ, ℤ, pos, Bool, true, false, not, cond, List, Option, Some, None, filter, map, refl, ap, ap₂, sym, subst, ◌∙◌, arith, append-nil}
-use Rattle.std.specs.Prelude.{bytes_eq, option_map}
+use Rattle.std.proofs.Common.{◌≡◌, ◌≤◌, ◌++◌, ◌∷◌, [], ℕ, ℤ, pos, Bool, true, false, not, cond, List, Some, filter, map, refl, ap, sym, subst, ◌∙◌}
+use Rattle.std.specs.Prelude.{option_map}
 use Rattle.sms_construct.specs.declared.target.Target.TheVariants as targets
-use Rattle.std.specs.List.{list_any}
 use Rattle.std.proofs.lemmas.Bool.{le-leb}
 use Rattle.std.proofs.lemmas.List.Sums.{list_all-from_AllPass}
 use Rattle.std.proofs.lemmas.Slice.Eq.{bytes_eq-Decides}
@@ -14,11 +13,9 @@ use Rattle.sms_construct.specs.declared.status.Status.{Status}
 use Rattle.sms_construct.specs.declared.target.Target.{Target}
 use Rattle.sms_keeper.specs.Tables.{is_named, is_floor_of, is_reply_below, put_set, put_floor, without_set, row_with, is_status_of, row_of}
 use Rattle.sms_keeper.specs.declared.change.Change.{Change}
-use Rattle.sms_keeper.specs.declared.floor.Floor.{Floor}
-use Rattle.sms_keeper.specs.declared.kept_row.KeptRow.{KeptRow}
 use Rattle.sms_keeper.specs.declared.rows.Rows.{Rows}
 use Rattle.sms_keeper.specs.declared.status_row.StatusRow.{StatusRow}
-use Rattle.sms_records.specs.Form.{IsReadable, whole, within_limit}
+use Rattle.sms_records.specs.Form.{IsReadable, within_limit}
 use Rattle.sms_records.specs.Replies.{reply_form}
 use Rattle.sms_records.specs.Requests.{request_form}
 use Rattle.sms_records.specs.Sets.{data_set_form}
@@ -29,12 +26,11 @@ use Rattle.keeper_statements.specs.Changes as tables
 use Rattle.keeper_statements.specs.Tables.{Tables}
 use Rattle.keeper_statements.specs.Tests.{set_row, reply_row, deck_row, floor_row, is_of, is_status, is_below, without, HasFound}
 use Rattle.sms_sqlite.specs.Columns.{kind_column, name_column, status_column, with_statuses, AreReadable}
-use Rattle.sms_sqlite.specs.Values.{each_in, set_in, reply_in, deck_in, status_in, floor_in, target_of}
-use Rattle.sms_sqlite.specs.Writing.{AreAlike}
+use Rattle.sms_sqlite.specs.Values.{each_in, set_in, reply_in, status_in, floor_in, target_of}
 use Rattle.sms_sqlite.proofs.DeckLemmas.{deck_put}
 use Rattle.sms_sqlite.proofs.ReadLemmas.{each_push, each_filter, joins}
 use Rattle.sms_sqlite.proofs.StatusLemmas.{statuses_read, status_reads, none_set, one_set}
-use Rattle.sms_sqlite.proofs.TablesLemmas.{AreRead, AreLike, exactly, alike_self}
+use Rattle.sms_sqlite.proofs.TablesLemmas.{AreRead, AreLike, exactly}
 use Rattle.sms_sqlite.proofs.ValueLemmas.{set_alike, below_alike, floor_alike, status_alike}
 
 pub name_again : (name : List ℕ) → IsName name → name_of name ≡ Some name

@@ -70,11 +70,7 @@ fn drop_data_set<S: Alter>(tx: &mut Transaction<'_, S>, dsn: &Dsn) -> Result<(),
 }
 
 // Sets the floor of the job, and drops its replies below it.
-fn raise_floor<S: Alter>(
-    tx: &mut Transaction<'_, S>,
-    job: &Name,
-    floor: u32,
-) -> Result<(), Error>
+fn raise_floor<S: Alter>(tx: &mut Transaction<'_, S>, job: &Name, floor: u32) -> Result<(), Error>
     ensures same_reference { tx.new.conn.ghost_name ≡ tx.old.conn.ghost_name }
     ensures leads { MayLead (λ rows. record rows { replies = filter (λ row. not (is_reply_below job.now floor row)) rows.replies; floors = put_floor job.now floor rows.floors }) (state S.Store tx.old.conn.now) (state S.Store tx.new.conn.now) result }
     ensures stays { MayStay (state S.Store tx.old.conn.now) (state S.Store tx.new.conn.now) result }

@@ -64,10 +64,7 @@ fn put_status<S: Alter>(
 }
 
 // Adds these statuses.
-fn put_statuses<S: Alter>(
-    tx: &mut Transaction<'_, S>,
-    statuses: &[StatusRow],
-) -> Result<(), Error>
+fn put_statuses<S: Alter>(tx: &mut Transaction<'_, S>, statuses: &[StatusRow]) -> Result<(), Error>
     requires { list_all (λ row. has_status row.target) statuses.now ≡ true }
     ensures same_reference { tx.new.conn.ghost_name ≡ tx.old.conn.ghost_name }
     ensures made { MayMake (with_statuses statuses.now) (state S.Store tx.old.conn.now) (state S.Store tx.new.conn.now) result }

@@ -1,4 +1,3 @@
-use Rattle.sqlite.specs.Held.{state}
 use Rattle.sms_sqlite.proofs.NumberLemmas.{column_is}
 use Rattle.sms_sqlite.proofs.TablesLemmas.{makes_like}
 use Rattle.sms_sqlite.proofs.WriteLemmas.{adds_deck}

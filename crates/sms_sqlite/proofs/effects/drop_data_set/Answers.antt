@@ -1,5 +1,3 @@
-use Rattle.std.proofs.Common.{subst}
-use Rattle.sqlite.specs.Held.{state}
 use Rattle.sms_sqlite.proofs.TablesLemmas.{makes_like}
 use Rattle.sms_sqlite.proofs.WriteLemmas.{drops_set}
 use Rattle.sms_sqlite.proofs.effects.drop_data_set.Goals as goal

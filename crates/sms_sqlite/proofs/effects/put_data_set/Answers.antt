@@ -1,5 +1,4 @@
-use Rattle.std.proofs.Common.{◌≡◌, ◌∙◌}
-use Rattle.sqlite.specs.Held.{state}
+use Rattle.std.proofs.Common.{◌∙◌}
 use Rattle.sms_sqlite.proofs.TablesLemmas.{makes_like}
 use Rattle.sms_sqlite.proofs.WriteLemmas.{puts_set}
 use Rattle.sms_sqlite.proofs.effects.put_data_set.Goals as goal

@@ -1,5 +1,4 @@
-use Rattle.std.proofs.Common.{◌≡◌, ap, pos, ◌∙◌}
-use Rattle.sqlite.specs.Held.{state}
+use Rattle.std.proofs.Common.{ap, pos, ◌∙◌}
 use Rattle.sms_sqlite.proofs.NumberLemmas.{column_is, word_low}
 use Rattle.sms_sqlite.proofs.TablesLemmas.{makes_like}
 use Rattle.sms_sqlite.proofs.WriteLemmas.{adds_reply}

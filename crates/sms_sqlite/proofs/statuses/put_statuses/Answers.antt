@@ -9,12 +9,12 @@ use Rattle.sms_sqlite.proofs.statuses.put_statuses.Goals as goal
 
 pub loop-row-init : goal.loop-row-init
 loop-row-init g c = (
-    refl,
-    survives_itself _,
-    (λ clean inside. record { inside = inside; was_open = λ h. h; committed = λ _. refl }),
-    (λ clean inside ready. none_added _ ready),
-    tt,
-  )
+  refl,
+  survives_itself _,
+  (λ clean inside. record { inside = inside; was_open = λ h. h; committed = λ _. refl }),
+  (λ clean inside ready. none_added _ ready),
+  tt,
+)
 
 pub loop-row-preserved : goal.loop-row-preserved
 loop-row-preserved g c =
