@@ -1,0 +1,4 @@
+pub mod Phases
+pub mod Worked
+pub mod Merged
+pub mod Closed
