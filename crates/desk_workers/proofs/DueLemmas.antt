@@ -1,4 +1,5 @@
 -- Answers that are due, as the history goes on.
+use Rattle.std.proofs.lemmas.Bool.Decides.{nat_tests}
 use Rattle.std.proofs.Common.{◌≡◌, ◌⊎◌, inl, inr, ℕ, zero, suc, ◌+◌, ◌<◌, ◌≤◌, ◌&&◌, ◌||◌, Bool, true, false, List, [], ◌∷◌, ◌++◌, length, append-nil, append_assoc, length-append, refl, sym, ap, subst, ◌∙◌, arith}
 use Rattle.std.specs.Prelude.{count_by, nat_le}
 use Rattle.std.specs.List.{AllZip}
@@ -27,11 +28,29 @@ count-append p [] ys = omega arith
 count-append p (x ∷ xs) ys = let rest = count-append p xs ys in omega (arith, rest)
 
 le-more : (n a b : ℕ) → a ≤ b → nat_le n a ≡ true → nat_le n b ≡ true
-le-more n a b up is = grind arith
+le-more n a b up is = grind (arith, nat_tests, up, is)
+
+or-behind : (c : Bool) → (c || true) ≡ true
+or-behind true = refl
+or-behind false = refl
+
+or-more : (a b c d : Bool) → (a ≡ true → c ≡ true) → (b ≡ true → d ≡ true) → (a || b) ≡ true → (c || d) ≡ true
+or-more true b c d first second is = rw (first refl) refl
+or-more false b c d first second is = rw (second is) (or-behind c)
+
+and-more : (a b d : Bool) → (b ≡ true → d ≡ true) → (a && b) ≡ true → (a && d) ≡ true
+and-more true b d second is = second is
+and-more false b d second is = is
 
 -- a journal that is full stays so
 pub full-longer : (h more : List Entry) (op : Op) → is_full_for h op ≡ true → is_full_for (h ++ more) op ≡ true
-full-longer h more op is = ?
+full-longer h more op is =
+    or-more (nat_le most_entries (length h)) (is_activation op && nat_le most_activations (count_by activates h))
+    (nat_le most_entries (length (h ++ more))) (is_activation op && nat_le most_activations (count_by activates (h ++ more)))
+    (le-more most_entries (length h) (length (h ++ more)) (omega (arith, length-append h more)))
+    (and-more (is_activation op) (nat_le most_activations (count_by activates h)) (nat_le most_activations (count_by activates (h ++ more)))
+    (le-more most_activations (count_by activates h) (count_by activates (h ++ more)) (count-append activates h more)))
+    is
 
 pub due-longer : (h more : List Entry) (request : Request) (answer : Answer) → IsDueIn h request answer → IsDueIn (h ++ more) request answer
 due-longer h more request answer due = record { unplaced = due.unplaced; first = due.first; full = λ full. full-longer h more request.op (due.full full) }
