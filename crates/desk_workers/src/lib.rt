@@ -1,8 +1,10 @@
 //! A script answered by several workers.
 #![tactic(auto)]
 
+mod crew;
 mod merging;
 mod phase;
+mod phases;
 mod rooms;
 mod running;
 mod single;

@@ -6,11 +6,11 @@ ghost use Rattle.sms_core.specs.Core.{HasTables};
 ghost use Rattle.sms_script.specs.Script.{items_of};
 ghost use Rattle.desk_workers.specs.Phases.{AreAnswered, HasPhase, IsFrontAnswered};
 
-use crate::phase::run_phase;
-use crate::room::{Room, take_room};
-use desk_common::Items;
+use crate::crew::Crew;
+use crate::phases::run_phases;
+use acs_tree::Slate;
 use desk_plan::JobNumbers;
-use sms_construct::{Answer, Answers};
+use sms_construct::Answers;
 use sms_core::Core;
 use sms_desk::Gate;
 use sms_keeper::Keeper;
@@ -39,11 +39,27 @@ pub fn run_workers<P: Keeper + Send, R: Threads + Wait + Sync, G: Gate + Sync>(
     ensures counted { min (result.1.mark + faults_in result.1.journal) (2 ^ 64 - 1) ≤ P.count result.1.keeper }
     ensures tables { HasTables result.1.opening result.1.journal (P.told result.1.keeper) }
 {
-    let (answers, core) = match take_room(alloc, script.as_slice()) {
-        Ok(room) => run_phases(alloc, rt, script.as_slice(), room, core, workers, gate),
+    let (answers, core) = match begin(alloc, script.as_slice()) {
+        Ok((numbers, mut slate)) => {
+            let crew = Crew {
+                alloc,
+                rt,
+                numbers: &numbers,
+                workers,
+                gate,
+            };
+            run_phases(&crew, script.as_slice(), core, &mut slate)
+        }
         Err(e) => (Err(e), core),
     };
     // A fact for the proof; nothing runs.
     let _journal = core.journal();
     (answers, core)
+}
+
+// The numbers of the jobs, and room for what routines write.
+fn begin(alloc: Global, phases: &[Phase]) -> Result<(JobNumbers, Slate), AllocError> {
+    let numbers = JobNumbers::of(alloc, phases)?;
+    let slate = Slate::new(alloc)?;
+    Ok((numbers, slate))
 }
