@@ -1,5 +1,7 @@
 -- Fronts of lists, and one more item of a worker.
-use Rattle.std.proofs.Common.{◌≡◌, ℕ, zero, suc, ◌+◌, ◌<◌, ◌≤◌, ◌==◌, true, false, List, [], ◌∷◌, ◌++◌, length, take, get_or, refl, sym, ap, ◌∙◌, arith, append-nil, append_assoc, eq-eqb, if◌then◌else◌}
+use Rattle.std.proofs.Common.{◌≡◌, ℕ, zero, suc, ◌+◌, ◌<◌, ◌≤◌, ◌==◌, true, false, List, [], ◌∷◌, ◌++◌, length, map, take, get_or, refl, sym, ap, ◌∙◌, arith, append-nil, append_assoc, eq-eqb, if◌then◌else◌, rules}
+use Rattle.std.specs.Prelude.{Option, Some, None}
+use Rattle.desk_plan.specs.Plan.{worker_at}
 use Rattle.desk_plan.specs.Sharing.{made_of, those, times}
 use Rattle.desk_plan.proofs.SharingLemmas.{those-push, times-push}
 
@@ -39,3 +41,14 @@ made-push make [] [] a i same = append-nil (make i a)
 made-push make [] (j ∷ js) a i same = absurd (omega (arith, same))
 made-push make (b ∷ xs) [] a i same = absurd (omega (arith, same))
 made-push make (b ∷ xs) (j ∷ js) a i same = ap (λ es. make j b ++ es) (made-push make xs js a i (omega (arith, same))) ∙ sym (append_assoc (make j b) (made_of make xs js) (make i a))
+
+-- the worker of one more item
+pub mapped-more : {X Y : Type 0} (f : X → Y) (xs : List X) (i : ℕ) (x : X) → i < length xs → x ≡ get_or xs i x → map f (take i xs) ++ f x ∷ [] ≡ map f (take (suc i) xs)
+mapped-more f [] i x less here = absurd (omega arith)
+mapped-more f (y ∷ ys) zero x less here = ap (λ z. f z ∷ []) here
+mapped-more f (y ∷ ys) (suc i) x less here = ap (λ zs. f y ∷ zs) (mapped-more f ys i x (omega arith) here)
+
+-- the worker of a job is one of so many
+pub worker-below : (workers : ℕ) (number : Option ℕ) → 2 ≤ workers → worker_at workers number < workers
+worker-below workers None two = omega (arith, two)
+worker-below workers (Some number) two = search rules

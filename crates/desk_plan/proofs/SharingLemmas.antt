@@ -65,8 +65,8 @@ module _ {I A E : Type 0} (make : I → A → List E) (job : I → List ℕ) (jo
         elim (cases_Bool (worker (job i) == worker j)) [
           | inl is ↦ rw is (filter-append (is_of j) (make i a) _ ∙ ap (λ es. filter (is_of j) (make i a) ++ es) rest ∙ sym (filter-append (is_of j) (make i a) _))
           | inr not ↦
-            let other : bytes_eq (job i) j ≡ false = other-job j i (bytes_eq (job i) j) refl not in
-            rw not (rest ∙ sym (filter-append (is_of j) (make i a) (made_of make answers items) ∙ ap (λ es. es ++ filter (is_of j) (made_of make answers items)) (none-of j (job i) (make i a) other (jobs i a))))
+              let other : bytes_eq (job i) j ≡ false = other-job j i (bytes_eq (job i) j) refl not in
+              rw not (rest ∙ sym (filter-append (is_of j) (make i a) (made_of make answers items) ∙ ap (λ es. es ++ filter (is_of j) (made_of make answers items)) (none-of j (job i) (make i a) other (jobs i a))))
         ]
       where
         other-job : (j : List ℕ) (i : I) (b : Bool) → bytes_eq (job i) j ≡ b → (worker (job i) == worker j) ≡ false → b ≡ false
@@ -85,12 +85,12 @@ module _ {I A E : Type 0} (make : I → A → List E) (job : I → List ℕ) (jo
       let rest = job-picked number j es ns h.1 in
       elim (cases_Bool (n == number (worker j))) [
         | inl is ↦ rw is (elim (cases_Bool (is_of j e)) [
-            | inl mine ↦ rw mine (ap (λ xs. e ∷ xs) rest)
-            | inr other ↦ rw other rest
-          ])
+          | inl mine ↦ rw mine (ap (λ xs. e ∷ xs) rest)
+          | inr other ↦ rw other rest
+        ])
         | inr not ↦
-          let other : is_of j e ≡ false = other-number (is_of j e) refl h.0 not in
-          rw (not, other) rest
+            let other : is_of j e ≡ false = other-number (is_of j e) refl h.0 not in
+            rw (not, other) rest
       ]
     where
       other-number : (b : Bool) → is_of j e ≡ b → n ≡ number (worker (job_of e)) → (n == number (worker j)) ≡ false → b ≡ false

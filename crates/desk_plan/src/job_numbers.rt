@@ -1,5 +1,5 @@
 //! Jobs by number.
-ghost use Rattle.std.specs.Prelude.{◌≡◌, ◌<◌, ◌≤◌, Option, option_to_list};
+ghost use Rattle.std.specs.Prelude.{[], ◌≡◌, ◌<◌, ◌≤◌, Option, option_to_list};
 ghost use Rattle.desk_plan.specs.Plan.{number_in, worker_in};
 
 use dsn_mask::Name;
@@ -10,7 +10,7 @@ use std::marker::Model;
 /// The numbers of jobs, from 0 on in the order in which they were put in.
 #[derive(Drop)]
 pub struct JobNumbers {
-    pub(crate) numbers: HashMap<Name, u32>,
+    pub(crate) numbers: HashMap<Name, usize>,
 }
 
 impl Model for JobNumbers {
@@ -39,7 +39,7 @@ impl JobNumbers {
         ensures below { result < workers }
     {
         match self.numbers.get(job) {
-            Some(number) => 1 + *number as usize % (workers - 1),
+            Some(number) => 1 + *number % (workers - 1),
             None => 0,
         }
     }

@@ -29,7 +29,7 @@ impl JobNumbers {
         if job.bytes() == ADMIN || self.numbers.contains_key(job) {
             return Ok(());
         }
-        let number = self.numbers.len() as u32;
+        let number = self.numbers.len();
         self.numbers.reserve(1)?;
         let _ = self.numbers.insert(*job, number);
         Ok(())

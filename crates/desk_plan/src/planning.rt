@@ -26,7 +26,9 @@ pub fn plan(
 /// Whether all items of a phase are of one job.
 pub fn has_one_job(items: &[Item]) -> bool {
     match items {
-        [first, rest @ ..] => rest.iter().all(|item| item.request.job == first.request.job),
+        [first, rest @ ..] => rest
+            .iter()
+            .all(|item| item.request.job == first.request.job),
         [] => true,
     }
 }

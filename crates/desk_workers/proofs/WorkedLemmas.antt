@@ -1,11 +1,13 @@
 -- One more item of a worker.
-use Rattle.std.proofs.Common.{◌≡◌, ℕ, ◌+◌, ◌==◌, true, false, List, [], ◌∷◌, ◌++◌, length, refl, sym, ap, ◌∙◌, arith, append-nil, length-append, subst}
+use Rattle.std.proofs.Common.{◌≡◌, ℕ, ◌+◌, ◌==◌, true, false, List, [], ◌∷◌, ◌++◌, length, refl, sym, ap, ◌∙◌, arith, append-nil, append_assoc, length-append, subst}
 use Rattle.std.specs.VecDeque.{deque_capacity}
 use Rattle.atomic_table.specs.Seated.{TableId}
 use Rattle.sms_construct.specs.declared.entry.Answer.{Answer}
 use Rattle.sms_construct.specs.declared.entry.Entry.{Entry}
 use Rattle.sms_keeper.specs.declared.keeper.Keeper.{Ghosts}
 use Rattle.sms_script.specs.declared.item.Item.{Item}
+use Rattle.turn_lock.specs.declared.signed.Signed.{Signed}
+use Rattle.turn_lock.specs.Views.{StartsWith}
 use Rattle.desk_signing.specs.declared.event.Event.{Event}
 use Rattle.desk_signing.specs.declared.event.Event.TheVariants.{Made}
 use Rattle.desk_signing.specs.Signing.{entries_in, events}
@@ -22,12 +24,17 @@ events-append : (xs ys : List Entry) → events (xs ++ ys) ≡ events xs ++ even
 events-append [] ys = refl
 events-append (x ∷ xs) ys = ap (λ (es : List Event). Made x ∷ es) (events-append xs ys)
 
+-- what goes on from a list goes on from where that began
+pub starts-on : (list seen first : List (Signed Event)) → StartsWith list seen → StartsWith seen first → StartsWith list first
+starts-on list seen first now before = (before.0 ++ now.0, now.1 ∙ ap (λ xs. xs ++ now.0) before.1 ∙ append_assoc first before.0 now.0)
+
 module _ {P : Type 0} {keeper : Ghosts P} where
   pub worked-none : (lock : TableId) (me : ℕ) (plan : List ℕ) (s : JobSeat P keeper) → IsReady lock me plan s → HasWorked lock me [] [] s s
   worked-none lock me plan s ready = record {
     job = ready.job;
     number = refl;
     capacity = refl;
+    seen_more = ([], sym (append-nil (job_seen s)));
     each = ap length ready.answers;
     mine = ready.mine ∙ ap (λ xs. events (entries_for xs [])) (sym ready.answers);
     due = rw ready.answers tt;
@@ -45,6 +52,7 @@ module _ {P : Type 0} {keeper : Ghosts P} where
         job = one.job;
         number = one.number ∙ done.number;
         capacity = one.capacity ∙ done.capacity;
+        seen_more = starts-on (job_seen u) (job_seen t) (job_seen s) one.seen_more done.seen_more;
         each = ap length one.answers ∙ length-append t.answers.items (one.answer ∷ []) ∙ omega (arith, done.each, count);
         mine = rw (one.answers, more, made) (one.mine ∙ ap (λ es. es ++ events (entry_for x one.answer)) done.mine ∙ sym (events-append (entries_for t.answers.items (those me ps xs)) (entry_for x one.answer)));
         due = rw (one.answers, more) (all-due-push (entries_in (job_seen u)) t.answers.items (those me ps xs) one.answer x pair (all-due-starts (job_seen u) (job_seen t) t.answers.items (those me ps xs) one.seen_more done.due) one.due);
@@ -59,6 +67,7 @@ module _ {P : Type 0} {keeper : Ghosts P} where
         job = done.job;
         number = done.number;
         capacity = done.capacity;
+        seen_more = done.seen_more;
         each = omega (arith, done.each, count);
         mine = rw more done.mine;
         due = rw more done.due;

@@ -29,6 +29,7 @@ module _ {P : Type 0} {keeper : Ghosts P} where
     pub job : IsJobOf lock new
     pub number : job_number new ≡ job_number old
     pub capacity : deque_capacity new.answers ≡ deque_capacity old.answers
+    pub seen_more : StartsWith (job_seen new) (job_seen old)
     pub each : length new.answers.items ≡ times me plan
     pub mine : job_mine new ≡ events (entries_for new.answers.items (those me plan items))
     pub due : AreDueIn (entries_in (job_seen new)) new.answers.items (those me plan items)
