@@ -1,9 +1,8 @@
 -- Fronts of lists, and one more item of a worker.
-use Rattle.std.proofs.Common.{◌≡◌, ℕ, zero, suc, ◌+◌, ◌<◌, ◌≤◌, ◌==◌, true, false, List, [], ◌∷◌, ◌++◌, length, map, take, get_or, refl, sym, ap, ◌∙◌, arith, append-nil, append_assoc, eq-eqb, if◌then◌else◌, rules}
+use Rattle.std.proofs.Common.{◌≡◌, ℕ, zero, suc, ◌<◌, ◌≤◌, ◌==◌, true, List, [], ◌∷◌, ◌++◌, length, map, take, get_or, refl, sym, ap, ◌∙◌, arith, append-nil, append_assoc, eq-eqb, rules}
 use Rattle.std.specs.Prelude.{Option, Some, None}
 use Rattle.desk_plan.specs.Plan.{worker_at}
-use Rattle.desk_plan.specs.Sharing.{made_of, those, times}
-use Rattle.desk_plan.proofs.SharingLemmas.{those-push, times-push}
+use Rattle.desk_plan.specs.Sharing.{made_of, times}
 
 -- inside, the default doesn't matter
 pub any-default : {X : Type 0} (xs : List X) (i : ℕ) (a b : X) → i < length xs → get_or xs i a ≡ get_or xs i b

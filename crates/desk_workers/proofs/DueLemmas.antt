@@ -1,6 +1,7 @@
 -- Answers that are due, as the history goes on.
 use Rattle.std.proofs.lemmas.Bool.Decides.{nat_tests}
-use Rattle.std.proofs.Common.{◌≡◌, ◌⊎◌, inl, inr, ℕ, zero, suc, ◌+◌, ◌<◌, ◌≤◌, ◌&&◌, ◌||◌, Bool, true, false, List, [], ◌∷◌, ◌++◌, length, append-nil, append_assoc, length-append, refl, sym, ap, subst, ◌∙◌, arith}
+use Rattle.std.proofs.lemmas.List.Sums.{sum_by-append}
+use Rattle.std.proofs.Common.{◌≡◌, ◌⊎◌, inl, inr, ℕ, zero, suc, ◌+◌, ◌<◌, ◌≤◌, ◌&&◌, ◌||◌, Bool, true, false, cond, List, [], ◌∷◌, ◌++◌, length, append-nil, append_assoc, length-append, refl, sym, ap, subst, ◌∙◌, arith}
 use Rattle.std.specs.Prelude.{count_by, nat_le}
 use Rattle.std.specs.List.{AllZip}
 use Rattle.sms_construct.specs.declared.entry.Answer.{Answer}
@@ -24,8 +25,9 @@ use Rattle.sms_desk.proofs.AddLemmas.{adds-goes-on}
 use Rattle.desk_workers.specs.Phases.{AreDueIn, IsDueIn}
 
 count-append : {A : Type 0} (p : A → Bool) (xs ys : List A) → count_by p xs ≤ count_by p (xs ++ ys)
-count-append p [] ys = omega arith
-count-append p (x ∷ xs) ys = let rest = count-append p xs ys in omega (arith, rest)
+count-append p xs ys =
+    let both : count_by p (xs ++ ys) ≡ count_by p xs + count_by p ys = sum_by-append (λ x. cond (p x) 1 0) xs ys in
+    omega (arith, both)
 
 le-more : (n a b : ℕ) → a ≤ b → nat_le n a ≡ true → nat_le n b ≡ true
 le-more n a b up is = grind (arith, nat_tests, up, is)

@@ -10,7 +10,7 @@ use Rattle.desk_law.specs.Kept.{is_entered}
 use Rattle.sms_core.specs.Core.{Enters, entry_of}
 use Rattle.sms_script.specs.declared.item.Item.{Item}
 use Rattle.desk_plan.proofs.FrontLemmas.{made-push, take-length, take-more, take-whole}
-use Rattle.desk_workers.specs.Phases.{AreAnswered, AreDueIn, HasPhase, HasSteps, IsDueIn, IsPhaseAnswered, entries_for, entry_for, is_of}
+use Rattle.desk_workers.specs.Phases.{AreAnswered, AreDueIn, HasPhase, HasSteps, IsDueIn, IsFrontAnswered, IsPhaseAnswered, entries_for, entry_for, is_of}
 use Rattle.desk_workers.proofs.DueLemmas.{all-due-longer, all-due-push, full-longer}
 
 -- Steps on a core.
@@ -75,3 +75,13 @@ answered-push [] answers items more old middle new done next =
 answered-push (phase ∷ phases) answers items more old middle new done next =
     let rest = answered-push phases done.1 items more done.2 middle new done.5 next in
     (done.0, done.1 ++ more, done.2, ap (λ xs. xs ++ more) done.3 ∙ append_assoc done.0 done.1 more, done.4, rest)
+
+-- one more of the phases is answered
+pub phases-push : (phases : List (List Item)) (i : ℕ) (items : List Item) (before after : List Answer) (old middle new : List Entry) → i < length phases → items ≡ get_or phases i items → AreAnswered (take i phases) before old middle → HasPhase items before after middle new
+    → AreAnswered (take (suc i) phases) after old new
+phases-push phases i items before after old middle new less here done phase =
+    rw (take-more phases i items less here, phase.behind) (answered-push (take i phases) before items phase.answers old middle new done phase.answered)
+
+-- so many phases are answered, and nothing of the next
+pub front-answered : (phases : List (List Item)) (i : ℕ) (answers : List Answer) (old middle new : List Entry) → AreAnswered (take i phases) answers old middle → new ≡ middle → IsFrontAnswered phases old new
+front-answered phases i answers old middle new done same = record { count = i; answers = answers; answered = rw same done }

@@ -1,7 +1,7 @@
 -- A phase on a desk that workers share.
 use Rattle.std.proofs.Common.{inl, inr, ◌≡◌, ℕ, zero, suc, ◌+◌, ◌-◌, ◌<◌, ◌≤◌, ◌==◌, true, false, List, [], ◌∷◌, ◌++◌, length, map, get_or, All, append-nil, refl, sym, ap, subst, ◌∙◌, arith}
 use Rattle.std.proofs.lemmas.Bool.{cases_Bool}
-use Rattle.std.specs.Prelude.{Option, filter}
+use Rattle.std.specs.Prelude.{Option, Result, Ok, Err, OnOk, OnErr, filter}
 use Rattle.std.specs.List.{AllByRecursion}
 use Rattle.atomic_table.specs.Seated.{TableId}
 use Rattle.sms_construct.specs.declared.entry.Answer.{Answer}
@@ -49,6 +49,27 @@ phase-none before after js js' phase =
     empty : (xs : List Answer) → length xs ≡ 0 → xs ≡ []
     empty [] none = refl
     empty (x ∷ xs) none = absurd (omega (arith, none))
+
+-- the plan names a worker for each item
+pub plan-length : (numbers : List (List ℕ × ℕ)) (workers : ℕ) (items : List Item) → length (plan_of numbers workers items) ≡ length items
+plan-length numbers workers [] = refl
+plan-length numbers workers (item ∷ items) = ap suc (plan-length numbers workers items)
+
+plan-at : (numbers : List (List ℕ × ℕ)) (workers : ℕ) (items : List Item) (i d : ℕ) → 2 ≤ workers → i < length (plan_of numbers workers items) → get_or (plan_of numbers workers items) i d < workers
+plan-at numbers workers [] i d two less = absurd (omega (arith, less))
+plan-at numbers workers (item ∷ items) zero d two less = worker-below workers (number_in numbers item.request.job) two
+plan-at numbers workers (item ∷ items) (suc i) d two less = plan-at numbers workers items i d two (omega (arith, less))
+
+-- and each is one of so many
+pub plan-below : (numbers : List (List ℕ × ℕ)) (workers count : ℕ) (items : List Item) → 2 ≤ workers → count ≡ workers → All (λ k. k < count) (plan_of numbers workers items)
+plan-below numbers workers count items two same i d less = omega (arith, same, plan-at numbers workers items i d two less)
+
+-- the phase is answered, or nothing has changed; opening and mark stand in both
+record IsEither {V E : Type 0} (result : Result V E) (items : List Item) (before after : List Answer) (o : Opening) (mark : ℕ) (o' : Opening) (mark' : ℕ) (js js' : List Entry) : Type 0 where
+  pub opening : o' ≡ o
+  pub mark_is : mark' ≡ mark
+  pub answered : OnOk result (HasPhase items before after js js')
+  pub wanting : OnErr result ((after ≡ before) × (js' ≡ js))
 
 module _ {P : Type 0} {keeper : Ghosts P} where
   numbers-length : (seats : List (JobSeat P keeper)) → length (job_numbers seats) ≡ length seats
@@ -147,3 +168,14 @@ module _ {P : Type 0} {keeper : Ghosts P} where
           };
         },
       )
+
+  -- the same where the phase may not have begun
+  pub closed-either : {V E : Type 0} (result : Result V E) (lock : TableId) (numbers : List (List ℕ × ℕ)) (workers : ℕ) (items : List Item) (old new : List (JobSeat P keeper)) (before after : List Answer) (o : Opening) (mark : ℕ) (o' : Opening) (mark' : ℕ) (js js' : List Entry) (ns : List ℕ) → 2 ≤ workers
+      → length old ≡ workers → All (IsNewJob lock (signed o mark (length js) js [])) old → OnOk result (HasShared lock (plan_of numbers workers items) items old new before after) → OnErr result (HasShared lock [] [] old new before after) → All (StandsJob (signed_last o' mark' js' ns)) new
+      → All (IsBy (job_numbers new)) (signed_last o' mark' js' ns) → length ns ≤ length js' → IsEither result items before after o mark o' mark' js js'
+  closed-either (Ok value) lock numbers workers items old new before after o mark o' mark' js js' ns two long fresh ok err stands by few =
+      let done = shared-closed lock numbers workers items old new before after o mark o' mark' js js' ns two long fresh ok stands by few in
+      record { opening = done.0; mark_is = done.1; answered = done.2; wanting = tt }
+  closed-either (Err fault) lock numbers workers items old new before after o mark o' mark' js js' ns two long fresh ok err stands by few =
+      let done = shared-closed lock numbers workers [] old new before after o mark o' mark' js js' ns two long fresh err stands by few in
+      record { opening = done.0; mark_is = done.1; answered = tt; wanting = phase-none before after js js' done.2 }

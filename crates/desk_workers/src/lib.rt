@@ -7,6 +7,7 @@ mod phase;
 mod phases;
 mod rooms;
 mod running;
+mod sharing;
 mod single;
 mod working;
 

@@ -35,5 +35,11 @@ fn take_room<P: Keeper>(count: usize, seat: &mut JobSeat<P>) -> Result<(), Alloc
 fn count_of(plan: &[usize], me: usize) -> usize
     ensures { result ≡ times me plan.now }
 {
-    plan.iter().filter(|worker| **worker == me).count()
+    let mut count = 0;
+    for worker in plan {
+        if *worker == me {
+            count += 1;
+        }
+    }
+    count
 }

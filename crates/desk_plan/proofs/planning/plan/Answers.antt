@@ -1,4 +1,4 @@
-use Rattle.std.proofs.Common.{◌≡◌, ◌+◌, ◌<◌, ◌≤◌, ◌∷◌, ◌++◌, [], suc, length, take, map, add-one, arith, sym, ap, ◌∙◌, rules}
+use Rattle.std.proofs.Common.{◌≡◌, ◌∷◌, ◌++◌, [], suc, take, add-one, arith, ap, ◌∙◌}
 use Rattle.sms_script.specs.declared.item.Item.{Item}
 use Rattle.desk_plan.specs.Plan.{plan_of, worker_in}
 use Rattle.desk_plan.proofs.FrontLemmas.{mapped-more}

@@ -27,11 +27,12 @@ loop-at-preserved g c =
     let items = c.args.items.now in
     let lock = c.args.desk.now.lock.table.shared.table_id in
     let p = get_or plan i 0 in
-    let x = c.item-item.result in
+    let x = c.index-items-at.result in
     let inside : i < length plan = omega (arith, c.loop-at-test.true, c.requires.each) in
     let within : i < length items = omega (arith, c.loop-at-test.true) in
     let more : take (suc i) plan ≡ take i plan ++ p ∷ [] = take-more plan i p inside (any-default plan i 0 p inside) in
-    let next : take (suc i) items ≡ take i items ++ x ∷ [] = take-more items i x within c.item-item.is in
+    let there : x ≡ get_or items i x = search rules in
+    let next : take (suc i) items ≡ take i items ++ x ∷ [] = take-more items i x within there in
     let same : length (take i items) ≡ length (take i plan) = take-length items i (omega (arith, within)) ∙ sym (take-length plan i (omega (arith, inside))) in
     rw (add-one, more, next) (elim c.if-plan-at.branch [
       | then-plan-at w ↦
