@@ -1,7 +1,7 @@
 -- A phase on a desk that workers share.
 use Rattle.std.proofs.Common.{inl, inr, ◌≡◌, ℕ, zero, suc, ◌+◌, ◌-◌, ◌<◌, ◌≤◌, ◌==◌, true, false, List, [], ◌∷◌, ◌++◌, length, map, get_or, All, append-nil, refl, sym, ap, subst, ◌∙◌, arith}
 use Rattle.std.proofs.lemmas.Bool.{cases_Bool}
-use Rattle.std.specs.Prelude.{Option, Result, Ok, Err, OnOk, OnErr, filter}
+use Rattle.std.specs.Prelude.{Option, Result, Ok, Err, OnOk, OnErr, filter, is_err}
 use Rattle.std.specs.List.{AllByRecursion}
 use Rattle.atomic_table.specs.Seated.{TableId}
 use Rattle.sms_construct.specs.declared.entry.Answer.{Answer}
@@ -16,7 +16,7 @@ use Rattle.desk_signing.specs.declared.event.Event.{Event}
 use Rattle.desk_signing.specs.Signing.{entries_in, events, signed, signed_last}
 use Rattle.desk_signing.proofs.SignLemmas.{signed_entries}
 use Rattle.sms_desk.specs.declared.job_seat.JobSeat.{JobSeat}
-use Rattle.sms_desk.specs.Seats.{HasNoAnswers, IsNewJob, StandsJob, job_mine, job_number, job_numbers, job_seen, mine_of, number_at, seen_at}
+use Rattle.sms_desk.specs.Seats.{HasNoAnswers, IsJobOf, IsNewJob, StandsJob, job_mine, job_number, job_numbers, job_seen, mine_of, number_at, seen_at}
 use Rattle.desk_plan.specs.Plan.{number_in, plan_of, worker_in}
 use Rattle.desk_plan.specs.Sharing.{those}
 use Rattle.desk_plan.proofs.FrontLemmas.{worker-below}
@@ -50,6 +50,21 @@ phase-none before after js js' phase =
     empty [] none = refl
     empty (x ∷ xs) none = absurd (omega (arith, none))
 
+-- what holds anyway holds after an error
+pub on-err : {V E : Type 0} (result : Result V E) (A : Type 0) → A → OnErr result A
+on-err (Ok value) A a = tt
+on-err (Err fault) A a = a
+
+-- what holds where there was no error
+pub not-err : {V E : Type 0} (result : Result V E) (A : Type 0) → is_err result ≡ false → OnOk result A → A
+not-err (Ok value) A is a = a
+not-err (Err fault) A is a = absurd cc
+
+-- what holds where there was one
+pub was-err : {V E : Type 0} (result : Result V E) (A : Type 0) → is_err result ≡ true → OnErr result A → A
+was-err (Ok value) A is a = absurd cc
+was-err (Err fault) A is a = a
+
 -- the plan names a worker for each item
 pub plan-length : (numbers : List (List ℕ × ℕ)) (workers : ℕ) (items : List Item) → length (plan_of numbers workers items) ≡ length items
 plan-length numbers workers [] = refl
@@ -65,7 +80,7 @@ pub plan-below : (numbers : List (List ℕ × ℕ)) (workers count : ℕ) (items
 plan-below numbers workers count items two same i d less = omega (arith, same, plan-at numbers workers items i d two less)
 
 -- the phase is answered, or nothing has changed; opening and mark stand in both
-record IsEither {V E : Type 0} (result : Result V E) (items : List Item) (before after : List Answer) (o : Opening) (mark : ℕ) (o' : Opening) (mark' : ℕ) (js js' : List Entry) : Type 0 where
+pub record IsEither {V E : Type 0} (result : Result V E) (items : List Item) (before after : List Answer) (o : Opening) (mark : ℕ) (o' : Opening) (mark' : ℕ) (js js' : List Entry) : Type 0 where
   pub opening : o' ≡ o
   pub mark_is : mark' ≡ mark
   pub answered : OnOk result (HasPhase items before after js js')
@@ -102,6 +117,10 @@ module _ {P : Type 0} {keeper : Ghosts P} where
           due = tt;
         };
   }
+
+  -- all seats are still of the desk
+  pub shared-jobs : (lock : TableId) (plan : List ℕ) (items : List Item) (old new : List (JobSeat P keeper)) (before after : List Answer) → HasShared lock plan items old new before after → All (IsJobOf lock) new
+  shared-jobs lock plan items old new before after shared k d at = (shared.made k d (omega (arith, at, shared.count))).job
 
   -- each seat has as many answers as the plan gives it
   pub worked-queues : (lock : TableId) (plan : List ℕ) (items : List Item) (ready done : List (JobSeat P keeper)) → length done ≡ length ready

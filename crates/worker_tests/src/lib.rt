@@ -4,6 +4,14 @@
 #[cfg(test)]
 mod counting;
 #[cfg(test)]
+mod holding;
+#[cfg(test)]
+mod meeting;
+#[cfg(test)]
+mod running;
+#[cfg(test)]
+mod runs;
+#[cfg(test)]
 mod submitting;
 #[cfg(test)]
 mod turns;
