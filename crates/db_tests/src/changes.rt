@@ -75,8 +75,14 @@ fn effect(alloc: Global, step: Step) -> Result<Effect, Fail> {
         Step::Drop(text) => Ok(Effect::DropSet(dsn(text)?)),
         Step::Activate(count, name, volser) => {
             let status = Status::Enable;
-            let group = StatusRow { target: group(name)?, status };
-            let volume = StatusRow { target: volume(volser)?, status };
+            let group = StatusRow {
+                target: group(name)?,
+                status,
+            };
+            let volume = StatusRow {
+                target: volume(volser)?,
+                status,
+            };
             let statuses = Items::from_slice(alloc, &[group, volume])?;
             Ok(Effect::Activated { count, statuses })
         }
@@ -84,7 +90,10 @@ fn effect(alloc: Global, step: Step) -> Result<Effect, Fail> {
             target: volume(volser)?,
             status: Status::DisAll,
         }),
-        Step::Floor(job, floor) => Ok(Effect::Floor { job: name(job)?, floor }),
+        Step::Floor(job, floor) => Ok(Effect::Floor {
+            job: name(job)?,
+            floor,
+        }),
     }
 }
 
@@ -147,7 +156,10 @@ fn committed(alloc: Global) -> Result<bool, Fail> {
     let mut connection = keeper.into_connection();
     good &= counts(&mut connection)? == [1, 6, 2, 2, 2];
     good &= count(&mut connection, "SELECT min(number) FROM replies")? == 8;
-    good &= count(&mut connection, "SELECT floor FROM floors WHERE job = 'JOB1'")? == 8;
+    good &= count(
+        &mut connection,
+        "SELECT floor FROM floors WHERE job = 'JOB1'",
+    )? == 8;
     good &= count(&mut connection, "SELECT sum(status) FROM statuses")? == 0;
     Ok(good)
 }

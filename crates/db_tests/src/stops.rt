@@ -27,7 +27,10 @@ fn disk(alloc: Global, log: u64, db: u64) -> Files<Fuse<Memory>> {
 
 // What a run had acknowledged when it stopped: -1 where the tables weren't made, and how many commits. The last is
 // whether each call was made.
-fn run(alloc: Global, files: Files<Fuse<Memory>>) -> Result<(i64, bool, Files<Fuse<Memory>>), Fail> {
+fn run(
+    alloc: Global,
+    files: Files<Fuse<Memory>>,
+) -> Result<(i64, bool, Files<Fuse<Memory>>), Fail> {
     let connection = match Connection::open_files(alloc, files, Options::new(7)) {
         Ok(connection) => connection,
         Err((_, left)) => return Ok((-1, false, left.into_files())),

@@ -28,13 +28,7 @@ pub const MAX_SCRIPT: usize = 16_777_216;
 /// the answers to the sink, with the table of volumes behind it where that is asked for; or answers a generated script,
 /// with the source untouched, and writes the summary of the answers (docs/script.md, "The program"; docs/generator.md).
 /// The gate is called by several workers alone (docs/workers.md, "Submitting").
-pub fn desk_main<
-    S: Source,
-    K: Sink,
-    P: Keeper + Send,
-    R: Threads + Wait + Sync,
-    G: Gate + Sync,
->(
+pub fn desk_main<S: Source, K: Sink, P: Keeper + Send, R: Threads + Wait + Sync, G: Gate + Sync>(
     alloc: Global,
     rt: &R,
     words: &[String],

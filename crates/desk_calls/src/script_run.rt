@@ -84,14 +84,7 @@ pub fn run_shared<P: Keeper + Send, R: Threads + Wait + Sync, G: Gate + Sync>(
 {
     // Facts for the proof; nothing runs.
     legal_is_lawful();
-    run_workers(
-        alloc,
-        rt,
-        script,
-        Core::new(alloc, keeper),
-        workers,
-        gate,
-    )
+    run_workers(alloc, rt, script, Core::new(alloc, keeper), workers, gate)
 }
 
 // Room for the answers to all items, and for what routines write.

@@ -35,10 +35,7 @@ pub fn task_asked(words: &[String]) -> Option<Task>
         [word, option, workers, last]
             if word.as_str() == "run"
                 && option.as_str() == "--workers"
-                && last.as_str() == "--volumes" =>
-        {
-            run_in(true, workers.as_bytes())
-        }
+                && last.as_str() == "--volumes" => { run_in(true, workers.as_bytes()) }
         _ => None,
     }
 }

@@ -67,8 +67,7 @@ fn answer(rt: &HostRuntime, words: &[String], note: &mut String) -> RunStatus {
     let mut src = KeptSource::new(rt.alloc(), StdSource::new(rt.reader()));
     let mut out = NotedSink::new(StdSink::new(io::writer(rt)));
     let keeper = MemKeeper::new(rt.alloc());
-    let (status, _keeper) =
-        desk_main(rt.alloc(), rt, words, &mut src, &mut out, keeper, &FreeGate);
+    let (status, _keeper) = desk_main(rt.alloc(), rt, words, &mut src, &mut out, keeper, &FreeGate);
     note_status(rt.alloc(), note, status, src.given());
     if out.has_refusal() {
         note_refusal(note);
