@@ -1,4 +1,4 @@
-//! Tests of the desk over HTTP.
+//! Tests of the desk over HTTP, and of work that is done before a step.
 #![tactic(auto)]
 
 #[cfg(test)]
@@ -7,3 +7,5 @@ mod failing_door;
 mod served;
 #[cfg(test)]
 mod serving;
+#[cfg(test)]
+mod working;
