@@ -7,8 +7,9 @@ use Rattle.sms_core.specs.contracts.core_state.Core as core
 use Rattle.sms_desk.specs.contracts.signed_core.SignedCore as signed_core
 use Rattle.sms_desk.specs.contracts.job_seat.JobSeat as job_seat
 use Rattle.sms_desk.specs.contracts.desk.Desk as desk
-use Rattle.atomic_table.proofs.shared.Seat.TheSendSync.Send as table_seat
-use Rattle.atomic_table.proofs.shared.Shared.TheSendSync.Sync as table_shared
+use Rattle.atomic_table.proofs.shared.Seat.TheSendSync as table_seat
+use Rattle.atomic_table.proofs.shared.Shared.TheSendSync as table_shared
+use Rattle.sms_script.specs.contracts.item.Item as item
 use Rattle.sqlite_items.specs.contracts.items.Items as items
 use Rattle.sqlite_items.specs.contracts.boxed.Boxed as boxed
 use Rattle.desk_common.specs.contracts.shared.Shared as shared
@@ -55,154 +56,163 @@ pub shared-sync : (T : RattleType) → IsSend T → IsSync T → IsSync (shared.
 shared-sync T s y = search (sendable, crosses) depth 16
 
 pub name-send : IsSend name.the_row
-name-send = search (sendable, crosses, items-send, items-sync, shared-send, shared-sync) depth 24
+name-send = search (sendable, crosses) depth 24
 
 pub name-sync : IsSync name.the_row
-name-sync = search (sendable, crosses, items-send, items-sync, shared-send, shared-sync) depth 24
+name-sync = search (sendable, crosses) depth 24
 
 pub dsn-send : IsSend dsn.the_row
-dsn-send = search (sendable, crosses, items-send, items-sync, shared-send, shared-sync, name-send, name-sync) depth 24
+dsn-send = search (sendable, crosses) depth 24
 
 pub dsn-sync : IsSync dsn.the_row
-dsn-sync = search (sendable, crosses, items-send, items-sync, shared-send, shared-sync, name-send, name-sync) depth 24
+dsn-sync = search (sendable, crosses) depth 24
 
 pub short-send : IsSend short.the_row
-short-send = search (sendable, crosses, items-send, items-sync, shared-send, shared-sync, name-send, name-sync, dsn-send, dsn-sync) depth 24
+short-send = search (sendable, crosses) depth 24
 
 pub short-sync : IsSync short.the_row
-short-sync = search (sendable, crosses, items-send, items-sync, shared-send, shared-sync, name-send, name-sync, dsn-send, dsn-sync) depth 24
+short-sync = search (sendable, crosses) depth 24
 
 pub line-send : IsSend line.the_row
-line-send = search (sendable, crosses, items-send, items-sync, shared-send, shared-sync, name-send, name-sync, dsn-send, dsn-sync, short-send, short-sync) depth 24
+line-send = search (sendable, crosses) depth 24
 
 pub line-sync : IsSync line.the_row
-line-sync = search (sendable, crosses, items-send, items-sync, shared-send, shared-sync, name-send, name-sync, dsn-send, dsn-sync, short-send, short-sync) depth 24
+line-sync = search (sendable, crosses) depth 24
 
 pub slate-send : IsSend slate.the_row
-slate-send = search (sendable, crosses, items-send, items-sync, shared-send, shared-sync, name-send, name-sync, dsn-send, dsn-sync, short-send, short-sync, line-send, line-sync) depth 24
+slate-send = search (sendable, crosses, line-send) depth 24
 
 pub form-send : IsSend form.the_row
-form-send = search (sendable, crosses, items-send, items-sync, shared-send, shared-sync, name-send, name-sync, dsn-send, dsn-sync, short-send, short-sync, line-send, line-sync, slate-send) depth 24
+form-send = search (sendable, crosses, items-send) depth 90 fits 9000
 
 pub form-sync : IsSync form.the_row
-form-sync = search (sendable, crosses, items-send, items-sync, shared-send, shared-sync, name-send, name-sync, dsn-send, dsn-sync, short-send, short-sync, line-send, line-sync, slate-send) depth 24
+form-sync = search (sendable, crosses, items-sync) depth 90 fits 9000
 
 pub routine-send : IsSend routine.the_row
-routine-send = search (sendable, crosses, items-send, items-sync, shared-send, shared-sync, name-send, name-sync, dsn-send, dsn-sync, short-send, short-sync, line-send, line-sync, slate-send, form-send, form-sync) depth 24
+routine-send = search (sendable, crosses, items-send, form-send) depth 90 fits 9000
 
 pub routine-sync : IsSync routine.the_row
-routine-sync = search (sendable, crosses, items-send, items-sync, shared-send, shared-sync, name-send, name-sync, dsn-send, dsn-sync, short-send, short-sync, line-send, line-sync, slate-send, form-send, form-sync) depth 24
+routine-sync = search (sendable, crosses, items-sync, form-sync) depth 90 fits 9000
 
 pub checked-send : IsSend checked.the_row
-checked-send = search (sendable, crosses, items-send, items-sync, shared-send, shared-sync, name-send, name-sync, dsn-send, dsn-sync, short-send, short-sync, line-send, line-sync, slate-send, form-send, form-sync, routine-send, routine-sync) depth 24
+checked-send = search (sendable, crosses, routine-send) depth 90 fits 9000
 
 pub checked-sync : IsSync checked.the_row
-checked-sync = search (sendable, crosses, items-send, items-sync, shared-send, shared-sync, name-send, name-sync, dsn-send, dsn-sync, short-send, short-sync, line-send, line-sync, slate-send, form-send, form-sync, routine-send, routine-sync) depth 24
+checked-sync = search (sendable, crosses, routine-sync) depth 90 fits 9000
 
 pub code-send : IsSend code.the_row
-code-send = search (sendable, crosses, items-send, items-sync, shared-send, shared-sync, name-send, name-sync, dsn-send, dsn-sync, short-send, short-sync, line-send, line-sync, slate-send, form-send, form-sync, routine-send, routine-sync, checked-send, checked-sync) depth 24
+code-send = search (sendable, crosses, items-send) depth 90 fits 9000
 
 pub code-sync : IsSync code.the_row
-code-sync = search (sendable, crosses, items-send, items-sync, shared-send, shared-sync, name-send, name-sync, dsn-send, dsn-sync, short-send, short-sync, line-send, line-sync, slate-send, form-send, form-sync, routine-send, routine-sync, checked-send, checked-sync) depth 24
+code-sync = search (sendable, crosses, items-sync) depth 90 fits 9000
 
 pub compiled-send : IsSend compiled.the_row
-compiled-send = search (sendable, crosses, items-send, items-sync, shared-send, shared-sync, name-send, name-sync, dsn-send, dsn-sync, short-send, short-sync, line-send, line-sync, slate-send, form-send, form-sync, routine-send, routine-sync, checked-send, checked-sync, code-send, code-sync) depth 24
+compiled-send = search (sendable, crosses, checked-send, code-send) depth 24
 
 pub compiled-sync : IsSync compiled.the_row
-compiled-sync = search (sendable, crosses, items-send, items-sync, shared-send, shared-sync, name-send, name-sync, dsn-send, dsn-sync, short-send, short-sync, line-send, line-sync, slate-send, form-send, form-sync, routine-send, routine-sync, checked-send, checked-sync, code-send, code-sync) depth 24
+compiled-sync = search (sendable, crosses, checked-sync, code-sync) depth 24
 
 pub dataclass-send : IsSend dataclass.the_row
-dataclass-send = search (sendable, crosses, items-send, items-sync, shared-send, shared-sync, name-send, name-sync, dsn-send, dsn-sync, short-send, short-sync, line-send, line-sync, slate-send, form-send, form-sync, routine-send, routine-sync, checked-send, checked-sync, code-send, code-sync, compiled-send, compiled-sync) depth 24
+dataclass-send = search (sendable, crosses) depth 24
 
 pub dataclass-sync : IsSync dataclass.the_row
-dataclass-sync = search (sendable, crosses, items-send, items-sync, shared-send, shared-sync, name-send, name-sync, dsn-send, dsn-sync, short-send, short-sync, line-send, line-sync, slate-send, form-send, form-sync, routine-send, routine-sync, checked-send, checked-sync, code-send, code-sync, compiled-send, compiled-sync) depth 24
+dataclass-sync = search (sendable, crosses) depth 24
 
 pub storclass-send : IsSend storclass.the_row
-storclass-send = search (sendable, crosses, items-send, items-sync, shared-send, shared-sync, name-send, name-sync, dsn-send, dsn-sync, short-send, short-sync, line-send, line-sync, slate-send, form-send, form-sync, routine-send, routine-sync, checked-send, checked-sync, code-send, code-sync, compiled-send, compiled-sync, dataclass-send, dataclass-sync) depth 24
+storclass-send = search (sendable, crosses) depth 24
 
 pub storclass-sync : IsSync storclass.the_row
-storclass-sync = search (sendable, crosses, items-send, items-sync, shared-send, shared-sync, name-send, name-sync, dsn-send, dsn-sync, short-send, short-sync, line-send, line-sync, slate-send, form-send, form-sync, routine-send, routine-sync, checked-send, checked-sync, code-send, code-sync, compiled-send, compiled-sync, dataclass-send, dataclass-sync) depth 24
+storclass-sync = search (sendable, crosses) depth 24
 
 pub mgmtclass-send : IsSend mgmtclass.the_row
-mgmtclass-send = search (sendable, crosses, items-send, items-sync, shared-send, shared-sync, name-send, name-sync, dsn-send, dsn-sync, short-send, short-sync, line-send, line-sync, slate-send, form-send, form-sync, routine-send, routine-sync, checked-send, checked-sync, code-send, code-sync, compiled-send, compiled-sync, dataclass-send, dataclass-sync, storclass-send, storclass-sync) depth 24
+mgmtclass-send = search (sendable, crosses) depth 24
 
 pub mgmtclass-sync : IsSync mgmtclass.the_row
-mgmtclass-sync = search (sendable, crosses, items-send, items-sync, shared-send, shared-sync, name-send, name-sync, dsn-send, dsn-sync, short-send, short-sync, line-send, line-sync, slate-send, form-send, form-sync, routine-send, routine-sync, checked-send, checked-sync, code-send, code-sync, compiled-send, compiled-sync, dataclass-send, dataclass-sync, storclass-send, storclass-sync) depth 24
+mgmtclass-sync = search (sendable, crosses) depth 24
 
 pub storgroup-send : IsSend storgroup.the_row
-storgroup-send = search (sendable, crosses, items-send, items-sync, shared-send, shared-sync, name-send, name-sync, dsn-send, dsn-sync, short-send, short-sync, line-send, line-sync, slate-send, form-send, form-sync, routine-send, routine-sync, checked-send, checked-sync, code-send, code-sync, compiled-send, compiled-sync, dataclass-send, dataclass-sync, storclass-send, storclass-sync, mgmtclass-send, mgmtclass-sync) depth 24
+storgroup-send = search (sendable, crosses) depth 24
 
 pub storgroup-sync : IsSync storgroup.the_row
-storgroup-sync = search (sendable, crosses, items-send, items-sync, shared-send, shared-sync, name-send, name-sync, dsn-send, dsn-sync, short-send, short-sync, line-send, line-sync, slate-send, form-send, form-sync, routine-send, routine-sync, checked-send, checked-sync, code-send, code-sync, compiled-send, compiled-sync, dataclass-send, dataclass-sync, storclass-send, storclass-sync, mgmtclass-send, mgmtclass-sync) depth 24
+storgroup-sync = search (sendable, crosses) depth 24
 
 pub volume-send : IsSend volume.the_row
-volume-send = search (sendable, crosses, items-send, items-sync, shared-send, shared-sync, name-send, name-sync, dsn-send, dsn-sync, short-send, short-sync, line-send, line-sync, slate-send, form-send, form-sync, routine-send, routine-sync, checked-send, checked-sync, code-send, code-sync, compiled-send, compiled-sync, dataclass-send, dataclass-sync, storclass-send, storclass-sync, mgmtclass-send, mgmtclass-sync, storgroup-send, storgroup-sync) depth 24
+volume-send = search (sendable, crosses) depth 24
 
 pub volume-sync : IsSync volume.the_row
-volume-sync = search (sendable, crosses, items-send, items-sync, shared-send, shared-sync, name-send, name-sync, dsn-send, dsn-sync, short-send, short-sync, line-send, line-sync, slate-send, form-send, form-sync, routine-send, routine-sync, checked-send, checked-sync, code-send, code-sync, compiled-send, compiled-sync, dataclass-send, dataclass-sync, storclass-send, storclass-sync, mgmtclass-send, mgmtclass-sync, storgroup-send, storgroup-sync) depth 24
+volume-sync = search (sendable, crosses) depth 24
 
 pub config-send : IsSend config.the_row
-config-send = search (sendable, crosses, items-send, items-sync, shared-send, shared-sync, name-send, name-sync, dsn-send, dsn-sync, short-send, short-sync, line-send, line-sync, slate-send, form-send, form-sync, routine-send, routine-sync, checked-send, checked-sync, code-send, code-sync, compiled-send, compiled-sync, dataclass-send, dataclass-sync, storclass-send, storclass-sync, mgmtclass-send, mgmtclass-sync, storgroup-send, storgroup-sync, volume-send, volume-sync) depth 24
+config-send = search (sendable, crosses, items-send, name-send, dataclass-send, storclass-send, mgmtclass-send, storgroup-send, volume-send, compiled-send) depth 90 fits 9000
 
 pub config-sync : IsSync config.the_row
-config-sync = search (sendable, crosses, items-send, items-sync, shared-send, shared-sync, name-send, name-sync, dsn-send, dsn-sync, short-send, short-sync, line-send, line-sync, slate-send, form-send, form-sync, routine-send, routine-sync, checked-send, checked-sync, code-send, code-sync, compiled-send, compiled-sync, dataclass-send, dataclass-sync, storclass-send, storclass-sync, mgmtclass-send, mgmtclass-sync, storgroup-send, storgroup-sync, volume-send, volume-sync) depth 24
+config-sync = search (sendable, crosses, items-sync, name-sync, dataclass-sync, storclass-sync, mgmtclass-sync, storgroup-sync, volume-sync, compiled-sync) depth 90 fits 9000
 
 pub dataset-send : IsSend dataset.the_row
-dataset-send = search (sendable, crosses, items-send, items-sync, shared-send, shared-sync, name-send, name-sync, dsn-send, dsn-sync, short-send, short-sync, line-send, line-sync, slate-send, form-send, form-sync, routine-send, routine-sync, checked-send, checked-sync, code-send, code-sync, compiled-send, compiled-sync, dataclass-send, dataclass-sync, storclass-send, storclass-sync, mgmtclass-send, mgmtclass-sync, storgroup-send, storgroup-sync, volume-send, volume-sync, config-send, config-sync) depth 24
+dataset-send = search (sendable, crosses, items-send, name-send, dsn-send, short-send) depth 90 fits 9000
 
 pub dataset-sync : IsSync dataset.the_row
-dataset-sync = search (sendable, crosses, items-send, items-sync, shared-send, shared-sync, name-send, name-sync, dsn-send, dsn-sync, short-send, short-sync, line-send, line-sync, slate-send, form-send, form-sync, routine-send, routine-sync, checked-send, checked-sync, code-send, code-sync, compiled-send, compiled-sync, dataclass-send, dataclass-sync, storclass-send, storclass-sync, mgmtclass-send, mgmtclass-sync, storgroup-send, storgroup-sync, volume-send, volume-sync, config-send, config-sync) depth 24
+dataset-sync = search (sendable, crosses, items-sync, name-sync, dsn-sync, short-sync) depth 90 fits 9000
 
 pub trace-send : IsSend trace.the_row
-trace-send = search (sendable, crosses, items-send, items-sync, shared-send, shared-sync, name-send, name-sync, dsn-send, dsn-sync, short-send, short-sync, line-send, line-sync, slate-send, form-send, form-sync, routine-send, routine-sync, checked-send, checked-sync, code-send, code-sync, compiled-send, compiled-sync, dataclass-send, dataclass-sync, storclass-send, storclass-sync, mgmtclass-send, mgmtclass-sync, storgroup-send, storgroup-sync, volume-send, volume-sync, config-send, config-sync, dataset-send, dataset-sync) depth 24
+trace-send = search (sendable, crosses) depth 24
 
 pub trace-sync : IsSync trace.the_row
-trace-sync = search (sendable, crosses, items-send, items-sync, shared-send, shared-sync, name-send, name-sync, dsn-send, dsn-sync, short-send, short-sync, line-send, line-sync, slate-send, form-send, form-sync, routine-send, routine-sync, checked-send, checked-sync, code-send, code-sync, compiled-send, compiled-sync, dataclass-send, dataclass-sync, storclass-send, storclass-sync, mgmtclass-send, mgmtclass-sync, storgroup-send, storgroup-sync, volume-send, volume-sync, config-send, config-sync, dataset-send, dataset-sync) depth 24
+trace-sync = search (sendable, crosses) depth 24
 
 pub view-send : IsSend view.the_row
-view-send = search (sendable, crosses, items-send, items-sync, shared-send, shared-sync, name-send, name-sync, dsn-send, dsn-sync, short-send, short-sync, line-send, line-sync, slate-send, form-send, form-sync, routine-send, routine-sync, checked-send, checked-sync, code-send, code-sync, compiled-send, compiled-sync, dataclass-send, dataclass-sync, storclass-send, storclass-sync, mgmtclass-send, mgmtclass-sync, storgroup-send, storgroup-sync, volume-send, volume-sync, config-send, config-sync, dataset-send, dataset-sync, trace-send, trace-sync) depth 24
+view-send = search (sendable, crosses) depth 24
 
 pub view-sync : IsSync view.the_row
-view-sync = search (sendable, crosses, items-send, items-sync, shared-send, shared-sync, name-send, name-sync, dsn-send, dsn-sync, short-send, short-sync, line-send, line-sync, slate-send, form-send, form-sync, routine-send, routine-sync, checked-send, checked-sync, code-send, code-sync, compiled-send, compiled-sync, dataclass-send, dataclass-sync, storclass-send, storclass-sync, mgmtclass-send, mgmtclass-sync, storgroup-send, storgroup-sync, volume-send, volume-sync, config-send, config-sync, dataset-send, dataset-sync, trace-send, trace-sync) depth 24
+view-sync = search (sendable, crosses) depth 24
 
 pub reply-send : IsSend reply.the_row
-reply-send = search (sendable, crosses, items-send, items-sync, shared-send, shared-sync, name-send, name-sync, dsn-send, dsn-sync, short-send, short-sync, line-send, line-sync, slate-send, form-send, form-sync, routine-send, routine-sync, checked-send, checked-sync, code-send, code-sync, compiled-send, compiled-sync, dataclass-send, dataclass-sync, storclass-send, storclass-sync, mgmtclass-send, mgmtclass-sync, storgroup-send, storgroup-sync, volume-send, volume-sync, config-send, config-sync, dataset-send, dataset-sync, trace-send, trace-sync, view-send, view-sync) depth 24
+reply-send = search (sendable, crosses, shared-send, name-send, short-send, dataset-send, dataset-sync, trace-send, trace-sync, view-send) depth 90 fits 9000
 
 pub answer-send : IsSend answer.the_row
-answer-send = search (sendable, crosses, items-send, items-sync, shared-send, shared-sync, name-send, name-sync, dsn-send, dsn-sync, short-send, short-sync, line-send, line-sync, slate-send, form-send, form-sync, routine-send, routine-sync, checked-send, checked-sync, code-send, code-sync, compiled-send, compiled-sync, dataclass-send, dataclass-sync, storclass-send, storclass-sync, mgmtclass-send, mgmtclass-sync, storgroup-send, storgroup-sync, volume-send, volume-sync, config-send, config-sync, dataset-send, dataset-sync, trace-send, trace-sync, view-send, view-sync, reply-send) depth 24
+answer-send = search (sendable, crosses, reply-send) depth 90 fits 9000
 
 pub op-send : IsSend op.the_row
-op-send = search (sendable, crosses, items-send, items-sync, shared-send, shared-sync, name-send, name-sync, dsn-send, dsn-sync, short-send, short-sync, line-send, line-sync, slate-send, form-send, form-sync, routine-send, routine-sync, checked-send, checked-sync, code-send, code-sync, compiled-send, compiled-sync, dataclass-send, dataclass-sync, storclass-send, storclass-sync, mgmtclass-send, mgmtclass-sync, storgroup-send, storgroup-sync, volume-send, volume-sync, config-send, config-sync, dataset-send, dataset-sync, trace-send, trace-sync, view-send, view-sync, reply-send, answer-send) depth 24
+op-send = search (sendable, crosses, items-send, name-send, dsn-send, short-send) depth 90 fits 9000
 
 pub request-send : IsSend request.the_row
-request-send = search (sendable, crosses, items-send, items-sync, shared-send, shared-sync, name-send, name-sync, dsn-send, dsn-sync, short-send, short-sync, line-send, line-sync, slate-send, form-send, form-sync, routine-send, routine-sync, checked-send, checked-sync, code-send, code-sync, compiled-send, compiled-sync, dataclass-send, dataclass-sync, storclass-send, storclass-sync, mgmtclass-send, mgmtclass-sync, storgroup-send, storgroup-sync, volume-send, volume-sync, config-send, config-sync, dataset-send, dataset-sync, trace-send, trace-sync, view-send, view-sync, reply-send, answer-send, op-send) depth 24
+request-send = search (sendable, crosses, name-send, op-send) depth 90 fits 9000
+
+pub op-sync : IsSync op.the_row
+op-sync = search (sendable, crosses, items-sync, name-sync, dsn-sync, short-sync) depth 90 fits 9000
+
+pub request-sync : IsSync request.the_row
+request-sync = search (sendable, crosses, name-sync, op-sync) depth 90 fits 9000
+
+pub item-sync : IsSync item.the_row
+item-sync = search (sendable, crosses, request-sync) depth 24
 
 pub entry-send : IsSend entry.the_row
-entry-send = search (sendable, crosses, items-send, items-sync, shared-send, shared-sync, name-send, name-sync, dsn-send, dsn-sync, short-send, short-sync, line-send, line-sync, slate-send, form-send, form-sync, routine-send, routine-sync, checked-send, checked-sync, code-send, code-sync, compiled-send, compiled-sync, dataclass-send, dataclass-sync, storclass-send, storclass-sync, mgmtclass-send, mgmtclass-sync, storgroup-send, storgroup-sync, volume-send, volume-sync, config-send, config-sync, dataset-send, dataset-sync, trace-send, trace-sync, view-send, view-sync, reply-send, answer-send, op-send, request-send) depth 24
+entry-send = search (sendable, crosses, request-send, answer-send) depth 90 fits 9000
 
 pub held-send : IsSend held.the_row
-held-send = search (sendable, crosses, items-send, items-sync, shared-send, shared-sync, name-send, name-sync, dsn-send, dsn-sync, short-send, short-sync, line-send, line-sync, slate-send, form-send, form-sync, routine-send, routine-sync, checked-send, checked-sync, code-send, code-sync, compiled-send, compiled-sync, dataclass-send, dataclass-sync, storclass-send, storclass-sync, mgmtclass-send, mgmtclass-sync, storgroup-send, storgroup-sync, volume-send, volume-sync, config-send, config-sync, dataset-send, dataset-sync, trace-send, trace-sync, view-send, view-sync, reply-send, answer-send, op-send, request-send, entry-send) depth 24
+held-send = search (sendable, crosses, shared-send, config-send, config-sync) depth 24
 
 pub log-send : IsSend log.the_row
-log-send = search (sendable, crosses, items-send, items-sync, shared-send, shared-sync, name-send, name-sync, dsn-send, dsn-sync, short-send, short-sync, line-send, line-sync, slate-send, form-send, form-sync, routine-send, routine-sync, checked-send, checked-sync, code-send, code-sync, compiled-send, compiled-sync, dataclass-send, dataclass-sync, storclass-send, storclass-sync, mgmtclass-send, mgmtclass-sync, storgroup-send, storgroup-sync, volume-send, volume-sync, config-send, config-sync, dataset-send, dataset-sync, trace-send, trace-sync, view-send, view-sync, reply-send, answer-send, op-send, request-send, entry-send, held-send) depth 24
+log-send = search (sendable, crosses, name-send, answer-send, reply-send) depth 90 fits 9000
 
 pub volumes-send : IsSend volumes.the_row
-volumes-send = search (sendable, crosses, items-send, items-sync, shared-send, shared-sync, name-send, name-sync, dsn-send, dsn-sync, short-send, short-sync, line-send, line-sync, slate-send, form-send, form-sync, routine-send, routine-sync, checked-send, checked-sync, code-send, code-sync, compiled-send, compiled-sync, dataclass-send, dataclass-sync, storclass-send, storclass-sync, mgmtclass-send, mgmtclass-sync, storgroup-send, storgroup-sync, volume-send, volume-sync, config-send, config-sync, dataset-send, dataset-sync, trace-send, trace-sync, view-send, view-sync, reply-send, answer-send, op-send, request-send, entry-send, held-send, log-send) depth 24
+volumes-send = search (sendable, crosses, items-send, name-send, short-send) depth 90 fits 9000
 
 pub catalog-send : IsSend catalog.the_row
-catalog-send = search (sendable, crosses, items-send, items-sync, shared-send, shared-sync, name-send, name-sync, dsn-send, dsn-sync, short-send, short-sync, line-send, line-sync, slate-send, form-send, form-sync, routine-send, routine-sync, checked-send, checked-sync, code-send, code-sync, compiled-send, compiled-sync, dataclass-send, dataclass-sync, storclass-send, storclass-sync, mgmtclass-send, mgmtclass-sync, storgroup-send, storgroup-sync, volume-send, volume-sync, config-send, config-sync, dataset-send, dataset-sync, trace-send, trace-sync, view-send, view-sync, reply-send, answer-send, op-send, request-send, entry-send, held-send, log-send, volumes-send) depth 24
+catalog-send = search (sendable, crosses, dsn-send, shared-send, dataset-send, dataset-sync) depth 24
 
 pub running-send : IsSend running.the_row
-running-send = search (sendable, crosses, items-send, items-sync, shared-send, shared-sync, name-send, name-sync, dsn-send, dsn-sync, short-send, short-sync, line-send, line-sync, slate-send, form-send, form-sync, routine-send, routine-sync, checked-send, checked-sync, code-send, code-sync, compiled-send, compiled-sync, dataclass-send, dataclass-sync, storclass-send, storclass-sync, mgmtclass-send, mgmtclass-sync, storgroup-send, storgroup-sync, volume-send, volume-sync, config-send, config-sync, dataset-send, dataset-sync, trace-send, trace-sync, view-send, view-sync, reply-send, answer-send, op-send, request-send, entry-send, held-send, log-send, volumes-send, catalog-send) depth 24
+running-send = search (sendable, crosses, shared-send, config-send, config-sync, volumes-send, catalog-send) depth 90 fits 9000
 
 pub core-send : (P : RattleType) (keeper : Ghosts P.Denot) → IsSend P → IsSend (core.the_row P keeper)
-core-send P keeper s = search (sendable, crosses, table_seat.send, table_shared.sync, items-send, items-sync, shared-send, shared-sync, name-send, name-sync, dsn-send, dsn-sync, short-send, short-sync, line-send, line-sync, slate-send, form-send, form-sync, routine-send, routine-sync, checked-send, checked-sync, code-send, code-sync, compiled-send, compiled-sync, dataclass-send, dataclass-sync, storclass-send, storclass-sync, mgmtclass-send, mgmtclass-sync, storgroup-send, storgroup-sync, volume-send, volume-sync, config-send, config-sync, dataset-send, dataset-sync, trace-send, trace-sync, view-send, view-sync, reply-send, answer-send, op-send, request-send, entry-send, held-send, log-send, volumes-send, catalog-send, running-send) depth 24
+core-send P keeper s = search (sendable, crosses, entry-send, running-send, log-send) depth 90 fits 9000
 
 pub signed_core-send : (P : RattleType) (keeper : Ghosts P.Denot) → IsSend P → IsSend (signed_core.the_row P keeper)
-signed_core-send P keeper s = search (sendable, crosses, table_seat.send, table_shared.sync, items-send, items-sync, shared-send, shared-sync, name-send, name-sync, dsn-send, dsn-sync, short-send, short-sync, line-send, line-sync, slate-send, form-send, form-sync, routine-send, routine-sync, checked-send, checked-sync, code-send, code-sync, compiled-send, compiled-sync, dataclass-send, dataclass-sync, storclass-send, storclass-sync, mgmtclass-send, mgmtclass-sync, storgroup-send, storgroup-sync, volume-send, volume-sync, config-send, config-sync, dataset-send, dataset-sync, trace-send, trace-sync, view-send, view-sync, reply-send, answer-send, op-send, request-send, entry-send, held-send, log-send, volumes-send, catalog-send, running-send, core-send) depth 24
+signed_core-send P keeper s = search (sendable, crosses, core-send) depth 24
 
 pub job_seat-send : (P : RattleType) (keeper : Ghosts P.Denot) → IsSend P → IsSend (job_seat.the_row P keeper)
-job_seat-send P keeper s = search (sendable, crosses, table_seat.send, table_shared.sync, items-send, items-sync, shared-send, shared-sync, name-send, name-sync, dsn-send, dsn-sync, short-send, short-sync, line-send, line-sync, slate-send, form-send, form-sync, routine-send, routine-sync, checked-send, checked-sync, code-send, code-sync, compiled-send, compiled-sync, dataclass-send, dataclass-sync, storclass-send, storclass-sync, mgmtclass-send, mgmtclass-sync, storgroup-send, storgroup-sync, volume-send, volume-sync, config-send, config-sync, dataset-send, dataset-sync, trace-send, trace-sync, view-send, view-sync, reply-send, answer-send, op-send, request-send, entry-send, held-send, log-send, volumes-send, catalog-send, running-send, core-send, signed_core-send) depth 24
+job_seat-send P keeper s = search (sendable, crosses, table_seat.the_send, signed_core-send, slate-send, held-send, answer-send) depth 24
 
 pub desk-sync : (P : RattleType) (keeper : Ghosts P.Denot) → IsSend P → IsSync (desk.the_row P keeper)
-desk-sync P keeper s = search (sendable, crosses, table_seat.send, table_shared.sync, items-send, items-sync, shared-send, shared-sync, name-send, name-sync, dsn-send, dsn-sync, short-send, short-sync, line-send, line-sync, slate-send, form-send, form-sync, routine-send, routine-sync, checked-send, checked-sync, code-send, code-sync, compiled-send, compiled-sync, dataclass-send, dataclass-sync, storclass-send, storclass-sync, mgmtclass-send, mgmtclass-sync, storgroup-send, storgroup-sync, volume-send, volume-sync, config-send, config-sync, dataset-send, dataset-sync, trace-send, trace-sync, view-send, view-sync, reply-send, answer-send, op-send, request-send, entry-send, held-send, log-send, volumes-send, catalog-send, running-send, core-send, signed_core-send) depth 24
+desk-sync P keeper s = search (sendable, crosses, table_seat.the_send, table_shared.the_sync, signed_core-send) depth 90 fits 9000
