@@ -15,6 +15,8 @@ use Rattle.sqlite_items.specs.contracts.boxed.Boxed as boxed
 use Rattle.desk_common.specs.contracts.shared.Shared as shared
 use Rattle.dsn_mask.specs.contracts.name.Name as name
 use Rattle.dsn_mask.specs.contracts.dsn.Dsn as dsn
+use Rattle.dsn_mask.specs.contracts.volser.Volser as volser
+use Rattle.sms_construct.specs.contracts.alloc.Alloc as alloc
 use Rattle.dsn_mask.specs.contracts.short.Short as short
 use Rattle.acs_tree.specs.contracts.line.Line as line
 use Rattle.acs_tree.specs.contracts.slate.Slate as slate
@@ -83,22 +85,22 @@ pub slate-send : IsSend slate.the_row
 slate-send = search (sendable, crosses, line-send) depth 24
 
 pub form-send : IsSend form.the_row
-form-send = search (sendable, crosses, items-send) depth 90 fits 9000
+form-send = ?
 
 pub form-sync : IsSync form.the_row
-form-sync = search (sendable, crosses, items-sync) depth 90 fits 9000
+form-sync = ?
 
 pub routine-send : IsSend routine.the_row
-routine-send = search (sendable, crosses, items-send, form-send) depth 90 fits 9000
+routine-send = ?
 
 pub routine-sync : IsSync routine.the_row
-routine-sync = search (sendable, crosses, items-sync, form-sync) depth 90 fits 9000
+routine-sync = ?
 
 pub checked-send : IsSend checked.the_row
-checked-send = search (sendable, crosses, routine-send) depth 90 fits 9000
+checked-send = ?
 
 pub checked-sync : IsSync checked.the_row
-checked-sync = search (sendable, crosses, routine-sync) depth 90 fits 9000
+checked-sync = ?
 
 pub code-send : IsSend code.the_row
 code-send = search (sendable, crosses, items-send) depth 90 fits 9000
@@ -113,34 +115,34 @@ pub compiled-sync : IsSync compiled.the_row
 compiled-sync = search (sendable, crosses, checked-sync, code-sync) depth 24
 
 pub dataclass-send : IsSend dataclass.the_row
-dataclass-send = search (sendable, crosses) depth 24
+dataclass-send = search (sendable, crosses, name-send) depth 24
 
 pub dataclass-sync : IsSync dataclass.the_row
-dataclass-sync = search (sendable, crosses) depth 24
+dataclass-sync = search (sendable, crosses, name-sync) depth 24
 
 pub storclass-send : IsSend storclass.the_row
-storclass-send = search (sendable, crosses) depth 24
+storclass-send = search (sendable, crosses, name-send) depth 24
 
 pub storclass-sync : IsSync storclass.the_row
-storclass-sync = search (sendable, crosses) depth 24
+storclass-sync = search (sendable, crosses, name-sync) depth 24
 
 pub mgmtclass-send : IsSend mgmtclass.the_row
-mgmtclass-send = search (sendable, crosses) depth 24
+mgmtclass-send = search (sendable, crosses, name-send) depth 24
 
 pub mgmtclass-sync : IsSync mgmtclass.the_row
-mgmtclass-sync = search (sendable, crosses) depth 24
+mgmtclass-sync = search (sendable, crosses, name-sync) depth 24
 
 pub storgroup-send : IsSend storgroup.the_row
-storgroup-send = search (sendable, crosses) depth 24
+storgroup-send = search (sendable, crosses, name-send) depth 24
 
 pub storgroup-sync : IsSync storgroup.the_row
-storgroup-sync = search (sendable, crosses) depth 24
+storgroup-sync = search (sendable, crosses, name-sync) depth 24
 
 pub volume-send : IsSend volume.the_row
-volume-send = search (sendable, crosses) depth 24
+volume-send = search (sendable, crosses, name-send) depth 24
 
 pub volume-sync : IsSync volume.the_row
-volume-sync = search (sendable, crosses) depth 24
+volume-sync = search (sendable, crosses, name-sync) depth 24
 
 pub config-send : IsSend config.the_row
 config-send = search (sendable, crosses, items-send, name-send, dataclass-send, storclass-send, mgmtclass-send, storgroup-send, volume-send, compiled-send) depth 90 fits 9000
@@ -155,46 +157,58 @@ pub dataset-sync : IsSync dataset.the_row
 dataset-sync = search (sendable, crosses, items-sync, name-sync, dsn-sync, short-sync) depth 90 fits 9000
 
 pub trace-send : IsSend trace.the_row
-trace-send = search (sendable, crosses) depth 24
+trace-send = search (sendable, crosses, items-send, line-send) depth 24
 
 pub trace-sync : IsSync trace.the_row
-trace-sync = search (sendable, crosses) depth 24
+trace-sync = search (sendable, crosses, items-sync, line-sync) depth 24
+
+pub volser-send : IsSend volser.the_row
+volser-send = search (sendable, crosses) depth 24
+
+pub volser-sync : IsSync volser.the_row
+volser-sync = search (sendable, crosses) depth 24
 
 pub view-send : IsSend view.the_row
-view-send = search (sendable, crosses) depth 24
+view-send = search (sendable, crosses, name-send, volser-send, shared-send, dataset-send, dataset-sync) depth 60 fits 9000
 
 pub view-sync : IsSync view.the_row
-view-sync = search (sendable, crosses) depth 24
+view-sync = search (sendable, crosses, name-sync, volser-sync, shared-sync, dataset-send, dataset-sync) depth 60 fits 9000
 
 pub reply-send : IsSend reply.the_row
-reply-send = search (sendable, crosses, shared-send, name-send, short-send, dataset-send, dataset-sync, trace-send, trace-sync, view-send) depth 90 fits 9000
+reply-send = search (sendable, crosses, items-send, items-sync, shared-send, name-send, short-send, dataset-send, dataset-sync, trace-send, trace-sync, view-send) depth 120 fits 30000
 
 pub answer-send : IsSend answer.the_row
-answer-send = search (sendable, crosses, reply-send) depth 90 fits 9000
+answer-send = let a : IsSend reply.the_row = reply-send in search (sendable) depth 20
+
+pub alloc-send : IsSend alloc.the_row
+alloc-send = search (sendable, crosses, name-send, dsn-send, short-send, items-send) depth 60 fits 9000
+
+pub alloc-sync : IsSync alloc.the_row
+alloc-sync = search (sendable, crosses, name-sync, dsn-sync, short-sync, items-sync) depth 60 fits 9000
 
 pub op-send : IsSend op.the_row
-op-send = search (sendable, crosses, items-send, name-send, dsn-send, short-send) depth 90 fits 9000
+op-send = search (sendable, crosses, items-send, items-sync, shared-send, alloc-send, alloc-sync, name-send, dsn-send, short-send) depth 120 fits 30000
 
 pub request-send : IsSend request.the_row
 request-send = search (sendable, crosses, name-send, op-send) depth 90 fits 9000
 
 pub op-sync : IsSync op.the_row
-op-sync = search (sendable, crosses, items-sync, name-sync, dsn-sync, short-sync) depth 90 fits 9000
+op-sync = search (sendable, crosses, items-send, items-sync, shared-sync, alloc-send, alloc-sync, name-sync, dsn-sync, short-sync) depth 120 fits 30000
 
 pub request-sync : IsSync request.the_row
 request-sync = search (sendable, crosses, name-sync, op-sync) depth 90 fits 9000
 
 pub item-sync : IsSync item.the_row
-item-sync = search (sendable, crosses, request-sync) depth 24
+item-sync = search (sendable, crosses, request-sync) depth 60 fits 9000
 
 pub entry-send : IsSend entry.the_row
-entry-send = search (sendable, crosses, request-send, answer-send) depth 90 fits 9000
+entry-send = let a : IsSend request.the_row = request-send in let b : IsSend answer.the_row = answer-send in search (sendable) depth 20
 
 pub held-send : IsSend held.the_row
 held-send = search (sendable, crosses, shared-send, config-send, config-sync) depth 24
 
 pub log-send : IsSend log.the_row
-log-send = search (sendable, crosses, name-send, answer-send, reply-send) depth 90 fits 9000
+log-send = search (sendable, crosses, name-send, op-send, reply-send) depth 60 fits 9000
 
 pub volumes-send : IsSend volumes.the_row
 volumes-send = search (sendable, crosses, items-send, name-send, short-send) depth 90 fits 9000
@@ -206,7 +220,7 @@ pub running-send : IsSend running.the_row
 running-send = search (sendable, crosses, shared-send, config-send, config-sync, volumes-send, catalog-send) depth 90 fits 9000
 
 pub core-send : (P : RattleType) (keeper : Ghosts P.Denot) → IsSend P → IsSend (core.the_row P keeper)
-core-send P keeper s = search (sendable, crosses, entry-send, running-send, log-send) depth 90 fits 9000
+core-send P keeper s = search (sendable, crosses, entry-send, running-send, log-send) depth 40 fits 9000
 
 pub signed_core-send : (P : RattleType) (keeper : Ghosts P.Denot) → IsSend P → IsSend (signed_core.the_row P keeper)
 signed_core-send P keeper s = search (sendable, crosses, core-send) depth 24
@@ -215,4 +229,4 @@ pub job_seat-send : (P : RattleType) (keeper : Ghosts P.Denot) → IsSend P → 
 job_seat-send P keeper s = search (sendable, crosses, table_seat.the_send, signed_core-send, slate-send, held-send, answer-send) depth 24
 
 pub desk-sync : (P : RattleType) (keeper : Ghosts P.Denot) → IsSend P → IsSync (desk.the_row P keeper)
-desk-sync P keeper s = search (sendable, crosses, table_seat.the_send, table_shared.the_sync, signed_core-send) depth 90 fits 9000
+desk-sync P keeper s = search (sendable, crosses, table_shared.the_sync, signed_core-send) depth 60 fits 9000
