@@ -174,11 +174,17 @@ view-send = search (sendable, crosses, name-send, volser-send, shared-send, data
 pub view-sync : IsSync view.the_row
 view-sync = search (sendable, crosses, name-sync, volser-sync, shared-sync, dataset-send, dataset-sync) depth 60 fits 9000
 
+pub view-field-send : IsSend (view.the_field).row
+view-field-send = view-send
+
 pub reply-send : IsSend reply.the_row
-reply-send = search (sendable, crosses, items-send, items-sync, shared-send, name-send, short-send, dataset-send, dataset-sync, trace-send, trace-sync, view-send) depth 120 fits 30000
+reply-send = search (sendable, crosses, items-send, items-sync, shared-send, name-send, short-send, volser-send, dataset-send, dataset-sync, trace-send, trace-sync, view-field-send) depth 120 fits 30000
+
+pub reply-field-send : IsSend (reply.the_field).row
+reply-field-send = reply-send
 
 pub answer-send : IsSend answer.the_row
-answer-send = let a : IsSend reply.the_row = reply-send in search (sendable) depth 20
+answer-send = search (sendable, reply-field-send) depth 20
 
 pub alloc-send : IsSend alloc.the_row
 alloc-send = search (sendable, crosses, name-send, dsn-send, short-send, items-send) depth 60 fits 9000
@@ -189,26 +195,41 @@ alloc-sync = search (sendable, crosses, name-sync, dsn-sync, short-sync, items-s
 pub op-send : IsSend op.the_row
 op-send = search (sendable, crosses, items-send, items-sync, shared-send, alloc-send, alloc-sync, name-send, dsn-send, short-send) depth 120 fits 30000
 
+pub op-field-send : IsSend (op.the_field).row
+op-field-send = op-send
+
 pub request-send : IsSend request.the_row
-request-send = search (sendable, crosses, name-send, op-send) depth 90 fits 9000
+request-send = search (sendable, crosses, name-send, op-field-send) depth 40
 
 pub op-sync : IsSync op.the_row
 op-sync = search (sendable, crosses, items-send, items-sync, shared-sync, alloc-send, alloc-sync, name-sync, dsn-sync, short-sync) depth 120 fits 30000
 
+pub op-field-sync : IsSync (op.the_field).row
+op-field-sync = op-sync
+
 pub request-sync : IsSync request.the_row
-request-sync = search (sendable, crosses, name-sync, op-sync) depth 90 fits 9000
+request-sync = search (sendable, crosses, name-sync, op-field-sync) depth 40
+
+pub request-field-sync : IsSync (request.the_field).row
+request-field-sync = request-sync
 
 pub item-sync : IsSync item.the_row
-item-sync = search (sendable, crosses, request-sync) depth 60 fits 9000
+item-sync = search (sendable, crosses, request-field-sync) depth 40
+
+pub answer-field-send : IsSend (answer.the_field).row
+answer-field-send = answer-send
+
+pub request-field-send : IsSend (request.the_field).row
+request-field-send = request-send
 
 pub entry-send : IsSend entry.the_row
-entry-send = let a : IsSend request.the_row = request-send in let b : IsSend answer.the_row = answer-send in search (sendable) depth 20
+entry-send = search (sendable, request-field-send, answer-field-send) depth 20
 
 pub held-send : IsSend held.the_row
 held-send = search (sendable, crosses, shared-send, config-send, config-sync) depth 24
 
 pub log-send : IsSend log.the_row
-log-send = search (sendable, crosses, name-send, op-send, reply-send) depth 60 fits 9000
+log-send = search (sendable, crosses, name-send, op-field-send, reply-field-send) depth 90 fits 9000
 
 pub volumes-send : IsSend volumes.the_row
 volumes-send = search (sendable, crosses, items-send, name-send, short-send) depth 90 fits 9000
@@ -219,8 +240,11 @@ catalog-send = search (sendable, crosses, dsn-send, shared-send, dataset-send, d
 pub running-send : IsSend running.the_row
 running-send = search (sendable, crosses, shared-send, config-send, config-sync, volumes-send, catalog-send) depth 90 fits 9000
 
+pub running-field-send : IsSend (running.the_field).row
+running-field-send = running-send
+
 pub core-send : (P : RattleType) (keeper : Ghosts P.Denot) → IsSend P → IsSend (core.the_row P keeper)
-core-send P keeper s = search (sendable, crosses, entry-send, running-send, log-send) depth 40 fits 9000
+core-send P keeper s = search (sendable, crosses, entry-send, running-field-send, log-send) depth 90 fits 9000
 
 pub signed_core-send : (P : RattleType) (keeper : Ghosts P.Denot) → IsSend P → IsSend (signed_core.the_row P keeper)
 signed_core-send P keeper s = search (sendable, crosses, core-send) depth 24
@@ -229,4 +253,4 @@ pub job_seat-send : (P : RattleType) (keeper : Ghosts P.Denot) → IsSend P → 
 job_seat-send P keeper s = search (sendable, crosses, table_seat.the_send, signed_core-send, slate-send, held-send, answer-send) depth 24
 
 pub desk-sync : (P : RattleType) (keeper : Ghosts P.Denot) → IsSend P → IsSync (desk.the_row P keeper)
-desk-sync P keeper s = search (sendable, crosses, table_shared.the_sync, signed_core-send) depth 60 fits 9000
+desk-sync P keeper s = search (sendable, crosses, table_shared.the_sync, table_shared.the_send, signed_core-send) depth 90 fits 9000
