@@ -1,6 +1,7 @@
 -- What seats and desks hold says the same to every thread.
 use denote.RattleType.{RattleType}
 use denote.Param.Send.{IsSend, IsSync, sendable}
+use denote.Param.SendFields.{as_row_send, as_row_sync, declared_send, declared_sync, variants_send, variants_sync}
 use Rattle.std.proofs.Crossing.{crosses}
 use Rattle.sms_keeper.specs.declared.keeper.Keeper.{Ghosts}
 use Rattle.sms_core.specs.contracts.core_state.Core as core
@@ -175,13 +176,13 @@ pub view-sync : IsSync view.the_row
 view-sync = search (sendable, crosses, name-sync, volser-sync, shared-sync, dataset-send, dataset-sync) depth 60 fits 9000
 
 pub view-field-send : IsSend (view.the_field).row
-view-field-send = view-send
+view-field-send = search (sendable, crosses, name-send, volser-send, shared-send, dataset-send, dataset-sync, declared_send, variants_send, as_row_send) depth 120 fits 30000
 
 pub reply-send : IsSend reply.the_row
-reply-send = search (sendable, crosses, items-send, items-sync, shared-send, name-send, short-send, volser-send, dataset-send, dataset-sync, trace-send, trace-sync, view-field-send) depth 120 fits 30000
+reply-send = ?
 
 pub reply-field-send : IsSend (reply.the_field).row
-reply-field-send = reply-send
+reply-field-send = ?
 
 pub answer-send : IsSend answer.the_row
 answer-send = search (sendable, reply-field-send) depth 20
@@ -196,7 +197,7 @@ pub op-send : IsSend op.the_row
 op-send = search (sendable, crosses, items-send, items-sync, shared-send, alloc-send, alloc-sync, name-send, dsn-send, short-send) depth 120 fits 30000
 
 pub op-field-send : IsSend (op.the_field).row
-op-field-send = op-send
+op-field-send = search (sendable, crosses, items-send, items-sync, shared-send, alloc-send, alloc-sync, name-send, dsn-send, short-send, declared_send, variants_send, as_row_send) depth 120 fits 30000
 
 pub request-send : IsSend request.the_row
 request-send = search (sendable, crosses, name-send, op-field-send) depth 40
@@ -205,22 +206,22 @@ pub op-sync : IsSync op.the_row
 op-sync = search (sendable, crosses, items-send, items-sync, shared-sync, alloc-send, alloc-sync, name-sync, dsn-sync, short-sync) depth 120 fits 30000
 
 pub op-field-sync : IsSync (op.the_field).row
-op-field-sync = op-sync
+op-field-sync = search (sendable, crosses, items-send, items-sync, shared-sync, alloc-send, alloc-sync, name-sync, dsn-sync, short-sync, declared_sync, variants_sync, as_row_sync) depth 120 fits 30000
 
 pub request-sync : IsSync request.the_row
 request-sync = search (sendable, crosses, name-sync, op-field-sync) depth 40
 
 pub request-field-sync : IsSync (request.the_field).row
-request-field-sync = request-sync
+request-field-sync = search (sendable, crosses, name-sync, op-field-sync, declared_sync, variants_sync, as_row_sync) depth 120 fits 30000
 
 pub item-sync : IsSync item.the_row
 item-sync = search (sendable, crosses, request-field-sync) depth 40
 
 pub answer-field-send : IsSend (answer.the_field).row
-answer-field-send = answer-send
+answer-field-send = search (sendable, reply-field-send, declared_send, variants_send, as_row_send) depth 120 fits 30000
 
 pub request-field-send : IsSend (request.the_field).row
-request-field-send = request-send
+request-field-send = search (sendable, crosses, name-send, op-field-send, declared_send, variants_send, as_row_send) depth 120 fits 30000
 
 pub entry-send : IsSend entry.the_row
 entry-send = search (sendable, request-field-send, answer-field-send) depth 20
@@ -241,7 +242,7 @@ pub running-send : IsSend running.the_row
 running-send = search (sendable, crosses, shared-send, config-send, config-sync, volumes-send, catalog-send) depth 90 fits 9000
 
 pub running-field-send : IsSend (running.the_field).row
-running-field-send = running-send
+running-field-send = search (sendable, crosses, shared-send, config-send, config-sync, volumes-send, catalog-send, declared_send, variants_send, as_row_send) depth 120 fits 30000
 
 pub core-send : (P : RattleType) (keeper : Ghosts P.Denot) → IsSend P → IsSend (core.the_row P keeper)
 core-send P keeper s = search (sendable, crosses, entry-send, running-field-send, log-send) depth 90 fits 9000
@@ -253,4 +254,4 @@ pub job_seat-send : (P : RattleType) (keeper : Ghosts P.Denot) → IsSend P → 
 job_seat-send P keeper s = search (sendable, crosses, table_seat.the_send, signed_core-send, slate-send, held-send, answer-send) depth 24
 
 pub desk-sync : (P : RattleType) (keeper : Ghosts P.Denot) → IsSend P → IsSync (desk.the_row P keeper)
-desk-sync P keeper s = search (sendable, crosses, table_shared.the_sync, table_shared.the_send, signed_core-send) depth 90 fits 9000
+desk-sync P keeper s = ?

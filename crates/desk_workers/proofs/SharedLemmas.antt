@@ -175,8 +175,8 @@ module _ {P : Type 0} {keeper : Ghosts P} where
       let below : (job : List ℕ) → worker_in numbers workers job < length (job_numbers new) = λ job. omega (arith, each, worker-below workers (number_in numbers job) two) in
       let closed =
       has-closed (job_numbers new) (λ i. entries_for (those i plan shared.answers) (those i plan items)) o mark o' mark' js js' ns few starts by (λ i less.
-          let inside : i < length new = omega (arith, less, numbers-length new) in
-          ap (λ n. made_by n list) (number-at new i d inside) ∙ (stands i d inside).1 ∙ (shared.made i d (omega (arith, inside, shared.count))).mine) in (
+      let inside : i < length new = omega (arith, less, numbers-length new) in
+      ap (λ n. made_by n list) (number-at new i d inside) ∙ (stands i d inside).1 ∙ (shared.made i d (omega (arith, inside, shared.count))).mine) in (
         closed.opening,
         closed.mark_is,
         record {

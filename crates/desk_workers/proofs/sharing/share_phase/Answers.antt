@@ -33,42 +33,42 @@ pub returns-in-Ok-new-clause-answered : goal.returns-in-Ok-new-clause-answered
 returns-in-Ok-new-clause-answered g c =
     let done =
     closed-desk c.answer_all-done.result c.in-Ok-new.desk.lock.table.shared.table_id c.args.crew.now.numbers.now c.args.crew.now.workers c.args.items.now c.deref.result.now c.in-Ok-new.seats.jobs.items c.deref_mut.result.now c.answer_all-done.new.seats
-        (take c.in-Ok-new.seats.jobs.len (c.answer_all-done.new.seats ++ drop (length c.answer_all-done.new.seats) c.in-Ok-new.seats.jobs.items)) c.args.answers.now.items c.answer_all-done.new.answers.items
-        c.args.core.opening c.args.core.mark c.close-core.result.0.opening c.close-core.result.0.mark c.args.core.journal c.close-core.result.0.journal c.close-core.result.1
-        c.requires.workers.0 (c.deref.ensures.value ∙ c.in-Ok.ensures.plan) c.deref_mut.ensures.value
-        (lent-all c.answer_all-done.new.seats (drop (length c.answer_all-done.new.seats) c.in-Ok-new.seats.jobs.items) c.in-Ok-new.seats.jobs.len (omega (arith, c.answer_all-done.ensures.count, ap length c.deref_mut.ensures.value, c.in-Ok-new.seats.jobs.ok.0)))
-        c.in-Ok-new.ensures.count c.in-Ok-new.ensures.new c.answer_all-done.ensures.answered c.answer_all-done.ensures.wanting c.close-core.ensures.stands c.close-core.ensures.by c.close-core.ensures.few in
+    (take c.in-Ok-new.seats.jobs.len (c.answer_all-done.new.seats ++ drop (length c.answer_all-done.new.seats) c.in-Ok-new.seats.jobs.items)) c.args.answers.now.items c.answer_all-done.new.answers.items
+    c.args.core.opening c.args.core.mark c.close-core.result.0.opening c.close-core.result.0.mark c.args.core.journal c.close-core.result.0.journal c.close-core.result.1
+    c.requires.workers.0 (c.deref.ensures.value ∙ c.in-Ok.ensures.plan) c.deref_mut.ensures.value
+    (lent-all c.answer_all-done.new.seats (drop (length c.answer_all-done.new.seats) c.in-Ok-new.seats.jobs.items) c.in-Ok-new.seats.jobs.len (omega (arith, c.answer_all-done.ensures.count, ap length c.deref_mut.ensures.value, c.in-Ok-new.seats.jobs.ok.0)))
+    c.in-Ok-new.ensures.count c.in-Ok-new.ensures.new c.answer_all-done.ensures.answered c.answer_all-done.ensures.wanting c.close-core.ensures.stands c.close-core.ensures.by c.close-core.ensures.few in
     done.answered
 
 pub returns-in-Ok-new-clause-wanting : goal.returns-in-Ok-new-clause-wanting
 returns-in-Ok-new-clause-wanting g c =
     let done =
     closed-desk c.answer_all-done.result c.in-Ok-new.desk.lock.table.shared.table_id c.args.crew.now.numbers.now c.args.crew.now.workers c.args.items.now c.deref.result.now c.in-Ok-new.seats.jobs.items c.deref_mut.result.now c.answer_all-done.new.seats
-        (take c.in-Ok-new.seats.jobs.len (c.answer_all-done.new.seats ++ drop (length c.answer_all-done.new.seats) c.in-Ok-new.seats.jobs.items)) c.args.answers.now.items c.answer_all-done.new.answers.items
-        c.args.core.opening c.args.core.mark c.close-core.result.0.opening c.close-core.result.0.mark c.args.core.journal c.close-core.result.0.journal c.close-core.result.1
-        c.requires.workers.0 (c.deref.ensures.value ∙ c.in-Ok.ensures.plan) c.deref_mut.ensures.value
-        (lent-all c.answer_all-done.new.seats (drop (length c.answer_all-done.new.seats) c.in-Ok-new.seats.jobs.items) c.in-Ok-new.seats.jobs.len (omega (arith, c.answer_all-done.ensures.count, ap length c.deref_mut.ensures.value, c.in-Ok-new.seats.jobs.ok.0)))
-        c.in-Ok-new.ensures.count c.in-Ok-new.ensures.new c.answer_all-done.ensures.answered c.answer_all-done.ensures.wanting c.close-core.ensures.stands c.close-core.ensures.by c.close-core.ensures.few in
+    (take c.in-Ok-new.seats.jobs.len (c.answer_all-done.new.seats ++ drop (length c.answer_all-done.new.seats) c.in-Ok-new.seats.jobs.items)) c.args.answers.now.items c.answer_all-done.new.answers.items
+    c.args.core.opening c.args.core.mark c.close-core.result.0.opening c.close-core.result.0.mark c.args.core.journal c.close-core.result.0.journal c.close-core.result.1
+    c.requires.workers.0 (c.deref.ensures.value ∙ c.in-Ok.ensures.plan) c.deref_mut.ensures.value
+    (lent-all c.answer_all-done.new.seats (drop (length c.answer_all-done.new.seats) c.in-Ok-new.seats.jobs.items) c.in-Ok-new.seats.jobs.len (omega (arith, c.answer_all-done.ensures.count, ap length c.deref_mut.ensures.value, c.in-Ok-new.seats.jobs.ok.0)))
+    c.in-Ok-new.ensures.count c.in-Ok-new.ensures.new c.answer_all-done.ensures.answered c.answer_all-done.ensures.wanting c.close-core.ensures.stands c.close-core.ensures.by c.close-core.ensures.few in
     done.wanting
 
 pub returns-in-Ok-new-clause-opening : goal.returns-in-Ok-new-clause-opening
 returns-in-Ok-new-clause-opening g c =
     let done =
     closed-desk c.answer_all-done.result c.in-Ok-new.desk.lock.table.shared.table_id c.args.crew.now.numbers.now c.args.crew.now.workers c.args.items.now c.deref.result.now c.in-Ok-new.seats.jobs.items c.deref_mut.result.now c.answer_all-done.new.seats
-        (take c.in-Ok-new.seats.jobs.len (c.answer_all-done.new.seats ++ drop (length c.answer_all-done.new.seats) c.in-Ok-new.seats.jobs.items)) c.args.answers.now.items c.answer_all-done.new.answers.items
-        c.args.core.opening c.args.core.mark c.close-core.result.0.opening c.close-core.result.0.mark c.args.core.journal c.close-core.result.0.journal c.close-core.result.1
-        c.requires.workers.0 (c.deref.ensures.value ∙ c.in-Ok.ensures.plan) c.deref_mut.ensures.value
-        (lent-all c.answer_all-done.new.seats (drop (length c.answer_all-done.new.seats) c.in-Ok-new.seats.jobs.items) c.in-Ok-new.seats.jobs.len (omega (arith, c.answer_all-done.ensures.count, ap length c.deref_mut.ensures.value, c.in-Ok-new.seats.jobs.ok.0)))
-        c.in-Ok-new.ensures.count c.in-Ok-new.ensures.new c.answer_all-done.ensures.answered c.answer_all-done.ensures.wanting c.close-core.ensures.stands c.close-core.ensures.by c.close-core.ensures.few in
+    (take c.in-Ok-new.seats.jobs.len (c.answer_all-done.new.seats ++ drop (length c.answer_all-done.new.seats) c.in-Ok-new.seats.jobs.items)) c.args.answers.now.items c.answer_all-done.new.answers.items
+    c.args.core.opening c.args.core.mark c.close-core.result.0.opening c.close-core.result.0.mark c.args.core.journal c.close-core.result.0.journal c.close-core.result.1
+    c.requires.workers.0 (c.deref.ensures.value ∙ c.in-Ok.ensures.plan) c.deref_mut.ensures.value
+    (lent-all c.answer_all-done.new.seats (drop (length c.answer_all-done.new.seats) c.in-Ok-new.seats.jobs.items) c.in-Ok-new.seats.jobs.len (omega (arith, c.answer_all-done.ensures.count, ap length c.deref_mut.ensures.value, c.in-Ok-new.seats.jobs.ok.0)))
+    c.in-Ok-new.ensures.count c.in-Ok-new.ensures.new c.answer_all-done.ensures.answered c.answer_all-done.ensures.wanting c.close-core.ensures.stands c.close-core.ensures.by c.close-core.ensures.few in
     done.opening
 
 pub returns-in-Ok-new-clause-mark : goal.returns-in-Ok-new-clause-mark
 returns-in-Ok-new-clause-mark g c =
     let done =
     closed-desk c.answer_all-done.result c.in-Ok-new.desk.lock.table.shared.table_id c.args.crew.now.numbers.now c.args.crew.now.workers c.args.items.now c.deref.result.now c.in-Ok-new.seats.jobs.items c.deref_mut.result.now c.answer_all-done.new.seats
-        (take c.in-Ok-new.seats.jobs.len (c.answer_all-done.new.seats ++ drop (length c.answer_all-done.new.seats) c.in-Ok-new.seats.jobs.items)) c.args.answers.now.items c.answer_all-done.new.answers.items
-        c.args.core.opening c.args.core.mark c.close-core.result.0.opening c.close-core.result.0.mark c.args.core.journal c.close-core.result.0.journal c.close-core.result.1
-        c.requires.workers.0 (c.deref.ensures.value ∙ c.in-Ok.ensures.plan) c.deref_mut.ensures.value
-        (lent-all c.answer_all-done.new.seats (drop (length c.answer_all-done.new.seats) c.in-Ok-new.seats.jobs.items) c.in-Ok-new.seats.jobs.len (omega (arith, c.answer_all-done.ensures.count, ap length c.deref_mut.ensures.value, c.in-Ok-new.seats.jobs.ok.0)))
-        c.in-Ok-new.ensures.count c.in-Ok-new.ensures.new c.answer_all-done.ensures.answered c.answer_all-done.ensures.wanting c.close-core.ensures.stands c.close-core.ensures.by c.close-core.ensures.few in
+    (take c.in-Ok-new.seats.jobs.len (c.answer_all-done.new.seats ++ drop (length c.answer_all-done.new.seats) c.in-Ok-new.seats.jobs.items)) c.args.answers.now.items c.answer_all-done.new.answers.items
+    c.args.core.opening c.args.core.mark c.close-core.result.0.opening c.close-core.result.0.mark c.args.core.journal c.close-core.result.0.journal c.close-core.result.1
+    c.requires.workers.0 (c.deref.ensures.value ∙ c.in-Ok.ensures.plan) c.deref_mut.ensures.value
+    (lent-all c.answer_all-done.new.seats (drop (length c.answer_all-done.new.seats) c.in-Ok-new.seats.jobs.items) c.in-Ok-new.seats.jobs.len (omega (arith, c.answer_all-done.ensures.count, ap length c.deref_mut.ensures.value, c.in-Ok-new.seats.jobs.ok.0)))
+    c.in-Ok-new.ensures.count c.in-Ok-new.ensures.new c.answer_all-done.ensures.answered c.answer_all-done.ensures.wanting c.close-core.ensures.stands c.close-core.ensures.by c.close-core.ensures.few in
     done.mark_is
