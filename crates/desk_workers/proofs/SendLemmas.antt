@@ -18,6 +18,8 @@ use Rattle.dsn_mask.specs.contracts.name.Name as name
 use Rattle.dsn_mask.specs.contracts.dsn.Dsn as dsn
 use Rattle.dsn_mask.specs.contracts.volser.Volser as volser
 use Rattle.sms_construct.specs.contracts.alloc.Alloc as alloc
+use Rattle.sms_construct.specs.contracts.extent.Extent as extent
+use Rattle.sms_construct.specs.contracts.target.Target as target
 use Rattle.dsn_mask.specs.contracts.short.Short as short
 use Rattle.acs_tree.specs.contracts.line.Line as line
 use Rattle.acs_tree.specs.contracts.slate.Slate as slate
@@ -177,6 +179,15 @@ view-sync = search (sendable, crosses, name-sync, volser-sync, shared-sync, data
 
 pub view-field-send : IsSend (view.the_field).row
 view-field-send = search (sendable, crosses, name-send, volser-send, shared-send, dataset-send, dataset-sync, declared_send, variants_send, as_row_send) depth 120 fits 30000
+
+pub extent-send : IsSend extent.the_row
+extent-send = search (sendable, crosses) depth 24
+
+pub extent-sync : IsSync extent.the_row
+extent-sync = search (sendable, crosses) depth 24
+
+pub target-field-send : IsSend (target.the_field).row
+target-field-send = search (sendable, crosses, name-send, dsn-send, volser-send) depth 60 fits 9000
 
 pub reply-send : IsSend reply.the_row
 reply-send = ?
