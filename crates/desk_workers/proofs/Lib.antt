@@ -5,3 +5,4 @@ pub mod RoomLemmas
 pub mod ClosedLemmas
 pub mod PhaseLemmas
 pub mod SharedLemmas
+pub mod SendLemmas

@@ -47,24 +47,24 @@ module _ {P : Type 0} {keeper : Ghosts P} where
         each = length-append front.merged (answer ∷ []) ∙ omega (arith, front.each);
         theirs = λ k d at. rw (add-one, more, those-push k (take i plan) front.merged w answer pair) (elim (cases_Bool (w == k)) [
           | inl is ↦
-            let here : w ≡ k = eqb-true w k is in
-            let put : get_or (set new w s) k d ≡ s = subst (λ j. get_or (set new w s) j d ≡ s) here (get_or-set_same new w s d inside) in
-            rw (is, put) (front.theirs k d at ∙ ap (λ xs. those k (take i plan) front.merged ++ xs) (subst (λ j. (get_or new j d).answers.items ≡ answer ∷ s.answers.items) here (next d)) ∙ sym (append_assoc (those k (take i plan) front.merged) (answer ∷ []) s.answers.items))
+              let here : w ≡ k = eqb-true w k is in
+              let put : get_or (set new w s) k d ≡ s = subst (λ j. get_or (set new w s) j d ≡ s) here (get_or-set_same new w s d inside) in
+              rw (is, put) (front.theirs k d at ∙ ap (λ xs. those k (take i plan) front.merged ++ xs) (subst (λ j. (get_or new j d).answers.items ≡ answer ∷ s.answers.items) here (next d)) ∙ sym (append_assoc (those k (take i plan) front.merged) (answer ∷ []) s.answers.items))
           | inr not ↦
-            let apart : k ≢ w = λ e. (let hit : (w == k) ≡ true = eq-eqb w k (sym e) in let no : true ≡ false = sym hit ∙ not in absurd cc) in
-            rw (not, get_or-set_other new w k s d apart) (front.theirs k d at ∙ ap (λ xs. xs ++ (get_or new k d).answers.items) (sym (append-nil (those k (take i plan) front.merged))))
+              let apart : k ≢ w = λ e. (let hit : (w == k) ≡ true = eq-eqb w k (sym e) in let no : true ≡ false = sym hit ∙ not in absurd cc) in
+              rw (not, get_or-set_other new w k s d apart) (front.theirs k d at ∙ ap (λ xs. xs ++ (get_or new k d).answers.items) (sym (append-nil (those k (take i plan) front.merged))))
         ]);
         count = length-set new w s ∙ front.count;
         same = λ k d at. elim (cases_Bool (w == k)) [
           | inl is ↦
-            let here : w ≡ k = eqb-true w k is in
-            let put : get_or (set new w s) k d ≡ s = subst (λ j. get_or (set new w s) j d ≡ s) here (get_or-set_same new w s d inside) in
-            let one : SameIn s (get_or new k d) = subst (λ j. SameIn s (get_or new j d)) here (same d) in
-            (ap (λ (t : JobSeat P keeper). t.seat) put ∙ one.0 ∙ (front.same k d at).0, ap (λ (t : JobSeat P keeper). t.held) put ∙ one.1 ∙ (front.same k d at).1)
+              let here : w ≡ k = eqb-true w k is in
+              let put : get_or (set new w s) k d ≡ s = subst (λ j. get_or (set new w s) j d ≡ s) here (get_or-set_same new w s d inside) in
+              let one : SameIn s (get_or new k d) = subst (λ j. SameIn s (get_or new j d)) here (same d) in
+              (ap (λ (t : JobSeat P keeper). t.seat) put ∙ one.0 ∙ (front.same k d at).0, ap (λ (t : JobSeat P keeper). t.held) put ∙ one.1 ∙ (front.same k d at).1)
           | inr not ↦
-            let apart : k ≢ w = λ e. (let hit : (w == k) ≡ true = eq-eqb w k (sym e) in let no : true ≡ false = sym hit ∙ not in absurd cc) in
-            let kept = get_or-set_other new w k s d apart in
-            (ap (λ (t : JobSeat P keeper). t.seat) kept ∙ (front.same k d at).0, ap (λ (t : JobSeat P keeper). t.held) kept ∙ (front.same k d at).1)
+              let apart : k ≢ w = λ e. (let hit : (w == k) ≡ true = eq-eqb w k (sym e) in let no : true ≡ false = sym hit ∙ not in absurd cc) in
+              let kept = get_or-set_other new w k s d apart in
+              (ap (λ (t : JobSeat P keeper). t.seat) kept ∙ (front.same k d at).0, ap (λ (t : JobSeat P keeper). t.held) kept ∙ (front.same k d at).1)
         ];
       }
 

@@ -33,19 +33,19 @@ module _ {P : Type 0} {keeper : Ghosts P} where
     count = length-set new i s ∙ kept.count;
     same = λ k d at. elim (cases_Bool (i == k)) [
       | inl is ↦
-        let here : i ≡ k = eqb-true i k is in
-        let put : get_or (set new i s) k d ≡ s = subst (λ j. get_or (set new i s) j d ≡ s) here (get_or-set_same new i s d less) in
-        let one : SameIn s (get_or new k d) = subst (λ j. SameIn s (get_or new j d)) here (subst (SameIn s) (any-seat new i e d less) same_at) in
-        (ap (λ (t : JobSeat P keeper). t.seat) put ∙ one.0 ∙ (kept.same k d at).0, ap (λ (t : JobSeat P keeper). t.held) put ∙ one.1 ∙ (kept.same k d at).1)
+          let here : i ≡ k = eqb-true i k is in
+          let put : get_or (set new i s) k d ≡ s = subst (λ j. get_or (set new i s) j d ≡ s) here (get_or-set_same new i s d less) in
+          let one : SameIn s (get_or new k d) = subst (λ j. SameIn s (get_or new j d)) here (subst (SameIn s) (any-seat new i e d less) same_at) in
+          (ap (λ (t : JobSeat P keeper). t.seat) put ∙ one.0 ∙ (kept.same k d at).0, ap (λ (t : JobSeat P keeper). t.held) put ∙ one.1 ∙ (kept.same k d at).1)
       | inr not ↦
-        let other = get_or-set_other new i k s d (apart i k not) in
-        (ap (λ (t : JobSeat P keeper). t.seat) other ∙ (kept.same k d at).0, ap (λ (t : JobSeat P keeper). t.held) other ∙ (kept.same k d at).1)
+          let other = get_or-set_other new i k s d (apart i k not) in
+          (ap (λ (t : JobSeat P keeper). t.seat) other ∙ (kept.same k d at).0, ap (λ (t : JobSeat P keeper). t.held) other ∙ (kept.same k d at).1)
     ];
     none = λ k d at. elim (cases_Bool (i == k)) [
       | inl is ↦
-        let here : i ≡ k = eqb-true i k is in
-        let put : get_or (set new i s) k d ≡ s = subst (λ j. get_or (set new i s) j d ≡ s) here (get_or-set_same new i s d less) in
-        ap (λ (t : JobSeat P keeper). t.answers.items) put ∙ none_at
+          let here : i ≡ k = eqb-true i k is in
+          let put : get_or (set new i s) k d ≡ s = subst (λ j. get_or (set new i s) j d ≡ s) here (get_or-set_same new i s d less) in
+          ap (λ (t : JobSeat P keeper). t.answers.items) put ∙ none_at
       | inr not ↦ ap (λ (t : JobSeat P keeper). t.answers.items) (get_or-set_other new i k s d (apart i k not)) ∙ kept.none k d at
     ];
   }
@@ -61,18 +61,18 @@ module _ {P : Type 0} {keeper : Ghosts P} where
   pub room-put : (plan : List ℕ) (i : ℕ) (seats : List (JobSeat P keeper)) (s : JobSeat P keeper) → HaveRoom plan i seats → times i plan ≤ deque_capacity s.answers → HaveRoom plan (i + 1) (set seats i s)
   room-put plan i seats s room more k d below at = elim (cases_Bool (i == k)) [
     | inl is ↦
-      let here : i ≡ k = eqb-true i k is in
-      let less : k < length seats = omega (arith, at, length-set seats i s) in
-      let put : get_or (set seats i s) k d ≡ s = subst (λ j. get_or (set seats i s) j d ≡ s) here (get_or-set_same seats i s d (omega (arith, less, here))) in
-      let capacity : deque_capacity (get_or (set seats i s) k d).answers ≡ deque_capacity s.answers = ap (λ (t : JobSeat P keeper). deque_capacity t.answers) put in
-      let times_is : times k plan ≡ times i plan = ap (λ j. times j plan) (sym here) in
-      omega (arith, more, capacity, times_is)
+        let here : i ≡ k = eqb-true i k is in
+        let less : k < length seats = omega (arith, at, length-set seats i s) in
+        let put : get_or (set seats i s) k d ≡ s = subst (λ j. get_or (set seats i s) j d ≡ s) here (get_or-set_same seats i s d (omega (arith, less, here))) in
+        let capacity : deque_capacity (get_or (set seats i s) k d).answers ≡ deque_capacity s.answers = ap (λ (t : JobSeat P keeper). deque_capacity t.answers) put in
+        let times_is : times k plan ≡ times i plan = ap (λ j. times j plan) (sym here) in
+        omega (arith, more, capacity, times_is)
     | inr not ↦
-      let apart : k ≢ i = λ e. (let hit : (i == k) ≡ true = eq-eqb i k (sym e) in let no : true ≡ false = sym hit ∙ not in absurd cc) in
-      let less : k < length seats = omega (arith, at, length-set seats i s) in
-      let kept : deque_capacity (get_or (set seats i s) k d).answers ≡ deque_capacity (get_or seats k d).answers = ap (λ (t : JobSeat P keeper). deque_capacity t.answers) (get_or-set_other seats i k s d apart) in
-      let before : k < i = below-other i k below apart in
-      omega (arith, room k d before less, kept)
+        let apart : k ≢ i = λ e. (let hit : (i == k) ≡ true = eq-eqb i k (sym e) in let no : true ≡ false = sym hit ∙ not in absurd cc) in
+        let less : k < length seats = omega (arith, at, length-set seats i s) in
+        let kept : deque_capacity (get_or (set seats i s) k d).answers ≡ deque_capacity (get_or seats k d).answers = ap (λ (t : JobSeat P keeper). deque_capacity t.answers) (get_or-set_other seats i k s d apart) in
+        let before : k < i = below-other i k below apart in
+        omega (arith, room k d before less, kept)
   ]
     where
       below-other : (i k : ℕ) → k < i + 1 → k ≢ i → k < i

@@ -1,5 +1,5 @@
 -- A phase on a desk that workers share.
-use Rattle.std.proofs.Common.{inl, inr, ◌≡◌, ℕ, zero, suc, ◌+◌, ◌-◌, ◌<◌, ◌≤◌, ◌==◌, true, false, List, [], ◌∷◌, ◌++◌, length, map, get_or, All, append-nil, refl, sym, ap, subst, ◌∙◌, arith}
+use Rattle.std.proofs.Common.{inl, inr, ◌≡◌, ℕ, zero, suc, ◌+◌, ◌-◌, ◌<◌, ◌≤◌, ◌==◌, true, false, List, [], ◌∷◌, ◌++◌, length, map, take, get_or, All, append-nil, refl, sym, ap, subst, ◌∙◌, arith}
 use Rattle.std.proofs.lemmas.Bool.{cases_Bool}
 use Rattle.std.specs.Prelude.{Option, Result, Ok, Err, OnOk, OnErr, filter, is_err}
 use Rattle.std.specs.List.{AllByRecursion}
@@ -49,6 +49,13 @@ phase-none before after js js' phase =
     empty : (xs : List Answer) → length xs ≡ 0 → xs ≡ []
     empty [] none = refl
     empty (x ∷ xs) none = absurd (omega (arith, none))
+
+-- what a vector holds after it lent all
+pub lent-all : {X : Type 0} (xs rest : List X) (n : ℕ) → n ≡ length xs → take n (xs ++ rest) ≡ xs
+lent-all [] rest zero same = refl
+lent-all [] rest (suc n) same = absurd (omega (arith, same))
+lent-all (x ∷ xs) rest zero same = absurd (omega (arith, same))
+lent-all (x ∷ xs) rest (suc n) same = ap (λ ys. x ∷ ys) (lent-all xs rest n (omega (arith, same)))
 
 -- what holds anyway holds after an error
 pub on-err : {V E : Type 0} (result : Result V E) (A : Type 0) → A → OnErr result A
@@ -168,8 +175,8 @@ module _ {P : Type 0} {keeper : Ghosts P} where
       let below : (job : List ℕ) → worker_in numbers workers job < length (job_numbers new) = λ job. omega (arith, each, worker-below workers (number_in numbers job) two) in
       let closed =
       has-closed (job_numbers new) (λ i. entries_for (those i plan shared.answers) (those i plan items)) o mark o' mark' js js' ns few starts by (λ i less.
-          let inside : i < length new = omega (arith, less, numbers-length new) in
-          ap (λ n. made_by n list) (number-at new i d inside) ∙ (stands i d inside).1 ∙ (shared.made i d (omega (arith, inside, shared.count))).mine) in (
+      let inside : i < length new = omega (arith, less, numbers-length new) in
+      ap (λ n. made_by n list) (number-at new i d inside) ∙ (stands i d inside).1 ∙ (shared.made i d (omega (arith, inside, shared.count))).mine) in (
         closed.opening,
         closed.mark_is,
         record {
@@ -198,3 +205,11 @@ module _ {P : Type 0} {keeper : Ghosts P} where
   closed-either (Err fault) lock numbers workers items old new before after o mark o' mark' js js' ns two long fresh ok err stands by few =
       let done = shared-closed lock numbers workers [] old new before after o mark o' mark' js js' ns two long fresh err stands by few in
       record { opening = done.0; mark_is = done.1; answered = tt; wanting = phase-none before after js js' done.2 }
+
+  -- the same of seats that came back from the vector that lent them, and of a plan as it was made
+  pub closed-desk : {V E : Type 0} (result : Result V E) (lock : TableId) (numbers : List (List ℕ × ℕ)) (workers : ℕ) (items : List Item) (plan : List ℕ) (jobs old new back : List (JobSeat P keeper)) (before after : List Answer) (o : Opening) (mark : ℕ) (o' : Opening) (mark' : ℕ) (js js' : List Entry) (ns : List ℕ)
+      → 2 ≤ workers → plan ≡ plan_of numbers workers items → old ≡ jobs → back ≡ new → length jobs ≡ workers → All (IsNewJob lock (signed o mark (length js) js [])) jobs → OnOk result (HasShared lock plan items old new before after) → OnErr result (HasShared lock [] [] old new before after)
+      → All (StandsJob (signed_last o' mark' js' ns)) back → All (IsBy (job_numbers back)) (signed_last o' mark' js' ns) → length ns ≤ length js' → IsEither result items before after o mark o' mark' js js'
+  closed-desk result lock numbers workers items plan jobs old new back before after o mark o' mark' js js' ns two planned lent given long fresh ok err stands by few =
+      closed-either result lock numbers workers items old new before after o mark o' mark' js js' ns two (ap length lent ∙ long) (subst (All (IsNewJob lock (signed o mark (length js) js []))) (sym lent) fresh)
+      (subst (λ p. OnOk result (HasShared lock p items old new before after)) planned ok) err (subst (All (StandsJob (signed_last o' mark' js' ns))) given stands) (subst (λ (seats : List (JobSeat P keeper)). All (IsBy (job_numbers seats)) (signed_last o' mark' js' ns)) given by) few

@@ -27,7 +27,10 @@ impl Meeting {
 
     // How many came, and how many of them went on alone.
     pub fn counts(&self) -> [u64; 2] {
-        [self.here.load(Ordering::SeqCst), self.alone.load(Ordering::SeqCst)]
+        [
+            self.here.load(Ordering::SeqCst),
+            self.alone.load(Ordering::SeqCst),
+        ]
     }
 
     fn meet(&self) {

@@ -47,9 +47,7 @@ storgroup = \"PROC STORGRP SET &STORGRP = 'SG1' END\"
 ";
 
 #[test]
-fn an_activation_comes_between_a_classification_and_its_turn(
-    rt: HostRuntime,
-) -> Result<(), Fail> {
+fn an_activation_comes_between_a_classification_and_its_turn(rt: HostRuntime) -> Result<(), Fail> {
     let gate = Holding::new();
     let answers = run(rt.alloc(), &rt, LIVE, 2, &gate)?;
     let mut told = Vec::new(rt.alloc());
@@ -93,7 +91,13 @@ fn two_workers_share_one_volume(rt: HostRuntime) -> Result<(), Fail> {
 
 #[test]
 fn sixteen_workers_and_empty_phases(rt: HostRuntime) -> Result<(), Fail> {
-    let answers = run(rt.alloc(), &rt, "SYNC\nSMSADMIN 1 PURGE JOB1 1\nSYNC\nSYNC\n", 16, &FreeGate)?;
+    let answers = run(
+        rt.alloc(),
+        &rt,
+        "SYNC\nSMSADMIN 1 PURGE JOB1 1\nSYNC\nSYNC\n",
+        16,
+        &FreeGate,
+    )?;
     assert_eq!(rt; answers.len(), 1);
     let none = run(rt.alloc(), &rt, "SYNC\nSYNC\n", 2, &FreeGate)?;
     assert!(rt; none.is_empty());

@@ -60,7 +60,13 @@ fn a_stale_turn_is_given_back(rt: HostRuntime) -> Result<(), Fail> {
         }
     }
     // The first ALLOC finds a seat that holds nothing, the second is stale once, the third isn't.
-    let wanted = [(1, 0, 1), (2, b'1', 1), (3, 0, 2), (4, b'2', 2), (5, b'2', 2)];
+    let wanted = [
+        (1, 0, 1),
+        (2, b'1', 1),
+        (3, 0, 2),
+        (4, b'2', 2),
+        (5, b'2', 2),
+    ];
     assert!(rt; told.as_slice() == wanted.as_slice());
     assert!(rt; gate.counts() == [2, 1, 5]);
     let (core, numbers) = desk.close(JobSeats { jobs, room });

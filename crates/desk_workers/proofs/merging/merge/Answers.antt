@@ -14,10 +14,11 @@ first_answer-answer-requires g c = record {
 
 -- one more answer is in order
 pub loop-worker-preserved : goal.loop-worker-preserved
-loop-worker-preserved g c =
-    (merged-push c.args.plan.now c.loop-worker.worker-index c.args.seats.now c.loop-worker.seats c.args.answers.now.items c.loop-worker.answers.items c.push_reserved.new.self.items c.first_answer-answer.new.seat c.index-seats-worker.result c.first_answer-answer.result
-        c.loop-worker.invariant.0 c.requires.below (omega (arith, c.loop-worker-test.true)) c.first_answer-answer.ensures.answers c.first_answer-answer.ensures.same c.push_reserved.ensures.items,
-    c.push_reserved.ensures.capacity ∙ c.loop-worker.invariant.1)
+loop-worker-preserved g c = (
+  merged-push c.args.plan.now c.loop-worker.worker-index c.args.seats.now c.loop-worker.seats c.args.answers.now.items c.loop-worker.answers.items c.push_reserved.new.self.items c.first_answer-answer.new.seat c.index-seats-worker.result c.first_answer-answer.result
+      c.loop-worker.invariant.0 c.requires.below (omega (arith, c.loop-worker-test.true)) c.first_answer-answer.ensures.answers c.first_answer-answer.ensures.same c.push_reserved.ensures.items,
+  c.push_reserved.ensures.capacity ∙ c.loop-worker.invariant.1,
+)
 
 pub returns-clause-merged : goal.returns-clause-merged
 returns-clause-merged g c =

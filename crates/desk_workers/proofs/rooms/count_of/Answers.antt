@@ -16,11 +16,11 @@ loop-worker-preserved c =
     let more : take (suc i) plan ≡ take i plan ++ p ∷ [] = take-more plan i p c.loop-worker-test.true (any-default plan i 0 p c.loop-worker-test.true) in
     rw (add-one, more) (elim c.if-worker-me.branch [
       | then-worker-me w ↦
-        let is : (p == me) ≡ true = search rules in
-        let one : times me (take i plan ++ p ∷ []) ≡ times me (take i plan) + 1 = rw is at (times-push me (take i plan) p) in
-        (omega (arith, w.count-is, one, before.0), omega (arith, w.count-is, before.1))
+          let is : (p == me) ≡ true = search rules in
+          let one : times me (take i plan ++ p ∷ []) ≡ times me (take i plan) + 1 = rw is at (times-push me (take i plan) p) in
+          (omega (arith, w.count-is, one, before.0), omega (arith, w.count-is, before.1))
       | else-worker-me w ↦
-        let not : (p == me) ≡ false = search rules in
-        let none : times me (take i plan ++ p ∷ []) ≡ times me (take i plan) + 0 = rw not at (times-push me (take i plan) p) in
-        (omega (arith, w.count-is, none, before.0), omega (arith, w.count-is, before.1))
+          let not : (p == me) ≡ false = search rules in
+          let none : times me (take i plan ++ p ∷ []) ≡ times me (take i plan) + 0 = rw not at (times-push me (take i plan) p) in
+          (omega (arith, w.count-is, none, before.0), omega (arith, w.count-is, before.1))
     ])

@@ -36,10 +36,10 @@ loop-at-preserved g c =
     let same : length (take i items) ≡ length (take i plan) = take-length items i (omega (arith, within)) ∙ sym (take-length plan i (omega (arith, inside))) in
     rw (add-one, more, next) (elim c.if-plan-at.branch [
       | then-plan-at w ↦
-        let is : (p == c.args.me) ≡ true = search rules in
-        let one : HasAnswered lock x c.loop-at.seat w.answer.new.seat = w.answer.ensures in
-        rw w.seat-is (worked-push lock c.args.me p x (take i plan) (take i items) c.args.seat.now c.loop-at.seat w.answer.new.seat c.loop-at.invariant one is same)
+          let is : (p == c.args.me) ≡ true = search rules in
+          let one : HasAnswered lock x c.loop-at.seat w.answer.new.seat = w.answer.ensures in
+          rw w.seat-is (worked-push lock c.args.me p x (take i plan) (take i items) c.args.seat.now c.loop-at.seat w.answer.new.seat c.loop-at.invariant one is same)
       | else-plan-at w ↦
-        let not : (p == c.args.me) ≡ false = search rules in
-        rw w.seat-is (worked-skip lock c.args.me p x (take i plan) (take i items) c.args.seat.now c.loop-at.seat c.loop-at.invariant not same)
+          let not : (p == c.args.me) ≡ false = search rules in
+          rw w.seat-is (worked-skip lock c.args.me p x (take i plan) (take i items) c.args.seat.now c.loop-at.seat c.loop-at.invariant not same)
     ])
