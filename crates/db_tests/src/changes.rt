@@ -140,17 +140,26 @@ static STEPS: &[(u32, Step)] = &[
     (13, Step::Floor("JOB1", 8)),
 ];
 
+/// Whether the keeper takes the change and answers so.
+pub fn answers<K: Keeper>(
+    alloc: Global,
+    keeper: &mut K,
+    place: u64,
+    number: u32,
+    step: Step,
+    wanted: Result<(), KeeperErr>,
+) -> Result<bool, Fail> {
+    let made = change(alloc, place, number, step)?;
+    Ok(made.suits() && keeper.commit(&made) == wanted)
+}
+
 fn committed(alloc: Global) -> Result<bool, Fail> {
     let connection = Connection::open_in_memory(alloc)?;
     let mut keeper = SqlKeeper::new(alloc, connection);
     let mut good = keeper.ready() == Ok(());
     for at in 0..STEPS.len() {
         let (number, step) = STEPS[at];
-        let made = change(alloc, at as u64 + 1, number, step)?;
-        if !made.suits() {
-            return Ok(false);
-        }
-        good &= keeper.commit(&made) == Ok(());
+        good &= answers(alloc, &mut keeper, at as u64 + 1, number, step, Ok(()))?;
     }
     good &= keeper.faults() == 0;
     let mut connection = keeper.into_connection();
@@ -164,24 +173,29 @@ fn committed(alloc: Global) -> Result<bool, Fail> {
     Ok(good)
 }
 
+// Whether the keeper fails to put A.D by a change with this place and number.
+fn fails<K: Keeper>(alloc: Global, keeper: &mut K, place: u64, number: u32) -> Result<bool, Fail> {
+    answers(
+        alloc,
+        keeper,
+        place,
+        number,
+        Step::Put("A.D"),
+        Err(KeeperErr::Failed),
+    )
+}
+
 // A kept number, a place that is taken, a place too great: each is refused and counted, and nothing stays of it.
 fn refused(alloc: Global) -> Result<bool, Fail> {
     let connection = Connection::open_in_memory(alloc)?;
     let mut keeper = SqlKeeper::new(alloc, connection);
-    let early = change(alloc, 1, 1, Step::Put("A.B"))?;
-    let number = change(alloc, 2, 1, Step::Put("A.D"))?;
-    let place = change(alloc, 1, 2, Step::Put("A.D"))?;
-    let great = change(alloc, u64::MAX, 3, Step::Put("A.D"))?;
-    if !(early.suits() && number.suits() && place.suits() && great.suits()) {
-        return Ok(false);
-    }
-    let mut good = keeper.commit(&early) == Err(KeeperErr::Failed);
+    let mut good = fails(alloc, &mut keeper, 1, 1)?;
     good &= keeper.ready() == Ok(());
     good &= keeper.ready() == Err(KeeperErr::Failed);
-    good &= keeper.commit(&early) == Ok(());
-    good &= keeper.commit(&number) == Err(KeeperErr::Failed);
-    good &= keeper.commit(&place) == Err(KeeperErr::Failed);
-    good &= keeper.commit(&great) == Err(KeeperErr::Failed);
+    good &= answers(alloc, &mut keeper, 1, 1, Step::Put("A.B"), Ok(()))?;
+    good &= fails(alloc, &mut keeper, 2, 1)?;
+    good &= fails(alloc, &mut keeper, 1, 2)?;
+    good &= fails(alloc, &mut keeper, u64::MAX, 3)?;
     good &= keeper.faults() == 5;
     let mut connection = keeper.into_connection();
     good &= counts(&mut connection)? == [1, 1, 0, 0, 0];
@@ -193,12 +207,9 @@ fn columns(alloc: Global) -> Result<bool, Fail> {
     let connection = Connection::open_in_memory(alloc)?;
     let mut keeper = SqlKeeper::new(alloc, connection);
     let mut good = keeper.ready() == Ok(());
-    let first = change(alloc, 1, 7, Step::Activate(1, "SG1", "VOL001"))?;
-    let second = change(alloc, 2, 8, Step::Disable("VOL001"))?;
-    if !(first.suits() && second.suits()) {
-        return Ok(false);
-    }
-    good &= keeper.commit(&first) == Ok(()) && keeper.commit(&second) == Ok(());
+    let first = Step::Activate(1, "SG1", "VOL001");
+    good &= answers(alloc, &mut keeper, 1, 7, first, Ok(()))?;
+    good &= answers(alloc, &mut keeper, 2, 8, Step::Disable("VOL001"), Ok(()))?;
     let mut connection = keeper.into_connection();
     let texts = [
         "SELECT count(*) FROM replies WHERE job = 'JOB1' AND number = 7 AND place = 1",

@@ -1,5 +1,5 @@
 //! Files that are found, in a folder of the test.
-use crate::changes::{Step, change, counts};
+use crate::changes::{Step, answers, counts};
 use sms_keeper::{Keeper, KeeperErr, Stored};
 use sms_sqlite::SqlKeeper;
 use sqlite::{Connection, Error, ErrorCode};
@@ -14,11 +14,7 @@ fn kept(rt: &HostRuntime) -> Result<bool, Fail> {
     drop(locked);
     let mut keeper = SqlKeeper::new(alloc, first);
     good &= keeper.ready() == Ok(());
-    let made = change(alloc, 1, 1, Step::Put("A.B"))?;
-    if !made.suits() {
-        return Ok(false);
-    }
-    good &= keeper.commit(&made) == Ok(());
+    good &= answers(alloc, &mut keeper, 1, 1, Step::Put("A.B"), Ok(()))?;
     keeper.into_connection().close()?;
     let mut again = Connection::open(rt, "kept.db")?;
     good &= counts(&mut again)? == [1, 1, 0, 0, 0];

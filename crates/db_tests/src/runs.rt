@@ -2,7 +2,7 @@
 use crate::changes::counts;
 use db_calls::{DbStatus, database_asked, db_main};
 use desk_calls::RunStatus;
-use sms_base::{MemSink, MemSource};
+use sms_base::{MemSink, MemSource, read_all};
 use sms_keeper::{FaultKeeper, Keeper, MemKeeper, Stored};
 use sms_sqlite::SqlKeeper;
 use sqlite::Connection;
@@ -97,7 +97,8 @@ fn ends<P: Stored>(
     let mut src = script(alloc, ALLOC)?;
     let mut out = sink(alloc)?;
     let (status, keeper) = db_main(alloc, &words, &mut src, &mut out, keeper);
-    Ok((status, src.left().len(), out.taken().len(), keeper.faults()))
+    let left = read_all(alloc, &mut src, ROOM).ok().ok_or("left")?;
+    Ok((status, left.len(), out.taken().len(), keeper.faults()))
 }
 
 #[test]

@@ -1,5 +1,5 @@
 //! Stops: a disk in memory whose calls all fail from some call on, and what is found after it.
-use crate::changes::{Step, change, count};
+use crate::changes::{Step, change};
 use sms_keeper::{Keeper, Stored};
 use sms_sqlite::SqlKeeper;
 use sqlite::{Connection, Error, ErrorCode, Files, Options};
@@ -65,8 +65,8 @@ fn found(alloc: Global, mut files: Files<Fuse<Memory>>) -> Result<Option<i64>, F
         Err((Error::SqliteFailure(ErrorCode::OutOfMemory), _)) => return Ok(None),
         Err(_) => return Ok(Some(-2)),
     };
-    match count(&mut connection, "SELECT count(*) FROM replies") {
-        Ok(n) => Ok(Some(n)),
+    match connection.query_row("SELECT count(*) FROM replies", &[]) {
+        Ok(row) => Ok(Some(row.get(0)?)),
         Err(_) => Ok(Some(-1)),
     }
 }
