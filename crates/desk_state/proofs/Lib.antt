@@ -10,3 +10,4 @@ pub mod ExtensionLemmas
 pub mod ApplyLemmas
 pub mod DecideLemmas
 pub mod WorkLemmas
+pub mod NextLemmas
