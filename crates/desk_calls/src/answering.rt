@@ -13,9 +13,29 @@ use std::alloc::Global;
 use std::sync::Wait;
 use std::thread::Threads;
 
-/// The text of the answers to the script that the bytes write, by so many workers, from an empty desk over the keeper;
-/// with `volumes` the table of volumes stands behind it.
-pub fn answer_text<P: Keeper + Send, R: Threads + Wait + Sync, G: Gate + Sync>(
+/// The text of the answers to the script that the bytes write, by one worker, from an empty desk over the keeper; with
+/// `volumes` the table of volumes stands behind it.
+pub fn answer_text<P: Keeper>(
+    alloc: Global,
+    bytes: &[u8],
+    volumes: bool,
+    keeper: P,
+) -> (Result<Vec<u8>, ScriptErr>, P)
+    requires few { length bytes.now < 2 ^ 32 }
+    requires tables { IfSome (P.told keeper) (λ rows. AreSame rows no_rows) }
+    ensures answered { IfOk result.0 (λ text. IsAnswered volumes 1 (record { told = P.told keeper; count = P.count keeper }) (record { told = P.told result.1; count = P.count result.1 }) bytes.now text.items) }
+    ensures refused { IfErr result.0 (IsRefusal (script_of bytes.now)) }
+    ensures unrun { IfErr result.0 (λ fault. (fault ≡ ScriptErr.NoMemory → ⊥) → result.1 ≡ keeper) }
+    ensures left { IfErr result.0 (λ _. IsLeft 1 (record { told = P.told keeper; count = P.count keeper }) (record { told = P.told result.1; count = P.count result.1 }) bytes.now) }
+{
+    match read_script(alloc, bytes) {
+        Ok(script) => answer_alone(alloc, &script, volumes, keeper),
+        Err(fault) => (Err(fault), keeper),
+    }
+}
+
+/// The same by several workers.
+pub fn shared_text<P: Keeper + Send, R: Threads + Wait + Sync, G: Gate + Sync>(
     alloc: Global,
     rt: &R,
     bytes: &[u8],
@@ -25,21 +45,17 @@ pub fn answer_text<P: Keeper + Send, R: Threads + Wait + Sync, G: Gate + Sync>(
     gate: &G,
 ) -> (Result<Vec<u8>, ScriptErr>, P)
     requires few { length bytes.now < 2 ^ 32 }
-    requires workers { (1 ≤ workers) × (workers ≤ 16) }
+    requires workers { (2 ≤ workers) × (workers ≤ 16) }
     requires tables { IfSome (P.told keeper) (λ rows. AreSame rows no_rows) }
     ensures answered { IfOk result.0 (λ text. IsAnswered volumes workers (record { told = P.told keeper; count = P.count keeper }) (record { told = P.told result.1; count = P.count result.1 }) bytes.now text.items) }
     ensures refused { IfErr result.0 (IsRefusal (script_of bytes.now)) }
     ensures unrun { IfErr result.0 (λ fault. (fault ≡ ScriptErr.NoMemory → ⊥) → result.1 ≡ keeper) }
     ensures left { IfErr result.0 (λ _. IsLeft workers (record { told = P.told keeper; count = P.count keeper }) (record { told = P.told result.1; count = P.count result.1 }) bytes.now) }
 {
-    let script = match read_script(alloc, bytes) {
-        Ok(script) => script,
-        Err(fault) => return (Err(fault), keeper),
-    };
-    if workers == 1 {
-        return answer_alone(alloc, &script, volumes, keeper);
+    match read_script(alloc, bytes) {
+        Ok(script) => answer_shared(alloc, rt, &script, volumes, workers, keeper, gate),
+        Err(fault) => (Err(fault), keeper),
     }
-    answer_shared(alloc, rt, &script, volumes, workers, keeper, gate)
 }
 
 // The text of the answers to a script by one worker, from an empty desk over the keeper.
