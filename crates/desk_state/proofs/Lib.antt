@@ -11,3 +11,4 @@ pub mod ApplyLemmas
 pub mod DecideLemmas
 pub mod WorkLemmas
 pub mod NextLemmas
+pub mod FreeLemmas
