@@ -16,7 +16,10 @@ use sms_deck::Config;
 use sms_keeper::Keeper;
 use std::alloc::{AllocError, Global};
 
-/// The job that asks for what is due.
+// A catalog has fewer data sets than this.
+const MOST_SETS: u64 = 4_294_967_296;
+
+// The job that asks for what is due.
 const MANAGER: &[u8] = b"SMSMGMT";
 
 /// Asks for all that is due on a day, one request for each data set, in byte order of their names, numbered from 1 on
@@ -33,19 +36,75 @@ pub fn run_day<P: Keeper>(
     ensures opening { core.new.opening ≡ core.old.opening }
     ensures mark { core.new.mark ≡ core.old.mark }
 {
-    let Some(config) = shared_config(core)? else {
+    let Some(config) = active(core)? else {
         return Ok(Items::new(alloc));
     };
     let mut acts = Vec::new(alloc);
     let mut last: Option<Dsn> = None;
-    while let Some((dsn, wanted)) = next_due(core, config.get(), day, &last) {
+    for _ in 0..MOST_SETS {
+        let Some((dsn, wanted)) = next_set(core, config.get(), day, &last) else {
+            return Ok(Items::from_vec(acts));
+        };
         last = Some(dsn);
         if let Some(op) = op_for(wanted, dsn) {
-            acts.reserve(1)?;
-            let number = next_number(acts.len())?;
-            let answer = ask(core, slate, number, op);
-            acts.push_reserved(Act { number: number.get(), dsn, answer });
+            act_on(core, slate, dsn, op, &mut acts)?;
         }
     }
-    Ok(Items::from_vec(acts))
+    Err(AllocError)
+}
+
+// The active configuration, if there is one.
+fn active<P: Keeper>(core: &Core<P>) -> Result<Option<Shared<Config>>, AllocError>
+    ensures { IfOk result (λ config. (s : DeskState) → Reaches core.now.opening core.now.journal s → s.active ≡ config) }
+{
+    match core.active() {
+        Some((_, config)) => Ok(Some(config.share()?)),
+        None => Ok(None),
+    }
+}
+
+// The name of the data set behind this one, or of the first of all, and what is due of it.
+fn next_set<P: Keeper>(
+    core: &Core<P>,
+    config: &Config,
+    day: u32,
+    last: &Option<Dsn>,
+) -> Option<(Dsn, Due)>
+    ensures { (s : DeskState) → Reaches core.now.opening core.now.journal s → IsNextDue config.now day s.sets last.now result }
+{
+    let set = core.set_after(last.as_ref())?;
+    Some((set.dsn, due(set, config, day)))
+}
+
+// What is asked where something is due of the data set of this name.
+fn op_for(wanted: Due, dsn: Dsn) -> Option<Op>
+    ensures { result ≡ op_for wanted dsn }
+{
+    match wanted {
+        Due::Nothing => None,
+        Due::Delete => Some(Op::Delete(dsn)),
+        Due::Release => Some(Op::Release(dsn)),
+    }
+}
+
+// Asks for what is due of a data set, and stores it with the answer.
+fn act_on<P: Keeper>(
+    core: &mut Core<P>,
+    slate: &mut Slate,
+    dsn: Dsn,
+    op: Op,
+    acts: &mut Vec<Act>,
+) -> Result<(), AllocError>
+    ensures { OnOk result (HasActed core.old.opening core.old.journal core.new.journal dsn op acts.old.items acts.new.items) }
+    ensures opening { core.new.opening ≡ core.old.opening }
+    ensures mark { core.new.mark ≡ core.old.mark }
+{
+    acts.reserve(1)?;
+    let Some(number) = number_behind(acts.len()) else {
+        return Err(AllocError);
+    };
+    let request = Request { job: manager(), number, op };
+    let answer = core.step(&request, Work::Nothing, slate);
+    acts.push_reserved(Act { number: number.get(), dsn, answer });
+    Ok(())
 }
