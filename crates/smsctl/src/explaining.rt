@@ -26,12 +26,20 @@ pub fn note_status(alloc: Global, note: &mut String, status: RunStatus, script: 
     }
 }
 
+/// Where to look for what is wrong in a deck that an answer refused.
+pub fn note_refusal(note: &mut String) {
+    say(note, REFUSAL);
+}
+
 // The line of a script's fault, and what it means.
 fn note_fault(alloc: Global, note: &mut String, text: &[u8], fault: ScriptErr) {
     if let Ok(made) = script_note(alloc, text, fault) {
         *note = made;
     }
 }
+
+const REFUSAL: &str =
+    "an answer refuses a deck (R21): smsc validate, with the deck alone as input, says what is wrong in it\n";
 
 const WRITE_FAULT: &str =
     "standard output can't be written; all was answered, and a front of the text may be there\n";

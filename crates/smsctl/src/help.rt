@@ -13,6 +13,13 @@ smsctl serve PORT CONNECTIONS
 smsctl --help          this text
 smsctl --version       the version
 
+For example:
+
+    smsctl run --volumes < morning.txt > answers.txt
+    smsctl run --workers 4 < morning.txt > answers.txt
+    smsctl gen 1 40000
+    smsctl serve 8080 100
+
 docs/script.md has the script's lines, the answers and the exit statuses,
 docs/generator.md the generated script, docs/http.md the desk over HTTP.
 ";

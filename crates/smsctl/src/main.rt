@@ -8,10 +8,12 @@ ghost use Rattle.desk_calls.specs.ExitStatus.{exit_status_of};
 mod explaining;
 mod help;
 mod kept_source;
+mod noted_sink;
 mod serving;
 
-use crate::explaining::{note_status, note_words};
+use crate::explaining::{note_refusal, note_status, note_words};
 use crate::kept_source::KeptSource;
+use crate::noted_sink::NotedSink;
 use desk_calls::{RunStatus, desk_main};
 use desk_words::serve_words;
 use sms_base::{StdSink, StdSource, Words, read_words};
@@ -58,11 +60,14 @@ fn run(rt: &HostRuntime, words: &[String]) -> ExitCode {
 // Answers the script on standard input.
 fn answer(rt: &HostRuntime, words: &[String], note: &mut String) -> RunStatus {
     let mut src = KeptSource::new(rt.alloc(), StdSource::new(rt.reader()));
-    let mut out = StdSink::new(io::writer(rt));
+    let mut out = NotedSink::new(StdSink::new(io::writer(rt)));
     let keeper = MemKeeper::new(rt.alloc());
     let (status, _keeper) =
         desk_main(rt.alloc(), rt, words, &mut src, &mut out, keeper, &FreeGate);
     note_status(rt.alloc(), note, status, src.given());
+    if out.has_refusal() {
+        note_refusal(note);
+    }
     status
 }
 
