@@ -28,7 +28,7 @@ use Rattle.sms_manage.proofs.ReleaseLemmas.{release-twice}
 
 -- Names in order.
 
-abbrev R : List ℕ → List ℕ → Ordering
+abbrev pub R : List ℕ → List ℕ → Ordering
 R a b = slice_cmp nat_cmp a b
 
 less_is : (o : Ordering) → is_lt o ≡ true → o ≡ Less
@@ -46,17 +46,17 @@ before-behind-at l d x Equal is no one = ap is_lt (sym (nat_list_cmp_total.congr
 before-behind-at l d x Greater is no one =
     rw (nat_list_cmp_total.trans d l x (nat_list_cmp_total.antisymm d l ∙ ap ordering_reverse is) (less_is (R l x) one)) refl
 
-before-behind : (from : Option (List ℕ)) (d x : List ℕ) → is_behind from d ≡ false → is_behind from x ≡ true → is_lt (R d x) ≡ true
+pub before-behind : (from : Option (List ℕ)) (d x : List ℕ) → is_behind from d ≡ false → is_behind from x ≡ true → is_lt (R d x) ≡ true
 before-behind None d x no one = absurd cc
 before-behind (Some l) d x no one = before-behind-at l d x (R l d) refl no one
 
 -- what stands behind a name that is behind another is behind that too
-further : (from : Option (List ℕ)) (x d : List ℕ) → is_behind from x ≡ true → is_behind (Some x) d ≡ true → is_behind from d ≡ true
+pub further : (from : Option (List ℕ)) (x d : List ℕ) → is_behind from x ≡ true → is_behind (Some x) d ≡ true → is_behind from d ≡ true
 further None x d one two = refl
 further (Some l) x d one two = behind-chain l x d one two
 
 -- what isn't behind a name is that name, or stands before it
-which-at : (x d : List ℕ) (o : Ordering) → R x d ≡ o → is_lt o ≡ false → (x ≡ d) ⊎ (is_lt (R d x) ≡ true)
+pub which-at : (x d : List ℕ) (o : Ordering) → R x d ≡ o → is_lt o ≡ false → (x ≡ d) ⊎ (is_lt (R d x) ≡ true)
 which-at x d Less is no = absurd cc
 which-at x d Equal is no = inl ((bytes_eq-Decides x d).0 (sym (is_eq-slice_cmp x d) ∙ ap is_eq is))
 which-at x d Greater is no = inr (rw (nat_list_cmp_total.antisymm d x ∙ ap ordering_reverse is) refl)
@@ -65,13 +65,13 @@ which-at x d Greater is no = inr (rw (nat_list_cmp_total.antisymm d x ∙ ap ord
 not-same-at : (x d : List ℕ) (o : Ordering) → R x d ≡ o → is_eq o ≡ false → bytes_eq x d ≡ false
 not-same-at x d o is no = sym (is_eq-slice_cmp x d) ∙ ap is_eq is ∙ no
 
-before-apart : (x d : List ℕ) → is_lt (R d x) ≡ true → bytes_eq x d ≡ false
+pub before-apart : (x d : List ℕ) → is_lt (R d x) ≡ true → bytes_eq x d ≡ false
 before-apart x d before = not-same-at x d Greater (nat_list_cmp_total.antisymm x d ∙ ap ordering_reverse (less_is (R d x) before)) refl
 
-behind-apart : (x d : List ℕ) → is_lt (R x d) ≡ true → bytes_eq x d ≡ false
+pub behind-apart : (x d : List ℕ) → is_lt (R x d) ≡ true → bytes_eq x d ≡ false
 behind-apart x d behind = not-same-at x d Less (less_is (R x d) behind) refl
 
-not-behind-itself : (x : List ℕ) → is_lt (R x x) ≡ false
+pub not-behind-itself : (x : List ℕ) → is_lt (R x x) ≡ false
 not-behind-itself x = at (R x x) (nat_list_cmp_total.antisymm x x)
   where
     at : (o : Ordering) → o ≡ ordering_reverse o → is_lt o ≡ false
@@ -81,12 +81,12 @@ not-behind-itself x = at (R x x) (nat_list_cmp_total.antisymm x x)
 
 -- What is found after an act.
 
-other-stays : (wanted : Due) (s : DeskState) (set : DataSet) (dsn : List ℕ) → bytes_eq set.dsn dsn ≡ false → set_named dsn (after_act wanted s set).sets ≡ set_named dsn s.sets
+pub other-stays : (wanted : Due) (s : DeskState) (set : DataSet) (dsn : List ℕ) → bytes_eq set.dsn dsn ≡ false → set_named dsn (after_act wanted s set).sets ≡ set_named dsn s.sets
 other-stays Nothing s set dsn apart = refl
 other-stays Delete s set dsn apart = sym (drop-found s.sets set.dsn dsn (set_named dsn s.sets) (set_named dsn s.sets) false apart refl refl)
 other-stays Release s set dsn apart = sym (put-found s.sets (kept_of set) dsn (set_named dsn s.sets) (set_named dsn s.sets) false apart refl refl)
 
-same-name : (dsn : List ℕ) → bytes_eq dsn dsn ≡ true
+pub same-name : (dsn : List ℕ) → bytes_eq dsn dsn ≡ true
 same-name dsn = (bytes_eq-Decides dsn dsn).1 refl
 
 released-at : (config : Configuration) (day : ℕ) (set : DataSet) (b : Bool) → has_passed day set (lifetime_of config set) ≡ b → due_of config day set ≡ Release → is_due (due_of config day (kept_of set)) ≡ false
@@ -98,7 +98,7 @@ released-at config day set false passed due = rw (passed, release-twice set) (no
     none false = refl
 
 -- nothing is due any more where what was due was done
-settled-act : (config : Configuration) (day : ℕ) (s : DeskState) (set : DataSet) (wanted : Due) → due_of config day set ≡ wanted → set_named set.dsn s.sets ≡ Some set
+pub settled-act : (config : Configuration) (day : ℕ) (s : DeskState) (set : DataSet) (wanted : Due) → due_of config day set ≡ wanted → set_named set.dsn s.sets ≡ Some set
     → is_due_if config day (set_named set.dsn (after_act wanted s set).sets) ≡ false
 settled-act config day s set Nothing due found = rw (found, due) refl
 settled-act config day s set Delete due found =
@@ -109,7 +109,7 @@ settled-act config day s set Release due found =
 
 -- Acts behind others.
 
-any-push : (p : Act → Bool) (acts : List Act) (act : Act) → list_any p (acts ++ act ∷ []) ≡ (list_any p acts || p act)
+pub any-push : (p : Act → Bool) (acts : List Act) (act : Act) → list_any p (acts ++ act ∷ []) ≡ (list_any p acts || p act)
 any-push p [] act = or-none (p act)
   where
     or-none : (b : Bool) → (b || false) ≡ b
@@ -121,7 +121,7 @@ any-push p (a ∷ acts) act = ap (λ b. p a || b) (any-push p acts act) ∙ or-a
     or-assoc true b c = refl
     or-assoc false b c = refl
 
-all-push : (p : Act → Bool) (acts : List Act) (act : Act) → list_all p (acts ++ act ∷ []) ≡ true → (list_all p acts ≡ true) × (p act ≡ true)
+pub all-push : (p : Act → Bool) (acts : List Act) (act : Act) → list_all p (acts ++ act ∷ []) ≡ true → (list_all p acts ≡ true) × (p act ≡ true)
 all-push p [] act all = (refl, first (p act) all)
   where
     first : (b : Bool) → (b && true) ≡ true → b ≡ true
@@ -132,7 +132,7 @@ all-push p (a ∷ acts) act all = elim (cases_Bool (p a)) [
   | inr no ↦ let bad : false ≡ true = rw no at all in absurd cc
 ]
 
-counted-push : (number : ℕ) (acts : List Act) (act : Act) → are_counted number acts ≡ true → act.number ≡ number + length acts → are_counted number (acts ++ act ∷ []) ≡ true
+pub counted-push : (number : ℕ) (acts : List Act) (act : Act) → are_counted number acts ≡ true → act.number ≡ number + length acts → are_counted number (acts ++ act ∷ []) ≡ true
 counted-push number [] act counted is = rw (is, plain) refl
   where
     plain : (number + 0 == number) ≡ true
@@ -143,11 +143,11 @@ counted-push number (a ∷ acts) act counted is = elim (cases_Bool (a.number == 
 ]
 
 -- all names stand before this one
-AllBefore : List (List ℕ) → List ℕ → Type 0
+pub AllBefore : List (List ℕ) → List ℕ → Type 0
 AllBefore [] x = Unit {0}
 AllBefore (n ∷ names) x = (is_lt (R n x) ≡ true) × AllBefore names x
 
-ascending-push : (names : List (List ℕ)) (x : List ℕ) → are_ascending names ≡ true → AllBefore names x → are_ascending (names ++ x ∷ []) ≡ true
+pub ascending-push : (names : List (List ℕ)) (x : List ℕ) → are_ascending names ≡ true → AllBefore names x → are_ascending (names ++ x ∷ []) ≡ true
 ascending-push [] x order before = refl
 ascending-push (n ∷ []) x order before = rw before.0 refl
 ascending-push (n ∷ m ∷ names) x order before = elim (cases_Bool (is_lt (R n m))) [
@@ -155,7 +155,15 @@ ascending-push (n ∷ m ∷ names) x order before = elim (cases_Bool (is_lt (R n
   | inr no ↦ let bad : false ≡ true = rw no at order in absurd cc
 ]
 
-entries-push : (config : Configuration) (day : ℕ) (sets : List DataSet) (acts : List Act) (act : Act) → entries_of config day sets (acts ++ act ∷ []) ≡ entries_of config day sets acts ++ entry_for (op_if config day (set_named act.dsn sets)) act
+pub names-push : (acts : List Act) (act : Act) → map (λ (a : Act). a.dsn) (acts ++ act ∷ []) ≡ map (λ (a : Act). a.dsn) acts ++ act.dsn ∷ []
+names-push [] act = refl
+names-push (a ∷ acts) act = ap (λ ns. a.dsn ∷ ns) (names-push acts act)
+
+pub before-push : (names : List (List ℕ)) (n x : List ℕ) → AllBefore names x → is_lt (R n x) ≡ true → AllBefore (names ++ n ∷ []) x
+before-push [] n x before less = (less, tt)
+before-push (m ∷ names) n x before less = (before.0, before-push names n x before.1 less)
+
+pub entries-push : (config : Configuration) (day : ℕ) (sets : List DataSet) (acts : List Act) (act : Act) → entries_of config day sets (acts ++ act ∷ []) ≡ entries_of config day sets acts ++ entry_for (op_if config day (set_named act.dsn sets)) act
 entries-push config day sets [] act = append-nil (entry_for (op_if config day (set_named act.dsn sets)) act)
 entries-push config day sets (a ∷ acts) act =
     ap (λ es. entry_for (op_if config day (set_named a.dsn sets)) a ++ es) (entries-push config day sets acts act) ∙ sym (append_assoc (entry_for (op_if config day (set_named a.dsn sets)) a) (entries_of config day sets acts) _)

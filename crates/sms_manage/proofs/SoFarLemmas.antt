@@ -17,7 +17,7 @@ use Rattle.sms_manage.specs.Due.{due_of, is_due, is_due_if}
 use Rattle.sms_manage.specs.Managed.{AreActs, IsManaged, IsUnused, are_counted, entries_of, entry_for, manager, op_for, op_if, was_done}
 use Rattle.sms_manage.specs.Walk.{Asks}
 use Rattle.sms_manage.proofs.ActLemmas.{HasActed, IsActed, IsUnusedFrom, after_act, step-acted, unused-all}
-use Rattle.sms_manage.proofs.DayLemmas.{AllBefore, R, all-push, any-push, ascending-push, before-apart, before-behind, behind-apart, counted-push, entries-push, further, not-behind-itself, other-stays, settled-act, which-at}
+use Rattle.sms_manage.proofs.DayLemmas.{AllBefore, R, all-push, any-push, ascending-push, before-apart, before-behind, before-push, behind-apart, counted-push, entries-push, further, names-push, other-stays, same-name, settled-act, which-at}
 
 -- the data sets up to a name were gone through, from the state before
 pub record IsDaySoFar (o : Opening) (day : ℕ) (config : Configuration) (before : DeskState) (old h : List Entry) (last : Option (List ℕ)) (acts : List Act) : Type 0 where
@@ -131,12 +131,12 @@ module _ (o : Opening) (day : ℕ) (config : Configuration) (before : DeskState)
           | inl past ↦ rw (past, behind-apart set.dsn dsn past) (or-none _ ∙ rw (passed dsn past) at (far.each dsn))
           | inr no ↦ rw no (elim (place-of dsn no) [
               | inl early ↦ rw (up-to dsn early) (or-none _ ∙ rw early at (far.each dsn))
-              | inr (inl same) ↦ rw (← same) (rw ((bytes-same set.dsn), some) (or-all _))
+              | inr (inl same) ↦ rw (← same) (rw (same-name set.dsn, some) (or-all _))
               | inr (inr gone) ↦ rw gone.2 (or-none _ ∙ rw gone.0 at (far.each dsn) ∙ sym (none-due dsn gone.0 gone.1))
             ])
         ];
-        names = λ dsn past. all-before-push (map (λ a. a.dsn) acts) acts act dsn (far.names dsn (passed dsn past)) past;
-        order = ascending-map acts act far.order (far.names set.dsn next.behind);
+        names = λ dsn past. rw (names-push acts act) (before-push (map (λ (a : Act). a.dsn) acts) set.dsn dsn (far.names dsn (passed dsn past)) past);
+        order = rw (names-push acts act) (ascending-push (map (λ (a : Act). a.dsn) acts) set.dsn far.order (far.names set.dsn next.behind));
         counted = counted-push 1 acts act far.counted (omega arith);
         others = λ dsn no quiet. elim (place-of dsn no) [
           | inl early ↦ stays acted (up-to dsn early) ∙ far.others dsn early quiet

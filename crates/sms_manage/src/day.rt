@@ -1,8 +1,10 @@
 //! A day of space management.
-ghost use Rattle.std.specs.Prelude.{◌≡◌, ◌+◌, ◌-◌, ◌^◌, ◌≤◌, min, IfOk};
-ghost use Rattle.desk_law.specs.History.{IsLegal};
-ghost use Rattle.sms_core.specs.Core.{HasTables};
-ghost use Rattle.sms_manage.specs.Managed.{IsUnused, WasManaged};
+ghost use Rattle.std.specs.Prelude.{◌≡◌, ◌+◌, IfOk, IfSome, OnOk, Some, length};
+ghost use Rattle.desk_law.specs.State.{DeskState};
+ghost use Rattle.desk_law.specs.History.{Reaches};
+ghost use Rattle.sms_construct.specs.Quantities.{request_number_of};
+ghost use Rattle.sms_manage.specs.Managed.{IsUnused, WasManaged, manager, op_for};
+ghost use Rattle.sms_manage.specs.Walk.{Asks, IsNextDue};
 
 use crate::act::{Act, Acts};
 use crate::due::Due;
@@ -10,7 +12,7 @@ use crate::expiry::due;
 use acs_tree::Slate;
 use desk_common::{Items, Shared};
 use dsn_mask::{Dsn, Name};
-use sms_construct::{Answer, Op, Request, RequestNumber};
+use sms_construct::{Op, Request, RequestNumber};
 use sms_core::{Core, Work};
 use sms_deck::Config;
 use sms_keeper::Keeper;
@@ -95,7 +97,7 @@ fn act_on<P: Keeper>(
     op: Op,
     acts: &mut Vec<Act>,
 ) -> Result<(), AllocError>
-    ensures { OnOk result (HasActed core.old.opening core.old.journal core.new.journal dsn op acts.old.items acts.new.items) }
+    ensures asked { OnOk result (Asks core.old.opening core.old.journal core.new.journal dsn op acts.old.items acts.new.items) }
     ensures opening { core.new.opening ≡ core.old.opening }
     ensures mark { core.new.mark ≡ core.old.mark }
 {
@@ -103,8 +105,21 @@ fn act_on<P: Keeper>(
     let Some(number) = number_behind(acts.len()) else {
         return Err(AllocError);
     };
-    let request = Request { job: manager(), number, op };
+    let Some(job) = Name::new(MANAGER) else {
+        return Err(AllocError);
+    };
+    let request = Request { job, number, op };
     let answer = core.step(&request, Work::Nothing, slate);
     acts.push_reserved(Act { number: number.get(), dsn, answer });
     Ok(())
+}
+
+// The number of the act behind so many; `None` where it is none of a request.
+fn number_behind(count: usize) -> Option<RequestNumber>
+    ensures { IfSome result (λ number. number ≡ count + 1) }
+{
+    if count >= u32::MAX as usize {
+        return None;
+    }
+    RequestNumber::new(count as u32 + 1)
 }
