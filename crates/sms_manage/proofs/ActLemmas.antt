@@ -25,8 +25,8 @@ use Rattle.desk_law.specs.Replies.{Makes}
 use Rattle.desk_law.proofs.FloorLemmas.{all-floors-append, all-rows-append, append-none}
 use Rattle.desk_law.proofs.HistoryLemmas.{leads-one, leads-push}
 use Rattle.sms_core.specs.Core.{Enters, entry_of}
-use Rattle.sms_manage.specs.declared.due.Due.{Due}
-use Rattle.sms_manage.specs.declared.due.Due.TheVariants.{Nothing, Delete, Release}
+use Rattle.sms_manage.specs.declared.wanted.Due.{Due}
+use Rattle.sms_manage.specs.declared.wanted.Due.TheVariants.{Nothing, Delete, Release}
 use Rattle.sms_manage.specs.Managed.{IsUnused, manager, op_for, was_done}
 
 -- the job has no floor, and no kept reply from this number on
@@ -38,7 +38,7 @@ pub unused-all : (o : Opening) (h : List Entry) → IsUnused o h → IsUnusedFro
 unused-all o h unused = record { floor = unused.floor; kept = λ n any. unused.kept n }
 
 -- the state after what is due was done
-pub after_act : Due → DeskState → DataSet → DeskState
+abbrev pub after_act : Due → DeskState → DataSet → DeskState
 after_act Nothing s set = s
 after_act Delete s set = without_name s set.dsn
 after_act Release s set = with_set s (kept_of set)
@@ -76,7 +76,7 @@ fresh-act old_floor s set Release op e after is asked found fresh = elim fresh.a
 find-none : (p : KeptRow → Bool) (a b : List KeptRow) → find p a ≡ None → find p b ≡ None → find p (a ++ b) ≡ None
 find-none p [] b one two = two
 find-none p (x ∷ a) b one two = elim (cases_Bool (p x)) [
-  | inl is ↦ let no : Some x ≡ None = rw is at one in absurd cc
+  | inl is ↦ let isnt : Some x ≡ None = rw is at one in absurd cc
   | inr not ↦ let rest : find p a ≡ None = rw not at one in rw not (find-none p a b rest two)
 ]
 
@@ -165,16 +165,16 @@ pub step-acted : (o : Opening) (h h' : List Entry) (told told' : Option Rows) (c
     → IsUnusedFrom o h number → request ≡ record { job = manager; number = number; op = op } → op_for wanted set.dsn ≡ Some op → set_named set.dsn s.sets ≡ Some set → Reaches o h s
     → Enters o h h' told told' count count' request answer → HasActed o h' number wanted s set answer.reply
 step-acted o h h' told told' count count' number wanted op s set request answer unused asked is found reaches enters = elim (cases_Bool (is_entered answer.reply)) [
-  | inl yes ↦
+  | inl entered ↦
     let e : Entry = record { request = request; answer = answer } in
-    let next = enters.lawful yes in
+    let next = enters.lawful entered in
     let same : next.state ≡ s = leads-one o [] (start_of o) h next.state s next.reaches reaches in
     let step : IsStep o h s e next.after = subst (λ t. IsStep o h t e next.after) same next.step in
-    let grown : h' ≡ h ++ e ∷ [] = rw yes at enters.journal_is in
+    let grown : h' ≡ h ++ e ∷ [] = rw entered at enters.journal_is in
     rw grown (entered-act o h number wanted op s next.after set e unused (ap (λ (r : Request). r.job) asked) (ap (λ (r : Request). r.number) asked) (ap (λ (r : Request). r.op) asked) is found reaches step)
-  | inr no ↦
-    let grown : h' ≡ h ++ [] = rw no at enters.journal_is in
-    let quiet = without-entry answer.reply no in
+  | inr isnt ↦
+    let grown : h' ≡ h ++ [] = rw isnt at enters.journal_is in
+    let quiet = without-entry answer.reply isnt in
     rw (grown, append-nil h) (record {
       after = s;
       reaches = reaches;

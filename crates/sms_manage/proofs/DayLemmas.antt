@@ -1,5 +1,5 @@
 -- A day so far: the data sets up to a name.
-use Rattle.std.proofs.Common.{inl, inr, ◌≡◌, ◌⊎◌, ◌≤◌, ◌<◌, ℕ, suc, ◌+◌, ◌==◌, ◌&&◌, ◌||◌, not, Bool, true, false, List, [], ◌∷◌, ◌++◌, length, map, Option, None, Some, Ordering, Less, Equal, Greater, is_lt, refl, sym, ap, subst, ◌∙◌, arith, append-nil, append_assoc, length-append}
+use Rattle.std.proofs.Common.{inl, inr, ◌≡◌, ◌⊎◌, ◌≤◌, ◌<◌, ℕ, suc, ◌+◌, ◌==◌, ◌&&◌, ◌||◌, not, Bool, true, false, cond, List, [], ◌∷◌, ◌++◌, length, map, Option, None, Some, Ordering, Less, Equal, Greater, is_lt, refl, sym, ap, subst, ◌∙◌, arith, append-nil, append_assoc, length-append}
 use Rattle.std.specs.Prelude.{bytes_eq}
 use Rattle.std.specs.Cmp.Lexicographic.{nat_list_cmp_total, slice_cmp}
 use Rattle.std.specs.List.{list_all, list_any}
@@ -18,8 +18,8 @@ use Rattle.desk_law.specs.Releasing.{kept_of}
 use Rattle.desk_state.specs.Following.{IsFirstBehind, IsLastName, is_behind}
 use Rattle.desk_state.proofs.ApplyLemmas.{drop-found, put-found}
 use Rattle.sms_manage.specs.declared.act.Act.{Act}
-use Rattle.sms_manage.specs.declared.due.Due.{Due}
-use Rattle.sms_manage.specs.declared.due.Due.TheVariants.{Nothing, Delete, Release}
+use Rattle.sms_manage.specs.declared.wanted.Due.{Due}
+use Rattle.sms_manage.specs.declared.wanted.Due.TheVariants.{Nothing, Delete, Release}
 use Rattle.sms_manage.specs.Due.{class_of, due_of, has_passed, has_unused, is_due, is_due_if, is_releasing, lifetime_of}
 use Rattle.sms_manage.specs.Managed.{are_counted, entries_of, entry_for, op_for, op_if, was_done}
 use Rattle.sms_manage.specs.Walk.{Asks}
@@ -41,14 +41,14 @@ behind-chain a b c one two = rw (nat_list_cmp_total.trans a b c (less_is (R a b)
 
 -- what isn't behind a name stands before what is
 before-behind-at : (l d x : List ℕ) (o : Ordering) → R l d ≡ o → is_lt o ≡ false → is_lt (R l x) ≡ true → is_lt (R d x) ≡ true
-before-behind-at l d x Less is no one = absurd cc
-before-behind-at l d x Equal is no one = ap is_lt (sym (nat_list_cmp_total.congr l d x is)) ∙ one
-before-behind-at l d x Greater is no one =
+before-behind-at l d x Less is isnt one = absurd cc
+before-behind-at l d x Equal is isnt one = ap is_lt (sym (nat_list_cmp_total.congr l d x is)) ∙ one
+before-behind-at l d x Greater is isnt one =
     rw (nat_list_cmp_total.trans d l x (nat_list_cmp_total.antisymm d l ∙ ap ordering_reverse is) (less_is (R l x) one)) refl
 
 pub before-behind : (from : Option (List ℕ)) (d x : List ℕ) → is_behind from d ≡ false → is_behind from x ≡ true → is_lt (R d x) ≡ true
-before-behind None d x no one = absurd cc
-before-behind (Some l) d x no one = before-behind-at l d x (R l d) refl no one
+before-behind None d x isnt one = absurd cc
+before-behind (Some l) d x isnt one = before-behind-at l d x (R l d) refl isnt one
 
 -- what stands behind a name that is behind another is behind that too
 pub further : (from : Option (List ℕ)) (x d : List ℕ) → is_behind from x ≡ true → is_behind (Some x) d ≡ true → is_behind from d ≡ true
@@ -57,13 +57,13 @@ further (Some l) x d one two = behind-chain l x d one two
 
 -- what isn't behind a name is that name, or stands before it
 pub which-at : (x d : List ℕ) (o : Ordering) → R x d ≡ o → is_lt o ≡ false → (x ≡ d) ⊎ (is_lt (R d x) ≡ true)
-which-at x d Less is no = absurd cc
-which-at x d Equal is no = inl ((bytes_eq-Decides x d).0 (sym (is_eq-slice_cmp x d) ∙ ap is_eq is))
-which-at x d Greater is no = inr (rw (nat_list_cmp_total.antisymm d x ∙ ap ordering_reverse is) refl)
+which-at x d Less is isnt = absurd cc
+which-at x d Equal is isnt = inl ((bytes_eq-Decides x d).0 (sym (is_eq-slice_cmp x d) ∙ ap is_eq is))
+which-at x d Greater is isnt = inr (rw (nat_list_cmp_total.antisymm d x ∙ ap ordering_reverse is) refl)
 
 -- a name isn't equal to one that it stands behind or before
 not-same-at : (x d : List ℕ) (o : Ordering) → R x d ≡ o → is_eq o ≡ false → bytes_eq x d ≡ false
-not-same-at x d o is no = sym (is_eq-slice_cmp x d) ∙ ap is_eq is ∙ no
+not-same-at x d o is isnt = sym (is_eq-slice_cmp x d) ∙ ap is_eq is ∙ isnt
 
 pub before-apart : (x d : List ℕ) → is_lt (R d x) ≡ true → bytes_eq x d ≡ false
 before-apart x d before = not-same-at x d Greater (nat_list_cmp_total.antisymm x d ∙ ap ordering_reverse (less_is (R d x) before)) refl
@@ -90,7 +90,7 @@ pub same-name : (dsn : List ℕ) → bytes_eq dsn dsn ≡ true
 same-name dsn = (bytes_eq-Decides dsn dsn).1 refl
 
 released-at : (config : Configuration) (day : ℕ) (set : DataSet) (b : Bool) → has_passed day set (lifetime_of config set) ≡ b → due_of config day set ≡ Release → is_due (due_of config day (kept_of set)) ≡ false
-released-at config day set true passed due = let no : Delete ≡ Release = rw passed at due in absurd cc
+released-at config day set true passed due = let isnt : Delete ≡ Release = rw passed at due in absurd cc
 released-at config day set false passed due = rw (passed, release-twice set) (none (is_releasing (class_of config set)))
   where
     none : (b : Bool) → is_due (cond (b && false) Release Nothing) ≡ false
@@ -129,7 +129,7 @@ all-push p [] act all = (refl, first (p act) all)
     first false is = is
 all-push p (a ∷ acts) act all = elim (cases_Bool (p a)) [
   | inl is ↦ let rest : list_all p (acts ++ act ∷ []) ≡ true = rw is at all in let both = all-push p acts act rest in (rw is both.0, both.1)
-  | inr no ↦ let bad : false ≡ true = rw no at all in absurd cc
+  | inr isnt ↦ let bad : false ≡ true = rw isnt at all in absurd cc
 ]
 
 pub counted-push : (number : ℕ) (acts : List Act) (act : Act) → are_counted number acts ≡ true → act.number ≡ number + length acts → are_counted number (acts ++ act ∷ []) ≡ true
@@ -143,7 +143,7 @@ counted-push number (a ∷ acts) act counted is = elim (cases_Bool (a.number == 
 ]
 
 -- all names stand before this one
-pub AllBefore : List (List ℕ) → List ℕ → Type 0
+abbrev pub AllBefore : List (List ℕ) → List ℕ → Type 0
 AllBefore [] x = Unit {0}
 AllBefore (n ∷ names) x = (is_lt (R n x) ≡ true) × AllBefore names x
 
@@ -152,7 +152,7 @@ ascending-push [] x order before = refl
 ascending-push (n ∷ []) x order before = rw before.0 refl
 ascending-push (n ∷ m ∷ names) x order before = elim (cases_Bool (is_lt (R n m))) [
   | inl less ↦ let rest : are_ascending (m ∷ names) ≡ true = rw less at order in rw less (ascending-push (m ∷ names) x rest before.1)
-  | inr no ↦ let bad : false ≡ true = rw no at order in absurd cc
+  | inr isnt ↦ let bad : false ≡ true = rw isnt at order in absurd cc
 ]
 
 pub names-push : (acts : List Act) (act : Act) → map (λ (a : Act). a.dsn) (acts ++ act ∷ []) ≡ map (λ (a : Act). a.dsn) acts ++ act.dsn ∷ []

@@ -6,13 +6,14 @@ use Rattle.std.proofs.lemmas.Bool.{cases_Bool}
 use Rattle.sms_construct.specs.Configuration.{Configuration, are_ascending}
 use Rattle.sms_construct.specs.declared.data_set.DataSet.{DataSet}
 use Rattle.sms_construct.specs.declared.entry.Entry.{Entry}
+use Rattle.sms_construct.specs.declared.reply.Reply.{Reply}
 use Rattle.sms_construct.specs.declared.request.Op.{Op}
 use Rattle.desk_law.specs.State.{DeskState, Opening, set_named}
 use Rattle.desk_law.specs.History.{Reaches}
 use Rattle.desk_state.specs.Following.{IsFirstBehind, IsLastName, is_behind}
 use Rattle.sms_manage.specs.declared.act.Act.{Act}
-use Rattle.sms_manage.specs.declared.due.Due.{Due}
-use Rattle.sms_manage.specs.declared.due.Due.TheVariants.{Nothing, Delete, Release}
+use Rattle.sms_manage.specs.declared.wanted.Due.{Due}
+use Rattle.sms_manage.specs.declared.wanted.Due.TheVariants.{Nothing, Delete, Release}
 use Rattle.sms_manage.specs.Due.{due_of, is_due, is_due_if}
 use Rattle.sms_manage.specs.Managed.{AreActs, IsManaged, IsUnused, are_counted, entries_of, entry_for, manager, op_for, op_if, was_done}
 use Rattle.sms_manage.specs.Walk.{Asks}
@@ -45,8 +46,8 @@ day-begins o day config before old reaches unused = record {
   names = λ dsn any. tt;
   order = refl;
   counted = refl;
-  others = λ dsn no. absurd cc;
-  settled = λ all dsn no. absurd cc;
+  others = λ dsn isnt. absurd cc;
+  settled = λ all dsn isnt. absurd cc;
 }
 
 module _ (o : Opening) (day : ℕ) (config : Configuration) (before : DeskState) (old h : List Entry) (last : Option (List ℕ)) (acts : List Act) (far : IsDaySoFar o day config before old h last acts)
@@ -56,13 +57,13 @@ module _ (o : Opening) (day : ℕ) (config : Configuration) (before : DeskState)
   next-before = sym (far.behind set.dsn next.behind) ∙ next.stands
 
   -- where a name up to the next data set's stands
-  Where : List ℕ → Type 0
+  abbrev Where : List ℕ → Type 0
   Where dsn = (is_behind last dsn ≡ false) ⊎ ((set.dsn ≡ dsn) ⊎ ((is_behind last dsn ≡ true) × (set_named dsn far.state.sets ≡ None) × (bytes_eq set.dsn dsn ≡ false)))
 
   place-of : (dsn : List ℕ) → is_behind (Some set.dsn) dsn ≡ false → Where dsn
-  place-of dsn no = elim (cases_Bool (is_behind last dsn)) [
-    | inr not ↦ inl not
-    | inl past ↦ inr (elim (which-at set.dsn dsn (R set.dsn dsn) refl no) [
+  place-of dsn isnt = elim (cases_Bool (is_behind last dsn)) [
+    | inr early ↦ inl early
+    | inl past ↦ inr (elim (which-at set.dsn dsn (R set.dsn dsn) refl isnt) [
         | inl same ↦ inl same
         | inr less ↦ inr (past, next.first dsn past less, before-apart set.dsn dsn less)
       ])
@@ -75,7 +76,7 @@ module _ (o : Opening) (day : ℕ) (config : Configuration) (before : DeskState)
   passed dsn past = further last set.dsn dsn next.behind past
 
   up-to : (dsn : List ℕ) → is_behind last dsn ≡ false → bytes_eq set.dsn dsn ≡ false
-  up-to dsn no = before-apart set.dsn dsn (before-behind last dsn set.dsn no next.behind)
+  up-to dsn isnt = before-apart set.dsn dsn (before-behind last dsn set.dsn isnt next.behind)
 
   -- nothing is due of it
   pub day-skips : due_of config day set ≡ Nothing → IsDaySoFar o day config before old h (Some set.dsn) acts
@@ -89,7 +90,7 @@ module _ (o : Opening) (day : ℕ) (config : Configuration) (before : DeskState)
         behind = λ dsn past. far.behind dsn (passed dsn past);
         each = λ dsn. elim (cases_Bool (is_behind (Some set.dsn) dsn)) [
           | inl past ↦ rw past (rw (passed dsn past) at (far.each dsn))
-          | inr no ↦ rw no (elim (place-of dsn no) [
+          | inr isnt ↦ rw isnt (elim (place-of dsn isnt) [
               | inl early ↦ rw early at (far.each dsn)
               | inr (inl same) ↦ rw (← same) (rw next.behind at (far.each set.dsn) ∙ sym none)
               | inr (inr gone) ↦ rw gone.0 at (far.each dsn) ∙ sym (none-due dsn gone.0 gone.1)
@@ -98,12 +99,12 @@ module _ (o : Opening) (day : ℕ) (config : Configuration) (before : DeskState)
         names = λ dsn past. far.names dsn (passed dsn past);
         order = far.order;
         counted = far.counted;
-        others = λ dsn no quiet. elim (place-of dsn no) [
+        others = λ dsn isnt quiet. elim (place-of dsn isnt) [
           | inl early ↦ far.others dsn early quiet
           | inr (inl same) ↦ far.behind dsn (rw (← same) next.behind)
           | inr (inr gone) ↦ far.behind dsn gone.0
         ];
-        settled = λ all dsn no. elim (place-of dsn no) [
+        settled = λ all dsn isnt. elim (place-of dsn isnt) [
           | inl early ↦ far.settled all dsn early
           | inr (inl same) ↦ rw (← same, next.stands, due) refl
           | inr (inr gone) ↦ rw gone.1 refl
@@ -126,10 +127,10 @@ module _ (o : Opening) (day : ℕ) (config : Configuration) (before : DeskState)
           asks.enters.journal_is ∙ ap (λ es. es ++ entry_for (Some op) act) far.journal ∙ append_assoc old (entries_of config day before.sets acts) (entry_for (Some op) act)
           ∙ ap (λ es. old ++ es) (ap (λ es. entries_of config day before.sets acts ++ es) (sym one) ∙ sym (entries-push config day before.sets acts act));
         unused = rw (length-append acts (act ∷ [])) acted.unused;
-        behind = λ dsn past. stays acted (behind-apart set.dsn dsn past) ∙ far.behind dsn (passed dsn past);
+        behind = λ dsn past. stays acted dsn (behind-apart set.dsn dsn past) ∙ far.behind dsn (passed dsn past);
         each = λ dsn. any-push (λ a. bytes_eq a.dsn dsn) acts act ∙ elim (cases_Bool (is_behind (Some set.dsn) dsn)) [
           | inl past ↦ rw (past, behind-apart set.dsn dsn past) (or-none _ ∙ rw (passed dsn past) at (far.each dsn))
-          | inr no ↦ rw no (elim (place-of dsn no) [
+          | inr isnt ↦ rw isnt (elim (place-of dsn isnt) [
               | inl early ↦ rw (up-to dsn early) (or-none _ ∙ rw early at (far.each dsn))
               | inr (inl same) ↦ rw (← same) (rw (same-name set.dsn, some) (or-all _))
               | inr (inr gone) ↦ rw gone.2 (or-none _ ∙ rw gone.0 at (far.each dsn) ∙ sym (none-due dsn gone.0 gone.1))
@@ -138,20 +139,20 @@ module _ (o : Opening) (day : ℕ) (config : Configuration) (before : DeskState)
         names = λ dsn past. rw (names-push acts act) (before-push (map (λ (a : Act). a.dsn) acts) set.dsn dsn (far.names dsn (passed dsn past)) past);
         order = rw (names-push acts act) (ascending-push (map (λ (a : Act). a.dsn) acts) set.dsn far.order (far.names set.dsn next.behind));
         counted = counted-push 1 acts act far.counted (omega arith);
-        others = λ dsn no quiet. elim (place-of dsn no) [
-          | inl early ↦ stays acted (up-to dsn early) ∙ far.others dsn early quiet
+        others = λ dsn isnt quiet. elim (place-of dsn isnt) [
+          | inl early ↦ stays acted dsn (up-to dsn early) ∙ far.others dsn early quiet
           | inr (inl same) ↦ let bad : false ≡ true = sym quiet ∙ rw (← same) some in absurd cc
-          | inr (inr gone) ↦ stays acted gone.2 ∙ far.behind dsn gone.0
+          | inr (inr gone) ↦ stays acted dsn gone.2 ∙ far.behind dsn gone.0
         ];
-        settled = λ all dsn no.
+        settled = λ all dsn isnt.
           let both = all-push (λ a. was_done a.answer.reply) acts act all in
-          elim (place-of dsn no) [
-            | inl early ↦ rw (stays acted (up-to dsn early)) (far.settled both.0 dsn early)
+          elim (place-of dsn isnt) [
+            | inl early ↦ rw (stays acted dsn (up-to dsn early)) (far.settled both.0 dsn early)
             | inr (inl same) ↦ rw (← same) (elim acted.acted.outcome [
                 | inl left ↦ let bad : false ≡ true = sym left.0 ∙ both.1 in absurd cc
                 | inr did ↦ rw did.1 (settled-act config day far.state set wanted due next.stands)
               ])
-            | inr (inr gone) ↦ rw (stays acted gone.2, gone.1) refl
+            | inr (inr gone) ↦ rw (stays acted dsn gone.2, gone.1) refl
           ];
       })
     where
@@ -160,8 +161,8 @@ module _ (o : Opening) (day : ℕ) (config : Configuration) (before : DeskState)
       is-due Delete op is = refl
       is-due Release op is = refl
 
-      stays : {h' : List Entry} {number : ℕ} {reply : _} {wanted : Due} (acted : HasActed o h' number wanted far.state set reply) {dsn : List ℕ} → bytes_eq set.dsn dsn ≡ false → set_named dsn acted.after.sets ≡ set_named dsn far.state.sets
-      stays {wanted = wanted} acted {dsn} apart = elim acted.acted.outcome [
+      stays : {h' : List Entry} {number : ℕ} {reply : Reply} {wanted : Due} (acted : HasActed o h' number wanted far.state set reply) (dsn : List ℕ) → bytes_eq set.dsn dsn ≡ false → set_named dsn acted.after.sets ≡ set_named dsn far.state.sets
+      stays {wanted = wanted} acted dsn apart = elim acted.acted.outcome [
         | inl left ↦ rw left.1 refl
         | inr did ↦ rw did.1 (other-stays wanted far.state set dsn apart)
       ]
@@ -182,7 +183,7 @@ day-ends o day config before old h last acts far active none = record {
   acts_are = record {
     each = λ dsn. far.each dsn ∙ elim (cases_Bool (is_behind last dsn)) [
       | inl past ↦ rw past (sym (rw (sym (far.behind dsn past) ∙ none dsn past) refl))
-      | inr no ↦ rw no refl
+      | inr isnt ↦ rw isnt refl
     ];
     order = far.order;
     counted = far.counted;
@@ -191,10 +192,10 @@ day-ends o day config before old h last acts far active none = record {
   legal = far.reaches;
   others = λ dsn quiet. elim (cases_Bool (is_behind last dsn)) [
     | inl past ↦ far.behind dsn past
-    | inr no ↦ far.others dsn no quiet
+    | inr isnt ↦ far.others dsn isnt quiet
   ];
   settled = λ all dsn. elim (cases_Bool (is_behind last dsn)) [
     | inl past ↦ rw (none dsn past) refl
-    | inr no ↦ far.settled all dsn no
+    | inr isnt ↦ far.settled all dsn isnt
   ];
 }

@@ -6,8 +6,8 @@ use Rattle.sms_construct.specs.declared.data_set.DataSet.{DataSet}
 use Rattle.sms_construct.specs.declared.management_class.MgmtClass.{MgmtClass}
 use Rattle.desk_law.specs.Extents.{tracks_of_set}
 use Rattle.desk_law.specs.Releasing.{kept_of}
-use Rattle.sms_manage.specs.declared.due.Due.{Due}
-use Rattle.sms_manage.specs.declared.due.Due.TheVariants.{Nothing, Delete, Release}
+use Rattle.sms_manage.specs.declared.wanted.Due.{Due}
+use Rattle.sms_manage.specs.declared.wanted.Due.TheVariants.{Nothing, Delete, Release}
 
 -- the management class of this name
 abbrev pub management_class_of : Configuration → List ℕ → Option MgmtClass

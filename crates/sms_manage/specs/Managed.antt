@@ -15,8 +15,8 @@ use Rattle.desk_law.specs.Kept.{floor_of, kept_for}
 use Rattle.sms_core.specs.Core.{entry_of}
 use Rattle.sms_construct.specs.declared.entry.Answer.{Answer}
 use Rattle.sms_manage.specs.declared.act.Act.{Act}
-use Rattle.sms_manage.specs.declared.due.Due.{Due}
-use Rattle.sms_manage.specs.declared.due.Due.TheVariants.{Nothing, Delete, Release}
+use Rattle.sms_manage.specs.declared.wanted.Due.{Due}
+use Rattle.sms_manage.specs.declared.wanted.Due.TheVariants.{Nothing, Delete, Release}
 use Rattle.sms_manage.specs.Due.{due_of, is_due_if}
 
 -- the job that asks

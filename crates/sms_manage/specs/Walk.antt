@@ -10,7 +10,7 @@ use Rattle.desk_law.specs.State.{Opening}
 use Rattle.desk_state.specs.Following.{IsFirstBehind, IsLastName}
 use Rattle.sms_core.specs.Core.{Enters}
 use Rattle.sms_manage.specs.declared.act.Act.{Act}
-use Rattle.sms_manage.specs.declared.due.Due.{Due}
+use Rattle.sms_manage.specs.declared.wanted.Due.{Due}
 use Rattle.sms_manage.specs.Due.{due_of}
 use Rattle.sms_manage.specs.Managed.{manager}
 

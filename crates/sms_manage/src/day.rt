@@ -2,12 +2,11 @@
 ghost use Rattle.std.specs.Prelude.{◌≡◌, ◌+◌, IfOk, IfSome, OnOk, Some, length};
 ghost use Rattle.desk_law.specs.State.{DeskState};
 ghost use Rattle.desk_law.specs.History.{Reaches};
-ghost use Rattle.sms_construct.specs.Quantities.{request_number_of};
-ghost use Rattle.sms_manage.specs.Managed.{IsUnused, WasManaged, manager, op_for};
+ghost use Rattle.sms_manage.specs.Managed.{IsManaged, IsUnused, WasManaged, op_for};
 ghost use Rattle.sms_manage.specs.Walk.{Asks, IsNextDue};
 
 use crate::act::{Act, Acts};
-use crate::due::Due;
+use crate::wanted::Due;
 use crate::expiry::due;
 use acs_tree::Slate;
 use desk_common::{Items, Shared};
@@ -38,13 +37,30 @@ pub fn run_day<P: Keeper>(
     ensures opening { core.new.opening ≡ core.old.opening }
     ensures mark { core.new.mark ≡ core.old.mark }
 {
-    let Some(config) = active(core)? else {
-        return Ok(Items::new(alloc));
-    };
+    match active(core)? {
+        Some(config) => act_all(alloc, core, slate, config.get(), day),
+        None => Ok(Items::new(alloc)),
+    }
+}
+
+// Asks for all that is due on a day under a configuration.
+fn act_all<P: Keeper>(
+    alloc: Global,
+    core: &mut Core<P>,
+    slate: &mut Slate,
+    config: &Config,
+    day: u32,
+) -> Result<Acts, AllocError>
+    requires { IsUnused core.old.opening core.old.journal }
+    ensures managed { IfOk result (λ acts. (before : DeskState) → Reaches core.old.opening core.old.journal before → before.active ≡ Some config.now →
+        (after : DeskState) × IsManaged core.old.opening day config.now before after core.old.journal core.new.journal acts) }
+    ensures opening { core.new.opening ≡ core.old.opening }
+    ensures mark { core.new.mark ≡ core.old.mark }
+{
     let mut acts = Vec::new(alloc);
     let mut last: Option<Dsn> = None;
     for _ in 0..MOST_SETS {
-        let Some((dsn, wanted)) = next_set(core, config.get(), day, &last) else {
+        let Some((dsn, wanted)) = next_set(core, config, day, &last) else {
             return Ok(Items::from_vec(acts));
         };
         last = Some(dsn);

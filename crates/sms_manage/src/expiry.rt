@@ -3,7 +3,7 @@ ghost use Rattle.std.specs.Prelude.{◌≡◌, option_and_then};
 ghost use Rattle.std.specs.Option.{option_copied, option_or};
 ghost use Rattle.sms_manage.specs.Due.{class_of, due_of, has_passed, is_releasing};
 
-use crate::due::Due;
+use crate::wanted::Due;
 use desk_state::has_unused;
 use sms_construct::{DataSet, MgmtClass};
 use sms_deck::Config;
@@ -34,7 +34,7 @@ fn class_of<'a>(config: &'a Config, set: &DataSet) -> Option<&'a MgmtClass>
 
 // For how many days a data set of this class is kept, if it expires.
 fn lifetime_of(set: &DataSet, class: Option<&MgmtClass>) -> Option<u32>
-    ensures { result ≡ option_or set.now.retpd (option_and_then (λ class. class.expire_after) (option_copied class)) }
+    ensures { result ≡ option_or set.now.retpd (option_and_then (λ class. class.expire_after) (option_copied class.entry)) }
 {
     match set.retpd {
         Some(days) => Some(days),
@@ -54,7 +54,7 @@ fn has_passed(day: u32, set: &DataSet, lifetime: Option<u32>) -> bool
 
 // Whether the class lets unused tracks be released.
 fn is_releasing(class: Option<&MgmtClass>) -> bool
-    ensures { result ≡ is_releasing (option_copied class) }
+    ensures { result ≡ is_releasing (option_copied class.entry) }
 {
     match class {
         Some(class) => class.release,

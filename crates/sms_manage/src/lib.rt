@@ -3,10 +3,10 @@
 
 mod act;
 mod day;
-mod due;
 mod expiry;
+mod wanted;
 
 pub use act::{Act, Acts};
 pub use day::run_day;
-pub use due::Due;
 pub use expiry::due;
+pub use wanted::Due;
