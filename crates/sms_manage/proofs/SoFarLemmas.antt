@@ -16,7 +16,7 @@ use Rattle.sms_manage.specs.declared.wanted.Due.{Due}
 use Rattle.sms_manage.specs.declared.wanted.Due.TheVariants.{Nothing, Delete, Release}
 use Rattle.sms_manage.specs.Due.{due_of, is_due, is_due_if}
 use Rattle.sms_manage.specs.Managed.{AreActs, IsManaged, IsUnused, are_counted, entries_of, entry_for, manager, op_for, op_if, was_done}
-use Rattle.sms_manage.specs.Walk.{Asks}
+use Rattle.sms_manage.specs.Walk.{Asks, IsDueNext, IsNextDue}
 use Rattle.sms_manage.proofs.ActLemmas.{HasActed, IsActed, IsUnusedFrom, after_act, step-acted, unused-all}
 use Rattle.sms_manage.proofs.DayLemmas.{AllBefore, R, all-push, any-push, ascending-push, before-apart, before-behind, before-push, behind-apart, counted-push, entries-push, further, names-push, other-stays, same-name, settled-act, which-at}
 
@@ -199,3 +199,36 @@ day-ends o day config before old h last acts far active none = record {
     | inr isnt ↦ far.settled all dsn isnt
   ];
 }
+
+-- The next data set, as the catalog is gone through.
+
+module _ (o o' : Opening) (day : ℕ) (config : Configuration) (before : DeskState) (old h : List Entry) (last : Option (List ℕ)) (acts : List Act) (next : Option (List ℕ × Due)) (same : o' ≡ o)
+    (far : IsDaySoFar o day config before old h last acts) (finds : (s : DeskState) → Reaches o' h s → IsNextDue config day s.sets last next) where
+  found : IsNextDue config day far.state.sets last next
+  found = finds far.state (subst (λ p. Reaches p h far.state) (sym same) far.reaches)
+
+  -- there is none
+  pub day-over : before.active ≡ Some config → next ≡ None → (after : DeskState) × IsManaged o day config before after old h acts
+  day-over active none = (far.state, day-ends o day config before old h last acts far active (subst (λ n. IsNextDue config day far.state.sets last n) none found))
+
+  module _ (dsn : List ℕ) (wanted : Due) (is : next ≡ Some (dsn, wanted)) where
+    due-next : IsDueNext config day far.state.sets last (dsn, wanted)
+    due-next = subst (λ n. IsNextDue config day far.state.sets last n) is found
+
+    -- nothing is due of it
+    pub day-passes : op_for wanted dsn ≡ None → IsDaySoFar o day config before old h (Some dsn) acts
+    day-passes none =
+        subst (λ d. IsDaySoFar o day config before old h (Some d) acts) (sym due-next.name)
+        (day-skips o day config before old h last acts far due-next.set due-next.first (sym due-next.due ∙ nothing wanted none))
+      where
+        nothing : (wanted : Due) → op_for wanted dsn ≡ None → wanted ≡ Nothing
+        nothing Nothing none = refl
+        nothing Delete none = absurd cc
+        nothing Release none = absurd cc
+
+    -- what is due of it was asked
+    pub day-acts : (h' : List Entry) (acts' : List Act) (op : Op) → op_for wanted dsn ≡ Some op → Asks o' h h' dsn op acts acts' → IsDaySoFar o day config before old h' (Some dsn) acts'
+    day-acts h' acts' op some asks =
+        subst (λ d. IsDaySoFar o day config before old h' (Some d) acts') (sym due-next.name)
+        (day-asks o day config before old h last acts far due-next.set due-next.first h' acts' wanted op (sym due-next.due) (subst (λ d. op_for wanted d ≡ Some op) due-next.name some)
+          (subst (λ d. Asks o h h' d op acts acts') due-next.name (subst (λ p. Asks p h h' dsn op acts acts') same asks)))
