@@ -211,24 +211,24 @@ module _ (o o' : Opening) (day : ℕ) (config : Configuration) (before : DeskSta
   pub day-over : before.active ≡ Some config → next ≡ None → (after : DeskState) × IsManaged o day config before after old h acts
   day-over active none = (far.state, day-ends o day config before old h last acts far active (subst (λ n. IsNextDue config day far.state.sets last n) none found))
 
-  module _ (dsn : List ℕ) (wanted : Due) (is : next ≡ Some (dsn, wanted)) where
-    due-next : IsDueNext config day far.state.sets last (dsn, wanted)
+  module _ (pair : List ℕ × Due) (is : next ≡ Some pair) where
+    due-next : IsDueNext config day far.state.sets last pair
     due-next = subst (λ n. IsNextDue config day far.state.sets last n) is found
 
     -- nothing is due of it
-    pub day-passes : op_for wanted dsn ≡ None → IsDaySoFar o day config before old h (Some dsn) acts
+    pub day-passes : op_for pair.1 pair.0 ≡ None → IsDaySoFar o day config before old h (Some pair.0) acts
     day-passes none =
         subst (λ d. IsDaySoFar o day config before old h (Some d) acts) (sym due-next.name)
-        (day-skips o day config before old h last acts far due-next.set due-next.first (sym due-next.due ∙ nothing wanted none))
+        (day-skips o day config before old h last acts far due-next.set due-next.first (sym due-next.due ∙ nothing pair.1 none))
       where
-        nothing : (wanted : Due) → op_for wanted dsn ≡ None → wanted ≡ Nothing
+        nothing : (wanted : Due) → op_for wanted pair.0 ≡ None → wanted ≡ Nothing
         nothing Nothing none = refl
         nothing Delete none = absurd cc
         nothing Release none = absurd cc
 
     -- what is due of it was asked
-    pub day-acts : (h' : List Entry) (acts' : List Act) (op : Op) → op_for wanted dsn ≡ Some op → Asks o' h h' dsn op acts acts' → IsDaySoFar o day config before old h' (Some dsn) acts'
+    pub day-acts : (h' : List Entry) (acts' : List Act) (op : Op) → op_for pair.1 pair.0 ≡ Some op → Asks o' h h' pair.0 op acts acts' → IsDaySoFar o day config before old h' (Some pair.0) acts'
     day-acts h' acts' op some asks =
         subst (λ d. IsDaySoFar o day config before old h' (Some d) acts') (sym due-next.name)
-        (day-asks o day config before old h last acts far due-next.set due-next.first h' acts' wanted op (sym due-next.due) (subst (λ d. op_for wanted d ≡ Some op) due-next.name some)
-          (subst (λ d. Asks o h h' d op acts acts') due-next.name (subst (λ p. Asks p h h' dsn op acts acts') same asks)))
+        (day-asks o day config before old h last acts far due-next.set due-next.first h' acts' pair.1 op (sym due-next.due) (subst (λ d. op_for pair.1 d ≡ Some op) due-next.name some)
+          (subst (λ d. Asks o h h' d op acts acts') due-next.name (subst (λ p. Asks p h h' pair.0 op acts acts') same asks)))

@@ -60,12 +60,12 @@ fn act_all<P: Keeper>(
     let mut acts = Vec::new(alloc);
     let mut last: Option<Dsn> = None;
     for _ in 0..MOST_SETS {
-        let Some((dsn, wanted)) = next_set(core, config, day, &last) else {
+        let Some(next) = next_set(core, config, day, &last) else {
             return Ok(Items::from_vec(acts));
         };
-        last = Some(dsn);
-        if let Some(op) = op_for(wanted, dsn) {
-            act_on(core, slate, dsn, op, &mut acts)?;
+        last = Some(next.0);
+        if let Some(op) = op_for(next.1, next.0) {
+            act_on(core, slate, next.0, op, &mut acts)?;
         }
     }
     Err(AllocError)

@@ -14,12 +14,12 @@ loop-preserved g c = elim c.match-op_for.branch [
       opening = ap (λ core. core.opening) w.core-is ∙ w.act_on.ensures.opening ∙ c.loop.invariant.opening;
       mark = ap (λ core. core.mark) w.core-is ∙ w.act_on.ensures.mark ∙ c.loop.invariant.mark;
       far = λ before reaches. rw (w.core-is, w.acts-is)
-          (day-acts _ _ _ _ before _ _ _ _ c.next_set.result c.loop.invariant.opening (c.loop.invariant.far before reaches) c.next_set.ensures _ _ (rw (c.in-Some.dsn-is, c.in-Some.wanted-is) at c.in-Some.is) _ _ w.in-Some-op_for.op (sym c.op_for.ensures ∙ w.in-Some-op_for.is) (let did = w.in_ok-act_on.ensures in did.asked));
+          (day-acts _ _ _ _ before _ _ _ _ c.next_set.result c.loop.invariant.opening (c.loop.invariant.far before reaches) c.next_set.ensures _ c.in-Some.is _ _ w.in-Some-op_for.op (sym c.op_for.ensures ∙ w.in-Some-op_for.is) (let did = w.in_ok-act_on.ensures in did.asked));
     }
   | in_default-op_for w ↦ record {
       opening = ap (λ core. core.opening) w.core-is ∙ c.loop.invariant.opening;
       mark = ap (λ core. core.mark) w.core-is ∙ c.loop.invariant.mark;
       far = λ before reaches. rw (w.core-is, w.acts-is)
-          (day-passes _ _ _ _ before _ _ _ _ c.next_set.result c.loop.invariant.opening (c.loop.invariant.far before reaches) c.next_set.ensures _ _ (rw (c.in-Some.dsn-is, c.in-Some.wanted-is) at c.in-Some.is) (sym c.op_for.ensures ∙ w.in_default-op_for.is));
+          (day-passes _ _ _ _ before _ _ _ _ c.next_set.result c.loop.invariant.opening (c.loop.invariant.far before reaches) c.next_set.ensures _ c.in-Some.is (sym c.op_for.ensures ∙ w.in_default-op_for.is));
     }
 ]
