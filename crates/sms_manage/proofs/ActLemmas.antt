@@ -57,18 +57,18 @@ fresh-act old_floor s set Nothing op e after is asked found fresh = absurd cc
 fresh-act old_floor s set Delete op e after is asked found fresh = elim fresh.answer [
   | inl fault ↦ record { outcome = inl (rw fault.reply_is refl, fault.after_is); quiet = rw fault.reply_is refl }
   | inr rule ↦
-    let named : e.request.op ≡ ops.Delete set.dsn = asked ∙ sym (same-some (ops.Delete set.dsn) op is) in
-    let deletes : DeleteRule s set.dsn e.answer.reply after = rw named at rule in
-    let made : Makes (without_name s set.dsn) (replies.Deleted (tracks_of_set set)) e.answer.reply after = rw found at deletes in
-    record { outcome = inr (rw made.reply_is refl, made.after_is); quiet = rw made.reply_is refl }
+      let named : e.request.op ≡ ops.Delete set.dsn = asked ∙ sym (same-some (ops.Delete set.dsn) op is) in
+      let deletes : DeleteRule s set.dsn e.answer.reply after = rw named at rule in
+      let made : Makes (without_name s set.dsn) (replies.Deleted (tracks_of_set set)) e.answer.reply after = rw found at deletes in
+      record { outcome = inr (rw made.reply_is refl, made.after_is); quiet = rw made.reply_is refl }
 ]
 fresh-act old_floor s set Release op e after is asked found fresh = elim fresh.answer [
   | inl fault ↦ record { outcome = inl (rw fault.reply_is refl, fault.after_is); quiet = rw fault.reply_is refl }
   | inr rule ↦
-    let named : e.request.op ≡ ops.Release set.dsn = asked ∙ sym (same-some (ops.Release set.dsn) op is) in
-    let releases : ReleaseRule s set.dsn e.answer.reply after = rw named at rule in
-    let made = rw found at releases in
-    record { outcome = inr (rw made.reply_is refl, made.after_is); quiet = rw made.reply_is refl }
+      let named : e.request.op ≡ ops.Release set.dsn = asked ∙ sym (same-some (ops.Release set.dsn) op is) in
+      let releases : ReleaseRule s set.dsn e.answer.reply after = rw named at rule in
+      let made = rw found at releases in
+      record { outcome = inr (rw made.reply_is refl, made.after_is); quiet = rw made.reply_is refl }
 ]
 
 -- What is unused behind an entry.
@@ -94,8 +94,8 @@ other-row-at number n e false is same less =
 unused-push : (o : Opening) (h : List Entry) (number : ℕ) (e : Entry) → IsUnusedFrom o h number → e.request.number ≡ number → floor_told e.answer.reply ≡ [] → IsUnusedFrom o (h ++ e ∷ []) (number + 1)
 unused-push o h number e unused same quiet = record {
   floor =
-    let floors : all_floors o (h ++ e ∷ []) ≡ all_floors o h = all-floors-append o h (e ∷ []) ∙ ap (λ l. all_floors o h ++ (l ++ [])) quiet ∙ append-none (all_floors o h) in
-    ap (greatest_floor manager) floors ∙ unused.floor;
+      let floors : all_floors o (h ++ e ∷ []) ≡ all_floors o h = all-floors-append o h (e ∷ []) ∙ ap (λ l. all_floors o h ++ (l ++ [])) quiet ∙ append-none (all_floors o h) in
+      ap (greatest_floor manager) floors ∙ unused.floor;
   kept = λ n less.
       ap (find (is_reply_of manager n)) (all-rows-append o h (e ∷ []))
       ∙ find-none (is_reply_of manager n) (all_rows o h) (rows_of_entry e ++ []) (unused.kept n (omega (arith, less))) (other-row-at number n e _ refl same less);
@@ -166,19 +166,19 @@ pub step-acted : (o : Opening) (h h' : List Entry) (told told' : Option Rows) (c
     → Enters o h h' told told' count count' request answer → HasActed o h' number wanted s set answer.reply
 step-acted o h h' told told' count count' number wanted op s set request answer unused asked is found reaches enters = elim (cases_Bool (is_entered answer.reply)) [
   | inl entered ↦
-    let e : Entry = record { request = request; answer = answer } in
-    let next = enters.lawful entered in
-    let same : next.state ≡ s = leads-one o [] (start_of o) h next.state s next.reaches reaches in
-    let step : IsStep o h s e next.after = subst (λ t. IsStep o h t e next.after) same next.step in
-    let grown : h' ≡ h ++ e ∷ [] = rw entered at enters.journal_is in
-    rw grown (entered-act o h number wanted op s next.after set e unused (ap (λ (r : Request). r.job) asked) (ap (λ (r : Request). r.number) asked) (ap (λ (r : Request). r.op) asked) is found reaches step)
+      let e : Entry = record { request = request; answer = answer } in
+      let next = enters.lawful entered in
+      let same : next.state ≡ s = leads-one o [] (start_of o) h next.state s next.reaches reaches in
+      let step : IsStep o h s e next.after = subst (λ t. IsStep o h t e next.after) same next.step in
+      let grown : h' ≡ h ++ e ∷ [] = rw entered at enters.journal_is in
+      rw grown (entered-act o h number wanted op s next.after set e unused (ap (λ (r : Request). r.job) asked) (ap (λ (r : Request). r.number) asked) (ap (λ (r : Request). r.op) asked) is found reaches step)
   | inr isnt ↦
-    let grown : h' ≡ h ++ [] = rw isnt at enters.journal_is in
-    let quiet = without-entry answer.reply isnt in
-    rw (grown, append-nil h) (record {
-      after = s;
-      reaches = reaches;
-      acted = record { outcome = inl (quiet.0, refl); quiet = quiet.1 };
-      unused = unused-later o h number unused;
-    })
+      let grown : h' ≡ h ++ [] = rw isnt at enters.journal_is in
+      let quiet = without-entry answer.reply isnt in
+      rw (grown, append-nil h) (record {
+        after = s;
+        reaches = reaches;
+        acted = record { outcome = inl (quiet.0, refl); quiet = quiet.1 };
+        unused = unused-later o h number unused;
+      })
 ]

@@ -16,11 +16,11 @@ kept-twice keep e = grind arith
 left-twice : (keep : ℕ) (e : Extent) → keep - length_kept keep e ≡ keep - e.length
 left-twice keep e = elim (cases_Bool (nat_lt keep e.length)) [
   | inl less ↦
-    let least = kept-whole keep (record e { length = keep }) (omega arith) in
-    grind (arith, nat_tests, less, least)
+      let least = kept-whole keep (record e { length = keep }) (omega arith) in
+      grind (arith, nat_tests, less, least)
   | inr not ↦
-    let whole : length_kept keep e ≡ e.length = kept-whole keep e (grind (arith, nat_tests, not)) in
-    rw whole refl
+      let whole : length_kept keep e ≡ e.length = kept-whole keep e (grind (arith, nat_tests, not)) in
+      rw whole refl
 ]
 
 front-twice-at : (keep : ℕ) (e : Extent) (es : List Extent) (b : Bool) → nat_lt 0 keep ≡ b → front_tracks (keep - e.length) (front_tracks (keep - e.length) es) ≡ front_tracks (keep - e.length) es

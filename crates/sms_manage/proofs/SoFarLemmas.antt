@@ -64,9 +64,9 @@ module _ (o : Opening) (day : ℕ) (config : Configuration) (before : DeskState)
   place-of dsn isnt = elim (cases_Bool (is_behind last dsn)) [
     | inr early ↦ inl early
     | inl past ↦ inr (elim (which-at set.dsn dsn (R set.dsn dsn) refl isnt) [
-        | inl same ↦ inl same
-        | inr less ↦ inr (past, next.first dsn past less, before-apart set.dsn dsn less)
-      ])
+      | inl same ↦ inl same
+      | inr less ↦ inr (past, next.first dsn past less, before-apart set.dsn dsn less)
+    ])
   ]
 
   none-due : (dsn : List ℕ) → is_behind last dsn ≡ true → set_named dsn far.state.sets ≡ None → is_due_if config day (set_named dsn before.sets) ≡ false
@@ -91,10 +91,10 @@ module _ (o : Opening) (day : ℕ) (config : Configuration) (before : DeskState)
         each = λ dsn. elim (cases_Bool (is_behind (Some set.dsn) dsn)) [
           | inl past ↦ rw past (rw (passed dsn past) at (far.each dsn))
           | inr isnt ↦ rw isnt (elim (place-of dsn isnt) [
-              | inl early ↦ rw early at (far.each dsn)
-              | inr (inl same) ↦ rw (← same) (rw next.behind at (far.each set.dsn) ∙ sym none)
-              | inr (inr gone) ↦ rw gone.0 at (far.each dsn) ∙ sym (none-due dsn gone.0 gone.1)
-            ])
+            | inl early ↦ rw early at (far.each dsn)
+            | inr (inl same) ↦ rw (← same) (rw next.behind at (far.each set.dsn) ∙ sym none)
+            | inr (inr gone) ↦ rw gone.0 at (far.each dsn) ∙ sym (none-due dsn gone.0 gone.1)
+          ])
         ];
         names = λ dsn past. far.names dsn (passed dsn past);
         order = far.order;
@@ -124,17 +124,17 @@ module _ (o : Opening) (day : ℕ) (config : Configuration) (before : DeskState)
         state = acted.after;
         reaches = acted.reaches;
         journal =
-          asks.enters.journal_is ∙ ap (λ es. es ++ entry_for (Some op) act) far.journal ∙ append_assoc old (entries_of config day before.sets acts) (entry_for (Some op) act)
-          ∙ ap (λ es. old ++ es) (ap (λ es. entries_of config day before.sets acts ++ es) (sym one) ∙ sym (entries-push config day before.sets acts act));
+            asks.enters.journal_is ∙ ap (λ es. es ++ entry_for (Some op) act) far.journal ∙ append_assoc old (entries_of config day before.sets acts) (entry_for (Some op) act)
+            ∙ ap (λ es. old ++ es) (ap (λ es. entries_of config day before.sets acts ++ es) (sym one) ∙ sym (entries-push config day before.sets acts act));
         unused = rw (length-append acts (act ∷ [])) acted.unused;
         behind = λ dsn past. stays acted dsn (behind-apart set.dsn dsn past) ∙ far.behind dsn (passed dsn past);
         each = λ dsn. any-push (λ a. bytes_eq a.dsn dsn) acts act ∙ elim (cases_Bool (is_behind (Some set.dsn) dsn)) [
           | inl past ↦ rw (past, behind-apart set.dsn dsn past) (or-none _ ∙ rw (passed dsn past) at (far.each dsn))
           | inr isnt ↦ rw isnt (elim (place-of dsn isnt) [
-              | inl early ↦ rw (up-to dsn early) (or-none _ ∙ rw early at (far.each dsn))
-              | inr (inl same) ↦ rw (← same) (rw (same-name set.dsn, some) (or-all _))
-              | inr (inr gone) ↦ rw gone.2 (or-none _ ∙ rw gone.0 at (far.each dsn) ∙ sym (none-due dsn gone.0 gone.1))
-            ])
+            | inl early ↦ rw (up-to dsn early) (or-none _ ∙ rw early at (far.each dsn))
+            | inr (inl same) ↦ rw (← same) (rw (same-name set.dsn, some) (or-all _))
+            | inr (inr gone) ↦ rw gone.2 (or-none _ ∙ rw gone.0 at (far.each dsn) ∙ sym (none-due dsn gone.0 gone.1))
+          ])
         ];
         names = λ dsn past. rw (names-push acts act) (before-push (map (λ (a : Act). a.dsn) acts) set.dsn dsn (far.names dsn (passed dsn past)) past);
         order = rw (names-push acts act) (ascending-push (map (λ (a : Act). a.dsn) acts) set.dsn far.order (far.names set.dsn next.behind));
@@ -145,15 +145,15 @@ module _ (o : Opening) (day : ℕ) (config : Configuration) (before : DeskState)
           | inr (inr gone) ↦ stays acted dsn gone.2 ∙ far.behind dsn gone.0
         ];
         settled = λ all dsn isnt.
-          let both = all-push (λ a. was_done a.answer.reply) acts act all in
-          elim (place-of dsn isnt) [
-            | inl early ↦ rw (stays acted dsn (up-to dsn early)) (far.settled both.0 dsn early)
-            | inr (inl same) ↦ rw (← same) (elim acted.acted.outcome [
+            let both = all-push (λ a. was_done a.answer.reply) acts act all in
+            elim (place-of dsn isnt) [
+              | inl early ↦ rw (stays acted dsn (up-to dsn early)) (far.settled both.0 dsn early)
+              | inr (inl same) ↦ rw (← same) (elim acted.acted.outcome [
                 | inl left ↦ let bad : false ≡ true = sym left.0 ∙ both.1 in absurd cc
                 | inr did ↦ rw did.1 (settled-act config day far.state set wanted due next.stands)
               ])
-            | inr (inr gone) ↦ rw (stays acted dsn gone.2, gone.1) refl
-          ];
+              | inr (inr gone) ↦ rw (stays acted dsn gone.2, gone.1) refl
+            ];
       })
     where
       is-due : (wanted : Due) (op : Op) → op_for wanted set.dsn ≡ Some op → is_due wanted ≡ true
@@ -231,4 +231,4 @@ module _ (o o' : Opening) (day : ℕ) (config : Configuration) (before : DeskSta
     day-acts h' acts' op some asks =
         subst (λ d. IsDaySoFar o day config before old h' (Some d) acts') (sym due-next.name)
         (day-asks o day config before old h last acts far due-next.set due-next.first h' acts' pair.1 op (sym due-next.due) (subst (λ d. op_for pair.1 d ≡ Some op) due-next.name some)
-          (subst (λ d. Asks o h h' d op acts acts') due-next.name (subst (λ p. Asks p h h' pair.0 op acts acts') same asks)))
+        (subst (λ d. Asks o h h' d op acts acts') due-next.name (subst (λ p. Asks p h h' pair.0 op acts acts') same asks)))

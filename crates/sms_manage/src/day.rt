@@ -6,8 +6,8 @@ ghost use Rattle.sms_manage.specs.Managed.{IsManaged, IsUnused, WasManaged, op_f
 ghost use Rattle.sms_manage.specs.Walk.{Asks, IsNextDue};
 
 use crate::act::{Act, Acts};
-use crate::wanted::Due;
 use crate::expiry::due;
+use crate::wanted::Due;
 use acs_tree::Slate;
 use desk_common::{Items, Shared};
 use dsn_mask::{Dsn, Name};
@@ -126,7 +126,11 @@ fn act_on<P: Keeper>(
     };
     let request = Request { job, number, op };
     let answer = core.step(&request, Work::Nothing, slate);
-    acts.push_reserved(Act { number: number.get(), dsn, answer });
+    acts.push_reserved(Act {
+        number: number.get(),
+        dsn,
+        answer,
+    });
     Ok(())
 }
 
