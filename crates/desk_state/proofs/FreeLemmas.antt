@@ -1,5 +1,5 @@
 -- Whether a track is freed, extent by extent.
-use Rattle.std.proofs.Common.{◌≡◌, ◌≤◌, ◌<◌, ℕ, ◌+◌, ◌-◌, Bool, true, false, cond, List, [], ◌∷◌, refl, sym, ap, ◌∙◌, arith}
+use Rattle.std.proofs.Common.{◌≡◌, ◌≤◌, ◌<◌, ℕ, ◌+◌, ◌-◌, zero, suc, Bool, true, false, cond, List, [], ◌∷◌, length, drop, get_or, refl, sym, ap, subst, ◌∙◌, arith}
 use Rattle.std.specs.Prelude.{nat_lt}
 use Rattle.std.specs.Cmp.{both_ways}
 use Rattle.std.proofs.lemmas.Bool.Decides.{nat_tests}
@@ -57,3 +57,12 @@ frees-behind-at keep e es kept false some is whole =
 -- none of the first is freed, so it is as with the others
 pub frees-behind : (keep : ℕ) (e : Extent) (es : List Extent) (kept : ℕ) → kept ≡ cond (nat_lt 0 keep) (length_kept keep e) 0 → e.length ≤ kept → frees keep (e ∷ es) ≡ frees (keep - e.length) es
 frees-behind keep e es kept is whole = frees-behind-at keep e es kept _ refl is whole
+
+drop-cons : (es : List Extent) (i : ℕ) (e : Extent) → i < length es → e ≡ get_or es i e → drop i es ≡ e ∷ drop (suc i) es
+drop-cons [] i e less is = absurd (omega (arith, less))
+drop-cons (x ∷ es) zero e less is = ap (λ (y : Extent). y ∷ es) (sym is)
+drop-cons (x ∷ es) (suc i) e less is = drop-cons es i e (omega (arith, less)) is
+
+-- the extent at a place, and those behind it
+pub drop-one : (es : List Extent) (i : ℕ) (e : Extent) → i < length es → e ≡ get_or es i e → drop i es ≡ e ∷ drop (i + 1) es
+drop-one es i e less is = let same : suc i ≡ i + 1 = omega arith in subst (λ n. drop i es ≡ e ∷ drop n es) same (drop-cons es i e less is)

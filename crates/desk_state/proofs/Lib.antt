@@ -12,3 +12,4 @@ pub mod DecideLemmas
 pub mod WorkLemmas
 pub mod NextLemmas
 pub mod FreeLemmas
+pub mod SortedLemmas

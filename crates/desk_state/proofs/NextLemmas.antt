@@ -1,5 +1,5 @@
 -- The first row behind a key, and the data set of it.
-use Rattle.std.proofs.Common.{inl, inr, ◌≡◌, ℕ, Bool, true, false, List, [], ◌∷◌, Option, None, Some, Ordering, Less, Equal, Greater, is_lt, refl, sym, ap, ◌∙◌, slice_get, true≢false}
+use Rattle.std.proofs.Common.{inl, inr, ◌≡◌, ℕ, Bool, true, false, List, [], ◌∷◌, Option, None, Some, Ordering, Less, Equal, Greater, is_lt, refl, sym, ap, subst, ◌∙◌}
 use Rattle.std.proofs.lemmas.Bool.{cases_Bool}
 use Rattle.std.specs.Prelude.{option_map}
 use Rattle.std.specs.BTreeMap.{is_at}
@@ -23,7 +23,7 @@ less_is Less is = refl
 less_is Equal is = absurd cc
 less_is Greater is = absurd cc
 
-module _ {K V : Type 0} {R : K → K → Ordering} (total : IsTotalOrder R) where
+module _ {K : Type 0} {R : K → K → Ordering} (total : IsTotalOrder R) where
   turned : (x y : K) → R x y ≡ Less → R y x ≡ Greater
   turned x y is = total.antisymm y x ∙ ap ordering_reverse is
 
@@ -37,18 +37,18 @@ module _ {K V : Type 0} {R : K → K → Ordering} (total : IsTotalOrder R) wher
   all_behind k x [] less all = tt
   all_behind k x (y ∷ ks) less all = (total.trans k x y less all.0, all_behind k x ks less all.1)
 
-  none_above : (k : K) (es : List (K × V)) → AllByRecursion (λ (y : K). R k y ≡ Less) (keys_of es) → lookup (is_at (R k)) es ≡ None
+  none_above : {V : Type 0} (k : K) (es : List (K × V)) → AllByRecursion (λ (y : K). R k y ≡ Less) (keys_of es) → lookup (is_at (R k)) es ≡ None
   none_above k [] all = refl
   none_above k (e ∷ es) all = rw all.0 (none_above k es all.1)
 
-  first_found : (e : K × V) (es : List (K × V)) → lookup (is_at (R e.0)) (e ∷ es) ≡ Some e.1
+  first_found : {V : Type 0} (e : K × V) (es : List (K × V)) → lookup (is_at (R e.0)) (e ∷ es) ≡ Some e.1
   first_found e es = rw (tied_itself total e.0) refl
 
-  none_before : (key : K) (e : K × V) (es : List (K × V)) → AreRows R (e ∷ es) → R key e.0 ≡ Less → lookup (is_at (R key)) (e ∷ es) ≡ None
+  none_before : {V : Type 0} (key : K) (e : K × V) (es : List (K × V)) → AreRows R (e ∷ es) → R key e.0 ≡ Less → lookup (is_at (R key)) (e ∷ es) ≡ None
   unfolding IsStrictlySortedBy
   none_before key e es sorted less = none_above key (e ∷ es) (less, all_behind key e.0 (keys_of es) less sorted.0)
 
-  none_after : (from key : K) (es : List (K × V)) → row_after R from es ≡ None → R from key ≡ Less → lookup (is_at (R key)) es ≡ None
+  none_after : {V : Type 0} (from key : K) (es : List (K × V)) → row_after R from es ≡ None → R from key ≡ Less → lookup (is_at (R key)) es ≡ None
   none_after from key [] none less = refl
   none_after from key (e ∷ es) none less = elim (cases_Bool (is_lt (R from e.0))) [
     | inl is ↦ let no : Some e ≡ None = rw is at none in absurd cc
@@ -56,19 +56,19 @@ module _ {K V : Type 0} {R : K → K → Ordering} (total : IsTotalOrder R) wher
   ]
 
   -- the row is behind the key and found at its own, and nothing is found between the two
-  record IsRowBehind (from : K) (es : List (K × V)) (row : K × V) : Type 0 where
+  record IsRowBehind {V : Type 0} (from : K) (es : List (K × V)) (row : K × V) : Type 0 where
     behind : R from row.0 ≡ Less
     stands : lookup (is_at (R row.0)) es ≡ Some row.1
     between : (key : K) → R from key ≡ Less → R key row.0 ≡ Less → lookup (is_at (R key)) es ≡ None
 
-  row_behind : (from : K) (es : List (K × V)) (row : K × V) → AreRows R es → row_after R from es ≡ Some row → IsRowBehind from es row
+  row_behind : {V : Type 0} (from : K) (es : List (K × V)) (row : K × V) → AreRows R es → row_after R from es ≡ Some row → IsRowBehind from es row
   unfolding IsStrictlySortedBy
   row_behind from [] row sorted is = absurd cc
   row_behind from (e ∷ es) row sorted is = elim (cases_Bool (is_lt (R from e.0))) [
     | inl here ↦
       let found : Some e ≡ Some row = rw here at is in
       let same : e ≡ row = cc in
-      rw (← same) (record { behind = less_is (R from e.0) here; stands = first_found e es; between = λ key one two. none_before key e es sorted two })
+      subst (IsRowBehind from (e ∷ es)) same (record { behind = less_is (R from e.0) here; stands = first_found e es; between = λ key one two. none_before key e es sorted two })
     | inr not ↦
       let found : row_after R from es ≡ Some row = rw not at is in
       let rest = row_behind from es row sorted.1 found in
@@ -89,10 +89,11 @@ next-found None (e ∷ es) sets (Some row) is sorted same =
     let first : e ≡ row = cc in
     let stands : set_named e.0 sets ≡ Some e.1 = sym (same e.0) ∙ sym (lookup-text e.0 (e ∷ es)) ∙ first_found nat_list_cmp_total e es in
     let name : e.1.dsn ≡ e.0 = name-is e.0 sets e.1 stands in
-    rw (← first) (record {
+    subst (λ (r : List ℕ × DataSet). IsFirstBehind None sets r.1) first (record {
       behind = refl;
-      stands = rw name stands;
-      first = λ dsn any before. sym (same dsn) ∙ sym (lookup-text dsn (e ∷ es)) ∙ none_before nat_list_cmp_total dsn e es sorted (less_is (slice_cmp nat_cmp dsn e.0) (rw name at before));
+      stands = subst (λ n. set_named n sets ≡ Some e.1) (sym name) stands;
+      first = λ dsn any before. sym (same dsn) ∙ sym (lookup-text dsn (e ∷ es))
+          ∙ none_before nat_list_cmp_total dsn e es sorted (less_is (slice_cmp nat_cmp dsn e.0) (subst (λ n. is_lt (slice_cmp nat_cmp dsn n) ≡ true) name before));
     })
 next-found (Some from) rows sets None is sorted same = λ dsn behind.
     sym (same dsn) ∙ sym (lookup-text dsn rows) ∙ none_after nat_list_cmp_total from dsn rows is (less_is (slice_cmp nat_cmp from dsn) behind)
@@ -101,10 +102,10 @@ next-found (Some from) rows sets (Some row) is sorted same =
     let stands : set_named row.0 sets ≡ Some row.1 = sym (same row.0) ∙ sym (lookup-text row.0 rows) ∙ found.stands in
     let name : row.1.dsn ≡ row.0 = name-is row.0 sets row.1 stands in
     record {
-      behind = rw (name, found.behind) refl;
-      stands = rw name stands;
+      behind = subst (λ n. is_lt (slice_cmp nat_cmp from n) ≡ true) (sym name) (ap is_lt found.behind);
+      stands = subst (λ n. set_named n sets ≡ Some row.1) (sym name) stands;
       first = λ dsn behind before. sym (same dsn) ∙ sym (lookup-text dsn rows)
-          ∙ found.between dsn (less_is (slice_cmp nat_cmp from dsn) behind) (less_is (slice_cmp nat_cmp dsn row.0) (rw name at before));
+          ∙ found.between dsn (less_is (slice_cmp nat_cmp from dsn) behind) (less_is (slice_cmp nat_cmp dsn row.0) (subst (λ n. is_lt (slice_cmp nat_cmp dsn n) ≡ true) name before));
     }
 
 pub next-set : (from : Option (List ℕ)) (rows : List (List ℕ × DataSet)) (sets : List DataSet) → IsCatalog rows → ((dsn : List ℕ) → set_in dsn rows ≡ set_named dsn sets) → IsNextSet from sets (next_in from rows)

@@ -45,7 +45,7 @@ impl Catalog {
 
     /// The first data set behind a name, or the first of all.
     pub fn next(&self, dsn: Option<&Dsn>) -> Option<&Shared<DataSet>>
-        ensures next { option_copied result ≡ next_in (option_copied dsn) self.now.sets }
+        ensures next { option_copied result ≡ next_in (option_copied dsn.entry) self.now.sets }
         ensures sorted { IsCatalog self.now.sets }
     {
         let row = match dsn {

@@ -160,7 +160,7 @@ impl<P: Keeper> Core<P> {
 
     /// The first catalogued data set behind this name in the order of bytes; without a name, the first of all.
     pub fn set_after(&self, dsn: Option<&Dsn>) -> Option<&DataSet>
-        ensures { (s : DeskState) → Reaches self.now.opening self.now.journal s → IsNextSet (option_copied dsn) s.sets (option_copied result) }
+        ensures { (s : DeskState) → Reaches self.now.opening self.now.journal s → IsNextSet (option_copied dsn.entry) s.sets (option_copied result) }
     {
         match self.running.catalog.next(dsn) {
             Some(set) => Some(set.get()),
