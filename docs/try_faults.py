@@ -3,8 +3,8 @@
 
 usage: docs/try_faults.py PATH/smsctl [LARGE_SCRIPT]
 
-- Memory limits from 3 MB up: each run ends with status 7 and writes nothing, or with 0 and writes the whole text, in which requests
-  may be answered M31.
+- Memory limits from 3 MB up: each run ends with status 7 and writes nothing, or with 0 and writes the whole text; a text
+  with M31 in it, where requests were answered so, isn't compared.
 - A closed pipe and a full disk as standard output: status 4. A folder as standard input: status 3.
 - The script cut after each of its bytes: status 0 or 5.
 - Each list of words one word too long, too short, and with each letter changed: status 2, or 0 where it is a list.
