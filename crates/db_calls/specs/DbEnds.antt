@@ -26,7 +26,7 @@ pub record WasReadied (old new : Observed) (before after : Keeping) (status : Ru
   pub mid : Keeping
   pub tables : Stays before.told mid.told
   pub count : mid.count ≡ before.count
-  pub ends : RunEnds false old new mid after status
+  pub ends : RunEnds false 1 old new mid after status
   -- where nothing was run, the keeper is as it was made ready
   pub unrun : leaves_keeper status ≡ true → after ≡ mid
 

@@ -1,2 +1,3 @@
 mod HistoryLemmas
 mod RunLemmas
+pub mod OrderLemmas

@@ -10,25 +10,26 @@ use Rattle.desk_law.specs.Kept.{is_entered}
 use Rattle.sms_core.specs.Core.{Enters, entry_of}
 use Rattle.sms_script.specs.declared.item.Item.{Item}
 use Rattle.sms_script.specs.Script.{items_of}
-use Rattle.desk_calls.specs.Run.{entries_of, AnswersFront, AnswersInOrder, AreDue, IsDue}
+use Rattle.desk_workers.specs.Phases.{entries_for}
+use Rattle.desk_calls.specs.Run.{AnswersFront, AnswersInOrder, AreDue, IsDue}
 
 -- Answers that are due.
 
 due-push : (h : List Entry) (answers : List Answer) (items : List Item) (answer : Answer) (d : Item) → length answers < length items
-    → AreDue h answers items → IsDue (h ++ entries_of answers items) (get_or items (length answers) d).request answer → AreDue h (answers ++ answer ∷ []) items
+    → AreDue h answers items → IsDue (h ++ entries_for answers items) (get_or items (length answers) d).request answer → AreDue h (answers ++ answer ∷ []) items
 due-push h answers [] answer d less due one = absurd (omega arith)
 due-push h [] (i ∷ items) answer d less due one = (subst (λ es. IsDue es i.request answer) (append-nil h) one, tt)
 due-push h (a ∷ answers) (i ∷ items) answer d less due one =
-    let behind = sym (append_assoc h (entry_of i.request a) (entries_of answers items)) in
+    let behind = sym (append_assoc h (entry_of i.request a) (entries_for answers items)) in
     (due.0, due-push (h ++ entry_of i.request a) answers items answer d (omega arith) due.1 (subst (λ es. IsDue es (get_or items (length answers) d).request answer) behind one))
 
-due-append : (h : List Entry) (xs ys : List Answer) (items more : List Item) → length xs ≡ length items → AreDue h xs items → AreDue (h ++ entries_of xs items) ys more
+due-append : (h : List Entry) (xs ys : List Answer) (items more : List Item) → length xs ≡ length items → AreDue h xs items → AreDue (h ++ entries_for xs items) ys more
     → AreDue h (xs ++ ys) (items ++ more)
 due-append h [] ys [] more each due next = subst (λ es. AreDue es ys more) (append-nil h) next
 due-append h [] ys (i ∷ items) more each due next = absurd (omega arith)
 due-append h (x ∷ xs) ys [] more each due next = absurd (omega arith)
 due-append h (x ∷ xs) ys (i ∷ items) more each due next =
-    let behind = sym (append_assoc h (entry_of i.request x) (entries_of xs items)) in
+    let behind = sym (append_assoc h (entry_of i.request x) (entries_for xs items)) in
     (due.0, due-append (h ++ entry_of i.request x) xs ys items more (omega arith) due.1 (subst (λ es. AreDue es ys more) behind next))
 
 no-place : (o : Opening) (old new : List Entry) (told told' : Option Rows) (count count' : ℕ) (request : Request) (answer : Answer) (b : Bool)
@@ -48,29 +49,29 @@ step-due o old new told told' count count' request answer enters = record {
 -- Entries.
 
 -- the next item's answer adds its entry
-entries_of-push : (answers : List Answer) (items : List Item) (answer : Answer) (d : Item) → length answers < length items
-    → entries_of (answers ++ answer ∷ []) items ≡ entries_of answers items ++ entry_of (get_or items (length answers) d).request answer
-entries_of-push answers [] answer d less = absurd (omega arith)
-entries_of-push [] (item ∷ items) answer d less = append-nil (entry_of item.request answer)
-entries_of-push (a ∷ answers) (item ∷ items) answer d less =
-    ap (λ es. entry_of item.request a ++ es) (entries_of-push answers items answer d (omega arith)) ∙ sym (append_assoc (entry_of item.request a) _ _)
+entries_for-push : (answers : List Answer) (items : List Item) (answer : Answer) (d : Item) → length answers < length items
+    → entries_for (answers ++ answer ∷ []) items ≡ entries_for answers items ++ entry_of (get_or items (length answers) d).request answer
+entries_for-push answers [] answer d less = absurd (omega arith)
+entries_for-push [] (item ∷ items) answer d less = append-nil (entry_of item.request answer)
+entries_for-push (a ∷ answers) (item ∷ items) answer d less =
+    ap (λ es. entry_of item.request a ++ es) (entries_for-push answers items answer d (omega arith)) ∙ sym (append_assoc (entry_of item.request a) _ _)
 
 -- the core entered the next item's answer
 entered-push : (answers : List Answer) (items : List Item) (answer : Answer) (item : Item) (first before after : List Entry) → length answers < length items
-    → item ≡ get_or items (length answers) item → before ≡ first ++ entries_of answers items → after ≡ before ++ entry_of item.request answer
-    → after ≡ first ++ entries_of (answers ++ answer ∷ []) items
+    → item ≡ get_or items (length answers) item → before ≡ first ++ entries_for answers items → after ≡ before ++ entry_of item.request answer
+    → after ≡ first ++ entries_for (answers ++ answer ∷ []) items
 entered-push answers items answer item first before after less here once next =
-    let more : entries_of (answers ++ answer ∷ []) items ≡ entries_of answers items ++ entry_of item.request answer =
-    entries_of-push answers items answer item less ∙ ap (λ (i : Item). entries_of answers items ++ entry_of i.request answer) (sym here) in
+    let more : entries_for (answers ++ answer ∷ []) items ≡ entries_for answers items ++ entry_of item.request answer =
+    entries_for-push answers items answer item less ∙ ap (λ (i : Item). entries_for answers items ++ entry_of i.request answer) (sym here) in
     next ∙ ap (λ es. es ++ entry_of item.request answer) once ∙ append_assoc first _ _ ∙ ap (λ es. first ++ es) (sym more)
 
 -- the answers of more items join
-entries_of-append : (xs ys : List Answer) (items more : List Item) → length xs ≡ length items → entries_of (xs ++ ys) (items ++ more) ≡ entries_of xs items ++ entries_of ys more
-entries_of-append [] ys [] more each = refl
-entries_of-append [] ys (i ∷ items) more each = absurd (omega arith)
-entries_of-append (x ∷ xs) ys [] more each = absurd (omega arith)
-entries_of-append (x ∷ xs) ys (i ∷ items) more each =
-    ap (λ es. entry_of i.request x ++ es) (entries_of-append xs ys items more (omega arith)) ∙ sym (append_assoc (entry_of i.request x) _ _)
+pub entries_for-append : (xs ys : List Answer) (items more : List Item) → length xs ≡ length items → entries_for (xs ++ ys) (items ++ more) ≡ entries_for xs items ++ entries_for ys more
+entries_for-append [] ys [] more each = refl
+entries_for-append [] ys (i ∷ items) more each = absurd (omega arith)
+entries_for-append (x ∷ xs) ys [] more each = absurd (omega arith)
+entries_for-append (x ∷ xs) ys (i ∷ items) more each =
+    ap (λ es. entry_of i.request x ++ es) (entries_for-append xs ys items more (omega arith)) ∙ sym (append_assoc (entry_of i.request x) _ _)
 
 -- Items of a phase.
 
@@ -110,8 +111,8 @@ pub phase-answered : (items more : List Item) (before after : List Answer) (old 
     → AnswersInOrder (items ++ more) after old new
 phase-answered items more before after old mid new done next = rw next.behind (record {
   each = omega (arith, length-append before next.answers, length-append items more, done.each, next.counted);
-  once = next.once ∙ ap (λ es. es ++ entries_of next.answers more) done.once ∙ append_assoc old _ _
-      ∙ ap (λ es. old ++ es) (sym (entries_of-append before next.answers items more done.each));
+  once = next.once ∙ ap (λ es. es ++ entries_for next.answers more) done.once ∙ append_assoc old _ _
+      ∙ ap (λ es. old ++ es) (sym (entries_for-append before next.answers items more done.each));
   due = due-append old before next.answers items more done.each done.due (subst (λ es. AreDue es next.answers more) done.once next.due);
 })
 

@@ -27,6 +27,7 @@ use Rattle.track_ledger.specs.Gaps.{times_held}
 use Rattle.sms_report.specs.VolumesTable.{table_text}
 use Rattle.desk_generator.specs.Generated.{generated}
 use Rattle.desk_generator.specs.Summary.{summary_of}
+use Rattle.desk_workers.specs.Phases.{AreAnswered, IsFrontAnswered}
 use Rattle.desk_calls.specs.Run.{AnswersInOrder}
 
 -- the tables of a keeper, where it tells them, and its count of faults
@@ -65,16 +66,23 @@ pub record IsLawfulHistory (history : List Entry) : Type 0 where
       → times_held (pieces_on volser set.extents) track + times_held (pieces_on volser other.extents) track ≤ 1
   pub kept : KeepsReplies history
 
--- the items were answered on a new desk over a keeper, which was one thing before and is another after
-pub record WasRun (before after : Keeping) (phases : List (List Item)) (answers : List Answer) (history : List Entry) : Type 0 where
-  -- one history, each request once: each item has its answer, and the entries of the answers make the history in script order; the
-  -- items without a place are those answered M31 or R24, and R24 comes exactly where the history before the item has no place for the op
-  pub once : AnswersInOrder (items_of phases) answers [] history
+-- a legal history of a new desk over a keeper, which was one thing before and is another after it
+pub record IsRecorded (before after : Keeping) (history : List Entry) : Type 0 where
   pub lawful : IsLawfulHistory history
   -- the keeper counted each of its faults in the history, up to the greatest number that its count can be
   pub faults : min (before.count + faults_in history) (2 ^ 64 - 1) ≤ after.count
   -- the tables of the keeper are those of the history, where it tells them
   pub tables : HasTables empty_opening history after.told
+
+-- the items were answered by so many workers on a new desk over a keeper, which was one thing before and is another after
+pub record WasRun (workers : ℕ) (before after : Keeping) (phases : List (List Item)) (answers : List Answer) (history : List Entry) : Type 0 where
+  -- one history, each request once: each item has its answer, and the entries of the answers make the history, those of a phase behind
+  -- those of the phases before it, and in each phase those of each job in script order; the items without a place are those answered M31
+  -- or R24, and R24 comes only where the history has no place for the op
+  pub once : AreAnswered phases answers [] history
+  -- by one worker all entries stand in script order, and R24 comes exactly where the history before the item has no place for the op
+  pub in_order : workers ≡ 1 → AnswersInOrder (items_of phases) answers [] history
+  pub recorded : IsRecorded before after history
 
 -- the rows are those of the volumes of the active configuration as the history left them, in its order; none where nothing is active
 abbrev pub AreRows : List Entry → List VolRow → Type 0
@@ -91,8 +99,8 @@ abbrev pub Prints : Bool → List (List Item) → List Answer → List Entry →
 Prints false phases answers history text = text ≡ text_of phases answers (length history)
 Prints true phases answers history text = HasTable phases answers history text
 
--- the text is that of the answers to the script in these bytes, and they are those of one legal history
-pub record IsAnswered (volumes : Bool) (before after : Keeping) (bytes text : List ℕ) : Type 0 where
+-- the text is that of the answers to the script in these bytes by so many workers, and they are those of one legal history
+pub record IsAnswered (volumes : Bool) (workers : ℕ) (before after : Keeping) (bytes text : List ℕ) : Type 0 where
   pub phases : List (List Item)
   pub answers : List Answer
   pub history : List Entry
@@ -100,19 +108,32 @@ pub record IsAnswered (volumes : Bool) (before after : Keeping) (bytes text : Li
   pub script : script_of bytes ≡ Ok phases
   -- whole output
   pub printed : Prints volumes phases answers history text
-  pub run : WasRun before after phases answers history
+  pub run : WasRun workers before after phases answers history
 
 -- the script in these bytes was run
-pub record WasScriptRun (before after : Keeping) (bytes : List ℕ) : Type 0 where
+pub record WasScriptRun (workers : ℕ) (before after : Keeping) (bytes : List ℕ) : Type 0 where
   pub phases : List (List Item)
   pub answers : List Answer
   pub history : List Entry
   pub script : script_of bytes ≡ Ok phases
-  pub run : WasRun before after phases answers history
+  pub run : WasRun workers before after phases answers history
 
--- where memory was wanting, the keeper is as it was, or the whole script in these bytes was run
-abbrev pub IsLeft : Keeping → Keeping → List ℕ → Type 0
-IsLeft before after bytes = (after ≡ before) ⊎ WasScriptRun before after bytes
+-- by several workers, only some of the first phases of the script in these bytes were run, each of them whole
+pub record WasFrontRun (workers : ℕ) (before after : Keeping) (bytes : List ℕ) : Type 0 where
+  pub several : 2 ≤ workers
+  pub phases : List (List Item)
+  pub history : List Entry
+  pub script : script_of bytes ≡ Ok phases
+  pub front : IsFrontAnswered phases [] history
+  pub recorded : IsRecorded before after history
+
+-- the whole script in these bytes was run, or, by several workers, only some of its first phases
+abbrev pub WasBegun : ℕ → Keeping → Keeping → List ℕ → Type 0
+WasBegun workers before after bytes = WasScriptRun workers before after bytes ⊎ WasFrontRun workers before after bytes
+
+-- where memory was wanting, the keeper is as it was, or the script in these bytes was begun
+abbrev pub IsLeft : ℕ → Keeping → Keeping → List ℕ → Type 0
+IsLeft workers before after bytes = (after ≡ before) ⊎ WasBegun workers before after bytes
 
 -- the text is the summary of the answers to a generated script, with the volumes and the number of entries that the history left
 pub record SumsUp (seed count : ℕ) (answers : List Answer) (history : List Entry) (text : List ℕ) : Type 0 where
@@ -125,13 +146,13 @@ pub record IsSummed (seed count : ℕ) (before after : Keeping) (text : List ℕ
   pub answers : List Answer
   pub history : List Entry
   pub printed : SumsUp seed count answers history text
-  pub run : WasRun before after (generated seed count) answers history
+  pub run : WasRun 1 before after (generated seed count) answers history
 
 -- the generated script was run
 pub record WasLoadRun (seed count : ℕ) (before after : Keeping) : Type 0 where
   pub answers : List Answer
   pub history : List Entry
-  pub run : WasRun before after (generated seed count) answers history
+  pub run : WasRun 1 before after (generated seed count) answers history
 
 -- where memory was wanting, the keeper is as it was, or the whole generated script was run
 abbrev pub IsLoadLeft : ℕ → ℕ → Keeping → Keeping → Type 0

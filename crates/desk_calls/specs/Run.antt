@@ -8,12 +8,7 @@ use Rattle.desk_law.specs.Kept.{is_entered}
 use Rattle.desk_records.specs.Full.{is_full_for}
 use Rattle.sms_core.specs.Core.{entry_of}
 use Rattle.sms_script.specs.declared.item.Item.{Item}
-
--- the entries of the items whose answers make an entry, each once and in script order
-abbrev pub entries_of : List Answer → List Item → List Entry
-entries_of [] items = []
-entries_of (answer ∷ answers) [] = []
-entries_of (answer ∷ answers) (item ∷ items) = entry_of item.request answer ++ entries_of answers items
+use Rattle.desk_workers.specs.Phases.{entries_for}
 
 -- behind these entries the answer has no place exactly where its reply comes without an entry, then with the first place 0 too, and R24 comes exactly where the journal has no place for the op
 pub record IsDue (h : List Entry) (request : Request) (answer : Answer) : Type 0 where
@@ -30,7 +25,7 @@ AreDue h (answer ∷ answers) (item ∷ items) = IsDue h item.request answer × 
 -- each item has its answer, and the journal grew by their entries, each once and in script order
 pub record AnswersInOrder (items : List Item) (answers : List Answer) (old new : List Entry) : Type 0 where
   pub each : length answers ≡ length items
-  pub once : new ≡ old ++ entries_of answers items
+  pub once : new ≡ old ++ entries_for answers items
   pub due : AreDue old answers items
 
 -- so many of the items have their answers, behind those before them
@@ -38,5 +33,5 @@ pub record AnswersFront (items : List Item) (count : ℕ) (before after : List A
   pub answers : List Answer
   pub behind : after ≡ before ++ answers
   pub counted : length answers ≡ count
-  pub once : new ≡ old ++ entries_of answers items
+  pub once : new ≡ old ++ entries_for answers items
   pub due : AreDue old answers items

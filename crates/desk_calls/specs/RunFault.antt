@@ -8,7 +8,7 @@ use Rattle.sms_script.specs.declared.script_err.ScriptErr.{ScriptErr}
 use Rattle.sms_script.specs.Script.{script_of}
 use Rattle.desk_words.specs.declared.task.Task.{Task}
 use Rattle.desk_words.specs.declared.task.Task.TheVariants as tasks
-use Rattle.desk_calls.specs.Headline.{IsAnswered, IsLoadLeft, IsSummed, Keeping, WasScriptRun}
+use Rattle.desk_calls.specs.Headline.{IsAnswered, IsLoadLeft, IsSummed, Keeping, WasBegun}
 use Rattle.desk_calls.specs.declared.status.RunStatus.{RunStatus}
 use Rattle.desk_calls.specs.declared.status.RunStatus.TheVariants.{Done, BadWords, ReadFault, WriteFault, Script, TooLong, NoMemory}
 
@@ -23,16 +23,16 @@ pub record IsFaulty (old new : Observed) (err : ScriptErr) : Type 0 where
   pub fault : script_of bytes ≡ Err err
   pub unwritten : IsUnwritten old new
 
--- the script that was read was run
-pub record WasReadAndRun (old new : Observed) (before after : Keeping) : Type 0 where
+-- the script that was read was begun by so many workers
+pub record WasReadAndBegun (workers : ℕ) (old new : Observed) (before after : Keeping) : Type 0 where
   pub bytes : List ℕ
   pub read : WasRead most_bytes old new bytes
-  pub run : WasScriptRun before after bytes
+  pub begun : WasBegun workers before after bytes
 
--- memory was wanting; the keeper is as it was, or the whole script was run
-pub record IsWanting (old new : Observed) (before after : Keeping) : Type 0 where
+-- memory was wanting; the keeper is as it was, or the script was begun
+pub record IsWanting (workers : ℕ) (old new : Observed) (before after : Keeping) : Type 0 where
   pub wanting : IsOutOfMemory most_bytes old new
-  pub kept : (after ≡ before) ⊎ WasReadAndRun old new before after
+  pub kept : (after ≡ before) ⊎ WasReadAndBegun workers old new before after
 
 -- the statuses with which nothing is written
 abbrev pub leaves_sink : RunStatus → Bool
@@ -55,14 +55,14 @@ leaves_keeper TooLong = true
 leaves_keeper NoMemory = false
 
 -- what each status of a run says of what was observed before and after, and of the keeper
-abbrev pub RunEnds : Bool → Observed → Observed → Keeping → Keeping → RunStatus → Type 0
-RunEnds volumes old new before after Done = WasAnswered most_bytes (IsAnswered volumes before after) old new
-RunEnds volumes old new before after BadWords = ⊥
-RunEnds volumes old new before after ReadFault = HasReadFault most_bytes old new
-RunEnds volumes old new before after WriteFault = HasWriteFault most_bytes (IsAnswered volumes before after) old new
-RunEnds volumes old new before after (Script err) = IsFaulty old new err
-RunEnds volumes old new before after TooLong = IsTooLong most_bytes old new
-RunEnds volumes old new before after NoMemory = IsWanting old new before after
+abbrev pub RunEnds : Bool → ℕ → Observed → Observed → Keeping → Keeping → RunStatus → Type 0
+RunEnds volumes workers old new before after Done = WasAnswered most_bytes (IsAnswered volumes workers before after) old new
+RunEnds volumes workers old new before after BadWords = ⊥
+RunEnds volumes workers old new before after ReadFault = HasReadFault most_bytes old new
+RunEnds volumes workers old new before after WriteFault = HasWriteFault most_bytes (IsAnswered volumes workers before after) old new
+RunEnds volumes workers old new before after (Script err) = IsFaulty old new err
+RunEnds volumes workers old new before after TooLong = IsTooLong most_bytes old new
+RunEnds volumes workers old new before after NoMemory = IsWanting workers old new before after
 
 -- the sink took the whole summary
 pub record WasSummed (seed count : ℕ) (old new : Observed) (before after : Keeping) : Type 0 where
@@ -92,5 +92,5 @@ LoadEnds seed count old new before after NoMemory = IsLoadLeft seed count before
 
 -- what each status of a task says
 abbrev pub Ends : Task → Observed → Observed → Keeping → Keeping → RunStatus → Type 0
-Ends (tasks.Run volumes) old new before after status = RunEnds volumes old new before after status
+Ends (tasks.Run volumes workers) old new before after status = RunEnds volumes workers old new before after status
 Ends (tasks.Generate seed count) old new before after status = LoadEnds seed count old new before after status

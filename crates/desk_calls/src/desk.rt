@@ -8,28 +8,34 @@ ghost use Rattle.desk_words.specs.declared.task.Task.TheVariants.{Generate};
 ghost use Rattle.desk_calls.specs.Headline.{Keeping};
 ghost use Rattle.desk_calls.specs.RunFault.{Ends, LoadEnds, RunEnds, leaves_keeper, leaves_sink};
 
-use crate::answering::answer_text;
+use crate::answering::{answer_text, shared_text};
 use crate::load::load_text;
 use crate::status::RunStatus;
 use desk_words::{Task, task_asked};
 use sms_base::{ReadEnd, Sink, Source, read_all, write_all};
+use sms_desk::Gate;
 use sms_keeper::Keeper;
 use sms_script::ScriptErr;
 use std::alloc::Global;
+use std::sync::Wait;
+use std::thread::Threads;
 
 /// The longest script, in bytes.
 pub const MAX_SCRIPT: usize = 16_777_216;
 
 /// Does what the words of the command line ask, on an empty desk over a keeper of empty tables, which it hands back:
-/// reads a script from the source to its end, answers it and writes the text of the answers to the sink, with the
-/// table of volumes behind it where that is asked for; or answers a generated script, with the source untouched, and
-/// writes the summary of the answers (docs/script.md, "The program"; docs/generator.md).
-pub fn desk_main<S: Source, K: Sink, P: Keeper>(
+/// reads a script from the source to its end, answers it by as many workers as are asked for and writes the text of
+/// the answers to the sink, with the table of volumes behind it where that is asked for; or answers a generated script,
+/// with the source untouched, and writes the summary of the answers (docs/script.md, "The program"; docs/generator.md).
+/// The gate is called by several workers alone (docs/workers.md, "Submitting").
+pub fn desk_main<S: Source, K: Sink, P: Keeper + Send, R: Threads + Wait + Sync, G: Gate + Sync>(
     alloc: Global,
+    rt: &R,
     words: &[String],
     src: &mut S,
     out: &mut K,
     keeper: P,
+    gate: &G,
 ) -> (RunStatus, P)
     requires tables { IfSome (P.told keeper) (λ rows. AreSame rows no_rows) }
     ensures words { result.0 ≡ RunStatus.BadWords ↔ (task_in (map string_bytes words.now) ≡ None) }
@@ -45,13 +51,18 @@ pub fn desk_main<S: Source, K: Sink, P: Keeper>(
 {
     match task_asked(words) {
         None => (RunStatus::BadWords, keeper),
-        Some(Task::Run { volumes }) => run_source(alloc, volumes, src, out, keeper),
+        Some(Task::Run { volumes, workers }) if workers == 1 => {
+            run_source(alloc, volumes, src, out, keeper)
+        }
+        Some(Task::Run { volumes, workers }) => {
+            run_shared(alloc, rt, volumes, workers, src, out, keeper, gate)
+        }
         Some(Task::Generate { seed, count }) => load(alloc, seed, count, src, out, keeper),
     }
 }
 
-/// Answers the script of the source on an empty desk over a keeper of empty tables, which it hands back, and writes
-/// the text of the answers to the sink; with `volumes` the table of volumes stands behind it.
+/// Reads a script from the source to its end, answers it by one worker on an empty desk over the keeper, and writes the
+/// text of the answers to the sink; with `volumes` the table of volumes stands behind it.
 pub fn run_source<S: Source, K: Sink, P: Keeper>(
     alloc: Global,
     volumes: bool,
@@ -63,7 +74,7 @@ pub fn run_source<S: Source, K: Sink, P: Keeper>(
     ensures words { result.0 ≡ RunStatus.BadWords → ⊥ }
     ensures unwritten { leaves_sink result.0 ≡ true → out.new ≡ out.old }
     ensures unrun { leaves_keeper result.0 ≡ true → result.1 ≡ keeper }
-    ensures ends { RunEnds volumes
+    ensures ends { RunEnds volumes 1
         (record { left = S.left src.old; reads = S.reads src.old; read_faults = S.read_faults src.old; taken = K.taken out.old; write_faults = K.write_faults out.old })
         (record { left = S.left src.new; reads = S.reads src.new; read_faults = S.read_faults src.new; taken = K.taken out.new; write_faults = K.write_faults out.new })
         (record { told = P.told keeper; count = P.count keeper }) (record { told = P.told result.1; count = P.count result.1 })
@@ -76,6 +87,46 @@ pub fn run_source<S: Source, K: Sink, P: Keeper>(
         Err(ReadEnd::NoMemory) => return (RunStatus::NoMemory, keeper),
     };
     let (text, keeper) = answer_text(alloc, &bytes, volumes, keeper);
+    let text = match text {
+        Ok(text) => text,
+        Err(ScriptErr::NoMemory) => return (RunStatus::NoMemory, keeper),
+        Err(fault) => return (RunStatus::Script(fault), keeper),
+    };
+    match write_all(out, &text) {
+        Ok(()) => (RunStatus::Done, keeper),
+        Err(_) => (RunStatus::WriteFault, keeper),
+    }
+}
+
+// The same by several workers.
+fn run_shared<S: Source, K: Sink, P: Keeper + Send, R: Threads + Wait + Sync, G: Gate + Sync>(
+    alloc: Global,
+    rt: &R,
+    volumes: bool,
+    workers: u8,
+    src: &mut S,
+    out: &mut K,
+    keeper: P,
+    gate: &G,
+) -> (RunStatus, P)
+    requires workers { (2 ≤ workers) × (workers ≤ 16) }
+    requires tables { IfSome (P.told keeper) (λ rows. AreSame rows no_rows) }
+    ensures words { result.0 ≡ RunStatus.BadWords → ⊥ }
+    ensures unwritten { leaves_sink result.0 ≡ true → out.new ≡ out.old }
+    ensures unrun { leaves_keeper result.0 ≡ true → result.1 ≡ keeper }
+    ensures ends { RunEnds volumes workers
+        (record { left = S.left src.old; reads = S.reads src.old; read_faults = S.read_faults src.old; taken = K.taken out.old; write_faults = K.write_faults out.old })
+        (record { left = S.left src.new; reads = S.reads src.new; read_faults = S.read_faults src.new; taken = K.taken out.new; write_faults = K.write_faults out.new })
+        (record { told = P.told keeper; count = P.count keeper }) (record { told = P.told result.1; count = P.count result.1 })
+        result.0 }
+{
+    let bytes = match read_all(alloc, src, MAX_SCRIPT) {
+        Ok(bytes) => bytes,
+        Err(ReadEnd::Failed) => return (RunStatus::ReadFault, keeper),
+        Err(ReadEnd::TooLong) => return (RunStatus::TooLong, keeper),
+        Err(ReadEnd::NoMemory) => return (RunStatus::NoMemory, keeper),
+    };
+    let (text, keeper) = shared_text(alloc, rt, &bytes, volumes, workers, keeper, gate);
     let text = match text {
         Ok(text) => text,
         Err(ScriptErr::NoMemory) => return (RunStatus::NoMemory, keeper),

@@ -6,17 +6,22 @@ ghost use Rattle.desk_law.specs.Records.{empty_opening};
 ghost use Rattle.desk_records.specs.Tied.{faults_in};
 ghost use Rattle.sms_core.specs.Core.{HasTables};
 ghost use Rattle.sms_script.specs.Script.{items_of};
-ghost use Rattle.desk_calls.specs.Headline.{WasRun};
+ghost use Rattle.desk_workers.specs.Phases.{IsFrontAnswered};
+ghost use Rattle.desk_calls.specs.Headline.{IsRecorded, WasRun};
 ghost use Rattle.desk_calls.specs.Run.{AnswersFront, AnswersInOrder};
 
 use crate::lawful_history::legal_is_lawful;
 use acs_tree::Slate;
 use desk_common::Items;
+use desk_workers::run_workers;
 use sms_construct::{Answer, Answers};
 use sms_core::{Core, Work};
+use sms_desk::Gate;
 use sms_keeper::Keeper;
 use sms_script::{Item, Phase, Script};
 use std::alloc::{AllocError, Global};
+use std::sync::Wait;
+use std::thread::Threads;
 
 /// Answers each item of the script in its order, one phase after the other. Room for all answers is taken before the
 /// first step: where memory for it is wanting, nothing was answered.
@@ -43,21 +48,43 @@ pub fn run_script<P: Keeper>(
     (Ok(Items::from_vec(answers)), core)
 }
 
-/// Answers each item of the script on a new desk over the keeper, whose tables are empty. Where memory for the answers
-/// is wanting, nothing was answered.
+/// Answers each item of the script on a new desk over the keeper, whose tables are empty, in script order. Where memory
+/// for the answers is wanting, nothing was answered.
+#[tactic(auto, using(crate::proofs::OrderLemmas::in_order_answered))]
 pub fn run_new<P: Keeper>(
     alloc: Global,
     script: &Script,
     keeper: P,
 ) -> (Result<Answers, AllocError>, Core<P>)
     requires tables { IfSome (P.told keeper) (λ rows. AreSame rows no_rows) }
-    ensures ran { IfOk result.0 (λ answers. WasRun (record { told = P.told keeper; count = P.count keeper }) (record { told = P.told result.1.keeper; count = P.count result.1.keeper }) script.now answers result.1.journal) }
+    ensures ran { IfOk result.0 (λ answers. WasRun 1 (record { told = P.told keeper; count = P.count keeper }) (record { told = P.told result.1.keeper; count = P.count result.1.keeper }) script.now answers result.1.journal) }
     ensures unrun { OnErr result.0 (result.1.keeper ≡ keeper) }
     ensures opening { result.1.opening ≡ empty_opening }
 {
     // Facts for the proof; nothing runs.
     legal_is_lawful();
     run_script(alloc, script, Core::new(alloc, keeper))
+}
+
+/// The same by several workers. Where memory for a phase is wanting, the phases before it were answered whole.
+pub fn run_shared<P: Keeper + Send, R: Threads + Wait + Sync, G: Gate + Sync>(
+    alloc: Global,
+    rt: &R,
+    script: &Script,
+    workers: usize,
+    keeper: P,
+    gate: &G,
+) -> (Result<Answers, AllocError>, Core<P>)
+    requires workers { (2 ≤ workers) × (workers ≤ 16) }
+    requires tables { IfSome (P.told keeper) (λ rows. AreSame rows no_rows) }
+    ensures ran { IfOk result.0 (λ answers. WasRun workers (record { told = P.told keeper; count = P.count keeper }) (record { told = P.told result.1.keeper; count = P.count result.1.keeper }) script.now answers result.1.journal) }
+    ensures front { OnErr result.0 (IsFrontAnswered script.now [] result.1.journal) }
+    ensures recorded { IsRecorded (record { told = P.told keeper; count = P.count keeper }) (record { told = P.told result.1.keeper; count = P.count result.1.keeper }) result.1.journal }
+    ensures opening { result.1.opening ≡ empty_opening }
+{
+    // Facts for the proof; nothing runs.
+    legal_is_lawful();
+    run_workers(alloc, rt, script, Core::new(alloc, keeper), workers, gate)
 }
 
 // Room for the answers to all items, and for what routines write.

@@ -26,7 +26,7 @@ use Rattle.desk_state.specs.declared.running.Running.{Running}
 
 -- A data set is put in place of the one of its name.
 
-put-found : (sets : List DataSet) (set : DataSet) (dsn : List ℕ) (old new : Option DataSet) (b : Bool) → bytes_eq set.dsn dsn ≡ b → new ≡ cond b (Some set) old → old ≡ set_named dsn sets → new ≡ set_named dsn (put_set set sets)
+pub put-found : (sets : List DataSet) (set : DataSet) (dsn : List ℕ) (old new : Option DataSet) (b : Bool) → bytes_eq set.dsn dsn ≡ b → new ≡ cond b (Some set) old → old ≡ set_named dsn sets → new ≡ set_named dsn (put_set set sets)
 put-found sets set dsn old new true is put same = put ∙ sym (named-put set dsn sets is)
 put-found sets set dsn old new false is put same = put ∙ (same ∙ sym (named-put-other set dsn sets is))
 
@@ -42,7 +42,7 @@ put-running s set running after activations config put now is = record {
 
 -- The data set of a name is dropped.
 
-drop-found : (sets : List DataSet) (dsn other : List ℕ) (old new : Option DataSet) (b : Bool) → bytes_eq dsn other ≡ b → new ≡ cond b None old → old ≡ set_named other sets → new ≡ set_named other (without_set dsn sets)
+pub drop-found : (sets : List DataSet) (dsn other : List ℕ) (old new : Option DataSet) (b : Bool) → bytes_eq dsn other ≡ b → new ≡ cond b None old → old ≡ set_named other sets → new ≡ set_named other (without_set dsn sets)
 drop-found sets dsn other old new true is drop same =
     drop ∙ sym (ap (λ n. set_named other (without_set n sets)) (same-bytes dsn other is) ∙ named-gone other sets)
 drop-found sets dsn other old new false is drop same = drop ∙ (same ∙ sym (named-without dsn other sets is))

@@ -10,3 +10,6 @@ pub mod ExtensionLemmas
 pub mod ApplyLemmas
 pub mod DecideLemmas
 pub mod WorkLemmas
+pub mod NextLemmas
+pub mod FreeLemmas
+pub mod SortedLemmas

@@ -7,3 +7,4 @@ pub mod Granting
 pub mod Wishing
 pub mod Growing
 pub mod Working
+pub mod Following

@@ -1,7 +1,7 @@
 //! The catalogued data sets.
 ghost use Rattle.std.specs.Prelude.{◌≡◌, ◌≤◌, ◌<◌, [], None, Some, List, ℕ, OnOk, bytes_eq, if◌then◌else◌};
 ghost use Rattle.std.specs.Option.{option_copied};
-ghost use Rattle.desk_state.specs.Catalog.{set_in};
+ghost use Rattle.desk_state.specs.Catalog.{IsCatalog, next_in, set_in};
 
 use desk_common::Shared;
 use dsn_mask::Dsn;
@@ -17,11 +17,13 @@ pub struct Catalog {
 }
 
 impl Model for Catalog {
-    ghost use Rattle.desk_state.specs.Catalog.{CatalogView};
+    ghost use Rattle.desk_state.specs.Catalog.{CatalogView, IsCatalog};
 
     ghost Value = { CatalogView };
 
     ghost view = { λ c. record { sets = c.sets.rows; room = c.sets.room } };
+
+    ghost invariant = { λ c. IsCatalog c.sets.rows };
 }
 
 impl Catalog {
@@ -39,6 +41,21 @@ impl Catalog {
         ensures { option_copied result ≡ set_in dsn.now self.now.sets }
     {
         self.sets.get(dsn)
+    }
+
+    /// The first data set behind a name, or the first of all.
+    pub fn next(&self, dsn: Option<&Dsn>) -> Option<&Shared<DataSet>>
+        ensures next { option_copied result ≡ next_in (option_copied dsn.entry) self.now.sets }
+        ensures sorted { IsCatalog self.now.sets }
+    {
+        let row = match dsn {
+            Some(dsn) => self.sets.after(dsn),
+            None => self.sets.first(),
+        };
+        match row {
+            Some((_, set)) => Some(set),
+            None => None,
+        }
     }
 
     /// Takes room for one more data set.

@@ -1,5 +1,5 @@
 //! USED, DELETE and RELEASE.
-ghost use Rattle.std.specs.Prelude.{◌≡◌, ◌-◌, ◌<◌, ◌^◌, IfOk, IfSome, length};
+ghost use Rattle.std.specs.Prelude.{◌≡◌, ◌-◌, ◌<◌, ◌^◌, nat_lt, IfOk, IfSome, length};
 ghost use Rattle.std.specs.Option.{option_copied};
 ghost use Rattle.sms_construct.specs.declared.data_set.DataSet.{DataSet as Catalogued};
 ghost use Rattle.desk_law.specs.State.{DeskState};
@@ -15,7 +15,7 @@ ghost use Rattle.desk_state.specs.Standing.{IsRunning, IsSomeState};
 
 use crate::decision::Decision;
 use crate::deed::Deed;
-use crate::extents::{front_of, rounded_up, tracks_of, with_extents};
+use crate::extents::{frees_any, front_of, rounded_up, tracks_of, with_extents};
 use crate::running::Running;
 use desk_common::{Items, Shared};
 use dsn_mask::Dsn;
@@ -89,6 +89,13 @@ impl Running {
             deed: Deed::Keep { set: kept },
         })
     }
+}
+
+/// Whether RELEASE would free a track of the data set (docs/rules.md, "RELEASE"). It takes no memory.
+pub fn has_unused(set: &DataSet) -> bool
+    ensures { result ≡ nat_lt (tracks_of_set (kept_of set.now)) (tracks_of_set set.now) }
+{
+    frees_any(set.extents.as_slice(), tracks_kept(set))
 }
 
 // The tracks of a data set.

@@ -1,5 +1,5 @@
 //! The extents of data sets.
-ghost use Rattle.std.specs.Prelude.{◌≡◌, ◌<◌, ◌≤◌, ◌^◌, ◌++◌, length, IfOk};
+ghost use Rattle.std.specs.Prelude.{◌≡◌, ◌<◌, ◌≤◌, ◌^◌, ◌++◌, length, nat_lt, IfOk, if◌then◌else◌};
 ghost use Rattle.sms_construct.specs.Quantities.{rounded_up};
 ghost use Rattle.desk_law.specs.Extents.{extents_at, front_tracks, is_used, length_kept, multiple_at, pieces_on, volumes_of, with_extents};
 ghost use Rattle.desk_state.specs.Sums.{tracks_in};
@@ -52,6 +52,30 @@ pub fn front_of(alloc: Global, extents: &[Extent], keep: u64) -> Result<Extents,
         left = left.saturating_sub(u64::from(extent.length));
     }
     Ok(Items::from_vec(front))
+}
+
+/// Whether a track is freed where so many are kept, in the order of the extents. It takes no memory.
+pub fn frees_any(extents: &[Extent], keep: u64) -> bool
+    ensures { result ≡ nat_lt (tracks_in (front_tracks keep extents.now)) (tracks_in extents.now) }
+{
+    let mut left = keep;
+    for extent in extents {
+        if kept_of(extent, left) < extent.length {
+            return true;
+        }
+        left = left.saturating_sub(u64::from(extent.length));
+    }
+    false
+}
+
+// The tracks that are kept of an extent, none where none is to be kept.
+fn kept_of(extent: &Extent, keep: u64) -> u32
+    ensures { result ≡ (if nat_lt 0 keep then length_kept keep extent.now else 0) }
+{
+    if keep == 0 {
+        return 0;
+    }
+    length_kept(extent, keep)
 }
 
 // The extent when so many tracks are to be kept.

@@ -20,6 +20,7 @@ mod wish;
 mod work;
 
 pub use catalog::Catalog;
+pub use data_sets::has_unused;
 pub use decision::Decision;
 pub use deed::Deed;
 pub use running::Running;

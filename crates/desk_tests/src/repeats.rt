@@ -34,6 +34,6 @@ fn a_thousand_lines_lie_one_behind_the_other(rt: HostRuntime) -> Result<(), Fail
     }
     told.end(alloc)?;
     assert!(rt; told.text.ends_with("END 1001 1001\n"));
-    assert!(rt; answers(alloc, told.script.as_bytes(), told.text.as_bytes())?);
+    assert!(rt; answers(&rt, told.script.as_bytes(), told.text.as_bytes())?);
     Ok(())
 }

@@ -1,8 +1,8 @@
 //! Runs of the top call on sources and sinks in memory.
 use desk_calls::{RunStatus, desk_main};
 use sms_base::{MemSink, MemSource};
+use sms_desk::FreeGate;
 use sms_keeper::MemKeeper;
-use std::alloc::Global;
 use std::test::Fail;
 
 /// The most bytes that a run of a test may write.
@@ -16,33 +16,35 @@ pub struct Outcome {
 }
 
 /// Runs a script with the one word `run`.
-pub fn run(alloc: Global, script: &[u8]) -> Result<Outcome, Fail> {
-    run_words(alloc, &["run"], script, &[], &[], ROOM)
+pub fn run(rt: &HostRuntime, script: &[u8]) -> Result<Outcome, Fail> {
+    run_words(rt, &["run"], script, &[], &[], ROOM)
 }
 
 /// Runs a script with these words, over a source and a sink that fail at the calls with these
 /// numbers; the sink has so much room.
 pub fn run_words(
-    alloc: Global,
+    rt: &HostRuntime,
     list: &[&str],
     script: &[u8],
     reads: &[u64],
     writes: &[u64],
     room: usize,
 ) -> Result<Outcome, Fail> {
+    let alloc = rt.alloc();
     let mut words = Vec::new(alloc);
     for word in list {
         words.push(String::from_str(alloc, word)?)?;
     }
     let mut src = MemSource::new(script.to_vec(alloc)?, 16, reads.to_vec(alloc)?);
     let mut out = MemSink::new(vec![in alloc; 0; room]?, 7, writes.to_vec(alloc)?);
-    let (status, _) = desk_main(alloc, &words, &mut src, &mut out, MemKeeper::new(alloc));
+    let keeper = MemKeeper::new(alloc);
+    let (status, _) = desk_main(alloc, rt, &words, &mut src, &mut out, keeper, &FreeGate);
     let text = out.taken().to_vec(alloc)?;
     Ok(Outcome { status, text })
 }
 
 /// Whether the script is answered with this text.
-pub fn answers(alloc: Global, script: &[u8], wanted: &[u8]) -> Result<bool, Fail> {
-    let Outcome { status, text } = run(alloc, script)?;
+pub fn answers(rt: &HostRuntime, script: &[u8], wanted: &[u8]) -> Result<bool, Fail> {
+    let Outcome { status, text } = run(rt, script)?;
     Ok(status == RunStatus::Done && text.as_slice() == wanted)
 }

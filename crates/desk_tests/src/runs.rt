@@ -13,7 +13,7 @@ static OTHER_WORDS: [&[&str]; 5] = [&[], &[""], &["run", "--volumes", ""], &["ru
 #[test]
 fn other_words_are_refused_and_nothing_is_read(rt: HostRuntime) -> Result<(), Fail> {
     for list in &OTHER_WORDS {
-        let Outcome { status, text } = run_words(rt.alloc(), list, LINE, &[1], &[], 100)?;
+        let Outcome { status, text } = run_words(&rt, list, LINE, &[1], &[], 100)?;
         assert!(rt; status == RunStatus::BadWords, "{list:?}");
         assert!(rt; status.code() == 2);
         assert!(rt; text.is_empty());
@@ -24,11 +24,11 @@ fn other_words_are_refused_and_nothing_is_read(rt: HostRuntime) -> Result<(), Fa
 #[test]
 fn a_script_may_have_16777216_bytes_and_no_more(rt: HostRuntime) -> Result<(), Fail> {
     let mut script = vec![in rt.alloc(); b' '; 16_777_216]?;
-    let Outcome { status, text } = run(rt.alloc(), &script)?;
+    let Outcome { status, text } = run(&rt, &script)?;
     assert!(rt; status == Done);
     assert!(rt; text.as_slice() == b"END 0 0\n".as_slice());
     script.push(b'\n')?;
-    let Outcome { status, text } = run(rt.alloc(), &script)?;
+    let Outcome { status, text } = run(&rt, &script)?;
     assert!(rt; status == RunStatus::TooLong);
     assert!(rt; status.code() == 6);
     assert!(rt; text.is_empty());
@@ -54,7 +54,7 @@ J 1 ALLOC A.B SPACE=(TRK,86)
 
 #[test]
 fn just_past_the_threshold_either_volume_is_granted(rt: HostRuntime) -> Result<(), Fail> {
-    let Outcome { status, text } = run(rt.alloc(), PAST_THE_THRESHOLD.as_bytes())?;
+    let Outcome { status, text } = run(&rt, PAST_THE_THRESHOLD.as_bytes())?;
     assert!(rt; status == Done);
     let first = text.ends_with(b"EXTENT VOL001 0 86\nEND 2 2\n");
     assert!(rt; first || text.ends_with(b"EXTENT VOL002 0 86\nEND 2 2\n"));

@@ -169,11 +169,11 @@ fn sync_parts_the_phases_which_are_answered_one_after_the_other(
     rt: HostRuntime,
 ) -> Result<(), Fail> {
     compare_all(&rt, rt.alloc(), &PHASES)?;
-    assert!(rt; answers(rt.alloc(), b"SYNC\n* NOTE\n", b"END 0 0\n")?);
+    assert!(rt; answers(&rt, b"SYNC\n* NOTE\n", b"END 0 0\n")?);
     let script =
         b"JOB1 1 ALLOC A.B SPACE=(TRK,1)\nSYNC\nSYNC\nJOB1 1 ALLOC A.B SPACE=(TRK,1)\nSYNC\n";
     let wanted = b"1 1 1 JOB1 1 R12 NO CONFIGURATION\n4 2 1 JOB1 1 R12 NO CONFIGURATION\nEND 2 2\n";
-    assert!(rt; answers(rt.alloc(), script, wanted)?);
+    assert!(rt; answers(&rt, script, wanted)?);
     Ok(())
 }
 
@@ -194,7 +194,7 @@ fn a_script_has_at_most_100000_commands(rt: HostRuntime) -> Result<(), Fail> {
     for (count, last, wanted) in &COMMAND_LIMITS {
         let mut text = "SYNC\n".repeat(rt.alloc(), *count)?;
         text.push_str(last)?;
-        let ended = run(rt.alloc(), text.as_bytes())?.status;
+        let ended = run(&rt, text.as_bytes())?.status;
         assert!(rt; ended == *wanted, "{last}");
     }
     Ok(())

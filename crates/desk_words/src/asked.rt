@@ -1,6 +1,6 @@
 //! Reading the words of the command line.
 ghost use Rattle.std.specs.Prelude.{◌≡◌, map, string_bytes};
-ghost use Rattle.desk_words.specs.Words.{load_in, load_of, task_in};
+ghost use Rattle.desk_words.specs.Words.{load_in, load_of, run_in, run_of, task_in};
 
 use crate::task::Task;
 use sms_construct::read_number;
@@ -8,20 +8,56 @@ use sms_construct::read_number;
 // The most items of a load.
 const MAX_ITEMS: u32 = 40_000;
 
+// The most workers of a run.
+const MAX_WORKERS: u32 = 16;
+
 /// What the words ask for, and `None` where they ask for nothing.
 pub fn task_asked(words: &[String]) -> Option<Task>
     ensures { result ≡ task_in (map string_bytes words.now) }
 {
     match words {
-        [word] if word.as_str() == "run" => Some(Task::Run { volumes: false }),
+        [word] if word.as_str() == "run" => Some(Task::Run {
+            volumes: false,
+            workers: 1,
+        }),
         [word, second] if word.as_str() == "run" && second.as_str() == "--volumes" => {
-            Some(Task::Run { volumes: true })
+            Some(Task::Run {
+                volumes: true,
+                workers: 1,
+            })
         }
         [word, seed, count] if word.as_str() == "gen" => {
             load_in(seed.as_bytes(), count.as_bytes())
         }
+        [word, option, workers] if word.as_str() == "run" && option.as_str() == "--workers" => {
+            run_in(false, workers.as_bytes())
+        }
+        [word, option, workers, last]
+            if word.as_str() == "run"
+                && option.as_str() == "--workers"
+                && last.as_str() == "--volumes" => { run_in(true, workers.as_bytes()) }
         _ => None,
     }
+}
+
+// What a run by so many workers as the number says asks for.
+fn run_in(volumes: bool, workers: &[u8]) -> Option<Task>
+    ensures { result ≡ run_in volumes workers.now }
+{
+    let workers = read_number(workers)?;
+    run_of(volumes, workers)
+}
+
+fn run_of(volumes: bool, workers: u32) -> Option<Task>
+    ensures { result ≡ run_of volumes workers }
+{
+    if workers == 0 || workers > MAX_WORKERS {
+        return None;
+    }
+    Some(Task::Run {
+        volumes,
+        workers: workers as u8,
+    })
 }
 
 // What a seed and a number of items ask for.

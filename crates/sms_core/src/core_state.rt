@@ -9,6 +9,7 @@ ghost use Rattle.desk_law.specs.Step.{is_activation};
 ghost use Rattle.desk_law.specs.History.{IsLegal, Reaches, WasActive};
 ghost use Rattle.desk_law.specs.Records.{empty_opening};
 ghost use Rattle.desk_records.specs.Tied.{IsSoundOpening, faults_in};
+ghost use Rattle.desk_state.specs.Following.{IsNextSet};
 ghost use Rattle.desk_state.specs.Working.{IsWork};
 ghost use Rattle.sms_core.specs.Core.{Enters, HasTables, needs_no_commit};
 
@@ -152,6 +153,16 @@ impl<P: Keeper> Core<P> {
         ensures { (s : DeskState) → Reaches self.now.opening self.now.journal s → option_copied result ≡ set_named dsn.now s.sets }
     {
         match self.running.catalog.get(dsn) {
+            Some(set) => Some(set.get()),
+            None => None,
+        }
+    }
+
+    /// The first catalogued data set behind this name in the order of bytes; without a name, the first of all.
+    pub fn set_after(&self, dsn: Option<&Dsn>) -> Option<&DataSet>
+        ensures { (s : DeskState) → Reaches self.now.opening self.now.journal s → IsNextSet (option_copied dsn.entry) s.sets (option_copied result) }
+    {
+        match self.running.catalog.next(dsn) {
             Some(set) => Some(set.get()),
             None => None,
         }

@@ -50,7 +50,7 @@ const NO_MEMORY: &str = "memory is wanting; no answer was written\n";
 
 fn sentence_of_words(words: &[String]) -> &'static str {
     match first_word(words) {
-        "run" => "run takes no further word but --volumes: smsctl run [--volumes]\n",
+        "run" => RUN,
         "gen" => GEN,
         "serve" => SERVE,
         _ => FIRST,
@@ -59,6 +59,9 @@ fn sentence_of_words(words: &[String]) -> &'static str {
 
 const FIRST: &str = "the first word is run, gen or serve, or --help or --version alone; \
     smsctl --help says what each does\n";
+
+const RUN: &str = "run takes --workers N, 1 to 16, and --volumes, in this order: \
+    smsctl run [--workers N] [--volumes]\n";
 
 const GEN: &str = "gen takes SEED, 0 to 4294967295, and COUNT, 1 to 40000: smsctl gen SEED COUNT\n";
 

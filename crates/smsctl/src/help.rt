@@ -3,7 +3,9 @@
 const HELP: &str = "smsctl - the allocation desk
 
 smsctl run             answer the script on standard input
-smsctl run --volumes   the same, with the table of volumes behind the answers
+smsctl run --workers N by so many workers, 1 to 16
+smsctl run --volumes   with the table of volumes behind the answers; it stands
+                       behind --workers N where both are asked for
 smsctl gen SEED COUNT  answer a generated script, and sum up the answers
 smsctl serve PORT CONNECTIONS
                        serve the desk over HTTP on 127.0.0.1 to so many
@@ -14,6 +16,7 @@ smsctl --version       the version
 For example:
 
     smsctl run --volumes < morning.txt > answers.txt
+    smsctl run --workers 4 < morning.txt > answers.txt
     smsctl gen 1 40000
     smsctl serve 8080 100
 

@@ -17,6 +17,7 @@ use crate::noted_sink::NotedSink;
 use desk_calls::{RunStatus, desk_main};
 use desk_words::serve_words;
 use sms_base::{StdSink, StdSource, Words, read_words};
+use sms_desk::FreeGate;
 use sms_keeper::MemKeeper;
 use sms_script::ScriptErr;
 use std::io::{self, Write};
@@ -61,7 +62,7 @@ fn answer(rt: &HostRuntime, words: &[String], note: &mut String) -> RunStatus {
     let mut src = KeptSource::new(rt.alloc(), StdSource::new(rt.reader()));
     let mut out = NotedSink::new(StdSink::new(io::writer(rt)));
     let keeper = MemKeeper::new(rt.alloc());
-    let (status, _keeper) = desk_main(rt.alloc(), words, &mut src, &mut out, keeper);
+    let (status, _keeper) = desk_main(rt.alloc(), rt, words, &mut src, &mut out, keeper, &FreeGate);
     note_status(rt.alloc(), note, status, src.given());
     if out.has_refusal() {
         note_refusal(note);

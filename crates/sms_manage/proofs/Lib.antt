@@ -1,0 +1,4 @@
+pub mod ReleaseLemmas
+pub mod ActLemmas
+pub mod DayLemmas
+pub mod SoFarLemmas

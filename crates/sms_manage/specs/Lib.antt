@@ -1,0 +1,4 @@
+pub mod Due
+pub mod Managed
+pub mod ManageText
+pub mod Walk

@@ -1,0 +1,90 @@
+-- A day of space management: which requests are made, and what they come to.
+use Rattle.std.specs.Prelude.{ℕ, ◌≡◌, ◌+◌, ◌==◌, ◌&&◌, ◌⊎◌, Bool, true, false, List, [], ◌∷◌, ◌++◌, map, codes, bytes_eq, Option, None, Some, if◌then◌else◌}
+use Rattle.std.specs.List.{list_all, list_any}
+use Rattle.sms_construct.specs.Configuration.{Configuration, are_ascending}
+use Rattle.sms_construct.specs.declared.data_set.DataSet.{DataSet}
+use Rattle.sms_construct.specs.declared.entry.Entry.{Entry}
+use Rattle.sms_construct.specs.declared.reply.Reply.{Reply}
+use Rattle.sms_construct.specs.declared.reply.Reply.TheVariants as replies
+use Rattle.sms_construct.specs.declared.request.Op.{Op}
+use Rattle.sms_construct.specs.declared.request.Op.TheVariants as ops
+use Rattle.sms_construct.specs.declared.request.Request.{Request}
+use Rattle.desk_law.specs.State.{DeskState, Opening, set_named}
+use Rattle.desk_law.specs.History.{Reaches}
+use Rattle.desk_law.specs.Kept.{floor_of, kept_for}
+use Rattle.sms_core.specs.Core.{entry_of}
+use Rattle.sms_construct.specs.declared.entry.Answer.{Answer}
+use Rattle.sms_manage.specs.declared.act.Act.{Act}
+use Rattle.sms_manage.specs.declared.wanted.Due.{Due}
+use Rattle.sms_manage.specs.declared.wanted.Due.TheVariants.{Nothing, Delete, Release}
+use Rattle.sms_manage.specs.Due.{due_of, is_due_if}
+
+-- the job that asks
+abbrev pub manager : List ℕ
+manager = codes "SMSMGMT"
+
+-- the job has no kept reply and no floor
+pub record IsUnused (o : Opening) (h : List Entry) : Type 0 where
+  pub floor : floor_of o h manager ≡ 0
+  pub kept : (number : ℕ) → kept_for o h manager number ≡ None
+
+-- what is asked where something is due
+abbrev pub op_for : Due → List ℕ → Option Op
+op_for Nothing dsn = None
+op_for Delete dsn = Some (ops.Delete dsn)
+op_for Release dsn = Some (ops.Release dsn)
+
+-- what is asked of the data set, if there is one and something is due
+abbrev pub op_if : Configuration → ℕ → Option DataSet → Option Op
+op_if config day None = None
+op_if config day (Some set) = op_for (due_of config day set) set.dsn
+
+-- the entry of an act, if its answer makes one
+abbrev pub entry_for : Option Op → Act → List Entry
+entry_for None act = []
+entry_for (Some op) act = entry_of (record { job = manager; number = act.number; op = op }) act.answer
+
+-- the entries of the acts
+abbrev pub entries_of : Configuration → ℕ → List DataSet → List Act → List Entry
+entries_of config day sets [] = []
+entries_of config day sets (act ∷ acts) = entry_for (op_if config day (set_named act.dsn sets)) act ++ entries_of config day sets acts
+
+-- the acts have the numbers from this one on
+abbrev pub are_counted : ℕ → List Act → Bool
+are_counted number [] = true
+are_counted number (act ∷ acts) = act.number == number && are_counted (number + 1) acts
+
+-- the acts are just one for each data set of which something is due, in byte order of the names, and are counted from 1
+pub record AreActs (config : Configuration) (day : ℕ) (sets : List DataSet) (acts : List Act) : Type 0 where
+  pub each : (dsn : List ℕ) → list_any (λ act. bytes_eq act.dsn dsn) acts ≡ is_due_if config day (set_named dsn sets)
+  pub order : are_ascending (map (λ act. act.dsn) acts) ≡ true
+  pub counted : are_counted 1 acts ≡ true
+
+-- the act was done: the reply isn't one of those that change nothing for want of memory or room, or for a fault
+abbrev pub was_done : Reply → Bool
+was_done (replies.Deleted tracks) = true
+was_done (replies.Released tracks) = true
+was_done reply = false
+
+-- from the state before, in which this configuration was active, the acts lead to the state after
+pub record IsManaged (o : Opening) (day : ℕ) (config : Configuration) (before after : DeskState) (old new : List Entry) (acts : List Act) : Type 0 where
+  pub active : before.active ≡ Some config
+  pub acts_are : AreActs config day before.sets acts
+  pub journal : new ≡ old ++ entries_of config day before.sets acts
+  pub legal : Reaches o new after
+  -- other data sets are as before
+  pub others : (dsn : List ℕ) → is_due_if config day (set_named dsn before.sets) ≡ false → set_named dsn after.sets ≡ set_named dsn before.sets
+  -- where all was done nothing is due any more
+  pub settled : list_all (λ act. was_done act.answer.reply) acts ≡ true → (dsn : List ℕ) → is_due_if config day (set_named dsn after.sets) ≡ false
+
+-- nothing is active, so nothing is catalogued, and nothing is done
+pub record IsIdle (before : DeskState) (old new : List Entry) (acts : List Act) : Type 0 where
+  pub inactive : before.active ≡ None
+  pub none : acts ≡ []
+  pub same : new ≡ old
+
+-- a day of space management behind these entries
+abbrev pub WasManaged : Opening → ℕ → List Entry → List Entry → List Act → Type 0
+WasManaged o day old new acts =
+    (before : DeskState) → Reaches o old before
+    → ((config : Configuration) × (after : DeskState) × IsManaged o day config before after old new acts) ⊎ IsIdle before old new acts

@@ -1,0 +1,145 @@
+//! A day of space management.
+ghost use Rattle.std.specs.Prelude.{◌≡◌, ◌+◌, IfOk, IfSome, OnOk, Some, length};
+ghost use Rattle.desk_law.specs.State.{DeskState};
+ghost use Rattle.desk_law.specs.History.{Reaches};
+ghost use Rattle.sms_manage.specs.Managed.{IsManaged, IsUnused, WasManaged, op_for};
+ghost use Rattle.sms_manage.specs.Walk.{Asks, IsNextDue};
+
+use crate::act::{Act, Acts};
+use crate::expiry::due;
+use crate::wanted::Due;
+use acs_tree::Slate;
+use desk_common::{Items, Shared};
+use dsn_mask::{Dsn, Name};
+use sms_construct::{Op, Request, RequestNumber};
+use sms_core::{Core, Work};
+use sms_deck::Config;
+use sms_keeper::Keeper;
+use std::alloc::{AllocError, Global};
+
+// A catalog has fewer data sets than this.
+const MOST_SETS: u64 = 4_294_967_296;
+
+// The job that asks for what is due.
+const MANAGER: &[u8] = b"SMSMGMT";
+
+/// Asks for all that is due on a day, one request for each data set, in byte order of their names, numbered from 1 on
+/// (docs/rules.md, "Space management"). Each is answered whatever the earlier ones were. Where memory is wanting, some
+/// of the first were asked.
+pub fn run_day<P: Keeper>(
+    alloc: Global,
+    core: &mut Core<P>,
+    slate: &mut Slate,
+    day: u32,
+) -> Result<Acts, AllocError>
+    requires { IsUnused core.old.opening core.old.journal }
+    ensures managed { IfOk result (λ acts. WasManaged core.old.opening day core.old.journal core.new.journal acts) }
+    ensures opening { core.new.opening ≡ core.old.opening }
+    ensures mark { core.new.mark ≡ core.old.mark }
+{
+    match active(core)? {
+        Some(config) => act_all(alloc, core, slate, config.get(), day),
+        None => Ok(Items::new(alloc)),
+    }
+}
+
+// Asks for all that is due on a day under a configuration.
+fn act_all<P: Keeper>(
+    alloc: Global,
+    core: &mut Core<P>,
+    slate: &mut Slate,
+    config: &Config,
+    day: u32,
+) -> Result<Acts, AllocError>
+    requires { IsUnused core.old.opening core.old.journal }
+    ensures managed { IfOk result (λ acts. (before : DeskState) → Reaches core.old.opening core.old.journal before → before.active ≡ Some config.now →
+        (after : DeskState) × IsManaged core.old.opening day config.now before after core.old.journal core.new.journal acts) }
+    ensures opening { core.new.opening ≡ core.old.opening }
+    ensures mark { core.new.mark ≡ core.old.mark }
+{
+    let mut acts = Vec::new(alloc);
+    let mut last: Option<Dsn> = None;
+    for _ in 0..MOST_SETS {
+        let Some(next) = next_set(core, config, day, &last) else {
+            return Ok(Items::from_vec(acts));
+        };
+        last = Some(next.0);
+        if let Some(op) = op_for(next.1, next.0) {
+            act_on(core, slate, next.0, op, &mut acts)?;
+        }
+    }
+    Err(AllocError)
+}
+
+// The active configuration, if there is one.
+fn active<P: Keeper>(core: &Core<P>) -> Result<Option<Shared<Config>>, AllocError>
+    ensures { IfOk result (λ config. (s : DeskState) → Reaches core.now.opening core.now.journal s → s.active ≡ config) }
+{
+    match core.active() {
+        Some((_, config)) => Ok(Some(config.share()?)),
+        None => Ok(None),
+    }
+}
+
+// The name of the data set behind this one, or of the first of all, and what is due of it.
+fn next_set<P: Keeper>(
+    core: &Core<P>,
+    config: &Config,
+    day: u32,
+    last: &Option<Dsn>,
+) -> Option<(Dsn, Due)>
+    ensures { (s : DeskState) → Reaches core.now.opening core.now.journal s → IsNextDue config.now day s.sets last.now result }
+{
+    let set = core.set_after(last.as_ref())?;
+    Some((set.dsn, due(set, config, day)))
+}
+
+// What is asked where something is due of the data set of this name.
+fn op_for(wanted: Due, dsn: Dsn) -> Option<Op>
+    ensures { result ≡ op_for wanted dsn }
+{
+    match wanted {
+        Due::Nothing => None,
+        Due::Delete => Some(Op::Delete(dsn)),
+        Due::Release => Some(Op::Release(dsn)),
+    }
+}
+
+// Asks for what is due of a data set, and stores it with the answer.
+fn act_on<P: Keeper>(
+    core: &mut Core<P>,
+    slate: &mut Slate,
+    dsn: Dsn,
+    op: Op,
+    acts: &mut Vec<Act>,
+) -> Result<(), AllocError>
+    ensures asked { OnOk result (Asks core.old.opening core.old.journal core.new.journal dsn op acts.old.items acts.new.items) }
+    ensures opening { core.new.opening ≡ core.old.opening }
+    ensures mark { core.new.mark ≡ core.old.mark }
+{
+    acts.reserve(1)?;
+    let Some(number) = number_behind(acts.len()) else {
+        return Err(AllocError);
+    };
+    let Some(job) = Name::new(MANAGER) else {
+        return Err(AllocError);
+    };
+    let request = Request { job, number, op };
+    let answer = core.step(&request, Work::Nothing, slate);
+    acts.push_reserved(Act {
+        number: number.get(),
+        dsn,
+        answer,
+    });
+    Ok(())
+}
+
+// The number of the act behind so many; `None` where it is none of a request.
+fn number_behind(count: usize) -> Option<RequestNumber>
+    ensures { IfSome result (λ number. number ≡ count + 1) }
+{
+    if count >= u32::MAX as usize {
+        return None;
+    }
+    RequestNumber::new(count as u32 + 1)
+}

@@ -1,0 +1,17 @@
+//! Tests of a desk that workers share.
+#![tactic(auto)]
+
+#[cfg(test)]
+mod counting;
+#[cfg(test)]
+mod holding;
+#[cfg(test)]
+mod meeting;
+#[cfg(test)]
+mod running;
+#[cfg(test)]
+mod runs;
+#[cfg(test)]
+mod submitting;
+#[cfg(test)]
+mod turns;

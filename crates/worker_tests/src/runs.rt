@@ -1,0 +1,105 @@
+// Scripts answered by several workers.
+use crate::holding::Holding;
+use crate::meeting::Meeting;
+use crate::running::{class_of, run};
+use sms_construct::Reply;
+use sms_desk::FreeGate;
+use std::test::Fail;
+
+// A deck with one volume of 100 tracks is activated, and then two jobs allocate.
+const TWO_JOBS: &str = "SMSADMIN 1 ACTIVATE
+version = 1
+[storclass.SC1]
+[storgroup.SG1.volume.VOL001]
+tracks = 100
+[routine]
+storclass = \"PROC STORCLAS SET &STORCLAS = 'SC1' END\"
+storgroup = \"PROC STORGRP SET &STORGRP = 'SG1' END\"
+./END
+SYNC
+JOB1 1 ALLOC A.B SPACE=(TRK,10)
+JOB2 1 ALLOC A.C SPACE=(TRK,10)
+";
+
+// The same, and then one job allocates while another deck is activated.
+const LIVE: &str = "SMSADMIN 1 ACTIVATE
+version = 1
+[storclass.SC1]
+[storgroup.SG1.volume.VOL001]
+tracks = 100
+[routine]
+storclass = \"PROC STORCLAS SET &STORCLAS = 'SC1' END\"
+storgroup = \"PROC STORGRP SET &STORGRP = 'SG1' END\"
+./END
+SYNC
+JOB1 1 DISPLAY SMS,VOLUME(VOL001)
+SYNC
+JOB1 2 ALLOC A.B SPACE=(TRK,1)
+SMSADMIN 2 ACTIVATE
+version = 1
+[storclass.SC2]
+[storgroup.SG1.volume.VOL001]
+tracks = 100
+[routine]
+storclass = \"PROC STORCLAS SET &STORCLAS = 'SC2' END\"
+storgroup = \"PROC STORGRP SET &STORGRP = 'SG1' END\"
+./END
+";
+
+#[test]
+fn an_activation_comes_between_a_classification_and_its_turn(rt: HostRuntime) -> Result<(), Fail> {
+    let gate = Holding::new();
+    let answers = run(rt.alloc(), &rt, LIVE, 2, &gate)?;
+    let mut told = Vec::new(rt.alloc());
+    for answer in answers.as_slice() {
+        told.push((answer.place, class_of(&answer.reply)))?;
+    }
+    // The ALLOC was classified under the first deck, and is answered under the second.
+    let wanted = [(1, 0), (2, 0), (4, b'2'), (3, 0)];
+    assert!(rt; told.as_slice() == wanted.as_slice());
+    assert!(rt; gate.shown() == [u64::from(b'1'), u64::from(b'2'), 1]);
+    Ok(())
+}
+
+#[test]
+fn two_jobs_are_classified_at_once(rt: HostRuntime) -> Result<(), Fail> {
+    let gate = Meeting::new();
+    let answers = run(rt.alloc(), &rt, TWO_JOBS, 3, &gate)?;
+    let mut granted = 0u32;
+    for answer in answers.as_slice() {
+        if class_of(&answer.reply) == b'1' {
+            granted += 1;
+        }
+    }
+    assert_eq!(rt; granted, 2);
+    assert!(rt; gate.counts() == [2, 0]);
+    Ok(())
+}
+
+#[test]
+fn two_workers_share_one_volume(rt: HostRuntime) -> Result<(), Fail> {
+    let answers = run(rt.alloc(), &rt, TWO_JOBS, 3, &FreeGate)?;
+    let [first, second, third] = answers.as_slice() else {
+        return Err(Fail::from("other than three answers"));
+    };
+    assert_eq!(rt; first.place, 1);
+    // The two places are 2 and 3, in whichever order.
+    assert!(rt; second.place.min(third.place) == 2);
+    assert!(rt; second.place.max(third.place) == 3);
+    Ok(())
+}
+
+#[test]
+fn sixteen_workers_and_empty_phases(rt: HostRuntime) -> Result<(), Fail> {
+    let answers = run(
+        rt.alloc(),
+        &rt,
+        "SYNC\nSMSADMIN 1 PURGE JOB1 1\nSYNC\nSYNC\n",
+        16,
+        &FreeGate,
+    )?;
+    assert_eq!(rt; answers.len(), 1);
+    let none = run(rt.alloc(), &rt, "SYNC\nSYNC\n", 2, &FreeGate)?;
+    assert!(rt; none.is_empty());
+    Ok(())
+}

@@ -1,0 +1,25 @@
+// Requests by the seats of a desk.
+ghost use Rattle.std.specs.Prelude.{◌≡◌, ◌<◌, All, length};
+ghost use Rattle.sms_desk.specs.Seats.{IsJobOf};
+
+use sms_construct::{Answer, Request};
+use sms_desk::{Desk, Gate, JobSeat};
+use sms_keeper::MemKeeper;
+use std::sync::Wait;
+
+// The answer to a request by one of the seats.
+pub fn submit<R: Wait, G: Gate>(
+    rt: &R,
+    desk: &Desk<MemKeeper>,
+    jobs: &mut [JobSeat<MemKeeper>],
+    who: usize,
+    request: &Request,
+    gate: &G,
+) -> Answer
+    requires who { who < length jobs.old }
+    requires jobs { All (IsJobOf desk.now.lock.table.shared.table_id) jobs.old }
+    ensures jobs { All (IsJobOf desk.now.lock.table.shared.table_id) jobs.new }
+    ensures count { length jobs.new ≡ length jobs.old }
+{
+    desk.submit(rt, &mut jobs[who], request, gate)
+}
