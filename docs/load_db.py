@@ -1,0 +1,65 @@
+#!/usr/bin/env python3
+"""Compares a run over a database with the same statements in the same transactions by Debian's sqlite3.
+usage: load_db.py SMSCTL N [FOLDER]     N allocations; FOLDER lies on the disk that is measured (default: here)
+It runs SMSCTL over a file, writes down the statements that its commits come to, runs these by sqlite3 with a log and a sync
+a commit as the desk has them, and compares both files row by row. It says the seconds of each, and what a sync costs alone."""
+import os, subprocess, sys, time
+smsctl, count = os.path.abspath(sys.argv[1]), int(sys.argv[2])
+folder = sys.argv[3] if len(sys.argv) > 3 else '.'
+here = os.path.dirname(os.path.abspath(__file__))
+os.chdir(folder)
+for name in ('desk.db', 'plain.db'):
+    for tail in ('', '-wal', '-shm'):
+        if os.path.exists(name + tail): os.remove(name + tail)
+script = subprocess.run([sys.executable, os.path.join(here, 'load.py'), 'alloc', str(count)], stdout=subprocess.PIPE, check=True).stdout
+
+def timed(words, text):
+    begin = time.time()
+    ended = subprocess.run(words, input=text, stdout=subprocess.PIPE)
+    return time.time() - begin, ended
+
+memory, plain = timed([smsctl, 'run'], script)
+desk, ended = timed([smsctl, 'run', '--db', 'desk.db'], script)
+assert ended.returncode == 0 and ended.stdout == plain.stdout, 'the run over the file answers otherwise'
+
+def rows(db, query):
+    text = subprocess.run(['sqlite3', '-readonly', db, query], stdout=subprocess.PIPE, check=True).stdout.decode()
+    return [line.split('|') for line in text.splitlines()]
+
+def blob(digits): return "x'" + digits + "'"
+
+# the statements of the commits, in the order of their places
+sets = {row[0]: row[1] for row in rows('desk.db', 'SELECT dsn, hex(rec) FROM sets')}
+lines = ['PRAGMA journal_mode=WAL;', 'PRAGMA synchronous=FULL;', 'BEGIN;']
+lines += [row[0] + ';' for row in rows('desk.db', "SELECT replace(sql, char(10), ' ') FROM sqlite_schema WHERE sql IS NOT NULL ORDER BY rowid")]
+lines.append('COMMIT;')
+for job, number, place, request, reply in rows('desk.db', 'SELECT job, number, place, hex(request), hex(reply) FROM replies ORDER BY place'):
+    lines.append('BEGIN;')
+    if job == 'SMSADMIN':
+        lines.append('DELETE FROM statuses;')
+        for kind, name, status in rows('desk.db', 'SELECT kind, name, status FROM statuses'):
+            lines.append(f"INSERT INTO statuses (kind, name, status) VALUES ({kind}, '{name}', {status});")
+        for number_of, bytes_of in rows('desk.db', 'SELECT count, hex(bytes) FROM decks'):
+            lines.append(f'INSERT INTO decks (count, bytes) VALUES ({number_of}, {blob(bytes_of)});')
+    else:
+        dsn = f'A.D{int(number) - 1}'
+        lines.append(f"INSERT OR REPLACE INTO sets (dsn, rec) VALUES ('{dsn}', {blob(sets[dsn])});")
+    lines.append(f"SELECT rowid FROM floors WHERE job = '{job}' AND floor > {number};")
+    lines.append(f"INSERT INTO replies (job, number, place, request, reply) VALUES ('{job}', {number}, {place}, {blob(request)}, {blob(reply)});")
+    lines.append('COMMIT;')
+c, _ = timed(['sqlite3', 'plain.db'], '\n'.join(lines).encode())
+for table in ('sets', 'replies', 'decks', 'statuses', 'floors'):
+    query = f'SELECT * FROM {table} ORDER BY 1, 2'.replace('*', {'sets': 'dsn, hex(rec)', 'replies': 'job, number, place, hex(request), hex(reply)', 'decks': 'count, hex(bytes)'}.get(table, '*'))
+    assert rows('desk.db', query) == rows('plain.db', query), table
+check = rows('desk.db', 'PRAGMA integrity_check')
+assert check == [['ok']], check
+
+# what a sync of one page costs here
+begin, syncs = time.time(), min(count, 500)
+with open('sync.tmp', 'wb') as out:
+    for _ in range(syncs):
+        out.write(b'x' * 4096); out.flush(); os.fsync(out.fileno())
+sync = (time.time() - begin) / syncs
+os.remove('sync.tmp')
+print(f'{count} allocations: in memory {memory:.2f} s, over a file {desk:.2f} s, sqlite3 the same statements {c:.2f} s ({desk / c:.2f} times)')
+print(f'a sync of one page: {sync * 1000:.2f} ms; without syncs about {desk - sync * (count + 2):.2f} s and {c - sync * (count + 2):.2f} s')
