@@ -66,17 +66,17 @@ module _ {K : Type 0} {R : K → K → Ordering} (total : IsTotalOrder R) where
   row_behind from [] row sorted is = absurd cc
   row_behind from (e ∷ es) row sorted is = elim (cases_Bool (is_lt (R from e.0))) [
     | inl here ↦
-      let found : Some e ≡ Some row = rw here at is in
-      let same : e ≡ row = cc in
-      subst (IsRowBehind from (e ∷ es)) same (record { behind = less_is (R from e.0) here; stands = first_found e es; between = λ key one two. none_before key e es sorted two })
+        let found : Some e ≡ Some row = rw here at is in
+        let same : e ≡ row = cc in
+        subst (IsRowBehind from (e ∷ es)) same (record { behind = less_is (R from e.0) here; stands = first_found e es; between = λ key one two. none_before key e es sorted two })
     | inr not ↦
-      let found : row_after R from es ≡ Some row = rw not at is in
-      let rest = row_behind from es row sorted.1 found in
-      record {
-        behind = rest.behind;
-        stands = rw (apart from row.0 e.0 (R from e.0) refl not rest.behind) rest.stands;
-        between = λ key one two. rw (apart from key e.0 (R from e.0) refl not one) (rest.between key one two);
-      }
+        let found : row_after R from es ≡ Some row = rw not at is in
+        let rest = row_behind from es row sorted.1 found in
+        record {
+          behind = rest.behind;
+          stands = rw (apart from row.0 e.0 (R from e.0) refl not rest.behind) rest.stands;
+          between = λ key one two. rw (apart from key e.0 (R from e.0) refl not one) (rest.between key one two);
+        }
   ]
 
 -- the data set of the next row is the next one

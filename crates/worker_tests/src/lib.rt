@@ -6,7 +6,11 @@ mod counting;
 #[cfg(test)]
 mod holding;
 #[cfg(test)]
+mod loads;
+#[cfg(test)]
 mod meeting;
+#[cfg(test)]
+mod replaying;
 #[cfg(test)]
 mod running;
 #[cfg(test)]
