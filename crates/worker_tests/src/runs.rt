@@ -1,8 +1,7 @@
 // Scripts answered by several workers.
 use crate::holding::Holding;
 use crate::meeting::Meeting;
-use crate::running::{class_of, run};
-use sms_construct::Reply;
+use crate::running::{class_of, first_extent, run};
 use sms_desk::FreeGate;
 use std::test::Fail;
 
@@ -83,9 +82,15 @@ fn two_workers_share_one_volume(rt: HostRuntime) -> Result<(), Fail> {
         return Err(Fail::from("other than three answers"));
     };
     assert_eq!(rt; first.place, 1);
-    // The two places are 2 and 3, in whichever order.
-    assert!(rt; second.place.min(third.place) == 2);
-    assert!(rt; second.place.max(third.place) == 3);
+    // Whoever came first has the volume's first tracks.
+    let (early, late) = if second.place < third.place {
+        (second, third)
+    } else {
+        (third, second)
+    };
+    assert!(rt; early.place == 2 && late.place == 3);
+    assert!(rt; first_extent(&early.reply) == Some((0, 10)));
+    assert!(rt; first_extent(&late.reply) == Some((10, 10)));
     Ok(())
 }
 

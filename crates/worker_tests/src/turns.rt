@@ -1,7 +1,7 @@
 // Turns that find another configuration active.
 use crate::counting::Counting;
+use crate::running::class_of;
 use crate::submitting::submit;
-use sms_construct::{Reply, Request};
 use sms_core::Core;
 use sms_desk::{Desk, JobSeats};
 use sms_keeper::MemKeeper;
@@ -30,14 +30,6 @@ storgroup = \"PROC STORGRP SET &STORGRP = 'SG1' END\"
 JOB1 2 ALLOC A.B SPACE=(TRK,1)
 JOB1 3 ALLOC A.C SPACE=(TRK,1)
 ";
-
-// The storage class of a granted data set, as its last letter.
-fn class_of(reply: &Reply) -> u8 {
-    match reply {
-        Reply::Granted { set, .. } => set.get().storclas.bytes().last().copied().unwrap_or(0),
-        _ => 0,
-    }
-}
 
 #[test]
 fn a_stale_turn_is_given_back(rt: HostRuntime) -> Result<(), Fail> {
