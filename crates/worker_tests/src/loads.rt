@@ -33,8 +33,8 @@ fn generated_scripts_have_one_history(rt: HostRuntime) -> Result<(), Fail> {
     for seed in 0..SCRIPTS {
         let script = generate(alloc, seed, 24)?;
         for workers in WORKERS {
-            let core = Core::new(alloc, MemKeeper::new(alloc));
-            let again = Core::new(alloc, MemKeeper::new(alloc));
+            let core = in_memory(alloc);
+            let again = in_memory(alloc);
             assert!(rt; is_one_history(alloc, &rt, &script, workers, core, again)?);
         }
     }
@@ -55,6 +55,11 @@ fn a_keeper_that_fails_is_told_by_one_history(rt: HostRuntime) -> Result<(), Fai
     Ok(())
 }
 
+// A new core over a keeper in memory.
+fn in_memory(alloc: Global) -> Core<MemKeeper> {
+    Core::new(alloc, MemKeeper::new(alloc))
+}
+
 // A core whose keeper fails some commits.
 fn failing(alloc: Global) -> Result<Core<FaultKeeper>, Fail> {
     let keeper = FaultKeeper::new(alloc, &[2, 3, 7, 8, 20, 33])?;
@@ -66,8 +71,8 @@ fn many_activations_beside_many_allocations(rt: HostRuntime) -> Result<(), Fail>
     let alloc = rt.alloc();
     let text = live_text(alloc)?;
     let script = read(alloc, &text)?;
-    let core = Core::new(alloc, MemKeeper::new(alloc));
-    let again = Core::new(alloc, MemKeeper::new(alloc));
+    let core = in_memory(alloc);
+    let again = in_memory(alloc);
     assert!(rt; is_one_history(alloc, &rt, &script, 4, core, again)?);
     Ok(())
 }
