@@ -77,6 +77,12 @@ pub record IsManaged (o : Opening) (day : ℕ) (config : Configuration) (before 
   -- where all was done nothing is due any more
   pub settled : list_all (λ act. was_done act.answer.reply) acts ≡ true → (dsn : List ℕ) → is_due_if config day (set_named dsn after.sets) ≡ false
 
+-- behind these entries stand only some that the job asked for
+pub record IsAsking (old new : List Entry) : Type 0 where
+  pub added : List Entry
+  pub behind : new ≡ old ++ added
+  pub asked : list_all (λ entry. bytes_eq entry.request.job manager) added ≡ true
+
 -- nothing is active, so nothing is catalogued, and nothing is done
 pub record IsIdle (before : DeskState) (old new : List Entry) (acts : List Act) : Type 0 where
   pub inactive : before.active ≡ None
