@@ -1,5 +1,5 @@
 -- A day of space management: which requests are made, and what they come to.
-use Rattle.std.specs.Prelude.{ℕ, ◌≡◌, ◌+◌, ◌==◌, ◌&&◌, ◌⊎◌, Bool, true, false, List, [], ◌∷◌, ◌++◌, map, codes, bytes_eq, Option, None, Some, if◌then◌else◌}
+use Rattle.std.specs.Prelude.{ℕ, ◌≡◌, ◌↔◌, ◌+◌, ◌==◌, ◌&&◌, ◌⊎◌, Bool, true, false, List, [], ◌∷◌, ◌++◌, map, codes, bytes_eq, Option, None, Some, IfSome, if◌then◌else◌}
 use Rattle.std.specs.List.{list_all, list_any}
 use Rattle.sms_construct.specs.Configuration.{Configuration, are_ascending}
 use Rattle.sms_construct.specs.declared.data_set.DataSet.{DataSet}
@@ -11,7 +11,8 @@ use Rattle.sms_construct.specs.declared.request.Op.TheVariants as ops
 use Rattle.sms_construct.specs.declared.request.Request.{Request}
 use Rattle.desk_law.specs.State.{DeskState, Opening, set_named}
 use Rattle.desk_law.specs.History.{Reaches}
-use Rattle.desk_law.specs.Kept.{floor_of, kept_for}
+use Rattle.desk_law.specs.Kept.{floor_of, is_entered, kept_for}
+use Rattle.desk_records.specs.Full.{is_full_for}
 use Rattle.sms_core.specs.Core.{entry_of}
 use Rattle.sms_construct.specs.declared.entry.Answer.{Answer}
 use Rattle.sms_manage.specs.declared.act.Act.{Act}
@@ -66,11 +67,24 @@ was_done (replies.Deleted tracks) = true
 was_done (replies.Released tracks) = true
 was_done reply = false
 
+-- the answer is one of a step behind these entries: without an entry it has no place, and the journal is full exactly where it has none for the op
+pub record IsAnswerBehind (h : List Entry) (op : Op) (answer : Answer) : Type 0 where
+  pub unplaced : is_entered answer.reply ≡ false → (answer.place ≡ 0) × (answer.first ≡ 0)
+  pub full : answer.reply ≡ replies.JournalFull ↔ is_full_for h op ≡ true
+
+-- each act has such an answer behind these entries and those of the acts before it
+abbrev pub AreAnswersBehind : Configuration → ℕ → List DataSet → List Entry → List Act → Type 0
+AreAnswersBehind config day sets h [] = Unit {0}
+AreAnswersBehind config day sets h (act ∷ acts) =
+    IfSome (op_if config day (set_named act.dsn sets)) (λ op. IsAnswerBehind h op act.answer)
+    × AreAnswersBehind config day sets (h ++ entry_for (op_if config day (set_named act.dsn sets)) act) acts
+
 -- from the state before, in which this configuration was active, the acts lead to the state after
 pub record IsManaged (o : Opening) (day : ℕ) (config : Configuration) (before after : DeskState) (old new : List Entry) (acts : List Act) : Type 0 where
   pub active : before.active ≡ Some config
   pub acts_are : AreActs config day before.sets acts
   pub journal : new ≡ old ++ entries_of config day before.sets acts
+  pub answers : AreAnswersBehind config day before.sets old acts
   pub legal : Reaches o new after
   -- other data sets are as before
   pub others : (dsn : List ℕ) → is_due_if config day (set_named dsn before.sets) ≡ false → set_named dsn after.sets ≡ set_named dsn before.sets
