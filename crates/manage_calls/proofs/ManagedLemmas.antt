@@ -1,6 +1,6 @@
 -- A run behind which a day was managed.
 use Rattle.std.proofs.Common.{◌≡◌, ◌≤◌, ◌+◌, ◌-◌, ◌^◌, ℕ, true, List, [], sym, subst}
-use Rattle.std.specs.Prelude.{Option, min}
+use Rattle.std.specs.Prelude.{Option, Ok, min}
 use Rattle.sms_construct.specs.declared.entry.Answer.{Answer}
 use Rattle.sms_construct.specs.declared.entry.Entry.{Entry}
 use Rattle.sms_keeper.specs.declared.rows.Rows.{Rows}
@@ -14,9 +14,9 @@ use Rattle.sms_script.specs.declared.item.Item.{Item}
 use Rattle.desk_calls.specs.Headline.{IsLawfulHistory, IsRecorded, Keeping}
 use Rattle.desk_calls.specs.Run.{AnswersInOrder}
 use Rattle.desk_calls.proofs.OrderLemmas.{in_order_answered}
-use Rattle.sms_manage.specs.Managed.{IsUnused}
-use Rattle.manage_calls.specs.ManagedRun.{WasAnsweredAlone}
-use Rattle.manage_calls.specs.Reserved.{are_free}
+use Rattle.sms_manage.specs.Managed.{IsAsking, IsUnused}
+use Rattle.manage_calls.specs.ManagedRun.{WasAnsweredAlone, WasManageBegun}
+use Rattle.manage_calls.specs.Reserved.{are_free, managed_script_of}
 use Rattle.manage_calls.proofs.UnusedLemmas.{run-unused}
 
 -- legal histories of a new desk are lawful
@@ -37,6 +37,19 @@ module _ (phases : List (List Item)) (answers : List Answer) (o : Opening) (star
   -- the script was answered
   pub answered-alone : AreLawful → WasAnsweredAlone phases answers h
   answered-alone lawful = record { once = in_order_answered phases answers [] h in-order; in_order = in-order; lawful = lawful h here }
+
+  -- and only space management may have asked behind it
+  pub begun : AreLawful → (bytes : List ℕ) → managed_script_of bytes ≡ Ok phases → (whole : List Entry) → IsAsking h whole → (before after : Keeping) → IsRecorded before after whole → WasManageBegun before after bytes
+  begun lawful bytes script whole asking before after recorded = record {
+    phases = phases;
+    answers = answers;
+    history = h;
+    whole = whole;
+    script = script;
+    run = answered-alone lawful;
+    asking = asking;
+    recorded = recorded;
+  }
 
 -- the keeper's count and tables go with the whole history
 pub recorded-whole : (o : Opening) (whole : List Entry) (before : Keeping) (mark count : ℕ) (told : Option Rows) → o ≡ empty_opening → mark ≡ before.count → IsLegal o whole

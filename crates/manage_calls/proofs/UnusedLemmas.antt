@@ -1,12 +1,11 @@
 -- A history without reserved requests: the job of space management has no kept reply and no floor.
-use Rattle.std.proofs.Common.{◌≡◌, ◌⊎◌, ◌&&◌, ◌||◌, ℕ, not, Bool, true, false, List, [], ◌∷◌, ◌++◌, refl, sym, ap, ◌∙◌, subst, append-nil, append_assoc, inl, inr}
-use Rattle.std.specs.Prelude.{Option, None, Some, bytes_eq, find, nat_eq, max}
+use Rattle.std.proofs.Common.{◌≡◌, ◌⊎◌, ◌&&◌, ◌||◌, ℕ, not, Bool, true, false, List, [], ◌∷◌, ◌++◌, refl, sym, ap, subst, append-nil, append_assoc, inl, inr}
+use Rattle.std.specs.Prelude.{None, Some, bytes_eq, find}
 use Rattle.std.specs.List.{list_all}
 use Rattle.std.proofs.lemmas.Bool.{cases_Bool}
 use Rattle.sms_construct.specs.declared.entry.Answer.{Answer}
 use Rattle.sms_construct.specs.declared.entry.Entry.{Entry}
 use Rattle.sms_construct.specs.declared.reply.Reply.{Reply}
-use Rattle.sms_construct.specs.declared.reply.Reply.TheVariants as replies
 use Rattle.sms_construct.specs.declared.request.Op.{Op}
 use Rattle.sms_construct.specs.declared.request.Op.TheVariants as ops
 use Rattle.sms_construct.specs.declared.request.Request.{Request}
@@ -17,7 +16,7 @@ use Rattle.desk_law.specs.State.{DeskState, start_of}
 use Rattle.desk_law.specs.Kept.{floor_of, floor_told, floors_of, greatest_floor, is_entered, is_fault, row_of_entry, rows_of, rows_of_entry}
 use Rattle.desk_law.specs.Records.{empty_opening}
 use Rattle.desk_law.specs.Rule.{Rule}
-use Rattle.desk_law.specs.Step.{IsFault, IsFresh, IsRepeat, IsStep, RepeatsReply, ReusesNumber}
+use Rattle.desk_law.specs.Step.{IsFault, IsStep, RepeatsReply, ReusesNumber}
 use Rattle.desk_law.specs.History.{IsLegal, Leads}
 use Rattle.desk_law.proofs.StepLemmas.{on-step}
 use Rattle.sms_core.specs.Core.{entry_of}
@@ -27,7 +26,7 @@ use Rattle.desk_workers.specs.Phases.{entries_for}
 use Rattle.desk_calls.specs.Run.{AnswersInOrder}
 use Rattle.sms_manage.specs.Managed.{IsUnused, manager}
 use Rattle.manage_calls.specs.Reserved.{are_free, is_reserved, purges_manager}
-use Rattle.manage_calls.proofs.FloorlessLemmas.{IsNoPurge, rule-floorless}
+use Rattle.manage_calls.proofs.FloorlessLemmas.{rule-floorless}
 
 -- no request of these is reserved
 abbrev pub AreFree : List Entry → Type 0

@@ -1,5 +1,5 @@
 -- What a script of one line tells of the line.
-use Rattle.std.specs.Prelude.{ℕ, Bool, List, Result, Ok, Err, if◌then◌else◌}
+use Rattle.std.specs.Prelude.{Bool, List, Result, Ok, Err, if◌then◌else◌}
 use Rattle.std.specs.List.{list_any}
 use Rattle.sms_script.specs.declared.item.Item.{Item}
 use Rattle.sms_script.specs.declared.script_err.ScriptErr.{ScriptErr}

@@ -77,7 +77,10 @@ fn kind_of_fault(fault: ScriptErr) -> Result<LineKind, AllocError>
 fn has_reserved(script: &Script) -> bool
     ensures { result ≡ has_reserved script.now }
 {
-    script.as_slice().iter().any(|phase| has_reserved_item(phase.as_slice()))
+    script
+        .as_slice()
+        .iter()
+        .any(|phase| has_reserved_item(phase.as_slice()))
 }
 
 fn has_reserved_item(items: &[Item]) -> bool

@@ -1,7 +1,5 @@
-use Rattle.std.proofs.Common.{◌≡◌, List, length, inr, refl, sym, ap, subst, ◌∙◌}
-use Rattle.desk_law.specs.Records.{empty_opening}
-use Rattle.desk_calls.specs.Headline.{IsRecorded, Keeping}
-use Rattle.manage_calls.proofs.ManagedLemmas.{answered-alone, recorded-whole, unused-behind}
+use Rattle.std.proofs.Common.{inr, ◌∙◌}
+use Rattle.manage_calls.proofs.ManagedLemmas.{answered-alone, begun, recorded-whole, unused-behind}
 use Rattle.manage_calls.proofs.managing.manage_script.Goals as goal
 
 -- the script asks nothing as the job of space management
@@ -17,16 +15,8 @@ returns-in_default-acts-clause-left g c = λ bytes script.
     let managed = c.manage_day-acts.ensures in
     let closed = c.into_parts-keeper-2.ensures in
     let opening = ran.opening ∙ c.new.ensures.opening in
-    inr (record {
-      phases = c.args.script.now;
-      answers = c.in-Ok.answers;
-      history = c.run_script-answers.result.1.journal;
-      whole = c.manage_day-acts.new.core.journal;
-      script = script;
-      run = answered-alone c.args.script.now c.in-Ok.answers _ _ _ opening c.new.ensures.journal (rw c.in-Ok.is at ran.answered) ran.legal c.legal_is_lawful.ensures;
-      asking = managed.asking;
-      recorded = rw closed.keeper (recorded-whole _ _ _ _ _ _ (managed.opening ∙ opening) (managed.mark ∙ ran.mark ∙ c.new.ensures.mark) closed.legal closed.counted closed.tables c.legal_is_lawful.ensures);
-    })
+    inr (begun c.args.script.now c.in-Ok.answers _ _ _ opening c.new.ensures.journal (rw c.in-Ok.is at ran.answered) ran.legal c.legal_is_lawful.ensures bytes script c.manage_day-acts.new.core.journal managed.asking _ _
+    (rw closed.keeper (recorded-whole _ _ _ _ _ _ (managed.opening ∙ opening) (managed.mark ∙ ran.mark ∙ c.new.ensures.mark) closed.legal closed.counted closed.tables c.legal_is_lawful.ensures)))
 
 pub returns-clause-left : goal.returns-clause-left
 returns-clause-left g c = λ bytes script.
@@ -34,16 +24,8 @@ returns-clause-left g c = λ bytes script.
     let managed = c.manage_day-acts.ensures in
     let closed = c.into_parts-keeper-2.ensures in
     let opening = ran.opening ∙ c.new.ensures.opening in
-    inr (record {
-      phases = c.args.script.now;
-      answers = c.in-Ok.answers;
-      history = c.run_script-answers.result.1.journal;
-      whole = c.manage_day-acts.new.core.journal;
-      script = script;
-      run = answered-alone c.args.script.now c.in-Ok.answers _ _ _ opening c.new.ensures.journal (rw c.in-Ok.is at ran.answered) ran.legal c.legal_is_lawful.ensures;
-      asking = managed.asking;
-      recorded = rw closed.keeper (recorded-whole _ _ _ _ _ _ (managed.opening ∙ opening) (managed.mark ∙ ran.mark ∙ c.new.ensures.mark) closed.legal closed.counted closed.tables c.legal_is_lawful.ensures);
-    })
+    inr (begun c.args.script.now c.in-Ok.answers _ _ _ opening c.new.ensures.journal (rw c.in-Ok.is at ran.answered) ran.legal c.legal_is_lawful.ensures bytes script c.manage_day-acts.new.core.journal managed.asking _ _
+    (rw closed.keeper (recorded-whole _ _ _ _ _ _ (managed.opening ∙ opening) (managed.mark ∙ ran.mark ∙ c.new.ensures.mark) closed.legal closed.counted closed.tables c.legal_is_lawful.ensures)))
 
 -- the script was answered, and all that was due was asked for
 pub returns-in-Ok-text_with_acts-clause-answered : goal.returns-in-Ok-text_with_acts-clause-answered
