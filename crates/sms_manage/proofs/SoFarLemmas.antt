@@ -1,5 +1,5 @@
 -- The day up to a name.
-use Rattle.std.proofs.Common.{inl, inr, ◌≡◌, ◌⊎◌, ℕ, ◌+◌, ◌&&◌, ◌||◌, not, Bool, true, false, List, [], ◌∷◌, ◌++◌, length, map, Option, None, Some, is_lt, refl, sym, ap, subst, ◌∙◌, arith, append-nil, append_assoc, length-append}
+use Rattle.std.proofs.Common.{inl, inr, ◌≡◌, ◌⊎◌, ℕ, ◌+◌, ◌&&◌, ◌||◌, not, Bool, true, false, List, [], ◌∷◌, ◌++◌, length, map, Option, None, Some, refl, sym, ap, subst, ◌∙◌, arith, append-nil, append_assoc, length-append}
 use Rattle.std.specs.Prelude.{bytes_eq}
 use Rattle.std.specs.List.{list_all, list_any}
 use Rattle.std.proofs.lemmas.Bool.{cases_Bool}
@@ -15,9 +15,9 @@ use Rattle.sms_manage.specs.declared.act.Act.{Act}
 use Rattle.sms_manage.specs.declared.wanted.Due.{Due}
 use Rattle.sms_manage.specs.declared.wanted.Due.TheVariants.{Nothing, Delete, Release}
 use Rattle.sms_manage.specs.Due.{due_of, is_due, is_due_if}
-use Rattle.sms_manage.specs.Managed.{AreActs, AreAnswersBehind, IsAnswerBehind, IsManaged, IsUnused, are_counted, entries_of, entry_for, manager, op_for, op_if, was_done}
+use Rattle.sms_manage.specs.Managed.{AreAnswersBehind, IsAnswerBehind, IsManaged, IsUnused, are_counted, entries_of, entry_for, op_for, op_if, is_hindered}
 use Rattle.sms_manage.specs.Walk.{Asks, IsDueNext, IsNextDue}
-use Rattle.sms_manage.proofs.ActLemmas.{HasActed, IsActed, IsUnusedFrom, after_act, step-acted, unused-all}
+use Rattle.sms_manage.proofs.ActLemmas.{HasActed, IsUnusedFrom, step-acted, unused-all}
 use Rattle.sms_manage.proofs.DayLemmas.{AllBefore, R, all-push, any-push, ascending-push, before-apart, before-behind, before-push, behind-apart, counted-push, entries-push, further, names-push, other-stays, same-name, settled-act, which-at}
 
 -- the data sets up to a name were gone through, from the state before
@@ -33,7 +33,7 @@ pub record IsDaySoFar (o : Opening) (day : ℕ) (config : Configuration) (before
   pub order : are_ascending (map (λ act. act.dsn) acts) ≡ true
   pub counted : are_counted 1 acts ≡ true
   pub others : (dsn : List ℕ) → is_behind last dsn ≡ false → is_due_if config day (set_named dsn before.sets) ≡ false → set_named dsn state.sets ≡ set_named dsn before.sets
-  pub settled : list_all (λ act. was_done act.answer.reply) acts ≡ true → (dsn : List ℕ) → is_behind last dsn ≡ false → is_due_if config day (set_named dsn state.sets) ≡ false
+  pub settled : list_all (λ act. not (is_hindered act.answer.reply)) acts ≡ true → (dsn : List ℕ) → is_behind last dsn ≡ false → is_due_if config day (set_named dsn state.sets) ≡ false
 
 -- one more act has its answer
 answers-push : (config : Configuration) (day : ℕ) (sets : List DataSet) (h : List Entry) (acts : List Act) (act : Act) (op : Op) → op_if config day (set_named act.dsn sets) ≡ Some op
@@ -158,7 +158,7 @@ module _ (o : Opening) (day : ℕ) (config : Configuration) (before : DeskState)
           | inr (inr gone) ↦ stays acted dsn gone.2 ∙ far.behind dsn gone.0
         ];
         settled = λ all dsn isnt.
-            let both = all-push (λ a. was_done a.answer.reply) acts act all in
+            let both = all-push (λ a. not (is_hindered a.answer.reply)) acts act all in
             elim (place-of dsn isnt) [
               | inl early ↦ rw (stays acted dsn (up-to dsn early)) (far.settled both.0 dsn early)
               | inr (inl same) ↦ rw (← same) (elim acted.acted.outcome [

@@ -1,6 +1,6 @@
 -- One data set after the other.
 use Rattle.std.proofs.Common.{◌∙◌, ap, sym}
-use Rattle.sms_manage.proofs.AskingLemmas.{asking-more, asking-none, asks-asking}
+use Rattle.sms_manage.proofs.AskingLemmas.{asking-more, asks-asking}
 use Rattle.sms_manage.proofs.SoFarLemmas.{day-acts, day-over, day-passes}
 use Rattle.sms_manage.proofs.day.act_all.Goals.{in-Some-op_for+in_ok-act_on, in_default-op_for}
 use Rattle.sms_manage.proofs.day.act_all.Goals as goal
