@@ -8,6 +8,7 @@ use Rattle.sqlite.specs.declared.error.Error.{Error}
 use Rattle.sms_keeper.specs.Tables.{with_change, keep_row, row_of, no_rows}
 use Rattle.sms_keeper.specs.declared.change.Change.{Change}
 use Rattle.sms_keeper.specs.declared.rows.Rows.{Rows}
+use Rattle.keeper_statements.proofs.CreateLemmas.{made_ready}
 use Rattle.keeper_statements.specs.Steps.{HasMade}
 use Rattle.sms_sqlite.specs.Told.{tables_of, is_new}
 use Rattle.sms_sqlite.specs.Values.{rows_in, rows_of}
@@ -73,10 +74,11 @@ made_like old new rows made told = by (is_new old) refl
     by : (b : Bool) → is_new old ≡ b → HoldsLike new rows
     by true is =
         let schema = new_is old is in
+        let fresh = made_ready old new made schema in
         let none : no_rows ≡ rows = some_is no_rows rows (sym (tables_of_new old schema) ∙ told) in
         record {
           found = rows;
-          holds = record { ready = made.ready schema; read = ap rows_of (made.empty schema) ∙ ap (λ (r : Rows). some r) none };
+          holds = record { ready = fresh.0; read = ap rows_of fresh.1 ∙ ap (λ (r : Rows). some r) none };
           alike = alike_self rows;
         }
     by false is = absurd (made.free (holds_of old rows is told).ready.schema)
