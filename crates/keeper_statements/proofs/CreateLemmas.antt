@@ -163,8 +163,10 @@ made_is schema text table c making h =
     let e : with_command p plan.0 ≡ c = cc in
     record {
       is = sym (ap (λ (c : Compiled). c.command) e) ∙ ap (λ q. q.1.0) (sym g) ∙ ap (λ q. q.0) (sym f) ∙ k;
-      plain = (sym (ap (λ (c : Compiled). c.returning) e) ∙ ap (λ q. q.1.1) (sym g) ∙ ap (λ q. q.1) (sym f) ∙ s,
-        sym (ap (λ (c : Compiled). c.formats) e) ∙ ap (λ q. q.0) (sym g) ∙ t);
+      plain = (
+        sym (ap (λ (c : Compiled). c.returning) e) ∙ ap (λ q. q.1.1) (sym g) ∙ ap (λ q. q.1) (sym f) ∙ s,
+        sym (ap (λ (c : Compiled). c.formats) e) ∙ ap (λ q. q.0) (sym g) ∙ t,
+      );
       whole = sym (ap (λ (c : Compiled). text_of text c) e) ∙ ap (whole_text text) (sym read.1) ∙ making.whole;
     }
 
