@@ -69,7 +69,7 @@ fn is_so(rt: &HostRuntime, path: &str, made: &str, ready: bool, rows: &str) -> R
     keeper.into_connection().close()?;
     let mut again = Connection::open(rt, path)?;
     good &= count(&mut again, rows)? == 1;
-    good &= (counts(&mut again).ok() == Some([0; 5])) == ready;
+    good &= rows_of(rt.alloc(), &mut again)?.is_empty() != ready;
     Ok(good)
 }
 
