@@ -71,8 +71,8 @@ pub record IsAsBefore (old new : State) : Type 0 where
   pub committed : new.committed ≡ old.committed
 
 -- while the disk is clean and the connection open, what is refused leaves all as before
-abbrev pub MayRefuse : {X E : Type 0} → State → State → Result X E → Type 0
-MayRefuse old new result = HasCleanDisk new → IsTrue new.is_open → OnErr result (IsAsBefore old new)
+abbrev pub MayUndo : {X E : Type 0} → State → State → Result X E → Type 0
+MayUndo old new result = HasCleanDisk new → IsTrue new.is_open → OnErr result (IsAsBefore old new)
 
 -- the database holds rows like these, and they are committed
 pub record IsCommitted (new : State) (rows : Rows) : Type 0 where

@@ -11,7 +11,7 @@ ghost use Rattle.sms_keeper.specs.Told.{Applies, Stays};
 ghost use Rattle.sms_keeper.specs.declared.rows.Rows.{Rows};
 ghost use Rattle.keeper_statements.specs.Steps.{HasMade};
 ghost use Rattle.sms_sqlite.specs.Told.{tables_of, told_by};
-ghost use Rattle.sms_sqlite.specs.Writing.{HasRows, MayCommit, MayRefuse, MaySettle};
+ghost use Rattle.sms_sqlite.specs.Writing.{HasRows, MayCommit, MayUndo, MaySettle};
 
 use crate::writing::{write_change, write_tables};
 use sms_keeper::{Change, Keeper, KeeperErr, Stored};
@@ -72,7 +72,7 @@ impl<S: Alter + Drop> SqlKeeper<S> {
         ensures faults { self.new.faults ≡ self.old.faults }
         ensures applied { OnOk result (Applies change.now (told_by S.Store self.old) (told_by S.Store self.new)) }
         ensures kept { OnErr result (Stays (told_by S.Store self.old) (told_by S.Store self.new)) }
-        ensures unchanged { MayRefuse (state S.Store self.old.connection) (state S.Store self.new.connection) result }
+        ensures unchanged { MayUndo (state S.Store self.old.connection) (state S.Store self.new.connection) result }
         ensures settled { MaySettle (state S.Store self.new.connection) result }
         ensures made { MayCommit (λ rows. with_change rows change.now) (state S.Store self.old.connection) (state S.Store self.new.connection) result }
         ensures crash { Survives (state S.Store self.old.connection) (state S.Store self.new.connection) (λ db. (rows : Rows) → tables_of (state S.Store self.old.connection).now ≡ Some rows → HasRows db (with_change rows change.now)) }
@@ -86,7 +86,7 @@ impl<S: Alter + Drop> SqlKeeper<S> {
         ensures base { self.new.base ≡ self.old.base }
         ensures faults { self.new.faults ≡ self.old.faults }
         ensures kept { Stays (told_by S.Store self.old) (told_by S.Store self.new) }
-        ensures unchanged { MayRefuse (state S.Store self.old.connection) (state S.Store self.new.connection) result }
+        ensures unchanged { MayUndo (state S.Store self.old.connection) (state S.Store self.new.connection) result }
         ensures settled { MaySettle (state S.Store self.new.connection) result }
         ensures made { HasCleanDisk (state S.Store self.new.connection) → OnOk result (HasMade (state S.Store self.old.connection).now (state S.Store self.new.connection).now) }
         ensures crash { Survives (state S.Store self.old.connection) (state S.Store self.new.connection) (λ db. (rows : Rows) → tables_of (state S.Store self.old.connection).now ≡ Some rows → HasRows db rows) }
@@ -128,7 +128,7 @@ impl<S: Alter + Drop> Keeper for SqlKeeper<S> {
         ensures rises { self.old.faults ≤ self.new.faults }
         ensures faults { self.new.faults ≡ faults_counted self.old.faults result }
         ensures base { self.new.base ≡ self.old.base }
-        ensures unchanged { MayRefuse (state S.Store self.old.connection) (state S.Store self.new.connection) result }
+        ensures unchanged { MayUndo (state S.Store self.old.connection) (state S.Store self.new.connection) result }
         ensures settled { MaySettle (state S.Store self.new.connection) result }
         ensures made { MayCommit (λ rows. with_change rows change.now) (state S.Store self.old.connection) (state S.Store self.new.connection) result }
         ensures crash { Survives (state S.Store self.old.connection) (state S.Store self.new.connection) (λ db. (rows : Rows) → tables_of (state S.Store self.old.connection).now ≡ Some rows → HasRows db (with_change rows change.now)) }
@@ -153,7 +153,7 @@ impl<S: Alter + Drop> Stored for SqlKeeper<S> {
         ensures rises { self.old.faults ≤ self.new.faults }
         ensures faults { self.new.faults ≡ faults_counted self.old.faults result }
         ensures base { self.new.base ≡ self.old.base }
-        ensures unchanged { MayRefuse (state S.Store self.old.connection) (state S.Store self.new.connection) result }
+        ensures unchanged { MayUndo (state S.Store self.old.connection) (state S.Store self.new.connection) result }
         ensures settled { MaySettle (state S.Store self.new.connection) result }
         ensures made { HasCleanDisk (state S.Store self.new.connection) → OnOk result (HasMade (state S.Store self.old.connection).now (state S.Store self.new.connection).now) }
         ensures crash { Survives (state S.Store self.old.connection) (state S.Store self.new.connection) (λ db. (rows : Rows) → tables_of (state S.Store self.old.connection).now ≡ Some rows → HasRows db rows) }
