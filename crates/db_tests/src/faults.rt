@@ -27,9 +27,6 @@ static COMMITS: &[Step] = &[
     Step::Floor("JOB1", 2),
 ];
 
-// Calls past which none is tried.
-const MOST_CALLS: u64 = 150;
-
 fn disk(alloc: Global, passes: u64, fails: u64) -> Flaky<Memory> {
     Flaky::new(Memory::new(alloc), passes, fails)
 }
@@ -125,27 +122,21 @@ fn is_lawful(alloc: Global, rows: &str, mut done: Vec<bool>) -> Result<bool, Fai
     Ok(false)
 }
 
-// Whether what is found is lawful where the calls fail behind so many, and whether all was acknowledged.
-fn is_one_lawful(alloc: Global, failing: Failing, passes: u64) -> Result<(bool, bool), Fail> {
+// Whether what is found is lawful where the calls fail behind so many.
+fn is_one_lawful(alloc: Global, failing: Failing, passes: u64) -> Result<bool, Fail> {
     let (done, disks) = run(alloc, disks(alloc, failing, passes))?;
-    let whole = !done.contains(&false);
     match found(alloc, disks)? {
-        Some(rows) => Ok((is_lawful(alloc, rows.as_str(), done)?, whole)),
-        None => Ok((false, whole)),
+        Some(rows) => is_lawful(alloc, rows.as_str(), done),
+        None => Ok(false),
     }
 }
 
-/// Whether what is found is lawful for each second number of calls that pass, from this one on, until all passes.
-pub fn is_each_lawful(alloc: Global, failing: Failing, first: u64) -> Result<bool, Fail> {
+/// Whether what is found is lawful for five numbers of calls that pass: this one, and each third behind it.
+pub fn are_lawful(alloc: Global, failing: Failing, first: u64) -> Result<bool, Fail> {
     let mut good = true;
-    let mut ended = false;
-    for at in 0..MOST_CALLS {
-        if !ended {
-            let passes = at.saturating_mul(2).saturating_add(first);
-            let (lawful, whole) = is_one_lawful(alloc, failing, passes)?;
-            good &= lawful;
-            ended = whole && passes > 60;
-        }
+    for at in 0..5u64 {
+        let passes = at.saturating_mul(3).saturating_add(first);
+        good &= is_one_lawful(alloc, failing, passes)?;
     }
     Ok(good)
 }
