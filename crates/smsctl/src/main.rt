@@ -5,6 +5,7 @@ ghost use Rattle.std.specs.Prelude.{◌≡◌};
 ghost use Rattle.std.specs.Process.{exit_status};
 ghost use Rattle.desk_calls.specs.ExitStatus.{exit_status_of};
 
+mod database;
 mod explaining;
 mod help;
 mod kept_source;
@@ -14,6 +15,7 @@ mod serving;
 use crate::explaining::{note_refusal, note_status, note_words};
 use crate::kept_source::KeptSource;
 use crate::noted_sink::NotedSink;
+use db_calls::database_asked;
 use desk_calls::{RunStatus, desk_main};
 use desk_words::serve_words;
 use sms_base::{StdSink, StdSource, Words, read_words};
@@ -42,6 +44,9 @@ fn main(rt: HostRuntime) -> ExitCode {
 fn obey<T: Threads + Wait + Sync>(rt: &HostRuntime, threads: &T, words: &[String]) -> ExitCode {
     if let Some(text) = help::text_for(words) {
         return end(rt, show(rt, text), "");
+    }
+    if let Some(file) = database_asked(words) {
+        return database::run(rt, file, words);
     }
     match serve_words(words) {
         Some(asked) => serving::serve(rt, asked, words),
