@@ -17,11 +17,13 @@ use crate::kept_source::KeptSource;
 use crate::noted_sink::NotedSink;
 use db_calls::database_asked;
 use desk_calls::{RunStatus, desk_main};
-use desk_words::serve_words;
-use sms_base::{StdSink, StdSource, Words, read_words};
+use desk_words::{managed_day, serve_words};
+use manage_calls::manage_main;
+use sms_base::{Sink, Source, StdSink, StdSource, Words, read_words};
 use sms_desk::FreeGate;
 use sms_keeper::MemKeeper;
 use sms_script::ScriptErr;
+use std::alloc::Global;
 use std::io::{self, Write};
 use std::process::ExitCode;
 use std::sync::Wait;
@@ -73,20 +75,27 @@ fn answer<T: Threads + Wait + Sync>(
 ) -> RunStatus {
     let mut src = KeptSource::new(rt.alloc(), StdSource::new(rt.reader()));
     let mut out = NotedSink::new(StdSink::new(io::writer(rt)));
-    let keeper = MemKeeper::new(rt.alloc());
-    let (status, _keeper) = desk_main(
-        rt.alloc(),
-        threads,
-        words,
-        &mut src,
-        &mut out,
-        keeper,
-        &FreeGate,
-    );
+    let status = answer_over(rt.alloc(), threads, words, &mut src, &mut out);
     note_status(rt.alloc(), note, status, src.given());
     if out.has_refusal() {
         note_refusal(note);
     }
+    status
+}
+
+// Answers a script on a desk over a keeper in memory; where the words name a day, it is managed behind the answers.
+fn answer_over<S: Source, K: Sink, T: Threads + Wait + Sync>(
+    alloc: Global,
+    threads: &T,
+    words: &[String],
+    src: &mut S,
+    out: &mut K,
+) -> RunStatus {
+    let keeper = MemKeeper::new(alloc);
+    let (status, _keeper) = match managed_day(words) {
+        Some(_) => manage_main(alloc, words, src, out, keeper),
+        None => desk_main(alloc, threads, words, src, out, keeper, &FreeGate),
+    };
     status
 }
 
