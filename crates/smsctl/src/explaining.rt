@@ -73,7 +73,8 @@ const FIRST: &str = "the first word is run, gen or serve, or --help or --version
     smsctl --help says what each does\n";
 
 const RUN: &str = "run takes --workers N, 1 to 16, and --volumes, in this order: \
-    smsctl run [--workers N] [--volumes]; or a file for the records: smsctl run --db FILE\n";
+    smsctl run [--workers N] [--volumes]; or a file for the records: smsctl run --db FILE; \
+    or a day of space management, 0 to 9999999: smsctl run --manage DAY\n";
 
 const GEN: &str = "gen takes SEED, 0 to 4294967295, and COUNT, 1 to 40000: smsctl gen SEED COUNT\n";
 
