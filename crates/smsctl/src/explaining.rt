@@ -6,6 +6,11 @@ use fault_notes::script_note;
 use sms_script::ScriptErr;
 use std::alloc::Global;
 
+/// What a script may not have where a day of space management follows.
+pub fn note_reserved(note: &mut String) {
+    say(note, RESERVED);
+}
+
 /// What the command line asks for where its words are none that the desk knows.
 pub fn note_words(note: &mut String, words: &[String]) {
     say(note, sentence_of_words(words));
@@ -57,6 +62,9 @@ const TOO_LONG: &str = "the script has more than 16777216 bytes; nothing was ans
 
 const STORE_FAULT: &str = "the tables can't be made in the file: it has some of them already, \
     or can't be written; nothing was answered\n";
+
+const RESERVED: &str =
+    "with --manage the job SMSMGMT is the day's own: no line may be of it, or purge it\n";
 
 const NO_MEMORY: &str = "memory is wanting; no answer was written\n";
 
