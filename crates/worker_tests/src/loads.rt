@@ -77,6 +77,28 @@ fn many_activations_beside_many_allocations(rt: HostRuntime) -> Result<(), Fail>
     Ok(())
 }
 
+#[test]
+fn a_journal_that_fills_up_within_a_phase(rt: HostRuntime) -> Result<(), Fail> {
+    let alloc = rt.alloc();
+    let script = read(alloc, &deletions(alloc)?)?;
+    let core = in_memory(alloc);
+    let again = in_memory(alloc);
+    assert!(rt; is_one_history(alloc, &rt, &script, 3, core, again)?);
+    Ok(())
+}
+
+// A phase of more requests than a journal has places, of seven jobs.
+fn deletions(alloc: Global) -> Result<Vec<u8>, Fail> {
+    let mut text = Vec::new(alloc);
+    for item in 0..50_020u64 {
+        let job = item % 7;
+        let number = item / 7 + 1;
+        let line = format!(in alloc; "JOB{job} {number} DELETE A.B\n")?;
+        text.extend_from_slice(line.as_bytes())?;
+    }
+    Ok(text)
+}
+
 // A phase of activations, behind each of them some allocations of other jobs.
 fn live_text(alloc: Global) -> Result<Vec<u8>, Fail> {
     let mut text = Vec::new(alloc);

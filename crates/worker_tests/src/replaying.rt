@@ -1,7 +1,7 @@
 // Whether the answers of several workers are those of one history, as one worker would give it.
 use acs_tree::Slate;
 use desk_workers::run_workers;
-use sms_construct::{Answer, Entry, Request};
+use sms_construct::{Answer, Entry, Reply, Request};
 use sms_core::{Core, Work};
 use sms_desk::FreeGate;
 use sms_keeper::Keeper;
@@ -10,6 +10,9 @@ use std::alloc::Global;
 use std::sync::Wait;
 use std::test::Fail;
 use std::thread::Threads;
+
+// How many entries a full journal has.
+const FULL: usize = 50_000;
 
 // Runs a script by so many workers, 2 to 16, on a core. Each answer has to stand in the journal at its place, and the
 // journal's requests, asked one behind the other of another core like it, have to get the same answers.
@@ -26,14 +29,12 @@ pub fn is_one_history<P: Keeper + Send, R: Threads + Wait + Sync>(
     }
     let (answers, core) = run_workers(alloc, rt, script, core, workers, &FreeGate);
     let answers = answers?;
-    Ok(
-        answers.len() == core.journal().len()
-            && are_entered(alloc, script, answers.as_slice(), core.journal())?
-            && is_replayed(alloc, core.journal(), again)?,
-    )
+    let all_entered = are_entered(alloc, script, answers.as_slice(), core.journal())?;
+    Ok(all_entered && is_replayed(alloc, core.journal(), again)?)
 }
 
-// Each item has its answer, in script order, and the answer stands in the journal.
+// Each item has its answer, in script order, and the answer stands in the journal, in which nothing else stands; or the
+// journal was full.
 fn are_entered(
     alloc: Global,
     script: &Script,
@@ -41,17 +42,25 @@ fn are_entered(
     journal: &[Entry],
 ) -> Result<bool, Fail> {
     let mut rest = answers.iter();
+    let mut entered: usize = 0;
     for phase in script.as_slice() {
         for item in phase.as_slice() {
             let Some(answer) = rest.next() else {
                 return Ok(false);
             };
-            if !is_entered(alloc, &item.request, answer, journal)? {
+            if is_entered(alloc, &item.request, answer, journal)? {
+                entered = entered.saturating_add(1);
+            } else if !is_full(answer, journal) {
                 return Ok(false);
             }
         }
     }
-    Ok(rest.next().is_none())
+    Ok(rest.next().is_none() && entered == journal.len())
+}
+
+// The answer is that the journal is full, and it is.
+fn is_full(answer: &Answer, journal: &[Entry]) -> bool {
+    answer.place == 0 && matches!(&answer.reply, Reply::JournalFull) && journal.len() == FULL
 }
 
 fn is_entered(
