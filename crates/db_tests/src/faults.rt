@@ -107,26 +107,30 @@ fn behind_last(done: &[bool]) -> usize {
     behind
 }
 
+// Which changes these are, with the one at this place.
+fn with_one(alloc: Global, done: &[bool], at: usize) -> Result<Vec<bool>, Fail> {
+    let mut more = Vec::new(alloc);
+    for place in 0..done.len() {
+        more.push(place == at || done[place])?;
+    }
+    Ok(more)
+}
+
 // Whether the rows are those of the acknowledged changes, or of these and one that was refused since the last of them.
-fn is_lawful(alloc: Global, rows: &str, mut done: Vec<bool>) -> Result<bool, Fail> {
-    if rows == expected(alloc, &done)?.as_str() {
-        return Ok(true);
+fn is_lawful(alloc: Global, rows: &str, done: &[bool]) -> Result<bool, Fail> {
+    let mut good = rows == expected(alloc, done)?.as_str();
+    for at in behind_last(done)..done.len() {
+        let more = with_one(alloc, done, at)?;
+        good |= rows == expected(alloc, &more)?.as_str();
     }
-    for at in behind_last(&done)..done.len() {
-        done[at] = true;
-        if rows == expected(alloc, &done)?.as_str() {
-            return Ok(true);
-        }
-        done[at] = false;
-    }
-    Ok(false)
+    Ok(good)
 }
 
 // Whether what is found is lawful where the calls fail behind so many.
 fn is_one_lawful(alloc: Global, failing: Failing, passes: u64) -> Result<bool, Fail> {
     let (done, disks) = run(alloc, disks(alloc, failing, passes))?;
     match found(alloc, disks)? {
-        Some(rows) => is_lawful(alloc, rows.as_str(), done),
+        Some(rows) => is_lawful(alloc, rows.as_str(), &done),
         None => Ok(false),
     }
 }
