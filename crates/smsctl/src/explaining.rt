@@ -3,13 +3,8 @@
 use db_calls::DbStatus;
 use desk_calls::RunStatus;
 use fault_notes::script_note;
-use sms_script::ScriptErr;
+use sms_script::{ScriptErr, read_script};
 use std::alloc::Global;
-
-/// What a script may not have where a day of space management follows.
-pub fn note_reserved(note: &mut String) {
-    say(note, RESERVED);
-}
 
 /// What the command line asks for where its words are none that the desk knows.
 pub fn note_words(note: &mut String, words: &[String]) {
@@ -29,6 +24,28 @@ pub fn note_status(alloc: Global, note: &mut String, status: RunStatus, script: 
         RunStatus::WriteFault => say(note, WRITE_FAULT),
         RunStatus::TooLong => say(note, TOO_LONG),
         RunStatus::NoMemory => say(note, NO_MEMORY),
+    }
+}
+
+/// The same of a run behind which a day of space management is done.
+pub fn note_managed(alloc: Global, note: &mut String, status: RunStatus, script: Option<&[u8]>) {
+    match (status, script) {
+        (RunStatus::Script(fault), Some(text)) if is_reserved(alloc, text, fault) => {
+            say(note, RESERVED);
+        }
+        _ => note_status(alloc, note, status, script),
+    }
+}
+
+// The fault isn't the script's own, but that of a line which is kept for the day.
+fn is_reserved(alloc: Global, text: &[u8], fault: ScriptErr) -> bool {
+    if text.len() > MOST_BYTES {
+        return false;
+    }
+    match read_script(alloc, text) {
+        Ok(_) => true,
+        Err(ScriptErr::NoMemory) => false,
+        Err(own) => own != fault,
     }
 }
 

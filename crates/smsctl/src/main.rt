@@ -12,7 +12,7 @@ mod kept_source;
 mod noted_sink;
 mod serving;
 
-use crate::explaining::{note_refusal, note_reserved, note_status, note_words};
+use crate::explaining::{note_managed, note_refusal, note_status, note_words};
 use crate::kept_source::KeptSource;
 use crate::noted_sink::NotedSink;
 use db_calls::database_asked;
@@ -76,9 +76,9 @@ fn answer<T: Threads + Wait + Sync>(
     let mut src = KeptSource::new(rt.alloc(), StdSource::new(rt.reader()));
     let mut out = NotedSink::new(StdSink::new(io::writer(rt)));
     let status = answer_over(rt.alloc(), threads, words, &mut src, &mut out);
-    note_status(rt.alloc(), note, status, src.given());
-    if matches!(status, RunStatus::Script(_)) && managed_day(words).is_some() {
-        note_reserved(note);
+    match managed_day(words) {
+        Some(_) => note_managed(rt.alloc(), note, status, src.given()),
+        None => note_status(rt.alloc(), note, status, src.given()),
     }
     if out.has_refusal() {
         note_refusal(note);
