@@ -5,4 +5,5 @@ pub mod RoomLemmas
 pub mod ClosedLemmas
 pub mod PhaseLemmas
 pub mod SharedLemmas
+pub mod ConfigSendLemmas
 pub mod SendLemmas
