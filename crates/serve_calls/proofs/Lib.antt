@@ -1,2 +1,5 @@
 pub mod HistoryLaws
 pub mod EndLaws
+pub mod ManningLaws
+pub mod ShiftLaws
+pub mod SendLemmas

@@ -10,7 +10,8 @@ ghost use Rattle.serve_calls.specs.OneHistory.{WasHeard};
 ghost use Rattle.serve_calls.specs.ServedText.{served_text};
 ghost use Rattle.serve_calls.specs.ServeEnds.{IsServeEnd, IsServedAlone, IsTold, WereServed, WereUnasked, Writing, leaves_sink};
 
-use crate::bench::CoreBench;
+use crate::core_bench::CoreBench;
+use crate::served_doors::DoorVisits;
 use crate::connections::served_text;
 use crate::status::ServeStatus;
 use acs_tree::Slate;
@@ -24,8 +25,6 @@ use sms_core::Core;
 use sms_keeper::Keeper;
 use std::alloc::{AllocError, Global};
 
-/// The visits of each door, in the order of the doors.
-pub type DoorVisits = Items<Visits>;
 
 /// Does what the words of the command line ask: serves a new desk over a keeper of empty tables to the links of the
 /// doors, one door a worker, and writes a line for each connection to the sink. It hands back the desk's core, the
