@@ -3,3 +3,4 @@ pub mod EndLaws
 pub mod ManningLaws
 pub mod ShiftLaws
 pub mod SendLemmas
+pub mod SharedLaws

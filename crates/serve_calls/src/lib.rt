@@ -7,6 +7,7 @@ mod manning;
 mod seat_bench;
 mod serve;
 mod served_doors;
+mod sharing;
 mod status;
 mod worker;
 mod working;
