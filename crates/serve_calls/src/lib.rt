@@ -1,6 +1,7 @@
 //! The top call of the served desk.
 #![tactic(auto)]
 
+mod alone;
 mod connections;
 mod core_bench;
 mod manning;
