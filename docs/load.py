@@ -1,5 +1,5 @@
 #!/usr/bin/env python3
-"""Writes the scripts by which the desk's speed is measured. usage: load.py alloc N | mixed N VOLUMES"""
+"""Writes the scripts by which the desk's speed is measured. usage: load.py alloc N | mixed N VOLUMES | manage N VOLUMES"""
 import sys, random
 def deck(volumes, tracks):
     v=''.join(f'[storgroup.SG1.volume.V{i:05d}]\ntracks = {tracks}\n' for i in range(volumes))
@@ -8,6 +8,11 @@ what,n=sys.argv[1],int(sys.argv[2])
 if what=='alloc':
     out=[deck(1,982800)]
     out+= [f'JOB{i%10} {i+1} ALLOC A.D{i} SPACE=(TRK,(1,1))\n' for i in range(n)]
+elif what=='manage':
+    # every second data set expires on the day on which it is made
+    vols=int(sys.argv[3]); out=[deck(vols,n//vols*2+2)]; names=[f'H{i//100:04d}.D{i%100:02d}' for i in range(n)]
+    random.Random(1).shuffle(names)
+    out+= [f'JOB{i%10} {i+1} ALLOC {name} SPACE=(TRK,1){" RETPD=0" if i%2 else ""}\n' for i,name in enumerate(names)]
 else:
     r=random.Random(1); vols=int(sys.argv[3]); out=[deck(vols,50085)]; live=[]; k=0
     for i in range(n):

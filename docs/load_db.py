@@ -2,8 +2,9 @@
 """Compares a run over a database with the same statements in the same transactions by Debian's sqlite3.
 usage: load_db.py SMSCTL N [FOLDER]     N allocations; FOLDER lies on the disk that is measured (default: here)
 It runs SMSCTL over a file, writes down the statements that its commits come to, runs these by sqlite3 with a log and a sync
-a commit as the desk has them, and compares both files row by row. It says the seconds of each, and what a sync costs alone."""
-import os, subprocess, sys, time
+a commit as the desk has them, and compares both files row by row. It says the seconds of each, how many of them are a processor's,
+and what a sync costs alone. A disk's syncs vary much, so run it more than once."""
+import os, resource, subprocess, sys, time
 smsctl, count = os.path.abspath(sys.argv[1]), int(sys.argv[2])
 folder = sys.argv[3] if len(sys.argv) > 3 else '.'
 here = os.path.dirname(os.path.abspath(__file__))
@@ -13,13 +14,18 @@ for name in ('desk.db', 'plain.db'):
         if os.path.exists(name + tail): os.remove(name + tail)
 script = subprocess.run([sys.executable, os.path.join(here, 'load.py'), 'alloc', str(count)], stdout=subprocess.PIPE, check=True).stdout
 
-def timed(words, text):
-    begin = time.time()
-    ended = subprocess.run(words, input=text, stdout=subprocess.PIPE)
-    return time.time() - begin, ended
+def used():
+    times = resource.getrusage(resource.RUSAGE_CHILDREN)
+    return times.ru_utime + times.ru_stime
 
-memory, plain = timed([smsctl, 'run'], script)
-desk, ended = timed([smsctl, 'run', '--db', 'desk.db'], script)
+# the seconds of a run, those of a processor, and how it ended
+def timed(words, text):
+    begin, before = time.time(), used()
+    ended = subprocess.run(words, input=text, stdout=subprocess.PIPE)
+    return time.time() - begin, used() - before, ended
+
+memory, memory_used, plain = timed([smsctl, 'run'], script)
+desk, desk_used, ended = timed([smsctl, 'run', '--db', 'desk.db'], script)
 assert ended.returncode == 0 and ended.stdout == plain.stdout, 'the run over the file answers otherwise'
 
 def rows(db, query):
@@ -47,19 +53,21 @@ for job, number, place, request, reply in rows('desk.db', 'SELECT job, number, p
     lines.append(f"SELECT rowid FROM floors WHERE job = '{job}' AND floor > {number};")
     lines.append(f"INSERT INTO replies (job, number, place, request, reply) VALUES ('{job}', {number}, {place}, {blob(request)}, {blob(reply)});")
     lines.append('COMMIT;')
-c, _ = timed(['sqlite3', 'plain.db'], '\n'.join(lines).encode())
+c, c_used, _ = timed(['sqlite3', 'plain.db'], '\n'.join(lines).encode())
 for table in ('sets', 'replies', 'decks', 'statuses', 'floors'):
     query = f'SELECT * FROM {table} ORDER BY 1, 2'.replace('*', {'sets': 'dsn, hex(rec)', 'replies': 'job, number, place, hex(request), hex(reply)', 'decks': 'count, hex(bytes)'}.get(table, '*'))
     assert rows('desk.db', query) == rows('plain.db', query), table
 check = rows('desk.db', 'PRAGMA integrity_check')
 assert check == [['ok']], check
 
-# what a sync of one page costs here
-begin, syncs = time.time(), min(count, 500)
+# what a sync of one page costs here, in a file that has its length
+syncs = min(count, 500)
 with open('sync.tmp', 'wb') as out:
-    for _ in range(syncs):
-        out.write(b'x' * 4096); out.flush(); os.fsync(out.fileno())
-sync = (time.time() - begin) / syncs
+    out.write(b'x' * 4096 * 64); out.flush(); os.fsync(out.fileno())
+    begin = time.time()
+    for at in range(syncs):
+        os.pwrite(out.fileno(), b'y' * 4096, at % 64 * 4096); os.fdatasync(out.fileno())
+    sync = (time.time() - begin) / syncs
 os.remove('sync.tmp')
 print(f'{count} allocations: in memory {memory:.2f} s, over a file {desk:.2f} s, sqlite3 the same statements {c:.2f} s ({desk / c:.2f} times)')
-print(f'a sync of one page: {sync * 1000:.2f} ms; without syncs about {desk - sync * (count + 2):.2f} s and {c - sync * (count + 2):.2f} s')
+print(f'of a processor: in memory {memory_used:.2f} s, over a file {desk_used:.2f} s, sqlite3 {c_used:.2f} s; a sync of one page: {sync * 1000:.2f} ms')

@@ -1,11 +1,19 @@
-//! Tests of the desk over a database: runs, what the tables hold, what files are refused, stops.
+//! Tests of the desk over a database: runs, what the tables hold, what files are refused, faults and stops.
 #![tactic(auto)]
 
 #[cfg(test)]
-mod changes;
+mod commits;
+#[cfg(test)]
+mod faults;
 #[cfg(test)]
 mod files;
 #[cfg(test)]
+mod flaky;
+#[cfg(test)]
 mod runs;
 #[cfg(test)]
+mod steps;
+#[cfg(test)]
 mod stops;
+#[cfg(test)]
+mod tables;

@@ -1,5 +1,5 @@
 //! Runs of the top call over a database.
-use crate::changes::counts;
+use crate::tables::counts;
 use db_calls::{DbStatus, database_asked, db_main};
 use desk_calls::RunStatus;
 use sms_base::{MemSink, MemSource, read_all};

@@ -3,7 +3,9 @@ use desk_calls::{RunStatus, desk_main};
 use sms_base::{MemSink, MemSource};
 use sms_desk::FreeGate;
 use sms_keeper::MemKeeper;
+use std::sync::Wait;
 use std::test::Fail;
+use std::thread::Threads;
 
 /// The most bytes that a run of a test may write.
 const ROOM: usize = 200_000;
@@ -16,14 +18,14 @@ pub struct Outcome {
 }
 
 /// Runs a script with the one word `run`.
-pub fn run(rt: &HostRuntime, script: &[u8]) -> Result<Outcome, Fail> {
+pub fn run<R: AllocGlobal + Threads + Wait + Sync>(rt: &R, script: &[u8]) -> Result<Outcome, Fail> {
     run_words(rt, &["run"], script, &[], &[], ROOM)
 }
 
 /// Runs a script with these words, over a source and a sink that fail at the calls with these
 /// numbers; the sink has so much room.
-pub fn run_words(
-    rt: &HostRuntime,
+pub fn run_words<R: AllocGlobal + Threads + Wait + Sync>(
+    rt: &R,
     list: &[&str],
     script: &[u8],
     reads: &[u64],
@@ -44,7 +46,11 @@ pub fn run_words(
 }
 
 /// Whether the script is answered with this text.
-pub fn answers(rt: &HostRuntime, script: &[u8], wanted: &[u8]) -> Result<bool, Fail> {
+pub fn answers<R: AllocGlobal + Threads + Wait + Sync>(
+    rt: &R,
+    script: &[u8],
+    wanted: &[u8],
+) -> Result<bool, Fail> {
     let Outcome { status, text } = run(rt, script)?;
     Ok(status == RunStatus::Done && text.as_slice() == wanted)
 }

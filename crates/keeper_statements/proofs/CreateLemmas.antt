@@ -1,22 +1,37 @@
 -- What CREATE TABLE makes.
-use Rattle.std.proofs.Common.{◌≡◌, ℕ, Bool, List, [], ◌∷◌, codes, true, false, Ok, Err, Result, None, IsTrue, OnOk, refl, sym, ap, subst, ◌∙◌}
+use Rattle.std.proofs.Common.{◌≡◌, ◌++◌, ◌||◌, ◌&&◌, ◌==◌, length, ℕ, Bool, List, [], ◌∷◌, codes, cond, not, true, false, Ok, Err, Result, Option, None, IsTrue, OnOk, refl, sym, ap, subst, ◌∙◌}
+use Rattle.std.specs.List.{list_any}
+use Rattle.std.specs.Prelude.{is_some, slice_range}
 use Rattle.sqlite.specs.Table.{Table}
 use Rattle.sqlite.specs.Schema.{Schema}
+use Rattle.sqlite.specs.Order.{Row}
+use Rattle.sqlite.specs.Tree.{Trees}
 use Rattle.sqlite.specs.Command.TheVariants.{CreateTable}
-use Rattle.sqlite.specs.Compile.{table_defined_by}
 use Rattle.sqlite.specs.Change.{created, next_tree, KeepsRows}
 use Rattle.sqlite.specs.Does.{Tally, lacks_sequence}
 use Rattle.sqlite.specs.Effect.{Database}
-use Rattle.sqlite.specs.Listing.{understood}
-use Rattle.sqlite.specs.State.{State, Writes, Executes, ExecutesIn}
+use Rattle.sqlite.specs.Listing.{understood, reads_listing, listing_schema, if_select, is_select}
+use Rattle.sqlite.specs.State.{State, Writes, Executes, ExecutesIn, text_of}
+use Rattle.sqlite_ast.specs.declared.Statement.{Statement}
+use Rattle.sqlite_ast.specs.declared.Statement.TheVariants as written
+use Rattle.sqlite_ast.specs.declared.CreateTable.{CreateTable as Definition}
+use Rattle.sqlite_syntax.specs.declared.statement.Parsed.{Parsed}
+use Rattle.sqlite_schema.specs.declared.command.Command.{Command}
+use Rattle.sqlite_schema.specs.declared.command.Returning.{Returning}
+use Rattle.sqlite_resolve.specs.Compile as names
+use Rattle.sqlite_resolve.specs.Define as define
+use Rattle.sqlite_resolve.specs.Compile.{command, command_by, compiled, create_table, first, meaning, planned, returning, returning_by, table_defined_by, timed, timed_by, with_command}
+use Rattle.sqlite_resolve.specs.Lowering.{Checked, and_then}
+use Rattle.sqlite_resolve.specs.Scope.{Name}
 use Rattle.sqlite_resolve.specs.declared.compiled.Compiled.{Compiled}
 use Rattle.sqlite_resolve.specs.declared.error.CompileError.{CompileError}
+use Rattle.sqlite_resolve.specs.declared.error.CompileError.TheVariants.{NoSuchTable, Exists, Misuse, Unsupported}
 use Rattle.sqlite_tied.specs.Compute.{everything}
 use Rattle.sqlite.proofs.Callers.{IsPlain, command_of, statement_of, runs_as}
-use Rattle.keeper_statements.specs.Schema.{no_schema, schema_1, schema_2, schema_3, schema_4, desk_schema, sets_table, replies_table, decks_table, statuses_table, floors_table}
+use Rattle.keeper_statements.specs.Schema.{no_schema, desk_schema, sets_table, replies_table, decks_table, statuses_table, floors_table, with_sets, with_replies, with_decks, with_statuses, with_desk}
 use Rattle.keeper_statements.specs.Changes.{no_tables}
-use Rattle.keeper_statements.specs.Tables.{Tables, IsReady, IsKeyed, tables_in, bodies}
-use Rattle.keeper_statements.specs.Steps.{HasMade, HasMadeFirst, HasMadeLast}
+use Rattle.keeper_statements.specs.Tables.{IsReady, IsKeyed, tables_in, bodies}
+use Rattle.keeper_statements.specs.Steps.{AreEmpty, HasMade, HasMadeDesk, HasMadeFirst, HasMadeLast, HasMadeTable, MakesTable, is_counted}
 use Rattle.keeper_statements.proofs.RowLemmas.{went, same_value}
 
 abbrev pub sets_text : List ℕ
@@ -34,74 +49,177 @@ statuses_text = codes "CREATE TABLE statuses (kind INTEGER NOT NULL, name TEXT N
 abbrev pub floors_text : List ℕ
 floors_text = codes "CREATE TABLE floors (job TEXT PRIMARY KEY, floor INTEGER NOT NULL) STRICT"
 
-sets_are : table_defined_by sets_text ≡ Ok sets_table
+-- the text is CREATE TABLE without IF NOT EXISTS, and no more
+abbrev makes_new : Statement → Bool
+makes_new (written.CreateTable def) = not def.if_missing
+makes_new _ = false
+
+abbrev is_making : Checked Parsed → Bool
+is_making (Ok p) = makes_new p.statement
+is_making (Err e) = false
+
+abbrev whole_text : List ℕ → Checked Parsed → List ℕ
+whole_text text (Ok p) = slice_range text p.start p.end
+whole_text text (Err e) = []
+
+-- a text that makes this table
+record IsMaking (text : List ℕ) (table : Table) : Type 0 where
+  new : is_making (first text) ≡ true
+  whole : whole_text text (first text) ≡ text
+  defined : table_defined_by text ≡ Ok table
+
+sets_make : IsMaking sets_text (record sets_table { tree = 0 })
 unfolding everything
-sets_are = refl
+sets_make = record { new = refl; whole = refl; defined = refl }
 
-replies_are : table_defined_by replies_text ≡ Ok (record replies_table { tree = 0 })
+replies_make : IsMaking replies_text (record replies_table { tree = 0 })
 unfolding everything
-replies_are = refl
+replies_make = record { new = refl; whole = refl; defined = refl }
 
-decks_are : table_defined_by decks_text ≡ Ok (record decks_table { tree = 0 })
+decks_make : IsMaking decks_text (record decks_table { tree = 0 })
 unfolding everything
-decks_are = refl
+decks_make = record { new = refl; whole = refl; defined = refl }
 
-statuses_are : table_defined_by statuses_text ≡ Ok (record statuses_table { tree = 0 })
+statuses_make : IsMaking statuses_text (record statuses_table { tree = 0 })
 unfolding everything
-statuses_are = refl
+statuses_make = record { new = refl; whole = refl; defined = refl }
 
-floors_are : table_defined_by floors_text ≡ Ok (record floors_table { tree = 0 })
+floors_make : IsMaking floors_text (record floors_table { tree = 0 })
 unfolding everything
-floors_are = refl
+floors_make = record { new = refl; whole = refl; defined = refl }
 
--- a text that makes a table, under the schema before it
-record IsMaking (before : Schema) (text : List ℕ) : Type 0 where
-  is : command_of (understood before text) ≡ CreateTable
-  whole : statement_of text (understood before text) ≡ text
-  plain : IsPlain (understood before text)
+then_ok : {A B : Type 0} (r : Checked A) (f : A → Checked B) (y : B) → and_then r f ≡ Ok y → (x : A) × (r ≡ Ok x) × (f x ≡ Ok y)
+then_ok (Ok x) f y h = (x, refl, h)
+then_ok (Err e) f y h = absurd cc
 
-sets_makes : IsMaking no_schema sets_text
-unfolding understood everything
-sets_makes = record { is = refl; whole = refl; plain = (refl, refl) }
+unless_ok : {A : Type 0} (b : Bool) (e : CompileError) (r : Checked A) (x : A) → cond b (Err e) r ≡ Ok x → r ≡ Ok x
+unless_ok true e r x h = absurd cc
+unless_ok false e r x h = h
 
-replies_makes : IsMaking schema_1 replies_text
-unfolding understood everything
-replies_makes = record { is = refl; whole = refl; plain = (refl, refl) }
+-- the name is free
+new_is : (name : Name) (same other : Option ℕ) (is_new : Bool) → names.creates false name same other ≡ Ok is_new → is_new ≡ true
+unfolding names.creates
+new_is name same other is_new h =
+    let new : ◌≡◌ {A = Checked Bool} (Ok true) (Ok is_new) = unless_ok (is_some same) Exists (Ok true) is_new (unless_ok (is_some other) Exists _ is_new (unless_ok (names.is_reserved name) Misuse _ is_new h)) in
+    cc
 
-decks_makes : IsMaking schema_2 decks_text
-unfolding understood everything
-decks_makes = record { is = refl; whole = refl; plain = (refl, refl) }
+goes_on : (missing : Bool) (name : Name) (same other : Option ℕ) (f : Bool → Checked Command) (k : Command) → missing ≡ false → and_then (names.creates missing name same other) f ≡ Ok k → f true ≡ Ok k
+goes_on missing name same other f k never h =
+    let named = then_ok (names.creates missing name same other) f k h in
+    let new : named.0 ≡ true = new_is name same other named.0 (ap (λ m. names.creates m name same other) (sym never) ∙ named.1) in
+    ap f (sym new) ∙ named.2
 
-statuses_makes : IsMaking schema_3 statuses_text
-unfolding understood everything
-statuses_makes = record { is = refl; whole = refl; plain = (refl, refl) }
+defined_is : (r : Checked Table) (test : Table → Bool) (k : Command) → and_then r (λ t. cond (test t) (Ok CreateTable) (Err Unsupported)) ≡ Ok k → k ≡ CreateTable
+defined_is (Err e) test k h = absurd cc
+defined_is (Ok t) test k h = by (test t) h
+  where
+    by : (b : Bool) → ◌≡◌ {A = Checked Command} (cond b (Ok CreateTable) (Err Unsupported)) (Ok k) → k ≡ CreateTable
+    by true h = cc
+    by false h = absurd cc
 
-floors_makes : IsMaking schema_4 floors_text
-unfolding understood everything
-floors_makes = record { is = refl; whole = refl; plain = (refl, refl) }
+table_is : (schema : Schema) (formats : List Name) (def : Definition) (k : Command) → def.if_missing ≡ false → create_table schema formats def ≡ Ok k → k ≡ CreateTable
+unfolding create_table
+table_is schema formats def k missing h =
+    let on = goes_on def.if_missing def.name _ _ _ k missing (unless_ok (names.is_attached schema def.name) Unsupported _ k h) in
+    defined_is (define.table formats def) (λ t. (length t.computed == length t.stamps.places) && not def.resolves) k on
 
-record Creates (before : Schema) (table : Table) (old new : Database) : Type 0 where
-  schema : new.schema ≡ created before table
-  empty : new.trees (next_tree before) ≡ []
-  others : KeepsRows before.tables old.trees new.trees
+not_false : (b : Bool) → not b ≡ true → b ≡ false
+not_false true h = absurd cc
+not_false false h = refl
 
-creates : (before : Schema) (text : List ℕ) (table : Table) → IsMaking before text
-    → table_defined_by text ≡ Ok table → lacks_sequence (created before table) ≡ false
-    → (old new : State) (count : ℕ) → old.now.schema ≡ before → Executes text [] old new (Ok count) → Creates before table old.now new.now
-creates before text table making defined sure old new count has h =
-    let w = subst (λ t. Writes old new None CreateTable t [] count) making.whole (runs_as text [] old new before has CreateTable making.is making.plain count h) in
+command_is : (schema : Schema) (formats : List Name) (base : ℕ) (it : Statement) (k : Command) → makes_new it ≡ true → command_by schema formats base it ≡ Ok k → k ≡ CreateTable
+command_is schema formats base (written.CreateTable def) k new h = table_is schema formats def k (not_false def.if_missing new) h
+command_is schema formats base _ k new h = absurd cc
+
+shown_is : (schema : Schema) (base : ℕ) (it : Statement) (shown : Option Returning) → makes_new it ≡ true → returning_by schema base it ≡ Ok shown → shown ≡ None
+shown_is schema base (written.CreateTable def) shown new h = cc
+shown_is schema base _ shown new h = absurd cc
+
+untimed : (schema : Schema) (formats : List Name) (it : Statement) → makes_new it ≡ true → timed_by schema formats it ≡ []
+untimed schema formats (written.CreateTable def) new = refl
+untimed schema formats _ new = absurd cc
+
+-- what such a text is understood as, under any schema
+record IsMade (text : List ℕ) (c : Compiled) : Type 0 where
+  is : c.command ≡ CreateTable
+  plain : (c.returning ≡ None) × (c.formats ≡ [])
+  whole : text_of text c ≡ text
+
+made_is : (schema : Schema) (text : List ℕ) (table : Table) (c : Compiled) → IsMaking text table → compiled schema text ≡ Ok c → IsMade text c
+unfolding compiled planned meaning command returning timed
+made_is schema text table c making h =
+    let read = then_ok _ _ c h in
+    let p = read.0 in
+    let new : makes_new p.statement ≡ true = ap is_making (sym read.1) ∙ making.new in
+    let plan = then_ok _ _ c read.2 in
+    let found = then_ok _ _ plan.0 plan.1 in
+    let show = then_ok _ _ found.0 found.1 in
+    let run = then_ok _ _ found.0 show.2 in
+    let k : run.0 ≡ CreateTable = command_is schema p.formats _ p.statement run.0 new run.1 in
+    let s : show.0 ≡ None = shown_is schema _ p.statement show.0 new show.1 in
+    let t : timed_by schema p.formats p.statement ≡ [] = untimed schema p.formats p.statement new in
+    let f : (run.0, show.0) ≡ found.0 = cc in
+    let g : (timed_by schema p.formats p.statement, found.0) ≡ plan.0 = cc in
+    let e : with_command p plan.0 ≡ c = cc in
+    record {
+      is = sym (ap (λ (c : Compiled). c.command) e) ∙ ap (λ q. q.1.0) (sym g) ∙ ap (λ q. q.0) (sym f) ∙ k;
+      plain = (
+        sym (ap (λ (c : Compiled). c.returning) e) ∙ ap (λ q. q.1.1) (sym g) ∙ ap (λ q. q.1) (sym f) ∙ s,
+        sym (ap (λ (c : Compiled). c.formats) e) ∙ ap (λ q. q.0) (sym g) ∙ t,
+      );
+      whole = sym (ap (λ (c : Compiled). text_of text c) e) ∙ ap (whole_text text) (sym read.1) ∙ making.whole;
+    }
+
+-- it is no query, so it isn't read as one on the listing
+no_select : (text : List ℕ) (table : Table) (r : Checked Compiled) (c : Compiled) → ((d : Compiled) → r ≡ Ok d → IsMade text d) → if_select r ≡ Ok c → ⊥
+no_select text table (Ok d) c made h =
+    let is = (made d refl).is in
+    let e : ◌≡◌ {A = Checked Compiled} (Err NoSuchTable) (Ok c) = sym (ap (λ k. cond (is_select k) (Ok d) (Err NoSuchTable)) is) ∙ h in
+    absurd cc
+no_select text table (Err e) c made h = absurd cc
+
+understood_is : (schema : Schema) (text : List ℕ) (table : Table) (c : Compiled) → IsMaking text table → understood schema text ≡ Ok c → IsMade text c
+unfolding understood
+understood_is schema text table c making h = by (reads_listing schema text) h
+  where
+    by : (b : Bool) → cond b (if_select (compiled listing_schema text)) (compiled schema text) ≡ Ok c → IsMade text c
+    by true h = absurd (no_select text table (compiled listing_schema text) c (λ d is. made_is listing_schema text table d making is) h)
+    by false h = made_is schema text table c making h
+
+or_false : (a b c : Bool) → (b ≡ false → c ≡ false) → (a || b) ≡ false → (a || c) ≡ false
+or_false true b c f none = none
+or_false false b c f none = f none
+
+any_append : (tables : List Table) (t : Table) → list_any (λ t. t.is_counted) tables ≡ false → t.is_counted ≡ false → list_any (λ t. t.is_counted) (tables ++ t ∷ []) ≡ false
+any_append [] t none never = rw never refl
+any_append (x ∷ tables) t none never = or_false x.is_counted _ _ (λ more. any_append tables t more never) none
+
+still_uncounted : (schema : Schema) (table : Table) → table.is_counted ≡ false → is_counted schema ≡ false → is_counted (created schema table) ≡ false
+still_uncounted schema table never none = any_append schema.tables (record table { tree = next_tree schema }) none never
+
+still_whole : (schema : Schema) (table : Table) → table.is_counted ≡ false → is_counted schema ≡ false → lacks_sequence (created schema table) ≡ false
+still_whole schema table never none = rw (still_uncounted schema table never none) refl
+
+creates : (text : List ℕ) (table : Table) → IsMaking text (record table { tree = 0 }) → (old new : State) (count : ℕ) → table.is_counted ≡ false → Executes text [] old new (Ok count) → MakesTable table old.now new.now
+unfolding ExecutesIn
+creates text table making old new count never h uncounted =
+    let before = old.now.schema in
+    let known = h.1.is in
+    let it = understood_is before text (record table { tree = 0 }) h.0 making known in
+    let w = subst (λ t. Writes old new None CreateTable t [] count) (ap (statement_of text) known ∙ it.whole)
+    (runs_as text [] old new before refl CreateTable (ap command_of known ∙ it.is) (subst IsPlain (sym known) it.plain) count h) in
     let all = went w.changed in
     let first = went all.1 in
     let made = first.1 in
-    let both : Ok made.table ≡ Ok table = sym made.defined ∙ defined in
-    let same : made.table ≡ table = cc in
-    let schema : first.0.schema ≡ created before table = made.is ∙ ap (λ s. created s made.table) has ∙ ap (created before) same in
-    let none : lacks_sequence first.0.schema ≡ false = ap lacks_sequence schema ∙ sure in
+    let plain : Table = record table { tree = 0 } in
+    let same : made.table ≡ plain = same_value (sym made.defined ∙ making.defined) in
+    let schema : first.0.schema ≡ created before table = made.is ∙ ap (created before) same in
+    let none : lacks_sequence first.0.schema ≡ false = ap lacks_sequence schema ∙ still_whole before table never uncounted in
     let now : new.now ≡ first.0 = ap (λ (p : Tally × Database). p.1) (same_value all.2) ∙ same_value (rw none at first.2) in
     record {
       schema = ap (λ (d : Database). d.schema) now ∙ schema;
-      empty = ap (λ (d : Database). d.trees (next_tree before)) now ∙ subst (λ s. first.0.trees (next_tree s) ≡ []) has made.empty;
-      others = subst (λ (d : Database). KeepsRows before.tables old.now.trees d.trees) (sym now) (subst (λ (s : Schema). KeepsRows s.tables old.now.trees first.0.trees) has made.others);
+      empty = ap (λ (d : Database). d.trees (next_tree before)) now ∙ made.empty;
+      others = subst (λ (d : Database). KeepsRows before.tables old.now.trees d.trees) (sym now) made.others;
     }
 
 -- where the tables are made, the text is none
@@ -122,61 +240,85 @@ never_again old new count has h =
 
 pub made_first : (a b c d : State) (m n o : ℕ) → Executes sets_text [] a b (Ok m) → Executes replies_text [] b c (Ok n) → Executes decks_text [] c d (Ok o) → HasMadeFirst a.now d.now
 made_first a b c d m n o h k l = record {
-  schema = λ has. (three has).schema;
-  sets = λ has. (three has).others.0 ∙ (two has).others.0 ∙ (one has).empty;
-  replies = λ has. (three has).others.1.0 ∙ (two has).empty;
-  decks = λ has. (three has).empty;
+  one = b.now;
+  two = c.now;
+  sets = creates sets_text sets_table sets_make a b m refl h;
+  replies = creates replies_text replies_table replies_make b c n refl k;
+  decks = creates decks_text decks_table decks_make c d o refl l;
   free = λ has. never_again a b m has h;
 }
-  where
-    one : a.now.schema ≡ no_schema → Creates no_schema sets_table a.now b.now
-    one has = creates no_schema sets_text sets_table sets_makes sets_are refl a b m has h
-
-    two : a.now.schema ≡ no_schema → Creates schema_1 (record replies_table { tree = 0 }) b.now c.now
-    two has = creates schema_1 replies_text (record replies_table { tree = 0 }) replies_makes replies_are refl b c n (one has).schema k
-
-    three : a.now.schema ≡ no_schema → Creates schema_2 (record decks_table { tree = 0 }) c.now d.now
-    three has = creates schema_2 decks_text (record decks_table { tree = 0 }) decks_makes decks_are refl c d o (two has).schema l
 
 pub made_last : (a b c : State) (m n : ℕ) → Executes statuses_text [] a b (Ok m) → Executes floors_text [] b c (Ok n) → HasMadeLast a.now c.now
 made_last a b c m n h k = record {
-  schema = λ has. (two has).schema;
-  statuses = λ has. (two has).others.1.1.1.0 ∙ (one has).empty;
-  floors = λ has. (two has).empty;
-  others = λ has. ((two has).others.0 ∙ (one has).others.0, ((two has).others.1.0 ∙ (one has).others.1.0, ((two has).others.1.1.0 ∙ (one has).others.1.1.0, tt)));
+  one = b.now;
+  statuses = creates statuses_text statuses_table statuses_make a b m refl h;
+  floors = creates floors_text floors_table floors_make b c n refl k;
 }
-  where
-    one : a.now.schema ≡ schema_3 → Creates schema_3 (record statuses_table { tree = 0 }) a.now b.now
-    one has = creates schema_3 statuses_text (record statuses_table { tree = 0 }) statuses_makes statuses_are refl a b m has h
 
-    two : a.now.schema ≡ schema_3 → Creates schema_4 (record floors_table { tree = 0 }) b.now c.now
-    two has = creates schema_4 floors_text (record floors_table { tree = 0 }) floors_makes floors_are refl b c n (one has).schema k
+keeps_front : (tables : List Table) (t : Table) (a b : Trees) → KeepsRows (tables ++ t ∷ []) a b → KeepsRows tables a b × (b t.tree ≡ a t.tree)
+keeps_front [] t a b keeps = (tt, keeps.0)
+keeps_front (x ∷ tables) t a b keeps = let more = keeps_front tables t a b keeps.1 in ((keeps.0, more.0), more.1)
 
-empty_keyed : (rows : List _) → rows ≡ [] → IsKeyed rows
+keeps_then : (tables : List Table) (a b c : Trees) → KeepsRows tables a b → KeepsRows tables b c → KeepsRows tables a c
+keeps_then [] a b c first second = tt
+keeps_then (x ∷ tables) a b c first second = (second.0 ∙ first.0, keeps_then tables a b c first.1 second.1)
+
+-- what keeps the rows of a database with a new table keeps those of the one before, and leaves the new table empty
+keeps_made : (table : Table) (a b : Database) (c : Trees) → HasMadeTable table a b → KeepsRows b.schema.tables b.trees c → KeepsRows a.schema.tables a.trees c × (c (next_tree a.schema) ≡ [])
+keeps_made table a b c one keeps =
+    let both = keeps_front a.schema.tables (record table { tree = next_tree a.schema }) b.trees c (subst (λ (s : Schema). KeepsRows s.tables b.trees c) one.schema keeps) in
+    (keeps_then a.schema.tables a.trees b.trees c one.others both.0, both.1 ∙ one.empty)
+
+uncounted_then : (table : Table) (a b : Database) → table.is_counted ≡ false → is_counted a.schema ≡ false → HasMadeTable table a b → is_counted b.schema ≡ false
+uncounted_then table a b never none made = ap is_counted made.schema ∙ still_uncounted a.schema table never none
+
+-- the five tables made, one behind the other
+module _ (a c : Database) (first : HasMadeFirst a c) (e : Database) (last : HasMadeLast c e) (none : is_counted a.schema ≡ false) where
+  desk_made : HasMadeDesk a e
+  desk_made =
+      let sets = first.sets none in
+      let none_1 = uncounted_then sets_table a first.one refl none sets in
+      let replies = first.replies none_1 in
+      let none_2 = uncounted_then replies_table first.one first.two refl none_1 replies in
+      let decks = first.decks none_2 in
+      let none_3 = uncounted_then decks_table first.two c refl none_2 decks in
+      let statuses = last.statuses none_3 in
+      let none_4 = uncounted_then statuses_table c last.one refl none_3 statuses in
+      let floors = last.floors none_4 in
+      let schema_1 : first.one.schema ≡ with_sets a.schema = sets.schema in
+      let schema_2 : first.two.schema ≡ with_replies a.schema = replies.schema ∙ ap (λ s. created s replies_table) schema_1 in
+      let schema_3 : c.schema ≡ with_decks a.schema = decks.schema ∙ ap (λ s. created s decks_table) schema_2 in
+      let schema_4 : last.one.schema ≡ with_statuses a.schema = statuses.schema ∙ ap (λ s. created s statuses_table) schema_3 in
+      let keeps_4 = keeps_made statuses_table c last.one e.trees statuses floors.others in
+      let keeps_3 = keeps_made decks_table first.two c e.trees decks keeps_4.0 in
+      let keeps_2 = keeps_made replies_table first.one first.two e.trees replies keeps_3.0 in
+      let keeps_1 = keeps_made sets_table a first.one e.trees sets keeps_2.0 in
+      record {
+        schema = floors.schema ∙ ap (λ s. created s floors_table) schema_4;
+        empty = record {
+          sets = keeps_1.1;
+          replies = subst (λ s. e.trees (next_tree s) ≡ []) schema_1 keeps_2.1;
+          decks = subst (λ s. e.trees (next_tree s) ≡ []) schema_2 keeps_3.1;
+          statuses = subst (λ s. e.trees (next_tree s) ≡ []) schema_3 keeps_4.1;
+          floors = subst (λ s. e.trees (next_tree s) ≡ []) schema_4 floors.empty;
+        };
+        others = keeps_1.0;
+      }
+
+pub made_all : (a b c : Database) → HasMadeFirst a b → HasMadeLast b c → HasMade a c
+made_all a b c first last = record { desk = desk_made a b first c last; free = first.free }
+
+empty_keyed : (rows : List Row) → rows ≡ [] → IsKeyed rows
 empty_keyed rows none = subst IsKeyed (sym none) (tt, tt)
 
--- the five tables made: ready, and without rows
-pub made_all : (a b c : Database) → HasMadeFirst a b → HasMadeLast b c → HasMade a c
-made_all a b c first last = record {
-  ready = λ has. record {
-    schema = last.schema (first.schema has);
-    keyed = (empty_keyed _ (sets has), (empty_keyed _ (replies has), (empty_keyed _ (decks has), (empty_keyed _ (statuses has), (empty_keyed _ (floors has), tt)))));
-  };
-  empty = λ has i. record { sets = bodies (sets has i); replies = bodies (replies has i); decks = decks has i; statuses = bodies (statuses has i); floors = bodies (floors has i) };
-  free = first.free;
-}
-  where
-    sets : a.schema ≡ no_schema → c.trees 0 ≡ []
-    sets has = (last.others (first.schema has)).0 ∙ first.sets has
-
-    replies : a.schema ≡ no_schema → c.trees 2 ≡ []
-    replies has = (last.others (first.schema has)).1.0 ∙ first.replies has
-
-    decks : a.schema ≡ no_schema → c.trees 5 ≡ []
-    decks has = (last.others (first.schema has)).1.1.0 ∙ first.decks has
-
-    statuses : a.schema ≡ no_schema → c.trees 6 ≡ []
-    statuses has = last.statuses (first.schema has)
-
-    floors : a.schema ≡ no_schema → c.trees 8 ≡ []
-    floors has = last.floors (first.schema has)
+-- made in a database without tables: they are ready, and without rows
+pub made_ready : (old new : Database) → HasMade old new → old.schema ≡ no_schema → IsReady new × (tables_in new.trees ≡ no_tables)
+made_ready old new made has =
+    let desk = made.desk (ap is_counted has) in
+    let empty : AreEmpty no_schema new.trees = subst (λ s. AreEmpty s new.trees) has desk.empty in (
+      record {
+        schema = desk.schema ∙ ap with_desk has;
+        keyed = (empty_keyed _ empty.sets, (empty_keyed _ empty.replies, (empty_keyed _ empty.decks, (empty_keyed _ empty.statuses, (empty_keyed _ empty.floors, tt)))));
+      },
+      (λ i. record { sets = bodies (empty.sets i); replies = bodies (empty.replies i); decks = empty.decks i; statuses = bodies (empty.statuses i); floors = bodies (empty.floors i) }),
+    )

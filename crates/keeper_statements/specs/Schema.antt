@@ -72,19 +72,23 @@ floors_table = strict_table (codes "floors") 8 floors_columns None (1 ∷ []) ((
 abbrev pub no_schema : Schema
 no_schema = record { tables = []; indexes = []; views = [] }
 
--- the schema with the first table, the first two, and so on
-abbrev pub schema_1 : Schema
-schema_1 = created no_schema sets_table
+-- a schema with the first table behind its own, the first two, and so on
+abbrev pub with_sets : Schema → Schema
+with_sets schema = created schema sets_table
 
-abbrev pub schema_2 : Schema
-schema_2 = created schema_1 replies_table
+abbrev pub with_replies : Schema → Schema
+with_replies schema = created (with_sets schema) replies_table
 
-abbrev pub schema_3 : Schema
-schema_3 = created schema_2 decks_table
+abbrev pub with_decks : Schema → Schema
+with_decks schema = created (with_replies schema) decks_table
 
-abbrev pub schema_4 : Schema
-schema_4 = created schema_3 statuses_table
+abbrev pub with_statuses : Schema → Schema
+with_statuses schema = created (with_decks schema) statuses_table
+
+-- a schema with the five tables behind its own
+abbrev pub with_desk : Schema → Schema
+with_desk schema = created (with_statuses schema) floors_table
 
 -- the schema with the five tables and no other
 abbrev pub desk_schema : Schema
-desk_schema = created schema_4 floors_table
+desk_schema = with_desk no_schema

@@ -1,11 +1,14 @@
 -- What a statement does inside a transaction.
-use Rattle.std.specs.Prelude.{◌≡◌, [], Result, OnOk, IsTrue}
+use Rattle.std.specs.Prelude.{◌≡◌, Bool, false, [], Result, OnOk, IsTrue}
+use Rattle.std.specs.List.{list_any}
 use Rattle.sqlite.specs.Effect.{Database}
 use Rattle.sqlite.specs.State.{State, HasCleanDisk}
 use Rattle.sqlite.specs.declared.error.Error.{Error}
-use Rattle.sqlite_catalog.specs.Change.{KeepsRows}
-use Rattle.keeper_statements.specs.Changes.{no_tables}
-use Rattle.keeper_statements.specs.Schema.{no_schema, schema_3, desk_schema}
+use Rattle.sqlite.specs.Schema.{Schema}
+use Rattle.sqlite.specs.Table.{Table}
+use Rattle.sqlite.specs.Tree.{Trees}
+use Rattle.sqlite_catalog.specs.Change.{KeepsRows, created, next_tree}
+use Rattle.keeper_statements.specs.Schema.{sets_table, replies_table, decks_table, statuses_table, floors_table, with_sets, with_replies, with_decks, with_statuses, with_desk, desk_schema}
 use Rattle.keeper_statements.specs.Tables.{Tables, IsReady, tables_in}
 
 -- the statement made this change and no other
@@ -27,23 +30,49 @@ pub record StaysInside {X : Type 0} (old new : State) (result : Result X Error) 
 abbrev pub MayStay : {X : Type 0} → State → State → Result X Error → Type 0
 MayStay old new result = HasCleanDisk new → IsTrue old.in_transaction → StaysInside old new result
 
--- the tables of data sets, kept replies and decks were made beside those that were there
+-- a table of it counts its rows for good, as AUTOINCREMENT asks; such a database may get a table of SQLite's own besides
+abbrev pub is_counted : Schema → Bool
+is_counted schema = list_any (λ t. t.is_counted) schema.tables
+
+-- a table was made behind those that were there, without rows; these stay with their rows
+pub record HasMadeTable (table : Table) (old new : Database) : Type 0 where
+  pub schema : new.schema ≡ created old.schema table
+  pub empty : new.trees (next_tree old.schema) ≡ []
+  pub others : KeepsRows old.schema.tables old.trees new.trees
+
+abbrev pub MakesTable : Table → Database → Database → Type 0
+MakesTable table old new = is_counted old.schema ≡ false → HasMadeTable table old new
+
+-- the tables of data sets, kept replies and decks were made, one behind the other
 pub record HasMadeFirst (old new : Database) : Type 0 where
-  pub schema : old.schema ≡ no_schema → new.schema ≡ schema_3
-  pub sets : old.schema ≡ no_schema → new.trees 0 ≡ []
-  pub replies : old.schema ≡ no_schema → new.trees 2 ≡ []
-  pub decks : old.schema ≡ no_schema → new.trees 5 ≡ []
+  pub one : Database
+  pub two : Database
+  pub sets : MakesTable sets_table old one
+  pub replies : MakesTable replies_table one two
+  pub decks : MakesTable decks_table two new
   pub free : old.schema ≡ desk_schema → ⊥
 
--- the tables of statuses and floors were made beside those that were there
+-- the tables of statuses and floors were made, one behind the other
 pub record HasMadeLast (old new : Database) : Type 0 where
-  pub schema : old.schema ≡ schema_3 → new.schema ≡ desk_schema
-  pub statuses : old.schema ≡ schema_3 → new.trees 6 ≡ []
-  pub floors : old.schema ≡ schema_3 → new.trees 8 ≡ []
-  pub others : old.schema ≡ schema_3 → KeepsRows schema_3.tables old.trees new.trees
+  pub one : Database
+  pub statuses : MakesTable statuses_table old one
+  pub floors : MakesTable floors_table one new
 
--- the five tables were made, without rows; none was there, and where no other was, there is none but these
+-- the tables that were made behind those of this schema have no rows
+pub record AreEmpty (schema : Schema) (trees : Trees) : Type 0 where
+  pub sets : trees (next_tree schema) ≡ []
+  pub replies : trees (next_tree (with_sets schema)) ≡ []
+  pub decks : trees (next_tree (with_replies schema)) ≡ []
+  pub statuses : trees (next_tree (with_decks schema)) ≡ []
+  pub floors : trees (next_tree (with_statuses schema)) ≡ []
+
+-- the five tables were made, without rows, behind those that were there; these stay with their rows
+pub record HasMadeDesk (old new : Database) : Type 0 where
+  pub schema : new.schema ≡ with_desk old.schema
+  pub empty : AreEmpty old.schema new.trees
+  pub others : KeepsRows old.schema.tables old.trees new.trees
+
+-- the five tables were made, and weren't there before
 pub record HasMade (old new : Database) : Type 0 where
-  pub ready : old.schema ≡ no_schema → IsReady new
-  pub empty : old.schema ≡ no_schema → tables_in new.trees ≡ no_tables
+  pub desk : is_counted old.schema ≡ false → HasMadeDesk old new
   pub free : old.schema ≡ desk_schema → ⊥

@@ -1,5 +1,5 @@
 -- One request of space management.
-use Rattle.std.proofs.Common.{inl, inr, ◌≡◌, ◌⊎◌, ◌≤◌, ◌<◌, ℕ, suc, ◌+◌, ◌==◌, ◌&&◌, Bool, true, false, cond, List, [], ◌∷◌, ◌++◌, Option, None, Some, refl, sym, ap, subst, ◌∙◌, arith, append-nil}
+use Rattle.std.proofs.Common.{inl, inr, ◌≡◌, ◌⊎◌, ◌≤◌, ℕ, ◌+◌, ◌==◌, ◌&&◌, not, Bool, true, false, List, [], ◌∷◌, ◌++◌, Option, None, Some, refl, sym, ap, subst, ◌∙◌, arith, append-nil}
 use Rattle.std.specs.Prelude.{bytes_eq, find, nat_lt}
 use Rattle.std.proofs.lemmas.Bool.{cases_Bool}
 use Rattle.std.proofs.lemmas.Bool.Decides.{nat_tests}
@@ -16,7 +16,7 @@ use Rattle.sms_keeper.specs.declared.rows.Rows.{Rows}
 use Rattle.sms_keeper.specs.Tables.{is_reply_of}
 use Rattle.desk_law.specs.State.{DeskState, Opening, set_named, start_of, with_set, without_name}
 use Rattle.desk_law.specs.Kept.{all_floors, all_rows, floor_of, floor_told, greatest_floor, is_entered, is_fault, kept_for, row_of_entry, rows_of_entry}
-use Rattle.desk_law.specs.Step.{IsBelow, IsFresh, IsRepeat, IsStep}
+use Rattle.desk_law.specs.Step.{IsFresh, IsStep}
 use Rattle.desk_law.specs.History.{Reaches}
 use Rattle.desk_law.specs.Extents.{tracks_of_set}
 use Rattle.desk_law.specs.Deletion.{DeleteRule}
@@ -24,10 +24,10 @@ use Rattle.desk_law.specs.Releasing.{ReleaseRule, kept_of}
 use Rattle.desk_law.specs.Replies.{Makes}
 use Rattle.desk_law.proofs.FloorLemmas.{all-floors-append, all-rows-append, append-none}
 use Rattle.desk_law.proofs.HistoryLemmas.{leads-one, leads-push}
-use Rattle.sms_core.specs.Core.{Enters, entry_of}
+use Rattle.sms_core.specs.Core.{Enters}
 use Rattle.sms_manage.specs.declared.wanted.Due.{Due}
 use Rattle.sms_manage.specs.declared.wanted.Due.TheVariants.{Nothing, Delete, Release}
-use Rattle.sms_manage.specs.Managed.{IsUnused, manager, op_for, was_done}
+use Rattle.sms_manage.specs.Managed.{IsUnused, manager, op_for, is_hindered}
 
 -- the job has no floor, and no kept reply from this number on
 pub record IsUnusedFrom (o : Opening) (h : List Entry) (number : ℕ) : Type 0 where
@@ -45,7 +45,7 @@ after_act Release s set = with_set s (kept_of set)
 
 -- what an answer to an act comes to: nothing, or what is due; it tells no floor
 pub record IsActed (wanted : Due) (s : DeskState) (set : DataSet) (reply : Reply) (after : DeskState) : Type 0 where
-  pub outcome : ((was_done reply ≡ false) × (after ≡ s)) ⊎ ((was_done reply ≡ true) × (after ≡ after_act wanted s set))
+  pub outcome : ((not (is_hindered reply) ≡ false) × (after ≡ s)) ⊎ ((not (is_hindered reply) ≡ true) × (after ≡ after_act wanted s set))
   pub quiet : floor_told reply ≡ []
 
 same-some : (a b : Op) → Some a ≡ Some b → a ≡ b
@@ -130,7 +130,7 @@ entered-act o h number wanted op s after set e unused job same asked is found re
     not-below : (n : ℕ) → nat_lt n 0 ≡ false
     not-below n = grind (arith, nat_tests)
 
-without-entry : (reply : Reply) → is_entered reply ≡ false → (was_done reply ≡ false) × (floor_told reply ≡ [])
+without-entry : (reply : Reply) → is_entered reply ≡ false → (not (is_hindered reply) ≡ false) × (floor_told reply ≡ [])
 without-entry (replies.Granted set trace) none = absurd cc
 without-entry (replies.NotManaged trace) none = absurd cc
 without-entry (replies.Extended added) none = absurd cc

@@ -1,5 +1,5 @@
 -- A day so far: the data sets up to a name.
-use Rattle.std.proofs.Common.{inl, inr, ◌≡◌, ◌⊎◌, ◌≤◌, ◌<◌, ℕ, suc, ◌+◌, ◌==◌, ◌&&◌, ◌||◌, not, Bool, true, false, cond, List, [], ◌∷◌, ◌++◌, length, map, Option, None, Some, Ordering, Less, Equal, Greater, is_lt, refl, sym, ap, subst, ◌∙◌, arith, append-nil, append_assoc, length-append}
+use Rattle.std.proofs.Common.{inl, inr, ◌≡◌, ◌⊎◌, ℕ, ◌+◌, ◌==◌, ◌&&◌, ◌||◌, Bool, true, false, cond, List, [], ◌∷◌, ◌++◌, length, map, Option, None, Some, Ordering, Less, Equal, Greater, is_lt, refl, sym, ap, ◌∙◌, arith, append-nil, append_assoc}
 use Rattle.std.specs.Prelude.{bytes_eq}
 use Rattle.std.specs.Cmp.Lexicographic.{nat_list_cmp_total, slice_cmp}
 use Rattle.std.specs.List.{list_all, list_any}
@@ -10,20 +10,16 @@ use Rattle.std.proofs.lemmas.Map.Text.{is_eq-slice_cmp}
 use Rattle.std.proofs.lemmas.Slice.Eq.{bytes_eq-Decides}
 use Rattle.sms_construct.specs.Configuration.{Configuration, are_ascending}
 use Rattle.sms_construct.specs.declared.data_set.DataSet.{DataSet}
-use Rattle.sms_construct.specs.declared.entry.Entry.{Entry}
-use Rattle.sms_construct.specs.declared.request.Op.{Op}
-use Rattle.desk_law.specs.State.{DeskState, Opening, set_named}
-use Rattle.desk_law.specs.History.{Reaches}
+use Rattle.desk_law.specs.State.{DeskState, set_named}
 use Rattle.desk_law.specs.Releasing.{kept_of}
-use Rattle.desk_state.specs.Following.{IsFirstBehind, IsLastName, is_behind}
+use Rattle.desk_state.specs.Following.{is_behind}
 use Rattle.desk_state.proofs.ApplyLemmas.{drop-found, put-found}
 use Rattle.sms_manage.specs.declared.act.Act.{Act}
 use Rattle.sms_manage.specs.declared.wanted.Due.{Due}
 use Rattle.sms_manage.specs.declared.wanted.Due.TheVariants.{Nothing, Delete, Release}
-use Rattle.sms_manage.specs.Due.{class_of, due_of, has_passed, has_unused, is_due, is_due_if, is_releasing, lifetime_of}
-use Rattle.sms_manage.specs.Managed.{are_counted, entries_of, entry_for, op_for, op_if, was_done}
-use Rattle.sms_manage.specs.Walk.{Asks}
-use Rattle.sms_manage.proofs.ActLemmas.{HasActed, IsActed, IsUnusedFrom, after_act, step-acted}
+use Rattle.sms_manage.specs.Due.{class_of, due_of, has_passed, is_due, is_due_if, is_releasing, lifetime_of}
+use Rattle.sms_manage.specs.Managed.{are_counted, entries_of, entry_for, op_if}
+use Rattle.sms_manage.proofs.ActLemmas.{after_act}
 use Rattle.sms_manage.proofs.ReleaseLemmas.{release-twice}
 
 -- Names in order.

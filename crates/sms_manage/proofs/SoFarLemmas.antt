@@ -1,5 +1,5 @@
 -- The day up to a name.
-use Rattle.std.proofs.Common.{inl, inr, ◌≡◌, ◌⊎◌, ℕ, ◌+◌, ◌&&◌, ◌||◌, not, Bool, true, false, List, [], ◌∷◌, ◌++◌, length, map, Option, None, Some, is_lt, refl, sym, ap, subst, ◌∙◌, arith, append-nil, append_assoc, length-append}
+use Rattle.std.proofs.Common.{inl, inr, ◌≡◌, ◌⊎◌, ℕ, ◌+◌, ◌&&◌, ◌||◌, not, Bool, true, false, List, [], ◌∷◌, ◌++◌, length, map, Option, None, Some, refl, sym, ap, subst, ◌∙◌, arith, append-nil, append_assoc, length-append}
 use Rattle.std.specs.Prelude.{bytes_eq}
 use Rattle.std.specs.List.{list_all, list_any}
 use Rattle.std.proofs.lemmas.Bool.{cases_Bool}
@@ -15,9 +15,9 @@ use Rattle.sms_manage.specs.declared.act.Act.{Act}
 use Rattle.sms_manage.specs.declared.wanted.Due.{Due}
 use Rattle.sms_manage.specs.declared.wanted.Due.TheVariants.{Nothing, Delete, Release}
 use Rattle.sms_manage.specs.Due.{due_of, is_due, is_due_if}
-use Rattle.sms_manage.specs.Managed.{AreActs, IsManaged, IsUnused, are_counted, entries_of, entry_for, manager, op_for, op_if, was_done}
+use Rattle.sms_manage.specs.Managed.{AreAnswersBehind, IsAnswerBehind, IsManaged, IsUnused, are_counted, entries_of, entry_for, op_for, op_if, is_hindered}
 use Rattle.sms_manage.specs.Walk.{Asks, IsDueNext, IsNextDue}
-use Rattle.sms_manage.proofs.ActLemmas.{HasActed, IsActed, IsUnusedFrom, after_act, step-acted, unused-all}
+use Rattle.sms_manage.proofs.ActLemmas.{HasActed, IsUnusedFrom, step-acted, unused-all}
 use Rattle.sms_manage.proofs.DayLemmas.{AllBefore, R, all-push, any-push, ascending-push, before-apart, before-behind, before-push, behind-apart, counted-push, entries-push, further, names-push, other-stays, same-name, settled-act, which-at}
 
 -- the data sets up to a name were gone through, from the state before
@@ -25,6 +25,7 @@ pub record IsDaySoFar (o : Opening) (day : ℕ) (config : Configuration) (before
   pub state : DeskState
   pub reaches : Reaches o h state
   pub journal : h ≡ old ++ entries_of config day before.sets acts
+  pub answers : AreAnswersBehind config day before.sets old acts
   pub unused : IsUnusedFrom o h (length acts + 1)
   pub behind : (dsn : List ℕ) → is_behind last dsn ≡ true → set_named dsn state.sets ≡ set_named dsn before.sets
   pub each : (dsn : List ℕ) → list_any (λ act. bytes_eq act.dsn dsn) acts ≡ (not (is_behind last dsn) && is_due_if config day (set_named dsn before.sets))
@@ -32,7 +33,15 @@ pub record IsDaySoFar (o : Opening) (day : ℕ) (config : Configuration) (before
   pub order : are_ascending (map (λ act. act.dsn) acts) ≡ true
   pub counted : are_counted 1 acts ≡ true
   pub others : (dsn : List ℕ) → is_behind last dsn ≡ false → is_due_if config day (set_named dsn before.sets) ≡ false → set_named dsn state.sets ≡ set_named dsn before.sets
-  pub settled : list_all (λ act. was_done act.answer.reply) acts ≡ true → (dsn : List ℕ) → is_behind last dsn ≡ false → is_due_if config day (set_named dsn state.sets) ≡ false
+  pub settled : list_all (λ act. not (is_hindered act.answer.reply)) acts ≡ true → (dsn : List ℕ) → is_behind last dsn ≡ false → is_due_if config day (set_named dsn state.sets) ≡ false
+
+-- one more act has its answer
+answers-push : (config : Configuration) (day : ℕ) (sets : List DataSet) (h : List Entry) (acts : List Act) (act : Act) (op : Op) → op_if config day (set_named act.dsn sets) ≡ Some op
+    → AreAnswersBehind config day sets h acts → IsAnswerBehind (h ++ entries_of config day sets acts) op act.answer → AreAnswersBehind config day sets h (acts ++ act ∷ [])
+answers-push config day sets h [] act op is all one = (rw is (subst (λ es. IsAnswerBehind es op act.answer) (append-nil h) one), tt)
+answers-push config day sets h (a ∷ acts) act op is all one =
+    let entry = entry_for (op_if config day (set_named a.dsn sets)) a in
+    (all.0, answers-push config day sets (h ++ entry) acts act op is all.1 (subst (λ es. IsAnswerBehind es op act.answer) (sym (append_assoc h entry (entries_of config day sets acts))) one))
 
 -- nothing was gone through yet
 pub day-begins : (o : Opening) (day : ℕ) (config : Configuration) (before : DeskState) (old : List Entry) → Reaches o old before → IsUnused o old → IsDaySoFar o day config before old old None []
@@ -40,6 +49,7 @@ day-begins o day config before old reaches unused = record {
   state = before;
   reaches = reaches;
   journal = sym (append-nil old);
+  answers = tt;
   unused = unused-all o old unused;
   behind = λ dsn any. refl;
   each = λ dsn. refl;
@@ -86,6 +96,7 @@ module _ (o : Opening) (day : ℕ) (config : Configuration) (before : DeskState)
         state = far.state;
         reaches = far.reaches;
         journal = far.journal;
+        answers = far.answers;
         unused = far.unused;
         behind = λ dsn past. far.behind dsn (passed dsn past);
         each = λ dsn. elim (cases_Bool (is_behind (Some set.dsn) dsn)) [
@@ -126,6 +137,8 @@ module _ (o : Opening) (day : ℕ) (config : Configuration) (before : DeskState)
         journal =
             asks.enters.journal_is ∙ ap (λ es. es ++ entry_for (Some op) act) far.journal ∙ append_assoc old (entries_of config day before.sets acts) (entry_for (Some op) act)
             ∙ ap (λ es. old ++ es) (ap (λ es. entries_of config day before.sets acts ++ es) (sym one) ∙ sym (entries-push config day before.sets acts act));
+        answers = answers-push config day before.sets old acts act op asked far.answers
+            (subst (λ es. IsAnswerBehind es op answer) far.journal (record { unplaced = asks.enters.no_place; full = asks.enters.full }));
         unused = rw (length-append acts (act ∷ [])) acted.unused;
         behind = λ dsn past. stays acted dsn (behind-apart set.dsn dsn past) ∙ far.behind dsn (passed dsn past);
         each = λ dsn. any-push (λ a. bytes_eq a.dsn dsn) acts act ∙ elim (cases_Bool (is_behind (Some set.dsn) dsn)) [
@@ -145,7 +158,7 @@ module _ (o : Opening) (day : ℕ) (config : Configuration) (before : DeskState)
           | inr (inr gone) ↦ stays acted dsn gone.2 ∙ far.behind dsn gone.0
         ];
         settled = λ all dsn isnt.
-            let both = all-push (λ a. was_done a.answer.reply) acts act all in
+            let both = all-push (λ a. not (is_hindered a.answer.reply)) acts act all in
             elim (place-of dsn isnt) [
               | inl early ↦ rw (stays acted dsn (up-to dsn early)) (far.settled both.0 dsn early)
               | inr (inl same) ↦ rw (← same) (elim acted.acted.outcome [
@@ -189,6 +202,7 @@ day-ends o day config before old h last acts far active none = record {
     counted = far.counted;
   };
   journal = far.journal;
+  answers = far.answers;
   legal = far.reaches;
   others = λ dsn quiet. elim (cases_Bool (is_behind last dsn)) [
     | inl past ↦ far.behind dsn past

@@ -1,5 +1,5 @@
 -- A day of space management: which requests are made, and what they come to.
-use Rattle.std.specs.Prelude.{ℕ, ◌≡◌, ◌+◌, ◌==◌, ◌&&◌, ◌⊎◌, Bool, true, false, List, [], ◌∷◌, ◌++◌, map, codes, bytes_eq, Option, None, Some, if◌then◌else◌}
+use Rattle.std.specs.Prelude.{ℕ, ◌≡◌, ◌↔◌, ◌+◌, ◌==◌, ◌&&◌, ◌⊎◌, Bool, true, false, not, List, [], ◌∷◌, ◌++◌, map, codes, bytes_eq, Option, None, Some, IfSome}
 use Rattle.std.specs.List.{list_all, list_any}
 use Rattle.sms_construct.specs.Configuration.{Configuration, are_ascending}
 use Rattle.sms_construct.specs.declared.data_set.DataSet.{DataSet}
@@ -8,10 +8,10 @@ use Rattle.sms_construct.specs.declared.reply.Reply.{Reply}
 use Rattle.sms_construct.specs.declared.reply.Reply.TheVariants as replies
 use Rattle.sms_construct.specs.declared.request.Op.{Op}
 use Rattle.sms_construct.specs.declared.request.Op.TheVariants as ops
-use Rattle.sms_construct.specs.declared.request.Request.{Request}
 use Rattle.desk_law.specs.State.{DeskState, Opening, set_named}
 use Rattle.desk_law.specs.History.{Reaches}
-use Rattle.desk_law.specs.Kept.{floor_of, kept_for}
+use Rattle.desk_law.specs.Kept.{floor_of, is_entered, kept_for}
+use Rattle.desk_records.specs.Full.{is_full_for}
 use Rattle.sms_core.specs.Core.{entry_of}
 use Rattle.sms_construct.specs.declared.entry.Answer.{Answer}
 use Rattle.sms_manage.specs.declared.act.Act.{Act}
@@ -60,22 +60,42 @@ pub record AreActs (config : Configuration) (day : ℕ) (sets : List DataSet) (a
   pub order : are_ascending (map (λ act. act.dsn) acts) ≡ true
   pub counted : are_counted 1 acts ≡ true
 
--- the act was done: the reply isn't one of those that change nothing for want of memory or room, or for a fault
-abbrev pub was_done : Reply → Bool
-was_done (replies.Deleted tracks) = true
-was_done (replies.Released tracks) = true
-was_done reply = false
+-- nothing was done: the keeper failed, or the journal's room or memory was wanting
+abbrev pub is_hindered : Reply → Bool
+is_hindered replies.KeeperFault = true
+is_hindered replies.JournalFull = true
+is_hindered replies.Memory = true
+is_hindered reply = false
+
+-- the answer is one of a step behind these entries: without an entry it has no place, and the journal is full exactly where it has none for the op
+pub record IsAnswerBehind (h : List Entry) (op : Op) (answer : Answer) : Type 0 where
+  pub unplaced : is_entered answer.reply ≡ false → (answer.place ≡ 0) × (answer.first ≡ 0)
+  pub full : answer.reply ≡ replies.JournalFull ↔ is_full_for h op ≡ true
+
+-- each act has such an answer behind these entries and those of the acts before it
+abbrev pub AreAnswersBehind : Configuration → ℕ → List DataSet → List Entry → List Act → Type 0
+AreAnswersBehind config day sets h [] = Unit {0}
+AreAnswersBehind config day sets h (act ∷ acts) =
+    IfSome (op_if config day (set_named act.dsn sets)) (λ op. IsAnswerBehind h op act.answer)
+    × AreAnswersBehind config day sets (h ++ entry_for (op_if config day (set_named act.dsn sets)) act) acts
 
 -- from the state before, in which this configuration was active, the acts lead to the state after
 pub record IsManaged (o : Opening) (day : ℕ) (config : Configuration) (before after : DeskState) (old new : List Entry) (acts : List Act) : Type 0 where
   pub active : before.active ≡ Some config
   pub acts_are : AreActs config day before.sets acts
   pub journal : new ≡ old ++ entries_of config day before.sets acts
+  pub answers : AreAnswersBehind config day before.sets old acts
   pub legal : Reaches o new after
   -- other data sets are as before
   pub others : (dsn : List ℕ) → is_due_if config day (set_named dsn before.sets) ≡ false → set_named dsn after.sets ≡ set_named dsn before.sets
-  -- where all was done nothing is due any more
-  pub settled : list_all (λ act. was_done act.answer.reply) acts ≡ true → (dsn : List ℕ) → is_due_if config day (set_named dsn after.sets) ≡ false
+  -- where nothing hindered them nothing is due any more
+  pub settled : list_all (λ act. not (is_hindered act.answer.reply)) acts ≡ true → (dsn : List ℕ) → is_due_if config day (set_named dsn after.sets) ≡ false
+
+-- behind these entries stand only some that the job asked for
+pub record IsAsking (old new : List Entry) : Type 0 where
+  pub added : List Entry
+  pub behind : new ≡ old ++ added
+  pub asked : list_all (λ entry. bytes_eq entry.request.job manager) added ≡ true
 
 -- nothing is active, so nothing is catalogued, and nothing is done
 pub record IsIdle (before : DeskState) (old new : List Entry) (acts : List Act) : Type 0 where

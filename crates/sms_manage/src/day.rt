@@ -1,8 +1,8 @@
 //! A day of space management.
-ghost use Rattle.std.specs.Prelude.{◌≡◌, ◌+◌, IfOk, IfSome, OnOk, Some, length};
+ghost use Rattle.std.specs.Prelude.{◌≡◌, ◌+◌, IfOk, IfSome, OnErr, OnOk, Some, length};
 ghost use Rattle.desk_law.specs.State.{DeskState};
 ghost use Rattle.desk_law.specs.History.{Reaches};
-ghost use Rattle.sms_manage.specs.Managed.{IsManaged, IsUnused, WasManaged, op_for};
+ghost use Rattle.sms_manage.specs.Managed.{IsAsking, IsManaged, IsUnused, WasManaged, op_for};
 ghost use Rattle.sms_manage.specs.Walk.{Asks, IsNextDue};
 
 use crate::act::{Act, Acts};
@@ -34,6 +34,7 @@ pub fn run_day<P: Keeper>(
 ) -> Result<Acts, AllocError>
     requires { IsUnused core.old.opening core.old.journal }
     ensures managed { IfOk result (λ acts. WasManaged core.old.opening day core.old.journal core.new.journal acts) }
+    ensures asking { IsAsking core.old.journal core.new.journal }
     ensures opening { core.new.opening ≡ core.old.opening }
     ensures mark { core.new.mark ≡ core.old.mark }
 {
@@ -54,6 +55,7 @@ fn act_all<P: Keeper>(
     requires { IsUnused core.old.opening core.old.journal }
     ensures managed { IfOk result (λ acts. (before : DeskState) → Reaches core.old.opening core.old.journal before → before.active ≡ Some config.now →
         (after : DeskState) × IsManaged core.old.opening day config.now before after core.old.journal core.new.journal acts) }
+    ensures asking { IsAsking core.old.journal core.new.journal }
     ensures opening { core.new.opening ≡ core.old.opening }
     ensures mark { core.new.mark ≡ core.old.mark }
 {
@@ -114,6 +116,7 @@ fn act_on<P: Keeper>(
     acts: &mut Vec<Act>,
 ) -> Result<(), AllocError>
     ensures asked { OnOk result (Asks core.old.opening core.old.journal core.new.journal dsn op acts.old.items acts.new.items) }
+    ensures unasked { OnErr result (core.new.journal ≡ core.old.journal) }
     ensures opening { core.new.opening ≡ core.old.opening }
     ensures mark { core.new.mark ≡ core.old.mark }
 {

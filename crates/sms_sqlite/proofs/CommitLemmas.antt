@@ -1,5 +1,5 @@
 -- A transaction from its beginning to its end.
-use Rattle.std.proofs.Common.{◌≡◌, Bool, true, false, [], Ok, Err, Result, OnOk, Some, IsTrue, inl, inr, refl, sym, ap, subst, ◌∙◌}
+use Rattle.std.proofs.Common.{◌≡◌, Bool, true, false, [], Ok, Err, Result, OnOk, OnErr, Some, IsTrue, inl, inr, refl, sym, ap, subst, ◌∙◌}
 use Rattle.sqlite.specs.Effect.{Database}
 use Rattle.sqlite.specs.Schema.{Schema}
 use Rattle.sqlite.specs.State.{State, Shows, KeepsCounts, Survives}
@@ -8,10 +8,11 @@ use Rattle.sqlite.specs.declared.error.Error.{Error}
 use Rattle.sms_keeper.specs.Tables.{with_change, keep_row, row_of, no_rows}
 use Rattle.sms_keeper.specs.declared.change.Change.{Change}
 use Rattle.sms_keeper.specs.declared.rows.Rows.{Rows}
+use Rattle.keeper_statements.proofs.CreateLemmas.{made_ready}
 use Rattle.keeper_statements.specs.Steps.{HasMade}
 use Rattle.sms_sqlite.specs.Told.{tables_of, is_new}
 use Rattle.sms_sqlite.specs.Values.{rows_in, rows_of}
-use Rattle.sms_sqlite.specs.Writing.{Holds, HoldsLike, AreAlike, HasRows, IsCommitted, with_effect, with_row}
+use Rattle.sms_sqlite.specs.Writing.{Holds, HoldsLike, AreAlike, HasRows, IsAsBefore, IsCommitted, IsSettled, with_effect, with_row}
 use Rattle.sms_sqlite.proofs.ReadLemmas.{some, some_is}
 use Rattle.sms_sqlite.proofs.TablesLemmas.{alike_self, alike_then}
 use Rattle.sms_sqlite.proofs.ToldLemmas.{alike_same, holds_of, new_is, tables_of_new}
@@ -25,6 +26,26 @@ commit_made last end rows (Ok x) holds shown = record {
   is_open = shown.1.is_open;
 }
 commit_made last end rows (Err e) holds shown = tt
+
+-- the tables made in the last state are committed
+pub made_committed : (old : Database) (last end : State) (done : Result (Unit {0}) Error) → HasMade old last.now
+    → OnOk done (IsTrue last.in_transaction × Shows last end last.now last.now false × KeepsCounts last end × (end.marks ≡ [])) → OnOk done (HasMade old end.now)
+made_committed old last end (Ok x) made shown = subst (HasMade old) (sym shown.1.now_is) made
+made_committed old last end (Err e) made shown = tt
+
+-- committed and open: a stop leaves that alone
+pub settled_by : {X E : Type 0} (new : State) (r : Result X E) → OnOk r (IsTrue new.is_open) → OnOk r (new.committed ≡ new.now)
+    → (IsTrue new.is_open → (db : Trees) → new.may_leave db → db ≡ new.committed.trees) → OnOk r (IsSettled new)
+settled_by new (Ok x) is_open committed alone = record {
+  is_open = is_open;
+  committed = committed;
+  alone = λ db left. alone is_open db left ∙ ap (λ (d : Database). d.trees) committed;
+}
+settled_by new (Err e) is_open committed alone = tt
+
+pub refused_by : {X E : Type 0} (old new : State) (r : Result X E) → OnErr r (new.now ≡ old.now) → OnErr r (new.committed ≡ old.committed) → OnErr r (IsAsBefore old new)
+refused_by old new (Ok x) now committed = tt
+refused_by old new (Err e) now committed = record { now = now; committed = committed }
 
 -- what the last state holds is what a stop in the commit may leave
 pub last_rows : (last : State) (rows : Rows) (db : Trees) → HoldsLike last.now rows → db ≡ last.now.trees → HasRows db rows
@@ -53,10 +74,11 @@ made_like old new rows made told = by (is_new old) refl
     by : (b : Bool) → is_new old ≡ b → HoldsLike new rows
     by true is =
         let schema = new_is old is in
+        let fresh = made_ready old new made schema in
         let none : no_rows ≡ rows = some_is no_rows rows (sym (tables_of_new old schema) ∙ told) in
         record {
           found = rows;
-          holds = record { ready = made.ready schema; read = ap rows_of (made.empty schema) ∙ ap (λ (r : Rows). some r) none };
+          holds = record { ready = fresh.0; read = ap rows_of fresh.1 ∙ ap (λ (r : Rows). some r) none };
           alike = alike_self rows;
         }
     by false is = absurd (made.free (holds_of old rows is told).ready.schema)

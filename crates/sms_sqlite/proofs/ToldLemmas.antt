@@ -4,7 +4,7 @@ use Rattle.std.specs.Prelude.{IfSome, is_some}
 use Rattle.std.specs.List.{AllByRecursion, list_all}
 use Rattle.sqlite.specs.Effect.{Database}
 use Rattle.sqlite.specs.Order.{Row}
-use Rattle.sqlite.specs.State.{State, HasCleanDisk, Survives}
+use Rattle.sqlite.specs.State.{State, HasCleanDisk}
 use Rattle.sqlite.specs.Table.{Table}
 use Rattle.sqlite.specs.Tree.{Trees}
 use Rattle.sqlite.specs.declared.error.Error.{Error}
@@ -222,23 +222,3 @@ pub made_stays : {X : Type 0} (base : Database) (old new : State) (r : Result X 
     → (HasCleanDisk new → IsTrue new.is_open → OnErr r (new.now ≡ old.now)) → Stays (told_of base old) (told_of base new)
 made_stays base old new (Ok x) readable clean opened made kept = told_ok base old new readable clean opened (λ rows. rows) made
 made_stays base old new (Err e) readable clean opened made kept = told_err base old new readable clean opened kept
-
--- what a stop may leave, of what is told
-pub crash_told : (base : Database) (old new : State) (f : Rows → Rows) → Survives old new (λ db. (rows : Rows) → tables_of old.now ≡ Some rows → HasRows db (f rows))
-    → Survives old new (λ db. IfSome (told_of base old) (λ rows. HasRows db (f rows)))
-crash_told base old new f s = record {
-  clean = s.clean;
-  shield = s.shield;
-  counts = s.counts;
-  limit = s.limit;
-  closes = s.closes;
-  crash = λ clean db left. elim (s.crash clean db left) [ inl before ↦ inl before | inr has ↦ inr (by (is_shown old && is_new base) refl db has) ];
-}
-  where
-    some_rows : (o : Option Rows) (P : Rows → Type 0) → ((rows : Rows) → o ≡ Some rows → P rows) → IfSome o P
-    some_rows None P g = tt
-    some_rows (Some rows) P g = g rows refl
-
-    by : (b : Bool) → (is_shown old && is_new base) ≡ b → (db : Trees) → ((rows : Rows) → tables_of old.now ≡ Some rows → HasRows db (f rows)) → IfSome (told_of base old) (λ rows. HasRows db (f rows))
-    by true is db has = subst (λ b. IfSome (cond b (tables_of old.now) None) (λ rows. HasRows db (f rows))) (sym is) (some_rows (tables_of old.now) (λ rows. HasRows db (f rows)) has)
-    by false is db has = subst (λ b. IfSome (cond b (tables_of old.now) None) (λ rows. HasRows db (f rows))) (sym is) tt

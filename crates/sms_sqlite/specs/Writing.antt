@@ -9,6 +9,7 @@ use Rattle.sms_keeper.specs.declared.change.Change.{Change}
 use Rattle.sms_keeper.specs.declared.rows.Rows.{Rows}
 use Rattle.sms_construct.specs.declared.target.Target.{Target}
 use Rattle.keeper_statements.specs.Tables.{IsReady}
+use Rattle.sms_sqlite.specs.Told.{tables_of}
 use Rattle.sms_sqlite.specs.Values.{rows_in}
 
 -- the tables are made, and these are their rows
@@ -54,8 +55,31 @@ with_effect change rows = record {
 abbrev pub with_row : Change → Rows → Rows
 with_row change rows = record rows { replies = keep_row rows.floors (row_of change) rows.replies }
 
+-- the connection is open, what it sees is committed, and a stop leaves that alone
+pub record IsSettled (new : State) : Type 0 where
+  pub is_open : IsTrue new.is_open
+  pub committed : new.committed ≡ new.now
+  pub alone : (db : Trees) → new.may_leave db → db ≡ new.now.trees
+
+-- while the disk is clean, what isn't refused is settled
+abbrev pub MaySettle : {X E : Type 0} → State → Result X E → Type 0
+MaySettle new result = HasCleanDisk new → OnOk result (IsSettled new)
+
+-- what the connection sees and what is committed are as before
+pub record IsAsBefore (old new : State) : Type 0 where
+  pub now : new.now ≡ old.now
+  pub committed : new.committed ≡ old.committed
+
+-- while the disk is clean and the connection open, what is refused leaves all as before
+abbrev pub MayUndo : {X E : Type 0} → State → State → Result X E → Type 0
+MayUndo old new result = HasCleanDisk new → IsTrue new.is_open → OnErr result (IsAsBefore old new)
+
 -- the database holds rows like these, and they are committed
 pub record IsCommitted (new : State) (rows : Rows) : Type 0 where
   pub holds : HoldsLike new.now rows
   pub committed : new.committed ≡ new.now
   pub is_open : IsTrue new.is_open
+
+-- while the disk is clean, what isn't refused commits this change of the rows, whoever wrote them
+abbrev pub MayCommit : {X E : Type 0} → (Rows → Rows) → State → State → Result X E → Type 0
+MayCommit change old new result = HasCleanDisk new → (rows : Rows) → tables_of old.now ≡ Some rows → OnOk result (IsCommitted new (change rows))

@@ -1,15 +1,17 @@
 //! A keeper over a database.
-ghost use Rattle.std.specs.Prelude.{◌≡◌, ◌≤◌, IfSome, IsErrOf, OnErr, OnOk};
+ghost use Rattle.std.specs.Prelude.{◌≡◌, ◌≤◌, IfSome, IsErrOf, OnErr, OnOk, Some};
 ghost use Rattle.desk_common.specs.Causes.{Rose, counted};
 ghost use Rattle.sqlite.specs.Held.{state};
-ghost use Rattle.sqlite.specs.State.{Survives};
+ghost use Rattle.sqlite.specs.State.{HasCleanDisk, Survives};
 ghost use Rattle.sqlite.specs.Tree.{Trees};
 ghost use Rattle.sms_keeper.specs.Faults.{faults_counted};
 ghost use Rattle.sms_keeper.specs.Suits.{Suits};
 ghost use Rattle.sms_keeper.specs.Tables.{AreSame, no_rows, with_change};
 ghost use Rattle.sms_keeper.specs.Told.{Applies, Stays};
-ghost use Rattle.sms_sqlite.specs.Told.{told_by};
-ghost use Rattle.sms_sqlite.specs.Writing.{HasRows};
+ghost use Rattle.sms_keeper.specs.declared.rows.Rows.{Rows};
+ghost use Rattle.keeper_statements.specs.Steps.{HasMade};
+ghost use Rattle.sms_sqlite.specs.Told.{tables_of, told_by};
+ghost use Rattle.sms_sqlite.specs.Writing.{HasRows, MayCommit, MayUndo, MaySettle};
 
 use crate::writing::{write_change, write_tables};
 use sms_keeper::{Change, Keeper, KeeperErr, Stored};
@@ -70,7 +72,10 @@ impl<S: Alter + Drop> SqlKeeper<S> {
         ensures faults { self.new.faults ≡ self.old.faults }
         ensures applied { OnOk result (Applies change.now (told_by S.Store self.old) (told_by S.Store self.new)) }
         ensures kept { OnErr result (Stays (told_by S.Store self.old) (told_by S.Store self.new)) }
-        ensures crash { Survives (state S.Store self.old.connection) (state S.Store self.new.connection) (λ db. IfSome (told_by S.Store self.old) (λ rows. HasRows db (with_change rows change.now))) }
+        ensures unchanged { MayUndo (state S.Store self.old.connection) (state S.Store self.new.connection) result }
+        ensures settled { MaySettle (state S.Store self.new.connection) result }
+        ensures made { MayCommit (λ rows. with_change rows change.now) (state S.Store self.old.connection) (state S.Store self.new.connection) result }
+        ensures crash { Survives (state S.Store self.old.connection) (state S.Store self.new.connection) (λ db. (rows : Rows) → tables_of (state S.Store self.old.connection).now ≡ Some rows → HasRows db (with_change rows change.now)) }
         ensures alone { OnOk result (IfSome (told_by S.Store self.new) (λ rows. (db : Trees) → (state S.Store self.new.connection).may_leave db → HasRows db rows)) }
     {
         write_change(&mut self.connection, self.alloc, change)
@@ -81,7 +86,10 @@ impl<S: Alter + Drop> SqlKeeper<S> {
         ensures base { self.new.base ≡ self.old.base }
         ensures faults { self.new.faults ≡ self.old.faults }
         ensures kept { Stays (told_by S.Store self.old) (told_by S.Store self.new) }
-        ensures crash { Survives (state S.Store self.old.connection) (state S.Store self.new.connection) (λ db. IfSome (told_by S.Store self.old) (HasRows db)) }
+        ensures unchanged { MayUndo (state S.Store self.old.connection) (state S.Store self.new.connection) result }
+        ensures settled { MaySettle (state S.Store self.new.connection) result }
+        ensures made { HasCleanDisk (state S.Store self.new.connection) → OnOk result (HasMade (state S.Store self.old.connection).now (state S.Store self.new.connection).now) }
+        ensures crash { Survives (state S.Store self.old.connection) (state S.Store self.new.connection) (λ db. (rows : Rows) → tables_of (state S.Store self.old.connection).now ≡ Some rows → HasRows db rows) }
     {
         write_tables(&mut self.connection)
     }
@@ -120,7 +128,10 @@ impl<S: Alter + Drop> Keeper for SqlKeeper<S> {
         ensures rises { self.old.faults ≤ self.new.faults }
         ensures faults { self.new.faults ≡ faults_counted self.old.faults result }
         ensures base { self.new.base ≡ self.old.base }
-        ensures crash { Survives (state S.Store self.old.connection) (state S.Store self.new.connection) (λ db. IfSome (told_by S.Store self.old) (λ rows. HasRows db (with_change rows change.now))) }
+        ensures unchanged { MayUndo (state S.Store self.old.connection) (state S.Store self.new.connection) result }
+        ensures settled { MaySettle (state S.Store self.new.connection) result }
+        ensures made { MayCommit (λ rows. with_change rows change.now) (state S.Store self.old.connection) (state S.Store self.new.connection) result }
+        ensures crash { Survives (state S.Store self.old.connection) (state S.Store self.new.connection) (λ db. (rows : Rows) → tables_of (state S.Store self.old.connection).now ≡ Some rows → HasRows db (with_change rows change.now)) }
         ensures alone { OnOk result (IfSome (told_by S.Store self.new) (λ rows. (db : Trees) → (state S.Store self.new.connection).may_leave db → HasRows db rows)) }
     {
         match self.write(change) {
@@ -142,7 +153,10 @@ impl<S: Alter + Drop> Stored for SqlKeeper<S> {
         ensures rises { self.old.faults ≤ self.new.faults }
         ensures faults { self.new.faults ≡ faults_counted self.old.faults result }
         ensures base { self.new.base ≡ self.old.base }
-        ensures crash { Survives (state S.Store self.old.connection) (state S.Store self.new.connection) (λ db. IfSome (told_by S.Store self.old) (HasRows db)) }
+        ensures unchanged { MayUndo (state S.Store self.old.connection) (state S.Store self.new.connection) result }
+        ensures settled { MaySettle (state S.Store self.new.connection) result }
+        ensures made { HasCleanDisk (state S.Store self.new.connection) → OnOk result (HasMade (state S.Store self.old.connection).now (state S.Store self.new.connection).now) }
+        ensures crash { Survives (state S.Store self.old.connection) (state S.Store self.new.connection) (λ db. (rows : Rows) → tables_of (state S.Store self.old.connection).now ≡ Some rows → HasRows db rows) }
     {
         match self.make() {
             Ok(()) => Ok(()),

@@ -5,6 +5,7 @@ ghost use Rattle.sqlite.specs.State.{HasCleanDisk, Survives};
 ghost use Rattle.sms_keeper.specs.Suits.{Suits};
 ghost use Rattle.sms_keeper.specs.Tables.{with_change};
 ghost use Rattle.sms_keeper.specs.declared.rows.Rows.{Rows};
+ghost use Rattle.keeper_statements.specs.Steps.{HasMade};
 ghost use Rattle.sms_sqlite.specs.Told.{tables_of};
 ghost use Rattle.sms_sqlite.specs.Writing.{Holds, HasRows, IsCommitted};
 
@@ -24,6 +25,9 @@ fn write_inside<S: Alter>(
     requires { Suits change.now }
     ensures made { HasCleanDisk (state S.Store connection.new) → (rows : Rows) → Holds (state S.Store connection.old).now rows → OnOk result (IsCommitted (state S.Store connection.new) (with_change rows change.now)) }
     ensures kept { HasCleanDisk (state S.Store connection.new) → IsTrue (state S.Store connection.new).is_open → OnErr result ((state S.Store connection.new).now ≡ (state S.Store connection.old).now) }
+    ensures kept_committed { HasCleanDisk (state S.Store connection.new) → IsTrue (state S.Store connection.new).is_open → OnErr result ((state S.Store connection.new).committed ≡ (state S.Store connection.old).committed) }
+    ensures open { HasCleanDisk (state S.Store connection.new) → OnOk result (IsTrue (state S.Store connection.new).is_open) }
+    ensures committed { HasCleanDisk (state S.Store connection.new) → OnOk result ((state S.Store connection.new).committed ≡ (state S.Store connection.new).now) }
     ensures was_open { HasCleanDisk (state S.Store connection.new) → IsTrue (state S.Store connection.new).is_open → IsTrue (state S.Store connection.old).is_open }
     ensures crash { Survives (state S.Store connection.old) (state S.Store connection.new) (λ db. (rows : Rows) → Holds (state S.Store connection.old).now rows → HasRows db (with_change rows change.now)) }
 {
@@ -45,6 +49,9 @@ pub fn write_change<S: Alter>(
     requires { Suits change.now }
     ensures made { HasCleanDisk (state S.Store connection.new) → (rows : Rows) → tables_of (state S.Store connection.old).now ≡ Some rows → OnOk result (IsCommitted (state S.Store connection.new) (with_change rows change.now)) }
     ensures kept { HasCleanDisk (state S.Store connection.new) → IsTrue (state S.Store connection.new).is_open → OnErr result ((state S.Store connection.new).now ≡ (state S.Store connection.old).now) }
+    ensures kept_committed { HasCleanDisk (state S.Store connection.new) → IsTrue (state S.Store connection.new).is_open → OnErr result ((state S.Store connection.new).committed ≡ (state S.Store connection.old).committed) }
+    ensures open { HasCleanDisk (state S.Store connection.new) → OnOk result (IsTrue (state S.Store connection.new).is_open) }
+    ensures committed { HasCleanDisk (state S.Store connection.new) → OnOk result ((state S.Store connection.new).committed ≡ (state S.Store connection.new).now) }
     ensures was_open { HasCleanDisk (state S.Store connection.new) → IsTrue (state S.Store connection.new).is_open → IsTrue (state S.Store connection.old).is_open }
     ensures crash { Survives (state S.Store connection.old) (state S.Store connection.new) (λ db. (rows : Rows) → tables_of (state S.Store connection.old).now ≡ Some rows → HasRows db (with_change rows change.now)) }
 {
@@ -57,7 +64,11 @@ pub fn write_change<S: Alter>(
 // Makes the tables in one transaction, or leaves all as it is.
 pub fn write_tables<S: Alter>(connection: &mut Connection<S>) -> Result<(), Error>
     ensures made { HasCleanDisk (state S.Store connection.new) → (rows : Rows) → tables_of (state S.Store connection.old).now ≡ Some rows → OnOk result (IsCommitted (state S.Store connection.new) rows) }
+    ensures tables { HasCleanDisk (state S.Store connection.new) → OnOk result (HasMade (state S.Store connection.old).now (state S.Store connection.new).now) }
     ensures kept { HasCleanDisk (state S.Store connection.new) → IsTrue (state S.Store connection.new).is_open → OnErr result ((state S.Store connection.new).now ≡ (state S.Store connection.old).now) }
+    ensures kept_committed { HasCleanDisk (state S.Store connection.new) → IsTrue (state S.Store connection.new).is_open → OnErr result ((state S.Store connection.new).committed ≡ (state S.Store connection.old).committed) }
+    ensures open { HasCleanDisk (state S.Store connection.new) → OnOk result (IsTrue (state S.Store connection.new).is_open) }
+    ensures committed { HasCleanDisk (state S.Store connection.new) → OnOk result ((state S.Store connection.new).committed ≡ (state S.Store connection.new).now) }
     ensures was_open { HasCleanDisk (state S.Store connection.new) → IsTrue (state S.Store connection.new).is_open → IsTrue (state S.Store connection.old).is_open }
     ensures crash { Survives (state S.Store connection.old) (state S.Store connection.new) (λ db. (rows : Rows) → tables_of (state S.Store connection.old).now ≡ Some rows → HasRows db rows) }
 {

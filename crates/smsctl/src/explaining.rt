@@ -1,9 +1,15 @@
 //! What is said of a run that didn't end well, for the person at the terminal (docs/script.md, "What is said of a
 //! fault"). Where memory for it is wanting, nothing is said.
+use db_calls::DbStatus;
 use desk_calls::RunStatus;
 use fault_notes::script_note;
 use sms_script::ScriptErr;
 use std::alloc::Global;
+
+/// What a script may not have where a day of space management follows.
+pub fn note_reserved(note: &mut String) {
+    say(note, RESERVED);
+}
 
 /// What the command line asks for where its words are none that the desk knows.
 pub fn note_words(note: &mut String, words: &[String]) {
@@ -23,6 +29,14 @@ pub fn note_status(alloc: Global, note: &mut String, status: RunStatus, script: 
         RunStatus::WriteFault => say(note, WRITE_FAULT),
         RunStatus::TooLong => say(note, TOO_LONG),
         RunStatus::NoMemory => say(note, NO_MEMORY),
+    }
+}
+
+/// The same of a run with the records in a database.
+pub fn note_database(alloc: Global, note: &mut String, status: DbStatus, script: Option<&[u8]>) {
+    match status {
+        DbStatus::Ran(status) => note_status(alloc, note, status, script),
+        DbStatus::StoreFault => say(note, STORE_FAULT),
     }
 }
 
@@ -46,6 +60,12 @@ const WRITE_FAULT: &str =
 
 const TOO_LONG: &str = "the script has more than 16777216 bytes; nothing was answered\n";
 
+const STORE_FAULT: &str = "the tables can't be made in the file: it has some of them already, \
+    or can't be written; nothing was answered\n";
+
+const RESERVED: &str =
+    "with --manage the job SMSMGMT is the day's own: no line may be of it, or purge it\n";
+
 const NO_MEMORY: &str = "memory is wanting; no answer was written\n";
 
 fn sentence_of_words(words: &[String]) -> &'static str {
@@ -61,7 +81,8 @@ const FIRST: &str = "the first word is run, gen or serve, or --help or --version
     smsctl --help says what each does\n";
 
 const RUN: &str = "run takes --workers N, 1 to 16, and --volumes, in this order: \
-    smsctl run [--workers N] [--volumes]\n";
+    smsctl run [--workers N] [--volumes]; or a file for the records: smsctl run --db FILE; \
+    or a day of space management, 0 to 9999999: smsctl run --manage DAY\n";
 
 const GEN: &str = "gen takes SEED, 0 to 4294967295, and COUNT, 1 to 40000: smsctl gen SEED COUNT\n";
 

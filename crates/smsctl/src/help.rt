@@ -6,6 +6,11 @@ smsctl run             answer the script on standard input
 smsctl run --workers N by so many workers, 1 to 16
 smsctl run --volumes   with the table of volumes behind the answers; it stands
                        behind --workers N where both are asked for
+smsctl run --db FILE   keep the records in FILE, a database of SQLite's form that
+                       the run makes; each answer is kept before the next
+smsctl run --manage DAY
+                       and manage space behind the answers: delete what has
+                       expired on that day, and release what is unused
 smsctl gen SEED COUNT  answer a generated script, and sum up the answers
 smsctl serve PORT CONNECTIONS
                        serve the desk over HTTP on 127.0.0.1 to so many
@@ -17,11 +22,15 @@ For example:
 
     smsctl run --volumes < morning.txt > answers.txt
     smsctl run --workers 4 < morning.txt > answers.txt
+    smsctl run --db morning.db < morning.txt > answers.txt
+    smsctl run --manage 120 < morning.txt > answers.txt
     smsctl gen 1 40000
     smsctl serve 8080 100
 
 docs/script.md has the script's lines, the answers and the exit statuses,
-docs/generator.md the generated script, docs/http.md the desk over HTTP.
+docs/records.md the records in a file, docs/management.md a day of space
+management, docs/generator.md the generated script, docs/http.md the desk over
+HTTP.
 ";
 
 const VERSION: &str = "smsctl 0.1.0\n";

@@ -5,23 +5,29 @@ ghost use Rattle.std.specs.Prelude.{◌≡◌};
 ghost use Rattle.std.specs.Process.{exit_status};
 ghost use Rattle.desk_calls.specs.ExitStatus.{exit_status_of};
 
+mod database;
 mod explaining;
 mod help;
 mod kept_source;
 mod noted_sink;
 mod serving;
 
-use crate::explaining::{note_refusal, note_status, note_words};
+use crate::explaining::{note_refusal, note_reserved, note_status, note_words};
 use crate::kept_source::KeptSource;
 use crate::noted_sink::NotedSink;
+use db_calls::database_asked;
 use desk_calls::{RunStatus, desk_main};
-use desk_words::serve_words;
-use sms_base::{StdSink, StdSource, Words, read_words};
+use desk_words::{managed_day, serve_words};
+use manage_calls::manage_main;
+use sms_base::{Sink, Source, StdSink, StdSource, Words, read_words};
 use sms_desk::FreeGate;
 use sms_keeper::MemKeeper;
 use sms_script::ScriptErr;
+use std::alloc::Global;
 use std::io::{self, Write};
 use std::process::ExitCode;
+use std::sync::Wait;
+use std::thread::Threads;
 
 fn main(rt: HostRuntime) -> ExitCode {
     match read_words(&rt) {
@@ -31,26 +37,29 @@ fn main(rt: HostRuntime) -> ExitCode {
             "a word of the command line isn't UTF-8\n",
         ),
         Words::NoMemory => end(&rt, RunStatus::NoMemory, ""),
-        Words::Read(words) => obey(&rt, &words),
+        Words::Read(words) => obey(&rt, &rt, &words),
     }
 }
 
 // Does what the words of the command line ask, and ends the program.
 #[tactic(auto, using(crate::proofs::WordLaws::one_worker))]
-fn obey(rt: &HostRuntime, words: &[String]) -> ExitCode {
+fn obey<T: Threads + Wait + Sync>(rt: &HostRuntime, threads: &T, words: &[String]) -> ExitCode {
     if let Some(text) = help::text_for(words) {
         return end(rt, show(rt, text), "");
     }
+    if let Some(file) = database_asked(words) {
+        return database::run(rt, file, words);
+    }
     match serve_words(words) {
         Some(asked) => serving::serve(rt, asked, words),
-        None => run(rt, words),
+        None => run(rt, threads, words),
     }
 }
 
 // Runs the desk, says what failed, and ends the program.
-fn run(rt: &HostRuntime, words: &[String]) -> ExitCode {
+fn run<T: Threads + Wait + Sync>(rt: &HostRuntime, threads: &T, words: &[String]) -> ExitCode {
     let mut note = String::new(rt.alloc());
-    let status = answer(rt, words, &mut note);
+    let status = answer(rt, threads, words, &mut note);
     if status == RunStatus::BadWords {
         note_words(&mut note, words);
     }
@@ -58,15 +67,38 @@ fn run(rt: &HostRuntime, words: &[String]) -> ExitCode {
 }
 
 // Answers the script on standard input.
-fn answer(rt: &HostRuntime, words: &[String], note: &mut String) -> RunStatus {
+fn answer<T: Threads + Wait + Sync>(
+    rt: &HostRuntime,
+    threads: &T,
+    words: &[String],
+    note: &mut String,
+) -> RunStatus {
     let mut src = KeptSource::new(rt.alloc(), StdSource::new(rt.reader()));
     let mut out = NotedSink::new(StdSink::new(io::writer(rt)));
-    let keeper = MemKeeper::new(rt.alloc());
-    let (status, _keeper) = desk_main(rt.alloc(), rt, words, &mut src, &mut out, keeper, &FreeGate);
+    let status = answer_over(rt.alloc(), threads, words, &mut src, &mut out);
     note_status(rt.alloc(), note, status, src.given());
+    if matches!(status, RunStatus::Script(_)) && managed_day(words).is_some() {
+        note_reserved(note);
+    }
     if out.has_refusal() {
         note_refusal(note);
     }
+    status
+}
+
+// Answers a script on a desk over a keeper in memory; where the words name a day, it is managed behind the answers.
+fn answer_over<S: Source, K: Sink, T: Threads + Wait + Sync>(
+    alloc: Global,
+    threads: &T,
+    words: &[String],
+    src: &mut S,
+    out: &mut K,
+) -> RunStatus {
+    let keeper = MemKeeper::new(alloc);
+    let (status, _keeper) = match managed_day(words) {
+        Some(_) => manage_main(alloc, words, src, out, keeper),
+        None => desk_main(alloc, threads, words, src, out, keeper, &FreeGate),
+    };
     status
 }
 

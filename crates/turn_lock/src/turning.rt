@@ -11,6 +11,9 @@ use crate::seat::{Held, Seat};
 use crate::steps::{Draw, Look};
 use std::sync::Wait;
 
+// How often a seat looks before it may sleep: short turns come sooner than a sleeper wakes.
+const LOOKS: u32 = 64;
+
 impl<T: Journaled<E> + Drop, E> TurnLock<T, E> {
     pub(crate) fn draw(&self, seat: Seat<T, E>) -> (u64, Held<T, E>)
         requires { seat.held.table_id ≡ self.now.table.shared.table_id }
@@ -40,10 +43,11 @@ impl<T: Journaled<E> + Drop, E> TurnLock<T, E> {
         self.table.shared.exchange(held, 0, None)
     }
 
-    // Lets others run: whoever is next soon looks again, and the others sleep until a ticket is served.
-    pub(crate) fn rest<R: Wait>(&self, rt: &R, ticket: u64) {
+    // Lets others run: whoever is next, or has looked a few times only, soon looks again; the others sleep until a
+    // ticket is served.
+    pub(crate) fn rest<R: Wait>(&self, rt: &R, ticket: u64, looks: u32) {
         let serving = self.table.shared.peek(1);
-        if serving.wrapping_add(1) == ticket || serving == ticket {
+        if looks < LOOKS || serving.wrapping_add(1) == ticket || serving == ticket {
             std::thread::yield_now();
         } else {
             let shown = (serving % 4_294_967_296) as u32;

@@ -1,8 +1,9 @@
 // Loads that several workers answer, each checked as one history.
 use crate::replaying::is_one_history;
+use crate::running::read;
 use desk_generator::generate;
+use sms_core::Core;
 use sms_keeper::{FaultKeeper, MemKeeper};
-use sms_script::read_script;
 use std::alloc::Global;
 use std::test::Fail;
 
@@ -11,7 +12,7 @@ const ACTIVATIONS: u32 = 200;
 
 const ALLOCATIONS: u32 = 50;
 
-// The seed of the first script and the number of scripts for each number of workers.
+// The numbers of workers, and the number of scripts for each.
 const WORKERS: [usize; 4] = [2, 3, 5, 16];
 
 const SCRIPTS: u32 = 250;
@@ -32,9 +33,9 @@ fn generated_scripts_have_one_history(rt: HostRuntime) -> Result<(), Fail> {
     for seed in 0..SCRIPTS {
         let script = generate(alloc, seed, 24)?;
         for workers in WORKERS {
-            let keeper = MemKeeper::new(alloc);
-            let again = MemKeeper::new(alloc);
-            assert!(rt; is_one_history(alloc, &rt, &script, workers, keeper, again)?);
+            let core = in_memory(alloc);
+            let again = in_memory(alloc);
+            assert!(rt; is_one_history(alloc, &rt, &script, workers, core, again)?);
         }
     }
     Ok(())
@@ -43,28 +44,36 @@ fn generated_scripts_have_one_history(rt: HostRuntime) -> Result<(), Fail> {
 #[test]
 fn a_keeper_that_fails_is_told_by_one_history(rt: HostRuntime) -> Result<(), Fail> {
     let alloc = rt.alloc();
-    let fails = [2, 3, 7, 8, 20, 33];
     for seed in 0..20 {
         let script = generate(alloc, seed, 60)?;
         for workers in WORKERS {
-            let keeper = FaultKeeper::new(alloc, &fails)?;
-            let again = FaultKeeper::new(alloc, &fails)?;
-            assert!(rt; is_one_history(alloc, &rt, &script, workers, keeper, again)?);
+            let core = failing(alloc)?;
+            let again = failing(alloc)?;
+            assert!(rt; is_one_history(alloc, &rt, &script, workers, core, again)?);
         }
     }
     Ok(())
+}
+
+// A new core over a keeper in memory.
+fn in_memory(alloc: Global) -> Core<MemKeeper> {
+    Core::new(alloc, MemKeeper::new(alloc))
+}
+
+// A core whose keeper fails some commits.
+fn failing(alloc: Global) -> Result<Core<FaultKeeper>, Fail> {
+    let keeper = FaultKeeper::new(alloc, &[2, 3, 7, 8, 20, 33])?;
+    Ok(Core::new(alloc, keeper))
 }
 
 #[test]
 fn many_activations_beside_many_allocations(rt: HostRuntime) -> Result<(), Fail> {
     let alloc = rt.alloc();
     let text = live_text(alloc)?;
-    let Ok(script) = read_script(alloc, &text) else {
-        return Err(Fail::from("no script"));
-    };
-    let keeper = MemKeeper::new(alloc);
-    let again = MemKeeper::new(alloc);
-    assert!(rt; is_one_history(alloc, &rt, &script, 4, keeper, again)?);
+    let script = read(alloc, &text)?;
+    let core = in_memory(alloc);
+    let again = in_memory(alloc);
+    assert!(rt; is_one_history(alloc, &rt, &script, 4, core, again)?);
     Ok(())
 }
 
@@ -83,7 +92,7 @@ fn live_text(alloc: Global) -> Result<Vec<u8>, Fail> {
 fn push_allocations(alloc: Global, text: &mut Vec<u8>, at: u32) -> Result<(), Fail> {
     for item in 0..ALLOCATIONS {
         let job = item % 9;
-        let number = at * 10 + item / 9;
+        let number = u64::from(at) * 10 + u64::from(item / 9);
         let line = format!(in alloc; "JOB{job} {number} ALLOC A{at}.B{item} SPACE=(TRK,1)\n")?;
         text.extend_from_slice(line.as_bytes())?;
     }

@@ -1,7 +1,4 @@
 // Whether the answers of several workers are those of one history, as one worker would give it.
-ghost use Rattle.std.specs.Prelude.{◌≤◌, IfSome};
-ghost use Rattle.sms_keeper.specs.Tables.{AreSame, no_rows};
-
 use acs_tree::Slate;
 use desk_workers::run_workers;
 use sms_construct::{Answer, Entry, Request};
@@ -14,27 +11,25 @@ use std::sync::Wait;
 use std::test::Fail;
 use std::thread::Threads;
 
-// Runs a script by so many workers over a keeper. Each answer has to stand in the journal at its place, and the journal's
-// requests, asked one behind the other of a new core over a keeper like it, have to get the same answers.
+// Runs a script by so many workers, 2 to 16, on a core. Each answer has to stand in the journal at its place, and the
+// journal's requests, asked one behind the other of another core like it, have to get the same answers.
 pub fn is_one_history<P: Keeper + Send, R: Threads + Wait + Sync>(
     alloc: Global,
     rt: &R,
     script: &Script,
     workers: usize,
-    keeper: P,
-    again: P,
-) -> Result<bool, Fail>
-    requires workers { (2 ≤ workers) × (workers ≤ 16) }
-    requires tables { IfSome (P.told keeper) (λ rows. AreSame rows no_rows) }
-    requires again { IfSome (P.told again) (λ rows. AreSame rows no_rows) }
-{
-    let core = Core::new(alloc, keeper);
+    core: Core<P>,
+    again: Core<P>,
+) -> Result<bool, Fail> {
+    if workers < 2 || 16 < workers {
+        return Err(Fail::from("2 to 16 workers"));
+    }
     let (answers, core) = run_workers(alloc, rt, script, core, workers, &FreeGate);
     let answers = answers?;
     Ok(
         answers.len() == core.journal().len()
             && are_entered(alloc, script, answers.as_slice(), core.journal())?
-            && is_replayed(alloc, core.journal(), Core::new(alloc, again))?,
+            && is_replayed(alloc, core.journal(), again)?,
     )
 }
 

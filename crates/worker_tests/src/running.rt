@@ -6,7 +6,7 @@ use sms_construct::{Answers, Reply};
 use sms_core::Core;
 use sms_desk::Gate;
 use sms_keeper::MemKeeper;
-use sms_script::read_script;
+use sms_script::{Script, read_script};
 use std::alloc::Global;
 use std::sync::Wait;
 use std::test::Fail;
@@ -22,14 +22,23 @@ pub fn run<R: Threads + Wait + Sync, G: Gate + Sync>(
 ) -> Result<Answers, Fail>
     requires { (2 ≤ workers) × (workers ≤ 16) }
 {
-    let Ok(script) = read_script(alloc, text.as_bytes()) else {
-        return Err(Fail::from("no script"));
-    };
+    let script = read(alloc, text.as_bytes())?;
     let core = Core::new(alloc, MemKeeper::new(alloc));
     let (answers, _core) = run_workers(alloc, rt, &script, core, workers, gate);
     match answers {
         Ok(answers) => Ok(answers),
         Err(_) => Err(Fail::from("no memory")),
+    }
+}
+
+// Reads the text of a script, which is far from the greatest length.
+pub fn read(alloc: Global, text: &[u8]) -> Result<Script, Fail> {
+    if text.len() > 16_777_216 {
+        return Err(Fail::from("a long script"));
+    }
+    match read_script(alloc, text) {
+        Ok(script) => Ok(script),
+        Err(_) => Err(Fail::from("no script")),
     }
 }
 

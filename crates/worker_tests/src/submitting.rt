@@ -1,6 +1,6 @@
 // Requests by the seats of a desk.
-ghost use Rattle.std.specs.Prelude.{◌≡◌, ◌<◌, All, length};
-ghost use Rattle.sms_desk.specs.Seats.{IsJobOf};
+ghost use Rattle.std.specs.Prelude.{◌≡◌, ◌<◌, length};
+ghost use Rattle.sms_desk.specs.Seats.{AreAllJobs};
 
 use sms_construct::{Answer, Request};
 use sms_desk::{Desk, Gate, JobSeat};
@@ -17,8 +17,8 @@ pub fn submit<R: Wait, G: Gate>(
     gate: &G,
 ) -> Answer
     requires who { who < length jobs.old }
-    requires jobs { All (IsJobOf desk.now.lock.table.shared.table_id) jobs.old }
-    ensures jobs { All (IsJobOf desk.now.lock.table.shared.table_id) jobs.new }
+    requires jobs { AreAllJobs desk.now.lock.table.shared.table_id desk.now.lock.table.shared.key.seats jobs.old }
+    ensures jobs { AreAllJobs desk.now.lock.table.shared.table_id desk.now.lock.table.shared.key.seats jobs.new }
     ensures count { length jobs.new ≡ length jobs.old }
 {
     desk.submit(rt, &mut jobs[who], request, gate)

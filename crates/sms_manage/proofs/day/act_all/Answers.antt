@@ -1,5 +1,6 @@
 -- One data set after the other.
 use Rattle.std.proofs.Common.{◌∙◌, ap, sym}
+use Rattle.sms_manage.proofs.AskingLemmas.{asking-more, asks-asking}
 use Rattle.sms_manage.proofs.SoFarLemmas.{day-acts, day-over, day-passes}
 use Rattle.sms_manage.proofs.day.act_all.Goals.{in-Some-op_for+in_ok-act_on, in_default-op_for}
 use Rattle.sms_manage.proofs.day.act_all.Goals as goal
@@ -13,12 +14,14 @@ loop-preserved g c = elim c.match-op_for.branch [
   | in-Some-op_for+in_ok-act_on w ↦ record {
     opening = ap (λ core. core.opening) w.core-is ∙ w.act_on.ensures.opening ∙ c.loop.invariant.opening;
     mark = ap (λ core. core.mark) w.core-is ∙ w.act_on.ensures.mark ∙ c.loop.invariant.mark;
+    asking = rw w.core-is (asking-more _ _ _ c.loop.invariant.asking (asks-asking _ _ _ _ _ _ _ (let did = w.in_ok-act_on.ensures in did.asked)));
     far = λ before reaches. rw (w.core-is, w.acts-is)
         (day-acts _ _ _ _ before _ _ _ _ c.next_set.result c.loop.invariant.opening (c.loop.invariant.far before reaches) c.next_set.ensures _ c.in-Some.is _ _ w.in-Some-op_for.op (sym c.op_for.ensures ∙ w.in-Some-op_for.is) (let did = w.in_ok-act_on.ensures in did.asked));
   }
   | in_default-op_for w ↦ record {
     opening = ap (λ core. core.opening) w.core-is ∙ c.loop.invariant.opening;
     mark = ap (λ core. core.mark) w.core-is ∙ c.loop.invariant.mark;
+    asking = rw w.core-is c.loop.invariant.asking;
     far = λ before reaches. rw (w.core-is, w.acts-is)
         (day-passes _ _ _ _ before _ _ _ _ c.next_set.result c.loop.invariant.opening (c.loop.invariant.far before reaches) c.next_set.ensures _ c.in-Some.is (sym c.op_for.ensures ∙ w.in_default-op_for.is));
   }

@@ -1,12 +1,11 @@
-use Rattle.std.proofs.Common.{subst}
-use Rattle.std.specs.Prelude.{IfSome}
+use Rattle.std.proofs.Common.{OnErr, subst}
 use Rattle.sqlite.specs.Held.{state}
-use Rattle.sqlite.specs.State.{Survives}
 use Rattle.sms_keeper.specs.Told.{Stays}
 use Rattle.sms_keeper.specs.declared.rows.Rows.{Rows}
 use Rattle.sms_sqlite.specs.Told.{Kept, told_by, told_of}
-use Rattle.sms_sqlite.specs.Writing.{HasRows}
-use Rattle.sms_sqlite.proofs.ToldLemmas.{crash_told, made_stays, readable_by}
+use Rattle.sms_sqlite.specs.Writing.{IsAsBefore}
+use Rattle.sms_sqlite.proofs.CommitLemmas.{refused_by, settled_by}
+use Rattle.sms_sqlite.proofs.ToldLemmas.{made_stays, readable_by}
 use Rattle.sms_sqlite.proofs.sql_keeper.SqlKeeper.make.Goals as goal
 
 pub invariant_of-self : goal.invariant_of-self
@@ -23,8 +22,13 @@ returns-clause-kept g c =
     (made_stays base (state g.S.Store c.self.inside.connection) new c.write_tables.result
     c.self.invariant c.write_tables.ensures.crash.clean c.write_tables.ensures.was_open c.write_tables.ensures.made c.write_tables.ensures.kept)
 
-pub returns-clause-crash : goal.returns-clause-crash
-returns-clause-crash g c =
+pub returns-clause-unchanged : goal.returns-clause-unchanged
+returns-clause-unchanged g c clean is_open =
     let new = state g.S.Store c.write_tables.new.connection in
-    subst (λ (k : Kept _). Survives (state g.S.Store k.connection) new (λ db. IfSome (told_by g.S.Store k) (λ rows. HasRows db rows))) c.self.view_is
-    (crash_told (state g.S.Store c.self.inside.base.value).now (state g.S.Store c.self.inside.connection) new (λ (rows : Rows). rows) c.write_tables.ensures.crash)
+    subst (λ (k : Kept _). OnErr c.write_tables.result (IsAsBefore (state g.S.Store k.connection) new)) c.self.view_is
+    (refused_by (state g.S.Store c.self.inside.connection) new c.write_tables.result (c.write_tables.ensures.kept clean is_open) (c.write_tables.ensures.kept_committed clean is_open))
+
+pub returns-clause-settled : goal.returns-clause-settled
+returns-clause-settled g c clean =
+    settled_by (state g.S.Store c.write_tables.new.connection) c.write_tables.result (c.write_tables.ensures.open clean) (c.write_tables.ensures.committed clean)
+    (λ is_open db left. g.met.S.Store.settled _ db is_open left)

@@ -1,0 +1,5 @@
+pub mod AloneLemmas
+pub mod FreeLemmas
+pub mod FloorlessLemmas
+pub mod UnusedLemmas
+pub mod ManagedLemmas

@@ -1,0 +1,78 @@
+//! A run with the records in a file.
+ghost use Rattle.std.specs.Prelude.{◌≡◌};
+ghost use Rattle.std.specs.Process.{exit_status};
+ghost use Rattle.db_calls.specs.DbEnds.{db_status_of};
+
+use crate::explaining::{note_database, note_refusal};
+use crate::kept_source::KeptSource;
+use crate::noted_sink::NotedSink;
+use db_calls::{DbStatus, db_main};
+use desk_calls::RunStatus;
+use sms_base::{StdSink, StdSource};
+use sms_sqlite::SqlKeeper;
+use sqlite::{Alter, Connection, Error, ErrorCode};
+use std::io::{self, Write};
+use std::process::ExitCode;
+
+// The exit status where the file can't be opened.
+const NOT_OPENED: u8 = 9;
+
+/// Answers the script on standard input with the records in the file, and ends the program.
+pub fn run(rt: &HostRuntime, file: &str, words: &[String]) -> ExitCode {
+    match Connection::open(rt, file) {
+        Ok(connection) => {
+            let mut note = String::new(rt.alloc());
+            let (status, connection) = answer(rt, words, connection, &mut note);
+            // What was committed stands in the log, so nothing is lost where it can't be copied into the file.
+            let _ = connection.close();
+            end(rt, status, &note)
+        }
+        Err(error) => refuse(rt, file, error),
+    }
+}
+
+// Answers the script on standard input with the records in the database.
+fn answer<S: Alter + Drop>(
+    rt: &HostRuntime,
+    words: &[String],
+    connection: Connection<S>,
+    note: &mut String,
+) -> (DbStatus, Connection<S>) {
+    let mut src = KeptSource::new(rt.alloc(), StdSource::new(rt.reader()));
+    let mut out = NotedSink::new(StdSink::new(io::writer(rt)));
+    let keeper = SqlKeeper::new(rt.alloc(), connection);
+    let (status, keeper) = db_main(rt.alloc(), words, &mut src, &mut out, keeper);
+    note_database(rt.alloc(), note, status, src.given());
+    if out.has_refusal() {
+        note_refusal(note);
+    }
+    (status, keeper.into_connection())
+}
+
+// Says why the file can't be opened, and ends the program.
+fn refuse(rt: &HostRuntime, file: &str, error: Error) -> ExitCode {
+    match error {
+        Error::SqliteFailure(ErrorCode::OutOfMemory) => {
+            end(rt, DbStatus::Ran(RunStatus::NoMemory), "")
+        }
+        _ => {
+            let _ = eprintln!(rt; "smsctl: status {NOT_OPENED}");
+            let _ = eprintln!(rt; "smsctl: {file}: {error}; nothing was answered");
+            ExitCode::from(NOT_OPENED)
+        }
+    }
+}
+
+// Says a status other than 0 on standard error, with what it means, and ends the program with it.
+fn end(rt: &HostRuntime, status: DbStatus, note: &str) -> ExitCode
+    ensures { exit_status result ≡ db_status_of status }
+{
+    match status {
+        DbStatus::Ran(status) => crate::end(rt, status, note),
+        DbStatus::StoreFault => {
+            let code = status.code();
+            let _ = eprint!(rt; "smsctl: status {code}\nsmsctl: {note}");
+            ExitCode::from(code)
+        }
+    }
+}
