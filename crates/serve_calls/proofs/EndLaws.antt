@@ -33,11 +33,14 @@ one-over ends end Done over allows = All-push IsOver ends end allows over
 one-over ends end BadWords over allows = allows
 one-over ends end WriteFault over allows = allows
 one-over ends end NoMemory over allows = allows
-one-over ends end AcceptFault over allows = (All-push IsOverOrFailed ends end allows.0 (inl over), record {
-  before = allows.1.before;
-  behind = allows.1.behind ++ end ∷ [];
-  failed = ap (λ l. l ++ end ∷ []) allows.1.failed ∙ append_assoc allows.1.before (door_ends.AcceptFault ∷ allows.1.behind) (end ∷ []);
-})
+one-over ends end AcceptFault over allows = (
+  All-push IsOverOrFailed ends end allows.0 (inl over),
+  record {
+    before = allows.1.before;
+    behind = allows.1.behind ++ end ∷ [];
+    failed = ap (λ l. l ++ end ∷ []) allows.1.failed ∙ append_assoc allows.1.before (door_ends.AcceptFault ∷ allows.1.behind) (end ∷ []);
+  },
+)
 
 all-allowed : (ends : List DoorEnd) (done : ServeStatus) → AllowsStatus ends done → All IsOverOrFailed ends
 all-allowed ends Done allows = All-weaker IsOver IsOverOrFailed (λ end over. inl over) ends allows

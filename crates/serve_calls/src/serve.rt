@@ -27,7 +27,6 @@ use std::alloc::{AllocError, Global};
 use std::sync::Wait;
 use std::thread::Threads;
 
-
 /// Does what the words of the command line ask: serves a new desk over a keeper of empty tables to the links of the
 /// doors, one door a worker, and writes a line for each connection to the sink. It hands back the desk's core, the
 /// doors and their visits; where no door was asked for a link there are none. It waits where a door, a link or the gate
@@ -47,7 +46,8 @@ pub fn serve_main<
     keeper: P,
     gate: &G,
 ) -> (ServeStatus, Core<P>, Vec<A>, DoorVisits)
-where A::Conn: Send
+where
+    A::Conn: Send,
     requires tables { IfSome (P.told keeper) (λ rows. AreSame rows no_rows) }
     requires doors { (asked : Asked) → serving_in (map string_bytes words.now) ≡ Some asked
         → length doors.items ≡ asked.workers }
@@ -118,7 +118,8 @@ fn serve_doors<
     keeper: P,
     gate: &G,
 ) -> (ServeStatus, Core<P>, Vec<A>, DoorVisits)
-where A::Conn: Send
+where
+    A::Conn: Send,
     requires tables { IfSome (P.told keeper) (λ rows. AreSame rows no_rows) }
     requires doors { (1 ≤ length doors.items) × (length doors.items ≤ 16) }
     ensures words { result.0 ≡ ServeStatus.BadWords → ⊥ }
@@ -192,12 +193,7 @@ fn new_core<P: Keeper>(alloc: Global, keeper: P) -> Core<P>
 }
 
 // Serves a new desk over the keeper to the links of the doors.
-fn serve_new<
-    A: Accept + Drop + Send,
-    P: Keeper + Send,
-    R: Threads + Wait + Sync,
-    G: Gate + Sync,
->(
+fn serve_new<A: Accept + Drop + Send, P: Keeper + Send, R: Threads + Wait + Sync, G: Gate + Sync>(
     alloc: Global,
     rt: &R,
     most: u32,
@@ -205,7 +201,8 @@ fn serve_new<
     keeper: P,
     gate: &G,
 ) -> (Result<ServedDoors, AllocError>, Core<P>)
-where A::Conn: Send
+where
+    A::Conn: Send,
     requires tables { IfSome (P.told keeper) (λ rows. AreSame rows no_rows) }
     requires count { (1 ≤ length doors.old.items) × (length doors.old.items ≤ 16) }
     ensures served { IfOk result.0 (λ found. AreServed
@@ -256,12 +253,7 @@ where A::Conn: Send
 }
 
 // Serves the desk of a new core to the links of the doors: of one door by the core itself.
-fn serve_core<
-    A: Accept + Drop + Send,
-    P: Keeper + Send,
-    R: Threads + Wait + Sync,
-    G: Gate + Sync,
->(
+fn serve_core<A: Accept + Drop + Send, P: Keeper + Send, R: Threads + Wait + Sync, G: Gate + Sync>(
     alloc: Global,
     rt: &R,
     most: u32,
@@ -269,7 +261,8 @@ fn serve_core<
     core: Core<P>,
     gate: &G,
 ) -> (Result<ServedDoors, AllocError>, Core<P>)
-where A::Conn: Send
+where
+    A::Conn: Send,
     requires count { (1 ≤ length doors.old.items) × (length doors.old.items ≤ 16) }
     requires new { core.journal ≡ [] }
     ensures served { IfOk result.0 (λ found. AreServed

@@ -34,7 +34,8 @@ pub fn serve_shared<
     core: Core<P>,
     gate: &G,
 ) -> (Result<ServedDoors, AllocError>, Core<P>)
-where A::Conn: Send
+where
+    A::Conn: Send,
     requires count { (2 ≤ vec_len doors.old) × (vec_len doors.old ≤ 16) }
     requires new { core.journal ≡ [] }
     ensures served { IfOk result.0 (λ found. AreServed
@@ -76,7 +77,18 @@ where A::Conn: Send
     match Desk::new(alloc, core, doors.len()) {
         Ok((desk, seats)) => {
             let JobSeats { mut jobs, room } = seats;
-            serve_all(alloc, rt, most, &desk, &mut jobs, doors, workers, &mut visits, &mut ends, gate);
+            serve_all(
+                alloc,
+                rt,
+                most,
+                &desk,
+                &mut jobs,
+                doors,
+                workers,
+                &mut visits,
+                &mut ends,
+                gate,
+            );
             let (core, _numbers) = desk.close(JobSeats { jobs, room });
             let visits = Items::from_vec(visits);
             (Ok(ServedDoors { visits, ends }), core)
@@ -101,12 +113,7 @@ fn take_room<A: Drop, P: Keeper>(
 }
 
 // A worker at each door serves it, by the seat at the same place.
-fn serve_all<
-    A: Accept + Drop + Send,
-    P: Keeper + Send,
-    R: Threads + Wait + Sync,
-    G: Gate + Sync,
->(
+fn serve_all<A: Accept + Drop + Send, P: Keeper + Send, R: Threads + Wait + Sync, G: Gate + Sync>(
     alloc: Global,
     rt: &R,
     most: u32,
@@ -118,7 +125,8 @@ fn serve_all<
     ends: &mut Vec<DoorEnd>,
     gate: &G,
 )
-where A::Conn: Send
+where
+    A::Conn: Send,
     requires jobs { All (IsJobOf desk.now.lock.table.shared.table_id) seats.old.items }
     requires same { vec_len seats.old ≡ vec_len doors.old }
     requires workers { (workers.items ≡ []) × (vec_len workers ≡ 0) × (vec_len doors.old ≤ vec_capacity workers) }

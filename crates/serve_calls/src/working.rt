@@ -23,7 +23,8 @@ pub fn work_all<A: Accept + Send, P: Keeper + Send, R: Threads + Wait + Sync, G:
     workers: &mut [Worker<A, P>],
     gate: &G,
 )
-where A::Conn: Send
+where
+    A::Conn: Send,
     requires { All (HasSeat desk.now.lock.table.shared.table_id) workers.old }
     ensures count { length workers.new ≡ length workers.old }
     ensures shifts { (i : ℕ) (d : WorkerOf A P P.Keeper) → i < length workers.old → DidShift
@@ -113,7 +114,13 @@ fn work<A: Accept, P: Keeper, R: Wait, G: Gate>(
         unreachable!()
     };
     let bench = SeatBench::new(rt, desk, seat, gate);
-    let (end, bench, visits) = serve_door(worker.alloc, &routes, &mut worker.door, bench, worker.most);
+    let (end, bench, visits) = serve_door(
+        worker.alloc,
+        &routes,
+        &mut worker.door,
+        bench,
+        worker.most,
+    );
     worker.seat = Some(bench.into_seat());
     worker.visits = visits;
     worker.end = end;

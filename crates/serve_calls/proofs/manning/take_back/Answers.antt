@@ -18,7 +18,7 @@ loop-worker-preserved g c =
       (search rules),
       (search rules),
       (brought seat_of workers rest worker (map (λ seat. Some seat) c.loop-worker.seats.items) (map (λ seat. Some seat) c.push_reserved.new.self.items) _ (Some c.in-Some-seat.seat) left
-      (ap (map (λ seat. Some seat)) c.push_reserved.ensures.items ∙ map_push (λ seat. Some seat) c.loop-worker.seats.items c.in-Some-seat.seat) (search rules) inv.5),
+          (ap (map (λ seat. Some seat)) c.push_reserved.ensures.items ∙ map_push (λ seat. Some seat) c.loop-worker.seats.items c.in-Some-seat.seat) (search rules) inv.5),
       (brought door_of workers rest worker c.loop-worker.doors.items c.push_reserved-in-Some.new.self.items _ worker.door left c.push_reserved-in-Some.ensures.items refl inv.6),
       (brought visits_of workers rest worker c.loop-worker.visits.items c.push_reserved-in-Some-2.new.self.items _ worker.visits left c.push_reserved-in-Some-2.ensures.items refl inv.7),
       (brought end_of workers rest worker c.loop-worker.ends.items c.push_reserved-in-Some-3.new.self.items _ worker.end left c.push_reserved-in-Some-3.ensures.items refl inv.8),

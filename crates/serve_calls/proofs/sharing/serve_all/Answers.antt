@@ -31,8 +31,8 @@ returns g c =
     let before = c.deref_mut.ensures.value in
     record {
       done = shifts-done _ _ c.args.desk.now.lock.table.shared.table_id c.args.most c.deref_mut.result.now new _ _ _ _ _ _ c.work_all.ensures.count c.work_all.ensures.shifts
-      (subst (All (HasMost c.args.most)) (sym before) c.hand_out.ensures.most)
-      (ap (map seat_of) before ∙ c.hand_out.ensures.seats) (ap (map door_of) before ∙ c.hand_out.ensures.doors)
-      (c.take_back.ensures.seats ∙ ap (λ ws. reverse (map seat_of ws)) same) (c.take_back.ensures.doors ∙ ap (λ ws. reverse (map door_of ws)) same)
-      (c.take_back.ensures.visits ∙ ap (λ ws. reverse (map visits_of ws)) same) (c.take_back.ensures.ends ∙ ap (λ ws. reverse (map end_of ws)) same);
+          (subst (All (HasMost c.args.most)) (sym before) c.hand_out.ensures.most)
+          (ap (map seat_of) before ∙ c.hand_out.ensures.seats) (ap (map door_of) before ∙ c.hand_out.ensures.doors)
+          (c.take_back.ensures.seats ∙ ap (λ ws. reverse (map seat_of ws)) same) (c.take_back.ensures.doors ∙ ap (λ ws. reverse (map door_of ws)) same)
+          (c.take_back.ensures.visits ∙ ap (λ ws. reverse (map visits_of ws)) same) (c.take_back.ensures.ends ∙ ap (λ ws. reverse (map end_of ws)) same);
     }

@@ -21,20 +21,20 @@ pub returns-clause-shifts : goal.returns-clause-shifts
 returns-clause-shifts g c = λ i d less.
     let h = (c.for_each_mut.ensures i d less).1 in
     subst₂ (λ new old. DidShift
-      (λ link. record {
-        left = g.A.Conn.Source.left link;
-        reads = g.A.Conn.Source.reads link;
-        read_faults = g.A.Conn.Source.read_faults link;
-        taken = g.A.Conn.Sink.taken link;
-        write_faults = g.A.Conn.Sink.write_faults link;
-      })
-      (λ door. record {
-        asked = g.A.Accept.asked door;
-        given = g.A.Accept.given door;
-        ended = g.A.Accept.ended door;
-        door_faults = g.A.Accept.door_faults door;
-        link_faults = g.A.Accept.link_faults door;
-        waiting = g.A.Accept.waiting door;
-        back = g.A.Accept.back door;
-      })
-      c.args.desk.now.lock.table.shared.table_id old new) h.left h.argument_is h.call
+    (λ link. record {
+      left = g.A.Conn.Source.left link;
+      reads = g.A.Conn.Source.reads link;
+      read_faults = g.A.Conn.Source.read_faults link;
+      taken = g.A.Conn.Sink.taken link;
+      write_faults = g.A.Conn.Sink.write_faults link;
+    })
+    (λ door. record {
+      asked = g.A.Accept.asked door;
+      given = g.A.Accept.given door;
+      ended = g.A.Accept.ended door;
+      door_faults = g.A.Accept.door_faults door;
+      link_faults = g.A.Accept.link_faults door;
+      waiting = g.A.Accept.waiting door;
+      back = g.A.Accept.back door;
+    })
+    c.args.desk.now.lock.table.shared.table_id old new) h.left h.argument_is h.call
