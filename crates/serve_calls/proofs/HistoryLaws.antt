@@ -1,5 +1,5 @@
 -- The visits of one worker as one history.
-use Rattle.std.proofs.Common.{◌≡◌, ◌≤◌, ◌<◌, ◌+◌, ◌-◌, ◌^◌, ℕ, zero, suc, List, [], ◌∷◌, ◌++◌, length, replicate, get_or, min, refl, ap, ◌∙◌, arith}
+use Rattle.std.proofs.Common.{◌≡◌, ◌≤◌, ◌<◌, ◌+◌, ◌-◌, ◌^◌, ℕ, zero, suc, List, [], ◌∷◌, length, replicate, get_or, min, refl, ap, ◌∙◌, arith}
 use Rattle.std.proofs.lemmas.List.{length-replicate}
 use Rattle.std.specs.Prelude.{All, Option}
 use Rattle.std.proofs.lemmas.List.Elements.{All-cons, All-nil, All-replicate}
@@ -10,7 +10,7 @@ use Rattle.desk_law.specs.Records.{empty_opening}
 use Rattle.desk_records.specs.Tied.{faults_in}
 use Rattle.sms_core.specs.Core.{CoreView, HasTables}
 use Rattle.http_talk.specs.declared.talk.Talk.{Talk}
-use Rattle.desk_http.specs.Entered.{HasEntered, IsPlaced, IsPlacedAlone, entries_of}
+use Rattle.desk_http.specs.Entered.{IsPlaced, IsPlacedAlone, entries_of}
 use Rattle.serve_door.specs.declared.visit.Visit.{Visit}
 use Rattle.serve_door.specs.Visits.{talks_of}
 use Rattle.desk_calls.specs.Headline.{IsLawfulHistory, Keeping}
@@ -59,18 +59,3 @@ WasHeard-none before core told count opening journal mark legal counted tables l
   faults = rw mark at counted;
   tables = rw opening at tables;
 }
-
--- what the workers heard is one history, as it was entered in a new core
-pub WasHeard-once : {P : Type 0} (before : Keeping) (first core : CoreView P) (told : Option Rows) (count : ℕ) (visits : List (List Visit))
-    → first.opening ≡ empty_opening → first.mark ≡ before.count → IsOneHistory visits core.journal → core.opening ≡ first.opening → core.mark ≡ first.mark
-    → IsLegal core.opening core.journal → min (core.mark + faults_in core.journal) (2 ^ 64 - 1) ≤ count → HasTables core.opening core.journal told
-    → ((history : List Entry) → IsLegal empty_opening history → IsLawfulHistory history)
-    → WasHeard before (record { told = told; count = count }) visits core.journal
-WasHeard-once before first core told count visits opening mark once stays_open stays_marked legal counted tables lawful =
-    let same : core.opening ≡ empty_opening = stays_open ∙ opening in
-    record {
-      once = once;
-      lawful = lawful core.journal (rw same at legal);
-      faults = rw (stays_marked ∙ mark) at counted;
-      tables = rw same at tables;
-    }

@@ -4,7 +4,6 @@ use denote.Param.Send.{IsSend, plain_send, struct_send, recorded_send}
 use denote.Struct.Declared as declared_struct
 use Rattle.std.proofs.alloc.Global.TheSendSync as heap
 use Rattle.std.proofs.option.Option.TheSendSync as option
-use Rattle.std.specs.contracts.option.Option as options
 use Rattle.sqlite_items.specs.contracts.items.Items as items
 use Rattle.sqlite_items.proofs.items.Items.TheSendSync as item_list
 use Rattle.sms_keeper.specs.declared.keeper.Keeper.{Ghosts}

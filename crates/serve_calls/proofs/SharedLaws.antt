@@ -1,5 +1,5 @@
 -- A desk that was served by several workers has one history.
-use Rattle.std.proofs.Common.{inl, inr, ◌≡◌, ◌≤◌, ◌<◌, ◌+◌, ◌-◌, ◌==◌, ℕ, zero, suc, Bool, true, false, List, [], ◌∷◌, ◌++◌, length, map, get_or, refl, ap, sym, subst, ◌∙◌, arith, eq-eqb, eqb-true}
+use Rattle.std.proofs.Common.{inl, inr, ◌≡◌, ◌≤◌, ◌<◌, ◌+◌, ◌-◌, ◌==◌, ℕ, zero, suc, true, List, [], ◌∷◌, ◌++◌, length, map, get_or, refl, ap, sym, subst, ◌∙◌, arith, eq-eqb, eqb-true}
 use Rattle.std.specs.Prelude.{All}
 use Rattle.std.specs.List.{AllByRecursion}
 use Rattle.std.proofs.lemmas.Bool.{cases_Bool, ne_eqb}
@@ -8,19 +8,17 @@ use Rattle.atomic_table.specs.Seated.{TableId}
 use Rattle.sms_base.specs.Observed.{Observed}
 use Rattle.sms_construct.specs.declared.entry.Entry.{Entry}
 use Rattle.sms_keeper.specs.declared.keeper.Keeper.{Ghosts}
-use Rattle.turn_lock.specs.declared.signed.Signed.{Signed}
 use Rattle.turn_lock.specs.Views.{IsBy, StartsWith, made_by as made_by_seat}
 use Rattle.desk_law.specs.State.{Opening}
-use Rattle.desk_signing.specs.declared.event.Event.{Event}
-use Rattle.desk_signing.specs.Signing.{entries_in, events, signed, signed_last}
+use Rattle.desk_signing.specs.Signing.{events, signed, signed_last}
 use Rattle.desk_signing.proofs.SignLemmas.{signed_entries}
 use Rattle.sms_desk.specs.declared.job_seat.JobSeat.{JobSeat}
-use Rattle.sms_desk.specs.Seats.{AreNumberedDown, IsNewJob, StandsJob, job_mine, job_number, job_numbers, job_seen}
+use Rattle.sms_desk.specs.Seats.{AreNumberedDown, IsNewJob, StandsJob, job_number, job_numbers, job_seen}
 use Rattle.desk_plan.specs.Sharing.{picked}
 use Rattle.desk_workers.specs.Closed.{HasClosed, Signs}
 use Rattle.desk_workers.proofs.ClosedLemmas.{has-closed}
 use Rattle.http_talk.specs.declared.talk.Talk.{Talk}
-use Rattle.desk_http.specs.Entered.{IsPlaced, IsPlacedAlone, entries_of}
+use Rattle.desk_http.specs.Entered.{IsPlaced, entries_of}
 use Rattle.desk_http.proofs.SeatLaws.{are_placed-starts, starts-on}
 use Rattle.serve_door.specs.declared.door_end.DoorEnd.{DoorEnd}
 use Rattle.serve_door.specs.declared.visit.Visit.{Visit}
@@ -91,9 +89,6 @@ module _ {C A P : Type 0} {keeper : Ghosts P} (seen : C → Observed) (moment : 
     seat_of_old : (i : ℕ) → i < length xs → (Q : JobSeat P keeper → Type 0) → All Q (map (λ (one : Shift A P keeper). one.seat_after) xs) → Q (get_or xs i x).seat_after
     seat_of_old i less Q all =
         subst Q (at-map (λ (one : Shift A P keeper). one.seat_after) xs i x x.seat_after less) (all i x.seat_after (omega (arith, less, length-map xs (λ (one : Shift A P keeper). one.seat_after))))
-
-    numbers_of : List ℕ
-    numbers_of = job_numbers (map (λ (one : Shift A P keeper). one.seat_after) xs)
 
     number-is : (i : ℕ) → i < length xs → get_or (job_numbers (map (λ (one : Shift A P keeper). one.seat_after) xs)) i 0 ≡ job_number (get_or xs i x).seat_after
     number-is i less =

@@ -1,4 +1,4 @@
-use Rattle.std.proofs.Common.{rules, ◌≡◌, Some, map, refl, ap, ◌∙◌, arith}
+use Rattle.std.proofs.Common.{rules, Some, map, refl, ap, ◌∙◌}
 use Rattle.std.proofs.lemmas.List.{map_push}
 use Rattle.serve_calls.specs.Workers.{IsAtSeat, door_of, end_of, seat_of, visits_of}
 use Rattle.serve_calls.proofs.ManningLaws.{brought, fewer}

@@ -1,4 +1,4 @@
-use Rattle.std.proofs.Common.{rules, ◌≡◌, ◌++◌, All, Some, length, map, reverse, take, drop, arith, sym, subst, ap, ◌∙◌}
+use Rattle.std.proofs.Common.{◌≡◌, ◌++◌, All, Some, length, map, reverse, take, drop, arith, sym, subst, ap, ◌∙◌}
 use Rattle.sms_desk.specs.Seats.{IsJobOf}
 use Rattle.desk_workers.proofs.SharedLemmas.{lent-all}
 use Rattle.serve_calls.specs.Workers.{HasMost, HasSeat, IsAtSeat, door_of, end_of, seat_of, visits_of}

@@ -1,6 +1,5 @@
-use Rattle.std.proofs.Common.{rules, ◌≡◌, ◌≤◌, length, arith, sym, subst, ◌∙◌}
+use Rattle.std.proofs.Common.{◌≤◌, length, arith, sym, subst, ◌∙◌}
 use Rattle.sms_desk.specs.Seats.{AreNumberedDown}
-use Rattle.serve_calls.specs.OneHistory.{IsOneHistory}
 use Rattle.serve_calls.proofs.ShiftLaws.{all-served, jobs-after, same-count}
 use Rattle.serve_calls.proofs.SharedLaws.{desk-shared}
 use Rattle.serve_calls.proofs.sharing.serve_shared.Goals as goal

@@ -1,4 +1,4 @@
-use Rattle.std.proofs.Common.{rules, ◌≡◌, [], refl}
+use Rattle.std.proofs.Common.{rules, [], refl}
 use Rattle.serve_door.specs.declared.door_end.DoorEnd.TheVariants as door_ends
 use Rattle.desk_http.proofs.SeatLaws.{HasSubmitted-nil}
 use Rattle.desk_http.specs.SeatTalks.{view_of}

@@ -1,4 +1,4 @@
-use Rattle.std.proofs.Common.{rules, ◌≡◌, ◌<◌, ℕ, length, slice_index_or, subst, sym, subst₂}
+use Rattle.std.proofs.Common.{subst, sym, subst₂}
 use denote.Param.Send.{sendable}
 use Rattle.desk_workers.proofs.SendLemmas.{desk-sync}
 use Rattle.serve_calls.specs.Workers.{DidShift, HasSeat}
