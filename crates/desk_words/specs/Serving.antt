@@ -14,7 +14,7 @@ most_connections = 1000000
 
 -- the workers that there may be
 abbrev pub most_workers : ℕ
-most_workers = 1
+most_workers = 16
 
 -- the port, the connections and the workers are within their limits
 pub record IsWithinLimits (asked : ServeWords) : Type 0 where

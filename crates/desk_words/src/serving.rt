@@ -12,7 +12,7 @@ const MAX_PORT: u32 = 65_535;
 const MAX_CONNECTIONS: u32 = 1_000_000;
 
 // The most workers.
-const MAX_WORKERS: u32 = 1;
+const MAX_WORKERS: u32 = 16;
 
 /// What the words ask to be served, and `None` where they don't ask to serve the desk.
 pub fn serve_words(words: &[String]) -> Option<ServeWords>

@@ -1,5 +1,5 @@
 -- The visits of one worker as one history.
-use Rattle.std.proofs.Common.{◌≡◌, ◌≤◌, ◌<◌, ◌+◌, ◌-◌, ◌^◌, ℕ, zero, suc, List, [], ◌∷◌, ◌++◌, length, replicate, get_or, min, refl, ap, ◌∙◌, arith}
+use Rattle.std.proofs.Common.{◌≡◌, ◌≤◌, ◌<◌, ◌+◌, ◌-◌, ◌^◌, ℕ, zero, suc, List, [], ◌∷◌, length, replicate, get_or, min, refl, ap, ◌∙◌, arith}
 use Rattle.std.proofs.lemmas.List.{length-replicate}
 use Rattle.std.specs.Prelude.{All, Option}
 use Rattle.std.proofs.lemmas.List.Elements.{All-cons, All-nil, All-replicate}
@@ -10,7 +10,7 @@ use Rattle.desk_law.specs.Records.{empty_opening}
 use Rattle.desk_records.specs.Tied.{faults_in}
 use Rattle.sms_core.specs.Core.{CoreView, HasTables}
 use Rattle.http_talk.specs.declared.talk.Talk.{Talk}
-use Rattle.desk_http.specs.Entered.{HasEntered, IsPlaced, entries_of}
+use Rattle.desk_http.specs.Entered.{IsPlaced, IsPlacedAlone, entries_of}
 use Rattle.serve_door.specs.declared.visit.Visit.{Visit}
 use Rattle.serve_door.specs.Visits.{talks_of}
 use Rattle.desk_calls.specs.Headline.{IsLawfulHistory, Keeping}
@@ -26,14 +26,15 @@ made_by-one : (worker : ℕ) (visits : List Visit) (history : List Entry) → hi
 made_by-one zero visits history same less = made_by-all history ∙ same
 made_by-one (suc worker) visits history same less = absurd (omega (arith, less))
 
-one_worker : (visits : List Visit) (history : List Entry) → history ≡ entries_of (talks_of visits) → All (λ (talk : Talk). IsPlaced history talk) (talks_of visits)
+pub one_worker : (visits : List Visit) (history : List Entry) → history ≡ entries_of (talks_of visits) → All (λ (talk : Talk). IsPlacedAlone history talk) (talks_of visits)
     → IsOneHistory (visits ∷ []) history
 one_worker visits history same placed = record {
   makers = replicate (length history) 0;
   each = length-replicate (length history) 0;
   known = All-replicate (λ (maker : ℕ). maker < 1) (length history) 0 (omega arith);
   made = λ worker less. made_by-one worker visits history same less;
-  placed = All-cons (λ (of_worker : List Visit). All (λ (talk : Talk). IsPlaced history talk) (talks_of of_worker)) visits [] placed (All-nil (λ (of_worker : List Visit). All (λ (talk : Talk). IsPlaced history talk) (talks_of of_worker)));
+  placed = All-cons (λ (of_worker : List Visit). All (λ (talk : Talk). IsPlaced history talk) (talks_of of_worker)) visits [] (λ k d less. (placed k d less).placed) (All-nil (λ (of_worker : List Visit). All (λ (talk : Talk). IsPlaced history talk) (talks_of of_worker)));
+  alone = λ single. All-cons (λ (of_worker : List Visit). All (λ (talk : Talk). IsPlacedAlone history talk) (talks_of of_worker)) visits [] placed (All-nil (λ (of_worker : List Visit). All (λ (talk : Talk). IsPlacedAlone history talk) (talks_of of_worker)));
 }
 
 no_worker : (history : List Entry) → history ≡ [] → IsOneHistory [] history
@@ -43,6 +44,7 @@ no_worker history none = record {
   known = All-nil (λ (maker : ℕ). maker < 0);
   made = λ worker less. absurd (omega (arith, less));
   placed = All-nil (λ (of_worker : List Visit). All (λ (talk : Talk). IsPlaced history talk) (talks_of of_worker));
+  alone = λ single. All-nil (λ (of_worker : List Visit). All (λ (talk : Talk). IsPlacedAlone history talk) (talks_of of_worker));
 }
 
 -- nothing was heard
@@ -57,18 +59,3 @@ WasHeard-none before core told count opening journal mark legal counted tables l
   faults = rw mark at counted;
   tables = rw opening at tables;
 }
-
--- the talks of one worker were heard
-pub WasHeard-one : {P : Type 0} (before : Keeping) (first core : CoreView P) (told : Option Rows) (count : ℕ) (visits : List Visit)
-    → first.opening ≡ empty_opening → first.journal ≡ [] → first.mark ≡ before.count → HasEntered first core (talks_of visits)
-    → IsLegal core.opening core.journal → min (core.mark + faults_in core.journal) (2 ^ 64 - 1) ≤ count → HasTables core.opening core.journal told
-    → ((history : List Entry) → IsLegal empty_opening history → IsLawfulHistory history)
-    → WasHeard before (record { told = told; count = count }) (visits ∷ []) core.journal
-WasHeard-one before first core told count visits opening journal mark entered legal counted tables lawful =
-    let same : core.opening ≡ empty_opening = entered.opening ∙ opening in
-    record {
-      once = one_worker visits core.journal (entered.journal ∙ ap (λ l. l ++ entries_of (talks_of visits)) journal) entered.placed;
-      lawful = lawful core.journal (rw same at legal);
-      faults = rw (entered.mark ∙ mark) at counted;
-      tables = rw same at tables;
-    }

@@ -38,12 +38,6 @@ pub record AreServed {C : Type 0} (seen : C → Observed) (most : ℕ) (old new 
   pub ends_are : ends ≡ map (λ door. door.end) doors
   pub each : All (λ door. WasServed seen most door.before door.after door.visits door.end) doors
 
--- one door was served, and these are its visits
-abbrev pub IsServedAlone : {C : Type 0} → (C → Observed) → ℕ → DoorMoment C → DoorMoment C → List (List Visit) → DoorEnd
-    → Type 0
-IsServedAlone seen most old new all end =
-    (visits : List Visit) × (all ≡ visits ∷ []) × WasServed seen most old new visits end
-
 -- the door was served as often as was asked, or has ended
 abbrev pub IsOver : DoorEnd → Type 0
 IsOver end = (end ≡ door_ends.Served) ⊎ (end ≡ door_ends.Ended)
@@ -57,6 +51,14 @@ pub record HasFailed (ends : List DoorEnd) : Type 0 where
   pub before : List DoorEnd
   pub behind : List DoorEnd
   pub failed : ends ≡ before ++ door_ends.AcceptFault ∷ behind
+
+-- the status of doors that ended so, where the whole text is written: that a door failed is told where one did
+abbrev pub AllowsStatus : List DoorEnd → ServeStatus → Type 0
+AllowsStatus ends Done = All IsOver ends
+AllowsStatus ends BadWords = ⊥
+AllowsStatus ends WriteFault = ⊥
+AllowsStatus ends NoMemory = ⊥
+AllowsStatus ends AcceptFault = All IsOverOrFailed ends × HasFailed ends
 
 -- what a sink took, where it tells that, and its count of faults
 pub record Writing : Type 0 where

@@ -1,12 +1,22 @@
 //! The top call of the served desk.
 #![tactic(auto)]
 
-mod bench;
+mod alone;
 mod connections;
+mod core_bench;
+mod manning;
+mod seat_bench;
 mod serve;
+mod served_doors;
+mod sharing;
 mod status;
+mod worker;
+mod working;
 
-pub use bench::CoreBench;
 pub use connections::served_text;
-pub use serve::{DoorVisits, serve_main};
+pub use core_bench::CoreBench;
+pub use seat_bench::SeatBench;
+pub use serve::serve_main;
+pub use served_doors::{DoorVisits, ServedDoors};
 pub use status::ServeStatus;
+pub use worker::Worker;

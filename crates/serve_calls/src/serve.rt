@@ -1,43 +1,53 @@
 //! The top call of the served desk.
-ghost use Rattle.std.specs.Prelude.{◌≡◌, ◌≤◌, ◌↔◌, ◌⊎◌, [], ◌∷◌, None, Some, true, false, length, map, string_bytes, vec_capacity, IfOk, IfSome, OnErr};
+ghost use Rattle.std.specs.Prelude.{◌≡◌, ◌≤◌, ◌↔◌, ◌⊎◌, [], ◌∷◌, ◌++◌, List, None, Some, true, false, length, map, string_bytes, vec_capacity, IfOk, IfSome, OnErr};
 ghost use Rattle.sms_base.specs.Observed.{Observed};
 ghost use Rattle.sms_keeper.specs.Tables.{AreSame, no_rows};
 ghost use Rattle.desk_law.specs.Records.{empty_opening};
 ghost use Rattle.desk_words.specs.Serving.{serving_in};
 ghost use Rattle.desk_words.specs.declared.served.ServeWords.{ServeWords as Asked};
 ghost use Rattle.desk_calls.specs.Headline.{Keeping};
-ghost use Rattle.serve_calls.specs.OneHistory.{WasHeard};
+ghost use Rattle.serve_calls.specs.OneHistory.{IsOneHistory, WasHeard};
 ghost use Rattle.serve_calls.specs.ServedText.{served_text};
-ghost use Rattle.serve_calls.specs.ServeEnds.{IsServeEnd, IsServedAlone, IsTold, WereServed, WereUnasked, Writing, leaves_sink};
+ghost use Rattle.serve_calls.specs.ServeEnds.{AllowsStatus, AreServed, IsServeEnd, IsTold, WereServed, WereUnasked, Writing, leaves_sink};
 
-use crate::bench::CoreBench;
+use crate::alone::serve_alone;
 use crate::connections::served_text;
+use crate::served_doors::{DoorVisits, ServedDoors};
+use crate::sharing::serve_shared;
 use crate::status::ServeStatus;
-use acs_tree::Slate;
 use desk_calls::legal_is_lawful;
 use desk_common::Items;
 use desk_words::serve_words;
-use http_head::Routes;
-use serve_door::{DoorEnd, Visits, serve_door};
+use serve_door::{DoorEnd, Visits};
 use sms_base::{Accept, Sink, write_all};
 use sms_core::Core;
+use sms_desk::Gate;
 use sms_keeper::Keeper;
 use std::alloc::{AllocError, Global};
-
-/// The visits of each door, in the order of the doors.
-pub type DoorVisits = Items<Visits>;
+use std::sync::Wait;
+use std::thread::Threads;
 
 /// Does what the words of the command line ask: serves a new desk over a keeper of empty tables to the links of the
 /// doors, one door a worker, and writes a line for each connection to the sink. It hands back the desk's core, the
-/// doors and their visits; where no door was asked for a link there are none. It waits where a door or a link waits
-/// (docs/http.md, "The program").
-pub fn serve_main<A: Accept, K: Sink, P: Keeper>(
+/// doors and their visits; where no door was asked for a link there are none. It waits where a door, a link or the gate
+/// waits, and where several workers wait for each other's turns (docs/http.md, "The program").
+pub fn serve_main<
+    A: Accept + Drop + Send,
+    K: Sink,
+    P: Keeper + Send,
+    R: Threads + Wait + Sync,
+    G: Gate + Sync,
+>(
     alloc: Global,
+    rt: &R,
     words: &[String],
     doors: Vec<A>,
     out: &mut K,
     keeper: P,
+    gate: &G,
 ) -> (ServeStatus, Core<P>, Vec<A>, DoorVisits)
+where
+    A::Conn: Send,
     requires tables { IfSome (P.told keeper) (λ rows. AreSame rows no_rows) }
     requires doors { (asked : Asked) → serving_in (map string_bytes words.now) ≡ Some asked
         → length doors.items ≡ asked.workers }
@@ -84,7 +94,7 @@ pub fn serve_main<A: Accept, K: Sink, P: Keeper>(
         result.0 }
 {
     match serve_words(words) {
-        Some(asked) => serve_doors(alloc, asked.connections, doors, out, keeper),
+        Some(asked) => serve_doors(alloc, rt, asked.connections, doors, out, keeper, gate),
         None => {
             let core = new_core(alloc, keeper);
             (ServeStatus::BadWords, core, doors, Items::new(alloc))
@@ -92,16 +102,26 @@ pub fn serve_main<A: Accept, K: Sink, P: Keeper>(
     }
 }
 
-// Serves a new desk over the keeper to the links of the one door, and writes the text of the visits.
-fn serve_doors<A: Accept, K: Sink, P: Keeper>(
+// Serves a new desk over the keeper to the links of the doors, and writes the text of the visits.
+fn serve_doors<
+    A: Accept + Drop + Send,
+    K: Sink,
+    P: Keeper + Send,
+    R: Threads + Wait + Sync,
+    G: Gate + Sync,
+>(
     alloc: Global,
+    rt: &R,
     most: u32,
     doors: Vec<A>,
     out: &mut K,
     keeper: P,
+    gate: &G,
 ) -> (ServeStatus, Core<P>, Vec<A>, DoorVisits)
+where
+    A::Conn: Send,
     requires tables { IfSome (P.told keeper) (λ rows. AreSame rows no_rows) }
-    requires doors { length doors.items ≡ 1 }
+    requires doors { (1 ≤ length doors.items) × (length doors.items ≤ 16) }
     ensures words { result.0 ≡ ServeStatus.BadWords → ⊥ }
     ensures unwritten { leaves_sink result.0 ≡ true → out.new ≡ out.old }
     ensures opening { result.1.opening ≡ empty_opening }
@@ -143,11 +163,11 @@ fn serve_doors<A: Accept, K: Sink, P: Keeper>(
         result.0 }
 {
     let mut doors = doors;
-    let (served, core) = serve_new(alloc, most, &mut doors[0], keeper);
+    let (served, core) = serve_new(alloc, rt, most, &mut doors, keeper, gate);
     match served {
-        Ok((end, visits)) => {
+        Ok(ServedDoors { visits, ends }) => {
             let entries = core.journal().len() as u64;
-            let status = write_visits(alloc, end, visits.as_slice(), entries, out);
+            let status = write_visits(alloc, &ends, visits.as_slice(), entries, out);
             (status, core, doors, visits)
         }
         Err(_) => (ServeStatus::NoMemory, core, doors, Items::new(alloc)),
@@ -172,15 +192,20 @@ fn new_core<P: Keeper>(alloc: Global, keeper: P) -> Core<P>
     core
 }
 
-// Serves a new desk over the keeper to the links of a door.
-fn serve_new<A: Accept, P: Keeper>(
+// Serves a new desk over the keeper to the links of the doors.
+fn serve_new<A: Accept + Drop + Send, P: Keeper + Send, R: Threads + Wait + Sync, G: Gate + Sync>(
     alloc: Global,
+    rt: &R,
     most: u32,
-    door: &mut A,
+    doors: &mut Vec<A>,
     keeper: P,
-) -> (Result<(DoorEnd, DoorVisits), AllocError>, Core<P>)
+    gate: &G,
+) -> (Result<ServedDoors, AllocError>, Core<P>)
+where
+    A::Conn: Send,
     requires tables { IfSome (P.told keeper) (λ rows. AreSame rows no_rows) }
-    ensures served { IfOk result.0 (λ found. IsServedAlone
+    requires count { (1 ≤ length doors.old.items) × (length doors.old.items ≤ 16) }
+    ensures served { IfOk result.0 (λ found. AreServed
         (λ link. record {
           left = A.Conn.left link;
           reads = A.Conn.reads link;
@@ -189,80 +214,137 @@ fn serve_new<A: Accept, P: Keeper>(
           write_faults = A.Conn.write_faults link;
         })
         most
-        (record {
-          asked = A.asked door.old;
-          given = A.given door.old;
-          ended = A.ended door.old;
-          door_faults = A.door_faults door.old;
-          link_faults = A.link_faults door.old;
-          waiting = A.waiting door.old;
-          back = A.back door.old;
-        })
-        (record {
-          asked = A.asked door.new;
-          given = A.given door.new;
-          ended = A.ended door.new;
-          door_faults = A.door_faults door.new;
-          link_faults = A.link_faults door.new;
-          waiting = A.waiting door.new;
-          back = A.back door.new;
-        })
-        found.1 found.0) }
+        (map (λ door. record {
+          asked = A.asked door;
+          given = A.given door;
+          ended = A.ended door;
+          door_faults = A.door_faults door;
+          link_faults = A.link_faults door;
+          waiting = A.waiting door;
+          back = A.back door;
+        }) doors.old.items)
+        (map (λ door. record {
+          asked = A.asked door;
+          given = A.given door;
+          ended = A.ended door;
+          door_faults = A.door_faults door;
+          link_faults = A.link_faults door;
+          waiting = A.waiting door;
+          back = A.back door;
+        }) doors.new.items)
+        found.visits found.ends.items) }
     ensures heard { IfOk result.0 (λ found. WasHeard
         (record { told = P.told keeper; count = P.count keeper })
         (record { told = P.told result.1.keeper; count = P.count result.1.keeper })
-        found.1 result.1.journal) }
+        found.visits result.1.journal) }
     ensures opening { result.1.opening ≡ empty_opening }
     ensures unheard { OnErr result.0 (WasHeard
         (record { told = P.told keeper; count = P.count keeper })
         (record { told = P.told result.1.keeper; count = P.count result.1.keeper })
         [] result.1.journal) }
-    ensures unasked { OnErr result.0 (door.new ≡ door.old) }
+    ensures unasked { OnErr result.0 (doors.new ≡ doors.old) }
 {
     // Facts for the proof; nothing runs.
     legal_is_lawful();
     let core = new_core(alloc, keeper);
-    let Ok((routes, slate, mut all)) = take_room(alloc) else {
-        return (Err(AllocError), core);
-    };
-    let bench = CoreBench::new(core, slate);
-    let (end, bench, visits) = serve_door(alloc, &routes, door, bench, most);
-    all.push_reserved(visits);
-    let core = bench.into_core();
+    let (served, core) = serve_core(alloc, rt, most, doors, core, gate);
     let _journal = core.journal();
-    (Ok((end, Items::from_vec(all))), core)
+    (served, core)
 }
 
-// The routes, room for what routines write, and room for the visits of one door.
-fn take_room(alloc: Global) -> Result<(Routes, Slate, Vec<Visits>), AllocError>
-    ensures none { IfOk result (λ room. room.2.items ≡ []) }
-    ensures room { IfOk result (λ room. 1 ≤ vec_capacity room.2) }
+// Serves the desk of a new core to the links of the doors: of one door by the core itself.
+fn serve_core<A: Accept + Drop + Send, P: Keeper + Send, R: Threads + Wait + Sync, G: Gate + Sync>(
+    alloc: Global,
+    rt: &R,
+    most: u32,
+    doors: &mut Vec<A>,
+    core: Core<P>,
+    gate: &G,
+) -> (Result<ServedDoors, AllocError>, Core<P>)
+where
+    A::Conn: Send,
+    requires count { (1 ≤ length doors.old.items) × (length doors.old.items ≤ 16) }
+    requires new { core.journal ≡ [] }
+    ensures served { IfOk result.0 (λ found. AreServed
+        (λ link. record {
+          left = A.Conn.left link;
+          reads = A.Conn.reads link;
+          read_faults = A.Conn.read_faults link;
+          taken = A.Conn.taken link;
+          write_faults = A.Conn.write_faults link;
+        })
+        most
+        (map (λ door. record {
+          asked = A.asked door;
+          given = A.given door;
+          ended = A.ended door;
+          door_faults = A.door_faults door;
+          link_faults = A.link_faults door;
+          waiting = A.waiting door;
+          back = A.back door;
+        }) doors.old.items)
+        (map (λ door. record {
+          asked = A.asked door;
+          given = A.given door;
+          ended = A.ended door;
+          door_faults = A.door_faults door;
+          link_faults = A.link_faults door;
+          waiting = A.waiting door;
+          back = A.back door;
+        }) doors.new.items)
+        found.visits found.ends.items) }
+    ensures once { IfOk result.0 (λ found. IsOneHistory found.visits result.1.journal) }
+    ensures opening { result.1.opening ≡ core.opening }
+    ensures mark { result.1.mark ≡ core.mark }
+    ensures unserved { OnErr result.0 ((doors.new ≡ doors.old) × (result.1 ≡ core)) }
 {
-    let routes = Routes::new(alloc)?;
-    let slate = Slate::new(alloc)?;
-    Ok((routes, slate, Vec::with_capacity(alloc, 1)?))
+    if doors.len() == 1 {
+        serve_alone(alloc, most, doors, core)
+    } else {
+        serve_shared(alloc, rt, most, doors, core, gate)
+    }
 }
 
-// Writes the text of the visits of a door that ended so, unless memory was wanting.
+// Writes the text of the visits of doors that ended so, unless memory was wanting.
 fn write_visits<K: Sink>(
     alloc: Global,
-    end: DoorEnd,
+    ends: &[DoorEnd],
     visits: &[Visits],
     entries: u64,
     out: &mut K,
 ) -> ServeStatus
     ensures words { result ≡ ServeStatus.BadWords → ⊥ }
     ensures unwritten { leaves_sink result ≡ true → out.new ≡ out.old }
-    ensures ends { IsServeEnd (end ∷ [])
+    ensures ends { IsServeEnd ends.now
         (record { taken = K.taken out.old; faults = K.write_faults out.old })
         (record { taken = K.taken out.new; faults = K.write_faults out.new })
         (served_text visits.now entries) result }
 {
+    match status_of(ends) {
+        Some(done) => write_text(alloc, done, visits, entries, out),
+        None => ServeStatus::NoMemory,
+    }
+}
+
+// The status where the whole text is written of doors that ended so; none where memory was wanting at one.
+fn status_of(ends: &[DoorEnd]) -> Option<ServeStatus>
+    ensures { IfSome result (λ done. AllowsStatus ends.now done) }
+{
+    let mut done = ServeStatus::Done;
+    for end in ends {
+        done = status_with(done, *end)?;
+    }
+    Some(done)
+}
+
+// The status where one more door ended so.
+fn status_with(done: ServeStatus, end: DoorEnd) -> Option<ServeStatus>
+    ensures { (ends : List DoorEnd) → AllowsStatus ends done → IfSome result (λ then. AllowsStatus (ends ++ end ∷ []) then) }
+{
     match end {
-        DoorEnd::NoMemory => ServeStatus::NoMemory,
-        DoorEnd::Served => write_text(alloc, ServeStatus::Done, visits, entries, out),
-        DoorEnd::Ended => write_text(alloc, ServeStatus::Done, visits, entries, out),
-        DoorEnd::AcceptFault => write_text(alloc, ServeStatus::AcceptFault, visits, entries, out),
+        DoorEnd::Served | DoorEnd::Ended => Some(done),
+        DoorEnd::AcceptFault => Some(ServeStatus::AcceptFault),
+        DoorEnd::NoMemory => None,
     }
 }
 

@@ -7,6 +7,7 @@ use crate::failing_door::FailingDoor;
 use desk_words::serve_words;
 use serve_calls::{ServeStatus, serve_main};
 use sms_base::{Accept, MemAccept, MemLink, MemSink};
+use sms_desk::FreeGate;
 use sms_keeper::MemKeeper;
 use std::alloc::Global;
 use std::test::Fail;
@@ -45,7 +46,7 @@ static ACTIVATED_AND_GRANTED: &[u8] = b"HTTP/1.1 200 OK\r\nContent-Type: applica
 
 /// Words, and whether they ask to serve the desk.
 #[rattlefmt::skip]
-static WORDS: [(&[&str], bool); 20] = [
+static WORDS: [(&[&str], bool); 21] = [
     (&["serve", "8080", "1"], true),
     (&["serve", "8080", "1000000"], true),
     (&["serve", "8080", "1000001"], false),
@@ -64,7 +65,8 @@ static WORDS: [(&[&str], bool); 20] = [
     (&["serve", "8080", "1", "--workers"], false),
     (&["serve", "8080", "1", "--workers", "0"], false),
     (&["serve", "8080", "1", "--workers", "1"], true),
-    (&["serve", "8080", "1", "--workers", "2"], false),
+    (&["serve", "8080", "1", "--workers", "16"], true),
+    (&["serve", "8080", "1", "--workers", "17"], false),
     (&["serve", "8080", "1", "--workers", "1", "x"], false),
 ];
 
@@ -82,10 +84,10 @@ struct Served {
     text: Vec<u8>,
 }
 
-/// The words `serve 8080` and a number of connections.
-fn words_for(alloc: Global, connections: &str) -> Result<Vec<String>, Fail> {
+/// The words `serve 8080`, a number of connections, and a number of workers.
+fn words_for(alloc: Global, connections: &str, workers: &str) -> Result<Vec<String>, Fail> {
     let mut words = Vec::new(alloc);
-    for word in ["serve", "8080", connections] {
+    for word in ["serve", "8080", connections, "--workers", workers] {
         words.push(String::from_str(alloc, word)?)?;
     }
     Ok(words)
@@ -126,20 +128,21 @@ fn new_keeper(alloc: Global) -> MemKeeper
     MemKeeper::new(alloc)
 }
 
-/// Serves a door over a sink that takes at most seven bytes at a call and fails at the writes with these numbers, and
-/// hands the door back.
-fn serve<A: Accept + Drop>(
-    alloc: Global,
+/// Serves doors by so many workers over a sink that takes at most seven bytes at a call and fails at the writes with
+/// these numbers, and hands the doors back.
+fn serve_all<A: Accept + Drop + Send>(
+    rt: &HostRuntime,
     connections: &str,
-    door: A,
+    workers: &str,
+    doors: Vec<A>,
     writes: &[u64],
-) -> Result<(Served, A), Fail> {
-    let words = words_for(alloc, connections)?;
+) -> Result<(Served, Vec<A>), Fail>
+where
+    A::Conn: Send,
+{
+    let alloc = rt.alloc();
+    let words = words_for(alloc, connections, workers)?;
     let mut out = MemSink::new(vec![in alloc; 0; ROOM]?, 7, writes.to_vec(alloc)?);
-    let mut doors = Vec::new(alloc);
-    if doors.push(door).is_err() {
-        return Err(Fail::from("room"));
-    }
     let Some(asked) = serve_words(&words) else {
         return Err(Fail::from("words"));
     };
@@ -148,23 +151,43 @@ fn serve<A: Accept + Drop>(
     }
     let (status, _core, doors, _visits) = serve_main(
         alloc,
+        rt,
         &words,
         doors,
         &mut out,
         new_keeper(alloc),
+        &FreeGate,
     );
     let text = out.taken().to_vec(alloc)?;
+    Ok((Served { status, text }, doors))
+}
+
+/// Serves a door by one worker, and hands it back.
+fn serve<A: Accept + Drop + Send>(
+    rt: &HostRuntime,
+    connections: &str,
+    door: A,
+    writes: &[u64],
+) -> Result<(Served, A), Fail>
+where
+    A::Conn: Send,
+{
+    let mut doors = Vec::new(rt.alloc());
+    if doors.push(door).is_err() {
+        return Err(Fail::from("room"));
+    }
+    let (served, doors) = serve_all(rt, connections, "1", doors, writes)?;
     let Some(door) = doors.into_iter().next() else {
         return Err(Fail::from("door"));
     };
-    Ok((Served { status, text }, door))
+    Ok((served, door))
 }
 
 /// Whether a link is served so over one door that gives no other: the status is `Done`, and this the text.
-fn ends_so(alloc: Global, link: MemLink, text: &[u8]) -> Result<bool, Fail>
+fn ends_so(rt: &HostRuntime, link: MemLink, text: &[u8]) -> Result<bool, Fail>
     requires { IsUntouched link }
 {
-    let (served, _door) = serve(alloc, "1", door_of(alloc, link)?, &[])?;
+    let (served, _door) = serve(rt, "1", door_of(rt.alloc(), link)?, &[])?;
     Ok(served.status == ServeStatus::Done && served.text.as_slice() == text)
 }
 
@@ -184,7 +207,7 @@ fn words_ask_to_serve_within_the_limits(rt: HostRuntime) -> Result<(), Fail> {
 fn a_conversation_byte_by_byte_is_cut(rt: HostRuntime) -> Result<(), Fail> {
     let alloc = rt.alloc();
     let door = door_of(alloc, link(alloc, CUT_BEHIND, 1, &[], &[])?)?;
-    let (served, door) = serve(alloc, "1", door, &[])?;
+    let (served, door) = serve(&rt, "1", door, &[])?;
     assert!(rt; served.status == ServeStatus::Done);
     assert!(rt; served.status.code() == 0);
     assert!(rt; served.text.as_slice() == b"CONN 1 1 CUT\nEND 1 1\n".as_slice());
@@ -199,7 +222,7 @@ fn a_conversation_byte_by_byte_is_cut(rt: HostRuntime) -> Result<(), Fail> {
 fn a_deck_is_activated_and_a_data_set_allocated(rt: HostRuntime) -> Result<(), Fail> {
     let alloc = rt.alloc();
     let door = door_of(alloc, link(alloc, ACTIVATE_AND_ALLOC, 4096, &[], &[])?)?;
-    let (served, door) = serve(alloc, "5", door, &[])?;
+    let (served, door) = serve(&rt, "5", door, &[])?;
     assert!(rt; served.status == ServeStatus::Done);
     assert!(rt; served.text.as_slice() == b"CONN 1 1 CLOSED\nEND 2 1\n".as_slice());
     let [link] = door.back() else {
@@ -213,15 +236,15 @@ fn a_deck_is_activated_and_a_data_set_allocated(rt: HostRuntime) -> Result<(), F
 fn each_end_of_a_connection_has_its_line(rt: HostRuntime) -> Result<(), Fail> {
     let alloc = rt.alloc();
     let never = link(alloc, b"", 1, &[], &[])?;
-    assert!(rt; ends_so(alloc, never, b"CONN 1 1 CLOSED\nEND 0 1\n")?);
+    assert!(rt; ends_so(&rt, never, b"CONN 1 1 CLOSED\nEND 0 1\n")?);
     let refused = link(alloc, b"GET / HTTP/9.9\r\n", 4096, &[], &[])?;
-    assert!(rt; ends_so(alloc, refused, b"CONN 1 1 REFUSED 400\nEND 0 1\n")?);
+    assert!(rt; ends_so(&rt, refused, b"CONN 1 1 REFUSED 400\nEND 0 1\n")?);
     let unread = link(alloc, CUT_BEHIND, 4096, &[1], &[])?;
-    assert!(rt; ends_so(alloc, unread, b"CONN 1 1 READ FAULT\nEND 0 1\n")?);
+    assert!(rt; ends_so(&rt, unread, b"CONN 1 1 READ FAULT\nEND 0 1\n")?);
     let read = link(alloc, CUT_BEHIND, 4096, &[2], &[])?;
-    assert!(rt; ends_so(alloc, read, b"CONN 1 1 READ FAULT\nEND 1 1\n")?);
+    assert!(rt; ends_so(&rt, read, b"CONN 1 1 READ FAULT\nEND 1 1\n")?);
     let unwritten = link(alloc, CUT_BEHIND, 4096, &[], &[1])?;
-    assert!(rt; ends_so(alloc, unwritten, b"CONN 1 1 WRITE FAULT\nEND 1 1\n")?);
+    assert!(rt; ends_so(&rt, unwritten, b"CONN 1 1 WRITE FAULT\nEND 1 1\n")?);
     Ok(())
 }
 
@@ -231,7 +254,7 @@ fn two_links_of_a_door_share_the_desk(rt: HostRuntime) -> Result<(), Fail> {
     let first = link(alloc, CUT_BEHIND, 4096, &[], &[])?;
     let second = link(alloc, CUT_BEHIND, 4096, &[], &[])?;
     let door = MemAccept::new(alloc, vec![in alloc; first, second]?)?;
-    let (served, door) = serve(alloc, "2", door, &[])?;
+    let (served, door) = serve(&rt, "2", door, &[])?;
     assert!(rt; served.status == ServeStatus::Done);
     assert!(rt; served.text.as_slice() == b"CONN 1 1 CUT\nCONN 1 2 CUT\nEND 2 2\n".as_slice());
     let [first, second] = door.back() else {
@@ -248,7 +271,7 @@ fn no_more_links_are_asked_for_than_the_words_say(rt: HostRuntime) -> Result<(),
     let first = link(alloc, b"", 1, &[], &[])?;
     let second = link(alloc, b"", 1, &[], &[])?;
     let door = MemAccept::new(alloc, vec![in alloc; first, second]?)?;
-    let (served, door) = serve(alloc, "1", door, &[])?;
+    let (served, door) = serve(&rt, "1", door, &[])?;
     assert!(rt; served.text.as_slice() == b"CONN 1 1 CLOSED\nEND 0 1\n".as_slice());
     assert!(rt; door.back().len() == 1);
     Ok(())
@@ -264,7 +287,7 @@ fn a_door_that_fails_stops_its_worker(rt: HostRuntime) -> Result<(), Fail> {
             ended: false,
             faults: 0,
         };
-        let (served, door) = serve(alloc, "3", door, &[])?;
+        let (served, door) = serve(&rt, "3", door, &[])?;
         assert!(rt; served.status == ServeStatus::AcceptFault);
         assert!(rt; served.status.code() == 8);
         assert!(rt; served.text.as_slice() == *text);
@@ -282,9 +305,76 @@ fn a_failing_sink_comes_before_a_failing_door(rt: HostRuntime) -> Result<(), Fai
         ended: false,
         faults: 0,
     };
-    let (served, _door) = serve(alloc, "3", door, &[2])?;
+    let (served, _door) = serve(&rt, "3", door, &[2])?;
     assert!(rt; served.status == ServeStatus::WriteFault);
     assert!(rt; served.status.code() == 4);
     assert!(rt; served.text.as_slice() == b"CONN 1 ".as_slice());
+    Ok(())
+}
+
+#[test]
+fn two_workers_serve_a_door_each(rt: HostRuntime) -> Result<(), Fail> {
+    let alloc = rt.alloc();
+    let first = door_of(alloc, link(alloc, b"", 1, &[], &[])?)?;
+    let second = door_of(alloc, link(alloc, b"", 1, &[], &[])?)?;
+    let (served, doors) = serve_all(&rt, "1", "2", vec![in alloc; first, second]?, &[])?;
+    assert!(rt; served.status == ServeStatus::Done);
+    assert!(rt;
+        served.text.as_slice() == b"CONN 1 1 CLOSED\nCONN 2 1 CLOSED\nEND 0 2\n".as_slice()
+    );
+    assert!(rt; doors.len() == 2);
+    Ok(())
+}
+
+#[test]
+fn four_workers_share_one_journal(rt: HostRuntime) -> Result<(), Fail> {
+    let alloc = rt.alloc();
+    let mut doors = Vec::new(alloc);
+    for _ in 0..4 {
+        let door = door_of(alloc, link(alloc, CUT_BEHIND, 16, &[], &[])?)?;
+        if doors.push(door).is_err() {
+            return Err(Fail::from("room"));
+        }
+    }
+    let (served, doors) = serve_all(&rt, "1", "4", doors, &[])?;
+    assert!(rt; served.status == ServeStatus::Done);
+    assert!(rt; served.text.ends_with(b"CONN 4 1 CUT\nEND 4 4\n"));
+    for place in [
+        b"\"place\":1}",
+        b"\"place\":2}",
+        b"\"place\":3}",
+        b"\"place\":4}",
+    ] {
+        let mut count = 0;
+        for door in &doors {
+            for link in door.back() {
+                if link.taken().ends_with(place) {
+                    count += 1;
+                }
+            }
+        }
+        assert!(rt; count == 1);
+    }
+    Ok(())
+}
+
+#[test]
+fn a_door_that_fails_stops_no_other_worker(rt: HostRuntime) -> Result<(), Fail> {
+    let alloc = rt.alloc();
+    let mut doors = Vec::new(alloc);
+    for left in [0, 2] {
+        let door = FailingDoor {
+            door: door_of(alloc, link(alloc, CUT_BEHIND, 4096, &[], &[])?)?,
+            left,
+            ended: false,
+            faults: 0,
+        };
+        if doors.push(door).is_err() {
+            return Err(Fail::from("room"));
+        }
+    }
+    let (served, _doors) = serve_all(&rt, "3", "2", doors, &[])?;
+    assert!(rt; served.status == ServeStatus::AcceptFault);
+    assert!(rt; served.text.as_slice() == b"CONN 2 1 CUT\nEND 1 1\n".as_slice());
     Ok(())
 }

@@ -42,7 +42,7 @@ fn main(rt: HostRuntime) -> ExitCode {
 }
 
 // Does what the words of the command line ask, and ends the program.
-#[tactic(auto, using(crate::proofs::WordLaws::one_worker))]
+#[tactic(auto, using(crate::proofs::WordLaws::same_workers))]
 fn obey<T: Threads + Wait + Sync>(rt: &HostRuntime, threads: &T, words: &[String]) -> ExitCode {
     if let Some(text) = help::text_for(words) {
         return end(rt, show(rt, text), "");

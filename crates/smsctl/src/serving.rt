@@ -1,5 +1,5 @@
 //! The desk served on a port of this machine.
-ghost use Rattle.std.specs.Prelude.{◌≡◌, Some, map, string_bytes};
+ghost use Rattle.std.specs.Prelude.{◌≡◌, IfOk, Some, length, map, string_bytes};
 ghost use Rattle.std.specs.Process.{exit_status};
 ghost use Rattle.desk_words.specs.Serving.{serving_in};
 ghost use Rattle.desk_words.specs.declared.served.ServeWords.{ServeWords as Asked};
@@ -8,7 +8,9 @@ ghost use Rattle.serve_calls.specs.ServeStatuses.{serve_status_of};
 use desk_words::ServeWords;
 use serve_calls::{ServeStatus, serve_main};
 use sms_base::{StdSink, TcpAccept};
+use sms_desk::FreeGate;
 use sms_keeper::MemKeeper;
+use std::alloc::{AllocError, Global};
 use std::io::{self, ErrorKind, Write};
 use std::net::{Ipv4Addr, TcpListener};
 use std::process::ExitCode;
@@ -18,29 +20,52 @@ const NOT_BOUND: u8 = 9;
 
 /// Serves the desk on the port of 127.0.0.1, as the words ask, and ends the program.
 pub fn serve(rt: &HostRuntime, asked: ServeWords, words: &[String]) -> ExitCode
-    requires { (other : Asked) → serving_in (map string_bytes words.now) ≡ Some other → other.workers ≡ 1 }
+    requires { (other : Asked) → serving_in (map string_bytes words.now) ≡ Some other → other.workers ≡ asked.workers }
 {
     match TcpListener::bind(rt, (Ipv4Addr::LOCALHOST, asked.port)) {
         Ok(listener) => {
             let _ = eprintln!(rt; "smsctl: listening on 127.0.0.1:{}", asked.port);
-            end(rt, serve_on(rt, &listener, words))
+            end(rt, serve_on(rt, &listener, asked.workers, words))
         }
         Err(error) if error.kind() == ErrorKind::OutOfMemory => end(rt, ServeStatus::NoMemory),
         Err(_) => end_with(rt, NOT_BOUND),
     }
 }
 
-// Serves the desk to the connections of a listener.
-fn serve_on(rt: &HostRuntime, listener: &TcpListener, words: &[String]) -> ServeStatus
-    requires { (other : Asked) → serving_in (map string_bytes words.now) ≡ Some other → other.workers ≡ 1 }
+// Serves the desk to the connections of a listener by so many workers.
+fn serve_on(rt: &HostRuntime, listener: &TcpListener, workers: u8, words: &[String]) -> ServeStatus
+    requires { (other : Asked) → serving_in (map string_bytes words.now) ≡ Some other → other.workers ≡ workers }
 {
-    let Ok(doors) = vec![in rt.alloc(); TcpAccept::new(listener)] else {
+    let Ok(doors) = doors_of(rt.alloc(), listener, usize::from(workers)) else {
         return ServeStatus::NoMemory;
     };
     let mut out = StdSink::new(io::writer(rt));
     let keeper = MemKeeper::new(rt.alloc());
-    let (status, _core, _doors, _visits) = serve_main(rt.alloc(), words, doors, &mut out, keeper);
+    let (status, _core, _doors, _visits) = serve_main(
+        rt.alloc(),
+        rt,
+        words,
+        doors,
+        &mut out,
+        keeper,
+        &FreeGate,
+    );
     status
+}
+
+// So many doors over the listener.
+fn doors_of<'a>(
+    alloc: Global,
+    listener: &'a TcpListener,
+    count: usize,
+) -> Result<Vec<TcpAccept<'a, TcpListener>>, AllocError>
+    ensures { IfOk result (λ doors. length doors.items ≡ count) }
+{
+    let mut doors = Vec::with_capacity(alloc, count)?;
+    for _ in 0..count {
+        doors.push_reserved(TcpAccept::new(listener));
+    }
+    Ok(doors)
 }
 
 // Ends the program with the status.
