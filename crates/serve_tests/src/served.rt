@@ -10,7 +10,9 @@ use sms_base::{Accept, MemAccept, MemLink, MemSink};
 use sms_desk::FreeGate;
 use sms_keeper::MemKeeper;
 use std::alloc::Global;
+use std::sync::Wait;
 use std::test::Fail;
+use std::thread::Threads;
 
 /// The most bytes that a link or the sink of a test may take.
 const ROOM: usize = 4096;
@@ -130,8 +132,9 @@ fn new_keeper(alloc: Global) -> MemKeeper
 
 /// Serves doors by so many workers over a sink that takes at most seven bytes at a call and fails at the writes with
 /// these numbers, and hands the doors back.
-fn serve_all<A: Accept + Drop + Send>(
-    rt: &HostRuntime,
+fn serve_all<A: Accept + Drop + Send, R: Threads + Wait + Sync>(
+    rt: &R,
+    alloc: Global,
     connections: &str,
     workers: &str,
     doors: Vec<A>,
@@ -140,7 +143,6 @@ fn serve_all<A: Accept + Drop + Send>(
 where
     A::Conn: Send,
 {
-    let alloc = rt.alloc();
     let words = words_for(alloc, connections, workers)?;
     let mut out = MemSink::new(vec![in alloc; 0; ROOM]?, 7, writes.to_vec(alloc)?);
     let Some(asked) = serve_words(&words) else {
@@ -163,8 +165,9 @@ where
 }
 
 /// Serves a door by one worker, and hands it back.
-fn serve<A: Accept + Drop + Send>(
-    rt: &HostRuntime,
+fn serve<A: Accept + Drop + Send, R: Threads + Wait + Sync>(
+    rt: &R,
+    alloc: Global,
     connections: &str,
     door: A,
     writes: &[u64],
@@ -172,11 +175,11 @@ fn serve<A: Accept + Drop + Send>(
 where
     A::Conn: Send,
 {
-    let mut doors = Vec::new(rt.alloc());
+    let mut doors = Vec::new(alloc);
     if doors.push(door).is_err() {
         return Err(Fail::from("room"));
     }
-    let (served, doors) = serve_all(rt, connections, "1", doors, writes)?;
+    let (served, doors) = serve_all(rt, alloc, connections, "1", doors, writes)?;
     let Some(door) = doors.into_iter().next() else {
         return Err(Fail::from("door"));
     };
@@ -184,10 +187,15 @@ where
 }
 
 /// Whether a link is served so over one door that gives no other: the status is `Done`, and this the text.
-fn ends_so(rt: &HostRuntime, link: MemLink, text: &[u8]) -> Result<bool, Fail>
+fn ends_so<R: Threads + Wait + Sync>(
+    rt: &R,
+    alloc: Global,
+    link: MemLink,
+    text: &[u8],
+) -> Result<bool, Fail>
     requires { IsUntouched link }
 {
-    let (served, _door) = serve(rt, "1", door_of(rt.alloc(), link)?, &[])?;
+    let (served, _door) = serve(rt, alloc, "1", door_of(alloc, link)?, &[])?;
     Ok(served.status == ServeStatus::Done && served.text.as_slice() == text)
 }
 
@@ -207,7 +215,7 @@ fn words_ask_to_serve_within_the_limits(rt: HostRuntime) -> Result<(), Fail> {
 fn a_conversation_byte_by_byte_is_cut(rt: HostRuntime) -> Result<(), Fail> {
     let alloc = rt.alloc();
     let door = door_of(alloc, link(alloc, CUT_BEHIND, 1, &[], &[])?)?;
-    let (served, door) = serve(&rt, "1", door, &[])?;
+    let (served, door) = serve(&rt, alloc, "1", door, &[])?;
     assert!(rt; served.status == ServeStatus::Done);
     assert!(rt; served.status.code() == 0);
     assert!(rt; served.text.as_slice() == b"CONN 1 1 CUT\nEND 1 1\n".as_slice());
@@ -222,7 +230,7 @@ fn a_conversation_byte_by_byte_is_cut(rt: HostRuntime) -> Result<(), Fail> {
 fn a_deck_is_activated_and_a_data_set_allocated(rt: HostRuntime) -> Result<(), Fail> {
     let alloc = rt.alloc();
     let door = door_of(alloc, link(alloc, ACTIVATE_AND_ALLOC, 4096, &[], &[])?)?;
-    let (served, door) = serve(&rt, "5", door, &[])?;
+    let (served, door) = serve(&rt, alloc, "5", door, &[])?;
     assert!(rt; served.status == ServeStatus::Done);
     assert!(rt; served.text.as_slice() == b"CONN 1 1 CLOSED\nEND 2 1\n".as_slice());
     let [link] = door.back() else {
@@ -236,15 +244,15 @@ fn a_deck_is_activated_and_a_data_set_allocated(rt: HostRuntime) -> Result<(), F
 fn each_end_of_a_connection_has_its_line(rt: HostRuntime) -> Result<(), Fail> {
     let alloc = rt.alloc();
     let never = link(alloc, b"", 1, &[], &[])?;
-    assert!(rt; ends_so(&rt, never, b"CONN 1 1 CLOSED\nEND 0 1\n")?);
+    assert!(rt; ends_so(&rt, alloc, never, b"CONN 1 1 CLOSED\nEND 0 1\n")?);
     let refused = link(alloc, b"GET / HTTP/9.9\r\n", 4096, &[], &[])?;
-    assert!(rt; ends_so(&rt, refused, b"CONN 1 1 REFUSED 400\nEND 0 1\n")?);
+    assert!(rt; ends_so(&rt, alloc, refused, b"CONN 1 1 REFUSED 400\nEND 0 1\n")?);
     let unread = link(alloc, CUT_BEHIND, 4096, &[1], &[])?;
-    assert!(rt; ends_so(&rt, unread, b"CONN 1 1 READ FAULT\nEND 0 1\n")?);
+    assert!(rt; ends_so(&rt, alloc, unread, b"CONN 1 1 READ FAULT\nEND 0 1\n")?);
     let read = link(alloc, CUT_BEHIND, 4096, &[2], &[])?;
-    assert!(rt; ends_so(&rt, read, b"CONN 1 1 READ FAULT\nEND 1 1\n")?);
+    assert!(rt; ends_so(&rt, alloc, read, b"CONN 1 1 READ FAULT\nEND 1 1\n")?);
     let unwritten = link(alloc, CUT_BEHIND, 4096, &[], &[1])?;
-    assert!(rt; ends_so(&rt, unwritten, b"CONN 1 1 WRITE FAULT\nEND 1 1\n")?);
+    assert!(rt; ends_so(&rt, alloc, unwritten, b"CONN 1 1 WRITE FAULT\nEND 1 1\n")?);
     Ok(())
 }
 
@@ -254,7 +262,7 @@ fn two_links_of_a_door_share_the_desk(rt: HostRuntime) -> Result<(), Fail> {
     let first = link(alloc, CUT_BEHIND, 4096, &[], &[])?;
     let second = link(alloc, CUT_BEHIND, 4096, &[], &[])?;
     let door = MemAccept::new(alloc, vec![in alloc; first, second]?)?;
-    let (served, door) = serve(&rt, "2", door, &[])?;
+    let (served, door) = serve(&rt, alloc, "2", door, &[])?;
     assert!(rt; served.status == ServeStatus::Done);
     assert!(rt; served.text.as_slice() == b"CONN 1 1 CUT\nCONN 1 2 CUT\nEND 2 2\n".as_slice());
     let [first, second] = door.back() else {
@@ -271,7 +279,7 @@ fn no_more_links_are_asked_for_than_the_words_say(rt: HostRuntime) -> Result<(),
     let first = link(alloc, b"", 1, &[], &[])?;
     let second = link(alloc, b"", 1, &[], &[])?;
     let door = MemAccept::new(alloc, vec![in alloc; first, second]?)?;
-    let (served, door) = serve(&rt, "1", door, &[])?;
+    let (served, door) = serve(&rt, alloc, "1", door, &[])?;
     assert!(rt; served.text.as_slice() == b"CONN 1 1 CLOSED\nEND 0 1\n".as_slice());
     assert!(rt; door.back().len() == 1);
     Ok(())
@@ -287,7 +295,7 @@ fn a_door_that_fails_stops_its_worker(rt: HostRuntime) -> Result<(), Fail> {
             ended: false,
             faults: 0,
         };
-        let (served, door) = serve(&rt, "3", door, &[])?;
+        let (served, door) = serve(&rt, alloc, "3", door, &[])?;
         assert!(rt; served.status == ServeStatus::AcceptFault);
         assert!(rt; served.status.code() == 8);
         assert!(rt; served.text.as_slice() == *text);
@@ -305,7 +313,7 @@ fn a_failing_sink_comes_before_a_failing_door(rt: HostRuntime) -> Result<(), Fai
         ended: false,
         faults: 0,
     };
-    let (served, _door) = serve(&rt, "3", door, &[2])?;
+    let (served, _door) = serve(&rt, alloc, "3", door, &[2])?;
     assert!(rt; served.status == ServeStatus::WriteFault);
     assert!(rt; served.status.code() == 4);
     assert!(rt; served.text.as_slice() == b"CONN 1 ".as_slice());
@@ -317,7 +325,7 @@ fn two_workers_serve_a_door_each(rt: HostRuntime) -> Result<(), Fail> {
     let alloc = rt.alloc();
     let first = door_of(alloc, link(alloc, b"", 1, &[], &[])?)?;
     let second = door_of(alloc, link(alloc, b"", 1, &[], &[])?)?;
-    let (served, doors) = serve_all(&rt, "1", "2", vec![in alloc; first, second]?, &[])?;
+    let (served, doors) = serve_all(&rt, alloc, "1", "2", vec![in alloc; first, second]?, &[])?;
     assert!(rt; served.status == ServeStatus::Done);
     assert!(rt;
         served.text.as_slice() == b"CONN 1 1 CLOSED\nCONN 2 1 CLOSED\nEND 0 2\n".as_slice()
@@ -336,7 +344,7 @@ fn four_workers_share_one_journal(rt: HostRuntime) -> Result<(), Fail> {
             return Err(Fail::from("room"));
         }
     }
-    let (served, doors) = serve_all(&rt, "1", "4", doors, &[])?;
+    let (served, doors) = serve_all(&rt, alloc, "1", "4", doors, &[])?;
     assert!(rt; served.status == ServeStatus::Done);
     assert!(rt; served.text.ends_with(b"CONN 4 1 CUT\nEND 4 4\n"));
     for place in [
@@ -373,7 +381,7 @@ fn a_door_that_fails_stops_no_other_worker(rt: HostRuntime) -> Result<(), Fail> 
             return Err(Fail::from("room"));
         }
     }
-    let (served, _doors) = serve_all(&rt, "3", "2", doors, &[])?;
+    let (served, _doors) = serve_all(&rt, alloc, "3", "2", doors, &[])?;
     assert!(rt; served.status == ServeStatus::AcceptFault);
     assert!(rt; served.text.as_slice() == b"CONN 2 1 CUT\nEND 1 1\n".as_slice());
     Ok(())

@@ -14,7 +14,9 @@ smsctl run --manage DAY
 smsctl gen SEED COUNT  answer a generated script, and sum up the answers
 smsctl serve PORT CONNECTIONS
                        serve the desk over HTTP on 127.0.0.1 to so many
-                       connections, one after the other
+                       connections, one after the other; with --workers N
+                       behind these words by so many workers, 1 to 16, and
+                       to so many connections by each
 smsctl --help          this text
 smsctl --version       the version
 
@@ -26,6 +28,7 @@ For example:
     smsctl run --manage 120 < morning.txt > answers.txt
     smsctl gen 1 40000
     smsctl serve 8080 100
+    smsctl serve 8080 100 --workers 4
 
 docs/script.md has the script's lines, the answers and the exit statuses,
 docs/records.md the records in a file, docs/management.md a day of space
