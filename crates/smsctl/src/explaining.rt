@@ -81,7 +81,11 @@ const STORE_FAULT: &str = "the tables can't be made in the file: it has some of 
     or can't be written; nothing was answered\n";
 
 const RESERVED: &str =
-    "with --manage the job SMSMGMT is the day's own: no line may be of it, or purge it\n";
+    "this line is of the job SMSMGMT or purges it, and with --manage that job is \
+    the day's own; nothing was answered\n";
+
+// The most bytes of a script that are read again for a sentence.
+const MOST_BYTES: usize = 16_777_216;
 
 const NO_MEMORY: &str = "memory is wanting; no answer was written\n";
 
