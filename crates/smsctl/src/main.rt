@@ -51,7 +51,7 @@ fn obey<T: Threads + Wait + Sync>(rt: &HostRuntime, threads: &T, words: &[String
         return database::run(rt, file, words);
     }
     match serve_words(words) {
-        Some(asked) => serving::serve(rt, asked, words),
+        Some(asked) => serving::serve(rt, threads, asked, words),
         None => run(rt, threads, words),
     }
 }

@@ -14,18 +14,25 @@ use std::alloc::{AllocError, Global};
 use std::io::{self, ErrorKind, Write};
 use std::net::{Ipv4Addr, TcpListener};
 use std::process::ExitCode;
+use std::sync::Wait;
+use std::thread::Threads;
 
 // The exit status where the port can't be had.
 const NOT_BOUND: u8 = 9;
 
 /// Serves the desk on the port of 127.0.0.1, as the words ask, and ends the program.
-pub fn serve(rt: &HostRuntime, asked: ServeWords, words: &[String]) -> ExitCode
+pub fn serve<T: Threads + Wait + Sync>(
+    rt: &HostRuntime,
+    threads: &T,
+    asked: ServeWords,
+    words: &[String],
+) -> ExitCode
     requires { (other : Asked) → serving_in (map string_bytes words.now) ≡ Some other → other.workers ≡ asked.workers }
 {
     match TcpListener::bind(rt, (Ipv4Addr::LOCALHOST, asked.port)) {
         Ok(listener) => {
             let _ = eprintln!(rt; "smsctl: listening on 127.0.0.1:{}", asked.port);
-            end(rt, serve_on(rt, &listener, asked.workers, words))
+            end(rt, serve_on(rt, threads, &listener, asked.workers, words))
         }
         Err(error) if error.kind() == ErrorKind::OutOfMemory => end(rt, ServeStatus::NoMemory),
         Err(_) => end_with(rt, NOT_BOUND),
@@ -33,7 +40,13 @@ pub fn serve(rt: &HostRuntime, asked: ServeWords, words: &[String]) -> ExitCode
 }
 
 // Serves the desk to the connections of a listener by so many workers.
-fn serve_on(rt: &HostRuntime, listener: &TcpListener, workers: u8, words: &[String]) -> ServeStatus
+fn serve_on<T: Threads + Wait + Sync>(
+    rt: &HostRuntime,
+    threads: &T,
+    listener: &TcpListener,
+    workers: u8,
+    words: &[String],
+) -> ServeStatus
     requires { (other : Asked) → serving_in (map string_bytes words.now) ≡ Some other → other.workers ≡ workers }
 {
     let Ok(doors) = doors_of(rt.alloc(), listener, usize::from(workers)) else {
@@ -43,7 +56,7 @@ fn serve_on(rt: &HostRuntime, listener: &TcpListener, workers: u8, words: &[Stri
     let keeper = MemKeeper::new(rt.alloc());
     let (status, _core, _doors, _visits) = serve_main(
         rt.alloc(),
-        rt,
+        threads,
         words,
         doors,
         &mut out,
