@@ -68,6 +68,9 @@ fn is_wanted(wanted: &[bool], at: usize) -> bool {
 // What a run over these disks acknowledged, and the disks behind it.
 fn run(alloc: Global, disks: Disks) -> Result<(Vec<bool>, Disks), Fail> {
     let whole = [true; 4];
+    if !disks.may_be_used() {
+        return Ok((vec![in alloc; false; 4]?, disks));
+    }
     match Connection::open_files(alloc, disks, Options::new(7)) {
         Ok(connection) => {
             let mut keeper = SqlKeeper::new(alloc, connection);

@@ -1,4 +1,8 @@
 //! How jobs are numbered.
+ghost use Rattle.std.specs.Prelude.{IfOk, OnOk};
+ghost use Rattle.sms_script.specs.Script.{items_of};
+ghost use Rattle.desk_plan.specs.Numbering.{AreNumbersOf, Renumbers, numbered_jobs, with_job, with_jobs};
+
 use crate::job_numbers::JobNumbers;
 use dsn_mask::Name;
 use sms_script::{Item, Phase};
@@ -9,7 +13,9 @@ const ADMIN: &[u8] = b"SMSADMIN";
 
 impl JobNumbers {
     /// Numbers the jobs of a script but SMSADMIN, in the order in which they first appear.
-    pub fn of(alloc: Global, phases: &[Phase]) -> Result<JobNumbers, AllocError> {
+    pub fn of(alloc: Global, phases: &[Phase]) -> Result<JobNumbers, AllocError>
+        ensures numbered { IfOk result (λ numbers. AreNumbersOf (numbered_jobs (items_of phases.now)) numbers) }
+    {
         let mut numbers = JobNumbers::new(alloc);
         for phase in phases {
             numbers.add_phase(phase.as_slice())?;
@@ -17,7 +23,9 @@ impl JobNumbers {
         Ok(numbers)
     }
 
-    fn add_phase(&mut self, items: &[Item]) -> Result<(), AllocError> {
+    fn add_phase(&mut self, items: &[Item]) -> Result<(), AllocError>
+        ensures added { OnOk result (Renumbers (λ jobs. with_jobs jobs items.now) self.old self.new) }
+    {
         for item in items {
             self.add(&item.request.job)?;
         }
@@ -25,7 +33,9 @@ impl JobNumbers {
     }
 
     // Gives a job the next number, unless it is the administrator's or has one.
-    fn add(&mut self, job: &Name) -> Result<(), AllocError> {
+    fn add(&mut self, job: &Name) -> Result<(), AllocError>
+        ensures added { OnOk result (Renumbers (λ jobs. with_job jobs job.now) self.old self.new) }
+    {
         if job.bytes() == ADMIN || self.numbers.contains_key(job) {
             return Ok(());
         }

@@ -1,8 +1,11 @@
 //! The plan of a phase.
-ghost use Rattle.std.specs.Prelude.{◌≡◌, ◌<◌, ◌≤◌, IfOk, All, length};
+ghost use Rattle.std.specs.Prelude.{◌≡◌, ◌<◌, ◌≤◌, Decides, IfOk, All, bytes_eq, length};
+ghost use Rattle.std.specs.List.{list_all};
 ghost use Rattle.desk_plan.specs.Plan.{plan_of};
+ghost use Rattle.desk_plan.specs.Numbering.{AreOfOneJob};
 
 use crate::job_numbers::JobNumbers;
+use dsn_mask::Name;
 use sms_script::Item;
 use std::alloc::{AllocError, Global};
 
@@ -23,12 +26,18 @@ pub fn plan(
     Ok(plan)
 }
 
-/// Whether all items of a phase are of one job.
-pub fn has_one_job(items: &[Item]) -> bool {
+/// Whether all items of a phase are of one job, as those of an empty phase are.
+pub fn has_one_job(items: &[Item]) -> bool
+    ensures one { Decides result (AreOfOneJob items.now) }
+{
     match items {
-        [first, rest @ ..] => rest
-            .iter()
-            .all(|item| item.request.job == first.request.job),
+        [first, rest @ ..] => are_of(rest, &first.request.job),
         [] => true,
     }
+}
+
+fn are_of(items: &[Item], job: &Name) -> bool
+    ensures { result ≡ list_all (λ item. bytes_eq item.request.job job.now) items.now }
+{
+    items.iter().all(|item| item.request.job == *job)
 }
