@@ -100,6 +100,7 @@ all-first job (item ∷ items) all =
 
 pub one-job : (items : List Item) (first : Item) → 1 ≤ length items → first ≡ get_or items 0 first → Decides (list_all (λ (item : Item). bytes_eq item.request.job first.request.job) (drop 1 items)) (AreOfOneJob items)
 one-job [] first some here = absurd (omega (arith, some))
-one-job (item ∷ items) first some here =
-    (λ all. (first.request.job, (ap (λ (i : Item). i.request.job) (sym here), of-first first.request.job items all)),
-    λ one. all-first first.request.job items (subst (λ job. AllByRecursion (λ (i : Item). i.request.job ≡ job) items) (sym (ap (λ (i : Item). i.request.job) here ∙ one.1.0)) one.1.1))
+one-job (item ∷ items) first some here = (
+  λ all. (first.request.job, (ap (λ (i : Item). i.request.job) (sym here), of-first first.request.job items all)),
+  λ one. all-first first.request.job items (subst (λ job. AllByRecursion (λ (i : Item). i.request.job ≡ job) items) (sym (ap (λ (i : Item). i.request.job) here ∙ one.1.0)) one.1.1),
+)
