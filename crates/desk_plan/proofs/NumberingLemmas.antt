@@ -1,9 +1,9 @@
 -- Jobs that get numbers, one after another.
-use Rattle.std.proofs.Common.{◌≡◌, inl, inr, ℕ, ◌+◌, ◌<◌, ◌≤◌, ◌||◌, Bool, true, false, List, [], ◌∷◌, ◌++◌, length, length-append, drop, get_or, if◌then◌else◌, refl, sym, ap, subst, ◌∙◌, arith, Decides, bytes_eq, position}
+use Rattle.std.proofs.Common.{◌≡◌, inl, inr, ℕ, ◌+◌, ◌≤◌, Bool, true, false, List, [], ◌∷◌, ◌++◌, length, length-append, drop, get_or, if◌then◌else◌, refl, sym, ap, subst, ◌∙◌, arith, Decides, bytes_eq, position}
 use Rattle.std.proofs.lemmas.Bool.{cases_Bool}
 use Rattle.std.proofs.lemmas.Slice.Eq.{bytes_eq-Decides}
 use Rattle.std.proofs.lemmas.Iterator.Adapters.{position_from-zero}
-use Rattle.std.specs.Prelude.{Option, Some, None, is_some, Result, Ok, Err, IsOk, OnOk}
+use Rattle.std.specs.Prelude.{Some, None, is_some, Result, Ok, Err, IsOk, OnOk}
 use Rattle.std.specs.List.{list_any, list_all, position_from, AllByRecursion}
 use Rattle.sms_script.specs.Commands.{is_admin}
 use Rattle.sms_script.specs.declared.item.Item.{Item}
@@ -100,6 +100,7 @@ all-first job (item ∷ items) all =
 
 pub one-job : (items : List Item) (first : Item) → 1 ≤ length items → first ≡ get_or items 0 first → Decides (list_all (λ (item : Item). bytes_eq item.request.job first.request.job) (drop 1 items)) (AreOfOneJob items)
 one-job [] first some here = absurd (omega (arith, some))
-one-job (item ∷ items) first some here =
-    (λ all. (first.request.job, (ap (λ (i : Item). i.request.job) (sym here), of-first first.request.job items all)),
-    λ one. all-first first.request.job items (subst (λ job. AllByRecursion (λ (i : Item). i.request.job ≡ job) items) (sym (ap (λ (i : Item). i.request.job) here ∙ one.1.0)) one.1.1))
+one-job (item ∷ items) first some here = (
+  λ all. (first.request.job, (ap (λ (i : Item). i.request.job) (sym here), of-first first.request.job items all)),
+  λ one. all-first first.request.job items (subst (λ job. AllByRecursion (λ (i : Item). i.request.job ≡ job) items) (sym (ap (λ (i : Item). i.request.job) here ∙ one.1.0)) one.1.1),
+)

@@ -1,4 +1,4 @@
-use Rattle.std.proofs.Common.{◌≡◌, sym, ap, ◌∙◌, false, ℕ, ◌+◌, List, length, bytes_eq, if◌then◌else◌, arith, rules}
+use Rattle.std.proofs.Common.{◌≡◌, sym, ap, ◌∙◌, false, ℕ, ◌+◌, List, length, bytes_eq, if◌then◌else◌, arith}
 use Rattle.std.specs.Prelude.{Some, is_some}
 use Rattle.sms_script.specs.Commands.{is_admin}
 use Rattle.desk_plan.specs.Plan.{number_in}
@@ -30,6 +30,6 @@ returns c =
     let longer : length c.insert.new.self.entries ≡ length c.args.self.now + 1 = grown ∙ ap (λ b. length c.reserve.new.self.entries + (if b then 0 else 1)) none ∙ ap (λ n. n + 1) (moved.1 ∙ ap length c.self.view_is) in
     let number : c.len-number.result ≡ length c.args.self.now = c.len-number.ensures.len ∙ ap length c.self.view_is in
     let put : (q : List ℕ) → number_in c.insert.new.self.entries q ≡ (if bytes_eq job q then Some (length c.args.self.now) else number_in c.args.self.now q) =
-        λ q. (of-ok c.insert.result made c.insert.ensures.updates).0 q ∙ ap (λ n. if bytes_eq job q then Some n else number_in c.reserve.new.self.entries q) number
-        ∙ ap (λ o. if bytes_eq job q then Some (length c.args.self.now) else o) (same q) in
+    λ q. (of-ok c.insert.result made c.insert.ensures.updates).0 q ∙ ap (λ n. if bytes_eq job q then Some n else number_in c.reserve.new.self.entries q) number
+    ∙ ap (λ o. if bytes_eq job q then Some (length c.args.self.now) else o) (same q) in
     record { added = λ jobs are. one-more jobs c.args.self.now c.insert.new.self.entries job are other new put longer }
