@@ -1,9 +1,9 @@
 -- Jobs that get numbers, one after another.
-use Rattle.std.proofs.Common.{◌≡◌, inl, inr, ℕ, ◌+◌, ◌<◌, ◌≤◌, ◌||◌, Bool, true, false, List, [], ◌∷◌, ◌++◌, length, length-append, drop, get_or, if◌then◌else◌, refl, sym, ap, subst, ◌∙◌, arith, Decides, bytes_eq, position}
+use Rattle.std.proofs.Common.{◌≡◌, inl, inr, ℕ, ◌+◌, ◌≤◌, Bool, true, false, List, [], ◌∷◌, ◌++◌, length, length-append, drop, get_or, if◌then◌else◌, refl, sym, ap, subst, ◌∙◌, arith, Decides, bytes_eq, position}
 use Rattle.std.proofs.lemmas.Bool.{cases_Bool}
 use Rattle.std.proofs.lemmas.Slice.Eq.{bytes_eq-Decides}
 use Rattle.std.proofs.lemmas.Iterator.Adapters.{position_from-zero}
-use Rattle.std.specs.Prelude.{Option, Some, None, is_some, Result, Ok, Err, IsOk, OnOk}
+use Rattle.std.specs.Prelude.{Some, None, is_some, Result, Ok, Err, IsOk, OnOk}
 use Rattle.std.specs.List.{list_any, list_all, position_from, AllByRecursion}
 use Rattle.sms_script.specs.Commands.{is_admin}
 use Rattle.sms_script.specs.declared.item.Item.{Item}

@@ -23,6 +23,7 @@ impl JobNumbers {
         Ok(numbers)
     }
 
+    // Numbers the jobs of one more phase behind those before it.
     fn add_phase(&mut self, items: &[Item]) -> Result<(), AllocError>
         ensures added { OnOk result (Renumbers (λ jobs. with_jobs jobs items.now) self.old self.new) }
     {

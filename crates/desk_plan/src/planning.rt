@@ -36,6 +36,7 @@ pub fn has_one_job(items: &[Item]) -> bool
     }
 }
 
+// Whether all items are of this job.
 fn are_of(items: &[Item], job: &Name) -> bool
     ensures { result ≡ list_all (λ item. bytes_eq item.request.job job.now) items.now }
 {

@@ -1,4 +1,4 @@
-use Rattle.std.proofs.Common.{◌≡◌, sym, ap, ◌∙◌, false, ℕ, ◌+◌, List, length, bytes_eq, if◌then◌else◌, arith, rules}
+use Rattle.std.proofs.Common.{◌≡◌, sym, ap, ◌∙◌, false, ℕ, ◌+◌, List, length, bytes_eq, if◌then◌else◌, arith}
 use Rattle.std.specs.Prelude.{Some, is_some}
 use Rattle.sms_script.specs.Commands.{is_admin}
 use Rattle.desk_plan.specs.Plan.{number_in}
