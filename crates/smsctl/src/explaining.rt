@@ -108,7 +108,7 @@ const RUN: &str = "run takes --workers N, 1 to 16, and --volumes, in this order:
 const GEN: &str = "gen takes SEED, 0 to 4294967295, and COUNT, 1 to 40000: smsctl gen SEED COUNT\n";
 
 const SERVE: &str = "serve takes a port, 1 to 65535, and a number of connections, 1 to 1000000: \
-    smsctl serve PORT CONNECTIONS\n";
+    smsctl serve PORT CONNECTIONS [--workers N], N from 1 to 16, each of whom takes so many\n";
 
 fn first_word(words: &[String]) -> &str {
     match words.first() {
