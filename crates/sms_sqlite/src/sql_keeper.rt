@@ -1,5 +1,5 @@
 //! A keeper over a database.
-ghost use Rattle.std.specs.Prelude.{◌≡◌, ◌≤◌, IfSome, IsErrOf, OnErr, OnOk, Some};
+ghost use Rattle.std.specs.Prelude.{◌≡◌, ◌≤◌, IfSome, IsErrOf, OnErr, OnOk, Some, false};
 ghost use Rattle.desk_common.specs.Causes.{Rose, counted};
 ghost use Rattle.sqlite.specs.Held.{state};
 ghost use Rattle.sqlite.specs.State.{HasCleanDisk, Survives};
@@ -75,6 +75,7 @@ impl<S: Alter + Drop> SqlKeeper<S> {
         ensures unchanged { MayUndo (state S.Store self.old.connection) (state S.Store self.new.connection) result }
         ensures settled { MaySettle (state S.Store self.new.connection) result }
         ensures made { MayCommit (λ rows. with_change rows change.now) (state S.Store self.old.connection) (state S.Store self.new.connection) result }
+        ensures ended { (state S.Store self.old.connection).in_transaction ≡ false → (state S.Store self.new.connection).in_transaction ≡ false }
         ensures crash { Survives (state S.Store self.old.connection) (state S.Store self.new.connection) (λ db. (rows : Rows) → tables_of (state S.Store self.old.connection).now ≡ Some rows → HasRows db (with_change rows change.now)) }
         ensures alone { OnOk result (IfSome (told_by S.Store self.new) (λ rows. (db : Trees) → (state S.Store self.new.connection).may_leave db → HasRows db rows)) }
     {
@@ -89,6 +90,7 @@ impl<S: Alter + Drop> SqlKeeper<S> {
         ensures unchanged { MayUndo (state S.Store self.old.connection) (state S.Store self.new.connection) result }
         ensures settled { MaySettle (state S.Store self.new.connection) result }
         ensures made { HasCleanDisk (state S.Store self.new.connection) → OnOk result (HasMade (state S.Store self.old.connection).now (state S.Store self.new.connection).now) }
+        ensures ended { (state S.Store self.old.connection).in_transaction ≡ false → (state S.Store self.new.connection).in_transaction ≡ false }
         ensures crash { Survives (state S.Store self.old.connection) (state S.Store self.new.connection) (λ db. (rows : Rows) → tables_of (state S.Store self.old.connection).now ≡ Some rows → HasRows db rows) }
     {
         write_tables(&mut self.connection)
@@ -131,6 +133,7 @@ impl<S: Alter + Drop> Keeper for SqlKeeper<S> {
         ensures unchanged { MayUndo (state S.Store self.old.connection) (state S.Store self.new.connection) result }
         ensures settled { MaySettle (state S.Store self.new.connection) result }
         ensures made { MayCommit (λ rows. with_change rows change.now) (state S.Store self.old.connection) (state S.Store self.new.connection) result }
+        ensures ended { (state S.Store self.old.connection).in_transaction ≡ false → (state S.Store self.new.connection).in_transaction ≡ false }
         ensures crash { Survives (state S.Store self.old.connection) (state S.Store self.new.connection) (λ db. (rows : Rows) → tables_of (state S.Store self.old.connection).now ≡ Some rows → HasRows db (with_change rows change.now)) }
         ensures alone { OnOk result (IfSome (told_by S.Store self.new) (λ rows. (db : Trees) → (state S.Store self.new.connection).may_leave db → HasRows db rows)) }
     {
@@ -156,6 +159,7 @@ impl<S: Alter + Drop> Stored for SqlKeeper<S> {
         ensures unchanged { MayUndo (state S.Store self.old.connection) (state S.Store self.new.connection) result }
         ensures settled { MaySettle (state S.Store self.new.connection) result }
         ensures made { HasCleanDisk (state S.Store self.new.connection) → OnOk result (HasMade (state S.Store self.old.connection).now (state S.Store self.new.connection).now) }
+        ensures ended { (state S.Store self.old.connection).in_transaction ≡ false → (state S.Store self.new.connection).in_transaction ≡ false }
         ensures crash { Survives (state S.Store self.old.connection) (state S.Store self.new.connection) (λ db. (rows : Rows) → tables_of (state S.Store self.old.connection).now ≡ Some rows → HasRows db rows) }
     {
         match self.make() {

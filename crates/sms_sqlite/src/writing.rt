@@ -1,5 +1,5 @@
 // Transactions: a change, and the making of the tables.
-ghost use Rattle.std.specs.Prelude.{◌≡◌, IsTrue, OnErr, OnOk, Some};
+ghost use Rattle.std.specs.Prelude.{◌≡◌, IsTrue, OnErr, OnOk, Some, false};
 ghost use Rattle.sqlite.specs.Held.{state};
 ghost use Rattle.sqlite.specs.State.{HasCleanDisk, Survives};
 ghost use Rattle.sms_keeper.specs.Suits.{Suits};
@@ -29,6 +29,7 @@ fn write_inside<S: Alter>(
     ensures open { HasCleanDisk (state S.Store connection.new) → OnOk result (IsTrue (state S.Store connection.new).is_open) }
     ensures committed { HasCleanDisk (state S.Store connection.new) → OnOk result ((state S.Store connection.new).committed ≡ (state S.Store connection.new).now) }
     ensures was_open { HasCleanDisk (state S.Store connection.new) → IsTrue (state S.Store connection.new).is_open → IsTrue (state S.Store connection.old).is_open }
+    ensures ended { (state S.Store connection.old).in_transaction ≡ false → (state S.Store connection.new).in_transaction ≡ false }
     ensures crash { Survives (state S.Store connection.old) (state S.Store connection.new) (λ db. (rows : Rows) → Holds (state S.Store connection.old).now rows → HasRows db (with_change rows change.now)) }
 {
     if !connection.is_autocommit() {
@@ -53,6 +54,7 @@ pub fn write_change<S: Alter>(
     ensures open { HasCleanDisk (state S.Store connection.new) → OnOk result (IsTrue (state S.Store connection.new).is_open) }
     ensures committed { HasCleanDisk (state S.Store connection.new) → OnOk result ((state S.Store connection.new).committed ≡ (state S.Store connection.new).now) }
     ensures was_open { HasCleanDisk (state S.Store connection.new) → IsTrue (state S.Store connection.new).is_open → IsTrue (state S.Store connection.old).is_open }
+    ensures ended { (state S.Store connection.old).in_transaction ≡ false → (state S.Store connection.new).in_transaction ≡ false }
     ensures crash { Survives (state S.Store connection.old) (state S.Store connection.new) (λ db. (rows : Rows) → tables_of (state S.Store connection.old).now ≡ Some rows → HasRows db (with_change rows change.now)) }
 {
     if connection.schema().tables.is_empty() {
@@ -70,6 +72,7 @@ pub fn write_tables<S: Alter>(connection: &mut Connection<S>) -> Result<(), Erro
     ensures open { HasCleanDisk (state S.Store connection.new) → OnOk result (IsTrue (state S.Store connection.new).is_open) }
     ensures committed { HasCleanDisk (state S.Store connection.new) → OnOk result ((state S.Store connection.new).committed ≡ (state S.Store connection.new).now) }
     ensures was_open { HasCleanDisk (state S.Store connection.new) → IsTrue (state S.Store connection.new).is_open → IsTrue (state S.Store connection.old).is_open }
+    ensures ended { (state S.Store connection.old).in_transaction ≡ false → (state S.Store connection.new).in_transaction ≡ false }
     ensures crash { Survives (state S.Store connection.old) (state S.Store connection.new) (λ db. (rows : Rows) → tables_of (state S.Store connection.old).now ≡ Some rows → HasRows db rows) }
 {
     if !connection.is_autocommit() {
