@@ -1,4 +1,7 @@
 //! Runs of the top call over a database.
+ghost use Rattle.std.specs.Prelude.{IfSome};
+ghost use Rattle.sms_keeper.specs.Tables.{AreSame, no_rows};
+
 use crate::tables::counts;
 use db_calls::{DbStatus, database_asked, db_main};
 use desk_calls::RunStatus;
@@ -92,7 +95,9 @@ fn ends<P: Stored>(
     alloc: Global,
     list: &[&str],
     keeper: P,
-) -> Result<(DbStatus, usize, usize, u64), Fail> {
+) -> Result<(DbStatus, usize, usize, u64), Fail>
+    requires tables { IfSome (P.told keeper) (λ rows. AreSame rows no_rows) }
+{
     let words = words(alloc, list)?;
     let mut src = script(alloc, ALLOC)?;
     let mut out = sink(alloc)?;
