@@ -99,9 +99,10 @@ pub record WereServed {C : Type 0} (seen : C → Observed) (most : ℕ) (old new
   pub served : AreServed seen most old new visits ends
   pub is_end : IsServeEnd ends before after (served_text visits entries) status
 
--- memory was wanting before any door was asked for a link
-pub record WereUnasked {D : Type 0} (old new : List D) (visits : List (List Visit)) (status : ServeStatus)
-    : Type 0 where
+-- memory was wanting before any door was asked for a link; the keeper was not touched
+pub record WereUnasked {D P : Type 0} (old new : List D) (before after : P) (visits : List (List Visit))
+    (status : ServeStatus) : Type 0 where
   pub doors : new ≡ old
+  pub keeper : after ≡ before
   pub none : visits ≡ []
   pub wanting : status ≡ NoMemory

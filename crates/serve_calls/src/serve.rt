@@ -53,6 +53,7 @@ where
         → length doors.items ≡ asked.workers }
     ensures words { result.0 ≡ ServeStatus.BadWords ↔ (serving_in (map string_bytes words.now) ≡ None) }
     ensures unserved { result.0 ≡ ServeStatus.BadWords → (result.2.items ≡ doors.items) × (result.3 ≡ []) }
+    ensures unrun { result.0 ≡ ServeStatus.BadWords → result.1.keeper ≡ keeper }
     ensures unwritten { leaves_sink result.0 ≡ true → out.new ≡ out.old }
     ensures opening { result.1.opening ≡ empty_opening }
     ensures history { WasHeard
@@ -60,7 +61,7 @@ where
         (record { told = P.told result.1.keeper; count = P.count result.1.keeper })
         result.3 result.1.journal }
     ensures ends { (asked : Asked) → serving_in (map string_bytes words.now) ≡ Some asked →
-        WereUnasked doors.items result.2.items result.3 result.0
+        WereUnasked doors.items result.2.items keeper result.1.keeper result.3 result.0
         ⊎ WereServed
         (λ link. record {
           left = A.Conn.left link;
@@ -129,7 +130,7 @@ where
         (record { told = P.told keeper; count = P.count keeper })
         (record { told = P.told result.1.keeper; count = P.count result.1.keeper })
         result.3 result.1.journal }
-    ensures ends { WereUnasked doors.items result.2.items result.3 result.0
+    ensures ends { WereUnasked doors.items result.2.items keeper result.1.keeper result.3 result.0
         ⊎ WereServed
         (λ link. record {
           left = A.Conn.left link;
@@ -183,6 +184,7 @@ fn new_core<P: Keeper>(alloc: Global, keeper: P) -> Core<P>
         [] result.journal }
     ensures opening { result.opening ≡ empty_opening }
     ensures journal { result.journal ≡ [] }
+    ensures keeper { result.keeper ≡ keeper }
     ensures mark { result.mark ≡ P.count keeper }
 {
     // Facts for the proof; nothing runs.
@@ -242,7 +244,7 @@ where
         (record { told = P.told keeper; count = P.count keeper })
         (record { told = P.told result.1.keeper; count = P.count result.1.keeper })
         [] result.1.journal) }
-    ensures unasked { OnErr result.0 (doors.new ≡ doors.old) }
+    ensures unasked { OnErr result.0 ((doors.new ≡ doors.old) × (result.1.keeper ≡ keeper)) }
 {
     // Facts for the proof; nothing runs.
     legal_is_lawful();

@@ -4,6 +4,7 @@ ghost use Rattle.sms_base.specs.Links.{IsUntouched};
 ghost use Rattle.sms_keeper.specs.Tables.{AreSame, no_rows, rows_after};
 
 use crate::failing_door::FailingDoor;
+use crate::meeting_door::{Meeting, MeetingDoor};
 use desk_words::serve_words;
 use serve_calls::{ServeStatus, serve_main};
 use sms_base::{Accept, MemAccept, MemLink, MemSink};
@@ -353,11 +354,11 @@ fn four_workers_share_one_journal(rt: HostRuntime) -> Result<(), Fail> {
         b"\"place\":3}",
         b"\"place\":4}",
     ] {
-        let mut count = 0;
+        let mut count: usize = 0;
         for door in &doors {
             for link in door.back() {
                 if link.taken().ends_with(place) {
-                    count += 1;
+                    count = count.saturating_add(1);
                 }
             }
         }
@@ -384,5 +385,25 @@ fn a_door_that_fails_stops_no_other_worker(rt: HostRuntime) -> Result<(), Fail> 
     let (served, _doors) = serve_all(&rt, alloc, "3", "2", doors, &[])?;
     assert!(rt; served.status == ServeStatus::AcceptFault);
     assert!(rt; served.text.as_slice() == b"CONN 2 1 CUT\nEND 1 1\n".as_slice());
+    Ok(())
+}
+
+#[test]
+fn two_doors_are_served_at_once(rt: HostRuntime) -> Result<(), Fail> {
+    let alloc = rt.alloc();
+    let meeting = Meeting::new();
+    let mut doors = Vec::new(alloc);
+    for _ in 0..2 {
+        let door = MeetingDoor {
+            door: door_of(alloc, link(alloc, CUT_BEHIND, 4096, &[], &[])?)?,
+            meeting: &meeting,
+        };
+        if doors.push(door).is_err() {
+            return Err(Fail::from("room"));
+        }
+    }
+    let (served, _doors) = serve_all(&rt, alloc, "1", "2", doors, &[])?;
+    assert!(rt; served.status == ServeStatus::Done);
+    assert!(rt; meeting.counts() == [2, 0]);
     Ok(())
 }
