@@ -4,7 +4,8 @@ ghost use Rattle.sms_base.specs.Links.{IsUntouched};
 ghost use Rattle.sms_keeper.specs.Tables.{AreSame, no_rows, rows_after};
 
 use crate::failing_door::FailingDoor;
-use crate::meeting_door::{Meeting, MeetingDoor};
+use crate::meeting::Meeting;
+use crate::meeting_door::MeetingDoor;
 use desk_words::serve_words;
 use serve_calls::{ServeStatus, serve_main};
 use sms_base::{Accept, MemAccept, MemLink, MemSink};
@@ -354,11 +355,11 @@ fn four_workers_share_one_journal(rt: HostRuntime) -> Result<(), Fail> {
         b"\"place\":3}",
         b"\"place\":4}",
     ] {
-        let mut count = 0;
+        let mut count: usize = 0;
         for door in &doors {
             for link in door.back() {
                 if link.taken().ends_with(place) {
-                    count += 1;
+                    count = count.saturating_add(1);
                 }
             }
         }
