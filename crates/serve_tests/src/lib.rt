@@ -4,6 +4,8 @@
 #[cfg(test)]
 mod failing_door;
 #[cfg(test)]
+mod meeting;
+#[cfg(test)]
 mod meeting_door;
 #[cfg(test)]
 mod served;

@@ -4,7 +4,8 @@ ghost use Rattle.sms_base.specs.Links.{IsUntouched};
 ghost use Rattle.sms_keeper.specs.Tables.{AreSame, no_rows, rows_after};
 
 use crate::failing_door::FailingDoor;
-use crate::meeting_door::{Meeting, MeetingDoor};
+use crate::meeting::Meeting;
+use crate::meeting_door::MeetingDoor;
 use desk_words::serve_words;
 use serve_calls::{ServeStatus, serve_main};
 use sms_base::{Accept, MemAccept, MemLink, MemSink};
