@@ -74,9 +74,11 @@ fn doors_of<'a>(
 ) -> Result<Vec<TcpAccept<'a, TcpListener>>, AllocError>
     ensures { IfOk result (λ doors. length doors.items ≡ count) }
 {
-    let mut doors = Vec::with_capacity(alloc, count)?;
+    let mut doors = Vec::new(alloc);
     for _ in 0..count {
-        doors.push_reserved(TcpAccept::new(listener));
+        if doors.push(TcpAccept::new(listener)).is_err() {
+            return Err(AllocError);
+        }
     }
     Ok(doors)
 }
