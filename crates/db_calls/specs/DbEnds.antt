@@ -3,6 +3,7 @@ use Rattle.std.specs.Prelude.{◌≡◌, ◌⊎◌, ℕ, Bool, true, false}
 use Rattle.desk_common.specs.Causes.{Rose}
 use Rattle.sms_base.specs.Observed.{Observed}
 use Rattle.sms_keeper.specs.Told.{Stays}
+use Rattle.desk_law.specs.Records.{empty_opening}
 use Rattle.desk_calls.specs.ExitStatus.{exit_status_of}
 use Rattle.desk_calls.specs.Headline.{Keeping}
 use Rattle.desk_calls.specs.RunFault.{RunEnds, leaves_keeper, leaves_sink}
@@ -26,7 +27,7 @@ pub record WasReadied (old new : Observed) (before after : Keeping) (status : Ru
   pub mid : Keeping
   pub tables : Stays before.told mid.told
   pub count : mid.count ≡ before.count
-  pub ends : RunEnds false 1 old new mid after status
+  pub ends : RunEnds empty_opening false 1 old new mid after status
   -- where nothing was run, the keeper is as it was made ready
   pub unrun : leaves_keeper status ≡ true → after ≡ mid
 

@@ -11,6 +11,7 @@ use crate::status::DbStatus;
 use crate::words::database_asked;
 use desk_calls::{RunStatus, run_source};
 use sms_base::{Sink, Source};
+use sms_core::Core;
 use sms_keeper::{KeeperErr, Stored};
 use std::alloc::Global;
 
@@ -41,7 +42,8 @@ pub fn db_main<S: Source, K: Sink, P: Stored>(
     }
     match keeper.ready() {
         Ok(()) => {
-            let (status, keeper) = run_source(alloc, false, src, out, keeper);
+            let core = Core::new(alloc, keeper);
+            let (status, keeper) = run_source(alloc, false, src, out, core);
             (DbStatus::Ran(status), keeper)
         }
         Err(KeeperErr::Failed) => (DbStatus::StoreFault, keeper),

@@ -1,3 +1,2 @@
-mod HistoryLemmas
 mod RunLemmas
 pub mod OrderLemmas

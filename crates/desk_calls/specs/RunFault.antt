@@ -3,6 +3,8 @@ use Rattle.std.specs.Prelude.{◌≡◌, ◌⊎◌, Bool, true, false, List, ℕ
 use Rattle.std.specs.Io.KnownBytes.{Appends}
 use Rattle.desk_common.specs.Causes.{Rose}
 use Rattle.desk_common.specs.Fronts.{IsProperPrefix}
+use Rattle.desk_law.specs.Records.{empty_opening}
+use Rattle.desk_law.specs.State.{Opening}
 use Rattle.sms_base.specs.Observed.{Observed, IsUnwritten, WasRead, WasAnswered, HasReadFault, HasWriteFault, IsTooLong, IsOutOfMemory}
 use Rattle.sms_script.specs.declared.script_err.ScriptErr.{ScriptErr}
 use Rattle.sms_script.specs.Script.{script_of}
@@ -24,15 +26,15 @@ pub record IsFaulty (old new : Observed) (err : ScriptErr) : Type 0 where
   pub unwritten : IsUnwritten old new
 
 -- the script that was read was begun by so many workers
-pub record WasReadAndBegun (workers : ℕ) (old new : Observed) (before after : Keeping) : Type 0 where
+pub record WasReadAndBegun (o : Opening) (workers : ℕ) (old new : Observed) (before after : Keeping) : Type 0 where
   pub bytes : List ℕ
   pub read : WasRead most_bytes old new bytes
-  pub begun : WasBegun workers before after bytes
+  pub begun : WasBegun o workers before after bytes
 
 -- memory was wanting; the keeper is as it was, or the script was begun
-pub record IsWanting (workers : ℕ) (old new : Observed) (before after : Keeping) : Type 0 where
+pub record IsWanting (o : Opening) (workers : ℕ) (old new : Observed) (before after : Keeping) : Type 0 where
   pub wanting : IsOutOfMemory most_bytes old new
-  pub kept : (after ≡ before) ⊎ WasReadAndBegun workers old new before after
+  pub kept : (after ≡ before) ⊎ WasReadAndBegun o workers old new before after
 
 -- the statuses with which nothing is written
 abbrev pub leaves_sink : RunStatus → Bool
@@ -54,15 +56,15 @@ leaves_keeper (Script err) = true
 leaves_keeper TooLong = true
 leaves_keeper NoMemory = false
 
--- what each status of a run says of what was observed before and after, and of the keeper
-abbrev pub RunEnds : Bool → ℕ → Observed → Observed → Keeping → Keeping → RunStatus → Type 0
-RunEnds volumes workers old new before after Done = WasAnswered most_bytes (IsAnswered volumes workers before after) old new
-RunEnds volumes workers old new before after BadWords = ⊥
-RunEnds volumes workers old new before after ReadFault = HasReadFault most_bytes old new
-RunEnds volumes workers old new before after WriteFault = HasWriteFault most_bytes (IsAnswered volumes workers before after) old new
-RunEnds volumes workers old new before after (Script err) = IsFaulty old new err
-RunEnds volumes workers old new before after TooLong = IsTooLong most_bytes old new
-RunEnds volumes workers old new before after NoMemory = IsWanting workers old new before after
+-- what each status of a run behind an opening says of what was observed before and after, and of the keeper
+abbrev pub RunEnds : Opening → Bool → ℕ → Observed → Observed → Keeping → Keeping → RunStatus → Type 0
+RunEnds o volumes workers old new before after Done = WasAnswered most_bytes (IsAnswered o volumes workers before after) old new
+RunEnds o volumes workers old new before after BadWords = ⊥
+RunEnds o volumes workers old new before after ReadFault = HasReadFault most_bytes old new
+RunEnds o volumes workers old new before after WriteFault = HasWriteFault most_bytes (IsAnswered o volumes workers before after) old new
+RunEnds o volumes workers old new before after (Script err) = IsFaulty old new err
+RunEnds o volumes workers old new before after TooLong = IsTooLong most_bytes old new
+RunEnds o volumes workers old new before after NoMemory = IsWanting o workers old new before after
 
 -- the sink took the whole summary
 pub record WasSummed (seed count : ℕ) (old new : Observed) (before after : Keeping) : Type 0 where
@@ -90,7 +92,7 @@ LoadEnds seed count old new before after (Script err) = ⊥
 LoadEnds seed count old new before after TooLong = ⊥
 LoadEnds seed count old new before after NoMemory = IsLoadLeft seed count before after
 
--- what each status of a task says
+-- what each status of a task on a new desk says
 abbrev pub Ends : Task → Observed → Observed → Keeping → Keeping → RunStatus → Type 0
-Ends (tasks.Run volumes workers) old new before after status = RunEnds volumes workers old new before after status
+Ends (tasks.Run volumes workers) old new before after status = RunEnds empty_opening volumes workers old new before after status
 Ends (tasks.Generate seed count) old new before after status = LoadEnds seed count old new before after status

@@ -1,5 +1,5 @@
 //! The top call of the desk.
-ghost use Rattle.std.specs.Prelude.{◌≡◌, ◌≤◌, ◌↔◌, ℕ, None, Some, true, map, string_bytes, IfSome};
+ghost use Rattle.std.specs.Prelude.{◌≡◌, ◌≤◌, ◌↔◌, ℕ, None, Some, [], true, map, string_bytes, IfSome};
 ghost use Rattle.sms_base.specs.Observed.{Observed};
 ghost use Rattle.sms_keeper.specs.Tables.{AreSame, no_rows};
 ghost use Rattle.desk_words.specs.Words.{task_in};
@@ -13,6 +13,7 @@ use crate::load::load_text;
 use crate::status::RunStatus;
 use desk_words::{Task, task_asked};
 use sms_base::{ReadEnd, Sink, Source, read_all, write_all};
+use sms_core::Core;
 use sms_desk::Gate;
 use sms_keeper::Keeper;
 use sms_script::ScriptErr;
@@ -52,41 +53,43 @@ pub fn desk_main<S: Source, K: Sink, P: Keeper + Send, R: Threads + Wait + Sync,
     match task_asked(words) {
         None => (RunStatus::BadWords, keeper),
         Some(Task::Run { volumes, workers }) if workers == 1 => {
-            run_source(alloc, volumes, src, out, keeper)
+            run_source(alloc, volumes, src, out, Core::new(alloc, keeper))
         }
         Some(Task::Run { volumes, workers }) => {
-            run_shared(alloc, rt, volumes, workers, src, out, keeper, gate)
+            let core = Core::new(alloc, keeper);
+            run_shared(alloc, rt, volumes, workers, src, out, core, gate)
         }
         Some(Task::Generate { seed, count }) => load(alloc, seed, count, src, out, keeper),
     }
 }
 
-/// Reads a script from the source to its end, answers it by one worker on an empty desk over the keeper, and writes the
-/// text of the answers to the sink; with `volumes` the table of volumes stands behind it.
+/// Reads a script from the source to its end, answers it by one worker on a desk without entries, and writes the
+/// text of the answers to the sink, with `volumes` with the table of volumes behind it. It hands the keeper back.
 pub fn run_source<S: Source, K: Sink, P: Keeper>(
     alloc: Global,
     volumes: bool,
     src: &mut S,
     out: &mut K,
-    keeper: P,
+    core: Core<P>,
 ) -> (RunStatus, P)
-    requires tables { IfSome (P.told keeper) (λ rows. AreSame rows no_rows) }
+    requires journal { core.journal ≡ [] }
+    requires mark { core.mark ≡ P.count core.keeper }
     ensures words { result.0 ≡ RunStatus.BadWords → ⊥ }
     ensures unwritten { leaves_sink result.0 ≡ true → out.new ≡ out.old }
-    ensures unrun { leaves_keeper result.0 ≡ true → result.1 ≡ keeper }
-    ensures ends { RunEnds volumes 1
+    ensures unrun { leaves_keeper result.0 ≡ true → result.1 ≡ core.keeper }
+    ensures ends { RunEnds core.opening volumes 1
         (record { left = S.left src.old; reads = S.reads src.old; read_faults = S.read_faults src.old; taken = K.taken out.old; write_faults = K.write_faults out.old })
         (record { left = S.left src.new; reads = S.reads src.new; read_faults = S.read_faults src.new; taken = K.taken out.new; write_faults = K.write_faults out.new })
-        (record { told = P.told keeper; count = P.count keeper }) (record { told = P.told result.1; count = P.count result.1 })
+        (record { told = P.told core.keeper; count = P.count core.keeper }) (record { told = P.told result.1; count = P.count result.1 })
         result.0 }
 {
     let bytes = match read_all(alloc, src, MAX_SCRIPT) {
         Ok(bytes) => bytes,
-        Err(ReadEnd::Failed) => return (RunStatus::ReadFault, keeper),
-        Err(ReadEnd::TooLong) => return (RunStatus::TooLong, keeper),
-        Err(ReadEnd::NoMemory) => return (RunStatus::NoMemory, keeper),
+        Err(ReadEnd::Failed) => return (RunStatus::ReadFault, core.into_parts().0),
+        Err(ReadEnd::TooLong) => return (RunStatus::TooLong, core.into_parts().0),
+        Err(ReadEnd::NoMemory) => return (RunStatus::NoMemory, core.into_parts().0),
     };
-    let (text, keeper) = answer_text(alloc, &bytes, volumes, keeper);
+    let (text, keeper) = answer_text(alloc, &bytes, volumes, core);
     let text = match text {
         Ok(text) => text,
         Err(ScriptErr::NoMemory) => return (RunStatus::NoMemory, keeper),
@@ -106,27 +109,28 @@ fn run_shared<S: Source, K: Sink, P: Keeper + Send, R: Threads + Wait + Sync, G:
     workers: u8,
     src: &mut S,
     out: &mut K,
-    keeper: P,
+    core: Core<P>,
     gate: &G,
 ) -> (RunStatus, P)
     requires workers { (2 ≤ workers) × (workers ≤ 16) }
-    requires tables { IfSome (P.told keeper) (λ rows. AreSame rows no_rows) }
+    requires journal { core.journal ≡ [] }
+    requires mark { core.mark ≡ P.count core.keeper }
     ensures words { result.0 ≡ RunStatus.BadWords → ⊥ }
     ensures unwritten { leaves_sink result.0 ≡ true → out.new ≡ out.old }
-    ensures unrun { leaves_keeper result.0 ≡ true → result.1 ≡ keeper }
-    ensures ends { RunEnds volumes workers
+    ensures unrun { leaves_keeper result.0 ≡ true → result.1 ≡ core.keeper }
+    ensures ends { RunEnds core.opening volumes workers
         (record { left = S.left src.old; reads = S.reads src.old; read_faults = S.read_faults src.old; taken = K.taken out.old; write_faults = K.write_faults out.old })
         (record { left = S.left src.new; reads = S.reads src.new; read_faults = S.read_faults src.new; taken = K.taken out.new; write_faults = K.write_faults out.new })
-        (record { told = P.told keeper; count = P.count keeper }) (record { told = P.told result.1; count = P.count result.1 })
+        (record { told = P.told core.keeper; count = P.count core.keeper }) (record { told = P.told result.1; count = P.count result.1 })
         result.0 }
 {
     let bytes = match read_all(alloc, src, MAX_SCRIPT) {
         Ok(bytes) => bytes,
-        Err(ReadEnd::Failed) => return (RunStatus::ReadFault, keeper),
-        Err(ReadEnd::TooLong) => return (RunStatus::TooLong, keeper),
-        Err(ReadEnd::NoMemory) => return (RunStatus::NoMemory, keeper),
+        Err(ReadEnd::Failed) => return (RunStatus::ReadFault, core.into_parts().0),
+        Err(ReadEnd::TooLong) => return (RunStatus::TooLong, core.into_parts().0),
+        Err(ReadEnd::NoMemory) => return (RunStatus::NoMemory, core.into_parts().0),
     };
-    let (text, keeper) = shared_text(alloc, rt, &bytes, volumes, workers, keeper, gate);
+    let (text, keeper) = shared_text(alloc, rt, &bytes, volumes, workers, core, gate);
     let text = match text {
         Ok(text) => text,
         Err(ScriptErr::NoMemory) => return (RunStatus::NoMemory, keeper),

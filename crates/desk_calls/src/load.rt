@@ -4,7 +4,7 @@ ghost use Rattle.sms_keeper.specs.Tables.{AreSame, no_rows};
 ghost use Rattle.desk_law.specs.Records.{empty_opening};
 ghost use Rattle.desk_calls.specs.Headline.{IsLoadLeft, IsSummed, SumsUp};
 
-use crate::script_run::run_new;
+use crate::script_run::run_alone;
 use desk_generator::{generate, summary};
 use sms_construct::Answer;
 use sms_core::Core;
@@ -26,7 +26,7 @@ pub fn load_text<P: Keeper>(
     let Ok(script) = generate(alloc, seed, count) else {
         return (Err(AllocError), keeper);
     };
-    let (answers, core) = run_new(alloc, &script, keeper);
+    let (answers, core) = run_alone(alloc, &script, Core::new(alloc, keeper));
     let Ok(answers) = answers else {
         let (keeper, _journal) = core.into_parts();
         return (Err(AllocError), keeper);

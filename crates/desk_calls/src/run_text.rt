@@ -1,6 +1,5 @@
 // The text of a run.
 ghost use Rattle.std.specs.Prelude.{◌≡◌, ◌++◌, length, IfOk, OnOk};
-ghost use Rattle.desk_law.specs.Records.{empty_opening};
 ghost use Rattle.sms_report.specs.VolumesTable.{table_text};
 ghost use Rattle.sms_script.specs.Script.{items_of};
 ghost use Rattle.desk_calls.specs.Headline.{Prints};
@@ -21,8 +20,7 @@ pub fn run_text<P: Keeper>(
     core: &Core<P>,
 ) -> Result<Vec<u8>, AllocError>
     requires each { length answers.now ≡ length (items_of script.now) }
-    requires opening { core.now.opening ≡ empty_opening }
-    ensures { IfOk result (λ text. Prints volumes script.now answers.now core.now.journal text.items) }
+    ensures { IfOk result (λ text. Prints core.now.opening volumes script.now answers.now core.now.journal text.items) }
 {
     let entries = core.journal().len() as u64;
     let mut text = print(alloc, script, answers, entries)?;

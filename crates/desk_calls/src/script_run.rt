@@ -1,8 +1,6 @@
 //! A run of a script on one core.
 ghost use Rattle.std.specs.Prelude.{◌≡◌, ◌≤◌, ◌+◌, ◌-◌, ◌^◌, [], length, min, IfOk, IfSome, OnErr, vec_capacity, vec_len};
-ghost use Rattle.sms_keeper.specs.Tables.{AreSame, no_rows};
 ghost use Rattle.desk_law.specs.History.{IsLegal};
-ghost use Rattle.desk_law.specs.Records.{empty_opening};
 ghost use Rattle.desk_records.specs.Tied.{faults_in};
 ghost use Rattle.sms_core.specs.Core.{HasTables};
 ghost use Rattle.sms_script.specs.Script.{items_of};
@@ -48,22 +46,24 @@ pub fn run_script<P: Keeper>(
     (Ok(Items::from_vec(answers)), core)
 }
 
-/// Answers each item of the script on a new desk over the keeper, whose tables are empty, in script order. Where memory
-/// for the answers is wanting, nothing was answered.
+/// Answers each item of the script on a desk without entries, in script order. Where memory for the answers is wanting,
+/// nothing was answered.
 #[tactic(auto, using(crate::proofs::OrderLemmas::in_order_answered))]
-pub fn run_new<P: Keeper>(
+pub fn run_alone<P: Keeper>(
     alloc: Global,
     script: &Script,
-    keeper: P,
+    core: Core<P>,
 ) -> (Result<Answers, AllocError>, Core<P>)
-    requires tables { IfSome (P.told keeper) (λ rows. AreSame rows no_rows) }
-    ensures ran { IfOk result.0 (λ answers. WasRun 1 (record { told = P.told keeper; count = P.count keeper }) (record { told = P.told result.1.keeper; count = P.count result.1.keeper }) script.now answers result.1.journal) }
-    ensures unrun { OnErr result.0 (result.1.keeper ≡ keeper) }
-    ensures opening { result.1.opening ≡ empty_opening }
+    requires journal { core.journal ≡ [] }
+    requires mark { core.mark ≡ P.count core.keeper }
+    ensures ran { IfOk result.0 (λ answers. WasRun core.opening 1 (record { told = P.told core.keeper; count = P.count core.keeper }) (record { told = P.told result.1.keeper; count = P.count result.1.keeper }) script.now answers result.1.journal) }
+    ensures unrun { OnErr result.0 (result.1 ≡ core) }
+    ensures opening { result.1.opening ≡ core.opening }
 {
     // Facts for the proof; nothing runs.
     legal_is_lawful();
-    run_script(alloc, script, Core::new(alloc, keeper))
+    let _journal = core.journal();
+    run_script(alloc, script, core)
 }
 
 /// The same by several workers. Where memory for a phase is wanting, the phases before it were answered whole.
@@ -72,19 +72,21 @@ pub fn run_shared<P: Keeper + Send, R: Threads + Wait + Sync, G: Gate + Sync>(
     rt: &R,
     script: &Script,
     workers: usize,
-    keeper: P,
+    core: Core<P>,
     gate: &G,
 ) -> (Result<Answers, AllocError>, Core<P>)
     requires workers { (2 ≤ workers) × (workers ≤ 16) }
-    requires tables { IfSome (P.told keeper) (λ rows. AreSame rows no_rows) }
-    ensures ran { IfOk result.0 (λ answers. WasRun workers (record { told = P.told keeper; count = P.count keeper }) (record { told = P.told result.1.keeper; count = P.count result.1.keeper }) script.now answers result.1.journal) }
+    requires journal { core.journal ≡ [] }
+    requires mark { core.mark ≡ P.count core.keeper }
+    ensures ran { IfOk result.0 (λ answers. WasRun core.opening workers (record { told = P.told core.keeper; count = P.count core.keeper }) (record { told = P.told result.1.keeper; count = P.count result.1.keeper }) script.now answers result.1.journal) }
     ensures front { OnErr result.0 (IsFrontAnswered script.now [] result.1.journal) }
-    ensures recorded { IsRecorded (record { told = P.told keeper; count = P.count keeper }) (record { told = P.told result.1.keeper; count = P.count result.1.keeper }) result.1.journal }
-    ensures opening { result.1.opening ≡ empty_opening }
+    ensures recorded { IsRecorded core.opening (record { told = P.told core.keeper; count = P.count core.keeper }) (record { told = P.told result.1.keeper; count = P.count result.1.keeper }) result.1.journal }
+    ensures opening { result.1.opening ≡ core.opening }
 {
     // Facts for the proof; nothing runs.
     legal_is_lawful();
-    run_workers(alloc, rt, script, Core::new(alloc, keeper), workers, gate)
+    let _journal = core.journal();
+    run_workers(alloc, rt, script, core, workers, gate)
 }
 
 // Room for the answers to all items, and for what routines write.

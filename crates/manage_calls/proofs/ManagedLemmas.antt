@@ -21,7 +21,7 @@ use Rattle.manage_calls.proofs.UnusedLemmas.{run-unused}
 
 -- legal histories of a new desk are lawful
 abbrev AreLawful : Type 0
-AreLawful = (history : List Entry) → IsLegal empty_opening history → IsLawfulHistory history
+AreLawful = (history : List Entry) → IsLegal empty_opening history → IsLawfulHistory empty_opening history
 
 module _ (phases : List (List Item)) (answers : List Answer) (o : Opening) (start h : List Entry) (opening : o ≡ empty_opening) (none : start ≡ []) (done : AnswersInOrder (items_of phases) answers start h) (legal : IsLegal o h) where
   in-order : AnswersInOrder (items_of phases) answers [] h
@@ -39,7 +39,7 @@ module _ (phases : List (List Item)) (answers : List Answer) (o : Opening) (star
   answered-alone lawful = record { once = in_order_answered phases answers [] h in-order; in_order = in-order; lawful = lawful h here }
 
   -- and only space management may have asked behind it
-  pub begun : AreLawful → (bytes : List ℕ) → managed_script_of bytes ≡ Ok phases → (whole : List Entry) → IsAsking h whole → (before after : Keeping) → IsRecorded before after whole → WasManageBegun before after bytes
+  pub begun : AreLawful → (bytes : List ℕ) → managed_script_of bytes ≡ Ok phases → (whole : List Entry) → IsAsking h whole → (before after : Keeping) → IsRecorded empty_opening before after whole → WasManageBegun before after bytes
   begun lawful bytes script whole asking before after recorded = record {
     phases = phases;
     answers = answers;
@@ -53,7 +53,7 @@ module _ (phases : List (List Item)) (answers : List Answer) (o : Opening) (star
 
 -- the keeper's count and tables go with the whole history
 pub recorded-whole : (o : Opening) (whole : List Entry) (before : Keeping) (mark count : ℕ) (told : Option Rows) → o ≡ empty_opening → mark ≡ before.count → IsLegal o whole
-    → min (mark + faults_in whole) (2 ^ 64 - 1) ≤ count → HasTables o whole told → AreLawful → IsRecorded before (record { told = told; count = count }) whole
+    → min (mark + faults_in whole) (2 ^ 64 - 1) ≤ count → HasTables o whole told → AreLawful → IsRecorded empty_opening before (record { told = told; count = count }) whole
 recorded-whole o whole before mark count told opening mark_is legal counted tables lawful = record {
   lawful = lawful whole (subst (λ (p : Opening). IsLegal p whole) opening legal);
   faults = subst (λ n. min (n + faults_in whole) (2 ^ 64 - 1) ≤ count) mark_is counted;

@@ -20,7 +20,7 @@ pub record WasAnsweredAlone (phases : List (List Item)) (answers : List Answer) 
   pub once : AreAnswered phases answers [] history
   -- all entries stand in script order, and R24 comes exactly where the history before the item has no place for the op
   pub in_order : AnswersInOrder (items_of phases) answers [] history
-  pub lawful : IsLawfulHistory history
+  pub lawful : IsLawfulHistory empty_opening history
 
 -- the items were answered over a keeper, which was one thing before and is another after all, and then the acts of the day were done
 pub record WasRunAndManaged (day : ℕ) (before after : Keeping) (phases : List (List Item)) (answers : List Answer) (history : List Entry) (acts : List Act) : Type 0 where
@@ -30,7 +30,7 @@ pub record WasRunAndManaged (day : ℕ) (before after : Keeping) (phases : List 
   -- exactly what is due on the day was asked for
   pub managed : WasManaged empty_opening day history whole acts
   -- faults and tables are those of the whole history
-  pub recorded : IsRecorded before after whole
+  pub recorded : IsRecorded empty_opening before after whole
 
 -- the text is that of the answers to the script in these bytes, with the number of entries before the acts, and behind it that of the acts
 pub record IsAnsweredAndManaged (day : ℕ) (before after : Keeping) (bytes text : List ℕ) : Type 0 where
@@ -53,7 +53,7 @@ pub record WasManageBegun (before after : Keeping) (bytes : List ℕ) : Type 0 w
   pub script : managed_script_of bytes ≡ Ok phases
   pub run : WasAnsweredAlone phases answers history
   pub asking : IsAsking history whole
-  pub recorded : IsRecorded before after whole
+  pub recorded : IsRecorded empty_opening before after whole
 
 -- where memory was wanting, the keeper is as it was, or the script was answered
 abbrev pub IsManageLeft : Keeping → Keeping → List ℕ → Type 0

@@ -12,7 +12,7 @@ ghost use Rattle.manage_calls.specs.ManagedRun.{IsAnsweredAndManaged, IsManageLe
 use crate::printing::push_managed;
 use crate::reading::read_managed;
 use acs_tree::Slate;
-use desk_calls::{legal_is_lawful, run_script};
+use desk_calls::{new_is_lawful, run_script};
 use sms_construct::Answer;
 use sms_core::Core;
 use sms_keeper::Keeper;
@@ -55,7 +55,7 @@ fn manage_script<P: Keeper>(
     ensures left { IfErr result.0 (λ _. (bytes : List ℕ) → managed_script_of bytes ≡ Ok script.now → IsManageLeft (record { told = P.told keeper; count = P.count keeper }) (record { told = P.told result.1; count = P.count result.1 }) bytes) }
 {
     // Facts for the proof; nothing runs.
-    legal_is_lawful();
+    new_is_lawful();
     let (answers, mut core) = run_script(alloc, script, Core::new(alloc, keeper));
     let Ok(answers) = answers else {
         let (keeper, _journal) = core.into_parts();

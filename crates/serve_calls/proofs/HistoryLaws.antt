@@ -51,7 +51,7 @@ no_worker history none = record {
 pub WasHeard-none : {P : Type 0} (before : Keeping) (core : CoreView P) (told : Option Rows) (count : ℕ)
     → core.opening ≡ empty_opening → core.journal ≡ [] → core.mark ≡ before.count
     → IsLegal core.opening core.journal → min (core.mark + faults_in core.journal) (2 ^ 64 - 1) ≤ count → HasTables core.opening core.journal told
-    → ((history : List Entry) → IsLegal empty_opening history → IsLawfulHistory history)
+    → ((history : List Entry) → IsLegal empty_opening history → IsLawfulHistory empty_opening history)
     → WasHeard before (record { told = told; count = count }) [] core.journal
 WasHeard-none before core told count opening journal mark legal counted tables lawful = record {
   once = no_worker core.journal journal;

@@ -33,7 +33,7 @@ pub record IsOneHistory (visits : List (List Visit)) (history : List Entry) : Ty
 -- the visits make a history of a new desk over a keeper, which was one thing before and is another after
 pub record WasHeard (before after : Keeping) (visits : List (List Visit)) (history : List Entry) : Type 0 where
   pub once : IsOneHistory visits history
-  pub lawful : IsLawfulHistory history
+  pub lawful : IsLawfulHistory empty_opening history
   -- the keeper counted each of its faults in the history, up to the greatest number that its count can be
   pub faults : min (before.count + faults_in history) (2 ^ 64 - 1) ≤ after.count
   -- the tables of the keeper are those of the history, where it tells them

@@ -15,7 +15,7 @@ use crate::connections::served_text;
 use crate::served_doors::{DoorVisits, ServedDoors};
 use crate::sharing::serve_shared;
 use crate::status::ServeStatus;
-use desk_calls::legal_is_lawful;
+use desk_calls::new_is_lawful;
 use desk_common::Items;
 use desk_words::serve_words;
 use serve_door::{DoorEnd, Visits};
@@ -188,7 +188,7 @@ fn new_core<P: Keeper>(alloc: Global, keeper: P) -> Core<P>
     ensures mark { result.mark ≡ P.count keeper }
 {
     // Facts for the proof; nothing runs.
-    legal_is_lawful();
+    new_is_lawful();
     let core = Core::new(alloc, keeper);
     let _journal = core.journal();
     core
@@ -247,7 +247,7 @@ where
     ensures unasked { OnErr result.0 ((doors.new ≡ doors.old) × (result.1.keeper ≡ keeper)) }
 {
     // Facts for the proof; nothing runs.
-    legal_is_lawful();
+    new_is_lawful();
     let core = new_core(alloc, keeper);
     let (served, core) = serve_core(alloc, rt, most, doors, core, gate);
     let _journal = core.journal();

@@ -3,6 +3,7 @@
 use db_calls::DbStatus;
 use desk_calls::RunStatus;
 use fault_notes::script_note;
+use serve_calls::ServeStatus;
 use sms_script::{ScriptErr, read_script};
 use std::alloc::Global;
 
@@ -54,6 +55,23 @@ pub fn note_database(alloc: Global, note: &mut String, status: DbStatus, script:
     match status {
         DbStatus::Ran(status) => note_status(alloc, note, status, script),
         DbStatus::StoreFault => say(note, STORE_FAULT),
+    }
+}
+
+/// What failed while the desk was served, and what stands; none where all went well.
+pub fn sentence_of_serving(status: ServeStatus) -> Option<&'static str> {
+    match status {
+        ServeStatus::Done => None,
+        ServeStatus::BadWords => Some("the words of the command line are none that serve the desk"),
+        ServeStatus::WriteFault => Some(
+            "standard output can't be written; the connections were served, and a front of their lines may be there",
+        ),
+        ServeStatus::NoMemory => Some(
+            "memory is wanting; what connections were answered stands, and no line of theirs was written",
+        ),
+        ServeStatus::AcceptFault => Some(
+            "the port gave no further connection; those before it were served, and their lines are written",
+        ),
     }
 }
 

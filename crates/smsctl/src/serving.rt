@@ -5,6 +5,7 @@ ghost use Rattle.desk_words.specs.Serving.{serving_in};
 ghost use Rattle.desk_words.specs.declared.served.ServeWords.{ServeWords as Asked};
 ghost use Rattle.serve_calls.specs.ServeStatuses.{serve_status_of};
 
+use crate::explaining::sentence_of_serving;
 use desk_words::ServeWords;
 use serve_calls::{ServeStatus, serve_main};
 use sms_base::{StdSink, TcpAccept};
@@ -35,7 +36,7 @@ pub fn serve<T: Threads + Wait + Sync>(
             end(rt, serve_on(rt, threads, &listener, asked.workers, words))
         }
         Err(error) if error.kind() == ErrorKind::OutOfMemory => end(rt, ServeStatus::NoMemory),
-        Err(_) => end_with(rt, NOT_BOUND),
+        Err(error) => refuse(rt, asked.port, error),
     }
 }
 
@@ -83,20 +84,23 @@ fn doors_of<'a>(
     Ok(doors)
 }
 
-// Ends the program with the status.
+// Says why the port can't be had, and ends the program.
+fn refuse(rt: &HostRuntime, port: u16, error: io::Error) -> ExitCode {
+    let _ = eprintln!(rt; "smsctl: status {NOT_BOUND}");
+    let _ = eprintln!(rt;
+        "smsctl: port {port} of 127.0.0.1 can't be had: {error}; nothing was served"
+    );
+    ExitCode::from(NOT_BOUND)
+}
+
+// Says a status other than 0 on standard error, with what it means, and ends the program with it.
 fn end(rt: &HostRuntime, status: ServeStatus) -> ExitCode
     ensures { exit_status result ≡ serve_status_of status }
 {
-    match status {
-        ServeStatus::Done => ExitCode::from(0),
-        _ => end_with(rt, status.code()),
+    let code = status.code();
+    if let Some(sentence) = sentence_of_serving(status) {
+        let _ = eprintln!(rt; "smsctl: status {code}");
+        let _ = eprintln!(rt; "smsctl: {sentence}");
     }
-}
-
-// Says a status other than 0 on standard error, and ends the program with it.
-fn end_with(rt: &HostRuntime, code: u8) -> ExitCode
-    ensures { exit_status result ≡ code }
-{
-    let _ = eprintln!(rt; "smsctl: status {code}");
     ExitCode::from(code)
 }

@@ -15,8 +15,8 @@ returns-in_default-acts-clause-left g c = λ bytes script.
     let managed = c.manage_day-acts.ensures in
     let closed = c.into_parts-keeper-2.ensures in
     let opening = ran.opening ∙ c.new.ensures.opening in
-    inr (begun c.args.script.now c.in-Ok.answers _ _ _ opening c.new.ensures.journal (rw c.in-Ok.is at ran.answered) ran.legal c.legal_is_lawful.ensures bytes script c.manage_day-acts.new.core.journal managed.asking _ _
-    (rw closed.keeper (recorded-whole _ _ _ _ _ _ (managed.opening ∙ opening) (managed.mark ∙ ran.mark ∙ c.new.ensures.mark) closed.legal closed.counted closed.tables c.legal_is_lawful.ensures)))
+    inr (begun c.args.script.now c.in-Ok.answers _ _ _ opening c.new.ensures.journal (rw c.in-Ok.is at ran.answered) ran.legal c.new_is_lawful.ensures bytes script c.manage_day-acts.new.core.journal managed.asking _ _
+    (rw closed.keeper (recorded-whole _ _ _ _ _ _ (managed.opening ∙ opening) (managed.mark ∙ ran.mark ∙ c.new.ensures.mark) closed.legal closed.counted closed.tables c.new_is_lawful.ensures)))
 
 pub returns-clause-left : goal.returns-clause-left
 returns-clause-left g c = λ bytes script.
@@ -24,8 +24,8 @@ returns-clause-left g c = λ bytes script.
     let managed = c.manage_day-acts.ensures in
     let closed = c.into_parts-keeper-2.ensures in
     let opening = ran.opening ∙ c.new.ensures.opening in
-    inr (begun c.args.script.now c.in-Ok.answers _ _ _ opening c.new.ensures.journal (rw c.in-Ok.is at ran.answered) ran.legal c.legal_is_lawful.ensures bytes script c.manage_day-acts.new.core.journal managed.asking _ _
-    (rw closed.keeper (recorded-whole _ _ _ _ _ _ (managed.opening ∙ opening) (managed.mark ∙ ran.mark ∙ c.new.ensures.mark) closed.legal closed.counted closed.tables c.legal_is_lawful.ensures)))
+    inr (begun c.args.script.now c.in-Ok.answers _ _ _ opening c.new.ensures.journal (rw c.in-Ok.is at ran.answered) ran.legal c.new_is_lawful.ensures bytes script c.manage_day-acts.new.core.journal managed.asking _ _
+    (rw closed.keeper (recorded-whole _ _ _ _ _ _ (managed.opening ∙ opening) (managed.mark ∙ ran.mark ∙ c.new.ensures.mark) closed.legal closed.counted closed.tables c.new_is_lawful.ensures)))
 
 -- the script was answered, and all that was due was asked for
 pub returns-in-Ok-text_with_acts-clause-answered : goal.returns-in-Ok-text_with_acts-clause-answered
@@ -42,9 +42,9 @@ returns-in-Ok-text_with_acts-clause-answered g c = λ bytes script.
       script = script;
       printed = rw (c.as_slice.ensures, c.as_slice-2.ensures, c.journal.ensures.entries) at c.in-Ok-text_with_acts.ensures;
       run = record {
-        run = answered-alone c.args.script.now c.in-Ok.answers _ _ _ opening c.new.ensures.journal (rw c.in-Ok.is at ran.answered) ran.legal c.legal_is_lawful.ensures;
+        run = answered-alone c.args.script.now c.in-Ok.answers _ _ _ opening c.new.ensures.journal (rw c.in-Ok.is at ran.answered) ran.legal c.new_is_lawful.ensures;
         whole = c.manage_day-acts.new.core.journal;
         managed = rw (c.in-Ok-acts.is, opening) at managed.managed;
-        recorded = rw closed.keeper (recorded-whole _ _ _ _ _ _ (managed.opening ∙ opening) (managed.mark ∙ ran.mark ∙ c.new.ensures.mark) closed.legal closed.counted closed.tables c.legal_is_lawful.ensures);
+        recorded = rw closed.keeper (recorded-whole _ _ _ _ _ _ (managed.opening ∙ opening) (managed.mark ∙ ran.mark ∙ c.new.ensures.mark) closed.legal closed.counted closed.tables c.new_is_lawful.ensures);
       };
     }
