@@ -15,7 +15,11 @@ use sms_volumes::ActiveVolumes;
 use std::alloc::{AllocError, Global};
 
 /// The volumes of this configuration, if there is one, with these statuses; all their tracks are free.
-pub fn volumes_under(alloc: Global, config: &Option<Config>, rows: &[StatusRow]) -> Result<ActiveVolumes, AllocError>
+pub fn volumes_under(
+    alloc: Global,
+    config: &Option<Config>,
+    rows: &[StatusRow],
+) -> Result<ActiveVolumes, AllocError>
     requires config { IfSome config.now IsConfiguration }
     requires rows { AllByRecursion IsAllowed rows.now }
     ensures { IfOk result (AreVolumesOf (with_statuses (fresh_state config.now) (statuses_varied rows.now (fresh_state config.now).statuses))) }

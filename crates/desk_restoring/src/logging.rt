@@ -11,7 +11,11 @@ use sms_keeper::{Floor, KeptRow, RequestLog};
 use std::alloc::{AllocError, Global};
 
 /// The log of these floors and replies, which shares what the replies hold.
-pub fn log_of(alloc: Global, floors: &[Floor], replies: &[KeptRow]) -> Result<RequestLog, AllocError>
+pub fn log_of(
+    alloc: Global,
+    floors: &[Floor],
+    replies: &[KeptRow],
+) -> Result<RequestLog, AllocError>
     ensures { IfOk result (IsLogOf floors.now replies.now) }
 {
     let mut log = floors_of(alloc, floors)?;
