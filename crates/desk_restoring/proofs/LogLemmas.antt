@@ -48,7 +48,7 @@ own-next-at : (R : List KeptRow) (log : LogView) (row : KeptRow) (found : Option
     → kept_with log (request_of row) row.place row.reply (key_of_row row) ≡ option_map reply_of_row (option_or found (find (is_reply_of row.job row.number) (row ∷ [])))
 own-next-at R log row None is above kept =
     let own : same_key (key_of_row row) (key_of_row row) ≡ true = own-key row in rw (above, kept, own) refl
-own-next-at R log row (Some other) is above kept = rw (above, kept) kept
+own-next-at R log row (Some other) is above kept = rw (above, kept) refl
 
 own-next : (F : List Floor) (R : List KeptRow) (log : LogView) (row : KeptRow) → IsLogOf F R log → nat_lt row.number (greatest_floor row.job F) ≡ false
     → kept_with log (request_of row) row.place row.reply (key_of_row row) ≡ option_map reply_of_row (find (is_reply_of row.job row.number) (R ++ row ∷ []))
@@ -75,7 +75,9 @@ kept-next : (F : List Floor) (R : List KeptRow) (log : LogView) (row : KeptRow) 
 kept-next F R log row job number true mine is above =
     let key = reply-key row job number mine in
     let own_above : nat_lt row.number (greatest_floor row.job F) ≡ false = rw (key.0, key.1) above in
-    let own = own-next F R log row is own_above in rw (key.0, key.1) at own
+    let Stands : List ℕ → ℕ → Type 0 = λ (k : List ℕ) (n : ℕ).
+    kept_with log (request_of row) row.place row.reply (record { job = k; number = n }) ≡ option_map reply_of_row (find (is_reply_of k n) (R ++ row ∷ [])) in
+    subst (λ (k : List ℕ). Stands k number) key.0 (subst (λ (n : ℕ). Stands row.job n) key.1 (own-next F R log row is own_above))
 kept-next F R log row job number false other is above = other-next F R log row job number is other above
 
 pub log-next : (F : List Floor) (R : List KeptRow) (i : ℕ) (row : KeptRow) (old more new : LogView) → i < length R → row ≡ get_or R i row → IsLogOf F (take i R) old → SameLog old more

@@ -1,5 +1,5 @@
 //! The place behind which a desk goes on.
-ghost use Rattle.std.specs.Prelude.{◌≡◌};
+ghost use Rattle.std.specs.Prelude.{◌≡◌, max};
 ghost use Rattle.desk_restoring.specs.Opened.{greatest_place};
 
 use sms_keeper::KeptRow;
@@ -10,7 +10,14 @@ pub fn greatest_place(replies: &[KeptRow]) -> u64
 {
     let mut greatest = 0;
     for row in replies {
-        greatest = greatest.max(row.place);
+        greatest = later(greatest, row.place);
     }
     greatest
+}
+
+// The greater of two places.
+fn later(place: u64, other: u64) -> u64
+    ensures { result ≡ max place other }
+{
+    place.max(other)
 }
