@@ -6,7 +6,7 @@ use Rattle.desk_law.specs.State.{set_named}
 use Rattle.desk_law.specs.Lawful.{times_named}
 use Rattle.sms_volumes.proofs.NamedLemmas.{named-before, named-push}
 use Rattle.desk_restoring.proofs.ListLemmas.{parts-at, take-next}
-use Rattle.desk_restoring.proofs.PlaceLemmas.{none-named, own-named}
+use Rattle.desk_restoring.proofs.PlacingLemmas.{none-named, own-named}
 
 named-both : (n : List ℕ) (a : List DataSet) (set : DataSet) (b : List DataSet) → times_named n (a ++ set ∷ b) ≡ times_named n a + (cond (bytes_eq set.dsn n) 1 0 + times_named n b)
 named-both n [] set b = omega arith

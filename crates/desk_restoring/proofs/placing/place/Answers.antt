@@ -5,7 +5,7 @@ use Rattle.sms_volumes.specs.Holding.{AreVolumesOf}
 use Rattle.desk_restoring.specs.Placing.{sets_placed}
 use Rattle.desk_restoring.specs.Replaying.{with_sets}
 use Rattle.desk_restoring.proofs.ListLemmas.{parts-in, take-in}
-use Rattle.desk_restoring.proofs.PlaceLemmas.{can-hold, place-next, placed-whole}
+use Rattle.desk_restoring.proofs.PlacingLemmas.{can-hold, place-next, placed-whole}
 use Rattle.desk_restoring.proofs.placing.place.Goals as goal
 
 pub hold-requires : goal.hold-requires
