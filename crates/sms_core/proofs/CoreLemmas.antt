@@ -9,6 +9,7 @@ use Rattle.sms_construct.specs.declared.request.Op.{Op}
 use Rattle.sms_construct.specs.declared.request.Request.{Request}
 use Rattle.sms_keeper.specs.declared.rows.Rows.{Rows}
 use Rattle.sms_keeper.specs.Log.{LogView}
+use Rattle.sms_keeper.specs.Tables.{AreSame}
 use Rattle.sms_keeper.specs.Told.{Stays}
 use Rattle.desk_law.specs.State.{DeskState, Opening, start_of}
 use Rattle.desk_law.specs.Kept.{is_entered}
@@ -19,6 +20,8 @@ use Rattle.desk_law.proofs.HistoryLemmas.{leads-one}
 use Rattle.desk_records.specs.Full.{is_full_for}
 use Rattle.desk_records.specs.Logged.{IsUntouched, SameLog}
 use Rattle.desk_records.specs.Recall.{IsUnknown}
+use Rattle.desk_records.specs.Tied.{IsLogOf, IsSoundOpening}
+use Rattle.desk_records.proofs.OpeningLemmas.{tied-opened}
 use Rattle.desk_records.proofs.StepLemmas.{activations-fit, activations-push, log-below, log-none}
 use Rattle.desk_records.proofs.TiedLemmas.{tied-lawful, tied-reserved, tied-same}
 use Rattle.desk_state.specs.declared.running.Running.{Running}
@@ -52,6 +55,21 @@ tables-reached o h s None reaches tables = tt
 tables-reached o h s (Some rows) reaches tables = λ t other.
     let same : s ≡ t = leads-one o [] (start_of o) h s t reaches other in
     subst (λ (u : DeskState). IsTables o h u rows) same tables
+
+-- What is held before the first entry.
+
+-- no journal, and a keeper, a log and a running state of the opening
+pub core-opened : (o : Opening) (base : ℕ) (h : List Entry) (running : Running) (log : LogView) (told : Option Rows) (mark count : ℕ) → h ≡ [] → mark ≡ count → base ≡ o.base → IsSoundOpening o
+    → IsLogOf o.rows.floors o.rows.replies log → IfSome told (λ rows. AreSame rows o.rows) → IsRunning (start_of o) running → IsCore o base 0 h running log told mark count
+core-opened o base h running log told mark count none same base_is sound log_is tables stands = rw (none, same) (record {
+  held = record { state = start_of o; tied = tied-opened o log told count sound log_is tables; stands = stands };
+  base_is = base_is;
+  asked_is = refl;
+})
+
+-- the log of no rows
+pub log-empty : (log : LogView) → log.kept ≡ [] → log.floors ≡ [] → IsLogOf [] [] log
+log-empty log kept floors = record { floors_are = λ job. rw floors refl; replies_are = λ job number above. rw kept refl }
 
 -- What is held.
 

@@ -1,15 +1,17 @@
 //! The core: the journal, the state after it, and the records.
-ghost use Rattle.std.specs.Prelude.{true, ◌≡◌, ◌≤◌, ◌<◌, ◌+◌, ◌-◌, ◌^◌, [], cond, IfOk, IfSome, length, MatchOption, map, min, None, Some};
+ghost use Rattle.std.specs.Prelude.{true, ◌≡◌, ◌≤◌, ◌<◌, ◌+◌, ◌-◌, ◌^◌, [], cond, IfErr, IfOk, IfSome, length, MatchOption, map, min, None, Some};
 ghost use Rattle.std.specs.Option.{option_copied};
 ghost use Rattle.sms_keeper.specs.Tables.{AreSame, no_rows};
-ghost use Rattle.desk_law.specs.State.{DeskState, set_named};
+ghost use Rattle.desk_law.specs.State.{DeskState, set_named, start_of};
 ghost use Rattle.desk_law.specs.Display.{shown_volume};
 ghost use Rattle.desk_law.specs.Volumes.{volumes_in};
 ghost use Rattle.desk_law.specs.Step.{is_activation};
 ghost use Rattle.desk_law.specs.History.{IsLegal, Reaches, WasActive};
 ghost use Rattle.desk_law.specs.Records.{empty_opening};
-ghost use Rattle.desk_records.specs.Tied.{IsSoundOpening, faults_in};
+ghost use Rattle.desk_records.specs.Tied.{IsLogOf, IsSoundOpening, faults_in};
+ghost use Rattle.desk_restoring.specs.Opened.{opening_of};
 ghost use Rattle.desk_state.specs.Following.{IsNextSet};
+ghost use Rattle.desk_state.specs.Standing.{IsRunning};
 ghost use Rattle.desk_state.specs.Working.{IsWork};
 ghost use Rattle.sms_core.specs.Core.{Enters, HasTables, needs_no_commit};
 
@@ -18,11 +20,12 @@ use crate::room::take_room;
 use acs_tree::Slate;
 use desk_common::{Items, Shared};
 use desk_records::{Opening, Records, is_full, request_is_sound};
+use desk_restoring::{Restored, greatest_place, restore};
 use desk_state::{Running, Work};
 use dsn_mask::Dsn;
 use sms_construct::{Answer, DataSet, Entry, Journal, Op, Reply, Request, VolRows};
 use sms_deck::Config;
-use sms_keeper::{Keeper, RequestLog};
+use sms_keeper::{Keeper, RequestLog, Rows};
 use std::alloc::{AllocError, Global};
 use std::marker::Model;
 use std::snapshot::Snapshot;
@@ -64,18 +67,71 @@ impl<P: Keeper> Core<P> {
         ensures keeper { result.keeper ≡ keeper }
         ensures mark { result.mark ≡ P.count keeper }
     {
+        Core::over(
+            alloc,
+            Opening::empty_snapshot(alloc),
+            0,
+            Running::new(alloc),
+            RequestLog::new(alloc),
+            keeper,
+        )
+    }
+
+    /// A desk that goes on from recorded rows, whose last deck gave this configuration, over the keeper of these rows
+    /// (docs/records.md); or want of memory, with the keeper. No data set and no reply is copied.
+    pub fn resume(
+        alloc: Global,
+        keeper: P,
+        rows: Rows,
+        config: Option<Config>,
+    ) -> Result<Self, (P, AllocError)>
+        requires sound { IsSoundOpening (opening_of rows config) }
+        requires tables { IfSome (P.told keeper) (λ told. AreSame told rows) }
+        ensures opening { IfOk result (λ core. core.opening ≡ opening_of rows config) }
+        ensures journal { IfOk result (λ core. core.journal ≡ []) }
+        ensures keeper { IfOk result (λ core. core.keeper ≡ keeper) }
+        ensures mark { IfOk result (λ core. core.mark ≡ P.count keeper) }
+        ensures err { IfErr result (λ back. back.0 ≡ keeper) }
+    {
+        let base = greatest_place(rows.replies.as_slice());
+        let opening = Opening { rows, config, base };
+        let begun = Snapshot::of(&opening);
+        match restore(alloc, opening) {
+            Ok(Restored { running, log }) => {
+                Ok(Core::over(alloc, begun, base, running, log, keeper))
+            }
+            Err(error) => Err((keeper, error)),
+        }
+    }
+
+    // A desk behind this opening, which the running state and the log stand for.
+    fn over(
+        alloc: Global,
+        opening: Snapshot<Opening>,
+        base: u64,
+        running: Running,
+        log: RequestLog,
+        keeper: P,
+    ) -> Self
+        requires sound { IsSoundOpening opening.value }
+        requires tables { IfSome (P.told keeper) (λ rows. AreSame rows opening.value.rows) }
+        requires base { base ≡ opening.value.base }
+        requires running { IsRunning (start_of opening.value) running }
+        requires log { IsLogOf opening.value.rows.floors opening.value.rows.replies log }
+        ensures opening { result.opening ≡ opening.value }
+        ensures journal { result.journal ≡ [] }
+        ensures keeper { result.keeper ≡ keeper }
+        ensures mark { result.mark ≡ P.count keeper }
+    {
         let mark = keeper.faults();
         Core {
-            opening: Opening::empty_snapshot(alloc),
-            base: 0,
+            opening,
+            base,
             mark,
             journal: Vec::new(alloc),
             asked: 0,
-            running: Running::new(alloc),
-            records: Records {
-                log: RequestLog::new(alloc),
-                keeper,
-            },
+            running,
+            records: Records { log, keeper },
         }
     }
 
