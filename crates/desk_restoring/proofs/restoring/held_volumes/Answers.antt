@@ -18,8 +18,8 @@ place_all-requires c =
       state = s;
       lawful = c.requires;
       sets_are = sym c.as_slice-sets.ensures;
-      stand = restored-volumes s _ c.requires
-          (subst (λ (l : List StatusRow). AreVolumesOf (with_statuses (fresh_state s.active) (statuses_varied l (fresh_state s.active).statuses)) _) c.as_slice.ensures c.in_ok-volumes.ensures);
+      stand = restored-volumes s c.in_ok-volumes.volumes c.requires
+          (subst (λ (l : List StatusRow). AreVolumesOf (with_statuses (fresh_state s.active) (statuses_varied l (fresh_state s.active).statuses)) c.in_ok-volumes.volumes) c.as_slice.ensures c.in_ok-volumes.ensures);
     }
 
 pub returns : goal.returns
@@ -27,4 +27,4 @@ returns c =
     let rows = c.args.rows.now in
     let s : DeskState = record { activations = length rows.decks; active = c.args.config.now; statuses = rows.statuses; sets = rows.sets } in
     c.in_ok-place_all.ensures s c.requires (sym c.as_slice-sets.ensures)
-    (restored-volumes s _ c.requires (subst (λ (l : List StatusRow). AreVolumesOf (with_statuses (fresh_state s.active) (statuses_varied l (fresh_state s.active).statuses)) _) c.as_slice.ensures c.in_ok-volumes.ensures))
+    (restored-volumes s c.in_ok-volumes.volumes c.requires (subst (λ (l : List StatusRow). AreVolumesOf (with_statuses (fresh_state s.active) (statuses_varied l (fresh_state s.active).statuses)) c.in_ok-volumes.volumes) c.as_slice.ensures c.in_ok-volumes.ensures))
