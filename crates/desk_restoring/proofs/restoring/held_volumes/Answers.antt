@@ -1,9 +1,9 @@
-use Rattle.std.proofs.Common.{◌≡◌, [], List, length, subst, sym}
+use Rattle.std.proofs.Common.{List, length, subst, sym}
 use Rattle.std.specs.List.{AllByRecursion}
 use Rattle.sms_keeper.specs.declared.status_row.StatusRow.{StatusRow}
 use Rattle.desk_law.specs.State.{DeskState}
 use Rattle.sms_volumes.specs.Holding.{AreVolumesOf}
-use Rattle.desk_restoring.specs.Replaying.{IsAllowed, fresh_state, statuses_varied, with_sets, with_statuses}
+use Rattle.desk_restoring.specs.Replaying.{IsAllowed, fresh_state, statuses_varied, with_statuses}
 use Rattle.desk_restoring.proofs.StatusRowLemmas.{restored-volumes}
 use Rattle.desk_restoring.proofs.restoring.held_volumes.Goals as goal
 
