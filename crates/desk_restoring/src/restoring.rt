@@ -1,9 +1,10 @@
 //! The running state and the log that recorded rows come to.
-ghost use Rattle.std.specs.Prelude.{◌≡◌, ◌<◌, ◌^◌, length, IfOk, IfSome};
+ghost use Rattle.std.specs.Prelude.{◌≡◌, length, IfOk};
 ghost use Rattle.desk_law.specs.State.{start_of};
 ghost use Rattle.desk_law.specs.Lawful.{IsLawful, IsLawfulOpening};
 ghost use Rattle.desk_records.specs.Tied.{IsLogOf};
 ghost use Rattle.desk_state.specs.Standing.{IsRunning};
+ghost use Rattle.sms_volumes.specs.Holding.{AreVolumesOf};
 
 use crate::cataloguing::catalog_of;
 use crate::configuring::volumes_under;
@@ -15,6 +16,7 @@ use desk_records::Opening;
 use desk_state::Running;
 use sms_deck::Config;
 use sms_keeper::Rows;
+use sms_volumes::ActiveVolumes;
 use std::alloc::{AllocError, Global};
 
 /// What a desk goes on with behind this opening, or want of memory: the running state after its last entry, and the
@@ -25,8 +27,17 @@ pub fn restore(alloc: Global, opening: Opening) -> Result<Restored, AllocError>
     ensures log { IfOk result (λ restored. IsLogOf opening.rows.floors opening.rows.replies restored.log) }
 {
     let Opening { rows, config, .. } = opening;
+    restored(alloc, &rows, config)
+}
+
+// What these rows come to under this configuration.
+fn restored(alloc: Global, rows: &Rows, config: Option<Config>) -> Result<Restored, AllocError>
+    requires { IsLawful (record { activations = length rows.now.decks; active = config; statuses = rows.now.statuses; sets = rows.now.sets }) }
+    ensures running { IfOk result (λ restored. IsRunning (record { activations = length rows.now.decks; active = config; statuses = rows.now.statuses; sets = rows.now.sets }) restored.running) }
+    ensures log { IfOk result (λ restored. IsLogOf rows.now.floors rows.now.replies restored.log) }
+{
+    let running = running_of(alloc, rows, config)?;
     let log = log_of(alloc, rows.floors.as_slice(), rows.replies.as_slice())?;
-    let running = running_of(alloc, &rows, config)?;
     Ok(Restored { running, log })
 }
 
@@ -35,17 +46,31 @@ fn running_of(alloc: Global, rows: &Rows, config: Option<Config>) -> Result<Runn
     requires { IsLawful (record { activations = length rows.now.decks; active = config; statuses = rows.now.statuses; sets = rows.now.sets }) }
     ensures { IfOk result (IsRunning (record { activations = length rows.now.decks; active = config; statuses = rows.now.statuses; sets = rows.now.sets })) }
 {
-    let sets = rows.sets.as_slice();
-    let mut volumes = volumes_under(alloc, &config, rows.statuses.as_slice())?;
-    place_all(&mut volumes, sets)?;
-    let catalog = catalog_of(alloc, sets)?;
+    let volumes = held_volumes(alloc, rows, &config)?;
+    let config = shared(alloc, config)?;
+    let catalog = catalog_of(alloc, rows.sets.as_slice())?;
     Ok(Running {
         alloc,
         activations: rows.decks.len() as u64,
-        config: shared(alloc, config)?,
+        config,
         volumes,
         catalog,
     })
+}
+
+// The volumes of the configuration, with the recorded statuses and what the data sets hold.
+fn held_volumes(
+    alloc: Global,
+    rows: &Rows,
+    config: &Option<Config>,
+) -> Result<ActiveVolumes, AllocError>
+    requires { IsLawful (record { activations = length rows.now.decks; active = config.now; statuses = rows.now.statuses; sets = rows.now.sets }) }
+    ensures { IfOk result (AreVolumesOf (record { activations = length rows.now.decks; active = config.now; statuses = rows.now.statuses; sets = rows.now.sets })) }
+{
+    let mut volumes = volumes_under(alloc, config, rows.statuses.as_slice())?;
+    let sets = rows.sets.as_slice();
+    place_all(&mut volumes, sets)?;
+    Ok(volumes)
 }
 
 // The configuration with one owner.

@@ -1,4 +1,4 @@
-use Rattle.std.proofs.Common.{◌≡◌, ◌∙◌, Some, ap, bytes_eq, cond, List, subst, sym}
+use Rattle.std.proofs.Common.{◌∙◌, Some, ap, bytes_eq, cond}
 use Rattle.std.proofs.lemmas.List.{take_all}
 use Rattle.sms_construct.specs.declared.data_set.DataSet.{DataSet}
 use Rattle.desk_law.specs.State.{set_named}

@@ -1,6 +1,6 @@
-use Rattle.std.proofs.Common.{◌≡◌, ◌∙◌, refl, ap, List, sym}
+use Rattle.std.proofs.Common.{◌∙◌, ap}
 use Rattle.std.proofs.lemmas.List.{take_all}
-use Rattle.sms_keeper.specs.Log.{floor_in, kept_in}
+use Rattle.sms_keeper.specs.Log.{kept_in}
 use Rattle.desk_law.specs.Kept.{greatest_floor}
 use Rattle.desk_restoring.proofs.LogLemmas.{floors-next}
 use Rattle.desk_restoring.proofs.logging.floors_of.Goals as goal

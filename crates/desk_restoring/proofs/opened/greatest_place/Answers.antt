@@ -1,4 +1,4 @@
-use Rattle.std.proofs.Common.{◌≡◌, arith, max}
+use Rattle.std.proofs.Common.{arith}
 use Rattle.desk_restoring.proofs.LogLemmas.{places-next}
 use Rattle.desk_restoring.proofs.opened.greatest_place.Goals as goal
 

@@ -1,4 +1,4 @@
-use Rattle.std.proofs.Common.{◌≡◌, ◌≤◌, ◌+◌, List, ap, drop, length, subst, sym, take}
+use Rattle.std.proofs.Common.{◌≤◌, ◌+◌, List, drop, length, subst, sym, take}
 use Rattle.sms_construct.specs.declared.extent.Extent.{Extent}
 use Rattle.desk_law.specs.State.{DeskState}
 use Rattle.sms_volumes.specs.Holding.{AreVolumesOf}

@@ -1,4 +1,4 @@
-use Rattle.std.proofs.Common.{◌≡◌, ◌+◌, ◌∙◌, ◌∷◌, ◌++◌, [], List, ap, drop, subst, sym, take}
+use Rattle.std.proofs.Common.{◌≡◌, ◌+◌, ◌∙◌, ◌∷◌, ◌++◌, [], ap, drop, subst, sym, take}
 use Rattle.std.proofs.lemmas.List.{take-append-drop, take_all}
 use Rattle.sms_construct.specs.declared.data_set.DataSet.{DataSet}
 use Rattle.desk_law.specs.State.{DeskState}
