@@ -10,6 +10,8 @@ mod repeats;
 #[cfg(test)]
 mod replies;
 #[cfg(test)]
+mod resuming;
+#[cfg(test)]
 mod running;
 #[cfg(test)]
 mod runs;
