@@ -1,0 +1,6 @@
+pub mod Keys
+pub mod Targets
+pub mod Tests
+pub mod Verdicts
+pub mod Meeting
+pub mod Opened

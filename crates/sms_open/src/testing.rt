@@ -1,0 +1,45 @@
+//! The tests of rows that were found.
+ghost use Rattle.std.specs.Prelude.{◌≡◌, ◌⊎◌, Option, Result, IfOk, IsErrOf};
+ghost use Rattle.sms_construct.specs.Configuration.{Configuration};
+ghost use Rattle.desk_records.specs.Tied.{IsSoundOpening};
+ghost use Rattle.desk_law.specs.Decked.{IsDecked};
+ghost use Rattle.desk_law.specs.State.{start_of};
+ghost use Rattle.sms_open.specs.declared.rows_err.RowsErr.{RowsErr as RowsErrOf};
+ghost use Rattle.sms_open.specs.Opened.{opening_of};
+ghost use Rattle.sms_open.specs.Verdicts.{IsVerdict, answer_of};
+
+use crate::decks::{are_counted, last_config};
+use crate::doubles::are_single;
+use crate::replies::are_sound_replies;
+use crate::rows_err::RowsErr;
+use crate::sets::are_placed;
+use crate::statuses::are_statuses_of;
+use sms_deck::{Config, lawful_configurations};
+use sms_keeper::Rows;
+use std::alloc::{AllocError, Global};
+
+fn answer(number: u8, passed: Result<bool, AllocError>) -> Result<(), RowsErr>
+    ensures { result ≡ answer_of number passed }
+{
+    match passed {
+        Ok(true) => Ok(()),
+        Ok(false) => Err(RowsErr::Unsound(number)),
+        Err(_) => Err(RowsErr::NoMemory),
+    }
+}
+
+/// The configuration of the last deck, none without a deck, where the rows pass all six tests; and else the number of
+/// the first that they don't pass (docs/records.md, "Found rows"). Want of memory alone may come in place of either.
+/// Rows that pass are an opening from which a desk may go on, with the base at their greatest place.
+pub fn test_rows(alloc: Global, rows: &Rows) -> Result<Option<Config>, RowsErr>
+    ensures verdict { IsVerdict rows.now result ⊎ IsErrOf result RowsErr.NoMemory }
+    ensures exactly { (verdict : Result (Option Configuration) RowsErrOf) → IsVerdict rows.now verdict → (result ≡ verdict) ⊎ IsErrOf result RowsErr.NoMemory }
+{
+    answer(1, are_single(alloc, rows))?;
+    answer(2, Ok(are_counted(rows)))?;
+    let active = last_config(alloc, rows.decks.as_slice())?;
+    answer(4, are_statuses_of(alloc, &active, rows.statuses.as_slice()))?;
+    answer(5, are_placed(alloc, &active, rows.sets.as_slice()))?;
+    answer(6, are_sound_replies(alloc, rows))?;
+    Ok(active)
+}
