@@ -1,7 +1,8 @@
 pub mod EachLemmas
 pub mod KeyLemmas
 pub mod NameLemmas
+pub mod DeckLemmas
+pub mod FloorLemmas
 pub mod MeetingLemmas
 pub mod SizeLemmas
 pub mod VerdictLemmas
-pub mod OpeningLemmas

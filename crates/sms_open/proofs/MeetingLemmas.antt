@@ -1,5 +1,5 @@
 -- Extents in order, of which no two hold one track.
-use Rattle.std.proofs.Common.{◌≡◌, ◌≤◌, ◌<◌, ◌+◌, ℕ, zero, suc, Bool, true, false, cond, List, [], ◌∷◌, ◌++◌, Ordering, Less, Equal, Greater, length, get_or, take, refl, sym, ap, ◌∙◌, subst, arith, inl, inr}
+use Rattle.std.proofs.Common.{◌≡◌, ◌≤◌, ◌<◌, ◌+◌, ◌-◌, ℕ, zero, suc, Bool, true, false, cond, List, [], ◌∷◌, ◌++◌, Ordering, Less, Equal, Greater, length, get_or, take, refl, sym, ap, ◌∙◌, subst, arith, inl, inr, append_assoc, append-nil}
 use Rattle.std.specs.Prelude.{◌⊎◌, ◌&&◌, bytes_eq, nat_lt, nat_le}
 use Rattle.std.specs.Cmp.{IsTotalOrder, IsStrictWeakOrder}
 use Rattle.std.specs.Cmp.Lexicographic.{slice_cmp, nat_list_cmp_total}
@@ -20,6 +20,7 @@ use Rattle.desk_law.proofs.ByteLemmas.{bytes-self, same-bytes}
 use Rattle.desk_law.proofs.CountLemmas.{once_of, sum-cons, sum_on, times-is}
 use Rattle.desk_law.proofs.SetLemmas.{each-append}
 use Rattle.sms_open.specs.Meeting.{AreChained, Follows, HasTracks, place_cmp}
+use Rattle.sms_open.proofs.EachLemmas.{take-one}
 
 -- How often a track is held, counted over extents.
 
@@ -73,7 +74,7 @@ holds-from e t false c low high is = let bad : false ≡ true = rw low at is in 
 held-not : (e : Extent) (v : List ℕ) (t : ℕ) (b c : Bool) → bytes_eq e.volser v ≡ b → holds (piece_of e) t ≡ c → (b ≡ true → c ≡ true → ⊥) → held_by v t e ≡ 0
 held-not e v t true true on is no = absurd (no refl refl)
 held-not e v t true false on is no = rw (on, is) refl
-held-not e v t false c on is no = rw on refl
+held-not e v t false c on is _ = rw on refl
 
 follows-not : (e f : Extent) (v : List ℕ) (t : ℕ) → Follows e f → bytes_eq e.volser v ≡ true → holds (piece_of e) t ≡ true → bytes_eq f.volser v ≡ true → holds (piece_of f) t ≡ true → ⊥
 follows-not e f v t (inl less) on is on' is' = less-off e.volser f.volser less (same-bytes e.volser v on ∙ sym (same-bytes f.volser v on'))
@@ -114,7 +115,9 @@ pub order_weak : IsStrictWeakOrder (λ (one : Extent) (other : Extent). is_lt (p
 order_weak = ranks_by order_total (λ (e : Extent). e)
 
 sorted-tail : (e : Extent) (es : List Extent) → IsSorted place_cmp (e ∷ es) → IsSorted place_cmp es
-sorted-tail e es sorted = λ k d low high. sorted (suc k) d (omega arith) (omega (arith, high))
+sorted-tail e es sorted = λ k d low high.
+    let next : suc k + 1 ≡ suc (k + 1) = omega arith in
+    subst (λ (n : ℕ). is_lt (place_cmp (get_or (e ∷ es) n d) (get_or es k d)) ≡ false) next (sorted (suc k) d (omega arith) (omega (arith, high)))
 
 sorted-head : (e f : Extent) (es : List Extent) → IsSorted place_cmp (e ∷ f ∷ es) → is_lt (place_cmp f e) ≡ false
 sorted-head e f es sorted = sorted 0 e (omega arith) (omega arith)
@@ -176,6 +179,16 @@ chained-from sets es moved sorted some once =
     (recursion_from_All (λ (e : Extent). 0 < e.length) es (All-permutation (λ (e : Extent). 0 < e.length) (extents_of sets) es moved (All-from_recursion (λ (e : Extent). 0 < e.length) (extents_of sets) (some-tracks sets some))))
     (λ v t. let one = once v t in omega (arith, one, times-permuted v t (extents_of sets) es moved))
 
+-- The extents of the data sets that were gone over.
+
+extents-append : (a b : List DataSet) → extents_of (a ++ b) ≡ extents_of a ++ extents_of b
+extents-append [] b = refl
+extents-append (set ∷ a) b = ap (λ (l : List Extent). set.extents ++ l) (extents-append a b) ∙ sym (append_assoc set.extents (extents_of a) (extents_of b))
+
+pub extents-more : (sets : List DataSet) (i : ℕ) (set : DataSet) → i < length sets → set ≡ get_or sets i set → extents_of (take i sets) ++ set.extents ≡ extents_of (take (i + 1) sets)
+extents-more sets i set less is =
+    ap (λ (l : List Extent). extents_of (take i sets) ++ l) (sym (append-nil set.extents)) ∙ (sym (extents-append (take i sets) (set ∷ [])) ∙ ap extents_of (sym (take-one sets i set less is)))
+
 -- The extents that were gone over.
 
 pub chained-start : (es : List Extent) → AreChained (take 1 es)
@@ -193,3 +206,16 @@ chained-at [] i e f less is next chained = absurd (omega (arith, less))
 chained-at (a ∷ []) i e f less is next chained = absurd (omega (arith, less))
 chained-at (a ∷ b ∷ es) zero e f less is next chained = subst (λ (x : Extent). Follows x f) (sym is) (subst (λ (y : Extent). Follows a y) (sym next) chained.0)
 chained-at (a ∷ b ∷ es) (suc i) e f less is next chained = chained-at (b ∷ es) i e f (omega (arith, less)) is next chained.1
+
+-- by the place, which isn't the first
+pub chained-next : (es : List Extent) (n : ℕ) (e f : Extent) → 1 ≤ n → n < length es → e ≡ get_or es (n - 1) e → f ≡ get_or es n f → Follows e f → AreChained (take n es) → AreChained (take (n + 1) es)
+chained-next es n e f some less is next follows chained =
+    let here : suc (n - 1) ≡ n = omega (arith, some) in
+    let there : suc (suc (n - 1)) ≡ n + 1 = omega (arith, some) in
+    subst (λ (m : ℕ). AreChained (take m es)) there
+    (chained-more es (n - 1) e f (omega (arith, some, less)) is (subst (λ (m : ℕ). f ≡ get_or es m f) (sym here) next) follows (subst (λ (m : ℕ). AreChained (take m es)) (sym here) chained))
+
+pub chained-before : (es : List Extent) (n : ℕ) (e f : Extent) → 1 ≤ n → n < length es → e ≡ get_or es (n - 1) e → f ≡ get_or es n f → AreChained es → Follows e f
+chained-before es n e f some less is next chained =
+    let here : suc (n - 1) ≡ n = omega (arith, some) in
+    chained-at es (n - 1) e f (omega (arith, some, less)) is (subst (λ (m : ℕ). f ≡ get_or es m f) (sym here) next) chained

@@ -1,0 +1,13 @@
+use Rattle.std.proofs.Common.{◌≡◌, ℕ, List, map, nat_cmp, rules, ◌∙◌}
+use Rattle.std.specs.Prelude.{IfOk}
+use Rattle.std.specs.Cmp.Lexicographic.{slice_cmp}
+use Rattle.sms_keeper.specs.declared.floor.Floor.{Floor}
+use Rattle.sms_open.specs.Keys.{AreApart}
+use Rattle.sms_open.specs.Verdicts.{Tells}
+use Rattle.sms_open.proofs.NameLemmas.{jobs-told}
+use Rattle.sms_open.proofs.doubles.jobs_apart.Goals as goal
+
+pub returns : goal.returns
+returns c =
+    let keys : c.deref.result.now ≡ map (λ (floor : Floor). floor.job) c.args.floors.now = search rules in
+    jobs-told c.are_apart.result c.args.floors.now (rw keys at c.are_apart.ensures)
