@@ -6,3 +6,5 @@ pub mod FloorLemmas
 pub mod MeetingLemmas
 pub mod SizeLemmas
 pub mod VerdictLemmas
+pub mod SetLemmas
+pub mod StatusLemmas

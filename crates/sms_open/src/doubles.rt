@@ -1,5 +1,5 @@
 //! Test 1: what stands twice among rows.
-ghost use Rattle.std.specs.Prelude.{◌≡◌, ◌≤◌, ℕ, List, IfOk};
+ghost use Rattle.std.specs.Prelude.{◌≡◌, ◌≤◌, ℕ, List, IfOk, map};
 ghost use Rattle.desk_law.specs.KeptRows.{times_placed};
 ghost use Rattle.desk_law.specs.Lawful.{times_named};
 ghost use Rattle.sms_open.specs.Targets.{key_of_row};
@@ -13,17 +13,29 @@ use sms_construct::DataSet;
 use sms_keeper::{Floor, KeptRow, RequestKey, Rows};
 use std::alloc::{AllocError, Global};
 
+fn names_of(alloc: Global, sets: &[Shared<DataSet>]) -> Result<Vec<Dsn>, AllocError>
+    ensures { IfOk result (λ names. names.items ≡ map (λ set. set.dsn) sets.now) }
+{
+    sets.iter().map(|set| set.get().dsn).collect(alloc)
+}
+
 fn names_apart(alloc: Global, sets: &[Shared<DataSet>]) -> Result<bool, AllocError>
     ensures { IfOk result (Tells ((dsn : List ℕ) → times_named dsn sets.now ≤ 1)) }
 {
-    let names: Vec<Dsn> = sets.iter().map(|set| set.get().dsn).collect(alloc)?;
+    let names = names_of(alloc, sets)?;
     are_apart(alloc, &names)
+}
+
+fn keys_of(alloc: Global, replies: &[KeptRow]) -> Result<Vec<RequestKey>, AllocError>
+    ensures { IfOk result (λ keys. keys.items ≡ map key_of_row replies.now) }
+{
+    replies.iter().map(|row| key_of(row)).collect(alloc)
 }
 
 fn numbers_apart(alloc: Global, replies: &[KeptRow]) -> Result<bool, AllocError>
     ensures { IfOk result (Tells ((job : List ℕ) (number : ℕ) → times_kept job number replies.now ≤ 1)) }
 {
-    let keys: Vec<RequestKey> = replies.iter().map(|row| key_of(row)).collect(alloc)?;
+    let keys = keys_of(alloc, replies)?;
     are_apart(alloc, &keys)
 }
 
@@ -36,18 +48,30 @@ fn key_of(row: &KeptRow) -> RequestKey
     }
 }
 
+fn jobs_of(alloc: Global, floors: &[Floor]) -> Result<Vec<Name>, AllocError>
+    ensures { IfOk result (λ jobs. jobs.items ≡ map (λ floor. floor.job) floors.now) }
+{
+    floors.iter().map(|floor| floor.job).collect(alloc)
+}
+
 fn jobs_apart(alloc: Global, floors: &[Floor]) -> Result<bool, AllocError>
     ensures { IfOk result (Tells ((job : List ℕ) → times_floor job floors.now ≤ 1)) }
 {
-    let jobs: Vec<Name> = floors.iter().map(|floor| floor.job).collect(alloc)?;
+    let jobs = jobs_of(alloc, floors)?;
     are_apart(alloc, &jobs)
+}
+
+fn places_of(alloc: Global, replies: &[KeptRow]) -> Result<Vec<u64>, AllocError>
+    ensures { IfOk result (λ places. places.items ≡ map (λ row. row.place) replies.now) }
+{
+    replies.iter().map(|row| row.place).collect(alloc)
 }
 
 /// Whether no two replies have one place; or want of memory.
 pub fn places_apart(alloc: Global, replies: &[KeptRow]) -> Result<bool, AllocError>
     ensures { IfOk result (Tells ((place : ℕ) → times_placed place replies.now ≤ 1)) }
 {
-    let places: Vec<u64> = replies.iter().map(|row| row.place).collect(alloc)?;
+    let places = places_of(alloc, replies)?;
     are_apart(alloc, &places)
 }
 

@@ -1,5 +1,5 @@
 //! Test 4: the statuses.
-ghost use Rattle.std.specs.Prelude.{◌≡◌, ℕ, List, IfOk, Some, true, not, map};
+ghost use Rattle.std.specs.Prelude.{◌≡◌, ℕ, List, IfOk, Some, true, filter_map, not, map};
 ghost use Rattle.std.specs.List.{AllByRecursion, list_all};
 ghost use Rattle.sms_construct.specs.Configuration.{are_ascending, is_connected};
 ghost use Rattle.sms_construct.specs.declared.target.Target.{Target};
@@ -76,6 +76,18 @@ fn volume_of(row: &StatusRow) -> Option<Volser>
     }
 }
 
+fn names_of(alloc: Global, groups: &[StorGroup]) -> Result<Vec<Name>, AllocError>
+    ensures { IfOk result (λ names. names.items ≡ map (λ group. group.name) groups.now) }
+{
+    groups.iter().map(|group| group.name).collect(alloc)
+}
+
+fn groups_found(alloc: Global, rows: &[StatusRow]) -> Result<Vec<Name>, AllocError>
+    ensures { IfOk result (λ names. names.items ≡ filter_map (λ row. group_in row.target) rows.now) }
+{
+    rows.iter().filter_map(|row| group_of(row)).collect(alloc)
+}
+
 fn groups_stand(
     alloc: Global,
     groups: &[StorGroup],
@@ -84,9 +96,21 @@ fn groups_stand(
     requires { are_ascending (map (λ group. group.name) groups.now) ≡ true }
     ensures { IfOk result (Tells ((name : List ℕ) → times_status (targets.Group name) rows.now ≡ times_group name groups.now)) }
 {
-    let wanted: Vec<Name> = groups.iter().map(|group| group.name).collect(alloc)?;
-    let found: Vec<Name> = rows.iter().filter_map(|row| group_of(row)).collect(alloc)?;
+    let wanted = names_of(alloc, groups)?;
+    let found = groups_found(alloc, rows)?;
     are_as_often(alloc, &wanted, &found)
+}
+
+fn volsers_of(alloc: Global, volumes: &[VolumeDef]) -> Result<Vec<Volser>, AllocError>
+    ensures { IfOk result (λ volsers. volsers.items ≡ map (λ volume. volume.volser) volumes.now) }
+{
+    volumes.iter().map(|volume| volume.volser).collect(alloc)
+}
+
+fn volumes_found(alloc: Global, rows: &[StatusRow]) -> Result<Vec<Volser>, AllocError>
+    ensures { IfOk result (λ volsers. volsers.items ≡ filter_map (λ row. volume_in row.target) rows.now) }
+{
+    rows.iter().filter_map(|row| volume_of(row)).collect(alloc)
 }
 
 fn volumes_stand(
@@ -97,8 +121,8 @@ fn volumes_stand(
     requires { are_ascending (map (λ volume. volume.volser) volumes.now) ≡ true }
     ensures { IfOk result (Tells ((volser : List ℕ) → times_status (targets.Volume volser) rows.now ≡ times_volume volser volumes.now)) }
 {
-    let wanted: Vec<Volser> = volumes.iter().map(|volume| volume.volser).collect(alloc)?;
-    let found: Vec<Volser> = rows.iter().filter_map(|row| volume_of(row)).collect(alloc)?;
+    let wanted = volsers_of(alloc, volumes)?;
+    let found = volumes_found(alloc, rows)?;
     are_as_often(alloc, &wanted, &found)
 }
 

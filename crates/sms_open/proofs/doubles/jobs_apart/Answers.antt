@@ -9,5 +9,5 @@ use Rattle.sms_open.proofs.doubles.jobs_apart.Goals as goal
 
 pub returns : goal.returns
 returns c =
-    let keys : c.deref.result.now ≡ map (λ (floor : Floor). floor.job) c.args.floors.now = search rules in
+    let keys : c.deref.result.now ≡ map (λ (floor : Floor). floor.job) c.args.floors.now = c.deref.ensures.value ∙ c.in_ok-jobs.ensures in
     jobs-told c.are_apart.result c.args.floors.now (rw keys at c.are_apart.ensures)

@@ -9,5 +9,5 @@ use Rattle.sms_open.proofs.doubles.names_apart.Goals as goal
 
 pub returns : goal.returns
 returns c =
-    let keys : c.deref.result.now ≡ map (λ (set : DataSet). set.dsn) c.args.sets.now = search rules in
+    let keys : c.deref.result.now ≡ map (λ (set : DataSet). set.dsn) c.args.sets.now = c.deref.ensures.value ∙ c.in_ok-names.ensures in
     names-told c.are_apart.result c.args.sets.now (rw keys at c.are_apart.ensures)
