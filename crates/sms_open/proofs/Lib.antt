@@ -8,3 +8,4 @@ pub mod SizeLemmas
 pub mod VerdictLemmas
 pub mod SetLemmas
 pub mod StatusLemmas
+pub mod OpeningLemmas

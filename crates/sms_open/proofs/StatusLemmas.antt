@@ -1,7 +1,8 @@
 -- The statuses of all targets, from those of storage groups, volumes and data sets.
 use Rattle.std.proofs.Common.{◌≡◌, ◌≤◌, ◌+◌, ℕ, zero, suc, Bool, true, false, cond, List, [], ◌∷◌, Option, None, Some, Result, Ok, Err, length, refl, sym, ap, ◌∙◌, arith}
-use Rattle.std.specs.Prelude.{IfOk, not, ◌&&◌}
+use Rattle.std.specs.Prelude.{IfOk, not, ◌&&◌, ◌==◌}
 use Rattle.std.specs.List.{AllByRecursion, list_all}
+use Rattle.std.proofs.lemmas.Bool.Decides.{Decides-eqb}
 use Rattle.sms_construct.specs.Configuration.{Configuration}
 use Rattle.sms_construct.specs.declared.target.Target.{Target}
 use Rattle.sms_construct.specs.declared.target.Target.TheVariants as targets
@@ -77,11 +78,11 @@ no-target (targets.Group name) = refl
 no-target (targets.Volume volser) = refl
 no-target (targets.Set dsn) = refl
 
-pub bare-told : (rows : List StatusRow) (b : Bool) → AllByRecursion (λ row. may_have row.target row.status ≡ true) rows → (b ≡ true → length rows ≡ 0) → (b ≡ false → length rows ≡ 0 → ⊥) → Tells (AreStatusesOf None rows) b
-bare-told [] true connected none some = record { each = λ target. sym (no-target target); connected = connected }
-bare-told [] false connected none some = absurd (some refl refl)
-bare-told (row ∷ rows) true connected none some = absurd (let bad = none refl in omega (arith, bad))
-bare-told (row ∷ rows) false connected none some = λ are.
+pub bare-told : (rows : List StatusRow) (b : Bool) → AllByRecursion (λ row. may_have row.target row.status ≡ true) rows → b ≡ (length rows == 0) → Tells (AreStatusesOf None rows) b
+bare-told [] true connected is = record { each = λ target. sym (no-target target); connected = connected }
+bare-told [] false connected is = let yes : (0 == 0) ≡ true = (Decides-eqb 0 0).1 refl in absurd cc
+bare-told (row ∷ rows) true connected is = let bad : suc (length rows) ≡ 0 = (Decides-eqb (suc (length rows)) 0).0 (sym is) in absurd (omega (arith, bad))
+bare-told (row ∷ rows) false connected is = λ are.
     let here : cond (same_target row.target row.target) 1 zero ≡ suc zero = rw (own-target row.target) refl in
     let none = are.each row.target in
     omega (arith, here, none, no-target row.target)

@@ -14,7 +14,7 @@ use crate::replies::are_sound_replies;
 use crate::rows_err::RowsErr;
 use crate::sets::are_placed;
 use crate::statuses::are_statuses_of;
-use sms_deck::{Config, lawful_configurations};
+use sms_deck::Config;
 use sms_keeper::Rows;
 use std::alloc::{AllocError, Global};
 
@@ -28,12 +28,9 @@ fn answer(number: u8, passed: Result<bool, AllocError>) -> Result<(), RowsErr>
     }
 }
 
-/// The configuration of the last deck, none without a deck, where the rows pass all six tests; and else the number of
-/// the first that they don't pass (docs/records.md, "Found rows"). Want of memory alone may come in place of either.
-/// Rows that pass are an opening from which a desk may go on, with the base at their greatest place.
-pub fn test_rows(alloc: Global, rows: &Rows) -> Result<Option<Config>, RowsErr>
-    ensures verdict { IsVerdict rows.now result ⊎ IsErrOf result RowsErr.NoMemory }
-    ensures exactly { (verdict : Result (Option Configuration) RowsErrOf) → IsVerdict rows.now verdict → (result ≡ verdict) ⊎ IsErrOf result RowsErr.NoMemory }
+// The verdict on the rows, or want of memory.
+fn judge(alloc: Global, rows: &Rows) -> Result<Option<Config>, RowsErr>
+    ensures { IsVerdict rows.now result ⊎ IsErrOf result RowsErr.NoMemory }
 {
     answer(1, are_single(alloc, rows))?;
     answer(2, Ok(are_counted(rows)))?;
@@ -42,4 +39,17 @@ pub fn test_rows(alloc: Global, rows: &Rows) -> Result<Option<Config>, RowsErr>
     answer(5, are_placed(alloc, &active, rows.sets.as_slice()))?;
     answer(6, are_sound_replies(alloc, rows))?;
     Ok(active)
+}
+
+/// The configuration of the last deck, none without a deck, where the rows pass all six tests; and else the number of
+/// the first that they don't pass (docs/records.md, "Found rows"). Want of memory alone may come in place of either.
+/// Rows that pass are an opening from which a desk may go on, its base at their greatest place.
+pub fn test_rows(alloc: Global, rows: &Rows) -> Result<Option<Config>, RowsErr>
+    ensures verdict { IsVerdict rows.now result ⊎ IsErrOf result RowsErr.NoMemory }
+    ensures exactly { (verdict : Result (Option Configuration) RowsErrOf) → IsVerdict rows.now verdict → (result ≡ verdict) ⊎ IsErrOf result RowsErr.NoMemory }
+    ensures opening { IfOk result (λ active. IsSoundOpening (opening_of rows.now active)) }
+    ensures decked { IfOk result (λ active. IsDecked rows.now.decks (start_of (opening_of rows.now active))) }
+{
+    rows.decks.as_slice();
+    judge(alloc, rows)
 }
