@@ -72,7 +72,7 @@ holds-from e t true false low high is = let bad : false ≡ true = rw (low, high
 holds-from e t false c low high is = let bad : false ≡ true = rw low at is in absurd cc
 
 held-not : (e : Extent) (v : List ℕ) (t : ℕ) (b c : Bool) → bytes_eq e.volser v ≡ b → holds (piece_of e) t ≡ c → (b ≡ true → c ≡ true → ⊥) → held_by v t e ≡ 0
-held-not e v t true true on is no = absurd (no refl refl)
+held-not e v t true true on is never = absurd (never refl refl)
 held-not e v t true false on is _ = rw (on, is) refl
 held-not e v t false c on is _ = rw on refl
 

@@ -27,7 +27,7 @@ use Rattle.sms_open.specs.declared.rows_err.RowsErr.TheVariants.{Unsound, NoMemo
 use Rattle.sms_open.specs.Opened.{greatest_place, opening_of}
 use Rattle.sms_open.specs.Tests.{AreCounted, ArePlaced, AreSingle, AreSoundReplies, AreStatusesOf, IsSoundReply, most_place, times_floor, times_kept}
 use Rattle.sms_open.specs.Verdicts.{Configured, IsVerdict, Tested}
-use Rattle.sms_open.proofs.VerdictLemmas.{IsAnswer}
+use Rattle.sms_open.proofs.VerdictLemmas.{IsAnswer, from_counts, from_deck, from_end, from_replies, from_sets}
 
 -- The tests that were passed.
 
@@ -43,16 +43,17 @@ record Passed (rows : Rows) (active : Option Configuration) : Type 0 where
   placed : ArePlaced active rows.sets
   replies : AreSoundReplies rows.replies rows.floors
 
+ok-is : (a b : Option Configuration) (v : Result (Option Configuration) RowsErr) → v ≡ Ok a → v ≡ Ok b → b ≡ a
+ok-is a b v one other = cc
+
 -- under what the last deck configures
-on-deck : (rows : Rows) (active : Option Configuration) → AreSingle rows → AreCounted rows
-    → Configured 3 rows.decks (λ now. Tested 4 (AreStatusesOf now rows.statuses) (Tested 5 (ArePlaced now rows.sets) (Tested 6 (AreSoundReplies rows.replies rows.floors) (λ verdict. verdict ≡ Ok now)))) (Ok active)
-    → Passed rows active
-on-deck rows active single counted (inl bad) = absurd (let no = bad.1 in cc)
+on-deck : (rows : Rows) (active : Option Configuration) → AreSingle rows → AreCounted rows → from_deck rows (Ok active) → Passed rows active
+on-deck rows active single counted (inl bad) = absurd (let no : Ok active ≡ Err (Unsound 3) = bad.1 in cc)
 on-deck rows active single counted (inr (now, last, verdict)) =
-    let four = on-test 4 _ _ active verdict in
-    let five = on-test 5 _ _ active four.1 in
-    let six = on-test 6 _ _ active five.1 in
-    let same : now ≡ active = (let e = six.1 in cc) in
+    let four = on-test 4 (AreStatusesOf now rows.statuses) (from_sets rows now) active verdict in
+    let five = on-test 5 (ArePlaced now rows.sets) (from_replies rows now) active four.1 in
+    let six = on-test 6 (AreSoundReplies rows.replies rows.floors) (from_end now) active five.1 in
+    let same : now ≡ active = ok-is active now (Ok active) refl six.1 in
     record {
       single = single;
       counted = counted;
@@ -64,8 +65,8 @@ on-deck rows active single counted (inr (now, last, verdict)) =
 
 passed-all : (rows : Rows) (active : Option Configuration) → IsVerdict rows (Ok active) → Passed rows active
 passed-all rows active verdict =
-    let one = on-test 1 _ _ active verdict in
-    let two = on-test 2 _ _ active one.1 in
+    let one = on-test 1 (AreSingle rows) (from_counts rows) active verdict in
+    let two = on-test 2 (AreCounted rows) (from_deck rows) active one.1 in
     on-deck rows active one.0 two.0 two.1
 
 -- The configuration.
@@ -180,6 +181,26 @@ kept-at floors job number rows false is all once = one-kept job number rows once
 -- The floors.
 
 none-floor-at : (job : List ℕ) (f : Floor) (fs : List Floor) (b : Bool) → is_floor_of job f ≡ b → times_floor job (f ∷ fs) ≡ 0 → (times_floor job fs ≡ 0 → (filter (is_floor_of job) fs ≡ []) × (greatest_floor job fs ≡ 0))
+    → (filter (is_floor_of job) (f ∷ fs) ≡ []) × (greatest_floor job (f ∷ fs) ≡ 0)
+none-floor-at job f fs true is none rest =
+    let one : cond (is_floor_of job f) 1 zero ≡ suc zero = rw is refl in
+    absurd (omega (arith, one, none))
+none-floor-at job f fs false is none rest = let both = rest (omega (arith, none)) in (rw is both.0, rw is both.1)
+
+none-floor : (job : List ℕ) (fs : List Floor) → times_floor job fs ≡ 0 → (filter (is_floor_of job) fs ≡ []) × (greatest_floor job fs ≡ 0)
+none-floor job [] none = (refl, refl)
+none-floor job (f ∷ fs) none = none-floor-at job f fs _ refl none (none-floor job fs)
+
+abbrev floor_row : List ℕ → ℕ → Floor
+floor_row job floor = record { job = job; floor = floor }
+
+own-row : (job : List ℕ) (f : Floor) (n : ℕ) → f.job ≡ job → n ≡ f.floor → 1 ≤ f.floor → f ∷ [] ≡ floor_rows job n
+own-row job f n same is some =
+    let off : (n == 0) ≡ false = grind (arith, nat_tests) in
+    let row : f ≡ floor_row job n = ap (λ (j : List ℕ). floor_row j f.floor) same ∙ ap (λ (m : ℕ). floor_row job m) (sym is) in
+    rw off (ap (λ (g : Floor). g ∷ []) row)
+
+one-floor-at : (job : List ℕ) (f : Floor) (fs : List Floor) (b : Bool) → is_floor_of job f ≡ b → times_floor job (f ∷ fs) ≡ 0 → (times_floor job fs ≡ 0 → (filter (is_floor_of job) fs ≡ []) × (greatest_floor job fs ≡ 0))
     → (filter (is_floor_of job) (f ∷ fs) ≡ []) × (greatest_floor job (f ∷ fs) ≡ 0)
 none-floor-at job f fs true is none rest =
     let one : cond (is_floor_of job f) 1 zero ≡ suc zero = rw is refl in

@@ -1,5 +1,5 @@
 -- A data set that may stand on volumes whose tracks are known.
-use Rattle.std.proofs.Common.{◌≡◌, ◌<◌, ◌+◌, ◌-◌, ◌≤◌, ℕ, Bool, true, false, List, [], ◌∷◌, length, Result, Ok, Err, sym, subst}
+use Rattle.std.proofs.Common.{◌≡◌, ◌<◌, ◌+◌, ◌-◌, ◌≤◌, ℕ, Bool, true, false, List, [], ◌∷◌, length, Result, Ok, Err, refl, sym, subst, arith}
 use Rattle.std.specs.Prelude.{IfOk}
 use Rattle.std.specs.List.{AllByRecursion}
 use Rattle.desk_common.specs.Limits.{most_extents}
@@ -40,3 +40,8 @@ inside-tracks volumes (e ∷ es) all = (all.0.0, inside-tracks volumes es all.1)
 pub lawful-tracks : (volumes : List VolumeDef) (sets : List DataSet) → AllByRecursion (IsLawfulSet volumes) sets → AllByRecursion HasTracks sets
 lawful-tracks volumes [] all = tt
 lawful-tracks volumes (set ∷ sets) all = (inside-tracks volumes set.extents all.0.inside, lawful-tracks volumes sets all.1)
+
+-- what isn't empty has an element
+pub some-length : (es : List Extent) (b : Bool) → (es ≡ [] → b ≡ true) → b ≡ false → 0 < length es
+some-length [] b empty is = let yes : b ≡ true = empty refl in absurd cc
+some-length (e ∷ es) b empty is = omega arith

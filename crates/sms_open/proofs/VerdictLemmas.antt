@@ -8,7 +8,7 @@ use Rattle.sms_keeper.specs.declared.rows.Rows.{Rows}
 use Rattle.desk_law.specs.Decked.{IsActive, IsLastActive}
 use Rattle.sms_open.specs.declared.rows_err.RowsErr.{RowsErr}
 use Rattle.sms_open.specs.declared.rows_err.RowsErr.TheVariants.{Unsound, NoMemory}
-use Rattle.sms_open.specs.Tests.{HasLastFault}
+use Rattle.sms_open.specs.Tests.{AreCounted, ArePlaced, AreSingle, AreSoundReplies, AreStatusesOf, HasLastFault}
 use Rattle.sms_open.specs.Verdicts.{Configured, IsVerdict, RefusesDeck, Tells, Tested, answer_of}
 
 -- an answer: the verdict, or want of memory
@@ -75,10 +75,33 @@ one-configured number decks next v w one (inr a) (inr b) =
     let same : b.0 ≡ a.0 = one-active decks b.0 a.0 b.1 a.1 in
     one a.0 a.2 (subst (λ (o : Option Configuration). next o w) same b.2)
 
+-- the verdict from each test on
+abbrev pub from_end : Option Configuration → Result (Option Configuration) RowsErr → Type 0
+from_end active verdict = verdict ≡ Ok active
+
+abbrev pub from_replies : Rows → Option Configuration → Result (Option Configuration) RowsErr → Type 0
+from_replies rows active = Tested 6 (AreSoundReplies rows.replies rows.floors) (from_end active)
+
+abbrev pub from_sets : Rows → Option Configuration → Result (Option Configuration) RowsErr → Type 0
+from_sets rows active = Tested 5 (ArePlaced active rows.sets) (from_replies rows active)
+
+abbrev pub from_statuses : Rows → Option Configuration → Result (Option Configuration) RowsErr → Type 0
+from_statuses rows active = Tested 4 (AreStatusesOf active rows.statuses) (from_sets rows active)
+
+abbrev pub from_deck : Rows → Result (Option Configuration) RowsErr → Type 0
+from_deck rows = Configured 3 rows.decks (from_statuses rows)
+
+abbrev pub from_counts : Rows → Result (Option Configuration) RowsErr → Type 0
+from_counts rows = Tested 2 (AreCounted rows) (from_deck rows)
+
 one-verdict : (rows : Rows) (v w : Result (Option Configuration) RowsErr) → IsVerdict rows v → IsVerdict rows w → v ≡ w
 one-verdict rows v w =
-    one-tested 1 _ _ v w (one-tested 2 _ _ v w (one-configured 3 rows.decks _ v w (λ active.
-    one-tested 4 _ _ v w (one-tested 5 _ _ v w (one-tested 6 _ _ v w (λ a b. a ∙ sym b))))))
+    one-tested 1 (AreSingle rows) (from_counts rows) v w
+    (one-tested 2 (AreCounted rows) (from_deck rows) v w
+    (one-configured 3 rows.decks (from_statuses rows) v w (λ active.
+    one-tested 4 (AreStatusesOf active rows.statuses) (from_sets rows active) v w
+    (one-tested 5 (ArePlaced active rows.sets) (from_replies rows active) v w
+    (one-tested 6 (AreSoundReplies rows.replies rows.floors) (from_end active) v w (λ (a : v ≡ Ok active) (b : w ≡ Ok active). a ∙ sym b))))))
 
 -- the verdict is answered, but for want of memory
 pub exactly : (rows : Rows) (result verdict : Result (Option Configuration) RowsErr) → IsAnswer (IsVerdict rows) result → IsVerdict rows verdict → (result ≡ verdict) ⊎ (result ≡ Err NoMemory)

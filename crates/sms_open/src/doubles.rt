@@ -29,7 +29,13 @@ fn names_apart(alloc: Global, sets: &[Shared<DataSet>]) -> Result<bool, AllocErr
 fn keys_of(alloc: Global, replies: &[KeptRow]) -> Result<Vec<RequestKey>, AllocError>
     ensures { IfOk result (λ keys. keys.items ≡ map key_of_row replies.now) }
 {
-    replies.iter().map(|row| key_of(row)).collect(alloc)
+    let mut keys = Vec::with_capacity(alloc, replies.len())?;
+    for row in replies {
+        if keys.push(key_of(row)).is_err() {
+            return Err(AllocError);
+        }
+    }
+    Ok(keys)
 }
 
 fn numbers_apart(alloc: Global, replies: &[KeptRow]) -> Result<bool, AllocError>
@@ -64,7 +70,13 @@ fn jobs_apart(alloc: Global, floors: &[Floor]) -> Result<bool, AllocError>
 fn places_of(alloc: Global, replies: &[KeptRow]) -> Result<Vec<u64>, AllocError>
     ensures { IfOk result (λ places. places.items ≡ map (λ row. row.place) replies.now) }
 {
-    replies.iter().map(|row| row.place).collect(alloc)
+    let mut places = Vec::with_capacity(alloc, replies.len())?;
+    for row in replies {
+        if places.push(row.place).is_err() {
+            return Err(AllocError);
+        }
+    }
+    Ok(places)
 }
 
 /// Whether no two replies have one place; or want of memory.

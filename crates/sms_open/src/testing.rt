@@ -18,6 +18,9 @@ use sms_deck::Config;
 use sms_keeper::Rows;
 use std::alloc::{AllocError, Global};
 
+// No memory has more decks.
+const MOST_DECKS: usize = 9_223_372_036_854_775_807;
+
 fn answer(number: u8, passed: Result<bool, AllocError>) -> Result<(), RowsErr>
     ensures { result ≡ answer_of number passed }
 {
@@ -50,6 +53,8 @@ pub fn test_rows(alloc: Global, rows: &Rows) -> Result<Option<Config>, RowsErr>
     ensures opening { IfOk result (λ active. IsSoundOpening (opening_of rows.now active)) }
     ensures decked { IfOk result (λ active. IsDecked rows.now.decks (start_of (opening_of rows.now active))) }
 {
-    rows.decks.as_slice();
+    if rows.decks.len() > MOST_DECKS {
+        return Err(RowsErr::NoMemory);
+    }
     judge(alloc, rows)
 }

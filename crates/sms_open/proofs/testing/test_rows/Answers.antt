@@ -8,7 +8,7 @@ returns-clause-exactly c = λ verdict is. exactly c.args.rows.now c.judge.result
 
 pub returns-clause-opening : goal.returns-clause-opening
 returns-clause-opening c =
-    let few : length c.args.rows.now.decks < 2 ^ 63 = omega (arith, c.as_slice.ensures, c.as_slice.type_inv) in
+    let few : length c.args.rows.now.decks < 2 ^ 63 = omega arith in
     sound c.args.rows.now c.judge.result few c.judge.ensures
 
 pub returns-clause-decked : goal.returns-clause-decked
