@@ -200,22 +200,6 @@ own-row job f n same is some =
     let row : f ≡ floor_row job n = ap (λ (j : List ℕ). floor_row j f.floor) same ∙ ap (λ (m : ℕ). floor_row job m) (sym is) in
     rw off (ap (λ (g : Floor). g ∷ []) row)
 
-one-floor-at : (job : List ℕ) (f : Floor) (fs : List Floor) (b : Bool) → is_floor_of job f ≡ b → times_floor job (f ∷ fs) ≡ 0 → (times_floor job fs ≡ 0 → (filter (is_floor_of job) fs ≡ []) × (greatest_floor job fs ≡ 0))
-    → (filter (is_floor_of job) (f ∷ fs) ≡ []) × (greatest_floor job (f ∷ fs) ≡ 0)
-none-floor-at job f fs true is none rest =
-    let one : cond (is_floor_of job f) 1 zero ≡ suc zero = rw is refl in
-    absurd (omega (arith, one, none))
-none-floor-at job f fs false is none rest = let both = rest (omega (arith, none)) in (rw is both.0, rw is both.1)
-
-none-floor : (job : List ℕ) (fs : List Floor) → times_floor job fs ≡ 0 → (filter (is_floor_of job) fs ≡ []) × (greatest_floor job fs ≡ 0)
-none-floor job [] none = (refl, refl)
-none-floor job (f ∷ fs) none = none-floor-at job f fs _ refl none (none-floor job fs)
-
-own-row : (job : List ℕ) (f : Floor) (n : ℕ) → f.job ≡ job → n ≡ f.floor → 1 ≤ f.floor → f ∷ [] ≡ floor_rows job n
-own-row job f n same is some =
-    let off : (n == 0) ≡ false = grind (arith, nat_tests) in
-    rw off (ap (λ (g : Floor). g ∷ []) (let e : f ≡ record { job = job; floor = n } = cc in e))
-
 one-floor-at : (job : List ℕ) (f : Floor) (fs : List Floor) (b : Bool) → is_floor_of job f ≡ b → times_floor job (f ∷ fs) ≤ 1 → 1 ≤ f.floor
     → (times_floor job fs ≤ 1 → filter (is_floor_of job) fs ≡ floor_rows job (greatest_floor job fs)) → filter (is_floor_of job) (f ∷ fs) ≡ floor_rows job (greatest_floor job (f ∷ fs))
 one-floor-at job f fs true is once some rest =

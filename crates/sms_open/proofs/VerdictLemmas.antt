@@ -9,7 +9,7 @@ use Rattle.desk_law.specs.Decked.{IsActive, IsLastActive}
 use Rattle.sms_open.specs.declared.rows_err.RowsErr.{RowsErr}
 use Rattle.sms_open.specs.declared.rows_err.RowsErr.TheVariants.{Unsound, NoMemory}
 use Rattle.sms_open.specs.Tests.{AreCounted, ArePlaced, AreSingle, AreSoundReplies, AreStatusesOf, HasLastFault}
-use Rattle.sms_open.specs.Verdicts.{Configured, IsVerdict, RefusesDeck, Tells, Tested, answer_of}
+use Rattle.sms_open.specs.Verdicts.{Configured, IsVerdict, RefusesDeck, Tells, Tested, answer_of, answer_with}
 
 -- an answer: the verdict, or want of memory
 abbrev pub IsAnswer : (Result (Option Configuration) RowsErr → Type 0) → Result (Option Configuration) RowsErr → Type 0
@@ -107,3 +107,9 @@ one-verdict rows v w =
 pub exactly : (rows : Rows) (result verdict : Result (Option Configuration) RowsErr) → IsAnswer (IsVerdict rows) result → IsVerdict rows verdict → (result ≡ verdict) ⊎ (result ≡ Err NoMemory)
 exactly rows result verdict (inl is) other = inl (one-verdict rows result verdict is other)
 exactly rows result verdict (inr none) other = inr none
+
+-- the last test tells of the last part of the verdict
+pub last-test : {E : Type 0} (rows : Rows) (active : Option Configuration) (r : Result Bool E) (u : Result (Unit {0}) RowsErr) → u ≡ answer_of 6 r → IfOk r (Tells (AreSoundReplies rows.replies rows.floors)) → IsAnswer (from_replies rows active) (answer_with active u)
+last-test rows active (Ok true) u is tells = rw is (inl (inr (tells, refl)))
+last-test rows active (Ok false) u is tells = rw is (inl (inl (tells, refl)))
+last-test rows active (Err e) u is tells = rw is (inr refl)

@@ -17,16 +17,20 @@ abbrev pub Configured : ℕ → List DeckRow → (Option Configuration → Resul
 Configured number decks next verdict =
     (HasLastFault decks × (verdict ≡ Err (Unsound number))) ⊎ ((active : Option Configuration) × IsLastActive decks active × next active verdict)
 
+-- the verdict on rows whose last deck configures this: the last three tests
+abbrev pub IsVerdictUnder : Rows → Option Configuration → Result (Option Configuration) RowsErr → Type 0
+IsVerdictUnder rows active =
+    Tested 4 (AreStatusesOf active rows.statuses)
+    (Tested 5 (ArePlaced active rows.sets)
+    (Tested 6 (AreSoundReplies rows.replies rows.floors)
+    (λ verdict. verdict ≡ Ok active)))
+
 -- the verdict on rows: the number of the first of the six tests that they don't pass, or the configuration of their last deck
 abbrev pub IsVerdict : Rows → Result (Option Configuration) RowsErr → Type 0
 IsVerdict rows =
     Tested 1 (AreSingle rows)
     (Tested 2 (AreCounted rows)
-    (Configured 3 rows.decks (λ active.
-    Tested 4 (AreStatusesOf active rows.statuses)
-    (Tested 5 (ArePlaced active rows.sets)
-    (Tested 6 (AreSoundReplies rows.replies rows.floors)
-    (λ verdict. verdict ≡ Ok active))))))
+    (Configured 3 rows.decks (IsVerdictUnder rows)))
 
 -- how one test is told
 
@@ -40,6 +44,11 @@ abbrev pub answer_of : {E : Type 0} → ℕ → Result Bool E → Result (Unit {
 answer_of number (Ok true) = Ok tt
 answer_of number (Ok false) = Err (Unsound number)
 answer_of number (Err err) = Err NoMemory
+
+-- the answer of tests, with the configuration under which they were made
+abbrev pub answer_with : Option Configuration → Result (Unit {0}) RowsErr → Result (Option Configuration) RowsErr
+answer_with active (Ok done) = Ok active
+answer_with active (Err err) = Err err
 
 -- the refusal of the last deck: it has a fault, or memory is wanting
 abbrev pub RefusesDeck : List DeckRow → RowsErr → Type 0

@@ -6,7 +6,7 @@ ghost use Rattle.desk_law.specs.Decked.{IsDecked};
 ghost use Rattle.desk_law.specs.State.{start_of};
 ghost use Rattle.sms_open.specs.declared.rows_err.RowsErr.{RowsErr as RowsErrOf};
 ghost use Rattle.sms_open.specs.Opened.{opening_of};
-ghost use Rattle.sms_open.specs.Verdicts.{IsVerdict, answer_of};
+ghost use Rattle.sms_open.specs.Verdicts.{IsVerdict, IsVerdictUnder, answer_of, answer_with};
 
 use crate::decks::{are_counted, last_config};
 use crate::doubles::are_single;
@@ -31,6 +31,15 @@ fn answer(number: u8, passed: Result<bool, AllocError>) -> Result<(), RowsErr>
     }
 }
 
+// The last three tests.
+fn judge_under(alloc: Global, rows: &Rows, active: &Option<Config>) -> Result<(), RowsErr>
+    ensures { IsVerdictUnder rows.now active.now (answer_with active.now result) ⊎ IsErrOf (answer_with active.now result) RowsErr.NoMemory }
+{
+    answer(4, are_statuses_of(alloc, active, rows.statuses.as_slice()))?;
+    answer(5, are_placed(alloc, active, rows.sets.as_slice()))?;
+    answer(6, are_sound_replies(alloc, rows))
+}
+
 // The verdict on the rows, or want of memory.
 fn judge(alloc: Global, rows: &Rows) -> Result<Option<Config>, RowsErr>
     ensures { IsVerdict rows.now result ⊎ IsErrOf result RowsErr.NoMemory }
@@ -38,10 +47,10 @@ fn judge(alloc: Global, rows: &Rows) -> Result<Option<Config>, RowsErr>
     answer(1, are_single(alloc, rows))?;
     answer(2, Ok(are_counted(rows)))?;
     let active = last_config(alloc, rows.decks.as_slice())?;
-    answer(4, are_statuses_of(alloc, &active, rows.statuses.as_slice()))?;
-    answer(5, are_placed(alloc, &active, rows.sets.as_slice()))?;
-    answer(6, are_sound_replies(alloc, rows))?;
-    Ok(active)
+    match judge_under(alloc, rows, &active) {
+        Ok(()) => Ok(active),
+        Err(err) => Err(err),
+    }
 }
 
 /// The configuration of the last deck, none without a deck, where the rows pass all six tests; and else the number of
