@@ -9,7 +9,6 @@ use Rattle.std.specs.Ordering.{is_eq, nat_cmp, ordering_then}
 use Rattle.desk_law.proofs.ByteLemmas.{bytes-same, bytes-turned, same-bytes}
 use Rattle.desk_law.specs.KeptRows.{times_placed}
 use Rattle.desk_law.specs.Lawful.{times_named}
-
 use Rattle.sms_construct.specs.declared.data_set.DataSet.{DataSet}
 use Rattle.sms_keeper.specs.declared.floor.Floor.{Floor}
 use Rattle.sms_keeper.specs.declared.kept_row.KeptRow.{KeptRow}

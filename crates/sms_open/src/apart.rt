@@ -23,7 +23,10 @@ pub fn are_apart<K: Ord + Copy + Drop>(alloc: Global, keys: &[K]) -> Result<bool
 }
 
 // The keys, to be found one by one.
-fn wanted_keys<K: Ord + Copy + Drop>(alloc: Global, keys: &[K]) -> Result<OrderedIndex<K, bool>, AllocError>
+fn wanted_keys<K: Ord + Copy + Drop>(
+    alloc: Global,
+    keys: &[K],
+) -> Result<OrderedIndex<K, bool>, AllocError>
     requires { AreApart K.cmp keys.now }
     ensures { IfOk result (λ index. (key : K) → times_found (lookup (is_at (K.cmp key)) index.rows) ≡ times_key K.cmp key keys.now) }
 {

@@ -25,7 +25,9 @@ fn all_extents(alloc: Global, sets: &[Shared<DataSet>]) -> Result<Vec<Extent>, A
 fn in_order(one: &Extent, other: &Extent) -> Ordering
     ensures { result ≡ place_cmp one.now other.now }
 {
-    one.volser.cmp(&other.volser).then(one.start.cmp(&other.start))
+    one.volser
+        .cmp(&other.volser)
+        .then(one.start.cmp(&other.start))
 }
 
 fn sort_extents(extents: &mut Vec<Extent>)

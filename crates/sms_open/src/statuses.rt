@@ -88,11 +88,7 @@ fn groups_found(alloc: Global, rows: &[StatusRow]) -> Result<Vec<Name>, AllocErr
     rows.iter().filter_map(|row| group_of(row)).collect(alloc)
 }
 
-fn groups_stand(
-    alloc: Global,
-    groups: &[StorGroup],
-    rows: &[StatusRow],
-) -> Result<bool, AllocError>
+fn groups_stand(alloc: Global, groups: &[StorGroup], rows: &[StatusRow]) -> Result<bool, AllocError>
     requires { are_ascending (map (λ group. group.name) groups.now) ≡ true }
     ensures { IfOk result (Tells ((name : List ℕ) → times_status (targets.Group name) rows.now ≡ times_group name groups.now)) }
 {
