@@ -17,12 +17,6 @@ module _ {X : Type 0} where
   take-end (x ∷ xs) (suc i) past = ap (λ (l : List X). x ∷ l) (take-end xs i (omega (arith, past)))
 
 module _ {X : Type 0} (P : X → Type 0) where
-  -- it holds of the element at a place
-  pub each-at : (xs : List X) (i : ℕ) (x : X) → i < length xs → x ≡ get_or xs i x → AllByRecursion P xs → P x
-  each-at [] i x less is all = absurd (omega (arith, less))
-  each-at (y ∷ ys) zero x less is all = subst P (sym is) all.0
-  each-at (y ∷ ys) (suc i) x less is all = each-at ys i x (omega (arith, less)) is all.1
-
   -- it holds of one element more
   pub each-more : (xs : List X) (i : ℕ) (x : X) → i < length xs → x ≡ get_or xs i x → AllByRecursion P (take i xs) → P x → AllByRecursion P (take (i + 1) xs)
   each-more xs i x less is all here = subst (AllByRecursion P) (sym (take-one xs i x less is)) (each-push P (take i xs) x all here)

@@ -1,11 +1,11 @@
 -- Extents in order, of which no two hold one track.
 use Rattle.std.proofs.Common.{◌≡◌, ◌≤◌, ◌<◌, ◌+◌, ◌-◌, ℕ, zero, suc, Bool, true, false, cond, List, [], ◌∷◌, ◌++◌, Ordering, Less, Equal, Greater, length, get_or, take, refl, sym, ap, ◌∙◌, subst, arith, inl, inr, append_assoc, append-nil}
-use Rattle.std.specs.Prelude.{◌⊎◌, ◌&&◌, bytes_eq, nat_lt, nat_le}
+use Rattle.std.specs.Prelude.{bytes_eq, nat_lt, nat_le}
 use Rattle.std.specs.Cmp.{IsTotalOrder, IsStrictWeakOrder}
 use Rattle.std.specs.Cmp.Lexicographic.{slice_cmp, nat_list_cmp_total}
 use Rattle.std.specs.List.{AllByRecursion, sum_by}
 use Rattle.std.specs.List.Sorted.{IsPermutation, IsSorted}
-use Rattle.std.specs.Ordering.{is_lt, is_eq, nat_cmp, ordering_then}
+use Rattle.std.specs.Ordering.{is_lt, is_eq, nat_cmp}
 use Rattle.std.proofs.lemmas.Bool.Decides.{nat_tests}
 use Rattle.std.proofs.lemmas.Cmp.{nat_cmp_total, on_total, then_total, tied_itself}
 use Rattle.std.proofs.lemmas.List.Sorted.{ranks_by, sum_by-IsPermutation, All-permutation}
@@ -17,7 +17,7 @@ use Rattle.sms_construct.specs.declared.extent.Extent.{Extent}
 use Rattle.track_ledger.specs.Gaps.{holds, times_held}
 use Rattle.desk_law.specs.Extents.{extents_of, piece_of, pieces_on}
 use Rattle.desk_law.proofs.ByteLemmas.{bytes-self, same-bytes}
-use Rattle.desk_law.proofs.CountLemmas.{once_of, sum-cons, sum_on, times-is}
+use Rattle.desk_law.proofs.CountLemmas.{once_of, sum-cons, times-is}
 use Rattle.desk_law.proofs.SetLemmas.{each-append}
 use Rattle.sms_open.specs.Meeting.{AreChained, Follows, HasTracks, place_cmp}
 use Rattle.sms_open.proofs.EachLemmas.{take-one}
@@ -190,10 +190,6 @@ extents-more sets i set less is =
     ap (λ (l : List Extent). extents_of (take i sets) ++ l) (sym (append-nil set.extents)) ∙ (sym (extents-append (take i sets) (set ∷ [])) ∙ ap extents_of (sym (take-one sets i set less is)))
 
 -- The extents that were gone over.
-
-pub chained-start : (es : List Extent) → AreChained (take 1 es)
-chained-start [] = tt
-chained-start (e ∷ es) = tt
 
 pub chained-more : (es : List Extent) (i : ℕ) (e f : Extent) → suc i < length es → e ≡ get_or es i e → f ≡ get_or es (suc i) f → Follows e f → AreChained (take (suc i) es) → AreChained (take (suc (suc i)) es)
 chained-more [] i e f less is next follows chained = absurd (omega (arith, less))

@@ -1,8 +1,8 @@
 -- Rows that pass all tests are an opening from which a desk may go on.
-use Rattle.std.proofs.Common.{◌≡◌, ◌≤◌, ◌<◌, ◌+◌, ◌^◌, ℕ, zero, suc, Bool, true, false, cond, List, [], ◌∷◌, Option, None, Some, Result, Ok, Err, length, max, filter, find, refl, sym, ap, ◌∙◌, subst, arith, inl, inr}
-use Rattle.std.specs.Prelude.{◌⊎◌, ◌==◌, ◌&&◌, IfOk, IfSome, bytes_eq, nat_lt, if◌then◌else◌}
+use Rattle.std.proofs.Common.{◌≡◌, ◌≤◌, ◌<◌, ◌^◌, ℕ, zero, suc, Bool, true, false, cond, List, [], ◌∷◌, Option, Result, Ok, Err, length, max, filter, find, refl, sym, ap, ◌∙◌, subst, arith, inl, inr}
+use Rattle.std.specs.Prelude.{◌==◌, IfOk, IfSome, nat_lt}
 use Rattle.std.specs.List.{AllByRecursion}
-use Rattle.std.proofs.lemmas.Bool.Decides.{Decides-eqb, nat_tests}
+use Rattle.std.proofs.lemmas.Bool.Decides.{nat_tests}
 use Rattle.sms_construct.specs.Configuration.{Configuration, IsConfiguration}
 use Rattle.sms_construct.specs.Fate.{fate_of}
 use Rattle.sms_construct.specs.declared.fate.Fate.TheVariants.{Kept}
@@ -18,15 +18,15 @@ use Rattle.desk_law.specs.Decked.{IsDecked, IsLastActive}
 use Rattle.desk_law.specs.Kept.{greatest_floor, is_entered, is_fault}
 use Rattle.desk_law.specs.Lawful.{IsLawful}
 use Rattle.desk_law.specs.Records.{AreKept, floor_rows, kept_rows, rows_found}
-use Rattle.desk_law.specs.State.{Opening, start_of}
+use Rattle.desk_law.specs.State.{start_of}
 use Rattle.desk_law.proofs.ByteLemmas.{same-bytes}
 use Rattle.desk_records.specs.Tied.{IsGoodRow, IsSoundOpening}
 use Rattle.desk_records.proofs.KeyLemmas.{reply-key}
 use Rattle.sms_open.specs.declared.rows_err.RowsErr.{RowsErr}
-use Rattle.sms_open.specs.declared.rows_err.RowsErr.TheVariants.{Unsound, NoMemory}
+use Rattle.sms_open.specs.declared.rows_err.RowsErr.TheVariants.{Unsound}
 use Rattle.sms_open.specs.Opened.{greatest_place, opening_of}
 use Rattle.sms_open.specs.Tests.{AreCounted, ArePlaced, AreSingle, AreSoundReplies, AreStatusesOf, IsSoundReply, most_place, times_floor, times_kept}
-use Rattle.sms_open.specs.Verdicts.{Configured, IsVerdict, Tested}
+use Rattle.sms_open.specs.Verdicts.{IsVerdict, Tested}
 use Rattle.sms_open.proofs.VerdictLemmas.{IsAnswer, from_counts, from_deck, from_end, from_replies, from_sets}
 
 -- The tests that were passed.

@@ -1,5 +1,5 @@
 -- A data set that may stand on volumes whose tracks are known.
-use Rattle.std.proofs.Common.{◌≡◌, ◌<◌, ◌+◌, ◌-◌, ◌≤◌, ℕ, Bool, true, false, List, [], ◌∷◌, length, Result, Ok, Err, refl, sym, subst, arith}
+use Rattle.std.proofs.Common.{◌≡◌, ◌<◌, ◌≤◌, ℕ, Bool, true, false, List, [], ◌∷◌, length, Result, refl, subst, arith}
 use Rattle.std.specs.Prelude.{IfOk}
 use Rattle.std.specs.List.{AllByRecursion}
 use Rattle.desk_common.specs.Limits.{most_extents}
@@ -21,10 +21,6 @@ AreIn tracks extents = AllByRecursion (λ extent. LiesInside (number_in extent.v
 pub inside-from : (volumes : List VolumeDef) (tracks : List (List ℕ × ℕ)) → AreTracks volumes tracks → (es : List Extent) → AreIn tracks es → AllByRecursion (IsInside volumes) es
 inside-from volumes tracks known [] all = tt
 inside-from volumes tracks known (e ∷ es) all = (subst (λ (n : ℕ). LiesInside n (piece_of e)) (known e.volser) all.0, inside-from volumes tracks known es all.1)
-
-pub inside-to : (volumes : List VolumeDef) (tracks : List (List ℕ × ℕ)) → AreTracks volumes tracks → (es : List Extent) → AllByRecursion (IsInside volumes) es → AreIn tracks es
-inside-to volumes tracks known [] all = tt
-inside-to volumes tracks known (e ∷ es) all = (subst (λ (n : ℕ). LiesInside n (piece_of e)) (sym (known e.volser)) all.0, inside-to volumes tracks known es all.1)
 
 -- the last of the tests of a data set tells of all
 pub lawful-told : {E : Type 0} (r : Result Bool E) (volumes : List VolumeDef) (tracks : List (List ℕ × ℕ)) (set : DataSet) → AreTracks volumes tracks → 0 < length set.extents → AreIn tracks set.extents

@@ -1,10 +1,7 @@
 -- How many extents lie on a volume.
-use Rattle.std.proofs.Common.{◌≡◌, ◌≤◌, ◌<◌, ◌+◌, ◌-◌, ℕ, zero, suc, Bool, true, false, cond, List, [], ◌∷◌, ◌++◌, length, take, drop, get_or, refl, sym, ap, ◌∙◌, subst, arith}
+use Rattle.std.proofs.Common.{◌≡◌, ◌≤◌, ◌<◌, ◌+◌, ℕ, zero, suc, Bool, true, false, cond, List, [], ◌∷◌, length, take, get_or, refl, sym, ap, ◌∙◌, arith}
 use Rattle.std.specs.Prelude.{bytes_eq}
 use Rattle.sms_construct.specs.declared.extent.Extent.{Extent}
-use Rattle.sms_construct.specs.declared.volume.VolumeDef.{VolumeDef}
-use Rattle.desk_law.specs.Extents.{pieces_on}
-use Rattle.desk_law.specs.Volumes.{tracks_of}
 use Rattle.desk_law.proofs.ByteLemmas.{bytes-self, same-bytes}
 use Rattle.desk_law.proofs.CountLemmas.{count-append, count-cons, count_on}
 use Rattle.sms_open.specs.Targets.{number_in}

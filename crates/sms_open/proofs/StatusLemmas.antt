@@ -1,5 +1,5 @@
 -- The statuses of all targets, from those of storage groups, volumes and data sets.
-use Rattle.std.proofs.Common.{◌≡◌, ◌≤◌, ◌+◌, ℕ, zero, suc, Bool, true, false, cond, List, [], ◌∷◌, Option, None, Some, Result, Ok, Err, length, refl, sym, ap, ◌∙◌, arith}
+use Rattle.std.proofs.Common.{◌≡◌, ℕ, zero, suc, Bool, true, false, cond, List, [], ◌∷◌, Option, None, Some, Result, length, refl, sym, arith}
 use Rattle.std.specs.Prelude.{IfOk, not, ◌&&◌, ◌==◌}
 use Rattle.std.specs.List.{AllByRecursion, list_all}
 use Rattle.std.proofs.lemmas.Bool.Decides.{Decides-eqb}
@@ -7,7 +7,7 @@ use Rattle.sms_construct.specs.Configuration.{Configuration}
 use Rattle.sms_construct.specs.declared.target.Target.{Target}
 use Rattle.sms_construct.specs.declared.target.Target.TheVariants as targets
 use Rattle.sms_keeper.specs.declared.status_row.StatusRow.{StatusRow}
-use Rattle.sms_keeper.specs.Tables.{is_status_of, same_target}
+use Rattle.sms_keeper.specs.Tables.{same_target}
 use Rattle.desk_law.specs.Statuses.{may_have, times_status}
 use Rattle.desk_law.specs.Volumes.{times_group, times_target, times_volume}
 use Rattle.desk_law.proofs.ByteLemmas.{bytes-self}

@@ -1,5 +1,5 @@
 -- What keys rows have, and which sizes volumes.
-use Rattle.std.specs.Prelude.{ℕ, Bool, true, false, ◌≡◌, List, [], ◌∷◌, Option, None, Some, bytes_eq, if◌then◌else◌}
+use Rattle.std.specs.Prelude.{ℕ, Bool, true, false, ◌≡◌, List, Option, None, Some, bytes_eq}
 use Rattle.std.specs.Map.{lookup}
 use Rattle.std.specs.Option.{unwrap_or}
 use Rattle.sms_construct.specs.declared.target.Target.{Target}
@@ -7,7 +7,6 @@ use Rattle.sms_construct.specs.declared.target.Target.TheVariants as targets
 use Rattle.sms_construct.specs.declared.volume.VolumeDef.{VolumeDef}
 use Rattle.sms_keeper.specs.declared.kept_row.KeptRow.{KeptRow}
 use Rattle.sms_keeper.specs.declared.request_key.RequestKey.{RequestKey}
-use Rattle.sms_keeper.specs.declared.status_row.StatusRow.{StatusRow}
 use Rattle.desk_law.specs.Volumes.{tracks_of}
 
 -- the key of a kept reply

@@ -1,11 +1,6 @@
-use Rattle.std.proofs.Common.{◌≡◌, ℕ, List, map, nat_cmp, rules, ◌∙◌}
-use Rattle.std.specs.Prelude.{IfOk}
-use Rattle.std.specs.Cmp.Lexicographic.{slice_cmp}
-use Rattle.sms_keeper.specs.declared.request_key.RequestKey.{RequestKey}
+use Rattle.std.proofs.Common.{◌≡◌, map, ◌∙◌}
 use Rattle.sms_open.specs.Targets.{key_of_row}
-use Rattle.sms_open.specs.Keys.{AreApart}
-use Rattle.sms_open.specs.Verdicts.{Tells}
-use Rattle.sms_open.proofs.NameLemmas.{numbers-told, key_cmp}
+use Rattle.sms_open.proofs.NameLemmas.{numbers-told}
 use Rattle.sms_open.proofs.doubles.numbers_apart.Goals as goal
 
 pub returns : goal.returns

@@ -1,9 +1,5 @@
-use Rattle.std.proofs.Common.{◌≡◌, ℕ, List, map, nat_cmp, rules, ◌∙◌}
-use Rattle.std.specs.Prelude.{IfOk}
-use Rattle.std.specs.Cmp.Lexicographic.{slice_cmp}
+use Rattle.std.proofs.Common.{◌≡◌, map, ◌∙◌}
 use Rattle.sms_keeper.specs.declared.kept_row.KeptRow.{KeptRow}
-use Rattle.sms_open.specs.Keys.{AreApart}
-use Rattle.sms_open.specs.Verdicts.{Tells}
 use Rattle.sms_open.proofs.NameLemmas.{places-told}
 use Rattle.sms_open.proofs.doubles.places_apart.Goals as goal
 

@@ -1,12 +1,11 @@
-use Rattle.std.proofs.Common.{◌≡◌, ◌≤◌, ℕ, List, true, false, ap, sym, ◌∙◌}
+use Rattle.std.proofs.Common.{◌≡◌, ◌≤◌, ℕ, List, ap, ◌∙◌}
 use Rattle.std.specs.List.{AllByRecursion}
 use Rattle.std.specs.Prelude.{IfOk}
 use Rattle.sms_keeper.specs.declared.floor.Floor.{Floor}
-use Rattle.sms_keeper.specs.declared.kept_row.KeptRow.{KeptRow}
 use Rattle.sms_keeper.specs.Log.{floor_in}
 use Rattle.desk_law.specs.Kept.{greatest_floor}
 use Rattle.desk_law.specs.KeptRows.{times_placed}
-use Rattle.sms_open.specs.Tests.{AreSoundReplies, IsSoundReply}
+use Rattle.sms_open.specs.Tests.{IsSoundReply}
 use Rattle.sms_open.specs.Verdicts.{Tells}
 use Rattle.sms_open.proofs.NameLemmas.{told-alike}
 use Rattle.sms_open.proofs.replies.are_sound_replies.Goals as goal

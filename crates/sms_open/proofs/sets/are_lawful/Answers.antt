@@ -1,4 +1,3 @@
-use Rattle.std.proofs.Common.{◌≡◌, true, rules}
 use Rattle.desk_law.specs.Lawful.{IsLawfulSet}
 use Rattle.sms_open.proofs.EachLemmas.{each-more}
 use Rattle.sms_open.proofs.sets.are_lawful.Goals as goal

@@ -1,4 +1,3 @@
-use Rattle.std.proofs.Common.{◌≡◌, false, true, rules}
 use Rattle.std.specs.List.{AllByRecursion}
 use Rattle.desk_law.specs.Lawful.{IsLawfulSet}
 use Rattle.desk_law.specs.Volumes.{volumes_in}

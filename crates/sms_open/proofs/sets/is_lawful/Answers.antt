@@ -1,4 +1,4 @@
-use Rattle.std.proofs.Common.{◌≡◌, ◌<◌, ◌≤◌, ℕ, List, length}
+use Rattle.std.proofs.Common.{◌<◌, ◌≤◌, ℕ, List, length}
 use Rattle.std.specs.Prelude.{IfOk}
 use Rattle.std.specs.List.{AllByRecursion}
 use Rattle.desk_common.specs.Limits.{most_extents}

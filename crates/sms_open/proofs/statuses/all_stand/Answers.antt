@@ -1,10 +1,7 @@
-use Rattle.std.proofs.Common.{◌≡◌, ℕ, List, true, false, ap, sym, ◌∙◌}
-use Rattle.std.specs.Prelude.{IfOk, map}
+use Rattle.std.proofs.Common.{◌≡◌, ℕ, List, sym, ◌∙◌}
+use Rattle.std.specs.Prelude.{IfOk}
 use Rattle.acs_tree.specs.declared.kind.Kind.TheVariants.{StorGrp}
-use Rattle.sms_construct.specs.Configuration.{are_ascending}
-use Rattle.sms_construct.specs.declared.storage_group.StorGroup.{StorGroup}
 use Rattle.sms_construct.specs.declared.target.Target.TheVariants as targets
-use Rattle.sms_construct.specs.declared.volume.VolumeDef.{VolumeDef}
 use Rattle.desk_law.specs.Statuses.{times_status}
 use Rattle.desk_law.specs.Volumes.{times_group, times_volume}
 use Rattle.sms_open.specs.Verdicts.{Tells}

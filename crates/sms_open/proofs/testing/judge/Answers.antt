@@ -1,10 +1,9 @@
-use Rattle.std.proofs.Common.{◌≡◌, Err, Ok, refl, sym, ◌∙◌, subst, inl, rules}
-use Rattle.std.specs.Prelude.{IfOk}
+use Rattle.std.proofs.Common.{◌≡◌, Err, Ok, sym, ◌∙◌, subst, rules}
 use Rattle.std.specs.declared.alloc.AllocError.{AllocError}
 use Rattle.desk_law.specs.Decked.{IsLastActive}
-use Rattle.sms_open.specs.Tests.{AreCounted, ArePlaced, AreSingle, AreSoundReplies, AreStatusesOf}
-use Rattle.sms_open.specs.Verdicts.{IsVerdict, Tells}
-use Rattle.sms_open.proofs.VerdictLemmas.{IsAnswer, from_counts, from_deck, from_end, from_replies, from_sets, from_statuses, onward, passed, refused, under, unread}
+use Rattle.sms_open.specs.Tests.{AreCounted, AreSingle}
+use Rattle.sms_open.specs.Verdicts.{IsVerdict}
+use Rattle.sms_open.proofs.VerdictLemmas.{IsAnswer, from_counts, from_deck, from_statuses, onward, passed, refused, under, unread}
 use Rattle.sms_open.proofs.testing.judge.Goals as goal
 
 pub returns-in_err-answer : goal.returns-in_err-answer

@@ -1,11 +1,8 @@
-use Rattle.std.proofs.Common.{◌≡◌, Result, Err, Ok, refl, sym, ◌∙◌, subst, inl, rules}
-use Rattle.std.specs.Prelude.{IfOk}
-use Rattle.std.specs.declared.alloc.AllocError.{AllocError}
-use Rattle.desk_law.specs.Decked.{IsLastActive}
+use Rattle.std.proofs.Common.{◌≡◌, Result, Err, sym, ◌∙◌, subst, rules}
 use Rattle.sms_open.specs.declared.rows_err.RowsErr.{RowsErr}
-use Rattle.sms_open.specs.Tests.{AreCounted, ArePlaced, AreSingle, AreSoundReplies, AreStatusesOf}
-use Rattle.sms_open.specs.Verdicts.{IsVerdict, Tells, answer_with}
-use Rattle.sms_open.proofs.VerdictLemmas.{IsAnswer, from_counts, from_deck, from_end, from_replies, from_sets, from_statuses, last-test, onward, passed, refused, under, unread}
+use Rattle.sms_open.specs.Tests.{ArePlaced, AreStatusesOf}
+use Rattle.sms_open.specs.Verdicts.{answer_with}
+use Rattle.sms_open.proofs.VerdictLemmas.{IsAnswer, from_replies, from_sets, from_statuses, last-test, onward, passed, refused}
 use Rattle.sms_open.proofs.testing.judge_under.Goals as goal
 
 pub returns-in_err-answer : goal.returns-in_err-answer
