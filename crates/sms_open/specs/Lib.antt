@@ -1,0 +1,5 @@
+pub mod Keys
+pub mod Targets
+pub mod Tests
+pub mod Verdicts
+pub mod Meeting

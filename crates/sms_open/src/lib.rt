@@ -1,0 +1,16 @@
+//! Whether a desk may go on from rows that were found, and under which configuration.
+#![tactic(auto)]
+
+mod apart;
+mod decks;
+mod doubles;
+mod meeting;
+mod numbers;
+mod replies;
+mod rows_err;
+mod sets;
+mod statuses;
+mod testing;
+
+pub use rows_err::RowsErr;
+pub use testing::test_rows;
