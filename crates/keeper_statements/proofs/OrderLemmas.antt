@@ -1,8 +1,8 @@
 -- Rows in order: of any order that tells them apart there is one, and among rows whose numbers rise it keeps those of one key as they stood.
-use Rattle.std.proofs.Common.{◌≡◌, ◌+◌, ◌<◌, ◌≤◌, ℕ, zero, suc, Bool, true, false, cond, List, [], ◌∷◌, map, get_or, length, refl, sym, ap, subst, ◌∙◌, inl, inr, arith, add-one, Ordering, Less, Equal, Greater, is_lt, IsPermutation, IsSorted}
+use Rattle.std.proofs.Common.{◌≡◌, ◌+◌, ◌<◌, ◌≤◌, ℕ, zero, suc, Bool, true, false, cond, ◌&&◌, List, [], ◌∷◌, map, filter, get_or, length, refl, sym, ap, subst, ◌∙◌, inl, inr, arith, add-one, Ordering, Less, Equal, Greater, is_lt, IsPermutation, IsSorted}
 use Rattle.std.specs.Cmp.{IsTotalOrder}
-use Rattle.std.specs.List.{AllByRecursion}
-use Rattle.std.specs.Ordering.{on, ordering_reverse, ordering_then, then_cmp}
+use Rattle.std.specs.List.{AllByRecursion, list_all}
+use Rattle.std.specs.Ordering.{is_eq, on, ordering_reverse, ordering_then, then_cmp}
 use Rattle.std.proofs.lemmas.Cmp.{on_total, then_total}
 use Rattle.std.proofs.lemmas.List.{get_or-map, length-map}
 use Rattle.sqlite_value.specs.Order.{Row, value_cmp}
@@ -153,17 +153,84 @@ pub order_mapped : (f : Row → Row) (key : Row → Row → Ordering) (rows : Li
 order_mapped f key [] = refl
 order_mapped f key (x ∷ rows) = put_mapped f key x (in_order (λ a b. key (f a) (f b)) rows) ∙ ap (put_in key (f x)) (order_mapped f key rows)
 
--- where the order tells nothing apart, rows stay as they stood
-abbrev pub alike : Row → Row → Ordering
-alike a b = Equal
+-- elements of one key stay as they stood
+module _ {X : Type 0} (cmp : X → X → Ordering) (test : X → Bool) (knows : (x y : X) → test x ≡ true → is_eq (cmp y x) ≡ test y) where
+  put_found : (x : X) (ys : List X) → filter test (put_in cmp x ys) ≡ filter test (x ∷ ys)
+  put_found x [] = refl
+  put_found x (y ∷ ys) = by (cmp y x) refl (test x) refl
+    where
+      by : (o : Ordering) → cmp y x ≡ o → (b : Bool) → test x ≡ b → filter test (put_in cmp x (y ∷ ys)) ≡ filter test (x ∷ y ∷ ys)
+      by Less is true here =
+          let gone : test y ≡ false = sym (knows x y here) ∙ ap is_eq is in
+          ap (λ l. filter test (cond l (y ∷ put_in cmp x ys) (x ∷ y ∷ ys))) (ap is_lt is)
+          ∙ ap (λ b. cond b (y ∷ filter test (put_in cmp x ys)) (filter test (put_in cmp x ys))) gone
+          ∙ put_found x ys
+          ∙ ap (λ b. cond (test x) (x ∷ cond b (y ∷ filter test ys) (filter test ys)) (cond b (y ∷ filter test ys) (filter test ys))) (sym gone)
+      by Less is false out =
+          ap (λ l. filter test (cond l (y ∷ put_in cmp x ys) (x ∷ y ∷ ys))) (ap is_lt is)
+          ∙ ap (λ l. cond (test y) (y ∷ l) l) (put_found x ys ∙ ap (λ b. cond b (x ∷ filter test ys) (filter test ys)) out)
+          ∙ ap (λ b. cond b (x ∷ filter test (y ∷ ys)) (filter test (y ∷ ys))) (sym out)
+      by Equal is b at = ap (λ l. filter test (cond l (y ∷ put_in cmp x ys) (x ∷ y ∷ ys))) (ap is_lt is)
+      by Greater is b at = ap (λ l. filter test (cond l (y ∷ put_in cmp x ys) (x ∷ y ∷ ys))) (ap is_lt is)
 
-pub alike_total : IsTotalOrder alike
-alike_total = record { antisymm = λ x y. refl; trans = λ x y z p q. p; congr = λ x y z e. refl }
+  pub order_found : (xs : List X) → filter test (in_order cmp xs) ≡ filter test xs
+  order_found [] = refl
+  order_found (x ∷ xs) = put_found x (in_order cmp xs) ∙ ap (λ l. cond (test x) (x ∷ l) l) (order_found xs)
 
-put_alike_first : (x : Row) (rows : List Row) → put_in alike x rows ≡ x ∷ rows
-put_alike_first x [] = refl
-put_alike_first x (y ∷ rows) = refl
+-- none is lower than the one before it
+module _ {X : Type 0} (cmp : X → X → Ordering) (total : IsTotalOrder cmp) where
+  abbrev Rises : List X → Type 0
+  Rises [] = Unit {0}
+  Rises (x ∷ []) = Unit {0}
+  Rises (x ∷ y ∷ ys) = (is_lt (cmp y x) ≡ false) × Rises (y ∷ ys)
 
-pub alike_stays : (rows : List Row) → in_order alike rows ≡ rows
-alike_stays [] = refl
-alike_stays (x ∷ rows) = ap (put_in alike x) (alike_stays rows) ∙ put_alike_first x rows
+  turned_low : (x y : X) → is_lt (cmp y x) ≡ true → is_lt (cmp x y) ≡ false
+  turned_low x y low = ap is_lt (total.antisymm x y ∙ ap ordering_reverse (less_is _ low))
+
+  put_rises : (x : X) (ys : List X) → Rises ys → Rises (put_in cmp x ys)
+  put_rises x [] up = tt
+  put_rises x (y ∷ ys) up = by (is_lt (cmp y x)) refl
+    where
+      behind : (zs : List X) → is_lt (cmp y x) ≡ true → Rises (y ∷ zs) → Rises (put_in cmp x zs) → Rises (y ∷ put_in cmp x zs)
+      behind [] low here more = (turned_low x y low, tt)
+      behind (z ∷ zs) low here more =
+          elim (is_lt (cmp z x)) as (λ b. Rises (cond b (z ∷ put_in cmp x zs) (x ∷ z ∷ zs)) → Rises (y ∷ cond b (z ∷ put_in cmp x zs) (x ∷ z ∷ zs)))
+          [ true ↦ λ r. (here.0, r) | false ↦ λ r. (turned_low x y low, r) ] more
+
+      rest : (zs : List X) → Rises (y ∷ zs) → Rises zs
+      rest [] r = tt
+      rest (z ∷ zs) r = r.1
+
+      by : (b : Bool) → is_lt (cmp y x) ≡ b → Rises (put_in cmp x (y ∷ ys))
+      by true low = subst (λ b. Rises (cond b (y ∷ put_in cmp x ys) (x ∷ y ∷ ys))) (sym low) (behind ys low up (put_rises x ys (rest ys up)))
+      by false high = subst (λ b. Rises (cond b (y ∷ put_in cmp x ys) (x ∷ y ∷ ys))) (sym high) (high, up)
+
+  order_rises : (xs : List X) → Rises (in_order cmp xs)
+  order_rises [] = tt
+  order_rises (x ∷ xs) = put_rises x (in_order cmp xs) (order_rises xs)
+
+  sorted_by_rise : (xs : List X) → Rises xs → IsSorted cmp xs
+  sorted_by_rise [] up k d p q = absurd (omega arith)
+  sorted_by_rise (x ∷ []) up k d p q = absurd (omega arith)
+  sorted_by_rise (x ∷ y ∷ xs) up zero d p q = up.0
+  sorted_by_rise (x ∷ y ∷ xs) up (suc k) d p q = rw add-one (rw add-one at (sorted_by_rise (y ∷ xs) up.1 k d (omega arith) (omega arith)))
+
+  pub order_sorted : (xs : List X) → IsSorted cmp (in_order cmp xs)
+  order_sorted xs = sorted_by_rise (in_order cmp xs) (order_rises xs)
+
+-- whether all pass doesn't depend on their order
+module _ {X : Type 0} (cmp : X → X → Ordering) (test : X → Bool) where
+  and_swap : (a b c : Bool) → (a && (b && c)) ≡ (b && (a && c))
+  and_swap true b c = refl
+  and_swap false true c = refl
+  and_swap false false c = refl
+
+  put_all_pass : (x : X) (ys : List X) → list_all test (put_in cmp x ys) ≡ (test x && list_all test ys)
+  put_all_pass x [] = refl
+  put_all_pass x (y ∷ ys) =
+      elim (is_lt (cmp y x)) as (λ b. list_all test (cond b (y ∷ put_in cmp x ys) (x ∷ y ∷ ys)) ≡ (test x && (test y && list_all test ys)))
+      [ true ↦ ap (λ b. test y && b) (put_all_pass x ys) ∙ and_swap (test y) (test x) (list_all test ys) | false ↦ refl ]
+
+  pub order_all_pass : (xs : List X) → list_all test (in_order cmp xs) ≡ list_all test xs
+  order_all_pass [] = refl
+  order_all_pass (x ∷ xs) = put_all_pass x (in_order cmp xs) ∙ ap (λ b. test x && b) (order_all_pass xs)

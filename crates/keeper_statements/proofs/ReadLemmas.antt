@@ -22,7 +22,7 @@ use Rattle.keeper_statements.specs.Order.{in_order, by_first, by_two, two_column
 use Rattle.keeper_statements.specs.Schema.{desk_schema}
 use Rattle.keeper_statements.specs.Tables.{IsKeyed, IsReady, bodies, tables_in}
 use Rattle.keeper_statements.proofs.FoundLemmas.{column_dropped}
-use Rattle.keeper_statements.proofs.OrderLemmas.{alike, alike_total, alike_stays, numbered, numbered_total, numbered_apart, numbered_alike, one_order, order_mapped, sorted_from_map, sorted_stays}
+use Rattle.keeper_statements.proofs.OrderLemmas.{numbered, numbered_total, numbered_apart, numbered_alike, one_order, order_mapped, sorted_from_map, sorted_stays}
 use Rattle.keeper_statements.proofs.ReadTextLemmas as texts
 
 -- the parameters, of which there are none, and the row
@@ -76,6 +76,11 @@ then_again Less b c = refl
 then_again Equal b c = refl
 then_again Greater b c = refl
 
+then_self : (a : Ordering) → ordering_then a Equal ≡ ordering_then a a
+then_self Less = refl
+then_self Equal = refl
+then_self Greater = refl
+
 sorts_one : (a b : Row) → ordering_then (value_cmp (column a 1) (column b 1)) (ordering_then (value_cmp (rowid a) (rowid b)) Equal) ≡ numbered (on_bodies by_first) a b
 sorts_one a b = λ i. ordering_then (same_column a b 0 i) (then-Equal (value_cmp (rowid a) (rowid b)) i)
 
@@ -113,14 +118,13 @@ module _ (old new : State) (rows : List Row) (ready : IsReady old.now) where
       answer_is 2 texts.five_shown texts.by_two_keys (on_bodies by_two) (on_total (drop 1) two_total) (λ r. five_columns (drop 1 r)) (overlay old.now.trees []) rows sorts_two shows_five ready.keyed.1.0 answer
       ∙ bodies_shown by_two five_columns (old.now.trees 2)
 
-  pub decks_shown : Shown texts.decks_text [] old new rows → rows ≡ map deck_columns (tables_in old.now.trees).decks
+  pub decks_shown : Shown texts.decks_text [] old new rows → rows ≡ map deck_columns (in_order by_first (tables_in old.now.trees).decks)
   decks_shown h =
       let p = texts.selecting 5 texts.deck_shown texts.by_number in
       let reads : Answers old.now p [] rows =
       reads_as texts.decks_text [] old new desk_schema ready.schema (Select p (codes "count" ∷ codes "bytes" ∷ [])) texts.decks_is texts.decks_plain texts.decks_unlisted rows h in
       let answer : IsAnswer p.body (overlay old.now.trees []) [] rows = reads.answer Null in
-      answer_is 5 texts.deck_shown texts.by_number alike alike_total deck_columns (overlay old.now.trees []) rows (λ a b. then-Equal (value_cmp (rowid a) (rowid b))) (λ r. refl) ready.keyed.1.1.0 answer
-      ∙ ap (map deck_columns) (alike_stays (old.now.trees 5))
+      answer_is 5 texts.deck_shown texts.by_number by_first first_total deck_columns (overlay old.now.trees []) rows (λ a b. then_self (value_cmp (rowid a) (rowid b))) (λ r. refl) ready.keyed.1.1.0 answer
 
   pub statuses_shown : Shown texts.statuses_text [] old new rows → rows ≡ map three_columns (in_order by_two (tables_in old.now.trees).statuses)
   statuses_shown h =

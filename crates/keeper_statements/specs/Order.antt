@@ -4,17 +4,17 @@ use Rattle.std.specs.Ordering.{Ordering, is_lt, on, then_cmp}
 use Rattle.sqlite.specs.Order.{Row}
 use Rattle.sqlite_value.specs.Order.{column, value_cmp}
 
--- the row behind those that are lower, and before the others
-abbrev pub put_in : (Row → Row → Ordering) → Row → List Row → List Row
-put_in order row [] = row ∷ []
-put_in order row (other ∷ rows) = if is_lt (order other row) then other ∷ put_in order row rows else row ∷ other ∷ rows
+-- an element put behind those that are lower, and before the others
+abbrev pub put_in : {X : Type 0} → (X → X → Ordering) → X → List X → List X
+put_in order x [] = x ∷ []
+put_in order x (y ∷ ys) = if is_lt (order y x) then y ∷ put_in order x ys else x ∷ y ∷ ys
 
--- the rows in this order; those that are neither lower nor higher stay as they stood
-abbrev pub in_order : (Row → Row → Ordering) → List Row → List Row
+-- the elements in this order; those that are neither lower nor higher stay as they stood
+abbrev pub in_order : {X : Type 0} → (X → X → Ordering) → List X → List X
 in_order order [] = []
-in_order order (row ∷ rows) = put_in order row (in_order order rows)
+in_order order (x ∷ xs) = put_in order x (in_order order xs)
 
--- by the first column: a data set's name, a job
+-- by the first column: a data set's name, a deck's number, a job
 abbrev pub by_first : Row → Row → Ordering
 by_first = on (λ row. column row 0) value_cmp
 

@@ -46,7 +46,7 @@ pub fn all_replies<S: Alter>(tx: &mut Transaction<'_, S>) -> Result<Vec<Row>, Er
 /// The decks, by number. Nothing changes.
 pub fn all_decks<S: Alter>(tx: &mut Transaction<'_, S>) -> Result<Vec<Row>, Error>
     ensures same_reference { tx.new.conn.ghost_name ≡ tx.old.conn.ghost_name }
-    ensures answer { HasCleanDisk (state S.Store tx.new.conn.now) → IsReady (state S.Store tx.old.conn.now).now → IfOk result (λ rows. rows.items ≡ map deck_columns (tables_in (state S.Store tx.old.conn.now).now.trees).decks) }
+    ensures answer { HasCleanDisk (state S.Store tx.new.conn.now) → IsReady (state S.Store tx.old.conn.now).now → IfOk result (λ rows. rows.items ≡ map deck_columns (in_order by_first (tables_in (state S.Store tx.old.conn.now).now.trees).decks)) }
     ensures same { HasCleanDisk (state S.Store tx.new.conn.now) → IsReady (state S.Store tx.old.conn.now).now → OnOk result ((state S.Store tx.new.conn.now).now ≡ (state S.Store tx.old.conn.now).now) }
     ensures stays { MayStay (state S.Store tx.old.conn.now) (state S.Store tx.new.conn.now) result }
     ensures survives { Survives (state S.Store tx.old.conn.now) (state S.Store tx.new.conn.now) (λ _. ⊥) }
