@@ -18,6 +18,10 @@ less_is Less e = refl
 less_is Equal e = absurd cc
 less_is Greater e = absurd cc
 
+-- rows that the order doesn't tell apart are one
+abbrev pub AreApart : (Row → Row → Ordering) → List Row → Type 0
+AreApart order rows = (a b : Row) → Has rows a → Has rows b → order a b ≡ Equal → a ≡ b
+
 module _ (order : Row → Row → Ordering) (total : IsTotalOrder order) where
   past : (x z : Row) (zs : List Row) → is_lt (order z x) ≡ true → put_in order x (z ∷ zs) ≡ z ∷ put_in order x zs
   past x z zs low = ap (λ b. cond b (z ∷ put_in order x zs) (x ∷ z ∷ zs)) low
@@ -25,8 +29,10 @@ module _ (order : Row → Row → Ordering) (total : IsTotalOrder order) where
   before : (x z : Row) (zs : List Row) → is_lt (order z x) ≡ false → put_in order x (z ∷ zs) ≡ x ∷ z ∷ zs
   before x z zs high = ap (λ b. cond b (z ∷ put_in order x zs) (x ∷ z ∷ zs)) high
 
-  lower_first : (x y : Row) (zs : List Row) → order x y ≡ Less → put_in order x (put_in order y zs) ≡ put_in order y (put_in order x zs)
-  lower_first x y zs low = on_rows zs
+  -- at the next element, where the exchange behind it is known
+  lower_at : (x y z : Row) (zs : List Row) → order x y ≡ Less → put_in order x (put_in order y zs) ≡ put_in order y (put_in order x zs)
+      → put_in order x (put_in order y (z ∷ zs)) ≡ put_in order y (put_in order x (z ∷ zs))
+  lower_at x y z zs low behind = by (is_lt (order z x)) refl (is_lt (order z y)) refl
     where
       lower : is_lt (order x y) ≡ true
       lower = ap is_lt low
@@ -34,24 +40,24 @@ module _ (order : Row → Row → Ordering) (total : IsTotalOrder order) where
       higher : is_lt (order y x) ≡ false
       higher = ap is_lt (total.antisymm y x ∙ ap ordering_reverse low)
 
-      on_rows : (zs : List Row) → put_in order x (put_in order y zs) ≡ put_in order y (put_in order x zs)
-      on_rows [] = before x y [] higher ∙ sym (past y x [] lower)
-      on_rows (z ∷ zs) = by (is_lt (order z x)) refl (is_lt (order z y)) refl
-        where
-          by : (a : Bool) → is_lt (order z x) ≡ a → (b : Bool) → is_lt (order z y) ≡ b → put_in order x (put_in order y (z ∷ zs)) ≡ put_in order y (put_in order x (z ∷ zs))
-          by true p true q =
-              ap (put_in order x) (past y z zs q) ∙ past x z (put_in order y zs) p ∙ ap (λ l. z ∷ l) (on_rows zs)
-              ∙ sym (ap (put_in order y) (past x z zs p) ∙ past y z (put_in order x zs) q)
-          by true p false q =
-              let under : is_lt (order z y) ≡ true = ap is_lt (total.trans z x y (less_is _ p) low) in
-              let both : true ≡ false = sym under ∙ q in
-              absurd cc
-          by false p true q =
-              ap (put_in order x) (past y z zs q) ∙ before x z (put_in order y zs) p
-              ∙ sym (ap (put_in order y) (before x z zs p) ∙ past y x (z ∷ zs) lower ∙ ap (λ l. x ∷ l) (past y z zs q))
-          by false p false q =
-              ap (put_in order x) (before y z zs q) ∙ before x y (z ∷ zs) higher
-              ∙ sym (ap (put_in order y) (before x z zs p) ∙ past y x (z ∷ zs) lower ∙ ap (λ l. x ∷ l) (before y z zs q))
+      by : (a : Bool) → is_lt (order z x) ≡ a → (b : Bool) → is_lt (order z y) ≡ b → put_in order x (put_in order y (z ∷ zs)) ≡ put_in order y (put_in order x (z ∷ zs))
+      by true p true q =
+          ap (put_in order x) (past y z zs q) ∙ past x z (put_in order y zs) p ∙ ap (λ l. z ∷ l) behind
+          ∙ sym (ap (put_in order y) (past x z zs p) ∙ past y z (put_in order x zs) q)
+      by true p false q =
+          let under : is_lt (order z y) ≡ true = ap is_lt (total.trans z x y (less_is _ p) low) in
+          let both : true ≡ false = sym under ∙ q in
+          absurd cc
+      by false p true q =
+          ap (put_in order x) (past y z zs q) ∙ before x z (put_in order y zs) p
+          ∙ sym (ap (put_in order y) (before x z zs p) ∙ past y x (z ∷ zs) lower ∙ ap (λ l. x ∷ l) (past y z zs q))
+      by false p false q =
+          ap (put_in order x) (before y z zs q) ∙ before x y (z ∷ zs) higher
+          ∙ sym (ap (put_in order y) (before x z zs p) ∙ past y x (z ∷ zs) lower ∙ ap (λ l. x ∷ l) (before y z zs q))
+
+  lower_first : (x y : Row) (zs : List Row) → order x y ≡ Less → put_in order x (put_in order y zs) ≡ put_in order y (put_in order x zs)
+  lower_first x y [] low = before x y [] (ap is_lt (total.antisymm y x ∙ ap ordering_reverse low)) ∙ sym (past y x [] (ap is_lt low))
+  lower_first x y (z ∷ zs) low = lower_at x y z zs low (lower_first x y zs low)
 
   exchanged : (x y : Row) (zs : List Row) → (order x y ≡ Equal → x ≡ y) → put_in order x (put_in order y zs) ≡ put_in order y (put_in order x zs)
   exchanged x y zs once = by (order x y) refl
@@ -61,13 +67,9 @@ module _ (order : Row → Row → Ordering) (total : IsTotalOrder order) where
       by Equal is = subst (λ w. put_in order x (put_in order w zs) ≡ put_in order w (put_in order x zs)) (once is) refl
       by Greater is = sym (lower_first y x zs (total.antisymm y x ∙ ap ordering_reverse is))
 
-  -- rows that the order doesn't tell apart are one
-  abbrev pub AreApart : List Row → Type 0
-  AreApart rows = (a b : Row) → Has rows a → Has rows b → order a b ≡ Equal → a ≡ b
-
   -- the rows are among the first, and in order they are the same
   abbrev AreOne : List Row → List Row → Type 0
-  AreOne xs ys = ((r : Row) → Has ys r → Has xs r) × (AreApart xs → in_order order xs ≡ in_order order ys)
+  AreOne xs ys = ((r : Row) → Has ys r → Has xs r) × (AreApart order xs → in_order order xs ≡ in_order order ys)
 
   under : (x : Row) (xs ys : List Row) → AreOne xs ys → AreOne (x ∷ xs) (x ∷ ys)
   under x xs ys h = (
@@ -81,7 +83,7 @@ module _ (order : Row → Row → Ordering) (total : IsTotalOrder order) where
     λ once. exchanged x y (in_order order xs) (once x y (inl refl) (inr (inl refl))),
   )
 
-  pub one_order : (xs ys : List Row) → IsPermutation xs ys → AreApart xs → in_order order xs ≡ in_order order ys
+  pub one_order : (xs ys : List Row) → IsPermutation xs ys → AreApart order xs → in_order order xs ≡ in_order order ys
   one_order xs ys same = (along_permutation AreOne (λ xs. (λ r k. k, λ once. refl)) under turned (λ xs ys zs p q. (
     λ r k. p.0 r (q.0 r k),
     λ once. p.1 once ∙ q.1 (λ a b h k. once a b (p.0 a h) (p.0 b k)),
@@ -155,23 +157,24 @@ order_mapped f key (x ∷ rows) = put_mapped f key x (in_order (λ a b. key (f a
 
 -- elements of one key stay as they stood
 module _ {X : Type 0} (cmp : X → X → Ordering) (test : X → Bool) (knows : (x y : X) → test x ≡ true → is_eq (cmp y x) ≡ test y) where
+  put_at : (x y : X) (ys : List X) → filter test (put_in cmp x ys) ≡ filter test (x ∷ ys) → (o : Ordering) → cmp y x ≡ o → (b : Bool) → test x ≡ b
+      → filter test (put_in cmp x (y ∷ ys)) ≡ filter test (x ∷ y ∷ ys)
+  put_at x y ys behind Less is true here =
+      let gone : test y ≡ false = sym (knows x y here) ∙ ap is_eq is in
+      ap (λ l. filter test (cond l (y ∷ put_in cmp x ys) (x ∷ y ∷ ys))) (ap is_lt is)
+      ∙ ap (λ b. cond b (y ∷ filter test (put_in cmp x ys)) (filter test (put_in cmp x ys))) gone
+      ∙ behind
+      ∙ ap (λ l. cond (test x) (x ∷ l) l) (sym (ap (λ b. cond b (y ∷ filter test ys) (filter test ys)) gone))
+  put_at x y ys behind Less is false out =
+      ap (λ l. filter test (cond l (y ∷ put_in cmp x ys) (x ∷ y ∷ ys))) (ap is_lt is)
+      ∙ ap (λ l. cond (test y) (y ∷ l) l) (behind ∙ ap (λ b. cond b (x ∷ filter test ys) (filter test ys)) out)
+      ∙ ap (λ b. cond b (x ∷ filter test (y ∷ ys)) (filter test (y ∷ ys))) (sym out)
+  put_at x y ys behind Equal is b at = ap (λ l. filter test (cond l (y ∷ put_in cmp x ys) (x ∷ y ∷ ys))) (ap is_lt is)
+  put_at x y ys behind Greater is b at = ap (λ l. filter test (cond l (y ∷ put_in cmp x ys) (x ∷ y ∷ ys))) (ap is_lt is)
+
   put_found : (x : X) (ys : List X) → filter test (put_in cmp x ys) ≡ filter test (x ∷ ys)
   put_found x [] = refl
-  put_found x (y ∷ ys) = by (cmp y x) refl (test x) refl
-    where
-      by : (o : Ordering) → cmp y x ≡ o → (b : Bool) → test x ≡ b → filter test (put_in cmp x (y ∷ ys)) ≡ filter test (x ∷ y ∷ ys)
-      by Less is true here =
-          let gone : test y ≡ false = sym (knows x y here) ∙ ap is_eq is in
-          ap (λ l. filter test (cond l (y ∷ put_in cmp x ys) (x ∷ y ∷ ys))) (ap is_lt is)
-          ∙ ap (λ b. cond b (y ∷ filter test (put_in cmp x ys)) (filter test (put_in cmp x ys))) gone
-          ∙ put_found x ys
-          ∙ ap (λ b. cond (test x) (x ∷ cond b (y ∷ filter test ys) (filter test ys)) (cond b (y ∷ filter test ys) (filter test ys))) (sym gone)
-      by Less is false out =
-          ap (λ l. filter test (cond l (y ∷ put_in cmp x ys) (x ∷ y ∷ ys))) (ap is_lt is)
-          ∙ ap (λ l. cond (test y) (y ∷ l) l) (put_found x ys ∙ ap (λ b. cond b (x ∷ filter test ys) (filter test ys)) out)
-          ∙ ap (λ b. cond b (x ∷ filter test (y ∷ ys)) (filter test (y ∷ ys))) (sym out)
-      by Equal is b at = ap (λ l. filter test (cond l (y ∷ put_in cmp x ys) (x ∷ y ∷ ys))) (ap is_lt is)
-      by Greater is b at = ap (λ l. filter test (cond l (y ∷ put_in cmp x ys) (x ∷ y ∷ ys))) (ap is_lt is)
+  put_found x (y ∷ ys) = put_at x y ys (put_found x ys) (cmp y x) refl (test x) refl
 
   pub order_found : (xs : List X) → filter test (in_order cmp xs) ≡ filter test xs
   order_found [] = refl
@@ -187,23 +190,23 @@ module _ {X : Type 0} (cmp : X → X → Ordering) (total : IsTotalOrder cmp) wh
   turned_low : (x y : X) → is_lt (cmp y x) ≡ true → is_lt (cmp x y) ≡ false
   turned_low x y low = ap is_lt (total.antisymm x y ∙ ap ordering_reverse (less_is _ low))
 
+  put_behind : (x y : X) (zs : List X) → is_lt (cmp y x) ≡ true → Rises (y ∷ zs) → Rises (put_in cmp x zs) → Rises (y ∷ put_in cmp x zs)
+  put_behind x y [] low here more = (turned_low x y low, tt)
+  put_behind x y (z ∷ zs) low here more =
+      elim (is_lt (cmp z x)) as (λ b. Rises (cond b (z ∷ put_in cmp x zs) (x ∷ z ∷ zs)) → Rises (y ∷ cond b (z ∷ put_in cmp x zs) (x ∷ z ∷ zs)))
+      [ true ↦ λ r. (here.0, r) | false ↦ λ r. (turned_low x y low, r) ] more
+
+  rest_rises : (y : X) (zs : List X) → Rises (y ∷ zs) → Rises zs
+  rest_rises y [] r = tt
+  rest_rises y (z ∷ zs) r = r.1
+
+  rises_at : (x y : X) (ys : List X) → Rises (y ∷ ys) → Rises (put_in cmp x ys) → (b : Bool) → is_lt (cmp y x) ≡ b → Rises (put_in cmp x (y ∷ ys))
+  rises_at x y ys up more true low = subst (λ b. Rises (cond b (y ∷ put_in cmp x ys) (x ∷ y ∷ ys))) (sym low) (put_behind x y ys low up more)
+  rises_at x y ys up more false high = subst (λ b. Rises (cond b (y ∷ put_in cmp x ys) (x ∷ y ∷ ys))) (sym high) (high, up)
+
   put_rises : (x : X) (ys : List X) → Rises ys → Rises (put_in cmp x ys)
   put_rises x [] up = tt
-  put_rises x (y ∷ ys) up = by (is_lt (cmp y x)) refl
-    where
-      behind : (zs : List X) → is_lt (cmp y x) ≡ true → Rises (y ∷ zs) → Rises (put_in cmp x zs) → Rises (y ∷ put_in cmp x zs)
-      behind [] low here more = (turned_low x y low, tt)
-      behind (z ∷ zs) low here more =
-          elim (is_lt (cmp z x)) as (λ b. Rises (cond b (z ∷ put_in cmp x zs) (x ∷ z ∷ zs)) → Rises (y ∷ cond b (z ∷ put_in cmp x zs) (x ∷ z ∷ zs)))
-          [ true ↦ λ r. (here.0, r) | false ↦ λ r. (turned_low x y low, r) ] more
-
-      rest : (zs : List X) → Rises (y ∷ zs) → Rises zs
-      rest [] r = tt
-      rest (z ∷ zs) r = r.1
-
-      by : (b : Bool) → is_lt (cmp y x) ≡ b → Rises (put_in cmp x (y ∷ ys))
-      by true low = subst (λ b. Rises (cond b (y ∷ put_in cmp x ys) (x ∷ y ∷ ys))) (sym low) (behind ys low up (put_rises x ys (rest ys up)))
-      by false high = subst (λ b. Rises (cond b (y ∷ put_in cmp x ys) (x ∷ y ∷ ys))) (sym high) (high, up)
+  put_rises x (y ∷ ys) up = rises_at x y ys up (put_rises x ys (rest_rises y ys up)) (is_lt (cmp y x)) refl
 
   order_rises : (xs : List X) → Rises (in_order cmp xs)
   order_rises [] = tt
