@@ -123,6 +123,7 @@ impl Stored for FaultKeeper {
         }
         Ok(())
     }
+
     fn load(&mut self) -> Result<Rows, LoadErr>
         ensures loaded { IfOk result (AreLoaded (rows_after self.new.changes)) }
         ensures kept { Stays (Some (rows_after self.old.changes)) (Some (rows_after self.new.changes)) }

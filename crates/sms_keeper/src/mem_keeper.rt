@@ -121,6 +121,7 @@ impl Stored for MemKeeper {
     {
         Ok(())
     }
+
     fn load(&mut self) -> Result<Rows, LoadErr>
         ensures loaded { IfOk result (AreLoaded (rows_after self.new)) }
         ensures kept { Stays (Some (rows_after self.old)) (Some (rows_after self.new)) }
