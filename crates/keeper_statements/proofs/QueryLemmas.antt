@@ -1,13 +1,12 @@
 -- What the search for a higher floor finds.
-use Rattle.std.proofs.Common.{◌≡◌, ◌&&◌, ℕ, ℤ, Bool, true, false, not, List, [], ◌∷◌, map, drop, length, eqb, Ok, None, Some, refl, sym, ap, ap₂, subst, ◌∙◌, inl, inr, arith, ne_eqb, codes}
-use Rattle.std.proofs.lemmas.Bool.{false_from_ne_true}
+use Rattle.std.proofs.Common.{◌≡◌, ◌&&◌, ℕ, ℤ, Bool, true, false, not, List, [], ◌∷◌, drop, length, eqb, refl, sym, ap, ap₂, subst, ◌∙◌, inl, arith, ne_eqb, codes}
 use Rattle.std.specs.List.{list_all, list_any}
 use Rattle.sqlite.specs.declared.types.Value.TheVariants.{Null, Int, Text}
-use Rattle.sqlite.specs.Effect.{Database, Answers}
+use Rattle.sqlite.specs.Effect.{Answers}
 use Rattle.sqlite.specs.Order.{Row}
 use Rattle.sqlite.specs.Program.{overlay}
 use Rattle.sqlite.specs.Query.{IsAnswer}
-use Rattle.sqlite.specs.State.{State, Shown, IsUnchanged}
+use Rattle.sqlite.specs.State.{State, Shown}
 use Rattle.sqlite.specs.Term.{holds}
 use Rattle.sqlite.specs.Command.TheVariants.{Select}
 use Rattle.sqlite.specs.Listing.{understood}

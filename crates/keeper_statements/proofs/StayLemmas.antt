@@ -1,12 +1,12 @@
 -- What stays of a transaction after a statement, whatever it answers.
-use Rattle.std.proofs.Common.{◌≡◌, ℕ, true, List, Ok, Err, Result, Some, None, Option, IsTrue, inl, inr, refl, sym, ap, subst, ◌∙◌, cond, ◌⊎◌}
+use Rattle.std.proofs.Common.{ℕ, List, Ok, Err, Result, Some, None, Option, IsTrue, inl, inr, subst, ◌∙◌, cond, ◌⊎◌}
 use Rattle.std.specs.Prelude.{IfOk, IfErr}
 use Rattle.std.specs.Result.{IsErr}
 use Rattle.sqlite.specs.declared.error.Error.{Error}
 use Rattle.sqlite_resolve.specs.declared.compiled.Compiled.{Compiled}
 use Rattle.sqlite_schema.specs.declared.command.Returning.{Returning}
 use Rattle.sqlite.specs.Order.{Row}
-use Rattle.sqlite.specs.State.{State, ExecutesInside, IsUnchanged, IsRolledBack, Shows, Writes, FailsToQuery, FailsToShow, IsTooLate, Shown, ShowsRows, IsNotRun, RunsCommand, Fails}
+use Rattle.sqlite.specs.State.{State, ExecutesInside, IsUnchanged, IsRolledBack, Shows, FailsToQuery, FailsToShow, IsTooLate, Shown, ShowsRows, IsNotRun, RunsCommand, Fails}
 use Rattle.keeper_statements.specs.Steps.{StaysInside}
 
 -- nothing changed

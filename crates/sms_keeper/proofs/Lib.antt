@@ -1,2 +1,2 @@
 mod KeyLemmas
-mod SortLemmas
+pub mod SortLemmas

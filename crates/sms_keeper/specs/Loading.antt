@@ -83,3 +83,7 @@ NamesDamage told damage NoMemory = Unit {0}
 -- damage that is told after the call was told before it
 abbrev pub StaysDamaged : Option (Table × ℕ) → Option (Table × ℕ) → Type 0
 StaysDamaged before after = IfSome after (λ found. before ≡ Some found)
+
+-- damage that is told before the call and after it is the same
+abbrev pub SameDamage : Option (Table × ℕ) → Option (Table × ℕ) → Type 0
+SameDamage before after = IfSome before (λ found. IfSome after (λ still. still ≡ found))

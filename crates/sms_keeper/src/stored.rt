@@ -2,7 +2,7 @@
 ghost use Rattle.std.specs.Prelude.{◌≡◌, ◌≤◌, ℕ, None, Option, IfErr, IfOk, IfSome, IsErrOf, OnOk};
 ghost use Rattle.desk_common.specs.Causes.{Rose};
 ghost use Rattle.sms_keeper.specs.declared.table.Table.{Table};
-ghost use Rattle.sms_keeper.specs.Loading.{AreLoaded, NamesDamage, StaysDamaged};
+ghost use Rattle.sms_keeper.specs.Loading.{AreLoaded, NamesDamage, SameDamage, StaysDamaged};
 ghost use Rattle.sms_keeper.specs.Told.{Stays};
 
 use crate::keeper::{Keeper, KeeperErr};
@@ -18,7 +18,7 @@ pub trait Stored: Keeper {
     /// Makes the outside ready; the tables stay as they are.
     fn ready(&mut self) -> Result<(), KeeperErr>
         ensures kept { Stays (Self.told self.old) (Self.told self.new) }
-        ensures damage_kept { StaysDamaged (damage self.old) (damage self.new) }
+        ensures damage_kept { SameDamage (damage self.old) (damage self.new) }
         ensures cause { IsErrOf result KeeperErr.Failed → Rose (Self.count self.old) (Self.count self.new) }
         ensures stands { (IsErrOf result KeeperErr.Failed → ⊥) → Self.count self.new ≡ Self.count self.old }
         ensures rises { Self.count self.old ≤ Self.count self.new };
