@@ -31,11 +31,7 @@ fn push_row<T: TableRow>(values: &mut Vec<T>, alloc: Global, row: &Row) -> Resul
 }
 
 // The values of the rows of a table, or the first row that stands for nothing.
-fn read_rows<T: TableRow>(
-    alloc: Global,
-    table: Table,
-    rows: &[Row],
-) -> Result<Items<T>, LoadFault>
+fn read_rows<T: TableRow>(alloc: Global, table: Table, rows: &[Row]) -> Result<Items<T>, LoadFault>
     ensures { Reads table T.meaning rows.now result }
 {
     let mut values = Vec::new(alloc);
@@ -86,7 +82,10 @@ fn load_decks<S: Alter>(tx: &mut Transaction<'_, S>, alloc: Global) -> Result<De
 }
 
 // Reads the statuses.
-fn load_statuses<S: Alter>(tx: &mut Transaction<'_, S>, alloc: Global) -> Result<Statuses, LoadFault>
+fn load_statuses<S: Alter>(
+    tx: &mut Transaction<'_, S>,
+    alloc: Global,
+) -> Result<Statuses, LoadFault>
     ensures same_reference { tx.new.conn.ghost_name ≡ tx.old.conn.ghost_name }
     ensures reads { HasCleanDisk (state S.Store tx.new.conn.now) → IsReady (state S.Store tx.old.conn.now).now → Reads tables.Statuses status_in (in_order by_two (tables_in (state S.Store tx.old.conn.now).now.trees).statuses) result }
     ensures same { HasCleanDisk (state S.Store tx.new.conn.now) → IsReady (state S.Store tx.old.conn.now).now → OnOk result ((state S.Store tx.new.conn.now).now ≡ (state S.Store tx.old.conn.now).now) }
@@ -143,10 +142,7 @@ fn empty_rows(alloc: Global) -> Rows
 }
 
 // Reads the five tables, each in the order of its keys. A database without tables has no rows. Nothing changes.
-pub fn load_rows<S: Alter>(
-    connection: &mut Connection<S>,
-    alloc: Global,
-) -> Result<Rows, LoadFault>
+pub fn load_rows<S: Alter>(connection: &mut Connection<S>, alloc: Global) -> Result<Rows, LoadFault>
     ensures reads { HasCleanDisk (state S.Store connection.new) → IsReady (state S.Store connection.old).now → ReadsAll (ordered (tables_in (state S.Store connection.old).now.trees)) result }
     ensures empty { (state S.Store connection.old).now.schema.tables ≡ [] → result ≡ Ok no_rows }
     ensures kept { HasCleanDisk (state S.Store connection.new) → IsTrue (state S.Store connection.new).is_open → (state S.Store connection.new).now ≡ (state S.Store connection.old).now }
@@ -159,9 +155,7 @@ pub fn load_rows<S: Alter>(
         return Ok(empty_rows(alloc));
     }
     if !connection.is_autocommit() {
-        return Err(LoadFault::Refused(Error::SqliteFailure(
-            ErrorCode::TransactionState,
-        )));
+        return Err(LoadFault::Refused(Error::SqliteFailure(ErrorCode::TransactionState)));
     }
     let mut tx = connection.transaction();
     load_all(&mut tx, alloc)

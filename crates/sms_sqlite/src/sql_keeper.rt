@@ -192,6 +192,7 @@ impl<S: Alter + Drop> Stored for SqlKeeper<S> {
             Err(error) => Err(self.refuse(error)),
         }
     }
+
     fn load(&mut self) -> Result<Rows, LoadErr>
         ensures loaded { IfOk result (λ rows. IfSome (told_by S.Store self.new) (λ told. AreLoaded told rows)) }
         ensures sound { OnOk result (damage_by S.Store self.new ≡ None) }

@@ -19,7 +19,7 @@ returns-in_err-sets-clause-reads g c clean inside ready =
     let s1 = state g.S.Store c.load_sets.new.tx.conn.now in
     let ready0 : IsReady s0.now = ready in
     let p = err_from_is_err_and c.from_residual.result c.from_residual.ensures.1 in
-    rw (p.1, p.2) (sets_fail (ordered (tables_in s0.now.trees)) c.in_err-sets.field-0.0  (c.in_err-sets.ensures.reads clean ready0))
+    rw (p.1, p.2) (sets_fail (ordered (tables_in s0.now.trees)) c.in_err-sets.field-0.0 (c.in_err-sets.ensures.reads clean ready0))
 
 pub returns-in_err-replies-clause-reads : goal.returns-in_err-replies-clause-reads
 returns-in_err-replies-clause-reads g c clean inside ready =
