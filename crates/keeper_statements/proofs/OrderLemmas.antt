@@ -1,7 +1,7 @@
 -- Rows in order: of any order that tells them apart there is one, and among rows whose numbers rise it keeps those of one key as they stood.
-use Rattle.std.proofs.Common.{◌≡◌, ◌+◌, zero, suc, Bool, true, false, cond, ◌&&◌, List, [], ◌∷◌, map, filter, refl, sym, ap, subst, ◌∙◌, inl, inr, arith, add-one, Ordering, Less, Equal, Greater, is_lt, IsPermutation, IsSorted}
+use Rattle.std.proofs.Common.{◌≡◌, ◌+◌, zero, suc, Bool, true, false, cond, List, [], ◌∷◌, map, filter, refl, sym, ap, subst, ◌∙◌, inl, inr, arith, add-one, Ordering, Less, Equal, Greater, is_lt, IsPermutation, IsSorted}
 use Rattle.std.specs.Cmp.{IsTotalOrder}
-use Rattle.std.specs.List.{AllByRecursion, list_all}
+use Rattle.std.specs.List.{AllByRecursion}
 use Rattle.std.specs.Ordering.{is_eq, on, ordering_reverse, ordering_then, then_cmp}
 use Rattle.std.proofs.lemmas.Cmp.{on_total, then_total}
 use Rattle.std.proofs.lemmas.List.{get_or-map, length-map}
@@ -220,20 +220,3 @@ module _ {X : Type 0} (cmp : X → X → Ordering) (total : IsTotalOrder cmp) wh
 
   pub order_sorted : (xs : List X) → IsSorted cmp (in_order cmp xs)
   order_sorted xs = sorted_by_rise (in_order cmp xs) (order_rises xs)
-
--- whether all pass doesn't depend on their order
-module _ {X : Type 0} (cmp : X → X → Ordering) (test : X → Bool) where
-  and_swap : (a b c : Bool) → (a && (b && c)) ≡ (b && (a && c))
-  and_swap true b c = refl
-  and_swap false true c = refl
-  and_swap false false c = refl
-
-  put_all_pass : (x : X) (ys : List X) → list_all test (put_in cmp x ys) ≡ (test x && list_all test ys)
-  put_all_pass x [] = refl
-  put_all_pass x (y ∷ ys) =
-      elim (is_lt (cmp y x)) as (λ b. list_all test (cond b (y ∷ put_in cmp x ys) (x ∷ y ∷ ys)) ≡ (test x && (test y && list_all test ys)))
-      [ true ↦ ap (λ b. test y && b) (put_all_pass x ys) ∙ and_swap (test y) (test x) (list_all test ys) | false ↦ refl ]
-
-  pub order_all_pass : (xs : List X) → list_all test (in_order cmp xs) ≡ list_all test xs
-  order_all_pass [] = refl
-  order_all_pass (x ∷ xs) = put_all_pass x (in_order cmp xs) ∙ ap (λ b. test x && b) (order_all_pass xs)

@@ -1,5 +1,5 @@
 -- What a reading of the tables answers.
-use Rattle.std.specs.Prelude.{◌≡◌, ◌++◌, ◌∷◌, [], ◌⊎◌, ℕ, Bool, true, List, Option, Some, None, Result, Ok, Err, bytes_eq, codes, IsSomeAnd}
+use Rattle.std.specs.Prelude.{◌≡◌, ◌++◌, ◌∷◌, [], ◌⊎◌, ℕ, Bool, true, List, Option, Some, None, Result, Ok, Err, bytes_eq, codes, map, IsSomeAnd}
 use Rattle.std.specs.List.{list_all, list_any}
 use Rattle.sqlite.specs.Effect.{Database}
 use Rattle.sqlite.specs.Order.{Row}
@@ -8,10 +8,12 @@ use Rattle.sqlite.specs.Table.{Table as SqlTable}
 use Rattle.sms_keeper.specs.Loading.{IsDamaged}
 use Rattle.sms_keeper.specs.declared.rows.Rows.{Rows}
 use Rattle.sms_keeper.specs.declared.table.Table.{Table}
+use Rattle.keeper_statements.specs.Order.{deck_columns, five_columns, three_columns, two_columns}
 use Rattle.keeper_statements.specs.Steps.{HasMade}
 use Rattle.keeper_statements.specs.Tables.{Tables}
 use Rattle.sms_sqlite.specs.Damage.{damage_in, first_unread}
 use Rattle.sms_sqlite.specs.Values.{each_in, rows_of}
+use Rattle.sms_sqlite.specs.declared.found.Found.{Found}
 use Rattle.sms_sqlite.specs.declared.load_fault.LoadFault.{LoadFault}
 use Rattle.sms_sqlite.specs.declared.load_fault.LoadFault.TheVariants.{Refused, Damaged, NoMemory}
 
@@ -32,6 +34,14 @@ ReadsAll t (Ok rows) = rows_of t ≡ Some rows
 ReadsAll t (Err (Refused error)) = Unit {0}
 ReadsAll t (Err (Damaged table place)) = damage_in t ≡ Some (table, place)
 ReadsAll t (Err NoMemory) = Unit {0}
+
+-- the columns of each table's rows were shown
+pub record AreShown (t : Tables) (found : Found) : Type 0 where
+  pub sets : found.sets.items ≡ map two_columns t.sets
+  pub replies : found.replies.items ≡ map five_columns t.replies
+  pub decks : found.decks.items ≡ map deck_columns t.decks
+  pub statuses : found.statuses.items ≡ map three_columns t.statuses
+  pub floors : found.floors.items ≡ map two_columns t.floors
 
 -- a refusal that names a row names the damage
 abbrev pub NamesFault : Option Rows → Option (Table × ℕ) → LoadFault → Type 0

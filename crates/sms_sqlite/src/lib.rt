@@ -3,6 +3,7 @@
 
 mod columns;
 mod effects;
+mod found;
 mod load_fault;
 mod loading;
 mod numbers;

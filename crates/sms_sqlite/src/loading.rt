@@ -1,22 +1,20 @@
 // Reading the five tables.
-ghost use Rattle.std.specs.Prelude.{◌≡◌, [], false, IsErrOf, IsTrue, None, Ok, OnOk};
+ghost use Rattle.std.specs.Prelude.{◌≡◌, [], false, IfOk, IsErrOf, IsTrue, None, Ok, OnOk};
 ghost use Rattle.sqlite.specs.Held.{state};
 ghost use Rattle.sqlite.specs.State.{HasCleanDisk, Survives};
 ghost use Rattle.sms_keeper.specs.Tables.{no_rows};
-ghost use Rattle.sms_keeper.specs.declared.table.Table.TheVariants as tables;
 ghost use Rattle.sms_records.specs.declared.record_err.RecordErr.TheVariants.{Bad};
-ghost use Rattle.keeper_statements.specs.Order.{in_order, by_first, by_two};
 ghost use Rattle.keeper_statements.specs.Steps.{MayStay};
-ghost use Rattle.keeper_statements.specs.Tables.{IsReady, tables_in};
+ghost use Rattle.keeper_statements.specs.Tables.{IsReady, Tables, tables_in};
 ghost use Rattle.sms_sqlite.specs.Damage.{ordered};
-ghost use Rattle.sms_sqlite.specs.Reading.{IsPushed, Reads, ReadsAll};
-ghost use Rattle.sms_sqlite.specs.Values.{set_in, reply_in, deck_in, status_in, floor_in};
+ghost use Rattle.sms_sqlite.specs.Reading.{AreShown, IsPushed, Reads, ReadsAll};
 
+use crate::found::Found;
 use crate::load_fault::LoadFault;
 use crate::table_row::TableRow;
 use desk_common::Items;
 use keeper_statements::{all_decks, all_floors, all_replies, all_sets, all_statuses};
-use sms_keeper::{DeckRows, Floors, KeptRows, Rows, SetRows, Statuses, Table};
+use sms_keeper::{Rows, Table};
 use sms_records::RecordErr;
 use sqlite::{Alter, Connection, Error, ErrorCode, Row, Transaction};
 use std::alloc::Global;
@@ -45,81 +43,15 @@ fn read_rows<T: TableRow>(alloc: Global, table: Table, rows: &[Row]) -> Result<I
     Ok(Items::from_vec(values))
 }
 
-// Reads the data sets.
-fn load_sets<S: Alter>(tx: &mut Transaction<'_, S>, alloc: Global) -> Result<SetRows, LoadFault>
-    ensures same_reference { tx.new.conn.ghost_name ≡ tx.old.conn.ghost_name }
-    ensures reads { HasCleanDisk (state S.Store tx.new.conn.now) → IsReady (state S.Store tx.old.conn.now).now → Reads tables.Sets set_in (in_order by_first (tables_in (state S.Store tx.old.conn.now).now.trees).sets) result }
-    ensures same { HasCleanDisk (state S.Store tx.new.conn.now) → IsReady (state S.Store tx.old.conn.now).now → OnOk result ((state S.Store tx.new.conn.now).now ≡ (state S.Store tx.old.conn.now).now) }
-    ensures stays { MayStay (state S.Store tx.old.conn.now) (state S.Store tx.new.conn.now) result }
-    ensures survives { Survives (state S.Store tx.old.conn.now) (state S.Store tx.new.conn.now) (λ _. ⊥) }
+// The values of what the texts showed of each table, or the first row that stands for nothing.
+fn read_found(alloc: Global, found: &Found) -> Result<Rows, LoadFault>
+    ensures { (t : Tables) → AreShown t found.now → ReadsAll t result }
 {
-    let rows = all_sets(tx)?;
-    read_rows(alloc, Table::Sets, rows.as_slice())
-}
-
-// Reads the kept replies.
-fn load_replies<S: Alter>(tx: &mut Transaction<'_, S>, alloc: Global) -> Result<KeptRows, LoadFault>
-    ensures same_reference { tx.new.conn.ghost_name ≡ tx.old.conn.ghost_name }
-    ensures reads { HasCleanDisk (state S.Store tx.new.conn.now) → IsReady (state S.Store tx.old.conn.now).now → Reads tables.Replies reply_in (in_order by_two (tables_in (state S.Store tx.old.conn.now).now.trees).replies) result }
-    ensures same { HasCleanDisk (state S.Store tx.new.conn.now) → IsReady (state S.Store tx.old.conn.now).now → OnOk result ((state S.Store tx.new.conn.now).now ≡ (state S.Store tx.old.conn.now).now) }
-    ensures stays { MayStay (state S.Store tx.old.conn.now) (state S.Store tx.new.conn.now) result }
-    ensures survives { Survives (state S.Store tx.old.conn.now) (state S.Store tx.new.conn.now) (λ _. ⊥) }
-{
-    let rows = all_replies(tx)?;
-    read_rows(alloc, Table::Replies, rows.as_slice())
-}
-
-// Reads the decks.
-fn load_decks<S: Alter>(tx: &mut Transaction<'_, S>, alloc: Global) -> Result<DeckRows, LoadFault>
-    ensures same_reference { tx.new.conn.ghost_name ≡ tx.old.conn.ghost_name }
-    ensures reads { HasCleanDisk (state S.Store tx.new.conn.now) → IsReady (state S.Store tx.old.conn.now).now → Reads tables.Decks deck_in (in_order by_first (tables_in (state S.Store tx.old.conn.now).now.trees).decks) result }
-    ensures same { HasCleanDisk (state S.Store tx.new.conn.now) → IsReady (state S.Store tx.old.conn.now).now → OnOk result ((state S.Store tx.new.conn.now).now ≡ (state S.Store tx.old.conn.now).now) }
-    ensures stays { MayStay (state S.Store tx.old.conn.now) (state S.Store tx.new.conn.now) result }
-    ensures survives { Survives (state S.Store tx.old.conn.now) (state S.Store tx.new.conn.now) (λ _. ⊥) }
-{
-    let rows = all_decks(tx)?;
-    read_rows(alloc, Table::Decks, rows.as_slice())
-}
-
-// Reads the statuses.
-fn load_statuses<S: Alter>(
-    tx: &mut Transaction<'_, S>,
-    alloc: Global,
-) -> Result<Statuses, LoadFault>
-    ensures same_reference { tx.new.conn.ghost_name ≡ tx.old.conn.ghost_name }
-    ensures reads { HasCleanDisk (state S.Store tx.new.conn.now) → IsReady (state S.Store tx.old.conn.now).now → Reads tables.Statuses status_in (in_order by_two (tables_in (state S.Store tx.old.conn.now).now.trees).statuses) result }
-    ensures same { HasCleanDisk (state S.Store tx.new.conn.now) → IsReady (state S.Store tx.old.conn.now).now → OnOk result ((state S.Store tx.new.conn.now).now ≡ (state S.Store tx.old.conn.now).now) }
-    ensures stays { MayStay (state S.Store tx.old.conn.now) (state S.Store tx.new.conn.now) result }
-    ensures survives { Survives (state S.Store tx.old.conn.now) (state S.Store tx.new.conn.now) (λ _. ⊥) }
-{
-    let rows = all_statuses(tx)?;
-    read_rows(alloc, Table::Statuses, rows.as_slice())
-}
-
-// Reads the floors.
-fn load_floors<S: Alter>(tx: &mut Transaction<'_, S>, alloc: Global) -> Result<Floors, LoadFault>
-    ensures same_reference { tx.new.conn.ghost_name ≡ tx.old.conn.ghost_name }
-    ensures reads { HasCleanDisk (state S.Store tx.new.conn.now) → IsReady (state S.Store tx.old.conn.now).now → Reads tables.Floors floor_in (in_order by_first (tables_in (state S.Store tx.old.conn.now).now.trees).floors) result }
-    ensures same { HasCleanDisk (state S.Store tx.new.conn.now) → IsReady (state S.Store tx.old.conn.now).now → OnOk result ((state S.Store tx.new.conn.now).now ≡ (state S.Store tx.old.conn.now).now) }
-    ensures stays { MayStay (state S.Store tx.old.conn.now) (state S.Store tx.new.conn.now) result }
-    ensures survives { Survives (state S.Store tx.old.conn.now) (state S.Store tx.new.conn.now) (λ _. ⊥) }
-{
-    let rows = all_floors(tx)?;
-    read_rows(alloc, Table::Floors, rows.as_slice())
-}
-
-// Reads the five tables.
-fn load_all<S: Alter>(tx: &mut Transaction<'_, S>, alloc: Global) -> Result<Rows, LoadFault>
-    ensures same_reference { tx.new.conn.ghost_name ≡ tx.old.conn.ghost_name }
-    ensures reads { HasCleanDisk (state S.Store tx.new.conn.now) → IsTrue (state S.Store tx.old.conn.now).in_transaction → IsReady (state S.Store tx.old.conn.now).now → ReadsAll (ordered (tables_in (state S.Store tx.old.conn.now).now.trees)) result }
-    ensures stays { MayStay (state S.Store tx.old.conn.now) (state S.Store tx.new.conn.now) result }
-    ensures survives { Survives (state S.Store tx.old.conn.now) (state S.Store tx.new.conn.now) (λ _. ⊥) }
-{
-    let sets = load_sets(tx, alloc)?;
-    let replies = load_replies(tx, alloc)?;
-    let decks = load_decks(tx, alloc)?;
-    let statuses = load_statuses(tx, alloc)?;
-    let floors = load_floors(tx, alloc)?;
+    let sets = read_rows(alloc, Table::Sets, found.sets.as_slice())?;
+    let replies = read_rows(alloc, Table::Replies, found.replies.as_slice())?;
+    let decks = read_rows(alloc, Table::Decks, found.decks.as_slice())?;
+    let statuses = read_rows(alloc, Table::Statuses, found.statuses.as_slice())?;
+    let floors = read_rows(alloc, Table::Floors, found.floors.as_slice())?;
     Ok(Rows {
         sets,
         replies,
@@ -127,6 +59,43 @@ fn load_all<S: Alter>(tx: &mut Transaction<'_, S>, alloc: Global) -> Result<Rows
         statuses,
         floors,
     })
+}
+
+// All rows of the five tables, inside a transaction.
+fn find_rows<S: Alter>(tx: &mut Transaction<'_, S>) -> Result<Found, Error>
+    ensures same_reference { tx.new.conn.ghost_name ≡ tx.old.conn.ghost_name }
+    ensures found { HasCleanDisk (state S.Store tx.new.conn.now) → IsTrue (state S.Store tx.old.conn.now).in_transaction → IsReady (state S.Store tx.old.conn.now).now → IfOk result (AreShown (ordered (tables_in (state S.Store tx.old.conn.now).now.trees))) }
+    ensures stays { MayStay (state S.Store tx.old.conn.now) (state S.Store tx.new.conn.now) result }
+    ensures survives { Survives (state S.Store tx.old.conn.now) (state S.Store tx.new.conn.now) (λ _. ⊥) }
+{
+    let sets = all_sets(tx)?;
+    let replies = all_replies(tx)?;
+    let decks = all_decks(tx)?;
+    let statuses = all_statuses(tx)?;
+    let floors = all_floors(tx)?;
+    Ok(Found {
+        sets,
+        replies,
+        decks,
+        statuses,
+        floors,
+    })
+}
+
+// All rows of the five tables. The transaction is rolled back, since nothing was written.
+fn query_rows<S: Alter>(connection: &mut Connection<S>) -> Result<Found, Error>
+    ensures found { HasCleanDisk (state S.Store connection.new) → IsReady (state S.Store connection.old).now → IfOk result (AreShown (ordered (tables_in (state S.Store connection.old).now.trees))) }
+    ensures kept { HasCleanDisk (state S.Store connection.new) → IsTrue (state S.Store connection.new).is_open → (state S.Store connection.new).now ≡ (state S.Store connection.old).now }
+    ensures kept_committed { HasCleanDisk (state S.Store connection.new) → IsTrue (state S.Store connection.new).is_open → (state S.Store connection.new).committed ≡ (state S.Store connection.old).committed }
+    ensures was_open { HasCleanDisk (state S.Store connection.new) → IsTrue (state S.Store connection.new).is_open → IsTrue (state S.Store connection.old).is_open }
+    ensures ended { (state S.Store connection.old).in_transaction ≡ false → (state S.Store connection.new).in_transaction ≡ false }
+    ensures crash { Survives (state S.Store connection.old) (state S.Store connection.new) (λ _. ⊥) }
+{
+    if !connection.is_autocommit() {
+        return Err(Error::SqliteFailure(ErrorCode::TransactionState));
+    }
+    let mut tx = connection.transaction();
+    find_rows(&mut tx)
 }
 
 fn empty_rows(alloc: Global) -> Rows
@@ -154,9 +123,6 @@ pub fn load_rows<S: Alter>(connection: &mut Connection<S>, alloc: Global) -> Res
     if connection.schema().tables.is_empty() {
         return Ok(empty_rows(alloc));
     }
-    if !connection.is_autocommit() {
-        return Err(LoadFault::Refused(Error::SqliteFailure(ErrorCode::TransactionState)));
-    }
-    let mut tx = connection.transaction();
-    load_all(&mut tx, alloc)
+    let found = query_rows(connection)?;
+    read_found(alloc, &found)
 }
