@@ -18,7 +18,7 @@ returns-clause-made g c clean rows told =
     let old = state g.S.Store c.args.connection.now in
     let begun = c.transaction-tx.ensures.begun in
     let flag : c.has_all-are_there.result ≡ has_desk (state g.S.Store c.args.connection.now).now.schema =
-    c.has_all-are_there.ensures ∙ ap (λ tables. list_all (has_table tables) desk_names) (c.as_slice.ensures.value ∙ ap (λ (s : Schema). s.tables) c.schema.ensures.value) in
+    c.has_all-are_there.ensures ∙ ap (λ tables. list_all (has_table tables) desk_names) (c.as_slice.ensures ∙ ap (λ (s : Schema). s.tables) c.schema.ensures.value) in
     let last = state g.S.Store c.make_missing.new.tx.conn.now in
     let end = c.commit.new.self.0 in
     let same : end ≡ c.connection-2-1.given.0 = search rules in
@@ -33,7 +33,7 @@ returns-clause-tables g c clean =
     let old = state g.S.Store c.args.connection.now in
     let begun = c.transaction-tx.ensures.begun in
     let flag : c.has_all-are_there.result ≡ has_desk (state g.S.Store c.args.connection.now).now.schema =
-    c.has_all-are_there.ensures ∙ ap (λ tables. list_all (has_table tables) desk_names) (c.as_slice.ensures.value ∙ ap (λ (s : Schema). s.tables) c.schema.ensures.value) in
+    c.has_all-are_there.ensures ∙ ap (λ tables. list_all (has_table tables) desk_names) (c.as_slice.ensures ∙ ap (λ (s : Schema). s.tables) c.schema.ensures.value) in
     let last = state g.S.Store c.make_missing.new.tx.conn.now in
     let end = c.commit.new.self.0 in
     let same : end ≡ c.connection-2-1.given.0 = search rules in
@@ -48,7 +48,7 @@ returns-clause-crash g c =
     let old = c.args.connection.now in
     let begun = c.transaction-tx.ensures.begun in
     let flag : c.has_all-are_there.result ≡ has_desk (state g.S.Store c.args.connection.now).now.schema =
-    c.has_all-are_there.ensures ∙ ap (λ tables. list_all (has_table tables) desk_names) (c.as_slice.ensures.value ∙ ap (λ (s : Schema). s.tables) c.schema.ensures.value) in
+    c.has_all-are_there.ensures ∙ ap (λ tables. list_all (has_table tables) desk_names) (c.as_slice.ensures ∙ ap (λ (s : Schema). s.tables) c.schema.ensures.value) in
     let start = c.transaction-tx.result.conn.now in
     let last = c.make_missing.new.tx.conn.now in
     let end = c.commit.new.self.0 in
