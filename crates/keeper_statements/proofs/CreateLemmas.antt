@@ -1,5 +1,5 @@
 -- What CREATE TABLE makes.
-use Rattle.std.proofs.Common.{◌≡◌, ◌++◌, ◌||◌, ◌&&◌, ◌==◌, length, ℕ, Bool, List, [], ◌∷◌, codes, cond, not, true, false, Ok, Err, Result, Option, None, IsTrue, OnOk, refl, sym, ap, subst, ◌∙◌}
+use Rattle.std.proofs.Common.{◌≡◌, ◌++◌, ◌||◌, ◌&&◌, ◌==◌, length, ℕ, Bool, List, [], ◌∷◌, codes, cond, not, true, false, Ok, Err, Result, Option, None, refl, sym, ap, subst, ◌∙◌}
 use Rattle.std.specs.List.{list_any}
 use Rattle.std.specs.Prelude.{is_some, slice_range}
 use Rattle.sqlite.specs.Table.{Table}

@@ -1,5 +1,6 @@
 pub mod Schema
 pub mod Tables
 pub mod Tests
+pub mod Order
 pub mod Changes
 pub mod Steps

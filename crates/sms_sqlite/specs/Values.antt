@@ -70,6 +70,13 @@ reply_in row = do
   reply ← whole reply_form answered
   Some (record { job = job; number = number; place = place; request = request; reply = reply })
 
+-- a deck of which the number and the bytes alone are shown
+unfoldable pub shown_deck_in : Row → Option DeckRow
+shown_deck_in row = do
+  count ← number_in (column row 0)
+  bytes ← bytes_in (column row 1)
+  Some (record { count = count; bytes = bytes })
+
 -- a deck with its number, which is that of the row
 unfoldable pub deck_in : Row → Option DeckRow
 deck_in row = do
