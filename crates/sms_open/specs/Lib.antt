@@ -3,3 +3,4 @@ pub mod Targets
 pub mod Tests
 pub mod Verdicts
 pub mod Meeting
+pub mod Reopening

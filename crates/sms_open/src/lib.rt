@@ -6,11 +6,15 @@ mod decks;
 mod doubles;
 mod meeting;
 mod numbers;
+mod open_err;
+mod reopening;
 mod replies;
 mod rows_err;
 mod sets;
 mod statuses;
 mod testing;
 
+pub use open_err::OpenErr;
+pub use reopening::reopen;
 pub use rows_err::RowsErr;
 pub use testing::test_rows;
