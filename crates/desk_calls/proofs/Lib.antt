@@ -1,2 +1,3 @@
+mod GrantLemmas
 mod RunLemmas
 pub mod OrderLemmas

@@ -1,5 +1,5 @@
 -- The headline: the answers written are those of one legal history that holds each request of the script once.
-use Rattle.std.specs.Prelude.{◌≡◌, ◌+◌, ◌-◌, ◌^◌, ◌≤◌, ◌⊎◌, List, [], ◌∷◌, ◌++◌, ℕ, Bool, true, false, length, map, min, nat_lt, Option, Some, None, Ok}
+use Rattle.std.specs.Prelude.{◌≡◌, ◌+◌, ◌-◌, ◌^◌, ◌≤◌, ◌<◌, ◌⊎◌, List, [], ◌∷◌, ◌++◌, ℕ, Bool, true, false, length, map, min, nat_lt, Option, Some, None, Ok}
 use Rattle.sms_construct.specs.declared.data_set.DataSet.{DataSet}
 use Rattle.sms_construct.specs.declared.entry.Answer.{Answer}
 use Rattle.sms_construct.specs.declared.entry.Entry.{Entry}
@@ -11,7 +11,7 @@ use Rattle.sms_keeper.specs.declared.rows.Rows.{Rows}
 use Rattle.desk_law.specs.State.{DeskState, Opening}
 use Rattle.desk_law.specs.Display.{shown_volume}
 use Rattle.desk_law.specs.Extents.{pieces_on}
-use Rattle.desk_law.specs.Grants.{WasGranted}
+use Rattle.desk_law.specs.Grants.{WasEntered, WasGranted}
 use Rattle.desk_law.specs.History.{IsLegal, Reaches}
 use Rattle.desk_law.specs.Kept.{floor_of, kept_for}
 use Rattle.desk_law.specs.Lawful.{IsLawful}
@@ -59,6 +59,9 @@ pub record IsLawfulHistory (o : Opening) (history : List Entry) : Type 0 where
   -- pieces of the gap rule
   pub grants : (front rest : List Entry) (entry : Entry) (set : DataSet) (trace : Trace) → history ≡ front ++ entry ∷ rest
       → entry.answer.reply ≡ Granted set trace → WasGranted o front entry set trace
+  -- one that was first answered at a place behind the opening's is that of an entry
+  pub entered : (front rest : List Entry) (entry : Entry) (set : DataSet) (trace : Trace) → history ≡ front ++ entry ∷ rest
+      → entry.answer.reply ≡ Granted set trace → o.base < entry.answer.first → WasEntered o front entry set trace
   -- at each time the state is lawful: no track is held twice, and each extent lies inside its volume
   pub lawful : (front rest : List Entry) (s : DeskState) → history ≡ front ++ rest → Reaches o front s → IsLawful s
   -- no track of two data sets

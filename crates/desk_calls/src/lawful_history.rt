@@ -1,19 +1,19 @@
-// What holds of the legal histories behind a lawful opening.
+// What holds of the legal histories behind a sound opening.
 ghost use Rattle.std.specs.Prelude.{List};
 ghost use Rattle.sms_construct.specs.declared.entry.Entry.{Entry};
 ghost use Rattle.desk_law.specs.History.{IsLegal};
-ghost use Rattle.desk_law.specs.Lawful.{IsLawfulOpening};
 ghost use Rattle.desk_law.specs.Records.{empty_opening};
 ghost use Rattle.desk_law.specs.State.{Opening};
+ghost use Rattle.desk_records.specs.Tied.{IsSoundOpening};
 ghost use Rattle.desk_calls.specs.Headline.{IsLawfulHistory};
 
 use desk_law::{
-    empty_is_lawful, floors_never_fall, kept_replies, lawful_always, lawful_grants, places_in_order, to_no_other,
+    floors_never_fall, kept_replies, lawful_always, lawful_grants, places_in_order, to_no_other,
 };
 
-/// A legal history behind a lawful opening is lawful in all that it grants, holds and keeps.
+/// A legal history behind a sound opening is lawful in all that it grants, holds and keeps.
 pub fn legal_is_lawful()
-    ensures { (o : Opening) (history : List Entry) → IsLawfulOpening o → IsLegal o history → IsLawfulHistory o history }
+    ensures { (o : Opening) (history : List Entry) → IsSoundOpening o → IsLegal o history → IsLawfulHistory o history }
 {
     // Facts for the proof; nothing runs.
     places_in_order();
@@ -29,6 +29,5 @@ pub fn new_is_lawful()
     ensures { (history : List Entry) → IsLegal empty_opening history → IsLawfulHistory empty_opening history }
 {
     // Facts for the proof; nothing runs.
-    empty_is_lawful();
     legal_is_lawful();
 }

@@ -62,16 +62,10 @@ pub fn note_database(alloc: Global, note: &mut String, status: DbStatus, script:
 pub fn sentence_of_serving(status: ServeStatus) -> Option<&'static str> {
     match status {
         ServeStatus::Done => None,
-        ServeStatus::BadWords => Some("the words of the command line are none that serve the desk"),
-        ServeStatus::WriteFault => Some(
-            "standard output can't be written; the connections were served, and a front of their lines may be there",
-        ),
-        ServeStatus::NoMemory => Some(
-            "memory is wanting; what connections were answered stands, and no line of theirs was written",
-        ),
-        ServeStatus::AcceptFault => Some(
-            "the port gave no further connection; those before it were served, and their lines are written",
-        ),
+        ServeStatus::BadWords => Some(SERVE_WORDS),
+        ServeStatus::WriteFault => Some(SERVE_WRITE),
+        ServeStatus::NoMemory => Some(SERVE_MEMORY),
+        ServeStatus::AcceptFault => Some(SERVE_PORT),
     }
 }
 
@@ -101,6 +95,17 @@ const STORE_FAULT: &str = "the tables can't be made in the file: it has some of 
 const RESERVED: &str =
     "this line is of the job SMSMGMT or purges it, and with --manage that job is \
     the day's own; nothing was answered\n";
+
+const SERVE_WORDS: &str = "the words of the command line are none that serve the desk";
+
+const SERVE_WRITE: &str = "standard output can't be written; the connections were served, \
+    and a front of their lines may be there";
+
+const SERVE_MEMORY: &str = "memory is wanting; connections may have been answered, \
+    and no line of theirs was written";
+
+const SERVE_PORT: &str = "the port gave a worker no further connection; all that were given \
+    were served, and their lines are written";
 
 // The most bytes of a script that are read again for a sentence.
 const MOST_BYTES: usize = 16_777_216;

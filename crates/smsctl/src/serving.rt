@@ -85,7 +85,9 @@ fn doors_of<'a>(
 }
 
 // Says why the port can't be had, and ends the program.
-fn refuse(rt: &HostRuntime, port: u16, error: io::Error) -> ExitCode {
+fn refuse(rt: &HostRuntime, port: u16, error: io::Error) -> ExitCode
+    ensures { exit_status result ≡ 9 }
+{
     let _ = eprintln!(rt; "smsctl: status {NOT_BOUND}");
     let _ = eprintln!(rt;
         "smsctl: port {port} of 127.0.0.1 can't be had: {error}; nothing was served"
