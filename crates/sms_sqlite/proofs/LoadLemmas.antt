@@ -9,7 +9,6 @@ use Rattle.sqlite.specs.Effect.{Database}
 use Rattle.sqlite.specs.Order.{Row}
 use Rattle.sqlite.specs.Schema.{Schema}
 use Rattle.sqlite.specs.State.{State, HasCleanDisk}
-use Rattle.sqlite.specs.declared.error.Error.{Error}
 use Rattle.sqlite.specs.declared.types.Value.TheVariants.{Int, Text}
 use Rattle.sqlite_trees.specs.View.{doubt}
 use Rattle.sqlite_value.proofs.OrderLemmas.{value_cmp-Int, value_cmp-Text}
@@ -19,7 +18,7 @@ use Rattle.sms_construct.specs.declared.target.Target.{Target}
 use Rattle.sms_construct.specs.declared.target.Target.TheVariants as targets
 use Rattle.sms_keeper.proofs.SortLemmas.{count_known, count_total, job_known, job_total, name_known, name_total, request_known, request_total, status_total, target_known}
 use Rattle.sms_keeper.specs.Loading.{AreLoaded, SameDamage, StaysDamaged, by_count, by_job, by_name, by_request, by_target, target_name, target_rank, text_cmp}
-use Rattle.sms_keeper.specs.Tables.{AreSame, no_rows, is_deck, is_floor_of, is_named, is_reply_of, is_status_of}
+use Rattle.sms_keeper.specs.Tables.{no_rows, is_deck, is_floor_of, is_named, is_reply_of, is_status_of}
 use Rattle.sms_keeper.specs.declared.deck_row.DeckRow.{DeckRow}
 use Rattle.sms_keeper.specs.declared.floor.Floor.{Floor}
 use Rattle.sms_keeper.specs.declared.kept_row.KeptRow.{KeptRow}
@@ -29,7 +28,6 @@ use Rattle.sms_keeper.specs.declared.table.Table.{Table}
 use Rattle.sms_keeper.specs.declared.table.Table.TheVariants.{Sets, Replies, Decks, Statuses, Floors}
 use Rattle.keeper_statements.proofs.OrderLemmas.{order_found, order_sorted}
 use Rattle.keeper_statements.specs.Order.{by_first, by_two, in_order, put_in}
-use Rattle.keeper_statements.specs.Steps.{HasMade}
 use Rattle.keeper_statements.specs.Tables.{IsReady, Tables, tables_in}
 use Rattle.sms_sqlite.specs.Columns.{kind_column, name_column}
 use Rattle.sms_sqlite.specs.Damage.{damage_in, first_unread, ordered, unread_in}

@@ -1,5 +1,5 @@
 -- Reading the rows of a table one behind the other, and the tables one behind the other.
-use Rattle.std.proofs.Common.{◌≡◌, ◌<◌, ◌+◌, ℕ, zero, suc, Bool, cond, List, [], ◌∷◌, ◌++◌, map, take, length, get_or, Err, Some, None, Option, refl, sym, ap, subst, ◌∙◌, arith}
+use Rattle.std.proofs.Common.{◌≡◌, ◌<◌, ◌+◌, ℕ, zero, suc, cond, List, [], ◌∷◌, ◌++◌, map, take, length, get_or, Err, Some, None, Option, refl, sym, ap, ◌∙◌, arith}
 use Rattle.std.specs.Prelude.{is_some, option_map}
 use Rattle.std.specs.Option.{option_or}
 use Rattle.std.proofs.lemmas.List.{take_more}
@@ -13,7 +13,7 @@ use Rattle.sms_keeper.specs.declared.table.Table.{Table}
 use Rattle.sms_keeper.specs.declared.table.Table.TheVariants.{Sets, Replies, Decks, Statuses, Floors}
 use Rattle.keeper_statements.specs.Order.{deck_columns, five_columns, three_columns, two_columns}
 use Rattle.keeper_statements.specs.Tables.{Tables}
-use Rattle.sms_sqlite.specs.Damage.{damage_in, first_unread, unread_in}
+use Rattle.sms_sqlite.specs.Damage.{first_unread, unread_in}
 use Rattle.sms_sqlite.specs.Reading.{IsPushed, Reads, ReadsAll}
 use Rattle.sms_sqlite.specs.Values.{deck_in, each_in, floor_in, joined, reply_in, set_in, shown_deck_in, status_in}
 use Rattle.sms_sqlite.specs.declared.load_fault.LoadFault.{LoadFault}

@@ -1,5 +1,5 @@
 -- What is told of a database before and after a transaction.
-use Rattle.std.proofs.Common.{◌≡◌, ◌≤◌, ◌&&◌, ℕ, Bool, true, false, cond, List, [], ◌∷◌, length, filter, Ok, Err, Result, OnOk, OnErr, Some, None, Option, IsTrue, refl, sym, ap, subst, ◌∙◌, arith, inl, inr, Ordering, Less, Equal, Greater, is_lt}
+use Rattle.std.proofs.Common.{◌≡◌, ◌≤◌, ◌&&◌, ℕ, Bool, true, false, cond, List, [], ◌∷◌, length, filter, Ok, Err, Result, OnOk, OnErr, Some, None, Option, IsTrue, refl, sym, ap, subst, ◌∙◌, arith, Ordering, Less, Equal, Greater, is_lt}
 use Rattle.std.specs.Prelude.{IfSome, is_some}
 use Rattle.std.specs.List.{AllByRecursion, list_all}
 use Rattle.sqlite.specs.Effect.{Database}
@@ -71,12 +71,12 @@ ready_is db e =
     let p = and_parts _ _ e in
     record { schema = same_is the_row.coded db.schema desk_schema p.0; keyed = tables_keyed desk_schema.tables db.trees p.1 }
 
-pub ready_so : (db : Database) → IsReady db → is_ready db ≡ true
+ready_so : (db : Database) → IsReady db → is_ready db ≡ true
 ready_so db ready = and_true _ _
     (subst (λ x. Rattle.sms_sqlite.specs.Same.is_same the_row.coded db.schema x ≡ true) ready.schema (same_self the_row.coded db.schema))
     (keyed_tables desk_schema.tables db.trees ready.keyed)
 
-pub made_is_not_new : (db : Database) → db.schema ≡ desk_schema → is_new db ≡ false
+made_is_not_new : (db : Database) → db.schema ≡ desk_schema → is_new db ≡ false
 made_is_not_new db made = by (is_new db) refl
   where
     by : (b : Bool) → is_new db ≡ b → is_new db ≡ false
@@ -106,10 +106,10 @@ alike_same a b p = record {
   floors = λ job. ap (filter (is_floor_of job)) p.floors;
 }
 
-pub same_self_rows : (rows : Rows) → AreSame rows rows
+same_self_rows : (rows : Rows) → AreSame rows rows
 same_self_rows rows = record { sets = λ dsn. refl; replies = λ job number. refl; decks = λ count. refl; statuses = λ target. refl; floors = λ job. refl }
 
-pub there : {R : Type 0} (o : Option R) → is_some o ≡ true → (x : R) × (o ≡ Some x)
+there : {R : Type 0} (o : Option R) → is_some o ≡ true → (x : R) × (o ≡ Some x)
 there None e = absurd cc
 there (Some x) e = (x, refl)
 

@@ -1,5 +1,5 @@
 -- What a reading of the tables answers.
-use Rattle.std.specs.Prelude.{◌≡◌, ◌++◌, ◌∷◌, [], ◌⊎◌, ℕ, Bool, true, List, Option, Some, None, Result, Ok, Err, bytes_eq, codes, map, IsSomeAnd}
+use Rattle.std.specs.Prelude.{◌≡◌, ◌++◌, ◌∷◌, [], ◌⊎◌, ℕ, Bool, true, List, Option, Some, Result, Ok, Err, bytes_eq, codes, map, IsSomeAnd}
 use Rattle.std.specs.List.{list_all, list_any}
 use Rattle.sqlite.specs.Effect.{Database}
 use Rattle.sqlite.specs.Order.{Row}

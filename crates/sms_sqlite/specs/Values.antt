@@ -1,5 +1,5 @@
 -- What the rows of the database stand for (docs/records.md, "The database").
-use Rattle.std.specs.Prelude.{ℕ, ℤ, pos, negsuc, zero, suc, List, [], ◌∷◌, bytes_eq, Option, Some, None, option_map, slice_get, if◌then◌else◌}
+use Rattle.std.specs.Prelude.{ℕ, pos, negsuc, zero, suc, List, [], ◌∷◌, bytes_eq, Option, Some, None, option_map, slice_get, if◌then◌else◌}
 use Rattle.sqlite.specs.Order.{Row}
 use Rattle.sqlite.specs.declared.types.Value.{Value}
 use Rattle.sqlite.specs.declared.types.Value.TheVariants.{Null, Int, Real, Text, Blob}
