@@ -1,13 +1,13 @@
 //! Files that are found, in a folder of the test.
 use crate::steps::{Step, answers};
 use crate::tables::{count, counts, rows_of};
-use sms_keeper::{Keeper, KeeperErr, Stored};
+use sms_keeper::{Keeper, Stored};
 use sms_sqlite::SqlKeeper;
 use sqlite::{Connection, Error, ErrorCode};
 use std::fs;
 use std::test::Fail;
 
-// A file: its records are there at the next open, a second open of it is refused, and so is making it ready again.
+// A file: its records are there at the next open and stay when it is made ready again; a second open of it is refused.
 fn kept(rt: &HostRuntime) -> Result<bool, Fail> {
     let alloc = rt.alloc();
     let first = Connection::open(rt, "kept.db")?;
@@ -24,14 +24,14 @@ fn kept(rt: &HostRuntime) -> Result<bool, Fail> {
     Ok(good)
 }
 
-// The file with these rows is opened again, and is not made ready again.
+// The file with these rows is opened again, and keeps them when it is made ready.
 fn found_again(rt: &HostRuntime, rows: &str) -> Result<bool, Fail> {
     let alloc = rt.alloc();
     let mut again = Connection::open(rt, "kept.db")?;
     let mut good = counts(&mut again)? == [1, 1, 0, 0, 0];
     good &= rows_of(alloc, &mut again)?.as_str() == rows;
     let mut keeper = SqlKeeper::new(alloc, again);
-    good &= keeper.ready() == Err(KeeperErr::Failed) && keeper.faults() == 1;
+    good &= keeper.ready() == Ok(()) && keeper.faults() == 0;
     let mut again = keeper.into_connection();
     good &= rows_of(alloc, &mut again)?.as_str() == rows;
     again.close()?;

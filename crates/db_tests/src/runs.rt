@@ -1,7 +1,4 @@
 //! Runs of the top call over a database.
-ghost use Rattle.std.specs.Prelude.{IfSome};
-ghost use Rattle.sms_keeper.specs.Tables.{AreSame, no_rows};
-
 use crate::tables::counts;
 use db_calls::{DbStatus, database_asked, db_main};
 use desk_calls::RunStatus;
@@ -41,6 +38,13 @@ const ANSWERS: &str = "1 1 1 SMSADMIN 1 A04 ACTIVATED 1
   CLASS - SC1 - SG1
   EXTENT VOL001 0 10
 END 2 2
+";
+
+/// The answer to ALLOC behind a stop: what was kept, with a place of its own.
+const AGAIN_ANSWERS: &str = "1 3 2 JOB1 1 A00 GRANTED
+  CLASS - SC1 - SG1
+  EXTENT VOL001 0 10
+END 1 1
 ";
 
 const MORE_ANSWERS: &str = "1 1 1 SMSADMIN 1 A04 ACTIVATED 1
@@ -95,15 +99,36 @@ fn ends<P: Stored>(
     alloc: Global,
     list: &[&str],
     keeper: P,
-) -> Result<(DbStatus, usize, usize, u64), Fail>
-    requires tables { IfSome (P.told keeper) (λ rows. AreSame rows no_rows) }
-{
+) -> Result<(DbStatus, usize, usize, u64), Fail> {
     let words = words(alloc, list)?;
     let mut src = script(alloc, ALLOC)?;
     let mut out = sink(alloc)?;
     let (status, keeper) = db_main(alloc, &words, &mut src, &mut out, keeper);
     let left = read_all(alloc, &mut src, ROOM).ok().ok_or("left")?;
     Ok((status, left.len(), out.taken().len(), keeper.faults()))
+}
+
+// Whether a run over a database, and behind it a second over the same, are answered so.
+fn goes_on(alloc: Global) -> Result<bool, Fail> {
+    let words = words(alloc, &["run", "--db", "X"])?;
+    let mut src = script(alloc, ALLOC)?;
+    let mut out = sink(alloc)?;
+    let keeper = SqlKeeper::new(alloc, Connection::open_in_memory(alloc)?);
+    let (status, keeper) = db_main(alloc, &words, &mut src, &mut out, keeper);
+    let mut good = status == DbStatus::Ran(RunStatus::Done) && out.taken() == ANSWERS.as_bytes();
+    let mut more = MemSource::new(ALLOC.as_bytes().to_vec(alloc)?, 16, Vec::new(alloc));
+    let mut behind = sink(alloc)?;
+    let again = SqlKeeper::new(alloc, keeper.into_connection());
+    let (status, _) = db_main(alloc, &words, &mut more, &mut behind, again);
+    good &= status == DbStatus::Ran(RunStatus::Done);
+    good &= behind.taken() == AGAIN_ANSWERS.as_bytes();
+    Ok(good)
+}
+
+#[test]
+fn a_second_run_goes_on_where_the_first_ended(rt: HostRuntime) -> Result<(), Fail> {
+    assert!(rt; goes_on(rt.alloc())?);
+    Ok(())
 }
 
 #[test]
