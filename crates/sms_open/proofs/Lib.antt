@@ -9,3 +9,4 @@ pub mod VerdictLemmas
 pub mod SetLemmas
 pub mod StatusLemmas
 pub mod OpeningLemmas
+mod ReopeningLemmas
