@@ -2,6 +2,7 @@
 ghost use Rattle.std.specs.Prelude.{◌≡◌, ◌≤◌, ◌↔◌, ℕ, None, Some, [], true, map, string_bytes, IfSome};
 ghost use Rattle.sms_base.specs.Observed.{Observed};
 ghost use Rattle.sms_keeper.specs.Tables.{AreSame, no_rows};
+ghost use Rattle.desk_law.specs.Records.{empty_opening};
 ghost use Rattle.desk_words.specs.Words.{task_in};
 ghost use Rattle.desk_words.specs.declared.task.Task.{Task as Asked};
 ghost use Rattle.desk_words.specs.declared.task.Task.TheVariants.{Generate};
@@ -56,8 +57,7 @@ pub fn desk_main<S: Source, K: Sink, P: Keeper + Send, R: Threads + Wait + Sync,
             run_source(alloc, volumes, src, out, Core::new(alloc, keeper))
         }
         Some(Task::Run { volumes, workers }) => {
-            let core = Core::new(alloc, keeper);
-            run_shared(alloc, rt, volumes, workers, src, out, core, gate)
+            run_shared(alloc, rt, volumes, workers, src, out, keeper, gate)
         }
         Some(Task::Generate { seed, count }) => load(alloc, seed, count, src, out, keeper),
     }
@@ -101,7 +101,7 @@ pub fn run_source<S: Source, K: Sink, P: Keeper>(
     }
 }
 
-// The same by several workers.
+// The same by several workers on an empty desk over the keeper.
 fn run_shared<S: Source, K: Sink, P: Keeper + Send, R: Threads + Wait + Sync, G: Gate + Sync>(
     alloc: Global,
     rt: &R,
@@ -109,27 +109,27 @@ fn run_shared<S: Source, K: Sink, P: Keeper + Send, R: Threads + Wait + Sync, G:
     workers: u8,
     src: &mut S,
     out: &mut K,
-    core: Core<P>,
+    keeper: P,
     gate: &G,
 ) -> (RunStatus, P)
     requires workers { (2 ≤ workers) × (workers ≤ 16) }
-    requires journal { core.journal ≡ [] }
-    requires mark { core.mark ≡ P.count core.keeper }
+    requires tables { IfSome (P.told keeper) (λ rows. AreSame rows no_rows) }
     ensures words { result.0 ≡ RunStatus.BadWords → ⊥ }
     ensures unwritten { leaves_sink result.0 ≡ true → out.new ≡ out.old }
-    ensures unrun { leaves_keeper result.0 ≡ true → result.1 ≡ core.keeper }
-    ensures ends { RunEnds core.opening volumes workers
+    ensures unrun { leaves_keeper result.0 ≡ true → result.1 ≡ keeper }
+    ensures ends { RunEnds empty_opening volumes workers
         (record { left = S.left src.old; reads = S.reads src.old; read_faults = S.read_faults src.old; taken = K.taken out.old; write_faults = K.write_faults out.old })
         (record { left = S.left src.new; reads = S.reads src.new; read_faults = S.read_faults src.new; taken = K.taken out.new; write_faults = K.write_faults out.new })
-        (record { told = P.told core.keeper; count = P.count core.keeper }) (record { told = P.told result.1; count = P.count result.1 })
+        (record { told = P.told keeper; count = P.count keeper }) (record { told = P.told result.1; count = P.count result.1 })
         result.0 }
 {
     let bytes = match read_all(alloc, src, MAX_SCRIPT) {
         Ok(bytes) => bytes,
-        Err(ReadEnd::Failed) => return (RunStatus::ReadFault, core.into_parts().0),
-        Err(ReadEnd::TooLong) => return (RunStatus::TooLong, core.into_parts().0),
-        Err(ReadEnd::NoMemory) => return (RunStatus::NoMemory, core.into_parts().0),
+        Err(ReadEnd::Failed) => return (RunStatus::ReadFault, keeper),
+        Err(ReadEnd::TooLong) => return (RunStatus::TooLong, keeper),
+        Err(ReadEnd::NoMemory) => return (RunStatus::NoMemory, keeper),
     };
+    let core = Core::new(alloc, keeper);
     let (text, keeper) = shared_text(alloc, rt, &bytes, volumes, workers, core, gate);
     let text = match text {
         Ok(text) => text,
