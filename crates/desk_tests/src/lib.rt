@@ -10,8 +10,6 @@ mod repeats;
 #[cfg(test)]
 mod replies;
 #[cfg(test)]
-mod resuming;
-#[cfg(test)]
 mod running;
 #[cfg(test)]
 mod runs;
