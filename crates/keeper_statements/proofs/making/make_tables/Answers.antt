@@ -2,7 +2,6 @@ use Rattle.std.proofs.Common.{arith}
 use Rattle.std.proofs.lemmas.Result.{on_ok_weaker}
 use Rattle.sqlite.specs.Held.{state}
 use Rattle.sqlite.specs.State.{HasCleanDisk}
-use Rattle.keeper_statements.specs.Steps.{HasMadeLast}
 use Rattle.keeper_statements.proofs.making.make_tables.Goals as goal
 
 pub returns-clause-made : goal.returns-clause-made
