@@ -1,7 +1,7 @@
 //! Files that are found, in a folder of the test.
 use crate::steps::{Step, answers};
 use crate::tables::{count, counts, rows_of};
-use sms_keeper::{Keeper, Stored};
+use sms_keeper::{Keeper, KeeperErr, Stored};
 use sms_sqlite::SqlKeeper;
 use sqlite::{Connection, Error, ErrorCode};
 use std::fs;
@@ -38,7 +38,8 @@ fn found_again(rt: &HostRuntime, rows: &str) -> Result<bool, Fail> {
     Ok(good)
 }
 
-// Files with a table: what is made in them first, whether they are made ready then, and what counts their rows.
+// Files with a table: what is made in them first, whether the five can be read once they are made ready, and what
+// counts the rows of the table. In the first the table has another column than the desk's.
 static FOUND: &[(&str, &str, bool, &str)] = &[
     (
         "floors.db",
@@ -49,8 +50,14 @@ static FOUND: &[(&str, &str, bool, &str)] = &[
     (
         "sets.db",
         "CREATE TABLE sets (dsn TEXT PRIMARY KEY, rec BLOB NOT NULL) STRICT; INSERT INTO sets VALUES ('A', x'00')",
-        false,
+        true,
         "SELECT count(*) FROM sets",
+    ),
+    (
+        "capitals.db",
+        "CREATE TABLE DECKS (count INTEGER PRIMARY KEY, bytes BLOB NOT NULL) STRICT; INSERT INTO decks VALUES (1, x'00')",
+        true,
+        "SELECT count(*) FROM decks",
     ),
     (
         "notes.db",
@@ -60,16 +67,30 @@ static FOUND: &[(&str, &str, bool, &str)] = &[
     ),
 ];
 
-// A file with a table is made ready, or not, and its row stays.
-fn is_so(rt: &HostRuntime, path: &str, made: &str, ready: bool, rows: &str) -> Result<bool, Fail> {
+// A file with a table is made ready: its row stays, and the other tables are there without rows.
+fn is_so(rt: &HostRuntime, path: &str, made: &str, reads: bool, rows: &str) -> Result<bool, Fail> {
     let mut connection = Connection::open(rt, path)?;
     connection.execute_batch(made)?;
     let mut keeper = SqlKeeper::new(rt.alloc(), connection);
-    let mut good = keeper.ready().is_ok() == ready;
+    let mut good = keeper.ready() == Ok(());
     keeper.into_connection().close()?;
     let mut again = Connection::open(rt, path)?;
     good &= count(&mut again, rows)? == 1;
-    good &= rows_of(rt.alloc(), &mut again)?.is_empty() != ready;
+    let all = counts(&mut again)?;
+    good &= all.iter().filter(|n| **n != 0).count() <= 1;
+    good &= rows_of(rt.alloc(), &mut again)?.is_empty() != reads;
+    Ok(good)
+}
+
+// A file with a view of a table's name isn't made ready, and gets no table.
+fn is_left(rt: &HostRuntime) -> Result<bool, Fail> {
+    let mut connection = Connection::open(rt, "views.db")?;
+    connection.execute_batch("CREATE VIEW floors AS SELECT 1 AS floor")?;
+    let mut keeper = SqlKeeper::new(rt.alloc(), connection);
+    let mut good = keeper.ready() == Err(KeeperErr::Failed) && keeper.faults() == 1;
+    let mut again = keeper.into_connection();
+    good &= count(&mut again, "SELECT count(*) FROM sqlite_schema")? == 1;
+    again.close()?;
     Ok(good)
 }
 
@@ -93,10 +114,11 @@ fn a_file_holds_what_was_committed(rt: HostRuntime) -> Result<(), Fail> {
 }
 
 #[test]
-fn a_file_with_a_table_of_the_name_is_left_as_it_is(rt: HostRuntime) -> Result<(), Fail> {
-    for (path, made, ready, rows) in FOUND {
-        assert!(rt; is_so(&rt, path, made, *ready, rows)?, "{path}");
+fn tables_that_are_there_stay_and_the_missing_are_made(rt: HostRuntime) -> Result<(), Fail> {
+    for (path, made, reads, rows) in FOUND {
+        assert!(rt; is_so(&rt, path, made, *reads, rows)?, "{path}");
     }
+    assert!(rt; is_left(&rt)?);
     Ok(())
 }
 
