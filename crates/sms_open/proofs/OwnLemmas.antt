@@ -33,7 +33,7 @@ use Rattle.desk_law.proofs.OrderLemmas.{lawful-same}
 use Rattle.desk_law.proofs.PlacedRowLemmas.{own-key}
 use Rattle.desk_records.proofs.TableLemmas.{tables-same}
 use Rattle.desk_records.proofs.TiedLemmas.{each-weaker}
-use Rattle.desk_restoring.specs.Opened.{greatest_place, opening_of}
+use Rattle.desk_restoring.specs.Opened.{greatest_place}
 use Rattle.sms_open.specs.declared.open_err.OpenErr.{OpenErr}
 use Rattle.sms_open.specs.declared.open_err.OpenErr.TheVariants as refusals
 use Rattle.sms_open.specs.declared.rows_err.RowsErr.{RowsErr}
@@ -167,6 +167,19 @@ module _ (o : Opening) (h : List Entry) (s : DeskState) (rows : Rows) (start : H
     placed = own-placed;
     replies = own-replies few;
   }
+
+-- what a desk leaves that came to no place over the greatest
+pub left-own : (o : Opening) (h : List Entry) (s : DeskState) (tables : Rows) → HasSoundRows o → Reaches o h s → IsTables o h s tables → o.base + length h ≤ most_place → AreOwn tables
+left-own o h s tables start reaches are few = record {
+  opening = o;
+  history = h;
+  state = s;
+  sound = start;
+  reaches = reaches;
+  tables_are = are;
+  places = each-weaker (IsKeptRow (o.base + length h)) (λ (row : KeptRow). row.place ≤ most_place) (λ row is. let within = is.within in omega (arith, within, few)) tables.replies
+      (kept-rows-kept o h tables.replies tables.floors (start-kept o start) (s, reaches) are.kept_are).each;
+}
 
 -- The verdict, and the refusals.
 

@@ -15,7 +15,7 @@ mod sets;
 mod statuses;
 mod testing;
 
-pub use laws::{new_desks_are_sound, opened_desks_are_sound, own_tables_pass};
+pub use laws::{left_tables_are_own, new_desks_are_sound, opened_desks_are_sound, own_tables_pass};
 pub use open_err::OpenErr;
 pub use reopening::reopen;
 pub use rows_err::RowsErr;
