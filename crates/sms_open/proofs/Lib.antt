@@ -11,5 +11,5 @@ pub mod StatusLemmas
 pub mod OpeningLemmas
 pub mod OwnDeckLemmas
 pub mod OwnReplyLemmas
-mod OwnLemmas
+pub mod OwnLemmas
 mod ReopeningLemmas
