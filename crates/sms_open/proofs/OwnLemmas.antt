@@ -16,7 +16,7 @@ use Rattle.sms_keeper.specs.declared.rows.Rows.{Rows}
 use Rattle.sms_keeper.specs.declared.status_row.StatusRow.{StatusRow}
 use Rattle.sms_keeper.specs.declared.table.Table.{Table}
 use Rattle.sms_keeper.specs.Loading.{AreLoaded, NamesDamage, by_count}
-use Rattle.sms_keeper.specs.Tables.{is_reply_of, no_rows, same_target}
+use Rattle.sms_keeper.specs.Tables.{AreSame, is_reply_of, no_rows, same_target}
 use Rattle.desk_law.specs.Decked.{IsDecked, IsLastActive}
 use Rattle.desk_law.specs.History.{Reaches}
 use Rattle.desk_law.specs.Kept.{all_floors, all_rows}
@@ -181,14 +181,33 @@ left-own o h s tables start reaches are few = record {
       (kept-rows-kept o h tables.replies tables.floors (start-kept o start) (s, reaches) are.kept_are).each;
 }
 
+-- The same tables, in any order of their keys.
+
+abbrev ArePlacedLow : List KeptRow → Type 0
+ArePlacedLow rows = AllByRecursion (λ (row : KeptRow). row.place ≤ most_place) rows
+
+low-same : (tables other : Rows) → AreSame other tables → ArePlacedLow tables.replies → ArePlacedLow other.replies
+low-same tables other same few =
+    each-alike (λ (row : KeptRow). row.place ≤ most_place) (λ (row : KeptRow). is_reply_of row.job row.number) tables.replies other.replies own-key (λ row. same.replies row.job row.number) few
+
+pub same-own : (tables other : Rows) → AreSame other tables → AreOwn tables → AreOwn other
+same-own tables other same own = record {
+  opening = own.opening;
+  history = own.history;
+  state = own.state;
+  sound = own.sound;
+  reaches = own.reaches;
+  tables_are = tables-same own.opening own.history own.state tables other same own.tables_are;
+  places = low-same tables other same own.places;
+}
+
 -- The verdict, and the refusals.
 
 -- a desk's own tables, in the order of their keys, pass all tests under what is active
 pub own-verdict : (tables rows : Rows) (own : AreOwn tables) → AreLoaded tables rows → IsVerdict rows (Ok own.state.active)
 own-verdict tables rows own loaded =
     let same = tables-same own.opening own.history own.state tables rows loaded.same own.tables_are in
-    let few = each-alike (λ (row : KeptRow). row.place ≤ most_place) (λ (row : KeptRow). is_reply_of row.job row.number) tables.replies rows.replies own-key (λ row. loaded.same.replies row.job row.number) own.places in
-    passes-all rows own.state.active (own-passed own.opening own.history own.state rows own.sound own.reaches same loaded.ordered.decks few)
+    passes-all rows own.state.active (own-passed own.opening own.history own.state rows own.sound own.reaches same loaded.ordered.decks (low-same tables rows loaded.same own.places))
 
 -- rows that pass aren't refused
 not-refused : (rows : Rows) (active : Option Configuration) (err : RowsErr) → IsVerdict rows (Ok active) → IsVerdict rows (Err err) → ⊥

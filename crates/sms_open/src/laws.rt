@@ -3,6 +3,7 @@ ghost use Rattle.std.specs.Prelude.{◌+◌, ◌≤◌, List, Ok, Option, length
 ghost use Rattle.sms_construct.specs.declared.entry.Entry.{Entry};
 ghost use Rattle.sms_keeper.specs.declared.rows.Rows.{Rows};
 ghost use Rattle.sms_keeper.specs.Loading.{AreLoaded};
+ghost use Rattle.sms_keeper.specs.Tables.{AreSame};
 ghost use Rattle.desk_law.specs.History.{Reaches};
 ghost use Rattle.desk_law.specs.Records.{IsTables, empty_opening};
 ghost use Rattle.desk_law.specs.State.{DeskState, Opening};
@@ -25,6 +26,11 @@ pub fn opened_desks_are_sound()
 pub fn left_tables_are_own()
     ensures { (o : Opening) (history : List Entry) (s : DeskState) (tables : Rows) → HasSoundRows o → Reaches o history s →
         IsTables o history s tables → o.base + length history ≤ most_place → AreOwn tables }
+{}
+
+/// The same tables, in any order of their keys, are a desk's own too.
+pub fn same_tables_are_own()
+    ensures { (tables other : Rows) → AreSame other tables → AreOwn tables → AreOwn other }
 {}
 
 /// The tables that a desk left, in the order of their keys, pass all tests, under the configuration that was active.
