@@ -1,6 +1,6 @@
 -- What the refusal of found rows says.
 use Rattle.std.proofs.Common.{◌≡◌, ℕ, None, Err, inl, inr}
-use Rattle.std.specs.Prelude.{Option, IfSome, IsErrOf, Result, ◌⊎◌}
+use Rattle.std.specs.Prelude.{Option, IfSome, IsErrOf, ◌⊎◌}
 use Rattle.sms_construct.specs.Configuration.{Configuration}
 use Rattle.sms_keeper.specs.declared.rows.Rows.{Rows}
 use Rattle.sms_keeper.specs.Loading.{AreLoaded}

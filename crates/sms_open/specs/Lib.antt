@@ -4,3 +4,4 @@ pub mod Tests
 pub mod Verdicts
 pub mod Meeting
 pub mod Reopening
+pub mod Own

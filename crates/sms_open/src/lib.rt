@@ -4,6 +4,7 @@
 mod apart;
 mod decks;
 mod doubles;
+mod laws;
 mod meeting;
 mod numbers;
 mod open_err;
@@ -14,6 +15,10 @@ mod sets;
 mod statuses;
 mod testing;
 
+pub use laws::{
+    left_tables_are_own, new_desks_are_sound, opened_desks_are_sound, own_tables_pass,
+    same_tables_are_own,
+};
 pub use open_err::OpenErr;
 pub use reopening::reopen;
 pub use rows_err::RowsErr;

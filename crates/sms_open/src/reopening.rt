@@ -6,6 +6,7 @@ ghost use Rattle.desk_restoring.specs.Opened.{opening_of};
 ghost use Rattle.sms_keeper.specs.Loading.{AreLoaded, StaysDamaged};
 ghost use Rattle.sms_keeper.specs.Tables.{AreSame};
 ghost use Rattle.sms_keeper.specs.Told.{Stays};
+ghost use Rattle.sms_open.specs.Own.{AreOwn, SparesTables};
 ghost use Rattle.sms_open.specs.Reopening.{IsOpened, NamesRefusal, refusal_of_load, refusal_of_rows};
 
 use crate::open_err::OpenErr;
@@ -16,7 +17,7 @@ use sms_keeper::{LoadErr, Rows, Stored};
 use std::alloc::Global;
 
 /// A desk that goes on from the tables of the keeper, which was made ready; or why there is none, with the keeper. The
-/// tables stay as they are (docs/records.md, "Going on").
+/// tables stay as they are (docs/records.md, "Going on"). Tables that a desk left are never refused for what they hold.
 pub fn reopen<P: Stored>(alloc: Global, mut keeper: P) -> Result<Core<P>, (P, OpenErr)>
     ensures opened { IfOk result (λ core. IsOpened (P.Keeper.told core.keeper) core.opening) }
     ensures undamaged { IfOk result (λ core. P.damage core.keeper ≡ None) }
@@ -25,6 +26,7 @@ pub fn reopen<P: Stored>(alloc: Global, mut keeper: P) -> Result<Core<P>, (P, Op
     ensures kept { IfOk result (λ core. Stays (P.Keeper.told keeper) (P.Keeper.told core.keeper)) }
     ensures stands { IfOk result (λ core. P.Keeper.count core.keeper ≡ P.Keeper.count keeper) }
     ensures refused { IfErr result (λ back. NamesRefusal (P.Keeper.told back.0) (P.damage back.0) back.1) }
+    ensures own { IfErr result (λ back. IfSome (P.Keeper.told back.0) (λ tables. AreOwn tables → SparesTables back.1)) }
     ensures left { IfErr result (λ back. Stays (P.Keeper.told keeper) (P.Keeper.told back.0)) }
     ensures damage_left { IfErr result (λ back. StaysDamaged (P.damage keeper) (P.damage back.0)) }
     ensures cause { IfErr result (λ back. back.1 ≡ OpenErr.Failed → Rose (P.Keeper.count keeper) (P.Keeper.count back.0)) }
