@@ -1,4 +1,4 @@
-//! Whether a desk may go on from rows that were found, and under which configuration.
+//! A desk that goes on from what its keeper has, or why there is none: whether it may go on from rows that were found.
 #![tactic(auto)]
 
 mod apart;

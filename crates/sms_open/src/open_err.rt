@@ -8,7 +8,7 @@ pub enum OpenErr {
     /// The outside of the keeper failed.
     #[error("the keeper failed")]
     Failed,
-    /// This row of the table is the record of nothing: its number in the order of the keys, from 0.
+    /// This row of the table stands for nothing: its number in the order of the keys, from 0.
     #[error("row {1} of the table {0:?} is damaged")]
     Damaged(Table, u64),
     /// The rows don't pass this test, 1 to 6, and pass those before it.
