@@ -93,15 +93,18 @@ fn name_of_table(table: Table) -> &'static str {
 // What a test of found rows asks (docs/records.md, "Found rows").
 fn sentence_of_test(number: u8) -> &'static str {
     match number {
-        1 => "two rows of the file have one key; nothing was answered\n",
+        1 => "test 1: two rows of the file have one key; nothing was answered\n",
         2 =>
-            "the decks of the file aren't numbered from 1 in order, or there is none; nothing was answered\n",
+            "test 2: the decks of the file aren't numbered from 1 in order, or a data set or a status \
+            stands there without any; nothing was answered\n",
         3 =>
-            "the last deck of the file has a fault, which smsc validate shows; nothing was answered\n",
-        4 =>
-            "the statuses of the file aren't those of its last deck's groups and volumes; nothing was answered\n",
-        5 => "a data set of the file can't lie where its extents are; nothing was answered\n",
-        _ => "a reply or a floor of the file is none that a desk leaves; nothing was answered\n",
+            "test 3: the last deck of the file has a fault, which smsc validate shows; nothing was answered\n",
+        4 => "test 4: the statuses of the file aren't those of its last deck's groups and volumes; \
+            nothing was answered\n",
+        5 =>
+            "test 5: a data set of the file can't lie where its extents are; nothing was answered\n",
+        _ =>
+            "test 6: a reply or a floor of the file is none that a desk leaves; nothing was answered\n",
     }
 }
 
