@@ -1,9 +1,9 @@
 //! The top call of the desk over a stored keeper.
 ghost use Rattle.std.specs.Prelude.{◌≡◌, ◌↔◌, None, Some, ℕ, List, true, map, string_bytes};
 ghost use Rattle.sms_base.specs.Observed.{Observed};
+ghost use Rattle.sms_keeper.specs.Loading.{SameDamage, StaysDamaged};
 ghost use Rattle.sms_open.specs.Reopening.{NamesRefusal};
 ghost use Rattle.sms_open.specs.declared.open_err.OpenErr.{OpenErr as Refusal};
-ghost use Rattle.desk_calls.specs.Headline.{Keeping};
 ghost use Rattle.desk_calls.specs.declared.status.RunStatus.TheVariants.{BadWords};
 ghost use Rattle.db_calls.specs.DbEnds.{DbEnds, is_told, leaves_sink_of};
 ghost use Rattle.db_calls.specs.DbWords.{database_in};
@@ -31,13 +31,13 @@ pub fn db_main<S: Source, K: Sink, P: Stored>(
     ensures unread { result.0 ≡ DbStatus.StoreFault → src.new ≡ src.old }
     ensures unopened { (err : Refusal) → result.0 ≡ DbStatus.Store err → src.new ≡ src.old }
     ensures refused { (err : Refusal) → result.0 ≡ DbStatus.Store err → (is_told err ≡ true) × NamesRefusal (P.Keeper.told result.1) (P.damage result.1) err }
+    ensures damage { (err : Refusal) → result.0 ≡ DbStatus.Store err → SameDamage (P.damage keeper) (P.damage result.1) }
     ensures unwritten { leaves_sink_of result.0 ≡ true → out.new ≡ out.old }
     ensures unrun { result.0 ≡ DbStatus.Ran BadWords → result.1 ≡ keeper }
-    ensures ends { (file : List ℕ) → database_in (map string_bytes words.now) ≡ Some file → DbEnds
+    ensures ends { (file : List ℕ) → database_in (map string_bytes words.now) ≡ Some file → DbEnds P.Keeper P.damage
         (record { left = S.left src.old; reads = S.reads src.old; read_faults = S.read_faults src.old; taken = K.taken out.old; write_faults = K.write_faults out.old })
         (record { left = S.left src.new; reads = S.reads src.new; read_faults = S.read_faults src.new; taken = K.taken out.new; write_faults = K.write_faults out.new })
-        (record { told = P.Keeper.told keeper; count = P.Keeper.count keeper }) (record { told = P.Keeper.told result.1; count = P.Keeper.count result.1 })
-        result.0 }
+        keeper result.1 result.0 }
 {
     if database_asked(words).is_none() {
         return (DbStatus::Ran(RunStatus::BadWords), keeper);
@@ -56,12 +56,12 @@ fn run_stored<S: Source, K: Sink, P: Stored>(
     ensures unread { result.0 ≡ DbStatus.StoreFault → src.new ≡ src.old }
     ensures unopened { (err : Refusal) → result.0 ≡ DbStatus.Store err → src.new ≡ src.old }
     ensures refused { (err : Refusal) → result.0 ≡ DbStatus.Store err → (is_told err ≡ true) × NamesRefusal (P.Keeper.told result.1) (P.damage result.1) err }
+    ensures damage { (err : Refusal) → result.0 ≡ DbStatus.Store err → SameDamage (P.damage keeper) (P.damage result.1) }
     ensures unwritten { leaves_sink_of result.0 ≡ true → out.new ≡ out.old }
-    ensures ends { DbEnds
+    ensures ends { DbEnds P.Keeper P.damage
         (record { left = S.left src.old; reads = S.reads src.old; read_faults = S.read_faults src.old; taken = K.taken out.old; write_faults = K.write_faults out.old })
         (record { left = S.left src.new; reads = S.reads src.new; read_faults = S.read_faults src.new; taken = K.taken out.new; write_faults = K.write_faults out.new })
-        (record { told = P.Keeper.told keeper; count = P.Keeper.count keeper }) (record { told = P.Keeper.told result.1; count = P.Keeper.count result.1 })
-        result.0 }
+        keeper result.1 result.0 }
 {
     match keeper.ready() {
         Ok(()) => run_ready(alloc, src, out, keeper),
@@ -81,12 +81,12 @@ fn run_ready<S: Source, K: Sink, P: Stored>(
     ensures unread { result.0 ≡ DbStatus.StoreFault → src.new ≡ src.old }
     ensures unopened { (err : Refusal) → result.0 ≡ DbStatus.Store err → src.new ≡ src.old }
     ensures refused { (err : Refusal) → result.0 ≡ DbStatus.Store err → (is_told err ≡ true) × NamesRefusal (P.Keeper.told result.1) (P.damage result.1) err }
+    ensures damage { (err : Refusal) → result.0 ≡ DbStatus.Store err → StaysDamaged (P.damage keeper) (P.damage result.1) }
     ensures unwritten { leaves_sink_of result.0 ≡ true → out.new ≡ out.old }
-    ensures ends { DbEnds
+    ensures ends { DbEnds P.Keeper P.damage
         (record { left = S.left src.old; reads = S.reads src.old; read_faults = S.read_faults src.old; taken = K.taken out.old; write_faults = K.write_faults out.old })
         (record { left = S.left src.new; reads = S.reads src.new; read_faults = S.read_faults src.new; taken = K.taken out.new; write_faults = K.write_faults out.new })
-        (record { told = P.Keeper.told keeper; count = P.Keeper.count keeper }) (record { told = P.Keeper.told result.1; count = P.Keeper.count result.1 })
-        result.0 }
+        keeper result.1 result.0 }
 {
     match reopen(alloc, keeper) {
         Ok(core) => {
