@@ -4,11 +4,19 @@
 #[cfg(test)]
 mod commits;
 #[cfg(test)]
+mod damage;
+#[cfg(test)]
+mod disks;
+#[cfg(test)]
 mod faults;
 #[cfg(test)]
 mod files;
 #[cfg(test)]
 mod flaky;
+#[cfg(test)]
+mod reopened;
+#[cfg(test)]
+mod running;
 #[cfg(test)]
 mod runs;
 #[cfg(test)]
