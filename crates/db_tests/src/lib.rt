@@ -6,7 +6,7 @@ mod commits;
 #[cfg(test)]
 mod damage;
 #[cfg(test)]
-mod disks;
+mod failing_disks;
 #[cfg(test)]
 mod faults;
 #[cfg(test)]

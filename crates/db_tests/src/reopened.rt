@@ -1,5 +1,5 @@
 //! Runs of the top call that are stopped, and what goes on from what they left.
-use crate::disks::{
+use crate::failing_disks::{
     DiskStore, Disks, Failing, crashed, disks, disks_of, opened, stopped_behind,
 };
 use crate::running::{connection_of, is_done, run_on};
@@ -30,8 +30,10 @@ struct States {
 
 fn front(alloc: Global, count: usize) -> Result<String, Fail> {
     let mut text = String::new(alloc);
-    for asked in ASKED.iter().take(count) {
-        text.push_str(asked)?;
+    for at in 0..ASKED.len() {
+        if at < count {
+            text.push_str(ASKED[at])?;
+        }
     }
     Ok(text)
 }

@@ -45,7 +45,7 @@ fn prepare(alloc: Global, list: &[&str], script: &str) -> Result<Run, Fail> {
     Ok(Run { words, src, out })
 }
 
-fn run<P: Stored>(alloc: Global, run: &mut Run, keeper: P) -> (DbStatus, P) {
+fn answer<P: Stored>(alloc: Global, run: &mut Run, keeper: P) -> (DbStatus, P) {
     db_main(alloc, &run.words, &mut run.src, &mut run.out, keeper)
 }
 
@@ -56,9 +56,9 @@ pub fn run_with<P: Stored>(
     script: &str,
     keeper: P,
 ) -> Result<(DbStatus, Run, P), Fail> {
-    let mut prepared = prepare(alloc, list, script)?;
-    let (status, keeper) = run(alloc, &mut prepared, keeper);
-    Ok((status, prepared, keeper))
+    let mut run = prepare(alloc, list, script)?;
+    let (status, keeper) = answer(alloc, &mut run, keeper);
+    Ok((status, run, keeper))
 }
 
 /// The same over the database of this connection.

@@ -1,5 +1,5 @@
 //! Stops and single faults of a disk in memory, and what is found after them. A run makes some sixty calls on the log.
-use crate::disks::Failing;
+use crate::failing_disks::Failing;
 use crate::faults::are_lawful;
 use crate::reopened::{are_gone_on_from, is_unstopped};
 use std::test::Fail;

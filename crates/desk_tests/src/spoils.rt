@@ -170,7 +170,7 @@ fn clear(alloc: Global, rows: &mut Rows, table: Table) {
     }
 }
 
-fn spoil(alloc: Global, rows: &mut Rows, change: Spoil) -> Result<(), Fail> {
+fn make_change(alloc: Global, rows: &mut Rows, change: Spoil) -> Result<(), Fail> {
     match change {
         Spoil::Clear(table) => {
             clear(alloc, rows, table);
@@ -190,7 +190,7 @@ fn spoil(alloc: Global, rows: &mut Rows, change: Spoil) -> Result<(), Fail> {
 /// Makes the changes one after the other.
 pub fn spoil_all(alloc: Global, rows: &mut Rows, changes: &[Spoil]) -> Result<(), Fail> {
     for change in changes {
-        spoil(alloc, rows, *change)?;
+        make_change(alloc, rows, *change)?;
     }
     Ok(())
 }

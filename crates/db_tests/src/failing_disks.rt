@@ -1,7 +1,7 @@
 //! Disks in memory some calls of which fail, and connections over them.
 use crate::flaky::Flaky;
 use sqlite::{Connection, FileStore, Files, Options};
-use sqlite_disk::{Crash, Disk, Memory};
+use sqlite_disk::{Crash, Memory};
 use std::alloc::Global;
 
 /// Which calls fail: each from some call on, or that one alone.
