@@ -8,7 +8,7 @@ use crate::tables::{memory, rows_of};
 use db_calls::DbStatus;
 use desk_calls::RunStatus;
 use sms_keeper::Keeper;
-use sqlite::Connection;
+use sqlite::{Connection, MemStore};
 use std::alloc::Global;
 use std::test::Fail;
 
@@ -38,29 +38,38 @@ fn front(alloc: Global, count: usize) -> Result<String, Fail> {
     Ok(text)
 }
 
-fn rows_behind(alloc: Global, first: &str, second: &str) -> Result<String, Fail> {
-    let (_status, _run, keeper) = run_on(alloc, first, memory(alloc)?)?;
-    let (_status, _run, keeper) = run_on(alloc, second, connection_of(keeper))?;
-    rows_of(alloc, &mut connection_of(keeper))
+// The rows behind a run of this script, and the database.
+fn rows_behind(
+    alloc: Global,
+    connection: Connection<MemStore>,
+    script: &str,
+) -> Result<(String, Connection<MemStore>), Fail> {
+    let (_status, _run, keeper) = run_on(alloc, script, connection)?;
+    let mut connection = connection_of(keeper);
+    let rows = rows_of(alloc, &mut connection)?;
+    Ok((rows, connection))
 }
 
-fn states_behind(alloc: Global, second: &str) -> Result<Vec<String>, Fail> {
-    let mut states = Vec::new(alloc);
-    for count in 0..4 {
-        let first = front(alloc, count)?;
-        states.push(rows_behind(alloc, &first, second)?)?;
-    }
-    Ok(states)
+// Adds the rows behind so many requests of the first run, and behind the second run.
+fn push_state(alloc: Global, states: &mut States, count: usize) -> Result<(), Fail> {
+    let script = front(alloc, count)?;
+    let (first, connection) = rows_behind(alloc, memory(alloc)?, &script)?;
+    let (second, _connection) = rows_behind(alloc, connection, MORE)?;
+    states.first.push(first)?;
+    states.second.push(second)?;
+    Ok(())
 }
 
 fn all_states(alloc: Global) -> Result<States, Fail> {
-    let script = front(alloc, ASKED.len())?;
-    let (first, second) = (states_behind(alloc, "")?, states_behind(alloc, MORE)?);
-    Ok(States {
-        script,
-        first,
-        second,
-    })
+    let mut states = States {
+        script: front(alloc, ASKED.len())?,
+        first: Vec::new(alloc),
+        second: Vec::new(alloc),
+    };
+    for count in 0..4 {
+        push_state(alloc, &mut states, count)?;
+    }
+    Ok(states)
 }
 
 // How many of so many requests were acknowledged.
@@ -152,36 +161,38 @@ fn goes_on(alloc: Global, states: &States, at: usize, disks: Disks) -> Result<bo
     }
 }
 
-// Whether a run that is stopped behind so many calls, and a second one behind it, leave what they may.
+// After how many calls the second run is stopped behind a first that is stopped after so many, if there is a second.
+fn second_stop(passes: u64) -> Option<u64> {
+    match passes.checked_rem(4) {
+        Some(0) => passes.checked_rem(17),
+        _ => None,
+    }
+}
+
+// Whether a run that is stopped behind so many calls, and a second one behind some of these, leave what they may.
 fn is_lawful(
     alloc: Global,
     states: &States,
-    (failing, passes, again): (Failing, u64, u64),
+    failing: Failing,
+    passes: u64,
 ) -> Result<bool, Fail> {
     let disks = disks(alloc, failing, passes);
     let (done, disks) = stopped(alloc, disks, &states.script, ALL_ASKED)?;
     let Some((rows, disks)) = reopened(alloc, disks)? else {
         return Ok(false);
     };
-    match place_of(&states.first, done, &rows) {
-        Some(at) => goes_on(alloc, states, at, stopped_behind(disks, again)),
-        None => Ok(false),
+    match (place_of(&states.first, done, &rows), second_stop(passes)) {
+        (Some(at), Some(calls)) => goes_on(alloc, states, at, stopped_behind(disks, calls)),
+        (place, _) => Ok(place.is_some()),
     }
 }
 
-/// Whether runs that are stopped behind each of these numbers of calls leave what they may, each with a second run that
-/// is stopped behind some number.
-pub fn are_gone_on_from(
-    alloc: Global,
-    failing: Failing,
-    from: u64,
-    to: u64,
-) -> Result<bool, Fail> {
+/// Whether runs that are stopped behind each of these numbers of calls leave what they may.
+pub fn are_lawful(alloc: Global, failing: Failing, from: u64, to: u64) -> Result<bool, Fail> {
     let states = all_states(alloc)?;
     let mut good = true;
     for passes in from..to {
-        let again = passes.checked_rem(17).unwrap_or(0);
-        good &= is_lawful(alloc, &states, (failing, passes, again))?;
+        good &= is_lawful(alloc, &states, failing, passes)?;
     }
     Ok(good)
 }

@@ -4,7 +4,7 @@ use crate::tables::{batch, counts, memory};
 use db_calls::{DbStatus, database_asked};
 use desk_calls::RunStatus;
 use sms_base::{MemSource, read_all};
-use sms_keeper::{FaultKeeper, MemKeeper, Stored};
+use sms_keeper::{FaultKeeper, Keeper, MemKeeper, Stored};
 use sqlite::{Connection, MemStore};
 use std::alloc::Global;
 use std::test::Fail;

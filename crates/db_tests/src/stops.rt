@@ -1,67 +1,80 @@
 //! Stops and single faults of a disk in memory, and what is found after them. A run makes some sixty calls on the log.
-use crate::failing_disks::Failing;
-use crate::faults::are_lawful;
-use crate::reopened::{are_gone_on_from, is_unstopped};
+use crate::failing_disks::Failing::{FileForGood, FileOnce, LogForGood, LogOnce};
+use crate::{faults, reopened};
 use std::test::Fail;
 
 #[test]
-fn a_desk_goes_on_behind_a_stop_of_the_log_within_twenty_calls(
+fn a_desk_goes_on_from_a_stop_of_the_log_within_fifteen_calls(
     rt: HostRuntime,
 ) -> Result<(), Fail> {
-    assert!(rt; are_gone_on_from(rt.alloc(), Failing::LogForGood, 0, 20)?);
+    assert!(rt; reopened::are_lawful(rt.alloc(), LogForGood, 0, 15)?);
     Ok(())
 }
 
 #[test]
-fn a_desk_goes_on_behind_a_stop_of_the_log_within_forty_calls(
+fn a_desk_goes_on_from_a_stop_of_the_log_within_thirty_calls(
     rt: HostRuntime,
 ) -> Result<(), Fail> {
-    assert!(rt; are_gone_on_from(rt.alloc(), Failing::LogForGood, 20, 40)?);
+    assert!(rt; reopened::are_lawful(rt.alloc(), LogForGood, 15, 30)?);
     Ok(())
 }
 
 #[test]
-fn a_desk_goes_on_behind_a_stop_of_the_log_within_sixty_calls(
+fn a_desk_goes_on_from_a_stop_of_the_log_within_forty_five_calls(
     rt: HostRuntime,
 ) -> Result<(), Fail> {
-    assert!(rt; are_gone_on_from(rt.alloc(), Failing::LogForGood, 40, 60)?);
+    assert!(rt; reopened::are_lawful(rt.alloc(), LogForGood, 30, 45)?);
     Ok(())
 }
 
 #[test]
-fn a_desk_goes_on_behind_a_later_stop_of_the_log(rt: HostRuntime) -> Result<(), Fail> {
-    let good = are_gone_on_from(rt.alloc(), Failing::LogForGood, 60, 80)?
-        && is_unstopped(rt.alloc(), Failing::LogForGood, 80)?;
-    assert!(rt; good);
+fn a_desk_goes_on_from_a_stop_of_the_log_within_sixty_calls(
+    rt: HostRuntime,
+) -> Result<(), Fail> {
+    assert!(rt; reopened::are_lawful(rt.alloc(), LogForGood, 45, 60)?);
     Ok(())
 }
 
 #[test]
-fn a_desk_goes_on_behind_a_stop_of_the_file(rt: HostRuntime) -> Result<(), Fail> {
-    let good = are_gone_on_from(rt.alloc(), Failing::FileForGood, 0, 15)?
-        && is_unstopped(rt.alloc(), Failing::FileForGood, 15)?;
+fn a_desk_goes_on_from_a_stop_of_the_log_within_seventy_five_calls(
+    rt: HostRuntime,
+) -> Result<(), Fail> {
+    assert!(rt; reopened::are_lawful(rt.alloc(), LogForGood, 60, 75)?);
+    Ok(())
+}
+
+#[test]
+fn a_desk_goes_on_from_a_stop_of_the_file(rt: HostRuntime) -> Result<(), Fail> {
+    assert!(rt; reopened::are_lawful(rt.alloc(), FileForGood, 0, 15)?);
+    Ok(())
+}
+
+#[test]
+fn more_calls_than_these_stop_no_run(rt: HostRuntime) -> Result<(), Fail> {
+    let good = reopened::is_unstopped(rt.alloc(), LogForGood, 75)?
+        && reopened::is_unstopped(rt.alloc(), FileForGood, 15)?;
     assert!(rt; good);
     Ok(())
 }
 
 #[test]
 fn one_fault_of_the_log_within_thirty_calls(rt: HostRuntime) -> Result<(), Fail> {
-    let good = are_lawful(rt.alloc(), Failing::LogOnce, 1)?
-        && are_lawful(rt.alloc(), Failing::LogOnce, 16)?;
+    let good = faults::are_lawful(rt.alloc(), LogOnce, 1)?
+        && faults::are_lawful(rt.alloc(), LogOnce, 16)?;
     assert!(rt; good);
     Ok(())
 }
 
 #[test]
 fn one_fault_of_the_log_within_sixty_calls(rt: HostRuntime) -> Result<(), Fail> {
-    let good = are_lawful(rt.alloc(), Failing::LogOnce, 31)?
-        && are_lawful(rt.alloc(), Failing::LogOnce, 46)?;
+    let good = faults::are_lawful(rt.alloc(), LogOnce, 31)?
+        && faults::are_lawful(rt.alloc(), LogOnce, 46)?;
     assert!(rt; good);
     Ok(())
 }
 
 #[test]
 fn one_fault_of_the_file(rt: HostRuntime) -> Result<(), Fail> {
-    assert!(rt; are_lawful(rt.alloc(), Failing::FileOnce, 1)?);
+    assert!(rt; faults::are_lawful(rt.alloc(), FileOnce, 1)?);
     Ok(())
 }
