@@ -1,5 +1,5 @@
 //! What the tables hold after commits.
-use crate::running::{connection_of, is_ready, keeper_on};
+use crate::keeping::{connection_of, is_ready, keeper_on};
 use crate::steps::{Step, answers, is_committed};
 use crate::tables::{are_counted, memory};
 use sms_keeper::{Keeper, KeeperErr};
@@ -102,11 +102,26 @@ fn refused(alloc: Global) -> Result<bool, Fail> {
 
 // The columns and the records as docs/records.md writes them.
 static COLUMNS: &[(&str, i64)] = &[
-    ("SELECT count(*) FROM replies WHERE job = 'JOB1' AND number = 7 AND place = 1", 1),
-    ("SELECT count(*) FROM replies WHERE number = 8 AND reply = x'08'", 1),
-    ("SELECT count(*) FROM decks WHERE count = 1 AND bytes = x'4445434B'", 1),
-    ("SELECT count(*) FROM statuses WHERE kind = 0 AND name = 'SG1' AND status = 0", 1),
-    ("SELECT count(*) FROM statuses WHERE kind = 1 AND name = 'VOL001' AND status = 2", 1),
+    (
+        "SELECT count(*) FROM replies WHERE job = 'JOB1' AND number = 7 AND place = 1",
+        1,
+    ),
+    (
+        "SELECT count(*) FROM replies WHERE number = 8 AND reply = x'08'",
+        1,
+    ),
+    (
+        "SELECT count(*) FROM decks WHERE count = 1 AND bytes = x'4445434B'",
+        1,
+    ),
+    (
+        "SELECT count(*) FROM statuses WHERE kind = 0 AND name = 'SG1' AND status = 0",
+        1,
+    ),
+    (
+        "SELECT count(*) FROM statuses WHERE kind = 1 AND name = 'VOL001' AND status = 2",
+        1,
+    ),
 ];
 
 fn columns(alloc: Global) -> Result<bool, Fail> {
@@ -123,7 +138,10 @@ const MANY: u32 = 1000;
 static MANY_LEFT: &[(&str, i64)] = &[
     ("SELECT count(*) FROM sets", 0),
     ("SELECT count(*) FROM replies", 990),
-    ("SELECT count(*) FROM replies WHERE number % 100 = 0 OR number <> place", 0),
+    (
+        "SELECT count(*) FROM replies WHERE number % 100 = 0 OR number <> place",
+        0,
+    ),
 ];
 
 // The commit of this number at its place, or of each hundredth number at a place that is taken.

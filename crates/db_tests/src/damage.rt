@@ -1,5 +1,6 @@
 //! Rows of a database that stand for nothing, and whole rows that no desk leaves.
-use crate::running::{connection_of, keeper_on, refusal_of, run_on, run_with, NAMED};
+use crate::keeping::{connection_of, keeper_on, refusal_of};
+use crate::running::{NAMED, run_on, run_with};
 use crate::runs::FIRST;
 use crate::tables::{batch, memory};
 use db_calls::DbStatus;
@@ -193,12 +194,7 @@ fn is_loaded(alloc: Global, sql: &str, number: u8) -> Result<bool, Fail> {
     Ok(status == wanted && refusal.is_none())
 }
 
-fn compare(
-    rt: &impl Abort,
-    alloc: Global,
-    table: Table,
-    rows: &[(&str, u64)],
-) -> Result<(), Fail> {
+fn compare(rt: &impl Abort, alloc: Global, table: Table, rows: &[(&str, u64)]) -> Result<(), Fail> {
     for (sql, place) in rows {
         assert!(rt; is_named(alloc, sql, table, *place)?, "{sql}");
     }

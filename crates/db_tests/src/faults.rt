@@ -1,6 +1,6 @@
 //! Commits over a disk that fails, and what is found after them.
 use crate::failing_disks::{DiskStore, Disks, Failing, crashed, disks, disks_of, opened};
-use crate::running::{connection_of, is_ready, keeper_on};
+use crate::keeping::{connection_of, is_ready, keeper_on};
 use crate::steps::{Step, is_committed};
 use crate::tables::{memory, rows_of};
 use sms_keeper::Stored;

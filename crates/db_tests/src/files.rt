@@ -1,5 +1,5 @@
 //! Files that are found, in a folder of the test.
-use crate::running::{connection_of, is_ready, keeper_on};
+use crate::keeping::{connection_of, is_ready, keeper_on};
 use crate::steps::{Step, is_committed};
 use crate::tables::{batch, count, rows_of};
 use sms_keeper::Keeper;

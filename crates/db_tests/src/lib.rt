@@ -14,6 +14,8 @@ mod files;
 #[cfg(test)]
 mod flaky;
 #[cfg(test)]
+mod keeping;
+#[cfg(test)]
 mod reopened;
 #[cfg(test)]
 mod running;

@@ -2,7 +2,8 @@
 use crate::failing_disks::{
     DiskStore, Disks, Failing, crashed, disks, disks_of, opened, stopped_behind,
 };
-use crate::running::{connection_of, is_done, run_on};
+use crate::keeping::connection_of;
+use crate::running::{is_done, run_on};
 use crate::runs::{ALLOC, FIRST};
 use crate::tables::{memory, rows_of};
 use db_calls::DbStatus;
@@ -92,12 +93,7 @@ fn answered(
 }
 
 // How many requests of a script a run over these disks acknowledged, and the disks behind it.
-fn stopped(
-    alloc: Global,
-    disks: Disks,
-    script: &str,
-    asked: u64,
-) -> Result<(u64, Disks), Fail> {
+fn stopped(alloc: Global, disks: Disks, script: &str, asked: u64) -> Result<(u64, Disks), Fail> {
     match opened(alloc, disks) {
         Ok(connection) => answered(alloc, connection, script, asked),
         Err(disks) => Ok((0, disks)),
@@ -170,12 +166,7 @@ fn second_stop(passes: u64) -> Option<u64> {
 }
 
 // Whether a run that is stopped behind so many calls, and a second one behind some of these, leave what they may.
-fn is_lawful(
-    alloc: Global,
-    states: &States,
-    failing: Failing,
-    passes: u64,
-) -> Result<bool, Fail> {
+fn is_lawful(alloc: Global, states: &States, failing: Failing, passes: u64) -> Result<bool, Fail> {
     let disks = disks(alloc, failing, passes);
     let (done, disks) = stopped(alloc, disks, &states.script, ALL_ASKED)?;
     let Some((rows, disks)) = reopened(alloc, disks)? else {

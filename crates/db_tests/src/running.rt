@@ -1,8 +1,9 @@
 //! Runs of the top call.
+use crate::keeping::keeper_on;
 use db_calls::{DbStatus, db_main};
 use desk_calls::RunStatus;
 use sms_base::{MemSink, MemSource};
-use sms_keeper::{LoadErr, Stored};
+use sms_keeper::Stored;
 use sms_sqlite::SqlKeeper;
 use sqlite::{Alter, Connection};
 use std::alloc::Global;
@@ -73,22 +74,4 @@ pub fn run_on<S: Alter + Drop>(
 /// Whether a run was done and wrote this.
 pub fn is_done(status: DbStatus, run: &Run, wanted: &str) -> bool {
     status == DbStatus::Ran(RunStatus::Done) && run.out.taken() == wanted.as_bytes()
-}
-
-pub fn keeper_on<S: Alter + Drop>(alloc: Global, connection: Connection<S>) -> SqlKeeper<S> {
-    SqlKeeper::new(alloc, connection)
-}
-
-pub fn connection_of<S: Alter + Drop>(keeper: SqlKeeper<S>) -> Connection<S> {
-    keeper.into_connection()
-}
-
-/// Whether the keeper was made ready.
-pub fn is_ready<K: Stored>(keeper: &mut K) -> bool {
-    keeper.ready().is_ok()
-}
-
-/// Why the keeper loads no tables.
-pub fn refusal_of<K: Stored>(keeper: &mut K) -> Option<LoadErr> {
-    keeper.load().err()
 }

@@ -1,5 +1,6 @@
 //! Runs of the top call over a database.
-use crate::running::{NAMED, connection_of, is_done, keeper_on, run_on, run_with, words};
+use crate::keeping::{connection_of, keeper_on};
+use crate::running::{NAMED, is_done, run_on, run_with, words};
 use crate::tables::{batch, counts, memory};
 use db_calls::{DbStatus, database_asked};
 use desk_calls::RunStatus;

@@ -4,34 +4,56 @@ use crate::{faults, reopened};
 use std::test::Fail;
 
 #[test]
-fn a_desk_goes_on_from_a_stop_of_the_log_within_fifteen_calls(
-    rt: HostRuntime,
-) -> Result<(), Fail> {
-    assert!(rt; reopened::are_lawful(rt.alloc(), LogForGood, 0, 15)?);
+fn a_desk_goes_on_from_a_stop_of_the_log_within_twelve_calls(rt: HostRuntime) -> Result<(), Fail> {
+    assert!(rt; reopened::are_lawful(rt.alloc(), LogForGood, 0, 12)?);
     Ok(())
 }
 
 #[test]
-fn a_desk_goes_on_from_a_stop_of_the_log_within_thirty_calls(
+fn a_desk_goes_on_from_a_stop_of_the_log_within_twenty_three_calls(
     rt: HostRuntime,
 ) -> Result<(), Fail> {
-    assert!(rt; reopened::are_lawful(rt.alloc(), LogForGood, 15, 30)?);
+    assert!(rt; reopened::are_lawful(rt.alloc(), LogForGood, 12, 23)?);
     Ok(())
 }
 
 #[test]
-fn a_desk_goes_on_from_a_stop_of_the_log_within_forty_five_calls(
+fn a_desk_goes_on_from_a_stop_of_the_log_within_thirty_three_calls(
     rt: HostRuntime,
 ) -> Result<(), Fail> {
-    assert!(rt; reopened::are_lawful(rt.alloc(), LogForGood, 30, 45)?);
+    assert!(rt; reopened::are_lawful(rt.alloc(), LogForGood, 23, 33)?);
     Ok(())
 }
 
 #[test]
-fn a_desk_goes_on_from_a_stop_of_the_log_within_sixty_calls(
+fn a_desk_goes_on_from_a_stop_of_the_log_within_forty_two_calls(
     rt: HostRuntime,
 ) -> Result<(), Fail> {
-    assert!(rt; reopened::are_lawful(rt.alloc(), LogForGood, 45, 60)?);
+    assert!(rt; reopened::are_lawful(rt.alloc(), LogForGood, 33, 42)?);
+    Ok(())
+}
+
+#[test]
+fn a_desk_goes_on_from_a_stop_of_the_log_within_fifty_one_calls(
+    rt: HostRuntime,
+) -> Result<(), Fail> {
+    assert!(rt; reopened::are_lawful(rt.alloc(), LogForGood, 42, 51)?);
+    Ok(())
+}
+
+#[test]
+fn a_desk_goes_on_from_a_stop_of_the_log_within_fifty_nine_calls(
+    rt: HostRuntime,
+) -> Result<(), Fail> {
+    assert!(rt; reopened::are_lawful(rt.alloc(), LogForGood, 51, 59)?);
+    Ok(())
+}
+
+#[test]
+fn a_desk_goes_on_from_a_stop_of_the_log_within_sixty_seven_calls(
+    rt: HostRuntime,
+) -> Result<(), Fail> {
+    assert!(rt; reopened::are_lawful(rt.alloc(), LogForGood, 59, 67)?);
     Ok(())
 }
 
@@ -39,7 +61,7 @@ fn a_desk_goes_on_from_a_stop_of_the_log_within_sixty_calls(
 fn a_desk_goes_on_from_a_stop_of_the_log_within_seventy_five_calls(
     rt: HostRuntime,
 ) -> Result<(), Fail> {
-    assert!(rt; reopened::are_lawful(rt.alloc(), LogForGood, 60, 75)?);
+    assert!(rt; reopened::are_lawful(rt.alloc(), LogForGood, 67, 75)?);
     Ok(())
 }
 

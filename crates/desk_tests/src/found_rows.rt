@@ -193,7 +193,10 @@ fn verdict(alloc: Global, keeper: &MemKeeper, changes: &[Spoil]) -> Result<u8, F
 fn compare(rt: &impl Abort, alloc: Global, wanted: u8, cases: &[&[Spoil]]) -> Result<(), Fail> {
     let keeper = recorded(alloc)?;
     for (at, changes) in cases.iter().enumerate() {
-        assert!(rt; verdict(alloc, &keeper, changes)? == wanted, "{wanted} {at}");
+        assert!(rt;
+            verdict(alloc, &keeper, changes)? == wanted,
+            "{wanted} {at}"
+        );
     }
     Ok(())
 }

@@ -102,7 +102,11 @@ fn add_set(alloc: Global, rows: &mut Rows, text: &str, pieces: &[Piece]) -> Resu
 
 fn add_cylinder(alloc: Global, rows: &mut Rows, secondary: u32) -> Result<(), Fail> {
     let extents = extents(alloc, &[("VOL002", 300, 15)])?;
-    push_set(alloc, rows, data_set("A.CYL", Unit::Cyl, secondary, extents)?)
+    push_set(
+        alloc,
+        rows,
+        data_set("A.CYL", Unit::Cyl, secondary, extents)?,
+    )
 }
 
 fn reply(told: Told) -> Result<Reply, Fail> {
@@ -137,13 +141,15 @@ fn add_kept(
 ) -> Result<(), Fail> {
     let (job, number) = (name(job)?, request_number(number)?);
     let (request, reply) = (request(asked)?, reply(told)?);
-    Ok(rows.replies.push(KeptRow {
-        job,
-        number,
-        place,
-        request,
-        reply,
-    })?)
+    Ok(
+        rows.replies.push(KeptRow {
+            job,
+            number,
+            place,
+            request,
+            reply,
+        })?,
+    )
 }
 
 fn add_deck(alloc: Global, rows: &mut Rows, count: u64, text: &str) -> Result<(), Fail> {
