@@ -1,7 +1,7 @@
 //! Files that are found, in a folder of the test.
 use crate::keeping::{connection_of, is_ready, keeper_on};
 use crate::steps::{Step, is_committed};
-use crate::tables::{batch, count, rows_of};
+use crate::tables::{batch, count, counts, rows_of};
 use sms_keeper::Keeper;
 use sqlite::{Connection, Error, ErrorCode, File, FileStore};
 use std::alloc::Global;
@@ -75,7 +75,8 @@ fn kept(rt: &HostRuntime) -> Result<bool, Fail> {
     Ok(found_again(rt, rows.as_str())? && is_locked(rt)?)
 }
 
-// Files with a table: what is made in them first, whether they are made ready then, and what counts their rows.
+// Files with a table: what is made in them first, whether the five can be read once they are made ready, and what
+// counts the rows of the table. In the first the table has another column than the desk's.
 static FOUND: &[(&str, &str, bool, &str)] = &[
     (
         "floors.db",
@@ -86,8 +87,14 @@ static FOUND: &[(&str, &str, bool, &str)] = &[
     (
         "sets.db",
         "CREATE TABLE sets (dsn TEXT PRIMARY KEY, rec BLOB NOT NULL) STRICT; INSERT INTO sets VALUES ('A', x'00')",
-        false,
+        true,
         "SELECT count(*) FROM sets",
+    ),
+    (
+        "capitals.db",
+        "CREATE TABLE DECKS (count INTEGER PRIMARY KEY, bytes BLOB NOT NULL) STRICT; INSERT INTO decks VALUES (1, x'00')",
+        true,
+        "SELECT count(*) FROM decks",
     ),
     (
         "notes.db",
@@ -106,21 +113,37 @@ fn is_made_ready(rt: &HostRuntime, path: &str, made: &str) -> Result<bool, Fail>
     Ok(good)
 }
 
-// Whether a file has one such row, and the five tables or not.
-fn has_row(rt: &HostRuntime, path: &str, ready: bool, rows: &str) -> Result<bool, Fail> {
+// How many rows the five tables have together.
+fn rows_in_all(connection: &mut OpenFile) -> Result<i64, Fail> {
+    let [sets, replies, decks, statuses, floors] = counts(connection)?;
+    let first = sets.saturating_add(replies).saturating_add(decks);
+    Ok(first.saturating_add(statuses).saturating_add(floors))
+}
+
+// Whether a file has one such row and no other in the five tables, and these can be read or not.
+fn has_row(rt: &HostRuntime, path: &str, reads: bool, rows: &str) -> Result<bool, Fail> {
     let mut again = open(rt, path)?;
-    let good = count(&mut again, rows)? == 1;
-    let has_tables = !rows_of(rt.alloc(), &mut again)?.is_empty();
+    let good = count(&mut again, rows)? == 1 && rows_in_all(&mut again)? <= 1;
+    let is_read = !rows_of(rt.alloc(), &mut again)?.is_empty();
     shut(again)?;
-    Ok(good && has_tables == ready)
+    Ok(good && is_read == reads)
 }
 
 fn are_left(rt: &HostRuntime) -> Result<bool, Fail> {
     let mut good = true;
-    for (path, made, ready, rows) in FOUND {
-        good &= is_made_ready(rt, path, made)? == *ready && has_row(rt, path, *ready, rows)?;
+    for (path, made, reads, rows) in FOUND {
+        good &= is_made_ready(rt, path, made)? && has_row(rt, path, *reads, rows)?;
     }
     Ok(good)
+}
+
+// A file with a view of a table's name isn't made ready, and gets no table.
+fn is_left(rt: &HostRuntime) -> Result<bool, Fail> {
+    let is_ready = is_made_ready(rt, "views.db", "CREATE VIEW floors AS SELECT 1 AS floor")?;
+    let mut again = open(rt, "views.db")?;
+    let things = count(&mut again, "SELECT count(*) FROM sqlite_schema")?;
+    shut(again)?;
+    Ok(!is_ready && things == 1)
 }
 
 const WORDS: &str =
@@ -142,8 +165,9 @@ fn a_file_holds_what_was_committed(rt: HostRuntime) -> Result<(), Fail> {
 }
 
 #[test]
-fn a_file_with_a_table_of_the_name_is_left_as_it_is(rt: HostRuntime) -> Result<(), Fail> {
-    assert!(rt; are_left(&rt)?);
+fn tables_that_are_there_stay_and_the_missing_are_made(rt: HostRuntime) -> Result<(), Fail> {
+    let good = are_left(&rt)? && is_left(&rt)?;
+    assert!(rt; good);
     Ok(())
 }
 

@@ -3,4 +3,5 @@ pub mod Tables
 pub mod Tests
 pub mod Order
 pub mod Changes
+pub mod Presence
 pub mod Steps

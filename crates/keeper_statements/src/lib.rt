@@ -4,6 +4,7 @@
 mod decks;
 mod floors;
 mod making;
+mod present;
 mod reading;
 mod replies;
 mod sets;
@@ -12,6 +13,7 @@ mod statuses;
 pub use decks::add_deck;
 pub use floors::{has_floor_above, put_floor};
 pub use making::make_tables;
+pub use present::{Present, present_among};
 pub use reading::{all_decks, all_floors, all_replies, all_sets, all_statuses};
 pub use replies::{add_reply, drop_replies_below};
 pub use sets::{drop_set, put_set};

@@ -12,7 +12,7 @@ pub enum OpenErr {
     #[error("row {1} of the table {0:?} is damaged")]
     Damaged(Table, u64),
     /// The rows don't pass this test, 1 to 6, and pass those before it.
-    #[error("the rows fail test {0}")]
+    #[error("the rows are unsound ({0})")]
     Unsound(u8),
     /// Memory was wanting.
     #[error("out of memory")]

@@ -1,5 +1,5 @@
 -- What a reading of the tables says of what is told.
-use Rattle.std.proofs.Common.{◌≡◌, ◌≤◌, ◌&&◌, ℕ, suc, pos, Bool, true, false, cond, List, [], ◌∷◌, filter, Ok, Err, Result, OnOk, OnErr, Some, None, Option, IsTrue, Ordering, is_lt, nat_cmp, refl, sym, ap, ap₂, subst, ◌∙◌, inl, inr, arith, IsSorted}
+use Rattle.std.proofs.Common.{◌≡◌, ◌≤◌, ◌&&◌, ℕ, suc, pos, Bool, true, false, cond, List, [], ◌∷◌, filter, Ok, Err, Result, OnOk, OnErr, Some, None, Option, IsTrue, Ordering, is_lt, nat_cmp, refl, sym, ap, ap₂, subst, ◌∙◌, arith, IsSorted}
 use Rattle.std.specs.Prelude.{IfErr, IfOk, IfSome, is_some, option_map}
 use Rattle.std.specs.Option.{option_or}
 use Rattle.std.specs.Ordering.{ordering_then}
@@ -26,6 +26,7 @@ use Rattle.sms_keeper.specs.declared.rows.Rows.{Rows}
 use Rattle.sms_keeper.specs.declared.status_row.StatusRow.{StatusRow}
 use Rattle.sms_keeper.specs.declared.table.Table.{Table}
 use Rattle.sms_keeper.specs.declared.table.Table.TheVariants.{Sets, Replies, Decks, Statuses, Floors}
+use Rattle.keeper_statements.proofs.CreateLemmas.{desk_stays}
 use Rattle.keeper_statements.proofs.OrderLemmas.{order_found, order_sorted}
 use Rattle.keeper_statements.specs.Order.{by_first, by_two, in_order, put_in}
 use Rattle.keeper_statements.specs.Tables.{IsReady, Tables, tables_in}
@@ -209,8 +210,11 @@ made_damage {X} {E} old new r clean opened tables kept = on_seen new (Agree (dam
   where
     at : (o : Result X E) → OnOk o (IsMadeReady old.now new.now) → OnErr o (new.now ≡ old.now) → Agree (damage_of old.now) (damage_of new.now)
     at (Err e) made same = agree_same _ _ (ap damage_of same)
-    at (Ok x) (inl made) same = on_damage old.now (λ d. Agree d (damage_of new.now)) (λ ready. absurd (made.free ready.schema)) tt
-    at (Ok x) (inr there) same = agree_same _ _ (ap damage_of there.1)
+    at (Ok x) made same = by (is_ready old.now) refl
+      where
+        by : (b : Bool) → is_ready old.now ≡ b → Agree (damage_of old.now) (damage_of new.now)
+        by true is = agree_same _ _ (ap damage_of (desk_stays old.now new.now made (ready_is old.now is).schema))
+        by false is = subst (λ d. Agree d (damage_of new.now)) (sym (ap (λ b. cond b (damage_in (ordered (tables_in old.now.trees))) None) is)) tt
 
 module _ (base : Database) (old new : State) (readable : IsReadable base old) (clean : doubt old.is_clean ≤ doubt new.is_clean)
     (opened : HasCleanDisk new → IsTrue new.is_open → IsTrue old.is_open) (kept : HasCleanDisk new → IsTrue new.is_open → new.now ≡ old.now) where

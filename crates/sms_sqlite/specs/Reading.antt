@@ -1,14 +1,12 @@
 -- What a reading of the tables answers.
-use Rattle.std.specs.Prelude.{◌≡◌, ◌++◌, ◌∷◌, [], ◌⊎◌, ℕ, Bool, true, List, Option, Some, Result, Ok, Err, bytes_eq, codes, map, IsSomeAnd}
-use Rattle.std.specs.List.{list_all, list_any}
+use Rattle.std.specs.Prelude.{◌≡◌, ◌++◌, ◌∷◌, [], ℕ, List, Option, Some, Result, Ok, Err, map, IsSomeAnd}
 use Rattle.sqlite.specs.Effect.{Database}
 use Rattle.sqlite.specs.Order.{Row}
-use Rattle.sqlite.specs.Schema.{Schema}
-use Rattle.sqlite.specs.Table.{Table as SqlTable}
 use Rattle.sms_keeper.specs.Loading.{IsDamaged}
 use Rattle.sms_keeper.specs.declared.rows.Rows.{Rows}
 use Rattle.sms_keeper.specs.declared.table.Table.{Table}
 use Rattle.keeper_statements.specs.Order.{deck_columns, five_columns, three_columns, two_columns}
+use Rattle.keeper_statements.specs.Presence.{present_in}
 use Rattle.keeper_statements.specs.Steps.{HasMade}
 use Rattle.keeper_statements.specs.Tables.{Tables}
 use Rattle.sms_sqlite.specs.Damage.{damage_in, first_unread}
@@ -49,18 +47,6 @@ NamesFault told damage (Refused error) = Unit {0}
 NamesFault told damage (Damaged table place) = IsDamaged told damage table place
 NamesFault told damage NoMemory = Unit {0}
 
--- the names of the five tables
-abbrev pub desk_names : List (List ℕ)
-desk_names = codes "sets" ∷ codes "replies" ∷ codes "decks" ∷ codes "statuses" ∷ codes "floors" ∷ []
-
--- there is a table of this name
-abbrev pub has_table : List SqlTable → List ℕ → Bool
-has_table tables name = list_any (λ t. bytes_eq t.name name) tables
-
--- there is a table of each of the five names
-abbrev pub has_desk : Schema → Bool
-has_desk schema = list_all (has_table schema.tables) desk_names
-
--- the five tables were made, or tables of these names were there and nothing changed
+-- each of the five tables that wasn't there was made, and nothing else changed
 abbrev pub IsMadeReady : Database → Database → Type 0
-IsMadeReady old new = HasMade old new ⊎ ((has_desk old.schema ≡ true) × (new ≡ old))
+IsMadeReady old new = HasMade (present_in old.schema.tables) old new

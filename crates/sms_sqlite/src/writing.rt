@@ -1,22 +1,19 @@
 // Transactions: a change, and the making of the tables.
-ghost use Rattle.std.specs.Prelude.{◌≡◌, IsTrue, OnErr, OnOk, Some, false, true};
+ghost use Rattle.std.specs.Prelude.{◌≡◌, IsTrue, OnErr, OnOk, Some, false};
 ghost use Rattle.sqlite.specs.Held.{state};
 ghost use Rattle.sqlite.specs.State.{HasCleanDisk, Survives};
 ghost use Rattle.sms_keeper.specs.Suits.{Suits};
 ghost use Rattle.sms_keeper.specs.Tables.{with_change};
 ghost use Rattle.sms_keeper.specs.declared.rows.Rows.{Rows};
-ghost use Rattle.std.specs.List.{list_all};
-ghost use Rattle.keeper_statements.specs.Steps.{MayStay};
-ghost use Rattle.sms_sqlite.specs.Reading.{IsMadeReady, desk_names, has_desk, has_table};
+ghost use Rattle.sms_sqlite.specs.Reading.{IsMadeReady};
 ghost use Rattle.sms_sqlite.specs.Told.{tables_of};
 ghost use Rattle.sms_sqlite.specs.Writing.{Holds, HasRows, IsCommitted};
 
 use crate::effects::make_effect;
 use crate::replies::keep_reply;
-use keeper_statements::make_tables;
+use keeper_statements::{make_tables, present_among};
 use sms_keeper::Change;
-use sqlite::{Alter, Connection, Error, ErrorCode, Transaction};
-use sqlite_schema::schema::Table;
+use sqlite::{Alter, Connection, Error, ErrorCode};
 use std::alloc::Global;
 
 // Makes the change in one transaction, or leaves all as it is.
@@ -66,38 +63,7 @@ pub fn write_change<S: Alter>(
     write_inside(connection, alloc, change)
 }
 
-// Whether there is a table of this name.
-fn has_table(tables: &[Table], name: &[u8]) -> bool
-    ensures { result ≡ has_table tables.now name.now }
-{
-    tables.iter().any(|table| table.name.as_slice() == name)
-}
-
-// Whether there is a table of each of the five names.
-fn has_all(tables: &[Table]) -> bool
-    ensures { result ≡ list_all (has_table tables.now) desk_names }
-{
-    has_table(tables, b"sets")
-        && has_table(tables, b"replies")
-        && has_table(tables, b"decks")
-        && has_table(tables, b"statuses")
-        && has_table(tables, b"floors")
-}
-
-// Makes the tables where they aren't there.
-fn make_missing<S: Alter>(tx: &mut Transaction<'_, S>, are_there: bool) -> Result<(), Error>
-    ensures same_reference { tx.new.conn.ghost_name ≡ tx.old.conn.ghost_name }
-    ensures ready { HasCleanDisk (state S.Store tx.new.conn.now) → IsTrue (state S.Store tx.old.conn.now).in_transaction → (are_there ≡ true → has_desk (state S.Store tx.old.conn.now).now.schema ≡ true) → OnOk result (IsMadeReady (state S.Store tx.old.conn.now).now (state S.Store tx.new.conn.now).now) }
-    ensures stays { MayStay (state S.Store tx.old.conn.now) (state S.Store tx.new.conn.now) result }
-    ensures survives { Survives (state S.Store tx.old.conn.now) (state S.Store tx.new.conn.now) (λ _. ⊥) }
-{
-    if are_there {
-        return Ok(());
-    }
-    make_tables(tx)
-}
-
-// Makes the tables in one transaction where they aren't there, or leaves all as it is.
+// Makes the tables that aren't there in one transaction, or leaves all as it is.
 pub fn write_tables<S: Alter>(connection: &mut Connection<S>) -> Result<(), Error>
     ensures made { HasCleanDisk (state S.Store connection.new) → (rows : Rows) → tables_of (state S.Store connection.old).now ≡ Some rows → OnOk result (IsCommitted (state S.Store connection.new) rows) }
     ensures tables { HasCleanDisk (state S.Store connection.new) → OnOk result (IsMadeReady (state S.Store connection.old).now (state S.Store connection.new).now) }
@@ -112,8 +78,8 @@ pub fn write_tables<S: Alter>(connection: &mut Connection<S>) -> Result<(), Erro
     if !connection.is_autocommit() {
         return Err(Error::SqliteFailure(ErrorCode::TransactionState));
     }
-    let are_there = has_all(connection.schema().tables.as_slice());
+    let there = present_among(connection.schema().tables.as_slice());
     let mut tx = connection.transaction();
-    make_missing(&mut tx, are_there)?;
+    make_tables(&mut tx, there)?;
     tx.commit()
 }

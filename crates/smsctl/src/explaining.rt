@@ -137,8 +137,8 @@ const WRITE_FAULT: &str =
 const TOO_LONG: &str = "the script has more than 16777216 bytes; nothing was answered\n";
 
 const STORE_FAULT: &str =
-    "the tables can't be made in the file, or not be read: it has some of them \
-    and not all, or can't be written; nothing was answered\n";
+    "the tables can't be made in the file, or not be read: it can't be written, \
+    or has one of them in another form; nothing was answered\n";
 
 const RESERVED: &str =
     "this line is of the job SMSMGMT or purges it, and with --manage that job is \
