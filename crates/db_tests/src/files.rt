@@ -1,41 +1,78 @@
 //! Files that are found, in a folder of the test.
-use crate::steps::{Step, answers};
-use crate::tables::{count, counts, rows_of};
-use sms_keeper::{Keeper, KeeperErr, Stored};
-use sms_sqlite::SqlKeeper;
-use sqlite::{Connection, Error, ErrorCode};
+use crate::keeping::{connection_of, is_ready, keeper_on};
+use crate::steps::{Step, is_committed};
+use crate::tables::{batch, count, counts, rows_of};
+use sms_keeper::Keeper;
+use sqlite::{Connection, Error, ErrorCode, File, FileStore};
+use std::alloc::Global;
 use std::fs;
 use std::test::Fail;
 
-// A file: its records are there at the next open and stay when it is made ready again; a second open of it is refused.
-fn kept(rt: &HostRuntime) -> Result<bool, Fail> {
-    let alloc = rt.alloc();
-    let first = Connection::open(rt, "kept.db")?;
-    let locked = Connection::open(rt, "kept.db");
-    let mut good = locked.is_err();
-    drop(locked);
-    let mut keeper = SqlKeeper::new(alloc, first);
-    good &= keeper.ready() == Ok(());
-    good &= answers(alloc, &mut keeper, 1, 1, Step::Put("A.B"), Ok(()))?;
-    let mut first = keeper.into_connection();
-    let rows = rows_of(alloc, &mut first)?;
-    first.close()?;
-    good &= found_again(rt, rows.as_str())?;
+type OpenFile = Connection<FileStore<File>>;
+
+fn open(rt: &HostRuntime, path: &str) -> Result<OpenFile, Fail> {
+    Ok(Connection::open(rt, path)?)
+}
+
+fn shut(connection: OpenFile) -> Result<(), Fail> {
+    Ok(connection.close()?)
+}
+
+// The database of a file that was made ready, and whether it was without a fault.
+fn readied(alloc: Global, connection: OpenFile) -> (bool, OpenFile) {
+    let mut keeper = keeper_on(alloc, connection);
+    let good = is_ready(&mut keeper) && keeper.faults() == 0;
+    (good, connection_of(keeper))
+}
+
+// The database of a file in which one data set was put.
+fn put(alloc: Global, connection: OpenFile) -> Result<OpenFile, Fail> {
+    let mut keeper = keeper_on(alloc, connection);
+    if !is_committed(alloc, &mut keeper, 1, Step::Put("A.B"))? {
+        return Err(Fail::from("commit"));
+    }
+    Ok(connection_of(keeper))
+}
+
+// Makes a file with a data set, and answers its rows.
+fn make_file(rt: &HostRuntime) -> Result<String, Fail> {
+    let (_good, connection) = readied(rt.alloc(), open(rt, "kept.db")?);
+    let mut connection = put(rt.alloc(), connection)?;
+    let rows = rows_of(rt.alloc(), &mut connection)?;
+    shut(connection)?;
+    Ok(rows)
+}
+
+// Whether the file with these rows keeps them when it is opened again and made ready.
+fn found_again(rt: &HostRuntime, rows: &str) -> Result<bool, Fail> {
+    let (good, mut again) = readied(rt.alloc(), open(rt, "kept.db")?);
+    let is_kept = rows_of(rt.alloc(), &mut again)?.as_str() == rows;
+    let has_set = count(&mut again, "SELECT count(*) FROM sets")? == 1;
+    shut(again)?;
+    Ok(good && is_kept && has_set)
+}
+
+// Whether the path isn't opened, by this cause where one is given.
+fn is_refused(rt: &HostRuntime, path: &str, cause: Option<ErrorCode>) -> bool {
+    match Connection::open(rt, path) {
+        Ok(_) => false,
+        Err(Error::SqliteFailure(code)) => cause.is_none() || cause == Some(code),
+        Err(_) => false,
+    }
+}
+
+// Whether a file that is open isn't opened a second time.
+fn is_locked(rt: &HostRuntime) -> Result<bool, Fail> {
+    let first = open(rt, "locked.db")?;
+    let good = is_refused(rt, "locked.db", None);
+    shut(first)?;
     Ok(good)
 }
 
-// The file with these rows is opened again, and keeps them when it is made ready.
-fn found_again(rt: &HostRuntime, rows: &str) -> Result<bool, Fail> {
-    let alloc = rt.alloc();
-    let mut again = Connection::open(rt, "kept.db")?;
-    let mut good = counts(&mut again)? == [1, 1, 0, 0, 0];
-    good &= rows_of(alloc, &mut again)?.as_str() == rows;
-    let mut keeper = SqlKeeper::new(alloc, again);
-    good &= keeper.ready() == Ok(()) && keeper.faults() == 0;
-    let mut again = keeper.into_connection();
-    good &= rows_of(alloc, &mut again)?.as_str() == rows;
-    again.close()?;
-    Ok(good)
+// A file: its records are there at the next open and stay when it is made ready again; a second open of it is refused.
+fn kept(rt: &HostRuntime) -> Result<bool, Fail> {
+    let rows = make_file(rt)?;
+    Ok(found_again(rt, rows.as_str())? && is_locked(rt)?)
 }
 
 // Files with a table: what is made in them first, whether the five can be read once they are made ready, and what
@@ -67,45 +104,59 @@ static FOUND: &[(&str, &str, bool, &str)] = &[
     ),
 ];
 
-// A file with a table is made ready: its row stays, and the other tables are there without rows.
-fn is_so(rt: &HostRuntime, path: &str, made: &str, reads: bool, rows: &str) -> Result<bool, Fail> {
-    let mut connection = Connection::open(rt, path)?;
-    connection.execute_batch(made)?;
-    let mut keeper = SqlKeeper::new(rt.alloc(), connection);
-    let mut good = keeper.ready() == Ok(());
-    keeper.into_connection().close()?;
-    let mut again = Connection::open(rt, path)?;
-    good &= count(&mut again, rows)? == 1;
-    let all = counts(&mut again)?;
-    good &= all.iter().filter(|n| **n != 0).count() <= 1;
-    good &= rows_of(rt.alloc(), &mut again)?.is_empty() != reads;
+// Makes this in a file, and answers whether it was made ready then.
+fn is_made_ready(rt: &HostRuntime, path: &str, made: &str) -> Result<bool, Fail> {
+    let mut connection = open(rt, path)?;
+    batch(&mut connection, made)?;
+    let (good, connection) = readied(rt.alloc(), connection);
+    shut(connection)?;
+    Ok(good)
+}
+
+// How many rows the five tables have together.
+fn rows_in_all(connection: &mut OpenFile) -> Result<i64, Fail> {
+    let [sets, replies, decks, statuses, floors] = counts(connection)?;
+    let first = sets.saturating_add(replies).saturating_add(decks);
+    Ok(first.saturating_add(statuses).saturating_add(floors))
+}
+
+// Whether a file has one such row and no other in the five tables, and these can be read or not.
+fn has_row(rt: &HostRuntime, path: &str, reads: bool, rows: &str) -> Result<bool, Fail> {
+    let mut again = open(rt, path)?;
+    let good = count(&mut again, rows)? == 1 && rows_in_all(&mut again)? <= 1;
+    let is_read = !rows_of(rt.alloc(), &mut again)?.is_empty();
+    shut(again)?;
+    Ok(good && is_read == reads)
+}
+
+fn are_left(rt: &HostRuntime) -> Result<bool, Fail> {
+    let mut good = true;
+    for (path, made, reads, rows) in FOUND {
+        good &= is_made_ready(rt, path, made)? && has_row(rt, path, *reads, rows)?;
+    }
     Ok(good)
 }
 
 // A file with a view of a table's name isn't made ready, and gets no table.
 fn is_left(rt: &HostRuntime) -> Result<bool, Fail> {
-    let mut connection = Connection::open(rt, "views.db")?;
-    connection.execute_batch("CREATE VIEW floors AS SELECT 1 AS floor")?;
-    let mut keeper = SqlKeeper::new(rt.alloc(), connection);
-    let mut good = keeper.ready() == Err(KeeperErr::Failed) && keeper.faults() == 1;
-    let mut again = keeper.into_connection();
-    good &= count(&mut again, "SELECT count(*) FROM sqlite_schema")? == 1;
-    again.close()?;
-    Ok(good)
-}
-
-// Whether the path isn't opened, by this cause where one is given.
-fn is_refused(rt: &HostRuntime, path: &str, cause: Option<ErrorCode>) -> bool {
-    match Connection::open(rt, path) {
-        Ok(_) => false,
-        Err(Error::SqliteFailure(code)) => cause.is_none() || cause == Some(code),
-        Err(_) => false,
-    }
+    let is_ready = is_made_ready(rt, "views.db", "CREATE VIEW floors AS SELECT 1 AS floor")?;
+    let mut again = open(rt, "views.db")?;
+    let things = count(&mut again, "SELECT count(*) FROM sqlite_schema")?;
+    shut(again)?;
+    Ok(!is_ready && things == 1)
 }
 
 const WORDS: &str =
     "one fish two fish red fish blue fish, and so on for more than a hundred bytes: \
     one fish two fish red fish blue fish, one fish two fish red fish blue fish\n";
+
+// Whether what is no database isn't opened, and a text stays as it is.
+fn are_refused(rt: &HostRuntime) -> Result<bool, Fail> {
+    fs::write(rt, "words.db", WORDS)?;
+    let mut good = is_refused(rt, "no/such/folder/t.db", Some(ErrorCode::CannotOpen));
+    good &= is_refused(rt, ".", None) && is_refused(rt, "words.db", None);
+    Ok(good && fs::read_to_string(rt, "words.db")?.as_str() == WORDS)
+}
 
 #[test]
 fn a_file_holds_what_was_committed(rt: HostRuntime) -> Result<(), Fail> {
@@ -115,19 +166,13 @@ fn a_file_holds_what_was_committed(rt: HostRuntime) -> Result<(), Fail> {
 
 #[test]
 fn tables_that_are_there_stay_and_the_missing_are_made(rt: HostRuntime) -> Result<(), Fail> {
-    for (path, made, reads, rows) in FOUND {
-        assert!(rt; is_so(&rt, path, made, *reads, rows)?, "{path}");
-    }
-    assert!(rt; is_left(&rt)?);
+    let good = are_left(&rt)? && is_left(&rt)?;
+    assert!(rt; good);
     Ok(())
 }
 
 #[test]
 fn what_is_no_database_is_not_opened(rt: HostRuntime) -> Result<(), Fail> {
-    assert!(rt; is_refused(&rt, "no/such/folder/t.db", Some(ErrorCode::CannotOpen)));
-    assert!(rt; is_refused(&rt, ".", None));
-    fs::write(&rt, "words.db", WORDS)?;
-    assert!(rt; is_refused(&rt, "words.db", None));
-    assert!(rt; fs::read_to_string(&rt, "words.db")?.as_str() == WORDS);
+    assert!(rt; are_refused(&rt)?);
     Ok(())
 }

@@ -32,7 +32,8 @@ static ROWS: [Row; 7] = [
         "SMSADMIN 2 ACTIVATE\nversion = 3\n./END\nSMSADMIN 3 ACTIVATE\nversion = 1\n./END\n"),
 ];
 
-fn script(alloc: Global, text: &[u8]) -> Result<Script, Fail> {
+/// The script that a short text writes.
+pub fn script(alloc: Global, text: &[u8]) -> Result<Script, Fail> {
     Ok(read(alloc, text).ok().ok_or("script")?)
 }
 
