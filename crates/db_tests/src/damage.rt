@@ -1,11 +1,11 @@
 //! Rows of a database that stand for nothing, and whole rows that no desk leaves.
-use crate::keeping::{connection_of, keeper_on, refusal_of};
+use crate::keeping::{connection_of, faults_of, keeper_on, refusal_of};
 use crate::running::{NAMED, run_on, run_with};
 use crate::runs::FIRST;
 use crate::tables::{batch, memory};
 use db_calls::DbStatus;
 use desk_calls::RunStatus;
-use sms_keeper::{Keeper, LoadErr, Table};
+use sms_keeper::{LoadErr, Table};
 use sms_open::OpenErr;
 use sqlite::{Connection, MemStore};
 use std::alloc::Global;
@@ -173,7 +173,7 @@ fn ending(alloc: Global, sql: &str) -> Result<(DbStatus, Option<LoadErr>), Fail>
     let mut keeper = keeper_on(alloc, spoiled(alloc, sql)?);
     let refusal = refusal_of(&mut keeper);
     let (status, _run, keeper) = run_with(alloc, NAMED, "", keeper)?;
-    if keeper.faults() != 0 {
+    if faults_of(&keeper) != 0 {
         return Err(Fail::from("faults"));
     }
     Ok((status, refusal))

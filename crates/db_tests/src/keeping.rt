@@ -1,5 +1,5 @@
 //! Keepers over databases.
-use sms_keeper::{LoadErr, Stored};
+use sms_keeper::{Keeper, LoadErr, Stored};
 use sms_sqlite::SqlKeeper;
 use sqlite::{Alter, Connection};
 use std::alloc::Global;
@@ -20,4 +20,9 @@ pub fn is_ready<K: Stored>(keeper: &mut K) -> bool {
 /// Why the keeper loads no tables.
 pub fn refusal_of<K: Stored>(keeper: &mut K) -> Option<LoadErr> {
     keeper.load().err()
+}
+
+/// How often the keeper failed.
+pub fn faults_of<K: Keeper>(keeper: &K) -> u64 {
+    keeper.faults()
 }

@@ -2,14 +2,13 @@
 use crate::failing_disks::{
     DiskStore, Disks, Failing, crashed, disks, disks_of, opened, stopped_behind,
 };
-use crate::keeping::connection_of;
+use crate::keeping::{connection_of, faults_of};
 use crate::running::{is_done, run_on};
 use crate::runs::{ALLOC, FIRST};
 use crate::tables::{memory, rows_of};
 use db_calls::DbStatus;
 use desk_calls::RunStatus;
-use sms_keeper::Keeper;
-use sqlite::{Connection, MemStore};
+use sqlite::{Alter, Connection, MemStore};
 use std::alloc::Global;
 use std::test::Fail;
 
@@ -81,48 +80,72 @@ fn acknowledged(status: DbStatus, asked: u64, faults: u64) -> u64 {
     0
 }
 
-fn answered(
+fn answered<S: Alter + Drop>(
+    alloc: Global,
+    connection: Connection<S>,
+    script: &str,
+    asked: u64,
+) -> Result<(u64, Connection<S>), Fail> {
+    let (status, _run, keeper) = run_on(alloc, script, connection)?;
+    let done = acknowledged(status, asked, faults_of(&keeper));
+    Ok((done, connection_of(keeper)))
+}
+
+fn answered_over(
     alloc: Global,
     connection: Connection<DiskStore>,
     script: &str,
     asked: u64,
 ) -> Result<(u64, Disks), Fail> {
-    let (status, _run, keeper) = run_on(alloc, script, connection)?;
-    let done = acknowledged(status, asked, keeper.faults());
-    Ok((done, disks_of(connection_of(keeper))))
+    let (done, connection) = answered(alloc, connection, script, asked)?;
+    Ok((done, disks_of(connection)))
 }
 
 // How many requests of a script a run over these disks acknowledged, and the disks behind it.
 fn stopped(alloc: Global, disks: Disks, script: &str, asked: u64) -> Result<(u64, Disks), Fail> {
     match opened(alloc, disks) {
-        Ok(connection) => answered(alloc, connection, script, asked),
+        Ok(connection) => answered_over(alloc, connection, script, asked),
         Err(disks) => Ok((0, disks)),
     }
 }
 
-// The rows and the disks behind a run without requests, where it is done and leaves the rows that were found, if any.
-fn left(
+// The rows of a database, where they are those that were found before, if any.
+fn stays<S: Alter + Drop>(
     alloc: Global,
-    connection: Connection<DiskStore>,
+    mut connection: Connection<S>,
     found: &str,
-) -> Result<Option<(String, Disks)>, Fail> {
-    let (status, run, keeper) = run_on(alloc, "", connection)?;
-    let mut connection = connection_of(keeper);
+) -> Result<Option<(String, Connection<S>)>, Fail> {
     let rows = rows_of(alloc, &mut connection)?;
-    let stays = found.is_empty() || found == rows.as_str();
-    if stays && is_done(status, &run, "END 0 0\n") {
-        return Ok(Some((rows, disks_of(connection))));
+    if found.is_empty() || found == rows.as_str() {
+        return Ok(Some((rows, connection)));
     }
     Ok(None)
 }
 
-// The same where it goes on from what a stop of these disks left.
+// The rows behind a run without requests, where it is done and leaves the rows that were found, if any.
+fn left<S: Alter + Drop>(
+    alloc: Global,
+    mut connection: Connection<S>,
+) -> Result<Option<(String, Connection<S>)>, Fail> {
+    let found = rows_of(alloc, &mut connection)?;
+    let (status, run, keeper) = run_on(alloc, "", connection)?;
+    if !is_done(status, &run, "END 0 0\n") {
+        return Ok(None);
+    }
+    stays(alloc, connection_of(keeper), &found)
+}
+
+fn with_disks(found: Option<(String, Connection<DiskStore>)>) -> Option<(String, Disks)> {
+    match found {
+        Some((rows, connection)) => Some((rows, disks_of(connection))),
+        None => None,
+    }
+}
+
+// The same where it goes on from what a stop of these disks left, and the disks.
 fn reopened(alloc: Global, disks: Disks) -> Result<Option<(String, Disks)>, Fail> {
     match opened(alloc, crashed(disks)) {
-        Ok(mut connection) => {
-            let found = rows_of(alloc, &mut connection)?;
-            left(alloc, connection, &found)
-        }
+        Ok(connection) => Ok(with_disks(left(alloc, connection)?)),
         Err(_) => Ok(None),
     }
 }
@@ -165,6 +188,19 @@ fn second_stop(passes: u64) -> Option<u64> {
     }
 }
 
+// Whether a second run that is stopped, if there is one behind so many calls of the first, leaves what it may.
+fn may_go_on(
+    alloc: Global,
+    states: &States,
+    at: usize,
+    (disks, passes): (Disks, u64),
+) -> Result<bool, Fail> {
+    match second_stop(passes) {
+        Some(calls) => goes_on(alloc, states, at, stopped_behind(disks, calls)),
+        None => Ok(true),
+    }
+}
+
 // Whether a run that is stopped behind so many calls, and a second one behind some of these, leave what they may.
 fn is_lawful(alloc: Global, states: &States, failing: Failing, passes: u64) -> Result<bool, Fail> {
     let disks = disks(alloc, failing, passes);
@@ -172,9 +208,9 @@ fn is_lawful(alloc: Global, states: &States, failing: Failing, passes: u64) -> R
     let Some((rows, disks)) = reopened(alloc, disks)? else {
         return Ok(false);
     };
-    match (place_of(&states.first, done, &rows), second_stop(passes)) {
-        (Some(at), Some(calls)) => goes_on(alloc, states, at, stopped_behind(disks, calls)),
-        (place, _) => Ok(place.is_some()),
+    match place_of(&states.first, done, &rows) {
+        Some(at) => may_go_on(alloc, states, at, (disks, passes)),
+        None => Ok(false),
     }
 }
 

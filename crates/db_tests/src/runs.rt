@@ -1,11 +1,11 @@
 //! Runs of the top call over a database.
-use crate::keeping::{connection_of, keeper_on};
+use crate::keeping::{connection_of, faults_of, keeper_on};
 use crate::running::{NAMED, is_done, run_on, run_with, words};
 use crate::tables::{batch, counts, memory};
 use db_calls::{DbStatus, database_asked};
 use desk_calls::RunStatus;
 use sms_base::{MemSource, read_all};
-use sms_keeper::{FaultKeeper, Keeper, MemKeeper, Stored};
+use sms_keeper::{FaultKeeper, MemKeeper, Stored};
 use sqlite::{Connection, MemStore};
 use std::alloc::Global;
 use std::test::Fail;
@@ -65,7 +65,7 @@ END 7 7
 fn answers(alloc: Global, rest: &str, wanted: &str, rows: [i64; 5]) -> Result<bool, Fail> {
     let script = format!(in alloc; "{FIRST}{rest}")?;
     let (status, run, keeper) = run_on(alloc, &script, memory(alloc)?)?;
-    let good = is_done(status, &run, wanted) && status.code() == 0 && keeper.faults() == 0;
+    let good = is_done(status, &run, wanted) && status.code() == 0 && faults_of(&keeper) == 0;
     Ok(good && has_counts(connection_of(keeper), rows)?)
 }
 
@@ -87,7 +87,7 @@ fn ends<P: Stored>(
 ) -> Result<bool, Fail> {
     let script = format!(in alloc; "{FIRST}{ALLOC}")?;
     let (status, mut run, keeper) = run_with(alloc, list, &script, keeper)?;
-    let (written, faults) = (run.out.taken().len(), keeper.faults());
+    let (written, faults) = (run.out.taken().len(), faults_of(&keeper));
     let left = left_in(alloc, &mut run.src)?;
     Ok((status, left, written, faults) == wanted)
 }
