@@ -12,8 +12,9 @@ each of these calls is refused in turn, in a run of its own:
 - each write to standard output fails (4, and a front was written) or takes one byte (nothing changes);
 - each write, sync or cut of a file fails, or takes one byte: the run ends with 0, with requests that may be answered
   F30, or with 9, 10 or 11 and nothing written.
-Behind each run over a file the same script is run again with nothing refused: it ends with 0, the file is whole, and it
-holds the records that it holds where nothing was refused.
+Behind each run over a file the same script is run again with nothing refused: it ends with 0, the file is whole, each
+answer is repeated but M31, F30 and those of purged numbers, and where nothing was answered otherwise the file holds the
+records that it holds where nothing was refused.
 """
 import mmap
 import os
@@ -242,6 +243,28 @@ def records(path):
     return rows
 
 
+def replies(text):
+    """What each number of a job is answered, with the lines below it."""
+    found, key = {}, None
+    for line in text.decode().splitlines():
+        words = line.split()
+        if line.startswith("  "):
+            found[key] += "\n" + line
+        elif words and words[0] != "END":
+            key = (words[3], words[4])
+            found[key] = " ".join(words[5:])
+    return found
+
+
+def are_kept(text, repeated):
+    """Whether what was answered is answered again, but for M31 and F30, which aren't kept, and numbers that were purged."""
+    again = replies(repeated)
+    return all(
+        reply.startswith(("M31", "F30")) or again[key] == reply or again[key].startswith("R11")
+        for key, reply in replies(text).items()
+    )
+
+
 def remove(path):
     for name in os.listdir(folder):
         if os.path.join(folder, name).startswith(path):
@@ -273,10 +296,12 @@ def try_file(program, prepared):
                 if refusal.kind == "files" and how == "fail":
                     good = (status == 0 and (text == wanted[1] or b" F30" in text)) or (status in STATUSES_OF_FILES and text == b"")
                 check(good, f"{name}: {refusal}: status {status}, {text!r}")
-                again, _ = run(program, words, MORE)
+                again, repeated = run(program, words, MORE)
                 found = records(path)
                 check(again == 0 and found[0] == [("ok",)], f"{name}: behind {refusal}: status {again}, {found[0]}")
-                check(found[1:] == whole[1:], f"{name}: behind {refusal}: other records")
+                check(are_kept(text, repeated), f"{name}: behind {refusal}: {text!r}, then {repeated!r}")
+                if text == wanted[1]:
+                    check(found[1:] == whole[1:], f"{name}: behind {refusal}: other records")
             count += 1
         print(f"{name}: {kind}, {how}: {count - 1} calls")
 
