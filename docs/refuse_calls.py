@@ -10,8 +10,8 @@ each of these calls is refused in turn, in a run of its own:
 - each allocation: the run ends with 7 and writes nothing, or with 0; then requests may be answered M31;
 - each read of standard input fails (3, nothing written) or gives one byte (nothing changes);
 - each write to standard output fails (4, and a front was written) or takes one byte (nothing changes);
-- each write, sync or cut of a file fails, or takes one byte: the run ends with 0, with requests that may be answered
-  F30, or with 9, 10 or 11 and nothing written.
+- each read, write, sync or cut of a file fails, or takes one byte: the run ends with 0, with requests that may be
+  answered F30, or with 9, 10 or 11 and nothing written.
 Behind each run over a file the same script is run again with nothing refused: it ends with 0, the file is whole, each
 answer is repeated but M31, F30 and those of purged numbers, and where nothing was answered otherwise the file holds the
 records that it holds where nothing was refused.
@@ -84,7 +84,16 @@ static ssize_t fails(void) { errno = EIO; return -1; }
 
 ssize_t read(int fd, void *into, size_t count) {
     if ((fd == 0 || is_socket(fd)) && refused(INPUT)) { if (!is_short) return fails(); if (count > 1) count = 1; }
+    if (is_file(fd) && refused(FILES)) { if (!is_short) return fails(); if (count > 1) count = 1; }
     return REAL(read)(fd, into, count);
+}
+ssize_t pread(int fd, void *into, size_t count, off_t place) {
+    if (refused(FILES)) { if (!is_short) return fails(); if (count > 1) count = 1; }
+    return REAL(pread)(fd, into, count, place);
+}
+ssize_t pread64(int fd, void *into, size_t count, off64_t place) {
+    if (refused(FILES)) { if (!is_short) return fails(); if (count > 1) count = 1; }
+    return REAL(pread64)(fd, into, count, place);
 }
 ssize_t recv(int fd, void *into, size_t count, int flags) {
     if (refused(INPUT)) { if (!is_short) return fails(); if (count > 1) count = 1; }
@@ -129,7 +138,7 @@ storgroup = "PROC STORGRP SET &STORGRP = 'SG1' END"
 ./END
 """
 ONE = DECK + b"JOB1 1 ALLOC PAY.MASTER SPACE=(TRK,(10,5))\n"
-TWO = DECK + b"SYNC\n" + b"".join(
+TWO = DECK + b"SYNC\n" + DECK.replace(b"SMSADMIN 1", b"SMSADMIN 2") + b"".join(
     b"JOB%d %d ALLOC J%d.N%d SPACE=(TRK,1)\n" % (job, number, job, number) for number in range(1, 6) for job in (1, 2)
 )
 MORE = ONE + b"JOB1 2 USED PAY.MASTER 3\nJOB1 3 ALLOC A.C SPACE=(TRK,1)\nJOB1 4 DELETE A.C\nSMSADMIN 2 PURGE JOB1 3\n"
@@ -138,7 +147,7 @@ MESSAGES = (
     + DECK[len(b"SMSADMIN 1 ACTIVATE\n"):-len(b"./END\n")]
     + b'POST /job/JOB1/1/alloc/PAY.MASTER HTTP/1.1\r\nContent-Length: 25\r\n\r\n{"SPACE":"(TRK,(10,5))"} '
 )
-STATUSES_OF_FILES = {0, 9, 10, 11}
+STATUSES_OF_FILES = {9, 10, 11}
 
 differing = []
 folder = ""
@@ -209,20 +218,35 @@ def kinds(names):
     return [(name, how) for name in names for how in ("fail", "short") if (name, how) != ("allocation", "short")]
 
 
-def try_run(program, words, script, same_text=True):
+def are_answered(text, wanted):
+    """Whether a text has an answer for each request of the wanted one, of which some may be M31, in any order of places."""
+    found, whole = replies(text), replies(wanted)
+    return found.keys() == whole.keys() and (
+        b" M31" in text or all(reply.split()[0] == whole[key].split()[0] for key, reply in found.items())
+    )
+
+
+def is_lawful_of_workers(refusal, wanted, status, text):
+    """The same of a run by several workers, whose places and tracks may differ from run to run."""
+    if refusal.how == "short":
+        return status == 0 and are_answered(text, wanted[1])
+    if refusal.kind == "allocation":
+        return (status, text) == (7, b"") or (status == 0 and are_answered(text, wanted[1]))
+    if refusal.kind == "input":
+        return (status, text) == (3, b"")
+    return status == 4 and len(text) < len(wanted[1])
+
+
+def try_run(program, words, script, lawful):
     wanted = run(program, words, script)
     for kind, how in kinds(["allocation", "input", "output"]):
         count = 0
         for refusal in each(kind, how):
             status, text = run(program, words, script, refusal)
-            if not same_text:
-                text, wanted = sorted(text.split(b"\n")), (wanted[0], wanted[1])
-                good = status in (0, 3, 4, 7)
-            else:
-                good = not refusal.was_made() or is_lawful(refusal, wanted, status, text)
+            good = not refusal.was_made() or lawful(refusal, wanted, status, text)
             check(good, f"{' '.join(words)}: {refusal}: status {status}, {text!r}")
             count += 1
-        print(f"{' '.join(words)}: {kind}, {how}: {count - 1} calls")
+        print(f"{' '.join(words)}: {kind}, {how}: {count - 1} calls", flush=True)
 
 
 def records(path):
@@ -292,7 +316,7 @@ def try_file(program, prepared):
             if refusal.was_made():
                 good = is_lawful(refusal, wanted, status, text)
                 if refusal.kind == "allocation":
-                    good |= status in STATUSES_OF_FILES - {0} and text == b""
+                    good |= status in STATUSES_OF_FILES and text == b""
                 if refusal.kind == "files" and how == "fail":
                     good = (status == 0 and (text == wanted[1] or b" F30" in text)) or (status in STATUSES_OF_FILES and text == b"")
                 check(good, f"{name}: {refusal}: status {status}, {text!r}")
@@ -303,7 +327,7 @@ def try_file(program, prepared):
                 if text == wanted[1]:
                     check(found[1:] == whole[1:], f"{name}: behind {refusal}: other records")
             count += 1
-        print(f"{name}: {kind}, {how}: {count - 1} calls")
+        print(f"{name}: {kind}, {how}: {count - 1} calls", flush=True)
 
 
 def talk(port):
@@ -353,10 +377,10 @@ def try_serve(program):
                 if how == "short":
                     good = (status, text, heard) == wanted
                 else:
-                    good = status in (0, 4, 7, 8, 9) and (heard is None or wanted[2].startswith(heard) or b"M31" in heard or heard.startswith(b"HTTP/1.1"))
+                    good = status in (0, 4, 7, 8, 9) and (not heard or wanted[2].startswith(heard) or b"M31" in heard)
                 check(good, f"serve: {refusal}: status {status}, {text!r}, {heard!r}")
             count += 1
-        print(f"serve: {kind}, {how}: {count - 1} calls")
+        print(f"serve: {kind}, {how}: {count - 1} calls", flush=True)
 
 
 def main():
@@ -366,8 +390,8 @@ def main():
     with open(source, "w") as file:
         file.write(LIBRARY)
     subprocess.run(["gcc", "-O1", "-shared", "-fPIC", "-o", os.path.join(folder, "refuse.so"), source, "-ldl"], check=True)
-    try_run(program, ["run"], ONE)
-    try_run(program, ["run", "--workers", "2"], TWO, same_text=False)
+    try_run(program, ["run"], ONE, is_lawful)
+    try_run(program, ["run", "--workers", "2"], TWO, is_lawful_of_workers)
     try_file(program, [])
     try_file(program, [ONE])
     try_serve(program)
