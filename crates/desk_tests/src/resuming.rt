@@ -6,7 +6,7 @@ use sms_construct::Answer;
 use sms_core::Core;
 use sms_keeper::MemKeeper;
 use sms_open::test_rows;
-use sms_script::{Script, print};
+use sms_script::{Script, answer_lines};
 use std::alloc::Global;
 use std::test::Fail;
 
@@ -37,8 +37,23 @@ pub fn script(alloc: Global, text: &[u8]) -> Result<Script, Fail> {
     Ok(read(alloc, text).ok().ok_or("script")?)
 }
 
-fn text_of(alloc: Global, script: &Script, answers: &[Answer]) -> Result<Vec<u8>, Fail> {
-    Ok(print(alloc, script, answers, answers.len() as u64)?)
+// The places of each answer, and its lines.
+fn text_of(alloc: Global, answers: &[Answer]) -> Result<Vec<u8>, Fail> {
+    let mut text = Vec::new(alloc);
+    for answer in answers {
+        push_answer(alloc, &mut text, answer)?;
+    }
+    Ok(text)
+}
+
+fn push_answer(alloc: Global, text: &mut Vec<u8>, answer: &Answer) -> Result<(), Fail> {
+    let places = format!(in alloc; "{} {}", answer.place, answer.first)?;
+    text.extend_from_slice(places.as_bytes())?;
+    for line in answer_lines(alloc, answer)?.as_slice() {
+        text.push(10)?;
+        text.extend_from_slice(line.as_slice())?;
+    }
+    Ok(text.push(10)?)
 }
 
 // The core that goes on from the rows of this keeper, in a new one's place.
@@ -60,8 +75,8 @@ fn goes_on(alloc: Global, first: &Script, second: &Script) -> Result<bool, Fail>
     let (_, stopped) = run_script(alloc, first, Core::new(alloc, MemKeeper::new(alloc)));
     let core = resumed(alloc, stopped.into_parts().0)?;
     let (parted, _) = run_script(alloc, second, core);
-    let whole = text_of(alloc, second, whole?.as_slice())?;
-    let parted = text_of(alloc, second, parted?.as_slice())?;
+    let whole = text_of(alloc, whole?.as_slice())?;
+    let parted = text_of(alloc, parted?.as_slice())?;
     Ok(whole == parted)
 }
 
@@ -86,11 +101,11 @@ fn nor_do_a_hundred_stops(rt: HostRuntime) -> Result<(), Fail> {
         let line = format!(in alloc; "J {number} ALLOC A.D{number} SPACE=(TRK,(5,5))\n")?;
         let asked = script(alloc, line.as_bytes())?;
         let (answers, next) = run_script(alloc, &asked, core);
-        let text = text_of(alloc, &asked, answers?.as_slice())?;
+        let text = text_of(alloc, answers?.as_slice())?;
         let start = number.saturating_sub(1).saturating_mul(5);
         let place = number.saturating_add(1);
         let wanted = format!(in alloc;
-            "1 {place} {place} J {number} A00 GRANTED\n  CLASS - SC1 - SG1\n  EXTENT VOL001 {start} 5\nEND 1 1\n"
+            "{place} {place}\nA00 GRANTED\n  CLASS - SC1 - SG1\n  EXTENT VOL001 {start} 5\n"
         )?;
         assert!(rt; text.as_slice() == wanted.as_bytes(), "{number}");
         core = next;
