@@ -12,8 +12,6 @@ mod repeats;
 #[cfg(test)]
 mod replies;
 #[cfg(test)]
-mod resuming;
-#[cfg(test)]
 mod running;
 #[cfg(test)]
 mod runs;
