@@ -142,8 +142,6 @@ static WHOLE: &[(&str, u8)] = &[
     ("UPDATE decks SET count = 0", 2),
     ("UPDATE decks SET count = 9223372036854775807", 2),
     ("DELETE FROM decks", 2),
-    ("DROP TABLE floors; DROP TABLE replies", 0),
-    ("DROP TABLE decks", 2),
     ("UPDATE decks SET bytes = x''", 3),
     ("UPDATE statuses SET kind = 1 WHERE kind = 0", 4),
     ("UPDATE statuses SET status = 1 WHERE kind = 1", 4),
