@@ -1,22 +1,103 @@
--- A run over a keeper that was made ready.
-use Rattle.std.proofs.Common.{◌≡◌, true, false, inl}
+-- What a run says of the keeper as the desk found it, said of the keeper as it was handed in.
+use Rattle.std.proofs.Common.{◌≡◌, ◌∙◌, true, false, None, Some, inl, inr}
+use Rattle.std.specs.Prelude.{ℕ, Option, IfSome}
+use Rattle.desk_common.specs.Causes.{Rose}
+use Rattle.desk_law.specs.State.{Opening}
 use Rattle.sms_base.specs.Observed.{Observed}
+use Rattle.sms_keeper.specs.Loading.{SameDamage, StaysDamaged}
+use Rattle.sms_keeper.specs.Tables.{AreSame}
 use Rattle.sms_keeper.specs.Told.{Stays}
-use Rattle.desk_law.specs.Records.{empty_opening}
-use Rattle.desk_calls.specs.Headline.{Keeping}
+use Rattle.sms_keeper.specs.declared.rows.Rows.{Rows}
+use Rattle.sms_keeper.specs.declared.keeper.Keeper.{Ghosts}
+use Rattle.sms_keeper.specs.declared.table.Table.{Table}
+use Rattle.sms_open.specs.Reopening.{IsOpened}
 use Rattle.desk_calls.specs.RunFault.{RunEnds, leaves_keeper}
 use Rattle.desk_calls.specs.declared.status.RunStatus.{RunStatus}
 use Rattle.desk_calls.specs.declared.status.RunStatus.TheVariants as runs
-use Rattle.db_calls.specs.DbEnds.{DbEnds}
-use Rattle.db_calls.specs.declared.status.DbStatus.TheVariants.{Ran}
+use Rattle.db_calls.specs.DbEnds.{DbEnds, HasStoreFault, IsUnopened, WasReopened, keeping_of}
+use Rattle.db_calls.specs.declared.status.DbStatus.{DbStatus}
+use Rattle.db_calls.specs.declared.status.DbStatus.TheVariants.{Ran, StoreFault, Store}
 
--- what a run says of the keeper as it was made ready is said of the keeper as it was handed in
-pub run_ends : (old new : Observed) (before mid after : Keeping) (status : RunStatus) → Stays before.told mid.told → mid.count ≡ before.count
-    → RunEnds empty_opening false 1 old new mid after status → (leaves_keeper status ≡ true → after ≡ mid) → DbEnds old new before after (Ran status)
-run_ends old new before mid after runs.Done tables count ends unrun = record { mid = mid; tables = tables; count = count; ends = ends; unrun = unrun }
-run_ends old new before mid after runs.BadWords tables count ends unrun = ends
-run_ends old new before mid after runs.ReadFault tables count ends unrun = record { mid = mid; tables = tables; count = count; ends = ends; unrun = unrun }
-run_ends old new before mid after runs.WriteFault tables count ends unrun = record { mid = mid; tables = tables; count = count; ends = ends; unrun = unrun }
-run_ends old new before mid after (runs.Script err) tables count ends unrun = record { mid = mid; tables = tables; count = count; ends = ends; unrun = unrun }
-run_ends old new before mid after runs.TooLong tables count ends unrun = record { mid = mid; tables = tables; count = count; ends = ends; unrun = unrun }
-run_ends old new before mid after runs.NoMemory tables count ends unrun = inl (record { mid = mid; tables = tables; count = count; ends = ends; unrun = unrun })
+-- the same tables, one after the other
+same_on : (a b c : Rows) → AreSame a b → AreSame b c → AreSame a c
+same_on a b c first second = record {
+  sets = λ dsn. first.sets dsn ∙ second.sets dsn;
+  replies = λ job number. first.replies job number ∙ second.replies job number;
+  decks = λ count. first.decks count ∙ second.decks count;
+  statuses = λ target. first.statuses target ∙ second.statuses target;
+  floors = λ job. first.floors job ∙ second.floors job;
+}
+
+-- what stays twice stays
+pub stays_on : (a b c : Option Rows) → Stays a b → Stays b c → Stays a c
+stays_on a b None first second = tt
+stays_on a b (Some rows) first second =
+    let at : Stays a (Some second.0) = rw second.1 at first in
+    (at.0, at.1, same_on rows second.0 at.0 second.2 at.2)
+
+-- damage that is told behind both is the same
+pub same_damage_on : (a b c : Option (Table × ℕ)) → SameDamage a b → StaysDamaged b c → SameDamage a c
+same_damage_on None b c first second = tt
+same_damage_on (Some found) b None first second = tt
+same_damage_on (Some found) b (Some still) first second =
+    let at : SameDamage (Some found) (Some still) = rw second at first in at
+
+module _ {P : Type 0} (told_by : Ghosts P) (damage : P → Option (Table × ℕ)) where
+  -- a run over a desk that was opened
+  pub run_ends : (old new : Observed) (before mid after : P) (o : Opening) (status : RunStatus) → IsOpened (told_by.told mid) o → damage mid ≡ None
+      → Stays (told_by.told before) (told_by.told mid) → told_by.count mid ≡ told_by.count before
+      → RunEnds o false 1 old new (keeping_of told_by mid) (keeping_of told_by after) status → (leaves_keeper status ≡ true → after ≡ mid) → DbEnds told_by damage old new before after (Ran status)
+  run_ends old new before mid after o runs.Done opened sound tables count ends unrun = record { mid = mid; opening = o; opened = opened; undamaged = sound; tables = tables; count = count; ends = ends; unrun = unrun }
+  run_ends old new before mid after o runs.BadWords opened sound tables count ends unrun = ends
+  run_ends old new before mid after o runs.ReadFault opened sound tables count ends unrun = record { mid = mid; opening = o; opened = opened; undamaged = sound; tables = tables; count = count; ends = ends; unrun = unrun }
+  run_ends old new before mid after o runs.WriteFault opened sound tables count ends unrun = record { mid = mid; opening = o; opened = opened; undamaged = sound; tables = tables; count = count; ends = ends; unrun = unrun }
+  run_ends old new before mid after o (runs.Script err) opened sound tables count ends unrun =
+      record { mid = mid; opening = o; opened = opened; undamaged = sound; tables = tables; count = count; ends = ends; unrun = unrun }
+  run_ends old new before mid after o runs.TooLong opened sound tables count ends unrun = record { mid = mid; opening = o; opened = opened; undamaged = sound; tables = tables; count = count; ends = ends; unrun = unrun }
+  run_ends old new before mid after o runs.NoMemory opened sound tables count ends unrun =
+      inl (record { mid = mid; opening = o; opened = opened; undamaged = sound; tables = tables; count = count; ends = ends; unrun = unrun })
+
+  -- behind a making ready the same is said of the keeper before it
+
+  behind-reopened : (old new : Observed) (before ready after : P) (status : RunStatus) → Stays (told_by.told before) (told_by.told ready) → told_by.count ready ≡ told_by.count before
+      → WasReopened told_by damage old new ready after status → WasReopened told_by damage old new before after status
+  behind-reopened old new before ready after status tables count was = record {
+    mid = was.mid;
+    opening = was.opening;
+    opened = was.opened;
+    undamaged = was.undamaged;
+    tables = stays_on (told_by.told before) (told_by.told ready) (told_by.told was.mid) tables was.tables;
+    count = was.count ∙ count;
+    ends = was.ends;
+    unrun = was.unrun;
+  }
+
+  behind-unopened : (old new : Observed) (before ready after : P) → Stays (told_by.told before) (told_by.told ready) → told_by.count ready ≡ told_by.count before
+      → IsUnopened told_by damage old new ready after → IsUnopened told_by damage old new before after
+  behind-unopened old new before ready after tables count was = record {
+    unread = was.unread;
+    reads = was.reads;
+    read_faults = was.read_faults;
+    tables = stays_on (told_by.told before) (told_by.told ready) (told_by.told after) tables was.tables;
+    count = was.count ∙ count;
+  }
+
+  behind-fault : (before ready after : P) → Stays (told_by.told before) (told_by.told ready) → told_by.count ready ≡ told_by.count before
+      → HasStoreFault told_by damage ready after → HasStoreFault told_by damage before after
+  behind-fault before ready after tables count fault = record {
+    rose = rw count at fault.rose;
+    tables = stays_on (told_by.told before) (told_by.told ready) (told_by.told after) tables fault.tables;
+  }
+
+  pub behind_ready : (old new : Observed) (before ready after : P) (status : DbStatus) → Stays (told_by.told before) (told_by.told ready) → told_by.count ready ≡ told_by.count before
+      → DbEnds told_by damage old new ready after status → DbEnds told_by damage old new before after status
+  behind_ready old new before ready after (Ran runs.Done) tables count ends = behind-reopened old new before ready after runs.Done tables count ends
+  behind_ready old new before ready after (Ran runs.BadWords) tables count ends = ends
+  behind_ready old new before ready after (Ran runs.ReadFault) tables count ends = behind-reopened old new before ready after runs.ReadFault tables count ends
+  behind_ready old new before ready after (Ran runs.WriteFault) tables count ends = behind-reopened old new before ready after runs.WriteFault tables count ends
+  behind_ready old new before ready after (Ran (runs.Script err)) tables count ends = behind-reopened old new before ready after (runs.Script err) tables count ends
+  behind_ready old new before ready after (Ran runs.TooLong) tables count ends = behind-reopened old new before ready after runs.TooLong tables count ends
+  behind_ready old new before ready after (Ran runs.NoMemory) tables count (inl was) = inl (behind-reopened old new before ready after runs.NoMemory tables count was)
+  behind_ready old new before ready after (Ran runs.NoMemory) tables count (inr was) = inr (behind-unopened old new before ready after tables count was)
+  behind_ready old new before ready after StoreFault tables count ends = behind-fault before ready after tables count ends
+  behind_ready old new before ready after (Store err) tables count ends = behind-unopened old new before ready after tables count ends

@@ -3,14 +3,17 @@ ghost use Rattle.std.specs.Prelude.{◌≡◌};
 ghost use Rattle.db_calls.specs.DbEnds.{db_status_of};
 
 use desk_calls::RunStatus;
+use sms_open::OpenErr;
 
 /// How a run over a stored keeper ends; docs/script.md has the cause of each.
 #[derive(Clone, Copy, Debug, PartialEq, Eq)]
 pub enum DbStatus {
     /// As a run ends.
     Ran(RunStatus),
-    /// The keeper couldn't be made ready; nothing was run.
+    /// The keeper couldn't be made ready, or its tables couldn't be loaded; nothing was run.
     StoreFault,
+    /// No desk goes on from the keeper's tables: a row is damaged, or they fail a test. Nothing was run.
+    Store(OpenErr),
 }
 
 impl DbStatus {
@@ -21,6 +24,7 @@ impl DbStatus {
         match self {
             DbStatus::Ran(status) => status.code(),
             DbStatus::StoreFault => 10,
+            DbStatus::Store(_) => 11,
         }
     }
 }

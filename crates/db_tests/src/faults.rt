@@ -1,24 +1,12 @@
-//! Runs over a disk that fails, and what is found after them.
-use crate::flaky::Flaky;
-use crate::steps::{Step, change};
-use crate::tables::rows_of;
-use sms_keeper::{Keeper, Stored};
-use sms_sqlite::SqlKeeper;
-use sqlite::{Connection, Files, Options};
-use sqlite_disk::{Crash, Memory};
+//! Commits over a disk that fails, and what is found after them.
+use crate::failing_disks::{DiskStore, Disks, Failing, crashed, disks, disks_of, opened};
+use crate::keeping::{connection_of, is_ready, keeper_on};
+use crate::steps::{Step, is_committed};
+use crate::tables::{memory, rows_of};
+use sms_keeper::Stored;
+use sqlite::Connection;
 use std::alloc::Global;
 use std::test::Fail;
-
-/// Which calls fail: each from some call on, or that one alone.
-#[derive(Clone, Copy)]
-pub enum Failing {
-    LogForGood,
-    LogOnce,
-    FileForGood,
-    FileOnce,
-}
-
-type Disks = Files<Flaky<Memory>>;
 
 // The commits of a run.
 static COMMITS: &[Step] = &[
@@ -27,22 +15,8 @@ static COMMITS: &[Step] = &[
     Step::Floor("JOB1", 2),
 ];
 
-fn disk(alloc: Global, passes: u64, fails: u64) -> Flaky<Memory> {
-    Flaky::new(Memory::new(alloc), passes, fails)
-}
-
-fn sound(alloc: Global) -> Flaky<Memory> {
-    disk(alloc, 0, 0)
-}
-
-fn disks(alloc: Global, failing: Failing, passes: u64) -> Disks {
-    let (log, db) = match failing {
-        Failing::LogForGood => (disk(alloc, passes, u64::MAX), sound(alloc)),
-        Failing::LogOnce => (disk(alloc, passes, 1), sound(alloc)),
-        Failing::FileForGood => (sound(alloc), disk(alloc, passes, u64::MAX)),
-        Failing::FileOnce => (sound(alloc), disk(alloc, passes, 1)),
-    };
-    Files { log, db }
+fn is_wanted(wanted: &[bool], at: usize) -> bool {
+    wanted.get(at) == Some(&true)
 }
 
 // Makes the tables and the wanted commits. The answer is which of these were acknowledged, the tables first.
@@ -51,41 +25,35 @@ fn commit_all<K: Stored>(
     keeper: &mut K,
     wanted: &[bool],
 ) -> Result<Vec<bool>, Fail> {
-    let mut done = vec![in alloc; is_wanted(wanted, 0) && keeper.ready().is_ok()]?;
+    let mut done = vec![in alloc; is_wanted(wanted, 0) && is_ready(keeper)]?;
     for at in 0..COMMITS.len() {
         let number = at as u32 + 1;
-        let made = change(alloc, at as u64 + 1, number, COMMITS[at])?;
-        let is_asked = is_wanted(wanted, at.saturating_add(1)) && made.suits();
-        done.push(is_asked && keeper.commit(&made).is_ok())?;
+        let is_asked = is_wanted(wanted, at.saturating_add(1));
+        done.push(is_asked && is_committed(alloc, keeper, number, COMMITS[at])?)?;
     }
     Ok(done)
 }
 
-fn is_wanted(wanted: &[bool], at: usize) -> bool {
-    wanted.get(at) == Some(&true)
+fn commit_over(
+    alloc: Global,
+    connection: Connection<DiskStore>,
+) -> Result<(Vec<bool>, Disks), Fail> {
+    let mut keeper = keeper_on(alloc, connection);
+    let done = commit_all(alloc, &mut keeper, &[true; 4])?;
+    Ok((done, disks_of(connection_of(keeper))))
 }
 
 // What a run over these disks acknowledged, and the disks behind it.
 fn run(alloc: Global, disks: Disks) -> Result<(Vec<bool>, Disks), Fail> {
-    let whole = [true; 4];
-    if !disks.may_be_used() {
-        return Ok((vec![in alloc; false; 4]?, disks));
-    }
-    match Connection::open_files(alloc, disks, Options::new(7)) {
-        Ok(connection) => {
-            let mut keeper = SqlKeeper::new(alloc, connection);
-            let done = commit_all(alloc, &mut keeper, &whole)?;
-            Ok((done, keeper.into_connection().into_store().close()))
-        }
-        Err((_, left)) => Ok((vec![in alloc; false; 4]?, left.into_files())),
+    match opened(alloc, disks) {
+        Ok(connection) => commit_over(alloc, connection),
+        Err(disks) => Ok((vec![in alloc; false; 4]?, disks)),
     }
 }
 
 // The rows that are found after a stop at this moment.
-fn found(alloc: Global, mut disks: Disks) -> Result<Option<String>, Fail> {
-    disks.log.crash();
-    disks.db.crash();
-    match Connection::open_files(alloc, disks, Options::new(8)) {
+fn found(alloc: Global, disks: Disks) -> Result<Option<String>, Fail> {
+    match opened(alloc, crashed(disks)) {
         Ok(mut connection) => Ok(Some(rows_of(alloc, &mut connection)?)),
         Err(_) => Ok(None),
     }
@@ -93,10 +61,9 @@ fn found(alloc: Global, mut disks: Disks) -> Result<Option<String>, Fail> {
 
 // The rows that these changes leave on a disk that doesn't fail.
 fn expected(alloc: Global, done: &[bool]) -> Result<String, Fail> {
-    let connection = Connection::open_in_memory(alloc)?;
-    let mut keeper = SqlKeeper::new(alloc, connection);
+    let mut keeper = keeper_on(alloc, memory(alloc)?);
     let _done = commit_all(alloc, &mut keeper, done)?;
-    rows_of(alloc, &mut keeper.into_connection())
+    rows_of(alloc, &mut connection_of(keeper))
 }
 
 // The place behind the last change that was acknowledged.

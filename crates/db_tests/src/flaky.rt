@@ -26,6 +26,12 @@ impl<D: Disk> Flaky<D> {
             sync_refused: false,
         }
     }
+
+    /// Lets so many calls pass, and fail all behind them.
+    pub fn stop_behind(&mut self, passes: u64) {
+        self.passes = passes;
+        self.fails = u64::MAX;
+    }
 }
 
 // Counts a call, and fails where it is one of those that fail.

@@ -4,11 +4,21 @@
 #[cfg(test)]
 mod commits;
 #[cfg(test)]
+mod damage;
+#[cfg(test)]
+mod failing_disks;
+#[cfg(test)]
 mod faults;
 #[cfg(test)]
 mod files;
 #[cfg(test)]
 mod flaky;
+#[cfg(test)]
+mod keeping;
+#[cfg(test)]
+mod reopened;
+#[cfg(test)]
+mod running;
 #[cfg(test)]
 mod runs;
 #[cfg(test)]

@@ -1,20 +1,17 @@
 //! Runs of the top call over a database.
-ghost use Rattle.std.specs.Prelude.{IfSome};
-ghost use Rattle.sms_keeper.specs.Tables.{AreSame, no_rows};
-
-use crate::tables::counts;
-use db_calls::{DbStatus, database_asked, db_main};
+use crate::keeping::{connection_of, faults_of, keeper_on};
+use crate::running::{NAMED, is_done, run_on, run_with, words};
+use crate::tables::{batch, counts, memory};
+use db_calls::{DbStatus, database_asked};
 use desk_calls::RunStatus;
-use sms_base::{MemSink, MemSource, read_all};
-use sms_keeper::{FaultKeeper, Keeper, MemKeeper, Stored};
-use sms_sqlite::SqlKeeper;
-use sqlite::Connection;
+use sms_base::{MemSource, read_all};
+use sms_keeper::{FaultKeeper, MemKeeper, Stored};
+use sqlite::{Connection, MemStore};
 use std::alloc::Global;
 use std::test::Fail;
 
-const ROOM: usize = 20_000;
-
-const FIRST: &str = "SMSADMIN 1 ACTIVATE
+/// A deck with one volume of 100 tracks, and a data set.
+pub const FIRST: &str = "SMSADMIN 1 ACTIVATE
 version = 1
 [storclass.SC1]
 [storgroup.SG1.volume.VOL001]
@@ -25,7 +22,7 @@ storgroup = \"PROC STORGRP SET &STORGRP = 'SG1' END\"
 ./END
 ";
 
-const ALLOC: &str = "JOB1 1 ALLOC PAY.MASTER SPACE=(TRK,(10,5))
+pub const ALLOC: &str = "JOB1 1 ALLOC PAY.MASTER SPACE=(TRK,(10,5))
 ";
 
 const MORE: &str = "JOB1 1 ALLOC PAY.MASTER SPACE=(TRK,(10,5))
@@ -43,6 +40,13 @@ const ANSWERS: &str = "1 1 1 SMSADMIN 1 A04 ACTIVATED 1
 END 2 2
 ";
 
+/// The answer to ALLOC behind a stop: what was kept, with a place of its own.
+const AGAIN_ANSWERS: &str = "1 3 2 JOB1 1 A00 GRANTED
+  CLASS - SC1 - SG1
+  EXTENT VOL001 0 10
+END 1 1
+";
+
 const MORE_ANSWERS: &str = "1 1 1 SMSADMIN 1 A04 ACTIVATED 1
 10 2 2 JOB1 1 A00 GRANTED
   CLASS - SC1 - SG1
@@ -57,81 +61,111 @@ const MORE_ANSWERS: &str = "1 1 1 SMSADMIN 1 A04 ACTIVATED 1
 END 7 7
 ";
 
-fn words(alloc: Global, list: &[&str]) -> Result<Vec<String>, Fail> {
-    let mut words = Vec::new(alloc);
-    for word in list {
-        words.push(String::from_str(alloc, word)?)?;
-    }
-    Ok(words)
-}
-
-fn script(alloc: Global, rest: &str) -> Result<MemSource, Fail> {
-    let mut bytes = FIRST.as_bytes().to_vec(alloc)?;
-    bytes.extend_from_slice(rest.as_bytes())?;
-    Ok(MemSource::new(bytes, 16, Vec::new(alloc)))
-}
-
-fn sink(alloc: Global) -> Result<MemSink, Fail> {
-    Ok(MemSink::new(vec![in alloc; 0; ROOM]?, 7, Vec::new(alloc)))
-}
-
-// Whether `run --db X` over a database in memory answers so, and leaves so many rows.
+// Whether a new database answers the deck and the rest of the script so, and has so many rows then.
 fn answers(alloc: Global, rest: &str, wanted: &str, rows: [i64; 5]) -> Result<bool, Fail> {
-    let words = words(alloc, &["run", "--db", "X"])?;
-    let mut src = script(alloc, rest)?;
-    let mut out = sink(alloc)?;
-    let keeper = SqlKeeper::new(alloc, Connection::open_in_memory(alloc)?);
-    let (status, keeper) = db_main(alloc, &words, &mut src, &mut out, keeper);
-    let mut good = status == DbStatus::Ran(RunStatus::Done) && status.code() == 0;
-    good &= out.taken() == wanted.as_bytes();
-    good &= keeper.faults() == 0;
-    let mut connection = keeper.into_connection();
-    good &= counts(&mut connection)? == rows;
-    Ok(good)
+    let script = format!(in alloc; "{FIRST}{rest}")?;
+    let (status, run, keeper) = run_on(alloc, &script, memory(alloc)?)?;
+    let good = is_done(status, &run, wanted) && status.code() == 0 && faults_of(&keeper) == 0;
+    Ok(good && has_counts(connection_of(keeper), rows)?)
 }
 
-// How a run over this keeper ends, with how much of the script is left and how much was written.
+fn has_counts(mut connection: Connection<MemStore>, rows: [i64; 5]) -> Result<bool, Fail> {
+    Ok(counts(&mut connection)? == rows)
+}
+
+fn left_in(alloc: Global, src: &mut MemSource) -> Result<usize, Fail> {
+    Ok(read_all(alloc, src, 20_000).ok().ok_or("left")?.len())
+}
+
+// Whether a run over this keeper ends so, with how much of the script is left, how much was written, and how many
+// faults were counted.
 fn ends<P: Stored>(
     alloc: Global,
     list: &[&str],
     keeper: P,
-) -> Result<(DbStatus, usize, usize, u64), Fail>
-    requires tables { IfSome (P.told keeper) (λ rows. AreSame rows no_rows) }
-{
-    let words = words(alloc, list)?;
-    let mut src = script(alloc, ALLOC)?;
-    let mut out = sink(alloc)?;
-    let (status, keeper) = db_main(alloc, &words, &mut src, &mut out, keeper);
-    let left = read_all(alloc, &mut src, ROOM).ok().ok_or("left")?;
-    Ok((status, left.len(), out.taken().len(), keeper.faults()))
+    wanted: (DbStatus, usize, usize, u64),
+) -> Result<bool, Fail> {
+    let script = format!(in alloc; "{FIRST}{ALLOC}")?;
+    let (status, mut run, keeper) = run_with(alloc, list, &script, keeper)?;
+    let (written, faults) = (run.out.taken().len(), faults_of(&keeper));
+    let left = left_in(alloc, &mut run.src)?;
+    Ok((status, left, written, faults) == wanted)
 }
 
-#[test]
-fn a_run_over_a_database_answers_as_one_in_memory(rt: HostRuntime) -> Result<(), Fail> {
-    let alloc = rt.alloc();
-    assert!(rt; answers(alloc, ALLOC, ANSWERS, [1, 2, 1, 2, 0])?);
-    assert!(rt; answers(alloc, MORE, MORE_ANSWERS, [1, 4, 1, 2, 1])?);
-    Ok(())
+// The database behind a run of this script, which is answered so.
+fn answered(
+    alloc: Global,
+    connection: Connection<MemStore>,
+    script: &str,
+    wanted: &str,
+) -> Result<Connection<MemStore>, Fail> {
+    let (status, run, keeper) = run_on(alloc, script, connection)?;
+    if !is_done(status, &run, wanted) {
+        return Err(Fail::from("answers"));
+    }
+    Ok(connection_of(keeper))
 }
 
-#[test]
-fn a_keeper_that_isnt_ready_ends_the_run(rt: HostRuntime) -> Result<(), Fail> {
-    let alloc = rt.alloc();
+// Whether a run over a database, and behind it a second over the same, are answered so.
+fn goes_on(alloc: Global) -> Result<bool, Fail> {
+    let script = format!(in alloc; "{FIRST}{ALLOC}")?;
+    let stopped = answered(alloc, memory(alloc)?, &script, ANSWERS)?;
+    let again = answered(alloc, stopped, ALLOC, AGAIN_ANSWERS)?;
+    has_counts(again, [1, 2, 1, 2, 0])
+}
+
+// The database behind a further run, which allocates the data set of this number.
+fn one_more(
+    alloc: Global,
+    connection: Connection<MemStore>,
+    number: u32,
+) -> Result<Connection<MemStore>, Fail> {
+    let (start, place) = (number.saturating_sub(1), number.saturating_add(1));
+    let script = format!(in alloc; "JOB1 {number} ALLOC A.D{number} SPACE=(TRK,1)\n")?;
+    let wanted = format!(in alloc;
+        "1 {place} {place} JOB1 {number} A00 GRANTED\n  CLASS - SC1 - SG1\n  EXTENT VOL001 {start} 1\nEND 1 1\n"
+    )?;
+    answered(alloc, connection, &script, &wanted)
+}
+
+// Whether a hundred runs over one database grant one track behind the other.
+fn goes_on_often(alloc: Global) -> Result<bool, Fail> {
+    let mut connection = answered(alloc, memory(alloc)?, FIRST, FIRST_ANSWER)?;
+    for number in 1..=100 {
+        connection = one_more(alloc, connection, number)?;
+    }
+    has_counts(connection, [100, 101, 1, 2, 0])
+}
+
+const FIRST_ANSWER: &str = "1 1 1 SMSADMIN 1 A04 ACTIVATED 1\nEND 1 1\n";
+
+// A database in which this was made.
+fn made(alloc: Global, sql: &str) -> Result<Connection<MemStore>, Fail> {
+    let mut connection = memory(alloc)?;
+    batch(&mut connection, sql)?;
+    Ok(connection)
+}
+
+// Whether a run over a database in which this was made ends so.
+fn ends_over(
+    alloc: Global,
+    sql: &str,
+    wanted: (DbStatus, usize, usize, u64),
+) -> Result<bool, Fail> {
+    let keeper = keeper_on(alloc, made(alloc, sql)?);
+    ends(alloc, NAMED, keeper, wanted)
+}
+
+// Whether a run whose keeper isn't ready ends so with the source unread, and another is done.
+fn ends_unready(alloc: Global) -> Result<bool, Fail> {
     let whole = FIRST.len().saturating_add(ALLOC.len());
-    let named: &[&str] = &["run", "--db", "X"];
+    let unready = (DbStatus::StoreFault, whole, 0, 1);
+    let done = (DbStatus::Ran(RunStatus::Done), 0, ANSWERS.len(), 0);
     let faulty = FaultKeeper::new(alloc, &[0])?;
-    let ended = ends(alloc, named, faulty)?;
-    assert!(rt; ended == (DbStatus::StoreFault, whole, 0, 1));
-    assert!(rt; ended.0.code() == 10);
-    let mut connection = Connection::open_in_memory(alloc)?;
-    let _made = connection.execute("CREATE TABLE floors (job TEXT) STRICT", &[])?;
-    let ended = ends(alloc, named, SqlKeeper::new(alloc, connection))?;
-    assert!(rt; ended == (DbStatus::StoreFault, whole, 0, 1));
-    let mut connection = Connection::open_in_memory(alloc)?;
-    let _made = connection.execute("CREATE TABLE notes (text TEXT) STRICT", &[])?;
-    let ended = ends(alloc, named, SqlKeeper::new(alloc, connection))?;
-    assert!(rt; ended == (DbStatus::Ran(RunStatus::Done), 0, ANSWERS.len(), 0));
-    Ok(())
+    let mut good = unready.0.code() == 10 && ends(alloc, NAMED, faulty, unready)?;
+    good &= ends_over(alloc, "CREATE TABLE floors (job TEXT) STRICT", unready)?;
+    good &= ends_over(alloc, "CREATE TABLE notes (text TEXT) STRICT", done)?;
+    Ok(good)
 }
 
 // Words that name no database.
@@ -145,17 +179,56 @@ static OTHERS: &[&[&str]] = &[
     &["run", "--db", "X", "--volumes"],
 ];
 
+// Whether these words name this database, or none.
+fn names(alloc: Global, list: &[&str], wanted: Option<&str>) -> Result<bool, Fail> {
+    let asked = words(alloc, list)?;
+    Ok(database_asked(&asked) == wanted)
+}
+
+// Whether the words name no database, and a run with them ends so.
+fn is_other(alloc: Global, list: &[&str]) -> Result<bool, Fail> {
+    let whole = FIRST.len().saturating_add(ALLOC.len());
+    let wanted = (DbStatus::Ran(RunStatus::BadWords), whole, 0, 0);
+    Ok(names(alloc, list, None)? && ends(alloc, list, MemKeeper::new(alloc), wanted)?)
+}
+
+fn are_others(alloc: Global) -> Result<bool, Fail> {
+    let mut good = names(alloc, &["run", "--db", "t.db"], Some("t.db"))?;
+    for list in OTHERS {
+        good &= is_other(alloc, list)?;
+    }
+    Ok(good)
+}
+
+#[test]
+fn a_run_over_a_database_answers_as_one_in_memory(rt: HostRuntime) -> Result<(), Fail> {
+    let alloc = rt.alloc();
+    let good = answers(alloc, ALLOC, ANSWERS, [1, 2, 1, 2, 0])?
+        && answers(alloc, MORE, MORE_ANSWERS, [1, 4, 1, 2, 1])?;
+    assert!(rt; good);
+    Ok(())
+}
+
+#[test]
+fn a_second_run_goes_on_where_the_first_ended(rt: HostRuntime) -> Result<(), Fail> {
+    assert!(rt; goes_on(rt.alloc())?);
+    Ok(())
+}
+
+#[test]
+fn a_database_is_reopened_a_hundred_times(rt: HostRuntime) -> Result<(), Fail> {
+    assert!(rt; goes_on_often(rt.alloc())?);
+    Ok(())
+}
+
+#[test]
+fn a_keeper_that_isnt_ready_ends_the_run(rt: HostRuntime) -> Result<(), Fail> {
+    assert!(rt; ends_unready(rt.alloc())?);
+    Ok(())
+}
+
 #[test]
 fn other_words_name_no_database(rt: HostRuntime) -> Result<(), Fail> {
-    let alloc = rt.alloc();
-    let whole = FIRST.len().saturating_add(ALLOC.len());
-    for list in OTHERS {
-        let asked = words(alloc, list)?;
-        assert!(rt; database_asked(&asked).is_none());
-        let ended = ends(alloc, list, MemKeeper::new(alloc))?;
-        assert!(rt; ended == (DbStatus::Ran(RunStatus::BadWords), whole, 0, 0));
-    }
-    let named = words(alloc, &["run", "--db", "t.db"])?;
-    assert!(rt; database_asked(&named) == Some("t.db"));
+    assert!(rt; are_others(rt.alloc())?);
     Ok(())
 }

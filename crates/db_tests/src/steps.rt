@@ -95,8 +95,8 @@ fn effect(alloc: Global, step: Step) -> Result<Effect, Fail> {
     }
 }
 
-/// The change with this place and this number of JOB1.
-pub fn change(alloc: Global, place: u64, number: u32, step: Step) -> Result<Change, Fail> {
+// The change with this place and this number of JOB1.
+fn change(alloc: Global, place: u64, number: u32, step: Step) -> Result<Change, Fail> {
     Ok(Change {
         place,
         request: request(alloc, number)?,
@@ -105,7 +105,14 @@ pub fn change(alloc: Global, place: u64, number: u32, step: Step) -> Result<Chan
     })
 }
 
-/// Whether the keeper takes the change and answers so.
+fn answer<K: Keeper>(keeper: &mut K, made: &Change) -> Option<Result<(), KeeperErr>> {
+    if made.suits() {
+        return Some(keeper.commit(made));
+    }
+    None
+}
+
+/// Whether the keeper answers the change so.
 pub fn answers<K: Keeper>(
     alloc: Global,
     keeper: &mut K,
@@ -115,5 +122,15 @@ pub fn answers<K: Keeper>(
     wanted: Result<(), KeeperErr>,
 ) -> Result<bool, Fail> {
     let made = change(alloc, place, number, step)?;
-    Ok(made.suits() && keeper.commit(&made) == wanted)
+    Ok(answer(keeper, &made) == Some(wanted))
+}
+
+/// Whether the keeper makes the change of this number at the place of this number.
+pub fn is_committed<K: Keeper>(
+    alloc: Global,
+    keeper: &mut K,
+    number: u32,
+    step: Step,
+) -> Result<bool, Fail> {
+    answers(alloc, keeper, u64::from(number), number, step, Ok(()))
 }

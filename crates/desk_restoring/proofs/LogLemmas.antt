@@ -1,5 +1,5 @@
 -- A log that gets floors and replies one by one.
-use Rattle.std.proofs.Common.{◌≡◌, ◌≤◌, ◌<◌, ℕ, ◌+◌, Bool, true, false, cond, List, [], ◌∷◌, ◌++◌, Option, None, Some, find, length, get_or, take, drop, refl, sym, ap, ◌∙◌, subst, arith, max}
+use Rattle.std.proofs.Common.{◌≡◌, ◌<◌, ℕ, ◌+◌, Bool, true, false, List, [], ◌∷◌, ◌++◌, Option, None, Some, find, length, get_or, take, drop, refl, sym, ap, ◌∙◌, subst, max}
 use Rattle.std.specs.Prelude.{◌&&◌, bytes_eq, nat_lt, option_map, if◌then◌else◌}
 use Rattle.std.specs.Option.{option_or}
 use Rattle.std.proofs.lemmas.List.{drop_more}
@@ -8,7 +8,7 @@ use Rattle.sms_construct.specs.declared.request.Request.{Request}
 use Rattle.sms_keeper.specs.declared.floor.Floor.{Floor}
 use Rattle.sms_keeper.specs.declared.kept_row.KeptRow.{KeptRow}
 use Rattle.sms_keeper.specs.declared.request_key.RequestKey.{RequestKey}
-use Rattle.sms_keeper.specs.Log.{LogView, floor_in, floor_with, is_open, kept_in, kept_with, key_of, same_key}
+use Rattle.sms_keeper.specs.Log.{LogView, floor_in, floor_with, is_open, kept_in, kept_with, same_key}
 use Rattle.sms_keeper.specs.Tables.{is_reply_of}
 use Rattle.desk_law.specs.Kept.{greatest_floor}
 use Rattle.desk_law.proofs.ByteLemmas.{same-bytes}

@@ -6,6 +6,8 @@ mod cases;
 #[cfg(test)]
 mod commands;
 #[cfg(test)]
+mod found_rows;
+#[cfg(test)]
 mod repeats;
 #[cfg(test)]
 mod replies;
@@ -17,5 +19,7 @@ mod runs;
 mod scripts;
 #[cfg(test)]
 mod shown;
+#[cfg(test)]
+mod spoils;
 #[cfg(test)]
 mod stepping;

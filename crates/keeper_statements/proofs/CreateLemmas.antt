@@ -1,5 +1,5 @@
 -- What CREATE TABLE makes.
-use Rattle.std.proofs.Common.{◌≡◌, ◌++◌, ◌||◌, ◌&&◌, ◌==◌, length, ℕ, Bool, List, [], ◌∷◌, codes, cond, not, true, false, Ok, Err, Result, Option, None, IsTrue, OnOk, refl, sym, ap, subst, ◌∙◌}
+use Rattle.std.proofs.Common.{◌≡◌, ◌++◌, ◌||◌, ◌&&◌, ◌==◌, length, ℕ, Bool, List, [], ◌∷◌, codes, cond, not, true, false, Ok, Err, Option, None, refl, sym, ap, subst, ◌∙◌}
 use Rattle.std.specs.List.{list_any}
 use Rattle.std.specs.Prelude.{is_some, slice_range}
 use Rattle.sqlite.specs.Table.{Table}
@@ -12,6 +12,7 @@ use Rattle.sqlite.specs.Does.{Tally, lacks_sequence}
 use Rattle.sqlite.specs.Effect.{Database}
 use Rattle.sqlite.specs.Listing.{understood, reads_listing, listing_schema, if_select, is_select}
 use Rattle.sqlite.specs.State.{State, Writes, Executes, ExecutesIn, text_of}
+use Rattle.sqlite_schema.specs.Names.{same_name}
 use Rattle.sqlite_ast.specs.declared.Statement.{Statement}
 use Rattle.sqlite_ast.specs.declared.Statement.TheVariants as written
 use Rattle.sqlite_ast.specs.declared.CreateTable.{CreateTable as Definition}
@@ -28,10 +29,12 @@ use Rattle.sqlite_resolve.specs.declared.error.CompileError.{CompileError}
 use Rattle.sqlite_resolve.specs.declared.error.CompileError.TheVariants.{NoSuchTable, Exists, Misuse, Unsupported}
 use Rattle.sqlite_tied.specs.Compute.{everything}
 use Rattle.sqlite.proofs.Callers.{IsPlain, command_of, statement_of, runs_as}
+use Rattle.keeper_statements.specs.declared.present.Present.{Present}
 use Rattle.keeper_statements.specs.Schema.{no_schema, desk_schema, sets_table, replies_table, decks_table, statuses_table, floors_table, with_sets, with_replies, with_decks, with_statuses, with_desk}
 use Rattle.keeper_statements.specs.Changes.{no_tables}
 use Rattle.keeper_statements.specs.Tables.{IsReady, IsKeyed, tables_in, bodies}
-use Rattle.keeper_statements.specs.Steps.{AreEmpty, HasMade, HasMadeDesk, HasMadeFirst, HasMadeLast, HasMadeTable, MakesTable, is_counted}
+use Rattle.keeper_statements.specs.Presence.{all_there, none_there, present_in}
+use Rattle.keeper_statements.specs.Steps.{HasMade, HasMadeFirst, HasMadeLast, HasMadeTable, MakesTable, Provides, RunsUnless, is_counted}
 use Rattle.keeper_statements.proofs.RowLemmas.{went, same_value}
 
 abbrev pub sets_text : List ℕ
@@ -222,38 +225,40 @@ creates text table making old new count never h uncounted =
       others = subst (λ (d : Database). KeepsRows before.tables old.now.trees d.trees) (sym now) made.others;
     }
 
--- where the tables are made, the text is none
-abbrev is_read : Result Compiled CompileError → Bool
-is_read (Ok c) = true
-is_read (Err e) = false
+-- a table that is made unless it is there
+provides : (text : List ℕ) (table : Table) → IsMaking text (record table { tree = 0 }) → (is_there : Bool) (old new : State) → table.is_counted ≡ false → RunsUnless is_there text old new
+    → Provides is_there table old.now new.now
+provides text table making is_there old new never h = record {
+  stays = h.stays;
+  made = λ missing. let it = h.ran missing in creates text table making old new it.0 never it.1;
+}
 
-not_read : is_read (understood desk_schema sets_text) ≡ false
-unfolding understood everything
-not_read = refl
-
-never_again : (old new : State) (count : ℕ) → old.now.schema ≡ desk_schema → Executes sets_text [] old new (Ok count) → ⊥
-unfolding ExecutesIn
-never_again old new count has h =
-    let read : is_read (understood desk_schema sets_text) ≡ true = ap (λ s. is_read (understood s sets_text)) (sym has) ∙ ap is_read h.1.is in
-    let both = sym not_read ∙ read in
-    absurd cc
-
-pub made_first : (a b c d : State) (m n o : ℕ) → Executes sets_text [] a b (Ok m) → Executes replies_text [] b c (Ok n) → Executes decks_text [] c d (Ok o) → HasMadeFirst a.now d.now
-made_first a b c d m n o h k l = record {
+pub made_first : (there : Present) (a b c d : State) → RunsUnless there.sets sets_text a b → RunsUnless there.replies replies_text b c → RunsUnless there.decks decks_text c d
+    → HasMadeFirst there a.now d.now
+made_first there a b c d h k l = record {
   one = b.now;
   two = c.now;
-  sets = creates sets_text sets_table sets_make a b m refl h;
-  replies = creates replies_text replies_table replies_make b c n refl k;
-  decks = creates decks_text decks_table decks_make c d o refl l;
-  free = λ has. never_again a b m has h;
+  sets = provides sets_text sets_table sets_make there.sets a b refl h;
+  replies = provides replies_text replies_table replies_make there.replies b c refl k;
+  decks = provides decks_text decks_table decks_make there.decks c d refl l;
 }
 
-pub made_last : (a b c : State) (m n : ℕ) → Executes statuses_text [] a b (Ok m) → Executes floors_text [] b c (Ok n) → HasMadeLast a.now c.now
-made_last a b c m n h k = record {
+pub made_last : (there : Present) (a b c : State) → RunsUnless there.statuses statuses_text a b → RunsUnless there.floors floors_text b c → HasMadeLast there a.now c.now
+made_last there a b c h k = record {
   one = b.now;
-  statuses = creates statuses_text statuses_table statuses_make a b m refl h;
-  floors = creates floors_text floors_table floors_make b c n refl k;
+  statuses = provides statuses_text statuses_table statuses_make there.statuses a b refl h;
+  floors = provides floors_text floors_table floors_make there.floors b c refl k;
 }
+
+desk_is_there : present_in desk_schema.tables ≡ all_there
+unfolding same_name
+desk_is_there = refl
+
+-- where the five are there, nothing changes
+pub desk_stays : (old new : Database) → HasMade (present_in old.schema.tables) old new → old.schema ≡ desk_schema → new ≡ old
+desk_stays old new made has =
+    let h : HasMade all_there old new = subst (λ there. HasMade there old new) (ap (λ (s : Schema). present_in s.tables) has ∙ desk_is_there) made in
+    h.last.floors.stays refl ∙ h.last.statuses.stays refl ∙ h.first.decks.stays refl ∙ h.first.replies.stays refl ∙ h.first.sets.stays refl
 
 keeps_front : (tables : List Table) (t : Table) (a b : Trees) → KeepsRows (tables ++ t ∷ []) a b → KeepsRows tables a b × (b t.tree ≡ a t.tree)
 keeps_front [] t a b keeps = (tt, keeps.0)
@@ -272,19 +277,32 @@ keeps_made table a b c one keeps =
 uncounted_then : (table : Table) (a b : Database) → table.is_counted ≡ false → is_counted a.schema ≡ false → HasMadeTable table a b → is_counted b.schema ≡ false
 uncounted_then table a b never none made = ap is_counted made.schema ∙ still_uncounted a.schema table never none
 
--- the five tables made, one behind the other
-module _ (a c : Database) (first : HasMadeFirst a c) (e : Database) (last : HasMadeLast c e) (none : is_counted a.schema ≡ false) where
+-- the tables that were made behind those of this schema have no rows
+record AreEmpty (schema : Schema) (trees : Trees) : Type 0 where
+  sets : trees (next_tree schema) ≡ []
+  replies : trees (next_tree (with_sets schema)) ≡ []
+  decks : trees (next_tree (with_replies schema)) ≡ []
+  statuses : trees (next_tree (with_decks schema)) ≡ []
+  floors : trees (next_tree (with_statuses schema)) ≡ []
+
+-- the five tables were made, without rows, behind those that were there
+record HasMadeDesk (old new : Database) : Type 0 where
+  schema : new.schema ≡ with_desk old.schema
+  empty : AreEmpty old.schema new.trees
+
+-- where none was there, the five tables are made, one behind the other
+module _ (a c : Database) (first : HasMadeFirst none_there a c) (e : Database) (last : HasMadeLast none_there c e) (none : is_counted a.schema ≡ false) where
   desk_made : HasMadeDesk a e
   desk_made =
-      let sets = first.sets none in
+      let sets = first.sets.made refl none in
       let none_1 = uncounted_then sets_table a first.one refl none sets in
-      let replies = first.replies none_1 in
+      let replies = first.replies.made refl none_1 in
       let none_2 = uncounted_then replies_table first.one first.two refl none_1 replies in
-      let decks = first.decks none_2 in
+      let decks = first.decks.made refl none_2 in
       let none_3 = uncounted_then decks_table first.two c refl none_2 decks in
-      let statuses = last.statuses none_3 in
+      let statuses = last.statuses.made refl none_3 in
       let none_4 = uncounted_then statuses_table c last.one refl none_3 statuses in
-      let floors = last.floors none_4 in
+      let floors = last.floors.made refl none_4 in
       let schema_1 : first.one.schema ≡ with_sets a.schema = sets.schema in
       let schema_2 : first.two.schema ≡ with_replies a.schema = replies.schema ∙ ap (λ s. created s replies_table) schema_1 in
       let schema_3 : c.schema ≡ with_decks a.schema = decks.schema ∙ ap (λ s. created s decks_table) schema_2 in
@@ -302,19 +320,16 @@ module _ (a c : Database) (first : HasMadeFirst a c) (e : Database) (last : HasM
           statuses = subst (λ s. e.trees (next_tree s) ≡ []) schema_3 keeps_4.1;
           floors = subst (λ s. e.trees (next_tree s) ≡ []) schema_4 floors.empty;
         };
-        others = keeps_1.0;
       }
-
-pub made_all : (a b c : Database) → HasMadeFirst a b → HasMadeLast b c → HasMade a c
-made_all a b c first last = record { desk = desk_made a b first c last; free = first.free }
 
 empty_keyed : (rows : List Row) → rows ≡ [] → IsKeyed rows
 empty_keyed rows none = subst IsKeyed (sym none) (tt, tt)
 
 -- made in a database without tables: they are ready, and without rows
-pub made_ready : (old new : Database) → HasMade old new → old.schema ≡ no_schema → IsReady new × (tables_in new.trees ≡ no_tables)
+pub made_ready : (old new : Database) → HasMade (present_in old.schema.tables) old new → old.schema ≡ no_schema → IsReady new × (tables_in new.trees ≡ no_tables)
 made_ready old new made has =
-    let desk = made.desk (ap is_counted has) in
+    let h : HasMade none_there old new = subst (λ there. HasMade there old new) (ap (λ (s : Schema). present_in s.tables) has) made in
+    let desk = desk_made old h.mid h.first new h.last (ap is_counted has) in
     let empty : AreEmpty no_schema new.trees = subst (λ s. AreEmpty s new.trees) has desk.empty in (
       record {
         schema = desk.schema ∙ ap with_desk has;

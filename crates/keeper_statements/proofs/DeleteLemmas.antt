@@ -1,5 +1,5 @@
 -- What a DELETE does to any rows.
-use Rattle.std.proofs.Common.{◌≡◌, ℕ, ℤ, Bool, ◌&&◌, not, List, [], ◌∷◌, Ok, None, Some, drop, length, map, filter, slice_get, refl, sym, ap, ap₂, subst, ◌∙◌, unwrap_or, Option}
+use Rattle.std.proofs.Common.{◌≡◌, ℕ, Bool, not, List, [], ◌∷◌, Ok, None, Some, length, filter, slice_get, refl, sym, ap, subst, ◌∙◌, unwrap_or, Option}
 use Rattle.std.specs.List.{list_all}
 use Rattle.std.proofs.lemmas.List.{length-map}
 use Rattle.sqlite.specs.declared.types.Value.TheVariants.{Null}
@@ -10,7 +10,7 @@ use Rattle.sqlite.specs.Command.TheVariants.{Delete}
 use Rattle.sqlite.specs.Edit.{edit_of}
 use Rattle.sqlite.specs.Rowids.TheVariants.{Given}
 use Rattle.sqlite.specs.Does.{Tally, Does, AtPlace, OnRows}
-use Rattle.sqlite.specs.Rows.{Written, Task}
+use Rattle.sqlite.specs.Rows.{Written}
 use Rattle.sqlite.specs.Table.{Table}
 use Rattle.sqlite.specs.Tree.{Trees}
 use Rattle.sqlite_trees.specs.Tree.{rowid}
@@ -20,7 +20,7 @@ use Rattle.sqlite.specs.Effect.{Database}
 use Rattle.sqlite.specs.Listing.{understood}
 use Rattle.sqlite.specs.State.{State, mode_of, Executes}
 use Rattle.sqlite_rules.specs.Calls.{ids_of}
-use Rattle.sqlite_rules.specs.Edit.{without_all, row_at, id_in}
+use Rattle.sqlite_rules.specs.Edit.{row_at, id_in}
 use Rattle.sqlite_rules.specs.Probe.{AreFound}
 use Rattle.sqlite_rules.proofs.ProbeLemmas.{found_rowids}
 use Rattle.sqlite.proofs.Callers.{statement_of, runs_as, one_step, command_of, IsPlain}

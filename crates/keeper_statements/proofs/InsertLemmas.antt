@@ -1,12 +1,11 @@
 -- What a plain INSERT does to any rows.
-use Rattle.std.proofs.Common.{◌≡◌, ℕ, ℤ, ◌/◌, ◌&&◌, Bool, true, false, not, List, [], ◌∷◌, ◌++◌, map, drop, length, Ok, None, Some, Option, slice_get, refl, sym, ap, ap₂, subst, ◌∙◌}
-use Rattle.sqlite.specs.declared.types.Value.TheVariants.{Null, Int}
+use Rattle.std.proofs.Common.{◌≡◌, ℕ, ◌/◌, ◌&&◌, Bool, true, false, not, List, [], ◌∷◌, map, drop, length, Ok, None, Some, Option, slice_get, refl, sym, ap, subst, ◌∙◌}
 use Rattle.sqlite.specs.Order.{Row}
-use Rattle.sqlite.specs.Term.{Term, lit, col}
+use Rattle.sqlite.specs.Term.{Term}
 use Rattle.sqlite.specs.Source.TheVariants.{Values}
 use Rattle.sqlite.specs.Command.TheVariants.{Insert}
-use Rattle.sqlite.specs.Edit.{edit_of, edited}
-use Rattle.sqlite_rules.specs.Edit.{next_rowid, numbered, is_taken, are_fresh, put_all}
+use Rattle.sqlite.specs.Edit.{edit_of}
+use Rattle.sqlite_rules.specs.Edit.{numbered, is_taken, are_fresh, put_all}
 use Rattle.sqlite.specs.Rowids.TheVariants.{Chosen}
 use Rattle.sqlite.specs.Does.{Tally, Does, AtPlace, OnRows}
 use Rattle.sqlite.specs.Rows.{Written, stamped}

@@ -9,5 +9,8 @@ pub mod TableLemmas
 pub mod MakesLemmas
 pub mod StayLemmas
 pub mod QueryLemmas
+pub mod OrderLemmas
+pub mod ReadTextLemmas
+pub mod ReadLemmas
 pub mod CreateLemmas
 pub mod StatementLemmas

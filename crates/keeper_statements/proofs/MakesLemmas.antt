@@ -1,17 +1,15 @@
 -- What each writing text makes of the tables.
-use Rattle.std.proofs.Common.{◌≡◌, ◌&&◌, ◌||◌, codes, ℕ, ℤ, Bool, true, false, not, cond, List, [], ◌∷◌, ◌++◌, map, filter, drop, length, Ok, None, Some, refl, sym, ap, ap₂, subst, ◌∙◌, inl, inr, arith}
+use Rattle.std.proofs.Common.{◌≡◌, ◌&&◌, ◌||◌, codes, ℕ, ℤ, Bool, true, false, not, List, [], ◌∷◌, ◌++◌, filter, drop, Ok, None, Some, refl, sym, ap, ap₂, ◌∙◌}
 use Rattle.std.specs.List.{list_all}
 use Rattle.std.proofs.lemmas.List.{map-append}
 use Rattle.sqlite.specs.declared.types.Value.TheVariants.{Null, Int, Text, Blob}
-use Rattle.sqlite.specs.Effect.{Database}
 use Rattle.sqlite.specs.Order.{Row}
 use Rattle.sqlite.specs.State.{State, Executes}
-use Rattle.sqlite.specs.Term.{Term, holds}
+use Rattle.sqlite.specs.Term.{holds}
 use Rattle.sqlite_value.specs.Order.{column}
 use Rattle.sqlite_value.specs.Keys.{first_key}
-use Rattle.sqlite_trees.specs.Tree.{put_row, rowid}
+use Rattle.sqlite_trees.specs.Tree.{put_row}
 use Rattle.sqlite_trees.proofs.ListLemmas.{filter-map}
-use Rattle.sqlite_rules.specs.Lists.{Has}
 use Rattle.sqlite_rules.specs.Edit.{next_rowid, is_taken}
 use Rattle.sqlite_rules.specs.Keys.{conflicts}
 use Rattle.keeper_statements.specs.Changes.{with_set, without_set, with_reply, without_below, with_deck, without_statuses, with_status, without_status, with_floor}
@@ -20,9 +18,8 @@ use Rattle.keeper_statements.specs.Steps.{Makes}
 use Rattle.keeper_statements.specs.Tables.{IsKeyed, IsReady, bodies, tables_in}
 use Rattle.keeper_statements.specs.Tests.{set_row, reply_row, deck_row, status_row, floor_row, is_of, is_status, is_below, is_equal, is_less, without, HasFound}
 use Rattle.keeper_statements.proofs.TextLemmas as texts
-use Rattle.keeper_statements.proofs.RowLemmas.{put_next, keyed_next, bodies_next, keyed_filter, keyed_push, keyed_put, next_above, cast_null, cast_int}
-use Rattle.keeper_statements.proofs.FoundLemmas.{column_dropped, and_true, found_count, IsFound}
-use Rattle.keeper_statements.proofs.EditLemmas.{Edits}
+use Rattle.keeper_statements.proofs.RowLemmas.{keyed_next, bodies_next, keyed_filter, keyed_push, keyed_put, next_above, cast_null, cast_int}
+use Rattle.keeper_statements.proofs.FoundLemmas.{column_dropped, and_true, found_count}
 use Rattle.keeper_statements.proofs.InsertLemmas.{inserts, Puts}
 use Rattle.keeper_statements.proofs.ReplaceLemmas.{replaces, replaced}
 use Rattle.keeper_statements.proofs.DeleteLemmas.{removes, Removes}

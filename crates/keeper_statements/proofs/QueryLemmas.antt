@@ -1,13 +1,12 @@
 -- What the search for a higher floor finds.
-use Rattle.std.proofs.Common.{◌≡◌, ◌&&◌, ℕ, ℤ, Bool, true, false, not, List, [], ◌∷◌, map, drop, length, eqb, Ok, None, Some, refl, sym, ap, ap₂, subst, ◌∙◌, inl, inr, arith, ne_eqb, codes}
-use Rattle.std.proofs.lemmas.Bool.{false_from_ne_true}
+use Rattle.std.proofs.Common.{◌≡◌, ◌&&◌, ℕ, ℤ, Bool, true, false, not, List, [], ◌∷◌, drop, length, eqb, refl, sym, ap, ap₂, subst, ◌∙◌, inl, arith, ne_eqb, codes}
 use Rattle.std.specs.List.{list_all, list_any}
 use Rattle.sqlite.specs.declared.types.Value.TheVariants.{Null, Int, Text}
-use Rattle.sqlite.specs.Effect.{Database, Answers}
+use Rattle.sqlite.specs.Effect.{Answers}
 use Rattle.sqlite.specs.Order.{Row}
 use Rattle.sqlite.specs.Program.{overlay}
 use Rattle.sqlite.specs.Query.{IsAnswer}
-use Rattle.sqlite.specs.State.{State, Shown, IsUnchanged}
+use Rattle.sqlite.specs.State.{State, Shown}
 use Rattle.sqlite.specs.Term.{holds}
 use Rattle.sqlite.specs.Command.TheVariants.{Select}
 use Rattle.sqlite.specs.Listing.{understood}
@@ -67,10 +66,14 @@ above_found old new job number rows ready h =
         let some : list_any (is_above job number) (bodies (old.now.trees 8)) ≡ true = some_from (is_above job number) (bodies (old.now.trees 8)) (drop 1 hit.0) (mapped_has (drop 1) (old.now.trees 8) hit.0 hit.1) passes in
         cc))
 
-pub above_same : (old new : State) (job : List ℕ) (number : ℤ) (rows : List Row) → IsReady old.now → Shown texts.above_text (Text job ∷ Int number ∷ []) old new rows → new.now ≡ old.now
+-- a query changes nothing
+pub shown_same : (text : List ℕ) (params : Row) (old new : State) (rows : List Row) → old.now.schema ≡ desk_schema → IsPlain (understood desk_schema text) → Shown text params old new rows → new.now ≡ old.now
 unfolding Shown
-above_same old new job number rows ready h =
-    let known = sym h.1.is ∙ ap (λ s. understood s texts.above_text) ready.schema in
-    let bare = subst IsPlain (sym known) texts.above_plain in
+shown_same text params old new rows schema plain h =
+    let known = sym h.1.is ∙ ap (λ s. understood s text) schema in
+    let bare = subst IsPlain (sym known) plain in
     let it = rw bare.0 at h.2 in
     it.3.0.now_is
+
+pub above_same : (old new : State) (job : List ℕ) (number : ℤ) (rows : List Row) → IsReady old.now → Shown texts.above_text (Text job ∷ Int number ∷ []) old new rows → new.now ≡ old.now
+above_same old new job number rows ready h = shown_same texts.above_text (Text job ∷ Int number ∷ []) old new rows ready.schema texts.above_plain h

@@ -1,11 +1,12 @@
 -- What stays of a transaction after a statement, whatever it answers.
-use Rattle.std.proofs.Common.{◌≡◌, ℕ, true, List, Ok, Err, Result, Some, None, Option, IsTrue, inl, inr, refl, sym, ap, subst, ◌∙◌, cond, ◌⊎◌}
+use Rattle.std.proofs.Common.{ℕ, List, Ok, Err, Result, Some, None, Option, IsTrue, inl, inr, subst, ◌∙◌, cond, ◌⊎◌}
+use Rattle.std.specs.Prelude.{IfOk, IfErr}
 use Rattle.std.specs.Result.{IsErr}
 use Rattle.sqlite.specs.declared.error.Error.{Error}
 use Rattle.sqlite_resolve.specs.declared.compiled.Compiled.{Compiled}
 use Rattle.sqlite_schema.specs.declared.command.Returning.{Returning}
 use Rattle.sqlite.specs.Order.{Row}
-use Rattle.sqlite.specs.State.{State, ExecutesInside, IsUnchanged, IsRolledBack, Shows, Writes, FailsToQuery, FailsToShow, IsTooLate, Shown, ShowsRows, IsNotRun, RunsCommand, Fails}
+use Rattle.sqlite.specs.State.{State, ExecutesInside, IsUnchanged, IsRolledBack, Shows, FailsToQuery, FailsToShow, IsTooLate, Shown, ShowsRows, IsNotRun, RunsCommand, Fails}
 use Rattle.keeper_statements.specs.Steps.{StaysInside}
 
 -- nothing changed
@@ -61,3 +62,9 @@ query_ok_stays sql params old new x rows inside h = shows_stays sql h.0 _ old ne
 pub err_stays : {X Y : Type 0} (old new : State) (r : Result X Error) (e : Error) → IsErr r → StaysInside {X = Y} old new (Err e) → StaysInside old new r
 err_stays old new (Ok x) e is h = absurd cc
 err_stays old new (Err f) e is h = record { inside = tt; was_open = h.was_open; committed = h.committed }
+
+-- a query inside a transaction, whatever it answers
+pub query_stays : {X : Type 0} (sql : List ℕ) (params : Row) (old new : State) (r : Result X Error) (rows : X → List Row) → IsTrue old.in_transaction → IfOk r (λ x. Shown sql params old new (rows x))
+    → IfErr r (λ e. FailsToQuery sql params old new e ⊎ IsTooLate sql params old new e) → StaysInside old new r
+query_stays sql params old new (Ok x) rows inside ok err = query_ok_stays sql params old new x (rows x) inside ok
+query_stays sql params old new (Err e) rows inside ok err = query_err_stays sql params old new e err

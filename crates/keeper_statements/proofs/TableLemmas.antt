@@ -1,10 +1,9 @@
 -- A change of one table is a change of the tables.
-use Rattle.std.proofs.Common.{◌≡◌, ℕ, List, refl, sym, ap, ◌∙◌}
+use Rattle.std.proofs.Common.{◌≡◌, List, refl, ap, ◌∙◌}
 use Rattle.sqlite.specs.Effect.{Database}
 use Rattle.sqlite.specs.Order.{Row}
-use Rattle.keeper_statements.specs.Schema.{desk_schema}
 use Rattle.keeper_statements.specs.Steps.{Makes}
-use Rattle.keeper_statements.specs.Tables.{Tables, IsKeyed, IsReady, bodies, tables_in}
+use Rattle.keeper_statements.specs.Tables.{Tables, IsKeyed, IsReady, bodies}
 use Rattle.keeper_statements.proofs.EditLemmas.{Edits, apart, still_ready}
 
 abbrev tables_of : List Row → List Row → List Row → List Row → List Row → Tables

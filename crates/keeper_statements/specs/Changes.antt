@@ -1,6 +1,5 @@
 -- What each writing text does to the tables.
 use Rattle.std.specs.Prelude.{ℕ, ℤ, List, [], ◌∷◌, ◌++◌}
-use Rattle.sqlite.specs.Order.{Row}
 use Rattle.sqlite_trees.specs.Tree.{put_row}
 use Rattle.keeper_statements.specs.Tables.{Tables}
 use Rattle.keeper_statements.specs.Tests.{set_row, reply_row, deck_row, status_row, floor_row, is_of, is_status, is_below, without}

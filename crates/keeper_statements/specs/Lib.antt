@@ -1,5 +1,7 @@
 pub mod Schema
 pub mod Tables
 pub mod Tests
+pub mod Order
 pub mod Changes
+pub mod Presence
 pub mod Steps

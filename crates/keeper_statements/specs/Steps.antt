@@ -1,15 +1,15 @@
 -- What a statement does inside a transaction.
-use Rattle.std.specs.Prelude.{◌≡◌, Bool, false, [], Result, OnOk, IsTrue}
+use Rattle.std.specs.Prelude.{◌≡◌, ℕ, Bool, true, false, List, [], Result, Ok, OnOk, IsTrue}
 use Rattle.std.specs.List.{list_any}
 use Rattle.sqlite.specs.Effect.{Database}
-use Rattle.sqlite.specs.State.{State, HasCleanDisk}
+use Rattle.sqlite.specs.State.{State, Executes, HasCleanDisk}
 use Rattle.sqlite.specs.declared.error.Error.{Error}
 use Rattle.sqlite.specs.Schema.{Schema}
 use Rattle.sqlite.specs.Table.{Table}
-use Rattle.sqlite.specs.Tree.{Trees}
 use Rattle.sqlite_catalog.specs.Change.{KeepsRows, created, next_tree}
-use Rattle.keeper_statements.specs.Schema.{sets_table, replies_table, decks_table, statuses_table, floors_table, with_sets, with_replies, with_decks, with_statuses, with_desk, desk_schema}
+use Rattle.keeper_statements.specs.Schema.{sets_table, replies_table, decks_table, statuses_table, floors_table}
 use Rattle.keeper_statements.specs.Tables.{Tables, IsReady, tables_in}
+use Rattle.keeper_statements.specs.declared.present.Present.{Present}
 
 -- the statement made this change and no other
 pub record Makes (change : Tables → Tables) (old new : Database) : Type 0 where
@@ -43,36 +43,32 @@ pub record HasMadeTable (table : Table) (old new : Database) : Type 0 where
 abbrev pub MakesTable : Table → Database → Database → Type 0
 MakesTable table old new = is_counted old.schema ≡ false → HasMadeTable table old new
 
--- the tables of data sets, kept replies and decks were made, one behind the other
-pub record HasMadeFirst (old new : Database) : Type 0 where
+-- a table is provided: where it is there nothing changed, and where it isn't it was made
+pub record Provides (is_there : Bool) (table : Table) (old new : Database) : Type 0 where
+  pub stays : is_there ≡ true → new ≡ old
+  pub made : is_there ≡ false → MakesTable table old new
+
+-- a text that makes a table was run, unless the table is there
+pub record RunsUnless (is_there : Bool) (text : List ℕ) (old new : State) : Type 0 where
+  pub stays : is_there ≡ true → new.now ≡ old.now
+  pub ran : is_there ≡ false → (count : ℕ) × Executes text [] old new (Ok count)
+
+-- the tables of data sets, kept replies and decks are provided, one behind the other
+pub record HasMadeFirst (there : Present) (old new : Database) : Type 0 where
   pub one : Database
   pub two : Database
-  pub sets : MakesTable sets_table old one
-  pub replies : MakesTable replies_table one two
-  pub decks : MakesTable decks_table two new
-  pub free : old.schema ≡ desk_schema → ⊥
+  pub sets : Provides there.sets sets_table old one
+  pub replies : Provides there.replies replies_table one two
+  pub decks : Provides there.decks decks_table two new
 
--- the tables of statuses and floors were made, one behind the other
-pub record HasMadeLast (old new : Database) : Type 0 where
+-- the tables of statuses and floors are provided, one behind the other
+pub record HasMadeLast (there : Present) (old new : Database) : Type 0 where
   pub one : Database
-  pub statuses : MakesTable statuses_table old one
-  pub floors : MakesTable floors_table one new
+  pub statuses : Provides there.statuses statuses_table old one
+  pub floors : Provides there.floors floors_table one new
 
--- the tables that were made behind those of this schema have no rows
-pub record AreEmpty (schema : Schema) (trees : Trees) : Type 0 where
-  pub sets : trees (next_tree schema) ≡ []
-  pub replies : trees (next_tree (with_sets schema)) ≡ []
-  pub decks : trees (next_tree (with_replies schema)) ≡ []
-  pub statuses : trees (next_tree (with_decks schema)) ≡ []
-  pub floors : trees (next_tree (with_statuses schema)) ≡ []
-
--- the five tables were made, without rows, behind those that were there; these stay with their rows
-pub record HasMadeDesk (old new : Database) : Type 0 where
-  pub schema : new.schema ≡ with_desk old.schema
-  pub empty : AreEmpty old.schema new.trees
-  pub others : KeepsRows old.schema.tables old.trees new.trees
-
--- the five tables were made, and weren't there before
-pub record HasMade (old new : Database) : Type 0 where
-  pub desk : is_counted old.schema ≡ false → HasMadeDesk old new
-  pub free : old.schema ≡ desk_schema → ⊥
+-- each of the five tables that isn't there was made, without rows, behind those that were there, which stay with their rows
+pub record HasMade (there : Present) (old new : Database) : Type 0 where
+  pub mid : Database
+  pub first : HasMadeFirst there old mid
+  pub last : HasMadeLast there mid new

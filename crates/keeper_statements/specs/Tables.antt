@@ -1,5 +1,5 @@
 -- What the database holds in the five tables.
-use Rattle.std.specs.Prelude.{◌≡◌, ℕ, List, [], ◌∷◌, map, drop, IsTrue}
+use Rattle.std.specs.Prelude.{◌≡◌, List, map, drop, IsTrue}
 use Rattle.std.specs.List.{AllByRecursion}
 use Rattle.sqlite.specs.Effect.{Database}
 use Rattle.sqlite.specs.Order.{Row}

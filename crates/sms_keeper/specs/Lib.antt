@@ -3,3 +3,4 @@ pub mod Told
 pub mod Suits
 pub mod Faults
 pub mod Log
+pub mod Loading

@@ -1,5 +1,6 @@
 //! A keeper that fails where it is told to.
-ghost use Rattle.std.specs.Prelude.{◌≡◌, ◌≤◌, ◌↔◌, ◌++◌, ◌∷◌, [], Some, IfOk, OnOk, OnErr, IsErr, IsErrOf, Contains};
+ghost use Rattle.std.specs.Prelude.{◌≡◌, ◌≤◌, ◌↔◌, ◌++◌, ◌∷◌, [], Some, IfErr, IfOk, OnOk, OnErr, IsErr, IsErrOf, Contains};
+ghost use Rattle.sms_keeper.specs.Loading.{AreLoaded};
 ghost use Rattle.desk_common.specs.Causes.{Rose, counted};
 ghost use Rattle.sms_keeper.specs.Tables.{rows_after};
 ghost use Rattle.sms_keeper.specs.Faults.{faults_counted};
@@ -7,6 +8,7 @@ ghost use Rattle.sms_keeper.specs.Told.{Applies, Stays};
 
 use crate::change::Change;
 use crate::keeper::{Keeper, KeeperErr};
+use crate::load_err::LoadErr;
 use crate::mem_keeper::MemKeeper;
 use crate::rows::Rows;
 use crate::stored::Stored;
@@ -100,6 +102,10 @@ impl Keeper for FaultKeeper {
 }
 
 impl Stored for FaultKeeper {
+    ghost use Rattle.std.specs.Prelude.{None};
+
+    ghost damage = { λ k. None };
+
     fn ready(&mut self) -> Result<(), KeeperErr>
         ensures kept { Stays (Some (rows_after self.old.changes)) (Some (rows_after self.new.changes)) }
         ensures cause { IsErrOf result KeeperErr.Failed → Rose self.old.faults self.new.faults }
@@ -116,5 +122,16 @@ impl Stored for FaultKeeper {
             return self.fail();
         }
         Ok(())
+    }
+
+    fn load(&mut self) -> Result<Rows, LoadErr>
+        ensures loaded { IfOk result (AreLoaded (rows_after self.new.changes)) }
+        ensures kept { Stays (Some (rows_after self.old.changes)) (Some (rows_after self.new.changes)) }
+        ensures cause { IsErrOf result LoadErr.Failed → ⊥ }
+        ensures rises { self.old.faults ≤ self.new.faults }
+        ensures err { IfErr result (λ err. err ≡ LoadErr.NoMemory) }
+        ensures unchanged { self.new ≡ self.old }
+    {
+        self.inner.load()
     }
 }

@@ -1,10 +1,12 @@
 //! A keeper in memory.
-ghost use Rattle.std.specs.Prelude.{◌≡◌, ◌≤◌, ◌++◌, ◌∷◌, [], Some, IfOk, IsOk, OnOk, OnErr, IsErrOf};
+ghost use Rattle.std.specs.Prelude.{◌≡◌, ◌≤◌, ◌++◌, ◌∷◌, [], Some, IfErr, IfOk, IsOk, OnOk, OnErr, IsErrOf};
+ghost use Rattle.sms_keeper.specs.Loading.{AreLoaded};
 ghost use Rattle.sms_keeper.specs.Tables.{rows_after};
 ghost use Rattle.sms_keeper.specs.Told.{Applies, Stays};
 
 use crate::change::Change;
 use crate::keeper::{Keeper, KeeperErr};
+use crate::load_err::LoadErr;
 use crate::replay::Replay;
 use crate::rows::Rows;
 use crate::stored::Stored;
@@ -44,11 +46,26 @@ impl MemKeeper {
     pub fn rows(&self) -> Result<Rows, AllocError>
         ensures { IfOk result (λ rows. rows ≡ rows_after self.now) }
     {
+        Ok(self.replayed()?.into_rows())
+    }
+
+    // The tables, each in the order of its keys.
+    fn ordered_rows(&self) -> Result<Rows, AllocError>
+        ensures { IfOk result (AreLoaded (rows_after self.now)) }
+    {
+        let mut replay = self.replayed()?;
+        replay.sort()?;
+        Ok(replay.into_rows())
+    }
+
+    fn replayed(&self) -> Result<Replay, AllocError>
+        ensures { IfOk result (λ replay. replay ≡ rows_after self.now) }
+    {
         let mut replay = Replay::new(self.alloc);
         for change in &self.changes {
             replay.make(change)?;
         }
-        Ok(replay.into_rows())
+        Ok(replay)
     }
 
     fn push(&mut self, change: &Change) -> Result<(), AllocError>
@@ -91,6 +108,10 @@ impl Keeper for MemKeeper {
 }
 
 impl Stored for MemKeeper {
+    ghost use Rattle.std.specs.Prelude.{None};
+
+    ghost damage = { λ k. None };
+
     fn ready(&mut self) -> Result<(), KeeperErr>
         ensures kept { Stays (Some (rows_after self.old)) (Some (rows_after self.new)) }
         ensures cause { IsErrOf result KeeperErr.Failed → ⊥ }
@@ -99,5 +120,18 @@ impl Stored for MemKeeper {
         ensures unchanged { self.new ≡ self.old }
     {
         Ok(())
+    }
+
+    fn load(&mut self) -> Result<Rows, LoadErr>
+        ensures loaded { IfOk result (AreLoaded (rows_after self.new)) }
+        ensures kept { Stays (Some (rows_after self.old)) (Some (rows_after self.new)) }
+        ensures cause { IsErrOf result LoadErr.Failed → ⊥ }
+        ensures err { IfErr result (λ err. err ≡ LoadErr.NoMemory) }
+        ensures unchanged { self.new ≡ self.old }
+    {
+        match self.ordered_rows() {
+            Ok(rows) => Ok(rows),
+            Err(_) => Err(LoadErr::NoMemory),
+        }
     }
 }

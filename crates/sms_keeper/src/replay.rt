@@ -1,6 +1,7 @@
 //! The tables that a list of changes comes to.
 ghost use Rattle.std.specs.Prelude.{◌≡◌, ◌++◌, OnOk};
-ghost use Rattle.sms_keeper.specs.Tables.{no_rows, with_change, sets_with, statuses_with, decks_added, floors_with, keep_row, replies_left, row_of};
+ghost use Rattle.sms_keeper.specs.Loading.{AreOrdered};
+ghost use Rattle.sms_keeper.specs.Tables.{AreSame, no_rows, with_change, sets_with, statuses_with, decks_added, floors_with, keep_row, replies_left, row_of};
 
 use crate::change::Change;
 use crate::deck_row::DeckRow;
@@ -11,6 +12,7 @@ use crate::replaying::{
     add_deck, drop_replies, drop_set, is_below, put_floor, put_set, set_status,
 };
 use crate::rows::Rows;
+use crate::sorting::{sort_decks, sort_floors, sort_replies, sort_sets, sort_statuses};
 use crate::status_row::StatusRow;
 use desk_common::{Items, Shared};
 use sms_construct::{DataSet, Op};
@@ -108,6 +110,18 @@ impl Replay {
             Ok(()) => Ok(()),
             Err(_) => Err(AllocError),
         }
+    }
+
+    /// Puts each table in the order of its keys; where memory is wanting some are.
+    pub fn sort(&mut self) -> Result<(), AllocError>
+        ensures same { AreSame self.new self.old }
+        ensures ordered { OnOk result (AreOrdered self.new) }
+    {
+        sort_sets(&mut self.sets)?;
+        sort_replies(&mut self.replies)?;
+        sort_decks(&mut self.decks)?;
+        sort_statuses(&mut self.statuses)?;
+        sort_floors(&mut self.floors)
     }
 
     /// The tables.

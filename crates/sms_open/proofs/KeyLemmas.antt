@@ -9,7 +9,7 @@ use Rattle.std.specs.Ordering.{is_eq}
 use Rattle.std.proofs.lemmas.Cmp.{tied_itself}
 use Rattle.ordered_index.proofs.LookupLemmas.{eq-sym, lookup-by}
 use Rattle.sms_open.specs.Keys.{AreApart, AreAsOften, times_found, times_key}
-use Rattle.sms_open.specs.Targets.{number_in}
+use Rattle.sms_open.specs.Targets.{number_on}
 use Rattle.sms_open.specs.Verdicts.{Tells}
 use Rattle.sms_open.proofs.EachLemmas.{take-end, take-one}
 
@@ -134,7 +134,7 @@ put-in-place true number found = refl
 put-in-place false number found = refl
 
 pub number-put : (volser other : List ℕ) (number : ℕ) (old new : List (List ℕ × ℕ)) → lookup (bytes_eq other) new ≡ cond (bytes_eq volser other) (Some number) (lookup (bytes_eq other) old)
-    → number_in other new ≡ cond (bytes_eq volser other) number (number_in other old)
+    → number_on other new ≡ cond (bytes_eq volser other) number (number_on other old)
 number-put volser other number old new is = ap (λ (o : Option ℕ). unwrap_or o 0) is ∙ put-in-place (bytes_eq volser other) number (lookup (bytes_eq other) old)
 
 -- what a test of an answer says of it

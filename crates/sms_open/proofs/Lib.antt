@@ -9,3 +9,7 @@ pub mod VerdictLemmas
 pub mod SetLemmas
 pub mod StatusLemmas
 pub mod OpeningLemmas
+pub mod OwnDeckLemmas
+pub mod OwnReplyLemmas
+pub mod OwnLemmas
+mod ReopeningLemmas

@@ -35,13 +35,13 @@ on-test : (number : ℕ) (P : Type 0) (next : Result (Option Configuration) Rows
 on-test number P next active (inl bad) = absurd (let no = bad.1 in cc)
 on-test number P next active (inr good) = good
 
-record Passed (rows : Rows) (active : Option Configuration) : Type 0 where
-  single : AreSingle rows
-  counted : AreCounted rows
-  last : IsLastActive rows.decks active
-  statuses : AreStatusesOf active rows.statuses
-  placed : ArePlaced active rows.sets
-  replies : AreSoundReplies rows.replies rows.floors
+pub record Passed (rows : Rows) (active : Option Configuration) : Type 0 where
+  pub single : AreSingle rows
+  pub counted : AreCounted rows
+  pub last : IsLastActive rows.decks active
+  pub statuses : AreStatusesOf active rows.statuses
+  pub placed : ArePlaced active rows.sets
+  pub replies : AreSoundReplies rows.replies rows.floors
 
 ok-is : (a b : Option Configuration) (v : Result (Option Configuration) RowsErr) → v ≡ Ok a → v ≡ Ok b → b ≡ a
 ok-is a b v one other = cc
@@ -63,11 +63,15 @@ on-deck rows active single counted (inr (now, last, verdict)) =
       replies = six.0;
     }
 
-passed-all : (rows : Rows) (active : Option Configuration) → IsVerdict rows (Ok active) → Passed rows active
+pub passed-all : (rows : Rows) (active : Option Configuration) → IsVerdict rows (Ok active) → Passed rows active
 passed-all rows active verdict =
     let one = on-test 1 (AreSingle rows) (from_counts rows) active verdict in
     let two = on-test 2 (AreCounted rows) (from_deck rows) active one.1 in
     on-deck rows active one.0 two.0 two.1
+
+-- the verdict is what is configured
+pub passes-all : (rows : Rows) (active : Option Configuration) → Passed rows active → IsVerdict rows (Ok active)
+passes-all rows active p = inr (p.single, inr (p.counted, inr (active, p.last, inr (p.statuses, inr (p.placed, inr (p.replies, refl))))))
 
 -- The configuration.
 
@@ -76,7 +80,7 @@ configured-is [] active is = subst (λ (o : Option Configuration). IfSome o IsCo
 configured-is (deck ∷ []) active is = subst (λ (o : Option Configuration). IfSome o IsConfiguration) (sym is.active_is) (configured is.configures)
 configured-is (deck ∷ next ∷ decks) active is = configured-is (next ∷ decks) active is
 
-lawful : (rows : Rows) (active : Option Configuration) → Passed rows active → IsLawful (start_of (opening_of rows active))
+pub lawful : (rows : Rows) (active : Option Configuration) → Passed rows active → IsLawful (start_of (opening_of rows active))
 lawful rows active p = record {
   sets = p.placed.each;
   once = p.placed.once;
@@ -228,7 +232,7 @@ sound-at rows active few p = record {
   decks_fit = few;
 }
 
-decked-at : (rows : Rows) (active : Option Configuration) → Passed rows active → IsDecked rows.decks (start_of (opening_of rows active))
+pub decked-at : (rows : Rows) (active : Option Configuration) → Passed rows active → IsDecked rows.decks (start_of (opening_of rows active))
 decked-at rows active p = record { counted = refl; numbered = p.counted.in_order; last = p.last }
 
 -- rows that pass are a sound opening

@@ -10,13 +10,13 @@ use Rattle.track_ledger.specs.Extents.{LiesInside}
 use Rattle.desk_law.specs.Extents.{piece_of, pieces_on}
 use Rattle.desk_law.specs.Lawful.{IsInside, IsLawfulSet, IsWhole, LiesInPart}
 use Rattle.sms_open.specs.Meeting.{HasTracks}
-use Rattle.sms_open.specs.Targets.{AreTracks, number_in}
+use Rattle.sms_open.specs.Targets.{AreTracks, number_on}
 use Rattle.sms_open.specs.Verdicts.{Tells}
 use Rattle.sms_open.proofs.NameLemmas.{told-alike}
 
 -- as the numbers say it
 abbrev pub AreIn : List (List ℕ × ℕ) → List Extent → Type 0
-AreIn tracks extents = AllByRecursion (λ extent. LiesInside (number_in extent.volser tracks) (piece_of extent)) extents
+AreIn tracks extents = AllByRecursion (λ extent. LiesInside (number_on extent.volser tracks) (piece_of extent)) extents
 
 pub inside-from : (volumes : List VolumeDef) (tracks : List (List ℕ × ℕ)) → AreTracks volumes tracks → (es : List Extent) → AreIn tracks es → AllByRecursion (IsInside volumes) es
 inside-from volumes tracks known [] all = tt

@@ -16,7 +16,7 @@ use Rattle.sms_open.specs.Tests.{AreStatusesOf}
 use Rattle.sms_open.specs.Verdicts.{Tells}
 use Rattle.sms_open.proofs.NameLemmas.{told-alike}
 
-own-target : (t : Target) → same_target t t ≡ true
+pub own-target : (t : Target) → same_target t t ≡ true
 own-target (targets.Group n) = bytes-self n
 own-target (targets.Volume n) = bytes-self n
 own-target (targets.Set n) = bytes-self n
@@ -73,7 +73,7 @@ statuses-told r active rows connected told = told-alike _ _ r (λ each. record {
 
 -- without a configuration there is none
 
-no-target : (target : Target) → times_target None target ≡ 0
+pub no-target : (target : Target) → times_target None target ≡ 0
 no-target (targets.Group name) = refl
 no-target (targets.Volume volser) = refl
 no-target (targets.Set dsn) = refl

@@ -61,7 +61,7 @@ one-active (deck ∷ []) active other a b = a.active_is ∙ (ap Some (one_config
 one-active (deck ∷ next ∷ decks) active other a b = one-active (next ∷ decks) active other a b
 
 -- and has no fault then
-not-both : (decks : List DeckRow) (active : Option Configuration) → IsLastActive decks active → HasLastFault decks → ⊥
+pub not-both : (decks : List DeckRow) (active : Option Configuration) → IsLastActive decks active → HasLastFault decks → ⊥
 not-both [] active a fault = fault
 not-both (deck ∷ []) active a fault = never_both a.configures fault.1
 not-both (deck ∷ next ∷ decks) active a fault = not-both (next ∷ decks) active a fault
@@ -94,7 +94,7 @@ from_deck rows = Configured 3 rows.decks (from_statuses rows)
 abbrev pub from_counts : Rows → Result (Option Configuration) RowsErr → Type 0
 from_counts rows = Tested 2 (AreCounted rows) (from_deck rows)
 
-one-verdict : (rows : Rows) (v w : Result (Option Configuration) RowsErr) → IsVerdict rows v → IsVerdict rows w → v ≡ w
+pub one-verdict : (rows : Rows) (v w : Result (Option Configuration) RowsErr) → IsVerdict rows v → IsVerdict rows w → v ≡ w
 one-verdict rows v w =
     one-tested 1 (AreSingle rows) (from_counts rows) v w
     (one-tested 2 (AreCounted rows) (from_deck rows) v w

@@ -1,4 +1,4 @@
--- What keys rows have, and which sizes volumes.
+-- The keys of replies and of statuses, and a number for each volume, as that of its tracks.
 use Rattle.std.specs.Prelude.{ℕ, Bool, true, false, ◌≡◌, List, Option, None, Some, bytes_eq}
 use Rattle.std.specs.Map.{lookup}
 use Rattle.std.specs.Option.{unwrap_or}
@@ -32,9 +32,9 @@ is_set (targets.Volume volser) = false
 is_set (targets.Set dsn) = true
 
 -- the number of a volume, 0 where it has none
-abbrev pub number_in : List ℕ → List (List ℕ × ℕ) → ℕ
-number_in volser numbers = unwrap_or (lookup (bytes_eq volser) numbers) 0
+abbrev pub number_on : List ℕ → List (List ℕ × ℕ) → ℕ
+number_on volser numbers = unwrap_or (lookup (bytes_eq volser) numbers) 0
 
 -- the number of each volume is that of its tracks
 abbrev pub AreTracks : List VolumeDef → List (List ℕ × ℕ) → Type 0
-AreTracks volumes tracks = (volser : List ℕ) → number_in volser tracks ≡ tracks_of volser volumes
+AreTracks volumes tracks = (volser : List ℕ) → number_on volser tracks ≡ tracks_of volser volumes

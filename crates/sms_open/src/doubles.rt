@@ -1,4 +1,4 @@
-//! Test 1: what stands twice among rows.
+//! What stands twice among rows: names, numbers and jobs, which test 1 asks, and places, which test 6 asks.
 ghost use Rattle.std.specs.Prelude.{◌≡◌, ◌≤◌, ℕ, List, IfOk, map};
 ghost use Rattle.desk_law.specs.KeptRows.{times_placed};
 ghost use Rattle.desk_law.specs.Lawful.{times_named};

@@ -1,6 +1,6 @@
 //! A number for each volume.
 ghost use Rattle.std.specs.Prelude.{◌≡◌, ℕ, List, OnOk, if◌then◌else◌, bytes_eq};
-ghost use Rattle.sms_open.specs.Targets.{number_in};
+ghost use Rattle.sms_open.specs.Targets.{number_on};
 
 use dsn_mask::Volser;
 use ordered_index::OrderedIndex;
@@ -24,7 +24,7 @@ impl Model for Numbers {
 impl Numbers {
     /// Each number is 0. It takes no memory.
     pub fn new(alloc: Global) -> Self
-        ensures { (volser : List ℕ) → number_in volser result ≡ 0 }
+        ensures { (volser : List ℕ) → number_on volser result ≡ 0 }
     {
         Numbers {
             numbers: OrderedIndex::new(alloc),
@@ -33,14 +33,14 @@ impl Numbers {
 
     /// The number of a volume. It takes no memory.
     pub fn get(&self, volser: &Volser) -> u32
-        ensures { result ≡ number_in volser.now self.now }
+        ensures { result ≡ number_on volser.now self.now }
     {
         self.numbers.get(volser).copied().unwrap_or(0)
     }
 
     /// Puts the number of a volume in place of the old one; or want of memory.
     pub fn put(&mut self, volser: Volser, number: u32) -> Result<(), AllocError>
-        ensures { OnOk result ((other : List ℕ) → number_in other self.new ≡ (if bytes_eq volser other then number else number_in other self.old)) }
+        ensures { OnOk result ((other : List ℕ) → number_on other self.new ≡ (if bytes_eq volser other then number else number_on other self.old)) }
     {
         self.numbers.reserve()?;
         self.numbers.put(volser, number);

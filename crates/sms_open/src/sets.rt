@@ -7,7 +7,7 @@ ghost use Rattle.desk_common.specs.Limits.{most_extents};
 ghost use Rattle.desk_law.specs.Extents.{piece_of, pieces_on};
 ghost use Rattle.desk_law.specs.Lawful.{IsLawfulSet, IsManaged, IsWhole, LiesInPart};
 ghost use Rattle.desk_law.specs.Volumes.{volumes_in};
-ghost use Rattle.sms_open.specs.Targets.{AreTracks, number_in};
+ghost use Rattle.sms_open.specs.Targets.{AreTracks, number_on};
 ghost use Rattle.sms_open.specs.Tests.{ArePlaced};
 ghost use Rattle.sms_open.specs.Verdicts.{Tells};
 
@@ -59,7 +59,7 @@ fn are_in_part(extents: &[Extent]) -> bool
 }
 
 fn is_inside(tracks: &Numbers, extent: &Extent) -> bool
-    ensures { Tells (LiesInside (number_in extent.now.volser tracks.now) (piece_of extent.now)) result }
+    ensures { Tells (LiesInside (number_on extent.now.volser tracks.now) (piece_of extent.now)) result }
 {
     if extent.length == 0 {
         return false;
@@ -68,7 +68,7 @@ fn is_inside(tracks: &Numbers, extent: &Extent) -> bool
 }
 
 fn are_inside(tracks: &Numbers, extents: &[Extent]) -> bool
-    ensures { Tells (AllByRecursion (λ extent. LiesInside (number_in extent.volser tracks.now) (piece_of extent)) extents.now) result }
+    ensures { Tells (AllByRecursion (λ extent. LiesInside (number_on extent.volser tracks.now) (piece_of extent)) extents.now) result }
 {
     for extent in extents {
         if !is_inside(tracks, extent) {
@@ -96,7 +96,7 @@ fn count_few(alloc: Global, extents: &[Extent]) -> Result<bool, AllocError>
 fn are_few(alloc: Global, extents: &[Extent]) -> Result<bool, AllocError>
     ensures { IfOk result (Tells ((volser : List ℕ) → length (pieces_on volser extents.now) ≤ most_extents)) }
 {
-    if extents.len() <= 16 {
+    if extents.len() <= MOST_EXTENTS as usize {
         return Ok(true);
     }
     count_few(alloc, extents)

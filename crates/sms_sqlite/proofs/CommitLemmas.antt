@@ -8,8 +8,8 @@ use Rattle.sqlite.specs.declared.error.Error.{Error}
 use Rattle.sms_keeper.specs.Tables.{with_change, keep_row, row_of, no_rows}
 use Rattle.sms_keeper.specs.declared.change.Change.{Change}
 use Rattle.sms_keeper.specs.declared.rows.Rows.{Rows}
-use Rattle.keeper_statements.proofs.CreateLemmas.{made_ready}
-use Rattle.keeper_statements.specs.Steps.{HasMade}
+use Rattle.keeper_statements.proofs.CreateLemmas.{desk_stays, made_ready}
+use Rattle.sms_sqlite.specs.Reading.{IsMadeReady}
 use Rattle.sms_sqlite.specs.Told.{tables_of, is_new}
 use Rattle.sms_sqlite.specs.Values.{rows_in, rows_of}
 use Rattle.sms_sqlite.specs.Writing.{Holds, HoldsLike, AreAlike, HasRows, IsAsBefore, IsCommitted, IsSettled, with_effect, with_row}
@@ -28,9 +28,9 @@ commit_made last end rows (Ok x) holds shown = record {
 commit_made last end rows (Err e) holds shown = tt
 
 -- the tables made in the last state are committed
-pub made_committed : (old : Database) (last end : State) (done : Result (Unit {0}) Error) → HasMade old last.now
-    → OnOk done (IsTrue last.in_transaction × Shows last end last.now last.now false × KeepsCounts last end × (end.marks ≡ [])) → OnOk done (HasMade old end.now)
-made_committed old last end (Ok x) made shown = subst (HasMade old) (sym shown.1.now_is) made
+pub made_committed : (old : Database) (last end : State) (done : Result (Unit {0}) Error) → IsMadeReady old last.now
+    → OnOk done (IsTrue last.in_transaction × Shows last end last.now last.now false × KeepsCounts last end × (end.marks ≡ [])) → OnOk done (IsMadeReady old end.now)
+made_committed old last end (Ok x) made shown = subst (IsMadeReady old) (sym shown.1.now_is) made
 made_committed old last end (Err e) made shown = tt
 
 -- committed and open: a stop leaves that alone
@@ -67,9 +67,9 @@ both_made change mid new rows first second =
     let next = second first.found first.holds in
     record { found = next.found; holds = next.holds; alike = alike_then _ _ _ next.alike (row_alike change first.found (with_effect change rows) first.alike) }
 
--- the tables were made: what was told stands
-pub made_like : (old new : Database) (rows : Rows) → HasMade old new → tables_of old ≡ Some rows → HoldsLike new rows
-made_like old new rows made told = by (is_new old) refl
+-- the tables that weren't there were made: what was told stands
+pub ready_like : (old new : Database) (rows : Rows) → IsMadeReady old new → tables_of old ≡ Some rows → HoldsLike new rows
+ready_like old new rows made told = by (is_new old) refl
   where
     by : (b : Bool) → is_new old ≡ b → HoldsLike new rows
     by true is =
@@ -81,7 +81,10 @@ made_like old new rows made told = by (is_new old) refl
           holds = record { ready = fresh.0; read = ap rows_of fresh.1 ∙ ap (λ (r : Rows). some r) none };
           alike = alike_self rows;
         }
-    by false is = absurd (made.free (holds_of old rows is told).ready.schema)
+    by false is =
+        let holds = holds_of old rows is told in
+        let same = desk_stays old new made holds.ready.schema in
+        subst (λ db. HoldsLike db rows) (sym same) (record { found = rows; holds = holds; alike = alike_self rows })
 
 pub survives_weaker : (old new : State) (P Q : Trees → Type 0) → ((db : Trees) → P db → Q db) → Survives old new P → Survives old new Q
 survives_weaker old new P Q f s = record {

@@ -8,4 +8,6 @@ pub mod TablesLemmas
 pub mod WriteLemmas
 pub mod LeadLemmas
 pub mod ToldLemmas
+pub mod LoadLemmas
+pub mod TableLemmas
 pub mod CommitLemmas

@@ -1,7 +1,6 @@
 -- The tables, part by part.
 use Rattle.std.proofs.Common.{◌≡◌, List, Some, refl, ap, ◌∙◌}
 use Rattle.sqlite.specs.Effect.{Database}
-use Rattle.sqlite.specs.Order.{Row}
 use Rattle.sms_construct.specs.declared.data_set.DataSet.{DataSet}
 use Rattle.sms_keeper.specs.declared.deck_row.DeckRow.{DeckRow}
 use Rattle.sms_keeper.specs.declared.floor.Floor.{Floor}

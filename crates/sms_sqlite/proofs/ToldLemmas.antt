@@ -1,5 +1,5 @@
 -- What is told of a database before and after a transaction.
-use Rattle.std.proofs.Common.{◌≡◌, ◌≤◌, ◌&&◌, ℕ, Bool, true, false, cond, List, [], ◌∷◌, length, filter, Ok, Err, Result, OnOk, OnErr, Some, None, Option, IsTrue, refl, sym, ap, subst, ◌∙◌, arith, inl, inr, Ordering, Less, Equal, Greater, is_lt}
+use Rattle.std.proofs.Common.{◌≡◌, ◌≤◌, ◌&&◌, ℕ, Bool, true, false, cond, List, [], ◌∷◌, length, filter, Ok, Err, Result, OnOk, OnErr, Some, None, Option, IsTrue, refl, sym, ap, subst, ◌∙◌, arith, Ordering, Less, Equal, Greater, is_lt}
 use Rattle.std.specs.Prelude.{IfSome, is_some}
 use Rattle.std.specs.List.{AllByRecursion, list_all}
 use Rattle.sqlite.specs.Effect.{Database}
@@ -19,7 +19,7 @@ use Rattle.sms_keeper.specs.declared.change.Change.{Change}
 use Rattle.sms_keeper.specs.declared.rows.Rows.{Rows}
 use Rattle.keeper_statements.specs.Schema.{no_schema, desk_schema}
 use Rattle.keeper_statements.specs.Tables.{IsKeyed, IsReady}
-use Rattle.sms_sqlite.specs.Told.{is_keyed, is_new, is_ready, tables_of, is_shown, told_of, IsReadable}
+use Rattle.sms_sqlite.specs.Told.{has_tables, is_keyed, is_new, is_ready, tables_of, is_shown, told_of, IsReadable}
 use Rattle.sms_sqlite.specs.Values.{rows_in}
 use Rattle.sms_sqlite.specs.Writing.{Holds, AreAlike, HasRows, IsCommitted}
 use Rattle.sms_sqlite.proofs.SameLemmas.{and_parts, and_true, same_is, same_self}
@@ -66,7 +66,7 @@ new_so db e = same_self_at db.schema no_schema e
     same_self_at : (s t : _) → s ≡ t → Rattle.sms_sqlite.specs.Same.is_same the_row.coded s t ≡ true
     same_self_at s t same = subst (λ x. Rattle.sms_sqlite.specs.Same.is_same the_row.coded s x ≡ true) same (same_self the_row.coded s)
 
-ready_is : (db : Database) → is_ready db ≡ true → IsReady db
+pub ready_is : (db : Database) → is_ready db ≡ true → IsReady db
 ready_is db e =
     let p = and_parts _ _ e in
     record { schema = same_is the_row.coded db.schema desk_schema p.0; keyed = tables_keyed desk_schema.tables db.trees p.1 }
@@ -117,7 +117,7 @@ some_there : {R : Type 0} (o : Option R) (x : R) → o ≡ Some x → is_some o 
 some_there o x e = ap is_some e
 
 -- the connection was open and clean before, if it is so now
-shown_before : (old new : State) → doubt old.is_clean ≤ doubt new.is_clean → (HasCleanDisk new → IsTrue new.is_open → IsTrue old.is_open) → IsTrue (is_shown new)
+pub shown_before : (old new : State) → doubt old.is_clean ≤ doubt new.is_clean → (HasCleanDisk new → IsTrue new.is_open → IsTrue old.is_open) → IsTrue (is_shown new)
     → IsTrue (is_shown old) × HasCleanDisk new × IsTrue new.is_open
 shown_before old new clean opened shown =
     let p = and_parts new.is_open new.is_clean shown in
@@ -126,18 +126,18 @@ shown_before old new clean opened shown =
     (and_true old.is_open old.is_clean (opened now p.0) (clean_of old.is_clean before), now, p.0)
 
 -- what was told before, if the connection is shown now
-told_before : (base : Database) (old : State) → IsReadable base old → IsTrue (is_shown old) → IsTrue (is_new base) → (rows : Rows) × (tables_of old.now ≡ Some rows) × (told_of base old ≡ Some rows)
-told_before base old readable shown new_base =
-    let it = there (tables_of old.now) (readable shown new_base) in
-    (it.0, it.1, ap (λ b. cond b (tables_of old.now) None) (and_true _ _ shown new_base) ∙ it.1)
+pub told_before : (base : Database) (old : State) → IsReadable base old → IsTrue (is_shown old) → IsTrue (has_tables base) → (rows : Rows) × (tables_of old.now ≡ Some rows) × (told_of base old ≡ Some rows)
+told_before base old readable shown was_told =
+    let it = there (tables_of old.now) (readable shown was_told) in
+    (it.0, it.1, ap (λ b. cond b (tables_of old.now) None) (and_true _ _ shown was_told) ∙ it.1)
 
 -- a claim on what is told, where it is shown
-on_told : (base : Database) (new : State) (P : Rows → Type 0) → (IsTrue (is_shown new) → IsTrue (is_new base) → (rows : Rows) × (tables_of new.now ≡ Some rows) × P rows) → IfSome (told_of base new) P
-on_told base new P f = by (is_shown new && is_new base) refl
+pub on_told : (base : Database) (new : State) (P : Rows → Type 0) → (IsTrue (is_shown new) → IsTrue (has_tables base) → (rows : Rows) × (tables_of new.now ≡ Some rows) × P rows) → IfSome (told_of base new) P
+on_told base new P f = by (is_shown new && has_tables base) refl
   where
-    by : (b : Bool) → (is_shown new && is_new base) ≡ b → IfSome (told_of base new) P
+    by : (b : Bool) → (is_shown new && has_tables base) ≡ b → IfSome (told_of base new) P
     by true is =
-        let p = and_parts (is_shown new) (is_new base) is in
+        let p = and_parts (is_shown new) (has_tables base) is in
         let it = f p.0 p.1 in
         subst (λ o. IfSome o P) (sym (ap (λ b. cond b (tables_of new.now) None) is ∙ it.1)) it.2
     by false is = subst (λ o. IfSome o P) (sym (ap (λ b. cond b (tables_of new.now) None) is)) tt
@@ -145,39 +145,39 @@ on_told base new P f = by (is_shown new && is_new base) refl
 module _ (base : Database) (old new : State) (readable : IsReadable base old) (clean : doubt old.is_clean ≤ doubt new.is_clean)
     (opened : HasCleanDisk new → IsTrue new.is_open → IsTrue old.is_open) where
   -- the new rows, where the transaction was committed
-  committed_rows : (f : Rows → Rows) → (HasCleanDisk new → (rows : Rows) → tables_of old.now ≡ Some rows → IsCommitted new (f rows)) → IsTrue (is_shown new) → IsTrue (is_new base)
+  committed_rows : (f : Rows → Rows) → (HasCleanDisk new → (rows : Rows) → tables_of old.now ≡ Some rows → IsCommitted new (f rows)) → IsTrue (is_shown new) → IsTrue (has_tables base)
       → (before : Rows) × (after : Rows) × (told_of base old ≡ Some before) × (tables_of new.now ≡ Some after) × AreSame after (f before)
-  committed_rows f made shown new_base =
+  committed_rows f made shown was_told =
       let was = shown_before old new clean opened shown in
-      let it = told_before base old readable was.0 new_base in
+      let it = told_before base old readable was.0 was_told in
       let done = made was.1 it.0 it.1 in
       (it.0, done.holds.found, it.2, tables_of_holds new.now done.holds.found done.holds.holds, alike_same _ _ done.holds.alike)
 
   pub told_ok : (f : Rows → Rows) → (HasCleanDisk new → (rows : Rows) → tables_of old.now ≡ Some rows → IsCommitted new (f rows))
       → IfSome (told_of base new) (λ rows. (o : Rows) × (told_of base old ≡ Some o) × AreSame rows (f o))
-  told_ok f made = on_told base new _ (λ shown new_base. let it = committed_rows f made shown new_base in (it.1, it.3, (it.0, it.2, it.4)))
+  told_ok f made = on_told base new _ (λ shown was_told. let it = committed_rows f made shown was_told in (it.1, it.3, (it.0, it.2, it.4)))
 
   pub readable_ok : (f : Rows → Rows) → (HasCleanDisk new → (rows : Rows) → tables_of old.now ≡ Some rows → IsCommitted new (f rows)) → IsReadable base new
-  readable_ok f made shown new_base = let it = committed_rows f made shown new_base in some_there (tables_of new.now) it.1 it.3
+  readable_ok f made shown was_told = let it = committed_rows f made shown was_told in some_there (tables_of new.now) it.1 it.3
 
   pub told_err : (HasCleanDisk new → IsTrue new.is_open → new.now ≡ old.now) → Stays (told_of base old) (told_of base new)
-  told_err kept = on_told base new _ (λ shown new_base.
+  told_err kept = on_told base new _ (λ shown was_told.
       let was = shown_before old new clean opened shown in
-      let it = told_before base old readable was.0 new_base in
+      let it = told_before base old readable was.0 was_told in
       (it.0, ap tables_of (kept was.1 was.2) ∙ it.1, (it.0, it.2, same_self_rows it.0)))
 
   pub readable_err : (HasCleanDisk new → IsTrue new.is_open → new.now ≡ old.now) → IsReadable base new
-  readable_err kept shown new_base =
+  readable_err kept shown was_told =
       let was = shown_before old new clean opened shown in
-      let it = told_before base old readable was.0 new_base in
+      let it = told_before base old readable was.0 was_told in
       some_there (tables_of new.now) it.0 (ap tables_of (kept was.1 was.2) ∙ it.1)
 
   -- while the store is open, a stop leaves the last commit alone
   pub told_alone : (f : Rows → Rows) → (HasCleanDisk new → (rows : Rows) → tables_of old.now ≡ Some rows → IsCommitted new (f rows))
       → (IsTrue new.is_open → (db : Trees) → new.may_leave db → db ≡ new.committed.trees) → IfSome (told_of base new) (λ rows. (db : Trees) → new.may_leave db → HasRows db rows)
-  told_alone f made settled = on_told base new _ (λ shown new_base.
+  told_alone f made settled = on_told base new _ (λ shown was_told.
       let was = shown_before old new clean opened shown in
-      let it = told_before base old readable was.0 new_base in
+      let it = told_before base old readable was.0 was_told in
       let done = made was.1 it.0 it.1 in
       let found = done.holds.found in (
         found,

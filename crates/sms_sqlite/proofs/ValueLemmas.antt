@@ -1,7 +1,6 @@
 -- What the columns of a row are, where it stands for something, and the tests of SQL on them.
 use Rattle.std.proofs.Common.{◌≡◌, ◌&&◌, ℕ, zero, suc, pos, negsuc, Bool, true, false, List, Option, Some, None, refl, ap, ap₂, sym, ◌∙◌, arith, is_eq, is_lt, is_gt, nat_eq, nat_lt}
 use Rattle.std.specs.Prelude.{bytes_eq, option_map, slice_get, nat_le, if◌then◌else◌}
-use Rattle.std.specs.Cmp.Lexicographic.{slice_cmp}
 use Rattle.std.proofs.lemmas.Bool.Decides.{nat_tests}
 use Rattle.std.proofs.lemmas.Int.{ints}
 use Rattle.std.proofs.lemmas.Map.Text.{is_eq-slice_cmp}

@@ -1,5 +1,5 @@
 -- Whether two values are the same, as a test, for each type that has a code.
-use Rattle.std.specs.Prelude.{ℕ, Bool, false, true, ◌&&◌, ◌==◌}
+use Rattle.std.specs.Prelude.{Bool, false, true, ◌&&◌, ◌==◌}
 use base.Stored.{Coded, Gv, gnil, gnum, gcons}
 
 -- the codes are the same

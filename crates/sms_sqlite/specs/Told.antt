@@ -1,5 +1,5 @@
 -- What the keeper over a database tells.
-use Rattle.std.specs.Prelude.{◌≡◌, ◌&&◌, ℕ, Bool, true, List, [], ◌∷◌, Option, Some, None, IfSome, IsTrue, is_some, refl, if◌then◌else◌}
+use Rattle.std.specs.Prelude.{◌&&◌, ℕ, Bool, true, List, [], ◌∷◌, Option, Some, None, IsTrue, is_some, refl, if◌then◌else◌}
 use Rattle.std.specs.Coded.{Coded, code_by, coded×, coded_ℕ}
 use Rattle.std.specs.List.{list_all}
 use Rattle.std.specs.Ordering.{is_lt}
@@ -14,8 +14,10 @@ use Rattle.sqlite_trees.specs.declared.store.Store.{Ghosts}
 use Rattle.sqlite_value.specs.Order.{value_cmp}
 use Rattle.sms_keeper.specs.Tables.{no_rows}
 use Rattle.sms_keeper.specs.declared.rows.Rows.{Rows}
+use Rattle.sms_keeper.specs.declared.table.Table.{Table}
 use Rattle.keeper_statements.specs.Schema.{no_schema, desk_schema}
-use Rattle.keeper_statements.specs.Tables.{IsReady}
+use Rattle.keeper_statements.specs.Tables.{tables_in}
+use Rattle.sms_sqlite.specs.Damage.{damage_in, ordered}
 use Rattle.sms_sqlite.specs.Same.{is_same}
 use Rattle.sms_sqlite.specs.Values.{rows_in}
 
@@ -36,6 +38,10 @@ is_ready db = is_same the_row.coded db.schema desk_schema && list_all (λ t. is_
 abbrev pub tables_of : Database → Option Rows
 tables_of db = if is_new db then Some no_rows else if is_ready db then rows_in db.trees else None
 
+-- the first row of a database with the five tables that stands for nothing
+abbrev pub damage_of : Database → Option (Table × ℕ)
+damage_of db = if is_ready db then damage_in (ordered (tables_in db.trees)) else None
+
 -- what contracts see of a keeper over a database: the connection, the connection as it was handed in, and the count of faults
 pub record Kept (S : Type 0) : Type 0 where
   pub connection : Held S
@@ -52,14 +58,26 @@ kept_code {S} store =
 abbrev pub is_shown : State → Bool
 is_shown s = s.is_open && s.is_clean
 
--- what is told of a database that is seen so, where it had no tables as it was handed in
+-- its tables can be told: none is made, or the five are and each row stands for something
+abbrev pub has_tables : Database → Bool
+has_tables db = is_some (tables_of db)
+
+-- what is told of a database that is seen so, where its tables could be told as it was handed in
 abbrev pub told_of : Database → State → Option Rows
-told_of base s = if is_shown s && is_new base then tables_of s.now else None
+told_of base s = if is_shown s && has_tables base then tables_of s.now else None
 
 -- the tables that the keeper tells
 abbrev pub told_by : {S : Type 0} → Ghosts S → Kept S → Option Rows
 told_by g k = told_of (state g k.base).now (state g k.connection)
 
+-- the first damage of a database that is seen so
+abbrev pub damage_seen : State → Option (Table × ℕ)
+damage_seen s = if is_shown s then damage_of s.now else None
+
+-- the first damaged row that the keeper tells
+abbrev pub damage_by : {S : Type 0} → Ghosts S → Kept S → Option (Table × ℕ)
+damage_by g k = damage_seen (state g k.connection)
+
 -- the keeper keeps its tables readable
 abbrev pub IsReadable : Database → State → Type 0
-IsReadable base s = IsTrue (is_shown s) → IsTrue (is_new base) → IsTrue (is_some (tables_of s.now))
+IsReadable base s = IsTrue (is_shown s) → IsTrue (has_tables base) → IsTrue (has_tables s.now)

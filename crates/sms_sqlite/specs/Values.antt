@@ -1,5 +1,5 @@
 -- What the rows of the database stand for (docs/records.md, "The database").
-use Rattle.std.specs.Prelude.{ℕ, ℤ, pos, negsuc, zero, suc, List, [], ◌∷◌, bytes_eq, Option, Some, None, option_map, slice_get, if◌then◌else◌}
+use Rattle.std.specs.Prelude.{ℕ, pos, negsuc, zero, suc, List, [], ◌∷◌, bytes_eq, Option, Some, None, option_map, slice_get, if◌then◌else◌}
 use Rattle.sqlite.specs.Order.{Row}
 use Rattle.sqlite.specs.declared.types.Value.{Value}
 use Rattle.sqlite.specs.declared.types.Value.TheVariants.{Null, Int, Real, Text, Blob}
@@ -69,6 +69,13 @@ reply_in row = do
   answered ← bytes_in (column row 4)
   reply ← whole reply_form answered
   Some (record { job = job; number = number; place = place; request = request; reply = reply })
+
+-- a deck of which the number and the bytes alone are shown
+unfoldable pub shown_deck_in : Row → Option DeckRow
+shown_deck_in row = do
+  count ← number_in (column row 0)
+  bytes ← bytes_in (column row 1)
+  Some (record { count = count; bytes = bytes })
 
 -- a deck with its number, which is that of the row
 unfoldable pub deck_in : Row → Option DeckRow

@@ -1,5 +1,5 @@
 -- What a change does to the rows of a database.
-use Rattle.std.specs.Prelude.{◌≡◌, ◌++◌, ℕ, List, Some, Result, OnOk, OnErr, IsTrue, filter}
+use Rattle.std.specs.Prelude.{◌≡◌, ◌++◌, ℕ, Some, Result, OnOk, OnErr, IsTrue, filter}
 use Rattle.sqlite.specs.Effect.{Database}
 use Rattle.sqlite.specs.State.{State, HasCleanDisk}
 use Rattle.sqlite.specs.declared.error.Error.{Error}

@@ -1,27 +1,31 @@
 //! A keeper over a database.
-ghost use Rattle.std.specs.Prelude.{◌≡◌, ◌≤◌, IfSome, IsErrOf, OnErr, OnOk, Some, false};
+ghost use Rattle.std.specs.Prelude.{◌≡◌, ◌≤◌, IfErr, IfOk, IfSome, IsErrOf, IsTrue, None, OnErr, OnOk, Some, false};
 ghost use Rattle.desk_common.specs.Causes.{Rose, counted};
 ghost use Rattle.sqlite.specs.Held.{state};
 ghost use Rattle.sqlite.specs.State.{HasCleanDisk, Survives};
 ghost use Rattle.sqlite.specs.Tree.{Trees};
 ghost use Rattle.sms_keeper.specs.Faults.{faults_counted};
+ghost use Rattle.sms_keeper.specs.Loading.{AreLoaded, NamesDamage, SameDamage, StaysDamaged};
 ghost use Rattle.sms_keeper.specs.Suits.{Suits};
-ghost use Rattle.sms_keeper.specs.Tables.{AreSame, no_rows, with_change};
+ghost use Rattle.sms_keeper.specs.Tables.{with_change};
 ghost use Rattle.sms_keeper.specs.Told.{Applies, Stays};
-ghost use Rattle.sms_keeper.specs.declared.rows.Rows.{Rows};
-ghost use Rattle.keeper_statements.specs.Steps.{HasMade};
-ghost use Rattle.sms_sqlite.specs.Told.{tables_of, told_by};
-ghost use Rattle.sms_sqlite.specs.Writing.{HasRows, MayCommit, MayUndo, MaySettle};
+ghost use Rattle.sms_keeper.specs.declared.rows.Rows.{Rows as Told};
+ghost use Rattle.sms_sqlite.specs.Reading.{IsMadeReady, NamesFault};
+ghost use Rattle.sms_sqlite.specs.Told.{damage_by, tables_of, told_by};
+ghost use Rattle.sms_sqlite.specs.Writing.{HasRows, IsAsBefore, MayCommit, MayUndo, MaySettle};
 
+use crate::load_fault::LoadFault;
+use crate::loading::load_rows;
 use crate::writing::{write_change, write_tables};
-use sms_keeper::{Change, Keeper, KeeperErr, Stored};
+use sms_keeper::{Change, Keeper, KeeperErr, LoadErr, Rows, Stored};
 use sqlite::{Alter, Connection, Error, ErrorCode};
 use std::alloc::Global;
 use std::marker::Model;
 use std::snapshot::Snapshot;
 
 /// Keeps the records in a database (docs/records.md, "The database"). It tells its tables where the database had none
-/// as it was handed in, while the connection is open and the disk has returned what was written.
+/// as it was handed in, or the five with rows that all stand for something, while the connection is open and the disk
+/// has returned what was written.
 #[derive(Drop)]
 pub struct SqlKeeper<S: Alter + Drop> {
     alloc: Global,
@@ -46,8 +50,7 @@ impl<S: Alter + Drop> Model for SqlKeeper<S> {
 impl<S: Alter + Drop> SqlKeeper<S> {
     /// A keeper over the database of this connection. It takes no memory.
     pub fn new(alloc: Global, connection: Connection<S>) -> Self
-        ensures made { result ≡ record { connection = connection; base = connection; faults = 0 } }
-        ensures tables { IfSome (told_by S.Store result) (λ rows. AreSame rows no_rows) }
+        ensures { result ≡ record { connection = connection; base = connection; faults = 0 } }
     {
         let base = Snapshot::of(&connection);
         SqlKeeper {
@@ -76,10 +79,26 @@ impl<S: Alter + Drop> SqlKeeper<S> {
         ensures settled { MaySettle (state S.Store self.new.connection) result }
         ensures made { MayCommit (λ rows. with_change rows change.now) (state S.Store self.old.connection) (state S.Store self.new.connection) result }
         ensures ended { (state S.Store self.old.connection).in_transaction ≡ false → (state S.Store self.new.connection).in_transaction ≡ false }
-        ensures crash { Survives (state S.Store self.old.connection) (state S.Store self.new.connection) (λ db. (rows : Rows) → tables_of (state S.Store self.old.connection).now ≡ Some rows → HasRows db (with_change rows change.now)) }
+        ensures crash { Survives (state S.Store self.old.connection) (state S.Store self.new.connection) (λ db. (rows : Told) → tables_of (state S.Store self.old.connection).now ≡ Some rows → HasRows db (with_change rows change.now)) }
         ensures alone { OnOk result (IfSome (told_by S.Store self.new) (λ rows. (db : Trees) → (state S.Store self.new.connection).may_leave db → HasRows db rows)) }
     {
         write_change(&mut self.connection, self.alloc, change)
+    }
+
+    // Reads the tables.
+    fn read(&mut self) -> Result<Rows, LoadFault>
+        ensures base { self.new.base ≡ self.old.base }
+        ensures faults { self.new.faults ≡ self.old.faults }
+        ensures loaded { IfOk result (λ rows. IfSome (told_by S.Store self.new) (λ told. AreLoaded told rows)) }
+        ensures sound { OnOk result (damage_by S.Store self.new ≡ None) }
+        ensures damaged { IfErr result (NamesFault (told_by S.Store self.new) (damage_by S.Store self.new)) }
+        ensures kept { Stays (told_by S.Store self.old) (told_by S.Store self.new) }
+        ensures damage_kept { StaysDamaged (damage_by S.Store self.old) (damage_by S.Store self.new) }
+        ensures unchanged { HasCleanDisk (state S.Store self.new.connection) → IsTrue (state S.Store self.new.connection).is_open → IsAsBefore (state S.Store self.old.connection) (state S.Store self.new.connection) }
+        ensures ended { (state S.Store self.old.connection).in_transaction ≡ false → (state S.Store self.new.connection).in_transaction ≡ false }
+        ensures crash { Survives (state S.Store self.old.connection) (state S.Store self.new.connection) (λ _. ⊥) }
+    {
+        load_rows(&mut self.connection, self.alloc)
     }
 
     // Makes the tables in one transaction.
@@ -87,11 +106,12 @@ impl<S: Alter + Drop> SqlKeeper<S> {
         ensures base { self.new.base ≡ self.old.base }
         ensures faults { self.new.faults ≡ self.old.faults }
         ensures kept { Stays (told_by S.Store self.old) (told_by S.Store self.new) }
+        ensures damage_kept { SameDamage (damage_by S.Store self.old) (damage_by S.Store self.new) }
         ensures unchanged { MayUndo (state S.Store self.old.connection) (state S.Store self.new.connection) result }
         ensures settled { MaySettle (state S.Store self.new.connection) result }
-        ensures made { HasCleanDisk (state S.Store self.new.connection) → OnOk result (HasMade (state S.Store self.old.connection).now (state S.Store self.new.connection).now) }
+        ensures made { HasCleanDisk (state S.Store self.new.connection) → OnOk result (IsMadeReady (state S.Store self.old.connection).now (state S.Store self.new.connection).now) }
         ensures ended { (state S.Store self.old.connection).in_transaction ≡ false → (state S.Store self.new.connection).in_transaction ≡ false }
-        ensures crash { Survives (state S.Store self.old.connection) (state S.Store self.new.connection) (λ db. (rows : Rows) → tables_of (state S.Store self.old.connection).now ≡ Some rows → HasRows db rows) }
+        ensures crash { Survives (state S.Store self.old.connection) (state S.Store self.new.connection) (λ db. (rows : Told) → tables_of (state S.Store self.old.connection).now ≡ Some rows → HasRows db rows) }
     {
         write_tables(&mut self.connection)
     }
@@ -134,7 +154,7 @@ impl<S: Alter + Drop> Keeper for SqlKeeper<S> {
         ensures settled { MaySettle (state S.Store self.new.connection) result }
         ensures made { MayCommit (λ rows. with_change rows change.now) (state S.Store self.old.connection) (state S.Store self.new.connection) result }
         ensures ended { (state S.Store self.old.connection).in_transaction ≡ false → (state S.Store self.new.connection).in_transaction ≡ false }
-        ensures crash { Survives (state S.Store self.old.connection) (state S.Store self.new.connection) (λ db. (rows : Rows) → tables_of (state S.Store self.old.connection).now ≡ Some rows → HasRows db (with_change rows change.now)) }
+        ensures crash { Survives (state S.Store self.old.connection) (state S.Store self.new.connection) (λ db. (rows : Told) → tables_of (state S.Store self.old.connection).now ≡ Some rows → HasRows db (with_change rows change.now)) }
         ensures alone { OnOk result (IfSome (told_by S.Store self.new) (λ rows. (db : Trees) → (state S.Store self.new.connection).may_leave db → HasRows db rows)) }
     {
         match self.write(change) {
@@ -149,8 +169,13 @@ impl<S: Alter + Drop> Keeper for SqlKeeper<S> {
 }
 
 impl<S: Alter + Drop> Stored for SqlKeeper<S> {
+    ghost use Rattle.sms_sqlite.specs.Told.{damage_by};
+
+    ghost damage = { damage_by S.Store };
+
     fn ready(&mut self) -> Result<(), KeeperErr>
         ensures kept { Stays (told_by S.Store self.old) (told_by S.Store self.new) }
+        ensures damage_kept { SameDamage (damage_by S.Store self.old) (damage_by S.Store self.new) }
         ensures cause { IsErrOf result KeeperErr.Failed → Rose self.old.faults self.new.faults }
         ensures stands { (IsErrOf result KeeperErr.Failed → ⊥) → self.new.faults ≡ self.old.faults }
         ensures rises { self.old.faults ≤ self.new.faults }
@@ -158,13 +183,38 @@ impl<S: Alter + Drop> Stored for SqlKeeper<S> {
         ensures base { self.new.base ≡ self.old.base }
         ensures unchanged { MayUndo (state S.Store self.old.connection) (state S.Store self.new.connection) result }
         ensures settled { MaySettle (state S.Store self.new.connection) result }
-        ensures made { HasCleanDisk (state S.Store self.new.connection) → OnOk result (HasMade (state S.Store self.old.connection).now (state S.Store self.new.connection).now) }
+        ensures made { HasCleanDisk (state S.Store self.new.connection) → OnOk result (IsMadeReady (state S.Store self.old.connection).now (state S.Store self.new.connection).now) }
         ensures ended { (state S.Store self.old.connection).in_transaction ≡ false → (state S.Store self.new.connection).in_transaction ≡ false }
-        ensures crash { Survives (state S.Store self.old.connection) (state S.Store self.new.connection) (λ db. (rows : Rows) → tables_of (state S.Store self.old.connection).now ≡ Some rows → HasRows db rows) }
+        ensures crash { Survives (state S.Store self.old.connection) (state S.Store self.new.connection) (λ db. (rows : Told) → tables_of (state S.Store self.old.connection).now ≡ Some rows → HasRows db rows) }
     {
         match self.make() {
             Ok(()) => Ok(()),
             Err(error) => Err(self.refuse(error)),
+        }
+    }
+
+    fn load(&mut self) -> Result<Rows, LoadErr>
+        ensures loaded { IfOk result (λ rows. IfSome (told_by S.Store self.new) (λ told. AreLoaded told rows)) }
+        ensures sound { OnOk result (damage_by S.Store self.new ≡ None) }
+        ensures damaged { IfErr result (NamesDamage (told_by S.Store self.new) (damage_by S.Store self.new)) }
+        ensures kept { Stays (told_by S.Store self.old) (told_by S.Store self.new) }
+        ensures damage_kept { StaysDamaged (damage_by S.Store self.old) (damage_by S.Store self.new) }
+        ensures cause { IsErrOf result LoadErr.Failed → Rose self.old.faults self.new.faults }
+        ensures stands { (IsErrOf result LoadErr.Failed → ⊥) → self.new.faults ≡ self.old.faults }
+        ensures rises { self.old.faults ≤ self.new.faults }
+        ensures base { self.new.base ≡ self.old.base }
+        ensures unchanged { HasCleanDisk (state S.Store self.new.connection) → IsTrue (state S.Store self.new.connection).is_open → IsAsBefore (state S.Store self.old.connection) (state S.Store self.new.connection) }
+        ensures ended { (state S.Store self.old.connection).in_transaction ≡ false → (state S.Store self.new.connection).in_transaction ≡ false }
+        ensures crash { Survives (state S.Store self.old.connection) (state S.Store self.new.connection) (λ _. ⊥) }
+    {
+        match self.read() {
+            Ok(rows) => Ok(rows),
+            Err(LoadFault::Damaged(table, row)) => Err(LoadErr::Damaged(table, row)),
+            Err(LoadFault::NoMemory) => Err(LoadErr::NoMemory),
+            Err(LoadFault::Refused(error)) => match self.refuse(error) {
+                KeeperErr::Failed => Err(LoadErr::Failed),
+                KeeperErr::NoMemory => Err(LoadErr::NoMemory),
+            },
         }
     }
 }

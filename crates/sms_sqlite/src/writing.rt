@@ -5,13 +5,13 @@ ghost use Rattle.sqlite.specs.State.{HasCleanDisk, Survives};
 ghost use Rattle.sms_keeper.specs.Suits.{Suits};
 ghost use Rattle.sms_keeper.specs.Tables.{with_change};
 ghost use Rattle.sms_keeper.specs.declared.rows.Rows.{Rows};
-ghost use Rattle.keeper_statements.specs.Steps.{HasMade};
+ghost use Rattle.sms_sqlite.specs.Reading.{IsMadeReady};
 ghost use Rattle.sms_sqlite.specs.Told.{tables_of};
 ghost use Rattle.sms_sqlite.specs.Writing.{Holds, HasRows, IsCommitted};
 
 use crate::effects::make_effect;
 use crate::replies::keep_reply;
-use keeper_statements::make_tables;
+use keeper_statements::{make_tables, present_among};
 use sms_keeper::Change;
 use sqlite::{Alter, Connection, Error, ErrorCode};
 use std::alloc::Global;
@@ -63,10 +63,10 @@ pub fn write_change<S: Alter>(
     write_inside(connection, alloc, change)
 }
 
-// Makes the tables in one transaction, or leaves all as it is.
+// Makes the tables that aren't there in one transaction, or leaves all as it is.
 pub fn write_tables<S: Alter>(connection: &mut Connection<S>) -> Result<(), Error>
     ensures made { HasCleanDisk (state S.Store connection.new) → (rows : Rows) → tables_of (state S.Store connection.old).now ≡ Some rows → OnOk result (IsCommitted (state S.Store connection.new) rows) }
-    ensures tables { HasCleanDisk (state S.Store connection.new) → OnOk result (HasMade (state S.Store connection.old).now (state S.Store connection.new).now) }
+    ensures tables { HasCleanDisk (state S.Store connection.new) → OnOk result (IsMadeReady (state S.Store connection.old).now (state S.Store connection.new).now) }
     ensures kept { HasCleanDisk (state S.Store connection.new) → IsTrue (state S.Store connection.new).is_open → OnErr result ((state S.Store connection.new).now ≡ (state S.Store connection.old).now) }
     ensures kept_committed { HasCleanDisk (state S.Store connection.new) → IsTrue (state S.Store connection.new).is_open → OnErr result ((state S.Store connection.new).committed ≡ (state S.Store connection.old).committed) }
     ensures open { HasCleanDisk (state S.Store connection.new) → OnOk result (IsTrue (state S.Store connection.new).is_open) }
@@ -78,7 +78,8 @@ pub fn write_tables<S: Alter>(connection: &mut Connection<S>) -> Result<(), Erro
     if !connection.is_autocommit() {
         return Err(Error::SqliteFailure(ErrorCode::TransactionState));
     }
+    let there = present_among(connection.schema().tables.as_slice());
     let mut tx = connection.transaction();
-    make_tables(&mut tx)?;
+    make_tables(&mut tx, there)?;
     tx.commit()
 }

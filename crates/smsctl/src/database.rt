@@ -69,7 +69,7 @@ fn end(rt: &HostRuntime, status: DbStatus, note: &str) -> ExitCode
 {
     match status {
         DbStatus::Ran(status) => crate::end(rt, status, note),
-        DbStatus::StoreFault => {
+        DbStatus::StoreFault | DbStatus::Store(_) => {
             let code = status.code();
             let _ = eprint!(rt; "smsctl: status {code}\nsmsctl: {note}");
             ExitCode::from(code)

@@ -4,6 +4,8 @@ use db_calls::DbStatus;
 use desk_calls::RunStatus;
 use fault_notes::script_note;
 use serve_calls::ServeStatus;
+use sms_keeper::Table;
+use sms_open::OpenErr;
 use sms_script::{ScriptErr, read_script};
 use std::alloc::Global;
 
@@ -55,6 +57,54 @@ pub fn note_database(alloc: Global, note: &mut String, status: DbStatus, script:
     match status {
         DbStatus::Ran(status) => note_status(alloc, note, status, script),
         DbStatus::StoreFault => say(note, STORE_FAULT),
+        DbStatus::Store(err) => note_store(alloc, note, err),
+    }
+}
+
+// Why no desk goes on from the tables of a file.
+fn note_store(alloc: Global, note: &mut String, err: OpenErr) {
+    match err {
+        OpenErr::Damaged(table, row) => note_damage(alloc, note, table, row),
+        OpenErr::Unsound(number) => say(note, sentence_of_test(number)),
+        OpenErr::Failed | OpenErr::NoMemory => (),
+    }
+}
+
+// Which row of the file is damaged.
+fn note_damage(alloc: Global, note: &mut String, table: Table, row: u64) {
+    let name = name_of_table(table);
+    if let Ok(made) = format!(in alloc;
+        "row {row} of the table {name} is damaged, counted from 0 in the order of its key; nothing was answered\n"
+    ) {
+        say(note, &made);
+    }
+}
+
+fn name_of_table(table: Table) -> &'static str {
+    match table {
+        Table::Sets => "sets",
+        Table::Replies => "replies",
+        Table::Decks => "decks",
+        Table::Statuses => "statuses",
+        Table::Floors => "floors",
+    }
+}
+
+// What a test of found rows asks (docs/records.md, "Found rows").
+fn sentence_of_test(number: u8) -> &'static str {
+    match number {
+        1 => "test 1: two rows of the file have one key; nothing was answered\n",
+        2 =>
+            "test 2: the decks of the file aren't numbered from 1 in order, or a data set or a status \
+            stands there without any; nothing was answered\n",
+        3 =>
+            "test 3: the last deck of the file has a fault, which smsc validate shows; nothing was answered\n",
+        4 => "test 4: the statuses of the file aren't those of its last deck's groups and volumes; \
+            nothing was answered\n",
+        5 =>
+            "test 5: a data set of the file can't lie where its extents are; nothing was answered\n",
+        _ =>
+            "test 6: a reply or a floor of the file is none that a desk leaves; nothing was answered\n",
     }
 }
 
@@ -89,8 +139,9 @@ const WRITE_FAULT: &str =
 
 const TOO_LONG: &str = "the script has more than 16777216 bytes; nothing was answered\n";
 
-const STORE_FAULT: &str = "the tables can't be made in the file: it has some of them already, \
-    or can't be written; nothing was answered\n";
+const STORE_FAULT: &str =
+    "the tables can't be made in the file, or not be read: it can't be written, \
+    or has one of them in another form; nothing was answered\n";
 
 const RESERVED: &str =
     "this line is of the job SMSMGMT or purges it, and with --manage that job is \

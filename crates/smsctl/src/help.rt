@@ -7,7 +7,8 @@ smsctl run --workers N by so many workers, 1 to 16
 smsctl run --volumes   with the table of volumes behind the answers; it stands
                        behind --workers N where both are asked for
 smsctl run --db FILE   keep the records in FILE, a database of SQLite's form that
-                       the run makes; each answer is kept before the next
+                       the run makes, or goes on from where it has records;
+                       each answer is kept before the next
 smsctl run --manage DAY
                        and manage space behind the answers: delete what has
                        expired on that day, and release what is unused

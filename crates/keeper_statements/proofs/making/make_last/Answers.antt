@@ -1,4 +1,5 @@
 use Rattle.std.proofs.Common.{arith}
+use Rattle.std.proofs.lemmas.Result.{on_ok_weaker}
 use Rattle.sqlite.specs.Held.{state}
 use Rattle.sqlite.specs.State.{HasCleanDisk}
 use Rattle.keeper_statements.proofs.CreateLemmas.{made_last}
@@ -6,7 +7,7 @@ use Rattle.keeper_statements.proofs.making.make_last.Goals as goal
 
 pub returns-clause-made : goal.returns-clause-made
 returns-clause-made g c clean inside =
-    let first : HasCleanDisk (state g.S.Store c.run.new.tx.conn.now) = omega (arith, clean, c.run-2.ensures.survives.clean) in
-    let one = c.in_ok-run.ensures.runs first inside in
-    let two = c.in_ok-run-2.ensures.runs clean one.1.mode in
-    made_last _ _ _ _ _ one.0 two.0
+    let first : HasCleanDisk (state g.S.Store c.run_unless.new.tx.conn.now) = omega (arith, clean, c.run_unless-2.ensures.survives.clean) in
+    let one = c.in_ok-run_unless.ensures.runs first inside in
+    let on_1 = (c.in_ok-run_unless.ensures.stays first inside).inside in
+    on_ok_weaker c.run_unless-2.result (made_last c.args.there _ _ _ one) (c.run_unless-2.ensures.runs clean on_1)

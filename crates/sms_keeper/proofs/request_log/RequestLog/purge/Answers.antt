@@ -1,4 +1,4 @@
-use Rattle.std.proofs.Common.{◌≡◌, ◌∙◌, Some, ap, arith, bytes_eq, cond, max, sym}
+use Rattle.std.proofs.Common.{◌≡◌, ◌∙◌, Some, ap, arith, bytes_eq, cond, max}
 use Rattle.ordered_index.proofs.LookupLemmas.{found-text}
 use Rattle.sms_keeper.specs.Log.{LogView, floor_in}
 use Rattle.sms_keeper.proofs.KeyLemmas.{raised}

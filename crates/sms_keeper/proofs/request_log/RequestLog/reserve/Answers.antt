@@ -1,5 +1,5 @@
 use Rattle.std.proofs.Common.{◌∙◌, ap}
-use Rattle.sms_keeper.specs.Log.{LogView, floor_in, kept_in}
+use Rattle.sms_keeper.specs.Log.{LogView, kept_in}
 use Rattle.sms_keeper.proofs.request_log.RequestLog.reserve.Goals as goal
 
 pub returns-clause-kept : goal.returns-clause-kept

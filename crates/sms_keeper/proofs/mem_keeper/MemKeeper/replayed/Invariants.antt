@@ -1,7 +1,7 @@
 use Rattle.std.proofs.Common.{◌≡◌, drop}
 use Rattle.std.specs.Prelude.{fold}
 use Rattle.sms_keeper.specs.Tables.{rows_after, with_change}
-use Rattle.sms_keeper.proofs.mem_keeper.MemKeeper.rows.Given as goal
+use Rattle.sms_keeper.proofs.mem_keeper.MemKeeper.replayed.Given as goal
 
 -- the tables so far, and the changes that are left
 abbrev pub invariant-loop-change : goal.invariant-loop-change

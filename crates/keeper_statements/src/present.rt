@@ -1,0 +1,35 @@
+//! Which of the five tables a database has.
+ghost use Rattle.std.specs.Prelude.{◌≡◌};
+ghost use Rattle.keeper_statements.specs.Presence.{has_table, present_in};
+
+use sqlite_schema::schema::Table;
+
+/// Which of the five tables are there.
+#[derive(Clone, Copy)]
+pub struct Present {
+    pub sets: bool,
+    pub replies: bool,
+    pub decks: bool,
+    pub statuses: bool,
+    pub floors: bool,
+}
+
+// Whether there is a table of this name, in capital or small letters.
+fn has_table(tables: &[Table], name: &[u8]) -> bool
+    ensures { result ≡ has_table tables.now name.now }
+{
+    tables.iter().any(|table| table.is_named(name))
+}
+
+/// Which of the five are among these tables.
+pub fn present_among(tables: &[Table]) -> Present
+    ensures { result ≡ present_in tables.now }
+{
+    Present {
+        sets: has_table(tables, b"sets"),
+        replies: has_table(tables, b"replies"),
+        decks: has_table(tables, b"decks"),
+        statuses: has_table(tables, b"statuses"),
+        floors: has_table(tables, b"floors"),
+    }
+}

@@ -1,0 +1,5 @@
+use Rattle.sms_open.proofs.ReopeningLemmas.{rows-refused}
+use Rattle.sms_open.proofs.reopening.go_on.Goals as goal
+
+pub returns-in-Err-clause-refused : goal.returns-in-Err-clause-refused
+returns-in-Err-clause-refused g c = rw c.refusal_of_rows.ensures (rows-refused _ _ c.args.rows c.in-Err.err c.requires.undamaged c.requires.loaded c.in-Err.ensures.verdict)
