@@ -1,5 +1,5 @@
 //! Rows that were found, changed in one place or two, and the first test that they don't pass.
-use crate::scripts::read;
+use crate::short_scripts::script;
 use crate::spoils::Spoil::{Clear, Cylinder, Deck, Floored, Kept, OfGroup, OfSet, OfVolume, Set};
 use crate::spoils::Told::{Below, Fault, Full, Memory, Noted, Purged, Reused};
 use crate::spoils::{Piece, Spoil, spoil_all};
@@ -9,7 +9,6 @@ use sms_core::Core;
 use sms_keeper::MemKeeper;
 use sms_keeper::Table::{Decks, Replies, Sets, Statuses};
 use sms_open::{RowsErr, test_rows};
-use sms_script::Script;
 use std::alloc::Global;
 use std::process::Abort;
 use std::test::Fail;
@@ -170,11 +169,6 @@ static UNKEPT: &[&[Spoil]] = &[
     &[Kept(("JOB1", 9), 7, ("JOB1", 9), Purged("JOB3", 1))],
     &[Floored("JOB3", 0)],
 ];
-
-// The script that a short text writes.
-fn script(alloc: Global, text: &[u8]) -> Result<Script, Fail> {
-    Ok(read(alloc, text).ok().ok_or("script")?)
-}
 
 /// What is recorded of the script.
 fn recorded(alloc: Global) -> Result<MemKeeper, Fail> {

@@ -1,24 +1,18 @@
-//! Tests of the desk as a whole, and of the texts of its scripts.
+//! Tests of the desk as a whole.
 #![tactic(auto)]
 
 #[cfg(test)]
 mod cases;
 #[cfg(test)]
-mod commands;
-#[cfg(test)]
 mod found_rows;
 #[cfg(test)]
 mod repeats;
-#[cfg(test)]
-mod replies;
 #[cfg(test)]
 mod running;
 #[cfg(test)]
 mod runs;
 #[cfg(test)]
-mod scripts;
-#[cfg(test)]
-mod shown;
+mod short_scripts;
 #[cfg(test)]
 mod spoils;
 #[cfg(test)]

@@ -1,7 +1,9 @@
 //! Runs on words and scripts that no text of a case can give.
-use crate::running::{Outcome, run, run_words};
+use crate::running::{Outcome, answers, run, run_words};
 use RunStatus::Done;
+use ScriptErr::{BadLine, OpenBlock, TooManyLines};
 use desk_calls::RunStatus;
+use sms_script::ScriptErr;
 use std::test::Fail;
 
 const LINE: &[u8] = b"JOB1 1 ALLOC A.B SPACE=(TRK,1)\n";
@@ -58,5 +60,38 @@ fn just_past_the_threshold_either_volume_is_granted(rt: HostRuntime) -> Result<(
     assert!(rt; status == Done);
     let first = text.ends_with(b"EXTENT VOL001 0 86\nEND 2 2\n");
     assert!(rt; first || text.ends_with(b"EXTENT VOL002 0 86\nEND 2 2\n"));
+    Ok(())
+}
+
+#[test]
+fn phases_are_answered_one_after_the_other(rt: HostRuntime) -> Result<(), Fail> {
+    assert!(rt; answers(&rt, b"SYNC\n* NOTE\n", b"END 0 0\n")?);
+    let script =
+        b"JOB1 1 ALLOC A.B SPACE=(TRK,1)\nSYNC\nSYNC\nJOB1 1 ALLOC A.B SPACE=(TRK,1)\nSYNC\n";
+    let wanted = b"1 1 1 JOB1 1 R12 NO CONFIGURATION\n4 2 1 JOB1 1 R12 NO CONFIGURATION\nEND 2 2\n";
+    assert!(rt; answers(&rt, script, wanted)?);
+    Ok(())
+}
+
+/// How often SYNC stands, what stands behind it, and how the run ends.
+#[rattlefmt::skip]
+static COMMAND_LIMITS: [(usize, &str, RunStatus); 7] = [
+    (99_999, "\nSYNC\n* NOTE\n", RunStatus::Done),
+    (100_000, "\n* NOTE\n", RunStatus::Done),
+    (100_000, "\nSYNC\n", RunStatus::Script(TooManyLines(100_002))),
+    (100_000, "JOB1 1 DELETE A", RunStatus::Script(TooManyLines(100_001))),
+    (100_000, "JOB1 0 DELETE A", RunStatus::Script(BadLine(100_001))),
+    (100_000, "SMSADMIN 1 ACTIVATE\n./END", RunStatus::Script(TooManyLines(100_001))),
+    (100_000, "SMSADMIN 1 ACTIVATE\n", RunStatus::Script(OpenBlock(100_001))),
+];
+
+#[test]
+fn a_script_has_at_most_100000_commands(rt: HostRuntime) -> Result<(), Fail> {
+    for (count, last, wanted) in &COMMAND_LIMITS {
+        let mut text = "SYNC\n".repeat(rt.alloc(), *count)?;
+        text.push_str(last)?;
+        let ended = run(&rt, text.as_bytes())?.status;
+        assert!(rt; ended == *wanted, "{last}");
+    }
     Ok(())
 }

@@ -1,6 +1,6 @@
 //! The core and a run of a script, called by themselves.
 use crate::cases::script_on;
-use crate::scripts::read;
+use crate::short_scripts::script;
 use acs_tree::Slate;
 use desk_calls::run_script;
 use desk_common::{Items, Shared};
@@ -8,7 +8,6 @@ use dsn_mask::Name;
 use sms_construct::{Op, Reply, Request, RequestNumber};
 use sms_core::{Core, Work};
 use sms_keeper::{FaultKeeper, Keeper, MemKeeper};
-use sms_script::Script;
 use std::alloc::Global;
 use std::process::Abort;
 use std::test::Fail;
@@ -18,11 +17,6 @@ const TWICE: &[u8] = b"JOB1 1 ALLOC A.B SPACE=(TRK,1)\nJOB1 1 ALLOC A.B SPACE=(T
 /// A purge of JOB1 to 3, its requests 2 and 3, and a purge to a lower number.
 const PURGED: &[u8] =
     b"SMSADMIN 1 PURGE JOB1 3\nJOB1 2 DELETE A.B\nJOB1 3 DELETE A.B\nSMSADMIN 2 PURGE JOB1 2\n";
-
-// The script that a short text writes.
-fn script(alloc: Global, text: &[u8]) -> Result<Script, Fail> {
-    Ok(read(alloc, text).ok().ok_or("script")?)
-}
 
 #[test]
 fn a_core_enters_each_request_that_it_answers(rt: HostRuntime) -> Result<(), Fail> {

@@ -1,8 +1,5 @@
-//! Scripts as they are read, their phases and their limits.
-use crate::running::{answers, run};
+//! Scripts as they are read, and their phases.
 use crate::shown::push_op;
-use ScriptErr::{BadLine, OpenBlock, TooManyLines};
-use desk_calls::RunStatus;
 use sms_script::{Item, Phase, Script, ScriptErr, read_script};
 use std::alloc::{AllocError, Global};
 use std::process::Abort;
@@ -165,37 +162,6 @@ static PHASES: [Row; 12] = [
 ];
 
 #[test]
-fn sync_parts_the_phases_which_are_answered_one_after_the_other(
-    rt: HostRuntime,
-) -> Result<(), Fail> {
-    compare_all(&rt, rt.alloc(), &PHASES)?;
-    assert!(rt; answers(&rt, b"SYNC\n* NOTE\n", b"END 0 0\n")?);
-    let script =
-        b"JOB1 1 ALLOC A.B SPACE=(TRK,1)\nSYNC\nSYNC\nJOB1 1 ALLOC A.B SPACE=(TRK,1)\nSYNC\n";
-    let wanted = b"1 1 1 JOB1 1 R12 NO CONFIGURATION\n4 2 1 JOB1 1 R12 NO CONFIGURATION\nEND 2 2\n";
-    assert!(rt; answers(&rt, script, wanted)?);
-    Ok(())
-}
-
-/// How often SYNC stands, what stands behind it, and how the run ends.
-#[rattlefmt::skip]
-static COMMAND_LIMITS: [(usize, &str, RunStatus); 7] = [
-    (99_999, "\nSYNC\n* NOTE\n", RunStatus::Done),
-    (100_000, "\n* NOTE\n", RunStatus::Done),
-    (100_000, "\nSYNC\n", RunStatus::Script(TooManyLines(100_002))),
-    (100_000, "JOB1 1 DELETE A", RunStatus::Script(TooManyLines(100_001))),
-    (100_000, "JOB1 0 DELETE A", RunStatus::Script(BadLine(100_001))),
-    (100_000, "SMSADMIN 1 ACTIVATE\n./END", RunStatus::Script(TooManyLines(100_001))),
-    (100_000, "SMSADMIN 1 ACTIVATE\n", RunStatus::Script(OpenBlock(100_001))),
-];
-
-#[test]
-fn a_script_has_at_most_100000_commands(rt: HostRuntime) -> Result<(), Fail> {
-    for (count, last, wanted) in &COMMAND_LIMITS {
-        let mut text = "SYNC\n".repeat(rt.alloc(), *count)?;
-        text.push_str(last)?;
-        let ended = run(&rt, text.as_bytes())?.status;
-        assert!(rt; ended == *wanted, "{last}");
-    }
-    Ok(())
+fn sync_parts_the_phases(rt: HostRuntime) -> Result<(), Fail> {
+    compare_all(&rt, rt.alloc(), &PHASES)
 }
