@@ -8,6 +8,7 @@ use dsn_mask::Name;
 use sms_construct::{Op, Reply, Request, RequestNumber};
 use sms_core::{Core, Work};
 use sms_keeper::{FaultKeeper, Keeper, MemKeeper};
+use sms_script::Script;
 use std::alloc::Global;
 use std::process::Abort;
 use std::test::Fail;
