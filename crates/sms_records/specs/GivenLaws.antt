@@ -7,7 +7,7 @@ use Rattle.std.proofs.lemmas.Slice.Eq.{bytes_eq-Decides}
 use Rattle.acs_tree.specs.declared.input.Input.{Input}
 use Rattle.acs_tree.specs.Inputs.{no_lists, no_texts}
 use Rattle.dsn_mask.specs.Name.{is_short}
-use Rattle.sms_records.specs.Form.{◌>>=◌, ◌&◌, Form, IsReadable, both_at, made, made_at, number_form, number_32_form, seen_at}
+use Rattle.sms_records.specs.Form.{◌>>=◌, ◌&◌, Form, IsReadable, both_at, list, made, made_at, number_form, number_32_form, seen_at}
 use Rattle.sms_records.specs.FormLaws.{both_readable}
 use Rattle.sms_records.specs.ListLaws.{list_readable}
 use Rattle.sms_records.specs.Texts.{short_form, volser_form}
@@ -115,10 +115,12 @@ no_texts_again =
     (both_readable setting_form (default_form & (short_form & short_form)) _ _ setting_again
     (both_readable default_form (short_form & short_form) _ _ three_empty_again two_empty_again)))
 
+none_again : (form : Form (List ℕ)) → IsReadable (list form) []
+none_again form = list_readable form [] (omega arith) tt
+
 -- the lists where none is given are read again
 pub no_lists_again : IsReadable lists_form (fields_of_lists no_lists)
 no_lists_again =
-    let none_again = λ (form : Form (List ℕ)). list_readable form [] (omega arith) tt in
     let account = account_readable [] (omega arith) (none_again short_form) in
     both_readable volumes_form (account_form & account_form) [] ([], [])
     (volumes_readable [] (omega arith) (omega arith) (none_again volser_form))

@@ -1,6 +1,7 @@
 -- The record form of what routines see of a request, in the parts in which a request keeps it: its name, its texts, its
 -- numbers and its lists.
 use Rattle.std.specs.Prelude.{ℕ, List}
+use Rattle.acs_tree.specs.declared.amounts.Amounts.{Amounts}
 use Rattle.acs_tree.specs.declared.given_lists.GivenLists.{GivenLists}
 use Rattle.acs_tree.specs.declared.given_texts.GivenTexts.{GivenTexts}
 use Rattle.acs_tree.specs.declared.input.Input.{Input}
@@ -92,26 +93,30 @@ lists_of x = record { accounting = record { acct_job = x.1.0; acct_step = x.1.1 
 abbrev pub lists_in : Input → GivenLists
 lists_in x = record { accounting = x.accounting; volumes = x.volumes }
 
--- the parts: the name; the texts; the retention period and the block size; the lists; the size and the greatest size
+-- the retention period and the block size; the lists; the size and the greatest size
+abbrev pub CountedFields : Type 0
+CountedFields = (ℕ × ℕ) × (ListFields × (ℕ × ℕ))
+
+-- their form
+abbrev pub counted_form : Form CountedFields
+counted_form = (number_32_form & number_32_form) & lists_form & (number_form & number_form)
+
+-- these fields, of numbers and lists
+abbrev pub fields_of_counted : Amounts → GivenLists → CountedFields
+fields_of_counted amounts lists =
+    ((amounts.retpd, amounts.blksize), (fields_of_lists lists, (amounts.size, amounts.maxsize)))
+
+-- the parts: the name, the texts, and the numbers with the lists
 abbrev pub InputParts : Type 0
-InputParts = List ℕ × (TextFields × ((ℕ × ℕ) × (ListFields × (ℕ × ℕ))))
+InputParts = List ℕ × (TextFields × CountedFields)
 
 -- their form
 abbrev pub parted_form : Form InputParts
-parted_form = seen_name_form & texts_form & (number_32_form & number_32_form) & lists_form & (number_form & number_form)
+parted_form = seen_name_form & texts_form & counted_form
 
 -- the parts of what routines see
 abbrev pub parts_of_input : Input → InputParts
-parts_of_input x = (
-  x.dsn,
-  (
-    fields_of_texts (texts_in x),
-    (
-      (x.amounts.retpd, x.amounts.blksize),
-      (fields_of_lists (lists_in x), (x.amounts.size, x.amounts.maxsize)),
-    ),
-  ),
-)
+parts_of_input x = (x.dsn, (fields_of_texts (texts_in x), fields_of_counted x.amounts (lists_in x)))
 
 -- what routines see, of these parts
 abbrev pub input_of_parts : InputParts → Input

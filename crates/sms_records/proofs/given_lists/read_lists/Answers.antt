@@ -7,4 +7,4 @@ use Rattle.sms_records.proofs.given_lists.read_lists.Goals as goal
 pub returns-in-Some : goal.returns-in-Some
 returns-in-Some c =
     read_at_front lists_form (fields_of_lists no_lists) _ c.args.bytes.now c.in-Some.rest.now no_lists_again refl
-    c.in-Some.ensures.0 c.in-Some.ensures.1
+    c.in-Some.ensures.cases.0 c.in-Some.ensures.cases.1

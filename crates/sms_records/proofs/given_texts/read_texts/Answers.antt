@@ -7,4 +7,4 @@ use Rattle.sms_records.proofs.given_texts.read_texts.Goals as goal
 pub returns-in-Some : goal.returns-in-Some
 returns-in-Some c =
     read_at_front texts_form (fields_of_texts no_texts) _ c.args.bytes.now c.in-Some.rest.now no_texts_again refl
-    c.in-Some.ensures.0 c.in-Some.ensures.1
+    c.in-Some.ensures.cases.0 c.in-Some.ensures.cases.1
