@@ -27,8 +27,22 @@ PartFields N A B C D E F V W S = N × ((A × (B × (C × (D × E)))) × (F × ((
 
 -- the fields of the parts
 abbrev fields_of : {N A B C D E F V W S : Type 0} → PartFields N A B C D E F V W S → WholeFields N A B C D E F V W S
-fields_of x = (x.0, (x.1.0.0, (x.1.0.1.0, (x.1.0.1.1.0, (x.1.0.1.1.1.0,
-    ((x.1.0.1.1.1.1, x.1.1.0), (x.1.1.1.0.0, (x.1.1.1.0.1, x.1.1.1.1))))))))
+fields_of x = (
+  x.0,
+  (
+    x.1.0.0,
+    (
+      x.1.0.1.0,
+      (
+        x.1.0.1.1.0,
+        (
+          x.1.0.1.1.1.0,
+          ((x.1.0.1.1.1.1, x.1.1.0), (x.1.1.1.0.0, (x.1.1.1.0.1, x.1.1.1.1))),
+        ),
+      ),
+    ),
+  ),
+)
 
 then_then : {A B C : Type 0} (r : Option A) (f : A → Option B) (g : B → Option C)
     → ((r >>= f) >>= g) ≡ (r >>= λ x. f x >>= g)

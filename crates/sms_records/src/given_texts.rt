@@ -130,11 +130,7 @@ pub fn write_texts(input: &Input, out: &mut Vec<u8>) -> Result<(), AllocError>
     asking_of(origin).write_to(out)?;
     wanted_of(attributes).write_to(out)?;
     setting_of(origin, attributes, environment).write_to(out)?;
-    (
-        defaults.dataclas,
-        (defaults.storclas, defaults.mgmtclas),
-    )
-        .write_to(out)?;
+    (defaults.dataclas, (defaults.storclas, defaults.mgmtclas)).write_to(out)?;
     (environment.sysname, environment.sysplex).write_to(out)
 }
 
