@@ -11,20 +11,31 @@ use Rattle.sms_records.specs.Enums.{eattr_form}
 use Rattle.sms_records.specs.Parts.{space_form}
 use Rattle.sms_records.specs.Inputs.{input_form}
 
--- all but the name: what routines see, the space, the classes, the volumes, the day, the retention period, and
--- whether it may lie on cylinder-managed space
-abbrev pub AskedFields : Type 0
-AskedFields = Input × (Option Quantities × (Option (List ℕ) × (Option (List ℕ) × (Option (List ℕ)
-    × (Option ℕ × (ℕ × (Option ℕ × Option Eattr)))))))
+-- the space, the classes, the volumes, the day, the retention period, and whether it may lie on cylinder-managed space
+abbrev pub ChoiceFields : Type 0
+ChoiceFields = Option Quantities × (Option (List ℕ) × (Option (List ℕ) × (Option (List ℕ)
+    × (Option ℕ × (ℕ × (Option ℕ × Option Eattr))))))
 
 -- their form
-abbrev pub asked_form : Form AskedFields
-asked_form = input_form & option space_form & option name_form & option name_form & option name_form
+abbrev pub choices_form : Form ChoiceFields
+choices_form = option space_form & option name_form & option name_form & option name_form
     & option volume_count_form & number_32_form & option number_32_form & option eattr_form
 
 -- these fields of an ALLOC
+abbrev pub choices_of : Alloc → ChoiceFields
+choices_of x = (x.space, (x.dataclas, (x.storclas, (x.mgmtclas, (x.volumes, (x.day, (x.retpd, x.eattr)))))))
+
+-- all but the name: what routines see, and the choices
+abbrev pub AskedFields : Type 0
+AskedFields = Input × ChoiceFields
+
+-- their form
+abbrev pub asked_form : Form AskedFields
+asked_form = input_form & choices_form
+
+-- these fields of an ALLOC
 abbrev pub asked_of : Alloc → AskedFields
-asked_of x = (x.input, (x.space, (x.dataclas, (x.storclas, (x.mgmtclas, (x.volumes, (x.day, (x.retpd, x.eattr))))))))
+asked_of x = (x.input, choices_of x)
 
 -- the ALLOC of these fields
 abbrev pub alloc_from : AskedFields → Alloc

@@ -7,11 +7,11 @@ use Rattle.acs_tree.specs.declared.input.Input.{Input}
 use Rattle.acs_tree.specs.Variables.{first_qualifier, last_qualifier}
 use Rattle.dsn_mask.specs.Qualifiers.{qualifiers_of}
 use Rattle.sms_records.specs.Form.{◌&◌, IsExact, IsReadable, number_form, text_form}
-use Rattle.sms_records.specs.FormLaws.{◌&-exact◌, both_readable, guard_some_of, made_again, made_exact, number_exact, number_32_exact, number_readable, seen_exact, seen_readable, text_exact, text_readable}
+use Rattle.sms_records.specs.FormLaws.{◌&-exact◌, both_readable, guard_some_of, made_exact, number_exact, number_32_exact, number_readable, seen_exact, seen_readable, text_exact, text_readable}
 use Rattle.sms_records.specs.Texts.{dsn_form}
 use Rattle.sms_records.specs.TextLaws.{and_true, dsn_exact, short_exact}
 use Rattle.sms_records.specs.PartLaws.{account_exact, first_true, second_true, volumes_exact}
-use Rattle.sms_records.specs.Inputs.{NameParts, are_parts, fields_of_input, input_fields, input_form, input_of, name_parts_form, name_with_parts, parts_of_name, seen_name_form}
+use Rattle.sms_records.specs.Inputs.{NameParts, are_parts, input_form, name_parts_form, name_with_parts, parts_of_name, seen_name_form}
 
 same_parts : (dsn first last : List ℕ) (count : ℕ) → first ≡ first_qualifier dsn → last ≡ last_qualifier dsn
     → count ≡ length (qualifiers_of dsn)
@@ -64,9 +64,3 @@ input_exact = made_exact _ _ _
     &-exact ((short_exact &-exact short_exact) &-exact number_32_exact &-exact number_32_exact)
     &-exact volumes_exact &-exact (account_exact &-exact account_exact) &-exact number_exact &-exact number_exact)
     (λ a. refl)
-
-pub input_readable : (x : Input) → IsReadable seen_name_form x.dsn → IsReadable input_fields (fields_of_input x)
-    → IsReadable input_form x
-input_readable x name others =
-    made_again (seen_name_form & input_fields) (λ y. input_of y.0 y.1) (λ y. (y.dsn, fields_of_input y)) (λ y. refl) x
-    (both_readable seen_name_form input_fields x.dsn (fields_of_input x) name others)

@@ -22,6 +22,8 @@ pub mod Replies
 pub mod ReplyLaws
 pub mod Inputs
 pub mod InputLaws
+pub mod Givens
+pub mod GivenLaws
 pub mod Allocs
 pub mod AllocLaws
 pub mod Requests

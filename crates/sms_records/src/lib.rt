@@ -5,6 +5,8 @@ mod allocs;
 mod decks;
 mod enums;
 mod faults;
+mod given_lists;
+mod given_texts;
 mod inputs;
 mod lists;
 mod name_parts;
