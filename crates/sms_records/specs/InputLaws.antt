@@ -3,7 +3,6 @@ use Rattle.std.proofs.Common.{◌≡◌, ◌<◌, ◌^◌, ℕ, true, List, leng
 use Rattle.std.specs.Str.{bytes_eq}
 use Rattle.std.specs.Cmp.{unsigned_Decides}
 use Rattle.std.proofs.lemmas.Slice.Eq.{bytes_eq-Decides}
-use Rattle.acs_tree.specs.declared.input.Input.{Input}
 use Rattle.acs_tree.specs.Variables.{first_qualifier, last_qualifier}
 use Rattle.dsn_mask.specs.Qualifiers.{qualifiers_of}
 use Rattle.sms_records.specs.Form.{◌&◌, IsExact, IsReadable, number_form, text_form}
