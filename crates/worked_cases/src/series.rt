@@ -93,7 +93,8 @@ impl Series<'_> {
         rt: &R,
         length: usize,
     ) -> Result<bool, AllocError> {
-        let front = self.input.get(..length).unwrap_or("");
+        let bytes = self.input.as_bytes();
+        let front = std::str::from_utf8(bytes.get(..length).unwrap_or(bytes)).unwrap_or("");
         let Some(found) = outcome_of(rt, self.words, front, &Faults::none(rt.alloc()))? else {
             return Ok(false);
         };
