@@ -5,6 +5,7 @@ use std::sync::Wait;
 use std::thread::Threads;
 
 /// A case with its holes filled, and what its run without a fault came to.
+#[derive(Clone, Copy)]
 pub struct Series<'a> {
     pub words: &'a str,
     pub input: &'a str,
