@@ -18,6 +18,7 @@ static FORMS: [&str; 11] = [
 
 // How much a word tells of a list in which it is as asked in its place, or in another.
 const IN_PLACE: u32 = 100;
+
 const ELSEWHERE: u32 = 60;
 
 /// The list to which the words are nearest; none where they tell of none.

@@ -11,7 +11,8 @@ use std::alloc::{AllocError, Global};
 /// The longest command line, in bytes.
 const MAX_LINE: usize = 4096;
 
-const JOB: &str = "SYNC alone, or the name of a job: 1 to 8 letters, digits, #, @ and $, the first no digit";
+const JOB: &str =
+    "SYNC alone, or the name of a job: 1 to 8 letters, digits, #, @ and $, the first no digit";
 
 const NUMBER: &str = "a request number, 1 to 4294967295";
 
@@ -110,11 +111,7 @@ fn operands_misfit(alloc: Global, line: &CommandLine) -> Result<Misfit, AllocErr
 }
 
 // Where the operand stops being one that may stand there.
-fn operand_misfit(
-    alloc: Global,
-    line: &CommandLine,
-    number: usize,
-) -> Result<Misfit, AllocError> {
+fn operand_misfit(alloc: Global, line: &CommandLine, number: usize) -> Result<Misfit, AllocError> {
     let word = line.word(number);
     let key = front_of(word, b'=');
     if key.len() == word.len() || !is_key(key) {

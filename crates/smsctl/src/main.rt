@@ -30,8 +30,7 @@ use std::sync::Wait;
 use std::thread::Threads;
 
 // What is said where help or the version can't be written.
-const TEXT_FAULT: &str =
-    "standard output can't be written; a front of the text may be there\n";
+const TEXT_FAULT: &str = "standard output can't be written; a front of the text may be there\n";
 
 fn main(rt: HostRuntime) -> ExitCode {
     match read_words(&rt) {

@@ -102,11 +102,7 @@ pub fn shown_text(alloc: Global, words: &[String]) -> Result<String, AllocError>
 }
 
 // What stands behind a text of this kind.
-fn examples_behind(
-    alloc: Global,
-    words: &[String],
-    kind: ErrorKind,
-) -> Result<String, AllocError> {
+fn examples_behind(alloc: Global, words: &[String], kind: ErrorKind) -> Result<String, AllocError> {
     match (kind, words.first()) {
         (ErrorKind::DisplayHelp, Some(word)) => examples_of(alloc, word.as_str()),
         (ErrorKind::OutOfMemory, _) => Err(AllocError),
