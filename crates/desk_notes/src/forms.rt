@@ -16,10 +16,17 @@ static FORMS: [&str; 11] = [
     "--version",
 ];
 
-// How much a word tells of a list in which it is as asked in its place, or in another.
-const IN_PLACE: u32 = 100;
+// How much a word tells of a list in which it is as asked in its place: a word of the list, a number, or any word.
+const WORD_IN_PLACE: u32 = 100;
 
-const ELSEWHERE: u32 = 60;
+const NUMBER_IN_PLACE: u32 = 40;
+
+const ANY_IN_PLACE: u32 = 10;
+
+// The same where it is as asked in another place.
+const WORD_ELSEWHERE: u32 = 60;
+
+const NUMBER_ELSEWHERE: u32 = 20;
 
 /// The list to which the words are nearest; none where they tell of none.
 pub fn nearest_form(words: &[String]) -> Option<&'static str> {
@@ -46,12 +53,34 @@ fn likeness(form: &str, words: &[String]) -> u32 {
 fn word_likeness(form: &str, at: usize, word: &str) -> u32 {
     let part = part_of(form, at).unwrap_or("");
     if fits(part, word) {
-        IN_PLACE
-    } else if is_among(form, word) {
-        ELSEWHERE
+        in_place(part)
     } else {
-        shared_front(part, word)
+        elsewhere(form, word).max(shared_front(part, word))
     }
+}
+
+fn in_place(part: &str) -> u32 {
+    if part == "FILE" {
+        ANY_IN_PLACE
+    } else if limits_of(part).is_some() {
+        NUMBER_IN_PLACE
+    } else {
+        WORD_IN_PLACE
+    }
+}
+
+// The name of a file tells nothing in another place.
+fn elsewhere(form: &str, word: &str) -> u32 {
+    for part in form.split(' ') {
+        if part != "FILE" && fits(part, word) {
+            return if limits_of(part).is_some() {
+                NUMBER_ELSEWHERE
+            } else {
+                WORD_ELSEWHERE
+            };
+        }
+    }
+    0
 }
 
 /// The part of a list with this number, from 0.
@@ -85,16 +114,6 @@ fn is_within(word: &str, least: u32, most: u32) -> bool {
         Some(number) => least <= number && number <= most,
         None => false,
     }
-}
-
-// Whether the word is as some part of the list asks; the name of a file tells nothing.
-fn is_among(form: &str, word: &str) -> bool {
-    for part in form.split(' ') {
-        if part != "FILE" && fits(part, word) {
-            return true;
-        }
-    }
-    false
 }
 
 // How many bytes at their fronts are the same.
