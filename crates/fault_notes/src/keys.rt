@@ -54,8 +54,8 @@ impl Keys {
     }
 }
 
-// What stands before the first such byte.
-fn front_of(text: &[u8], end: u8) -> &[u8] {
+/// What stands before the first such byte.
+pub fn front_of(text: &[u8], end: u8) -> &[u8] {
     match text.iter().position(|byte| *byte == end) {
         Some(at) => &text[..at],
         None => text,

@@ -39,6 +39,16 @@ pub fn line_at(text: &[u8], line: usize) -> Place<'_>
     }
 }
 
+/// The bytes of this line, which counts from 1, without its line end: an LF, and a CR right before that.
+pub fn line_bytes(text: &[u8], line: usize) -> &[u8] {
+    let mut lines = text.split(|byte| *byte == b'\n');
+    let bytes = lines.nth(line.saturating_sub(1)).unwrap_or(&[]);
+    match (bytes, lines.next()) {
+        ([front @ .., b'\r'], Some(_)) => front,
+        _ => bytes,
+    }
+}
+
 // The number of line ends.
 fn line_feeds(text: &[u8]) -> usize
     ensures count { result ≡ count_by is_line_feed text.now }

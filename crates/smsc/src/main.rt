@@ -6,6 +6,9 @@ ghost use Rattle.std.specs.Prelude.{◌≡◌};
 ghost use Rattle.std.specs.Process.{exit_status};
 ghost use Rattle.tool_calls.specs.ExitStatus.{exit_status_of};
 
+mod explaining;
+
+use crate::explaining::sentence_of;
 use sms_base::{StdSink, StdSource, Words, read_words};
 use std::io;
 use std::process::ExitCode;
@@ -28,8 +31,8 @@ fn answer(rt: &HostRuntime, words: &[String], note: &mut String) -> ToolStatus {
     smsc_main(rt.alloc(), words, &mut src, &mut out, note)
 }
 
-// Says a status other than 0 and 1 on standard error, with the script's fault, and what a fault means; and ends the
-// program with the status.
+// Says a status other than 0 and 1 on standard error, with the script's fault, and what a fault means: in the words of the
+// note, or where there is none in its own. Ends the program with the status.
 fn end(rt: &HostRuntime, status: ToolStatus, note: &str) -> ExitCode
     ensures { exit_status result ≡ exit_status_of status }
 {
@@ -38,6 +41,11 @@ fn end(rt: &HostRuntime, status: ToolStatus, note: &str) -> ExitCode
         ToolStatus::Done | ToolStatus::FaultFound => Ok(()),
         ToolStatus::Script(fault) => eprintln!(rt; "smsc: status {code} {fault}"),
         _ => eprintln!(rt; "smsc: status {code}"),
+    };
+    let note = if note.is_empty() {
+        sentence_of(status)
+    } else {
+        note
     };
     if !note.is_empty() {
         let _ = eprint!(rt; "smsc: {note}");

@@ -17,6 +17,9 @@ use std::process::ExitCode;
 // The exit status where the file can't be opened.
 const NOT_OPENED: u8 = 9;
 
+// What is said where there is no memory to open it.
+const UNOPENED: &str = "memory is wanting; nothing was read\n";
+
 /// Answers the script on standard input with the records in the file, and ends the program.
 pub fn run(rt: &HostRuntime, file: &str, words: &[String]) -> ExitCode {
     match Connection::open(rt, file) {
@@ -42,7 +45,7 @@ fn answer<S: Alter + Drop>(
     let mut out = NotedSink::new(StdSink::new(io::writer(rt)));
     let keeper = SqlKeeper::new(rt.alloc(), connection);
     let (status, keeper) = db_main(rt.alloc(), words, &mut src, &mut out, keeper);
-    note_database(rt.alloc(), note, status, src.given());
+    note_database(rt.alloc(), note, words, status, src.given());
     if out.has_refusal() {
         note_refusal(note);
     }
@@ -53,7 +56,7 @@ fn answer<S: Alter + Drop>(
 fn refuse(rt: &HostRuntime, file: &str, error: Error) -> ExitCode {
     match error {
         Error::SqliteFailure(ErrorCode::OutOfMemory) => {
-            end(rt, DbStatus::Ran(RunStatus::NoMemory), "")
+            end(rt, DbStatus::Ran(RunStatus::NoMemory), UNOPENED)
         }
         _ => {
             let _ = eprintln!(rt; "smsctl: status {NOT_OPENED}");
@@ -71,7 +74,8 @@ fn end(rt: &HostRuntime, status: DbStatus, note: &str) -> ExitCode
         DbStatus::Ran(status) => crate::end(rt, status, note),
         DbStatus::StoreFault | DbStatus::Store(_) => {
             let code = status.code();
-            let _ = eprint!(rt; "smsctl: status {code}\nsmsctl: {note}");
+            let _ = eprintln!(rt; "smsctl: status {code}");
+            crate::say(rt, note);
             ExitCode::from(code)
         }
     }

@@ -1,61 +1,24 @@
-//! What is said of a run that didn't end well, for the person at the terminal (docs/script.md, "What is said of a
-//! fault"). Where memory for it is wanting, nothing is said.
+//! What is said of a run over a database and of a served desk that didn't end well, for the person at the terminal
+//! (docs/script.md, "What is said of a fault"). Where memory for it is wanting, nothing is said.
 use db_calls::DbStatus;
 use desk_calls::RunStatus;
-use fault_notes::script_note;
+use desk_notes::note_run;
 use serve_calls::ServeStatus;
 use sms_keeper::Table;
 use sms_open::OpenErr;
-use sms_script::{ScriptErr, read_script};
 use std::alloc::Global;
 
-/// What the command line asks for where its words are none that the desk knows.
-pub fn note_words(note: &mut String, words: &[String]) {
-    say(note, sentence_of_words(words));
-}
-
-/// What failed, and what stands.
-pub fn note_status(alloc: Global, note: &mut String, status: RunStatus, script: Option<&[u8]>) {
+/// What failed in a run with the records in a database, and what stands.
+pub fn note_database(
+    alloc: Global,
+    note: &mut String,
+    words: &[String],
+    status: DbStatus,
+    script: Option<&[u8]>,
+) {
     match status {
-        RunStatus::Done | RunStatus::BadWords => (),
-        RunStatus::Script(fault) => {
-            if let Some(text) = script {
-                note_fault(alloc, note, text, fault);
-            }
-        }
-        RunStatus::ReadFault => say(note, "standard input can't be read; nothing was answered\n"),
-        RunStatus::WriteFault => say(note, WRITE_FAULT),
-        RunStatus::TooLong => say(note, TOO_LONG),
-        RunStatus::NoMemory => say(note, NO_MEMORY),
-    }
-}
-
-/// The same of a run behind which a day of space management is done.
-pub fn note_managed(alloc: Global, note: &mut String, status: RunStatus, script: Option<&[u8]>) {
-    match (status, script) {
-        (RunStatus::Script(fault), Some(text)) if is_reserved(alloc, text, fault) => {
-            say(note, RESERVED);
-        }
-        _ => note_status(alloc, note, status, script),
-    }
-}
-
-// The fault isn't the script's own, but that of a line which is kept for the day.
-fn is_reserved(alloc: Global, text: &[u8], fault: ScriptErr) -> bool {
-    if text.len() > MOST_BYTES {
-        return false;
-    }
-    match read_script(alloc, text) {
-        Ok(_) => true,
-        Err(ScriptErr::NoMemory) => false,
-        Err(own) => own != fault,
-    }
-}
-
-/// The same of a run with the records in a database.
-pub fn note_database(alloc: Global, note: &mut String, status: DbStatus, script: Option<&[u8]>) {
-    match status {
-        DbStatus::Ran(status) => note_status(alloc, note, status, script),
+        DbStatus::Ran(RunStatus::NoMemory) => say(note, NO_MEMORY),
+        DbStatus::Ran(status) => note_run(alloc, note, words, status, script),
         DbStatus::StoreFault => say(note, STORE_FAULT),
         DbStatus::Store(err) => note_store(alloc, note, err),
     }
@@ -124,28 +87,12 @@ pub fn note_refusal(note: &mut String) {
     say(note, REFUSAL);
 }
 
-// The line of a script's fault, and what it means.
-fn note_fault(alloc: Global, note: &mut String, text: &[u8], fault: ScriptErr) {
-    if let Ok(made) = script_note(alloc, text, fault) {
-        *note = made;
-    }
-}
-
 const REFUSAL: &str =
     "an answer refuses a deck (R21): smsc validate, with the deck alone as input, says what is wrong in it\n";
-
-const WRITE_FAULT: &str =
-    "standard output can't be written; all was answered, and a front of the text may be there\n";
-
-const TOO_LONG: &str = "the script has more than 16777216 bytes; nothing was answered\n";
 
 const STORE_FAULT: &str =
     "the tables can't be made in the file, or not be read: it can't be written, \
     or has one of them in another form; nothing was answered\n";
-
-const RESERVED: &str =
-    "this line is of the job SMSMGMT or purges it, and with --manage that job is \
-    the day's own; nothing was answered\n";
 
 const SERVE_WORDS: &str = "the words of the command line are none that serve the desk";
 
@@ -158,38 +105,8 @@ const SERVE_MEMORY: &str = "memory is wanting; connections may have been answere
 const SERVE_PORT: &str = "the port gave a worker no further connection; all that were given \
     were served, and their lines are written";
 
-// The most bytes of a script that are read again for a sentence.
-const MOST_BYTES: usize = 16_777_216;
-
-const NO_MEMORY: &str = "memory is wanting; no answer was written\n";
-
-fn sentence_of_words(words: &[String]) -> &'static str {
-    match first_word(words) {
-        "run" => RUN,
-        "gen" => GEN,
-        "serve" => SERVE,
-        _ => FIRST,
-    }
-}
-
-const FIRST: &str = "the first word is run, gen or serve, or --help or --version alone; \
-    smsctl --help says what each does\n";
-
-const RUN: &str = "run takes --workers N, 1 to 16, and --volumes, in this order: \
-    smsctl run [--workers N] [--volumes]; or a file for the records: smsctl run --db FILE; \
-    or a day of space management, 0 to 9999999: smsctl run --manage DAY\n";
-
-const GEN: &str = "gen takes SEED, 0 to 4294967295, and COUNT, 1 to 40000: smsctl gen SEED COUNT\n";
-
-const SERVE: &str = "serve takes a port, 1 to 65535, and a number of connections, 1 to 1000000: \
-    smsctl serve PORT CONNECTIONS [--workers N], N from 1 to 16, each of whom takes so many\n";
-
-fn first_word(words: &[String]) -> &str {
-    match words.first() {
-        Some(word) => word.as_str(),
-        None => "",
-    }
-}
+const NO_MEMORY: &str =
+    "memory is wanting; no answer was written, and the file is as it was, or has all that was answered\n";
 
 fn say(note: &mut String, sentence: &str) {
     let _ = note.push_str(sentence);

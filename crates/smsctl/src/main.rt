@@ -12,22 +12,25 @@ mod kept_source;
 mod noted_sink;
 mod serving;
 
-use crate::explaining::{note_managed, note_refusal, note_status, note_words};
+use crate::explaining::note_refusal;
 use crate::kept_source::KeptSource;
 use crate::noted_sink::NotedSink;
 use db_calls::database_asked;
 use desk_calls::{RunStatus, desk_main};
+use desk_notes::{note_run, sentence_of};
 use desk_words::{managed_day, serve_words};
 use manage_calls::manage_main;
 use sms_base::{Sink, Source, StdSink, StdSource, Words, read_words};
 use sms_desk::FreeGate;
 use sms_keeper::MemKeeper;
-use sms_script::ScriptErr;
 use std::alloc::Global;
 use std::io::{self, Write};
 use std::process::ExitCode;
 use std::sync::Wait;
 use std::thread::Threads;
+
+// What is said where help or the version can't be written.
+const TEXT_FAULT: &str = "standard output can't be written; a front of the text may be there\n";
 
 fn main(rt: HostRuntime) -> ExitCode {
     match read_words(&rt) {
@@ -36,7 +39,11 @@ fn main(rt: HostRuntime) -> ExitCode {
             RunStatus::BadWords,
             "a word of the command line isn't UTF-8\n",
         ),
-        Words::NoMemory => end(&rt, RunStatus::NoMemory, ""),
+        Words::NoMemory => end(
+            &rt,
+            RunStatus::NoMemory,
+            "memory is wanting; nothing was read\n",
+        ),
         Words::Read(words) => obey(&rt, &rt, &words),
     }
 }
@@ -45,7 +52,7 @@ fn main(rt: HostRuntime) -> ExitCode {
 #[tactic(auto, using(crate::proofs::WordLaws::same_workers))]
 fn obey<T: Threads + Wait + Sync>(rt: &HostRuntime, threads: &T, words: &[String]) -> ExitCode {
     if let Some(text) = help::text_for(words) {
-        return end(rt, show(rt, text), "");
+        return show(rt, text);
     }
     if let Some(file) = database_asked(words) {
         return database::run(rt, file, words);
@@ -60,9 +67,6 @@ fn obey<T: Threads + Wait + Sync>(rt: &HostRuntime, threads: &T, words: &[String
 fn run<T: Threads + Wait + Sync>(rt: &HostRuntime, threads: &T, words: &[String]) -> ExitCode {
     let mut note = String::new(rt.alloc());
     let status = answer(rt, threads, words, &mut note);
-    if status == RunStatus::BadWords {
-        note_words(&mut note, words);
-    }
     end(rt, status, &note)
 }
 
@@ -76,10 +80,7 @@ fn answer<T: Threads + Wait + Sync>(
     let mut src = KeptSource::new(rt.alloc(), StdSource::new(rt.reader()));
     let mut out = NotedSink::new(StdSink::new(io::writer(rt)));
     let status = answer_over(rt.alloc(), threads, words, &mut src, &mut out);
-    match managed_day(words) {
-        Some(_) => note_managed(rt.alloc(), note, status, src.given()),
-        None => note_status(rt.alloc(), note, status, src.given()),
-    }
+    note_run(rt.alloc(), note, words, status, src.given());
     if out.has_refusal() {
         note_refusal(note);
     }
@@ -102,15 +103,16 @@ fn answer_over<S: Source, K: Sink, T: Threads + Wait + Sync>(
     status
 }
 
-// Writes a text to standard output.
-fn show(rt: &HostRuntime, text: &str) -> RunStatus {
+// Writes a text to standard output, and ends the program.
+fn show(rt: &HostRuntime, text: &str) -> ExitCode {
     match rt.print(text) {
-        Ok(()) => RunStatus::Done,
-        Err(_) => RunStatus::WriteFault,
+        Ok(()) => end(rt, RunStatus::Done, ""),
+        Err(_) => end(rt, RunStatus::WriteFault, TEXT_FAULT),
     }
 }
 
-// Says a status other than 0 on standard error, with the script's fault and what it means, and ends the program with it.
+// Says a status other than 0 on standard error, with the script's fault, and what it means: in the words of the note, or
+// where there is none in its own. Ends the program with it.
 fn end(rt: &HostRuntime, status: RunStatus, note: &str) -> ExitCode
     ensures { exit_status result ≡ exit_status_of status }
 {
@@ -120,8 +122,17 @@ fn end(rt: &HostRuntime, status: RunStatus, note: &str) -> ExitCode
         RunStatus::Script(fault) => eprintln!(rt; "smsctl: status {code} {fault}"),
         _ => eprintln!(rt; "smsctl: status {code}"),
     };
-    if !note.is_empty() {
-        let _ = eprint!(rt; "smsctl: {note}");
+    if note.is_empty() {
+        say(rt, sentence_of(status));
+    } else {
+        say(rt, note);
     }
     ExitCode::from(code)
+}
+
+// Says lines on standard error, if there are any.
+fn say(rt: &HostRuntime, lines: &str) {
+    if !lines.is_empty() {
+        let _ = eprint!(rt; "smsctl: {lines}");
+    }
 }

@@ -10,6 +10,12 @@ use sms_construct::{Fault, Op, Stage, TextFault};
 use sms_script::{Item, Script, ScriptErr};
 use sms_simulation::Simulated;
 use std::alloc::{AllocError, Global};
+use tool_words::shown_text;
+
+/// Notes why the words of the command line are refused.
+pub fn note_words(alloc: Global, note: &mut String, words: &[String]) {
+    keep(note, shown_text(alloc, words));
+}
 
 /// Notes why a routine isn't translated.
 pub fn note_refusal(alloc: Global, note: &mut String, text: &[u8], err: &TranslateErr) {

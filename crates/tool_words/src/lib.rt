@@ -2,6 +2,7 @@
 #![tactic(auto)]
 
 mod command;
+mod examples;
 mod reading;
 mod task;
 mod words_err;

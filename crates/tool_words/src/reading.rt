@@ -7,6 +7,7 @@ ghost use Rattle.tool_words.specs.Tool.{tool, words_of};
 ghost use Rattle.tool_words.specs.declared.task.Task.{Task as TaskOf};
 
 use crate::command::tool_command;
+use crate::examples::examples_of;
 use crate::task::Task;
 use crate::words_err::WordsErr;
 use acs_tree::Kind;
@@ -88,10 +89,23 @@ fn words_err(kind: ErrorKind) -> WordsErr
     }
 }
 
-/// The text of help or of the version that the words ask for; empty where they ask for none.
+/// The text that answers the words: of help, with an example of each command behind it, of the version, or why they are
+/// refused; empty where they ask for a task.
 pub fn shown_text(alloc: Global, words: &[String]) -> Result<String, AllocError> {
     match read_matches(alloc, words) {
         Ok(_) => Ok(String::new(alloc)),
-        Err(error) => format!(in alloc; "{error}"),
+        Err(error) => {
+            let examples = examples_behind(alloc, words, error.kind())?;
+            format!(in alloc; "{error}{examples}")
+        }
+    }
+}
+
+// What stands behind a text of this kind.
+fn examples_behind(alloc: Global, words: &[String], kind: ErrorKind) -> Result<String, AllocError> {
+    match (kind, words.first()) {
+        (ErrorKind::DisplayHelp, Some(word)) => examples_of(alloc, word.as_str()),
+        (ErrorKind::OutOfMemory, _) => Err(AllocError),
+        _ => Ok(String::new(alloc)),
     }
 }

@@ -334,6 +334,13 @@ fn is_body(alloc: Global, path: &str, size: usize, status: u16) -> Result<bool, 
     is_told(alloc, path, &body, status)
 }
 
+/// Whether letters without an end, so many bytes with what is before them, are answered with this status.
+fn is_endless(alloc: Global, size: usize, status: u16) -> Result<bool, Fail> {
+    let letters = "x".repeat(alloc, size.saturating_sub(5))?;
+    let text = format!(in alloc; "GET /{letters}")?;
+    Ok(text.len() == size && status_of(alloc, text.as_bytes())? == status)
+}
+
 #[test]
 fn heads_and_bodies_have_their_limits(rt: HostRuntime) -> Result<(), Fail> {
     let alloc = rt.alloc();
@@ -348,6 +355,7 @@ fn heads_and_bodies_have_their_limits(rt: HostRuntime) -> Result<(), Fail> {
         let holds = is_body(alloc, path, *most, 200)? && is_body(alloc, path, more, 413)?;
         assert!(rt; holds, "{path}");
     }
+    assert!(rt; is_endless(alloc, 8191, 0)? && is_endless(alloc, 8192, 431)?);
     Ok(())
 }
 

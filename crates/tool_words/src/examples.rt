@@ -1,0 +1,45 @@
+//! What each command does, with an example.
+use std::alloc::{AllocError, Global};
+
+const TRANSLATE: &str = "
+smsc translate KIND  translate the ACS routine on standard input, which is
+                     written for KIND: DATACLAS, STORCLAS, MGMTCLAS or STORGRP
+
+    smsc translate STORCLAS < storclas.acs
+";
+
+const VALIDATE: &str = "
+smsc validate        validate the deck on standard input
+
+    smsc validate < deck.toml
+";
+
+const SIMULATE: &str = "
+smsc simulate        say what the routines of a deck give allocations: a script
+                     that begins with an ACTIVATE is on standard input
+
+    smsc simulate < morning.txt
+";
+
+const COMPARE: &str = "
+smsc compare         say which data sets a new deck treats otherwise: the old
+                     deck, the new one and a table of cases are on standard
+                     input
+
+    smsc compare < change.txt
+";
+
+const DOCUMENT: &str = "
+docs/tool.md has what each reads and prints, and the exit statuses.
+";
+
+/// What the command that this word names does, or what each does where it names none.
+pub fn examples_of(alloc: Global, word: &str) -> Result<String, AllocError> {
+    match word {
+        "translate" => format!(in alloc; "{TRANSLATE}{DOCUMENT}"),
+        "validate" => format!(in alloc; "{VALIDATE}{DOCUMENT}"),
+        "simulate" => format!(in alloc; "{SIMULATE}{DOCUMENT}"),
+        "compare" => format!(in alloc; "{COMPARE}{DOCUMENT}"),
+        _ => format!(in alloc; "{TRANSLATE}{VALIDATE}{SIMULATE}{COMPARE}{DOCUMENT}"),
+    }
+}
