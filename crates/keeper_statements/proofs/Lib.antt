@@ -1,3 +1,5 @@
+pub mod PlaceLemmas
+pub mod UnderstoodLemmas
 pub mod TextLemmas
 pub mod RowLemmas
 pub mod FoundLemmas
@@ -13,4 +15,5 @@ pub mod OrderLemmas
 pub mod ReadTextLemmas
 pub mod ReadLemmas
 pub mod CreateLemmas
+pub mod GrowLemmas
 pub mod StatementLemmas

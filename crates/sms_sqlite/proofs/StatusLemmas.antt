@@ -146,7 +146,7 @@ module _ (target : Target) (status : Status) where
 -- statuses added one by one
 
 pub none_added : (db : Database) → IsReady db → Makes (with_statuses []) db db
-none_added db ready = record { ready = ready; tables = ap (λ (l : List Row). let t : Tables = record (tables_in db.trees) { statuses = l } in t) (sym (append-nil (tables_in db.trees).statuses)) }
+none_added db ready = record { ready = ready; schema = refl; tables = ap (λ (l : List Row). let t : Tables = record (tables_in db) { statuses = l } in t) (sym (append-nil (tables_in db).statuses)) }
 
 readable_push : (rows : List StatusRow) (row : StatusRow) → AreReadable rows → target_of (kind_column row.target) (name_column row.target) ≡ Some row.target → AreReadable (rows ++ row ∷ [])
 readable_push [] row all one = (one, tt)
@@ -163,8 +163,9 @@ pub one_added : (rows : List StatusRow) (i : ℕ) (row : StatusRow) (a b c : Dat
     → Makes (with_status (pos (kind_column row.target)) (name_column row.target) (pos (status_column row.status))) b c → Makes (with_statuses (take (i + 1) rows)) a c
 one_added rows i row a b c low is one two = record {
   ready = two.ready;
+  schema = two.schema ∙ one.schema;
   tables = two.tables ∙ ap (with_status (pos (kind_column row.target)) (name_column row.target) (pos (status_column row.status))) one.tables
-      ∙ ap (λ (l : List Row). let t : Tables = record (tables_in a.trees) { statuses = l } in t)
-      (append_assoc (tables_in a.trees).statuses (map row_of_status (take i rows)) (row_of_status row ∷ [])
-      ∙ ap (λ (l : List Row). (tables_in a.trees).statuses ++ l) (sym (map-append row_of_status (take i rows) (row ∷ [])) ∙ ap (map row_of_status) (sym (next_rows rows i row low is))));
+      ∙ ap (λ (l : List Row). let t : Tables = record (tables_in a) { statuses = l } in t)
+      (append_assoc (tables_in a).statuses (map row_of_status (take i rows)) (row_of_status row ∷ [])
+      ∙ ap (λ (l : List Row). (tables_in a).statuses ++ l) (sym (map-append row_of_status (take i rows) (row ∷ [])) ∙ ap (map row_of_status) (sym (next_rows rows i row low is))));
 }
