@@ -23,12 +23,11 @@ use Rattle.sqlite_rules.specs.Edit.{row_at, id_in}
 use Rattle.sqlite_rules.specs.Probe.{AreFound}
 use Rattle.sqlite_rules.proofs.ProbeLemmas.{found_rowids}
 use Rattle.sqlite.proofs.Callers.{runs_as, one_step}
-use Rattle.keeper_statements.specs.Found.{has_references}
 use Rattle.keeper_statements.specs.Schema.{strict_table}
 use Rattle.keeper_statements.specs.Tables.{IsKeyed}
 use Rattle.keeper_statements.proofs.RowLemmas.{went, same_value}
 use Rattle.keeper_statements.proofs.FoundLemmas.{IsFound, removed}
-use Rattle.keeper_statements.proofs.EditLemmas.{Edits, no_works, others_then}
+use Rattle.keeper_statements.proofs.EditLemmas.{ActsAlone, Edits, others_then}
 use Rattle.keeper_statements.proofs.UnderstoodLemmas.{Means, deleting}
 use Rattle.sqlite_schema.specs.declared.schema.Column.{Column}
 
@@ -57,10 +56,10 @@ module _ (at tree : ℕ) (name : List ℕ) (columns : List Column) (key : Option
   table = strict_table name tree columns key primary uniques
 
   pub removes : (terms : List Term) (text : List ℕ) (params : Row) (p : Row → Bool) (old new : State) (count : ℕ)
-      → slice_get old.now.schema.tables at ≡ Some table → Means old.now.schema text (Delete at (deleting tree terms)) → has_references old.now.schema ≡ false
+      → slice_get old.now.schema.tables at ≡ Some table → Means old.now.schema text (Delete at (deleting tree terms)) → ActsAlone old.now.schema tree
       → ((r : Row) → list_all (holds (params ∷ r ∷ [])) terms ≡ p r) → ((db : Trees) → overlay db [] tree ≡ db tree) → IsKeyed (old.now.trees tree)
       → Executes text params old new (Ok count) → Removes tree p old.now new.now count
-  removes terms text params p old new count listed means none alike seen keyed h =
+  removes terms text params p old new count listed means alone alike seen keyed h =
       let db = old.now.trees in
       let schema = old.now.schema in
       let command = Delete at (deleting tree terms) in
@@ -71,7 +70,7 @@ module _ (at tree : ℕ) (name : List ℕ) (columns : List Column) (key : Option
       let given = went done.1 in
       let written = went given.2 in
       let trees : done.0.trees ≡ written.0 = ap (λ (it : Written). it.trees) (same_value written.2) in
-      let applied = one_step schema _ db written.0 (edit_of db table (ids_of given.0) Given 0 []) (no_works schema _ 0 tree _ _ none) written.1 in
+      let applied = one_step schema _ db written.0 (edit_of db table (ids_of given.0) Given 0 []) (alone _ _ _) written.1 in
       let answer : IsAnswer (deleting tree terms).body (overlay db []) params given.0 = given.1.answer Null in
       let found : AreFound terms (db tree) params given.0 = subst (λ (rows : List Row). AreFound terms rows params given.0) (seen db) (finds tree terms (overlay db []) params [] given.0 answer) in
       let hits : IsFound p (db tree) given.0 = record {

@@ -10,12 +10,13 @@ use Rattle.sqlite.specs.Schema.{Schema}
 use Rattle.sqlite.specs.Table.{Table}
 use Rattle.sqlite_catalog.specs.Change.{KeepsRows, automatics, created, next_tree}
 use Rattle.sqlite_catalog.proofs.StepLemmas.{table_below}
-use Rattle.sqlite_rules.proofs.ListLemmas.{all_has, has_either, has_found, has_right, test_from, test_has}
+use Rattle.sqlite_rules.proofs.ListLemmas.{all_from, all_has, has_either, has_found, has_right, test_from, test_has}
 use Rattle.sqlite_rules.specs.Lists.{Has}
 use Rattle.sqlite_schema.specs.Names.{same_name}
 use Rattle.sqlite_schema.specs.Rules.{guards}
 use Rattle.sqlite_schema.specs.declared.schema.Index.{Index}
-use Rattle.keeper_statements.specs.Found.{CanServe, IsThere, MayBeThere, are_bound, has_any, has_references, keys_of, keys_on, placed, table_in, table_of}
+use Rattle.sqlite_schema.specs.declared.schema.Reference.{Reference}
+use Rattle.keeper_statements.specs.Found.{CanServe, IsThere, MayBeThere, are_bound, is_desk_name, keys_of, keys_on, placed, table_in, table_of}
 use Rattle.keeper_statements.specs.Changes.{no_tables}
 use Rattle.keeper_statements.specs.Presence.{all_there, has_table, none_there, present_in}
 use Rattle.keeper_statements.specs.declared.present.Present.{Present}
@@ -83,7 +84,7 @@ unguarded i table other = ap (λ b. i.is_unique && b) (ne_eqb i.table table.tree
 record IsForm (form : Table) : Type 0 where
   same : same_name form.name form.name ≡ true
   own : (n : ℕ) → map (λ (i : Index). (i.columns, i.order.digits)) (filter (λ i. guards i (placed form n)) (automatics (placed form n) 0 (n + 1) form.uniques)) ≡ keys_of form
-  alone : has_any form.references ≡ false
+  alone : list_any (λ (r : Reference). is_desk_name r.parent) form.references ≡ false
   uncounted : form.is_counted ≡ false
   only : AllByRecursion (λ other. same_name form.name other.name ≡ true → other ≡ form) desk_tables
 
@@ -119,7 +120,6 @@ module _ (schema : Schema) (form : Table) where
       record {
         tree = h.tree;
         named = find_left (λ (t : Table). same_name t.name other.name) schema.tables (last ∷ []) (placed other h.tree) h.named;
-        apart = find_left (λ (t : Table). t.tree == h.tree) schema.tables (last ∷ []) (placed other h.tree) h.apart;
         low = h.low;
         keys = keys_stay (placed other h.tree) (λ same. absurd (omega (arith, same, below))) ∙ h.keys;
       }
@@ -128,9 +128,6 @@ module _ (schema : Schema) (form : Table) where
   there_made is bound low none = record {
     tree = next_tree schema;
     named = find_right (λ (t : Table). same_name t.name form.name) schema.tables (last ∷ []) none ∙ ap (λ b. cond b (Some last) None) is.same;
-    apart = find_right (λ (t : Table). t.tree == next_tree schema) schema.tables (last ∷ [])
-        (find_none (λ (t : Table). t.tree == next_tree schema) schema.tables (λ t h. ne_eqb t.tree (next_tree schema) (λ same. let below = table_below schema t h in absurd (omega (arith, same, below)))))
-        ∙ ap (λ b. cond b (Some last) None) (eq-eqb (next_tree schema) (next_tree schema) refl);
     low = low;
     keys = keys_made is bound;
   }
@@ -158,10 +155,26 @@ module _ (schema : Schema) (form : Table) where
         | inr new ↦ let same : i.table ≡ next_tree schema = automatic_table last 0 (next_tree schema + 1) form.uniques i new in omega (arith, same, more)
       ]))
 
+  apart_grow : CanServe schema → (t : Table) → Has after.tables t → table_in after t.tree ≡ Some t
+  apart_grow serves t h = elim (has_either schema.tables (last ∷ []) t h) [
+    | inl old ↦ find_left (λ (u : Table). u.tree == t.tree) schema.tables (last ∷ []) t (all_has (λ (u : Table). table_in schema u.tree ≡ Some u) schema.tables t serves.apart old)
+    | inr new ↦ elim new [
+      | inl same ↦ subst (λ (u : Table). table_in after u.tree ≡ Some u) (sym same) last_apart
+      | inr none ↦ absurd none
+    ]
+  ]
+    where
+      last_apart : table_in after (next_tree schema) ≡ Some last
+      last_apart =
+          find_right (λ (t : Table). t.tree == next_tree schema) schema.tables (last ∷ [])
+          (find_none (λ (t : Table). t.tree == next_tree schema) schema.tables (λ t h. ne_eqb t.tree (next_tree schema) (λ same. let below : t.tree < next_tree schema = table_below schema t h in absurd (omega (arith, same, below)))))
+          ∙ ap (λ b. cond b (Some last) None) (eq-eqb (next_tree schema) (next_tree schema) refl)
+
   serves_grow : IsForm form → next_tree schema < 65536 → table_of schema form.name ≡ None → CanServe schema → CanServe after
   serves_grow is low none serves = record {
     tables = all_grow desk_tables is serves.bound low none is.only serves.tables;
-    unreferred = any_past (λ (t : Table). has_any t.references) schema.tables last is.alone ∙ serves.unreferred;
+    unreferred = any_past (λ (t : Table). list_any (λ (r : Reference). is_desk_name r.parent) t.references) schema.tables last is.alone ∙ serves.unreferred;
+    apart = all_from (λ (t : Table). table_in after t.tree ≡ Some t) after.tables (apart_grow serves);
     bound = bound_grows serves.bound;
     whole = still_whole schema form is.uncounted serves.whole;
   }

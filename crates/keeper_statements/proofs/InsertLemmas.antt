@@ -17,10 +17,9 @@ use Rattle.sqlite.specs.State.{State, mode_of, Executes}
 use Rattle.sqlite_rules.specs.Cast.{cast_row}
 use Rattle.sqlite.proofs.Callers.{runs_as, one_step}
 use Rattle.sqlite_schema.specs.declared.schema.Column.{Column}
-use Rattle.keeper_statements.specs.Found.{has_references}
 use Rattle.keeper_statements.specs.Schema.{strict_table}
 use Rattle.keeper_statements.proofs.RowLemmas.{went, same_value}
-use Rattle.keeper_statements.proofs.EditLemmas.{Edits, no_works, others_then}
+use Rattle.keeper_statements.proofs.EditLemmas.{ActsAlone, Edits, others_then}
 use Rattle.keeper_statements.proofs.UnderstoodLemmas.{Means}
 
 -- the row was put, where none had its number
@@ -37,10 +36,10 @@ module _ (at tree : ℕ) (name : List ℕ) (columns : List Column) (key : Option
   table = strict_table name tree columns key primary uniques
 
   pub inserts : (terms : List Term) (width : ℕ) (text : List ℕ) (params : Row) (row_in : List Row → Row) (old new : State) (count : ℕ)
-      → slice_get old.now.schema.tables at ≡ Some table → Means old.now.schema text (Insert at (Values terms width)) → has_references old.now.schema ≡ false
+      → slice_get old.now.schema.tables at ≡ Some table → Means old.now.schema text (Insert at (Values terms width)) → ActsAlone old.now.schema tree
       → ((rows : List Row) → numbered Chosen rows (map (λ s. cast_row table (drop 0 s)) (value_rows (stamped table params) width (length terms / width) terms)) ≡ row_in rows ∷ [])
       → Executes text params old new (Ok count) → Puts tree row_in old.now new.now
-  inserts terms width text params row_in old new count listed means none news h =
+  inserts terms width text params row_in old new count listed means alone news h =
       let db = old.now.trees in
       let schema = old.now.schema in
       let command = Insert at (Values terms width) in
@@ -51,7 +50,7 @@ module _ (at tree : ℕ) (name : List ℕ) (columns : List Column) (key : Option
       let written = went (went given.2).2 in
       let counted = went written.2 in
       let trees : done.0.trees ≡ written.0 = ap (λ (it : Written). it.trees) (same_value counted.2) ∙ same_value counted.1 in
-      let applied = one_step schema _ db written.0 (edit_of db table [] Chosen 0 given.0) (no_works schema _ 0 tree _ _ none) written.1 in
+      let applied = one_step schema _ db written.0 (edit_of db table [] Chosen 0 given.0) (alone _ _ _) written.1 in
       let row : numbered Chosen (db tree) (map (λ s. cast_row table (drop 0 s)) given.0) ≡ row_in (db tree) ∷ [] =
       ap (λ all. numbered Chosen (db tree) (map (λ s. cast_row table (drop 0 s)) all)) given.1.1 ∙ news (db tree) in
       let fresh : are_fresh (db tree) (row_in (db tree) ∷ []) ≡ true = ap (are_fresh (db tree)) (sym row) ∙ applied.fresh in

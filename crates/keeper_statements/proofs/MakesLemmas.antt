@@ -1,5 +1,5 @@
 -- What each writing text makes of the tables.
-use Rattle.std.proofs.Common.{◌≡◌, ◌&&◌, ◌||◌, cond, codes, ℕ, ℤ, Bool, true, false, not, List, [], ◌∷◌, ◌++◌, filter, map, drop, Ok, None, Some, refl, sym, ap, ap₂, subst, ◌∙◌}
+use Rattle.std.proofs.Common.{◌≡◌, ◌&&◌, ◌||◌, cond, codes, ℕ, ℤ, Bool, true, false, not, List, [], ◌∷◌, ◌++◌, filter, map, drop, Ok, None, Some, refl, sym, ap, ap₂, subst, ◌∙◌, inl, inr}
 use Rattle.std.specs.List.{list_all, list_any}
 use Rattle.std.proofs.lemmas.List.{map-append}
 use Rattle.sqlite.specs.declared.types.Value.TheVariants.{Null, Int, Text, Blob}
@@ -28,7 +28,7 @@ use Rattle.keeper_statements.proofs.FoundLemmas.{column_dropped, and_true, found
 use Rattle.keeper_statements.proofs.InsertLemmas.{inserts, Puts}
 use Rattle.keeper_statements.proofs.ReplaceLemmas.{replaces, replaced}
 use Rattle.keeper_statements.proofs.DeleteLemmas.{overlay_none, removes, Removes}
-use Rattle.keeper_statements.proofs.EditLemmas.{rows_of_form}
+use Rattle.keeper_statements.proofs.EditLemmas.{acts_alone, rows_of_form}
 use Rattle.keeper_statements.proofs.PlaceLemmas.{listed_of}
 use Rattle.keeper_statements.proofs.TableLemmas.{makes_sets, makes_replies, makes_decks, makes_statuses, makes_floors}
 
@@ -97,8 +97,8 @@ pub puts_set : (old new : State) (dsn bytes : List ℕ) (count : ℕ) → IsRead
 puts_set old new dsn bytes count ready h =
     let rest = set_row dsn bytes in
     let there = ready.sets.there in
-    let t = listed_of sets_table old.now.schema there in
-    let edits = replaces t.at there.tree (codes "sets") sets_columns None (1 ∷ []) ((1 ∷ []) ∷ []) dsn (Blob bytes) texts.two_terms texts.put_set_text old new count ready.serves.unreferred
+    let t = listed_of sets_table old.now.schema ready.serves there in
+    let edits = replaces t.at there.tree (codes "sets") sets_columns None (1 ∷ []) ((1 ∷ []) ∷ []) dsn (Blob bytes) texts.two_terms texts.put_set_text old new count (acts_alone sets_table old.now.schema (inl refl) ready.serves there)
     (key_conflict sets_table old.now.schema there.tree refl there.keys) (λ id. rw (cast_int id)) (rw cast_null) t.listed (texts.put_set_means old.now.schema there.tree t) refl ready.sets.keyed h in
     makes_sets (replaced dsn rest) (λ sets. without (is_of dsn) sets ++ rest ∷ []) old.now new.now ready edits
     (keyed_replaced dsn rest (old.now.trees there.tree) ready.sets.keyed) (bodies_replaced dsn rest (old.now.trees there.tree))
@@ -107,8 +107,8 @@ pub puts_floor : (old new : State) (job : List ℕ) (floor : ℤ) (count : ℕ) 
 puts_floor old new job floor count ready h =
     let rest = floor_row job floor in
     let there = ready.floors.there in
-    let t = listed_of floors_table old.now.schema there in
-    let edits = replaces t.at there.tree (codes "floors") floors_columns None (1 ∷ []) ((1 ∷ []) ∷ []) job (Int floor) texts.two_terms texts.floor_text old new count ready.serves.unreferred
+    let t = listed_of floors_table old.now.schema ready.serves there in
+    let edits = replaces t.at there.tree (codes "floors") floors_columns None (1 ∷ []) ((1 ∷ []) ∷ []) job (Int floor) texts.two_terms texts.floor_text old new count (acts_alone floors_table old.now.schema (inr (inr (inr (inr (inl refl))))) ready.serves there)
     (key_conflict floors_table old.now.schema there.tree refl there.keys) (λ id. rw (cast_int id, cast_int floor)) (rw (cast_null, cast_int floor)) t.listed (texts.floor_means old.now.schema there.tree t) refl ready.floors.keyed h in
     makes_floors (replaced job rest) (λ floors. without (is_of job) floors ++ rest ∷ []) old.now new.now ready edits
     (keyed_replaced job rest (old.now.trees there.tree) ready.floors.keyed) (bodies_replaced job rest (old.now.trees there.tree))
@@ -117,9 +117,9 @@ pub drops_set : (old new : State) (dsn : List ℕ) (count : ℕ) → IsReady old
 drops_set old new dsn count ready h =
     let p = λ (r : Row). is_of dsn (drop 1 r) in
     let there = ready.sets.there in
-    let t = listed_of sets_table old.now.schema there in
+    let t = listed_of sets_table old.now.schema ready.serves there in
     let it = removes t.at there.tree (codes "sets") sets_columns None (1 ∷ []) ((1 ∷ []) ∷ []) (texts.first_is ∷ []) texts.drop_set_text (Text dsn ∷ []) p old new count
-    t.listed (texts.drop_set_means old.now.schema there.tree t) ready.serves.unreferred (first_alike [] dsn) (overlay_none there.tree) ready.sets.keyed h in
+    t.listed (texts.drop_set_means old.now.schema there.tree t) (acts_alone sets_table old.now.schema (inl refl) ready.serves there) (first_alike [] dsn) (overlay_none there.tree) ready.sets.keyed h in
     makes_sets (filter (λ r. not (p r))) (without (is_of dsn)) old.now new.now ready it.edits
     (keyed_filter (λ r. not (p r)) (old.now.trees there.tree) ready.sets.keyed) (bodies_left (is_of dsn) (old.now.trees there.tree))
 
@@ -127,18 +127,18 @@ pub drops_below : (old new : State) (job : List ℕ) (limit : ℤ) (count : ℕ)
 drops_below old new job limit count ready h =
     let p = λ (r : Row). is_below job limit (drop 1 r) in
     let there = ready.replies.there in
-    let t = listed_of replies_table old.now.schema there in
+    let t = listed_of replies_table old.now.schema ready.serves there in
     let it = removes t.at there.tree (codes "replies") replies_columns None (1 ∷ 2 ∷ []) ((3 ∷ []) ∷ (1 ∷ 2 ∷ []) ∷ []) (texts.first_is ∷ texts.second_below ∷ []) texts.below_text
-    (Text job ∷ Int limit ∷ []) p old new count t.listed (texts.below_means old.now.schema there.tree t) ready.serves.unreferred (below_alike job limit) (overlay_none there.tree) ready.replies.keyed h in
+    (Text job ∷ Int limit ∷ []) p old new count t.listed (texts.below_means old.now.schema there.tree t) (acts_alone replies_table old.now.schema (inr (inl refl)) ready.serves there) (below_alike job limit) (overlay_none there.tree) ready.replies.keyed h in
     makes_replies (filter (λ r. not (p r))) (without (is_below job limit)) old.now new.now ready it.edits
     (keyed_filter (λ r. not (p r)) (old.now.trees there.tree) ready.replies.keyed) (bodies_left (is_below job limit) (old.now.trees there.tree))
 
 pub clears_statuses : (old new : State) (count : ℕ) → IsReady old.now → Executes texts.clear_text [] old new (Ok count) → Makes without_statuses old.now new.now
 clears_statuses old new count ready h =
     let there = ready.statuses.there in
-    let t = listed_of statuses_table old.now.schema there in
+    let t = listed_of statuses_table old.now.schema ready.serves there in
     let it = removes t.at there.tree (codes "statuses") statuses_columns None (1 ∷ 2 ∷ []) ((1 ∷ 2 ∷ []) ∷ []) [] texts.clear_text [] (λ r. true) old new count
-    t.listed (texts.clear_means old.now.schema there.tree t) ready.serves.unreferred any_alike (overlay_none there.tree) ready.statuses.keyed h in
+    t.listed (texts.clear_means old.now.schema there.tree t) (acts_alone statuses_table old.now.schema (inr (inr (inr (inl refl)))) ready.serves there) any_alike (overlay_none there.tree) ready.statuses.keyed h in
     makes_statuses (filter (λ r. not true)) (λ rows. []) old.now new.now ready it.edits
     (keyed_filter (λ r. not true) (old.now.trees there.tree) ready.statuses.keyed) (ap bodies (none_left (old.now.trees there.tree)))
 
@@ -146,9 +146,9 @@ removes_status : (old new : State) (kind : ℤ) (name : List ℕ) (count : ℕ) 
     → Removes ready.statuses.there.tree (λ r. is_status kind name (drop 1 r)) old.now new.now count
 removes_status old new kind name count ready h =
     let there = ready.statuses.there in
-    let t = listed_of statuses_table old.now.schema there in
+    let t = listed_of statuses_table old.now.schema ready.serves there in
     removes t.at there.tree (codes "statuses") statuses_columns None (1 ∷ 2 ∷ []) ((1 ∷ 2 ∷ []) ∷ []) (texts.first_is ∷ texts.second_is ∷ []) texts.drop_status_text
-    (Int kind ∷ Text name ∷ []) (λ r. is_status kind name (drop 1 r)) old new count t.listed (texts.drop_status_means old.now.schema there.tree t) ready.serves.unreferred
+    (Int kind ∷ Text name ∷ []) (λ r. is_status kind name (drop 1 r)) old new count t.listed (texts.drop_status_means old.now.schema there.tree t) (acts_alone statuses_table old.now.schema (inr (inr (inr (inl refl)))) ready.serves there)
     (status_alike kind name) (overlay_none there.tree) ready.statuses.keyed h
 
 pub drops_status : (old new : State) (kind : ℤ) (name : List ℕ) (count : ℕ) → IsReady old.now → Executes texts.drop_status_text (Int kind ∷ Text name ∷ []) old new (Ok count)
@@ -176,9 +176,9 @@ pub adds_reply : (old new : State) (job : List ℕ) (number place : ℤ) (reques
 adds_reply old new job number place request reply count ready h =
     let rest = reply_row job number place request reply in
     let there = ready.replies.there in
-    let t = listed_of replies_table old.now.schema there in
+    let t = listed_of replies_table old.now.schema ready.serves there in
     let it = inserts t.at there.tree (codes "replies") replies_columns None (1 ∷ 2 ∷ []) ((3 ∷ []) ∷ (1 ∷ 2 ∷ []) ∷ []) texts.five_terms 6 texts.reply_text rest (next_row rest) old new count
-    t.listed (texts.reply_means old.now.schema there.tree t) ready.serves.unreferred (λ rows. rw (cast_null, cast_int number, cast_int place)) h in
+    t.listed (texts.reply_means old.now.schema there.tree t) (acts_alone replies_table old.now.schema (inr (inl refl)) ready.serves there) (λ rows. rw (cast_null, cast_int number, cast_int place)) h in
     makes_replies (λ rows. put_row (next_row rest rows) rows) (λ rows. rows ++ rest ∷ []) old.now new.now ready it.edits
     (keyed_next (old.now.trees there.tree) rest ready.replies.keyed) (bodies_next (old.now.trees there.tree) rest ready.replies.keyed)
 
@@ -187,9 +187,9 @@ pub adds_status : (old new : State) (kind : ℤ) (name : List ℕ) (status : ℤ
 adds_status old new kind name status count ready h =
     let rest = status_row kind name status in
     let there = ready.statuses.there in
-    let t = listed_of statuses_table old.now.schema there in
+    let t = listed_of statuses_table old.now.schema ready.serves there in
     let it = inserts t.at there.tree (codes "statuses") statuses_columns None (1 ∷ 2 ∷ []) ((1 ∷ 2 ∷ []) ∷ []) texts.three_terms 4 texts.status_text rest (next_row rest) old new count
-    t.listed (texts.status_means old.now.schema there.tree t) ready.serves.unreferred (λ rows. rw (cast_null, cast_int kind, cast_int status)) h in
+    t.listed (texts.status_means old.now.schema there.tree t) (acts_alone statuses_table old.now.schema (inr (inr (inr (inl refl)))) ready.serves there) (λ rows. rw (cast_null, cast_int kind, cast_int status)) h in
     makes_statuses (λ rows. put_row (next_row rest rows) rows) (λ rows. rows ++ rest ∷ []) old.now new.now ready it.edits
     (keyed_next (old.now.trees there.tree) rest ready.statuses.keyed) (bodies_next (old.now.trees there.tree) rest ready.statuses.keyed)
 
@@ -197,9 +197,9 @@ inserts_deck : (old new : State) (number : ℤ) (bytes : List ℕ) (count : ℕ)
     → Puts ready.decks.there.tree (λ rows. deck_row number bytes) old.now new.now
 inserts_deck old new number bytes count ready h =
     let there = ready.decks.there in
-    let t = listed_of decks_table old.now.schema there in
+    let t = listed_of decks_table old.now.schema ready.serves there in
     inserts t.at there.tree (codes "decks") decks_columns (Some 0) (0 ∷ []) [] texts.deck_terms 3 texts.deck_text (Int number ∷ Blob bytes ∷ []) (λ rows. deck_row number bytes) old new count
-    t.listed (texts.deck_means old.now.schema there.tree t) ready.serves.unreferred (λ rows. rw (cast_null, cast_int number)) h
+    t.listed (texts.deck_means old.now.schema there.tree t) (acts_alone decks_table old.now.schema (inr (inr (inl refl))) ready.serves there) (λ rows. rw (cast_null, cast_int number)) h
 
 pub adds_deck : (old new : State) (number : ℤ) (bytes : List ℕ) (count : ℕ) → IsReady old.now → Executes texts.deck_text (Int number ∷ Blob bytes ∷ []) old new (Ok count)
     → Makes (with_deck number bytes) old.now new.now

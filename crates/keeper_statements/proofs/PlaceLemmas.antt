@@ -6,9 +6,9 @@ use Rattle.std.proofs.lemmas.Bool.{or_parts}
 use Rattle.sqlite.specs.Schema.{Schema}
 use Rattle.sqlite.specs.Table.{Table}
 use Rattle.sqlite_rules.specs.Lists.{Has}
-use Rattle.sqlite_rules.proofs.ListLemmas.{has_found}
+use Rattle.sqlite_rules.proofs.ListLemmas.{all_has, has_found}
 use Rattle.sqlite_schema.specs.Names.{same_name, table_named}
-use Rattle.keeper_statements.specs.Found.{IsThere, keys_on, placed, table_in, table_of}
+use Rattle.keeper_statements.specs.Found.{CanServe, IsThere, keys_on, placed, table_in, table_of}
 
 -- a table of this form has this place and this tree
 pub record IsListed (form : Table) (tree : ℕ) (schema : Schema) : Type 0 where
@@ -31,13 +31,17 @@ place_from {X} p (y ∷ xs) start x e = by (p y) refl e (λ f. place_from p xs (
         let it = more there in
         (suc it.0, ap (λ b. cond b (Some start) (position_from p (start + 1) xs)) is ∙ it.1 ∙ ap Some (omega arith), it.2)
 
-pub listed_of : (form : Table) (schema : Schema) (h : IsThere form schema) → IsListed form h.tree schema
-listed_of form schema h =
-    let it = place_from (λ (t : Table). same_name t.name form.name) schema.tables 0 (placed form h.tree) h.named in
-    record { at = it.0; named = it.1 ∙ ap Some (omega arith); listed = it.2; apart = h.apart; low = h.low }
-
 pub has_table_in : (form : Table) (schema : Schema) (h : IsThere form schema) → Has schema.tables (placed form h.tree)
 has_table_in form schema h = (has_found (λ (t : Table). same_name t.name form.name) schema.tables (placed form h.tree) h.named).0
+
+-- the tree is its own
+pub own_tree : (form : Table) (schema : Schema) → CanServe schema → (h : IsThere form schema) → table_in schema h.tree ≡ Some (placed form h.tree)
+own_tree form schema serves h = all_has (λ (t : Table). table_in schema t.tree ≡ Some t) schema.tables (placed form h.tree) serves.apart (has_table_in form schema h)
+
+pub listed_of : (form : Table) (schema : Schema) → CanServe schema → (h : IsThere form schema) → IsListed form h.tree schema
+listed_of form schema serves h =
+    let it = place_from (λ (t : Table). same_name t.name form.name) schema.tables 0 (placed form h.tree) h.named in
+    record { at = it.0; named = it.1 ∙ ap Some (omega arith); listed = it.2; apart = own_tree form schema serves h; low = h.low }
 
 name_in : Option Table → List ℕ
 name_in None = []
@@ -47,17 +51,16 @@ pub apart : (m n : ℕ) → eqb m n ≡ false → m ≡ n → ⊥
 apart m n differ same = let e : eqb m n ≡ true = Rattle.std.proofs.Common.eq-eqb m n same in absurd cc
 
 -- two forms whose names are not as long have two trees
-pub other_tree : (f g : Table) (schema : Schema) (a : IsThere f schema) (b : IsThere g schema) → eqb (length f.name) (length g.name) ≡ false → a.tree ≡ b.tree → ⊥
+pub other_tree : (f g : Table) (schema : Schema) → CanServe schema → (a : IsThere f schema) (b : IsThere g schema) → eqb (length f.name) (length g.name) ≡ false → a.tree ≡ b.tree → ⊥
 unfolding name_in
-other_tree f g schema a b differ same =
-    apart (length f.name) (length g.name) differ (ap (λ (o : Option Table). length (name_in o)) (sym a.apart ∙ ap (table_in schema) same ∙ b.apart))
+other_tree f g schema serves a b differ same =
+    apart (length f.name) (length g.name) differ (ap (λ (o : Option Table). length (name_in o)) (sym (own_tree f schema serves a) ∙ ap (table_in schema) same ∙ own_tree g schema serves b))
 
 -- what is there in one schema is there in an equal one
 pub still_there : (form : Table) (a b : Schema) → b ≡ a → IsThere form a → IsThere form b
 still_there form a b same h = record {
   tree = h.tree;
   named = ap (λ s. table_of s form.name) same ∙ h.named;
-  apart = ap (λ s. table_in s h.tree) same ∙ h.apart;
   low = h.low;
   keys = ap (λ s. keys_on s (placed form h.tree)) same ∙ h.keys;
 }

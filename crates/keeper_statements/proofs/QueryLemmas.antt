@@ -52,7 +52,7 @@ above_found old new job number rows ready h =
     let params = Text job ∷ Int number ∷ [] in
     let terms = first_is ∷ texts.second_above ∷ [] in
     let q = deleting tree terms in
-    let means = texts.above_means old.now.schema tree (listed_of floors_table old.now.schema there) in
+    let means = texts.above_means old.now.schema tree (listed_of floors_table old.now.schema ready.serves there) in
     let reads : Answers old.now q params rows = reads_as texts.above_text params old new old.now.schema refl (Select q (codes "rowid" ∷ [])) means.is means.plain means.unlisted rows h in
     let answer : IsAnswer q.body (overlay old.now.trees []) params rows = reads.answer Null in
     let found = subst (λ (l : List Row). AreFound terms l params rows) (overlay_none tree old.now.trees) (finds tree terms (overlay old.now.trees []) params [] rows answer) in
@@ -89,4 +89,4 @@ shown_same text params old new rows plain h =
 pub above_same : (old new : State) (job : List ℕ) (number : ℤ) (rows : List Row) → IsReady old.now → Shown texts.above_text (Text job ∷ Int number ∷ []) old new rows → new.now ≡ old.now
 above_same old new job number rows ready h =
     let there = ready.floors.there in
-    shown_same texts.above_text (Text job ∷ Int number ∷ []) old new rows (texts.above_means old.now.schema there.tree (listed_of floors_table old.now.schema there)).plain h
+    shown_same texts.above_text (Text job ∷ Int number ∷ []) old new rows (texts.above_means old.now.schema there.tree (listed_of floors_table old.now.schema ready.serves there)).plain h

@@ -115,7 +115,7 @@ module _ (old new : State) (rows : List Row) (ready : IsReady old.now) where
   sets_shown h =
       let there = ready.sets.there in
       let p = texts.selecting there.tree texts.two_shown texts.by_key in
-      let means = texts.sets_means old.now.schema there.tree (listed_of sets_table old.now.schema there) in
+      let means = texts.sets_means old.now.schema there.tree (listed_of sets_table old.now.schema ready.serves there) in
       let reads : Answers old.now p [] rows = reads_as texts.sets_text [] old new old.now.schema refl (Select p (codes "dsn" ∷ codes "rec" ∷ [])) means.is means.plain means.unlisted rows h in
       let answer : IsAnswer p.body (overlay old.now.trees []) [] rows = reads.answer Null in
       shown_of sets_table old.now ready.sets (on_bodies by_first) (λ r. two_columns (drop 1 r)) rows (λ keyed.
@@ -126,7 +126,7 @@ module _ (old new : State) (rows : List Row) (ready : IsReady old.now) where
   replies_shown h =
       let there = ready.replies.there in
       let p = texts.selecting there.tree texts.five_shown texts.by_two_keys in
-      let means = texts.replies_means old.now.schema there.tree (listed_of replies_table old.now.schema there) in
+      let means = texts.replies_means old.now.schema there.tree (listed_of replies_table old.now.schema ready.serves there) in
       let reads : Answers old.now p [] rows = reads_as texts.replies_text [] old new old.now.schema refl (Select p (codes "job" ∷ codes "number" ∷ codes "place" ∷ codes "request" ∷ codes "reply" ∷ [])) means.is means.plain means.unlisted rows h in
       let answer : IsAnswer p.body (overlay old.now.trees []) [] rows = reads.answer Null in
       shown_of replies_table old.now ready.replies (on_bodies by_two) (λ r. five_columns (drop 1 r)) rows (λ keyed.
@@ -137,7 +137,7 @@ module _ (old new : State) (rows : List Row) (ready : IsReady old.now) where
   decks_shown h =
       let there = ready.decks.there in
       let p = texts.selecting there.tree texts.deck_shown texts.by_number in
-      let means = texts.decks_means old.now.schema there.tree (listed_of decks_table old.now.schema there) in
+      let means = texts.decks_means old.now.schema there.tree (listed_of decks_table old.now.schema ready.serves there) in
       let reads : Answers old.now p [] rows = reads_as texts.decks_text [] old new old.now.schema refl (Select p (codes "count" ∷ codes "bytes" ∷ [])) means.is means.plain means.unlisted rows h in
       let answer : IsAnswer p.body (overlay old.now.trees []) [] rows = reads.answer Null in
       shown_of decks_table old.now ready.decks by_first deck_columns rows (λ keyed.
@@ -147,7 +147,7 @@ module _ (old new : State) (rows : List Row) (ready : IsReady old.now) where
   statuses_shown h =
       let there = ready.statuses.there in
       let p = texts.selecting there.tree texts.three_shown texts.by_two_keys in
-      let means = texts.statuses_means old.now.schema there.tree (listed_of statuses_table old.now.schema there) in
+      let means = texts.statuses_means old.now.schema there.tree (listed_of statuses_table old.now.schema ready.serves there) in
       let reads : Answers old.now p [] rows = reads_as texts.statuses_text [] old new old.now.schema refl (Select p (codes "kind" ∷ codes "name" ∷ codes "status" ∷ [])) means.is means.plain means.unlisted rows h in
       let answer : IsAnswer p.body (overlay old.now.trees []) [] rows = reads.answer Null in
       shown_of statuses_table old.now ready.statuses (on_bodies by_two) (λ r. three_columns (drop 1 r)) rows (λ keyed.
@@ -158,7 +158,7 @@ module _ (old new : State) (rows : List Row) (ready : IsReady old.now) where
   floors_shown h =
       let there = ready.floors.there in
       let p = texts.selecting there.tree texts.two_shown texts.by_key in
-      let means = texts.floors_means old.now.schema there.tree (listed_of floors_table old.now.schema there) in
+      let means = texts.floors_means old.now.schema there.tree (listed_of floors_table old.now.schema ready.serves there) in
       let reads : Answers old.now p [] rows = reads_as texts.floors_text [] old new old.now.schema refl (Select p (codes "job" ∷ codes "floor" ∷ [])) means.is means.plain means.unlisted rows h in
       let answer : IsAnswer p.body (overlay old.now.trees []) [] rows = reads.answer Null in
       shown_of floors_table old.now ready.floors (on_bodies by_first) (λ r. two_columns (drop 1 r)) rows (λ keyed.

@@ -31,13 +31,12 @@ use Rattle.sqlite_rules.specs.Edit.{next_rowid, without_all, with_rowid}
 use Rattle.sqlite_rules.specs.Cast.{cast_row}
 use Rattle.sqlite_rules.proofs.TableLemmas.{without_all_has}
 use Rattle.sqlite.proofs.Callers.{runs_as, one_step}
-use Rattle.keeper_statements.specs.Found.{has_references}
 use Rattle.keeper_statements.specs.Schema.{strict_table}
 use Rattle.keeper_statements.specs.Tables.{IsKeyed}
 use Rattle.keeper_statements.specs.Tests.{is_of}
 use Rattle.keeper_statements.proofs.RowLemmas.{put_last, next_above, went, same_value}
 use Rattle.keeper_statements.proofs.FoundLemmas.{IsFound, removed, column_dropped, and_true}
-use Rattle.keeper_statements.proofs.EditLemmas.{Edits, no_works, others_both, others_same, others_then}
+use Rattle.keeper_statements.proofs.EditLemmas.{ActsAlone, Edits, others_both, others_same, others_then}
 use Rattle.keeper_statements.proofs.UnderstoodLemmas.{Means}
 
 or_false : (b : Bool) → (b || false) ≡ b
@@ -65,7 +64,7 @@ module _ (at tree : ℕ) (name : List ℕ) (columns : List Column) (number : Opt
   abbrev rest : Row
   rest = Text key ∷ second ∷ []
 
-  module _ (schema : Schema) (none : has_references schema ≡ false)
+  module _ (schema : Schema) (alone : ActsAlone schema tree)
       (conflict_is : (new r : Row) → conflicts None schema.indexes table new r ≡ ((equal Binary (column r 0) (column new 0) && true) || ((equal Binary (column r 1) (column new 1) && true) || false)))
       (cast_is : (id : ℤ) → cast_row table (Int id ∷ rest) ≡ Int id ∷ rest)
       (new_is : cast_row table (mended Replace table (Null ∷ rest)) ≡ Null ∷ rest) where
@@ -104,7 +103,7 @@ module _ (at tree : ℕ) (name : List ℕ) (columns : List Column) (number : Opt
       puts ids mid w left others h =
           let put = went h in
           let trees : w.trees ≡ put.0 = ap (λ (it : Written). it.trees) (same_value put.2) in
-          let applied = one_step schema keys mid put.0 (edit_of mid table [] Given 0 (new ∷ [])) (no_works schema keys 0 tree _ _ none) put.1 in
+          let applied = one_step schema keys mid put.0 (edit_of mid table [] Given 0 (new ∷ [])) (alone keys _ _) put.1 in
           let rows : edited mid (edit_of mid table [] Given 0 (new ∷ [])) ≡ put_row new (without_all (db tree) ids) = rw (cast_is (next_rowid (db tree)), left) in
           let at_tree = λ (t : ℕ). ap (λ (x : Trees). x t) trees in (
             at_tree tree ∙ applied.rows ∙ rows ∙ put_behind (db tree) ids keyed,
@@ -116,7 +115,7 @@ module _ (at tree : ℕ) (name : List ℕ) (columns : List Column) (number : Opt
       clears (x ∷ more) w h =
           let cut = went h in
           let edit = edit_of db table (ids_of (x ∷ more)) Given 0 [] in
-          let applied = one_step schema keys db cut.0 edit (no_works schema keys 0 tree _ _ none) cut.1 in
+          let applied = one_step schema keys db cut.0 edit (alone keys _ _) cut.1 in
           puts (ids_of (x ∷ more)) cut.0 w applied.rows applied.tables cut.2
 
       abbrev Comes : Written → Type 0
@@ -132,14 +131,14 @@ module _ (at tree : ℕ) (name : List ℕ) (columns : List Column) (number : Opt
       tries w (inl out) = absurd (let e = out.1 in cc)
       tries w (inr h) = judged w h.0 h.2
 
-  pub replaces : (terms : List Term) (text : List ℕ) (old new : State) (count : ℕ) (none : has_references old.now.schema ≡ false)
+  pub replaces : (terms : List Term) (text : List ℕ) (old new : State) (count : ℕ) (alone : ActsAlone old.now.schema tree)
       (conflict_is : (new r : Row) → conflicts None old.now.schema.indexes table new r ≡ ((equal Binary (column r 0) (column new 0) && true) || ((equal Binary (column r 1) (column new 1) && true) || false)))
       (cast_is : (id : ℤ) → cast_row table (Int id ∷ rest) ≡ Int id ∷ rest) (new_is : cast_row table (mended Replace table (Null ∷ rest)) ≡ Null ∷ rest)
       → slice_get old.now.schema.tables at ≡ Some table → Means old.now.schema text (InsertOr at Replace (Values terms 3) [])
       → value_rows (stamped table rest) 3 (length terms / 3) terms ≡ (Null ∷ rest) ∷ []
       → IsKeyed (old.now.trees tree)
       → Executes text rest old new (Ok count) → Edits tree (replaced key rest) old.now new.now
-  replaces terms text old new count none conflict_is cast_is new_is listed means sources keyed h =
+  replaces terms text old new count alone conflict_is cast_is new_is listed means sources keyed h =
       let db = old.now.trees in
       let schema = old.now.schema in
       let command = InsertOr at Replace (Values terms 3) [] in
@@ -153,7 +152,7 @@ module _ (at tree : ℕ) (name : List ℕ) (columns : List Column) (number : Opt
       let task : Task = record { limit = old.step_limit; keys = (mode_of old).keys; schema = schema; table = table; params = rest } in
       let one = went (subst (λ rows. TriesEach task Replace [] rows (count_of counter.0) (nothing db) (Ok tried.0)) (given.1.1 ∙ sources) tried.1) in
       let row : with_rowid Chosen (db tree) (cast_row table (mended Replace table (Null ∷ rest))) ≡ Int (next_rowid (db tree)) ∷ rest = ap (with_rowid Chosen (db tree)) new_is in
-      let it = tries schema none conflict_is cast_is new_is old.step_limit (mode_of old).keys rest db keyed one.0 (subst (λ r. Tries task Replace [] r db (Ok one.0)) row one.1) in
+      let it = tries schema alone conflict_is cast_is new_is old.step_limit (mode_of old).keys rest db keyed one.0 (subst (λ r. Tries task Replace [] r db (Ok one.0)) row one.1) in
       let trees : done.0.trees ≡ one.0.trees =
       ap (λ (x : Written). x.trees) (same_value counted.2) ∙ same_value counted.1 ∙ ap (λ (p : Written × ℤ). p.0.trees) (same_value one.2) in
       let at_tree = λ (t : ℕ). ap (λ (d : Database). d.trees t) now ∙ ap (λ (x : Trees). x t) trees in

@@ -25,7 +25,7 @@ use Rattle.keeper_statements.specs.Schema.{desk_tables}
 use Rattle.keeper_statements.specs.Tables.{IsKeyed, Serves, rows_named}
 use Rattle.keeper_statements.proofs.GrowLemmas.{all_ready, ready_serves}
 use Rattle.sms_sqlite.specs.Same.{is_same}
-use Rattle.sms_sqlite.specs.Told.{can_serve, has_tables, is_formed, is_keyed, is_whole, tables_of, is_shown, told_of, IsReadable}
+use Rattle.sms_sqlite.specs.Told.{can_serve, has_tables, is_apart, is_formed, is_keyed, is_whole, tables_of, is_shown, told_of, IsReadable}
 use Rattle.sms_sqlite.specs.Values.{rows_in}
 use Rattle.sms_sqlite.specs.Writing.{Holds, AreAlike, HasRows, IsCommitted, with_trees}
 use Rattle.sms_sqlite.proofs.SameLemmas.{and_parts, and_true, same_is, same_self}
@@ -67,12 +67,10 @@ module _ (schema : Schema) (form : Table) where
   may_is None named is = inl named
   may_is (Some t) named is =
       let p = and_parts _ _ is in
-      let q = and_parts _ _ p.1 in
-      let r = and_parts _ _ q.1 in
+      let r = and_parts _ _ p.1 in
       inr (record {
         tree = t.tree;
         named = named ∙ ap Some (same_is the_table.the_row.coded t (placed form t.tree) p.0);
-        apart = same_is (coded_option the_table.the_row.coded) (table_in schema t.tree) (Some (placed form t.tree)) q.0;
         low = ltb-true t.tree 65536 r.0;
         keys = same_is (coded_list (coded× (coded_list coded_ℕ) coded_ℕ)) (keys_on schema (placed form t.tree)) (keys_of form) r.1;
       })
@@ -82,8 +80,7 @@ module _ (schema : Schema) (form : Table) where
   may_so (inr there) =
       ap (is_formed form schema) there.named
       ∙ and_true _ _ (same_self the_table.the_row.coded (placed form there.tree))
-      (and_true _ _ (same_so (coded_option the_table.the_row.coded) (table_in schema there.tree) (Some (placed form there.tree)) there.apart)
-      (and_true _ _ (lt-ltb there.tree 65536 there.low) (same_so (coded_list (coded× (coded_list coded_ℕ) coded_ℕ)) (keys_on schema (placed form there.tree)) (keys_of form) there.keys)))
+      (and_true _ _ (lt-ltb there.tree 65536 there.low) (same_so (coded_list (coded× (coded_list coded_ℕ) coded_ℕ)) (keys_on schema (placed form there.tree)) (keys_of form) there.keys))
 
 all_is : (schema : Schema) (forms : List Table) → list_all (λ form. is_formed form schema (table_of schema form.name)) forms ≡ true → AllByRecursion (λ form. MayBeThere form schema) forms
 all_is schema [] e = tt
@@ -101,16 +98,26 @@ keyed_rows : (db : Database) (forms : List Table) → AllByRecursion (λ form. I
 keyed_rows db [] all = refl
 keyed_rows db (form ∷ forms) all = and_true _ _ (keyed_so (rows_named db form.name) all.0) (keyed_rows db forms all.1)
 
+apart_is : (schema : Schema) (tables : List Table) → list_all (is_apart schema) tables ≡ true → AllByRecursion (λ t. table_in schema t.tree ≡ Some t) tables
+apart_is schema [] e = tt
+apart_is schema (t ∷ tables) e = let p = and_parts _ _ e in (same_is (coded_option the_table.the_row.coded) (table_in schema t.tree) (Some t) p.0, apart_is schema tables p.1)
+
+apart_so : (schema : Schema) (tables : List Table) → AllByRecursion (λ t. table_in schema t.tree ≡ Some t) tables → list_all (is_apart schema) tables ≡ true
+apart_so schema [] all = refl
+apart_so schema (t ∷ tables) all = and_true _ _ (same_so (coded_option the_table.the_row.coded) (table_in schema t.tree) (Some t) all.0) (apart_so schema tables all.1)
+
 serves_is : (schema : Schema) → can_serve schema ≡ true → CanServe schema
 serves_is schema e =
     let p = and_parts _ _ e in
     let q = and_parts _ _ p.1 in
     let r = and_parts _ _ q.1 in
-    record { tables = all_is schema desk_tables p.0; unreferred = not_true _ q.0; bound = r.0; whole = not_true _ r.1 }
+    let t = and_parts _ _ r.1 in
+    record { tables = all_is schema desk_tables p.0; unreferred = not_true _ q.0; apart = apart_is schema schema.tables r.0; bound = t.0; whole = not_true _ t.1 }
 
 serves_so : (schema : Schema) → CanServe schema → can_serve schema ≡ true
 serves_so schema serves =
-    and_true _ _ (all_so schema desk_tables serves.tables) (and_true _ _ (ap not serves.unreferred) (and_true _ _ serves.bound (ap not serves.whole)))
+    and_true _ _ (all_so schema desk_tables serves.tables) (and_true _ _ (ap not serves.unreferred)
+    (and_true _ _ (apart_so schema schema.tables serves.apart) (and_true _ _ serves.bound (ap not serves.whole))))
 
 pub whole_is : (db : Database) → is_whole db ≡ true → Serves db
 whole_is db e = let p = and_parts _ _ e in record { schema = serves_is db.schema p.0; keyed = rows_keyed db desk_tables p.1 }

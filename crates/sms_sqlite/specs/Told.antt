@@ -17,7 +17,7 @@ use Rattle.sqlite_trees.specs.declared.store.Store.{Ghosts}
 use Rattle.sqlite_value.specs.Order.{value_cmp}
 use Rattle.sms_keeper.specs.declared.rows.Rows.{Rows}
 use Rattle.sms_keeper.specs.declared.table.Table.{Table as Damaged}
-use Rattle.keeper_statements.specs.Found.{are_bound, has_references, keys_of, keys_on, placed, table_in, table_of}
+use Rattle.keeper_statements.specs.Found.{are_bound, has_referrers, keys_of, keys_on, placed, table_in, table_of}
 use Rattle.keeper_statements.specs.Schema.{desk_tables}
 use Rattle.keeper_statements.specs.Tables.{rows_named, tables_in}
 use Rattle.sms_sqlite.specs.Damage.{damage_in, ordered}
@@ -29,18 +29,22 @@ abbrev pub is_keyed : List Row → Bool
 is_keyed [] = true
 is_keyed (r ∷ rows) = is_int (rowid r) && (list_all (λ x. is_lt (value_cmp (rowid r) (rowid x))) rows && is_keyed rows)
 
--- a table of this name is of this form, in a tree of its own, and has the keys of the form alone
+-- a table of this name is of this form, and has the keys of the form alone
 abbrev pub is_formed : Table → Schema → Option Table → Bool
 is_formed form schema None = true
 is_formed form schema (Some t) =
     is_same the_table.the_row.coded t (placed form t.tree)
-    && (is_same (coded_option the_table.the_row.coded) (table_in schema t.tree) (Some (placed form t.tree))
-    && (nat_lt t.tree 65536 && is_same (coded_list (coded× (coded_list coded_ℕ) coded_ℕ)) (keys_on schema (placed form t.tree)) (keys_of form)))
+    && (nat_lt t.tree 65536 && is_same (coded_list (coded× (coded_list coded_ℕ) coded_ℕ)) (keys_on schema (placed form t.tree)) (keys_of form))
 
--- each of the five tables is there in its form or can be made, and no table refers to another
+-- a table has a tree of its own
+abbrev pub is_apart : Schema → Table → Bool
+is_apart schema t = is_same (coded_option the_table.the_row.coded) (table_in schema t.tree) (Some t)
+
+-- each of the five tables is there in its form or can be made, and no foreign key refers to one of them
 abbrev pub can_serve : Schema → Bool
 can_serve schema =
-    list_all (λ form. is_formed form schema (table_of schema form.name)) desk_tables && (not (has_references schema) && (are_bound schema && not (lacks_sequence schema)))
+    list_all (λ form. is_formed form schema (table_of schema form.name)) desk_tables
+    && (not (has_referrers schema) && (list_all (is_apart schema) schema.tables && (are_bound schema && not (lacks_sequence schema))))
 
 -- so it is, and the numbers of their rows rise
 abbrev pub is_whole : Database → Bool
