@@ -19,7 +19,7 @@ use Rattle.sqlite.specs.Program.{overlay}
 use Rattle.sqlite.specs.Effect.{Database}
 use Rattle.sqlite.specs.State.{State, mode_of, Executes}
 use Rattle.sqlite_rules.specs.Calls.{ids_of}
-use Rattle.sqlite_rules.specs.Edit.{row_at, id_in}
+use Rattle.sqlite_rules.specs.Edit.{taken_by, row_at, id_in}
 use Rattle.sqlite_rules.specs.Probe.{AreFound}
 use Rattle.sqlite_rules.proofs.ProbeLemmas.{found_rowids}
 use Rattle.sqlite.proofs.Callers.{runs_as, one_step}
@@ -70,7 +70,8 @@ module _ (at tree : ℕ) (name : List ℕ) (columns : List Column) (key : Option
       let given = went done.1 in
       let written = went given.2 in
       let trees : done.0.trees ≡ written.0 = ap (λ (it : Written). it.trees) (same_value written.2) in
-      let applied = one_step schema _ db written.0 (edit_of db table (ids_of given.0) Given 0 []) (alone _ _ _) written.1 in
+      let edit = edit_of db table (ids_of given.0) Given 0 [] in
+      let applied = one_step schema (mode_of old).keys db written.0 edit (alone (mode_of old).keys (taken_by db edit) edit.news) written.1 in
       let answer : IsAnswer (deleting tree terms).body (overlay db []) params given.0 = given.1.answer Null in
       let found : AreFound terms (db tree) params given.0 = subst (λ (rows : List Row). AreFound terms rows params given.0) (seen db) (finds tree terms (overlay db []) params [] given.0 answer) in
       let hits : IsFound p (db tree) given.0 = record {

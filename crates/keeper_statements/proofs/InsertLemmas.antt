@@ -5,7 +5,7 @@ use Rattle.sqlite.specs.Term.{Term}
 use Rattle.sqlite.specs.Source.TheVariants.{Values}
 use Rattle.sqlite.specs.Command.TheVariants.{Insert}
 use Rattle.sqlite.specs.Edit.{edit_of}
-use Rattle.sqlite_rules.specs.Edit.{numbered, is_taken, are_fresh, put_all}
+use Rattle.sqlite_rules.specs.Edit.{taken_by, numbered, is_taken, are_fresh, put_all}
 use Rattle.sqlite.specs.Rowids.TheVariants.{Chosen}
 use Rattle.sqlite.specs.Does.{Tally, Does, AtPlace, OnRows}
 use Rattle.sqlite.specs.Rows.{Written, stamped}
@@ -50,7 +50,8 @@ module _ (at tree : ℕ) (name : List ℕ) (columns : List Column) (key : Option
       let written = went (went given.2).2 in
       let counted = went written.2 in
       let trees : done.0.trees ≡ written.0 = ap (λ (it : Written). it.trees) (same_value counted.2) ∙ same_value counted.1 in
-      let applied = one_step schema _ db written.0 (edit_of db table [] Chosen 0 given.0) (alone _ _ _) written.1 in
+      let edit = edit_of db table [] Chosen 0 given.0 in
+      let applied = one_step schema (mode_of old).keys db written.0 edit (alone (mode_of old).keys (taken_by db edit) edit.news) written.1 in
       let row : numbered Chosen (db tree) (map (λ s. cast_row table (drop 0 s)) given.0) ≡ row_in (db tree) ∷ [] =
       ap (λ all. numbered Chosen (db tree) (map (λ s. cast_row table (drop 0 s)) all)) given.1.1 ∙ news (db tree) in
       let fresh : are_fresh (db tree) (row_in (db tree) ∷ []) ≡ true = ap (are_fresh (db tree)) (sym row) ∙ applied.fresh in

@@ -74,10 +74,10 @@ keys_share : (table : Table) (new r : Row) (indexes : List Index)
 keys_share table new r [] = refl
 keys_share table new r (i ∷ more) = by (guards i table) (keys_share table new r more)
   where
-    abbrev agrees : List ℕ × ℕ → Bool
+    agrees : List ℕ × ℕ → Bool
     agrees k = agree (record { digits = k.1 }) k.0 r k.0 new
 
-    abbrev key : Index → List ℕ × ℕ
+    key : Index → List ℕ × ℕ
     key j = (j.columns, j.order.digits)
 
     by : (b : Bool) → list_any (shares None table new r) more ≡ list_any agrees (map key (filter (λ j. guards j table) more))

@@ -57,7 +57,7 @@ other_tree f g schema serves a b differ same =
     apart (length f.name) (length g.name) differ (ap (λ (o : Option Table). length (name_in o)) (sym (own_tree f schema serves a) ∙ ap (table_in schema) same ∙ own_tree g schema serves b))
 
 -- what is there in one schema is there in an equal one
-pub still_there : (form : Table) (a b : Schema) → b ≡ a → IsThere form a → IsThere form b
+abbrev pub still_there : (form : Table) (a b : Schema) → b ≡ a → IsThere form a → IsThere form b
 still_there form a b same h = record {
   tree = h.tree;
   named = ap (λ s. table_of s form.name) same ∙ h.named;

@@ -27,7 +27,7 @@ use Rattle.sqlite_schema.specs.declared.schema.Keys.{Keys}
 use Rattle.sqlite_rules.specs.Lists.{Has}
 use Rattle.sqlite_rules.specs.Calls.{ids_of}
 use Rattle.sqlite_rules.specs.Keys.{AreConflicts, conflicts}
-use Rattle.sqlite_rules.specs.Edit.{next_rowid, without_all, with_rowid}
+use Rattle.sqlite_rules.specs.Edit.{taken_by, next_rowid, without_all, with_rowid}
 use Rattle.sqlite_rules.specs.Cast.{cast_row}
 use Rattle.sqlite_rules.proofs.TableLemmas.{without_all_has}
 use Rattle.sqlite.proofs.Callers.{runs_as, one_step}
@@ -103,7 +103,8 @@ module _ (at tree : ℕ) (name : List ℕ) (columns : List Column) (number : Opt
       puts ids mid w left others h =
           let put = went h in
           let trees : w.trees ≡ put.0 = ap (λ (it : Written). it.trees) (same_value put.2) in
-          let applied = one_step schema keys mid put.0 (edit_of mid table [] Given 0 (new ∷ [])) (alone keys _ _) put.1 in
+          let edit = edit_of mid table [] Given 0 (new ∷ []) in
+          let applied = one_step schema keys mid put.0 edit (alone keys (taken_by mid edit) edit.news) put.1 in
           let rows : edited mid (edit_of mid table [] Given 0 (new ∷ [])) ≡ put_row new (without_all (db tree) ids) = rw (cast_is (next_rowid (db tree)), left) in
           let at_tree = λ (t : ℕ). ap (λ (x : Trees). x t) trees in (
             at_tree tree ∙ applied.rows ∙ rows ∙ put_behind (db tree) ids keyed,
@@ -115,7 +116,7 @@ module _ (at tree : ℕ) (name : List ℕ) (columns : List Column) (number : Opt
       clears (x ∷ more) w h =
           let cut = went h in
           let edit = edit_of db table (ids_of (x ∷ more)) Given 0 [] in
-          let applied = one_step schema keys db cut.0 edit (alone keys _ _) cut.1 in
+          let applied = one_step schema keys db cut.0 edit (alone keys (taken_by db edit) edit.news) cut.1 in
           puts (ids_of (x ∷ more)) cut.0 w applied.rows applied.tables cut.2
 
       abbrev Comes : Written → Type 0

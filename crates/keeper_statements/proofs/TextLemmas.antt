@@ -1,5 +1,5 @@
 -- What the texts are understood as, where their tables are found by name.
-use Rattle.std.proofs.Common.{◌≡◌, ℕ, List, [], ◌∷◌, codes, Ok, refl}
+use Rattle.std.proofs.Common.{◌≡◌, ℕ, List, [], ◌∷◌, codes, Ok, Some, None, Option, refl}
 use Rattle.sqlite.specs.declared.types.Value.TheVariants.{Null}
 use Rattle.sqlite.specs.Command.TheVariants.{Insert, InsertOr, Delete}
 use Rattle.sqlite.specs.Term.{Term, lit, col, op2}
@@ -12,6 +12,10 @@ use Rattle.sqlite_sql.specs.declared.ops.BinaryOp.TheVariants.{Compare}
 use Rattle.sqlite_sql.specs.declared.ops.CompareOp.TheVariants.{Eq, Lt}
 use Rattle.sqlite_resolve.specs.Compile.{first}
 use Rattle.sqlite_resolve.specs.Write.{deleted}
+use Rattle.sqlite_ast.specs.declared.Binary.{Binary as Operator}
+use Rattle.sqlite_ast.specs.declared.Binary.TheVariants as ops
+use Rattle.sqlite_ast.specs.declared.Expr.{Expr}
+use Rattle.sqlite_ast.specs.declared.Expr.TheVariants as written_as
 use Rattle.keeper_statements.specs.Found.{placed}
 use Rattle.keeper_statements.specs.Schema.{sets_table, replies_table, decks_table, statuses_table, floors_table}
 use Rattle.keeper_statements.proofs.PlaceLemmas.{IsListed}
@@ -87,6 +91,20 @@ status_reads : (schema : Schema) (tree : ℕ) (t : IsListed statuses_table tree 
 unfolding everything
 status_reads schema tree t = (formats_none statuses_table tree schema t, refl, inserted_as schema statuses_table tree t (base_of (first status_text)) (columns_of (first status_text)) (rows_of (first status_text)) (Values three_terms 4) refl)
 
+-- a comparison of a column with a parameter, as it is read
+abbrev compared : Operator → List ℕ → ℕ → Expr
+compared op name n = written_as.Binary op (written_as.Column None name) (written_as.Parameter n)
+
+-- two of them
+abbrev both : Expr → Expr → Option Expr
+both a b = Some (written_as.Binary ops.And a b)
+
+abbrev below_test : Option Expr
+below_test = both (compared ops.Eq (codes "job") 1) (compared ops.Lt (codes "number") 2)
+
+abbrev status_test : Option Expr
+status_test = both (compared ops.Eq (codes "kind") 1) (compared ops.Eq (codes "name") 2)
+
 drop_set_draft : (schema : Schema) (tree : ℕ) (t : IsListed sets_table tree schema) → deleted schema t.at (placed sets_table tree) (test_of (first drop_set_text)) ≡ Ok (draft_of tree (first_is ∷ []))
 unfolding everything
 drop_set_draft schema tree t = simp t.listed
@@ -96,14 +114,14 @@ unfolding everything
 drop_set_reads schema tree t =
     (refl, refl, deleted_as schema sets_table tree t (test_of (first drop_set_text)) (draft_of tree (first_is ∷ [])) (deleting tree (first_is ∷ [])) (drop_set_draft schema tree t) (program_of schema sets_table tree t (first_is ∷ []) refl))
 
-below_draft : (schema : Schema) (tree : ℕ) (t : IsListed replies_table tree schema) → deleted schema t.at (placed replies_table tree) (test_of (first below_text)) ≡ Ok (draft_of tree (first_is ∷ second_below ∷ []))
+below_draft : (schema : Schema) (tree : ℕ) (t : IsListed replies_table tree schema) → deleted schema t.at (placed replies_table tree) below_test ≡ Ok (draft_of tree (first_is ∷ second_below ∷ []))
 unfolding everything
 below_draft schema tree t = simp t.listed
 
 below_reads : (schema : Schema) (tree : ℕ) (t : IsListed replies_table tree schema) → Reads schema (Delete t.at (deleting tree (first_is ∷ second_below ∷ []))) (first below_text)
 unfolding everything
 below_reads schema tree t =
-    (refl, refl, deleted_as schema replies_table tree t (test_of (first below_text)) (draft_of tree (first_is ∷ second_below ∷ [])) (deleting tree (first_is ∷ second_below ∷ [])) (below_draft schema tree t) (program_of schema replies_table tree t (first_is ∷ second_below ∷ []) refl))
+    (refl, refl, deleted_as schema replies_table tree t below_test (draft_of tree (first_is ∷ second_below ∷ [])) (deleting tree (first_is ∷ second_below ∷ [])) (below_draft schema tree t) (program_of schema replies_table tree t (first_is ∷ second_below ∷ []) refl))
 
 clear_draft : (schema : Schema) (tree : ℕ) (t : IsListed statuses_table tree schema) → deleted schema t.at (placed statuses_table tree) (test_of (first clear_text)) ≡ Ok (draft_of tree [])
 unfolding everything
@@ -114,14 +132,14 @@ unfolding everything
 clear_reads schema tree t =
     (refl, refl, deleted_as schema statuses_table tree t (test_of (first clear_text)) (draft_of tree []) (deleting tree []) (clear_draft schema tree t) (program_of schema statuses_table tree t [] refl))
 
-drop_status_draft : (schema : Schema) (tree : ℕ) (t : IsListed statuses_table tree schema) → deleted schema t.at (placed statuses_table tree) (test_of (first drop_status_text)) ≡ Ok (draft_of tree (first_is ∷ second_is ∷ []))
+drop_status_draft : (schema : Schema) (tree : ℕ) (t : IsListed statuses_table tree schema) → deleted schema t.at (placed statuses_table tree) status_test ≡ Ok (draft_of tree (first_is ∷ second_is ∷ []))
 unfolding everything
 drop_status_draft schema tree t = simp t.listed
 
 drop_status_reads : (schema : Schema) (tree : ℕ) (t : IsListed statuses_table tree schema) → Reads schema (Delete t.at (deleting tree (first_is ∷ second_is ∷ []))) (first drop_status_text)
 unfolding everything
 drop_status_reads schema tree t =
-    (refl, refl, deleted_as schema statuses_table tree t (test_of (first drop_status_text)) (draft_of tree (first_is ∷ second_is ∷ [])) (deleting tree (first_is ∷ second_is ∷ [])) (drop_status_draft schema tree t) (program_of schema statuses_table tree t (first_is ∷ second_is ∷ []) refl))
+    (refl, refl, deleted_as schema statuses_table tree t status_test (draft_of tree (first_is ∷ second_is ∷ [])) (deleting tree (first_is ∷ second_is ∷ [])) (drop_status_draft schema tree t) (program_of schema statuses_table tree t (first_is ∷ second_is ∷ []) refl))
 
 pub put_set_means : (schema : Schema) (tree : ℕ) (t : IsListed sets_table tree schema) → Means schema put_set_text (InsertOr t.at Replace (Values two_terms 3) [])
 put_set_means schema tree t = means_of schema put_set_text _ (put_set_reads schema tree t)

@@ -63,7 +63,7 @@ module _ (schema : Schema) (text : List ℕ) (k : Command) where
   with_formats p formats = and_then (meaning schema p (small p.names + small formats)) (λ found. Ok (formats, found))
 
   abbrev with_plan : Parsed → Checked (List Name × (Command × Option Returning)) → Checked Compiled
-  with_plan p plan = and_then plan (λ q. Ok (with_command p q))
+  with_plan p found = and_then found (λ q. Ok (with_command p q))
 
   abbrev plan : List Name × (Command × Option Returning)
   plan = ([], (k, None))
@@ -158,7 +158,7 @@ base_of (Ok p) = small p.names + small []
 base_of (Err e) = 0
 
 abbrev columns_by : Statement → List Name
-columns_by (written.Insert how name columns rows clauses shown) = columns
+columns_by (written.Insert how name columns given clauses shown) = columns
 columns_by _ = []
 
 abbrev pub columns_of : Checked Parsed → List Name
@@ -166,7 +166,7 @@ columns_of (Ok p) = columns_by p.statement
 columns_of (Err e) = []
 
 abbrev rows_by : Statement → Rows
-rows_by (written.Insert how name columns rows clauses shown) = rows
+rows_by (written.Insert how name columns given clauses shown) = given
 rows_by _ = rows.Defaults
 
 abbrev pub rows_of : Checked Parsed → Rows
