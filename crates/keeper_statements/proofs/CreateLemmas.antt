@@ -190,7 +190,7 @@ understood_is schema text table c making h = by (reads_listing schema text) h
     by true h = absurd (no_select text table (compiled listing_schema text) c (λ d is. made_is listing_schema text table d making is) h)
     by false h = made_is schema text table c making h
 
-any_past : {X : Type 0} (p : X → Bool) (xs : List X) (x : X) → p x ≡ false → list_any p (xs ++ x ∷ []) ≡ list_any p xs
+pub any_past : {X : Type 0} (p : X → Bool) (xs : List X) (x : X) → p x ≡ false → list_any p (xs ++ x ∷ []) ≡ list_any p xs
 any_past p [] x out = ap (λ b. b || false) out
 any_past p (y ∷ xs) x out = ap (λ b. p y || b) (any_past p xs x out)
 
