@@ -1,5 +1,7 @@
 pub mod PlaceLemmas
 pub mod UnderstoodLemmas
+pub mod ColumnLemmas
+pub mod SelectLemmas
 pub mod TextLemmas
 pub mod RowLemmas
 pub mod FoundLemmas
