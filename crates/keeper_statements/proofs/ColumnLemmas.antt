@@ -147,6 +147,27 @@ module _ (schema : Schema) (form : Table) (tree : ℕ) (t : IsListed form tree s
   unfolding body.shown body.is_column looked
   shows_column tables done p budget last is enough = rw (lowers [] true p budget last is enough, heading_is [] true p p.name is)
 
+  rowid_declared : form.key ≡ None → body.declared schema t.at (option_and_then (λ (u : Table). u.key) (slice_get schema.tables t.at)) ≡ None
+  unfolding body.declared
+  rowid_declared keyless = rw (t.listed, keyless)
+
+  heading_rowid : (outputs : List Output) (may : Bool) (text : Name) → column_named (placed form tree) (codes "rowid") ≡ None → form.key ≡ None
+      → body.heading (over outputs may) (written.Column None (codes "rowid")) text ≡ codes "rowid"
+  unfolding body.heading looked
+  heading_rowid outputs may text none keyless = rw (finds_rowid outputs may none, rowid_declared keyless)
+
+  -- what is shown of the number of the row
+  abbrev pub output_rowid : Output
+  output_rowid = record { name = codes "rowid"; is_alias = false; is_column = true; term = col 1 0; carried = nothing }
+
+  abbrev pub ask_rowid : Shown
+  ask_rowid = shows.One (written.Column None (codes "rowid")) None (codes "rowid")
+
+  pub shows_rowid : (budget : ℕ) (last : Carried) → column_named (placed form tree) (codes "rowid") ≡ None → form.key ≡ None → nat_lt 1 budget ≡ true
+      → body.outputs lower (over [] true) (bound ∷ []) (ask_rowid ∷ []) (reading budget last) ≡ Ok (output_rowid ∷ [], reading (budget - 1) nothing)
+  unfolding body.outputs body.shown body.is_column looked
+  shows_rowid budget last none keyless enough = rw (lowers_rowid [] true budget last none enough, heading_rowid [] true (codes "rowid") none keyless)
+
   -- columns one behind the other
 
   abbrev pub left_of : ℕ → List Picked → ℕ

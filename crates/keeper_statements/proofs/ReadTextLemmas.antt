@@ -7,6 +7,7 @@ use Rattle.sqlite.specs.Query.{inner, end}
 use Rattle.sqlite.specs.Schema.{Schema}
 use Rattle.sqlite.specs.Term.{Term, lit, col, op2}
 use Rattle.sqlite.specs.declared.types.Value.TheVariants.{Null, Int}
+use Rattle.sqlite_ast.specs.declared.Binary.TheVariants as ops
 use Rattle.sqlite_ast.specs.declared.Core.{Core, roll-Core}
 use Rattle.sqlite_ast.specs.declared.Expr.{Expr}
 use Rattle.sqlite_ast.specs.declared.Expr.TheVariants as written_as
@@ -33,10 +34,10 @@ use Rattle.sqlite_tied.specs.Compute.{everything}
 use Rattle.sqlite_value.specs.declared.keys.Collation.{Collation}
 use Rattle.sqlite_value.specs.declared.keys.Key.{Key}
 use Rattle.keeper_statements.specs.Schema.{strict_column, sets_table, replies_table, decks_table, statuses_table, floors_table}
-use Rattle.keeper_statements.proofs.ColumnLemmas.{Picked, looked, outputs_for, over, reading, sort_by, sorts_column, sorts_rowid}
+use Rattle.keeper_statements.proofs.ColumnLemmas.{Picked, looked, output_rowid, outputs_for, over, reading, shows_all, shows_rowid, sort_by, sorts_column, sorts_rowid}
 use Rattle.keeper_statements.proofs.PlaceLemmas.{IsListed}
 use Rattle.keeper_statements.proofs.SelectLemmas.{query_is, sorts_one, sorts_three, sorts_two, source_for}
-use Rattle.keeper_statements.proofs.TextLemmas.{first_is}
+use Rattle.keeper_statements.proofs.TextLemmas.{both, compared, first_is}
 use Rattle.keeper_statements.proofs.UnderstoodLemmas.{Means, Reads, deleting, draft_of, means_of, program_is, program_of, selected_as}
 
 abbrev pub sets_text : List ℕ
@@ -138,7 +139,7 @@ sets_query : (schema : Schema) (tree : ℕ) (t : IsListed sets_table tree schema
     → query schema (select_of (core_of (codes "dsn" ∷ codes "rec" ∷ []) (codes "sets") None) (sort_by schema sets_table tree t (codes "dsn") ∷ sort_by schema sets_table tree t (codes "rowid") ∷ [])) ≡ Ok ((reading_of tree two_shown by_key, codes "dsn" ∷ codes "rec" ∷ [], Some Binary ∷ Some Binary ∷ []), [])
 unfolding same_name body.tests looked
 sets_query schema tree t =
-    query_is schema sets_table tree t (core_of (codes "dsn" ∷ codes "rec" ∷ []) (codes "sets") None) sets_picked None [] refl refl refl refl refl refl (record { named = refl; got = refl }, (record { named = refl; got = refl }, tt)) (refl, (refl, tt)) 99998 (declared sets_table 1 (strict_column (codes "rec") Blob)) refl
+    query_is schema sets_table tree t (core_of (codes "dsn" ∷ codes "rec" ∷ []) (codes "sets") None) (sets_outs schema tree t) None [] 99998 (declared sets_table 1 (strict_column (codes "rec") Blob)) (shows_all schema sets_table tree t sets_picked 100000 nothing (record { named = refl; got = refl }, (record { named = refl; got = refl }, tt)) (refl, (refl, tt))) refl refl refl refl refl 99998 (declared sets_table 1 (strict_column (codes "rec") Blob)) refl
     (sort_by schema sets_table tree t (codes "dsn") ∷ sort_by schema sets_table tree t (codes "rowid") ∷ []) by_key 99996 nothing (sets_sorted schema tree t) (select_of (core_of (codes "dsn" ∷ codes "rec" ∷ []) (codes "sets") None) (sort_by schema sets_table tree t (codes "dsn") ∷ sort_by schema sets_table tree t (codes "rowid") ∷ [])) refl refl refl refl refl refl
 
 sets_asks : (schema : Schema) (tree : ℕ) (t : IsListed sets_table tree schema) → Asks schema (reading_of tree two_shown by_key) (codes "dsn" ∷ codes "rec" ∷ []) (Some Binary ∷ Some Binary ∷ []) (first sets_text)
@@ -169,7 +170,7 @@ replies_query : (schema : Schema) (tree : ℕ) (t : IsListed replies_table tree 
     → query schema (select_of (core_of (codes "job" ∷ codes "number" ∷ codes "place" ∷ codes "request" ∷ codes "reply" ∷ []) (codes "replies") None) (sort_by schema replies_table tree t (codes "job") ∷ sort_by schema replies_table tree t (codes "number") ∷ sort_by schema replies_table tree t (codes "rowid") ∷ [])) ≡ Ok ((reading_of tree five_shown by_two_keys, codes "job" ∷ codes "number" ∷ codes "place" ∷ codes "request" ∷ codes "reply" ∷ [], Some Binary ∷ Some Binary ∷ Some Binary ∷ Some Binary ∷ Some Binary ∷ []), [])
 unfolding same_name body.tests looked
 replies_query schema tree t =
-    query_is schema replies_table tree t (core_of (codes "job" ∷ codes "number" ∷ codes "place" ∷ codes "request" ∷ codes "reply" ∷ []) (codes "replies") None) replies_picked None [] refl refl refl refl refl refl (record { named = refl; got = refl }, (record { named = refl; got = refl }, (record { named = refl; got = refl }, (record { named = refl; got = refl }, (record { named = refl; got = refl }, tt))))) (refl, (refl, (refl, (refl, (refl, tt))))) 99995 (declared replies_table 4 (strict_column (codes "reply") Blob)) refl
+    query_is schema replies_table tree t (core_of (codes "job" ∷ codes "number" ∷ codes "place" ∷ codes "request" ∷ codes "reply" ∷ []) (codes "replies") None) (replies_outs schema tree t) None [] 99995 (declared replies_table 4 (strict_column (codes "reply") Blob)) (shows_all schema replies_table tree t replies_picked 100000 nothing (record { named = refl; got = refl }, (record { named = refl; got = refl }, (record { named = refl; got = refl }, (record { named = refl; got = refl }, (record { named = refl; got = refl }, tt))))) (refl, (refl, (refl, (refl, (refl, tt)))))) refl refl refl refl refl 99995 (declared replies_table 4 (strict_column (codes "reply") Blob)) refl
     (sort_by schema replies_table tree t (codes "job") ∷ sort_by schema replies_table tree t (codes "number") ∷ sort_by schema replies_table tree t (codes "rowid") ∷ []) by_two_keys 99992 nothing (replies_sorted schema tree t) (select_of (core_of (codes "job" ∷ codes "number" ∷ codes "place" ∷ codes "request" ∷ codes "reply" ∷ []) (codes "replies") None) (sort_by schema replies_table tree t (codes "job") ∷ sort_by schema replies_table tree t (codes "number") ∷ sort_by schema replies_table tree t (codes "rowid") ∷ [])) refl refl refl refl refl refl
 
 replies_asks : (schema : Schema) (tree : ℕ) (t : IsListed replies_table tree schema) → Asks schema (reading_of tree five_shown by_two_keys) (codes "job" ∷ codes "number" ∷ codes "place" ∷ codes "request" ∷ codes "reply" ∷ []) (Some Binary ∷ Some Binary ∷ Some Binary ∷ Some Binary ∷ Some Binary ∷ []) (first replies_text)
@@ -198,7 +199,7 @@ decks_query : (schema : Schema) (tree : ℕ) (t : IsListed decks_table tree sche
     → query schema (select_of (core_of (codes "count" ∷ codes "bytes" ∷ []) (codes "decks") None) (sort_by schema decks_table tree t (codes "count") ∷ [])) ≡ Ok ((reading_of tree deck_shown by_number, codes "count" ∷ codes "bytes" ∷ [], None ∷ Some Binary ∷ []), [])
 unfolding same_name body.tests looked
 decks_query schema tree t =
-    query_is schema decks_table tree t (core_of (codes "count" ∷ codes "bytes" ∷ []) (codes "decks") None) decks_picked None [] refl refl refl refl refl refl (record { named = refl; got = refl }, (record { named = refl; got = refl }, tt)) (refl, (refl, tt)) 99998 (declared decks_table 1 (strict_column (codes "bytes") Blob)) refl
+    query_is schema decks_table tree t (core_of (codes "count" ∷ codes "bytes" ∷ []) (codes "decks") None) (decks_outs schema tree t) None [] 99998 (declared decks_table 1 (strict_column (codes "bytes") Blob)) (shows_all schema decks_table tree t decks_picked 100000 nothing (record { named = refl; got = refl }, (record { named = refl; got = refl }, tt)) (refl, (refl, tt))) refl refl refl refl refl 99998 (declared decks_table 1 (strict_column (codes "bytes") Blob)) refl
     (sort_by schema decks_table tree t (codes "count") ∷ []) by_number 99997 (declared decks_table 0 (record { name = codes "count"; kind = Integer; is_strict = true; not_null = false; default = Null; collation = Binary })) (decks_sorted schema tree t) (select_of (core_of (codes "count" ∷ codes "bytes" ∷ []) (codes "decks") None) (sort_by schema decks_table tree t (codes "count") ∷ [])) refl refl refl refl refl refl
 
 decks_asks : (schema : Schema) (tree : ℕ) (t : IsListed decks_table tree schema) → Asks schema (reading_of tree deck_shown by_number) (codes "count" ∷ codes "bytes" ∷ []) (None ∷ Some Binary ∷ []) (first decks_text)
@@ -229,7 +230,7 @@ statuses_query : (schema : Schema) (tree : ℕ) (t : IsListed statuses_table tre
     → query schema (select_of (core_of (codes "kind" ∷ codes "name" ∷ codes "status" ∷ []) (codes "statuses") None) (sort_by schema statuses_table tree t (codes "kind") ∷ sort_by schema statuses_table tree t (codes "name") ∷ sort_by schema statuses_table tree t (codes "rowid") ∷ [])) ≡ Ok ((reading_of tree three_shown by_two_keys, codes "kind" ∷ codes "name" ∷ codes "status" ∷ [], Some Binary ∷ Some Binary ∷ Some Binary ∷ []), [])
 unfolding same_name body.tests looked
 statuses_query schema tree t =
-    query_is schema statuses_table tree t (core_of (codes "kind" ∷ codes "name" ∷ codes "status" ∷ []) (codes "statuses") None) statuses_picked None [] refl refl refl refl refl refl (record { named = refl; got = refl }, (record { named = refl; got = refl }, (record { named = refl; got = refl }, tt))) (refl, (refl, (refl, tt))) 99997 (declared statuses_table 2 (strict_column (codes "status") Integer)) refl
+    query_is schema statuses_table tree t (core_of (codes "kind" ∷ codes "name" ∷ codes "status" ∷ []) (codes "statuses") None) (statuses_outs schema tree t) None [] 99997 (declared statuses_table 2 (strict_column (codes "status") Integer)) (shows_all schema statuses_table tree t statuses_picked 100000 nothing (record { named = refl; got = refl }, (record { named = refl; got = refl }, (record { named = refl; got = refl }, tt))) (refl, (refl, (refl, tt)))) refl refl refl refl refl 99997 (declared statuses_table 2 (strict_column (codes "status") Integer)) refl
     (sort_by schema statuses_table tree t (codes "kind") ∷ sort_by schema statuses_table tree t (codes "name") ∷ sort_by schema statuses_table tree t (codes "rowid") ∷ []) by_two_keys 99994 nothing (statuses_sorted schema tree t) (select_of (core_of (codes "kind" ∷ codes "name" ∷ codes "status" ∷ []) (codes "statuses") None) (sort_by schema statuses_table tree t (codes "kind") ∷ sort_by schema statuses_table tree t (codes "name") ∷ sort_by schema statuses_table tree t (codes "rowid") ∷ [])) refl refl refl refl refl refl
 
 statuses_asks : (schema : Schema) (tree : ℕ) (t : IsListed statuses_table tree schema) → Asks schema (reading_of tree three_shown by_two_keys) (codes "kind" ∷ codes "name" ∷ codes "status" ∷ []) (Some Binary ∷ Some Binary ∷ Some Binary ∷ []) (first statuses_text)
@@ -259,7 +260,7 @@ floors_query : (schema : Schema) (tree : ℕ) (t : IsListed floors_table tree sc
     → query schema (select_of (core_of (codes "job" ∷ codes "floor" ∷ []) (codes "floors") None) (sort_by schema floors_table tree t (codes "job") ∷ sort_by schema floors_table tree t (codes "rowid") ∷ [])) ≡ Ok ((reading_of tree two_shown by_key, codes "job" ∷ codes "floor" ∷ [], Some Binary ∷ Some Binary ∷ []), [])
 unfolding same_name body.tests looked
 floors_query schema tree t =
-    query_is schema floors_table tree t (core_of (codes "job" ∷ codes "floor" ∷ []) (codes "floors") None) floors_picked None [] refl refl refl refl refl refl (record { named = refl; got = refl }, (record { named = refl; got = refl }, tt)) (refl, (refl, tt)) 99998 (declared floors_table 1 (strict_column (codes "floor") Integer)) refl
+    query_is schema floors_table tree t (core_of (codes "job" ∷ codes "floor" ∷ []) (codes "floors") None) (floors_outs schema tree t) None [] 99998 (declared floors_table 1 (strict_column (codes "floor") Integer)) (shows_all schema floors_table tree t floors_picked 100000 nothing (record { named = refl; got = refl }, (record { named = refl; got = refl }, tt)) (refl, (refl, tt))) refl refl refl refl refl 99998 (declared floors_table 1 (strict_column (codes "floor") Integer)) refl
     (sort_by schema floors_table tree t (codes "job") ∷ sort_by schema floors_table tree t (codes "rowid") ∷ []) by_key 99996 nothing (floors_sorted schema tree t) (select_of (core_of (codes "job" ∷ codes "floor" ∷ []) (codes "floors") None) (sort_by schema floors_table tree t (codes "job") ∷ sort_by schema floors_table tree t (codes "rowid") ∷ [])) refl refl refl refl refl refl
 
 floors_asks : (schema : Schema) (tree : ℕ) (t : IsListed floors_table tree schema) → Asks schema (reading_of tree two_shown by_key) (codes "job" ∷ codes "floor" ∷ []) (Some Binary ∷ Some Binary ∷ []) (first floors_text)
@@ -270,3 +271,29 @@ pub floors_means : (schema : Schema) (tree : ℕ) (t : IsListed floors_table tre
 floors_means schema tree t =
     means_of schema floors_text _ (asks_reads schema (reading_of tree two_shown by_key) (codes "job" ∷ codes "floor" ∷ []) (Some Binary ∷ Some Binary ∷ []) (selecting tree two_shown by_key)
     (program_is schema floors_table tree t (reading_of tree two_shown by_key) refl) (first floors_text) (floors_asks schema tree t))
+
+-- a job's floor above a number
+abbrev above_test : Option Expr
+above_test = both (compared ops.Eq (codes "job") 1) (compared ops.Gt (codes "floor") 2)
+
+above_filtered : (schema : Schema) (tree : ℕ) (t : IsListed floors_table tree schema)
+    → body.tests lower (over schema floors_table tree t (output_rowid schema floors_table tree t ∷ []) false) [] above_test (reading 99999 nothing) ≡ Ok (first_is ∷ second_above ∷ [], reading 99992 nothing)
+unfolding everything
+above_filtered schema tree t = simp t.listed
+
+above_query : (schema : Schema) (tree : ℕ) (t : IsListed floors_table tree schema)
+    → query schema (select_of (core_of (codes "rowid" ∷ []) (codes "floors") above_test) []) ≡ Ok ((draft_of tree (first_is ∷ second_above ∷ []), codes "rowid" ∷ [], None ∷ []), [])
+unfolding same_name ordering.sorts looked
+above_query schema tree t =
+    query_is schema floors_table tree t (core_of (codes "rowid" ∷ []) (codes "floors") above_test) (output_rowid schema floors_table tree t ∷ []) above_test (first_is ∷ second_above ∷ []) 99999 nothing
+    (shows_rowid schema floors_table tree t 100000 nothing refl refl refl) refl refl refl refl refl 99992 nothing (above_filtered schema tree t)
+    [] [] 99992 nothing refl (select_of (core_of (codes "rowid" ∷ []) (codes "floors") above_test) []) refl refl refl refl refl refl
+
+above_asks : (schema : Schema) (tree : ℕ) (t : IsListed floors_table tree schema) → Asks schema (draft_of tree (first_is ∷ second_above ∷ [])) (codes "rowid" ∷ []) (None ∷ []) (first above_text)
+unfolding everything
+above_asks schema tree t = (refl, above_query schema tree t)
+
+pub above_means : (schema : Schema) (tree : ℕ) (t : IsListed floors_table tree schema) → Means schema above_text (Select (deleting tree (first_is ∷ second_above ∷ [])) (codes "rowid" ∷ []))
+above_means schema tree t =
+    means_of schema above_text _ (asks_reads schema (draft_of tree (first_is ∷ second_above ∷ [])) (codes "rowid" ∷ []) (None ∷ []) (deleting tree (first_is ∷ second_above ∷ []))
+    (program_of schema floors_table tree t (first_is ∷ second_above ∷ []) refl) (first above_text) (above_asks schema tree t))

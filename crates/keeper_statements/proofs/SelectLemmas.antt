@@ -1,6 +1,5 @@
 -- What a query over one table is read as, whatever other tables there are.
 use Rattle.std.proofs.Common.{◌≡◌, ◌++◌, ◌-◌, ℕ, pos, negsuc, Bool, true, false, List, [], ◌∷◌, Ok, Some, None, Option, codes, map, nat_lt, refl, sym, ap, subst, ◌∙◌}
-use Rattle.std.specs.List.{AllByRecursion}
 use Rattle.sqlite.specs.declared.types.Value.TheVariants.{Int}
 use Rattle.sqlite.specs.Query.{inner, end}
 use Rattle.sqlite.specs.Schema.{Schema}
@@ -32,7 +31,7 @@ use Rattle.sqlite_resolve.specs.declared.state.State.{State}
 use Rattle.sqlite_value.specs.declared.keys.Collation.{Collation}
 use Rattle.sqlite_value.specs.declared.keys.Key.{Key}
 use Rattle.keeper_statements.specs.Found.{placed}
-use Rattle.keeper_statements.proofs.ColumnLemmas.{IsEnough, IsPicked, Picked, ask_for, bound, last_of, left_of, looked, outputs_for, over, reading, shows_all}
+use Rattle.keeper_statements.proofs.ColumnLemmas.{bound, looked, over, reading}
 use Rattle.keeper_statements.proofs.PlaceLemmas.{IsListed}
 
 -- FROM with one table, as it is read
@@ -49,22 +48,17 @@ module _ (schema : Schema) (form : Table) (tree : ℕ) (t : IsListed form tree s
   joins_are outputs s = rw t.listed
 
   -- a SELECT of columns of the table, by its parts
-  module _ (core : Core) (ps : List Picked) (filter : Option Expr) (terms : List Term) (shown_is : (out-Core core).shown ≡ map (ask_for schema form tree t) ps) (from_is : (out-Core core).from ≡ source_for form.name ∷ [])
+  module _ (core : Core) (outs : List Output) (filter : Option Expr) (terms : List Term) (start_budget : ℕ) (start_last : Carried)
+      (shows : body.outputs lower (over schema form tree t [] true) (bound schema form tree t ∷ []) (out-Core core).shown (reading 100000 nothing) ≡ Ok (outs, reading start_budget start_last)) (from_is : (out-Core core).from ≡ source_for form.name ∷ [])
       (filter_is : (out-Core core).filter ≡ filter) (group_is : (out-Core core).group ≡ []) (having_is : (out-Core core).having ≡ None) (distinct_is : (out-Core core).distinct ≡ false)
-      (all : AllByRecursion (IsPicked schema form tree t) ps) (enough : IsEnough schema form tree t 100000 ps) (budget : ℕ) (last : Carried) where
-    abbrev pub outs : List Output
-    outs = outputs_for schema form tree t [] ps
-
-    abbrev pub shown_state : State
-    shown_state = reading (left_of schema form tree t 100000 ps) (last_of schema form tree t nothing ps)
-
+      (budget : ℕ) (last : Carried) where
     abbrev whole : Body
     whole = record { level = record { tables = bound schema form tree t ∷ []; shown = outs }; steps = Inner tree ∷ []; filter = terms }
 
-    module _ (filtered : body.tests lower (over schema form tree t outs false) [] filter shown_state ≡ Ok (terms, reading budget last)) where
+    module _ (filtered : body.tests lower (over schema form tree t outs false) [] filter (reading start_budget start_last) ≡ Ok (terms, reading budget last)) where
       body_is : body.body lower (selects.outermost schema) core (fresh 1 100000) ≡ Ok (whole, reading budget last)
       unfolding body.body body.result body.matching
-      body_is = rw (from_is, bounds_are, shown_is, shows_all schema form tree t ps 100000 nothing all enough, joins_are outs shown_state, filter_is, filtered)
+      body_is = rw (from_is, bounds_are, shows, joins_are outs (reading start_budget start_last), filter_is, filtered)
 
       module _ (order : List Sort) (keys : List (Term × Key)) (end_budget : ℕ) (end_last : Carried)
           (sorted : ordering.sorts lower (over schema form tree t outs false) outs order (reading budget last) ≡ Ok (keys, reading end_budget end_last)) where

@@ -92,11 +92,11 @@ unfolding everything
 status_reads schema tree t = (formats_none statuses_table tree schema t, refl, inserted_as schema statuses_table tree t (base_of (first status_text)) (columns_of (first status_text)) (rows_of (first status_text)) (Values three_terms 4) refl)
 
 -- a comparison of a column with a parameter, as it is read
-abbrev compared : Operator → List ℕ → ℕ → Expr
+abbrev pub compared : Operator → List ℕ → ℕ → Expr
 compared op name n = written_as.Binary op (written_as.Column None name) (written_as.Parameter n)
 
 -- two of them
-abbrev both : Expr → Expr → Option Expr
+abbrev pub both : Expr → Expr → Option Expr
 both a b = Some (written_as.Binary ops.And a b)
 
 abbrev below_test : Option Expr
