@@ -1,5 +1,5 @@
 -- A transaction from its beginning to its end.
-use Rattle.std.proofs.Common.{◌≡◌, Ok, Err, Result, OnOk, OnErr, Some, IsTrue, inl, inr, refl, sym, ap, subst, ◌∙◌}
+use Rattle.std.proofs.Common.{◌≡◌, false, [], Ok, Err, Result, OnOk, OnErr, Some, IsTrue, inl, inr, refl, sym, ap, subst, ◌∙◌}
 use Rattle.sqlite.specs.Effect.{Database}
 use Rattle.sqlite.specs.Schema.{Schema}
 use Rattle.sqlite.specs.State.{State, Shows, KeepsCounts, Survives}
@@ -88,8 +88,8 @@ ready_left old new db made is = record {
   schema = new.schema;
   made = subst (λ (t : Trees). IsMadeReady old (with_trees new t)) (sym is) made;
   rows = λ rows told.
-      let like = ready_like old new rows made told in
-      record { found = rows; read = ap (λ (t : Trees). rows_in (with_trees new t)) is ∙ like.holds.read; same = same_self_rows rows };
+      let it = reads_of old rows told in
+      record { found = rows; read = ap (λ (t : Trees). rows_in (with_trees new t)) is ∙ ap rows_of (made_same old new it.serves made) ∙ it.read; same = same_self_rows rows };
 }
 
 pub survives_weaker : (old new : State) (P Q : Trees → Type 0) → ((db : Trees) → P db → Q db) → Survives old new P → Survives old new Q

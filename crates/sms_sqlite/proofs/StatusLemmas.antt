@@ -1,8 +1,8 @@
 -- A status set, and what is written of statuses.
-use Rattle.std.proofs.Common.{◌≡◌, Bool, true, false, not, cond, ℕ, pos, List, [], ◌∷◌, ◌++◌, filter, map, Some, ◌+◌, ◌<◌, length, take, get_or, append_assoc, append-nil, refl, ap, ap₂, sym, subst, ◌∙◌}
+use Rattle.std.proofs.Common.{◌≡◌, Bool, true, false, not, cond, ℕ, ℤ, ◌≤◌, pos, List, [], ◌∷◌, ◌++◌, filter, map, Some, ◌+◌, ◌<◌, length, take, get_or, append_assoc, append-nil, refl, ap, ap₂, sym, subst, ◌∙◌}
 use Rattle.std.specs.Prelude.{slice_get}
 use Rattle.std.proofs.lemmas.Grind.{take_at_read}
-use Rattle.std.proofs.lemmas.List.{map-append}
+use Rattle.std.proofs.lemmas.List.{map-append, take_all}
 use Rattle.std.proofs.lemmas.Slice.Eq.{bytes_eq-Decides}
 use Rattle.sqlite.specs.Effect.{Database}
 use Rattle.sqlite.specs.Order.{Row}
@@ -169,3 +169,12 @@ one_added rows i row a b c low is one two = record {
       (append_assoc (tables_in a).statuses (map row_of_status (take i rows)) (row_of_status row ∷ [])
       ∙ ap (λ (l : List Row). (tables_in a).statuses ++ l) (sym (map-append row_of_status (take i rows) (row ∷ [])) ∙ ap (map row_of_status) (sym (next_rows rows i row low is))));
 }
+
+-- a status added, told by equal columns
+pub status_as : (old new : Database) (k kind : ℤ) (n name : List ℕ) (s status : ℤ) → k ≡ kind → n ≡ name → s ≡ status → Makes (with_status k n s) old new → Makes (with_status kind name status) old new
+status_as old new k kind n name s status p q r made =
+    subst (λ (z : ℤ). Makes (with_status kind name z) old new) r (subst (λ (l : List ℕ). Makes (with_status kind l s) old new) q (subst (λ (z : ℤ). Makes (with_status z n s) old new) p made))
+
+-- at the end of the loop all were added
+pub all_added : (rows : List StatusRow) (i : ℕ) (old new : Database) → length rows ≤ i → Makes (with_statuses (take i rows)) old new → Makes (with_statuses rows) old new
+all_added rows i old new end made = subst (λ (l : List StatusRow). Makes (with_statuses l) old new) (take_all i rows end) made
