@@ -17,7 +17,7 @@ use Rattle.sms_construct.specs.declared.target.Target.{Target}
 use Rattle.sms_construct.specs.declared.target.Target.TheVariants as targets
 use Rattle.sms_keeper.proofs.SortLemmas.{count_known, count_total, job_known, job_total, name_known, name_total, request_known, request_total, status_total, target_known}
 use Rattle.sms_keeper.specs.Loading.{AreLoaded, SameDamage, StaysDamaged, by_count, by_job, by_name, by_request, by_target, target_name, target_rank, text_cmp}
-use Rattle.sms_keeper.specs.Tables.{is_deck, is_floor_of, is_named, is_reply_of, is_status_of}
+use Rattle.sms_keeper.specs.Tables.{no_rows, is_deck, is_floor_of, is_named, is_reply_of, is_status_of}
 use Rattle.sms_keeper.specs.declared.deck_row.DeckRow.{DeckRow}
 use Rattle.sms_keeper.specs.declared.floor.Floor.{Floor}
 use Rattle.sms_keeper.specs.declared.kept_row.KeptRow.{KeptRow}
@@ -25,9 +25,10 @@ use Rattle.sms_keeper.specs.declared.rows.Rows.{Rows}
 use Rattle.sms_keeper.specs.declared.status_row.StatusRow.{StatusRow}
 use Rattle.sms_keeper.specs.declared.table.Table.{Table}
 use Rattle.sms_keeper.specs.declared.table.Table.TheVariants.{Sets, Replies, Decks, Statuses, Floors}
-use Rattle.keeper_statements.proofs.GrowLemmas.{made_ready, made_same, ready_serves}
+use Rattle.keeper_statements.proofs.GrowLemmas.{made_ready, made_same, none_without, ready_serves}
 use Rattle.keeper_statements.proofs.OrderLemmas.{order_found, order_sorted}
 use Rattle.keeper_statements.specs.Order.{by_first, by_two, in_order, put_in}
+use Rattle.keeper_statements.specs.Presence.{none_there, present_in}
 use Rattle.keeper_statements.specs.Tables.{Serves, Tables, tables_in}
 use Rattle.sms_sqlite.specs.Columns.{kind_column, name_column}
 use Rattle.sms_sqlite.specs.Damage.{damage_in, first_unread, ordered, unread_in}
@@ -163,6 +164,10 @@ undamaged : (t : Tables) (rows : Rows) → AreRead t rows → damage_in t ≡ No
 undamaged t rows a =
     λ i. option_or (whole_in Sets set_in t.sets rows.sets a.sets i) (option_or (whole_in Replies reply_in t.replies rows.replies a.replies i)
     (option_or (whole_in Decks deck_in t.decks rows.decks a.decks i) (option_or (whole_in Statuses status_in t.statuses rows.statuses a.statuses i) (whole_in Floors floor_in t.floors rows.floors a.floors i))))
+
+-- where none of the five is there, no rows are read
+pub none_reads : (db : Database) (rows : Rows) → present_in db.schema.tables ≡ none_there → rows ≡ no_rows → ReadsAll (ordered (tables_in db)) (Ok rows)
+none_reads db rows none is = ap (λ (t : Tables). rows_of (ordered t)) (none_without db none) ∙ ap (λ (r : Rows). some r) (sym is)
 
 -- a damage that may be told
 on_seen : (new : State) (P : Option (Table × ℕ) → Type 0) → (IsTrue (is_shown new) → P (damage_of new.now)) → P None → P (damage_seen new)

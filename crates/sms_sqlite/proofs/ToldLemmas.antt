@@ -122,7 +122,7 @@ serves_so schema serves =
 pub whole_is : (db : Database) → is_whole db ≡ true → Serves db
 whole_is db e = let p = and_parts _ _ e in record { schema = serves_is db.schema p.0; keyed = rows_keyed db desk_tables p.1 }
 
-whole_so : (db : Database) → Serves db → is_whole db ≡ true
+pub whole_so : (db : Database) → Serves db → is_whole db ≡ true
 whole_so db serves = and_true _ _ (serves_so db.schema serves.schema) (keyed_rows db desk_tables serves.keyed)
 
 pub tables_of_holds : (db : Database) (rows : Rows) → Holds db rows → tables_of db ≡ Some rows
