@@ -1,6 +1,6 @@
 -- What the columns of one table stand for in a query over it, whatever other tables there are.
-use Rattle.std.proofs.Common.{◌≡◌, ◌++◌, ◌-◌, ◌^◌, ◌&&◌, ℕ, Bool, true, false, cond, not, List, [], ◌∷◌, Ok, Err, Some, None, Option, codes, map, nat_lt, slice_get, refl, sym, ap, subst, ◌∙◌}
-use Rattle.std.specs.Prelude.{is_some, option_and_then, option_map, unwrap_or}
+use Rattle.std.proofs.Common.{◌≡◌, ◌++◌, ◌-◌, ◌^◌, ℕ, Bool, true, false, cond, List, [], ◌∷◌, Ok, Some, None, codes, map, nat_lt, slice_get, refl, ap, ◌∙◌}
+use Rattle.std.specs.Prelude.{option_and_then, option_map}
 use Rattle.std.specs.List.{AllByRecursion}
 use Rattle.sqlite.specs.Schema.{Schema}
 use Rattle.sqlite.specs.Table.{Table}
@@ -10,17 +10,14 @@ use Rattle.sqlite_ast.specs.declared.Expr.TheVariants as written
 use Rattle.sqlite_ast.specs.declared.Shown.{Shown}
 use Rattle.sqlite_ast.specs.declared.Shown.TheVariants as shows
 use Rattle.sqlite_ast.specs.declared.Sort.{Sort, roll-Sort}
-use Rattle.sqlite_draft.specs.declared.join.Step.TheVariants.{Inner}
 use Rattle.sqlite_resolve.specs.Body as body
 use Rattle.sqlite_resolve.specs.Expr.{lower, lower_to, node, opened, passes}
-use Rattle.sqlite_resolve.specs.Lowering.{Checked, alone, and_then, begin, finish, nothing, or_else, spend}
+use Rattle.sqlite_resolve.specs.Lowering.{alone, and_then, begin, finish, nothing, or_else, spend}
 use Rattle.sqlite_resolve.specs.Order as ordering
 use Rattle.sqlite_resolve.specs.Scope.{Context, Name, column, column_at, column_in, declared, find, hit, in_level, is_among, is_rowid, only, rowid_in, term_of}
-use Rattle.sqlite_resolve.specs.declared.error.CompileError.TheVariants.{NoSuchColumn, NoSuchTable}
+use Rattle.sqlite_resolve.specs.declared.error.CompileError.TheVariants.{NoSuchColumn}
 use Rattle.sqlite_resolve.specs.declared.scope.Bound.{Bound}
-use Rattle.sqlite_resolve.specs.declared.scope.Found.{Found}
 use Rattle.sqlite_resolve.specs.declared.scope.Found.TheVariants as found
-use Rattle.sqlite_resolve.specs.declared.scope.Level.{Level}
 use Rattle.sqlite_resolve.specs.declared.scope.Output.{Output}
 use Rattle.sqlite_resolve.specs.declared.state.Carried.{Carried}
 use Rattle.sqlite_resolve.specs.declared.state.State.{State}

@@ -1,14 +1,11 @@
 -- What the making of the missing tables leaves.
-use Rattle.std.proofs.Common.{◌≡◌, ◌⊎◌, ◌<◌, ◌+◌, ◌++◌, ◌||◌, ◌&&◌, ◌==◌, eqb, ℕ, Bool, true, false, cond, not, List, [], ◌∷◌, codes, map, filter, find, Some, None, Option, refl, sym, ap, subst, ◌∙◌, inl, inr, arith, append-nil, nat_lt, ltb-true, lt-ltb, eq-eqb, ne_eqb}
+use Rattle.std.proofs.Common.{◌≡◌, ◌<◌, ◌+◌, ◌++◌, ◌||◌, ◌&&◌, ◌==◌, ℕ, Bool, true, false, cond, List, [], ◌∷◌, codes, map, filter, find, Some, None, Option, refl, sym, ap, subst, ◌∙◌, inl, inr, arith, append-nil, nat_lt, ltb-true, lt-ltb, eq-eqb, ne_eqb}
 use Rattle.std.specs.Prelude.{is_some}
-use Rattle.std.specs.List.{AllByRecursion, list_all, list_any}
-use Rattle.std.proofs.lemmas.List.{map-append}
-use Rattle.sqlite.specs.Does.{lacks_sequence}
+use Rattle.std.specs.List.{AllByRecursion, list_any}
 use Rattle.sqlite.specs.Effect.{Database}
-use Rattle.sqlite.specs.Order.{Row}
 use Rattle.sqlite.specs.Schema.{Schema}
 use Rattle.sqlite.specs.Table.{Table}
-use Rattle.sqlite_catalog.specs.Change.{KeepsRows, automatics, created, next_tree}
+use Rattle.sqlite_catalog.specs.Change.{automatics, created, next_tree}
 use Rattle.sqlite_catalog.proofs.StepLemmas.{table_below}
 use Rattle.sqlite_rules.proofs.ListLemmas.{all_from, all_has, has_either, has_found, has_right, test_from, test_has}
 use Rattle.sqlite_rules.specs.Lists.{Has}
@@ -361,10 +358,17 @@ ready_serves db ready = record {
   schema = ready.serves;
   keyed = (
     subst IsKeyed (sym (rows_of_form sets_table db ready.sets.there)) ready.sets.keyed,
-    (subst IsKeyed (sym (rows_of_form replies_table db ready.replies.there)) ready.replies.keyed,
-    (subst IsKeyed (sym (rows_of_form decks_table db ready.decks.there)) ready.decks.keyed,
-    (subst IsKeyed (sym (rows_of_form statuses_table db ready.statuses.there)) ready.statuses.keyed,
-    (subst IsKeyed (sym (rows_of_form floors_table db ready.floors.there)) ready.floors.keyed, tt)))));
+    (
+      subst IsKeyed (sym (rows_of_form replies_table db ready.replies.there)) ready.replies.keyed,
+      (
+        subst IsKeyed (sym (rows_of_form decks_table db ready.decks.there)) ready.decks.keyed,
+        (
+          subst IsKeyed (sym (rows_of_form statuses_table db ready.statuses.there)) ready.statuses.keyed,
+          (subst IsKeyed (sym (rows_of_form floors_table db ready.floors.there)) ready.floors.keyed, tt),
+        ),
+      ),
+    ),
+  );
 }
 
 rows_missing : (db : Database) (name : List ℕ) → has_table db.schema.tables name ≡ false → rows_named db name ≡ []

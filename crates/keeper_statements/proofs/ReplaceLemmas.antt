@@ -11,7 +11,7 @@ use Rattle.sqlite.specs.Command.TheVariants.{InsertOr}
 use Rattle.sqlite_schema.specs.declared.command.Conflict.TheVariants.{Replace}
 use Rattle.sqlite.specs.Edit.{edit_of, edited}
 use Rattle.sqlite.specs.Rowids.TheVariants.{Chosen, Given}
-use Rattle.sqlite.specs.Does.{Tally, Does, AtPlace, OnRows}
+use Rattle.sqlite.specs.Does.{Tally, AtPlace, OnRows}
 use Rattle.sqlite.specs.Rows.{Written, Task, Puts, Clears, Tries, Judged, TriesEach, nothing, count_of, mended, stamped}
 use Rattle.sqlite.specs.Effect.{edit_error, Database, value_rows}
 use Rattle.sqlite.specs.declared.error.Error.{Error}

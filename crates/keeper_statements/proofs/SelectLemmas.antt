@@ -1,13 +1,12 @@
 -- What a query over one table is read as, whatever other tables there are.
-use Rattle.std.proofs.Common.{◌≡◌, ◌++◌, ◌-◌, ℕ, pos, negsuc, Bool, true, false, List, [], ◌∷◌, Ok, Some, None, Option, codes, map, nat_lt, refl, sym, ap, subst, ◌∙◌}
+use Rattle.std.proofs.Common.{◌≡◌, ◌-◌, ℕ, pos, negsuc, true, false, List, [], ◌∷◌, Ok, None, Option, map}
 use Rattle.sqlite.specs.declared.types.Value.TheVariants.{Int}
 use Rattle.sqlite.specs.Query.{inner, end}
 use Rattle.sqlite.specs.Schema.{Schema}
 use Rattle.sqlite.specs.Table.{Table}
-use Rattle.sqlite.specs.Term.{Term, lit, col}
+use Rattle.sqlite.specs.Term.{Term, lit}
 use Rattle.sqlite_ast.specs.declared.Core.{Core, out-Core}
 use Rattle.sqlite_ast.specs.declared.Expr.{Expr}
-use Rattle.sqlite_ast.specs.declared.Expr.TheVariants as written
 use Rattle.sqlite_ast.specs.declared.Origin.TheVariants as origin
 use Rattle.sqlite_ast.specs.declared.Select.{Select, out-Select}
 use Rattle.sqlite_ast.specs.declared.Sort.{Sort}
@@ -16,21 +15,18 @@ use Rattle.sqlite_draft.specs.declared.join.Step.TheVariants.{Inner}
 use Rattle.sqlite_draft.specs.declared.query.Draft.{Draft}
 use Rattle.sqlite_resolve.specs.Body as body
 use Rattle.sqlite_resolve.specs.Expr.{lower}
-use Rattle.sqlite_resolve.specs.Lowering.{Checked, and_then, fresh, nothing, take_slot}
+use Rattle.sqlite_resolve.specs.Lowering.{fresh, nothing, take_slot}
 use Rattle.sqlite_resolve.specs.Order as ordering
 use Rattle.sqlite_resolve.specs.Program as programs
 use Rattle.sqlite_resolve.specs.Scope.{Context, Name}
 use Rattle.sqlite_resolve.specs.Select as selects
 use Rattle.sqlite_resolve.specs.Terms.{number}
 use Rattle.sqlite_resolve.specs.declared.body.Body.{Body}
-use Rattle.sqlite_resolve.specs.declared.body.Joined.{Joined}
 use Rattle.sqlite_resolve.specs.declared.scope.Output.{Output}
 use Rattle.sqlite_resolve.specs.declared.select.Clauses.{Clauses}
 use Rattle.sqlite_resolve.specs.declared.state.Carried.{Carried}
 use Rattle.sqlite_resolve.specs.declared.state.State.{State}
-use Rattle.sqlite_value.specs.declared.keys.Collation.{Collation}
 use Rattle.sqlite_value.specs.declared.keys.Key.{Key}
-use Rattle.keeper_statements.specs.Found.{placed}
 use Rattle.keeper_statements.proofs.ColumnLemmas.{bound, looked, over, reading}
 use Rattle.keeper_statements.proofs.PlaceLemmas.{IsListed}
 

@@ -1,5 +1,5 @@
 -- What is told of a database before and after a transaction.
-use Rattle.std.proofs.Common.{◌≡◌, ◌≤◌, ◌&&◌, ◌⊎◌, inl, inr, not, nat_lt, ltb-true, lt-ltb, ℕ, Bool, true, false, cond, List, [], ◌∷◌, filter, Ok, Err, Result, OnOk, OnErr, Some, None, Option, IsTrue, refl, sym, ap, subst, ◌∙◌, arith, Ordering, Less, Equal, Greater, is_lt}
+use Rattle.std.proofs.Common.{◌≡◌, ◌≤◌, ◌&&◌, inl, inr, not, nat_lt, ltb-true, lt-ltb, ℕ, Bool, true, false, cond, List, [], ◌∷◌, filter, Ok, Err, Result, OnOk, OnErr, Some, None, Option, IsTrue, refl, sym, ap, subst, ◌∙◌, arith, Ordering, Less, Equal, Greater, is_lt}
 use Rattle.std.specs.Coded.{Coded, coded×, coded_list, coded_option, coded_ℕ}
 use Rattle.std.specs.Prelude.{IfSome, is_some}
 use Rattle.std.specs.List.{AllByRecursion, list_all}
