@@ -1,18 +1,21 @@
 -- What CREATE TABLE makes.
-use Rattle.std.proofs.Common.{◌≡◌, ◌++◌, ◌||◌, ◌&&◌, ◌==◌, length, ℕ, Bool, List, [], ◌∷◌, codes, cond, not, true, false, Ok, Err, Option, None, refl, sym, ap, subst, ◌∙◌}
-use Rattle.std.specs.List.{list_any}
-use Rattle.std.specs.Prelude.{is_some, slice_range}
+use Rattle.std.proofs.Common.{◌≡◌, ◌<◌, ◌+◌, ◌++◌, ◌||◌, ◌&&◌, ◌==◌, length, ℕ, zero, suc, Bool, List, [], ◌∷◌, codes, cond, not, true, false, Ok, Err, Option, None, Some, slice_get, refl, sym, ap, subst, ◌∙◌, inl, inr}
+use Rattle.std.specs.List.{AllZip, list_any, position_from}
+use Rattle.std.specs.Prelude.{is_some, option_and_then, slice_range}
 use Rattle.sqlite.specs.Table.{Table}
 use Rattle.sqlite.specs.Schema.{Schema}
 use Rattle.sqlite.specs.Order.{Row}
-use Rattle.sqlite.specs.Tree.{Trees}
 use Rattle.sqlite.specs.Command.TheVariants.{CreateTable}
 use Rattle.sqlite.specs.Change.{created, next_tree, KeepsRows}
 use Rattle.sqlite.specs.Does.{Tally, lacks_sequence}
 use Rattle.sqlite.specs.Effect.{Database}
 use Rattle.sqlite.specs.Listing.{understood, reads_listing, listing_schema, if_select, is_select}
 use Rattle.sqlite.specs.State.{State, Writes, Executes, ExecutesIn, text_of}
-use Rattle.sqlite_schema.specs.Names.{same_name}
+use Rattle.sqlite.specs.Rows.{sequence}
+use Rattle.sqlite_catalog.specs.Listing.{IsTableRow}
+use Rattle.sqlite_rules.specs.Lists.{Has}
+use Rattle.sqlite_rules.proofs.ListLemmas.{has_right}
+use Rattle.sqlite_schema.specs.Names.{same_name, table_named}
 use Rattle.sqlite_ast.specs.declared.Statement.{Statement}
 use Rattle.sqlite_ast.specs.declared.Statement.TheVariants as written
 use Rattle.sqlite_ast.specs.declared.CreateTable.{CreateTable as Definition}
@@ -30,11 +33,8 @@ use Rattle.sqlite_resolve.specs.declared.error.CompileError.TheVariants.{NoSuchT
 use Rattle.sqlite_tied.specs.Compute.{everything}
 use Rattle.sqlite.proofs.Callers.{IsPlain, command_of, statement_of, runs_as}
 use Rattle.keeper_statements.specs.declared.present.Present.{Present}
-use Rattle.keeper_statements.specs.Schema.{no_schema, desk_schema, sets_table, replies_table, decks_table, statuses_table, floors_table, with_sets, with_replies, with_decks, with_statuses, with_desk}
-use Rattle.keeper_statements.specs.Changes.{no_tables}
-use Rattle.keeper_statements.specs.Tables.{IsReady, IsKeyed, tables_in, bodies}
-use Rattle.keeper_statements.specs.Presence.{all_there, none_there, present_in}
-use Rattle.keeper_statements.specs.Steps.{HasMade, HasMadeFirst, HasMadeLast, HasMadeTable, MakesTable, Provides, RunsUnless, is_counted}
+use Rattle.keeper_statements.specs.Schema.{sets_table, replies_table, decks_table, statuses_table, floors_table}
+use Rattle.keeper_statements.specs.Steps.{HasMadeFirst, HasMadeLast, MakesTable, Provides, RunsUnless}
 use Rattle.keeper_statements.proofs.RowLemmas.{went, same_value}
 
 abbrev pub sets_text : List ℕ
@@ -189,23 +189,63 @@ understood_is schema text table c making h = by (reads_listing schema text) h
     by true h = absurd (no_select text table (compiled listing_schema text) c (λ d is. made_is listing_schema text table d making is) h)
     by false h = made_is schema text table c making h
 
-or_false : (a b c : Bool) → (b ≡ false → c ≡ false) → (a || b) ≡ false → (a || c) ≡ false
-or_false true b c f none = none
-or_false false b c f none = f none
+pub any_past : {X : Type 0} (p : X → Bool) (xs : List X) (x : X) → p x ≡ false → list_any p (xs ++ x ∷ []) ≡ list_any p xs
+any_past p [] x out = ap (λ b. b || false) out
+any_past p (y ∷ xs) x out = ap (λ b. p y || b) (any_past p xs x out)
 
-any_append : (tables : List Table) (t : Table) → list_any (λ t. t.is_counted) tables ≡ false → t.is_counted ≡ false → list_any (λ t. t.is_counted) (tables ++ t ∷ []) ≡ false
-any_append [] t none never = rw never refl
-any_append (x ∷ tables) t none never = or_false x.is_counted _ _ (λ more. any_append tables t more never) none
+position_left : {X : Type 0} (p : X → Bool) (xs ys : List X) (start at : ℕ) → position_from p start xs ≡ Some at → position_from p start (xs ++ ys) ≡ Some at
+position_left p [] ys start at e = absurd cc
+position_left {X} p (x ∷ xs) ys start at e = by (p x) e (λ f. position_left p xs ys (start + 1) at f)
+  where
+    by : (b : Bool) → cond b (Some start) (position_from p (start + 1) xs) ≡ Some at → (position_from p (start + 1) xs ≡ Some at → position_from p (start + 1) (xs ++ ys) ≡ Some at)
+        → cond b (Some start) (position_from p (start + 1) (xs ++ ys)) ≡ Some at
+    by true e more = e
+    by false e more = more e
 
-still_uncounted : (schema : Schema) (table : Table) → table.is_counted ≡ false → is_counted schema ≡ false → is_counted (created schema table) ≡ false
-still_uncounted schema table never none = any_append schema.tables (record table { tree = next_tree schema }) none never
+get_left : {X : Type 0} (xs ys : List X) (at : ℕ) (x : X) → slice_get xs at ≡ Some x → slice_get (xs ++ ys) at ≡ Some x
+get_left [] ys at x e = absurd cc
+get_left (y ∷ xs) ys zero x e = e
+get_left (y ∷ xs) ys (suc at) x e = get_left xs ys at x e
 
-still_whole : (schema : Schema) (table : Table) → table.is_counted ≡ false → is_counted schema ≡ false → lacks_sequence (created schema table) ≡ false
-still_whole schema table never none = rw (still_uncounted schema table never none) refl
+-- SQLite's own table stays where it is
+sequence_stays : (schema : Schema) (table : Table) → is_some (sequence schema) ≡ true → is_some (sequence (created schema table)) ≡ true
+sequence_stays schema table has = by (table_named schema (codes "sqlite_sequence")) refl
+  where
+    got : (at : ℕ) → table_named schema (codes "sqlite_sequence") ≡ Some at → (o : Option Table) → slice_get schema.tables at ≡ o → is_some (sequence (created schema table)) ≡ true
+    got at is None none = absurd (let e : false ≡ true = sym (ap (λ o. is_some (option_and_then (slice_get schema.tables) o)) is ∙ ap is_some none) ∙ has in cc)
+    got at is (Some t) some =
+        ap (λ o. is_some (option_and_then (slice_get (schema.tables ++ record table { tree = next_tree schema } ∷ [])) o))
+        (position_left (λ (t : Table). same_name t.name (codes "sqlite_sequence")) schema.tables (record table { tree = next_tree schema } ∷ []) 0 at is)
+        ∙ ap is_some (get_left schema.tables (record table { tree = next_tree schema } ∷ []) at t some)
+
+    by : (o : Option ℕ) → table_named schema (codes "sqlite_sequence") ≡ o → is_some (sequence (created schema table)) ≡ true
+    by None is = absurd (let e : false ≡ true = sym (ap (λ o. is_some (option_and_then (slice_get schema.tables) o)) is) ∙ has in cc)
+    by (Some at) is = got at is (slice_get schema.tables at) refl
+
+never_both : (a b c d : Bool) → c ≡ a → (b ≡ true → d ≡ true) → (a && not b) ≡ false → (c && not d) ≡ false
+never_both true true c d same on none = rw (on refl) (and_none c)
+  where
+    and_none : (x : Bool) → (x && false) ≡ false
+    and_none true = refl
+    and_none false = refl
+never_both true false c d same on none = absurd cc
+never_both false b c d same on none = ap (λ x. x && not d) same
+
+pub still_whole : (schema : Schema) (table : Table) → table.is_counted ≡ false → lacks_sequence schema ≡ false → lacks_sequence (created schema table) ≡ false
+still_whole schema table never none =
+    never_both (list_any (λ (t : Table). t.is_counted) schema.tables) (is_some (sequence schema)) (list_any (λ (t : Table). t.is_counted) (created schema table).tables) (is_some (sequence (created schema table)))
+    (any_past (λ (t : Table). t.is_counted) schema.tables (record table { tree = next_tree schema }) never) (sequence_stays schema table) none
+
+-- a listed table has a low number
+listed_low : (rows : List Row) (tables : List Table) (t : Table) → AllZip IsTableRow rows tables → Has tables t → t.tree < 65536
+listed_low rows [] t all h = absurd h
+listed_low [] (u ∷ tables) t all h = absurd all
+listed_low (r ∷ rows) (u ∷ tables) t all (inl same) = subst (λ (t : Table). t.tree < 65536) (sym same) all.0.described.low
+listed_low (r ∷ rows) (u ∷ tables) t all (inr later) = listed_low rows tables t all.1 later
 
 creates : (text : List ℕ) (table : Table) → IsMaking text (record table { tree = 0 }) → (old new : State) (count : ℕ) → table.is_counted ≡ false → Executes text [] old new (Ok count) → MakesTable table old.now new.now
 unfolding ExecutesIn
-creates text table making old new count never h uncounted =
+creates text table making old new count never h whole =
     let before = old.now.schema in
     let known = h.1.is in
     let it = understood_is before text (record table { tree = 0 }) h.0 making known in
@@ -217,10 +257,13 @@ creates text table making old new count never h uncounted =
     let plain : Table = record table { tree = 0 } in
     let same : made.table ≡ plain = same_value (sym made.defined ∙ making.defined) in
     let schema : first.0.schema ≡ created before table = made.is ∙ ap (created before) same in
-    let none : lacks_sequence first.0.schema ≡ false = ap lacks_sequence schema ∙ still_whole before table never uncounted in
+    let none : lacks_sequence first.0.schema ≡ false = ap lacks_sequence schema ∙ still_whole before table never whole in
     let now : new.now ≡ first.0 = ap (λ (p : Tally × Database). p.1) (same_value all.2) ∙ same_value (rw none at first.2) in
+    let made_is = ap (λ (d : Database). d.schema) now ∙ schema in
+    let last : Table = record table { tree = next_tree before } in
     record {
-      schema = ap (λ (d : Database). d.schema) now ∙ schema;
+      schema = made_is;
+      low = listed_low _ new.now.schema.tables last w.sound.lists.listed.tables (subst (λ (s : Schema). Has s.tables last) (sym made_is) (has_right before.tables (last ∷ []) last (inl refl)));
       empty = ap (λ (d : Database). d.trees (next_tree before)) now ∙ made.empty;
       others = subst (λ (d : Database). KeepsRows before.tables old.now.trees d.trees) (sym now) made.others;
     }
@@ -249,91 +292,3 @@ made_last there a b c h k = record {
   statuses = provides statuses_text statuses_table statuses_make there.statuses a b refl h;
   floors = provides floors_text floors_table floors_make there.floors b c refl k;
 }
-
-desk_is_there : present_in desk_schema.tables ≡ all_there
-unfolding same_name
-desk_is_there = refl
-
--- where the five are there, nothing changes
-pub desk_stays : (old new : Database) → HasMade (present_in old.schema.tables) old new → old.schema ≡ desk_schema → new ≡ old
-desk_stays old new made has =
-    let h : HasMade all_there old new = subst (λ there. HasMade there old new) (ap (λ (s : Schema). present_in s.tables) has ∙ desk_is_there) made in
-    h.last.floors.stays refl ∙ h.last.statuses.stays refl ∙ h.first.decks.stays refl ∙ h.first.replies.stays refl ∙ h.first.sets.stays refl
-
-keeps_front : (tables : List Table) (t : Table) (a b : Trees) → KeepsRows (tables ++ t ∷ []) a b → KeepsRows tables a b × (b t.tree ≡ a t.tree)
-keeps_front [] t a b keeps = (tt, keeps.0)
-keeps_front (x ∷ tables) t a b keeps = let more = keeps_front tables t a b keeps.1 in ((keeps.0, more.0), more.1)
-
-keeps_then : (tables : List Table) (a b c : Trees) → KeepsRows tables a b → KeepsRows tables b c → KeepsRows tables a c
-keeps_then [] a b c first second = tt
-keeps_then (x ∷ tables) a b c first second = (second.0 ∙ first.0, keeps_then tables a b c first.1 second.1)
-
--- what keeps the rows of a database with a new table keeps those of the one before, and leaves the new table empty
-keeps_made : (table : Table) (a b : Database) (c : Trees) → HasMadeTable table a b → KeepsRows b.schema.tables b.trees c → KeepsRows a.schema.tables a.trees c × (c (next_tree a.schema) ≡ [])
-keeps_made table a b c one keeps =
-    let both = keeps_front a.schema.tables (record table { tree = next_tree a.schema }) b.trees c (subst (λ (s : Schema). KeepsRows s.tables b.trees c) one.schema keeps) in
-    (keeps_then a.schema.tables a.trees b.trees c one.others both.0, both.1 ∙ one.empty)
-
-uncounted_then : (table : Table) (a b : Database) → table.is_counted ≡ false → is_counted a.schema ≡ false → HasMadeTable table a b → is_counted b.schema ≡ false
-uncounted_then table a b never none made = ap is_counted made.schema ∙ still_uncounted a.schema table never none
-
--- the tables that were made behind those of this schema have no rows
-record AreEmpty (schema : Schema) (trees : Trees) : Type 0 where
-  sets : trees (next_tree schema) ≡ []
-  replies : trees (next_tree (with_sets schema)) ≡ []
-  decks : trees (next_tree (with_replies schema)) ≡ []
-  statuses : trees (next_tree (with_decks schema)) ≡ []
-  floors : trees (next_tree (with_statuses schema)) ≡ []
-
--- the five tables were made, without rows, behind those that were there
-record HasMadeDesk (old new : Database) : Type 0 where
-  schema : new.schema ≡ with_desk old.schema
-  empty : AreEmpty old.schema new.trees
-
--- where none was there, the five tables are made, one behind the other
-module _ (a c : Database) (first : HasMadeFirst none_there a c) (e : Database) (last : HasMadeLast none_there c e) (none : is_counted a.schema ≡ false) where
-  desk_made : HasMadeDesk a e
-  desk_made =
-      let sets = first.sets.made refl none in
-      let none_1 = uncounted_then sets_table a first.one refl none sets in
-      let replies = first.replies.made refl none_1 in
-      let none_2 = uncounted_then replies_table first.one first.two refl none_1 replies in
-      let decks = first.decks.made refl none_2 in
-      let none_3 = uncounted_then decks_table first.two c refl none_2 decks in
-      let statuses = last.statuses.made refl none_3 in
-      let none_4 = uncounted_then statuses_table c last.one refl none_3 statuses in
-      let floors = last.floors.made refl none_4 in
-      let schema_1 : first.one.schema ≡ with_sets a.schema = sets.schema in
-      let schema_2 : first.two.schema ≡ with_replies a.schema = replies.schema ∙ ap (λ s. created s replies_table) schema_1 in
-      let schema_3 : c.schema ≡ with_decks a.schema = decks.schema ∙ ap (λ s. created s decks_table) schema_2 in
-      let schema_4 : last.one.schema ≡ with_statuses a.schema = statuses.schema ∙ ap (λ s. created s statuses_table) schema_3 in
-      let keeps_4 = keeps_made statuses_table c last.one e.trees statuses floors.others in
-      let keeps_3 = keeps_made decks_table first.two c e.trees decks keeps_4.0 in
-      let keeps_2 = keeps_made replies_table first.one first.two e.trees replies keeps_3.0 in
-      let keeps_1 = keeps_made sets_table a first.one e.trees sets keeps_2.0 in
-      record {
-        schema = floors.schema ∙ ap (λ s. created s floors_table) schema_4;
-        empty = record {
-          sets = keeps_1.1;
-          replies = subst (λ s. e.trees (next_tree s) ≡ []) schema_1 keeps_2.1;
-          decks = subst (λ s. e.trees (next_tree s) ≡ []) schema_2 keeps_3.1;
-          statuses = subst (λ s. e.trees (next_tree s) ≡ []) schema_3 keeps_4.1;
-          floors = subst (λ s. e.trees (next_tree s) ≡ []) schema_4 floors.empty;
-        };
-      }
-
-empty_keyed : (rows : List Row) → rows ≡ [] → IsKeyed rows
-empty_keyed rows none = subst IsKeyed (sym none) (tt, tt)
-
--- made in a database without tables: they are ready, and without rows
-pub made_ready : (old new : Database) → HasMade (present_in old.schema.tables) old new → old.schema ≡ no_schema → IsReady new × (tables_in new.trees ≡ no_tables)
-made_ready old new made has =
-    let h : HasMade none_there old new = subst (λ there. HasMade there old new) (ap (λ (s : Schema). present_in s.tables) has) made in
-    let desk = desk_made old h.mid h.first new h.last (ap is_counted has) in
-    let empty : AreEmpty no_schema new.trees = subst (λ s. AreEmpty s new.trees) has desk.empty in (
-      record {
-        schema = desk.schema ∙ ap with_desk has;
-        keyed = (empty_keyed _ empty.sets, (empty_keyed _ empty.replies, (empty_keyed _ empty.decks, (empty_keyed _ empty.statuses, (empty_keyed _ empty.floors, tt)))));
-      },
-      (λ i. record { sets = bodies (empty.sets i); replies = bodies (empty.replies i); decks = empty.decks i; statuses = bodies (empty.statuses i); floors = bodies (empty.floors i) }),
-    )

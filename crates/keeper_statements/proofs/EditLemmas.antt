@@ -1,35 +1,145 @@
 -- A statement that changes the rows of one table.
-use Rattle.std.proofs.Common.{◌≡◌, ℕ, Bool, true, false, eqb, List, [], ◌∷◌, Ok, Some, None, Option, refl, sym, ap, subst, ◌∙◌, inl, inr, slice_get}
-use Rattle.std.proofs.lemmas.Bool.{eqb-true}
-use Rattle.std.specs.List.{AllByRecursion}
+use Rattle.std.proofs.Common.{◌≡◌, ◌++◌, ◌&&◌, ◌==◌, ℕ, true, false, cond, List, [], ◌∷◌, length, Some, None, Option, find, refl, sym, ap, subst, ◌∙◌, ne_eqb}
+use Rattle.std.specs.Prelude.{flat_map, filter_map, option_and_then, option_map}
+use Rattle.std.specs.List.{AllByRecursion, cons_option, list_any}
+use Rattle.std.proofs.lemmas.Bool.{or_parts}
 use Rattle.sqlite.specs.Effect.{Database}
 use Rattle.sqlite.specs.Order.{Row}
+use Rattle.sqlite.specs.Schema.{Schema}
 use Rattle.sqlite.specs.Table.{Table}
 use Rattle.sqlite.specs.Tree.{Trees}
-use Rattle.keeper_statements.specs.Schema.{desk_schema}
-use Rattle.keeper_statements.specs.Tables.{IsKeyed, IsReady}
+use Rattle.sqlite_rules.proofs.ListLemmas.{all_has, has_found, some_from}
+use Rattle.sqlite_rules.specs.Action.{Work, deed_for, loses, pairs, work_by, work_for, works}
+use Rattle.sqlite_rules.specs.Lists.{Has}
+use Rattle.sqlite_rules.specs.declared.action.Deed.{Deed}
+use Rattle.sqlite_schema.specs.Names.{same_name}
+use Rattle.sqlite_schema.specs.Rules.{ParentKey, declared_order, key_in, key_places, parent_key}
+use Rattle.sqlite_schema.specs.declared.schema.Keys.{Keys}
+use Rattle.sqlite_schema.specs.declared.schema.Reference.{Reference}
+use Rattle.sqlite_value.specs.declared.keys.Order.{Order}
+use Rattle.keeper_statements.specs.Found.{CanServe, IsThere, is_desk_name, placed, table_in}
+use Rattle.keeper_statements.specs.Schema.{desk_tables}
+use Rattle.keeper_statements.specs.Tables.{HasTable, IsKeyed, rows_at, rows_named}
+use Rattle.keeper_statements.proofs.PlaceLemmas.{has_table_in, own_tree, still_there}
 
 -- the rows of one table are edited, and those of the others are as before
 pub record Edits (tree : ℕ) (edit : List Row → List Row) (old new : Database) : Type 0 where
-  pub schema : new.schema ≡ desk_schema
+  pub schema : new.schema ≡ old.schema
   pub rows : new.trees tree ≡ edit (old.trees tree)
-  pub others : AllByRecursion (λ t. (t.tree ≡ tree → ⊥) → new.trees t.tree ≡ old.trees t.tree) desk_schema.tables
+  pub others : AllByRecursion (λ t. (t.tree ≡ tree → ⊥) → new.trees t.tree ≡ old.trees t.tree) old.schema.tables
 
-pub apart : (m n : ℕ) → eqb m n ≡ false → m ≡ n → ⊥
-apart m n differ same = let e : eqb m n ≡ true = Rattle.std.proofs.Common.eq-eqb m n same in absurd cc
+-- what each table of a list keeps, seen through two further steps
+pub others_then : (tables : List Table) (tree : ℕ) (db next end : Trees) → ((t : ℕ) → end t ≡ next t) → AllByRecursion (λ t. (t.tree ≡ tree → ⊥) → next t.tree ≡ db t.tree) tables
+    → AllByRecursion (λ t. (t.tree ≡ tree → ⊥) → end t.tree ≡ db t.tree) tables
+others_then [] tree db next end same others = tt
+others_then (t ∷ tables) tree db next end same others = (λ out. same t.tree ∙ others.0 out, others_then tables tree db next end same others.1)
 
-keyed_tables : (tables : List Table) (tree : ℕ) (old new : Trees) → AllByRecursion (λ t. (t.tree ≡ tree → ⊥) → new t.tree ≡ old t.tree) tables
-    → IsKeyed (new tree) → AllByRecursion (λ t. IsKeyed (old t.tree)) tables → AllByRecursion (λ t. IsKeyed (new t.tree)) tables
-keyed_tables [] tree old new others here keyed = tt
-keyed_tables (t ∷ tables) tree old new others here keyed =
-    (one (eqb t.tree tree) refl, keyed_tables tables tree old new others.1 here keyed.1)
+pub others_both : (tables : List Table) (tree : ℕ) (db mid end : Trees) → AllByRecursion (λ t. (t.tree ≡ tree → ⊥) → mid t.tree ≡ db t.tree) tables
+    → AllByRecursion (λ t. (t.tree ≡ tree → ⊥) → end t.tree ≡ mid t.tree) tables → AllByRecursion (λ t. (t.tree ≡ tree → ⊥) → end t.tree ≡ db t.tree) tables
+others_both [] tree db mid end first second = tt
+others_both (t ∷ tables) tree db mid end first second = (λ out. second.0 out ∙ first.0 out, others_both tables tree db mid end first.1 second.1)
+
+pub others_same : (tables : List Table) (tree : ℕ) (db : Trees) → AllByRecursion (λ t. (t.tree ≡ tree → ⊥) → db t.tree ≡ db t.tree) tables
+others_same [] tree db = tt
+others_same (t ∷ tables) tree db = (λ out. refl, others_same tables tree db)
+
+-- an edit of this tree acts on no other table
+abbrev pub ActsAlone : Schema → ℕ → Type 0
+ActsAlone schema tree = (keys : Keys) (olds news : List Row) → works schema keys 0 tree olds news ≡ []
+
+abbrev first_of : Option ParentKey → ℕ
+first_of None = 0
+first_of (Some key) = key.0
+
+-- where a foreign key points to
+parent_is : (tables : List Table) (ref : Reference) (key : ParentKey) → parent_key tables ref ≡ Some key → (t : Table) × (find (λ u. same_name u.name ref.parent) tables ≡ Some t) × (key.0 ≡ t.tree)
+parent_is tables ref key e = by (find (λ u. same_name u.name ref.parent) tables) refl e
   where
-    one : (b : Bool) → eqb t.tree tree ≡ b → IsKeyed (new t.tree)
-    one true is = subst (λ n. IsKeyed (new n)) (sym (eqb-true t.tree tree is)) here
-    one false is = subst IsKeyed (sym (others.0 (apart t.tree tree is))) keyed.0
+    ordered : (t : Table) (places : List ℕ) (o : Option Order) → option_map (λ o. (t.tree, places, o)) o ≡ Some key → key.0 ≡ t.tree
+    ordered t places None e = absurd cc
+    ordered t places (Some o) e = sym (ap first_of e)
 
-pub still_ready : (tree : ℕ) (edit : List Row → List Row) (old new : Database) → Edits tree edit old new → IsReady old → IsKeyed (edit (old.trees tree)) → IsReady new
-still_ready tree edit old new edits ready keyed = record {
-  schema = edits.schema;
-  keyed = keyed_tables desk_schema.tables tree old.trees new.trees edits.others (subst IsKeyed (sym edits.rows) keyed) ready.keyed;
-}
+    placed_at : (t : Table) (o : Option (List ℕ)) → option_and_then (key_in t) o ≡ Some key → key.0 ≡ t.tree
+    placed_at t None e = absurd cc
+    placed_at t (Some places) e = ordered t places (declared_order t places) e
+
+    by : (o : Option Table) → find (λ u. same_name u.name ref.parent) tables ≡ o → option_and_then (λ t. option_and_then (key_in t) (key_places t ref.parent_columns)) o ≡ Some key
+        → (t : Table) × (find (λ u. same_name u.name ref.parent) tables ≡ Some t) × (key.0 ≡ t.tree)
+    by None is e = absurd cc
+    by (Some t) is e = (t, is, placed_at t (key_places t ref.parent_columns) e)
+
+module _ (schema : Schema) (keys : Keys) (tree : ℕ) (olds news : List Row)
+    (away : (ref : Reference) (key : ParentKey) → is_desk_name ref.parent ≡ false → parent_key schema.tables ref ≡ Some key → key.0 ≡ tree → ⊥) where
+  no_work : (child : Table) (ref : Reference) → is_desk_name ref.parent ≡ false → work_for schema keys 0 tree olds news child ref ≡ None
+  no_work child ref other = by (deed_for keys (length news == 0) ref) (parent_key schema.tables ref) refl
+    where
+      by : (deed : Option Deed) (key : Option ParentKey) → parent_key schema.tables ref ≡ key → work_by 0 tree (pairs olds news) child ref deed key ≡ None
+      by None key is = refl
+      by (Some deed) None is = refl
+      by (Some deed) (Some key) is =
+          ap (λ b. cond (b && list_any (loses key.2 key.1) (pairs olds news))
+          (Some (record { depth = 0; child = child; ref = ref; places = key.1; order = key.2; deed = deed; moves = pairs olds news })) None) (ne_eqb key.0 tree (away ref key other is))
+
+  none_of : (child : Table) (refs : List Reference) → list_any (λ (r : Reference). is_desk_name r.parent) refs ≡ false → filter_map (work_for schema keys 0 tree olds news child) refs ≡ []
+  none_of child [] none = refl
+  none_of child (ref ∷ refs) none =
+      let p = or_parts (is_desk_name ref.parent) (list_any (λ (r : Reference). is_desk_name r.parent) refs) none in
+      passed (work_for schema keys 0 tree olds news child ref) (no_work child ref p.0) (filter_map (work_for schema keys 0 tree olds news child) refs) (none_of child refs p.1)
+    where
+      passed : (o : Option Work) → o ≡ None → (rest : List Work) → rest ≡ [] → cons_option o rest ≡ []
+      passed None is rest none = none
+      passed (Some w) is rest none = absurd cc
+
+  none_in : (tables : List Table) → list_any (λ (t : Table). list_any (λ (r : Reference). is_desk_name r.parent) t.references) tables ≡ false
+      → flat_map (λ (child : Table). filter_map (work_for schema keys 0 tree olds news child) child.references) tables ≡ []
+  none_in [] none = refl
+  none_in (t ∷ tables) none =
+      let p = or_parts (list_any (λ (r : Reference). is_desk_name r.parent) t.references) (list_any (λ (t : Table). list_any (λ (r : Reference). is_desk_name r.parent) t.references) tables) none in
+      λ i. none_of t t.references p.0 i ++ none_in tables p.1 i
+
+-- where no foreign key refers to one of the five, an edit of one of them acts alone
+pub acts_alone : (form : Table) (schema : Schema) → Has desk_tables form → CanServe schema → (h : IsThere form schema) → ActsAlone schema h.tree
+acts_alone form schema five serves h keys olds news = none_in schema keys h.tree olds news away schema.tables serves.unreferred
+  where
+    same_some : (t u : Table) → ◌≡◌ {A = Option Table} (Some t) (Some u) → t ≡ u
+    same_some t u e = cc
+
+    away : (ref : Reference) (key : ParentKey) → is_desk_name ref.parent ≡ false → parent_key schema.tables ref ≡ Some key → key.0 ≡ h.tree → ⊥
+    away ref key other is here =
+        let it = parent_is schema.tables ref key is in
+        let found = has_found (λ (u : Table). same_name u.name ref.parent) schema.tables it.0 it.1 in
+        let own = all_has (λ (t : Table). table_in schema t.tree ≡ Some t) schema.tables it.0 serves.apart found.0 in
+        let same : it.0 ≡ placed form h.tree = same_some it.0 (placed form h.tree) (sym own ∙ ap (table_in schema) (sym it.2 ∙ here) ∙ own_tree form schema serves h) in
+        let named : same_name form.name ref.parent ≡ true = sym (ap (λ (t : Table). same_name t.name ref.parent) same) ∙ found.1 in
+        let some : is_desk_name ref.parent ≡ true = some_from (λ (f : Table). same_name f.name ref.parent) desk_tables form five named in
+        let both : true ≡ false = sym some ∙ other in
+        absurd cc
+
+pub rows_of_form : (form : Table) (db : Database) (h : IsThere form db.schema) → rows_named db form.name ≡ db.trees h.tree
+rows_of_form form db h = ap (rows_at db.trees) h.named
+
+module _ (tree : ℕ) (edit : List Row → List Row) (old new : Database) (edits : Edits tree edit old new) where
+  -- the rows of another table
+  tree_stays : (form : Table) (h : IsThere form old.schema) → (h.tree ≡ tree → ⊥) → new.trees h.tree ≡ old.trees h.tree
+  tree_stays form h other = all_has (λ (t : Table). (t.tree ≡ tree → ⊥) → new.trees t.tree ≡ old.trees t.tree) old.schema.tables (placed form h.tree) edits.others (has_table_in form old.schema h) other
+
+  pub table_stays : (form : Table) (h : HasTable form old) → (h.there.tree ≡ tree → ⊥) → HasTable form new
+  table_stays form h other = record {
+    there = still_there form old.schema new.schema edits.schema h.there;
+    keyed = subst IsKeyed (sym (tree_stays form h.there other)) h.keyed;
+  }
+
+  pub rows_stay : (form : Table) (h : HasTable form old) → (h.there.tree ≡ tree → ⊥) → rows_named new form.name ≡ rows_named old form.name
+  rows_stay form h other =
+      rows_of_form form new (still_there form old.schema new.schema edits.schema h.there) ∙ tree_stays form h.there other ∙ sym (rows_of_form form old h.there)
+
+  pub table_edited : (form : Table) (h : HasTable form old) → h.there.tree ≡ tree → IsKeyed (edit (old.trees tree)) → HasTable form new
+  table_edited form h here keyed = record {
+    there = still_there form old.schema new.schema edits.schema h.there;
+    keyed = subst (λ (n : ℕ). IsKeyed (new.trees n)) (sym here) (subst IsKeyed (sym edits.rows) keyed);
+  }
+
+  pub rows_edited : (form : Table) (h : HasTable form old) → h.there.tree ≡ tree → rows_named new form.name ≡ edit (rows_named old form.name)
+  rows_edited form h here =
+      rows_of_form form new (still_there form old.schema new.schema edits.schema h.there) ∙ ap new.trees here ∙ edits.rows
+      ∙ ap edit (ap old.trees (sym here) ∙ sym (rows_of_form form old h.there))

@@ -5,22 +5,22 @@ use Rattle.sqlite.specs.Term.{Term}
 use Rattle.sqlite.specs.Source.TheVariants.{Values}
 use Rattle.sqlite.specs.Command.TheVariants.{Insert}
 use Rattle.sqlite.specs.Edit.{edit_of}
-use Rattle.sqlite_rules.specs.Edit.{numbered, is_taken, are_fresh, put_all}
+use Rattle.sqlite_rules.specs.Edit.{taken_by, numbered, is_taken, are_fresh, put_all}
 use Rattle.sqlite.specs.Rowids.TheVariants.{Chosen}
-use Rattle.sqlite.specs.Does.{Tally, Does, AtPlace, OnRows}
+use Rattle.sqlite.specs.Does.{Tally, AtPlace, OnRows}
 use Rattle.sqlite.specs.Rows.{Written, stamped}
 use Rattle.sqlite.specs.Effect.{Database, value_rows}
 use Rattle.sqlite.specs.Table.{Table}
 use Rattle.sqlite.specs.Tree.{Trees}
 use Rattle.sqlite_trees.specs.Tree.{put_row}
-use Rattle.sqlite.specs.Listing.{understood}
 use Rattle.sqlite.specs.State.{State, mode_of, Executes}
 use Rattle.sqlite_rules.specs.Cast.{cast_row}
-use Rattle.sqlite.proofs.Callers.{statement_of, runs_as, one_step, command_of, IsPlain}
+use Rattle.sqlite.proofs.Callers.{runs_as, one_step}
 use Rattle.sqlite_schema.specs.declared.schema.Column.{Column}
-use Rattle.keeper_statements.specs.Schema.{strict_table, desk_schema}
+use Rattle.keeper_statements.specs.Schema.{strict_table}
 use Rattle.keeper_statements.proofs.RowLemmas.{went, same_value}
-use Rattle.keeper_statements.proofs.EditLemmas.{Edits}
+use Rattle.keeper_statements.proofs.EditLemmas.{ActsAlone, Edits, others_then}
+use Rattle.keeper_statements.proofs.UnderstoodLemmas.{Means}
 
 -- the row was put, where none had its number
 pub record Puts (tree : ℕ) (row_in : List Row → Row) (old new : Database) : Type 0 where
@@ -36,23 +36,22 @@ module _ (at tree : ℕ) (name : List ℕ) (columns : List Column) (key : Option
   table = strict_table name tree columns key primary uniques
 
   pub inserts : (terms : List Term) (width : ℕ) (text : List ℕ) (params : Row) (row_in : List Row → Row) (old new : State) (count : ℕ)
-      → slice_get desk_schema.tables at ≡ Some table → command_of (understood desk_schema text) ≡ Insert at (Values terms width) → IsPlain (understood desk_schema text)
+      → slice_get old.now.schema.tables at ≡ Some table → Means old.now.schema text (Insert at (Values terms width)) → ActsAlone old.now.schema tree
       → ((rows : List Row) → numbered Chosen rows (map (λ s. cast_row table (drop 0 s)) (value_rows (stamped table params) width (length terms / width) terms)) ≡ row_in rows ∷ [])
-      → old.now.schema ≡ desk_schema
       → Executes text params old new (Ok count) → Puts tree row_in old.now new.now
-  inserts terms width text params row_in old new count listed is plain news schema h =
+  inserts terms width text params row_in old new count listed means alone news h =
       let db = old.now.trees in
+      let schema = old.now.schema in
       let command = Insert at (Values terms width) in
-      let w = runs_as text params old new desk_schema schema command is plain count h in
-      let said = statement_of text (understood desk_schema text) in
-      let does = subst (λ s. Does old.step_limit (mode_of old) params (record old.now { schema = s }) said None command (Ok (w.tally, new.now))) schema w.changed in
-      let done = went (subst (λ o. AtPlace (λ (t : Table). OnRows (record { limit = old.step_limit; keys = (mode_of old).keys; schema = desk_schema; table = t; params = params }) (mode_of old) None command db) o (Ok (w.tally, new.now))) listed does) in
+      let w = runs_as text params old new schema refl command means.is means.plain count h in
+      let done = went (subst (λ o. AtPlace (λ (t : Table). OnRows (record { limit = old.step_limit; keys = (mode_of old).keys; schema = schema; table = t; params = params }) (mode_of old) None command db) o (Ok (w.tally, new.now))) listed w.changed) in
       let now = ap (λ (p : Tally × Database). p.1) (same_value (went (went done.2).2).2) in
       let given = went done.1 in
       let written = went (went given.2).2 in
       let counted = went written.2 in
       let trees : done.0.trees ≡ written.0 = ap (λ (it : Written). it.trees) (same_value counted.2) ∙ same_value counted.1 in
-      let applied = one_step desk_schema _ db written.0 (edit_of db table [] Chosen 0 given.0) refl written.1 in
+      let edit = edit_of db table [] Chosen 0 given.0 in
+      let applied = one_step schema (mode_of old).keys db written.0 edit (alone (mode_of old).keys (taken_by db edit) edit.news) written.1 in
       let row : numbered Chosen (db tree) (map (λ s. cast_row table (drop 0 s)) given.0) ≡ row_in (db tree) ∷ [] =
       ap (λ all. numbered Chosen (db tree) (map (λ s. cast_row table (drop 0 s)) all)) given.1.1 ∙ news (db tree) in
       let fresh : are_fresh (db tree) (row_in (db tree) ∷ []) ≡ true = ap (are_fresh (db tree)) (sym row) ∙ applied.fresh in
@@ -61,7 +60,7 @@ module _ (at tree : ℕ) (name : List ℕ) (columns : List Column) (key : Option
         edits = record {
           schema = ap (λ (d : Database). d.schema) now;
           rows = at_tree tree ∙ applied.rows ∙ ap (put_all (db tree)) row;
-          others = (λ out. at_tree 0 ∙ applied.tables.0 out, (λ out. at_tree 2 ∙ applied.tables.1.0 out, (λ out. at_tree 5 ∙ applied.tables.1.1.0 out, (λ out. at_tree 6 ∙ applied.tables.1.1.1.0 out, (λ out. at_tree 8 ∙ applied.tables.1.1.1.1.0 out, tt)))));
+          others = others_then schema.tables tree db written.0 new.now.trees at_tree applied.tables;
         };
         free = not_true _ fresh;
       }

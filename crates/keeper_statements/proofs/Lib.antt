@@ -1,3 +1,7 @@
+pub mod PlaceLemmas
+pub mod UnderstoodLemmas
+pub mod ColumnLemmas
+pub mod SelectLemmas
 pub mod TextLemmas
 pub mod RowLemmas
 pub mod FoundLemmas
@@ -13,4 +17,5 @@ pub mod OrderLemmas
 pub mod ReadTextLemmas
 pub mod ReadLemmas
 pub mod CreateLemmas
+pub mod GrowLemmas
 pub mod StatementLemmas

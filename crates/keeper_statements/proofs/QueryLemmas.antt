@@ -16,14 +16,19 @@ use Rattle.sqlite_trees.specs.Tree.{rowid}
 use Rattle.sqlite_rules.specs.Lists.{Has}
 use Rattle.sqlite_rules.proofs.ListLemmas.{some_has, some_from}
 use Rattle.sqlite_rules.proofs.ProbeLemmas.{has_mapped, mapped_has}
-use Rattle.keeper_statements.specs.Schema.{desk_schema}
+use Rattle.sqlite_rules.specs.Probe.{AreFound}
+use Rattle.keeper_statements.specs.Schema.{floors_table}
 use Rattle.keeper_statements.specs.Tables.{IsReady, bodies, tables_in}
 use Rattle.keeper_statements.specs.Tests.{is_above, is_equal, is_greater}
-use Rattle.keeper_statements.proofs.TextLemmas as texts
+use Rattle.keeper_statements.proofs.ReadTextLemmas as texts
+use Rattle.keeper_statements.proofs.TextLemmas.{first_is}
+use Rattle.keeper_statements.proofs.UnderstoodLemmas.{deleting}
+use Rattle.keeper_statements.proofs.EditLemmas.{rows_of_form}
+use Rattle.keeper_statements.proofs.PlaceLemmas.{listed_of}
 use Rattle.keeper_statements.proofs.FoundLemmas.{column_dropped, and_true}
-use Rattle.keeper_statements.proofs.DeleteLemmas.{finds}
+use Rattle.keeper_statements.proofs.DeleteLemmas.{finds, overlay_none}
 
-above_alike : (job : List ℕ) (number : ℤ) (r : Row) → list_all (holds ((Text job ∷ Int number ∷ []) ∷ r ∷ [])) (texts.first_is ∷ texts.second_above ∷ []) ≡ is_above job number (drop 1 r)
+above_alike : (job : List ℕ) (number : ℤ) (r : Row) → list_all (holds ((Text job ∷ Int number ∷ []) ∷ r ∷ [])) (first_is ∷ texts.second_above ∷ []) ≡ is_above job number (drop 1 r)
 above_alike job number r =
     ap (λ b. is_equal (column r 1) (Text job) && b) (and_true _)
     ∙ ap₂ (λ a b. is_equal a (Text job) && is_greater b (Int number)) (sym (column_dropped r 0)) (sym (column_dropped r 1))
@@ -40,40 +45,48 @@ full_is [] x h = absurd h
 full_is (y ∷ rows) x h = ne_eqb _ 0 (omega arith)
 
 pub above_found : (old new : State) (job : List ℕ) (number : ℤ) (rows : List Row) → IsReady old.now → Shown texts.above_text (Text job ∷ Int number ∷ []) old new rows
-    → not (is_empty rows) ≡ list_any (is_above job number) (tables_in old.now.trees).floors
+    → not (is_empty rows) ≡ list_any (is_above job number) (tables_in old.now).floors
 above_found old new job number rows ready h =
+    let there = ready.floors.there in
+    let tree = there.tree in
     let params = Text job ∷ Int number ∷ [] in
-    let q = texts.deleting 8 (texts.first_is ∷ texts.second_above ∷ []) in
-    let reads : Answers old.now q params rows =
-    reads_as texts.above_text params old new desk_schema ready.schema (Select q (codes "rowid" ∷ [])) texts.above_is texts.above_plain texts.above_unlisted rows h in
+    let terms = first_is ∷ texts.second_above ∷ [] in
+    let q = deleting tree terms in
+    let means = texts.above_means old.now.schema tree (listed_of floors_table old.now.schema ready.serves there) in
+    let reads : Answers old.now q params rows = reads_as texts.above_text params old new old.now.schema refl (Select q (codes "rowid" ∷ [])) means.is means.plain means.unlisted rows h in
     let answer : IsAnswer q.body (overlay old.now.trees []) params rows = reads.answer Null in
-    let found = finds 8 (texts.first_is ∷ texts.second_above ∷ []) (overlay old.now.trees []) params [] rows answer in
-    by (list_any (is_above job number) (bodies (old.now.trees 8))) refl found.sound found.complete
+    let found = subst (λ (l : List Row). AreFound terms l params rows) (overlay_none tree old.now.trees) (finds tree terms (overlay old.now.trees []) params [] rows answer) in
+    by (list_any (is_above job number) (bodies (old.now.trees tree))) refl found.sound found.complete
+    ∙ ap (λ (l : List Row). list_any (is_above job number) (bodies l)) (sym (rows_of_form floors_table old.now there))
   where
-    by : (b : Bool) → list_any (is_above job number) (bodies (old.now.trees 8)) ≡ b
-        → ((x : Row) → Has rows x → (r : Row) × Has (old.now.trees 8) r × (list_all (holds ((Text job ∷ Int number ∷ []) ∷ r ∷ [])) (texts.first_is ∷ texts.second_above ∷ []) ≡ true) × (x ≡ rowid r ∷ []))
-        → ((r : Row) → Has (old.now.trees 8) r → list_all (holds ((Text job ∷ Int number ∷ []) ∷ r ∷ [])) (texts.first_is ∷ texts.second_above ∷ []) ≡ true → Has rows (rowid r ∷ []))
+    tree : ℕ
+    tree = ready.floors.there.tree
+
+    by : (b : Bool) → list_any (is_above job number) (bodies (old.now.trees tree)) ≡ b
+        → ((x : Row) → Has rows x → (r : Row) × Has (old.now.trees tree) r × (list_all (holds ((Text job ∷ Int number ∷ []) ∷ r ∷ [])) (first_is ∷ texts.second_above ∷ []) ≡ true) × (x ≡ rowid r ∷ []))
+        → ((r : Row) → Has (old.now.trees tree) r → list_all (holds ((Text job ∷ Int number ∷ []) ∷ r ∷ [])) (first_is ∷ texts.second_above ∷ []) ≡ true → Has rows (rowid r ∷ []))
         → not (is_empty rows) ≡ b
     by true is sound complete =
-        let some = some_has (is_above job number) (bodies (old.now.trees 8)) is in
-        let at = has_mapped (drop 1) (old.now.trees 8) some.0 some.1 in
+        let some = some_has (is_above job number) (bodies (old.now.trees tree)) is in
+        let at = has_mapped (drop 1) (old.now.trees tree) some.0 some.1 in
         let passes : is_above job number (drop 1 at.0) ≡ true = ap (is_above job number) (sym at.2) ∙ some.2 in
         ap not (full_is rows _ (complete at.0 at.1 (above_alike job number at.0 ∙ passes)))
     by false is sound complete =
         ap not (empty_is rows (λ x h.
         let hit = sound x h in
         let passes : is_above job number (drop 1 hit.0) ≡ true = sym (above_alike job number hit.0) ∙ hit.2 in
-        let some : list_any (is_above job number) (bodies (old.now.trees 8)) ≡ true = some_from (is_above job number) (bodies (old.now.trees 8)) (drop 1 hit.0) (mapped_has (drop 1) (old.now.trees 8) hit.0 hit.1) passes in
+        let some : list_any (is_above job number) (bodies (old.now.trees tree)) ≡ true = some_from (is_above job number) (bodies (old.now.trees tree)) (drop 1 hit.0) (mapped_has (drop 1) (old.now.trees tree) hit.0 hit.1) passes in
         cc))
 
 -- a query changes nothing
-pub shown_same : (text : List ℕ) (params : Row) (old new : State) (rows : List Row) → old.now.schema ≡ desk_schema → IsPlain (understood desk_schema text) → Shown text params old new rows → new.now ≡ old.now
+pub shown_same : (text : List ℕ) (params : Row) (old new : State) (rows : List Row) → IsPlain (understood old.now.schema text) → Shown text params old new rows → new.now ≡ old.now
 unfolding Shown
-shown_same text params old new rows schema plain h =
-    let known = sym h.1.is ∙ ap (λ s. understood s text) schema in
-    let bare = subst IsPlain (sym known) plain in
+shown_same text params old new rows plain h =
+    let bare = subst IsPlain h.1.is plain in
     let it = rw bare.0 at h.2 in
     it.3.0.now_is
 
 pub above_same : (old new : State) (job : List ℕ) (number : ℤ) (rows : List Row) → IsReady old.now → Shown texts.above_text (Text job ∷ Int number ∷ []) old new rows → new.now ≡ old.now
-above_same old new job number rows ready h = shown_same texts.above_text (Text job ∷ Int number ∷ []) old new rows ready.schema texts.above_plain h
+above_same old new job number rows ready h =
+    let there = ready.floors.there in
+    shown_same texts.above_text (Text job ∷ Int number ∷ []) old new rows (texts.above_means old.now.schema there.tree (listed_of floors_table old.now.schema ready.serves there)).plain h

@@ -11,7 +11,7 @@ use Rattle.sqlite.specs.Command.TheVariants.{InsertOr}
 use Rattle.sqlite_schema.specs.declared.command.Conflict.TheVariants.{Replace}
 use Rattle.sqlite.specs.Edit.{edit_of, edited}
 use Rattle.sqlite.specs.Rowids.TheVariants.{Chosen, Given}
-use Rattle.sqlite.specs.Does.{Tally, Does, AtPlace, OnRows}
+use Rattle.sqlite.specs.Does.{Tally, AtPlace, OnRows}
 use Rattle.sqlite.specs.Rows.{Written, Task, Puts, Clears, Tries, Judged, TriesEach, nothing, count_of, mended, stamped}
 use Rattle.sqlite.specs.Effect.{edit_error, Database, value_rows}
 use Rattle.sqlite.specs.declared.error.Error.{Error}
@@ -19,7 +19,7 @@ use Rattle.sqlite_rules.specs.declared.error.Refusal.{Refusal}
 use Rattle.sqlite.specs.Table.{Table}
 use Rattle.sqlite.specs.Tree.{Trees}
 use Rattle.sqlite_trees.specs.Tree.{rowid, put_row}
-use Rattle.sqlite.specs.Listing.{understood}
+use Rattle.sqlite.specs.Schema.{Schema}
 use Rattle.sqlite.specs.State.{State, mode_of, Executes}
 use Rattle.sqlite_schema.specs.Rules.{equal}
 use Rattle.sqlite_schema.specs.declared.schema.Column.{Column}
@@ -27,16 +27,17 @@ use Rattle.sqlite_schema.specs.declared.schema.Keys.{Keys}
 use Rattle.sqlite_rules.specs.Lists.{Has}
 use Rattle.sqlite_rules.specs.Calls.{ids_of}
 use Rattle.sqlite_rules.specs.Keys.{AreConflicts, conflicts}
-use Rattle.sqlite_rules.specs.Edit.{next_rowid, without_all, with_rowid}
+use Rattle.sqlite_rules.specs.Edit.{taken_by, next_rowid, without_all, with_rowid}
 use Rattle.sqlite_rules.specs.Cast.{cast_row}
 use Rattle.sqlite_rules.proofs.TableLemmas.{without_all_has}
-use Rattle.sqlite.proofs.Callers.{statement_of, runs_as, one_step, command_of, IsPlain}
-use Rattle.keeper_statements.specs.Schema.{strict_table, desk_schema}
+use Rattle.sqlite.proofs.Callers.{runs_as, one_step}
+use Rattle.keeper_statements.specs.Schema.{strict_table}
 use Rattle.keeper_statements.specs.Tables.{IsKeyed}
 use Rattle.keeper_statements.specs.Tests.{is_of}
 use Rattle.keeper_statements.proofs.RowLemmas.{put_last, next_above, went, same_value}
 use Rattle.keeper_statements.proofs.FoundLemmas.{IsFound, removed, column_dropped, and_true}
-use Rattle.keeper_statements.proofs.EditLemmas.{Edits}
+use Rattle.keeper_statements.proofs.EditLemmas.{ActsAlone, Edits, others_both, others_same, others_then}
+use Rattle.keeper_statements.proofs.UnderstoodLemmas.{Means}
 
 or_false : (b : Bool) → (b || false) ≡ b
 or_false true = refl
@@ -63,18 +64,19 @@ module _ (at tree : ℕ) (name : List ℕ) (columns : List Column) (number : Opt
   abbrev rest : Row
   rest = Text key ∷ second ∷ []
 
-  module _ (conflict_is : (new r : Row) → conflicts None desk_schema.indexes table new r ≡ ((equal Binary (column r 0) (column new 0) && true) || ((equal Binary (column r 1) (column new 1) && true) || false)))
+  module _ (schema : Schema) (alone : ActsAlone schema tree)
+      (conflict_is : (new r : Row) → conflicts None schema.indexes table new r ≡ ((equal Binary (column r 0) (column new 0) && true) || ((equal Binary (column r 1) (column new 1) && true) || false)))
       (cast_is : (id : ℤ) → cast_row table (Int id ∷ rest) ≡ Int id ∷ rest)
       (new_is : cast_row table (mended Replace table (Null ∷ rest)) ≡ Null ∷ rest) where
     are_conflicts : (rows : List Row) → IsKeyed rows → (r : Row) → Has rows r
-        → conflicts None desk_schema.indexes table (Int (next_rowid rows) ∷ rest) r ≡ is_of key (drop 1 r)
+        → conflicts None schema.indexes table (Int (next_rowid rows) ∷ rest) r ≡ is_of key (drop 1 r)
     are_conflicts rows keyed r h =
         conflict_is (Int (next_rowid rows) ∷ rest) r
         ∙ ap (λ b. (b && true) || ((equal Binary (column r 1) (Text key) && true) || false)) (not_equal (rowid r) (Int (next_rowid rows)) (next_above rows keyed r h))
         ∙ or_false _ ∙ and_true _ ∙ ap (λ v. equal Binary v (Text key)) (sym (column_dropped r 0))
 
     -- the rows that conflict are those of the key
-    are_found : (rows found : List Row) → IsKeyed rows → AreConflicts None desk_schema.indexes table rows (Int (next_rowid rows) ∷ rest) found
+    are_found : (rows found : List Row) → IsKeyed rows → AreConflicts None schema.indexes table rows (Int (next_rowid rows) ∷ rest) found
         → IsFound (λ r. is_of key (drop 1 r)) rows found
     are_found rows found keyed c = record {
       sound = λ x h. let s = c.sound x h in (s.0, s.1, sym (are_conflicts rows keyed s.0 s.1) ∙ s.2, s.3);
@@ -86,13 +88,13 @@ module _ (at tree : ℕ) (name : List ℕ) (columns : List Column) (number : Opt
 
     module _ (limit : Option ℕ) (keys : Keys) (params : Row) (db : Trees) (keyed : IsKeyed (db tree)) where
       abbrev task : Task
-      task = record { limit = limit; keys = keys; schema = desk_schema; table = table; params = params }
+      task = record { limit = limit; keys = keys; schema = schema; table = table; params = params }
 
       abbrev new : Row
       new = Int (next_rowid (db tree)) ∷ rest
 
       abbrev Others : Trees → Type 0
-      Others mid = Rattle.std.specs.List.AllByRecursion (λ (t : Table). (t.tree ≡ tree → ⊥) → mid t.tree ≡ db t.tree) desk_schema.tables
+      Others mid = Rattle.std.specs.List.AllByRecursion (λ (t : Table). (t.tree ≡ tree → ⊥) → mid t.tree ≡ db t.tree) schema.tables
 
       abbrev Ends : List ℤ → Written → Type 0
       Ends ids w = (w.trees tree ≡ without_all (db tree) ids ++ new ∷ []) × Others w.trees
@@ -101,19 +103,20 @@ module _ (at tree : ℕ) (name : List ℕ) (columns : List Column) (number : Opt
       puts ids mid w left others h =
           let put = went h in
           let trees : w.trees ≡ put.0 = ap (λ (it : Written). it.trees) (same_value put.2) in
-          let applied = one_step desk_schema keys mid put.0 (edit_of mid table [] Given 0 (new ∷ [])) refl put.1 in
+          let edit = edit_of mid table [] Given 0 (new ∷ []) in
+          let applied = one_step schema keys mid put.0 edit (alone keys (taken_by mid edit) edit.news) put.1 in
           let rows : edited mid (edit_of mid table [] Given 0 (new ∷ [])) ≡ put_row new (without_all (db tree) ids) = rw (cast_is (next_rowid (db tree)), left) in
           let at_tree = λ (t : ℕ). ap (λ (x : Trees). x t) trees in (
             at_tree tree ∙ applied.rows ∙ rows ∙ put_behind (db tree) ids keyed,
-            (λ out. at_tree 0 ∙ applied.tables.0 out ∙ others.0 out, (λ out. at_tree 2 ∙ applied.tables.1.0 out ∙ others.1.0 out, (λ out. at_tree 5 ∙ applied.tables.1.1.0 out ∙ others.1.1.0 out, (λ out. at_tree 6 ∙ applied.tables.1.1.1.0 out ∙ others.1.1.1.0 out, (λ out. at_tree 8 ∙ applied.tables.1.1.1.1.0 out ∙ others.1.1.1.1.0 out, tt))))),
+            others_then schema.tables tree db put.0 w.trees at_tree (others_both schema.tables tree db mid put.0 others applied.tables),
           )
 
       clears : (found : List Row) (w : Written) → Clears task Replace new db found (Ok w) → Ends (ids_of found) w
-      clears [] w h = puts [] db w refl (λ out. refl, (λ out. refl, (λ out. refl, (λ out. refl, (λ out. refl, tt))))) h
+      clears [] w h = puts [] db w refl (others_same schema.tables tree db) h
       clears (x ∷ more) w h =
           let cut = went h in
           let edit = edit_of db table (ids_of (x ∷ more)) Given 0 [] in
-          let applied = one_step desk_schema keys db cut.0 edit refl cut.1 in
+          let applied = one_step schema keys db cut.0 edit (alone keys (taken_by db edit) edit.news) cut.1 in
           puts (ids_of (x ∷ more)) cut.0 w applied.rows applied.tables cut.2
 
       abbrev Comes : Written → Type 0
@@ -129,32 +132,33 @@ module _ (at tree : ℕ) (name : List ℕ) (columns : List Column) (number : Opt
       tries w (inl out) = absurd (let e = out.1 in cc)
       tries w (inr h) = judged w h.0 h.2
 
-    pub replaces : (terms : List Term) (text : List ℕ) (old new : State) (count : ℕ)
-        → slice_get desk_schema.tables at ≡ Some table → command_of (understood desk_schema text) ≡ InsertOr at Replace (Values terms 3) [] → IsPlain (understood desk_schema text)
-        → value_rows (stamped table rest) 3 (length terms / 3) terms ≡ (Null ∷ rest) ∷ []
-        → old.now.schema ≡ desk_schema → IsKeyed (old.now.trees tree)
-        → Executes text rest old new (Ok count) → Edits tree (replaced key rest) old.now new.now
-    replaces terms text old new count listed is plain sources schema keyed h =
-        let db = old.now.trees in
-        let command = InsertOr at Replace (Values terms 3) [] in
-        let w = runs_as text rest old new desk_schema schema command is plain count h in
-        let said = statement_of text (understood desk_schema text) in
-        let does = subst (λ s. Does old.step_limit (mode_of old) rest (record old.now { schema = s }) said None command (Ok (w.tally, new.now))) schema w.changed in
-        let done = went (subst (λ o. AtPlace (λ (t : Table). OnRows (record { limit = old.step_limit; keys = (mode_of old).keys; schema = desk_schema; table = t; params = rest }) (mode_of old) None command db) o (Ok (w.tally, new.now))) listed does) in
-        let now = ap (λ (p : Tally × Database). p.1) (same_value (went (went done.2).2).2) in
-        let given = went done.1 in
-        let counter = went given.2 in
-        let tried = went counter.2 in
-        let counted = went tried.2 in
-        let task : Task = record { limit = old.step_limit; keys = (mode_of old).keys; schema = desk_schema; table = table; params = rest } in
-        let one = went (subst (λ rows. TriesEach task Replace [] rows (count_of counter.0) (nothing db) (Ok tried.0)) (given.1.1 ∙ sources) tried.1) in
-        let row : with_rowid Chosen (db tree) (cast_row table (mended Replace table (Null ∷ rest))) ≡ Int (next_rowid (db tree)) ∷ rest = ap (with_rowid Chosen (db tree)) new_is in
-        let it = tries old.step_limit (mode_of old).keys rest db keyed one.0 (subst (λ r. Tries task Replace [] r db (Ok one.0)) row one.1) in
-        let trees : done.0.trees ≡ one.0.trees =
-        ap (λ (x : Written). x.trees) (same_value counted.2) ∙ same_value counted.1 ∙ ap (λ (p : Written × ℤ). p.0.trees) (same_value one.2) in
-        let at_tree = λ (t : ℕ). ap (λ (d : Database). d.trees t) now ∙ ap (λ (x : Trees). x t) trees in
-        record {
-          schema = ap (λ (d : Database). d.schema) now;
-          rows = at_tree tree ∙ it.0;
-          others = (λ out. at_tree 0 ∙ it.1.0 out, (λ out. at_tree 2 ∙ it.1.1.0 out, (λ out. at_tree 5 ∙ it.1.1.1.0 out, (λ out. at_tree 6 ∙ it.1.1.1.1.0 out, (λ out. at_tree 8 ∙ it.1.1.1.1.1.0 out, tt)))));
-        }
+  pub replaces : (terms : List Term) (text : List ℕ) (old new : State) (count : ℕ) (alone : ActsAlone old.now.schema tree)
+      (conflict_is : (new r : Row) → conflicts None old.now.schema.indexes table new r ≡ ((equal Binary (column r 0) (column new 0) && true) || ((equal Binary (column r 1) (column new 1) && true) || false)))
+      (cast_is : (id : ℤ) → cast_row table (Int id ∷ rest) ≡ Int id ∷ rest) (new_is : cast_row table (mended Replace table (Null ∷ rest)) ≡ Null ∷ rest)
+      → slice_get old.now.schema.tables at ≡ Some table → Means old.now.schema text (InsertOr at Replace (Values terms 3) [])
+      → value_rows (stamped table rest) 3 (length terms / 3) terms ≡ (Null ∷ rest) ∷ []
+      → IsKeyed (old.now.trees tree)
+      → Executes text rest old new (Ok count) → Edits tree (replaced key rest) old.now new.now
+  replaces terms text old new count alone conflict_is cast_is new_is listed means sources keyed h =
+      let db = old.now.trees in
+      let schema = old.now.schema in
+      let command = InsertOr at Replace (Values terms 3) [] in
+      let w = runs_as text rest old new schema refl command means.is means.plain count h in
+      let done = went (subst (λ o. AtPlace (λ (t : Table). OnRows (record { limit = old.step_limit; keys = (mode_of old).keys; schema = schema; table = t; params = rest }) (mode_of old) None command db) o (Ok (w.tally, new.now))) listed w.changed) in
+      let now = ap (λ (p : Tally × Database). p.1) (same_value (went (went done.2).2).2) in
+      let given = went done.1 in
+      let counter = went given.2 in
+      let tried = went counter.2 in
+      let counted = went tried.2 in
+      let task : Task = record { limit = old.step_limit; keys = (mode_of old).keys; schema = schema; table = table; params = rest } in
+      let one = went (subst (λ rows. TriesEach task Replace [] rows (count_of counter.0) (nothing db) (Ok tried.0)) (given.1.1 ∙ sources) tried.1) in
+      let row : with_rowid Chosen (db tree) (cast_row table (mended Replace table (Null ∷ rest))) ≡ Int (next_rowid (db tree)) ∷ rest = ap (with_rowid Chosen (db tree)) new_is in
+      let it = tries schema alone conflict_is cast_is new_is old.step_limit (mode_of old).keys rest db keyed one.0 (subst (λ r. Tries task Replace [] r db (Ok one.0)) row one.1) in
+      let trees : done.0.trees ≡ one.0.trees =
+      ap (λ (x : Written). x.trees) (same_value counted.2) ∙ same_value counted.1 ∙ ap (λ (p : Written × ℤ). p.0.trees) (same_value one.2) in
+      let at_tree = λ (t : ℕ). ap (λ (d : Database). d.trees t) now ∙ ap (λ (x : Trees). x t) trees in
+      record {
+        schema = ap (λ (d : Database). d.schema) now;
+        rows = at_tree tree ∙ it.0;
+        others = others_then schema.tables tree db one.0.trees new.now.trees at_tree it.1;
+      }

@@ -1,10 +1,13 @@
 -- A change of one table is a change of the tables.
-use Rattle.std.proofs.Common.{◌≡◌, List, refl, ap, ◌∙◌}
+use Rattle.std.proofs.Common.{◌≡◌, ◌∙◌, List, codes, refl, sym, ap, subst}
 use Rattle.sqlite.specs.Effect.{Database}
 use Rattle.sqlite.specs.Order.{Row}
+use Rattle.keeper_statements.specs.Found.{CanServe}
+use Rattle.keeper_statements.specs.Schema.{sets_table, replies_table, decks_table, statuses_table, floors_table}
 use Rattle.keeper_statements.specs.Steps.{Makes}
-use Rattle.keeper_statements.specs.Tables.{Tables, IsKeyed, IsReady, bodies}
-use Rattle.keeper_statements.proofs.EditLemmas.{Edits, apart, still_ready}
+use Rattle.keeper_statements.specs.Tables.{Tables, IsKeyed, IsReady, bodies, rows_named}
+use Rattle.keeper_statements.proofs.EditLemmas.{Edits, rows_edited, rows_of_form, rows_stay, table_edited, table_stays}
+use Rattle.keeper_statements.proofs.PlaceLemmas.{other_tree}
 
 abbrev tables_of : List Row → List Row → List Row → List Row → List Row → Tables
 tables_of a b c d e = record { sets = a; replies = b; decks = c; statuses = d; floors = e }
@@ -12,42 +15,117 @@ tables_of a b c d e = record { sets = a; replies = b; decks = c; statuses = d; f
 same_tables : (a b c d e a′ b′ c′ d′ e′ : List Row) → a ≡ a′ → b ≡ b′ → c ≡ c′ → d ≡ d′ → e ≡ e′ → tables_of a b c d e ≡ tables_of a′ b′ c′ d′ e′
 same_tables a b c d e a′ b′ c′ d′ e′ p q r s t = λ i. tables_of (p i) (q i) (r i) (s i) (t i)
 
-pub makes_sets : (edit f : List Row → List Row) (old new : Database) → Edits 0 edit old new → IsReady old → IsKeyed (edit (old.trees 0))
-    → bodies (edit (old.trees 0)) ≡ f (bodies (old.trees 0)) → Makes (λ t. record t { sets = f t.sets }) old new
-makes_sets edit f old new edits ready keyed shown = record {
-  ready = still_ready 0 edit old new edits ready keyed;
-  tables = same_tables (bodies (new.trees 0)) (bodies (new.trees 2)) (new.trees 5) (bodies (new.trees 6)) (bodies (new.trees 8)) (f (bodies (old.trees 0))) (bodies (old.trees 2)) (old.trees 5) (bodies (old.trees 6)) (bodies (old.trees 8))
-      (ap bodies edits.rows ∙ shown) (ap bodies (edits.others.1.0 (apart 2 0 refl))) (edits.others.1.1.0 (apart 5 0 refl)) (ap bodies (edits.others.1.1.1.0 (apart 6 0 refl))) (ap bodies (edits.others.1.1.1.1.0 (apart 8 0 refl)));
-}
+pub makes_sets : (edit f : List Row → List Row) (old new : Database) (ready : IsReady old) → Edits ready.sets.there.tree edit old new → IsKeyed (edit (old.trees ready.sets.there.tree))
+    → bodies (edit (old.trees ready.sets.there.tree)) ≡ f (bodies (old.trees ready.sets.there.tree)) → Makes (λ t. record t { sets = f t.sets }) old new
+makes_sets edit f old new ready edits keyed shown =
+    let here = rows_of_form sets_table old ready.sets.there in
+    record {
+      ready = record {
+        sets = table_edited ready.sets.there.tree edit old new edits sets_table ready.sets refl keyed;
+        replies = table_stays ready.sets.there.tree edit old new edits replies_table ready.replies (other_tree replies_table sets_table old.schema ready.serves ready.replies.there ready.sets.there refl);
+        decks = table_stays ready.sets.there.tree edit old new edits decks_table ready.decks (other_tree decks_table sets_table old.schema ready.serves ready.decks.there ready.sets.there refl);
+        statuses = table_stays ready.sets.there.tree edit old new edits statuses_table ready.statuses (other_tree statuses_table sets_table old.schema ready.serves ready.statuses.there ready.sets.there refl);
+        floors = table_stays ready.sets.there.tree edit old new edits floors_table ready.floors (other_tree floors_table sets_table old.schema ready.serves ready.floors.there ready.sets.there refl);
+        serves = subst CanServe (sym edits.schema) ready.serves;
+      };
+      schema = edits.schema;
+      tables = same_tables (bodies (rows_named new (codes "sets"))) (bodies (rows_named new (codes "replies"))) (rows_named new (codes "decks")) (bodies (rows_named new (codes "statuses"))) (bodies (rows_named new (codes "floors")))
+          (f (bodies (rows_named old (codes "sets")))) (bodies (rows_named old (codes "replies"))) (rows_named old (codes "decks")) (bodies (rows_named old (codes "statuses"))) (bodies (rows_named old (codes "floors")))
+          (ap bodies (rows_edited ready.sets.there.tree edit old new edits sets_table ready.sets refl) ∙ ap (λ (l : List Row). bodies (edit l)) here ∙ shown ∙ ap (λ (l : List Row). f (bodies l)) (sym here))
+          (ap bodies (rows_stay ready.sets.there.tree edit old new edits replies_table ready.replies (other_tree replies_table sets_table old.schema ready.serves ready.replies.there ready.sets.there refl)))
+          (rows_stay ready.sets.there.tree edit old new edits decks_table ready.decks (other_tree decks_table sets_table old.schema ready.serves ready.decks.there ready.sets.there refl))
+          (ap bodies (rows_stay ready.sets.there.tree edit old new edits statuses_table ready.statuses (other_tree statuses_table sets_table old.schema ready.serves ready.statuses.there ready.sets.there refl)))
+          (ap bodies (rows_stay ready.sets.there.tree edit old new edits floors_table ready.floors (other_tree floors_table sets_table old.schema ready.serves ready.floors.there ready.sets.there refl)));
+    }
 
-pub makes_replies : (edit f : List Row → List Row) (old new : Database) → Edits 2 edit old new → IsReady old → IsKeyed (edit (old.trees 2))
-    → bodies (edit (old.trees 2)) ≡ f (bodies (old.trees 2)) → Makes (λ t. record t { replies = f t.replies }) old new
-makes_replies edit f old new edits ready keyed shown = record {
-  ready = still_ready 2 edit old new edits ready keyed;
-  tables = same_tables (bodies (new.trees 0)) (bodies (new.trees 2)) (new.trees 5) (bodies (new.trees 6)) (bodies (new.trees 8)) (bodies (old.trees 0)) (f (bodies (old.trees 2))) (old.trees 5) (bodies (old.trees 6)) (bodies (old.trees 8))
-      (ap bodies (edits.others.0 (apart 0 2 refl))) (ap bodies edits.rows ∙ shown) (edits.others.1.1.0 (apart 5 2 refl)) (ap bodies (edits.others.1.1.1.0 (apart 6 2 refl))) (ap bodies (edits.others.1.1.1.1.0 (apart 8 2 refl)));
-}
+pub makes_replies : (edit f : List Row → List Row) (old new : Database) (ready : IsReady old) → Edits ready.replies.there.tree edit old new → IsKeyed (edit (old.trees ready.replies.there.tree))
+    → bodies (edit (old.trees ready.replies.there.tree)) ≡ f (bodies (old.trees ready.replies.there.tree)) → Makes (λ t. record t { replies = f t.replies }) old new
+makes_replies edit f old new ready edits keyed shown =
+    let here = rows_of_form replies_table old ready.replies.there in
+    record {
+      ready = record {
+        sets = table_stays ready.replies.there.tree edit old new edits sets_table ready.sets (other_tree sets_table replies_table old.schema ready.serves ready.sets.there ready.replies.there refl);
+        replies = table_edited ready.replies.there.tree edit old new edits replies_table ready.replies refl keyed;
+        decks = table_stays ready.replies.there.tree edit old new edits decks_table ready.decks (other_tree decks_table replies_table old.schema ready.serves ready.decks.there ready.replies.there refl);
+        statuses = table_stays ready.replies.there.tree edit old new edits statuses_table ready.statuses (other_tree statuses_table replies_table old.schema ready.serves ready.statuses.there ready.replies.there refl);
+        floors = table_stays ready.replies.there.tree edit old new edits floors_table ready.floors (other_tree floors_table replies_table old.schema ready.serves ready.floors.there ready.replies.there refl);
+        serves = subst CanServe (sym edits.schema) ready.serves;
+      };
+      schema = edits.schema;
+      tables = same_tables (bodies (rows_named new (codes "sets"))) (bodies (rows_named new (codes "replies"))) (rows_named new (codes "decks")) (bodies (rows_named new (codes "statuses"))) (bodies (rows_named new (codes "floors")))
+          (bodies (rows_named old (codes "sets"))) (f (bodies (rows_named old (codes "replies")))) (rows_named old (codes "decks")) (bodies (rows_named old (codes "statuses"))) (bodies (rows_named old (codes "floors")))
+          (ap bodies (rows_stay ready.replies.there.tree edit old new edits sets_table ready.sets (other_tree sets_table replies_table old.schema ready.serves ready.sets.there ready.replies.there refl)))
+          (ap bodies (rows_edited ready.replies.there.tree edit old new edits replies_table ready.replies refl) ∙ ap (λ (l : List Row). bodies (edit l)) here ∙ shown ∙ ap (λ (l : List Row). f (bodies l)) (sym here))
+          (rows_stay ready.replies.there.tree edit old new edits decks_table ready.decks (other_tree decks_table replies_table old.schema ready.serves ready.decks.there ready.replies.there refl))
+          (ap bodies (rows_stay ready.replies.there.tree edit old new edits statuses_table ready.statuses (other_tree statuses_table replies_table old.schema ready.serves ready.statuses.there ready.replies.there refl)))
+          (ap bodies (rows_stay ready.replies.there.tree edit old new edits floors_table ready.floors (other_tree floors_table replies_table old.schema ready.serves ready.floors.there ready.replies.there refl)));
+    }
 
-pub makes_decks : (edit f : List Row → List Row) (old new : Database) → Edits 5 edit old new → IsReady old → IsKeyed (edit (old.trees 5))
-    → edit (old.trees 5) ≡ f (old.trees 5) → Makes (λ t. record t { decks = f t.decks }) old new
-makes_decks edit f old new edits ready keyed shown = record {
-  ready = still_ready 5 edit old new edits ready keyed;
-  tables = same_tables (bodies (new.trees 0)) (bodies (new.trees 2)) (new.trees 5) (bodies (new.trees 6)) (bodies (new.trees 8)) (bodies (old.trees 0)) (bodies (old.trees 2)) (f (old.trees 5)) (bodies (old.trees 6)) (bodies (old.trees 8))
-      (ap bodies (edits.others.0 (apart 0 5 refl))) (ap bodies (edits.others.1.0 (apart 2 5 refl))) (edits.rows ∙ shown) (ap bodies (edits.others.1.1.1.0 (apart 6 5 refl))) (ap bodies (edits.others.1.1.1.1.0 (apart 8 5 refl)));
-}
+pub makes_decks : (edit f : List Row → List Row) (old new : Database) (ready : IsReady old) → Edits ready.decks.there.tree edit old new → IsKeyed (edit (old.trees ready.decks.there.tree))
+    → (edit (old.trees ready.decks.there.tree)) ≡ f (old.trees ready.decks.there.tree) → Makes (λ t. record t { decks = f t.decks }) old new
+makes_decks edit f old new ready edits keyed shown =
+    let here = rows_of_form decks_table old ready.decks.there in
+    record {
+      ready = record {
+        sets = table_stays ready.decks.there.tree edit old new edits sets_table ready.sets (other_tree sets_table decks_table old.schema ready.serves ready.sets.there ready.decks.there refl);
+        replies = table_stays ready.decks.there.tree edit old new edits replies_table ready.replies (other_tree replies_table decks_table old.schema ready.serves ready.replies.there ready.decks.there refl);
+        decks = table_edited ready.decks.there.tree edit old new edits decks_table ready.decks refl keyed;
+        statuses = table_stays ready.decks.there.tree edit old new edits statuses_table ready.statuses (other_tree statuses_table decks_table old.schema ready.serves ready.statuses.there ready.decks.there refl);
+        floors = table_stays ready.decks.there.tree edit old new edits floors_table ready.floors (other_tree floors_table decks_table old.schema ready.serves ready.floors.there ready.decks.there refl);
+        serves = subst CanServe (sym edits.schema) ready.serves;
+      };
+      schema = edits.schema;
+      tables = same_tables (bodies (rows_named new (codes "sets"))) (bodies (rows_named new (codes "replies"))) (rows_named new (codes "decks")) (bodies (rows_named new (codes "statuses"))) (bodies (rows_named new (codes "floors")))
+          (bodies (rows_named old (codes "sets"))) (bodies (rows_named old (codes "replies"))) (f (rows_named old (codes "decks"))) (bodies (rows_named old (codes "statuses"))) (bodies (rows_named old (codes "floors")))
+          (ap bodies (rows_stay ready.decks.there.tree edit old new edits sets_table ready.sets (other_tree sets_table decks_table old.schema ready.serves ready.sets.there ready.decks.there refl)))
+          (ap bodies (rows_stay ready.decks.there.tree edit old new edits replies_table ready.replies (other_tree replies_table decks_table old.schema ready.serves ready.replies.there ready.decks.there refl)))
+          ((rows_edited ready.decks.there.tree edit old new edits decks_table ready.decks refl) ∙ ap edit here ∙ shown ∙ ap f (sym here))
+          (ap bodies (rows_stay ready.decks.there.tree edit old new edits statuses_table ready.statuses (other_tree statuses_table decks_table old.schema ready.serves ready.statuses.there ready.decks.there refl)))
+          (ap bodies (rows_stay ready.decks.there.tree edit old new edits floors_table ready.floors (other_tree floors_table decks_table old.schema ready.serves ready.floors.there ready.decks.there refl)));
+    }
 
-pub makes_statuses : (edit f : List Row → List Row) (old new : Database) → Edits 6 edit old new → IsReady old → IsKeyed (edit (old.trees 6))
-    → bodies (edit (old.trees 6)) ≡ f (bodies (old.trees 6)) → Makes (λ t. record t { statuses = f t.statuses }) old new
-makes_statuses edit f old new edits ready keyed shown = record {
-  ready = still_ready 6 edit old new edits ready keyed;
-  tables = same_tables (bodies (new.trees 0)) (bodies (new.trees 2)) (new.trees 5) (bodies (new.trees 6)) (bodies (new.trees 8)) (bodies (old.trees 0)) (bodies (old.trees 2)) (old.trees 5) (f (bodies (old.trees 6))) (bodies (old.trees 8))
-      (ap bodies (edits.others.0 (apart 0 6 refl))) (ap bodies (edits.others.1.0 (apart 2 6 refl))) (edits.others.1.1.0 (apart 5 6 refl)) (ap bodies edits.rows ∙ shown) (ap bodies (edits.others.1.1.1.1.0 (apart 8 6 refl)));
-}
+pub makes_statuses : (edit f : List Row → List Row) (old new : Database) (ready : IsReady old) → Edits ready.statuses.there.tree edit old new → IsKeyed (edit (old.trees ready.statuses.there.tree))
+    → bodies (edit (old.trees ready.statuses.there.tree)) ≡ f (bodies (old.trees ready.statuses.there.tree)) → Makes (λ t. record t { statuses = f t.statuses }) old new
+makes_statuses edit f old new ready edits keyed shown =
+    let here = rows_of_form statuses_table old ready.statuses.there in
+    record {
+      ready = record {
+        sets = table_stays ready.statuses.there.tree edit old new edits sets_table ready.sets (other_tree sets_table statuses_table old.schema ready.serves ready.sets.there ready.statuses.there refl);
+        replies = table_stays ready.statuses.there.tree edit old new edits replies_table ready.replies (other_tree replies_table statuses_table old.schema ready.serves ready.replies.there ready.statuses.there refl);
+        decks = table_stays ready.statuses.there.tree edit old new edits decks_table ready.decks (other_tree decks_table statuses_table old.schema ready.serves ready.decks.there ready.statuses.there refl);
+        statuses = table_edited ready.statuses.there.tree edit old new edits statuses_table ready.statuses refl keyed;
+        floors = table_stays ready.statuses.there.tree edit old new edits floors_table ready.floors (other_tree floors_table statuses_table old.schema ready.serves ready.floors.there ready.statuses.there refl);
+        serves = subst CanServe (sym edits.schema) ready.serves;
+      };
+      schema = edits.schema;
+      tables = same_tables (bodies (rows_named new (codes "sets"))) (bodies (rows_named new (codes "replies"))) (rows_named new (codes "decks")) (bodies (rows_named new (codes "statuses"))) (bodies (rows_named new (codes "floors")))
+          (bodies (rows_named old (codes "sets"))) (bodies (rows_named old (codes "replies"))) (rows_named old (codes "decks")) (f (bodies (rows_named old (codes "statuses")))) (bodies (rows_named old (codes "floors")))
+          (ap bodies (rows_stay ready.statuses.there.tree edit old new edits sets_table ready.sets (other_tree sets_table statuses_table old.schema ready.serves ready.sets.there ready.statuses.there refl)))
+          (ap bodies (rows_stay ready.statuses.there.tree edit old new edits replies_table ready.replies (other_tree replies_table statuses_table old.schema ready.serves ready.replies.there ready.statuses.there refl)))
+          (rows_stay ready.statuses.there.tree edit old new edits decks_table ready.decks (other_tree decks_table statuses_table old.schema ready.serves ready.decks.there ready.statuses.there refl))
+          (ap bodies (rows_edited ready.statuses.there.tree edit old new edits statuses_table ready.statuses refl) ∙ ap (λ (l : List Row). bodies (edit l)) here ∙ shown ∙ ap (λ (l : List Row). f (bodies l)) (sym here))
+          (ap bodies (rows_stay ready.statuses.there.tree edit old new edits floors_table ready.floors (other_tree floors_table statuses_table old.schema ready.serves ready.floors.there ready.statuses.there refl)));
+    }
 
-pub makes_floors : (edit f : List Row → List Row) (old new : Database) → Edits 8 edit old new → IsReady old → IsKeyed (edit (old.trees 8))
-    → bodies (edit (old.trees 8)) ≡ f (bodies (old.trees 8)) → Makes (λ t. record t { floors = f t.floors }) old new
-makes_floors edit f old new edits ready keyed shown = record {
-  ready = still_ready 8 edit old new edits ready keyed;
-  tables = same_tables (bodies (new.trees 0)) (bodies (new.trees 2)) (new.trees 5) (bodies (new.trees 6)) (bodies (new.trees 8)) (bodies (old.trees 0)) (bodies (old.trees 2)) (old.trees 5) (bodies (old.trees 6)) (f (bodies (old.trees 8)))
-      (ap bodies (edits.others.0 (apart 0 8 refl))) (ap bodies (edits.others.1.0 (apart 2 8 refl))) (edits.others.1.1.0 (apart 5 8 refl)) (ap bodies (edits.others.1.1.1.0 (apart 6 8 refl))) (ap bodies edits.rows ∙ shown);
-}
+pub makes_floors : (edit f : List Row → List Row) (old new : Database) (ready : IsReady old) → Edits ready.floors.there.tree edit old new → IsKeyed (edit (old.trees ready.floors.there.tree))
+    → bodies (edit (old.trees ready.floors.there.tree)) ≡ f (bodies (old.trees ready.floors.there.tree)) → Makes (λ t. record t { floors = f t.floors }) old new
+makes_floors edit f old new ready edits keyed shown =
+    let here = rows_of_form floors_table old ready.floors.there in
+    record {
+      ready = record {
+        sets = table_stays ready.floors.there.tree edit old new edits sets_table ready.sets (other_tree sets_table floors_table old.schema ready.serves ready.sets.there ready.floors.there refl);
+        replies = table_stays ready.floors.there.tree edit old new edits replies_table ready.replies (other_tree replies_table floors_table old.schema ready.serves ready.replies.there ready.floors.there refl);
+        decks = table_stays ready.floors.there.tree edit old new edits decks_table ready.decks (other_tree decks_table floors_table old.schema ready.serves ready.decks.there ready.floors.there refl);
+        statuses = table_stays ready.floors.there.tree edit old new edits statuses_table ready.statuses (other_tree statuses_table floors_table old.schema ready.serves ready.statuses.there ready.floors.there refl);
+        floors = table_edited ready.floors.there.tree edit old new edits floors_table ready.floors refl keyed;
+        serves = subst CanServe (sym edits.schema) ready.serves;
+      };
+      schema = edits.schema;
+      tables = same_tables (bodies (rows_named new (codes "sets"))) (bodies (rows_named new (codes "replies"))) (rows_named new (codes "decks")) (bodies (rows_named new (codes "statuses"))) (bodies (rows_named new (codes "floors")))
+          (bodies (rows_named old (codes "sets"))) (bodies (rows_named old (codes "replies"))) (rows_named old (codes "decks")) (bodies (rows_named old (codes "statuses"))) (f (bodies (rows_named old (codes "floors"))))
+          (ap bodies (rows_stay ready.floors.there.tree edit old new edits sets_table ready.sets (other_tree sets_table floors_table old.schema ready.serves ready.sets.there ready.floors.there refl)))
+          (ap bodies (rows_stay ready.floors.there.tree edit old new edits replies_table ready.replies (other_tree replies_table floors_table old.schema ready.serves ready.replies.there ready.floors.there refl)))
+          (rows_stay ready.floors.there.tree edit old new edits decks_table ready.decks (other_tree decks_table floors_table old.schema ready.serves ready.decks.there ready.floors.there refl))
+          (ap bodies (rows_stay ready.floors.there.tree edit old new edits statuses_table ready.statuses (other_tree statuses_table floors_table old.schema ready.serves ready.statuses.there ready.floors.there refl)))
+          (ap bodies (rows_edited ready.floors.there.tree edit old new edits floors_table ready.floors refl) ∙ ap (λ (l : List Row). bodies (edit l)) here ∙ shown ∙ ap (λ (l : List Row). f (bodies l)) (sym here));
+    }

@@ -1,4 +1,5 @@
 pub mod Schema
+pub mod Found
 pub mod Tables
 pub mod Tests
 pub mod Order

@@ -1,12 +1,10 @@
--- The five tables of the records, as the database sees them once they are made (docs/records.md, "The database").
+-- The forms of the five tables of the records, as their texts define them (docs/records.md, "The database").
 use Rattle.std.specs.Prelude.{true, false, ℕ, List, [], ◌∷◌, Option, Some, None, codes, map}
 use Rattle.sqlite.specs.Collation.TheVariants.{Binary}
 use Rattle.sqlite.specs.declared.types.Value.TheVariants.{Null}
 use Rattle.sqlite.specs.Kind.{Kind}
 use Rattle.sqlite.specs.Kind.TheVariants.{Integer, Text, Blob}
 use Rattle.sqlite.specs.Table.{Table}
-use Rattle.sqlite.specs.Schema.{Schema}
-use Rattle.sqlite.specs.Change.{created}
 use Rattle.sqlite_schema.specs.declared.schema.Column.{Column}
 
 -- a column without a null, which takes values of its type alone
@@ -48,47 +46,26 @@ statuses_columns = strict_column (codes "kind") Integer ∷ strict_column (codes
 abbrev pub floors_columns : List Column
 floors_columns = strict_column (codes "job") Text ∷ strict_column (codes "floor") Integer ∷ []
 
--- the data sets, by name
+-- the data sets, by name; a form has no tree of its own
 abbrev pub sets_table : Table
 sets_table = strict_table (codes "sets") 0 sets_columns None (1 ∷ []) ((1 ∷ []) ∷ [])
 
 -- the kept replies, by job and number; no two have one place
 abbrev pub replies_table : Table
-replies_table = strict_table (codes "replies") 2 replies_columns None (1 ∷ 2 ∷ []) ((3 ∷ []) ∷ (1 ∷ 2 ∷ []) ∷ [])
+replies_table = strict_table (codes "replies") 0 replies_columns None (1 ∷ 2 ∷ []) ((3 ∷ []) ∷ (1 ∷ 2 ∷ []) ∷ [])
 
 -- the activated decks, by number, which is the number of the row
 abbrev pub decks_table : Table
-decks_table = strict_table (codes "decks") 5 decks_columns (Some 0) (0 ∷ []) []
+decks_table = strict_table (codes "decks") 0 decks_columns (Some 0) (0 ∷ []) []
 
 -- the statuses, by kind and name
 abbrev pub statuses_table : Table
-statuses_table = strict_table (codes "statuses") 6 statuses_columns None (1 ∷ 2 ∷ []) ((1 ∷ 2 ∷ []) ∷ [])
+statuses_table = strict_table (codes "statuses") 0 statuses_columns None (1 ∷ 2 ∷ []) ((1 ∷ 2 ∷ []) ∷ [])
 
 -- the floors, by job
 abbrev pub floors_table : Table
-floors_table = strict_table (codes "floors") 8 floors_columns None (1 ∷ []) ((1 ∷ []) ∷ [])
+floors_table = strict_table (codes "floors") 0 floors_columns None (1 ∷ []) ((1 ∷ []) ∷ [])
 
--- a database without tables
-abbrev pub no_schema : Schema
-no_schema = record { tables = []; indexes = []; views = [] }
-
--- a schema with the first table behind its own, the first two, and so on
-abbrev pub with_sets : Schema → Schema
-with_sets schema = created schema sets_table
-
-abbrev pub with_replies : Schema → Schema
-with_replies schema = created (with_sets schema) replies_table
-
-abbrev pub with_decks : Schema → Schema
-with_decks schema = created (with_replies schema) decks_table
-
-abbrev pub with_statuses : Schema → Schema
-with_statuses schema = created (with_decks schema) statuses_table
-
--- a schema with the five tables behind its own
-abbrev pub with_desk : Schema → Schema
-with_desk schema = created (with_statuses schema) floors_table
-
--- the schema with the five tables and no other
-abbrev pub desk_schema : Schema
-desk_schema = with_desk no_schema
+-- the five forms
+abbrev pub desk_tables : List Table
+desk_tables = sets_table ∷ replies_table ∷ decks_table ∷ statuses_table ∷ floors_table ∷ []

@@ -1,20 +1,20 @@
 -- What a statement does inside a transaction.
-use Rattle.std.specs.Prelude.{◌≡◌, ℕ, Bool, true, false, List, [], Result, Ok, OnOk, IsTrue}
-use Rattle.std.specs.List.{list_any}
+use Rattle.std.specs.Prelude.{◌≡◌, ◌<◌, ℕ, Bool, true, false, List, [], Result, Ok, OnOk, IsTrue}
+use Rattle.sqlite.specs.Does.{lacks_sequence}
 use Rattle.sqlite.specs.Effect.{Database}
 use Rattle.sqlite.specs.State.{State, Executes, HasCleanDisk}
 use Rattle.sqlite.specs.declared.error.Error.{Error}
-use Rattle.sqlite.specs.Schema.{Schema}
 use Rattle.sqlite.specs.Table.{Table}
 use Rattle.sqlite_catalog.specs.Change.{KeepsRows, created, next_tree}
 use Rattle.keeper_statements.specs.Schema.{sets_table, replies_table, decks_table, statuses_table, floors_table}
 use Rattle.keeper_statements.specs.Tables.{Tables, IsReady, tables_in}
 use Rattle.keeper_statements.specs.declared.present.Present.{Present}
 
--- the statement made this change and no other
+-- the statement made this change and no other, and the schema stayed
 pub record Makes (change : Tables → Tables) (old new : Database) : Type 0 where
   pub ready : IsReady new
-  pub tables : tables_in new.trees ≡ change (tables_in old.trees)
+  pub schema : new.schema ≡ old.schema
+  pub tables : tables_in new ≡ change (tables_in old)
 
 -- while the disk is clean, a statement that is not refused makes this change
 abbrev pub MayMake : {X : Type 0} → (Tables → Tables) → State → State → Result X Error → Type 0
@@ -30,18 +30,16 @@ pub record StaysInside {X : Type 0} (old new : State) (result : Result X Error) 
 abbrev pub MayStay : {X : Type 0} → State → State → Result X Error → Type 0
 MayStay old new result = HasCleanDisk new → IsTrue old.in_transaction → StaysInside old new result
 
--- a table of it counts its rows for good, as AUTOINCREMENT asks; such a database may get a table of SQLite's own besides
-abbrev pub is_counted : Schema → Bool
-is_counted schema = list_any (λ t. t.is_counted) schema.tables
-
 -- a table was made behind those that were there, without rows; these stay with their rows
 pub record HasMadeTable (table : Table) (old new : Database) : Type 0 where
   pub schema : new.schema ≡ created old.schema table
+  pub low : next_tree old.schema < 65536
   pub empty : new.trees (next_tree old.schema) ≡ []
   pub others : KeepsRows old.schema.tables old.trees new.trees
 
+-- the same where no table of SQLite's own is made besides, as the first table with AUTOINCREMENT asks
 abbrev pub MakesTable : Table → Database → Database → Type 0
-MakesTable table old new = is_counted old.schema ≡ false → HasMadeTable table old new
+MakesTable table old new = lacks_sequence old.schema ≡ false → HasMadeTable table old new
 
 -- a table is provided: where it is there nothing changed, and where it isn't it was made
 pub record Provides (is_there : Bool) (table : Table) (old new : Database) : Type 0 where

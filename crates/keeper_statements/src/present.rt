@@ -1,6 +1,6 @@
 //! Which of the five tables a database has.
-ghost use Rattle.std.specs.Prelude.{◌≡◌};
-ghost use Rattle.keeper_statements.specs.Presence.{has_table, present_in};
+ghost use Rattle.std.specs.Prelude.{◌≡◌, ◌↔◌, true};
+ghost use Rattle.keeper_statements.specs.Presence.{all_there, has_table, none_there, present_in};
 
 use sqlite_schema::schema::Table;
 
@@ -12,6 +12,22 @@ pub struct Present {
     pub decks: bool,
     pub statuses: bool,
     pub floors: bool,
+}
+
+impl Present {
+    /// Whether the five are there.
+    pub fn has_all(&self) -> bool
+        ensures { (result ≡ true) ↔ (self.now ≡ all_there) }
+    {
+        self.sets && self.replies && self.decks && self.statuses && self.floors
+    }
+
+    /// Whether none of them is there.
+    pub fn has_none(&self) -> bool
+        ensures { (result ≡ true) ↔ (self.now ≡ none_there) }
+    {
+        !(self.sets || self.replies || self.decks || self.statuses || self.floors)
+    }
 }
 
 // Whether there is a table of this name, in capital or small letters.

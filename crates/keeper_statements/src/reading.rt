@@ -21,7 +21,7 @@ fn all_rows<S: Alter>(tx: &mut Transaction<'_, S>, text: &str) -> Result<Vec<Row
 /// The data sets, by name. Nothing changes.
 pub fn all_sets<S: Alter>(tx: &mut Transaction<'_, S>) -> Result<Vec<Row>, Error>
     ensures same_reference { tx.new.conn.ghost_name ≡ tx.old.conn.ghost_name }
-    ensures answer { HasCleanDisk (state S.Store tx.new.conn.now) → IsReady (state S.Store tx.old.conn.now).now → IfOk result (λ rows. rows.items ≡ map two_columns (in_order by_first (tables_in (state S.Store tx.old.conn.now).now.trees).sets)) }
+    ensures answer { HasCleanDisk (state S.Store tx.new.conn.now) → IsReady (state S.Store tx.old.conn.now).now → IfOk result (λ rows. rows.items ≡ map two_columns (in_order by_first (tables_in (state S.Store tx.old.conn.now).now).sets)) }
     ensures same { HasCleanDisk (state S.Store tx.new.conn.now) → IsReady (state S.Store tx.old.conn.now).now → OnOk result ((state S.Store tx.new.conn.now).now ≡ (state S.Store tx.old.conn.now).now) }
     ensures stays { MayStay (state S.Store tx.old.conn.now) (state S.Store tx.new.conn.now) result }
     ensures survives { Survives (state S.Store tx.old.conn.now) (state S.Store tx.new.conn.now) (λ _. ⊥) }
@@ -32,7 +32,7 @@ pub fn all_sets<S: Alter>(tx: &mut Transaction<'_, S>) -> Result<Vec<Row>, Error
 /// The kept replies, by job and number. Nothing changes.
 pub fn all_replies<S: Alter>(tx: &mut Transaction<'_, S>) -> Result<Vec<Row>, Error>
     ensures same_reference { tx.new.conn.ghost_name ≡ tx.old.conn.ghost_name }
-    ensures answer { HasCleanDisk (state S.Store tx.new.conn.now) → IsReady (state S.Store tx.old.conn.now).now → IfOk result (λ rows. rows.items ≡ map five_columns (in_order by_two (tables_in (state S.Store tx.old.conn.now).now.trees).replies)) }
+    ensures answer { HasCleanDisk (state S.Store tx.new.conn.now) → IsReady (state S.Store tx.old.conn.now).now → IfOk result (λ rows. rows.items ≡ map five_columns (in_order by_two (tables_in (state S.Store tx.old.conn.now).now).replies)) }
     ensures same { HasCleanDisk (state S.Store tx.new.conn.now) → IsReady (state S.Store tx.old.conn.now).now → OnOk result ((state S.Store tx.new.conn.now).now ≡ (state S.Store tx.old.conn.now).now) }
     ensures stays { MayStay (state S.Store tx.old.conn.now) (state S.Store tx.new.conn.now) result }
     ensures survives { Survives (state S.Store tx.old.conn.now) (state S.Store tx.new.conn.now) (λ _. ⊥) }
@@ -46,7 +46,7 @@ pub fn all_replies<S: Alter>(tx: &mut Transaction<'_, S>) -> Result<Vec<Row>, Er
 /// The decks, by number. Nothing changes.
 pub fn all_decks<S: Alter>(tx: &mut Transaction<'_, S>) -> Result<Vec<Row>, Error>
     ensures same_reference { tx.new.conn.ghost_name ≡ tx.old.conn.ghost_name }
-    ensures answer { HasCleanDisk (state S.Store tx.new.conn.now) → IsReady (state S.Store tx.old.conn.now).now → IfOk result (λ rows. rows.items ≡ map deck_columns (in_order by_first (tables_in (state S.Store tx.old.conn.now).now.trees).decks)) }
+    ensures answer { HasCleanDisk (state S.Store tx.new.conn.now) → IsReady (state S.Store tx.old.conn.now).now → IfOk result (λ rows. rows.items ≡ map deck_columns (in_order by_first (tables_in (state S.Store tx.old.conn.now).now).decks)) }
     ensures same { HasCleanDisk (state S.Store tx.new.conn.now) → IsReady (state S.Store tx.old.conn.now).now → OnOk result ((state S.Store tx.new.conn.now).now ≡ (state S.Store tx.old.conn.now).now) }
     ensures stays { MayStay (state S.Store tx.old.conn.now) (state S.Store tx.new.conn.now) result }
     ensures survives { Survives (state S.Store tx.old.conn.now) (state S.Store tx.new.conn.now) (λ _. ⊥) }
@@ -57,7 +57,7 @@ pub fn all_decks<S: Alter>(tx: &mut Transaction<'_, S>) -> Result<Vec<Row>, Erro
 /// The statuses, by kind and name. Nothing changes.
 pub fn all_statuses<S: Alter>(tx: &mut Transaction<'_, S>) -> Result<Vec<Row>, Error>
     ensures same_reference { tx.new.conn.ghost_name ≡ tx.old.conn.ghost_name }
-    ensures answer { HasCleanDisk (state S.Store tx.new.conn.now) → IsReady (state S.Store tx.old.conn.now).now → IfOk result (λ rows. rows.items ≡ map three_columns (in_order by_two (tables_in (state S.Store tx.old.conn.now).now.trees).statuses)) }
+    ensures answer { HasCleanDisk (state S.Store tx.new.conn.now) → IsReady (state S.Store tx.old.conn.now).now → IfOk result (λ rows. rows.items ≡ map three_columns (in_order by_two (tables_in (state S.Store tx.old.conn.now).now).statuses)) }
     ensures same { HasCleanDisk (state S.Store tx.new.conn.now) → IsReady (state S.Store tx.old.conn.now).now → OnOk result ((state S.Store tx.new.conn.now).now ≡ (state S.Store tx.old.conn.now).now) }
     ensures stays { MayStay (state S.Store tx.old.conn.now) (state S.Store tx.new.conn.now) result }
     ensures survives { Survives (state S.Store tx.old.conn.now) (state S.Store tx.new.conn.now) (λ _. ⊥) }
@@ -71,7 +71,7 @@ pub fn all_statuses<S: Alter>(tx: &mut Transaction<'_, S>) -> Result<Vec<Row>, E
 /// The floors, by job. Nothing changes.
 pub fn all_floors<S: Alter>(tx: &mut Transaction<'_, S>) -> Result<Vec<Row>, Error>
     ensures same_reference { tx.new.conn.ghost_name ≡ tx.old.conn.ghost_name }
-    ensures answer { HasCleanDisk (state S.Store tx.new.conn.now) → IsReady (state S.Store tx.old.conn.now).now → IfOk result (λ rows. rows.items ≡ map two_columns (in_order by_first (tables_in (state S.Store tx.old.conn.now).now.trees).floors)) }
+    ensures answer { HasCleanDisk (state S.Store tx.new.conn.now) → IsReady (state S.Store tx.old.conn.now).now → IfOk result (λ rows. rows.items ≡ map two_columns (in_order by_first (tables_in (state S.Store tx.old.conn.now).now).floors)) }
     ensures same { HasCleanDisk (state S.Store tx.new.conn.now) → IsReady (state S.Store tx.old.conn.now).now → OnOk result ((state S.Store tx.new.conn.now).now ≡ (state S.Store tx.old.conn.now).now) }
     ensures stays { MayStay (state S.Store tx.old.conn.now) (state S.Store tx.new.conn.now) result }
     ensures survives { Survives (state S.Store tx.old.conn.now) (state S.Store tx.new.conn.now) (λ _. ⊥) }

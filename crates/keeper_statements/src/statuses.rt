@@ -51,7 +51,7 @@ pub fn drop_status<S: Alter>(
 ) -> Result<usize, Error>
     ensures same_reference { tx.new.conn.ghost_name ≡ tx.old.conn.ghost_name }
     ensures made { MayMake (without_status kind name.now) (state S.Store tx.old.conn.now) (state S.Store tx.new.conn.now) result }
-    ensures counted { HasCleanDisk (state S.Store tx.new.conn.now) → IsTrue (state S.Store tx.old.conn.now).in_transaction → IsReady (state S.Store tx.old.conn.now).now → IfOk result (λ count. HasFound (is_status kind name.now) (tables_in (state S.Store tx.old.conn.now).now.trees).statuses count) }
+    ensures counted { HasCleanDisk (state S.Store tx.new.conn.now) → IsTrue (state S.Store tx.old.conn.now).in_transaction → IsReady (state S.Store tx.old.conn.now).now → IfOk result (λ count. HasFound (is_status kind name.now) (tables_in (state S.Store tx.old.conn.now).now).statuses count) }
     ensures stays { MayStay (state S.Store tx.old.conn.now) (state S.Store tx.new.conn.now) result }
     ensures survives { Survives (state S.Store tx.old.conn.now) (state S.Store tx.new.conn.now) (λ _. ⊥) }
 {

@@ -1,31 +1,30 @@
 -- A transaction from its beginning to its end.
-use Rattle.std.proofs.Common.{◌≡◌, Bool, true, false, [], Ok, Err, Result, OnOk, OnErr, Some, IsTrue, inl, inr, refl, sym, ap, subst, ◌∙◌}
+use Rattle.std.proofs.Common.{◌≡◌, false, [], Ok, Err, Result, OnOk, OnErr, Some, IsTrue, inl, inr, refl, sym, ap, subst, ◌∙◌}
 use Rattle.sqlite.specs.Effect.{Database}
 use Rattle.sqlite.specs.Schema.{Schema}
 use Rattle.sqlite.specs.State.{State, Shows, KeepsCounts, Survives}
 use Rattle.sqlite.specs.Tree.{Trees}
 use Rattle.sqlite.specs.declared.error.Error.{Error}
-use Rattle.sms_keeper.specs.Tables.{with_change, keep_row, row_of, no_rows}
+use Rattle.sms_keeper.specs.Tables.{with_change, keep_row, row_of}
 use Rattle.sms_keeper.specs.declared.change.Change.{Change}
 use Rattle.sms_keeper.specs.declared.rows.Rows.{Rows}
-use Rattle.keeper_statements.proofs.CreateLemmas.{desk_stays, made_ready}
+use Rattle.keeper_statements.proofs.GrowLemmas.{made_ready, made_same}
 use Rattle.sms_sqlite.specs.Reading.{IsMadeReady}
-use Rattle.sms_sqlite.specs.Told.{tables_of, is_new}
+use Rattle.sms_sqlite.specs.Told.{tables_of}
 use Rattle.sms_sqlite.specs.Values.{rows_in, rows_of}
-use Rattle.sms_sqlite.specs.Writing.{Holds, HoldsLike, AreAlike, HasRows, IsAsBefore, IsCommitted, IsSettled, with_effect, with_row}
-use Rattle.sms_sqlite.proofs.ReadLemmas.{some, some_is}
+use Rattle.sms_sqlite.specs.Writing.{Holds, HoldsLike, AreAlike, HasRows, IsAsBefore, IsCommitted, IsMadeLeft, IsSettled, with_effect, with_row, with_trees}
 use Rattle.sms_sqlite.proofs.TablesLemmas.{alike_self, alike_then}
-use Rattle.sms_sqlite.proofs.ToldLemmas.{alike_same, holds_of, new_is, tables_of_new}
+use Rattle.sms_sqlite.proofs.ToldLemmas.{alike_same, reads_of, same_self_rows}
 
 -- the last state of the transaction is the committed one
-pub commit_made : (last end : State) (rows : Rows) (done : Result (Unit {0}) Error) → HoldsLike last.now rows
+pub commit_made : (schema : Schema) (last end : State) (rows : Rows) (done : Result (Unit {0}) Error) → HoldsLike schema last.now rows
     → OnOk done (IsTrue last.in_transaction × Shows last end last.now last.now false × KeepsCounts last end × (end.marks ≡ [])) → OnOk done (IsCommitted end rows)
-commit_made last end rows (Ok x) holds shown = record {
-  holds = subst (λ db. HoldsLike db rows) (sym shown.1.now_is) holds;
+commit_made schema last end rows (Ok x) holds shown = record {
+  holds = subst (λ (db : Database). HoldsLike db.schema db rows) (sym shown.1.now_is) (record { listed = refl; found = holds.found; holds = holds.holds; alike = holds.alike });
   committed = shown.1.committed_is ∙ sym shown.1.now_is;
   is_open = shown.1.is_open;
 }
-commit_made last end rows (Err e) holds shown = tt
+commit_made schema last end rows (Err e) holds shown = tt
 
 -- the tables made in the last state are committed
 pub made_committed : (old : Database) (last end : State) (done : Result (Unit {0}) Error) → IsMadeReady old last.now
@@ -48,8 +47,12 @@ refused_by old new (Ok x) now committed = tt
 refused_by old new (Err e) now committed = record { now = now; committed = committed }
 
 -- what the last state holds is what a stop in the commit may leave
-pub last_rows : (last : State) (rows : Rows) (db : Trees) → HoldsLike last.now rows → db ≡ last.now.trees → HasRows db rows
-last_rows last rows db holds is = record { found = holds.found; read = ap rows_in is ∙ holds.holds.read; same = alike_same holds.found rows holds.alike }
+pub last_rows : (old : Database) (last : State) (rows : Rows) (db : Trees) → HoldsLike old.schema last.now rows → db ≡ last.now.trees → HasRows (with_trees old db) rows
+last_rows old last rows db holds is = record {
+  found = holds.found;
+  read = (λ i. rows_in (record { schema = sym holds.listed i; trees = is i })) ∙ holds.holds.read;
+  same = alike_same holds.found rows holds.alike;
+}
 
 -- the row of a reply is added to alike rows alike
 row_alike : (change : Change) (a b : Rows) → AreAlike a b → AreAlike (with_row change a) (with_row change b)
@@ -62,29 +65,32 @@ row_alike change a b p = record {
 }
 
 -- the effect, and then the row
-pub both_made : (change : Change) (mid new : Database) (rows : Rows) → HoldsLike mid (with_effect change rows) → ((found : Rows) → Holds mid found → HoldsLike new (with_row change found)) → HoldsLike new (with_change rows change)
-both_made change mid new rows first second =
+pub both_made : (change : Change) (schema : Schema) (mid new : Database) (rows : Rows) → HoldsLike schema mid (with_effect change rows) → ((found : Rows) → Holds mid found → HoldsLike mid.schema new (with_row change found))
+    → HoldsLike schema new (with_change rows change)
+both_made change schema mid new rows first second =
     let next = second first.found first.holds in
-    record { found = next.found; holds = next.holds; alike = alike_then _ _ _ next.alike (row_alike change first.found (with_effect change rows) first.alike) }
+    record { listed = next.listed ∙ first.listed; found = next.found; holds = next.holds; alike = alike_then _ _ _ next.alike (row_alike change first.found (with_effect change rows) first.alike) }
 
 -- the tables that weren't there were made: what was told stands
-pub ready_like : (old new : Database) (rows : Rows) → IsMadeReady old new → tables_of old ≡ Some rows → HoldsLike new rows
-ready_like old new rows made told = by (is_new old) refl
-  where
-    by : (b : Bool) → is_new old ≡ b → HoldsLike new rows
-    by true is =
-        let schema = new_is old is in
-        let fresh = made_ready old new made schema in
-        let none : no_rows ≡ rows = some_is no_rows rows (sym (tables_of_new old schema) ∙ told) in
-        record {
-          found = rows;
-          holds = record { ready = fresh.0; read = ap rows_of fresh.1 ∙ ap (λ (r : Rows). some r) none };
-          alike = alike_self rows;
-        }
-    by false is =
-        let holds = holds_of old rows is told in
-        let same = desk_stays old new made holds.ready.schema in
-        subst (λ db. HoldsLike db rows) (sym same) (record { found = rows; holds = holds; alike = alike_self rows })
+pub ready_like : (old new : Database) (rows : Rows) → IsMadeReady old new → tables_of old ≡ Some rows → HoldsLike new.schema new rows
+ready_like old new rows made told =
+    let it = reads_of old rows told in
+    record {
+      listed = refl;
+      found = rows;
+      holds = record { ready = made_ready old new it.serves made; read = ap rows_of (made_same old new it.serves made) ∙ it.read };
+      alike = alike_self rows;
+    }
+
+-- a stop in their making leaves the trees of such a database
+pub ready_left : (old new : Database) (db : Trees) → IsMadeReady old new → db ≡ new.trees → IsMadeLeft old db
+ready_left old new db made is = record {
+  schema = new.schema;
+  made = subst (λ (t : Trees). IsMadeReady old (with_trees new t)) (sym is) made;
+  rows = λ rows told.
+      let it = reads_of old rows told in
+      record { found = rows; read = ap (λ (t : Trees). rows_in (with_trees new t)) is ∙ ap rows_of (made_same old new it.serves made) ∙ it.read; same = same_self_rows rows };
+}
 
 pub survives_weaker : (old new : State) (P Q : Trees → Type 0) → ((db : Trees) → P db → Q db) → Survives old new P → Survives old new Q
 survives_weaker old new P Q f s = record {
@@ -95,11 +101,3 @@ survives_weaker old new P Q f s = record {
   closes = s.closes;
   crash = λ clean db left. elim (s.crash clean db left) [ inl before ↦ inl before | inr has ↦ inr (f db has) ];
 }
-
--- a database with tables is none without
-pub not_new : (db : Database) → (db.schema.tables ≡ [] → ⊥) → is_new db ≡ false
-not_new db some = by (is_new db) refl
-  where
-    by : (b : Bool) → is_new db ≡ b → is_new db ≡ false
-    by true is = absurd (some (ap (λ (s : Schema). s.tables) (new_is db is)))
-    by false is = is

@@ -2,6 +2,7 @@
 use Rattle.std.proofs.Common.{◌≡◌, ◌++◌, ◌∷◌, [], ℕ, ℤ, pos, Bool, true, false, cond, arith, inl, not, append-nil, List, Ok, Err, Result, OnOk, filter, refl, ap, ap₂, sym, subst, ◌∙◌}
 use Rattle.std.specs.List.{list_any}
 use Rattle.sqlite.specs.Effect.{Database}
+use Rattle.sqlite.specs.Schema.{Schema}
 use Rattle.sqlite.specs.State.{State, Survives}
 use Rattle.sqlite.specs.declared.error.Error.{Error}
 use Rattle.sms_keeper.specs.Tables.{is_below_floor, row_of, is_deck, is_reply_below, put_floor, sets_with, replies_left, decks_added, statuses_with, floors_with}
@@ -36,10 +37,10 @@ pub survives_itself : (s : State) → Survives s s (λ _. ⊥)
 survives_itself s = record { clean = omega arith; shield = λ h. h; counts = omega arith; limit = refl; closes = λ clean h. inl h; crash = λ clean db h. inl h }
 
 pub makes_then : (f h : Tables → Tables) (a b c : Database) → Makes f a b → Makes h b c → Makes (λ t. h (f t)) a c
-makes_then f h a b c one two = record { ready = two.ready; tables = two.tables ∙ ap h one.tables }
+makes_then f h a b c one two = record { ready = two.ready; schema = two.schema ∙ one.schema; tables = two.tables ∙ ap h one.tables }
 
-pub holds_self : (db : Database) (rows : Rows) → Holds db rows → HoldsLike db rows
-holds_self db rows holds = record { found = rows; holds = holds; alike = alike_self rows }
+pub holds_self : (db : Database) (rows : Rows) → Holds db rows → HoldsLike db.schema db rows
+holds_self db rows holds = record { listed = refl; found = rows; holds = holds; alike = alike_self rows }
 
 -- whether a row is kept, as the search for a higher floor tells
 
@@ -48,28 +49,30 @@ kept_as : (change : Change) (rows : Rows) (b : Bool) → list_any (is_below_floo
 kept_as change rows b is = ap (λ c. let r : Rows = record rows { replies = cond c rows.replies (rows.replies ++ row_of change ∷ []) } in r) is
 
 above_is : (change : Change) (old : Database) (rows : Rows) (job : List ℕ) (number : ℤ) (b above : Bool) → job ≡ change.request.job → number ≡ pos change.request.number
-    → above ≡ list_any (is_above job number) (tables_in old.trees).floors → above ≡ b → Holds old rows → list_any (is_below_floor change.request.job change.request.number) rows.floors ≡ b
+    → above ≡ list_any (is_above job number) (tables_in old).floors → above ≡ b → Holds old rows → list_any (is_below_floor change.request.job change.request.number) rows.floors ≡ b
 above_is change old rows job number b above p q answer is holds =
     sym (each_any floor_in (is_above change.request.job (pos change.request.number)) (is_below_floor change.request.job change.request.number)
-    (above_alike change.request.job change.request.number) (tables_in old.trees).floors rows.floors (are_read (tables_in old.trees) rows holds.read).floors)
-    ∙ sym (ap₂ (λ j n. list_any (is_above j n) (tables_in old.trees).floors) p q) ∙ sym answer ∙ is
+    (above_alike change.request.job change.request.number) (tables_in old).floors rows.floors (are_read (tables_in old) rows holds.read).floors)
+    ∙ sym (ap₂ (λ j n. list_any (is_above j n) (tables_in old).floors) p q) ∙ sym answer ∙ is
 
 pub not_kept : (change : Change) (old new : Database) (rows : Rows) (job : List ℕ) (number : ℤ) (above : Bool) → job ≡ change.request.job → number ≡ pos change.request.number
-    → above ≡ list_any (is_above job number) (tables_in old.trees).floors → above ≡ true → new ≡ old → Holds old rows → HoldsLike new (with_row change rows)
+    → above ≡ list_any (is_above job number) (tables_in old).floors → above ≡ true → new ≡ old → Holds old rows → HoldsLike old.schema new (with_row change rows)
 not_kept change old new rows job number above p q answer is same holds =
-    subst (HoldsLike new) (sym (kept_as change rows true (above_is change old rows job number true above p q answer is holds)))
-    (subst (λ db. HoldsLike db rows) (sym same) (holds_self old rows holds))
+    subst (HoldsLike old.schema new) (sym (kept_as change rows true (above_is change old rows job number true above p q answer is holds)))
+    (subst (λ db. HoldsLike old.schema db rows) (sym same) (holds_self old rows holds))
 
-pub is_kept : (change : Change) (old new : Database) (rows : Rows) (job : List ℕ) (number : ℤ) (above : Bool) → job ≡ change.request.job → number ≡ pos change.request.number
-    → above ≡ list_any (is_above job number) (tables_in old.trees).floors → above ≡ false → Holds old rows
-    → HoldsLike new (record rows { replies = rows.replies ++ row_of change ∷ [] }) → HoldsLike new (with_row change rows)
-is_kept change old new rows job number above p q answer is holds added =
-    subst (HoldsLike new) (sym (kept_as change rows false (above_is change old rows job number false above p q answer is holds))) added
+pub is_kept : (change : Change) (old mid new : Database) (rows : Rows) (job : List ℕ) (number : ℤ) (above : Bool) → job ≡ change.request.job → number ≡ pos change.request.number
+    → above ≡ list_any (is_above job number) (tables_in old).floors → above ≡ false → Holds old rows → mid ≡ old
+    → HoldsLike mid.schema new (record rows { replies = rows.replies ++ row_of change ∷ [] }) → HoldsLike old.schema new (with_row change rows)
+is_kept change old mid new rows job number above p q answer is holds same added =
+    subst (HoldsLike old.schema new) (sym (kept_as change rows false (above_is change old rows job number false above p q answer is holds)))
+    (subst (λ (db : Database). HoldsLike db.schema new (record rows { replies = rows.replies ++ row_of change ∷ [] })) same added)
 
 -- statuses replaced, and then a deck added
-pub deck_behind : (new : Database) (rows : Rows) (statuses : List StatusRow) (deck : DeckRow) (found : Rows) → AreAlike found (record rows { statuses = statuses })
-    → HoldsLike new (record found { decks = found.decks ++ deck ∷ [] }) → HoldsLike new (record rows { decks = rows.decks ++ deck ∷ []; statuses = statuses })
-deck_behind new rows statuses deck found alike next = record {
+pub deck_behind : (schema : Schema) (mid new : Database) (rows : Rows) (statuses : List StatusRow) (deck : DeckRow) (found : Rows) → mid.schema ≡ schema → AreAlike found (record rows { statuses = statuses })
+    → HoldsLike mid.schema new (record found { decks = found.decks ++ deck ∷ [] }) → HoldsLike schema new (record rows { decks = rows.decks ++ deck ∷ []; statuses = statuses })
+deck_behind schema mid new rows statuses deck found stays alike next = record {
+  listed = next.listed ∙ stays;
   found = next.found;
   holds = next.holds;
   alike = alike_then _ _ _ next.alike (record {
@@ -103,4 +106,4 @@ raised_is change job floor rows is =
 pub floor_leads : {X : Type 0} (change : Change) (job : List ℕ) (floor : ℕ) (old new : State) (r : Result X Error) → change.effect ≡ effects.Floor job floor
     → MayLead (raised job floor) old new r → MayLead (with_effect change) old new r
 floor_leads change job floor old new r is leads clean inside rows holds =
-    subst (λ (after : Rows). OnOk r (HoldsLike new.now after)) (raised_is change job floor rows is) (leads clean inside rows holds)
+    subst (λ (after : Rows). OnOk r (HoldsLike old.now.schema new.now after)) (raised_is change job floor rows is) (leads clean inside rows holds)

@@ -11,3 +11,4 @@ pub mod ToldLemmas
 pub mod LoadLemmas
 pub mod TableLemmas
 pub mod CommitLemmas
+pub mod ExampleLemmas

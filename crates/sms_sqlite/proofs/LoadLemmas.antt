@@ -7,7 +7,6 @@ use Rattle.std.proofs.lemmas.Bool.Decides.{nat_tests}
 use Rattle.std.proofs.lemmas.Int.{ints}
 use Rattle.sqlite.specs.Effect.{Database}
 use Rattle.sqlite.specs.Order.{Row}
-use Rattle.sqlite.specs.Schema.{Schema}
 use Rattle.sqlite.specs.State.{State, HasCleanDisk}
 use Rattle.sqlite.specs.declared.types.Value.TheVariants.{Int, Text}
 use Rattle.sqlite_trees.specs.View.{doubt}
@@ -26,20 +25,21 @@ use Rattle.sms_keeper.specs.declared.rows.Rows.{Rows}
 use Rattle.sms_keeper.specs.declared.status_row.StatusRow.{StatusRow}
 use Rattle.sms_keeper.specs.declared.table.Table.{Table}
 use Rattle.sms_keeper.specs.declared.table.Table.TheVariants.{Sets, Replies, Decks, Statuses, Floors}
-use Rattle.keeper_statements.proofs.CreateLemmas.{desk_stays}
+use Rattle.keeper_statements.proofs.GrowLemmas.{made_ready, made_same, none_without, ready_serves}
 use Rattle.keeper_statements.proofs.OrderLemmas.{order_found, order_sorted}
 use Rattle.keeper_statements.specs.Order.{by_first, by_two, in_order, put_in}
-use Rattle.keeper_statements.specs.Tables.{IsReady, Tables, tables_in}
+use Rattle.keeper_statements.specs.Presence.{none_there, present_in}
+use Rattle.keeper_statements.specs.Tables.{Serves, Tables, tables_in}
 use Rattle.sms_sqlite.specs.Columns.{kind_column, name_column}
 use Rattle.sms_sqlite.specs.Damage.{damage_in, first_unread, ordered, unread_in}
 use Rattle.sms_sqlite.specs.Reading.{IsMadeReady, NamesFault, ReadsAll}
-use Rattle.sms_sqlite.specs.Told.{IsReadable, damage_of, damage_seen, has_tables, is_new, is_ready, is_shown, tables_of, told_of}
+use Rattle.sms_sqlite.specs.Told.{IsReadable, damage_of, damage_seen, has_tables, is_shown, is_whole, tables_of, told_of}
 use Rattle.sms_sqlite.specs.Values.{deck_in, each_in, floor_in, joined, reply_in, rows_of, set_in, status_in}
 use Rattle.sms_sqlite.specs.declared.load_fault.LoadFault.{LoadFault}
 use Rattle.sms_sqlite.specs.declared.load_fault.LoadFault.TheVariants as faults
 use Rattle.sms_sqlite.proofs.ReadLemmas.{joins, some, some_is}
 use Rattle.sms_sqlite.proofs.TablesLemmas.{AreRead, are_read}
-use Rattle.sms_sqlite.proofs.ToldLemmas.{holds_of, new_is, on_told, ready_is, shown_before, tables_of_new, told_before}
+use Rattle.sms_sqlite.proofs.ToldLemmas.{on_told, reads_of, shown_before, told_before, whole_is, whole_so}
 use Rattle.sms_sqlite.proofs.ValueLemmas.{deck_numbered, floor_named, reply_numbered, set_named, status_keyed}
 
 -- values are read in the order of their rows
@@ -150,12 +150,6 @@ loaded_tables t told rows e f =
       };
     }
 
-none_loaded : AreLoaded no_rows no_rows
-none_loaded = record {
-  same = record { sets = λ dsn. refl; replies = λ job number. refl; decks = λ count. refl; statuses = λ target. refl; floors = λ job. refl };
-  ordered = record { sets = λ k d p q. absurd (omega arith); replies = λ k d p q. absurd (omega arith); decks = λ k d p q. absurd (omega arith); statuses = λ k d p q. absurd (omega arith); floors = λ k d p q. absurd (omega arith) };
-}
-
 -- where each row stands for something, none is damaged
 each_whole : {B : Type 0} (read : Row → Option B) (rows : List Row) (xs : List B) → each_in read rows ≡ Some xs → first_unread read rows ≡ None
 each_whole read [] xs all = refl
@@ -171,6 +165,10 @@ undamaged t rows a =
     λ i. option_or (whole_in Sets set_in t.sets rows.sets a.sets i) (option_or (whole_in Replies reply_in t.replies rows.replies a.replies i)
     (option_or (whole_in Decks deck_in t.decks rows.decks a.decks i) (option_or (whole_in Statuses status_in t.statuses rows.statuses a.statuses i) (whole_in Floors floor_in t.floors rows.floors a.floors i))))
 
+-- where none of the five is there, no rows are read
+pub none_reads : (db : Database) (rows : Rows) → present_in db.schema.tables ≡ none_there → rows ≡ no_rows → ReadsAll (ordered (tables_in db)) (Ok rows)
+none_reads db rows none is = ap (λ (t : Tables). rows_of (ordered t)) (none_without db none) ∙ ap (λ (r : Rows). some r) (sym is)
+
 -- a damage that may be told
 on_seen : (new : State) (P : Option (Table × ℕ) → Type 0) → (IsTrue (is_shown new) → P (damage_of new.now)) → P None → P (damage_seen new)
 on_seen new P f none = by (is_shown new) refl
@@ -179,13 +177,13 @@ on_seen new P f none = by (is_shown new) refl
     by true is = subst P (sym (ap (λ b. cond b (damage_of new.now) None) is)) (f is)
     by false is = subst P (sym (ap (λ b. cond b (damage_of new.now) None) is)) none
 
--- the damage of a database with the five tables, and of another
-on_damage : (db : Database) (P : Option (Table × ℕ) → Type 0) → (IsReady db → P (damage_in (ordered (tables_in db.trees)))) → P None → P (damage_of db)
-on_damage db P f none = by (is_ready db) refl
+-- the damage of a database that serves, and of another
+on_damage : (db : Database) (P : Option (Table × ℕ) → Type 0) → (Serves db → P (damage_in (ordered (tables_in db)))) → P None → P (damage_of db)
+on_damage db P f none = by (is_whole db) refl
   where
-    by : (b : Bool) → is_ready db ≡ b → P (damage_of db)
-    by true is = subst P (sym (ap (λ b. cond b (damage_in (ordered (tables_in db.trees))) None) is)) (f (ready_is db is))
-    by false is = subst P (sym (ap (λ b. cond b (damage_in (ordered (tables_in db.trees))) None) is)) none
+    by : (b : Bool) → is_whole db ≡ b → P (damage_of db)
+    by true is = subst P (sym (ap (λ b. cond b (damage_in (ordered (tables_in db))) None) is)) (f (whole_is db is))
+    by false is = subst P (sym (ap (λ b. cond b (damage_in (ordered (tables_in db))) None) is)) none
 
 seen_is : (s : State) → IsTrue (is_shown s) → damage_seen s ≡ damage_of s.now
 seen_is s shown = ap (λ b. cond b (damage_of s.now) None) shown
@@ -210,27 +208,22 @@ made_damage {X} {E} old new r clean opened tables kept = on_seen new (Agree (dam
   where
     at : (o : Result X E) → OnOk o (IsMadeReady old.now new.now) → OnErr o (new.now ≡ old.now) → Agree (damage_of old.now) (damage_of new.now)
     at (Err e) made same = agree_same _ _ (ap damage_of same)
-    at (Ok x) made same = by (is_ready old.now) refl
+    at (Ok x) made same = by (is_whole old.now) refl
       where
-        by : (b : Bool) → is_ready old.now ≡ b → Agree (damage_of old.now) (damage_of new.now)
-        by true is = agree_same _ _ (ap damage_of (desk_stays old.now new.now made (ready_is old.now is).schema))
-        by false is = subst (λ d. Agree d (damage_of new.now)) (sym (ap (λ b. cond b (damage_in (ordered (tables_in old.now.trees))) None) is)) tt
+        by : (b : Bool) → is_whole old.now ≡ b → Agree (damage_of old.now) (damage_of new.now)
+        by true is =
+            let serves = whole_is old.now is in
+            let ready = made_ready old.now new.now serves made in
+            agree_same _ _ ((λ i. cond (whole_so new.now (ready_serves new.now ready) i) (damage_in (ordered (made_same old.now new.now serves made i))) None) ∙ sym (ap (λ b. cond b (damage_in (ordered (tables_in old.now))) None) is))
+        by false is = subst (λ d. Agree d (damage_of new.now)) (sym (ap (λ b. cond b (damage_in (ordered (tables_in old.now))) None) is)) tt
 
 module _ (base : Database) (old new : State) (readable : IsReadable base old) (clean : doubt old.is_clean ≤ doubt new.is_clean)
     (opened : HasCleanDisk new → IsTrue new.is_open → IsTrue old.is_open) (kept : HasCleanDisk new → IsTrue new.is_open → new.now ≡ old.now) where
-  module _ (r : Result Rows LoadFault) (reads : HasCleanDisk new → IsReady old.now → ReadsAll (ordered (tables_in old.now.trees)) r) (empty : old.now.schema.tables ≡ [] → r ≡ Ok no_rows) where
+  module _ (r : Result Rows LoadFault) (reads : HasCleanDisk new → Serves old.now → ReadsAll (ordered (tables_in old.now)) r) where
     rows_loaded : (rows told : Rows) → r ≡ Ok rows → HasCleanDisk new → tables_of old.now ≡ Some told → AreLoaded told rows
-    rows_loaded rows told ok clean_now is = by (is_new old.now) refl
-      where
-        by : (b : Bool) → is_new old.now ≡ b → AreLoaded told rows
-        by true fresh =
-            let schema = new_is old.now fresh in
-            let loaded : rows ≡ no_rows = let e : Ok rows ≡ Ok no_rows = sym ok ∙ empty (ap (λ (s : Schema). s.tables) schema) in cc in
-            let none : told ≡ no_rows = some_is told no_rows (sym is ∙ tables_of_new old.now schema) in
-            subst (λ t. AreLoaded t rows) (sym none) (subst (AreLoaded no_rows) (sym loaded) none_loaded)
-        by false made =
-            let holds = holds_of old.now told made is in
-            loaded_tables (tables_in old.now.trees) told rows holds.read (subst (ReadsAll (ordered (tables_in old.now.trees))) ok (reads clean_now holds.ready))
+    rows_loaded rows told ok clean_now is =
+        let it = reads_of old.now told is in
+        loaded_tables (tables_in old.now) told rows it.read (subst (ReadsAll (ordered (tables_in old.now))) ok (reads clean_now it.serves))
 
     pub loaded_by : IfOk r (λ rows. IfSome (told_of base new) (λ told. AreLoaded told rows))
     loaded_by = by r refl
@@ -250,27 +243,24 @@ module _ (base : Database) (old new : State) (readable : IsReadable base old) (c
         by (Ok rows) is = on_seen new (λ d. d ≡ None) (λ shown.
             let was = shown_before old new clean opened shown in
             ap damage_of (kept was.1 was.2)
-            ∙ on_damage old.now (λ d. d ≡ None) (λ ready. undamaged (ordered (tables_in old.now.trees)) rows (are_read (ordered (tables_in old.now.trees)) rows
-            (subst (ReadsAll (ordered (tables_in old.now.trees))) is (reads was.1 ready)))) refl) refl
+            ∙ on_damage old.now (λ d. d ≡ None) (λ ready. undamaged (ordered (tables_in old.now)) rows (are_read (ordered (tables_in old.now)) rows
+            (subst (ReadsAll (ordered (tables_in old.now))) is (reads was.1 ready)))) refl) refl
 
     -- a database with a damaged row tells no tables
     none_told : (table : Table) (place : ℕ) → r ≡ Err (faults.Damaged table place) → HasCleanDisk new → tables_of old.now ≡ None
     none_told table place bad clean_now = by (tables_of old.now) refl
       where
-        damaged : IsReady old.now → damage_in (ordered (tables_in old.now.trees)) ≡ Some (table, place)
-        damaged ready = subst (ReadsAll (ordered (tables_in old.now.trees))) bad (reads clean_now ready)
-
-        at : (told : Rows) → tables_of old.now ≡ Some told → (b : Bool) → is_new old.now ≡ b → ⊥
-        at told is true fresh = let e : Err (faults.Damaged table place) ≡ Ok no_rows = sym bad ∙ empty (ap (λ (s : Schema). s.tables) (new_is old.now fresh)) in absurd cc
-        at told is false made =
-            let holds = holds_of old.now told made is in
-            let whole = undamaged (ordered (tables_in old.now.trees)) _ (ordered_read (tables_in old.now.trees) told (are_read (tables_in old.now.trees) told holds.read)) in
-            let both = sym whole ∙ damaged holds.ready in
+        at : (told : Rows) → tables_of old.now ≡ Some told → ⊥
+        at told is =
+            let it = reads_of old.now told is in
+            let damaged : damage_in (ordered (tables_in old.now)) ≡ Some (table, place) = subst (ReadsAll (ordered (tables_in old.now))) bad (reads clean_now it.serves) in
+            let whole = undamaged (ordered (tables_in old.now)) _ (ordered_read (tables_in old.now) told (are_read (tables_in old.now) told it.read)) in
+            let both = sym whole ∙ damaged in
             absurd cc
 
         by : (o : Option Rows) → tables_of old.now ≡ o → tables_of old.now ≡ None
         by None is = is
-        by (Some told) is = absurd (at told is (is_new old.now) refl)
+        by (Some told) is = absurd (at told is)
 
     pub damaged_by : IfErr r (NamesFault (told_of base new) (damage_seen new))
     damaged_by = by r refl
@@ -285,7 +275,7 @@ module _ (base : Database) (old new : State) (readable : IsReadable base old) (c
               let was = shown_before old new clean opened shown in
               subst (λ db. IfSome (damage_of db) (λ found. found ≡ (table, place))) (sym (kept was.1 was.2))
               (on_damage old.now (λ d. IfSome d (λ found. found ≡ (table, place))) (λ ready.
-              subst (λ d. IfSome d (λ found. found ≡ (table, place))) (sym (subst (ReadsAll (ordered (tables_in old.now.trees))) is (reads was.1 ready))) refl) tt)) tt;
+              subst (λ d. IfSome d (λ found. found ≡ (table, place))) (sym (subst (ReadsAll (ordered (tables_in old.now))) is (reads was.1 ready))) refl) tt)) tt;
         }
           where
             told : (b : Bool) → (is_shown new && has_tables base) ≡ b → told_of base new ≡ None

@@ -1,8 +1,8 @@
 -- A status set, and what is written of statuses.
-use Rattle.std.proofs.Common.{◌≡◌, Bool, true, false, not, cond, ℕ, pos, List, [], ◌∷◌, ◌++◌, filter, map, Some, ◌+◌, ◌<◌, length, take, get_or, append_assoc, append-nil, refl, ap, ap₂, sym, subst, ◌∙◌}
+use Rattle.std.proofs.Common.{◌≡◌, Bool, true, false, not, cond, ℕ, ℤ, ◌≤◌, pos, List, [], ◌∷◌, ◌++◌, filter, map, Some, ◌+◌, ◌<◌, length, take, get_or, append_assoc, append-nil, refl, ap, ap₂, sym, subst, ◌∙◌}
 use Rattle.std.specs.Prelude.{slice_get}
 use Rattle.std.proofs.lemmas.Grind.{take_at_read}
-use Rattle.std.proofs.lemmas.List.{map-append}
+use Rattle.std.proofs.lemmas.List.{map-append, take_all}
 use Rattle.std.proofs.lemmas.Slice.Eq.{bytes_eq-Decides}
 use Rattle.sqlite.specs.Effect.{Database}
 use Rattle.sqlite.specs.Order.{Row}
@@ -146,7 +146,7 @@ module _ (target : Target) (status : Status) where
 -- statuses added one by one
 
 pub none_added : (db : Database) → IsReady db → Makes (with_statuses []) db db
-none_added db ready = record { ready = ready; tables = ap (λ (l : List Row). let t : Tables = record (tables_in db.trees) { statuses = l } in t) (sym (append-nil (tables_in db.trees).statuses)) }
+none_added db ready = record { ready = ready; schema = refl; tables = ap (λ (l : List Row). let t : Tables = record (tables_in db) { statuses = l } in t) (sym (append-nil (tables_in db).statuses)) }
 
 readable_push : (rows : List StatusRow) (row : StatusRow) → AreReadable rows → target_of (kind_column row.target) (name_column row.target) ≡ Some row.target → AreReadable (rows ++ row ∷ [])
 readable_push [] row all one = (one, tt)
@@ -163,8 +163,18 @@ pub one_added : (rows : List StatusRow) (i : ℕ) (row : StatusRow) (a b c : Dat
     → Makes (with_status (pos (kind_column row.target)) (name_column row.target) (pos (status_column row.status))) b c → Makes (with_statuses (take (i + 1) rows)) a c
 one_added rows i row a b c low is one two = record {
   ready = two.ready;
+  schema = two.schema ∙ one.schema;
   tables = two.tables ∙ ap (with_status (pos (kind_column row.target)) (name_column row.target) (pos (status_column row.status))) one.tables
-      ∙ ap (λ (l : List Row). let t : Tables = record (tables_in a.trees) { statuses = l } in t)
-      (append_assoc (tables_in a.trees).statuses (map row_of_status (take i rows)) (row_of_status row ∷ [])
-      ∙ ap (λ (l : List Row). (tables_in a.trees).statuses ++ l) (sym (map-append row_of_status (take i rows) (row ∷ [])) ∙ ap (map row_of_status) (sym (next_rows rows i row low is))));
+      ∙ ap (λ (l : List Row). let t : Tables = record (tables_in a) { statuses = l } in t)
+      (append_assoc (tables_in a).statuses (map row_of_status (take i rows)) (row_of_status row ∷ [])
+      ∙ ap (λ (l : List Row). (tables_in a).statuses ++ l) (sym (map-append row_of_status (take i rows) (row ∷ [])) ∙ ap (map row_of_status) (sym (next_rows rows i row low is))));
 }
+
+-- a status added, told by equal columns
+pub status_as : (old new : Database) (k kind : ℤ) (n name : List ℕ) (s status : ℤ) → k ≡ kind → n ≡ name → s ≡ status → Makes (with_status k n s) old new → Makes (with_status kind name status) old new
+status_as old new k kind n name s status p q r made =
+    subst (λ (z : ℤ). Makes (with_status kind name z) old new) r (subst (λ (l : List ℕ). Makes (with_status kind l s) old new) q (subst (λ (z : ℤ). Makes (with_status z n s) old new) p made))
+
+-- at the end of the loop all were added
+pub all_added : (rows : List StatusRow) (i : ℕ) (old new : Database) → length rows ≤ i → Makes (with_statuses (take i rows)) old new → Makes (with_statuses rows) old new
+all_added rows i old new end made = subst (λ (l : List StatusRow). Makes (with_statuses l) old new) (take_all i rows end) made

@@ -50,13 +50,14 @@ pub record AreLike (t : Tables) (rows : Rows) : Type 0 where
   pub alike : AreAlike found rows
 
 -- a change of the tables that reads as a change of the rows
-pub makes_like : (change : Tables → Tables) (old new : Database) (before after : Rows) → Makes change old new → Holds old before → (AreRead (tables_in old.trees) before → AreLike (change (tables_in old.trees)) after)
-    → HoldsLike new after
+pub makes_like : (change : Tables → Tables) (old new : Database) (before after : Rows) → Makes change old new → Holds old before → (AreRead (tables_in old) before → AreLike (change (tables_in old)) after)
+    → HoldsLike old.schema new after
 makes_like change old new before after makes holds f =
-    let it = f (are_read (tables_in old.trees) before holds.read) in
+    let it = f (are_read (tables_in old) before holds.read) in
     record {
+      listed = makes.schema;
       found = it.found;
-      holds = record { ready = makes.ready; read = ap rows_of makes.tables ∙ reads_as (change (tables_in old.trees)) it.found it.read };
+      holds = record { ready = makes.ready; read = ap rows_of makes.tables ∙ reads_as (change (tables_in old)) it.found it.read };
       alike = it.alike;
     }
 

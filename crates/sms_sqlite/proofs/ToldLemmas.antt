@@ -1,27 +1,33 @@
 -- What is told of a database before and after a transaction.
-use Rattle.std.proofs.Common.{◌≡◌, ◌≤◌, ◌&&◌, ℕ, Bool, true, false, cond, List, [], ◌∷◌, length, filter, Ok, Err, Result, OnOk, OnErr, Some, None, Option, IsTrue, refl, sym, ap, subst, ◌∙◌, arith, Ordering, Less, Equal, Greater, is_lt}
+use Rattle.std.proofs.Common.{◌≡◌, ◌≤◌, ◌&&◌, inl, inr, not, nat_lt, ltb-true, lt-ltb, ℕ, Bool, true, false, cond, List, [], ◌∷◌, filter, Ok, Err, Result, OnOk, OnErr, Some, None, Option, IsTrue, refl, sym, ap, subst, ◌∙◌, arith, Ordering, Less, Equal, Greater, is_lt}
+use Rattle.std.specs.Coded.{Coded, coded×, coded_list, coded_option, coded_ℕ}
 use Rattle.std.specs.Prelude.{IfSome, is_some}
 use Rattle.std.specs.List.{AllByRecursion, list_all}
 use Rattle.sqlite.specs.Effect.{Database}
 use Rattle.sqlite.specs.Order.{Row}
+use Rattle.sqlite.specs.Schema.{Schema}
 use Rattle.sqlite.specs.State.{State, HasCleanDisk}
 use Rattle.sqlite.specs.Table.{Table}
 use Rattle.sqlite.specs.Tree.{Trees}
 use Rattle.sqlite.specs.declared.error.Error.{Error}
-use Rattle.sqlite_schema.specs.contracts.schema.Schema.{the_row}
+use Rattle.sqlite_schema.specs.contracts.schema.Table as the_table
 use Rattle.sqlite_trees.proofs.Doubt.{clean_of, no_doubt}
 use Rattle.sqlite_trees.specs.Tree.{rowid}
 use Rattle.sqlite_trees.specs.View.{doubt}
 use Rattle.sqlite_value.specs.Order.{value_cmp}
-use Rattle.sms_keeper.specs.Tables.{AreSame, no_rows, is_named, is_reply_of, is_floor_of, with_change}
+use Rattle.sms_keeper.specs.Tables.{AreSame, is_named, is_reply_of, is_floor_of, with_change}
 use Rattle.sms_keeper.specs.Told.{Applies, Stays}
 use Rattle.sms_keeper.specs.declared.change.Change.{Change}
 use Rattle.sms_keeper.specs.declared.rows.Rows.{Rows}
-use Rattle.keeper_statements.specs.Schema.{no_schema, desk_schema}
-use Rattle.keeper_statements.specs.Tables.{IsKeyed, IsReady}
-use Rattle.sms_sqlite.specs.Told.{has_tables, is_keyed, is_new, is_ready, tables_of, is_shown, told_of, IsReadable}
+use Rattle.keeper_statements.specs.Found.{CanServe, MayBeThere, keys_of, keys_on, placed, table_in, table_of}
+use Rattle.keeper_statements.specs.Presence.{all_there, present_in}
+use Rattle.keeper_statements.specs.Schema.{desk_tables}
+use Rattle.keeper_statements.specs.Tables.{IsKeyed, Serves, rows_named}
+use Rattle.keeper_statements.proofs.GrowLemmas.{all_ready, ready_serves}
+use Rattle.sms_sqlite.specs.Same.{is_same}
+use Rattle.sms_sqlite.specs.Told.{can_serve, has_tables, is_apart, is_formed, is_keyed, is_whole, tables_of, is_shown, told_of, IsReadable}
 use Rattle.sms_sqlite.specs.Values.{rows_in}
-use Rattle.sms_sqlite.specs.Writing.{Holds, AreAlike, HasRows, IsCommitted}
+use Rattle.sms_sqlite.specs.Writing.{Holds, AreAlike, HasRows, IsCommitted, with_trees}
 use Rattle.sms_sqlite.proofs.SameLemmas.{and_parts, and_true, same_is, same_self}
 
 less_is : (o : Ordering) → is_lt o ≡ true → o ≡ Less
@@ -49,53 +55,94 @@ keyed_so : (rows : List Row) → IsKeyed rows → is_keyed rows ≡ true
 keyed_so [] keyed = refl
 keyed_so (r ∷ rows) keyed = and_true _ _ keyed.1.0 (and_true _ _ (less_all r rows keyed.0.0) (keyed_so rows (keyed.0.1, keyed.1.1)))
 
-tables_keyed : (tables : List Table) (trees : Trees) → list_all (λ t. is_keyed (trees t.tree)) tables ≡ true → AllByRecursion (λ t. IsKeyed (trees t.tree)) tables
-tables_keyed [] trees e = tt
-tables_keyed (t ∷ tables) trees e = let p = and_parts _ _ e in (keyed_is (trees t.tree) p.0, tables_keyed tables trees p.1)
+same_so : {A : Type 0} (coded : Coded A) (x y : A) → x ≡ y → is_same coded x y ≡ true
+same_so coded x y same = subst (λ z. is_same coded x z ≡ true) same (same_self coded x)
 
-keyed_tables : (tables : List Table) (trees : Trees) → AllByRecursion (λ t. IsKeyed (trees t.tree)) tables → list_all (λ t. is_keyed (trees t.tree)) tables ≡ true
-keyed_tables [] trees all = refl
-keyed_tables (t ∷ tables) trees all = and_true _ _ (keyed_so (trees t.tree) all.0) (keyed_tables tables trees all.1)
+not_true : (b : Bool) → not b ≡ true → b ≡ false
+not_true true e = absurd cc
+not_true false e = refl
 
-pub new_is : (db : Database) → is_new db ≡ true → db.schema ≡ no_schema
-new_is db e = same_is the_row.coded db.schema no_schema e
+module _ (schema : Schema) (form : Table) where
+  may_is : (o : Option Table) → table_of schema form.name ≡ o → is_formed form schema o ≡ true → MayBeThere form schema
+  may_is None named is = inl named
+  may_is (Some t) named is =
+      let p = and_parts _ _ is in
+      let r = and_parts _ _ p.1 in
+      inr (record {
+        tree = t.tree;
+        named = named ∙ ap Some (same_is the_table.the_row.coded t (placed form t.tree) p.0);
+        low = ltb-true t.tree 65536 r.0;
+        keys = same_is (coded_list (coded× (coded_list coded_ℕ) coded_ℕ)) (keys_on schema (placed form t.tree)) (keys_of form) r.1;
+      })
 
-pub new_so : (db : Database) → db.schema ≡ no_schema → is_new db ≡ true
-new_so db e = same_self_at db.schema no_schema e
-  where
-    same_self_at : (s t : _) → s ≡ t → Rattle.sms_sqlite.specs.Same.is_same the_row.coded s t ≡ true
-    same_self_at s t same = subst (λ x. Rattle.sms_sqlite.specs.Same.is_same the_row.coded s x ≡ true) same (same_self the_row.coded s)
+  may_so : MayBeThere form schema → is_formed form schema (table_of schema form.name) ≡ true
+  may_so (inl missing) = ap (is_formed form schema) missing
+  may_so (inr there) =
+      ap (is_formed form schema) there.named
+      ∙ and_true _ _ (same_self the_table.the_row.coded (placed form there.tree))
+      (and_true _ _ (lt-ltb there.tree 65536 there.low) (same_so (coded_list (coded× (coded_list coded_ℕ) coded_ℕ)) (keys_on schema (placed form there.tree)) (keys_of form) there.keys))
 
-pub ready_is : (db : Database) → is_ready db ≡ true → IsReady db
-ready_is db e =
+all_is : (schema : Schema) (forms : List Table) → list_all (λ form. is_formed form schema (table_of schema form.name)) forms ≡ true → AllByRecursion (λ form. MayBeThere form schema) forms
+all_is schema [] e = tt
+all_is schema (form ∷ forms) e = let p = and_parts _ _ e in (may_is schema form (table_of schema form.name) refl p.0, all_is schema forms p.1)
+
+all_so : (schema : Schema) (forms : List Table) → AllByRecursion (λ form. MayBeThere form schema) forms → list_all (λ form. is_formed form schema (table_of schema form.name)) forms ≡ true
+all_so schema [] all = refl
+all_so schema (form ∷ forms) all = and_true _ _ (may_so schema form all.0) (all_so schema forms all.1)
+
+rows_keyed : (db : Database) (forms : List Table) → list_all (λ form. is_keyed (rows_named db form.name)) forms ≡ true → AllByRecursion (λ form. IsKeyed (rows_named db form.name)) forms
+rows_keyed db [] e = tt
+rows_keyed db (form ∷ forms) e = let p = and_parts _ _ e in (keyed_is (rows_named db form.name) p.0, rows_keyed db forms p.1)
+
+keyed_rows : (db : Database) (forms : List Table) → AllByRecursion (λ form. IsKeyed (rows_named db form.name)) forms → list_all (λ form. is_keyed (rows_named db form.name)) forms ≡ true
+keyed_rows db [] all = refl
+keyed_rows db (form ∷ forms) all = and_true _ _ (keyed_so (rows_named db form.name) all.0) (keyed_rows db forms all.1)
+
+apart_is : (schema : Schema) (tables : List Table) → list_all (is_apart schema) tables ≡ true → AllByRecursion (λ t. table_in schema t.tree ≡ Some t) tables
+apart_is schema [] e = tt
+apart_is schema (t ∷ tables) e = let p = and_parts _ _ e in (same_is (coded_option the_table.the_row.coded) (table_in schema t.tree) (Some t) p.0, apart_is schema tables p.1)
+
+apart_so : (schema : Schema) (tables : List Table) → AllByRecursion (λ t. table_in schema t.tree ≡ Some t) tables → list_all (is_apart schema) tables ≡ true
+apart_so schema [] all = refl
+apart_so schema (t ∷ tables) all = and_true _ _ (same_so (coded_option the_table.the_row.coded) (table_in schema t.tree) (Some t) all.0) (apart_so schema tables all.1)
+
+serves_is : (schema : Schema) → can_serve schema ≡ true → CanServe schema
+serves_is schema e =
     let p = and_parts _ _ e in
-    record { schema = same_is the_row.coded db.schema desk_schema p.0; keyed = tables_keyed desk_schema.tables db.trees p.1 }
+    let q = and_parts _ _ p.1 in
+    let r = and_parts _ _ q.1 in
+    let t = and_parts _ _ r.1 in
+    record { tables = all_is schema desk_tables p.0; unreferred = not_true _ q.0; apart = apart_is schema schema.tables r.0; bound = t.0; whole = not_true _ t.1 }
 
-ready_so : (db : Database) → IsReady db → is_ready db ≡ true
-ready_so db ready = and_true _ _
-    (subst (λ x. Rattle.sms_sqlite.specs.Same.is_same the_row.coded db.schema x ≡ true) ready.schema (same_self the_row.coded db.schema))
-    (keyed_tables desk_schema.tables db.trees ready.keyed)
+serves_so : (schema : Schema) → CanServe schema → can_serve schema ≡ true
+serves_so schema serves =
+    and_true _ _ (all_so schema desk_tables serves.tables) (and_true _ _ (ap not serves.unreferred)
+    (and_true _ _ (apart_so schema schema.tables serves.apart) (and_true _ _ serves.bound (ap not serves.whole))))
 
-made_is_not_new : (db : Database) → db.schema ≡ desk_schema → is_new db ≡ false
-made_is_not_new db made = by (is_new db) refl
-  where
-    by : (b : Bool) → is_new db ≡ b → is_new db ≡ false
-    by true is = absurd (let e : ◌≡◌ {A = ℕ} 0 5 = ap (λ (s : _). length s.tables) (sym (new_is db is) ∙ made) in omega (arith, e))
-    by false is = is
+pub whole_is : (db : Database) → is_whole db ≡ true → Serves db
+whole_is db e = let p = and_parts _ _ e in record { schema = serves_is db.schema p.0; keyed = rows_keyed db desk_tables p.1 }
+
+pub whole_so : (db : Database) → Serves db → is_whole db ≡ true
+whole_so db serves = and_true _ _ (serves_so db.schema serves.schema) (keyed_rows db desk_tables serves.keyed)
 
 pub tables_of_holds : (db : Database) (rows : Rows) → Holds db rows → tables_of db ≡ Some rows
-tables_of_holds db rows holds = rw (made_is_not_new db holds.ready.schema, ready_so db holds.ready) holds.read
+tables_of_holds db rows holds = ap (λ b. cond b (rows_in db) None) (whole_so db (ready_serves db holds.ready)) ∙ holds.read
 
-pub tables_of_new : (db : Database) → db.schema ≡ no_schema → tables_of db ≡ Some no_rows
-tables_of_new db e = rw (new_so db e) refl
+-- a database whose tables are told reads as them
+pub record ReadsAs (db : Database) (rows : Rows) : Type 0 where
+  pub serves : Serves db
+  pub read : rows_in db ≡ Some rows
 
--- a database with tables that are told holds them
-pub holds_of : (db : Database) (rows : Rows) → is_new db ≡ false → tables_of db ≡ Some rows → Holds db rows
-holds_of db rows old e = by (is_ready db) refl (subst (λ b. cond b (Some no_rows) (cond (is_ready db) (rows_in db.trees) None) ≡ Some rows) old e)
+pub reads_of : (db : Database) (rows : Rows) → tables_of db ≡ Some rows → ReadsAs db rows
+reads_of db rows e = by (is_whole db) refl
   where
-    by : (b : Bool) → is_ready db ≡ b → cond (is_ready db) (rows_in db.trees) None ≡ Some rows → Holds db rows
-    by true is found = record { ready = ready_is db is; read = sym (ap (λ b. cond b (rows_in db.trees) None) is) ∙ found }
-    by false is found = absurd (let e = sym (ap (λ b. cond b (rows_in db.trees) None) is) ∙ found in cc)
+    by : (b : Bool) → is_whole db ≡ b → ReadsAs db rows
+    by true is = record { serves = whole_is db is; read = sym (ap (λ b. cond b (rows_in db) None) is) ∙ e }
+    by false is = absurd (let f = sym (ap (λ b. cond b (rows_in db) None) is) ∙ e in cc)
+
+-- where the five are there, it holds them
+pub holds_of : (db : Database) (rows : Rows) → present_in db.schema.tables ≡ all_there → tables_of db ≡ Some rows → Holds db rows
+holds_of db rows all told = let it = reads_of db rows told in record { ready = all_ready db it.serves all; read = it.read }
 
 pub alike_same : (a b : Rows) → AreAlike a b → AreSame a b
 alike_same a b p = record {
@@ -106,7 +153,7 @@ alike_same a b p = record {
   floors = λ job. ap (filter (is_floor_of job)) p.floors;
 }
 
-same_self_rows : (rows : Rows) → AreSame rows rows
+pub same_self_rows : (rows : Rows) → AreSame rows rows
 same_self_rows rows = record { sets = λ dsn. refl; replies = λ job number. refl; decks = λ count. refl; statuses = λ target. refl; floors = λ job. refl }
 
 there : {R : Type 0} (o : Option R) → is_some o ≡ true → (x : R) × (o ≡ Some x)
@@ -174,7 +221,7 @@ module _ (base : Database) (old new : State) (readable : IsReadable base old) (c
 
   -- while the store is open, a stop leaves the last commit alone
   pub told_alone : (f : Rows → Rows) → (HasCleanDisk new → (rows : Rows) → tables_of old.now ≡ Some rows → IsCommitted new (f rows))
-      → (IsTrue new.is_open → (db : Trees) → new.may_leave db → db ≡ new.committed.trees) → IfSome (told_of base new) (λ rows. (db : Trees) → new.may_leave db → HasRows db rows)
+      → (IsTrue new.is_open → (db : Trees) → new.may_leave db → db ≡ new.committed.trees) → IfSome (told_of base new) (λ rows. (db : Trees) → new.may_leave db → HasRows (with_trees new.now db) rows)
   told_alone f made settled = on_told base new _ (λ shown was_told.
       let was = shown_before old new clean opened shown in
       let it = told_before base old readable was.0 was_told in
@@ -184,7 +231,7 @@ module _ (base : Database) (old new : State) (readable : IsReadable base old) (c
         tables_of_holds new.now found done.holds.holds,
         λ db left. record {
           found = found;
-          read = ap rows_in (settled was.2 db left ∙ ap (λ (d : Database). d.trees) done.committed) ∙ done.holds.holds.read;
+          read = ap (λ (t : Trees). rows_in (with_trees new.now t)) (settled was.2 db left ∙ ap (λ (d : Database). d.trees) done.committed) ∙ done.holds.holds.read;
           same = same_self_rows found;
         },
       ))
@@ -211,7 +258,7 @@ readable_by base old new f (Err e) readable clean opened made kept = readable_er
 pub alone_by : {X : Type 0} (base : Database) (old new : State) (f : Rows → Rows) (r : Result X Error) → IsReadable base old → doubt old.is_clean ≤ doubt new.is_clean
     → (HasCleanDisk new → IsTrue new.is_open → IsTrue old.is_open)
     → (HasCleanDisk new → (rows : Rows) → tables_of old.now ≡ Some rows → OnOk r (IsCommitted new (f rows)))
-    → (IsTrue new.is_open → (db : Trees) → new.may_leave db → db ≡ new.committed.trees) → OnOk r (IfSome (told_of base new) (λ rows. (db : Trees) → new.may_leave db → HasRows db rows))
+    → (IsTrue new.is_open → (db : Trees) → new.may_leave db → db ≡ new.committed.trees) → OnOk r (IfSome (told_of base new) (λ rows. (db : Trees) → new.may_leave db → HasRows (with_trees new.now db) rows))
 alone_by base old new f (Ok x) readable clean opened made settled = told_alone base old new readable clean opened f made settled
 alone_by base old new f (Err e) readable clean opened made settled = tt
 

@@ -20,7 +20,7 @@ use Rattle.sms_records.specs.Form.{◌>>=◌, whole, within_limit}
 use Rattle.sms_records.specs.Replies.{reply_form}
 use Rattle.sms_records.specs.Requests.{request_form}
 use Rattle.sms_records.specs.Sets.{data_set_form}
-use Rattle.sqlite_trees.specs.Tree.{Trees}
+use Rattle.sqlite.specs.Effect.{Database}
 use Rattle.keeper_statements.specs.Tables.{Tables, tables_in}
 
 -- a text
@@ -133,6 +133,6 @@ rows_of t = do
   floors ← each_in floor_in t.floors
   Some (record { sets = sets; replies = replies; decks = decks; statuses = statuses; floors = floors })
 
--- the tables in these trees
-abbrev pub rows_in : Trees → Option Rows
-rows_in trees = rows_of (tables_in trees)
+-- the tables of this database
+abbrev pub rows_in : Database → Option Rows
+rows_in db = rows_of (tables_in db)

@@ -1,6 +1,7 @@
 -- What a change does to the rows of a database.
 use Rattle.std.specs.Prelude.{◌≡◌, ◌++◌, ℕ, Some, Result, OnOk, OnErr, IsTrue, filter}
 use Rattle.sqlite.specs.Effect.{Database}
+use Rattle.sqlite.specs.Schema.{Schema}
 use Rattle.sqlite.specs.State.{State, HasCleanDisk}
 use Rattle.sqlite.specs.declared.error.Error.{Error}
 use Rattle.sqlite_trees.specs.Tree.{Trees}
@@ -9,13 +10,14 @@ use Rattle.sms_keeper.specs.declared.change.Change.{Change}
 use Rattle.sms_keeper.specs.declared.rows.Rows.{Rows}
 use Rattle.sms_construct.specs.declared.target.Target.{Target}
 use Rattle.keeper_statements.specs.Tables.{IsReady}
+use Rattle.sms_sqlite.specs.Reading.{IsMadeReady}
 use Rattle.sms_sqlite.specs.Told.{tables_of}
 use Rattle.sms_sqlite.specs.Values.{rows_in}
 
 -- the tables are made, and these are their rows
 pub record Holds (db : Database) (rows : Rows) : Type 0 where
   pub ready : IsReady db
-  pub read : rows_in db.trees ≡ Some rows
+  pub read : rows_in db ≡ Some rows
 
 -- the same rows; decks and statuses may stand in another order of their keys
 pub record AreAlike (a b : Rows) : Type 0 where
@@ -25,21 +27,32 @@ pub record AreAlike (a b : Rows) : Type 0 where
   pub statuses : (target : Target) → filter (is_status_of target) a.statuses ≡ filter (is_status_of target) b.statuses
   pub floors : a.floors ≡ b.floors
 
--- the database holds rows like these
-pub record HoldsLike (db : Database) (rows : Rows) : Type 0 where
+-- the database has this schema, and holds rows like these
+pub record HoldsLike (schema : Schema) (db : Database) (rows : Rows) : Type 0 where
+  pub listed : db.schema ≡ schema
   pub found : Rows
   pub holds : Holds db found
   pub alike : AreAlike found rows
 
--- the trees have these rows, in any order of the keys
-pub record HasRows (trees : Trees) (rows : Rows) : Type 0 where
+-- the database has these rows, in any order of the keys
+pub record HasRows (db : Database) (rows : Rows) : Type 0 where
   pub found : Rows
-  pub read : rows_in trees ≡ Some found
+  pub read : rows_in db ≡ Some found
   pub same : AreSame found rows
+
+-- the database with other trees under its schema
+abbrev pub with_trees : Database → Trees → Database
+with_trees db trees = record { schema = db.schema; trees = trees }
+
+-- the trees are those of a database in which each of the five tables that wasn't there was made, and what was told stands
+pub record IsMadeLeft (old : Database) (trees : Trees) : Type 0 where
+  pub schema : Schema
+  pub made : IsMadeReady old (record { schema = schema; trees = trees })
+  pub rows : (rows : Rows) → tables_of old ≡ Some rows → HasRows (record { schema = schema; trees = trees }) rows
 
 -- while the disk is clean, what isn't refused makes this change of the rows, inside its transaction
 abbrev pub MayLead : {X : Type 0} → (Rows → Rows) → State → State → Result X Error → Type 0
-MayLead change old new result = HasCleanDisk new → IsTrue old.in_transaction → (rows : Rows) → Holds old.now rows → OnOk result (HoldsLike new.now (change rows))
+MayLead change old new result = HasCleanDisk new → IsTrue old.in_transaction → (rows : Rows) → Holds old.now rows → OnOk result (HoldsLike old.now.schema new.now (change rows))
 
 -- the tables with the effect of a change, and without the row of its reply
 abbrev pub with_effect : Change → Rows → Rows
@@ -76,7 +89,7 @@ MayUndo old new result = HasCleanDisk new → IsTrue new.is_open → OnErr resul
 
 -- the database holds rows like these, and they are committed
 pub record IsCommitted (new : State) (rows : Rows) : Type 0 where
-  pub holds : HoldsLike new.now rows
+  pub holds : HoldsLike new.now.schema new.now rows
   pub committed : new.committed ≡ new.now
   pub is_open : IsTrue new.is_open
 

@@ -1,11 +1,11 @@
 // Reading the five tables.
-ghost use Rattle.std.specs.Prelude.{◌≡◌, [], false, IfOk, IsErrOf, IsTrue, None, Ok, OnOk};
+ghost use Rattle.std.specs.Prelude.{◌≡◌, false, IfOk, IsErrOf, IsTrue, None, OnOk};
 ghost use Rattle.sqlite.specs.Held.{state};
 ghost use Rattle.sqlite.specs.State.{HasCleanDisk, Survives};
 ghost use Rattle.sms_keeper.specs.Tables.{no_rows};
 ghost use Rattle.sms_records.specs.declared.record_err.RecordErr.TheVariants.{Bad};
 ghost use Rattle.keeper_statements.specs.Steps.{MayStay};
-ghost use Rattle.keeper_statements.specs.Tables.{IsReady, Tables, tables_in};
+ghost use Rattle.keeper_statements.specs.Tables.{IsReady, Serves, Tables, tables_in};
 ghost use Rattle.sms_sqlite.specs.Damage.{ordered};
 ghost use Rattle.sms_sqlite.specs.Reading.{AreShown, IsPushed, Reads, ReadsAll};
 
@@ -13,7 +13,9 @@ use crate::found::Found;
 use crate::load_fault::LoadFault;
 use crate::table_row::TableRow;
 use desk_common::Items;
-use keeper_statements::{all_decks, all_floors, all_replies, all_sets, all_statuses};
+use keeper_statements::{
+    all_decks, all_floors, all_replies, all_sets, all_statuses, present_among,
+};
 use sms_keeper::{Rows, Table};
 use sms_records::RecordErr;
 use sqlite::{Alter, Connection, Error, ErrorCode, Row, Transaction};
@@ -64,7 +66,7 @@ fn read_found(alloc: Global, found: &Found) -> Result<Rows, LoadFault>
 // All rows of the five tables, inside a transaction.
 fn find_rows<S: Alter>(tx: &mut Transaction<'_, S>) -> Result<Found, Error>
     ensures same_reference { tx.new.conn.ghost_name ≡ tx.old.conn.ghost_name }
-    ensures found { HasCleanDisk (state S.Store tx.new.conn.now) → IsTrue (state S.Store tx.old.conn.now).in_transaction → IsReady (state S.Store tx.old.conn.now).now → IfOk result (AreShown (ordered (tables_in (state S.Store tx.old.conn.now).now.trees))) }
+    ensures found { HasCleanDisk (state S.Store tx.new.conn.now) → IsTrue (state S.Store tx.old.conn.now).in_transaction → IsReady (state S.Store tx.old.conn.now).now → IfOk result (AreShown (ordered (tables_in (state S.Store tx.old.conn.now).now))) }
     ensures stays { MayStay (state S.Store tx.old.conn.now) (state S.Store tx.new.conn.now) result }
     ensures survives { Survives (state S.Store tx.old.conn.now) (state S.Store tx.new.conn.now) (λ _. ⊥) }
 {
@@ -84,7 +86,7 @@ fn find_rows<S: Alter>(tx: &mut Transaction<'_, S>) -> Result<Found, Error>
 
 // All rows of the five tables. The transaction is rolled back, since nothing was written.
 fn query_rows<S: Alter>(connection: &mut Connection<S>) -> Result<Found, Error>
-    ensures found { HasCleanDisk (state S.Store connection.new) → IsReady (state S.Store connection.old).now → IfOk result (AreShown (ordered (tables_in (state S.Store connection.old).now.trees))) }
+    ensures found { HasCleanDisk (state S.Store connection.new) → IsReady (state S.Store connection.old).now → IfOk result (AreShown (ordered (tables_in (state S.Store connection.old).now))) }
     ensures kept { HasCleanDisk (state S.Store connection.new) → IsTrue (state S.Store connection.new).is_open → (state S.Store connection.new).now ≡ (state S.Store connection.old).now }
     ensures kept_committed { HasCleanDisk (state S.Store connection.new) → IsTrue (state S.Store connection.new).is_open → (state S.Store connection.new).committed ≡ (state S.Store connection.old).committed }
     ensures was_open { HasCleanDisk (state S.Store connection.new) → IsTrue (state S.Store connection.new).is_open → IsTrue (state S.Store connection.old).is_open }
@@ -110,18 +112,22 @@ fn empty_rows(alloc: Global) -> Rows
     }
 }
 
-// Reads the five tables, each in the order of its keys. A database without tables has no rows. Nothing changes.
+// Reads the five tables, each in the order of its keys. Where none of them is there they have no rows, and where some
+// are missing they are refused. Nothing changes.
 pub fn load_rows<S: Alter>(connection: &mut Connection<S>, alloc: Global) -> Result<Rows, LoadFault>
-    ensures reads { HasCleanDisk (state S.Store connection.new) → IsReady (state S.Store connection.old).now → ReadsAll (ordered (tables_in (state S.Store connection.old).now.trees)) result }
-    ensures empty { (state S.Store connection.old).now.schema.tables ≡ [] → result ≡ Ok no_rows }
+    ensures reads { HasCleanDisk (state S.Store connection.new) → Serves (state S.Store connection.old).now → ReadsAll (ordered (tables_in (state S.Store connection.old).now)) result }
     ensures kept { HasCleanDisk (state S.Store connection.new) → IsTrue (state S.Store connection.new).is_open → (state S.Store connection.new).now ≡ (state S.Store connection.old).now }
     ensures kept_committed { HasCleanDisk (state S.Store connection.new) → IsTrue (state S.Store connection.new).is_open → (state S.Store connection.new).committed ≡ (state S.Store connection.old).committed }
     ensures was_open { HasCleanDisk (state S.Store connection.new) → IsTrue (state S.Store connection.new).is_open → IsTrue (state S.Store connection.old).is_open }
     ensures ended { (state S.Store connection.old).in_transaction ≡ false → (state S.Store connection.new).in_transaction ≡ false }
     ensures crash { Survives (state S.Store connection.old) (state S.Store connection.new) (λ _. ⊥) }
 {
-    if connection.schema().tables.is_empty() {
+    let there = present_among(connection.schema().tables.as_slice());
+    if there.has_none() {
         return Ok(empty_rows(alloc));
+    }
+    if !there.has_all() {
+        return Err(LoadFault::Refused(Error::InvalidQuery));
     }
     let found = query_rows(connection)?;
     read_found(alloc, &found)

@@ -12,7 +12,7 @@ ghost use Rattle.sms_keeper.specs.Told.{Applies, Stays};
 ghost use Rattle.sms_keeper.specs.declared.rows.Rows.{Rows as Told};
 ghost use Rattle.sms_sqlite.specs.Reading.{IsMadeReady, NamesFault};
 ghost use Rattle.sms_sqlite.specs.Told.{damage_by, tables_of, told_by};
-ghost use Rattle.sms_sqlite.specs.Writing.{HasRows, IsAsBefore, MayCommit, MayUndo, MaySettle};
+ghost use Rattle.sms_sqlite.specs.Writing.{HasRows, IsAsBefore, IsMadeLeft, MayCommit, MayUndo, MaySettle, with_trees};
 
 use crate::load_fault::LoadFault;
 use crate::loading::load_rows;
@@ -23,9 +23,9 @@ use std::alloc::Global;
 use std::marker::Model;
 use std::snapshot::Snapshot;
 
-/// Keeps the records in a database (docs/records.md, "The database"). It tells its tables where the database had none
-/// as it was handed in, or the five with rows that all stand for something, while the connection is open and the disk
-/// has returned what was written.
+/// Keeps the records in a database (docs/records.md, "The database"), whatever else that holds. It tells its tables
+/// where each of the five was in its form or missing as the database was handed in, with rows that all stand for
+/// something, while the connection is open and the disk has returned what was written.
 #[derive(Drop)]
 pub struct SqlKeeper<S: Alter + Drop> {
     alloc: Global,
@@ -79,8 +79,8 @@ impl<S: Alter + Drop> SqlKeeper<S> {
         ensures settled { MaySettle (state S.Store self.new.connection) result }
         ensures made { MayCommit (λ rows. with_change rows change.now) (state S.Store self.old.connection) (state S.Store self.new.connection) result }
         ensures ended { (state S.Store self.old.connection).in_transaction ≡ false → (state S.Store self.new.connection).in_transaction ≡ false }
-        ensures crash { Survives (state S.Store self.old.connection) (state S.Store self.new.connection) (λ db. (rows : Told) → tables_of (state S.Store self.old.connection).now ≡ Some rows → HasRows db (with_change rows change.now)) }
-        ensures alone { OnOk result (IfSome (told_by S.Store self.new) (λ rows. (db : Trees) → (state S.Store self.new.connection).may_leave db → HasRows db rows)) }
+        ensures crash { Survives (state S.Store self.old.connection) (state S.Store self.new.connection) (λ db. (rows : Told) → tables_of (state S.Store self.old.connection).now ≡ Some rows → HasRows (with_trees (state S.Store self.old.connection).now db) (with_change rows change.now)) }
+        ensures alone { OnOk result (IfSome (told_by S.Store self.new) (λ rows. (db : Trees) → (state S.Store self.new.connection).may_leave db → HasRows (with_trees (state S.Store self.new.connection).now db) rows)) }
     {
         write_change(&mut self.connection, self.alloc, change)
     }
@@ -111,7 +111,7 @@ impl<S: Alter + Drop> SqlKeeper<S> {
         ensures settled { MaySettle (state S.Store self.new.connection) result }
         ensures made { HasCleanDisk (state S.Store self.new.connection) → OnOk result (IsMadeReady (state S.Store self.old.connection).now (state S.Store self.new.connection).now) }
         ensures ended { (state S.Store self.old.connection).in_transaction ≡ false → (state S.Store self.new.connection).in_transaction ≡ false }
-        ensures crash { Survives (state S.Store self.old.connection) (state S.Store self.new.connection) (λ db. (rows : Told) → tables_of (state S.Store self.old.connection).now ≡ Some rows → HasRows db rows) }
+        ensures crash { Survives (state S.Store self.old.connection) (state S.Store self.new.connection) (IsMadeLeft (state S.Store self.old.connection).now) }
     {
         write_tables(&mut self.connection)
     }
@@ -154,8 +154,8 @@ impl<S: Alter + Drop> Keeper for SqlKeeper<S> {
         ensures settled { MaySettle (state S.Store self.new.connection) result }
         ensures made { MayCommit (λ rows. with_change rows change.now) (state S.Store self.old.connection) (state S.Store self.new.connection) result }
         ensures ended { (state S.Store self.old.connection).in_transaction ≡ false → (state S.Store self.new.connection).in_transaction ≡ false }
-        ensures crash { Survives (state S.Store self.old.connection) (state S.Store self.new.connection) (λ db. (rows : Told) → tables_of (state S.Store self.old.connection).now ≡ Some rows → HasRows db (with_change rows change.now)) }
-        ensures alone { OnOk result (IfSome (told_by S.Store self.new) (λ rows. (db : Trees) → (state S.Store self.new.connection).may_leave db → HasRows db rows)) }
+        ensures crash { Survives (state S.Store self.old.connection) (state S.Store self.new.connection) (λ db. (rows : Told) → tables_of (state S.Store self.old.connection).now ≡ Some rows → HasRows (with_trees (state S.Store self.old.connection).now db) (with_change rows change.now)) }
+        ensures alone { OnOk result (IfSome (told_by S.Store self.new) (λ rows. (db : Trees) → (state S.Store self.new.connection).may_leave db → HasRows (with_trees (state S.Store self.new.connection).now db) rows)) }
     {
         match self.write(change) {
             Ok(()) => Ok(()),
@@ -185,7 +185,7 @@ impl<S: Alter + Drop> Stored for SqlKeeper<S> {
         ensures settled { MaySettle (state S.Store self.new.connection) result }
         ensures made { HasCleanDisk (state S.Store self.new.connection) → OnOk result (IsMadeReady (state S.Store self.old.connection).now (state S.Store self.new.connection).now) }
         ensures ended { (state S.Store self.old.connection).in_transaction ≡ false → (state S.Store self.new.connection).in_transaction ≡ false }
-        ensures crash { Survives (state S.Store self.old.connection) (state S.Store self.new.connection) (λ db. (rows : Told) → tables_of (state S.Store self.old.connection).now ≡ Some rows → HasRows db rows) }
+        ensures crash { Survives (state S.Store self.old.connection) (state S.Store self.new.connection) (IsMadeLeft (state S.Store self.old.connection).now) }
     {
         match self.make() {
             Ok(()) => Ok(()),

@@ -7,7 +7,7 @@ ghost use Rattle.sms_keeper.specs.Tables.{with_change};
 ghost use Rattle.sms_keeper.specs.declared.rows.Rows.{Rows};
 ghost use Rattle.sms_sqlite.specs.Reading.{IsMadeReady};
 ghost use Rattle.sms_sqlite.specs.Told.{tables_of};
-ghost use Rattle.sms_sqlite.specs.Writing.{Holds, HasRows, IsCommitted};
+ghost use Rattle.sms_sqlite.specs.Writing.{Holds, HasRows, IsCommitted, IsMadeLeft, with_trees};
 
 use crate::effects::make_effect;
 use crate::replies::keep_reply;
@@ -30,7 +30,7 @@ fn write_inside<S: Alter>(
     ensures committed { HasCleanDisk (state S.Store connection.new) → OnOk result ((state S.Store connection.new).committed ≡ (state S.Store connection.new).now) }
     ensures was_open { HasCleanDisk (state S.Store connection.new) → IsTrue (state S.Store connection.new).is_open → IsTrue (state S.Store connection.old).is_open }
     ensures ended { (state S.Store connection.old).in_transaction ≡ false → (state S.Store connection.new).in_transaction ≡ false }
-    ensures crash { Survives (state S.Store connection.old) (state S.Store connection.new) (λ db. (rows : Rows) → Holds (state S.Store connection.old).now rows → HasRows db (with_change rows change.now)) }
+    ensures crash { Survives (state S.Store connection.old) (state S.Store connection.new) (λ db. (rows : Rows) → Holds (state S.Store connection.old).now rows → HasRows (with_trees (state S.Store connection.old).now db) (with_change rows change.now)) }
 {
     if !connection.is_autocommit() {
         return Err(Error::SqliteFailure(ErrorCode::TransactionState));
@@ -41,7 +41,7 @@ fn write_inside<S: Alter>(
     tx.commit()
 }
 
-// Makes the change in one transaction, or leaves all as it is. A database without tables is refused.
+// Makes the change in one transaction, or leaves all as it is. A database without one of the five tables is refused.
 pub fn write_change<S: Alter>(
     connection: &mut Connection<S>,
     alloc: Global,
@@ -55,9 +55,10 @@ pub fn write_change<S: Alter>(
     ensures committed { HasCleanDisk (state S.Store connection.new) → OnOk result ((state S.Store connection.new).committed ≡ (state S.Store connection.new).now) }
     ensures was_open { HasCleanDisk (state S.Store connection.new) → IsTrue (state S.Store connection.new).is_open → IsTrue (state S.Store connection.old).is_open }
     ensures ended { (state S.Store connection.old).in_transaction ≡ false → (state S.Store connection.new).in_transaction ≡ false }
-    ensures crash { Survives (state S.Store connection.old) (state S.Store connection.new) (λ db. (rows : Rows) → tables_of (state S.Store connection.old).now ≡ Some rows → HasRows db (with_change rows change.now)) }
+    ensures crash { Survives (state S.Store connection.old) (state S.Store connection.new) (λ db. (rows : Rows) → tables_of (state S.Store connection.old).now ≡ Some rows → HasRows (with_trees (state S.Store connection.old).now db) (with_change rows change.now)) }
 {
-    if connection.schema().tables.is_empty() {
+    let there = present_among(connection.schema().tables.as_slice());
+    if !there.has_all() {
         return Err(Error::InvalidQuery);
     }
     write_inside(connection, alloc, change)
@@ -73,7 +74,7 @@ pub fn write_tables<S: Alter>(connection: &mut Connection<S>) -> Result<(), Erro
     ensures committed { HasCleanDisk (state S.Store connection.new) → OnOk result ((state S.Store connection.new).committed ≡ (state S.Store connection.new).now) }
     ensures was_open { HasCleanDisk (state S.Store connection.new) → IsTrue (state S.Store connection.new).is_open → IsTrue (state S.Store connection.old).is_open }
     ensures ended { (state S.Store connection.old).in_transaction ≡ false → (state S.Store connection.new).in_transaction ≡ false }
-    ensures crash { Survives (state S.Store connection.old) (state S.Store connection.new) (λ db. (rows : Rows) → tables_of (state S.Store connection.old).now ≡ Some rows → HasRows db rows) }
+    ensures crash { Survives (state S.Store connection.old) (state S.Store connection.new) (IsMadeLeft (state S.Store connection.old).now) }
 {
     if !connection.is_autocommit() {
         return Err(Error::SqliteFailure(ErrorCode::TransactionState));

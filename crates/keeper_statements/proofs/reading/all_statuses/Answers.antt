@@ -1,5 +1,7 @@
 use Rattle.std.proofs.Common.{◌≡◌, []}
 use Rattle.sqlite.specs.Held.{state}
+use Rattle.keeper_statements.specs.Schema.{statuses_table}
+use Rattle.keeper_statements.proofs.PlaceLemmas.{listed_of}
 use Rattle.keeper_statements.proofs.QueryLemmas.{shown_same}
 use Rattle.keeper_statements.proofs.ReadLemmas.{statuses_shown}
 use Rattle.keeper_statements.proofs.ReadTextLemmas as texts
@@ -14,4 +16,4 @@ pub returns-clause-same : goal.returns-clause-same
 returns-clause-same g c clean ready =
     let old = state g.S.Store c.args.tx.now.conn.now in
     let new = state g.S.Store c.all_rows.new.tx.conn.now in
-    ok_then c.all_rows.result _ (λ rows. new.now ≡ old.now) (λ rows h. shown_same texts.statuses_text [] old new rows.items ready.schema texts.statuses_plain h) (c.all_rows.ensures.shown clean)
+    ok_then c.all_rows.result _ (λ rows. new.now ≡ old.now) (λ rows h. shown_same texts.statuses_text [] old new rows.items (texts.statuses_means old.now.schema _ (listed_of statuses_table old.now.schema ready.serves ready.statuses.there)).plain h) (c.all_rows.ensures.shown clean)

@@ -29,8 +29,8 @@ returns-clause-found g c clean inside ready =
     let same4 : s4.now ≡ s0.now = c.in_ok-statuses.ensures.same clean4 ready3 ∙ same3 in
     let ready4 : IsReady s4.now = subst IsReady (sym same4) ready in
     let sets = c.in_ok-sets.ensures.answer clean1 ready0 in
-    let replies = c.in_ok-replies.ensures.answer clean2 ready1 ∙ ap (λ (db : Database). map five_columns (in_order by_two (tables_in db.trees).replies)) same1 in
-    let decks = c.in_ok-decks.ensures.answer clean3 ready2 ∙ ap (λ (db : Database). map deck_columns (in_order by_first (tables_in db.trees).decks)) same2 in
-    let statuses = c.in_ok-statuses.ensures.answer clean4 ready3 ∙ ap (λ (db : Database). map three_columns (in_order by_two (tables_in db.trees).statuses)) same3 in
-    let floors = c.in_ok-floors.ensures.answer clean5 ready4 ∙ ap (λ (db : Database). map two_columns (in_order by_first (tables_in db.trees).floors)) same4 in
+    let replies = c.in_ok-replies.ensures.answer clean2 ready1 ∙ ap (λ (db : Database). map five_columns (in_order by_two (tables_in db).replies)) same1 in
+    let decks = c.in_ok-decks.ensures.answer clean3 ready2 ∙ ap (λ (db : Database). map deck_columns (in_order by_first (tables_in db).decks)) same2 in
+    let statuses = c.in_ok-statuses.ensures.answer clean4 ready3 ∙ ap (λ (db : Database). map three_columns (in_order by_two (tables_in db).statuses)) same3 in
+    let floors = c.in_ok-floors.ensures.answer clean5 ready4 ∙ ap (λ (db : Database). map two_columns (in_order by_first (tables_in db).floors)) same4 in
     record { sets = sets; replies = replies; decks = decks; statuses = statuses; floors = floors }

@@ -17,6 +17,6 @@ returns-clause-leads g c clean inside rows holds =
     let first : HasCleanDisk (state g.S.Store c.has_floor_above.new.tx.conn.now) = omega (arith, clean, c.add_row.ensures.survives.clean) in
     let same = c.in_ok-has_floor_above.ensures.same first holds.ready in
     let on = (c.in_ok-has_floor_above.ensures.stays first inside).inside in
-    on_ok_weaker c.add_row.result (is_kept c.args.change.now _ _ rows c.bytes.result.now _ c.in_ok-has_floor_above.field-0 c.bytes.ensures.bytes (column_is c.in_column-number.result _ (c.in_column-number.ensures ∙ ap pos c.get.ensures.value) (word_low _ c.get.ensures.range.1))
-    (c.in_ok-has_floor_above.ensures.answer first holds.ready) c.if-branch.false holds)
+    on_ok_weaker c.add_row.result (is_kept c.args.change.now _ _ _ rows c.bytes.result.now _ c.in_ok-has_floor_above.field-0 c.bytes.ensures.bytes (column_is c.in_column-number.result _ (c.in_column-number.ensures ∙ ap pos c.get.ensures.value) (word_low _ c.get.ensures.range.1))
+    (c.in_ok-has_floor_above.ensures.answer first holds.ready) c.if-branch.false holds same)
     (c.add_row.ensures.leads clean on rows (subst (λ db. Holds db rows) (sym same) holds))

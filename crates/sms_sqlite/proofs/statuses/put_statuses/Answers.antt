@@ -4,7 +4,7 @@ use Rattle.sqlite.specs.State.{HasCleanDisk}
 use Rattle.sqlite.proofs.StateLemmas.{survives_then}
 use Rattle.keeper_statements.proofs.StayLemmas.{err_stays}
 use Rattle.sms_sqlite.proofs.LeadLemmas.{stays_then, survives_itself}
-use Rattle.sms_sqlite.proofs.StatusLemmas.{none_added, one_added, one_readable}
+use Rattle.sms_sqlite.proofs.StatusLemmas.{all_added, none_added, one_added, one_readable}
 use Rattle.sms_sqlite.proofs.statuses.put_statuses.Goals as goal
 
 pub loop-row-init : goal.loop-row-init
@@ -44,3 +44,6 @@ returns-in_err-put_status-clause-stays g c clean inside =
     let before : HasCleanDisk mid = omega (arith, clean, c.put_status.ensures.survives.clean) in
     let one = was.2 before inside in
     err_stays old new c.from_residual.result c.in_err-put_status.field-0.0 c.from_residual.ensures.0 (stays_then old mid new _ _ one (c.in_err-put_status.ensures.stays clean one.inside))
+
+pub returns-clause-made : goal.returns-clause-made
+returns-clause-made g c clean inside ready = all_added c.args.statuses.now c.loop-row.row-index _ _ c.loop-row-test.false (c.loop-row.invariant.3 clean inside ready)

@@ -1,16 +1,13 @@
-use Rattle.std.proofs.Common.{◌≡◌, ◌∙◌, OnOk, Some, ap, arith, rules, subst, sym}
+use Rattle.std.proofs.Common.{◌≡◌, ◌∙◌, OnOk, ap, arith, rules, subst, sym}
 use Rattle.sqlite.specs.Held.{state}
 use Rattle.sqlite.specs.State.{HasCleanDisk, Survives}
 use Rattle.sqlite.specs.Schema.{Schema}
-use Rattle.sqlite.specs.Tree.{Trees}
 use Rattle.sqlite.proofs.Callers.{survives_begin}
 use Rattle.sqlite.proofs.StateLemmas.{survives_then}
 use Rattle.keeper_statements.specs.Presence.{present_in}
 use Rattle.sms_sqlite.specs.Reading.{IsMadeReady}
-use Rattle.sms_keeper.specs.declared.rows.Rows.{Rows}
-use Rattle.sms_sqlite.specs.Told.{tables_of}
-use Rattle.sms_sqlite.specs.Writing.{HasRows, HoldsLike, IsCommitted}
-use Rattle.sms_sqlite.proofs.CommitLemmas.{commit_made, last_rows, made_committed, ready_like}
+use Rattle.sms_sqlite.specs.Writing.{HoldsLike, IsCommitted, IsMadeLeft}
+use Rattle.sms_sqlite.proofs.CommitLemmas.{commit_made, made_committed, ready_left, ready_like}
 use Rattle.sms_sqlite.proofs.writing.write_tables.Goals as goal
 
 pub returns-clause-made : goal.returns-clause-made
@@ -25,8 +22,8 @@ returns-clause-made g c clean rows told =
     let late : HasCleanDisk (state g.S.Store end) = subst (λ h. HasCleanDisk (state g.S.Store h)) (sym same) clean in
     let early : HasCleanDisk last = omega (arith, late, c.commit.ensures.survives.clean) in
     let made = c.in_ok-make_tables.ensures.made early (rw begun) in
-    let like : HoldsLike last.now rows = ready_like old.now last.now rows (rw (begun, found) at made) told in
-    subst (λ h. OnOk c.commit.result (IsCommitted (state g.S.Store h) rows)) same (commit_made last (state g.S.Store end) rows c.commit.result like (c.commit.ensures.ok late))
+    let like : HoldsLike last.now.schema last.now rows = ready_like old.now last.now rows (rw (begun, found) at made) told in
+    subst (λ h. OnOk c.commit.result (IsCommitted (state g.S.Store h) rows)) same (commit_made last.now.schema last (state g.S.Store end) rows c.commit.result like (c.commit.ensures.ok late))
 
 pub returns-clause-tables : goal.returns-clause-tables
 returns-clause-tables g c clean =
@@ -52,12 +49,12 @@ returns-clause-crash g c =
     let start = c.transaction-tx.result.conn.now in
     let last = c.make_tables.new.tx.conn.now in
     let end = c.commit.new.self.0 in
-    let P = λ (db : Trees). (rows : Rows) → tables_of (state g.S.Store old).now ≡ Some rows → HasRows db rows in
+    let P = IsMadeLeft (state g.S.Store old).now in
     let whole = survives_then (state g.S.Store old) (state g.S.Store last) (state g.S.Store end) _ _ P (λ _ db none. absurd none)
-    (λ clean db is rows told.
+    (λ clean db is.
     let early : HasCleanDisk (state g.S.Store last) = omega (arith, clean, c.commit.ensures.survives.clean) in
     let made = c.in_ok-make_tables.ensures.made early (rw begun) in
-    last_rows (state g.S.Store last) rows db (ready_like (state g.S.Store old).now (state g.S.Store last).now rows (rw (begun, found) at made) told) is)
+    ready_left (state g.S.Store old).now (state g.S.Store last).now db (rw (begun, found) at made) is)
     (survives_begin g.S.Store old (state g.S.Store last) _ (rw begun at c.make_tables.ensures.survives)) c.commit.ensures.survives in
     let same : end ≡ c.connection-2-1.given.0 = search rules in
     subst (λ h. Survives (state g.S.Store old) (state g.S.Store h) P) same whole

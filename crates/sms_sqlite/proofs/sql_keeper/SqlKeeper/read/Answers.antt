@@ -16,17 +16,17 @@ invariant_of-self g c =
 pub returns-clause-loaded : goal.returns-clause-loaded
 returns-clause-loaded g c =
     loaded_by (state g.S.Store c.self.inside.base.value).now (state g.S.Store c.self.inside.connection) (state g.S.Store c.load_rows.new.connection)
-    c.self.invariant c.load_rows.ensures.crash.clean c.load_rows.ensures.was_open c.load_rows.ensures.kept c.load_rows.result c.load_rows.ensures.reads c.load_rows.ensures.empty
+    c.self.invariant c.load_rows.ensures.crash.clean c.load_rows.ensures.was_open c.load_rows.ensures.kept c.load_rows.result c.load_rows.ensures.reads
 
 pub returns-clause-sound : goal.returns-clause-sound
 returns-clause-sound g c =
     sound_by (state g.S.Store c.self.inside.base.value).now (state g.S.Store c.self.inside.connection) (state g.S.Store c.load_rows.new.connection)
-    c.self.invariant c.load_rows.ensures.crash.clean c.load_rows.ensures.was_open c.load_rows.ensures.kept c.load_rows.result c.load_rows.ensures.reads c.load_rows.ensures.empty
+    c.self.invariant c.load_rows.ensures.crash.clean c.load_rows.ensures.was_open c.load_rows.ensures.kept c.load_rows.result c.load_rows.ensures.reads
 
 pub returns-clause-damaged : goal.returns-clause-damaged
 returns-clause-damaged g c =
     damaged_by (state g.S.Store c.self.inside.base.value).now (state g.S.Store c.self.inside.connection) (state g.S.Store c.load_rows.new.connection)
-    c.self.invariant c.load_rows.ensures.crash.clean c.load_rows.ensures.was_open c.load_rows.ensures.kept c.load_rows.result c.load_rows.ensures.reads c.load_rows.ensures.empty
+    c.self.invariant c.load_rows.ensures.crash.clean c.load_rows.ensures.was_open c.load_rows.ensures.kept c.load_rows.result c.load_rows.ensures.reads
 
 pub returns-clause-kept : goal.returns-clause-kept
 returns-clause-kept g c =
