@@ -154,19 +154,41 @@ def reached_by_clauses(known):
             start |= known.meant(public_tokens(path, handed_out(crate_of(path))), imports_of(read(path)), None)
     return known.behind(start)
 
+def lines_of(known, modules): return sum(read(known.files[m]).count('\n') for m in modules)
+
+def hidden_rows(known, shown):
+    """For each crate the files that no public clause reaches."""
+    rows = collections.defaultdict(list)
+    for module in sorted(set(known.files) - shown): rows[module.split('.')[0]].append(module.split('.')[-1])
+    return dict(rows)
+
 def tell_files(known, shown):
     hidden = set(known.files) - shown
-    lines = lambda modules: sum(read(known.files[m]).count('\n') for m in modules)
-    print(f'{len(shown)} files with {lines(shown):,} lines are reached by public clauses, '
-          f'{len(hidden)} with {lines(hidden):,} lines are not:')
-    for crate in sorted({m.split('.')[0] for m in hidden}):
-        print('   ', crate, *sorted(m.split('.')[-1] for m in hidden if m.split('.')[0] == crate))
+    print(f'{len(shown)} files with {lines_of(known, shown):,} lines are reached by public clauses, '
+          f'{len(hidden)} with {lines_of(known, hidden):,} lines are not:')
+    for crate, files in hidden_rows(known, shown).items(): print('   ', crate, *files)
+
+def unreached_words(known, shown, reached):
+    return {m: sorted({w for w in known.words[m] if (m, w) not in reached}) for m in sorted(shown)}
 
 def tell_words(known, shown, reached):
-    alone = {m: sorted({w for w in known.words[m] if (m, w) not in reached}) for m in sorted(shown)}
+    alone = unreached_words(known, shown, reached)
     print(sum(map(len, alone.values())), 'words in the reached files that none reaches:')
     for module, words in alone.items():
         if words: print('   ', known.files[module], *words)
+
+def tell_counted(known, shown, reached):
+    """Where the page has other numbers or other files."""
+    page = read('docs/DEFINITIONS.md').partition('\n## ')[0]
+    hidden = set(known.files) - shown
+    words = sum(map(len, unreached_words(known, shown, reached).values()))
+    for text in (f'{len(shown)} files of definitions with {lines_of(known, shown):,} lines',
+                 f'the other {len(hidden)} files, {lines_of(known, hidden):,} lines', f'In the {len(shown)} files stand {words} '):
+        if text not in page: print('not on the page:', text)
+    listed = {crate: files.split(', ') for crate, files in re.findall(r'(?m)^\| (\w+) \| (\w+(?:, \w+)*) \|$', page)}
+    told = hidden_rows(known, shown)
+    for crate in sorted(set(told) | set(listed)):
+        if told.get(crate) != listed.get(crate): print('not so on the page:', crate, *told.get(crate, []))
 
 def tell_listed(known, shown, reached):
     listed = set()
@@ -186,6 +208,7 @@ def main():
     shown = {m for m in known.files if any((m, w) in reached for w in known.words[m])}
     tell_files(known, shown)
     tell_words(known, shown, reached)
+    tell_counted(known, shown, reached)
     tell_listed(known, shown, reached)
 
 main()
