@@ -183,7 +183,8 @@ def tell_counted(known, shown, reached):
     hidden = set(known.files) - shown
     words = sum(map(len, unreached_words(known, shown, reached).values()))
     for text in (f'{len(shown)} files of definitions with {lines_of(known, shown):,} lines',
-                 f'the other {len(hidden)} files, {lines_of(known, hidden):,} lines', f'In the {len(shown)} files stand {words} '):
+                 f'the other {len(hidden)} files, {lines_of(known, hidden):,} lines',
+                 f'In the {len(shown)} files stand {words} '):
         if text not in page: print('not on the page:', text)
     listed = {crate: files.split(', ') for crate, files in re.findall(r'(?m)^\| (\w+) \| (\w+(?:, \w+)*) \|$', page)}
     told = hidden_rows(known, shown)
@@ -196,7 +197,8 @@ def tell_listed(known, shown, reached):
     for word, files in rows_of(text):
         listed |= set(files)
         homes = [m for m in files if word in known.words.get(m, ()) or '◌' + word + '◌' in known.words.get(m, ())]
-        fields = [m for m in files if m in known.files and re.search(r'(?<!\w)' + word + r'(?!\w)', read(known.files[m]))]
+        fields = [m for m in files
+                  if m in known.files and re.search(r'(?<!\w)' + word + r'(?!\w)', read(known.files[m]))]
         if not homes and not fields: print('no such word there:', word, *files)
         for m in homes:
             if word in known.words[m] and (m, word) not in reached: print('listed, and none reaches it:', word, m)
