@@ -1,11 +1,12 @@
 -- What the making of the missing tables leaves.
 use Rattle.std.proofs.Common.{◌≡◌, ◌<◌, ◌+◌, ◌++◌, ◌||◌, ◌&&◌, ◌==◌, ℕ, Bool, true, false, cond, List, [], ◌∷◌, codes, map, filter, find, Some, None, Option, refl, sym, ap, subst, ◌∙◌, inl, inr, arith, append-nil, nat_lt, ltb-true, lt-ltb, eq-eqb, ne_eqb}
 use Rattle.std.specs.Prelude.{is_some}
-use Rattle.std.specs.List.{AllByRecursion, list_any}
+use Rattle.std.specs.List.{AllByRecursion, list_any, position_from}
+use Rattle.std.proofs.lemmas.Bool.{or_parts}
 use Rattle.sqlite.specs.Effect.{Database}
 use Rattle.sqlite.specs.Schema.{Schema}
 use Rattle.sqlite.specs.Table.{Table}
-use Rattle.sqlite_catalog.specs.Change.{automatics, created, next_tree}
+use Rattle.sqlite_catalog.specs.Change.{automatics, created, is_used, next_tree}
 use Rattle.sqlite_catalog.proofs.StepLemmas.{table_below}
 use Rattle.sqlite_rules.proofs.ListLemmas.{all_from, all_has, has_either, has_found, has_right, test_from, test_has}
 use Rattle.sqlite_rules.specs.Lists.{Has}
@@ -13,8 +14,9 @@ use Rattle.sqlite_schema.specs.Names.{same_name}
 use Rattle.sqlite_schema.specs.Rules.{guards}
 use Rattle.sqlite_schema.specs.declared.schema.Index.{Index}
 use Rattle.sqlite_schema.specs.declared.schema.Reference.{Reference}
+use Rattle.sqlite_schema.specs.declared.schema.View.{View as Stored}
 use Rattle.keeper_statements.specs.Found.{CanServe, IsThere, MayBeThere, are_bound, is_desk_name, keys_of, keys_on, placed, table_in, table_of}
-use Rattle.keeper_statements.specs.Changes.{no_tables}
+use Rattle.keeper_statements.specs.Changes.{empty_tables}
 use Rattle.keeper_statements.specs.Presence.{all_there, has_table, none_there, present_in}
 use Rattle.keeper_statements.specs.declared.present.Present.{Present}
 use Rattle.keeper_statements.specs.Schema.{desk_tables, sets_table, replies_table, decks_table, statuses_table, floors_table}
@@ -53,6 +55,18 @@ module _ {X : Type 0} (p : X → Bool) where
       by true same = refl
       by false same = same
 
+  any_behind : (xs ys : List X) → list_any p ys ≡ false → list_any p (xs ++ ys) ≡ list_any p xs
+  any_behind [] ys none = none
+  any_behind (x ∷ xs) ys none = ap (λ b. p x || b) (any_behind xs ys none)
+
+  position_any : (xs : List X) (start : ℕ) → is_some (position_from p start xs) ≡ list_any p xs
+  position_any [] start = refl
+  position_any (x ∷ xs) start = by (p x) (position_any xs (start + 1))
+    where
+      by : (b : Bool) → is_some (position_from p (start + 1) xs) ≡ list_any p xs → is_some (cond b (Some start) (position_from p (start + 1) xs)) ≡ (b || list_any p xs)
+      by true same = refl
+      by false same = same
+
   filter_none : (xs : List X) → ((x : X) → Has xs x → p x ≡ false) → filter p xs ≡ []
   filter_none [] out = refl
   filter_none (y ∷ xs) out = ap (λ b. cond b (y ∷ filter p xs) (filter p xs)) (out y (inl refl)) ∙ filter_none xs (λ x h. out x (inr h))
@@ -77,6 +91,22 @@ automatic_table table at tree (key ∷ keys) i (inr later) = automatic_table tab
 unguarded : (i : Index) (table : Table) → (i.table ≡ table.tree → ⊥) → guards i table ≡ false
 unguarded i table other = ap (λ b. i.is_unique && b) (ne_eqb i.table table.tree other) ∙ and_none i.is_unique
 
+none_found : {X : Type 0} (o : Option X) → is_some o ≡ false → o ≡ None
+none_found None e = refl
+none_found (Some x) e = absurd cc
+
+-- whether a name is used, by the names of the tables, the indexes and what is set aside
+used_by_names : (schema : Schema) (name : List ℕ)
+    → is_used schema name ≡ (list_any (λ (t : Table). same_name t.name name) schema.tables || list_any (λ (i : Index). same_name i.name name) schema.indexes || list_any (λ (w : Stored). same_name w.name name) schema.views)
+used_by_names schema name = λ i.
+    position_any (λ (t : Table). same_name t.name name) schema.tables 0 i || position_any (λ (x : Index). same_name x.name name) schema.indexes 0 i || position_any (λ (w : Stored). same_name w.name name) schema.views 0 i
+
+-- where a name isn't used no table has it
+pub unused_table : (schema : Schema) (name : List ℕ) → is_used schema name ≡ false → table_of schema name ≡ None
+unused_table schema name free =
+    let none = (or_parts _ _ (or_parts _ _ (sym (used_by_names schema name) ∙ free)).0).0 in
+    none_found (table_of schema name) (found_any (λ (t : Table). same_name t.name name) schema.tables ∙ none)
+
 -- a form that a table can be made of
 record IsForm (form : Table) : Type 0 where
   same : same_name form.name form.name ≡ true
@@ -84,6 +114,7 @@ record IsForm (form : Table) : Type 0 where
   alone : list_any (λ (r : Reference). is_desk_name r.parent) form.references ≡ false
   uncounted : form.is_counted ≡ false
   only : AllByRecursion (λ other. same_name form.name other.name ≡ true → other ≡ form) desk_tables
+  apart : (n : ℕ) → AllByRecursion (λ other. list_any (λ (i : Index). same_name i.name other.name) (automatics (placed form n) 0 (n + 1) form.uniques) ≡ false) desk_tables
 
 module _ (schema : Schema) (form : Table) where
   abbrev after : Schema
@@ -129,19 +160,32 @@ module _ (schema : Schema) (form : Table) where
     keys = keys_made is bound;
   }
 
+  abbrev own_names : List ℕ → Bool
+  own_names name = list_any (λ (i : Index). same_name i.name name) (automatics last 0 (next_tree schema + 1) form.uniques)
+
+  -- a name that isn't used stays so, unless it is the form's
+  unused_stays : (name : List ℕ) → same_name form.name name ≡ false → own_names name ≡ false → is_used schema name ≡ false → is_used after name ≡ false
+  unused_stays name differ own free =
+      used_by_names after name
+      ∙ (λ i. any_behind (λ (t : Table). same_name t.name name) schema.tables (last ∷ []) (ap (λ b. b || false) differ) i
+      || any_behind (λ (x : Index). same_name x.name name) schema.indexes (automatics last 0 (next_tree schema + 1) form.uniques) own i
+      || list_any (λ (w : Stored). same_name w.name name) schema.views)
+      ∙ sym (used_by_names schema name) ∙ free
+
   may_grow : (other : Table) → IsForm form → are_bound schema ≡ true → next_tree schema < 65536 → table_of schema form.name ≡ None
-      → (same_name form.name other.name ≡ true → other ≡ form) → MayBeThere other schema → MayBeThere other after
-  may_grow other is bound low none only (inr there) = inr (there_stays other there)
-  may_grow other is bound low none only (inl missing) = by (same_name form.name other.name) refl
+      → (same_name form.name other.name ≡ true → other ≡ form) → own_names other.name ≡ false → MayBeThere other schema → MayBeThere other after
+  may_grow other is bound low none only own (inr there) = inr (there_stays other there)
+  may_grow other is bound low none only own (inl free) = by (same_name form.name other.name) refl
     where
       by : (b : Bool) → same_name form.name other.name ≡ b → MayBeThere other after
       by true same = inr (subst (λ (t : Table). IsThere t after) (sym (only same)) (there_made is bound low none))
-      by false differ = inl (find_right (λ (t : Table). same_name t.name other.name) schema.tables (last ∷ []) missing ∙ ap (λ b. cond b (Some last) None) differ)
+      by false differ = inl (unused_stays other.name differ own free)
 
   all_grow : (forms : List Table) → IsForm form → are_bound schema ≡ true → next_tree schema < 65536 → table_of schema form.name ≡ None
-      → AllByRecursion (λ other. same_name form.name other.name ≡ true → other ≡ form) forms → AllByRecursion (λ other. MayBeThere other schema) forms → AllByRecursion (λ other. MayBeThere other after) forms
-  all_grow [] is bound low none only may = tt
-  all_grow (other ∷ forms) is bound low none only may = (may_grow other is bound low none only.0 may.0, all_grow forms is bound low none only.1 may.1)
+      → AllByRecursion (λ other. same_name form.name other.name ≡ true → other ≡ form) forms → AllByRecursion (λ (other : Table). own_names other.name ≡ false) forms
+      → AllByRecursion (λ other. MayBeThere other schema) forms → AllByRecursion (λ other. MayBeThere other after) forms
+  all_grow [] is bound low none only own may = tt
+  all_grow (other ∷ forms) is bound low none only own may = (may_grow other is bound low none only.0 own.0 may.0, all_grow forms is bound low none only.1 own.1 may.1)
 
   bound_grows : are_bound schema ≡ true → are_bound after ≡ true
   bound_grows bound =
@@ -169,7 +213,7 @@ module _ (schema : Schema) (form : Table) where
 
   serves_grow : IsForm form → next_tree schema < 65536 → table_of schema form.name ≡ None → CanServe schema → CanServe after
   serves_grow is low none serves = record {
-    tables = all_grow desk_tables is serves.bound low none is.only serves.tables;
+    tables = all_grow desk_tables is serves.bound low none is.only (is.apart (next_tree schema)) serves.tables;
     unreferred = any_past (λ (t : Table). list_any (λ (r : Reference). is_desk_name r.parent) t.references) schema.tables last is.alone ∙ serves.unreferred;
     apart = all_from (λ (t : Table). table_in after t.tree ≡ Some t) after.tables (apart_grow serves);
     bound = bound_grows serves.bound;
@@ -225,7 +269,7 @@ module _ (form : Table) (is : IsForm form) (old new : Database) (serves : CanSer
   grown : MayBeThere form old.schema → (is_there : Bool) → has_table old.schema.tables form.name ≡ is_there → Provides is_there form old new → Grown form old new
   grown may false none made = made_grown (no_table_of none) (made.made refl serves.whole)
   grown (inr there) true is made = kept_grown there (made.stays refl)
-  grown (inl none) true is made = absurd (let f = sym (ap is_some none) ∙ found_any (λ (t : Table). same_name t.name form.name) old.schema.tables ∙ is in cc)
+  grown (inl free) true is made = absurd (let none = unused_table old.schema form.name free in let f = sym (ap is_some none) ∙ found_any (λ (t : Table). same_name t.name form.name) old.schema.tables ∙ is in cc)
 
 -- the five forms
 sets_form : IsForm sets_table
@@ -236,6 +280,7 @@ sets_form = record {
   alone = refl;
   uncounted = refl;
   only = (λ e. refl, (λ e. absurd (let f : false ≡ true = e in cc), (λ e. absurd (let f : false ≡ true = e in cc), (λ e. absurd (let f : false ≡ true = e in cc), (λ e. absurd (let f : false ≡ true = e in cc), tt)))));
+  apart = λ n. (refl, (refl, (refl, (refl, (refl, tt)))));
 }
 
 replies_form : IsForm replies_table
@@ -246,6 +291,7 @@ replies_form = record {
   alone = refl;
   uncounted = refl;
   only = (λ e. absurd (let f : false ≡ true = e in cc), (λ e. refl, (λ e. absurd (let f : false ≡ true = e in cc), (λ e. absurd (let f : false ≡ true = e in cc), (λ e. absurd (let f : false ≡ true = e in cc), tt)))));
+  apart = λ n. (refl, (refl, (refl, (refl, (refl, tt)))));
 }
 
 decks_form : IsForm decks_table
@@ -256,6 +302,7 @@ decks_form = record {
   alone = refl;
   uncounted = refl;
   only = (λ e. absurd (let f : false ≡ true = e in cc), (λ e. absurd (let f : false ≡ true = e in cc), (λ e. refl, (λ e. absurd (let f : false ≡ true = e in cc), (λ e. absurd (let f : false ≡ true = e in cc), tt)))));
+  apart = λ n. (refl, (refl, (refl, (refl, (refl, tt)))));
 }
 
 statuses_form : IsForm statuses_table
@@ -266,6 +313,7 @@ statuses_form = record {
   alone = refl;
   uncounted = refl;
   only = (λ e. absurd (let f : false ≡ true = e in cc), (λ e. absurd (let f : false ≡ true = e in cc), (λ e. absurd (let f : false ≡ true = e in cc), (λ e. refl, (λ e. absurd (let f : false ≡ true = e in cc), tt)))));
+  apart = λ n. (refl, (refl, (refl, (refl, (refl, tt)))));
 }
 
 floors_form : IsForm floors_table
@@ -276,6 +324,7 @@ floors_form = record {
   alone = refl;
   uncounted = refl;
   only = (λ e. absurd (let f : false ≡ true = e in cc), (λ e. absurd (let f : false ≡ true = e in cc), (λ e. absurd (let f : false ≡ true = e in cc), (λ e. absurd (let f : false ≡ true = e in cc), (λ e. refl, tt)))));
+  apart = λ n. (refl, (refl, (refl, (refl, (refl, tt)))));
 }
 
 -- each of the five that was missing was made
@@ -335,7 +384,7 @@ module _ (old new : Database) (serves : Serves old) (made : HasMade (present_in 
 
 there_of : (form : Table) (schema : Schema) → MayBeThere form schema → has_table schema.tables form.name ≡ true → IsThere form schema
 there_of form schema (inr there) is = there
-there_of form schema (inl none) is = absurd (let f = sym (ap is_some none) ∙ found_any (λ (t : Table). same_name t.name form.name) schema.tables ∙ is in cc)
+there_of form schema (inl free) is = absurd (let none = unused_table schema form.name free in let f = sym (ap is_some none) ∙ found_any (λ (t : Table). same_name t.name form.name) schema.tables ∙ is in cc)
 
 table_there : (form : Table) (db : Database) → MayBeThere form db.schema → IsKeyed (rows_named db form.name) → has_table db.schema.tables form.name ≡ true → HasTable form db
 table_there form db may keyed is =
@@ -379,7 +428,7 @@ rows_missing db name none = by (table_of db.schema name) refl
     by (Some t) e = absurd (let f = sym (ap is_some e) ∙ found_any (λ (t : Table). same_name t.name name) db.schema.tables ∙ none in cc)
 
 -- where none of them is there, they have no rows
-pub none_without : (db : Database) → present_in db.schema.tables ≡ none_there → tables_in db ≡ no_tables
+pub none_without : (db : Database) → present_in db.schema.tables ≡ none_there → tables_in db ≡ empty_tables
 none_without db none = λ i. record {
   sets = bodies (rows_missing db (codes "sets") (ap (λ (p : Present). p.sets) none) i);
   replies = bodies (rows_missing db (codes "replies") (ap (λ (p : Present). p.replies) none) i);

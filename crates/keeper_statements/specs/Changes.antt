@@ -41,5 +41,5 @@ abbrev pub with_floor : List ℕ → ℤ → Tables → Tables
 with_floor job floor t = record t { floors = without (is_of job) t.floors ++ floor_row job floor ∷ [] }
 
 -- the tables as they are made: without rows
-abbrev pub no_tables : Tables
-no_tables = record { sets = []; replies = []; decks = []; statuses = []; floors = [] }
+abbrev pub empty_tables : Tables
+empty_tables = record { sets = []; replies = []; decks = []; statuses = []; floors = [] }

@@ -4,7 +4,7 @@ use Rattle.std.specs.List.{AllByRecursion, list_any, list_all}
 use Rattle.sqlite.specs.Does.{lacks_sequence}
 use Rattle.sqlite.specs.Schema.{Schema}
 use Rattle.sqlite.specs.Table.{Table}
-use Rattle.sqlite_catalog.specs.Change.{next_tree}
+use Rattle.sqlite_catalog.specs.Change.{is_used, next_tree}
 use Rattle.sqlite_schema.specs.Names.{same_name}
 use Rattle.sqlite_schema.specs.Rules.{guards}
 use Rattle.keeper_statements.specs.Schema.{desk_tables}
@@ -36,9 +36,9 @@ pub record IsThere (form : Table) (schema : Schema) : Type 0 where
   pub low : tree < 65536
   pub keys : keys_on schema (placed form tree) ≡ keys_of form
 
--- a table of this form is there, or none of its name is
+-- a table of this form is there, or neither a table nor anything else has its name
 abbrev pub MayBeThere : Table → Schema → Type 0
-MayBeThere form schema = (table_of schema form.name ≡ None) ⊎ IsThere form schema
+MayBeThere form schema = (is_used schema form.name ≡ false) ⊎ IsThere form schema
 
 -- one of the five has this name
 abbrev pub is_desk_name : List ℕ → Bool

@@ -10,7 +10,7 @@ use Rattle.keeper_statements.specs.Schema.{sets_table, replies_table, decks_tabl
 use Rattle.keeper_statements.specs.Tables.{Tables, IsReady, tables_in}
 use Rattle.keeper_statements.specs.declared.present.Present.{Present}
 
--- the statement made this change and no other, and the schema stayed
+-- the statement made this change of the five tables, and the schema stayed
 pub record Makes (change : Tables → Tables) (old new : Database) : Type 0 where
   pub ready : IsReady new
   pub schema : new.schema ≡ old.schema

@@ -13,7 +13,7 @@ mod statuses;
 pub use decks::add_deck;
 pub use floors::{has_floor_above, put_floor};
 pub use making::make_tables;
-pub use present::{Present, present_among};
+pub use present::{Present, has_hidden, present_among};
 pub use reading::{all_decks, all_floors, all_replies, all_sets, all_statuses};
 pub use replies::{add_reply, drop_replies_below};
 pub use sets::{drop_set, put_set};

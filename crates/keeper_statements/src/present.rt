@@ -1,8 +1,9 @@
 //! Which of the five tables a database has.
 ghost use Rattle.std.specs.Prelude.{◌≡◌, ◌↔◌, true};
-ghost use Rattle.keeper_statements.specs.Presence.{all_there, has_table, none_there, present_in};
+ghost use Rattle.keeper_statements.specs.Presence.{all_there, has_hidden, has_table, is_hidden, none_there, present_in};
 
-use sqlite_schema::schema::Table;
+use sqlite_catalog::layout::is_used;
+use sqlite_schema::schema::{Schema, Table};
 
 /// Which of the five tables are there.
 #[derive(Clone, Copy)]
@@ -48,4 +49,23 @@ pub fn present_among(tables: &[Table]) -> Present
         statuses: has_table(tables, b"statuses"),
         floors: has_table(tables, b"floors"),
     }
+}
+
+// Whether something other than a table has this name.
+fn is_hidden(schema: &Schema, name: &[u8]) -> bool
+    ensures { result ≡ is_hidden schema.now name.now }
+{
+    is_used(schema, name) && !has_table(schema.tables.as_slice(), name)
+}
+
+/// Whether something other than a table has the name of one of the five: a view, an index, or a table that the
+/// database sets aside since a trigger, a partial index or an index on an expression is bound to it.
+pub fn has_hidden(schema: &Schema) -> bool
+    ensures { result ≡ has_hidden schema.now }
+{
+    is_hidden(schema, b"sets")
+        || is_hidden(schema, b"replies")
+        || is_hidden(schema, b"decks")
+        || is_hidden(schema, b"statuses")
+        || is_hidden(schema, b"floors")
 }

@@ -33,7 +33,7 @@ use Rattle.keeper_statements.specs.Tables.{Serves, Tables, tables_in}
 use Rattle.sms_sqlite.specs.Columns.{kind_column, name_column}
 use Rattle.sms_sqlite.specs.Damage.{damage_in, first_unread, ordered, unread_in}
 use Rattle.sms_sqlite.specs.Reading.{IsMadeReady, NamesFault, ReadsAll}
-use Rattle.sms_sqlite.specs.Told.{IsReadable, damage_of, damage_seen, has_tables, is_shown, is_whole, tables_of, told_of}
+use Rattle.sms_sqlite.specs.Told.{IsReadable, damage_of, damage_seen, can_tell, is_shown, is_whole, tables_of, told_of}
 use Rattle.sms_sqlite.specs.Values.{deck_in, each_in, floor_in, joined, reply_in, rows_of, set_in, status_in}
 use Rattle.sms_sqlite.specs.declared.load_fault.LoadFault.{LoadFault}
 use Rattle.sms_sqlite.specs.declared.load_fault.LoadFault.TheVariants as faults
@@ -270,7 +270,7 @@ module _ (base : Database) (old new : State) (readable : IsReadable base old) (c
         by (Err (faults.Refused error)) is = tt
         by (Err faults.NoMemory) is = tt
         by (Err (faults.Damaged table place)) is = record {
-          unknown = told (is_shown new && has_tables base) refl;
+          unknown = told (is_shown new && can_tell base) refl;
           first = on_seen new (λ d. IfSome d (λ found. found ≡ (table, place))) (λ shown.
               let was = shown_before old new clean opened shown in
               subst (λ db. IfSome (damage_of db) (λ found. found ≡ (table, place))) (sym (kept was.1 was.2))
@@ -278,9 +278,9 @@ module _ (base : Database) (old new : State) (readable : IsReadable base old) (c
               subst (λ d. IfSome d (λ found. found ≡ (table, place))) (sym (subst (ReadsAll (ordered (tables_in old.now))) is (reads was.1 ready))) refl) tt)) tt;
         }
           where
-            told : (b : Bool) → (is_shown new && has_tables base) ≡ b → told_of base new ≡ None
+            told : (b : Bool) → (is_shown new && can_tell base) ≡ b → told_of base new ≡ None
             told true both =
-                let was = shown_before old new clean opened (Rattle.sms_sqlite.proofs.SameLemmas.and_parts (is_shown new) (has_tables base) both).0 in
+                let was = shown_before old new clean opened (Rattle.sms_sqlite.proofs.SameLemmas.and_parts (is_shown new) (can_tell base) both).0 in
                 ap (λ b. cond b (tables_of new.now) None) both ∙ ap tables_of (kept was.1 was.2) ∙ none_told table place is was.1
             told false both = ap (λ b. cond b (tables_of new.now) None) both
 

@@ -23,9 +23,9 @@ use Rattle.keeper_statements.specs.Found.{CanServe, MayBeThere, keys_of, keys_on
 use Rattle.keeper_statements.specs.Presence.{all_there, present_in}
 use Rattle.keeper_statements.specs.Schema.{desk_tables}
 use Rattle.keeper_statements.specs.Tables.{IsKeyed, Serves, rows_named}
-use Rattle.keeper_statements.proofs.GrowLemmas.{all_ready, ready_serves}
+use Rattle.keeper_statements.proofs.GrowLemmas.{all_ready, ready_serves, unused_table}
 use Rattle.sms_sqlite.specs.Same.{is_same}
-use Rattle.sms_sqlite.specs.Told.{can_serve, has_tables, is_apart, is_formed, is_keyed, is_whole, tables_of, is_shown, told_of, IsReadable}
+use Rattle.sms_sqlite.specs.Told.{can_serve, can_tell, is_apart, is_formed, is_keyed, is_whole, tables_of, is_shown, told_of, IsReadable}
 use Rattle.sms_sqlite.specs.Values.{rows_in}
 use Rattle.sms_sqlite.specs.Writing.{Holds, AreAlike, HasRows, IsCommitted, with_trees}
 use Rattle.sms_sqlite.proofs.SameLemmas.{and_parts, and_true, same_is, same_self}
@@ -64,7 +64,7 @@ not_true false e = refl
 
 module _ (schema : Schema) (form : Table) where
   may_is : (o : Option Table) → table_of schema form.name ≡ o → is_formed form schema o ≡ true → MayBeThere form schema
-  may_is None named is = inl named
+  may_is None named is = inl (not_true _ is)
   may_is (Some t) named is =
       let p = and_parts _ _ is in
       let r = and_parts _ _ p.1 in
@@ -76,7 +76,7 @@ module _ (schema : Schema) (form : Table) where
       })
 
   may_so : MayBeThere form schema → is_formed form schema (table_of schema form.name) ≡ true
-  may_so (inl missing) = ap (is_formed form schema) missing
+  may_so (inl free) = ap (is_formed form schema) (unused_table schema form.name free) ∙ ap not free
   may_so (inr there) =
       ap (is_formed form schema) there.named
       ∙ and_true _ _ (same_self the_table.the_row.coded (placed form there.tree))
@@ -173,18 +173,18 @@ shown_before old new clean opened shown =
     (and_true old.is_open old.is_clean (opened now p.0) (clean_of old.is_clean before), now, p.0)
 
 -- what was told before, if the connection is shown now
-pub told_before : (base : Database) (old : State) → IsReadable base old → IsTrue (is_shown old) → IsTrue (has_tables base) → (rows : Rows) × (tables_of old.now ≡ Some rows) × (told_of base old ≡ Some rows)
+pub told_before : (base : Database) (old : State) → IsReadable base old → IsTrue (is_shown old) → IsTrue (can_tell base) → (rows : Rows) × (tables_of old.now ≡ Some rows) × (told_of base old ≡ Some rows)
 told_before base old readable shown was_told =
     let it = there (tables_of old.now) (readable shown was_told) in
     (it.0, it.1, ap (λ b. cond b (tables_of old.now) None) (and_true _ _ shown was_told) ∙ it.1)
 
 -- a claim on what is told, where it is shown
-pub on_told : (base : Database) (new : State) (P : Rows → Type 0) → (IsTrue (is_shown new) → IsTrue (has_tables base) → (rows : Rows) × (tables_of new.now ≡ Some rows) × P rows) → IfSome (told_of base new) P
-on_told base new P f = by (is_shown new && has_tables base) refl
+pub on_told : (base : Database) (new : State) (P : Rows → Type 0) → (IsTrue (is_shown new) → IsTrue (can_tell base) → (rows : Rows) × (tables_of new.now ≡ Some rows) × P rows) → IfSome (told_of base new) P
+on_told base new P f = by (is_shown new && can_tell base) refl
   where
-    by : (b : Bool) → (is_shown new && has_tables base) ≡ b → IfSome (told_of base new) P
+    by : (b : Bool) → (is_shown new && can_tell base) ≡ b → IfSome (told_of base new) P
     by true is =
-        let p = and_parts (is_shown new) (has_tables base) is in
+        let p = and_parts (is_shown new) (can_tell base) is in
         let it = f p.0 p.1 in
         subst (λ o. IfSome o P) (sym (ap (λ b. cond b (tables_of new.now) None) is ∙ it.1)) it.2
     by false is = subst (λ o. IfSome o P) (sym (ap (λ b. cond b (tables_of new.now) None) is)) tt
@@ -192,7 +192,7 @@ on_told base new P f = by (is_shown new && has_tables base) refl
 module _ (base : Database) (old new : State) (readable : IsReadable base old) (clean : doubt old.is_clean ≤ doubt new.is_clean)
     (opened : HasCleanDisk new → IsTrue new.is_open → IsTrue old.is_open) where
   -- the new rows, where the transaction was committed
-  committed_rows : (f : Rows → Rows) → (HasCleanDisk new → (rows : Rows) → tables_of old.now ≡ Some rows → IsCommitted new (f rows)) → IsTrue (is_shown new) → IsTrue (has_tables base)
+  committed_rows : (f : Rows → Rows) → (HasCleanDisk new → (rows : Rows) → tables_of old.now ≡ Some rows → IsCommitted new (f rows)) → IsTrue (is_shown new) → IsTrue (can_tell base)
       → (before : Rows) × (after : Rows) × (told_of base old ≡ Some before) × (tables_of new.now ≡ Some after) × AreSame after (f before)
   committed_rows f made shown was_told =
       let was = shown_before old new clean opened shown in

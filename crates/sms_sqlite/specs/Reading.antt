@@ -1,8 +1,11 @@
 -- What a reading of the tables answers.
 use Rattle.std.specs.Prelude.{◌≡◌, ◌++◌, ◌∷◌, [], ℕ, List, Option, Some, Result, Ok, Err, map, IsSomeAnd}
+use Rattle.desk_common.specs.Causes.{counted}
 use Rattle.sqlite.specs.Effect.{Database}
 use Rattle.sqlite.specs.Order.{Row}
 use Rattle.sms_keeper.specs.Loading.{IsDamaged}
+use Rattle.sms_keeper.specs.declared.load_err.LoadErr.{LoadErr}
+use Rattle.sms_keeper.specs.declared.load_err.LoadErr.TheVariants as answers
 use Rattle.sms_keeper.specs.declared.rows.Rows.{Rows}
 use Rattle.sms_keeper.specs.declared.table.Table.{Table}
 use Rattle.keeper_statements.specs.Order.{deck_columns, five_columns, three_columns, two_columns}
@@ -11,7 +14,7 @@ use Rattle.keeper_statements.specs.Steps.{HasMade}
 use Rattle.keeper_statements.specs.Tables.{Tables}
 use Rattle.sms_sqlite.specs.Damage.{damage_in, first_unread}
 use Rattle.sms_sqlite.specs.Values.{each_in, rows_of}
-use Rattle.sms_sqlite.specs.declared.found.Found.{Found}
+use Rattle.sms_sqlite.specs.declared.shown_rows.ShownRows.{ShownRows}
 use Rattle.sms_sqlite.specs.declared.load_fault.LoadFault.{LoadFault}
 use Rattle.sms_sqlite.specs.declared.load_fault.LoadFault.TheVariants.{Refused, Damaged, NoMemory}
 
@@ -34,7 +37,7 @@ ReadsAll t (Err (Damaged table place)) = damage_in t ≡ Some (table, place)
 ReadsAll t (Err NoMemory) = Unit {0}
 
 -- the columns of each table's rows were shown
-pub record AreShown (t : Tables) (found : Found) : Type 0 where
+pub record AreShown (t : Tables) (found : ShownRows) : Type 0 where
   pub sets : found.sets.items ≡ map two_columns t.sets
   pub replies : found.replies.items ≡ map five_columns t.replies
   pub decks : found.decks.items ≡ map deck_columns t.decks
@@ -50,3 +53,10 @@ NamesFault told damage NoMemory = Unit {0}
 -- each of the five tables that wasn't there was made, and nothing else changed
 abbrev pub IsMadeReady : Database → Database → Type 0
 IsMadeReady old new = HasMade (present_in old.schema.tables) old new
+
+-- the faults after a loading: a failure is one more, and no other answer is any
+abbrev pub faults_after : {T : Type 0} → ℕ → Result T LoadErr → ℕ
+faults_after before (Ok rows) = before
+faults_after before (Err answers.Failed) = counted before
+faults_after before (Err (answers.Damaged table row)) = before
+faults_after before (Err answers.NoMemory) = before

@@ -10,6 +10,7 @@ use Rattle.sqlite.specs.Order.{Row}
 use Rattle.sqlite.specs.Schema.{Schema}
 use Rattle.sqlite.specs.State.{State}
 use Rattle.sqlite.specs.Table.{Table}
+use Rattle.sqlite_catalog.specs.Change.{is_used}
 use Rattle.sqlite_schema.specs.contracts.schema.Table as the_table
 use Rattle.sqlite_trees.specs.Tree.{rowid}
 use Rattle.sqlite_trees.specs.View.{is_int}
@@ -29,9 +30,9 @@ abbrev pub is_keyed : List Row → Bool
 is_keyed [] = true
 is_keyed (r ∷ rows) = is_int (rowid r) && (list_all (λ x. is_lt (value_cmp (rowid r) (rowid x))) rows && is_keyed rows)
 
--- a table of this name is of this form, and has the keys of the form alone
+-- a table of this name is of this form, and has the keys of the form alone; or nothing has the name
 abbrev pub is_formed : Table → Schema → Option Table → Bool
-is_formed form schema None = true
+is_formed form schema None = not (is_used schema form.name)
 is_formed form schema (Some t) =
     is_same the_table.the_row.coded t (placed form t.tree)
     && (nat_lt t.tree 65536 && is_same (coded_list (coded× (coded_list coded_ℕ) coded_ℕ)) (keys_on schema (placed form t.tree)) (keys_of form))
@@ -59,14 +60,14 @@ abbrev pub damage_of : Database → Option (Damaged × ℕ)
 damage_of db = if is_whole db then damage_in (ordered (tables_in db)) else None
 
 -- what contracts see of a keeper over a database: the connection, the connection as it was handed in, and the count of faults
-pub record Kept (S : Type 0) : Type 0 where
+pub record KeeperView (S : Type 0) : Type 0 where
   pub connection : Held S
   pub base : Held S
   pub faults : ℕ
 
 -- its code
-abbrev pub kept_code : {S : Type 0} → Coded S → Coded (Kept S)
-kept_code {S} store =
+abbrev pub keeper_code : {S : Type 0} → Coded S → Coded (KeeperView S)
+keeper_code {S} store =
     code_by (Held S × (Held S × ℕ)) (coded× (held_code store) (coded× (held_code store) coded_ℕ))
     (λ k. (k.connection, (k.base, k.faults))) (λ p. record { connection = p.0; base = p.1.0; faults = p.1.1 }) (λ _. refl)
 
@@ -75,15 +76,15 @@ abbrev pub is_shown : State → Bool
 is_shown s = s.is_open && s.is_clean
 
 -- its tables can be told: each row of the five stands for something
-abbrev pub has_tables : Database → Bool
-has_tables db = is_some (tables_of db)
+abbrev pub can_tell : Database → Bool
+can_tell db = is_some (tables_of db)
 
 -- what is told of a database that is seen so, where its tables could be told as it was handed in
 abbrev pub told_of : Database → State → Option Rows
-told_of base s = if is_shown s && has_tables base then tables_of s.now else None
+told_of base s = if is_shown s && can_tell base then tables_of s.now else None
 
 -- the tables that the keeper tells
-abbrev pub told_by : {S : Type 0} → Ghosts S → Kept S → Option Rows
+abbrev pub told_by : {S : Type 0} → Ghosts S → KeeperView S → Option Rows
 told_by g k = told_of (state g k.base).now (state g k.connection)
 
 -- the first damage of a database that is seen so
@@ -91,9 +92,9 @@ abbrev pub damage_seen : State → Option (Damaged × ℕ)
 damage_seen s = if is_shown s then damage_of s.now else None
 
 -- the first damaged row that the keeper tells
-abbrev pub damage_by : {S : Type 0} → Ghosts S → Kept S → Option (Damaged × ℕ)
+abbrev pub damage_by : {S : Type 0} → Ghosts S → KeeperView S → Option (Damaged × ℕ)
 damage_by g k = damage_seen (state g k.connection)
 
 -- the keeper keeps its tables readable
 abbrev pub IsReadable : Database → State → Type 0
-IsReadable base s = IsTrue (is_shown s) → IsTrue (has_tables base) → IsTrue (has_tables s.now)
+IsReadable base s = IsTrue (is_shown s) → IsTrue (can_tell base) → IsTrue (can_tell s.now)

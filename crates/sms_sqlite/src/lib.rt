@@ -3,11 +3,11 @@
 
 mod columns;
 mod effects;
-mod found;
 mod load_fault;
 mod loading;
 mod numbers;
 mod replies;
+mod shown_rows;
 mod sql_keeper;
 mod statuses;
 mod table_row;

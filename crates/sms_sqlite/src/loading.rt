@@ -1,20 +1,21 @@
 // Reading the five tables.
-ghost use Rattle.std.specs.Prelude.{◌≡◌, false, IfOk, IsErrOf, IsTrue, None, OnOk};
+ghost use Rattle.std.specs.Prelude.{◌≡◌, false, true, IfOk, IsErrOf, IsTrue, None, OnOk};
 ghost use Rattle.sqlite.specs.Held.{state};
 ghost use Rattle.sqlite.specs.State.{HasCleanDisk, Survives};
 ghost use Rattle.sms_keeper.specs.Tables.{no_rows};
 ghost use Rattle.sms_records.specs.declared.record_err.RecordErr.TheVariants.{Bad};
+ghost use Rattle.keeper_statements.specs.Presence.{has_hidden};
 ghost use Rattle.keeper_statements.specs.Steps.{MayStay};
 ghost use Rattle.keeper_statements.specs.Tables.{IsReady, Serves, Tables, tables_in};
 ghost use Rattle.sms_sqlite.specs.Damage.{ordered};
 ghost use Rattle.sms_sqlite.specs.Reading.{AreShown, IsPushed, Reads, ReadsAll};
 
-use crate::found::Found;
 use crate::load_fault::LoadFault;
+use crate::shown_rows::ShownRows;
 use crate::table_row::TableRow;
 use desk_common::Items;
 use keeper_statements::{
-    all_decks, all_floors, all_replies, all_sets, all_statuses, present_among,
+    all_decks, all_floors, all_replies, all_sets, all_statuses, has_hidden, present_among,
 };
 use sms_keeper::{Rows, Table};
 use sms_records::RecordErr;
@@ -46,7 +47,7 @@ fn read_rows<T: TableRow>(alloc: Global, table: Table, rows: &[Row]) -> Result<I
 }
 
 // The values of what the texts showed of each table, or the first row that stands for nothing.
-fn read_found(alloc: Global, found: &Found) -> Result<Rows, LoadFault>
+fn read_found(alloc: Global, found: &ShownRows) -> Result<Rows, LoadFault>
     ensures { (t : Tables) → AreShown t found.now → ReadsAll t result }
 {
     let sets = read_rows(alloc, Table::Sets, found.sets.as_slice())?;
@@ -64,7 +65,7 @@ fn read_found(alloc: Global, found: &Found) -> Result<Rows, LoadFault>
 }
 
 // All rows of the five tables, inside a transaction.
-fn find_rows<S: Alter>(tx: &mut Transaction<'_, S>) -> Result<Found, Error>
+fn find_rows<S: Alter>(tx: &mut Transaction<'_, S>) -> Result<ShownRows, Error>
     ensures same_reference { tx.new.conn.ghost_name ≡ tx.old.conn.ghost_name }
     ensures found { HasCleanDisk (state S.Store tx.new.conn.now) → IsTrue (state S.Store tx.old.conn.now).in_transaction → IsReady (state S.Store tx.old.conn.now).now → IfOk result (AreShown (ordered (tables_in (state S.Store tx.old.conn.now).now))) }
     ensures stays { MayStay (state S.Store tx.old.conn.now) (state S.Store tx.new.conn.now) result }
@@ -75,7 +76,7 @@ fn find_rows<S: Alter>(tx: &mut Transaction<'_, S>) -> Result<Found, Error>
     let decks = all_decks(tx)?;
     let statuses = all_statuses(tx)?;
     let floors = all_floors(tx)?;
-    Ok(Found {
+    Ok(ShownRows {
         sets,
         replies,
         decks,
@@ -85,7 +86,7 @@ fn find_rows<S: Alter>(tx: &mut Transaction<'_, S>) -> Result<Found, Error>
 }
 
 // All rows of the five tables. The transaction is rolled back, since nothing was written.
-fn query_rows<S: Alter>(connection: &mut Connection<S>) -> Result<Found, Error>
+fn query_rows<S: Alter>(connection: &mut Connection<S>) -> Result<ShownRows, Error>
     ensures found { HasCleanDisk (state S.Store connection.new) → IsReady (state S.Store connection.old).now → IfOk result (AreShown (ordered (tables_in (state S.Store connection.old).now))) }
     ensures kept { HasCleanDisk (state S.Store connection.new) → IsTrue (state S.Store connection.new).is_open → (state S.Store connection.new).now ≡ (state S.Store connection.old).now }
     ensures kept_committed { HasCleanDisk (state S.Store connection.new) → IsTrue (state S.Store connection.new).is_open → (state S.Store connection.new).committed ≡ (state S.Store connection.old).committed }
@@ -113,8 +114,9 @@ fn empty_rows(alloc: Global) -> Rows
 }
 
 // Reads the five tables, each in the order of its keys. Where none of them is there they have no rows, and where some
-// are missing they are refused. Nothing changes.
+// are missing they are refused, as they are where something other than a table has one of the names. Nothing changes.
 pub fn load_rows<S: Alter>(connection: &mut Connection<S>, alloc: Global) -> Result<Rows, LoadFault>
+    ensures refuses { has_hidden (state S.Store connection.old).now.schema ≡ true → OnOk result ⊥ }
     ensures reads { HasCleanDisk (state S.Store connection.new) → Serves (state S.Store connection.old).now → ReadsAll (ordered (tables_in (state S.Store connection.old).now)) result }
     ensures kept { HasCleanDisk (state S.Store connection.new) → IsTrue (state S.Store connection.new).is_open → (state S.Store connection.new).now ≡ (state S.Store connection.old).now }
     ensures kept_committed { HasCleanDisk (state S.Store connection.new) → IsTrue (state S.Store connection.new).is_open → (state S.Store connection.new).committed ≡ (state S.Store connection.old).committed }
@@ -122,6 +124,9 @@ pub fn load_rows<S: Alter>(connection: &mut Connection<S>, alloc: Global) -> Res
     ensures ended { (state S.Store connection.old).in_transaction ≡ false → (state S.Store connection.new).in_transaction ≡ false }
     ensures crash { Survives (state S.Store connection.old) (state S.Store connection.new) (λ _. ⊥) }
 {
+    if has_hidden(connection.schema()) {
+        return Err(LoadFault::Refused(Error::InvalidQuery));
+    }
     let there = present_among(connection.schema().tables.as_slice());
     if there.has_none() {
         return Ok(empty_rows(alloc));

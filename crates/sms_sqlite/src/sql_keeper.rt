@@ -1,16 +1,17 @@
 //! A keeper over a database.
-ghost use Rattle.std.specs.Prelude.{◌≡◌, ◌≤◌, IfErr, IfOk, IfSome, IsErrOf, IsTrue, None, OnErr, OnOk, Some, false};
+ghost use Rattle.std.specs.Prelude.{◌≡◌, ◌≤◌, IfErr, IfOk, IfSome, IsErrOf, IsTrue, None, OnErr, OnOk, Some, false, true};
 ghost use Rattle.desk_common.specs.Causes.{Rose, counted};
 ghost use Rattle.sqlite.specs.Held.{state};
 ghost use Rattle.sqlite.specs.State.{HasCleanDisk, Survives};
 ghost use Rattle.sqlite.specs.Tree.{Trees};
+ghost use Rattle.keeper_statements.specs.Presence.{has_hidden};
 ghost use Rattle.sms_keeper.specs.Faults.{faults_counted};
 ghost use Rattle.sms_keeper.specs.Loading.{AreLoaded, NamesDamage, SameDamage, StaysDamaged};
 ghost use Rattle.sms_keeper.specs.Suits.{Suits};
 ghost use Rattle.sms_keeper.specs.Tables.{with_change};
 ghost use Rattle.sms_keeper.specs.Told.{Applies, Stays};
 ghost use Rattle.sms_keeper.specs.declared.rows.Rows.{Rows as Told};
-ghost use Rattle.sms_sqlite.specs.Reading.{IsMadeReady, NamesFault};
+ghost use Rattle.sms_sqlite.specs.Reading.{IsMadeReady, NamesFault, faults_after};
 ghost use Rattle.sms_sqlite.specs.Told.{damage_by, tables_of, told_by};
 ghost use Rattle.sms_sqlite.specs.Writing.{HasRows, IsAsBefore, IsMadeLeft, MayCommit, MayUndo, MaySettle, with_trees};
 
@@ -23,9 +24,10 @@ use std::alloc::Global;
 use std::marker::Model;
 use std::snapshot::Snapshot;
 
-/// Keeps the records in a database (docs/records.md, "The database"), whatever else that holds. It tells its tables
-/// where each of the five was in its form or missing as the database was handed in, with rows that all stand for
-/// something, while the connection is open and the disk has returned what was written.
+/// Keeps the records in a database (docs/records.md, "The database"), which may hold other tables too. It tells its
+/// tables where each of the five was in its form or missing as the database was handed in, nothing else had one of
+/// their names, no foreign key referred to them and no further UNIQUE bound them, and their rows all stood for
+/// something; so far as the connection is open and the disk has returned what was written.
 #[derive(Drop)]
 pub struct SqlKeeper<S: Alter + Drop> {
     alloc: Global,
@@ -36,11 +38,11 @@ pub struct SqlKeeper<S: Alter + Drop> {
 
 impl<S: Alter + Drop> Model for SqlKeeper<S> {
     ghost use Rattle.sqlite.specs.Held.{state};
-    ghost use Rattle.sms_sqlite.specs.Told.{IsReadable, Kept, kept_code};
+    ghost use Rattle.sms_sqlite.specs.Told.{IsReadable, KeeperView, keeper_code};
 
-    ghost Value = { Kept S };
+    ghost Value = { KeeperView S };
 
-    ghost coded = { kept_code S.code };
+    ghost coded = { keeper_code S.code };
 
     ghost view = { λ k. record { connection = k.connection; base = k.base.value; faults = k.faults } };
 
@@ -89,6 +91,7 @@ impl<S: Alter + Drop> SqlKeeper<S> {
     fn read(&mut self) -> Result<Rows, LoadFault>
         ensures base { self.new.base ≡ self.old.base }
         ensures faults { self.new.faults ≡ self.old.faults }
+        ensures refuses { has_hidden (state S.Store self.old.connection).now.schema ≡ true → OnOk result ⊥ }
         ensures loaded { IfOk result (λ rows. IfSome (told_by S.Store self.new) (λ told. AreLoaded told rows)) }
         ensures sound { OnOk result (damage_by S.Store self.new ≡ None) }
         ensures damaged { IfErr result (NamesFault (told_by S.Store self.new) (damage_by S.Store self.new)) }
@@ -202,6 +205,8 @@ impl<S: Alter + Drop> Stored for SqlKeeper<S> {
         ensures cause { IsErrOf result LoadErr.Failed → Rose self.old.faults self.new.faults }
         ensures stands { (IsErrOf result LoadErr.Failed → ⊥) → self.new.faults ≡ self.old.faults }
         ensures rises { self.old.faults ≤ self.new.faults }
+        ensures faults { self.new.faults ≡ faults_after self.old.faults result }
+        ensures refuses { has_hidden (state S.Store self.old.connection).now.schema ≡ true → OnOk result ⊥ }
         ensures base { self.new.base ≡ self.old.base }
         ensures unchanged { HasCleanDisk (state S.Store self.new.connection) → IsTrue (state S.Store self.new.connection).is_open → IsAsBefore (state S.Store self.old.connection) (state S.Store self.new.connection) }
         ensures ended { (state S.Store self.old.connection).in_transaction ≡ false → (state S.Store self.new.connection).in_transaction ≡ false }

@@ -9,13 +9,13 @@ use Rattle.sms_sqlite.proofs.loading.load_rows.Goals as goal
 pub returns-then-has_none-clause-reads : goal.returns-then-has_none-clause-reads
 returns-then-has_none-clause-reads g c clean serves =
     let old = (state g.S.Store c.args.connection.now).now in
-    let found : c.present_among-there.result ≡ present_in old.schema.tables = c.present_among-there.ensures ∙ ap present_in (c.as_slice.ensures ∙ ap (λ (s : Schema). s.tables) c.schema.ensures.value) in
+    let found : c.present_among-there.result ≡ present_in old.schema.tables = c.present_among-there.ensures ∙ ap present_in (c.as_slice.ensures ∙ ap (λ (s : Schema). s.tables) c.schema-2.ensures.value) in
     let none : present_in old.schema.tables ≡ none_there = sym found ∙ c.has_none.ensures.0 c.if-has_none.true in
     none_reads old c.empty_rows.result none c.empty_rows.ensures
 
 pub returns-clause-reads : goal.returns-clause-reads
 returns-clause-reads g c clean serves =
     let old = (state g.S.Store c.args.connection.now).now in
-    let found : c.present_among-there.result ≡ present_in old.schema.tables = c.present_among-there.ensures ∙ ap present_in (c.as_slice.ensures ∙ ap (λ (s : Schema). s.tables) c.schema.ensures.value) in
+    let found : c.present_among-there.result ≡ present_in old.schema.tables = c.present_among-there.ensures ∙ ap present_in (c.as_slice.ensures ∙ ap (λ (s : Schema). s.tables) c.schema-2.ensures.value) in
     let all : present_in old.schema.tables ≡ all_there = sym found ∙ c.has_all.ensures.0 c.if-not-has_all.false in
     c.read_found.ensures _ (c.in_ok-found.ensures.found clean (all_ready old serves all))

@@ -2,7 +2,7 @@ use Rattle.std.proofs.Common.{subst}
 use Rattle.sqlite.specs.Held.{state}
 use Rattle.sms_keeper.specs.Loading.{StaysDamaged}
 use Rattle.sms_keeper.specs.Told.{Stays}
-use Rattle.sms_sqlite.specs.Told.{Kept, damage_by, damage_seen, told_by, told_of}
+use Rattle.sms_sqlite.specs.Told.{KeeperView, damage_by, damage_seen, told_by, told_of}
 use Rattle.sms_sqlite.specs.Writing.{IsAsBefore}
 use Rattle.sms_sqlite.proofs.LoadLemmas.{damage_stays, damaged_by, loaded_by, sound_by}
 use Rattle.sms_sqlite.proofs.ToldLemmas.{readable_err, told_err}
@@ -32,7 +32,7 @@ pub returns-clause-kept : goal.returns-clause-kept
 returns-clause-kept g c =
     let base = (state g.S.Store c.self.inside.base.value).now in
     let new = state g.S.Store c.load_rows.new.connection in
-    subst (λ (k : Kept _). Stays (told_by g.S.Store k) (told_of base new)) c.self.view_is
+    subst (λ (k : KeeperView _). Stays (told_by g.S.Store k) (told_of base new)) c.self.view_is
     (told_err base (state g.S.Store c.self.inside.connection) new
     c.self.invariant c.load_rows.ensures.crash.clean c.load_rows.ensures.was_open c.load_rows.ensures.kept)
 
@@ -40,12 +40,12 @@ pub returns-clause-damage_kept : goal.returns-clause-damage_kept
 returns-clause-damage_kept g c =
     let base = (state g.S.Store c.self.inside.base.value).now in
     let new = state g.S.Store c.load_rows.new.connection in
-    subst (λ (k : Kept _). StaysDamaged (damage_by g.S.Store k) (damage_seen new)) c.self.view_is
+    subst (λ (k : KeeperView _). StaysDamaged (damage_by g.S.Store k) (damage_seen new)) c.self.view_is
     (damage_stays base (state g.S.Store c.self.inside.connection) new
     c.self.invariant c.load_rows.ensures.crash.clean c.load_rows.ensures.was_open c.load_rows.ensures.kept)
 
 pub returns-clause-unchanged : goal.returns-clause-unchanged
 returns-clause-unchanged g c clean is_open =
     let new = state g.S.Store c.load_rows.new.connection in
-    subst (λ (k : Kept _). IsAsBefore (state g.S.Store k.connection) new) c.self.view_is
+    subst (λ (k : KeeperView _). IsAsBefore (state g.S.Store k.connection) new) c.self.view_is
     (record { now = c.load_rows.ensures.kept clean is_open; committed = c.load_rows.ensures.kept_committed clean is_open })

@@ -3,7 +3,7 @@ use sqlite::Row;
 
 // The rows that were shown of each table.
 #[derive(Drop)]
-pub struct Found {
+pub struct ShownRows {
     pub sets: Vec<Row>,
     pub replies: Vec<Row>,
     pub decks: Vec<Row>,
