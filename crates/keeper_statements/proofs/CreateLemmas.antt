@@ -266,6 +266,7 @@ creates text table making old new count never h whole =
       low = listed_low _ new.now.schema.tables last w.sound.lists.listed.tables (subst (λ (s : Schema). Has s.tables last) (sym made_is) (has_right before.tables (last ∷ []) last (inl refl)));
       empty = ap (λ (d : Database). d.trees (next_tree before)) now ∙ made.empty;
       others = subst (λ (d : Database). KeepsRows before.tables old.now.trees d.trees) (sym now) made.others;
+      sound = w.sound;
     }
 
 -- a table that is made unless it is there

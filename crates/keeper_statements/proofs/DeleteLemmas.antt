@@ -84,6 +84,7 @@ module _ (at tree : ℕ) (name : List ℕ) (columns : List Column) (key : Option
           schema = ap (λ (d : Database). d.schema) now;
           rows = at_tree tree ∙ applied.rows ∙ removed p (db tree) given.0 keyed hits;
           others = others_then schema.tables tree db written.0 new.now.trees at_tree applied.tables;
+          sound = w.sound;
         };
         found = given.0;
         is = hits;

@@ -3,12 +3,12 @@ use Rattle.std.proofs.Common.{◌≡◌, ◌++◌, ◌&&◌, ◌==◌, ℕ, true
 use Rattle.std.specs.Prelude.{flat_map, filter_map, option_and_then, option_map}
 use Rattle.std.specs.List.{AllByRecursion, cons_option, list_any}
 use Rattle.std.proofs.lemmas.Bool.{or_parts}
-use Rattle.sqlite.specs.Effect.{Database}
+use Rattle.sqlite.specs.Effect.{Database, IsDatabase}
 use Rattle.sqlite.specs.Order.{Row}
 use Rattle.sqlite.specs.Schema.{Schema}
 use Rattle.sqlite.specs.Table.{Table}
 use Rattle.sqlite.specs.Tree.{Trees}
-use Rattle.sqlite_rules.proofs.ListLemmas.{all_has, has_found, some_from}
+use Rattle.sqlite_rules.proofs.ListLemmas.{all_from, all_has, has_found, some_from}
 use Rattle.sqlite_rules.specs.Action.{Work, deed_for, loses, pairs, work_by, work_for, works}
 use Rattle.sqlite_rules.specs.Lists.{Has}
 use Rattle.sqlite_rules.specs.declared.action.Deed.{Deed}
@@ -19,6 +19,7 @@ use Rattle.sqlite_schema.specs.declared.schema.Reference.{Reference}
 use Rattle.sqlite_value.specs.declared.keys.Order.{Order}
 use Rattle.keeper_statements.specs.Found.{CanServe, IsThere, is_desk_name, placed, table_in}
 use Rattle.keeper_statements.specs.Schema.{desk_tables}
+use Rattle.keeper_statements.specs.Steps.{LeavesRest}
 use Rattle.keeper_statements.specs.Tables.{HasTable, IsKeyed, rows_at, rows_named}
 use Rattle.keeper_statements.proofs.PlaceLemmas.{has_table_in, own_tree, still_there}
 
@@ -27,6 +28,7 @@ pub record Edits (tree : ℕ) (edit : List Row → List Row) (old new : Database
   pub schema : new.schema ≡ old.schema
   pub rows : new.trees tree ≡ edit (old.trees tree)
   pub others : AllByRecursion (λ t. (t.tree ≡ tree → ⊥) → new.trees t.tree ≡ old.trees t.tree) old.schema.tables
+  pub sound : IsDatabase new
 
 -- what each table of a list keeps, seen through two further steps
 pub others_then : (tables : List Table) (tree : ℕ) (db next end : Trees) → ((t : ℕ) → end t ≡ next t) → AllByRecursion (λ t. (t.tree ≡ tree → ⊥) → next t.tree ≡ db t.tree) tables
@@ -114,6 +116,44 @@ acts_alone form schema five serves h keys olds news = none_in schema keys h.tree
         let some : is_desk_name ref.parent ≡ true = some_from (λ (f : Table). same_name f.name ref.parent) desk_tables form five named in
         let both : true ≡ false = sym some ∙ other in
         absurd cc
+
+-- an edit of one of the five leaves the rest
+pub leaves_rest : (form : Table) (edit : List Row → List Row) (old new : Database) → Has desk_tables form → CanServe old.schema → (h : IsThere form old.schema) → Edits h.tree edit old new → LeavesRest old new
+leaves_rest form edit old new five serves h edits = record {
+  schema = edits.schema;
+  others = all_from (λ (t : Table). is_desk_name t.name ≡ false → new.trees t.tree ≡ old.trees t.tree) old.schema.tables
+      (λ t has other. all_has (λ (t : Table). (t.tree ≡ h.tree → ⊥) → new.trees t.tree ≡ old.trees t.tree) old.schema.tables t edits.others has (away t has other));
+  sound = λ _. edits.sound;
+}
+  where
+    same_some : (t u : Table) → ◌≡◌ {A = Option Table} (Some t) (Some u) → t ≡ u
+    same_some t u e = cc
+
+    away : (t : Table) → Has old.schema.tables t → is_desk_name t.name ≡ false → t.tree ≡ h.tree → ⊥
+    away t has other here =
+        let own = all_has (λ (u : Table). table_in old.schema u.tree ≡ Some u) old.schema.tables t serves.apart has in
+        let same : t ≡ placed form h.tree = same_some t (placed form h.tree) (sym own ∙ ap (table_in old.schema) here ∙ own_tree form old.schema serves h) in
+        let itself : same_name form.name form.name ≡ true = (has_found (λ (u : Table). same_name u.name form.name) old.schema.tables (placed form h.tree) h.named).1 in
+        let named : same_name form.name t.name ≡ true = ap (λ (u : Table). same_name form.name u.name) same ∙ itself in
+        let some : is_desk_name t.name ≡ true = some_from (λ (f : Table). same_name f.name t.name) desk_tables form five named in
+        let both : true ≡ false = sym some ∙ other in
+        absurd cc
+
+pub rest_itself : (db : Database) → LeavesRest db db
+rest_itself db = record { schema = refl; others = all_from (λ (t : Table). is_desk_name t.name ≡ false → db.trees t.tree ≡ db.trees t.tree) db.schema.tables (λ t has other. refl); sound = λ is. is }
+
+rest_both : (tables : List Table) (a b c : Trees) → AllByRecursion (λ (t : Table). is_desk_name t.name ≡ false → b t.tree ≡ a t.tree) tables
+    → AllByRecursion (λ (t : Table). is_desk_name t.name ≡ false → c t.tree ≡ b t.tree) tables → AllByRecursion (λ (t : Table). is_desk_name t.name ≡ false → c t.tree ≡ a t.tree) tables
+rest_both [] a b c one two = tt
+rest_both (t ∷ tables) a b c one two = (λ other. two.0 other ∙ one.0 other, rest_both tables a b c one.1 two.1)
+
+pub rest_then : (a b c : Database) → LeavesRest a b → LeavesRest b c → LeavesRest a c
+rest_then a b c one two = record {
+  schema = two.schema ∙ one.schema;
+  others = rest_both a.schema.tables a.trees b.trees c.trees one.others
+      (subst (λ (s : Schema). AllByRecursion (λ (t : Table). is_desk_name t.name ≡ false → c.trees t.tree ≡ b.trees t.tree) s.tables) one.schema two.others);
+  sound = λ is. two.sound (one.sound is);
+}
 
 pub rows_of_form : (form : Table) (db : Database) (h : IsThere form db.schema) → rows_named db form.name ≡ db.trees h.tree
 rows_of_form form db h = ap (rows_at db.trees) h.named

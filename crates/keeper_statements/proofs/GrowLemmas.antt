@@ -3,7 +3,7 @@ use Rattle.std.proofs.Common.{◌≡◌, ◌<◌, ◌+◌, ◌++◌, ◌||◌, �
 use Rattle.std.specs.Prelude.{is_some}
 use Rattle.std.specs.List.{AllByRecursion, list_any, position_from}
 use Rattle.std.proofs.lemmas.Bool.{or_parts}
-use Rattle.sqlite.specs.Effect.{Database}
+use Rattle.sqlite.specs.Effect.{Database, IsDatabase}
 use Rattle.sqlite.specs.Schema.{Schema}
 use Rattle.sqlite.specs.Table.{Table}
 use Rattle.sqlite_catalog.specs.Change.{automatics, created, is_used, next_tree}
@@ -227,6 +227,7 @@ record Grown (form : Table) (old new : Database) : Type 0 where
   stays : (other : Table) → IsThere other old.schema → IsThere other new.schema
   rows : (name : List ℕ) → rows_named new name ≡ rows_named old name
   flags : (other : Table) → same_name form.name other.name ≡ false → has_table new.schema.tables other.name ≡ has_table old.schema.tables other.name
+  sound : IsDatabase old → IsDatabase new
 
 module _ (form : Table) (is : IsForm form) (old new : Database) (serves : CanServe old.schema) where
   no_table_of : has_table old.schema.tables form.name ≡ false → table_of old.schema form.name ≡ None
@@ -261,10 +262,11 @@ module _ (form : Table) (is : IsForm form) (old new : Database) (serves : CanSer
         stays = λ other h. subst (IsThere other) same (there_stays old.schema form other h);
         rows = rows_made made;
         flags = λ other differ. ap (λ (s : Schema). has_table s.tables other.name) made.schema ∙ any_past (λ (t : Table). same_name t.name other.name) old.schema.tables (placed form (next_tree old.schema)) differ;
+        sound = λ _. made.sound;
       }
 
   kept_grown : IsThere form old.schema → new ≡ old → Grown form old new
-  kept_grown there same = subst (λ db. Grown form old db) (sym same) (record { serves = serves; there = there; stays = λ other h. h; rows = λ name. refl; flags = λ other differ. refl })
+  kept_grown there same = subst (λ db. Grown form old db) (sym same) (record { serves = serves; there = there; stays = λ other h. h; rows = λ name. refl; flags = λ other differ. refl; sound = λ is. is })
 
   grown : MayBeThere form old.schema → (is_there : Bool) → has_table old.schema.tables form.name ≡ is_there → Provides is_there form old new → Grown form old new
   grown may false none made = made_grown (no_table_of none) (made.made refl serves.whole)
@@ -371,6 +373,10 @@ module _ (old new : Database) (serves : Serves old) (made : HasMade (present_in 
     floors = has_rows floors_table floors_grown.there serves.keyed.1.1.1.1.0;
     serves = floors_grown.serves;
   }
+
+  -- and the trees list the schema still
+  pub made_sound : IsDatabase old → IsDatabase new
+  made_sound is = floors_grown.sound (statuses_grown.sound (decks_grown.sound (replies_grown.sound (sets_grown.sound is))))
 
   -- and hold what they held
   pub made_same : tables_in new ≡ tables_in old

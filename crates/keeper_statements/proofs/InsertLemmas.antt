@@ -61,6 +61,7 @@ module _ (at tree : ℕ) (name : List ℕ) (columns : List Column) (key : Option
           schema = ap (λ (d : Database). d.schema) now;
           rows = at_tree tree ∙ applied.rows ∙ ap (put_all (db tree)) row;
           others = others_then schema.tables tree db written.0 new.now.trees at_tree applied.tables;
+          sound = w.sound;
         };
         free = not_true _ fresh;
       }

@@ -161,4 +161,5 @@ module _ (at tree : ℕ) (name : List ℕ) (columns : List Column) (number : Opt
         schema = ap (λ (d : Database). d.schema) now;
         rows = at_tree tree ∙ it.0;
         others = others_then schema.tables tree db one.0.trees new.now.trees at_tree it.1;
+        sound = w.sound;
       }

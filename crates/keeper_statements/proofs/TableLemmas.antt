@@ -1,12 +1,12 @@
 -- A change of one table is a change of the tables.
-use Rattle.std.proofs.Common.{◌≡◌, ◌∙◌, List, codes, refl, sym, ap, subst}
+use Rattle.std.proofs.Common.{◌≡◌, ◌∙◌, List, codes, inl, inr, refl, sym, ap, subst}
 use Rattle.sqlite.specs.Effect.{Database}
 use Rattle.sqlite.specs.Order.{Row}
 use Rattle.keeper_statements.specs.Found.{CanServe}
 use Rattle.keeper_statements.specs.Schema.{sets_table, replies_table, decks_table, statuses_table, floors_table}
 use Rattle.keeper_statements.specs.Steps.{Makes}
 use Rattle.keeper_statements.specs.Tables.{Tables, IsKeyed, IsReady, bodies, rows_named}
-use Rattle.keeper_statements.proofs.EditLemmas.{Edits, rows_edited, rows_of_form, rows_stay, table_edited, table_stays}
+use Rattle.keeper_statements.proofs.EditLemmas.{Edits, leaves_rest, rows_edited, rows_of_form, rows_stay, table_edited, table_stays}
 use Rattle.keeper_statements.proofs.PlaceLemmas.{other_tree}
 
 abbrev tables_of : List Row → List Row → List Row → List Row → List Row → Tables
@@ -28,7 +28,7 @@ makes_sets edit f old new ready edits keyed shown =
         floors = table_stays ready.sets.there.tree edit old new edits floors_table ready.floors (other_tree floors_table sets_table old.schema ready.serves ready.floors.there ready.sets.there refl);
         serves = subst CanServe (sym edits.schema) ready.serves;
       };
-      schema = edits.schema;
+      rest = leaves_rest sets_table edit old new (inl refl) ready.serves ready.sets.there edits;
       tables = same_tables (bodies (rows_named new (codes "sets"))) (bodies (rows_named new (codes "replies"))) (rows_named new (codes "decks")) (bodies (rows_named new (codes "statuses"))) (bodies (rows_named new (codes "floors")))
           (f (bodies (rows_named old (codes "sets")))) (bodies (rows_named old (codes "replies"))) (rows_named old (codes "decks")) (bodies (rows_named old (codes "statuses"))) (bodies (rows_named old (codes "floors")))
           (ap bodies (rows_edited ready.sets.there.tree edit old new edits sets_table ready.sets refl) ∙ ap (λ (l : List Row). bodies (edit l)) here ∙ shown ∙ ap (λ (l : List Row). f (bodies l)) (sym here))
@@ -51,7 +51,7 @@ makes_replies edit f old new ready edits keyed shown =
         floors = table_stays ready.replies.there.tree edit old new edits floors_table ready.floors (other_tree floors_table replies_table old.schema ready.serves ready.floors.there ready.replies.there refl);
         serves = subst CanServe (sym edits.schema) ready.serves;
       };
-      schema = edits.schema;
+      rest = leaves_rest replies_table edit old new (inr (inl refl)) ready.serves ready.replies.there edits;
       tables = same_tables (bodies (rows_named new (codes "sets"))) (bodies (rows_named new (codes "replies"))) (rows_named new (codes "decks")) (bodies (rows_named new (codes "statuses"))) (bodies (rows_named new (codes "floors")))
           (bodies (rows_named old (codes "sets"))) (f (bodies (rows_named old (codes "replies")))) (rows_named old (codes "decks")) (bodies (rows_named old (codes "statuses"))) (bodies (rows_named old (codes "floors")))
           (ap bodies (rows_stay ready.replies.there.tree edit old new edits sets_table ready.sets (other_tree sets_table replies_table old.schema ready.serves ready.sets.there ready.replies.there refl)))
@@ -74,7 +74,7 @@ makes_decks edit f old new ready edits keyed shown =
         floors = table_stays ready.decks.there.tree edit old new edits floors_table ready.floors (other_tree floors_table decks_table old.schema ready.serves ready.floors.there ready.decks.there refl);
         serves = subst CanServe (sym edits.schema) ready.serves;
       };
-      schema = edits.schema;
+      rest = leaves_rest decks_table edit old new (inr (inr (inl refl))) ready.serves ready.decks.there edits;
       tables = same_tables (bodies (rows_named new (codes "sets"))) (bodies (rows_named new (codes "replies"))) (rows_named new (codes "decks")) (bodies (rows_named new (codes "statuses"))) (bodies (rows_named new (codes "floors")))
           (bodies (rows_named old (codes "sets"))) (bodies (rows_named old (codes "replies"))) (f (rows_named old (codes "decks"))) (bodies (rows_named old (codes "statuses"))) (bodies (rows_named old (codes "floors")))
           (ap bodies (rows_stay ready.decks.there.tree edit old new edits sets_table ready.sets (other_tree sets_table decks_table old.schema ready.serves ready.sets.there ready.decks.there refl)))
@@ -97,7 +97,7 @@ makes_statuses edit f old new ready edits keyed shown =
         floors = table_stays ready.statuses.there.tree edit old new edits floors_table ready.floors (other_tree floors_table statuses_table old.schema ready.serves ready.floors.there ready.statuses.there refl);
         serves = subst CanServe (sym edits.schema) ready.serves;
       };
-      schema = edits.schema;
+      rest = leaves_rest statuses_table edit old new (inr (inr (inr (inl refl)))) ready.serves ready.statuses.there edits;
       tables = same_tables (bodies (rows_named new (codes "sets"))) (bodies (rows_named new (codes "replies"))) (rows_named new (codes "decks")) (bodies (rows_named new (codes "statuses"))) (bodies (rows_named new (codes "floors")))
           (bodies (rows_named old (codes "sets"))) (bodies (rows_named old (codes "replies"))) (rows_named old (codes "decks")) (f (bodies (rows_named old (codes "statuses")))) (bodies (rows_named old (codes "floors")))
           (ap bodies (rows_stay ready.statuses.there.tree edit old new edits sets_table ready.sets (other_tree sets_table statuses_table old.schema ready.serves ready.sets.there ready.statuses.there refl)))
@@ -120,7 +120,7 @@ makes_floors edit f old new ready edits keyed shown =
         floors = table_edited ready.floors.there.tree edit old new edits floors_table ready.floors refl keyed;
         serves = subst CanServe (sym edits.schema) ready.serves;
       };
-      schema = edits.schema;
+      rest = leaves_rest floors_table edit old new (inr (inr (inr (inr (inl refl))))) ready.serves ready.floors.there edits;
       tables = same_tables (bodies (rows_named new (codes "sets"))) (bodies (rows_named new (codes "replies"))) (rows_named new (codes "decks")) (bodies (rows_named new (codes "statuses"))) (bodies (rows_named new (codes "floors")))
           (bodies (rows_named old (codes "sets"))) (bodies (rows_named old (codes "replies"))) (rows_named old (codes "decks")) (bodies (rows_named old (codes "statuses"))) (f (bodies (rows_named old (codes "floors"))))
           (ap bodies (rows_stay ready.floors.there.tree edit old new edits sets_table ready.sets (other_tree sets_table floors_table old.schema ready.serves ready.sets.there ready.floors.there refl)))

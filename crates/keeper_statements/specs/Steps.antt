@@ -1,19 +1,27 @@
 -- What a statement does inside a transaction.
 use Rattle.std.specs.Prelude.{◌≡◌, ◌<◌, ℕ, Bool, true, false, List, [], Result, Ok, OnOk, IsTrue}
+use Rattle.std.specs.List.{AllByRecursion}
 use Rattle.sqlite.specs.Does.{lacks_sequence}
-use Rattle.sqlite.specs.Effect.{Database}
+use Rattle.sqlite.specs.Effect.{Database, IsDatabase}
 use Rattle.sqlite.specs.State.{State, Executes, HasCleanDisk}
 use Rattle.sqlite.specs.declared.error.Error.{Error}
 use Rattle.sqlite.specs.Table.{Table}
 use Rattle.sqlite_catalog.specs.Change.{KeepsRows, created, next_tree}
+use Rattle.keeper_statements.specs.Found.{is_desk_name}
 use Rattle.keeper_statements.specs.Schema.{sets_table, replies_table, decks_table, statuses_table, floors_table}
 use Rattle.keeper_statements.specs.Tables.{Tables, IsReady, tables_in}
 use Rattle.keeper_statements.specs.declared.present.Present.{Present}
 
--- the statement made this change of the five tables, and the schema stayed
+-- the schema stayed, and the rows of each table that is none of the five; and the trees still list the schema and obey it
+pub record LeavesRest (old new : Database) : Type 0 where
+  pub schema : new.schema ≡ old.schema
+  pub others : AllByRecursion (λ t. is_desk_name t.name ≡ false → new.trees t.tree ≡ old.trees t.tree) old.schema.tables
+  pub sound : IsDatabase old → IsDatabase new
+
+-- the statement made this change of the five tables and no other
 pub record Makes (change : Tables → Tables) (old new : Database) : Type 0 where
   pub ready : IsReady new
-  pub schema : new.schema ≡ old.schema
+  pub rest : LeavesRest old new
   pub tables : tables_in new ≡ change (tables_in old)
 
 -- while the disk is clean, a statement that is not refused makes this change
@@ -30,12 +38,13 @@ pub record StaysInside {X : Type 0} (old new : State) (result : Result X Error) 
 abbrev pub MayStay : {X : Type 0} → State → State → Result X Error → Type 0
 MayStay old new result = HasCleanDisk new → IsTrue old.in_transaction → StaysInside old new result
 
--- a table was made behind those that were there, without rows; these stay with their rows
+-- a table was made behind those that were there, without rows; these stay with their rows, and the trees list the schema
 pub record HasMadeTable (table : Table) (old new : Database) : Type 0 where
   pub schema : new.schema ≡ created old.schema table
   pub low : next_tree old.schema < 65536
   pub empty : new.trees (next_tree old.schema) ≡ []
   pub others : KeepsRows old.schema.tables old.trees new.trees
+  pub sound : IsDatabase new
 
 -- the same where no table of SQLite's own is made besides, as the first table with AUTOINCREMENT asks
 abbrev pub MakesTable : Table → Database → Database → Type 0

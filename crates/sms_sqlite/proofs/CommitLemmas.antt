@@ -1,6 +1,6 @@
 -- A transaction from its beginning to its end.
 use Rattle.std.proofs.Common.{◌≡◌, false, [], Ok, Err, Result, OnOk, OnErr, Some, IsTrue, inl, inr, refl, sym, ap, subst, ◌∙◌}
-use Rattle.sqlite.specs.Effect.{Database}
+use Rattle.sqlite.specs.Effect.{Database, IsDatabase}
 use Rattle.sqlite.specs.Schema.{Schema}
 use Rattle.sqlite.specs.State.{State, Shows, KeepsCounts, Survives}
 use Rattle.sqlite.specs.Tree.{Trees}
@@ -8,7 +8,8 @@ use Rattle.sqlite.specs.declared.error.Error.{Error}
 use Rattle.sms_keeper.specs.Tables.{with_change, keep_row, row_of}
 use Rattle.sms_keeper.specs.declared.change.Change.{Change}
 use Rattle.sms_keeper.specs.declared.rows.Rows.{Rows}
-use Rattle.keeper_statements.proofs.GrowLemmas.{made_ready, made_same}
+use Rattle.keeper_statements.proofs.EditLemmas.{rest_itself, rest_then}
+use Rattle.keeper_statements.proofs.GrowLemmas.{made_ready, made_same, made_sound}
 use Rattle.sms_sqlite.specs.Reading.{IsMadeReady}
 use Rattle.sms_sqlite.specs.Told.{tables_of}
 use Rattle.sms_sqlite.specs.Values.{rows_in, rows_of}
@@ -17,14 +18,20 @@ use Rattle.sms_sqlite.proofs.TablesLemmas.{alike_self, alike_then}
 use Rattle.sms_sqlite.proofs.ToldLemmas.{alike_same, reads_of, same_self_rows}
 
 -- the last state of the transaction is the committed one
-pub commit_made : (schema : Schema) (last end : State) (rows : Rows) (done : Result (Unit {0}) Error) → HoldsLike schema last.now rows
-    → OnOk done (IsTrue last.in_transaction × Shows last end last.now last.now false × KeepsCounts last end × (end.marks ≡ [])) → OnOk done (IsCommitted end rows)
-commit_made schema last end rows (Ok x) holds shown = record {
-  holds = subst (λ (db : Database). HoldsLike db.schema db rows) (sym shown.1.now_is) (record { listed = refl; found = holds.found; holds = holds.holds; alike = holds.alike });
+pub commit_made : (old : Database) (last end : State) (rows : Rows) (done : Result (Unit {0}) Error) → HoldsLike old last.now rows
+    → OnOk done (IsTrue last.in_transaction × Shows last end last.now last.now false × KeepsCounts last end × (end.marks ≡ [])) → OnOk done (IsCommitted old end rows)
+commit_made old last end rows (Ok x) holds shown = record {
+  holds = subst (λ (db : Database). HoldsLike old db rows) (sym shown.1.now_is) holds;
   committed = shown.1.committed_is ∙ sym shown.1.now_is;
   is_open = shown.1.is_open;
 }
-commit_made schema last end rows (Err e) holds shown = tt
+commit_made old last end rows (Err e) holds shown = tt
+
+-- so they are beside what the last state held
+pub commit_kept : (last end : State) (rows : Rows) (done : Result (Unit {0}) Error) → HoldsLike last.now last.now rows
+    → OnOk done (IsTrue last.in_transaction × Shows last end last.now last.now false × KeepsCounts last end × (end.marks ≡ [])) → OnOk done (IsCommitted end.now end rows)
+commit_kept last end rows (Ok x) holds shown = subst (λ (db : Database). IsCommitted db end rows) (sym shown.1.now_is) (commit_made last.now last end rows (Ok x) holds shown)
+commit_kept last end rows (Err e) holds shown = tt
 
 -- the tables made in the last state are committed
 pub made_committed : (old : Database) (last end : State) (done : Result (Unit {0}) Error) → IsMadeReady old last.now
@@ -47,11 +54,12 @@ refused_by old new (Ok x) now committed = tt
 refused_by old new (Err e) now committed = record { now = now; committed = committed }
 
 -- what the last state holds is what a stop in the commit may leave
-pub last_rows : (old : Database) (last : State) (rows : Rows) (db : Trees) → HoldsLike old.schema last.now rows → db ≡ last.now.trees → HasRows (with_trees old db) rows
+pub last_rows : (old : Database) (last : State) (rows : Rows) (db : Trees) → HoldsLike old last.now rows → db ≡ last.now.trees → HasRows old (with_trees old db) rows
 last_rows old last rows db holds is = record {
   found = holds.found;
-  read = (λ i. rows_in (record { schema = sym holds.listed i; trees = is i })) ∙ holds.holds.read;
+  read = (λ i. rows_in (record { schema = sym holds.rest.schema i; trees = is i })) ∙ holds.holds.read;
   same = alike_same holds.found rows holds.alike;
+  sound = λ sound. subst IsDatabase (λ i. let db : Database = record { schema = holds.rest.schema i; trees = sym is i } in db) (holds.rest.sound sound);
 }
 
 -- the row of a reply is added to alike rows alike
@@ -65,18 +73,18 @@ row_alike change a b p = record {
 }
 
 -- the effect, and then the row
-pub both_made : (change : Change) (schema : Schema) (mid new : Database) (rows : Rows) → HoldsLike schema mid (with_effect change rows) → ((found : Rows) → Holds mid found → HoldsLike mid.schema new (with_row change found))
-    → HoldsLike schema new (with_change rows change)
-both_made change schema mid new rows first second =
+pub both_made : (change : Change) (old mid new : Database) (rows : Rows) → HoldsLike old mid (with_effect change rows) → ((found : Rows) → Holds mid found → HoldsLike mid new (with_row change found))
+    → HoldsLike old new (with_change rows change)
+both_made change old mid new rows first second =
     let next = second first.found first.holds in
-    record { listed = next.listed ∙ first.listed; found = next.found; holds = next.holds; alike = alike_then _ _ _ next.alike (row_alike change first.found (with_effect change rows) first.alike) }
+    record { rest = rest_then old mid new first.rest next.rest; found = next.found; holds = next.holds; alike = alike_then _ _ _ next.alike (row_alike change first.found (with_effect change rows) first.alike) }
 
 -- the tables that weren't there were made: what was told stands
-pub ready_like : (old new : Database) (rows : Rows) → IsMadeReady old new → tables_of old ≡ Some rows → HoldsLike new.schema new rows
+pub ready_like : (old new : Database) (rows : Rows) → IsMadeReady old new → tables_of old ≡ Some rows → HoldsLike new new rows
 ready_like old new rows made told =
     let it = reads_of old rows told in
     record {
-      listed = refl;
+      rest = rest_itself new;
       found = rows;
       holds = record { ready = made_ready old new it.serves made; read = ap rows_of (made_same old new it.serves made) ∙ it.read };
       alike = alike_self rows;
@@ -89,7 +97,7 @@ ready_left old new db made is = record {
   made = subst (λ (t : Trees). IsMadeReady old (with_trees new t)) (sym is) made;
   rows = λ rows told.
       let it = reads_of old rows told in
-      record { found = rows; read = ap (λ (t : Trees). rows_in (with_trees new t)) is ∙ ap rows_of (made_same old new it.serves made) ∙ it.read; same = same_self_rows rows };
+      record { found = rows; read = ap (λ (t : Trees). rows_in (with_trees new t)) is ∙ ap rows_of (made_same old new it.serves made) ∙ it.read; same = same_self_rows rows; sound = λ sound. subst (λ (t : Trees). IsDatabase (with_trees new t)) (sym is) (made_sound old new it.serves made sound) };
 }
 
 pub survives_weaker : (old new : State) (P Q : Trees → Type 0) → ((db : Trees) → P db → Q db) → Survives old new P → Survives old new Q

@@ -12,7 +12,8 @@ use Rattle.sms_keeper.specs.declared.effect.Effect.{Effect}
 use Rattle.sms_keeper.specs.declared.effect.Effect.TheVariants as effects
 use Rattle.sms_keeper.specs.declared.rows.Rows.{Rows}
 use Rattle.sms_keeper.specs.declared.status_row.StatusRow.{StatusRow}
-use Rattle.keeper_statements.specs.Steps.{StaysInside, Makes}
+use Rattle.keeper_statements.specs.Steps.{LeavesRest, StaysInside, Makes}
+use Rattle.keeper_statements.proofs.EditLemmas.{rest_itself, rest_then}
 use Rattle.keeper_statements.specs.Tables.{Tables, tables_in}
 use Rattle.keeper_statements.specs.Tests.{is_above}
 use Rattle.sms_sqlite.specs.Writing.{Holds, HoldsLike, AreAlike, MayLead, with_effect, with_row}
@@ -37,10 +38,27 @@ pub survives_itself : (s : State) → Survives s s (λ _. ⊥)
 survives_itself s = record { clean = omega arith; shield = λ h. h; counts = omega arith; limit = refl; closes = λ clean h. inl h; crash = λ clean db h. inl h }
 
 pub makes_then : (f h : Tables → Tables) (a b c : Database) → Makes f a b → Makes h b c → Makes (λ t. h (f t)) a c
-makes_then f h a b c one two = record { ready = two.ready; schema = two.schema ∙ one.schema; tables = two.tables ∙ ap h one.tables }
+makes_then f h a b c one two = record { ready = two.ready; rest = rest_then a b c one.rest two.rest; tables = two.tables ∙ ap h one.tables }
 
-pub holds_self : (db : Database) (rows : Rows) → Holds db rows → HoldsLike db.schema db rows
-holds_self db rows holds = record { listed = refl; found = rows; holds = holds; alike = alike_self rows }
+pub holds_self : (db : Database) (rows : Rows) → Holds db rows → HoldsLike db db rows
+holds_self db rows holds = record { rest = rest_itself db; found = rows; holds = holds; alike = alike_self rows }
+
+-- an effect that is nothing leads to the same rows
+pub nothing_leads : (change : Change) (db : Database) (rows : Rows) → change.effect ≡ effects.Nothing → Holds db rows → HoldsLike db db (with_effect change rows)
+nothing_leads change db rows is holds = subst (HoldsLike db db) same (holds_self db rows holds)
+  where
+    same : rows ≡ with_effect change rows
+    same =
+        ap (λ (decks : List DeckRow). let r : Rows = record rows { decks = decks } in r) (sym (append-nil rows.decks))
+        ∙ ap
+        (λ (effect : Effect).
+        let r : Rows = record {
+          sets = sets_with effect rows.sets;
+          replies = replies_left effect rows.replies;
+          decks = rows.decks ++ decks_added change.request.op effect;
+          statuses = statuses_with effect rows.statuses;
+          floors = floors_with effect rows.floors;
+        } in r) (sym is)
 
 -- whether a row is kept, as the search for a higher floor tells
 
@@ -56,23 +74,23 @@ above_is change old rows job number b above p q answer is holds =
     ∙ sym (ap₂ (λ j n. list_any (is_above j n) (tables_in old).floors) p q) ∙ sym answer ∙ is
 
 pub not_kept : (change : Change) (old new : Database) (rows : Rows) (job : List ℕ) (number : ℤ) (above : Bool) → job ≡ change.request.job → number ≡ pos change.request.number
-    → above ≡ list_any (is_above job number) (tables_in old).floors → above ≡ true → new ≡ old → Holds old rows → HoldsLike old.schema new (with_row change rows)
+    → above ≡ list_any (is_above job number) (tables_in old).floors → above ≡ true → new ≡ old → Holds old rows → HoldsLike old new (with_row change rows)
 not_kept change old new rows job number above p q answer is same holds =
-    subst (HoldsLike old.schema new) (sym (kept_as change rows true (above_is change old rows job number true above p q answer is holds)))
-    (subst (λ db. HoldsLike old.schema db rows) (sym same) (holds_self old rows holds))
+    subst (HoldsLike old new) (sym (kept_as change rows true (above_is change old rows job number true above p q answer is holds)))
+    (subst (λ db. HoldsLike old db rows) (sym same) (holds_self old rows holds))
 
 pub is_kept : (change : Change) (old mid new : Database) (rows : Rows) (job : List ℕ) (number : ℤ) (above : Bool) → job ≡ change.request.job → number ≡ pos change.request.number
     → above ≡ list_any (is_above job number) (tables_in old).floors → above ≡ false → Holds old rows → mid ≡ old
-    → HoldsLike mid.schema new (record rows { replies = rows.replies ++ row_of change ∷ [] }) → HoldsLike old.schema new (with_row change rows)
+    → HoldsLike mid new (record rows { replies = rows.replies ++ row_of change ∷ [] }) → HoldsLike old new (with_row change rows)
 is_kept change old mid new rows job number above p q answer is holds same added =
-    subst (HoldsLike old.schema new) (sym (kept_as change rows false (above_is change old rows job number false above p q answer is holds)))
-    (subst (λ (db : Database). HoldsLike db.schema new (record rows { replies = rows.replies ++ row_of change ∷ [] })) same added)
+    subst (HoldsLike old new) (sym (kept_as change rows false (above_is change old rows job number false above p q answer is holds)))
+    (subst (λ (db : Database). HoldsLike db new (record rows { replies = rows.replies ++ row_of change ∷ [] })) same added)
 
 -- statuses replaced, and then a deck added
-pub deck_behind : (schema : Schema) (mid new : Database) (rows : Rows) (statuses : List StatusRow) (deck : DeckRow) (found : Rows) → mid.schema ≡ schema → AreAlike found (record rows { statuses = statuses })
-    → HoldsLike mid.schema new (record found { decks = found.decks ++ deck ∷ [] }) → HoldsLike schema new (record rows { decks = rows.decks ++ deck ∷ []; statuses = statuses })
-deck_behind schema mid new rows statuses deck found stays alike next = record {
-  listed = next.listed ∙ stays;
+pub deck_behind : (old mid new : Database) (rows : Rows) (statuses : List StatusRow) (deck : DeckRow) (found : Rows) → LeavesRest old mid → AreAlike found (record rows { statuses = statuses })
+    → HoldsLike mid new (record found { decks = found.decks ++ deck ∷ [] }) → HoldsLike old new (record rows { decks = rows.decks ++ deck ∷ []; statuses = statuses })
+deck_behind old mid new rows statuses deck found stays alike next = record {
+  rest = rest_then old mid new stays next.rest;
   found = next.found;
   holds = next.holds;
   alike = alike_then _ _ _ next.alike (record {
@@ -106,4 +124,4 @@ raised_is change job floor rows is =
 pub floor_leads : {X : Type 0} (change : Change) (job : List ℕ) (floor : ℕ) (old new : State) (r : Result X Error) → change.effect ≡ effects.Floor job floor
     → MayLead (raised job floor) old new r → MayLead (with_effect change) old new r
 floor_leads change job floor old new r is leads clean inside rows holds =
-    subst (λ (after : Rows). OnOk r (HoldsLike old.now.schema new.now after)) (raised_is change job floor rows is) (leads clean inside rows holds)
+    subst (λ (after : Rows). OnOk r (HoldsLike old.now new.now after)) (raised_is change job floor rows is) (leads clean inside rows holds)

@@ -8,6 +8,7 @@ use Rattle.sqlite.specs.Effect.{Database}
 use Rattle.sqlite.specs.Order.{Row}
 use Rattle.keeper_statements.specs.Changes.{with_status}
 use Rattle.keeper_statements.specs.Steps.{Makes}
+use Rattle.keeper_statements.proofs.EditLemmas.{rest_itself, rest_then}
 use Rattle.keeper_statements.specs.Tables.{Tables, IsReady, tables_in}
 use Rattle.sms_construct.specs.declared.status.Status.{Status}
 use Rattle.sms_construct.specs.declared.status.Status.TheVariants as statuses
@@ -146,7 +147,7 @@ module _ (target : Target) (status : Status) where
 -- statuses added one by one
 
 pub none_added : (db : Database) → IsReady db → Makes (with_statuses []) db db
-none_added db ready = record { ready = ready; schema = refl; tables = ap (λ (l : List Row). let t : Tables = record (tables_in db) { statuses = l } in t) (sym (append-nil (tables_in db).statuses)) }
+none_added db ready = record { ready = ready; rest = rest_itself db; tables = ap (λ (l : List Row). let t : Tables = record (tables_in db) { statuses = l } in t) (sym (append-nil (tables_in db).statuses)) }
 
 readable_push : (rows : List StatusRow) (row : StatusRow) → AreReadable rows → target_of (kind_column row.target) (name_column row.target) ≡ Some row.target → AreReadable (rows ++ row ∷ [])
 readable_push [] row all one = (one, tt)
@@ -163,7 +164,7 @@ pub one_added : (rows : List StatusRow) (i : ℕ) (row : StatusRow) (a b c : Dat
     → Makes (with_status (pos (kind_column row.target)) (name_column row.target) (pos (status_column row.status))) b c → Makes (with_statuses (take (i + 1) rows)) a c
 one_added rows i row a b c low is one two = record {
   ready = two.ready;
-  schema = two.schema ∙ one.schema;
+  rest = rest_then a b c one.rest two.rest;
   tables = two.tables ∙ ap (with_status (pos (kind_column row.target)) (name_column row.target) (pos (status_column row.status))) one.tables
       ∙ ap (λ (l : List Row). let t : Tables = record (tables_in a) { statuses = l } in t)
       (append_assoc (tables_in a).statuses (map row_of_status (take i rows)) (row_of_status row ∷ [])

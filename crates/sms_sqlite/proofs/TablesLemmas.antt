@@ -51,11 +51,11 @@ pub record AreLike (t : Tables) (rows : Rows) : Type 0 where
 
 -- a change of the tables that reads as a change of the rows
 pub makes_like : (change : Tables → Tables) (old new : Database) (before after : Rows) → Makes change old new → Holds old before → (AreRead (tables_in old) before → AreLike (change (tables_in old)) after)
-    → HoldsLike old.schema new after
+    → HoldsLike old new after
 makes_like change old new before after makes holds f =
     let it = f (are_read (tables_in old) before holds.read) in
     record {
-      listed = makes.schema;
+      rest = makes.rest;
       found = it.found;
       holds = record { ready = makes.ready; read = ap rows_of makes.tables ∙ reads_as (change (tables_in old)) it.found it.read };
       alike = it.alike;

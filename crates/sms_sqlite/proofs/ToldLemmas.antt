@@ -3,7 +3,7 @@ use Rattle.std.proofs.Common.{◌≡◌, ◌≤◌, ◌&&◌, inl, inr, not, nat
 use Rattle.std.specs.Coded.{Coded, coded×, coded_list, coded_option, coded_ℕ}
 use Rattle.std.specs.Prelude.{IfSome, is_some}
 use Rattle.std.specs.List.{AllByRecursion, list_all}
-use Rattle.sqlite.specs.Effect.{Database}
+use Rattle.sqlite.specs.Effect.{Database, IsDatabase}
 use Rattle.sqlite.specs.Order.{Row}
 use Rattle.sqlite.specs.Schema.{Schema}
 use Rattle.sqlite.specs.State.{State, HasCleanDisk}
@@ -192,7 +192,7 @@ on_told base new P f = by (is_shown new && can_tell base) refl
 module _ (base : Database) (old new : State) (readable : IsReadable base old) (clean : doubt old.is_clean ≤ doubt new.is_clean)
     (opened : HasCleanDisk new → IsTrue new.is_open → IsTrue old.is_open) where
   -- the new rows, where the transaction was committed
-  committed_rows : (f : Rows → Rows) → (HasCleanDisk new → (rows : Rows) → tables_of old.now ≡ Some rows → IsCommitted new (f rows)) → IsTrue (is_shown new) → IsTrue (can_tell base)
+  committed_rows : {from : Database} (f : Rows → Rows) → (HasCleanDisk new → (rows : Rows) → tables_of old.now ≡ Some rows → IsCommitted from new (f rows)) → IsTrue (is_shown new) → IsTrue (can_tell base)
       → (before : Rows) × (after : Rows) × (told_of base old ≡ Some before) × (tables_of new.now ≡ Some after) × AreSame after (f before)
   committed_rows f made shown was_told =
       let was = shown_before old new clean opened shown in
@@ -200,11 +200,11 @@ module _ (base : Database) (old new : State) (readable : IsReadable base old) (c
       let done = made was.1 it.0 it.1 in
       (it.0, done.holds.found, it.2, tables_of_holds new.now done.holds.found done.holds.holds, alike_same _ _ done.holds.alike)
 
-  pub told_ok : (f : Rows → Rows) → (HasCleanDisk new → (rows : Rows) → tables_of old.now ≡ Some rows → IsCommitted new (f rows))
+  pub told_ok : {from : Database} (f : Rows → Rows) → (HasCleanDisk new → (rows : Rows) → tables_of old.now ≡ Some rows → IsCommitted from new (f rows))
       → IfSome (told_of base new) (λ rows. (o : Rows) × (told_of base old ≡ Some o) × AreSame rows (f o))
   told_ok f made = on_told base new _ (λ shown was_told. let it = committed_rows f made shown was_told in (it.1, it.3, (it.0, it.2, it.4)))
 
-  pub readable_ok : (f : Rows → Rows) → (HasCleanDisk new → (rows : Rows) → tables_of old.now ≡ Some rows → IsCommitted new (f rows)) → IsReadable base new
+  pub readable_ok : {from : Database} (f : Rows → Rows) → (HasCleanDisk new → (rows : Rows) → tables_of old.now ≡ Some rows → IsCommitted from new (f rows)) → IsReadable base new
   readable_ok f made shown was_told = let it = committed_rows f made shown was_told in some_there (tables_of new.now) it.1 it.3
 
   pub told_err : (HasCleanDisk new → IsTrue new.is_open → new.now ≡ old.now) → Stays (told_of base old) (told_of base new)
@@ -220,8 +220,8 @@ module _ (base : Database) (old new : State) (readable : IsReadable base old) (c
       some_there (tables_of new.now) it.0 (ap tables_of (kept was.1 was.2) ∙ it.1)
 
   -- while the store is open, a stop leaves the last commit alone
-  pub told_alone : (f : Rows → Rows) → (HasCleanDisk new → (rows : Rows) → tables_of old.now ≡ Some rows → IsCommitted new (f rows))
-      → (IsTrue new.is_open → (db : Trees) → new.may_leave db → db ≡ new.committed.trees) → IfSome (told_of base new) (λ rows. (db : Trees) → new.may_leave db → HasRows (with_trees new.now db) rows)
+  pub told_alone : {from : Database} (f : Rows → Rows) → (HasCleanDisk new → (rows : Rows) → tables_of old.now ≡ Some rows → IsCommitted from new (f rows))
+      → (IsTrue new.is_open → (db : Trees) → new.may_leave db → db ≡ new.committed.trees) → IfSome (told_of base new) (λ rows. (db : Trees) → new.may_leave db → HasRows new.now (with_trees new.now db) rows)
   told_alone f made settled = on_told base new _ (λ shown was_told.
       let was = shown_before old new clean opened shown in
       let it = told_before base old readable was.0 was_told in
@@ -233,39 +233,40 @@ module _ (base : Database) (old new : State) (readable : IsReadable base old) (c
           found = found;
           read = ap (λ (t : Trees). rows_in (with_trees new.now t)) (settled was.2 db left ∙ ap (λ (d : Database). d.trees) done.committed) ∙ done.holds.holds.read;
           same = same_self_rows found;
+          sound = subst (λ (t : Trees). IsDatabase new.now → IsDatabase (with_trees new.now t)) (sym (settled was.2 db left ∙ ap (λ (d : Database). d.trees) done.committed)) (λ is. is);
         },
       ))
 
 -- by the answer
-pub applied_by : {X : Type 0} (base : Database) (old new : State) (change : Change) (r : Result X Error) → IsReadable base old → doubt old.is_clean ≤ doubt new.is_clean
+pub applied_by : {X : Type 0} (from : Database) (base : Database) (old new : State) (change : Change) (r : Result X Error) → IsReadable base old → doubt old.is_clean ≤ doubt new.is_clean
     → (HasCleanDisk new → IsTrue new.is_open → IsTrue old.is_open)
-    → (HasCleanDisk new → (rows : Rows) → tables_of old.now ≡ Some rows → OnOk r (IsCommitted new (with_change rows change))) → OnOk r (Applies change (told_of base old) (told_of base new))
-applied_by base old new change (Ok x) readable clean opened made = told_ok base old new readable clean opened (λ rows. with_change rows change) made
-applied_by base old new change (Err e) readable clean opened made = tt
+    → (HasCleanDisk new → (rows : Rows) → tables_of old.now ≡ Some rows → OnOk r (IsCommitted from new (with_change rows change))) → OnOk r (Applies change (told_of base old) (told_of base new))
+applied_by from base old new change (Ok x) readable clean opened made = told_ok base old new readable clean opened (λ rows. with_change rows change) made
+applied_by from base old new change (Err e) readable clean opened made = tt
 
 pub stays_by : {X : Type 0} (base : Database) (old new : State) (r : Result X Error) → IsReadable base old → doubt old.is_clean ≤ doubt new.is_clean
     → (HasCleanDisk new → IsTrue new.is_open → IsTrue old.is_open) → (HasCleanDisk new → IsTrue new.is_open → OnErr r (new.now ≡ old.now)) → OnErr r (Stays (told_of base old) (told_of base new))
 stays_by base old new (Ok x) readable clean opened kept = tt
 stays_by base old new (Err e) readable clean opened kept = told_err base old new readable clean opened kept
 
-pub readable_by : {X : Type 0} (base : Database) (old new : State) (f : Rows → Rows) (r : Result X Error) → IsReadable base old → doubt old.is_clean ≤ doubt new.is_clean
+pub readable_by : {X : Type 0} (from : Database) (base : Database) (old new : State) (f : Rows → Rows) (r : Result X Error) → IsReadable base old → doubt old.is_clean ≤ doubt new.is_clean
     → (HasCleanDisk new → IsTrue new.is_open → IsTrue old.is_open)
-    → (HasCleanDisk new → (rows : Rows) → tables_of old.now ≡ Some rows → OnOk r (IsCommitted new (f rows)))
+    → (HasCleanDisk new → (rows : Rows) → tables_of old.now ≡ Some rows → OnOk r (IsCommitted from new (f rows)))
     → (HasCleanDisk new → IsTrue new.is_open → OnErr r (new.now ≡ old.now)) → IsReadable base new
-readable_by base old new f (Ok x) readable clean opened made kept = readable_ok base old new readable clean opened f made
-readable_by base old new f (Err e) readable clean opened made kept = readable_err base old new readable clean opened kept
+readable_by from base old new f (Ok x) readable clean opened made kept = readable_ok base old new readable clean opened f made
+readable_by from base old new f (Err e) readable clean opened made kept = readable_err base old new readable clean opened kept
 
-pub alone_by : {X : Type 0} (base : Database) (old new : State) (f : Rows → Rows) (r : Result X Error) → IsReadable base old → doubt old.is_clean ≤ doubt new.is_clean
+pub alone_by : {X : Type 0} (from : Database) (base : Database) (old new : State) (f : Rows → Rows) (r : Result X Error) → IsReadable base old → doubt old.is_clean ≤ doubt new.is_clean
     → (HasCleanDisk new → IsTrue new.is_open → IsTrue old.is_open)
-    → (HasCleanDisk new → (rows : Rows) → tables_of old.now ≡ Some rows → OnOk r (IsCommitted new (f rows)))
-    → (IsTrue new.is_open → (db : Trees) → new.may_leave db → db ≡ new.committed.trees) → OnOk r (IfSome (told_of base new) (λ rows. (db : Trees) → new.may_leave db → HasRows (with_trees new.now db) rows))
-alone_by base old new f (Ok x) readable clean opened made settled = told_alone base old new readable clean opened f made settled
-alone_by base old new f (Err e) readable clean opened made settled = tt
+    → (HasCleanDisk new → (rows : Rows) → tables_of old.now ≡ Some rows → OnOk r (IsCommitted from new (f rows)))
+    → (IsTrue new.is_open → (db : Trees) → new.may_leave db → db ≡ new.committed.trees) → OnOk r (IfSome (told_of base new) (λ rows. (db : Trees) → new.may_leave db → HasRows new.now (with_trees new.now db) rows))
+alone_by from base old new f (Ok x) readable clean opened made settled = told_alone base old new readable clean opened f made settled
+alone_by from base old new f (Err e) readable clean opened made settled = tt
 
 -- the making of the tables leaves what is told
-pub made_stays : {X : Type 0} (base : Database) (old new : State) (r : Result X Error) → IsReadable base old → doubt old.is_clean ≤ doubt new.is_clean
+pub made_stays : {X : Type 0} (from : Database) (base : Database) (old new : State) (r : Result X Error) → IsReadable base old → doubt old.is_clean ≤ doubt new.is_clean
     → (HasCleanDisk new → IsTrue new.is_open → IsTrue old.is_open)
-    → (HasCleanDisk new → (rows : Rows) → tables_of old.now ≡ Some rows → OnOk r (IsCommitted new rows))
+    → (HasCleanDisk new → (rows : Rows) → tables_of old.now ≡ Some rows → OnOk r (IsCommitted from new rows))
     → (HasCleanDisk new → IsTrue new.is_open → OnErr r (new.now ≡ old.now)) → Stays (told_of base old) (told_of base new)
-made_stays base old new (Ok x) readable clean opened made kept = told_ok base old new readable clean opened (λ rows. rows) made
-made_stays base old new (Err e) readable clean opened made kept = told_err base old new readable clean opened kept
+made_stays from base old new (Ok x) readable clean opened made kept = told_ok base old new readable clean opened (λ rows. rows) made
+made_stays from base old new (Err e) readable clean opened made kept = told_err base old new readable clean opened kept

@@ -1,6 +1,6 @@
 -- What a change does to the rows of a database.
 use Rattle.std.specs.Prelude.{◌≡◌, ◌++◌, ℕ, Some, Result, OnOk, OnErr, IsTrue, filter}
-use Rattle.sqlite.specs.Effect.{Database}
+use Rattle.sqlite.specs.Effect.{Database, IsDatabase}
 use Rattle.sqlite.specs.Schema.{Schema}
 use Rattle.sqlite.specs.State.{State, HasCleanDisk}
 use Rattle.sqlite.specs.declared.error.Error.{Error}
@@ -9,6 +9,7 @@ use Rattle.sms_keeper.specs.Tables.{AreSame, sets_with, floors_with, replies_lef
 use Rattle.sms_keeper.specs.declared.change.Change.{Change}
 use Rattle.sms_keeper.specs.declared.rows.Rows.{Rows}
 use Rattle.sms_construct.specs.declared.target.Target.{Target}
+use Rattle.keeper_statements.specs.Steps.{LeavesRest}
 use Rattle.keeper_statements.specs.Tables.{IsReady}
 use Rattle.sms_sqlite.specs.Reading.{IsMadeReady}
 use Rattle.sms_sqlite.specs.Told.{tables_of}
@@ -27,18 +28,19 @@ pub record AreAlike (a b : Rows) : Type 0 where
   pub statuses : (target : Target) → filter (is_status_of target) a.statuses ≡ filter (is_status_of target) b.statuses
   pub floors : a.floors ≡ b.floors
 
--- the database has this schema, and holds rows like these
-pub record HoldsLike (schema : Schema) (db : Database) (rows : Rows) : Type 0 where
-  pub listed : db.schema ≡ schema
+-- the database holds rows like these, and beside them what the old one held
+pub record HoldsLike (old db : Database) (rows : Rows) : Type 0 where
+  pub rest : LeavesRest old db
   pub found : Rows
   pub holds : Holds db found
   pub alike : AreAlike found rows
 
--- the database has these rows, in any order of the keys
-pub record HasRows (db : Database) (rows : Rows) : Type 0 where
+-- the database has these rows, in any order of the keys; and its trees list its schema and obey it, where those of the old one did
+pub record HasRows (old db : Database) (rows : Rows) : Type 0 where
   pub found : Rows
   pub read : rows_in db ≡ Some found
   pub same : AreSame found rows
+  pub sound : IsDatabase old → IsDatabase db
 
 -- the database with other trees under its schema
 abbrev pub with_trees : Database → Trees → Database
@@ -48,11 +50,11 @@ with_trees db trees = record { schema = db.schema; trees = trees }
 pub record IsMadeLeft (old : Database) (trees : Trees) : Type 0 where
   pub schema : Schema
   pub made : IsMadeReady old (record { schema = schema; trees = trees })
-  pub rows : (rows : Rows) → tables_of old ≡ Some rows → HasRows (record { schema = schema; trees = trees }) rows
+  pub rows : (rows : Rows) → tables_of old ≡ Some rows → HasRows old (record { schema = schema; trees = trees }) rows
 
 -- while the disk is clean, what isn't refused makes this change of the rows, inside its transaction
 abbrev pub MayLead : {X : Type 0} → (Rows → Rows) → State → State → Result X Error → Type 0
-MayLead change old new result = HasCleanDisk new → IsTrue old.in_transaction → (rows : Rows) → Holds old.now rows → OnOk result (HoldsLike old.now.schema new.now (change rows))
+MayLead change old new result = HasCleanDisk new → IsTrue old.in_transaction → (rows : Rows) → Holds old.now rows → OnOk result (HoldsLike old.now new.now (change rows))
 
 -- the tables with the effect of a change, and without the row of its reply
 abbrev pub with_effect : Change → Rows → Rows
@@ -87,12 +89,12 @@ pub record IsAsBefore (old new : State) : Type 0 where
 abbrev pub MayUndo : {X E : Type 0} → State → State → Result X E → Type 0
 MayUndo old new result = HasCleanDisk new → IsTrue new.is_open → OnErr result (IsAsBefore old new)
 
--- the database holds rows like these, and they are committed
-pub record IsCommitted (new : State) (rows : Rows) : Type 0 where
-  pub holds : HoldsLike new.now.schema new.now rows
+-- the database holds rows like these, beside them what the old one held, and all is committed
+pub record IsCommitted (old : Database) (new : State) (rows : Rows) : Type 0 where
+  pub holds : HoldsLike old new.now rows
   pub committed : new.committed ≡ new.now
   pub is_open : IsTrue new.is_open
 
 -- while the disk is clean, what isn't refused commits this change of the rows, whoever wrote them
 abbrev pub MayCommit : {X E : Type 0} → (Rows → Rows) → State → State → Result X E → Type 0
-MayCommit change old new result = HasCleanDisk new → (rows : Rows) → tables_of old.now ≡ Some rows → OnOk result (IsCommitted new (change rows))
+MayCommit change old new result = HasCleanDisk new → (rows : Rows) → tables_of old.now ≡ Some rows → OnOk result (IsCommitted old.now new (change rows))

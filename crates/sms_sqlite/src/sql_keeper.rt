@@ -81,8 +81,8 @@ impl<S: Alter + Drop> SqlKeeper<S> {
         ensures settled { MaySettle (state S.Store self.new.connection) result }
         ensures made { MayCommit (λ rows. with_change rows change.now) (state S.Store self.old.connection) (state S.Store self.new.connection) result }
         ensures ended { (state S.Store self.old.connection).in_transaction ≡ false → (state S.Store self.new.connection).in_transaction ≡ false }
-        ensures crash { Survives (state S.Store self.old.connection) (state S.Store self.new.connection) (λ db. (rows : Told) → tables_of (state S.Store self.old.connection).now ≡ Some rows → HasRows (with_trees (state S.Store self.old.connection).now db) (with_change rows change.now)) }
-        ensures alone { OnOk result (IfSome (told_by S.Store self.new) (λ rows. (db : Trees) → (state S.Store self.new.connection).may_leave db → HasRows (with_trees (state S.Store self.new.connection).now db) rows)) }
+        ensures crash { Survives (state S.Store self.old.connection) (state S.Store self.new.connection) (λ db. (rows : Told) → tables_of (state S.Store self.old.connection).now ≡ Some rows → HasRows (state S.Store self.old.connection).now (with_trees (state S.Store self.old.connection).now db) (with_change rows change.now)) }
+        ensures alone { OnOk result (IfSome (told_by S.Store self.new) (λ rows. (db : Trees) → (state S.Store self.new.connection).may_leave db → HasRows (state S.Store self.new.connection).now (with_trees (state S.Store self.new.connection).now db) rows)) }
     {
         write_change(&mut self.connection, self.alloc, change)
     }
@@ -157,8 +157,8 @@ impl<S: Alter + Drop> Keeper for SqlKeeper<S> {
         ensures settled { MaySettle (state S.Store self.new.connection) result }
         ensures made { MayCommit (λ rows. with_change rows change.now) (state S.Store self.old.connection) (state S.Store self.new.connection) result }
         ensures ended { (state S.Store self.old.connection).in_transaction ≡ false → (state S.Store self.new.connection).in_transaction ≡ false }
-        ensures crash { Survives (state S.Store self.old.connection) (state S.Store self.new.connection) (λ db. (rows : Told) → tables_of (state S.Store self.old.connection).now ≡ Some rows → HasRows (with_trees (state S.Store self.old.connection).now db) (with_change rows change.now)) }
-        ensures alone { OnOk result (IfSome (told_by S.Store self.new) (λ rows. (db : Trees) → (state S.Store self.new.connection).may_leave db → HasRows (with_trees (state S.Store self.new.connection).now db) rows)) }
+        ensures crash { Survives (state S.Store self.old.connection) (state S.Store self.new.connection) (λ db. (rows : Told) → tables_of (state S.Store self.old.connection).now ≡ Some rows → HasRows (state S.Store self.old.connection).now (with_trees (state S.Store self.old.connection).now db) (with_change rows change.now)) }
+        ensures alone { OnOk result (IfSome (told_by S.Store self.new) (λ rows. (db : Trees) → (state S.Store self.new.connection).may_leave db → HasRows (state S.Store self.new.connection).now (with_trees (state S.Store self.new.connection).now db) rows)) }
     {
         match self.write(change) {
             Ok(()) => Ok(()),

@@ -10,4 +10,4 @@ returns-clause-leads g c clean inside rows holds =
     let first : HasCleanDisk (state g.S.Store c.replace_statuses.new.tx.conn.now) = omega (arith, clean, c.add_deck.ensures.survives.clean) in
     let one = c.in_ok-replace_statuses.ensures.leads first inside rows holds in
     let on = (c.in_ok-replace_statuses.ensures.stays first inside).inside in
-    on_ok_weaker c.add_deck.result (deck_behind (state g.S.Store c.args.tx.now.conn.now).now.schema (state g.S.Store c.replace_statuses.new.tx.conn.now).now (state g.S.Store c.add_deck.new.tx.conn.now).now rows c.args.statuses.now _ one.found one.listed one.alike) (c.add_deck.ensures.leads clean on one.found one.holds)
+    on_ok_weaker c.add_deck.result (deck_behind (state g.S.Store c.args.tx.now.conn.now).now (state g.S.Store c.replace_statuses.new.tx.conn.now).now (state g.S.Store c.add_deck.new.tx.conn.now).now rows c.args.statuses.now _ one.found one.rest one.alike) (c.add_deck.ensures.leads clean on one.found one.holds)

@@ -7,7 +7,7 @@ use Rattle.sqlite.proofs.StateLemmas.{survives_then}
 use Rattle.keeper_statements.specs.Presence.{present_in}
 use Rattle.sms_sqlite.specs.Reading.{IsMadeReady}
 use Rattle.sms_sqlite.specs.Writing.{HoldsLike, IsCommitted, IsMadeLeft}
-use Rattle.sms_sqlite.proofs.CommitLemmas.{commit_made, made_committed, ready_left, ready_like}
+use Rattle.sms_sqlite.proofs.CommitLemmas.{commit_kept, made_committed, ready_left, ready_like}
 use Rattle.sms_sqlite.proofs.writing.write_tables.Goals as goal
 
 pub returns-clause-made : goal.returns-clause-made
@@ -22,8 +22,8 @@ returns-clause-made g c clean rows told =
     let late : HasCleanDisk (state g.S.Store end) = subst (λ h. HasCleanDisk (state g.S.Store h)) (sym same) clean in
     let early : HasCleanDisk last = omega (arith, late, c.commit.ensures.survives.clean) in
     let made = c.in_ok-make_tables.ensures.made early (rw begun) in
-    let like : HoldsLike last.now.schema last.now rows = ready_like old.now last.now rows (rw (begun, found) at made) told in
-    subst (λ h. OnOk c.commit.result (IsCommitted (state g.S.Store h) rows)) same (commit_made last.now.schema last (state g.S.Store end) rows c.commit.result like (c.commit.ensures.ok late))
+    let like : HoldsLike last.now last.now rows = ready_like old.now last.now rows (rw (begun, found) at made) told in
+    subst (λ h. OnOk c.commit.result (IsCommitted (state g.S.Store h).now (state g.S.Store h) rows)) same (commit_kept last (state g.S.Store end) rows c.commit.result like (c.commit.ensures.ok late))
 
 pub returns-clause-tables : goal.returns-clause-tables
 returns-clause-tables g c clean =

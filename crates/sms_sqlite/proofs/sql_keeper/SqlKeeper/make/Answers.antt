@@ -12,7 +12,7 @@ use Rattle.sms_sqlite.proofs.sql_keeper.SqlKeeper.make.Goals as goal
 
 pub invariant_of-self : goal.invariant_of-self
 invariant_of-self g c =
-    readable_by (state g.S.Store c.self.inside.base.value).now (state g.S.Store c.self.inside.connection) (state g.S.Store c.write_tables.new.connection)
+    readable_by _ (state g.S.Store c.self.inside.base.value).now (state g.S.Store c.self.inside.connection) (state g.S.Store c.write_tables.new.connection)
     (λ (rows : Rows). rows) c.write_tables.result
     c.self.invariant c.write_tables.ensures.crash.clean c.write_tables.ensures.was_open c.write_tables.ensures.made c.write_tables.ensures.kept
 
@@ -21,7 +21,7 @@ returns-clause-kept g c =
     let base = (state g.S.Store c.self.inside.base.value).now in
     let new = state g.S.Store c.write_tables.new.connection in
     subst (λ (k : KeeperView _). Stays (told_by g.S.Store k) (told_of base new)) c.self.view_is
-    (made_stays base (state g.S.Store c.self.inside.connection) new c.write_tables.result
+    (made_stays _ base (state g.S.Store c.self.inside.connection) new c.write_tables.result
     c.self.invariant c.write_tables.ensures.crash.clean c.write_tables.ensures.was_open c.write_tables.ensures.made c.write_tables.ensures.kept)
 
 pub returns-clause-unchanged : goal.returns-clause-unchanged

@@ -11,7 +11,7 @@ use Rattle.sms_sqlite.proofs.sql_keeper.SqlKeeper.write.Goals as goal
 
 pub invariant_of-self : goal.invariant_of-self
 invariant_of-self g c =
-    readable_by (state g.S.Store c.self.inside.base.value).now (state g.S.Store c.self.inside.connection) (state g.S.Store c.write_change.new.connection)
+    readable_by _ (state g.S.Store c.self.inside.base.value).now (state g.S.Store c.self.inside.connection) (state g.S.Store c.write_change.new.connection)
     (λ (rows : Rows). with_change rows c.args.change.now) c.write_change.result
     c.self.invariant c.write_change.ensures.crash.clean c.write_change.ensures.was_open c.write_change.ensures.made c.write_change.ensures.kept
 
@@ -20,7 +20,7 @@ returns-clause-applied g c =
     let base = (state g.S.Store c.self.inside.base.value).now in
     let new = state g.S.Store c.write_change.new.connection in
     subst (λ (k : KeeperView _). OnOk c.write_change.result (Applies c.args.change.now (told_by g.S.Store k) (told_of base new))) c.self.view_is
-    (applied_by base (state g.S.Store c.self.inside.connection) new c.args.change.now c.write_change.result
+    (applied_by _ base (state g.S.Store c.self.inside.connection) new c.args.change.now c.write_change.result
     c.self.invariant c.write_change.ensures.crash.clean c.write_change.ensures.was_open c.write_change.ensures.made)
 
 pub returns-clause-kept : goal.returns-clause-kept
@@ -44,6 +44,6 @@ returns-clause-settled g c clean =
 
 pub returns-clause-alone : goal.returns-clause-alone
 returns-clause-alone g c =
-    alone_by (state g.S.Store c.self.inside.base.value).now (state g.S.Store c.self.inside.connection) (state g.S.Store c.write_change.new.connection)
+    alone_by _ (state g.S.Store c.self.inside.base.value).now (state g.S.Store c.self.inside.connection) (state g.S.Store c.write_change.new.connection)
     (λ (rows : Rows). with_change rows c.args.change.now) c.write_change.result
     c.self.invariant c.write_change.ensures.crash.clean c.write_change.ensures.was_open c.write_change.ensures.made (λ is_open db left. g.met.S.Store.settled _ db is_open left)
