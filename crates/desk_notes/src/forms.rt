@@ -116,8 +116,10 @@ fn is_within(word: &str, least: u32, most: u32) -> bool {
     }
 }
 
-// How many bytes at their fronts are the same.
+// How many bytes at their fronts are the same, behind the dashes of an option.
 fn shared_front(part: &str, word: &str) -> u32 {
+    let part = part.trim_start_matches('-');
+    let word = word.trim_start_matches('-');
     let mut count = 0u32;
     for (byte, other) in part.as_bytes().iter().zip(word.as_bytes()) {
         if byte != other {
