@@ -86,7 +86,9 @@ fn next_behind(next: Next, byte: u8) -> Next {
         (Next::Refusal(count), _) if is_at(REFUSAL, count, byte) => {
             Next::Refusal(count.saturating_add(1))
         }
-        (Next::Fault(count), _) if is_at(FAULT, count, byte) => Next::Fault(count.saturating_add(1)),
+        (Next::Fault(count), _) if is_at(FAULT, count, byte) => Next::Fault(count.saturating_add(
+            1,
+        )),
         _ => Next::Other,
     }
 }

@@ -105,12 +105,7 @@ fn limit_sentence(alloc: Global, path: &[u8]) -> Result<String, AllocError> {
         _ if path.ends_with(b".volume") => {
             around(alloc, "in ", path, " there are more than 256 volumes")
         }
-        _ => around(
-            alloc,
-            "the text of ",
-            path,
-            " has more than 65536 bytes",
-        ),
+        _ => around(alloc, "the text of ", path, " has more than 65536 bytes"),
     }
 }
 
