@@ -2,22 +2,30 @@
 """Refuses the calls of smsctl on the system one by one, and says where the program doesn't do what docs/script.md and
 docs/http.md promise. It needs gcc and glibc: a library that is loaded first counts the calls and refuses one of them.
 
-usage: docs/refuse_calls.py PATH/smsctl FOLDER
+usage: docs/refuse_calls.py PATH/smsctl FOLDER [PART ..]
 
-FOLDER is a folder for the library and for files of records; it should be empty. For each of
-- `run`, `run --workers 2`, `run --db` over a new file and over one that has records, and `serve` with one conversation,
-each of these calls is refused in turn, in a run of its own:
+FOLDER is a folder for the library and for files of records; it should be empty. The parts, all of them where none is named:
+- run: `run` over the first path, an activation and an allocation;
+- workers: `run --workers 2` over two activations and ten allocations;
+- live: `run --workers 2` over an allocation beside an activation of another deck;
+- file, records: `run --db` over a new file, and over one that has records;
+- serve: `serve` with one connection, on which the deck is activated and a data set allocated;
+- refused: `serve` with six connections: one that is cut in its second message, four whose message is refused, one that is
+  answered R19.
+In each part each of these calls is refused in turn, in a run of its own:
 - each allocation: the run ends with 7 and writes nothing, or with 0; then requests may be answered M31;
 - each read of standard input fails (3, nothing written) or gives one byte (nothing changes);
 - each write to standard output fails (4, and a front was written) or takes one byte (nothing changes);
 - each read, write, sync or cut of a file fails, or takes one byte: the run ends with 0, with requests that may be
-  answered F30, or with 9, 10 or 11 and nothing written.
-Behind each run over a file the same script is run again with nothing refused: it ends with 0, the file is whole, each
-answer is repeated but M31, F30 and those of purged numbers, and where nothing was answered otherwise the file holds the
-records that it holds where nothing was refused.
+  answered F30, of which standard error then tells, or with 9, 10 or 11 and nothing written.
+In one run more all reads, and in one all writes, take one byte. Behind each run over a file the same script is run again
+with nothing refused: it ends with 0, the file is whole, each answer is repeated but M31, F30 and those of purged numbers,
+and where nothing was answered otherwise the file holds the records that it holds where nothing was refused. What differs
+is told as it is found.
 """
 import mmap
 import os
+import re
 import socket
 import sqlite3
 import struct
@@ -46,7 +54,7 @@ extern void *__libc_memalign(size_t, size_t);
 
 static long *counter;
 static long at;
-static int kind = -1, is_short;
+static int kind = -1, is_short, is_each;
 enum { ALLOCATION, INPUT, OUTPUT, FILES };
 
 __attribute__((constructor)) static void begin(void) {
@@ -57,13 +65,14 @@ __attribute__((constructor)) static void begin(void) {
     close(file);
     counter = shared;
     at = atol(getenv("REFUSE_AT"));
-    is_short = !strcmp(getenv("REFUSE_HOW"), "short");
+    is_each = !strcmp(getenv("REFUSE_HOW"), "each");
+    is_short = is_each || !strcmp(getenv("REFUSE_HOW"), "short");
     kind = !strcmp(name, "allocation") ? ALLOCATION : !strcmp(name, "input") ? INPUT : !strcmp(name, "output") ? OUTPUT : FILES;
 }
 
 static int refused(int which) {
     if (kind != which || !counter) return 0;
-    return __sync_add_and_fetch(counter, 1) == at;
+    return __sync_add_and_fetch(counter, 1) == at || is_each;
 }
 
 void *malloc(size_t size) { if (refused(ALLOCATION)) { errno = ENOMEM; return 0; } return __libc_malloc(size); }
@@ -141,30 +150,47 @@ ONE = DECK + b"JOB1 1 ALLOC PAY.MASTER SPACE=(TRK,(10,5))\n"
 TWO = DECK + b"SYNC\n" + DECK.replace(b"SMSADMIN 1", b"SMSADMIN 2") + b"".join(
     b"JOB%d %d ALLOC J%d.N%d SPACE=(TRK,1)\n" % (job, number, job, number) for number in range(1, 6) for job in (1, 2)
 )
+LIVE = (
+    DECK
+    + b"SYNC\nJOB1 1 DISPLAY SMS,VOLUME(VOL001)\nSYNC\nJOB1 2 ALLOC A.B SPACE=(TRK,1)\n"
+    + DECK.replace(b"SMSADMIN 1", b"SMSADMIN 2").replace(b"SC1", b"SC2")
+)
 MORE = ONE + b"JOB1 2 USED PAY.MASTER 3\nJOB1 3 ALLOC A.C SPACE=(TRK,1)\nJOB1 4 DELETE A.C\nSMSADMIN 2 PURGE JOB1 3\n"
 MESSAGES = (
     b"POST /admin/1/activate HTTP/1.1\r\nContent-Length: %d\r\n\r\n" % (len(DECK) - len(b"SMSADMIN 1 ACTIVATE\n./END\n"))
     + DECK[len(b"SMSADMIN 1 ACTIVATE\n"):-len(b"./END\n")]
     + b'POST /job/JOB1/1/alloc/PAY.MASTER HTTP/1.1\r\nContent-Length: 25\r\n\r\n{"SPACE":"(TRK,(10,5))"} '
 )
+REFUSED = [
+    b"POST /job/PAYROLL/7/alloc/PAY.%23TEMP HTTP/1.1\r\nContent-Length: 2\r\n\r\n{}POST /jo",
+    b"GET / HTTP/9.9\r\n",
+    b"GET /job/A/1/extend/A HTTP/1.1\r\n\r\n",
+    b"POST /x HTTP/1.1\r\n\r\n",
+    b"POST /admin/1/activate HTTP/1.1\r\n\r\n",
+    b"POST /job/A/1/extend/A HTTP/1.1\r\n\r\n",
+]
 STATUSES_OF_FILES = {9, 10, 11}
 
-differing = []
+differing = 0
 folder = ""
 
 
 def check(holds, what):
+    global differing
     if not holds:
-        differing.append(what)
+        differing += 1
+        print(f"differs: {what[:600]}", flush=True)
 
 
 class Refusal:
-    """One call of a kind that is refused: it fails, or is short."""
+    """One call of a kind that is refused: it fails, or is short; or each call of a kind is short."""
 
     def __init__(self, kind, how, at):
         self.kind, self.how, self.at = kind, how, at
 
     def __str__(self):
+        if self.how == "each":
+            return f"each {self.kind} is short"
         return f"{self.kind} {self.at} {'is short' if self.how == 'short' else 'fails'}"
 
     def environment(self):
@@ -187,12 +213,14 @@ def run(program, words, script, refusal=None):
     done = subprocess.run(
         [program, *words], input=script, capture_output=True, timeout=60, env=refusal.environment() if refusal else {}
     )
+    tells = b"F30" in done.stderr
+    check(tells == (b" F30 KEEPER" in done.stdout), f"{' '.join(words)}: {refusal}: {done.stdout!r}, told {done.stderr!r}")
     return done.returncode, done.stdout
 
 
 def is_lawful(refusal, wanted, status, text):
     """Whether a run over standard streams ended so with one call refused."""
-    if refusal.how == "short":
+    if refusal.how != "fail":
         return (status, text) == wanted
     if refusal.kind == "allocation":
         return (status, text) == (7, b"") or (status == 0 and (text == wanted[1] or b" M31" in text))
@@ -206,6 +234,9 @@ def is_lawful(refusal, wanted, status, text):
 def each(kind, how):
     """The refusals of a kind, one after the other, until a run makes fewer calls of it."""
     at = 1
+    if how == "each":
+        yield Refusal(kind, how, at)
+        return
     while True:
         refusal = Refusal(kind, how, at)
         yield refusal
@@ -215,7 +246,7 @@ def each(kind, how):
 
 
 def kinds(names):
-    return [(name, how) for name in names for how in ("fail", "short") if (name, how) != ("allocation", "short")]
+    return [(name, how) for name in names for how in ("fail", "short", "each") if name != "allocation" or how == "fail"]
 
 
 def are_answered(text, wanted):
@@ -228,7 +259,7 @@ def are_answered(text, wanted):
 
 def is_lawful_of_workers(refusal, wanted, status, text):
     """The same of a run by several workers, whose places and tracks may differ from run to run."""
-    if refusal.how == "short":
+    if refusal.how != "fail":
         return status == 0 and are_answered(text, wanted[1])
     if refusal.kind == "allocation":
         return (status, text) == (7, b"") or (status == 0 and are_answered(text, wanted[1]))
@@ -239,14 +270,15 @@ def is_lawful_of_workers(refusal, wanted, status, text):
 
 def try_run(program, words, script, lawful):
     wanted = run(program, words, script)
+    check(wanted[0] == 0, f"{' '.join(words)}: {wanted!r}")
     for kind, how in kinds(["allocation", "input", "output"]):
         count = 0
         for refusal in each(kind, how):
             status, text = run(program, words, script, refusal)
             good = not refusal.was_made() or lawful(refusal, wanted, status, text)
             check(good, f"{' '.join(words)}: {refusal}: status {status}, {text!r}")
-            count += 1
-        print(f"{' '.join(words)}: {kind}, {how}: {count - 1} calls", flush=True)
+            count += refusal.was_made()
+        print(f"{' '.join(words)}: {kind}, {how}: {count} runs", flush=True)
 
 
 def records(path):
@@ -326,14 +358,15 @@ def try_file(program, prepared):
                 check(are_kept(text, repeated), f"{name}: behind {refusal}: {text!r}, then {repeated!r}")
                 if text == wanted[1]:
                     check(found[1:] == whole[1:], f"{name}: behind {refusal}: other records")
-            count += 1
-        print(f"{name}: {kind}, {how}: {count - 1} calls", flush=True)
+            count += refusal.was_made()
+        print(f"{name}: {kind}, {how}: {count} runs", flush=True)
 
 
-def talk(port):
+def talk(port, message):
+    """What is heard on a new connection behind this message; None where the connection breaks."""
     with socket.create_connection(("127.0.0.1", port), timeout=20) as link:
         try:
-            link.sendall(MESSAGES)
+            link.sendall(message)
             link.shutdown(socket.SHUT_WR)
             parts = []
             while part := link.recv(65536):
@@ -343,19 +376,31 @@ def talk(port):
             return None
 
 
-def serve(program, port, refusal=None):
-    child = subprocess.Popen(
-        [program, "serve", str(port), "1"], stdout=subprocess.PIPE, stderr=subprocess.PIPE, env=refusal.environment() if refusal else {}
-    )
-    heard = None
+def talk_first(child, port, message):
+    """The same as soon as the port listens; None too where the program ended before."""
     for _ in range(200):
         if child.poll() is not None:
-            break
+            return None
         try:
-            heard = talk(port)
-            break
+            return talk(port, message)
         except OSError:
             time.sleep(0.01)
+    return None
+
+
+def serve(program, port, messages, refusal=None):
+    child = subprocess.Popen(
+        [program, "serve", str(port), str(len(messages))],
+        stdout=subprocess.PIPE,
+        stderr=subprocess.PIPE,
+        env=refusal.environment() if refusal else {},
+    )
+    heard = [talk_first(child, port, messages[0])]
+    for message in messages[1:]:
+        try:
+            heard.append(talk(port, message))
+        except OSError:
+            heard.append(None)
     try:
         text, _ = child.communicate(timeout=20)
     except subprocess.TimeoutExpired:
@@ -365,22 +410,42 @@ def serve(program, port, refusal=None):
     return child.returncode, text, heard
 
 
-def try_serve(program):
+def are_heard(heard, wanted):
+    """Whether each connection heard a front of what it should, but for places; behind an M31 anything may be answered."""
+    if any(part and b"M31" in part for part in heard):
+        return True
+    places = re.compile(rb'"(first|place)":[0-9]+')
+    return all(not part or places.sub(b"", whole).startswith(places.sub(b"", part)) for part, whole in zip(heard, wanted))
+
+
+def try_serve(program, name, messages):
     port = 20000 + os.getpid() % 20000
-    wanted = serve(program, port)
+    wanted = serve(program, port, messages)
+    check(wanted[0] == 0 and None not in wanted[2], f"{name}: {wanted!r}")
     for kind, how in kinds(["allocation", "input", "output"]):
         count = 0
         for refusal in each(kind, how):
             port += 1
-            status, text, heard = serve(program, port, refusal)
+            status, text, heard = serve(program, port, messages, refusal)
             if refusal.was_made():
-                if how == "short":
+                if how != "fail":
                     good = (status, text, heard) == wanted
                 else:
-                    good = status in (0, 4, 7, 8, 9) and (not heard or wanted[2].startswith(heard) or b"M31" in heard)
-                check(good, f"serve: {refusal}: status {status}, {text!r}, {heard!r}")
-            count += 1
-        print(f"serve: {kind}, {how}: {count - 1} calls", flush=True)
+                    good = status in (0, 4, 7, 8, 9) and are_heard(heard, wanted[2])
+                check(good, f"{name}: {refusal}: status {status}, {text!r}, {heard!r}")
+            count += refusal.was_made()
+        print(f"{name}: {kind}, {how}: {count} runs", flush=True)
+
+
+PARTS = {
+    "run": lambda program: try_run(program, ["run"], ONE, is_lawful),
+    "workers": lambda program: try_run(program, ["run", "--workers", "2"], TWO, is_lawful_of_workers),
+    "live": lambda program: try_run(program, ["run", "--workers", "2"], LIVE, is_lawful_of_workers),
+    "file": lambda program: try_file(program, []),
+    "records": lambda program: try_file(program, [ONE]),
+    "serve": lambda program: try_serve(program, "serve", [MESSAGES]),
+    "refused": lambda program: try_serve(program, "serve, refused messages", REFUSED),
+}
 
 
 def main():
@@ -390,14 +455,9 @@ def main():
     with open(source, "w") as file:
         file.write(LIBRARY)
     subprocess.run(["gcc", "-O1", "-shared", "-fPIC", "-o", os.path.join(folder, "refuse.so"), source, "-ldl"], check=True)
-    try_run(program, ["run"], ONE, is_lawful)
-    try_run(program, ["run", "--workers", "2"], TWO, is_lawful_of_workers)
-    try_file(program, [])
-    try_file(program, [ONE])
-    try_serve(program)
-    for what in differing:
-        print(f"differs: {what[:600]}")
-    print(f"{len(differing)} differ")
+    for part in sys.argv[3:] or PARTS:
+        PARTS[part](program)
+    print(f"{differing} differ")
     sys.exit(1 if differing else 0)
 
 

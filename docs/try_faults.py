@@ -6,37 +6,64 @@ usage: docs/try_faults.py PATH/smsctl PATH/smsc [LARGE_SCRIPT]
 
 - Memory limits from 3 MB up: each run ends with status 7 and writes nothing, or with 0 and writes the whole text; a text
   with M31 in it, where requests were answered so, isn't compared.
-- A closed pipe and a full disk as standard output: status 4. A folder as standard input: status 3.
-- The script cut after each of its bytes: status 0 or 5.
+- A closed pipe and a full disk as standard output of each command of both programs: status 4 with a sentence on standard
+  error; of `run --db` the file then has all that was answered. A folder as standard input: status 3 with a sentence and
+  nothing written; 0 of the commands that don't read it.
+- A limit on the size of files, by 4 KB from none up, in place of a full disk, for `run --db`: status 9 or 10 and nothing
+  written, or 0 with the whole text, or with requests answered F30, of which standard error tells.
+- The script cut after each of its bytes: each cut ends as docs/script.md says.
 - Each list of words of both programs one word too long, too short, with one of its words left out, with each letter
-  changed, and with each number at its limits and past them: status 2 with a sentence on standard error, or another status
-  where it is a list. Of serve no list is tried that would open a port.
+  changed, with a control character, and with each number at its limits and past them: status 2 with a sentence on standard
+  error, which has no control character, or another status where it is a list. Of serve no list is tried that would open a
+  port.
+
+What differs is told as it is found.
 """
 import itertools
 import os
 import resource
+import signal
+import socket
+import sqlite3
 import subprocess
 import sys
 import tempfile
+import time
 
-SCRIPT = b"""SMSADMIN 1 ACTIVATE
-version = 1
+DECK = b"""version = 1
 [storclass.SC1]
 [storgroup.SG1.volume.VOL001]
 tracks = 100
 [routine]
 storclass = "PROC STORCLAS SET &STORCLAS = 'SC1' END"
 storgroup = "PROC STORGRP SET &STORGRP = 'SG1' END"
-./END
-JOB1 1 ALLOC PAY.MASTER SPACE=(TRK,(10,5))
 """
+SCRIPT = b"SMSADMIN 1 ACTIVATE\n" + DECK + b"./END\nJOB1 1 ALLOC PAY.MASTER SPACE=(TRK,(10,5))\n"
+MANY = SCRIPT + b"".join(b"JOB1 %d ALLOC A%d.B SPACE=(TRK,1)\n" % (number, number) for number in range(2, 60))
+COMPARISON = b"OLD\n" + DECK + b"./END\nNEW\n" + DECK + b"./END\nCASES\ncase,job,dsn\nC1,JOB1,A.B\n"
 
-differing = []
+# How the fronts of the script end, from one length to another: a fault, or the last line of the output.
+CUTS = [
+    (0, 0, "END 0 0"),
+    (1, 18, "S1 1"),
+    (19, 211, "S2 1"),
+    (212, 213, "END 1 1"),
+    (214, 226, "S1 10"),
+    (227, 229, "END 2 2"),
+    (230, 230, "S1 10"),
+    (231, 237, "END 2 2"),
+    (238, 254, "S1 10"),
+    (255, 256, "END 2 2"),
+]
+
+differing = 0
 
 
 def check(holds, what):
+    global differing
     if not holds:
-        differing.append(what)
+        differing += 1
+        print(f"differs: {what[:600]}", flush=True)
 
 
 def limited(megabytes):
@@ -68,30 +95,158 @@ def try_memory(program, words, script):
             check(status < 0 or status == 127, f"{words} under {megabytes} MB ended with {status}")
         if counts.get(0, 0) == 20:
             break
-    print(f"memory limits, {' '.join(words)}: runs by their status {counts}")
+    print(f"memory limits, {' '.join(words)}: runs by their status {counts}", flush=True)
 
 
-def try_outputs(program, words, script):
-    with open("/dev/full", "wb") as full:
-        check(run(program, words, script, stdout=full)[0] == 4, f"a full disk, {words}")
+def is_told(done):
+    """Whether standard error has the status and a sentence."""
+    return len(done.stderr.decode().splitlines()) > 1
+
+
+def try_full_output(program, words, script):
+    name = " ".join(words)
     reading, writing = os.pipe()
     os.close(reading)
-    check(run(program, words, script, stdout=writing)[0] == 4, f"a closed pipe, {words}")
-    os.close(writing)
+    for what, output in [("a full disk", os.open("/dev/full", os.O_WRONLY)), ("a closed pipe", writing)]:
+        done = subprocess.run([program, *words], input=script, stdout=output, stderr=subprocess.PIPE)
+        os.close(output)
+        check(done.returncode == 4 and is_told(done), f"{name}, {what}: status {done.returncode}, {done.stderr!r}")
+
+
+def try_folder(program, words, reads):
     folder = os.open("/", os.O_RDONLY)
     done = subprocess.run([program, *words], stdin=folder, stdout=subprocess.PIPE, stderr=subprocess.PIPE)
     os.close(folder)
-    check(done.returncode == 3 and done.stdout == b"", f"a folder as standard input, {words}")
+    if reads:
+        good = done.returncode == 3 and done.stdout == b"" and is_told(done)
+    else:
+        good = done.returncode == 0
+    check(good, f"{' '.join(words)}, a folder as standard input: status {done.returncode}, {done.stdout!r}, {done.stderr!r}")
+
+
+def try_serve(program):
+    """A served desk, whose lines can't be written, and one whose standard input is a folder, which it doesn't read."""
+    port = 20000 + os.getpid() % 20000
+    reading, writing = os.pipe()
+    os.close(reading)
+    full, folder = os.open("/dev/full", os.O_WRONLY), os.open("/", os.O_RDONLY)
+    outputs = [("a full disk", full, None, 4), ("a closed pipe", writing, None, 4), ("a folder", subprocess.DEVNULL, folder, 0)]
+    for what, output, source, wanted in outputs:
+        port += 1
+        child = subprocess.Popen([program, "serve", str(port), "1"], stdin=source, stdout=output, stderr=subprocess.PIPE)
+        heard = ask(port)
+        _, told = child.communicate(timeout=20)
+        good = child.returncode == wanted and b"R19" in heard and (wanted == 0 or len(told.splitlines()) > 2)
+        check(good, f"serve, {what}: status {child.returncode}, {heard!r}, {told!r}")
+    for opened in (writing, full, folder):
+        os.close(opened)
+
+
+def ask(port):
+    """What a served desk answers to a request, once the port listens."""
+    for _ in range(500):
+        try:
+            with socket.create_connection(("127.0.0.1", port), timeout=20) as link:
+                link.sendall(b"POST /job/A/1/extend/A HTTP/1.1\r\n\r\n")
+                link.shutdown(socket.SHUT_WR)
+                parts = []
+                while part := link.recv(65536):
+                    parts.append(part)
+                return b"".join(parts)
+        except ConnectionRefusedError:
+            time.sleep(0.01)
+    return b""
+
+
+def try_streams(program, tool):
+    deskless = [["gen", "1", "10"], ["--help"], ["--version"]]
+    for words in [["run"], ["run", "--volumes"], ["run", "--workers", "2"], ["run", "--manage", "3"], *deskless]:
+        try_full_output(program, words, SCRIPT)
+        try_folder(program, words, words not in deskless)
+    routine = b"PROC STORCLAS END"
+    for words, script in [
+        (["translate", "STORCLAS"], routine), (["validate"], DECK), (["simulate"], SCRIPT), (["compare"], COMPARISON),
+        (["--help"], b""), (["--version"], b""),
+    ]:
+        try_full_output(tool, words, script)
+        try_folder(tool, words, not words[0].startswith("--"))
+    try_serve(program)
+    print("a full disk, a closed pipe and a folder: each command tried", flush=True)
+
+
+def kept_replies(path):
+    connection = sqlite3.connect(path)
+    count = connection.execute("SELECT count(*) FROM replies").fetchone()[0]
+    connection.close()
+    return count
+
+
+def try_database(program):
+    """The same of a run over a database, each over a new file."""
+    with tempfile.TemporaryDirectory() as folder:
+        for number, output in enumerate([os.open("/dev/full", os.O_WRONLY), os.open("/dev/null", os.O_WRONLY)]):
+            path = os.path.join(folder, f"{number}.db")
+            done = subprocess.run([program, "run", "--db", path], input=SCRIPT, stdout=output, stderr=subprocess.PIPE)
+            os.close(output)
+            wanted = 4 if number == 0 else 0
+            good = done.returncode == wanted and kept_replies(path) == 2
+            check(good, f"run --db, output {number}: status {done.returncode}, {done.stderr!r}")
+        reading, writing = os.pipe()
+        os.close(reading)
+        path = os.path.join(folder, "pipe.db")
+        done = subprocess.run([program, "run", "--db", path], input=SCRIPT, stdout=writing, stderr=subprocess.PIPE)
+        os.close(writing)
+        check(done.returncode == 4 and is_told(done) and kept_replies(path) == 2, f"run --db, a closed pipe: {done!r}")
+        path = os.path.join(folder, "folder.db")
+        try_folder(program, ["run", "--db", path], True)
+        check(kept_replies(path) == 0, "run --db, a folder: records were made")
+    print("a full disk, a closed pipe and a folder: run --db tried", flush=True)
+
+
+def limited_files(size):
+    def limit():
+        signal.signal(signal.SIGXFSZ, signal.SIG_IGN)
+        resource.setrlimit(resource.RLIMIT_FSIZE, (size, size))
+
+    return limit
+
+
+def try_file_sizes(program):
+    counts = {}
+    with tempfile.TemporaryDirectory() as folder:
+        whole = subprocess.run([program, "run", "--db", os.path.join(folder, "whole.db")], input=MANY, capture_output=True)
+        check(whole.returncode == 0 and whole.stderr == b"", f"run --db: {whole.returncode}, {whole.stderr!r}")
+        for kilobytes in range(0, 8192, 4):
+            path = os.path.join(folder, f"{kilobytes}.db")
+            before = limited_files(kilobytes * 1024)
+            done = subprocess.run([program, "run", "--db", path], input=MANY, capture_output=True, preexec_fn=before)
+            name = f"run --db with files of {kilobytes} KB"
+            kind = done.returncode, b" F30 KEEPER" in done.stdout
+            counts[kind] = counts.get(kind, 0) + 1
+            if done.returncode == 0:
+                check(done.stdout == whole.stdout or kind[1], f"{name}: another text")
+                check((b"F30" in done.stderr) == kind[1], f"{name}: told {done.stderr!r}")
+            else:
+                check(done.returncode in (9, 10) and done.stdout == b"" and is_told(done), f"{name}: {done!r}")
+            if counts.get((0, False), 0) == 3:
+                break
+            for end in ("", "-wal"):
+                if os.path.exists(path + end):
+                    os.remove(path + end)
+    print(f"files of limited size: runs by their status and whether one was answered F30 {counts}", flush=True)
 
 
 def try_cuts(program):
-    counts = {}
-    for length in range(len(SCRIPT) + 1):
-        status, text = run(program, ["run"], SCRIPT[:length])
-        counts[status] = counts.get(status, 0) + 1
-        check(status in (0, 5), f"the script cut after {length} bytes ended with {status}")
-        check(status == 0 or text == b"", f"the script cut after {length} bytes wrote {len(text)} bytes")
-    print(f"the script cut after each byte: runs by their status {counts}")
+    for first, last, end in CUTS:
+        for length in range(first, last + 1):
+            done = subprocess.run([program, "run"], input=SCRIPT[:length], capture_output=True)
+            if end.startswith("S"):
+                good = (done.returncode, done.stdout) == (5, b"") and done.stderr.startswith(f"smsctl: status 5 {end}\n".encode())
+            else:
+                good = done.returncode == 0 and done.stdout.endswith(f"{end}\n".encode())
+            check(good, f"the script cut after {length} bytes: status {done.returncode}, {done.stdout!r}, {done.stderr!r}")
+    check(CUTS[-1][1] == len(SCRIPT), "the script has another length")
+    print(f"the script cut after each byte: {len(SCRIPT) + 1} runs", flush=True)
 
 
 # The least and the greatest number that may stand for a word in capitals.
@@ -165,7 +320,9 @@ def variants(parts, folder):
         yield least[:at] + least[at + 1:]
         for word in samples(part, folder)[1]:
             yield least[:at] + [word] + least[at + 1:]
-    for more in ["more", "1", "--volumes", "--help", ""]:
+        if part != "FILE":
+            yield least[:at] + [part + "\x1b[31m\n"] + least[at + 1:]
+    for more in ["more", "1", "--volumes", "--help", "", "\t\x7f"]:
         yield least + [more]
 
 
@@ -181,9 +338,10 @@ def try_words(program, lists):
                 shows_help = os.path.basename(program) == "smsc" and "--help" in words and words[0] in " ".join(lists)
                 is_refused = not is_known(lists, words) and not shows_help
                 check((done.returncode == 2) == is_refused, f"{words} ended with {done.returncode}")
-                lines = done.stderr.decode().splitlines()
-                check(not is_refused or len(lines) > 1, f"{words} was refused without a sentence")
-    print(f"words of {os.path.basename(program)}: runs by their status {counts}")
+                check(not is_refused or is_told(done), f"{words} was refused without a sentence")
+                is_plain = all(byte == 10 or 32 <= byte < 127 for byte in done.stderr)
+                check(is_plain, f"{words} was refused by {done.stderr!r}")
+    print(f"words of {os.path.basename(program)}: runs by their status {counts}", flush=True)
 
 
 def main():
@@ -194,14 +352,13 @@ def main():
             script = file.read()
     try_memory(program, ["run"], script)
     try_memory(program, ["gen", "1", "2000"], b"")
-    try_outputs(program, ["run"], SCRIPT)
-    try_outputs(tool, ["simulate"], SCRIPT)
+    try_streams(program, tool)
+    try_database(program)
+    try_file_sizes(program)
     try_cuts(program)
     try_words(program, SMSCTL_LISTS)
     try_words(tool, SMSC_LISTS)
-    for what in differing:
-        print(f"differs: {what}")
-    print(f"{len(differing)} differ")
+    print(f"{differing} differ")
     sys.exit(1 if differing else 0)
 
 

@@ -116,14 +116,16 @@ fn is_within(word: &str, least: u32, most: u32) -> bool {
     }
 }
 
-// How many bytes at their fronts are the same.
+// How many bytes at their fronts are the same; dashes, which all options share, tell nothing.
 fn shared_front(part: &str, word: &str) -> u32 {
     let mut count = 0u32;
     for (byte, other) in part.as_bytes().iter().zip(word.as_bytes()) {
         if byte != other {
             return count;
         }
-        count = count.saturating_add(1);
+        if *byte != b'-' {
+            count = count.saturating_add(1);
+        }
     }
     count
 }

@@ -3,7 +3,9 @@
 #![tactic(auto)]
 
 mod forms;
+mod replies;
 mod running;
 mod word_faults;
 
+pub use replies::RepliesSeen;
 pub use running::{note_run, sentence_of};

@@ -49,8 +49,9 @@ fn fault_in(alloc: Global, form: &str, words: &[String]) -> Result<String, Alloc
     }
     match part_of(form, words.len()) {
         Some(part) => {
+            let given = words.join(alloc, " ")?;
             let wanted = wanted(alloc, part)?;
-            format!(in alloc; "behind the last word {wanted} is missing")
+            format!(in alloc; "{given}: {wanted} is missing")
         }
         None => String::from_str(alloc, "these words are answered by another call"),
     }

@@ -39,6 +39,7 @@ fn key_note(alloc: Global, deck: DeckPart<'_>, fault: &Fault) -> Result<String, 
 // The offset of the line that the fault is about.
 fn found_line(alloc: Global, deck: &[u8], fault: &Fault) -> Result<Option<usize>, AllocError> {
     match fault {
+        Fault::TooMany(path) if path.bytes() == b"deck".as_slice() => Ok(None),
         Fault::NotBuilt(path)
         | Fault::UnknownKey(path)
         | Fault::Missing(path)
@@ -76,7 +77,7 @@ fn deck_sentence(alloc: Global, fault: &Fault) -> Result<String, AllocError> {
 }
 
 fn value_sentence(alloc: Global, path: &[u8]) -> Result<String, AllocError> {
-    if is_size(path) {
+    if is_later_size(path) {
         around(
             alloc,
             "the value of ",
@@ -88,16 +89,23 @@ fn value_sentence(alloc: Global, path: &[u8]) -> Result<String, AllocError> {
     }
 }
 
-// Whether the key tells the size of a volume.
-fn is_size(path: &[u8]) -> bool {
-    path.ends_with(b".tracks") || path.ends_with(b".cylinders") || path.ends_with(b".device")
+// Whether the key tells the size of a volume, and another one may stand before it.
+fn is_later_size(path: &[u8]) -> bool {
+    path.ends_with(b".tracks") || path.ends_with(b".cylinders")
 }
 
 fn limit_sentence(alloc: Global, path: &[u8]) -> Result<String, AllocError> {
     match path {
         b"deck" => String::from_str(alloc, "the deck has more than 262144 bytes"),
         b"volume" => String::from_str(alloc, "the deck has more than 1024 volumes"),
-        _ => around(alloc, "at ", path, " there is more than the limit allows"),
+        b"storgroup" => String::from_str(alloc, "the deck has more than 64 storage groups"),
+        b"dataclass" | b"storclass" | b"mgmtclass" => {
+            around(alloc, "in ", path, " there are more than 256 classes")
+        }
+        _ if path.ends_with(b".volume") => {
+            around(alloc, "in ", path, " there are more than 256 volumes")
+        }
+        _ => around(alloc, "the text of ", path, " has more than 65536 bytes"),
     }
 }
 

@@ -15,7 +15,8 @@ pub fn script_note(alloc: Global, text: &[u8], fault: ScriptErr) -> Result<Strin
             word_note(alloc, text, line, 2, sentence)
         }
         ScriptErr::TooManyLines(line) => {
-            word_note(alloc, text, line, 0, "this is the 100001st command")
+            let sentence = "this is the 100001st command, and a script has at most 100000";
+            word_note(alloc, text, line, 0, sentence)
         }
         ScriptErr::NoMemory => Err(AllocError),
     }

@@ -23,7 +23,10 @@ impl Slot {
     /// What is wanted there, for a person.
     pub fn wanted(self) -> &'static str {
         match self {
-            Slot::Set => "the name of a data set: qualifiers of 1 to 8 bytes, 44 bytes in all",
+            Slot::Set => {
+                "the name of a data set: qualifiers of 1 to 8 bytes with full stops between, \
+                at most 44 bytes in all"
+            }
             Slot::Tracks => "a number of tracks, 0 to 4294967295",
             Slot::Shown => "SMS,STORGRP(group), SMS,VOLUME(volser) or SET(dsn)",
             Slot::Changed => {

@@ -3,7 +3,7 @@ ghost use Rattle.std.specs.Prelude.{◌≡◌};
 ghost use Rattle.std.specs.Process.{exit_status};
 ghost use Rattle.db_calls.specs.DbEnds.{db_status_of};
 
-use crate::explaining::{note_database, note_refusal};
+use crate::explaining::note_database;
 use crate::kept_source::KeptSource;
 use crate::noted_sink::NotedSink;
 use db_calls::{DbStatus, db_main};
@@ -46,9 +46,7 @@ fn answer<S: Alter + Drop>(
     let keeper = SqlKeeper::new(rt.alloc(), connection);
     let (status, keeper) = db_main(rt.alloc(), words, &mut src, &mut out, keeper);
     note_database(rt.alloc(), note, words, status, src.given());
-    if out.has_refusal() {
-        note_refusal(note);
-    }
+    out.seen().note(note);
     (status, keeper.into_connection())
 }
 

@@ -82,14 +82,6 @@ pub fn sentence_of_serving(status: ServeStatus) -> Option<&'static str> {
     }
 }
 
-/// Where to look for what is wrong in a deck that an answer refused.
-pub fn note_refusal(note: &mut String) {
-    say(note, REFUSAL);
-}
-
-const REFUSAL: &str =
-    "an answer refuses a deck (R21): smsc validate, with the deck alone as input, says what is wrong in it\n";
-
 const STORE_FAULT: &str =
     "the tables can't be made in the file, or not be read: it can't be written, \
     or has one of them in another form; nothing was answered\n";

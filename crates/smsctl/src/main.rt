@@ -12,7 +12,6 @@ mod kept_source;
 mod noted_sink;
 mod serving;
 
-use crate::explaining::note_refusal;
 use crate::kept_source::KeptSource;
 use crate::noted_sink::NotedSink;
 use db_calls::database_asked;
@@ -81,9 +80,7 @@ fn answer<T: Threads + Wait + Sync>(
     let mut out = NotedSink::new(StdSink::new(io::writer(rt)));
     let status = answer_over(rt.alloc(), threads, words, &mut src, &mut out);
     note_run(rt.alloc(), note, words, status, src.given());
-    if out.has_refusal() {
-        note_refusal(note);
-    }
+    out.seen().note(note);
     status
 }
 

@@ -1,26 +1,26 @@
-//! A sink that notes a refused deck.
+//! A sink that notes which replies were written.
+use desk_notes::RepliesSeen;
 use sms_base::{Failed, Sink};
 
-// How an answer that refuses a deck stands in its line.
-const REFUSED: &[u8] = b" R21 DECK ";
-
-/// Hands its bytes to another sink, and notes whether an answer that refuses a deck was among them.
+/// Hands its bytes to another sink, and notes the replies among them of which a person is told more.
 #[derive(Drop)]
 pub struct NotedSink<K> {
     sink: K,
-    // how many bytes of such an answer came last
-    matched: usize,
+    seen: RepliesSeen,
 }
 
 impl<K: Sink> NotedSink<K> {
     /// The sink, to which nothing was handed yet.
     pub fn new(sink: K) -> Self {
-        NotedSink { sink, matched: 0 }
+        NotedSink {
+            sink,
+            seen: RepliesSeen::none(),
+        }
     }
 
-    /// Whether an answer that refuses a deck was written.
-    pub fn has_refusal(&self) -> bool {
-        self.matched >= REFUSED.len()
+    /// The replies that were written.
+    pub fn seen(&self) -> RepliesSeen {
+        self.seen
     }
 }
 
@@ -33,20 +33,7 @@ impl<K: Sink> Sink for NotedSink<K> {
 
     fn write(&mut self, piece: &[u8]) -> Result<usize, Failed> {
         let count = self.sink.write(piece)?;
-        self.matched = matched_behind(self.matched, &piece[..count]);
+        self.seen = self.seen.behind(&piece[..count]);
         Ok(count)
     }
-}
-
-// How many bytes of such an answer came last, behind this piece too. Once all came it stays so.
-fn matched_behind(matched: usize, piece: &[u8]) -> usize {
-    let mut matched = matched;
-    for byte in piece {
-        matched = match REFUSED.get(matched) {
-            Some(wanted) if wanted == byte => matched.saturating_add(1),
-            Some(_) => usize::from(*byte == b' '),
-            None => matched,
-        };
-    }
-    matched
 }

@@ -3,6 +3,7 @@
 
 mod command;
 mod examples;
+mod printed;
 mod reading;
 mod task;
 mod words_err;

@@ -8,6 +8,7 @@ ghost use Rattle.tool_words.specs.declared.task.Task.{Task as TaskOf};
 
 use crate::command::tool_command;
 use crate::examples::examples_of;
+use crate::printed::printed_words;
 use crate::task::Task;
 use crate::words_err::WordsErr;
 use acs_tree::Kind;
@@ -90,8 +91,14 @@ fn words_err(kind: ErrorKind) -> WordsErr
 }
 
 /// The text that answers the words: of help, with an example of each command behind it, of the version, or why they are
-/// refused; empty where they ask for a task.
+/// refused, with escapes for their control characters; empty where they ask for a task.
 pub fn shown_text(alloc: Global, words: &[String]) -> Result<String, AllocError> {
+    let words = printed_words(alloc, words)?;
+    text_for(alloc, words.as_slice())
+}
+
+// The same, of words as they are.
+fn text_for(alloc: Global, words: &[String]) -> Result<String, AllocError> {
     match read_matches(alloc, words) {
         Ok(_) => Ok(String::new(alloc)),
         Err(error) => {

@@ -1,4 +1,5 @@
 //! Runs of a case of which each meets another fault, or has another front of its input.
+use crate::cut::Cut;
 use crate::outcome::{Faults, Outcome, outcome_of};
 use std::alloc::AllocError;
 use std::sync::Wait;
@@ -66,42 +67,65 @@ impl Series<'_> {
         Ok(None)
     }
 
-    /// The length of the first front of the input, of so many bytes, whose run ends neither with status 0 nor with one of
-    /// the faults S1 and S2 and nothing written; that of the input where it has another length. None for no bytes.
+    /// The length of the first front of the input whose run doesn't end as is said of it, or of which nothing is said; none
+    /// where nothing is said of any.
     pub fn odd_front<R: AllocGlobal + Threads + Wait + Sync>(
         &self,
         rt: &R,
-        count: u64,
-    ) -> Result<Option<usize>, AllocError> {
-        if count == 0 {
+        cuts: &[Cut],
+    ) -> Result<Option<u64>, AllocError> {
+        if cuts.is_empty() {
             return Ok(None);
         }
-        let len = self.input.len();
-        if count != len as u64 {
-            return Ok(Some(len));
+        let mut next = 0u64;
+        for cut in cuts {
+            if cut.first != next {
+                return Ok(Some(next));
+            }
+            let odd = self.odd_in(rt, cut)?;
+            if odd.is_some() {
+                return Ok(odd);
+            }
+            next = cut.last.saturating_add(1);
         }
-        for length in 0..len {
-            if !self.is_cut(rt, length)? {
+        Ok(if next == self.input.len() as u64 {
+            None
+        } else {
+            Some(next)
+        })
+    }
+
+    // The first of the fronts of which this is said whose run ends otherwise.
+    fn odd_in<R: AllocGlobal + Threads + Wait + Sync>(
+        &self,
+        rt: &R,
+        cut: &Cut,
+    ) -> Result<Option<u64>, AllocError> {
+        for length in cut.first..cut.last.saturating_add(1) {
+            if !self.is_cut(rt, length as usize, cut.end.as_str())? {
                 return Ok(Some(length));
             }
         }
         Ok(None)
     }
 
-    // Whether the run on the input's front of this length ends as such a run should.
+    // Whether the run on the input's front of this length ends so.
     fn is_cut<R: AllocGlobal + Threads + Wait + Sync>(
         &self,
         rt: &R,
         length: usize,
+        end: &str,
     ) -> Result<bool, AllocError> {
         let bytes = self.input.as_bytes();
         let front = std::str::from_utf8(bytes.get(..length).unwrap_or(bytes)).unwrap_or("");
         let Some(found) = outcome_of(rt, self.words, front, &Faults::none(rt.alloc()))? else {
             return Ok(false);
         };
-        let is_fault = found.says.starts_with("S1 ") || found.says.starts_with("S2 ");
-        let is_refused = found.status == 5 && found.output.is_empty() && is_fault;
-        Ok(found.status == 0 || is_refused)
+        Ok(match found.status {
+            0 => found.output.ends_with(end),
+            5 => found.output.is_empty() && found.says.starts_with(end),
+            _ => false,
+        })
     }
 
     // Whether the run with these faults has this status and writes this.
