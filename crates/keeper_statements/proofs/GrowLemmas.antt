@@ -392,7 +392,7 @@ there_of : (form : Table) (schema : Schema) → MayBeThere form schema → has_t
 there_of form schema (inr there) is = there
 there_of form schema (inl free) is = absurd (let none = unused_table schema form.name free in let f = sym (ap is_some none) ∙ found_any (λ (t : Table). same_name t.name form.name) schema.tables ∙ is in cc)
 
-table_there : (form : Table) (db : Database) → MayBeThere form db.schema → IsKeyed (rows_named db form.name) → has_table db.schema.tables form.name ≡ true → HasTable form db
+pub table_there : (form : Table) (db : Database) → MayBeThere form db.schema → IsKeyed (rows_named db form.name) → has_table db.schema.tables form.name ≡ true → HasTable form db
 table_there form db may keyed is =
     let there = there_of form db.schema may is in
     record { there = there; keyed = subst IsKeyed (rows_of_form form db there) keyed }
@@ -426,7 +426,7 @@ ready_serves db ready = record {
   );
 }
 
-rows_missing : (db : Database) (name : List ℕ) → has_table db.schema.tables name ≡ false → rows_named db name ≡ []
+pub rows_missing : (db : Database) (name : List ℕ) → has_table db.schema.tables name ≡ false → rows_named db name ≡ []
 rows_missing db name none = by (table_of db.schema name) refl
   where
     by : (o : Option Table) → table_of db.schema name ≡ o → rows_at db.trees (table_of db.schema name) ≡ []
