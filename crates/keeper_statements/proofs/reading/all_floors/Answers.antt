@@ -3,9 +3,9 @@ use Rattle.sqlite.specs.Held.{state}
 use Rattle.sqlite.specs.Order.{Row}
 use Rattle.keeper_statements.specs.Order.{in_order, by_first, two_columns}
 use Rattle.keeper_statements.specs.Schema.{floors_table}
-use Rattle.keeper_statements.specs.Tables.{HasTable, bodies}
-use Rattle.keeper_statements.proofs.GrowLemmas.{rows_missing, table_there}
-use Rattle.keeper_statements.proofs.PlaceLemmas.{listed_of}
+use Rattle.keeper_statements.specs.Tables.{bodies}
+use Rattle.keeper_statements.proofs.GrowLemmas.{form_there, rows_missing}
+use Rattle.keeper_statements.proofs.PlaceLemmas.{placed_of}
 use Rattle.keeper_statements.proofs.QueryLemmas.{shown_same}
 use Rattle.keeper_statements.proofs.ReadLemmas.{floors_shown}
 use Rattle.keeper_statements.proofs.ReadTextLemmas as texts
@@ -17,7 +17,7 @@ returns-clause-answer g c clean serves named =
     let old = state g.S.Store c.args.tx.now.conn.now in
     let new = state g.S.Store c.all_rows.new.tx.conn.now in
     ok_either c.args.is_there c.all_rows.result _ _ _ (c.all_rows.ensures.shown clean) c.all_rows.ensures.none
-    (λ is rows h. floors_shown old new rows.items serves.schema (table_there floors_table old.now serves.schema.tables.1.1.1.1.0 serves.keyed.1.1.1.1.0 (named ∙ is)) h)
+    (λ is rows h. let it = form_there floors_table old.now serves.schema.tables.1.1.1.1.0 serves.keyed.1.1.1.1.0 (named ∙ is) in floors_shown old new rows.items serves.schema it.0 it.1 h)
     (λ is rows none. none ∙ ap (λ (l : List Row). map two_columns (in_order by_first (bodies l))) (sym (rows_missing old.now (codes "floors") (named ∙ is))))
 
 pub returns-clause-same : goal.returns-clause-same
@@ -26,6 +26,6 @@ returns-clause-same g c clean serves named =
     let new = state g.S.Store c.all_rows.new.tx.conn.now in
     ok_either c.args.is_there c.all_rows.result _ _ (λ rows. new.now ≡ old.now) (c.all_rows.ensures.shown clean) c.all_rows.ensures.same
     (λ is rows h.
-    let here : HasTable floors_table old.now = table_there floors_table old.now serves.schema.tables.1.1.1.1.0 serves.keyed.1.1.1.1.0 (named ∙ is) in
-    shown_same texts.floors_text [] old new rows.items (texts.floors_means old.now.schema _ (listed_of floors_table old.now.schema serves.schema here.there)).plain h)
+    let it = form_there floors_table old.now serves.schema.tables.1.1.1.1.0 serves.keyed.1.1.1.1.0 (named ∙ is) in
+    shown_same texts.floors_text [] old new rows.items (texts.floors_means old.now.schema _ (placed_of floors_table old.now.schema serves.schema.apart it.0)).plain h)
     (λ is rows same. same)
