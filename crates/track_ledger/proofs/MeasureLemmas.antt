@@ -14,7 +14,7 @@ use Rattle.track_ledger.specs.declared.measure.Measure.TheVariants.{Tracks, Cyli
 use Rattle.track_ledger.specs.declared.piece.Piece.{Piece}
 use Rattle.track_ledger.specs.Gaps.{clip, unit_gaps, whole_units}
 use Rattle.track_ledger.specs.GapRule.{comes_first}
-use Rattle.track_ledger.specs.Measures.{cuts_by, end_by, from_by, length_at, longest_by, unit_by, units_by}
+use Rattle.track_ledger.specs.Measures.{AreLongest, cuts_by, end_by, from_by, length_at, longest_by, unit_by, units_by}
 use Rattle.track_ledger.proofs.LongestLemmas.{find-long, find-none, find-short, unit-append, unit-none, unit-one}
 use Rattle.track_ledger.proofs.PlacedLemmas.{units-whole}
 use Rattle.track_ledger.proofs.UnitLemmas.{units-low, units-high}
@@ -48,6 +48,17 @@ unit-some Managed = omega arith
 pub longest-append : (measure : Measure) (xs ys : List Piece) → longest_by measure (xs ++ ys) ≡ max (longest_by measure xs) (longest_by measure ys)
 longest-append measure [] ys = omega arith
 longest-append measure (x ∷ xs) ys = omega (arith, longest-append measure xs ys)
+
+-- how long the longest of a gap and those on both sides of it are
+pub node-longest : (l : List Piece) (g : Piece) (r : List Piece) (one two own both all : Longest) → AreLongest l one → AreLongest r two → ((m : Measure) → length_at own m ≡ (units_by m g).length)
+    → ((m : Measure) → length_at both m ≡ max (length_at one m) (length_at two m)) → ((m : Measure) → length_at all m ≡ max (length_at own m) (length_at both m)) → AreLongest (l ++ (g ∷ r)) all
+node-longest l g r one two own both all ones twos owns boths alls m =
+    let a = ones m in
+    let b = twos m in
+    let c = owns m in
+    let d = boths m in
+    let e = alls m in
+    omega (arith, longest-append m l (g ∷ r), a, b, c, d, e)
 
 -- the whole units of the gaps on both sides of one, and of it
 pub cuts-node : (measure : Measure) (l : List Piece) (g : Piece) (r : List Piece) → cuts_by measure (l ++ (g ∷ r)) ≡ cuts_by measure l ++ (cuts_by measure (g ∷ []) ++ cuts_by measure r)

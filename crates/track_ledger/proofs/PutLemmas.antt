@@ -110,3 +110,7 @@ turned xs ys zs longest =
 -- the front first, then what is behind it
 pub put-front : (xs ys zs longest one two three : List Piece) → one ≡ take 5 (put_all xs longest) → two ≡ take 5 (put_all ys one) → three ≡ take 5 (put_all zs two) → three ≡ take 5 (put_all (xs ++ (ys ++ zs)) longest)
 put-front xs ys zs longest one two three first second third = put-back zs ys xs longest one two three first second third ∙ ap (take 5) (turned xs ys zs longest)
+
+-- none is put
+pub put-none : (xs longest : List Piece) → xs ≡ [] → length longest ≤ 5 → longest ≡ take 5 (put_all xs longest)
+put-none xs longest none few = sym (take_all 5 longest few) ∙ ap (λ (l : List Piece). take 5 (put_all l longest)) (sym none)

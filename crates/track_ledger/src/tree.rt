@@ -189,7 +189,8 @@ impl Tree {
             Tree::Full(cell) => {
                 let node: &Node = cell;
                 if node.gap.end() < track {
-                    node.left.len() + 1 + node.right.reaching(track)
+                    let before = node.count as usize - node.right.len();
+                    before + node.right.reaching(track)
                 } else {
                     node.left.reaching(track)
                 }
@@ -224,7 +225,7 @@ impl Tree {
     /// stand behind these are left out; `from` is a track before which none of the gaps begins.
     pub fn put_longest(&self, measure: Measure, from: u32, longest: &mut Grant)
         requires apart { StandApart (items_of self.now) }
-        requires behind { All (λ gap. from ≤ gap.start) items_of self.now }
+        requires behind { All (λ gap. from ≤ gap.start) (items_of self.now) }
         requires sorted { StandLongestFirst longest.old.items }
         requires five { length longest.old.items ≤ 5 }
         ensures items { longest.new.items ≡ take 5 (put_all (cuts_by measure (items_of self.now)) longest.old.items) }
