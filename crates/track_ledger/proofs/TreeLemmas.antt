@@ -136,10 +136,10 @@ reach-right l g r track i j order low h is =
       at = omega (arith, count, le, is);
       before = λ k d zero less. before-right l g r track j k d _ refl order low h (omega (arith, less, is));
       behind = λ k d from less.
-      let more : length l < k = omega (arith, from, is) in
-      let m = k - length l - 1 in
-      let here = h.behind m d (omega (arith, from, is)) (omega (arith, more, less, count)) in
-      rw (at-right l g r k m d more refl) here;
+          let more : length l < k = omega (arith, from, is) in
+          let m = k - length l - 1 in
+          let here = h.behind m d (omega (arith, from, is)) (omega (arith, more, less, count)) in
+          rw (at-right l g r k m d more refl) here;
     }
 
 behind-left : (l : List Piece) (g : Piece) (r : List Piece) (track j k : ℕ) (d : Piece) (b : Bool) → nat_lt k (length l) ≡ b → AreInOrder (l ++ (g ∷ r)) → track ≤ g.start + g.length → IsFirstReaching l track j → j ≤ k → k < length (l ++ (g ∷ r))
@@ -161,9 +161,9 @@ reach-left l g r track j order high h =
     record {
       at = omega (arith, count, le);
       before = λ k d zero less.
-      let low : k < length l = omega (arith, less, le) in
-      let here = h.before k d zero less in
-      rw (at-left l g r k d low) here;
+          let low : k < length l = omega (arith, less, le) in
+          let here = h.before k d zero less in
+          rw (at-left l g r k d low) here;
       behind = λ k d from less. behind-left l g r track j k d _ refl order high h from less;
     }
 

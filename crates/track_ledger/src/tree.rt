@@ -102,7 +102,10 @@ impl Node {
         ensures { self ≡ gaps_around result.0 result.1 result.2 }
     {
         let Node {
-            left, gap, right, ..
+            left,
+            gap,
+            right,
+            ..
         } = self;
         (left, gap, right)
     }

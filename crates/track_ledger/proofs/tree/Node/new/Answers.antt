@@ -11,5 +11,5 @@ invariant_of-result c =
     record {
       counted = omega (arith, length-node left c.args.gap right, c.len.ensures.value, c.len-2.ensures.value);
       measured = node-longest left c.args.gap right c.longest.result c.longest-2.result c.lengths_of.result c.longer.result c.longer-longest.result
-      c.longest.ensures c.longest-2.ensures c.lengths_of.ensures c.longer.ensures c.longer-longest.ensures;
+          c.longest.ensures c.longest-2.ensures c.lengths_of.ensures c.longer.ensures c.longer-longest.ensures;
     }

@@ -42,8 +42,7 @@ put_longest-requires t c =
     let left = items_of c.node.inside.left in
     let gap = c.node.inside.gap in
     let right = items_of c.node.inside.right in
-    let whole : items_of c.args.self.now ≡ left ++ (gap ∷ right) = search rules in
-    (
+    let whole : items_of c.args.self.now ≡ left ++ (gap ∷ right) = search rules in (
       grind (arith, common_steps),
       (apart-left left gap right (subst StandApart whole c.requires.apart), (starts-left c.args.from left gap right (subst (All (λ (g : Piece). c.args.from ≤ g.start)) whole c.requires.behind), (c.requires.sorted, c.requires.five))),
     )
@@ -53,8 +52,7 @@ put_longest-requires-then-by t c =
     let left = items_of c.node.inside.left in
     let gap = c.node.inside.gap in
     let right = items_of c.node.inside.right in
-    let whole : items_of c.args.self.now ≡ left ++ (gap ∷ right) = search rules in
-    (
+    let whole : items_of c.args.self.now ≡ left ++ (gap ∷ right) = search rules in (
       grind (arith, common_steps),
       (apart-right left gap right (subst StandApart whole c.requires.apart), (starts-right left gap right (subst StandApart whole c.requires.apart), (c.put_cut.ensures.sorted, c.put_cut.ensures.five))),
     )
@@ -64,8 +62,7 @@ put_longest-requires-else-by t c =
     let left = items_of c.node.inside.left in
     let gap = c.node.inside.gap in
     let right = items_of c.node.inside.right in
-    let whole : items_of c.args.self.now ≡ left ++ (gap ∷ right) = search rules in
-    (
+    let whole : items_of c.args.self.now ≡ left ++ (gap ∷ right) = search rules in (
       grind (arith, common_steps),
       (apart-right left gap right (subst StandApart whole c.requires.apart), (starts-right left gap right (subst StandApart whole c.requires.apart), (c.requires.sorted, c.requires.five))),
     )
@@ -75,8 +72,7 @@ put_longest-requires-else-by-2 t c =
     let left = items_of c.node.inside.left in
     let gap = c.node.inside.gap in
     let right = items_of c.node.inside.right in
-    let whole : items_of c.args.self.now ≡ left ++ (gap ∷ right) = search rules in
-    (
+    let whole : items_of c.args.self.now ≡ left ++ (gap ∷ right) = search rules in (
       grind (arith, common_steps),
       (apart-left left gap right (subst StandApart whole c.requires.apart), (starts-left c.args.from left gap right (subst (All (λ (g : Piece). c.args.from ≤ g.start)) whole c.requires.behind), (c.put_cut-else-by.ensures.sorted, c.put_cut-else-by.ensures.five))),
     )
