@@ -1,10 +1,10 @@
 -- A list with a gap between what is on its left and on its right.
-use Rattle.std.proofs.Common.{◌≡◌, ◌≤◌, ◌<◌, ℕ, zero, suc, ◌+◌, ◌-◌, Bool, true, false, List, [], ◌∷◌, ◌++◌, length, get_or, set, take, drop, refl, sym, ap, ◌∙◌, subst, arith, append-nil}
+use Rattle.std.proofs.Common.{◌≡◌, ◌≤◌, ◌<◌, ℕ, zero, suc, ◌+◌, ◌-◌, Bool, true, false, List, [], ◌∷◌, ◌++◌, length, get_or, set, take, drop, refl, sym, ap, ◌∙◌, subst, arith, append-nil, append_assoc}
 use Rattle.std.specs.Prelude.{nat_lt}
 use Rattle.std.specs.List.{All, AllWithin, insert, remove}
 use Rattle.std.proofs.lemmas.Bool.Decides.{nat_tests}
-use Rattle.std.proofs.lemmas.List.{length-append, get_or_append_left, get_or-append_right, set-append_left, set-append_right}
-use Rattle.std.proofs.lemmas.List.Edits.{insert-append_left, insert-append_right, remove-append_left, remove-append_right}
+use Rattle.std.proofs.lemmas.List.{drop_all, length-append, length-set, set_split, get_or_append_left, get_or-append_right, set-append_left, set-append_right}
+use Rattle.std.proofs.lemmas.List.Edits.{length-remove, insert-append_left, insert-append_right, remove-append_left, remove-append_right}
 use Rattle.std.proofs.lemmas.List.Elements.{All-cons, All-nil, All-head, All-tail, All-weaker}
 use Rattle.track_ledger.specs.declared.piece.Piece.{Piece}
 use Rattle.track_ledger.specs.GapChanges.{AreInOrder, IsFirstReaching}
@@ -194,3 +194,58 @@ starts-right l g r apart =
 
 pub starts-left : (from : ℕ) (l : List Piece) (g : Piece) (r : List Piece) → All (λ (o : Piece). from ≤ o.start) (l ++ (g ∷ r)) → All (λ (o : Piece). from ≤ o.start) l
 starts-left from l g r all = all-front (λ (o : Piece). from ≤ o.start) l (g ∷ r) all
+
+-- two gaps in place of one
+pub after-part-left : (whole l new : List Piece) (g : Piece) (r result : List Piece) (i : ℕ) (x y : Piece) → whole ≡ l ++ (g ∷ r) → i < length l → new ≡ insert (set l i x) (i + 1) y → result ≡ new ++ (g ∷ r)
+    → result ≡ insert (set whole i x) (i + 1) y
+after-part-left whole l new g r result i x y is less now all =
+    all ∙ ap (λ (n : List Piece). n ++ (g ∷ r)) now ∙ sym (insert-left (set l i x) g r (i + 1) y (omega (arith, length-set l i x, less)))
+    ∙ ap (λ (w : List Piece). insert w (i + 1) y) (sym (set-left l g r i x less) ∙ ap (λ (w : List Piece). set w i x) (sym is))
+
+pub after-part-right : (whole l : List Piece) (g : Piece) (r new result : List Piece) (i j : ℕ) (x y : Piece) → whole ≡ l ++ (g ∷ r) → length l < i → j ≡ i - length l - 1 → new ≡ insert (set r j x) (j + 1) y → result ≡ l ++ (g ∷ new)
+    → result ≡ insert (set whole i x) (i + 1) y
+after-part-right whole l g r new result i j x y is more at now all =
+    all ∙ ap (λ (n : List Piece). l ++ (g ∷ n)) now ∙ sym (insert-right l g (set r j x) (i + 1) (j + 1) y (omega (arith, more)) (omega (arith, more, at)))
+    ∙ ap (λ (w : List Piece). insert w (i + 1) y) (sym (set-right l g r i j x more at) ∙ ap (λ (w : List Piece). set w i x) (sym is))
+
+pub after-part-here : (whole l : List Piece) (g : Piece) (r new result : List Piece) (i : ℕ) (x y : Piece) → whole ≡ l ++ (g ∷ r) → i ≡ length l → new ≡ insert r 0 y → result ≡ l ++ (x ∷ new) → result ≡ insert (set whole i x) (i + 1) y
+after-part-here whole l g r new result i x y is at now all =
+    all ∙ ap (λ (n : List Piece). l ++ (x ∷ n)) now ∙ sym (insert-right l x r (i + 1) 0 y (omega (arith, at)) (omega (arith, at)))
+    ∙ ap (λ (w : List Piece). insert w (i + 1) y) (sym (set-here l g r i x at) ∙ ap (λ (w : List Piece). set w i x) (sym is))
+
+-- one gap in place of two
+pub after-join-left : (whole l new : List Piece) (g : Piece) (r result : List Piece) (i : ℕ) (x : Piece) → whole ≡ l ++ (g ∷ r) → i + 1 < length l → new ≡ remove (set l i x) (i + 1) → result ≡ new ++ (g ∷ r) → result ≡ remove (set whole i x) (i + 1)
+after-join-left whole l new g r result i x is less now all =
+    all ∙ ap (λ (n : List Piece). n ++ (g ∷ r)) now ∙ sym (remove-left (set l i x) g r (i + 1) (omega (arith, length-set l i x, less)))
+    ∙ ap (λ (w : List Piece). remove w (i + 1)) (sym (set-left l g r i x (omega (arith, less))) ∙ ap (λ (w : List Piece). set w i x) (sym is))
+
+pub after-join-right : (whole l : List Piece) (g : Piece) (r new result : List Piece) (i j : ℕ) (x : Piece) → whole ≡ l ++ (g ∷ r) → length l < i → j ≡ i - length l - 1 → new ≡ remove (set r j x) (j + 1) → result ≡ l ++ (g ∷ new)
+    → result ≡ remove (set whole i x) (i + 1)
+after-join-right whole l g r new result i j x is more at now all =
+    all ∙ ap (λ (n : List Piece). l ++ (g ∷ n)) now ∙ sym (remove-right l g (set r j x) (i + 1) (j + 1) (omega (arith, more)) (omega (arith, more, at)))
+    ∙ ap (λ (w : List Piece). remove w (i + 1)) (sym (set-right l g r i j x more at) ∙ ap (λ (w : List Piece). set w i x) (sym is))
+
+pub after-join-here : (whole l : List Piece) (g : Piece) (r new result : List Piece) (i : ℕ) (x : Piece) → whole ≡ l ++ (g ∷ r) → i ≡ length l → new ≡ remove r 0 → result ≡ l ++ (x ∷ new) → result ≡ remove (set whole i x) (i + 1)
+after-join-here whole l g r new result i x is at now all =
+    all ∙ ap (λ (n : List Piece). l ++ (x ∷ n)) now ∙ sym (remove-right l x r (i + 1) 0 (omega (arith, at)) (omega (arith, at)))
+    ∙ ap (λ (w : List Piece). remove w (i + 1)) (sym (set-here l g r i x at) ∙ ap (λ (w : List Piece). set w i x) (sym is))
+
+-- the last gap on the left becomes another, in place of the one in the middle
+last-set : (l : List Piece) (i : ℕ) (x : Piece) → i + 1 ≡ length l → set l i x ≡ remove l i ++ (x ∷ [])
+last-set l i x last =
+    let none : drop (suc i) l ≡ [] = drop_all (suc i) l (omega (arith, last)) in
+    set_split l i x (omega (arith, last)) ∙ ap (λ (d : List Piece). take i l ++ (x ∷ d)) none
+    ∙ ap (λ (f : List Piece). f ++ (x ∷ [])) (sym (ap (λ (d : List Piece). take i l ++ d) none ∙ append-nil (take i l)))
+
+pub after-join-last : (whole l : List Piece) (g : Piece) (r new result : List Piece) (i : ℕ) (x : Piece) → whole ≡ l ++ (g ∷ r) → i + 1 ≡ length l → new ≡ remove l i → result ≡ new ++ (x ∷ r) → result ≡ remove (set whole i x) (i + 1)
+after-join-last whole l g r new result i x is last now all =
+    all ∙ ap (λ (n : List Piece). n ++ (x ∷ r)) now ∙ sym (append_assoc (remove l i) (x ∷ []) r) ∙ ap (λ (n : List Piece). n ++ r) (sym (last-set l i x last))
+    ∙ sym (remove-here (set l i x) g r (i + 1) (omega (arith, length-set l i x, last)))
+    ∙ ap (λ (w : List Piece). remove w (i + 1)) (sym (set-left l g r i x (omega (arith, last))) ∙ ap (λ (w : List Piece). set w i x) (sym is))
+
+-- how many gaps are left
+pub fewer-removed : (l new : List Piece) (i : ℕ) → i < length l → new ≡ remove l i → length new + 1 ≡ length l
+fewer-removed l new i less is = ap (λ (n : List Piece). length n + 1) is ∙ length-remove l i less
+
+pub fewer-joined : (l new : List Piece) (i : ℕ) (x : Piece) → i + 1 < length l → new ≡ remove (set l i x) (i + 1) → length new + 1 ≡ length l
+fewer-joined l new i x less is = fewer-removed (set l i x) new (i + 1) (omega (arith, length-set l i x, less)) is ∙ length-set l i x

@@ -284,6 +284,9 @@ fn put_cut(gap: &Piece, measure: Measure, longest: &mut Grant)
     ensures five { length longest.new.items ≤ 5 }
 {
     if let Some(cut) = units_in(gap, measure) {
+        if is_behind(longest.as_slice(), &cut) {
+            return;
+        }
         put_among(longest, &cut);
     }
 }
