@@ -1,5 +1,5 @@
 -- How long the longest of some gaps is in a part, in whole units, and which of them holds a need.
-use Rattle.std.proofs.Common.{◌≡◌, ◌≤◌, ◌<◌, ℕ, zero, suc, ◌+◌, Bool, true, false, List, [], ◌∷◌, ◌++◌, length, get_or, refl, sym, ap, ◌∙◌, subst, arith}
+use Rattle.std.proofs.Common.{◌≡◌, ◌≤◌, ◌<◌, ℕ, Bool, true, false, List, [], ◌∷◌, ◌++◌, refl, sym, ap, ◌∙◌, arith}
 use Rattle.std.specs.Prelude.{Option, None, Some, find, map, max, nat_le, nat_lt, if◌then◌else◌}
 use Rattle.std.specs.Option.{option_or}
 use Rattle.std.specs.List.{All}
@@ -7,38 +7,15 @@ use Rattle.std.proofs.lemmas.Bool.Decides.{nat_tests}
 use Rattle.std.proofs.lemmas.List.{map-append}
 use Rattle.std.proofs.lemmas.List.Elements.{All-cons, All-nil, All-head, All-tail, All-weaker}
 use Rattle.std.proofs.lemmas.List.Folds.{find-append}
-use Rattle.std.proofs.Math.Nat.{mod-eq_of_lt}
 use Rattle.track_ledger.specs.declared.measure.Longest.{Longest}
 use Rattle.track_ledger.specs.declared.measure.Measure.{Measure}
 use Rattle.track_ledger.specs.declared.measure.Measure.TheVariants.{Tracks, Cylinders, Managed}
 use Rattle.track_ledger.specs.declared.piece.Piece.{Piece}
-use Rattle.track_ledger.specs.Gaps.{clip, unit_gaps, whole_units}
+use Rattle.track_ledger.specs.Gaps.{clip, unit_gaps}
 use Rattle.track_ledger.specs.GapRule.{comes_first}
 use Rattle.track_ledger.specs.Measures.{AreLongest, cuts_by, end_by, from_by, length_at, longest_by, unit_by, units_by}
-use Rattle.track_ledger.proofs.LongestLemmas.{find-long, find-none, find-short, unit-append, unit-none, unit-one}
-use Rattle.track_ledger.proofs.PlacedLemmas.{units-whole}
-use Rattle.track_ledger.proofs.UnitLemmas.{units-low, units-high}
-
-cut-shorter : (size : ℕ) (gap : Piece) → 0 < size → 0 < (whole_units size gap).length → (whole_units size gap).length ≤ gap.length
-cut-shorter size gap some more = omega (arith, units-low size gap some, units-high size gap more)
-
-small-none_at : (size : ℕ) (gap : Piece) (b : Bool) → nat_lt 0 (whole_units size gap).length ≡ b → 0 < size → gap.length < size → nat_lt 0 (whole_units size gap).length ≡ false
-small-none_at size gap true is some short =
-    let more : 0 < (whole_units size gap).length = grind (arith, nat_tests, is) in
-    let less : (whole_units size gap).length < size = omega (arith, cut-shorter size gap some more, short) in
-    let none : (whole_units size gap).length ≡ 0 = sym (mod-eq_of_lt less) ∙ units-whole size gap more in
-    absurd (omega (arith, more, none))
-small-none_at size gap false is some short = is
-
--- a gap that is shorter than a unit holds none
-pub small-none : (size : ℕ) (gap : Piece) → 0 < size → gap.length < size → nat_lt 0 (whole_units size gap).length ≡ false
-small-none size gap some short = small-none_at size gap _ refl some short
-
--- one of three lengths, by each measure
-pub each-length : (lengths : Longest) (length : Measure → ℕ) → lengths.tracks ≡ length Tracks → lengths.cylinders ≡ length Cylinders → lengths.managed ≡ length Managed → (measure : Measure) → length_at lengths measure ≡ length measure
-each-length lengths length tracks cylinders managed Tracks = tracks
-each-length lengths length tracks cylinders managed Cylinders = cylinders
-each-length lengths length tracks cylinders managed Managed = managed
+use Rattle.track_ledger.proofs.LongestLemmas.{find-none, unit-append, unit-one}
+use Rattle.track_ledger.proofs.UnitLemmas.{units-low}
 
 unit-some : (measure : Measure) → 0 < unit_by measure
 unit-some Tracks = omega arith
@@ -89,9 +66,6 @@ all-behind-none : (gaps : List Piece) → All (λ (gap : Piece). 0 ≤ gap.start
 all-behind-none [] = All-nil (λ (gap : Piece). 0 ≤ gap.start)
 all-behind-none (gap ∷ gaps) = All-cons (λ (g : Piece). 0 ≤ g.start) gap gaps (omega arith) (all-behind-none gaps)
 
-pub from-zero : (gaps : List Piece) (from : ℕ) → from ≡ 0 → All (λ (gap : Piece). from ≤ gap.start) gaps
-from-zero gaps from is = rw is (all-behind-none gaps)
-
 pub cuts-shorter : (measure : Measure) (gaps : List Piece) (most : ℕ) → most ≡ longest_by measure gaps → All (λ (cut : Piece). cut.length ≤ most) (cuts_by measure gaps)
 cuts-shorter measure gaps most is =
     All-weaker (IsCut 0 most) (λ (cut : Piece). cut.length ≤ most) (λ cut h. h.1) (cuts_by measure gaps) (cuts-within measure 0 most gaps (all-behind-none gaps) (omega (arith, is)))
@@ -130,20 +104,8 @@ lowest-right measure need l g r found none own here =
     ∙ sym (lowest-node measure need l g r)
 
 -- one gap alone
-pub cut-none : (measure : Measure) (gap : Piece) → None ≡ (if nat_lt 0 (units_by measure gap).length then Some (units_by measure gap) else None) → cuts_by measure (gap ∷ []) ≡ []
-cut-none measure gap found = unit-none (unit_by measure) (clip (from_by measure) (end_by measure) gap) _ refl found
-
 pub cut-one : (measure : Measure) (gap cut : Piece) → Some cut ≡ (if nat_lt 0 (units_by measure gap).length then Some (units_by measure gap) else None) → cuts_by measure (gap ∷ []) ≡ cut ∷ []
 cut-one measure gap cut found = unit-one (unit_by measure) (clip (from_by measure) (end_by measure) gap) cut _ refl found
-
-pub own-none : (measure : Measure) (need : ℕ) (gap : Piece) → None ≡ (if nat_lt 0 (units_by measure gap).length then Some (units_by measure gap) else None) → None ≡ lowest_of measure need (gap ∷ [])
-own-none measure need gap found = sym (ap (find (λ (cut : Piece). nat_le need cut.length)) (cut-none measure gap found))
-
-pub own-short : (measure : Measure) (need : ℕ) (gap cut : Piece) → Some cut ≡ (if nat_lt 0 (units_by measure gap).length then Some (units_by measure gap) else None) → cut.length < need → None ≡ lowest_of measure need (gap ∷ [])
-own-short measure need gap cut found short = sym (ap (find (λ (c : Piece). nat_le need c.length)) (cut-one measure gap cut found) ∙ find-short need cut [] short)
-
-pub own-long : (measure : Measure) (need : ℕ) (gap cut : Piece) → Some cut ≡ (if nat_lt 0 (units_by measure gap).length then Some (units_by measure gap) else None) → need ≤ cut.length → Some cut ≡ lowest_of measure need (gap ∷ [])
-own-long measure need gap cut found long = sym (ap (find (λ (c : Piece). nat_le need c.length)) (cut-one measure gap cut found) ∙ find-long need cut [] long)
 
 -- gaps behind a gap that stands behind another
 pub all-behind : (measure : Measure) (gaps : List Piece) (best last : Piece) → best.length ≡ longest_by measure gaps → All (λ (gap : Piece). best.start ≤ gap.start) gaps → comes_first best last ≡ false

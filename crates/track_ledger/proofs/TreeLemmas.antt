@@ -1,7 +1,7 @@
 -- A list with a gap between what is on its left and on its right.
-use Rattle.std.proofs.Common.{◌≡◌, ◌≤◌, ◌<◌, ℕ, zero, suc, ◌+◌, ◌-◌, Bool, true, false, List, [], ◌∷◌, ◌++◌, length, get_or, set, take, drop, refl, sym, ap, ◌∙◌, subst, arith, append-nil, append_assoc}
+use Rattle.std.proofs.Common.{◌≡◌, ◌≤◌, ◌<◌, ℕ, suc, ◌+◌, ◌-◌, Bool, true, false, List, [], ◌∷◌, ◌++◌, length, get_or, set, take, drop, refl, sym, ap, ◌∙◌, arith, append-nil, append_assoc}
 use Rattle.std.specs.Prelude.{nat_lt}
-use Rattle.std.specs.List.{All, AllWithin, insert, remove}
+use Rattle.std.specs.List.{All, insert, remove}
 use Rattle.std.proofs.lemmas.Bool.Decides.{nat_tests}
 use Rattle.std.proofs.lemmas.List.{drop_all, length-append, length-set, set_split, get_or_append_left, get_or-append_right, set-append_left, set-append_right}
 use Rattle.std.proofs.lemmas.List.Edits.{length-remove, insert-append_left, insert-append_right, remove-append_left, remove-append_right}
@@ -63,10 +63,6 @@ pub remove-right : (l : List Piece) (g : Piece) (r : List Piece) (i j : ℕ) →
 remove-right l g r i j more is =
     let next : i - length l ≡ suc j = omega (arith, more, is) in
     remove-append_right l (g ∷ r) (length l) i refl (omega (arith, more)) ∙ ap (λ n. l ++ remove (g ∷ r) n) next
-
-pub none-left : (xs : List Piece) → length xs ≡ 0 → xs ≡ []
-none-left [] none = refl
-none-left (x ∷ xs) none = absurd (omega arith)
 
 -- the first gap of a list, and the others
 pub first-and-rest : (r rest : List Piece) (g d : Piece) → 0 < length r → rest ≡ remove r 0 → g ≡ get_or r 0 d → g ∷ rest ≡ r
@@ -171,10 +167,6 @@ reach-left l g r track j order high h =
 all-front : (P : Piece → Type 0) (xs ys : List Piece) → All P (xs ++ ys) → All P xs
 all-front P [] ys all = All-nil P
 all-front P (x ∷ xs) ys all = All-cons P x xs (All-head P x (xs ++ ys) all) (all-front P xs ys (All-tail P x (xs ++ ys) all))
-
-all-back : (P : Piece → Type 0) (xs ys : List Piece) → All P (xs ++ ys) → All P ys
-all-back P [] ys all = all
-all-back P (x ∷ xs) ys all = all-back P xs ys (All-tail P x (xs ++ ys) all)
 
 pub apart-left : (l : List Piece) (g : Piece) (r : List Piece) → StandApart (l ++ (g ∷ r)) → StandApart l
 apart-left [] g r apart = tt
