@@ -2,7 +2,7 @@
 ghost use Rattle.std.specs.Prelude.{◌≡◌, ◌≤◌, ◌<◌, ◌+◌, ◌^◌, length, slice_index_or, slice_set};
 ghost use Rattle.std.specs.List.{insert, remove};
 ghost use Rattle.track_ledger.specs.declared.piece.Piece.{Piece};
-ghost use Rattle.track_ledger.specs.Trees.{items_of};
+ghost use Rattle.track_ledger.specs.Trees.{gaps_around, items_of};
 
 use crate::piece::Piece;
 use crate::tree::{Node, Parts, Tree, fork, taken};
@@ -89,7 +89,7 @@ pub fn with_parted(tree: Tree, index: usize, gap: Piece, spare: Box<Node>, next:
     }
 }
 
-/// What a gap is taken from.
+/// A tree from which a gap was taken, the gap, and its node, which is spare now.
 #[derive(Drop)]
 pub struct Rest {
     pub tree: Tree,
@@ -97,7 +97,33 @@ pub struct Rest {
     pub spare: Box<Node>,
 }
 
-/// Takes the gap at a place from a tree; its node is spare now.
+// A tree whose left side is what is left.
+fn over_left(cell: Box<Node>, rest: Rest, gap: Piece, right: Tree) -> Rest
+    requires { length (gaps_around rest.tree gap right) < 2 ^ 32 }
+    ensures tree { items_of result.tree ≡ gaps_around rest.tree gap right }
+    ensures gap { result.gap ≡ rest.gap }
+{
+    Rest {
+        tree: settled(cell, rest.tree, gap, right),
+        gap: rest.gap,
+        spare: rest.spare,
+    }
+}
+
+// A tree whose right side is what is left.
+fn over_right(cell: Box<Node>, left: Tree, gap: Piece, rest: Rest) -> Rest
+    requires { length (gaps_around left gap rest.tree) < 2 ^ 32 }
+    ensures tree { items_of result.tree ≡ gaps_around left gap rest.tree }
+    ensures gap { result.gap ≡ rest.gap }
+{
+    Rest {
+        tree: settled(cell, left, gap, rest.tree),
+        gap: rest.gap,
+        spare: rest.spare,
+    }
+}
+
+/// Takes the gap at a place from a tree.
 pub fn without(tree: Tree, index: usize) -> Rest
     requires at { index < length (items_of tree) }
     requires small { length (items_of tree) < 2 ^ 32 }
@@ -115,20 +141,11 @@ pub fn without(tree: Tree, index: usize) -> Rest
             } = taken(node);
             let before = left.len();
             if index < before {
-                let rest = without(left, index);
-                return Rest {
-                    tree: settled(cell, rest.tree, gap, right),
-                    gap: rest.gap,
-                    spare: rest.spare,
-                };
+                return over_left(cell, without(left, index), gap, right);
             }
             if before < index {
                 let rest = without(right, index - before - 1);
-                return Rest {
-                    tree: settled(cell, left, gap, rest.tree),
-                    gap: rest.gap,
-                    spare: rest.spare,
-                };
+                return over_right(cell, left, gap, rest);
             }
             if right.len() == 0 {
                 return Rest {
@@ -147,7 +164,7 @@ pub fn without(tree: Tree, index: usize) -> Rest
     }
 }
 
-/// Puts one gap in place of two neighbours in a tree; the second one's node is spare now.
+/// Puts one gap in place of two neighbours in a tree.
 pub fn with_joined(tree: Tree, index: usize, gap: Piece) -> Rest
     requires at { index + 1 < length (items_of tree) }
     requires small { length (items_of tree) < 2 ^ 32 }
@@ -164,35 +181,16 @@ pub fn with_joined(tree: Tree, index: usize, gap: Piece) -> Rest
             } = taken(node);
             let before = left.len();
             if index + 1 < before {
-                let rest = with_joined(left, index, gap);
-                return Rest {
-                    tree: settled(cell, rest.tree, own, right),
-                    gap: rest.gap,
-                    spare: rest.spare,
-                };
+                return over_left(cell, with_joined(left, index, gap), own, right);
             }
             if before < index {
                 let rest = with_joined(right, index - before - 1, gap);
-                return Rest {
-                    tree: settled(cell, left, own, rest.tree),
-                    gap: rest.gap,
-                    spare: rest.spare,
-                };
+                return over_right(cell, left, own, rest);
             }
             if index < before {
-                let rest = without(left, index);
-                return Rest {
-                    tree: settled(cell, rest.tree, gap, right),
-                    gap: own,
-                    spare: rest.spare,
-                };
+                return over_left(cell, without(left, index), gap, right);
             }
-            let rest = without(right, 0);
-            Rest {
-                tree: settled(cell, left, gap, rest.tree),
-                gap: rest.gap,
-                spare: rest.spare,
-            }
+            over_right(cell, left, gap, without(right, 0))
         }
     }
 }

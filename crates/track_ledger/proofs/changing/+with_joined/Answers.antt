@@ -7,48 +7,48 @@ use Rattle.track_ledger.proofs.changing.+with_joined.Goals as goal
 pub returns-then-index-before : goal.returns-then-index-before
 returns-then-index-before t c =
     let parts = c.taken-cell.result in
-    after-join-left (items_of c.args.tree) (items_of parts.left) (items_of c.with_joined-rest.result.tree) parts.gap (items_of parts.right) (items_of c.settled.result) c.args.index c.args.gap
-    (ap items_of c.in-Full.is ∙ c.taken-cell.ensures) (omega (arith, c.len-before.ensures.value, c.if-index-before.true)) c.with_joined-rest.ensures c.settled.ensures
+    after-join-left (items_of c.args.tree) (items_of parts.left) (items_of c.with_joined.result.tree) parts.gap (items_of parts.right) (items_of c.over_left.result.tree) c.args.index c.args.gap
+    (ap items_of c.in-Full.is ∙ c.taken-cell.ensures) (omega (arith, c.len-before.ensures.value, c.if-index-before.true)) c.with_joined.ensures c.over_left.ensures.tree
 
-pub settled-requires-then-before-index : goal.settled-requires-then-before-index
-settled-requires-then-before-index t c =
+pub over_right-requires : goal.over_right-requires
+over_right-requires t c =
     let parts = c.taken-cell.result in
     let left = items_of parts.left in
     let right = items_of parts.right in
-    let rest = items_of c.with_joined-rest-then-before-index.result.tree in
+    let rest = items_of c.with_joined-rest.result.tree in
     let whole : length (items_of c.args.tree) ≡ length (left ++ (parts.gap ∷ right)) = ap (λ (l : List Piece). length l) (ap items_of c.in-Full.is ∙ c.taken-cell.ensures) in
     let count = length-node left parts.gap right in
     let next = length-node left parts.gap rest in
-    let fewer = fewer-joined right rest (c.args.index - c.len-before.result - 1) c.args.gap (omega (arith, whole, count, c.requires.at, c.len-before.ensures.value, c.if-before-index.true)) c.with_joined-rest-then-before-index.ensures in
+    let fewer = fewer-joined right rest (c.args.index - c.len-before.result - 1) c.args.gap (omega (arith, whole, count, c.requires.at, c.len-before.ensures.value, c.if-before-index.true)) c.with_joined-rest.ensures in
     omega (arith, whole, count, next, fewer, c.requires.small)
 
 pub returns-then-before-index : goal.returns-then-before-index
 returns-then-before-index t c =
     let parts = c.taken-cell.result in
-    after-join-right (items_of c.args.tree) (items_of parts.left) parts.gap (items_of parts.right) (items_of c.with_joined-rest-then-before-index.result.tree) (items_of c.settled-then-before-index.result) c.args.index
+    after-join-right (items_of c.args.tree) (items_of parts.left) parts.gap (items_of parts.right) (items_of c.with_joined-rest.result.tree) (items_of c.over_right.result.tree) c.args.index
     (c.args.index - c.len-before.result - 1) c.args.gap (ap items_of c.in-Full.is ∙ c.taken-cell.ensures) (omega (arith, c.len-before.ensures.value, c.if-before-index.true)) (omega (arith, c.len-before.ensures.value))
-    c.with_joined-rest-then-before-index.ensures c.settled-then-before-index.ensures
+    c.with_joined-rest.ensures c.over_right.ensures.tree
 
-pub settled-requires-then-index-before-2 : goal.settled-requires-then-index-before-2
-settled-requires-then-index-before-2 t c =
+pub over_left-requires-then-index-before-2 : goal.over_left-requires-then-index-before-2
+over_left-requires-then-index-before-2 t c =
     let parts = c.taken-cell.result in
     let left = items_of parts.left in
     let right = items_of parts.right in
-    let rest = items_of c.without-rest.result.tree in
+    let rest = items_of c.without.result.tree in
     let whole : length (items_of c.args.tree) ≡ length (left ++ (parts.gap ∷ right)) = ap (λ (l : List Piece). length l) (ap items_of c.in-Full.is ∙ c.taken-cell.ensures) in
     let count = length-node left parts.gap right in
     let next = length-node rest c.args.gap right in
-    let fewer = fewer-removed left rest c.args.index (omega (arith, c.len-before.ensures.value, c.if-index-before-2.true)) c.without-rest.ensures.tree in
+    let fewer = fewer-removed left rest c.args.index (omega (arith, c.len-before.ensures.value, c.if-index-before-2.true)) c.without.ensures.tree in
     omega (arith, whole, count, next, fewer, c.requires.small)
 
 pub returns-then-index-before-2 : goal.returns-then-index-before-2
 returns-then-index-before-2 t c =
     let parts = c.taken-cell.result in
-    after-join-last (items_of c.args.tree) (items_of parts.left) parts.gap (items_of parts.right) (items_of c.without-rest.result.tree) (items_of c.settled-then-index-before-2.result) c.args.index c.args.gap
-    (ap items_of c.in-Full.is ∙ c.taken-cell.ensures) (omega (arith, c.len-before.ensures.value, c.if-index-before.false, c.if-index-before-2.true)) c.without-rest.ensures.tree c.settled-then-index-before-2.ensures
+    after-join-last (items_of c.args.tree) (items_of parts.left) parts.gap (items_of parts.right) (items_of c.without.result.tree) (items_of c.over_left-then-index-before-2.result.tree) c.args.index c.args.gap
+    (ap items_of c.in-Full.is ∙ c.taken-cell.ensures) (omega (arith, c.len-before.ensures.value, c.if-index-before.false, c.if-index-before-2.true)) c.without.ensures.tree c.over_left-then-index-before-2.ensures.tree
 
 pub returns : goal.returns
 returns t c =
     let parts = c.taken-cell.result in
-    after-join-here (items_of c.args.tree) (items_of parts.left) parts.gap (items_of parts.right) (items_of c.without-rest-in-Full.result.tree) (items_of c.settled-in-Full.result) c.args.index c.args.gap
-    (ap items_of c.in-Full.is ∙ c.taken-cell.ensures) (omega (arith, c.len-before.ensures.value, c.if-before-index.false, c.if-index-before-2.false)) c.without-rest-in-Full.ensures.tree c.settled-in-Full.ensures
+    after-join-here (items_of c.args.tree) (items_of parts.left) parts.gap (items_of parts.right) (items_of c.without-in-Full.result.tree) (items_of c.over_right-in-Full.result.tree) c.args.index c.args.gap
+    (ap items_of c.in-Full.is ∙ c.taken-cell.ensures) (omega (arith, c.len-before.ensures.value, c.if-before-index.false, c.if-index-before-2.false)) c.without-in-Full.ensures.tree c.over_right-in-Full.ensures.tree
