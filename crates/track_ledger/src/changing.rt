@@ -98,7 +98,7 @@ pub struct Rest {
 }
 
 // A tree whose left side is what is left.
-fn over_left(cell: Box<Node>, rest: Rest, gap: Piece, right: Tree) -> Rest
+fn with_left(cell: Box<Node>, rest: Rest, gap: Piece, right: Tree) -> Rest
     requires { length (gaps_around rest.tree gap right) < 2 ^ 32 }
     ensures tree { items_of result.tree ≡ gaps_around rest.tree gap right }
     ensures gap { result.gap ≡ rest.gap }
@@ -111,7 +111,7 @@ fn over_left(cell: Box<Node>, rest: Rest, gap: Piece, right: Tree) -> Rest
 }
 
 // A tree whose right side is what is left.
-fn over_right(cell: Box<Node>, left: Tree, gap: Piece, rest: Rest) -> Rest
+fn with_right(cell: Box<Node>, left: Tree, gap: Piece, rest: Rest) -> Rest
     requires { length (gaps_around left gap rest.tree) < 2 ^ 32 }
     ensures tree { items_of result.tree ≡ gaps_around left gap rest.tree }
     ensures gap { result.gap ≡ rest.gap }
@@ -141,11 +141,11 @@ pub fn without(tree: Tree, index: usize) -> Rest
             } = taken(node);
             let before = left.len();
             if index < before {
-                return over_left(cell, without(left, index), gap, right);
+                return with_left(cell, without(left, index), gap, right);
             }
             if before < index {
                 let rest = without(right, index - before - 1);
-                return over_right(cell, left, gap, rest);
+                return with_right(cell, left, gap, rest);
             }
             if right.len() == 0 {
                 return Rest {
@@ -181,16 +181,16 @@ pub fn with_joined(tree: Tree, index: usize, gap: Piece) -> Rest
             } = taken(node);
             let before = left.len();
             if index + 1 < before {
-                return over_left(cell, with_joined(left, index, gap), own, right);
+                return with_left(cell, with_joined(left, index, gap), own, right);
             }
             if before < index {
                 let rest = with_joined(right, index - before - 1, gap);
-                return over_right(cell, left, own, rest);
+                return with_right(cell, left, own, rest);
             }
             if index < before {
-                return over_left(cell, without(left, index), gap, right);
+                return with_left(cell, without(left, index), gap, right);
             }
-            over_right(cell, left, gap, without(right, 0))
+            with_right(cell, left, gap, without(right, 0))
         }
     }
 }

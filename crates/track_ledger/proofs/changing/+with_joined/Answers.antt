@@ -7,11 +7,11 @@ use Rattle.track_ledger.proofs.changing.+with_joined.Goals as goal
 pub returns-then-index-before : goal.returns-then-index-before
 returns-then-index-before t c =
     let parts = c.taken-cell.result in
-    after-join-left (items_of c.args.tree) (items_of parts.left) (items_of c.with_joined.result.tree) parts.gap (items_of parts.right) (items_of c.over_left.result.tree) c.args.index c.args.gap
-    (ap items_of c.in-Full.is ∙ c.taken-cell.ensures) (omega (arith, c.len-before.ensures.value, c.if-index-before.true)) c.with_joined.ensures c.over_left.ensures.tree
+    after-join-left (items_of c.args.tree) (items_of parts.left) (items_of c.with_joined.result.tree) parts.gap (items_of parts.right) (items_of c.with_left.result.tree) c.args.index c.args.gap
+    (ap items_of c.in-Full.is ∙ c.taken-cell.ensures) (omega (arith, c.len-before.ensures.value, c.if-index-before.true)) c.with_joined.ensures c.with_left.ensures.tree
 
-pub over_right-requires : goal.over_right-requires
-over_right-requires t c =
+pub with_right-requires : goal.with_right-requires
+with_right-requires t c =
     let parts = c.taken-cell.result in
     let left = items_of parts.left in
     let right = items_of parts.right in
@@ -25,12 +25,12 @@ over_right-requires t c =
 pub returns-then-before-index : goal.returns-then-before-index
 returns-then-before-index t c =
     let parts = c.taken-cell.result in
-    after-join-right (items_of c.args.tree) (items_of parts.left) parts.gap (items_of parts.right) (items_of c.with_joined-rest.result.tree) (items_of c.over_right.result.tree) c.args.index
+    after-join-right (items_of c.args.tree) (items_of parts.left) parts.gap (items_of parts.right) (items_of c.with_joined-rest.result.tree) (items_of c.with_right.result.tree) c.args.index
     (c.args.index - c.len-before.result - 1) c.args.gap (ap items_of c.in-Full.is ∙ c.taken-cell.ensures) (omega (arith, c.len-before.ensures.value, c.if-before-index.true)) (omega (arith, c.len-before.ensures.value))
-    c.with_joined-rest.ensures c.over_right.ensures.tree
+    c.with_joined-rest.ensures c.with_right.ensures.tree
 
-pub over_left-requires-then-index-before-2 : goal.over_left-requires-then-index-before-2
-over_left-requires-then-index-before-2 t c =
+pub with_left-requires-then-index-before-2 : goal.with_left-requires-then-index-before-2
+with_left-requires-then-index-before-2 t c =
     let parts = c.taken-cell.result in
     let left = items_of parts.left in
     let right = items_of parts.right in
@@ -44,11 +44,11 @@ over_left-requires-then-index-before-2 t c =
 pub returns-then-index-before-2 : goal.returns-then-index-before-2
 returns-then-index-before-2 t c =
     let parts = c.taken-cell.result in
-    after-join-last (items_of c.args.tree) (items_of parts.left) parts.gap (items_of parts.right) (items_of c.without.result.tree) (items_of c.over_left-then-index-before-2.result.tree) c.args.index c.args.gap
-    (ap items_of c.in-Full.is ∙ c.taken-cell.ensures) (omega (arith, c.len-before.ensures.value, c.if-index-before.false, c.if-index-before-2.true)) c.without.ensures.tree c.over_left-then-index-before-2.ensures.tree
+    after-join-last (items_of c.args.tree) (items_of parts.left) parts.gap (items_of parts.right) (items_of c.without.result.tree) (items_of c.with_left-then-index-before-2.result.tree) c.args.index c.args.gap
+    (ap items_of c.in-Full.is ∙ c.taken-cell.ensures) (omega (arith, c.len-before.ensures.value, c.if-index-before.false, c.if-index-before-2.true)) c.without.ensures.tree c.with_left-then-index-before-2.ensures.tree
 
 pub returns : goal.returns
 returns t c =
     let parts = c.taken-cell.result in
-    after-join-here (items_of c.args.tree) (items_of parts.left) parts.gap (items_of parts.right) (items_of c.without-in-Full.result.tree) (items_of c.over_right-in-Full.result.tree) c.args.index c.args.gap
-    (ap items_of c.in-Full.is ∙ c.taken-cell.ensures) (omega (arith, c.len-before.ensures.value, c.if-before-index.false, c.if-index-before-2.false)) c.without-in-Full.ensures.tree c.over_right-in-Full.ensures.tree
+    after-join-here (items_of c.args.tree) (items_of parts.left) parts.gap (items_of parts.right) (items_of c.without-in-Full.result.tree) (items_of c.with_right-in-Full.result.tree) c.args.index c.args.gap
+    (ap items_of c.in-Full.is ∙ c.taken-cell.ensures) (omega (arith, c.len-before.ensures.value, c.if-before-index.false, c.if-index-before-2.false)) c.without-in-Full.ensures.tree c.with_right-in-Full.ensures.tree
