@@ -428,8 +428,11 @@ def try_serve(program, name, messages):
             port += 1
             status, text, heard = serve(program, port, messages, refusal)
             if refusal.was_made():
-                if how != "fail":
+                if how == "short":
                     good = (status, text, heard) == wanted
+                elif how == "each":
+                    # a message may be refused before it was read whole, and the system then breaks the link
+                    good = (status, text) == wanted[:2] and are_heard(heard, wanted[2])
                 else:
                     good = status in (0, 4, 7, 8, 9) and are_heard(heard, wanted[2])
                 check(good, f"{name}: {refusal}: status {status}, {text!r}, {heard!r}")
