@@ -15,13 +15,13 @@ use Rattle.sqlite_schema.specs.Rules.{guards}
 use Rattle.sqlite_schema.specs.declared.schema.Index.{Index}
 use Rattle.sqlite_schema.specs.declared.schema.Reference.{Reference}
 use Rattle.sqlite_schema.specs.declared.schema.View.{View as Stored}
-use Rattle.keeper_statements.specs.Found.{CanServe, IsThere, MayBeThere, are_bound, is_desk_name, keys_of, keys_on, placed, table_in, table_of}
+use Rattle.keeper_statements.specs.Found.{CanServe, HasForm, IsThere, MayBeThere, MayHaveForm, are_bound, is_desk_name, keys_of, keys_on, placed, table_in, table_of}
 use Rattle.keeper_statements.specs.Changes.{empty_tables}
 use Rattle.keeper_statements.specs.Presence.{all_there, has_table, none_there, present_in}
 use Rattle.keeper_statements.specs.declared.present.Present.{Present}
 use Rattle.keeper_statements.specs.Schema.{desk_tables, sets_table, replies_table, decks_table, statuses_table, floors_table}
 use Rattle.keeper_statements.specs.Steps.{HasMade, HasMadeTable, Provides}
-use Rattle.keeper_statements.specs.Tables.{HasTable, IsKeyed, IsReady, Serves, bodies, rows_at, rows_named, tables_in}
+use Rattle.keeper_statements.specs.Tables.{HasTable, IsKeyed, IsLegible, IsReady, Serves, bodies, rows_at, rows_named, tables_in}
 use Rattle.keeper_statements.proofs.CreateLemmas.{any_past, still_whole}
 use Rattle.keeper_statements.proofs.EditLemmas.{rows_of_form}
 use Rattle.keeper_statements.proofs.PlaceLemmas.{has_table_in}
@@ -426,7 +426,7 @@ ready_serves db ready = record {
   );
 }
 
-rows_missing : (db : Database) (name : List ℕ) → has_table db.schema.tables name ≡ false → rows_named db name ≡ []
+pub rows_missing : (db : Database) (name : List ℕ) → has_table db.schema.tables name ≡ false → rows_named db name ≡ []
 rows_missing db name none = by (table_of db.schema name) refl
   where
     by : (o : Option Table) → table_of db.schema name ≡ o → rows_at db.trees (table_of db.schema name) ≡ []
@@ -442,3 +442,22 @@ none_without db none = λ i. record {
   statuses = bodies (rows_missing db (codes "statuses") (ap (λ (p : Present). p.statuses) none) i);
   floors = bodies (rows_missing db (codes "floors") (ap (λ (p : Present). p.floors) none) i);
 }
+
+may_read : (schema : Schema) (forms : List Table) → AllByRecursion (λ form. MayBeThere form schema) forms → AllByRecursion (λ form. MayHaveForm form schema) forms
+may_read schema [] may = tt
+may_read schema (form ∷ forms) may = (by may.0, may_read schema forms may.1)
+  where
+    by : MayBeThere form schema → MayHaveForm form schema
+    by (inl free) = inl free
+    by (inr there) = inr (record { tree = there.tree; named = there.named; low = there.low })
+
+-- what can be written can be read
+pub serves_legible : (db : Database) → Serves db → IsLegible db
+serves_legible db serves = record { schema = record { tables = may_read db.schema desk_tables serves.schema.tables; apart = serves.schema.apart }; keyed = serves.keyed }
+
+-- a table that is there has the form, and its numbers rise
+pub form_there : (form : Table) (db : Database) → MayHaveForm form db.schema → IsKeyed (rows_named db form.name) → has_table db.schema.tables form.name ≡ true
+    → (h : HasForm form db.schema) × IsKeyed (db.trees h.tree)
+form_there form db (inr there) keyed is = (there, subst IsKeyed (ap (rows_at db.trees) there.named) keyed)
+form_there form db (inl free) keyed is =
+    absurd (let none = unused_table db.schema form.name free in let f = sym (ap is_some none) ∙ found_any (λ (t : Table). same_name t.name form.name) db.schema.tables ∙ is in cc)

@@ -15,7 +15,7 @@ pub mod StayLemmas
 pub mod QueryLemmas
 pub mod OrderLemmas
 pub mod ReadTextLemmas
-pub mod ReadLemmas
 pub mod CreateLemmas
 pub mod GrowLemmas
+pub mod ReadLemmas
 pub mod StatementLemmas

@@ -1,12 +1,12 @@
 -- A table that is found by its name has a place in the schema.
 use Rattle.std.proofs.Common.{◌≡◌, ◌<◌, ◌+◌, eqb, ℕ, suc, Bool, true, false, cond, not, List, [], ◌∷◌, Some, None, Option, length, find, slice_get, refl, sym, ap, ◌∙◌, arith}
-use Rattle.std.specs.List.{position_from}
+use Rattle.std.specs.List.{AllByRecursion, position_from}
 use Rattle.sqlite.specs.Schema.{Schema}
 use Rattle.sqlite.specs.Table.{Table}
 use Rattle.sqlite_rules.specs.Lists.{Has}
 use Rattle.sqlite_rules.proofs.ListLemmas.{all_has, has_found}
 use Rattle.sqlite_schema.specs.Names.{same_name, table_named}
-use Rattle.keeper_statements.specs.Found.{CanServe, IsThere, keys_on, placed, table_in, table_of}
+use Rattle.keeper_statements.specs.Found.{CanServe, HasForm, IsThere, keys_on, placed, table_in, table_of}
 
 -- a table of this form has this place and this tree
 pub record IsListed (form : Table) (tree : ℕ) (schema : Schema) : Type 0 where
@@ -40,6 +40,18 @@ pub listed_of : (form : Table) (schema : Schema) → CanServe schema → (h : Is
 listed_of form schema serves h =
     let it = place_from (λ (t : Table). same_name t.name form.name) schema.tables 0 (placed form h.tree) h.named in
     record { at = it.0; named = it.1 ∙ ap Some (omega arith); listed = it.2; apart = own_tree form schema serves h; low = h.low }
+
+pub placed_of : (form : Table) (schema : Schema) → AllByRecursion (λ (t : Table). table_in schema t.tree ≡ Some t) schema.tables → (h : HasForm form schema) → IsListed form h.tree schema
+placed_of form schema apart h =
+    let it = place_from (λ (t : Table). same_name t.name form.name) schema.tables 0 (placed form h.tree) h.named in
+    let found = has_found (λ (t : Table). same_name t.name form.name) schema.tables (placed form h.tree) h.named in
+    record {
+      at = it.0;
+      named = it.1 ∙ ap Some (omega arith);
+      listed = it.2;
+      apart = all_has (λ (t : Table). table_in schema t.tree ≡ Some t) schema.tables (placed form h.tree) apart found.0;
+      low = h.low;
+    }
 
 name_in : Option Table → List ℕ
 name_in None = []

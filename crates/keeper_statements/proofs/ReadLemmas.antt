@@ -21,11 +21,11 @@ use Rattle.sqlite_trees.specs.Tree.{rowid}
 use Rattle.keeper_statements.specs.Order.{in_order, by_first, by_two, two_columns, three_columns, five_columns, deck_columns}
 use Rattle.sqlite.specs.Table.{Table}
 use Rattle.keeper_statements.specs.Schema.{sets_table, replies_table, decks_table, statuses_table, floors_table}
-use Rattle.keeper_statements.specs.Tables.{HasTable, IsKeyed, IsReady, bodies, rows_named, tables_in}
+use Rattle.keeper_statements.specs.Found.{CanRead, HasForm}
+use Rattle.keeper_statements.specs.Tables.{IsKeyed, bodies, rows_at, rows_named, tables_in}
 use Rattle.keeper_statements.proofs.DeleteLemmas.{overlay_none}
-use Rattle.keeper_statements.proofs.EditLemmas.{rows_of_form}
 use Rattle.keeper_statements.proofs.FoundLemmas.{column_dropped}
-use Rattle.keeper_statements.proofs.PlaceLemmas.{listed_of}
+use Rattle.keeper_statements.proofs.PlaceLemmas.{placed_of}
 use Rattle.keeper_statements.proofs.OrderLemmas.{numbered, numbered_total, numbered_apart, numbered_alike, one_order, order_mapped, sorted_from_map, sorted_stays}
 use Rattle.keeper_statements.proofs.ReadTextLemmas as texts
 
@@ -104,63 +104,58 @@ shows_five : (r : Row) → column r 1 ∷ column r 2 ∷ column r 3 ∷ column r
 shows_five r = λ i. sym (column_dropped r 0) i ∷ sym (column_dropped r 1) i ∷ sym (column_dropped r 2) i ∷ sym (column_dropped r 3) i ∷ sym (column_dropped r 4) i ∷ []
 
 -- the rows that a text shows of a table, where those of its tree are read so
-shown_of : (form : Table) (db : Database) (h : HasTable form db) (key : Row → Row → Ordering) (shown : Row → Row) (rows : List Row)
-    → (IsKeyed (overlay db.trees [] h.there.tree) → rows ≡ map shown (in_order key (overlay db.trees [] h.there.tree))) → rows ≡ map shown (in_order key (rows_named db form.name))
-shown_of form db h key shown rows f =
-    let same = overlay_none h.there.tree db.trees in
-    f (subst IsKeyed (sym same) h.keyed) ∙ ap (λ (l : List Row). map shown (in_order key l)) (same ∙ sym (rows_of_form form db h.there))
+shown_of : (form : Table) (db : Database) (h : HasForm form db.schema) → IsKeyed (db.trees h.tree) → (key : Row → Row → Ordering) (shown : Row → Row) (rows : List Row)
+    → (IsKeyed (overlay db.trees [] h.tree) → rows ≡ map shown (in_order key (overlay db.trees [] h.tree))) → rows ≡ map shown (in_order key (rows_named db form.name))
+shown_of form db h keyed key shown rows f =
+    let same = overlay_none h.tree db.trees in
+    f (subst IsKeyed (sym same) keyed) ∙ ap (λ (l : List Row). map shown (in_order key l)) (same ∙ sym (ap (rows_at db.trees) h.named))
 
-module _ (old new : State) (rows : List Row) (ready : IsReady old.now) where
-  pub sets_shown : Shown texts.sets_text [] old new rows → rows ≡ map two_columns (in_order by_first (tables_in old.now).sets)
-  sets_shown h =
-      let there = ready.sets.there in
+module _ (old new : State) (rows : List Row) (serves : CanRead old.now.schema) where
+  pub sets_shown : (there : HasForm sets_table old.now.schema) → IsKeyed (old.now.trees there.tree) → Shown texts.sets_text [] old new rows → rows ≡ map two_columns (in_order by_first (tables_in old.now).sets)
+  sets_shown there rising h =
       let p = texts.selecting there.tree texts.two_shown texts.by_key in
-      let means = texts.sets_means old.now.schema there.tree (listed_of sets_table old.now.schema ready.serves there) in
+      let means = texts.sets_means old.now.schema there.tree (placed_of sets_table old.now.schema serves.apart there) in
       let reads : Answers old.now p [] rows = reads_as texts.sets_text [] old new old.now.schema refl (Select p (codes "dsn" ∷ codes "rec" ∷ [])) means.is means.plain means.unlisted rows h in
       let answer : IsAnswer p.body (overlay old.now.trees []) [] rows = reads.answer Null in
-      shown_of sets_table old.now ready.sets (on_bodies by_first) (λ r. two_columns (drop 1 r)) rows (λ keyed.
+      shown_of sets_table old.now there rising (on_bodies by_first) (λ r. two_columns (drop 1 r)) rows (λ keyed.
       answer_is there.tree texts.two_shown texts.by_key (on_bodies by_first) (on_total (drop 1) first_total) (λ r. two_columns (drop 1 r)) (overlay old.now.trees []) rows sorts_one shows_two keyed answer)
       ∙ bodies_shown by_first two_columns (rows_named old.now (codes "sets"))
 
-  pub replies_shown : Shown texts.replies_text [] old new rows → rows ≡ map five_columns (in_order by_two (tables_in old.now).replies)
-  replies_shown h =
-      let there = ready.replies.there in
+  pub replies_shown : (there : HasForm replies_table old.now.schema) → IsKeyed (old.now.trees there.tree) → Shown texts.replies_text [] old new rows → rows ≡ map five_columns (in_order by_two (tables_in old.now).replies)
+  replies_shown there rising h =
       let p = texts.selecting there.tree texts.five_shown texts.by_two_keys in
-      let means = texts.replies_means old.now.schema there.tree (listed_of replies_table old.now.schema ready.serves there) in
+      let means = texts.replies_means old.now.schema there.tree (placed_of replies_table old.now.schema serves.apart there) in
       let reads : Answers old.now p [] rows = reads_as texts.replies_text [] old new old.now.schema refl (Select p (codes "job" ∷ codes "number" ∷ codes "place" ∷ codes "request" ∷ codes "reply" ∷ [])) means.is means.plain means.unlisted rows h in
       let answer : IsAnswer p.body (overlay old.now.trees []) [] rows = reads.answer Null in
-      shown_of replies_table old.now ready.replies (on_bodies by_two) (λ r. five_columns (drop 1 r)) rows (λ keyed.
+      shown_of replies_table old.now there rising (on_bodies by_two) (λ r. five_columns (drop 1 r)) rows (λ keyed.
       answer_is there.tree texts.five_shown texts.by_two_keys (on_bodies by_two) (on_total (drop 1) two_total) (λ r. five_columns (drop 1 r)) (overlay old.now.trees []) rows sorts_two shows_five keyed answer)
       ∙ bodies_shown by_two five_columns (rows_named old.now (codes "replies"))
 
-  pub decks_shown : Shown texts.decks_text [] old new rows → rows ≡ map deck_columns (in_order by_first (tables_in old.now).decks)
-  decks_shown h =
-      let there = ready.decks.there in
+  pub decks_shown : (there : HasForm decks_table old.now.schema) → IsKeyed (old.now.trees there.tree) → Shown texts.decks_text [] old new rows → rows ≡ map deck_columns (in_order by_first (tables_in old.now).decks)
+  decks_shown there rising h =
       let p = texts.selecting there.tree texts.deck_shown texts.by_number in
-      let means = texts.decks_means old.now.schema there.tree (listed_of decks_table old.now.schema ready.serves there) in
+      let means = texts.decks_means old.now.schema there.tree (placed_of decks_table old.now.schema serves.apart there) in
       let reads : Answers old.now p [] rows = reads_as texts.decks_text [] old new old.now.schema refl (Select p (codes "count" ∷ codes "bytes" ∷ [])) means.is means.plain means.unlisted rows h in
       let answer : IsAnswer p.body (overlay old.now.trees []) [] rows = reads.answer Null in
-      shown_of decks_table old.now ready.decks by_first deck_columns rows (λ keyed.
+      shown_of decks_table old.now there rising by_first deck_columns rows (λ keyed.
       answer_is there.tree texts.deck_shown texts.by_number by_first first_total deck_columns (overlay old.now.trees []) rows (λ a b. then_self (value_cmp (rowid a) (rowid b))) (λ r. refl) keyed answer)
 
-  pub statuses_shown : Shown texts.statuses_text [] old new rows → rows ≡ map three_columns (in_order by_two (tables_in old.now).statuses)
-  statuses_shown h =
-      let there = ready.statuses.there in
+  pub statuses_shown : (there : HasForm statuses_table old.now.schema) → IsKeyed (old.now.trees there.tree) → Shown texts.statuses_text [] old new rows → rows ≡ map three_columns (in_order by_two (tables_in old.now).statuses)
+  statuses_shown there rising h =
       let p = texts.selecting there.tree texts.three_shown texts.by_two_keys in
-      let means = texts.statuses_means old.now.schema there.tree (listed_of statuses_table old.now.schema ready.serves there) in
+      let means = texts.statuses_means old.now.schema there.tree (placed_of statuses_table old.now.schema serves.apart there) in
       let reads : Answers old.now p [] rows = reads_as texts.statuses_text [] old new old.now.schema refl (Select p (codes "kind" ∷ codes "name" ∷ codes "status" ∷ [])) means.is means.plain means.unlisted rows h in
       let answer : IsAnswer p.body (overlay old.now.trees []) [] rows = reads.answer Null in
-      shown_of statuses_table old.now ready.statuses (on_bodies by_two) (λ r. three_columns (drop 1 r)) rows (λ keyed.
+      shown_of statuses_table old.now there rising (on_bodies by_two) (λ r. three_columns (drop 1 r)) rows (λ keyed.
       answer_is there.tree texts.three_shown texts.by_two_keys (on_bodies by_two) (on_total (drop 1) two_total) (λ r. three_columns (drop 1 r)) (overlay old.now.trees []) rows sorts_two shows_three keyed answer)
       ∙ bodies_shown by_two three_columns (rows_named old.now (codes "statuses"))
 
-  pub floors_shown : Shown texts.floors_text [] old new rows → rows ≡ map two_columns (in_order by_first (tables_in old.now).floors)
-  floors_shown h =
-      let there = ready.floors.there in
+  pub floors_shown : (there : HasForm floors_table old.now.schema) → IsKeyed (old.now.trees there.tree) → Shown texts.floors_text [] old new rows → rows ≡ map two_columns (in_order by_first (tables_in old.now).floors)
+  floors_shown there rising h =
       let p = texts.selecting there.tree texts.two_shown texts.by_key in
-      let means = texts.floors_means old.now.schema there.tree (listed_of floors_table old.now.schema ready.serves there) in
+      let means = texts.floors_means old.now.schema there.tree (placed_of floors_table old.now.schema serves.apart there) in
       let reads : Answers old.now p [] rows = reads_as texts.floors_text [] old new old.now.schema refl (Select p (codes "job" ∷ codes "floor" ∷ [])) means.is means.plain means.unlisted rows h in
       let answer : IsAnswer p.body (overlay old.now.trees []) [] rows = reads.answer Null in
-      shown_of floors_table old.now ready.floors (on_bodies by_first) (λ r. two_columns (drop 1 r)) rows (λ keyed.
+      shown_of floors_table old.now there rising (on_bodies by_first) (λ r. two_columns (drop 1 r)) rows (λ keyed.
       answer_is there.tree texts.two_shown texts.by_key (on_bodies by_first) (on_total (drop 1) first_total) (λ r. two_columns (drop 1 r)) (overlay old.now.trees []) rows sorts_one shows_two keyed answer)
       ∙ bodies_shown by_first two_columns (rows_named old.now (codes "floors"))

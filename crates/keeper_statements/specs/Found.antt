@@ -29,6 +29,22 @@ keys_on schema table = map (λ i. (i.columns, i.order.digits)) (filter (λ i. gu
 abbrev pub keys_of : Table → List (List ℕ × ℕ)
 keys_of form = map (λ key. (key, 0)) form.uniques
 
+-- a table of this form is there under its name
+pub record HasForm (form : Table) (schema : Schema) : Type 0 where
+  pub tree : ℕ
+  pub named : table_of schema form.name ≡ Some (placed form tree)
+  pub low : tree < 65536
+
+-- so it is, or neither a table nor anything else has its name
+abbrev pub MayHaveForm : Table → Schema → Type 0
+MayHaveForm form schema = (is_used schema form.name ≡ false) ⊎ HasForm form schema
+
+-- each of the five tables is there in its form or missing: enough to read them
+pub record CanRead (schema : Schema) : Type 0 where
+  pub tables : AllByRecursion (λ form. MayHaveForm form schema) desk_tables
+  -- each table has a tree of its own
+  pub apart : AllByRecursion (λ t. table_in schema t.tree ≡ Some t) schema.tables
+
 -- a table of this form is there under its name, and its rows have the keys of the form alone
 pub record IsThere (form : Table) (schema : Schema) : Type 0 where
   pub tree : ℕ

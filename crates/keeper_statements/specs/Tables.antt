@@ -6,7 +6,7 @@ use Rattle.sqlite.specs.Order.{Row}
 use Rattle.sqlite.specs.Table.{Table}
 use Rattle.sqlite_trees.specs.Tree.{Trees, IsTable, rowid}
 use Rattle.sqlite_trees.specs.View.{is_int}
-use Rattle.keeper_statements.specs.Found.{CanServe, IsThere, table_of}
+use Rattle.keeper_statements.specs.Found.{CanRead, CanServe, IsThere, table_of}
 use Rattle.keeper_statements.specs.Schema.{desk_tables, sets_table, replies_table, decks_table, statuses_table, floors_table}
 
 -- the rows' numbers rise
@@ -61,4 +61,9 @@ pub record IsReady (db : Database) : Type 0 where
 -- each of the five tables is there, or can be made, and the numbers of its rows rise
 pub record Serves (db : Database) : Type 0 where
   pub schema : CanServe db.schema
+  pub keyed : AllByRecursion (λ form. IsKeyed (rows_named db form.name)) desk_tables
+
+-- the five can be read, and the numbers of their rows rise
+pub record IsLegible (db : Database) : Type 0 where
+  pub schema : CanRead db.schema
   pub keyed : AllByRecursion (λ form. IsKeyed (rows_named db form.name)) desk_tables

@@ -36,6 +36,13 @@ ReadsAll t (Err (Refused error)) = Unit {0}
 ReadsAll t (Err (Damaged table place)) = damage_in t ≡ Some (table, place)
 ReadsAll t (Err NoMemory) = Unit {0}
 
+-- what a loading of such tables answers
+abbrev pub AnswersAll : Tables → Result Rows LoadErr → Type 0
+AnswersAll t (Ok rows) = rows_of t ≡ Some rows
+AnswersAll t (Err answers.Failed) = Unit {0}
+AnswersAll t (Err (answers.Damaged table place)) = damage_in t ≡ Some (table, place)
+AnswersAll t (Err answers.NoMemory) = Unit {0}
+
 -- the columns of each table's rows were shown
 pub record AreShown (t : Tables) (found : ShownRows) : Type 0 where
   pub sets : found.sets.items ≡ map two_columns t.sets

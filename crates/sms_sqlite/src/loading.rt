@@ -4,9 +4,9 @@ ghost use Rattle.sqlite.specs.Held.{state};
 ghost use Rattle.sqlite.specs.State.{HasCleanDisk, Survives};
 ghost use Rattle.sms_keeper.specs.Tables.{no_rows};
 ghost use Rattle.sms_records.specs.declared.record_err.RecordErr.TheVariants.{Bad};
-ghost use Rattle.keeper_statements.specs.Presence.{has_hidden};
+ghost use Rattle.keeper_statements.specs.Presence.{has_hidden, present_in};
 ghost use Rattle.keeper_statements.specs.Steps.{MayStay};
-ghost use Rattle.keeper_statements.specs.Tables.{IsReady, Serves, Tables, tables_in};
+ghost use Rattle.keeper_statements.specs.Tables.{IsLegible, Tables, tables_in};
 ghost use Rattle.sms_sqlite.specs.Damage.{ordered};
 ghost use Rattle.sms_sqlite.specs.Reading.{AreShown, IsPushed, Reads, ReadsAll};
 
@@ -15,7 +15,7 @@ use crate::shown_rows::ShownRows;
 use crate::table_row::TableRow;
 use desk_common::Items;
 use keeper_statements::{
-    all_decks, all_floors, all_replies, all_sets, all_statuses, has_hidden, present_among,
+    Present, all_decks, all_floors, all_replies, all_sets, all_statuses, has_hidden, present_among,
 };
 use sms_keeper::{Rows, Table};
 use sms_records::RecordErr;
@@ -64,18 +64,22 @@ fn read_found(alloc: Global, found: &ShownRows) -> Result<Rows, LoadFault>
     })
 }
 
-// All rows of the five tables, inside a transaction.
-fn find_rows<S: Alter>(tx: &mut Transaction<'_, S>) -> Result<ShownRows, Error>
+// All rows of the five tables, inside a transaction. A table that isn't there has none.
+fn find_rows<S: Alter>(
+    tx: &mut Transaction<'_, S>,
+    alloc: Global,
+    there: Present,
+) -> Result<ShownRows, Error>
     ensures same_reference { tx.new.conn.ghost_name ≡ tx.old.conn.ghost_name }
-    ensures found { HasCleanDisk (state S.Store tx.new.conn.now) → IsTrue (state S.Store tx.old.conn.now).in_transaction → IsReady (state S.Store tx.old.conn.now).now → IfOk result (AreShown (ordered (tables_in (state S.Store tx.old.conn.now).now))) }
+    ensures found { HasCleanDisk (state S.Store tx.new.conn.now) → IsTrue (state S.Store tx.old.conn.now).in_transaction → IsLegible (state S.Store tx.old.conn.now).now → present_in (state S.Store tx.old.conn.now).now.schema.tables ≡ there → IfOk result (AreShown (ordered (tables_in (state S.Store tx.old.conn.now).now))) }
     ensures stays { MayStay (state S.Store tx.old.conn.now) (state S.Store tx.new.conn.now) result }
     ensures survives { Survives (state S.Store tx.old.conn.now) (state S.Store tx.new.conn.now) (λ _. ⊥) }
 {
-    let sets = all_sets(tx)?;
-    let replies = all_replies(tx)?;
-    let decks = all_decks(tx)?;
-    let statuses = all_statuses(tx)?;
-    let floors = all_floors(tx)?;
+    let sets = all_sets(tx, alloc, there.sets)?;
+    let replies = all_replies(tx, alloc, there.replies)?;
+    let decks = all_decks(tx, alloc, there.decks)?;
+    let statuses = all_statuses(tx, alloc, there.statuses)?;
+    let floors = all_floors(tx, alloc, there.floors)?;
     Ok(ShownRows {
         sets,
         replies,
@@ -86,8 +90,12 @@ fn find_rows<S: Alter>(tx: &mut Transaction<'_, S>) -> Result<ShownRows, Error>
 }
 
 // All rows of the five tables. The transaction is rolled back, since nothing was written.
-fn query_rows<S: Alter>(connection: &mut Connection<S>) -> Result<ShownRows, Error>
-    ensures found { HasCleanDisk (state S.Store connection.new) → IsReady (state S.Store connection.old).now → IfOk result (AreShown (ordered (tables_in (state S.Store connection.old).now))) }
+fn query_rows<S: Alter>(
+    connection: &mut Connection<S>,
+    alloc: Global,
+    there: Present,
+) -> Result<ShownRows, Error>
+    ensures found { HasCleanDisk (state S.Store connection.new) → IsLegible (state S.Store connection.old).now → present_in (state S.Store connection.old).now.schema.tables ≡ there → IfOk result (AreShown (ordered (tables_in (state S.Store connection.old).now))) }
     ensures kept { HasCleanDisk (state S.Store connection.new) → IsTrue (state S.Store connection.new).is_open → (state S.Store connection.new).now ≡ (state S.Store connection.old).now }
     ensures kept_committed { HasCleanDisk (state S.Store connection.new) → IsTrue (state S.Store connection.new).is_open → (state S.Store connection.new).committed ≡ (state S.Store connection.old).committed }
     ensures was_open { HasCleanDisk (state S.Store connection.new) → IsTrue (state S.Store connection.new).is_open → IsTrue (state S.Store connection.old).is_open }
@@ -98,7 +106,7 @@ fn query_rows<S: Alter>(connection: &mut Connection<S>) -> Result<ShownRows, Err
         return Err(Error::SqliteFailure(ErrorCode::TransactionState));
     }
     let mut tx = connection.transaction();
-    find_rows(&mut tx)
+    find_rows(&mut tx, alloc, there)
 }
 
 fn empty_rows(alloc: Global) -> Rows
@@ -113,11 +121,11 @@ fn empty_rows(alloc: Global) -> Rows
     }
 }
 
-// Reads the five tables, each in the order of its keys. Where none of them is there they have no rows, and where some
-// are missing they are refused, as they are where something other than a table has one of the names. Nothing changes.
+// Reads the five tables, each in the order of its keys. One that isn't there has no rows; where something other than
+// a table has one of the names they are refused. Nothing changes.
 pub fn load_rows<S: Alter>(connection: &mut Connection<S>, alloc: Global) -> Result<Rows, LoadFault>
     ensures refuses { has_hidden (state S.Store connection.old).now.schema ≡ true → OnOk result ⊥ }
-    ensures reads { HasCleanDisk (state S.Store connection.new) → Serves (state S.Store connection.old).now → ReadsAll (ordered (tables_in (state S.Store connection.old).now)) result }
+    ensures reads { HasCleanDisk (state S.Store connection.new) → IsLegible (state S.Store connection.old).now → ReadsAll (ordered (tables_in (state S.Store connection.old).now)) result }
     ensures kept { HasCleanDisk (state S.Store connection.new) → IsTrue (state S.Store connection.new).is_open → (state S.Store connection.new).now ≡ (state S.Store connection.old).now }
     ensures kept_committed { HasCleanDisk (state S.Store connection.new) → IsTrue (state S.Store connection.new).is_open → (state S.Store connection.new).committed ≡ (state S.Store connection.old).committed }
     ensures was_open { HasCleanDisk (state S.Store connection.new) → IsTrue (state S.Store connection.new).is_open → IsTrue (state S.Store connection.old).is_open }
@@ -131,9 +139,6 @@ pub fn load_rows<S: Alter>(connection: &mut Connection<S>, alloc: Global) -> Res
     if there.has_none() {
         return Ok(empty_rows(alloc));
     }
-    if !there.has_all() {
-        return Err(LoadFault::Refused(Error::InvalidQuery));
-    }
-    let found = query_rows(connection)?;
+    let found = query_rows(connection, alloc, there)?;
     read_found(alloc, &found)
 }

@@ -5,13 +5,15 @@ ghost use Rattle.sqlite.specs.Held.{state};
 ghost use Rattle.sqlite.specs.State.{HasCleanDisk, Survives};
 ghost use Rattle.sqlite.specs.Tree.{Trees};
 ghost use Rattle.keeper_statements.specs.Presence.{has_hidden};
+ghost use Rattle.keeper_statements.specs.Tables.{IsLegible, tables_in};
 ghost use Rattle.sms_keeper.specs.Faults.{faults_counted};
 ghost use Rattle.sms_keeper.specs.Loading.{AreLoaded, NamesDamage, SameDamage, StaysDamaged};
 ghost use Rattle.sms_keeper.specs.Suits.{Suits};
 ghost use Rattle.sms_keeper.specs.Tables.{with_change};
 ghost use Rattle.sms_keeper.specs.Told.{Applies, Stays};
 ghost use Rattle.sms_keeper.specs.declared.rows.Rows.{Rows as Told};
-ghost use Rattle.sms_sqlite.specs.Reading.{IsMadeReady, NamesFault, faults_after};
+ghost use Rattle.sms_sqlite.specs.Damage.{ordered};
+ghost use Rattle.sms_sqlite.specs.Reading.{AnswersAll, IsMadeReady, NamesFault, ReadsAll, faults_after};
 ghost use Rattle.sms_sqlite.specs.Told.{damage_by, tables_of, told_by};
 ghost use Rattle.sms_sqlite.specs.Writing.{HasRows, IsAsBefore, IsMadeLeft, MayCommit, MayUndo, MaySettle, with_trees};
 
@@ -92,6 +94,7 @@ impl<S: Alter + Drop> SqlKeeper<S> {
         ensures base { self.new.base ≡ self.old.base }
         ensures faults { self.new.faults ≡ self.old.faults }
         ensures refuses { has_hidden (state S.Store self.old.connection).now.schema ≡ true → OnOk result ⊥ }
+        ensures reads { HasCleanDisk (state S.Store self.new.connection) → IsLegible (state S.Store self.old.connection).now → ReadsAll (ordered (tables_in (state S.Store self.old.connection).now)) result }
         ensures loaded { IfOk result (λ rows. IfSome (told_by S.Store self.new) (λ told. AreLoaded told rows)) }
         ensures sound { OnOk result (damage_by S.Store self.new ≡ None) }
         ensures damaged { IfErr result (NamesFault (told_by S.Store self.new) (damage_by S.Store self.new)) }
@@ -207,6 +210,7 @@ impl<S: Alter + Drop> Stored for SqlKeeper<S> {
         ensures rises { self.old.faults ≤ self.new.faults }
         ensures faults { self.new.faults ≡ faults_after self.old.faults result }
         ensures refuses { has_hidden (state S.Store self.old.connection).now.schema ≡ true → OnOk result ⊥ }
+        ensures reads { HasCleanDisk (state S.Store self.new.connection) → IsLegible (state S.Store self.old.connection).now → AnswersAll (ordered (tables_in (state S.Store self.old.connection).now)) result }
         ensures base { self.new.base ≡ self.old.base }
         ensures unchanged { HasCleanDisk (state S.Store self.new.connection) → IsTrue (state S.Store self.new.connection).is_open → IsAsBefore (state S.Store self.old.connection) (state S.Store self.new.connection) }
         ensures ended { (state S.Store self.old.connection).in_transaction ≡ false → (state S.Store self.new.connection).in_transaction ≡ false }

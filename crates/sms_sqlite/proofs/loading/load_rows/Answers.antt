@@ -1,8 +1,7 @@
 use Rattle.std.proofs.Common.{◌≡◌, ap, sym, ◌∙◌}
 use Rattle.sqlite.specs.Held.{state}
 use Rattle.sqlite.specs.Schema.{Schema}
-use Rattle.keeper_statements.specs.Presence.{all_there, none_there, present_in}
-use Rattle.keeper_statements.proofs.GrowLemmas.{all_ready}
+use Rattle.keeper_statements.specs.Presence.{none_there, present_in}
 use Rattle.sms_sqlite.proofs.LoadLemmas.{none_reads}
 use Rattle.sms_sqlite.proofs.loading.load_rows.Goals as goal
 
@@ -17,5 +16,4 @@ pub returns-clause-reads : goal.returns-clause-reads
 returns-clause-reads g c clean serves =
     let old = (state g.S.Store c.args.connection.now).now in
     let found : c.present_among-there.result ≡ present_in old.schema.tables = c.present_among-there.ensures ∙ ap present_in (c.as_slice.ensures ∙ ap (λ (s : Schema). s.tables) c.schema-2.ensures.value) in
-    let all : present_in old.schema.tables ≡ all_there = sym found ∙ c.has_all.ensures.0 c.if-not-has_all.false in
-    c.read_found.ensures _ (c.in_ok-found.ensures.found clean (all_ready old serves all))
+    c.read_found.ensures _ (c.in_ok-found.ensures.found clean serves (sym found))
