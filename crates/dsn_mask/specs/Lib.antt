@@ -13,3 +13,4 @@ pub mod Qualifiers
 pub mod Quoted
 pub mod Text
 pub mod TextFields
+pub mod Words

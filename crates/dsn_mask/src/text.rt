@@ -1,6 +1,10 @@
 //! Bytes in an array of a fixed size.
 ghost use Rattle.std.specs.Prelude.{◌≡◌, ◌≤◌, length};
+ghost use Rattle.std.specs.Cmp.Lexicographic.{slice_cmp};
+ghost use Rattle.std.specs.Ordering.{nat_cmp};
 
+use crate::byte_words::order;
+use std::cmp::Ordering;
 use std::marker::Model;
 
 /// At most `N` bytes, and at most 255.
@@ -45,5 +49,16 @@ impl<const N: usize> Text<N> {
         ensures { result.now ≡ self.now }
     {
         &self.buffer[..self.count as usize]
+    }
+
+    /// The order of two texts by their bytes.
+    pub fn order(&self, other: &Self) -> Ordering
+        ensures { result ≡ slice_cmp nat_cmp self.now other.now }
+    {
+        let found = order(&self.buffer, &other.buffer);
+        if found.is_ne() {
+            return found;
+        }
+        self.count.cmp(&other.count)
     }
 }
