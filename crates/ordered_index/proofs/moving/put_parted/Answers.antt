@@ -9,7 +9,7 @@ use Rattle.ordered_index.specs.Rows.{AreRows}
 use Rattle.ordered_index.proofs.ChunkLemmas.{chunk-sorted, value-chunk}
 use Rattle.ordered_index.proofs.PartLemmas.{All-two, front-all, last-is, parted-chunks-are, put-parts, rows-two}
 use Rattle.ordered_index.proofs.SortedLemmas.{sorted-put}
-use Rattle.ordered_index.proofs.moving.put_in_full.Goals as goal
+use Rattle.ordered_index.proofs.moving.put_parted.Goals as goal
 
 pub put_in_either-old-requires-clause-sorted : goal.put_in_either-old-requires-clause-sorted
 put_in_either-old-requires-clause-sorted g c =
