@@ -6,6 +6,8 @@ mod command;
 mod deck_block;
 mod fault_text;
 mod further_text;
+mod granted_text;
+mod indenting;
 mod item;
 mod line_words;
 mod lines;

@@ -1,7 +1,7 @@
 use Rattle.std.proofs.Common.{◌≡◌, ◌++◌, take}
 use Rattle.std.specs.Prelude.{flat_map}
 use Rattle.sms_script.specs.AnswerText.{indented}
-use Rattle.sms_script.proofs.printing.push_indented.Given as goal
+use Rattle.sms_script.proofs.indenting.push_indented.Given as goal
 
 -- the lines so far
 abbrev pub invariant-loop-line : goal.invariant-loop-line
