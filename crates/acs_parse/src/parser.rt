@@ -6,7 +6,7 @@ ghost use Rattle.acs_symbol.specs.Symbols.{symbols_of};
 ghost use Rattle.acs_parse.specs.Grammar.{limited, IsRoutine};
 ghost use Rattle.desk_common.specs.Exact.{MayRefuse, IsExact};
 ghost use Rattle.acs_parse.specs.ParseFault.{IsParseFault};
-ghost use Rattle.acs_parse.specs.Reads.{Whole, told};
+ghost use Rattle.acs_parse.specs.Inner.Reads.{Whole, told};
 
 use crate::fault::{Fault, ParseErr};
 use crate::statements::body;

@@ -6,7 +6,7 @@ ghost use Rattle.desk_law.specs.State.{DeskState, start_of};
 ghost use Rattle.desk_law.specs.Activation.{activated};
 ghost use Rattle.desk_law.specs.Lawful.{IsLawful};
 ghost use Rattle.desk_law.specs.Records.{empty_opening};
-ghost use Rattle.desk_restoring.specs.Replaying.{IsAllowed, fresh_state, statuses_varied, with_statuses};
+ghost use Rattle.desk_restoring.specs.Inner.Replaying.{IsAllowed, fresh_state, statuses_varied, with_statuses};
 ghost use Rattle.sms_volumes.specs.Holding.{AreVolumesOf};
 
 use sms_deck::Config;

@@ -26,9 +26,9 @@ use Rattle.sms_volumes.specs.declared.active_volume.ActiveVolume.{ActiveVolume}
 use Rattle.desk_state.specs.Answering.{Answers}
 use Rattle.desk_state.specs.Catalog.{set_in}
 use Rattle.desk_state.specs.Deeds.{HasMore, config_of, effect_of}
-use Rattle.desk_state.specs.Granting.{IsGrantAmong, IsGranted}
+use Rattle.desk_state.specs.Inner.Granting.{IsGrantAmong, IsGranted}
 use Rattle.desk_state.specs.Standing.{IsRunning}
-use Rattle.desk_state.specs.Wishing.{ClassifiedRule, classes_with, set_granted}
+use Rattle.desk_state.specs.Inner.Wishing.{ClassifiedRule, classes_with, set_granted}
 use Rattle.desk_state.specs.declared.decision.Decision.{Decision}
 use Rattle.desk_state.specs.declared.deed.Deed.TheVariants as deeds
 use Rattle.desk_state.specs.declared.grant.Grant.{Grant}

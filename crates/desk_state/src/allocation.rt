@@ -10,7 +10,7 @@ ghost use Rattle.desk_state.specs.Answering.{Answers};
 ghost use Rattle.desk_state.specs.Catalog.{set_in};
 ghost use Rattle.desk_state.specs.Deeds.{IsPossible};
 ghost use Rattle.desk_state.specs.Standing.{IsRunning, IsSomeState};
-ghost use Rattle.desk_state.specs.Wishing.{ClassifiedRule, classes_with, set_granted};
+ghost use Rattle.desk_state.specs.Inner.Wishing.{ClassifiedRule, classes_with, set_granted};
 ghost use Rattle.desk_state.specs.Working.{IsClassified};
 
 use crate::decision::Decision;

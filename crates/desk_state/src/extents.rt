@@ -2,7 +2,7 @@
 ghost use Rattle.std.specs.Prelude.{◌≡◌, ◌<◌, ◌≤◌, ◌^◌, ◌++◌, length, nat_lt, IfOk, if◌then◌else◌};
 ghost use Rattle.sms_construct.specs.Quantities.{rounded_up};
 ghost use Rattle.desk_law.specs.Extents.{extents_at, front_tracks, is_used, length_kept, multiple_at, pieces_on, volumes_of, with_extents};
-ghost use Rattle.desk_state.specs.Sums.{tracks_in};
+ghost use Rattle.desk_state.specs.Inner.Sums.{tracks_in};
 
 use desk_common::{Items, Shared};
 use dsn_mask::Volser;

@@ -6,7 +6,7 @@ ghost use Rattle.desk_law.specs.Classification.{trace_of};
 ghost use Rattle.desk_law.specs.declared.stop.Stop.TheVariants.{Done};
 ghost use Rattle.sms_classes.specs.Known.{AreKnown};
 ghost use Rattle.sms_volumes.specs.Asking.{IsAsked, ask_of};
-ghost use Rattle.desk_state.specs.Wishing.{classes_with};
+ghost use Rattle.desk_state.specs.Inner.Wishing.{classes_with};
 
 use crate::extents::extents_at;
 use acs_tree::{Kind, Values};
@@ -38,7 +38,7 @@ impl<'a> Model for Wish<'a> {
     ghost use Rattle.desk_law.specs.Allocation.{Wish};
     ghost use Rattle.desk_law.specs.declared.stop.Stop.TheVariants.{Done};
     ghost use Rattle.sms_classes.specs.Known.{AreKnown};
-    ghost use Rattle.desk_state.specs.Wishing.{classes_with};
+    ghost use Rattle.desk_state.specs.Inner.Wishing.{classes_with};
 
     ghost Value = { Wish };
 

@@ -25,7 +25,7 @@ impl Model for Names {
 
     ghost inverse = { λ xs. record { items = filled xs; count = length xs } };
 
-    ghost use Rattle.dsn_mask.specs.NamesFields.{fields_back};
+    ghost use Rattle.dsn_mask.specs.Inner.NamesFields.{fields_back};
 
     ghost inverse_ok = { λ a h. fields_back a h.0 h.1 };
 }

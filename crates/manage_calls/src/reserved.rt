@@ -5,7 +5,7 @@ ghost use Rattle.sms_script.specs.Lines.{lines_of};
 ghost use Rattle.sms_script.specs.Script.{IsRefusal};
 ghost use Rattle.sms_script.specs.declared.item.Item.{Item as Asked};
 ghost use Rattle.sms_script.specs.declared.script_err.ScriptErr.{ScriptErr as Fault};
-ghost use Rattle.manage_calls.specs.LineAlone.{has_reserved, kind_told};
+ghost use Rattle.manage_calls.specs.Inner.LineAlone.{has_reserved, kind_told};
 ghost use Rattle.manage_calls.specs.Reserved.{is_reserved, kind_of, purges_manager, reserved_line};
 
 use crate::line_kind::LineKind;

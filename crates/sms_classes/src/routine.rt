@@ -3,7 +3,7 @@ ghost use Rattle.std.specs.Prelude.{◌≡◌, suc};
 ghost use Rattle.std.specs.Option.{option_or};
 ghost use Rattle.acs_tree.specs.Variables.{rank_of};
 ghost use Rattle.desk_law.specs.Classification.{class_of, class_stop, exit_stop, meanings_of};
-ghost use Rattle.sms_classes.specs.Onward.{NoneFrom, progress, run_on};
+ghost use Rattle.sms_classes.specs.Inner.Onward.{NoneFrom, progress, run_on};
 
 use crate::stops::{class_stop, exit_stop};
 use acs_run::run;

@@ -1,7 +1,7 @@
 // What stops a classification.
 ghost use Rattle.std.specs.Prelude.{◌≡◌};
 ghost use Rattle.desk_law.specs.Classification.{class_stop, exit_stop, is_null};
-ghost use Rattle.sms_classes.specs.Onward.{groups_stop};
+ghost use Rattle.sms_classes.specs.Inner.Onward.{groups_stop};
 
 use acs_tree::{Ending, Kind};
 use desk_law::Stop;

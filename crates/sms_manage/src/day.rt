@@ -3,7 +3,7 @@ ghost use Rattle.std.specs.Prelude.{◌≡◌, ◌+◌, IfOk, IfSome, OnErr, OnO
 ghost use Rattle.desk_law.specs.State.{DeskState};
 ghost use Rattle.desk_law.specs.History.{Reaches};
 ghost use Rattle.sms_manage.specs.Managed.{IsAsking, IsManaged, IsUnused, WasManaged, op_for};
-ghost use Rattle.sms_manage.specs.Walk.{Asks, IsNextDue};
+ghost use Rattle.sms_manage.specs.Inner.Walk.{Asks, IsNextDue};
 
 use crate::act::{Act, Acts};
 use crate::expiry::due;

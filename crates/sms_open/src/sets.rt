@@ -7,7 +7,7 @@ ghost use Rattle.desk_common.specs.Limits.{most_extents};
 ghost use Rattle.desk_law.specs.Extents.{piece_of, pieces_on};
 ghost use Rattle.desk_law.specs.Lawful.{IsLawfulSet, IsManaged, IsWhole, LiesInPart};
 ghost use Rattle.desk_law.specs.Volumes.{volumes_in};
-ghost use Rattle.sms_open.specs.Targets.{AreTracks, number_on};
+ghost use Rattle.sms_open.specs.Inner.Targets.{AreTracks, number_on};
 ghost use Rattle.sms_open.specs.Tests.{ArePlaced};
 ghost use Rattle.sms_open.specs.Verdicts.{Tells};
 

@@ -13,7 +13,7 @@ use std::alloc::{AllocError, Global};
 
 impl<T: Recorded> Recorded for Option<T> {
     ghost use Rattle.sms_records.specs.Form.{option};
-    ghost use Rattle.sms_records.specs.ListLaws.{option_exact};
+    ghost use Rattle.sms_records.specs.Inner.ListLaws.{option_exact};
 
     ghost form = { option T.form };
 
@@ -60,7 +60,7 @@ impl<T: Recorded> Recorded for Shared<T> {
 
 impl<T: Recorded> Recorded for Items<T> {
     ghost use Rattle.sms_records.specs.Form.{list};
-    ghost use Rattle.sms_records.specs.ListLaws.{list_exact};
+    ghost use Rattle.sms_records.specs.Inner.ListLaws.{list_exact};
 
     ghost form = { list T.form };
 

@@ -65,13 +65,13 @@ fn is_shown(byte: u8) -> bool
 
 impl Recorded for Account {
     ghost use Rattle.sms_records.specs.Parts.{account_form};
-    ghost use Rattle.sms_records.specs.PartLaws.{account_exact};
+    ghost use Rattle.sms_records.specs.Inner.PartLaws.{account_exact};
 
     ghost form = { account_form };
 
     ghost exact = { account_exact };
 
-    #[tactic(auto, using(crate::specs::PartLaws::account_readable, crate::specs::FormLaws::on_ok))]
+    #[tactic(auto, using(crate::specs::Inner::PartLaws::account_readable, crate::specs::Inner::FormLaws::on_ok))]
     fn write_to(&self, out: &mut Vec<u8>) -> Result<(), AllocError> {
         write_list(self.as_slice(), out)
     }
@@ -91,13 +91,13 @@ impl Recorded for Account {
 
 impl Recorded for Volumes {
     ghost use Rattle.sms_records.specs.Parts.{volumes_form};
-    ghost use Rattle.sms_records.specs.PartLaws.{volumes_exact};
+    ghost use Rattle.sms_records.specs.Inner.PartLaws.{volumes_exact};
 
     ghost form = { volumes_form };
 
     ghost exact = { volumes_exact };
 
-    #[tactic(auto, using(crate::specs::PartLaws::volumes_readable, crate::specs::FormLaws::on_ok))]
+    #[tactic(auto, using(crate::specs::Inner::PartLaws::volumes_readable, crate::specs::Inner::FormLaws::on_ok))]
     fn write_to(&self, out: &mut Vec<u8>) -> Result<(), AllocError> {
         let volsers = self.as_slice();
         write_number(volsers.len() as u64, out)?;
@@ -119,13 +119,13 @@ impl Recorded for Volumes {
 
 impl Recorded for Path {
     ghost use Rattle.sms_records.specs.Parts.{path_form};
-    ghost use Rattle.sms_records.specs.PartLaws.{path_exact};
+    ghost use Rattle.sms_records.specs.Inner.PartLaws.{path_exact};
 
     ghost form = { path_form };
 
     ghost exact = { path_exact };
 
-    #[tactic(auto, using(crate::specs::PartLaws::path_readable, crate::specs::FormLaws::on_ok))]
+    #[tactic(auto, using(crate::specs::Inner::PartLaws::path_readable, crate::specs::Inner::FormLaws::on_ok))]
     fn write_to(&self, out: &mut Vec<u8>) -> Result<(), AllocError> {
         write_text(self.bytes(), out)
     }
@@ -142,7 +142,7 @@ impl Recorded for Path {
 
 impl Recorded for Space {
     ghost use Rattle.sms_records.specs.Parts.{space_form};
-    ghost use Rattle.sms_records.specs.PartLaws.{space_exact};
+    ghost use Rattle.sms_records.specs.Inner.PartLaws.{space_exact};
 
     ghost form = { space_form };
 

@@ -16,7 +16,7 @@ use std::alloc::{AllocError, Global};
 
 impl Recorded for Reply {
     ghost use Rattle.sms_records.specs.Replies.{reply_form};
-    ghost use Rattle.sms_records.specs.ReplyLaws.{reply_exact};
+    ghost use Rattle.sms_records.specs.Inner.ReplyLaws.{reply_exact};
 
     ghost form = { reply_form };
 

@@ -19,13 +19,13 @@ use Rattle.sms_records.specs.Form.{IsReadable, within_limit}
 use Rattle.sms_records.specs.Replies.{reply_form}
 use Rattle.sms_records.specs.Requests.{request_form}
 use Rattle.sms_records.specs.Sets.{data_set_form}
-use Rattle.sms_records.specs.TextLaws.{and_true}
-use Rattle.sms_records.specs.WholeLaws.{whole-again}
+use Rattle.sms_records.specs.Inner.TextLaws.{and_true}
+use Rattle.sms_records.specs.Inner.WholeLaws.{whole-again}
 use Rattle.sqlite_rules.specs.Edit.{is_taken}
 use Rattle.keeper_statements.specs.Changes as tables
 use Rattle.keeper_statements.specs.Tables.{Tables}
 use Rattle.keeper_statements.specs.Tests.{set_row, reply_row, deck_row, floor_row, is_of, is_status, is_below, without, HasFound}
-use Rattle.sms_sqlite.specs.Columns.{kind_column, name_column, status_column, with_statuses, AreReadable}
+use Rattle.sms_sqlite.specs.Inner.Columns.{kind_column, name_column, status_column, with_statuses, AreReadable}
 use Rattle.sms_sqlite.specs.Values.{each_in, set_in, reply_in, status_in, floor_in, target_of}
 use Rattle.sms_sqlite.proofs.DeckLemmas.{deck_put}
 use Rattle.sms_sqlite.proofs.ReadLemmas.{each_push, each_filter, joins}

@@ -13,7 +13,7 @@ use Rattle.track_ledger.specs.declared.measure.Measure.TheVariants.{Tracks, Cyli
 use Rattle.track_ledger.specs.declared.piece.Piece.{Piece}
 use Rattle.track_ledger.specs.Gaps.{clip, unit_gaps}
 use Rattle.track_ledger.specs.GapRule.{comes_first}
-use Rattle.track_ledger.specs.Measures.{AreLongest, cuts_by, end_by, from_by, length_at, longest_by, unit_by, units_by}
+use Rattle.track_ledger.specs.Inner.Measures.{AreLongest, cuts_by, end_by, from_by, length_at, longest_by, unit_by, units_by}
 use Rattle.track_ledger.proofs.LongestLemmas.{find-none, unit-append, unit-one}
 use Rattle.track_ledger.proofs.UnitLemmas.{units-low}
 

@@ -6,8 +6,8 @@ use Rattle.std.proofs.lemmas.List.Elements.{All-cons, All-nil, All-head, All-tai
 use Rattle.std.proofs.Math.Seq.{take-append_seam}
 use Rattle.track_ledger.specs.declared.piece.Piece.{Piece}
 use Rattle.track_ledger.specs.GapRule.{comes_first, longest_first, put_in_order}
-use Rattle.track_ledger.specs.GapLists.{StandLongestFirst}
-use Rattle.track_ledger.specs.Measures.{put_all}
+use Rattle.track_ledger.specs.Inner.GapLists.{StandLongestFirst}
+use Rattle.track_ledger.specs.Inner.Measures.{put_all}
 use Rattle.track_ledger.proofs.GrantLemmas.{put-inside}
 use Rattle.track_ledger.proofs.LongestLemmas.{take-put}
 use Rattle.track_ledger.proofs.OrderLemmas.{chain, or-else, put-swap}

@@ -7,8 +7,8 @@ use Rattle.std.proofs.lemmas.List.{drop_all, length-append, length-set, set_spli
 use Rattle.std.proofs.lemmas.List.Edits.{length-remove, insert-append_left, insert-append_right, remove-append_left, remove-append_right}
 use Rattle.std.proofs.lemmas.List.Elements.{All-cons, All-nil, All-head, All-tail, All-weaker}
 use Rattle.track_ledger.specs.declared.piece.Piece.{Piece}
-use Rattle.track_ledger.specs.GapChanges.{AreInOrder, IsFirstReaching}
-use Rattle.track_ledger.specs.GapLists.{StandApart}
+use Rattle.track_ledger.specs.Inner.GapChanges.{AreInOrder, IsFirstReaching}
+use Rattle.track_ledger.specs.Inner.GapLists.{StandApart}
 
 pub length-node : (l : List Piece) (g : Piece) (r : List Piece) → length (l ++ (g ∷ r)) ≡ length l + length r + 1
 length-node l g r = omega (arith, length-append l (g ∷ r))

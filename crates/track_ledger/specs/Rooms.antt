@@ -4,7 +4,7 @@ use Rattle.std.specs.declared.alloc.Global.{Global}
 use Rattle.track_ledger.specs.declared.piece.Piece.{Piece}
 use Rattle.track_ledger.specs.declared.tree.Node.{Node}
 use Rattle.track_ledger.specs.declared.tree.Tree.{Tree}
-use Rattle.track_ledger.specs.Trees.{items_of}
+use Rattle.track_ledger.specs.Inner.Trees.{items_of}
 
 -- what is seen of the gaps of a volume: they by start, and for how many there is room
 pub record GapsView : Type 0 where

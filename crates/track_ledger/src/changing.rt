@@ -2,7 +2,7 @@
 ghost use Rattle.std.specs.Prelude.{◌≡◌, ◌≤◌, ◌<◌, ◌+◌, ◌^◌, length, slice_index_or, slice_set};
 ghost use Rattle.std.specs.List.{insert, remove};
 ghost use Rattle.track_ledger.specs.declared.piece.Piece.{Piece};
-ghost use Rattle.track_ledger.specs.Trees.{gaps_around, items_of};
+ghost use Rattle.track_ledger.specs.Inner.Trees.{gaps_around, items_of};
 
 use crate::piece::Piece;
 use crate::tree::{Node, Parts, Tree, fork, taken};

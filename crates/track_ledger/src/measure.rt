@@ -2,7 +2,7 @@
 ghost use Rattle.std.specs.Prelude.{◌≡◌, ◌≤◌, ◌<◌, ◌+◌, ◌^◌, None, Some, max, nat_lt, if◌then◌else◌};
 ghost use Rattle.track_ledger.specs.declared.measure.Measure.{Measure};
 ghost use Rattle.track_ledger.specs.Gaps.{whole_units};
-ghost use Rattle.track_ledger.specs.Measures.{length_at, units_by};
+ghost use Rattle.track_ledger.specs.Inner.Measures.{length_at, units_by};
 
 use crate::part::{clipped, cylinder_managed, track_managed};
 use crate::piece::Piece;

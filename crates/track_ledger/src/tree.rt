@@ -2,10 +2,10 @@
 ghost use Rattle.std.specs.Prelude.{◌≡◌, ◌≤◌, ◌<◌, ◌^◌, ◌∷◌, ◌++◌, [], find, length, nat_le, slice_index_or, take, IfSome};
 ghost use Rattle.std.specs.List.{All};
 ghost use Rattle.track_ledger.specs.declared.piece.Piece.{Piece};
-ghost use Rattle.track_ledger.specs.GapChanges.{AreInOrder, IsFirstReaching};
-ghost use Rattle.track_ledger.specs.GapLists.{StandApart, StandLongestFirst};
-ghost use Rattle.track_ledger.specs.Measures.{AreLongest, cuts_by, put_all};
-ghost use Rattle.track_ledger.specs.Trees.{gaps_around, items_of};
+ghost use Rattle.track_ledger.specs.Inner.GapChanges.{AreInOrder, IsFirstReaching};
+ghost use Rattle.track_ledger.specs.Inner.GapLists.{StandApart, StandLongestFirst};
+ghost use Rattle.track_ledger.specs.Inner.Measures.{AreLongest, cuts_by, put_all};
+ghost use Rattle.track_ledger.specs.Inner.Trees.{gaps_around, items_of};
 
 use crate::gap_rule::{is_behind, put_among};
 use crate::grant::Grant;
@@ -49,7 +49,7 @@ impl Model for Node {
 
     ghost Value = { List Piece };
 
-    ghost use Rattle.track_ledger.specs.Trees.{IsNode, gaps_around};
+    ghost use Rattle.track_ledger.specs.Inner.Trees.{IsNode, gaps_around};
 
     ghost view = { λ n. gaps_around n.left n.gap n.right };
 

@@ -1,6 +1,6 @@
 //! Nodes of a tree put over each other so that as many gaps lie on either side.
 ghost use Rattle.std.specs.Prelude.{◌≡◌, ◌<◌, ◌^◌, ◌∷◌, ◌++◌, length};
-ghost use Rattle.track_ledger.specs.Trees.{gaps_around, items_of};
+ghost use Rattle.track_ledger.specs.Inner.Trees.{gaps_around, items_of};
 
 use crate::piece::Piece;
 use crate::tree::{Node, Parts, Tree, fork, taken};

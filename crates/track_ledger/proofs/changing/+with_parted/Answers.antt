@@ -1,5 +1,5 @@
 use Rattle.std.proofs.Common.{◌-◌, ◌∙◌, ap, arith}
-use Rattle.track_ledger.specs.Trees.{items_of}
+use Rattle.track_ledger.specs.Inner.Trees.{items_of}
 use Rattle.track_ledger.proofs.TreeLemmas.{after-part-here, after-part-left, after-part-right}
 use Rattle.track_ledger.proofs.changing.+with_parted.Goals as goal
 

@@ -1,5 +1,5 @@
 use Rattle.std.proofs.Common.{◌-◌, ◌∙◌, ap, arith}
-use Rattle.track_ledger.specs.Trees.{items_of}
+use Rattle.track_ledger.specs.Inner.Trees.{items_of}
 use Rattle.track_ledger.proofs.TreeLemmas.{after-set-here, after-set-left, after-set-right}
 use Rattle.track_ledger.proofs.changing.+with_set.Goals as goal
 

@@ -1,6 +1,6 @@
 use Rattle.std.proofs.Common.{◌-◌, ◌∙◌, ap, arith}
 use Rattle.track_ledger.specs.declared.piece.Piece.{Piece}
-use Rattle.track_ledger.specs.Trees.{items_of}
+use Rattle.track_ledger.specs.Inner.Trees.{items_of}
 use Rattle.track_ledger.proofs.TreeLemmas.{after-remove-here, after-remove-right, at-right-in}
 use Rattle.track_ledger.proofs.changing.+without.Goals as goal
 

@@ -2,7 +2,7 @@ use Rattle.std.proofs.Common.{◌≡◌, ◌∷◌, [], List, length, get_or, ta
 use Rattle.std.proofs.lemmas.List.Elements.{All-cons, All-nil}
 use Rattle.track_ledger.specs.declared.piece.Piece.{Piece}
 use Rattle.track_ledger.specs.GapRule.{comes_first}
-use Rattle.track_ledger.specs.Measures.{put_all}
+use Rattle.track_ledger.specs.Inner.Measures.{put_all}
 use Rattle.track_ledger.proofs.MeasureLemmas.{cut-one}
 use Rattle.track_ledger.proofs.PutLemmas.{skip-all, stand-five}
 use Rattle.track_ledger.proofs.tree.put_cut.Goals as goal

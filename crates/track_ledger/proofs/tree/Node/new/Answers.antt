@@ -1,5 +1,5 @@
 use Rattle.std.proofs.Common.{arith}
-use Rattle.track_ledger.specs.Trees.{items_of}
+use Rattle.track_ledger.specs.Inner.Trees.{items_of}
 use Rattle.track_ledger.proofs.MeasureLemmas.{node-longest}
 use Rattle.track_ledger.proofs.TreeLemmas.{length-node}
 use Rattle.track_ledger.proofs.tree.Node.new.Goals as goal

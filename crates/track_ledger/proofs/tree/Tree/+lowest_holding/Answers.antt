@@ -1,8 +1,8 @@
 use Rattle.std.proofs.Common.{rules, ◌≡◌, ◌<◌, ◌++◌, ◌∷◌, sym, ap, ◌∙◌, subst, arith, List}
 use Rattle.std.specs.Prelude.{None}
 use Rattle.track_ledger.specs.declared.piece.Piece.{Piece}
-use Rattle.track_ledger.specs.Measures.{longest_by}
-use Rattle.track_ledger.specs.Trees.{items_of}
+use Rattle.track_ledger.specs.Inner.Measures.{longest_by}
+use Rattle.track_ledger.specs.Inner.Trees.{items_of}
 use Rattle.track_ledger.proofs.MeasureLemmas.{holding-none, lowest-left, lowest_of, lowest-own, lowest-right}
 use Rattle.track_ledger.proofs.tree.Tree.+lowest_holding.Goals as goal
 

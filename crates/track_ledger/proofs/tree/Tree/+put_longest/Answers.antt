@@ -2,10 +2,10 @@ use Rattle.std.proofs.Common.{rules, ◌≡◌, ◌≤◌, ◌++◌, ◌∷◌, 
 use Rattle.std.specs.List.{All}
 use Rattle.std.proofs.lemmas.Grind.{common_steps}
 use Rattle.track_ledger.specs.declared.piece.Piece.{Piece}
-use Rattle.track_ledger.specs.GapLists.{StandApart}
+use Rattle.track_ledger.specs.Inner.GapLists.{StandApart}
 use Rattle.track_ledger.specs.GapRule.{comes_first}
-use Rattle.track_ledger.specs.Measures.{cuts_by, longest_by, put_all}
-use Rattle.track_ledger.specs.Trees.{items_of}
+use Rattle.track_ledger.specs.Inner.Measures.{cuts_by, longest_by, put_all}
+use Rattle.track_ledger.specs.Inner.Trees.{items_of}
 use Rattle.track_ledger.proofs.MeasureLemmas.{all-behind, cuts-node, cuts-none}
 use Rattle.track_ledger.proofs.PutLemmas.{put-back, put-front, put-none, skip-all}
 use Rattle.track_ledger.proofs.TreeLemmas.{apart-left, apart-right, starts-left, starts-right}

@@ -1,8 +1,8 @@
 use Rattle.std.proofs.Common.{rules, ◌≡◌, ◌+◌, ◌-◌, ◌++◌, ◌∷◌, List, sym, subst, arith}
 use Rattle.std.proofs.lemmas.Grind.{common_steps}
 use Rattle.track_ledger.specs.declared.piece.Piece.{Piece}
-use Rattle.track_ledger.specs.GapChanges.{AreInOrder, IsFirstReaching}
-use Rattle.track_ledger.specs.Trees.{items_of}
+use Rattle.track_ledger.specs.Inner.GapChanges.{AreInOrder, IsFirstReaching}
+use Rattle.track_ledger.specs.Inner.Trees.{items_of}
 use Rattle.track_ledger.proofs.TreeLemmas.{length-node, order-left, order-right, reach-left, reach-right}
 use Rattle.track_ledger.proofs.tree.Tree.+reaching.Goals as goal
 
