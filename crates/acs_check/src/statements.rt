@@ -1,7 +1,7 @@
 // The first fault so far, with those of the nodes of statements, in the order of the text.
 ghost use Rattle.std.specs.Prelude.{◌≡◌, ◌∷◌, ◌++◌, [], Some, map};
 ghost use Rattle.acs_tree.specs.Nodes.{Left, Order, Part, Right, entries_behind, values_behind, nodes_of, nodes_of_cond, nodes_of_test, nodes_of_subject, nodes_of_code};
-ghost use Rattle.acs_check.specs.Inner.Parts.{nodes_of_block, nodes_of_when, nodes_of_whens, nodes_of_form, nodes_of_optional};
+ghost use Rattle.acs_check.specs.Inner.Parts.{nodes_of_block, nodes_of_whens, nodes_of_optional};
 ghost use Rattle.acs_check.specs.Inner.Walk.{walked};
 
 use crate::earlier::Earlier;

@@ -1,6 +1,5 @@
 // The parser.
 ghost use Rattle.std.specs.Prelude.{◌≡◌, ℕ, length, Some, IfOk, IfErr};
-ghost use Rattle.acs_lex.specs.declared.token.Token.{Token};
 ghost use Rattle.acs_lex.specs.Tokens.{IsCut, InOrder};
 ghost use Rattle.acs_symbol.specs.Symbols.{symbols_of};
 ghost use Rattle.acs_parse.specs.Grammar.{limited, IsRoutine};

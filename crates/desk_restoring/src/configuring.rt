@@ -1,5 +1,5 @@
 //! The volumes of a configuration with recorded statuses.
-ghost use Rattle.std.specs.Prelude.{◌≡◌, IfOk, IfSome};
+ghost use Rattle.std.specs.Prelude.{IfOk, IfSome};
 ghost use Rattle.std.specs.List.{AllByRecursion};
 ghost use Rattle.sms_construct.specs.Configuration.{IsConfiguration};
 ghost use Rattle.desk_law.specs.State.{DeskState, start_of};

@@ -1,5 +1,5 @@
 //! Lists of names.
-ghost use Rattle.std.specs.Prelude.{◌≡◌, ◌≤◌, ◌<◌, ◌↔◌, List, ℕ, [], ◌∷◌, ◌++◌, length, IsTrue, Contains};
+ghost use Rattle.std.specs.Prelude.{◌≡◌, ◌<◌, ◌↔◌, List, ℕ, [], ◌∷◌, ◌++◌, length, IsTrue, Contains};
 ghost use Rattle.desk_common.specs.Limits.{most_groups_set};
 ghost use Rattle.dsn_mask.specs.Names.{AreFewAndOnce};
 
@@ -14,7 +14,7 @@ pub struct Names {
 }
 
 impl Model for Names {
-    ghost use Rattle.std.specs.Prelude.{List, ℕ, length, take, ◌≡◌, ◌≤◌};
+    ghost use Rattle.std.specs.Prelude.{List, ℕ, length, take, ◌≡◌};
     ghost use Rattle.dsn_mask.specs.Names.{AreFewAndOnce, filled};
 
     ghost Value = { List (List ℕ) };

@@ -1,9 +1,7 @@
 //! The top call of the desk with a day of space management behind the run.
 ghost use Rattle.std.specs.Prelude.{◌≡◌, ◌↔◌, ℕ, None, Some, true, map, string_bytes, IfSome};
-ghost use Rattle.sms_base.specs.Observed.{Observed};
 ghost use Rattle.sms_keeper.specs.Tables.{AreSame, no_rows};
 ghost use Rattle.desk_words.specs.Managing.{managed_day_in};
-ghost use Rattle.desk_calls.specs.Headline.{Keeping};
 ghost use Rattle.desk_calls.specs.RunFault.{leaves_keeper, leaves_sink};
 ghost use Rattle.manage_calls.specs.ManageEnds.{ManageEnds};
 

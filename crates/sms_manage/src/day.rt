@@ -1,5 +1,5 @@
 //! A day of space management.
-ghost use Rattle.std.specs.Prelude.{◌≡◌, ◌+◌, IfOk, IfSome, OnErr, OnOk, Some, length};
+ghost use Rattle.std.specs.Prelude.{◌≡◌, ◌+◌, IfOk, IfSome, OnErr, OnOk, Some};
 ghost use Rattle.desk_law.specs.State.{DeskState};
 ghost use Rattle.desk_law.specs.History.{Reaches};
 ghost use Rattle.sms_manage.specs.Managed.{IsAsking, IsManaged, IsUnused, WasManaged, op_for};

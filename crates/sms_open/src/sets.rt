@@ -1,5 +1,5 @@
 //! Test 5: the data sets, each by itself.
-ghost use Rattle.std.specs.Prelude.{◌≡◌, ◌≤◌, ◌<◌, ℕ, List, IfOk, length};
+ghost use Rattle.std.specs.Prelude.{◌≤◌, ◌<◌, ℕ, List, IfOk, length};
 ghost use Rattle.std.specs.List.{AllByRecursion};
 ghost use Rattle.sms_construct.specs.declared.volume.VolumeDef.{VolumeDef as VolumeOf};
 ghost use Rattle.track_ledger.specs.Extents.{LiesInside};

@@ -1,5 +1,5 @@
 //! Decks as records: lists of bytes.
-ghost use Rattle.std.specs.Prelude.{◌≡◌, ◌++◌, ◌∷◌, OnOk, length, ◌<◌, ◌^◌};
+ghost use Rattle.std.specs.Prelude.{◌≡◌, ◌++◌, ◌∷◌, OnOk, ◌<◌};
 ghost use Rattle.sms_records.specs.Form.{IsReadable, text_form, text_at};
 ghost use Rattle.sms_records.specs.Reading.{Gives};
 

@@ -1,5 +1,4 @@
 //! Enums without fields as records.
-ghost use Rattle.std.specs.Prelude.{◌≡◌};
 
 use crate::numbers::{read_byte, write_byte};
 use crate::record_err::RecordErr;

@@ -1,5 +1,4 @@
 //! The faults of decks as records.
-ghost use Rattle.std.specs.Prelude.{◌≡◌};
 
 use crate::numbers::{read_byte, write_byte};
 use crate::pairs::write_variant;

@@ -1,6 +1,5 @@
 //! Options, lists and shared values as bytes.
-ghost use Rattle.std.specs.Prelude.{◌≡◌, ◌++◌, ◌∷◌, [], ◌^◌, length, OnOk, IfOk};
-ghost use Rattle.std.specs.Int.{w64, to_be_bytes};
+ghost use Rattle.std.specs.Prelude.{◌≡◌, ◌++◌, [], OnOk};
 ghost use Rattle.std.specs.List.{flat_map, AllByRecursion};
 ghost use Rattle.sms_records.specs.Form.{IsReadable, list, many_at};
 ghost use Rattle.sms_records.specs.Reading.{Gives};

@@ -1,5 +1,5 @@
 //! Numbers as bytes.
-ghost use Rattle.std.specs.Prelude.{◌≡◌, ◌++◌, ◌∷◌, [], ◌^◌, ◌<◌, length, OnOk, IfOk};
+ghost use Rattle.std.specs.Prelude.{◌≡◌, ◌++◌, ◌∷◌, [], ◌^◌, ◌<◌, OnOk};
 ghost use Rattle.std.specs.Int.{w64, to_be_bytes};
 ghost use Rattle.sms_records.specs.Form.{IsReadable, byte_at, number_8_form, number_16_form, number_32_form, number_at};
 ghost use Rattle.sms_records.specs.Reading.{Gives};

@@ -1,5 +1,5 @@
 //! Pairs as records: structs are read and written by the pairs of their fields.
-ghost use Rattle.std.specs.Prelude.{◌≡◌, ◌++◌, ◌∷◌, [], OnOk};
+ghost use Rattle.std.specs.Prelude.{◌≡◌, ◌++◌, ◌∷◌, OnOk};
 ghost use Rattle.sms_records.specs.Form.{IsReadable};
 
 use crate::numbers::write_byte;

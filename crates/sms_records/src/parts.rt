@@ -1,5 +1,5 @@
 //! Bounded lists, paths and spaces as records.
-ghost use Rattle.std.specs.Prelude.{◌≡◌, ◌≤◌, ◌&&◌, ◌++◌, OnOk, length, nat_le};
+ghost use Rattle.std.specs.Prelude.{◌≡◌, ◌≤◌, ◌&&◌, length, nat_le};
 ghost use Rattle.std.specs.List.{list_all};
 ghost use Rattle.desk_common.specs.Limits.{most_account_fields, most_volume_count};
 ghost use Rattle.sms_construct.specs.Path.{is_shown};

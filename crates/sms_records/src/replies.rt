@@ -1,5 +1,5 @@
 //! Replies as records.
-ghost use Rattle.std.specs.Prelude.{◌≡◌, ◌≤◌, ◌∷◌};
+ghost use Rattle.std.specs.Prelude.{◌≤◌, ◌∷◌};
 ghost use Rattle.sms_records.specs.Form.{variant_at};
 ghost use Rattle.sms_records.specs.Reading.{Gives};
 ghost use Rattle.sms_records.specs.Replies.{reply_readers};

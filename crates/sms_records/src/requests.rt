@@ -1,5 +1,4 @@
 //! Requests as records.
-ghost use Rattle.std.specs.Prelude.{◌≡◌};
 
 use crate::decks::{read_deck, write_deck_variant};
 use crate::numbers::read_byte;

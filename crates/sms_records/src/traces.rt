@@ -1,5 +1,4 @@
 //! What routines wrote, as records.
-ghost use Rattle.std.specs.Prelude.{◌≡◌};
 
 use crate::record_err::RecordErr;
 use crate::recorded::Recorded;

@@ -1,5 +1,4 @@
 //! What is named and what is shown, as records.
-ghost use Rattle.std.specs.Prelude.{◌≡◌};
 
 use crate::numbers::read_byte;
 use crate::pairs::write_variant;

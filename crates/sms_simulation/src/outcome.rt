@@ -1,5 +1,5 @@
 //! What a classification comes to, as text.
-ghost use Rattle.std.specs.Prelude.{◌≡◌, ◌++◌, ◌∷◌, [], OnOk, decimal, flat_map};
+ghost use Rattle.std.specs.Prelude.{◌≡◌, ◌++◌, ◌∷◌, [], OnOk, flat_map};
 ghost use Rattle.desk_common.specs.Bytes.{comma};
 ghost use Rattle.sms_script.specs.TraceText.{trace_lines};
 ghost use Rattle.sms_simulation.specs.OutcomeText.{behind, classes_text, classified_text, groups_text, outcome_line, outcome_text};

@@ -1,5 +1,5 @@
 //! Gaps in a tree, by start.
-ghost use Rattle.std.specs.Prelude.{◌≡◌, ◌≤◌, ◌<◌, ◌^◌, ◌∷◌, ◌++◌, [], find, length, nat_le, slice_index_or, take, IfSome};
+ghost use Rattle.std.specs.Prelude.{◌≡◌, ◌≤◌, ◌<◌, ◌^◌, ◌∷◌, [], find, length, nat_le, slice_index_or, take, IfSome};
 ghost use Rattle.std.specs.List.{All};
 ghost use Rattle.track_ledger.specs.declared.piece.Piece.{Piece};
 ghost use Rattle.track_ledger.specs.Inner.GapChanges.{AreInOrder, IsFirstReaching};
