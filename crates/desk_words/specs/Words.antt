@@ -9,7 +9,7 @@ use Rattle.desk_words.specs.declared.task.Task.TheVariants as tasks
 abbrev pub most_items : ℕ
 most_items = 40000
 
--- the workers that a run may have
+-- the workers that there may be
 abbrev pub most_workers : ℕ
 most_workers = 16
 

@@ -10,11 +10,9 @@ ghost use Rattle.manage_calls.specs.Reserved.{is_reserved, kind_of, purges_manag
 
 use crate::line_kind::LineKind;
 use sms_construct::{Op, Request};
+use sms_manage::MANAGER;
 use sms_script::{Item, Script, ScriptErr, first_line, is_block_end, read_script};
 use std::alloc::{AllocError, Global};
-
-// The job of space management.
-const MANAGER: &[u8] = b"SMSMGMT";
 
 /// The first line of a script, outside its deck blocks, in which the job of space management asks or is purged.
 pub fn reserved_line(alloc: Global, bytes: &[u8]) -> Result<Option<u32>, AllocError>

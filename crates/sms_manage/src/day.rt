@@ -20,8 +20,8 @@ use std::alloc::{AllocError, Global};
 // A catalog has fewer data sets than this.
 const MOST_SETS: u64 = 4_294_967_296;
 
-// The job that asks for what is due.
-const MANAGER: &[u8] = b"SMSMGMT";
+/// The job that asks for what is due.
+pub const MANAGER: &[u8] = b"SMSMGMT";
 
 /// Asks for all that is due on a day, one request for each data set, in byte order of their names, numbered from 1 on
 /// (docs/rules.md, "Space management"). Each is answered whatever the earlier ones were. Where memory is wanting, some

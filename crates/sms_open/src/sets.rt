@@ -14,13 +14,9 @@ ghost use Rattle.sms_open.specs.Verdicts.{Tells};
 use crate::meeting::are_once;
 use crate::numbers::Numbers;
 use desk_common::Shared;
-use sms_construct::{DataSet, Extent, Unit, VolumeDef};
+use sms_construct::{BORDER, DataSet, Extent, TRACKS_IN_MANAGED, Unit, VolumeDef};
 use sms_deck::Config;
 use std::alloc::{AllocError, Global};
-
-const BORDER: u32 = 982_800;
-
-const TRACKS_IN_MANAGED: u32 = 315;
 
 const TRACKS_IN_CYLINDER: u32 = 15;
 
