@@ -17,7 +17,7 @@ use Rattle.desk_law.specs.Extension.{ask_more, extended}
 use Rattle.desk_law.specs.Extents.{with_extents}
 use Rattle.desk_law.specs.State.{with_set, with_status}
 use Rattle.desk_law.specs.Statuses.{bars_group_growth, bars_volume_growth}
-use Rattle.desk_law.specs.declared.stop.Stop.TheVariants as stops
+use Rattle.sms_construct.specs.declared.stop.Stop.TheVariants as stops
 use Rattle.desk_law.proofs.ExampleDecks.{asks, asks_nothing, desk_with, extent, one, piece, volume}
 
 -- an ALLOC that names everything

@@ -19,7 +19,7 @@ use Rattle.desk_law.specs.Extension.{ask_more}
 use Rattle.desk_law.specs.Lawful.{IsLawful, LiesInPart}
 use Rattle.desk_law.specs.Releasing.{ReleaseRule, kept_of}
 use Rattle.desk_law.specs.Statuses.{may_have}
-use Rattle.desk_law.specs.declared.stop.Stop.TheVariants as stops
+use Rattle.sms_construct.specs.declared.stop.Stop.TheVariants as stops
 use Rattle.desk_law.proofs.ExampleDecks.{ask, data_set, deck_with, desk_under, desk_with, extent, group, one}
 
 -- RELEASE: an extent that goes on is cut by its part of the volume

@@ -2,6 +2,7 @@
 use Rattle.std.specs.Prelude.{ℕ, ◌≡◌, Bool, false, List, [], bytes_eq, filter, find, Option, Some, None, is_some, option_and_then, option_map, unwrap_or, Result, Ok, MatchResult, if◌then◌else◌}
 use Rattle.std.specs.List.{list_any}
 use Rattle.std.specs.Option.{option_or}
+use Rattle.desk_common.specs.Steps.{◌⊳◌}
 use Rattle.sms_construct.specs.Configuration.{Configuration}
 use Rattle.sms_construct.specs.Quantities.{Quantities, primary_tracks_of, secondary_tracks_of}
 use Rattle.sms_construct.specs.declared.alloc.Alloc.{Alloc}
@@ -16,7 +17,7 @@ use Rattle.sms_construct.specs.declared.volume.VolumeDef.{VolumeDef}
 use Rattle.track_ledger.specs.declared.piece.Piece.{Piece}
 use Rattle.desk_law.specs.State.{DeskState, set_named, with_set}
 use Rattle.desk_law.specs.Extents.{extents_at}
-use Rattle.desk_law.specs.Replies.{found_or, reply_if, ◌⊳◌, Leaves, Makes}
+use Rattle.desk_law.specs.Replies.{found_or, reply_if, Leaves, Makes}
 use Rattle.desk_law.specs.Classification.{Classes, classes_of, is_null, trace_of, went_through}
 use Rattle.desk_law.specs.Candidates.{Ask, grant_on, Chosen}
 

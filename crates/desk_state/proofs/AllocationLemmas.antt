@@ -2,6 +2,7 @@
 use Rattle.std.proofs.Common.{◌≡◌, ℕ, true, List, [], ◌++◌, refl, sym, ap, ◌∙◌, subst, inl, inr}
 use Rattle.std.specs.Prelude.{Option, None, Some, Result, Ok, Err, MatchResult, bytes_eq, filter, option_map}
 use Rattle.std.specs.List.{list_any}
+use Rattle.desk_common.specs.Steps.{◌⊳◌}
 use Rattle.sms_construct.specs.Configuration.{Configuration}
 use Rattle.sms_construct.specs.Quantities.{Quantities}
 use Rattle.sms_construct.specs.declared.alloc.Alloc.{Alloc}
@@ -17,10 +18,10 @@ use Rattle.desk_law.specs.Allocation.{AllocRule, GrantRule, Wish, alloc_case, as
 use Rattle.desk_law.specs.Candidates.{Ask}
 use Rattle.desk_law.specs.Classification.{Classes, answer_of, classes_of, trace_of, went_through}
 use Rattle.desk_law.specs.Extents.{extents_at, extents_if, extents_named}
-use Rattle.desk_law.specs.Replies.{◌⊳◌, Leaves}
+use Rattle.desk_law.specs.Replies.{Leaves}
 use Rattle.desk_law.specs.Volumes.{volumes_in}
-use Rattle.desk_law.specs.declared.stop.Stop.{Stop}
-use Rattle.desk_law.specs.declared.stop.Stop.TheVariants as stops
+use Rattle.sms_construct.specs.declared.stop.Stop.{Stop}
+use Rattle.sms_construct.specs.declared.stop.Stop.TheVariants as stops
 use Rattle.desk_records.specs.Effects.{state_with, tells_nothing}
 use Rattle.sms_volumes.specs.declared.active_volume.ActiveVolume.{ActiveVolume}
 use Rattle.desk_state.specs.Answering.{Answers}

@@ -6,7 +6,7 @@ ghost use Rattle.sms_classes.specs.Inner.Onward.{NoneFrom, classes, from_data_cl
 use crate::routine::{run_class, run_routine};
 use crate::stops::{exit_stop, groups_stop, is_null};
 use acs_tree::{Kind, Seen, Slate, Values};
-use desk_law::Stop;
+use sms_construct::Stop;
 use sms_deck::Config;
 
 /// Runs all routines, and tells how it ends.

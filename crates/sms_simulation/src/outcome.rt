@@ -6,10 +6,9 @@ ghost use Rattle.sms_simulation.specs.OutcomeText.{behind, classes_text, classif
 
 use acs_tree::Values;
 use desk_common::{Items, push_number};
-use desk_law::Stop;
 use dsn_mask::Name;
 use sms_classes::Classified;
-use sms_construct::{Request, Trace};
+use sms_construct::{Request, Stop, Trace};
 use sms_script::{push_number_and_blank, push_trace, push_word_and_blank, value_bytes};
 use std::alloc::{AllocError, Global};
 

@@ -1,5 +1,6 @@
 -- What a new data set is to get.
 use Rattle.std.specs.Prelude.{MatchResult}
+use Rattle.desk_common.specs.Steps.{◌⊳◌}
 use Rattle.acs_tree.specs.declared.values.Values.{Values}
 use Rattle.sms_construct.specs.Configuration.{Configuration}
 use Rattle.sms_construct.specs.declared.alloc.Alloc.{Alloc}
@@ -9,8 +10,8 @@ use Rattle.sms_construct.specs.declared.trace.Trace.{Trace}
 use Rattle.desk_law.specs.State.{DeskState}
 use Rattle.desk_law.specs.Allocation.{GrantRule, Wish, new_set, space_case}
 use Rattle.desk_law.specs.Classification.{Classes, went_through}
-use Rattle.desk_law.specs.Replies.{◌⊳◌, Leaves}
-use Rattle.desk_law.specs.declared.stop.Stop.{Stop}
+use Rattle.desk_law.specs.Replies.{Leaves}
+use Rattle.sms_construct.specs.declared.stop.Stop.{Stop}
 use Rattle.desk_state.specs.declared.grant.Grant.{Grant}
 
 -- the classification came to these values, its routines wrote this, and so it ends

@@ -10,8 +10,8 @@ use Rattle.acs_tree.specs.declared.kind.Kind.TheVariants.{DataClas, StorClas, Mg
 use Rattle.acs_tree.specs.declared.values.Values.{Values}
 use Rattle.sms_construct.specs.Configuration.{Configuration}
 use Rattle.desk_law.specs.Classification.{Classes, Meanings, Progress, after_class, end_with_groups, exit_stop, if_managed, run, unless_stopped}
-use Rattle.desk_law.specs.declared.stop.Stop.{Stop}
-use Rattle.desk_law.specs.declared.stop.Stop.TheVariants as stops
+use Rattle.sms_construct.specs.declared.stop.Stop.{Stop}
+use Rattle.sms_construct.specs.declared.stop.Stop.TheVariants as stops
 
 -- the slate has no line of a kind of this rank or a greater one
 abbrev pub NoneFrom : ℕ → SlateLines → Type 0

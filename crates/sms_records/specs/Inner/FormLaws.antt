@@ -7,7 +7,8 @@ use Rattle.std.specs.Int.{w64, from_be_bytes, to_be_bytes}
 use Rattle.std.proofs.lemmas.Bool.{cases_lt, ltb-false, le-ltb, le-leb}
 use Rattle.std.proofs.lemmas.List.{take_at, drop_at, take-append-drop, length-append, length-take, get_or-drop, get_or-take, get_or_past}
 use Rattle.std.proofs.lemmas.Nat.{be_bytes_8, from_be_bytes-to_be_bytes_8}
-use Rattle.sms_records.specs.Form.{◌>>=◌, Form, AreBytes, Takes, IsExact, IsReadable, number_form, number_at, text_form, text_at, seen, seen_at, number_32_form, number_16_form, number_8_form, small, within_limit, made, ◌&◌, both_at}
+use Rattle.desk_common.specs.Limits.{up_to}
+use Rattle.sms_records.specs.Form.{◌>>=◌, Form, AreBytes, Takes, IsExact, IsReadable, number_form, number_at, text_form, text_at, seen, seen_at, number_32_form, number_16_form, number_8_form, small, made, ◌&◌, both_at}
 
 AreBytes-drop : (n : ℕ) (bytes : List ℕ) → AreBytes bytes → AreBytes (drop n bytes)
 AreBytes-drop n bytes h i = rw get_or-drop (h (n + i))
@@ -125,7 +126,7 @@ guard_some_of true x y e = (refl, cc)
 guard_some_of false x y e = absurd cc
 
 pub small_exact : (most : ℕ) → IsExact (small most)
-small_exact most = seen_exact number_form (within_limit most) (λ n. n) number_exact
+small_exact most = seen_exact number_form (up_to most) (λ n. n) number_exact
     (λ a b e. (guard_some_of (nat_le a most) a b e).1)
 
 pub number_32_exact : IsExact number_32_form
@@ -138,7 +139,7 @@ pub number_8_exact : IsExact number_8_form
 number_8_exact = small_exact 255
 
 pub small_readable : (most n : ℕ) → n ≤ most → n < 2 ^ 64 → IsReadable (small most) n
-small_readable most n le lt = seen_readable number_form (within_limit most) (λ n. n) n (number_readable n lt)
+small_readable most n le lt = seen_readable number_form (up_to most) (λ n. n) n (number_readable n lt)
     (rw (le-leb n most le) refl)
 
 pub made_exact : {A B : Type 0} (form : Form A) (make : A → B) (back : B → A) → IsExact form
