@@ -3,6 +3,7 @@ use Rattle.std.proofs.Common.{◌≡◌, ◌<◌, ◌+◌, ◌++◌, ◌||◌, �
 use Rattle.std.specs.Prelude.{is_some}
 use Rattle.std.specs.List.{AllByRecursion, list_any, position_from}
 use Rattle.std.proofs.lemmas.Bool.{or_parts}
+use Rattle.sqlite.specs.Does.{lacks_sequence}
 use Rattle.sqlite.specs.Effect.{Database, IsDatabase}
 use Rattle.sqlite.specs.Schema.{Schema}
 use Rattle.sqlite.specs.Table.{Table}
@@ -461,3 +462,21 @@ pub form_there : (form : Table) (db : Database) → MayHaveForm form db.schema �
 form_there form db (inr there) keyed is = (there, subst IsKeyed (ap (rows_at db.trees) there.named) keyed)
 form_there form db (inl free) keyed is =
     absurd (let none = unused_table db.schema form.name free in let f = sym (ap is_some none) ∙ found_any (λ (t : Table). same_name t.name form.name) db.schema.tables ∙ is in cc)
+
+-- a table that was provided leaves a database, of any schema
+provided_sound : (form : Table) (is_there : Bool) (old new : Database) → form.is_counted ≡ false → Provides is_there form old new → lacks_sequence old.schema ≡ false
+    → (lacks_sequence new.schema ≡ false) × (IsDatabase old → IsDatabase new)
+provided_sound form true old new never made whole = subst (λ db. (lacks_sequence db.schema ≡ false) × (IsDatabase old → IsDatabase db)) (sym (made.stays refl)) (whole, λ is. is)
+provided_sound form false old new never made whole =
+    let it = made.made refl whole in
+    (ap lacks_sequence it.schema ∙ still_whole old.schema form never whole, λ _. it.sound)
+
+-- so do the five
+pub all_sound : (there : Present) (old new : Database) → HasMade there old new → lacks_sequence old.schema ≡ false → IsDatabase old → IsDatabase new
+all_sound there old new made whole is =
+    let a = provided_sound sets_table there.sets old made.first.one refl made.first.sets whole in
+    let b = provided_sound replies_table there.replies made.first.one made.first.two refl made.first.replies a.0 in
+    let c = provided_sound decks_table there.decks made.first.two made.mid refl made.first.decks b.0 in
+    let d = provided_sound statuses_table there.statuses made.mid made.last.one refl made.last.statuses c.0 in
+    let e = provided_sound floors_table there.floors made.last.one new refl made.last.floors d.0 in
+    e.1 (d.1 (c.1 (b.1 (a.1 is))))

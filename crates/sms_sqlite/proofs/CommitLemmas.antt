@@ -9,7 +9,8 @@ use Rattle.sms_keeper.specs.Tables.{with_change, keep_row, row_of}
 use Rattle.sms_keeper.specs.declared.change.Change.{Change}
 use Rattle.sms_keeper.specs.declared.rows.Rows.{Rows}
 use Rattle.keeper_statements.proofs.EditLemmas.{rest_itself, rest_then}
-use Rattle.keeper_statements.proofs.GrowLemmas.{made_ready, made_same, made_sound}
+use Rattle.keeper_statements.proofs.GrowLemmas.{all_sound, made_ready, made_same, made_sound}
+use Rattle.keeper_statements.specs.Presence.{present_in}
 use Rattle.sms_sqlite.specs.Reading.{IsMadeReady}
 use Rattle.sms_sqlite.specs.Told.{tables_of}
 use Rattle.sms_sqlite.specs.Values.{rows_in, rows_of}
@@ -95,6 +96,7 @@ pub ready_left : (old new : Database) (db : Trees) → IsMadeReady old new → d
 ready_left old new db made is = record {
   schema = new.schema;
   made = subst (λ (t : Trees). IsMadeReady old (with_trees new t)) (sym is) made;
+  sound = λ whole sound. subst (λ (t : Trees). IsDatabase (with_trees new t)) (sym is) (all_sound (present_in old.schema.tables) old new made whole sound);
   rows = λ rows told.
       let it = reads_of old rows told in
       record { found = rows; read = ap (λ (t : Trees). rows_in (with_trees new t)) is ∙ ap rows_of (made_same old new it.serves made) ∙ it.read; same = same_self_rows rows; sound = λ sound. subst (λ (t : Trees). IsDatabase (with_trees new t)) (sym is) (made_sound old new it.serves made sound) };

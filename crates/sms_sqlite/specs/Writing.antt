@@ -1,5 +1,6 @@
 -- What a change does to the rows of a database.
-use Rattle.std.specs.Prelude.{◌≡◌, ◌++◌, ℕ, Some, Result, OnOk, OnErr, IsTrue, filter}
+use Rattle.std.specs.Prelude.{◌≡◌, ◌++◌, false, ℕ, Some, Result, OnOk, OnErr, IsTrue, filter}
+use Rattle.sqlite.specs.Does.{lacks_sequence}
 use Rattle.sqlite.specs.Effect.{Database, IsDatabase}
 use Rattle.sqlite.specs.Schema.{Schema}
 use Rattle.sqlite.specs.State.{State, HasCleanDisk}
@@ -46,10 +47,12 @@ pub record HasRows (old db : Database) (rows : Rows) : Type 0 where
 abbrev pub with_trees : Database → Trees → Database
 with_trees db trees = record { schema = db.schema; trees = trees }
 
--- the trees are those of a database in which each of the five tables that wasn't there was made, and what was told stands
+-- the trees are those of a database in which each of the five tables that wasn't there was made, and what was told stands; they list its
+-- schema and obey it, where the old ones did and a table that counts its rows for good had SQLite's own table beside it
 pub record IsMadeLeft (old : Database) (trees : Trees) : Type 0 where
   pub schema : Schema
   pub made : IsMadeReady old (record { schema = schema; trees = trees })
+  pub sound : lacks_sequence old.schema ≡ false → IsDatabase old → IsDatabase (record { schema = schema; trees = trees })
   pub rows : (rows : Rows) → tables_of old ≡ Some rows → HasRows old (record { schema = schema; trees = trees }) rows
 
 -- while the disk is clean, what isn't refused makes this change of the rows, inside its transaction
