@@ -12,11 +12,8 @@ use crate::texts::{read_text, write_text};
 use acs_tree::{Account, MAX_FIELDS, MAX_VOLUMES, Volumes};
 use desk_common::Items;
 use dsn_mask::{Short, Volser};
-use sms_construct::{Path, Space, Unit};
+use sms_construct::{MAX_PATH, Path, Space, Unit};
 use std::alloc::{AllocError, Global};
-
-// The most bytes of a path.
-const MAX_PATH: usize = 80;
 
 // The accounting of these fields.
 fn account_of(items: &[Short]) -> Account
