@@ -38,7 +38,8 @@ wish = wish_with asks_all (one 100) gave (record { unit = Cyl; primary = 2; seco
 wished : wish ≡ record { config = one 100; classes = gave; space = record { unit = Cyl; primary = 2; secondary = 1 }; volumes = 3; eattr = Opt }
 wished = refl
 
--- the new data set: classes of the routines, the storage group of its volume, the secondary quantity in tracks, and the rest of the request
+-- the new data set: classes of the routines, the storage group of its volume, the secondary quantity in tracks, and the
+-- rest of the request
 abbrev made : DataSet
 made = record {
   dsn = codes "A.B";

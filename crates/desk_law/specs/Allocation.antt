@@ -45,7 +45,8 @@ pub record Wish : Type 0 where
   pub volumes : ℕ
   pub eattr : Eattr
 
--- what a new data set is to get when the classification came to these classes and the request or its data class names this space
+-- what a new data set is to get when the classification came to these classes and the request or its data class names
+-- this space
 abbrev pub wish_with : Alloc → Configuration → Classes → Quantities → Wish
 wish_with alloc config classes space =
     let class = data_class_of config classes.values.dataclas in
@@ -62,7 +63,8 @@ abbrev pub space_case : Alloc → Configuration → Classes → Result Wish Repl
 space_case alloc config classes =
     found_or (replies.NoQuantity (trace_of classes)) (space_of alloc (data_class_of config classes.values.dataclas)) ⊳ λ space. Ok (wish_with alloc config classes space)
 
--- the lines of ALLOC up to the choice of a volume: no configuration; the name is in use; the classification stops; no space
+-- the lines of ALLOC up to the choice of a volume: no configuration; the name is in use; the classification stops; no
+-- space
 abbrev pub alloc_case : DeskState → List ℕ → Alloc → Result Wish Reply
 alloc_case s job alloc =
     found_or replies.NoConfig s.active ⊳ λ config.

@@ -71,7 +71,8 @@ volumes_of extents = volumes_after [] extents
 abbrev pub multiple_at : ℕ → ℕ
 multiple_at track = if nat_lt track border then 1 else tracks_in_managed
 
--- what is kept of an extent when so many tracks are to be kept: these in whole units of its part, and never more than it has
+-- what is kept of an extent when so many tracks are to be kept: these in whole units of its part, and never more than
+-- it has
 abbrev pub length_kept : ℕ → Extent → ℕ
 length_kept keep extent = min (rounded_up (multiple_at extent.start) keep) extent.length
 

@@ -20,7 +20,8 @@ pub record IsRight (filters : List FilterLists) (comparand : Comparand) (right :
 abbrev pub IsRightIfAny : List FilterLists → Comparand → Option Right → Type 0
 IsRightIfAny filters comparand result = MatchOption result (comparand ≡ Nothing) (IsRight filters comparand)
 
--- where a filter list stands among the filters, by its place among the lists: as it is compared with the whole data set name, or with another text
+-- where a filter list stands among the filters, by its place among the lists: as it is compared with the whole data set
+-- name, or with another text
 abbrev pub filter_place : Bool → ℕ → ℕ
 filter_place whole place = if whole then 2 * place else 2 * place + 1
 

@@ -1,4 +1,5 @@
--- Code that is written from its end: a place is told by how many instructions stand from there to the end, which no instruction written later in front changes.
+-- Code that is written from its end: a place is told by how many instructions stand from there to the end, which no
+-- instruction written later in front changes.
 use Rattle.std.specs.Prelude.{◌≡◌, ◌-◌, ◌≤◌, ℕ, List, [], ◌∷◌, length, nat_lt, if◌then◌else◌}
 use Rattle.dsn_mask.specs.Filter.{FilterLists}
 use Rattle.acs_tree.specs.declared.input.Input.{Input}
@@ -29,7 +30,8 @@ abbrev pub AreBelow : ℕ → List Instr → Type 0
 AreBelow filters [] = Unit {0}
 AreBelow filters (instr ∷ instrs) = Below filters (length instrs) instr × AreBelow filters instrs
 
--- instructions written in front of others: every place in those is as before, and these too go on at places that are there
+-- instructions written in front of others: every place in those is as before, and these too go on at places that are
+-- there
 pub record Over (kind : Kind) (filters : List FilterLists) (rest code : List Instr) : Type 0 where
   pub longer : length rest ≤ length code
   pub below : AreBelow (length filters) rest → AreBelow (length filters) code

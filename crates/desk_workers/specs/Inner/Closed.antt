@@ -9,7 +9,8 @@ use Rattle.desk_plan.specs.Sharing.{picked}
 abbrev pub Signs : ℕ → (ℕ → ℕ) → ℕ → Type 0
 Signs count number n = (i : ℕ) × (i < count) × (n ≡ number i)
 
--- from the list of a new desk a list went on by signed entries: opening and mark stand, and each worker's entries are its own
+-- from the list of a new desk a list went on by signed entries: opening and mark stand, and each worker's entries are
+-- its own
 pub record HasClosed (count : ℕ) (number : ℕ → ℕ) (owned : ℕ → List Entry) (o : Opening) (mark : ℕ) (o' : Opening) (mark' : ℕ) (js js' : List Entry) (ns : List ℕ) : Type 0 where
   pub opening : o' ≡ o
   pub mark_is : mark' ≡ mark
