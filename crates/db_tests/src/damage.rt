@@ -137,6 +137,7 @@ static WHOLE: &[(&str, u8)] = &[
     ("UPDATE floors SET floor = 4294967295 WHERE job = 'JOB3'", 0),
     ("DROP TABLE floors; CREATE TABLE floors (job, floor); INSERT INTO floors VALUES \
         ('JOB2', 5), ('JOB3', 7)", 0),
+    ("DROP TABLE sets", 0),
     ("DROP TABLE floors; CREATE TABLE floors (job, floor); INSERT INTO floors VALUES \
         ('JOB2', 5), ('JOB3', 7), ('JOB2', 5)", 1),
     ("UPDATE decks SET count = 0", 2),
