@@ -17,8 +17,8 @@ In each part each of these calls is refused in turn, in a run of its own:
 - each read of standard input fails (3, nothing written) or gives one byte (nothing changes);
 - each write to standard output fails (4, and a front was written) or takes one byte (nothing changes);
 - each read, write, sync or cut of a file fails, or takes one byte: the run ends with 0, with requests that may be
-  answered F30 where it fails, of which standard error then tells, or with 9, 10 or 11 and nothing written (the library
-  that reads the file takes a first page that comes in pieces for a fault).
+  answered F30 where it fails, of which standard error then tells, or with 9, 10 or 11 and nothing written (where the
+  file is opened, the library takes a read that gives fewer bytes than it asked for as a fault).
 In one run more all reads, and in one all writes, take one byte. Behind each run over a file the same script is run again
 with nothing refused: it ends with 0, the file is whole, each answer is repeated but M31, F30 and those of purged numbers,
 and where nothing was answered otherwise the file holds the records that it holds where nothing was refused. What differs

@@ -109,6 +109,84 @@ static FLOORS: &[(&str, u64)] = &[
         ('JOB2', 5), ('JOB3', '5')", 1),
 ];
 
+// The row that has a value of another type, or null, in a table whose columns take any value.
+#[rattlefmt::skip]
+static TYPES: &[(&str, Table, u64)] = &[
+    ("DROP TABLE sets; CREATE TABLE sets (dsn, rec); INSERT INTO sets VALUES (x'412E43', \
+        x'0000000000000003412E430000000000000000035343310000000000000000\
+        0353473100000000000000000000000000000000010000000000000000000000000000000000000000000000\
+        00010000000000000006564F4C303031000000000000000A000000000000000500')", Table::Sets, 0),
+    ("DROP TABLE sets; CREATE TABLE sets (dsn, rec); INSERT INTO sets VALUES (NULL, \
+        x'0000000000000003412E430000000000000000035343310000000000000000\
+        0353473100000000000000000000000000000000010000000000000000000000000000000000000000000000\
+        00010000000000000006564F4C303031000000000000000A000000000000000500')", Table::Sets, 0),
+    ("DROP TABLE sets; CREATE TABLE sets (dsn, rec); INSERT INTO sets VALUES ('A.C', 'A.C')",
+        Table::Sets, 0),
+    ("DROP TABLE decks; CREATE TABLE decks (count, bytes); INSERT INTO decks VALUES (1, \
+        x'00'), (2, 'A')", Table::Decks, 1),
+    ("DROP TABLE decks; CREATE TABLE decks (count, bytes); INSERT INTO decks VALUES (1, \
+        x'00'), (2.0, x'00')", Table::Decks, 1),
+    ("DROP TABLE decks; CREATE TABLE decks (count, bytes); INSERT INTO decks VALUES (1, \
+        x'00'), (NULL, x'00')", Table::Decks, 0),
+    ("DROP TABLE statuses; CREATE TABLE statuses (kind, name, status); INSERT INTO statuses \
+        VALUES (0, 'SG1', 0), ('1', 'VOL001', 0)", Table::Statuses, 1),
+    ("DROP TABLE statuses; CREATE TABLE statuses (kind, name, status); INSERT INTO statuses \
+        VALUES (0, 'SG1', 0), (NULL, 'VOL001', 0)", Table::Statuses, 0),
+    ("DROP TABLE statuses; CREATE TABLE statuses (kind, name, status); INSERT INTO statuses \
+        VALUES (0, 'SG1', 0), (1, x'564F4C303031', 0)", Table::Statuses, 1),
+    ("DROP TABLE statuses; CREATE TABLE statuses (kind, name, status); INSERT INTO statuses \
+        VALUES (0, 'SG1', 0), (1, 'VOL001', '0')", Table::Statuses, 1),
+    ("DROP TABLE statuses; CREATE TABLE statuses (kind, name, status); INSERT INTO statuses \
+        VALUES (0, 'SG1', 0), (1, 'VOL001', NULL)", Table::Statuses, 1),
+    ("DROP TABLE floors; CREATE TABLE floors (job, floor); INSERT INTO floors VALUES \
+        ('JOB2', 5), (x'4A4F4233', 7)", Table::Floors, 1),
+    ("DROP TABLE floors; CREATE TABLE floors (job, floor); INSERT INTO floors VALUES \
+        ('JOB2', 5), (NULL, 7)", Table::Floors, 0),
+    ("DROP TABLE floors; CREATE TABLE floors (job, floor); INSERT INTO floors VALUES \
+        ('JOB2', 5), ('JOB3', NULL)", Table::Floors, 1),
+];
+
+// The same of replies, of which the other one is sound.
+#[rattlefmt::skip]
+static REPLY_TYPES: &[(&str, u64)] = &[
+    ("DROP TABLE replies; CREATE TABLE replies (job, number, place, request, reply); INSERT \
+        INTO replies VALUES ('A', 1, 1, x'000000000000000141000000000000000102000000000000000141', \
+        x'13'), (x'42', 2, 2, x'000000000000000141000000000000000102000000000000000141', x'13')", 1),
+    ("DROP TABLE replies; CREATE TABLE replies (job, number, place, request, reply); INSERT \
+        INTO replies VALUES ('A', 1, 1, x'000000000000000141000000000000000102000000000000000141', \
+        x'13'), (NULL, 2, 2, x'000000000000000141000000000000000102000000000000000141', x'13')", 0),
+    ("DROP TABLE replies; CREATE TABLE replies (job, number, place, request, reply); INSERT \
+        INTO replies VALUES ('A', 1, 1, x'000000000000000141000000000000000102000000000000000141', \
+        x'13'), ('B', '2', 2, x'000000000000000141000000000000000102000000000000000141', x'13')", 1),
+    ("DROP TABLE replies; CREATE TABLE replies (job, number, place, request, reply); INSERT \
+        INTO replies VALUES ('A', 1, 1, x'000000000000000141000000000000000102000000000000000141', \
+        x'13'), ('B', NULL, 2, x'000000000000000141000000000000000102000000000000000141', x'13')", 1),
+    ("DROP TABLE replies; CREATE TABLE replies (job, number, place, request, reply); INSERT \
+        INTO replies VALUES ('A', 1, 1, x'000000000000000141000000000000000102000000000000000141', \
+        x'13'), ('B', 2.0, 2, x'000000000000000141000000000000000102000000000000000141', x'13')", 1),
+    ("DROP TABLE replies; CREATE TABLE replies (job, number, place, request, reply); INSERT \
+        INTO replies VALUES ('A', 1, 1, x'000000000000000141000000000000000102000000000000000141', \
+        x'13'), ('B', 2, '2', x'000000000000000141000000000000000102000000000000000141', x'13')", 1),
+    ("DROP TABLE replies; CREATE TABLE replies (job, number, place, request, reply); INSERT \
+        INTO replies VALUES ('A', 1, 1, x'000000000000000141000000000000000102000000000000000141', \
+        x'13'), ('B', 2, 2.0, x'000000000000000141000000000000000102000000000000000141', x'13')", 1),
+    ("DROP TABLE replies; CREATE TABLE replies (job, number, place, request, reply); INSERT \
+        INTO replies VALUES ('A', 1, 1, x'000000000000000141000000000000000102000000000000000141', \
+        x'13'), ('B', 2, NULL, x'000000000000000141000000000000000102000000000000000141', x'13')", 1),
+    ("DROP TABLE replies; CREATE TABLE replies (job, number, place, request, reply); INSERT \
+        INTO replies VALUES ('A', 1, 1, x'000000000000000141000000000000000102000000000000000141', \
+        x'13'), ('B', 2, 2, 'A', x'13')", 1),
+    ("DROP TABLE replies; CREATE TABLE replies (job, number, place, request, reply); INSERT \
+        INTO replies VALUES ('A', 1, 1, x'000000000000000141000000000000000102000000000000000141', \
+        x'13'), ('B', 2, 2, NULL, x'13')", 1),
+    ("DROP TABLE replies; CREATE TABLE replies (job, number, place, request, reply); INSERT \
+        INTO replies VALUES ('A', 1, 1, x'000000000000000141000000000000000102000000000000000141', \
+        x'13'), ('B', 2, 2, x'000000000000000141000000000000000102000000000000000141', '\r')", 1),
+    ("DROP TABLE replies; CREATE TABLE replies (job, number, place, request, reply); INSERT \
+        INTO replies VALUES ('A', 1, 1, x'000000000000000141000000000000000102000000000000000141', \
+        x'13'), ('B', 2, 2, x'000000000000000141000000000000000102000000000000000141', NULL)", 1),
+];
+
 // The row that is named where more than one is damaged.
 #[rattlefmt::skip]
 static MANY: &[(&str, Table, u64)] = &[
@@ -137,6 +215,11 @@ static WHOLE: &[(&str, u8)] = &[
     ("UPDATE floors SET floor = 4294967295 WHERE job = 'JOB3'", 0),
     ("DROP TABLE floors; CREATE TABLE floors (job, floor); INSERT INTO floors VALUES \
         ('JOB2', 5), ('JOB3', 7)", 0),
+    ("DROP TABLE replies; CREATE TABLE replies (job, number, place, request, reply); INSERT \
+        INTO replies VALUES ('A', 1, 1, x'000000000000000141000000000000000102000000000000000141', \
+        x'0D')", 0),
+    ("DROP TABLE statuses; CREATE TABLE statuses (kind, name, status); INSERT INTO statuses \
+        VALUES (0, 'SG1', 0), (1, 'VOL001', 0)", 0),
     ("DROP TABLE sets", 0),
     ("DROP TABLE floors; CREATE TABLE floors (job, floor); INSERT INTO floors VALUES \
         ('JOB2', 5), ('JOB3', 7), ('JOB2', 5)", 1),
@@ -217,6 +300,19 @@ fn a_damaged_reply_is_named(rt: HostRuntime) -> Result<(), Fail> {
 fn a_damaged_status_or_floor_is_named(rt: HostRuntime) -> Result<(), Fail> {
     compare(&rt, rt.alloc(), Table::Statuses, STATUSES)?;
     compare(&rt, rt.alloc(), Table::Floors, FLOORS)
+}
+
+#[test]
+fn a_reply_with_a_value_of_another_type_is_named(rt: HostRuntime) -> Result<(), Fail> {
+    compare(&rt, rt.alloc(), Table::Replies, REPLY_TYPES)
+}
+
+#[test]
+fn a_row_with_a_value_of_another_type_is_named(rt: HostRuntime) -> Result<(), Fail> {
+    for (sql, table, place) in TYPES {
+        assert!(rt; is_named(rt.alloc(), sql, *table, *place)?, "{sql}");
+    }
+    Ok(())
 }
 
 #[test]

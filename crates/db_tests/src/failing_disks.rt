@@ -60,8 +60,11 @@ pub fn crashed(mut disks: Disks) -> Disks {
     disks
 }
 
-/// The same disks, whose log fails behind so many calls.
-pub fn stopped_behind(mut disks: Disks, passes: u64) -> Disks {
-    disks.log.stop_behind(passes);
+/// The same disks, of which the one that fails so does behind so many calls, and from then on.
+pub fn stopped_behind(mut disks: Disks, failing: Failing, passes: u64) -> Disks {
+    match failing {
+        Failing::LogForGood | Failing::LogOnce => disks.log.stop_behind(passes),
+        Failing::FileForGood | Failing::FileOnce => disks.db.stop_behind(passes),
+    }
     disks
 }

@@ -35,8 +35,8 @@ fn put(alloc: Global, connection: OpenFile) -> Result<OpenFile, Fail> {
 }
 
 // Makes a file with a data set, and answers its rows.
-fn make_file(rt: &HostRuntime) -> Result<String, Fail> {
-    let (_good, connection) = readied(rt.alloc(), open(rt, "kept.db")?);
+fn make_file(rt: &HostRuntime, path: &str) -> Result<String, Fail> {
+    let (_good, connection) = readied(rt.alloc(), open(rt, path)?);
     let mut connection = put(rt.alloc(), connection)?;
     let rows = rows_of(rt.alloc(), &mut connection)?;
     shut(connection)?;
@@ -44,8 +44,8 @@ fn make_file(rt: &HostRuntime) -> Result<String, Fail> {
 }
 
 // Whether the file with these rows keeps them when it is opened again and made ready.
-fn found_again(rt: &HostRuntime, rows: &str) -> Result<bool, Fail> {
-    let (good, mut again) = readied(rt.alloc(), open(rt, "kept.db")?);
+fn found_again(rt: &HostRuntime, path: &str, rows: &str) -> Result<bool, Fail> {
+    let (good, mut again) = readied(rt.alloc(), open(rt, path)?);
     let is_kept = rows_of(rt.alloc(), &mut again)?.as_str() == rows;
     let has_set = count(&mut again, "SELECT count(*) FROM sets")? == 1;
     shut(again)?;
@@ -69,10 +69,16 @@ fn is_locked(rt: &HostRuntime) -> Result<bool, Fail> {
     Ok(good)
 }
 
-// A file: its records are there at the next open and stay when it is made ready again; a second open of it is refused.
+// A file: its records are there at the next open and stay when it is made ready again.
+fn keeps_rows(rt: &HostRuntime, path: &str) -> Result<bool, Fail> {
+    let rows = make_file(rt, path)?;
+    found_again(rt, path, rows.as_str())
+}
+
+// A new file and one of 0 bytes keep their records; a second open of a file is refused.
 fn kept(rt: &HostRuntime) -> Result<bool, Fail> {
-    let rows = make_file(rt)?;
-    Ok(found_again(rt, rows.as_str())? && is_locked(rt)?)
+    fs::write(rt, "empty.db", "")?;
+    Ok(keeps_rows(rt, "kept.db")? && keeps_rows(rt, "empty.db")? && is_locked(rt)?)
 }
 
 // Files with a table: what is made in them first, whether the five can be read once they are made ready, and what

@@ -180,28 +180,15 @@ fn goes_on(alloc: Global, states: &States, at: usize, disks: Disks) -> Result<bo
     }
 }
 
-// After how many calls the second run is stopped behind a first that is stopped after so many, if there is a second.
-fn second_stop(passes: u64) -> Option<u64> {
-    match passes.checked_rem(4) {
-        Some(0) => passes.checked_rem(17),
-        _ => None,
+// The same disks for the second run: the one that failed does again, behind so many calls modulo 17.
+fn stopped_again(disks: Disks, failing: Failing, passes: u64) -> Disks {
+    match passes.checked_rem(17) {
+        Some(calls) => stopped_behind(disks, failing, calls),
+        None => disks,
     }
 }
 
-// Whether a second run that is stopped, if there is one behind so many calls of the first, leaves what it may.
-fn may_go_on(
-    alloc: Global,
-    states: &States,
-    at: usize,
-    (disks, passes): (Disks, u64),
-) -> Result<bool, Fail> {
-    match second_stop(passes) {
-        Some(calls) => goes_on(alloc, states, at, stopped_behind(disks, calls)),
-        None => Ok(true),
-    }
-}
-
-// Whether a run that is stopped behind so many calls, and a second one behind some of these, leave what they may.
+// Whether a run that is stopped behind so many calls, and a second one that is stopped too, leave what they may.
 fn is_lawful(alloc: Global, states: &States, failing: Failing, passes: u64) -> Result<bool, Fail> {
     let disks = disks(alloc, failing, passes);
     let (done, disks) = stopped(alloc, disks, &states.script, ALL_ASKED)?;
@@ -209,7 +196,7 @@ fn is_lawful(alloc: Global, states: &States, failing: Failing, passes: u64) -> R
         return Ok(false);
     };
     match place_of(&states.first, done, &rows) {
-        Some(at) => may_go_on(alloc, states, at, (disks, passes)),
+        Some(at) => goes_on(alloc, states, at, stopped_again(disks, failing, passes)),
         None => Ok(false),
     }
 }

@@ -61,6 +61,53 @@ const MORE_ANSWERS: &str = "1 1 1 SMSADMIN 1 A04 ACTIVATED 1
 END 7 7
 ";
 
+// A deck with two volumes, the second quiesced, which change places; a number that is purged, and one that is kept.
+const VARIED: &str = "SMSADMIN 1 ACTIVATE
+version = 1
+[storclass.SC1]
+[storgroup.SG1.volume.VOL001]
+tracks = 100
+[storgroup.SG1.volume.VOL002]
+tracks = 100
+status = \"QUIALL\"
+[routine]
+storclass = \"PROC STORCLAS SET &STORCLAS = 'SC1' END\"
+storgroup = \"PROC STORGRP SET &STORGRP = 'SG1' END\"
+./END
+JOB1 1 ALLOC PAY.MASTER SPACE=(TRK,(10,5))
+JOB1 2 USED PAY.MASTER 3
+SMSADMIN 2 VARY SMS,VOLUME(VOL001),QUIESCE
+SMSADMIN 3 VARY SMS,VOLUME(VOL002),ENABLE
+SMSADMIN 4 PURGE JOB1 2
+";
+
+const VARIED_ANSWERS: &str = "1 1 1 SMSADMIN 1 A04 ACTIVATED 1
+13 2 2 JOB1 1 A00 GRANTED
+  CLASS - SC1 - SG1
+  EXTENT VOL001 0 10
+14 3 3 JOB1 2 A08 NOTED
+15 4 4 SMSADMIN 2 A05 VARIED VOL001 QUIALL
+16 5 5 SMSADMIN 3 A05 VARIED VOL002 ENABLE
+17 6 6 SMSADMIN 4 A07 PURGED JOB1 2
+END 6 6
+";
+
+// What the floor, the kept number, the used tracks and the statuses answer to behind that.
+const VARIED_MORE: &str = "JOB1 1 ALLOC A.B SPACE=(TRK,1)
+JOB1 2 DELETE PAY.MASTER
+JOB1 3 RELEASE PAY.MASTER
+JOB1 4 ALLOC A.C SPACE=(TRK,5)
+";
+
+const VARIED_MORE_ANSWERS: &str = "1 7 7 JOB1 1 R11 PURGED NUMBER 2
+2 8 8 JOB1 2 R10 REUSED NUMBER 3
+3 9 9 JOB1 3 A09 RELEASED 7
+4 10 10 JOB1 4 A00 GRANTED
+  CLASS - SC1 - SG1
+  EXTENT VOL002 0 5
+END 4 4
+";
+
 // Whether a new database answers the deck and the rest of the script so, and has so many rows then.
 fn answers(alloc: Global, rest: &str, wanted: &str, rows: [i64; 5]) -> Result<bool, Fail> {
     let script = format!(in alloc; "{FIRST}{rest}")?;
@@ -112,6 +159,13 @@ fn goes_on(alloc: Global) -> Result<bool, Fail> {
     let stopped = answered(alloc, memory(alloc)?, &script, ANSWERS)?;
     let again = answered(alloc, stopped, ALLOC, AGAIN_ANSWERS)?;
     has_counts(again, [1, 2, 1, 2, 0])
+}
+
+// Whether floors, kept numbers, used tracks and statuses of a run over a database decide in a second over the same.
+fn decides_again(alloc: Global) -> Result<bool, Fail> {
+    let stopped = answered(alloc, memory(alloc)?, VARIED, VARIED_ANSWERS)?;
+    let again = answered(alloc, stopped, VARIED_MORE, VARIED_MORE_ANSWERS)?;
+    has_counts(again, [2, 7, 1, 3, 1])
 }
 
 // The database behind a further run, which allocates the data set of this number.
@@ -212,6 +266,14 @@ fn a_run_over_a_database_answers_as_one_in_memory(rt: HostRuntime) -> Result<(),
 #[test]
 fn a_second_run_goes_on_where_the_first_ended(rt: HostRuntime) -> Result<(), Fail> {
     assert!(rt; goes_on(rt.alloc())?);
+    Ok(())
+}
+
+#[test]
+fn floors_numbers_used_tracks_and_statuses_decide_in_a_second_run(
+    rt: HostRuntime,
+) -> Result<(), Fail> {
+    assert!(rt; decides_again(rt.alloc())?);
     Ok(())
 }
 

@@ -5,8 +5,22 @@ use crate::{faults, reopened};
 use std::test::Fail;
 
 #[test]
+fn a_desk_goes_on_from_a_stop_of_the_log_within_six_calls(rt: HostRuntime) -> Result<(), Fail> {
+    assert!(rt; reopened::are_lawful(rt.alloc(), LogForGood, 0, 6)?);
+    Ok(())
+}
+
+#[test]
 fn a_desk_goes_on_from_a_stop_of_the_log_within_twelve_calls(rt: HostRuntime) -> Result<(), Fail> {
-    assert!(rt; reopened::are_lawful(rt.alloc(), LogForGood, 0, 12)?);
+    assert!(rt; reopened::are_lawful(rt.alloc(), LogForGood, 6, 12)?);
+    Ok(())
+}
+
+#[test]
+fn a_desk_goes_on_from_a_stop_of_the_log_within_eighteen_calls(
+    rt: HostRuntime,
+) -> Result<(), Fail> {
+    assert!(rt; reopened::are_lawful(rt.alloc(), LogForGood, 12, 18)?);
     Ok(())
 }
 
@@ -14,7 +28,15 @@ fn a_desk_goes_on_from_a_stop_of_the_log_within_twelve_calls(rt: HostRuntime) ->
 fn a_desk_goes_on_from_a_stop_of_the_log_within_twenty_three_calls(
     rt: HostRuntime,
 ) -> Result<(), Fail> {
-    assert!(rt; reopened::are_lawful(rt.alloc(), LogForGood, 12, 23)?);
+    assert!(rt; reopened::are_lawful(rt.alloc(), LogForGood, 18, 23)?);
+    Ok(())
+}
+
+#[test]
+fn a_desk_goes_on_from_a_stop_of_the_log_within_twenty_eight_calls(
+    rt: HostRuntime,
+) -> Result<(), Fail> {
+    assert!(rt; reopened::are_lawful(rt.alloc(), LogForGood, 23, 28)?);
     Ok(())
 }
 
@@ -22,27 +44,59 @@ fn a_desk_goes_on_from_a_stop_of_the_log_within_twenty_three_calls(
 fn a_desk_goes_on_from_a_stop_of_the_log_within_thirty_three_calls(
     rt: HostRuntime,
 ) -> Result<(), Fail> {
-    assert!(rt; reopened::are_lawful(rt.alloc(), LogForGood, 23, 33)?);
+    assert!(rt; reopened::are_lawful(rt.alloc(), LogForGood, 28, 33)?);
     Ok(())
 }
 
 #[test]
-fn a_desk_goes_on_from_a_stop_of_the_log_within_forty_two_calls(
+fn a_desk_goes_on_from_a_stop_of_the_log_within_thirty_seven_calls(
     rt: HostRuntime,
 ) -> Result<(), Fail> {
-    assert!(rt; reopened::are_lawful(rt.alloc(), LogForGood, 33, 42)?);
+    assert!(rt; reopened::are_lawful(rt.alloc(), LogForGood, 33, 37)?);
+    Ok(())
+}
+
+#[test]
+fn a_desk_goes_on_from_a_stop_of_the_log_within_forty_one_calls(
+    rt: HostRuntime,
+) -> Result<(), Fail> {
+    assert!(rt; reopened::are_lawful(rt.alloc(), LogForGood, 37, 41)?);
+    Ok(())
+}
+
+#[test]
+fn a_desk_goes_on_from_a_stop_of_the_log_within_forty_four_calls(
+    rt: HostRuntime,
+) -> Result<(), Fail> {
+    assert!(rt; reopened::are_lawful(rt.alloc(), LogForGood, 41, 44)?);
+    Ok(())
+}
+
+#[test]
+fn a_desk_goes_on_from_a_stop_of_the_log_within_forty_seven_calls(
+    rt: HostRuntime,
+) -> Result<(), Fail> {
+    assert!(rt; reopened::are_lawful(rt.alloc(), LogForGood, 44, 47)?);
     Ok(())
 }
 
 #[test]
 fn a_desk_goes_on_from_a_stop_of_the_log_within_fifty_calls(rt: HostRuntime) -> Result<(), Fail> {
-    assert!(rt; reopened::are_lawful(rt.alloc(), LogForGood, 42, 50)?);
+    assert!(rt; reopened::are_lawful(rt.alloc(), LogForGood, 47, 50)?);
     Ok(())
 }
 
 #[test]
-fn a_desk_goes_on_from_a_stop_of_the_file(rt: HostRuntime) -> Result<(), Fail> {
-    assert!(rt; reopened::are_lawful(rt.alloc(), FileForGood, 0, 15)?);
+fn a_desk_goes_on_from_a_stop_of_the_file_within_eight_calls(rt: HostRuntime) -> Result<(), Fail> {
+    assert!(rt; reopened::are_lawful(rt.alloc(), FileForGood, 0, 8)?);
+    Ok(())
+}
+
+#[test]
+fn a_desk_goes_on_from_a_stop_of_the_file_within_fifteen_calls(
+    rt: HostRuntime,
+) -> Result<(), Fail> {
+    assert!(rt; reopened::are_lawful(rt.alloc(), FileForGood, 8, 15)?);
     Ok(())
 }
 

@@ -11,10 +11,11 @@ use Rattle.sms_keeper.specs.declared.rows.Rows.{Rows}
 use Rattle.keeper_statements.proofs.EditLemmas.{rest_itself, rest_then}
 use Rattle.keeper_statements.proofs.GrowLemmas.{all_sound, made_ready, made_same, made_sound}
 use Rattle.keeper_statements.specs.Presence.{present_in}
+use Rattle.keeper_statements.specs.Steps.{LeavesRest}
 use Rattle.sms_sqlite.specs.Reading.{IsMadeReady}
 use Rattle.sms_sqlite.specs.Told.{tables_of}
 use Rattle.sms_sqlite.specs.Values.{rows_in, rows_of}
-use Rattle.sms_sqlite.specs.Writing.{Holds, HoldsLike, AreAlike, HasRows, IsAsBefore, IsCommitted, IsMadeLeft, IsSettled, with_effect, with_row, with_trees}
+use Rattle.sms_sqlite.specs.Writing.{Holds, HoldsLike, AreAlike, HasRows, IsAsBefore, IsChangeLeft, IsCommitted, IsMadeLeft, IsSettled, with_effect, with_row, with_trees}
 use Rattle.sms_sqlite.proofs.TablesLemmas.{alike_self, alike_then}
 use Rattle.sms_sqlite.proofs.ToldLemmas.{alike_same, reads_of, same_self_rows}
 
@@ -55,12 +56,18 @@ refused_by old new (Ok x) now committed = tt
 refused_by old new (Err e) now committed = record { now = now; committed = committed }
 
 -- what the last state holds is what a stop in the commit may leave
-pub last_rows : (old : Database) (last : State) (rows : Rows) (db : Trees) → HoldsLike old last.now rows → db ≡ last.now.trees → HasRows old (with_trees old db) rows
+last_rows : (old : Database) (last : State) (rows : Rows) (db : Trees) → HoldsLike old last.now rows → db ≡ last.now.trees → HasRows old (with_trees old db) rows
 last_rows old last rows db holds is = record {
   found = holds.found;
   read = (λ i. rows_in (record { schema = sym holds.rest.schema i; trees = is i })) ∙ holds.holds.read;
   same = alike_same holds.found rows holds.alike;
   sound = λ sound. subst IsDatabase (λ i. let db : Database = record { schema = holds.rest.schema i; trees = sym is i } in db) (holds.rest.sound sound);
+}
+
+pub last_left : (old : Database) (last : State) (rows : Rows) (db : Trees) → HoldsLike old last.now rows → db ≡ last.now.trees → IsChangeLeft old db rows
+last_left old last rows db holds is = record {
+  rest = subst (LeavesRest old) (λ i. let db : Database = record { schema = holds.rest.schema i; trees = sym is i } in db) holds.rest;
+  has = last_rows old last rows db holds is;
 }
 
 -- the row of a reply is added to alike rows alike

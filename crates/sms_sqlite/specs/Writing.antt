@@ -48,6 +48,11 @@ pub record HasRows (old db : Database) (rows : Rows) : Type 0 where
 abbrev pub with_trees : Database → Trees → Database
 with_trees db trees = record { schema = db.schema; trees = trees }
 
+-- the trees are those of the database with these rows, and beside them what the old one held
+pub record IsChangeLeft (old : Database) (trees : Trees) (rows : Rows) : Type 0 where
+  pub rest : LeavesRest old (with_trees old trees)
+  pub has : HasRows old (with_trees old trees) rows
+
 -- the trees are those of a database in which each of the five tables that wasn't there was made, and what was told
 -- stands; they list its schema and obey it, where the old ones did and a table that counts its rows for good had
 -- SQLite's own table beside it

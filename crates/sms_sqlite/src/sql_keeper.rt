@@ -15,7 +15,7 @@ ghost use Rattle.sms_keeper.specs.declared.rows.Rows.{Rows as Told};
 ghost use Rattle.sms_sqlite.specs.Damage.{ordered};
 ghost use Rattle.sms_sqlite.specs.Reading.{AnswersAll, IsMadeReady, NamesFault, ReadsAll, faults_after};
 ghost use Rattle.sms_sqlite.specs.Told.{damage_by, tables_of, told_by};
-ghost use Rattle.sms_sqlite.specs.Writing.{HasRows, IsAsBefore, IsMadeLeft, MayCommit, MayUndo, MaySettle, with_trees};
+ghost use Rattle.sms_sqlite.specs.Writing.{HasRows, IsAsBefore, IsChangeLeft, IsMadeLeft, MayCommit, MayUndo, MaySettle, with_trees};
 
 use crate::load_fault::LoadFault;
 use crate::loading::load_rows;
@@ -83,7 +83,7 @@ impl<S: Alter + Drop> SqlKeeper<S> {
         ensures settled { MaySettle (state S.Store self.new.connection) result }
         ensures made { MayCommit (λ rows. with_change rows change.now) (state S.Store self.old.connection) (state S.Store self.new.connection) result }
         ensures ended { (state S.Store self.old.connection).in_transaction ≡ false → (state S.Store self.new.connection).in_transaction ≡ false }
-        ensures crash { Survives (state S.Store self.old.connection) (state S.Store self.new.connection) (λ db. (rows : Told) → tables_of (state S.Store self.old.connection).now ≡ Some rows → HasRows (state S.Store self.old.connection).now (with_trees (state S.Store self.old.connection).now db) (with_change rows change.now)) }
+        ensures crash { Survives (state S.Store self.old.connection) (state S.Store self.new.connection) (λ db. (rows : Told) → tables_of (state S.Store self.old.connection).now ≡ Some rows → IsChangeLeft (state S.Store self.old.connection).now db (with_change rows change.now)) }
         ensures alone { OnOk result (IfSome (told_by S.Store self.new) (λ rows. (db : Trees) → (state S.Store self.new.connection).may_leave db → HasRows (state S.Store self.new.connection).now (with_trees (state S.Store self.new.connection).now db) rows)) }
     {
         write_change(&mut self.connection, self.alloc, change)
@@ -160,7 +160,7 @@ impl<S: Alter + Drop> Keeper for SqlKeeper<S> {
         ensures settled { MaySettle (state S.Store self.new.connection) result }
         ensures made { MayCommit (λ rows. with_change rows change.now) (state S.Store self.old.connection) (state S.Store self.new.connection) result }
         ensures ended { (state S.Store self.old.connection).in_transaction ≡ false → (state S.Store self.new.connection).in_transaction ≡ false }
-        ensures crash { Survives (state S.Store self.old.connection) (state S.Store self.new.connection) (λ db. (rows : Told) → tables_of (state S.Store self.old.connection).now ≡ Some rows → HasRows (state S.Store self.old.connection).now (with_trees (state S.Store self.old.connection).now db) (with_change rows change.now)) }
+        ensures crash { Survives (state S.Store self.old.connection) (state S.Store self.new.connection) (λ db. (rows : Told) → tables_of (state S.Store self.old.connection).now ≡ Some rows → IsChangeLeft (state S.Store self.old.connection).now db (with_change rows change.now)) }
         ensures alone { OnOk result (IfSome (told_by S.Store self.new) (λ rows. (db : Trees) → (state S.Store self.new.connection).may_leave db → HasRows (state S.Store self.new.connection).now (with_trees (state S.Store self.new.connection).now db) rows)) }
     {
         match self.write(change) {

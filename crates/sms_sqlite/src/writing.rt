@@ -7,7 +7,7 @@ ghost use Rattle.sms_keeper.specs.Tables.{with_change};
 ghost use Rattle.sms_keeper.specs.declared.rows.Rows.{Rows};
 ghost use Rattle.sms_sqlite.specs.Reading.{IsMadeReady};
 ghost use Rattle.sms_sqlite.specs.Told.{tables_of};
-ghost use Rattle.sms_sqlite.specs.Writing.{Holds, HasRows, IsCommitted, IsMadeLeft, with_trees};
+ghost use Rattle.sms_sqlite.specs.Writing.{Holds, IsChangeLeft, IsCommitted, IsMadeLeft};
 
 use crate::effects::make_effect;
 use crate::replies::keep_reply;
@@ -30,7 +30,7 @@ fn write_inside<S: Alter>(
     ensures committed { HasCleanDisk (state S.Store connection.new) → OnOk result ((state S.Store connection.new).committed ≡ (state S.Store connection.new).now) }
     ensures was_open { HasCleanDisk (state S.Store connection.new) → IsTrue (state S.Store connection.new).is_open → IsTrue (state S.Store connection.old).is_open }
     ensures ended { (state S.Store connection.old).in_transaction ≡ false → (state S.Store connection.new).in_transaction ≡ false }
-    ensures crash { Survives (state S.Store connection.old) (state S.Store connection.new) (λ db. (rows : Rows) → Holds (state S.Store connection.old).now rows → HasRows (state S.Store connection.old).now (with_trees (state S.Store connection.old).now db) (with_change rows change.now)) }
+    ensures crash { Survives (state S.Store connection.old) (state S.Store connection.new) (λ db. (rows : Rows) → Holds (state S.Store connection.old).now rows → IsChangeLeft (state S.Store connection.old).now db (with_change rows change.now)) }
 {
     if !connection.is_autocommit() {
         return Err(Error::SqliteFailure(ErrorCode::TransactionState));
@@ -55,7 +55,7 @@ pub fn write_change<S: Alter>(
     ensures committed { HasCleanDisk (state S.Store connection.new) → OnOk result ((state S.Store connection.new).committed ≡ (state S.Store connection.new).now) }
     ensures was_open { HasCleanDisk (state S.Store connection.new) → IsTrue (state S.Store connection.new).is_open → IsTrue (state S.Store connection.old).is_open }
     ensures ended { (state S.Store connection.old).in_transaction ≡ false → (state S.Store connection.new).in_transaction ≡ false }
-    ensures crash { Survives (state S.Store connection.old) (state S.Store connection.new) (λ db. (rows : Rows) → tables_of (state S.Store connection.old).now ≡ Some rows → HasRows (state S.Store connection.old).now (with_trees (state S.Store connection.old).now db) (with_change rows change.now)) }
+    ensures crash { Survives (state S.Store connection.old) (state S.Store connection.new) (λ db. (rows : Rows) → tables_of (state S.Store connection.old).now ≡ Some rows → IsChangeLeft (state S.Store connection.old).now db (with_change rows change.now)) }
 {
     let there = present_among(connection.schema().tables.as_slice());
     if !there.has_all() {
