@@ -55,7 +55,7 @@ fn word_likeness(form: &str, at: usize, word: &str) -> u32 {
     if fits(part, word) {
         in_place(part)
     } else {
-        elsewhere(form, word).max(shared_front(part, word))
+        elsewhere(form, word).max(front_of(part, word))
     }
 }
 
@@ -114,6 +114,14 @@ fn is_within(word: &str, least: u32, most: u32) -> bool {
         Some(number) => least <= number && number <= most,
         None => false,
     }
+}
+
+// How many bytes at the fronts of the word and of this part of a list are the same; the name of a value tells nothing.
+fn front_of(part: &str, word: &str) -> u32 {
+    if part == "FILE" || limits_of(part).is_some() {
+        return 0;
+    }
+    shared_front(part, word)
 }
 
 // How many bytes at their fronts are the same; dashes, which all options share, tell nothing.

@@ -51,11 +51,21 @@ fn found_line(alloc: Global, deck: &[u8], fault: &Fault) -> Result<Option<usize>
     }
 }
 
+// A required key that is missing; of a volume its size, which three keys may give.
+fn missing_sentence(alloc: Global, path: &[u8]) -> Result<String, AllocError> {
+    let rest = if path.ends_with(b".device") {
+        " is missing, or tracks or cylinders in its place"
+    } else {
+        " is missing"
+    };
+    around(alloc, "the key ", path, rest)
+}
+
 fn deck_sentence(alloc: Global, fault: &Fault) -> Result<String, AllocError> {
     match fault {
         Fault::NotBuilt(path) => around(alloc, "what ", path.bytes(), " asks for isn't built"),
         Fault::UnknownKey(path) => around(alloc, "a deck has no key ", path.bytes(), ""),
-        Fault::Missing(path) => around(alloc, "the key ", path.bytes(), " is missing"),
+        Fault::Missing(path) => missing_sentence(alloc, path.bytes()),
         Fault::BadValue(path) => value_sentence(alloc, path.bytes()),
         Fault::BadName(path) => around(
             alloc,

@@ -24,8 +24,8 @@ impl Slot {
     pub fn wanted(self) -> &'static str {
         match self {
             Slot::Set => {
-                "the name of a data set: qualifiers of 1 to 8 bytes with full stops between, \
-                at most 44 bytes in all"
+                "the name of a data set: qualifiers with full stops between, each of 1 to 8 letters, digits, \
+                #, @, $ and -, the first no digit and no -, at most 44 bytes in all"
             }
             Slot::Tracks => "a number of tracks, 0 to 4294967295",
             Slot::Shown => "SMS,STORGRP(group), SMS,VOLUME(volser) or SET(dsn)",
@@ -33,7 +33,8 @@ impl Slot {
                 "SMS,STORGRP(group),action or SMS,VOLUME(volser),action, the action \
                 ENABLE, DISABLE, DISABLE,NEW, QUIESCE or QUIESCE,NEW"
             }
-            Slot::Job => "the name of a job",
+            Slot::Job =>
+                "the name of a job: 1 to 8 letters, digits, #, @ and $, the first no digit",
             Slot::Floor => "a request number, 1 to 4294967295",
             Slot::Operands | Slot::End => "the end of the line",
         }

@@ -42,7 +42,7 @@ fn end(rt: &HostRuntime, status: ToolStatus, note: &str) -> ExitCode
         ToolStatus::Script(fault) => eprintln!(rt; "smsc: status {code} {fault}"),
         _ => eprintln!(rt; "smsc: status {code}"),
     };
-    let note = if note.is_empty() {
+    let note = if note.is_empty() || status == ToolStatus::WriteFault {
         sentence_of(status)
     } else {
         note

@@ -8,6 +8,7 @@ use crate::kept_source::KeptSource;
 use crate::noted_sink::NotedSink;
 use db_calls::{DbStatus, db_main};
 use desk_calls::RunStatus;
+use fault_notes::shown;
 use sms_base::{StdSink, StdSource};
 use sms_sqlite::SqlKeeper;
 use sqlite::{Alter, Connection, Error, ErrorCode};
@@ -58,7 +59,9 @@ fn refuse(rt: &HostRuntime, file: &str, error: Error) -> ExitCode {
         }
         _ => {
             let _ = eprintln!(rt; "smsctl: status {NOT_OPENED}");
-            let _ = eprintln!(rt; "smsctl: {file}: {error}; nothing was answered");
+            if let Ok(name) = shown(rt.alloc(), file.as_bytes()) {
+                let _ = eprintln!(rt; "smsctl: '{name}': {error}; nothing was answered");
+            }
             ExitCode::from(NOT_OPENED)
         }
     }

@@ -83,8 +83,8 @@ pub fn sentence_of_serving(status: ServeStatus) -> Option<&'static str> {
 }
 
 const STORE_FAULT: &str =
-    "the tables can't be made in the file, or not be read: it can't be written, \
-    or has one of them in another form; nothing was answered\n";
+    "the tables can't be made in the file, or not be read: it can't be written, has one of them in another form, \
+    or has a view, a trigger or an index of its own under a name of theirs or on one of them; nothing was answered\n";
 
 const SERVE_WORDS: &str = "the words of the command line are none that serve the desk";
 
