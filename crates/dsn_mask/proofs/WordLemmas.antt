@@ -5,7 +5,7 @@ use Rattle.std.specs.Cmp.{nat_cmp_is, ranked}
 use Rattle.std.specs.Ordering.{MatchOrdering, is_ne, nat_cmp, ordering_then}
 use Rattle.std.specs.declared.cmp.Ordering.{Ordering}
 use Rattle.std.specs.declared.cmp.Ordering.TheVariants.{Less, Equal, Greater}
-use Rattle.dsn_mask.specs.Text.{padded}
+use Rattle.dsn_mask.specs.Inner.Text.{padded}
 use Rattle.dsn_mask.specs.Words.{number_behind, number_of}
 
 pub then-assoc : (a b c : Ordering) → ordering_then (ordering_then a b) c ≡ ordering_then a (ordering_then b c)

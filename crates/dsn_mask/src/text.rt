@@ -16,7 +16,7 @@ pub struct Text<const N: usize> {
 
 impl<const N: usize> Model for Text<N> {
     ghost use Rattle.std.specs.Prelude.{List, ℕ, length, take, ◌≡◌, ◌≤◌};
-    ghost use Rattle.dsn_mask.specs.Text.{padded};
+    ghost use Rattle.dsn_mask.specs.Inner.Text.{padded};
 
     ghost Value = { List ℕ };
 
@@ -26,7 +26,7 @@ impl<const N: usize> Model for Text<N> {
 
     ghost inverse = { λ xs. record { buffer = padded N xs; count = length xs } };
 
-    ghost use Rattle.dsn_mask.specs.TextFields.{fields_back};
+    ghost use Rattle.dsn_mask.specs.Inner.TextFields.{fields_back};
 
     ghost inverse_ok = { λ a h. fields_back N a h.0 h.1 };
 }

@@ -1,14 +1,12 @@
 //! The top call of the served desk.
-ghost use Rattle.std.specs.Prelude.{◌≡◌, ◌≤◌, ◌↔◌, ◌⊎◌, [], ◌∷◌, ◌++◌, List, None, Some, true, false, length, map, string_bytes, vec_capacity, IfOk, IfSome, OnErr};
-ghost use Rattle.sms_base.specs.Observed.{Observed};
+ghost use Rattle.std.specs.Prelude.{◌≡◌, ◌≤◌, ◌↔◌, ◌⊎◌, [], ◌∷◌, ◌++◌, List, None, Some, true, false, length, map, string_bytes, IfOk, IfSome, OnErr};
 ghost use Rattle.sms_keeper.specs.Tables.{AreSame, no_rows};
 ghost use Rattle.desk_law.specs.Records.{empty_opening};
 ghost use Rattle.desk_words.specs.Serving.{serving_in};
 ghost use Rattle.desk_words.specs.declared.served.ServeWords.{ServeWords as Asked};
-ghost use Rattle.desk_calls.specs.Headline.{Keeping};
 ghost use Rattle.serve_calls.specs.OneHistory.{IsOneHistory, WasHeard};
 ghost use Rattle.serve_calls.specs.ServedText.{served_text};
-ghost use Rattle.serve_calls.specs.ServeEnds.{AllowsStatus, AreServed, IsServeEnd, IsTold, WereServed, WereUnasked, Writing, leaves_sink};
+ghost use Rattle.serve_calls.specs.ServeEnds.{AllowsStatus, AreServed, IsServeEnd, IsTold, WereServed, WereUnasked, leaves_sink};
 
 use crate::alone::serve_alone;
 use crate::connections::served_text;

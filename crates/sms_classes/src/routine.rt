@@ -3,13 +3,13 @@ ghost use Rattle.std.specs.Prelude.{◌≡◌, suc};
 ghost use Rattle.std.specs.Option.{option_or};
 ghost use Rattle.acs_tree.specs.Variables.{rank_of};
 ghost use Rattle.desk_law.specs.Classification.{class_of, class_stop, exit_stop, meanings_of};
-ghost use Rattle.sms_classes.specs.Onward.{NoneFrom, progress, run_on};
+ghost use Rattle.sms_classes.specs.Inner.Onward.{NoneFrom, progress, run_on};
 
 use crate::stops::{class_stop, exit_stop};
 use acs_run::run;
 use acs_tree::{Ending, Kind, Seen, Slate, Values};
-use desk_law::Stop;
 use dsn_mask::Short;
+use sms_construct::Stop;
 use sms_deck::Config;
 
 /// Runs the routine of that kind, where there is one.

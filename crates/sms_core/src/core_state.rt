@@ -47,7 +47,7 @@ impl<P: Keeper> Model for Core<P> {
     ghost use Rattle.acs_tree.specs.contracts.routine.Form as form;
     ghost use Rattle.std.specs.Coded.{codes};
     ghost use Rattle.sms_core.specs.Core.{CoreView};
-    ghost use Rattle.sms_core.specs.Standing.{IsCore};
+    ghost use Rattle.sms_core.specs.Inner.Standing.{IsCore};
 
     ghost Value = { CoreView P };
 

@@ -31,7 +31,7 @@ pub use fault_text::push_fault;
 pub use item::{Item, Phase, Script};
 pub use lines::{first_line, is_block_end, line_text};
 pub use op::read_op;
-pub use operand::is_key;
+pub use operand::{KEYS, is_key};
 pub use printing::{answer_lines, print, view_lines};
 pub use pushing::{push_number_and_blank, push_word_and_blank, status_bytes, value_bytes};
 pub use reading::read_script;

@@ -14,7 +14,8 @@ use acs_tree::{Account, Volumes};
 use dsn_mask::{Name, Short};
 use sms_construct::{Eattr, Space, VolumeCount, behind_front, read_space};
 
-const KEYS: [&[u8]; 29] = [
+/// The keys of the operands of ALLOC (docs/script.md, "Operands").
+pub const KEYS: [&[u8]; 29] = [
     b"SPACE=",
     b"DATACLAS=",
     b"STORCLAS=",
