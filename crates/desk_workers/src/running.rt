@@ -51,7 +51,7 @@ pub fn run_workers<P: Keeper + Send, R: Threads + Wait + Sync, G: Gate + Sync>(
         }
         Err(e) => (Err(e), core),
     };
-    // A fact for the proof; nothing runs.
+    // A fact for the proof; nothing changes.
     let _journal = core.journal();
     (answers, core)
 }

@@ -185,7 +185,7 @@ fn new_core<P: Keeper>(alloc: Global, keeper: P) -> Core<P>
     ensures keeper { result.keeper ≡ keeper }
     ensures mark { result.mark ≡ P.count keeper }
 {
-    // Facts for the proof; nothing runs.
+    // Facts for the proof; nothing changes.
     new_is_lawful();
     let core = Core::new(alloc, keeper);
     let _journal = core.journal();
@@ -244,7 +244,7 @@ where
         [] result.1.journal) }
     ensures unasked { OnErr result.0 ((doors.new ≡ doors.old) × (result.1.keeper ≡ keeper)) }
 {
-    // Facts for the proof; nothing runs.
+    // Facts for the proof; nothing changes.
     new_is_lawful();
     let core = new_core(alloc, keeper);
     let (served, core) = serve_core(alloc, rt, most, doors, core, gate);

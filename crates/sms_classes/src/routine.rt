@@ -24,7 +24,7 @@ pub fn run_routine(
     ensures runs { progress values.new slate.new result ≡ run_on (meanings_of config.now) input.now kind values.old slate.old }
     ensures later_kinds { NoneFrom (suc (rank_of kind)) slate.new }
 {
-    // Facts for the proof; nothing runs.
+    // Facts for the proof; nothing changes.
     let _deck = config.deck();
     match config.code(kind) {
         None => Ending::Falls,

@@ -152,7 +152,7 @@ impl<P: Keeper> Core<P> {
         if take_room(&mut self.journal, &mut self.records).is_err() {
             return without_entry(Reply::Memory);
         }
-        // Facts for the proof; nothing runs.
+        // Facts for the proof; nothing changes.
         request_is_sound(request);
         let place = self.base + self.journal.len() as u64 + 1;
         let made = prepare(

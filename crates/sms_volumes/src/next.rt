@@ -147,7 +147,7 @@ impl ActiveVolumes {
             AreNext s.statuses config.now next) }
         ensures few { length config.now.volumes ≤ most_volumes }
     {
-        // Facts for the proof; nothing runs.
+        // Facts for the proof; nothing changes.
         let _deck = config.deck();
         Ok(ActiveVolumes {
             groups: self.next_groups(alloc, config.groups(), config.volumes())?,
