@@ -4,7 +4,8 @@ usage, at the top of the repository: docs/definitions.py
 
 It looks at words and proves nothing: a word of a clause is that of the import, or of the file's own, of that name.
 Public are the clauses of what a crate's lib.rt hands out and of main.rt, what contracts see of a type (Value and
-view), and the ghost members of traits. Crates of tests are left out, and so are the lists of modules, Lib.antt."""
+view), and the ghost members of traits. Crates of tests are left out, and so are the lists of modules, Lib.antt and
+Inner.antt. What no public clause reaches is to stand in specs/Inner."""
 import collections, glob, re
 
 # ghost members of a type that say nothing to its callers
@@ -35,7 +36,7 @@ class Definitions:
         self.files, self.imports, self.words = {}, {}, collections.defaultdict(list)
         self.tokens = {}
         for path in glob.glob('crates/*/specs/**/*.antt', recursive=True):
-            if not is_test(path) and not path.endswith('/Lib.antt'): self.add(path)
+            if not is_test(path) and not path.endswith(('/Lib.antt', '/Inner.antt')): self.add(path)
 
     def add(self, path):
         module, text = module_of(path), read(path)
@@ -136,15 +137,17 @@ def public_tokens(path, public):
 
 def rows_of(text):
     """The words of docs/DEFINITIONS.md with the files in which they are said to stand."""
-    homes, home = {'The law of the desk': 'desk_law', 'Decks': 'sms_deck'}, None
+    homes, section = {'The law of the desk': 'desk_law', 'Decks': 'sms_deck'}, None
     for line in text.split('\n'):
-        if line.startswith('## '): section = home = homes.get(line[3:])
+        if line.startswith('## '): section = homes.get(line[3:])
         row = re.match(r'\| (`[^|]*`[^|]*) \| ([^|]+) \|', line)
         if not row: continue
         crate, files = section, []
         for part in row.group(2).split(','):
-            named = re.match(r'(?:(\w+)/specs/)?(\w+)$', part.strip())
-            if named: crate = named.group(1) or crate; files.append(f'{crate}.specs.{named.group(2)}')
+            named = re.match(r'(?:(\w+)/specs/)?((?:Inner/)?\w+)$', part.strip())
+            if not named: continue
+            crate = named.group(1) or crate
+            files.append(f'{crate}.specs.{named.group(2)}'.replace('/', '.'))
         for word in re.findall(r'`([^`]+)`', row.group(1)): yield word, files
 
 def reached_by_clauses(known):
@@ -156,17 +159,16 @@ def reached_by_clauses(known):
 
 def lines_of(known, modules): return sum(read(known.files[m]).count('\n') for m in modules)
 
-def hidden_rows(known, shown):
-    """For each crate the files that no public clause reaches."""
-    rows = collections.defaultdict(list)
-    for module in sorted(set(known.files) - shown): rows[module.split('.')[0]].append(module.split('.')[-1])
-    return dict(rows)
+def is_inner(module): return '.specs.Inner.' in module
 
 def tell_files(known, shown):
     hidden = set(known.files) - shown
     print(f'{len(shown)} files with {lines_of(known, shown):,} lines are reached by public clauses, '
-          f'{len(hidden)} with {lines_of(known, hidden):,} lines are not:')
-    for crate, files in hidden_rows(known, shown).items(): print('   ', crate, *files)
+          f'{len(hidden)} with {lines_of(known, hidden):,} lines are not')
+    for module in sorted(shown):
+        if is_inner(module): print('reached, and in specs/Inner:', known.files[module])
+    for module in sorted(hidden):
+        if not is_inner(module): print('not reached, and not in specs/Inner:', known.files[module])
 
 def unreached_words(known, shown, reached):
     return {m: sorted({w for w in known.words[m] if (m, w) not in reached}) for m in sorted(shown)}
@@ -178,7 +180,7 @@ def tell_words(known, shown, reached):
         if words: print('   ', known.files[module], *words)
 
 def tell_counted(known, shown, reached):
-    """Where the page has other numbers or other files."""
+    """Where the page has other numbers."""
     page = read('docs/DEFINITIONS.md').partition('\n## ')[0]
     hidden = set(known.files) - shown
     words = sum(map(len, unreached_words(known, shown, reached).values()))
@@ -186,22 +188,24 @@ def tell_counted(known, shown, reached):
                  f'the other {len(hidden)} files, {lines_of(known, hidden):,} lines',
                  f'In the {len(shown)} files stand {words} '):
         if text not in page: print('not on the page:', text)
-    listed = {crate: files.split(', ') for crate, files in re.findall(r'(?m)^\| (\w+) \| (\w+(?:, \w+)*) \|$', page)}
-    told = hidden_rows(known, shown)
-    for crate in sorted(set(told) | set(listed)):
-        if told.get(crate) != listed.get(crate): print('not so on the page:', crate, *told.get(crate, []))
+
+def homes_of(known, word, files):
+    """Those of the files in which the word is defined; it says where the word stands in none."""
+    homes = [m for m in files if word in known.words.get(m, ()) or '◌' + word + '◌' in known.words.get(m, ())]
+    fields = [m for m in files if m in known.files and re.search(r'(?<!\w)' + word + r'(?!\w)', read(known.files[m]))]
+    if not homes and not fields: print('no such word there:', word, *files)
+    return homes
 
 def tell_listed(known, shown, reached):
+    public, _, private = read('docs/DEFINITIONS.md').partition('## Words of private clauses')
     listed = set()
-    text = read('docs/DEFINITIONS.md').partition('## Words of private clauses')[0]
-    for word, files in rows_of(text):
+    for word, files in rows_of(public):
         listed |= set(files)
-        homes = [m for m in files if word in known.words.get(m, ()) or '◌' + word + '◌' in known.words.get(m, ())]
-        fields = [m for m in files
-                  if m in known.files and re.search(r'(?<!\w)' + word + r'(?!\w)', read(known.files[m]))]
-        if not homes and not fields: print('no such word there:', word, *files)
-        for m in homes:
+        for m in homes_of(known, word, files):
             if word in known.words[m] and (m, word) not in reached: print('listed, and none reaches it:', word, m)
+    for word, files in rows_of(private):
+        for m in homes_of(known, word, files):
+            if (m, word) in reached: print('listed as private, and reached:', word, m)
     for m in sorted(shown - listed): print('reached, and not listed:', known.files[m])
 
 def main():

@@ -14,7 +14,7 @@ use Rattle.acs_tree.specs.declared.routine.Form.TheVariants.{Filt, Put, If, Pick
 use Rattle.acs_tree.specs.declared.routine.Operand.{Operand}
 use Rattle.acs_tree.specs.declared.routine.Ref.{Ref}
 use Rattle.acs_tree.specs.declared.routine.When.{When, out-When}
-use Rattle.acs_check.specs.Parts.{nodes_of_form, nodes_of_when, nodes_of_whens, nodes_of_block, nodes_of_optional}
+use Rattle.acs_check.specs.Inner.Parts.{nodes_of_form, nodes_of_when, nodes_of_whens, nodes_of_block, nodes_of_optional}
 use Rattle.acs_tree.specs.Nodes.{Node, ListName, Target, Part, entries_behind, values_behind, nodes_of_test, nodes_of_code, Left, Order, Right, nodes_of, nodes_of_cond, cond_step, form_step, stmt_step, when_step, nodes_of_subject, joined, whens_of}
 
 pub cond_and : (one two : Cond) → nodes_of_cond (And one two) ≡ nodes_of_cond one ++ nodes_of_cond two

@@ -4,7 +4,7 @@ use Rattle.std.specs.Prelude.{◌==◌, ◌&&◌, ◌||◌, nat_lt, Option, Some
 use Rattle.std.proofs.lemmas.Bool.Decides.{nat_tests}
 use Rattle.acs_tree.specs.declared.check_err.CheckErr.{CheckErr}
 use Rattle.acs_tree.specs.Sound.{Among, here, there}
-use Rattle.acs_check.specs.Walk.{precedes, better, least}
+use Rattle.acs_check.specs.Inner.Walk.{precedes, better, least}
 
 differs : (x y : ℕ) → x ≢ y → (x == y) ≡ false
 differs x y ne = grind (arith, nat_tests)

@@ -4,7 +4,7 @@ use Rattle.std.specs.Prelude.{Option, Some, None, bytes_eq, cond, find, is_some}
 use Rattle.std.specs.List.{cons_option, list_any}
 use Rattle.acs_tree.specs.declared.routine.Stmt.{Stmt}
 use Rattle.acs_tree.specs.FilterLists.{FilterList, is_list, is_simple_list, list_named, list_of, lists_in}
-use Rattle.acs_check.specs.Marks.{has_name, is_list_named, is_simple_statement}
+use Rattle.acs_check.specs.Inner.Marks.{has_name, is_list_named, is_simple_statement}
 
 module _ (name : List ℕ) where
   -- a list in front of others, by whether it has the name

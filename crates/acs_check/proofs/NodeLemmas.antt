@@ -10,7 +10,7 @@ use Rattle.acs_tree.specs.declared.routine.Ref.{Ref}
 use Rattle.acs_tree.specs.declared.routine.Stmt.{Stmt}
 use Rattle.acs_tree.specs.Nodes.{Entry, Value, Right, entries_behind}
 use Rattle.acs_tree.specs.Sound.{fault, unknown_variable, unknown_list, kind_mismatch, value_out_of_range, mask_misplaced, too_many_values, read_too_early}
-use Rattle.acs_check.specs.Walk.{least, met, walked}
+use Rattle.acs_check.specs.Inner.Walk.{least, met, walked}
 use Rattle.acs_check.proofs.LeastLemmas.{least_append}
 
 pub met_right : (kind : Kind) (before : List Stmt) (best : Option CheckErr) (left : Option Ref) (right : Operand)

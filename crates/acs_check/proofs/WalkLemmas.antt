@@ -10,8 +10,8 @@ use Rattle.acs_tree.specs.declared.routine.Ref.{Ref}
 use Rattle.acs_tree.specs.declared.routine.When.{When, out-When}
 use Rattle.acs_tree.specs.Nodes.{Node, nodes_of, nodes_of_cond, nodes_of_test, nodes_of_subject}
 use Rattle.acs_tree.specs.Sound.{faults_at}
-use Rattle.acs_check.specs.Parts.{nodes_of_form, nodes_of_block, nodes_of_when, nodes_of_whens, nodes_of_optional}
-use Rattle.acs_check.specs.Walk.{least, met, walked, passed, faults_in, faults_behind}
+use Rattle.acs_check.specs.Inner.Parts.{nodes_of_form, nodes_of_block, nodes_of_when, nodes_of_whens, nodes_of_optional}
+use Rattle.acs_check.specs.Inner.Walk.{least, met, walked, passed, faults_in, faults_behind}
 use Rattle.acs_check.proofs.FoldLemmas.{cond_and, cond_or, cond_test, form_do, form_exit, form_filt, form_if, form_pick, form_put, form_write, of_branch, of_form}
 use Rattle.acs_check.proofs.LeastLemmas.{least_append}
 

@@ -1,5 +1,1 @@
-pub mod CheckNumber
-pub mod Walk
-pub mod Parts
-pub mod Rows
-pub mod Marks
+pub mod Inner

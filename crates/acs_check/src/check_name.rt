@@ -1,6 +1,6 @@
 // The names of the checks.
 ghost use Rattle.std.specs.Prelude.{◌≡◌};
-ghost use Rattle.acs_check.specs.CheckNumber.{number_of};
+ghost use Rattle.acs_check.specs.Inner.CheckNumber.{number_of};
 
 /// The thirteen checks (docs/acs-language.md, Checks).
 #[derive(Clone, Copy)]

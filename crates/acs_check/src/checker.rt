@@ -3,8 +3,8 @@ ghost use Rattle.std.specs.Prelude.{◌≡◌, ◌≤◌, ◌<◌, ◌+◌, [], 
 ghost use Rattle.desk_common.specs.Exact.{IsExact};
 ghost use Rattle.acs_tree.specs.Sound.{IsFirstFault};
 ghost use Rattle.acs_tree.specs.CheckedRoutine.{IsCheckedOf};
-ghost use Rattle.acs_check.specs.Marks.{is_simple_statement};
-ghost use Rattle.acs_check.specs.Walk.{first_fault_of, passed};
+ghost use Rattle.acs_check.specs.Inner.Marks.{is_simple_statement};
+ghost use Rattle.acs_check.specs.Inner.Walk.{first_fault_of, passed};
 
 use crate::earlier::Earlier;
 use crate::lists::is_simple_statement;

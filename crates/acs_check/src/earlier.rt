@@ -4,7 +4,7 @@ ghost use Rattle.std.specs.Prelude.{◌≡◌, ◌<◌, length, map, take, slice
 ghost use Rattle.std.specs.List.{list_any};
 ghost use Rattle.acs_tree.specs.declared.routine.Stmt.{Stmt};
 ghost use Rattle.acs_tree.specs.FilterLists.{is_list, is_simple_list, list_named};
-ghost use Rattle.acs_check.specs.Marks.{is_list_named, is_simple_statement};
+ghost use Rattle.acs_check.specs.Inner.Marks.{is_list_named, is_simple_statement};
 
 use crate::lists::{is_list_named, is_simple_statement};
 use acs_tree::{Ident, Stmt};
@@ -28,7 +28,7 @@ impl<'a> Model for Earlier<'a> {
 
     ghost coded = { Prim.hlevel (codes, form.the_row.coded) };
 
-    ghost use Rattle.acs_check.specs.Marks.{is_simple_statement};
+    ghost use Rattle.acs_check.specs.Inner.Marks.{is_simple_statement};
 
     ghost view = { λ s. s.statements.now };
 

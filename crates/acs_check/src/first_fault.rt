@@ -1,7 +1,7 @@
 // The first fault so far.
 ghost use Rattle.std.specs.Prelude.{◌≡◌};
-ghost use Rattle.acs_check.specs.CheckNumber.{number_of};
-ghost use Rattle.acs_check.specs.Walk.{precedes, better, matters, least};
+ghost use Rattle.acs_check.specs.Inner.CheckNumber.{number_of};
+ghost use Rattle.acs_check.specs.Inner.Walk.{precedes, better, matters, least};
 ghost use Rattle.acs_tree.specs.Sound.{fault};
 ghost use Rattle.acs_tree.specs.Suits.{token_if};
 

@@ -1,6 +1,6 @@
 // An operand where it stands in a routine.
 ghost use Rattle.std.specs.Prelude.{◌≡◌};
-ghost use Rattle.acs_check.specs.Rows.{row_of};
+ghost use Rattle.acs_check.specs.Inner.Rows.{row_of};
 
 use acs_tree::{Operand, OperandForm, Variable};
 use std::marker::Model;
@@ -15,7 +15,7 @@ pub struct Item<'a> {
 impl<'a> Model for Item<'a> {
     ghost use Rattle.std.specs.Prelude.{◌≡◌};
     ghost use Rattle.acs_tree.specs.declared.routine.Operand.{Operand};
-    ghost use Rattle.acs_check.specs.Rows.{row_of};
+    ghost use Rattle.acs_check.specs.Inner.Rows.{row_of};
 
     ghost Value = { Operand };
 

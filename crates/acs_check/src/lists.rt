@@ -1,7 +1,7 @@
 // Filter lists and their entries.
 ghost use Rattle.std.specs.Prelude.{◌≡◌};
 ghost use Rattle.acs_tree.specs.FilterLists.{is_mask, is_simple, is_simple_entry, are_simple, is_simple_list, list_of};
-ghost use Rattle.acs_check.specs.Marks.{is_list_named, is_simple_statement};
+ghost use Rattle.acs_check.specs.Inner.Marks.{is_list_named, is_simple_statement};
 
 use acs_tree::{Form, Ident, Operand, OperandForm, Stmt};
 use dsn_mask::{Mask, Simple};

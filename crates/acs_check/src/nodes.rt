@@ -3,8 +3,8 @@ ghost use Rattle.std.specs.Prelude.{◌≡◌, ◌==◌, ◌||◌, ◌&&◌, not
 ghost use Rattle.acs_tree.specs.Nodes.{Head, ListName, Entry, Target, Value, Part, Left, Order, Right, Code};
 ghost use Rattle.acs_tree.specs.Sound.{fault};
 ghost use Rattle.acs_tree.specs.References.{is_group_list};
-ghost use Rattle.acs_tree.specs.Suits.{is_order, range_token, token_if, token_of, is_bad_list, is_bad_mask, is_listed, is_plain_unknown, is_among, is_literal_with, is_word_with, is_var_with};
-ghost use Rattle.acs_check.specs.Walk.{least, met};
+ghost use Rattle.acs_tree.specs.Suits.{is_order, range_token, token_if, token_of, is_bad_list, is_bad_mask, is_listed, is_plain_unknown, is_among, is_literal_with, is_word_with};
+ghost use Rattle.acs_check.specs.Inner.Walk.{least, met};
 
 use crate::check_name::CheckName;
 use crate::earlier::Earlier;

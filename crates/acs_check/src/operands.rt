@@ -4,7 +4,7 @@ ghost use Rattle.std.specs.Str.{bytes_eq};
 ghost use Rattle.acs_tree.specs.Numbers.{is_between, is_past_greatest, number_of, size_of};
 ghost use Rattle.acs_tree.specs.FilterLists.{is_mask, is_simple_list, list_named};
 ghost use Rattle.acs_tree.specs.References.{is_known, passes, is_misindexed, is_set_later, takes_masks, is_whole_name, is_number_variable, is_size_variable, is_group_list};
-ghost use Rattle.acs_tree.specs.Suits.{is_listed, is_plain_unknown, takes_simple, token_by, token_of, is_var_with, is_word_with, is_literal_with, is_left_with, suits_text, suits_volumes, suits_number, suits_size, suits_kind, suits, suits_set, is_bad_literal, is_too_great, is_mask_beside, is_bad_mask, is_bad_list, is_among};
+ghost use Rattle.acs_tree.specs.Suits.{is_listed, is_plain_unknown, takes_simple, token_of, is_var_with, is_word_with, is_literal_with, suits_text, suits_volumes, suits_number, suits_size, suits_kind, suits, suits_set, is_bad_literal, is_too_great, is_mask_beside, is_bad_mask, is_bad_list, is_among};
 ghost use Rattle.acs_tree.specs.Variables.{variable_of};
 
 use crate::earlier::Earlier;

@@ -1,8 +1,8 @@
 // The first fault so far, with those of the nodes of statements, in the order of the text.
 ghost use Rattle.std.specs.Prelude.{◌≡◌, ◌∷◌, ◌++◌, [], Some, map};
-ghost use Rattle.acs_tree.specs.Nodes.{Left, Order, Part, Right, entries_behind, values_behind, nodes_of, nodes_of_cond, nodes_of_test, nodes_of_subject, nodes_of_code};
-ghost use Rattle.acs_check.specs.Parts.{nodes_of_block, nodes_of_when, nodes_of_whens, nodes_of_form, nodes_of_optional};
-ghost use Rattle.acs_check.specs.Walk.{walked};
+ghost use Rattle.acs_tree.specs.Nodes.{Left, Order, Part, Right, Target, entries_behind, values_behind, nodes_of, nodes_of_cond, nodes_of_test, nodes_of_subject, nodes_of_code};
+ghost use Rattle.acs_check.specs.Inner.Parts.{nodes_of_block, nodes_of_whens, nodes_of_optional};
+ghost use Rattle.acs_check.specs.Inner.Walk.{walked};
 
 use crate::earlier::Earlier;
 use crate::named::{Named, subject_of};
@@ -51,6 +51,13 @@ fn values(kind: Kind, before: &Earlier<'_>, target: &Ref, values: &[Operand], be
         );
     }
     best
+}
+
+fn put(kind: Kind, before: &Earlier<'_>, reference: &Ref, operands: &[Operand], best: Best) -> Best
+    ensures { result ≡ walked kind before.now best (Target reference.now ∷ values_behind reference.now [] operands.now) }
+{
+    let best = target(kind, before, reference, best);
+    values(kind, before, reference, operands, best)
 }
 
 fn parts(kind: Kind, before: &Earlier<'_>, parts: &[Operand], best: Best) -> Best
@@ -166,13 +173,7 @@ pub fn statement(current: &Stmt, kind: Kind, before: &Earlier<'_>, best: Best) -
             let best = list_name(kind, before, name, *name_at, best);
             filter_list(kind, before, include.as_slice(), exclude.as_slice(), best)
         }
-        Form::Put {
-            target: reference,
-            values: operands,
-        } => {
-            let best = target(kind, before, reference, best);
-            values(kind, before, reference, operands.as_slice(), best)
-        }
+        Form::Put { target, values } => put(kind, before, target, values.as_slice(), best),
         Form::If {
             cond,
             yes,

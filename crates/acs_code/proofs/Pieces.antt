@@ -16,8 +16,8 @@ use Rattle.acs_code.specs.declared.instr.Instr.TheVariants.{Test, Jump}
 use Rattle.acs_code.specs.declared.probe.Probe.{Probe}
 use Rattle.acs_code.specs.Machine.{probe_holds}
 use Rattle.acs_code.specs.Stands.{IsThere}
-use Rattle.acs_code.specs.Steps.{act}
-use Rattle.acs_code.specs.Upward.{leap, Below, Over, Branches, Does}
+use Rattle.acs_code.specs.Inner.Steps.{act}
+use Rattle.acs_code.specs.Inner.Upward.{leap, Below, Over, Branches, Does}
 
 module _ (kind : Kind) (filters : List FilterLists) where
   -- at the front of the code

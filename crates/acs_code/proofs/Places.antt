@@ -18,9 +18,9 @@ use Rattle.acs_code.specs.declared.instr.Instr.{Instr}
 use Rattle.acs_code.specs.declared.instr.Instr.TheVariants.{Test, Jump, SetClass, SetGroups, Write, Exit}
 use Rattle.acs_code.specs.Machine.{CodeParts, ComesTo, RunsTo, exit, jump, part_class, past_end, probe_holds, set_class, set_groups, test, write}
 use Rattle.acs_code.specs.Stands.{Goes, GoesForward, StandsFor}
-use Rattle.acs_code.specs.Compiled.{filters_of}
-use Rattle.acs_code.specs.Steps.{act}
-use Rattle.acs_code.specs.Upward.{leap, placed, AreBelow, Below, Does}
+use Rattle.acs_code.specs.Inner.Compiled.{filters_of}
+use Rattle.acs_code.specs.Inner.Steps.{act}
+use Rattle.acs_code.specs.Inner.Upward.{leap, placed, AreBelow, Below, Does}
 use Rattle.acs_code.proofs.RunLemmas.{comes_to_one}
 
 module _ (kind : Kind) (filters : List FilterLists) (input : Input) (all : List Instr) where

@@ -13,7 +13,7 @@ use Rattle.acs_code.specs.declared.instr.Instr.TheVariants.{Test, Jump, SetClass
 use Rattle.acs_code.specs.declared.probe.Probe.{Probe}
 use Rattle.acs_code.specs.Machine.{CodeParts, ComesTo, RunsTo, exit, jump, part_class, parts_line, past_end, probe_holds, set_class, set_groups, test, write}
 use Rattle.acs_code.specs.Stands.{Goes, GoesForward}
-use Rattle.acs_code.specs.Steps.{act, act_if_any, rest_of, run_for}
+use Rattle.acs_code.specs.Inner.Steps.{act, act_if_any, rest_of, run_for}
 
 -- where no instruction stands nothing runs
 none_there : (code : CodeParts) (input : Input) (steps place : ℕ) (values : Values) → slice_get code.instrs place ≡ None → run_for code input steps place values ≡ falls values

@@ -10,7 +10,7 @@ use Rattle.acs_tree.specs.Outcome.{nothing, Action}
 use Rattle.acs_tree.specs.Setting.{class_set, groups_set, kind_set, sets}
 use Rattle.acs_tree.specs.Variables.{name_of}
 use Rattle.acs_code.specs.declared.instr.Instr.{Instr}
-use Rattle.acs_code.specs.Upward.{Does}
+use Rattle.acs_code.specs.Inner.Upward.{Does}
 
 -- the kind's variable is set
 pub set_turn : (kind : Kind) (target : Ref) (operands : List Operand) {rest code : List Instr} → bytes_eq target.name (name_of kind) ≡ true → ((filters : List FilterLists) → Does kind filters (kind_set kind operands) rest code)

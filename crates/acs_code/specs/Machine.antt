@@ -70,7 +70,9 @@ right_comparand filters (right.Number number) = comparand.Number number
 abbrev pub probe_holds : List FilterLists → Probe → Input → Values → Bool
 probe_holds filters probe input values = compares input values probe.op (slot_value probe.left input values) (right_comparand filters probe.right)
 
--- from a place and with values the code runs to an outcome: the instruction there acts, and the run goes on at the place that it names, be that later or earlier, or else at the next one; an Exit ends it, and past the end it falls through
+-- from a place and with values the code runs to an outcome: the instruction there acts, and the run goes on at the
+-- place that it names, be that later or earlier, or else at the next one; an Exit ends it, and past the end it falls
+-- through
 pub data RunsTo (code : CodeParts) (input : Input) : ℕ → Values → Outcome → Type 0 where
   test : {place yes' no' : ℕ} {probe : Probe} {values : Values} {outcome : Outcome} → slice_get code.instrs place ≡ Some (Test probe yes' no')
       → RunsTo code input (if probe_holds code.filters probe input values then yes' else no') values outcome → RunsTo code input place values outcome

@@ -4,7 +4,7 @@ ghost use Rattle.dsn_mask.specs.Filter.{FilterLists};
 ghost use Rattle.acs_tree.specs.Meaning.{code_of};
 ghost use Rattle.acs_tree.specs.Outcome.{nothing, exits};
 ghost use Rattle.acs_tree.specs.declared.kind.Kind.{Kind};
-ghost use Rattle.acs_code.specs.Upward.{Does, Over};
+ghost use Rattle.acs_code.specs.Inner.Upward.{Does, Over};
 ghost use Rattle.acs_code.specs.declared.instr.Instr.{Instr};
 
 use crate::instr::Instr;

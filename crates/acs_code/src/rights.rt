@@ -6,8 +6,8 @@ ghost use Rattle.acs_tree.specs.Comparands.{Dots, Number, Plain, comparand_of, c
 ghost use Rattle.acs_tree.specs.References.{is_whole_name};
 ghost use Rattle.acs_tree.specs.Variables.{variable_of};
 ghost use Rattle.acs_tree.specs.FilterLists.{list_named};
-ghost use Rattle.acs_code.specs.Compiled.{filters_of};
-ghost use Rattle.acs_code.specs.Rights.{IsRightIfAny};
+ghost use Rattle.acs_code.specs.Inner.Compiled.{filters_of};
+ghost use Rattle.acs_code.specs.Inner.Rights.{IsRightIfAny};
 
 use crate::lists::Lists;
 use crate::parts::slot;

@@ -3,7 +3,7 @@ ghost use Rattle.std.specs.Prelude.{◌≡◌, ◌<◌, [], true, false, List, l
 ghost use Rattle.dsn_mask.specs.Filter.{FilterLists};
 ghost use Rattle.acs_tree.specs.Setting.{class_set, groups_behind, groups_set, is_new_group, kind_set, sets, with_group};
 ghost use Rattle.acs_tree.specs.declared.kind.Kind.{Kind};
-ghost use Rattle.acs_code.specs.Upward.{Does};
+ghost use Rattle.acs_code.specs.Inner.Upward.{Does};
 
 use crate::instr::Instr;
 use crate::parts::part;

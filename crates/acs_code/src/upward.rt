@@ -1,6 +1,6 @@
 //! Code that is written from its end.
 ghost use Rattle.std.specs.Prelude.{◌≡◌, ◌∷◌, [], length, map, IfOk, OnOk};
-ghost use Rattle.acs_code.specs.Upward.{placed};
+ghost use Rattle.acs_code.specs.Inner.Upward.{placed};
 
 use crate::instr::{Instr, Instrs};
 use desk_common::Items;

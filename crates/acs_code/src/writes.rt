@@ -7,7 +7,7 @@ ghost use Rattle.acs_tree.specs.declared.input.Input.{Input};
 ghost use Rattle.acs_tree.specs.declared.kind.Kind.{Kind};
 ghost use Rattle.acs_tree.specs.declared.values.Values.{Values};
 ghost use Rattle.acs_code.specs.Machine.{parts_text};
-ghost use Rattle.acs_code.specs.Upward.{Does};
+ghost use Rattle.acs_code.specs.Inner.Upward.{Does};
 
 use crate::instr::{Instr, Parts};
 use crate::parts::part;

@@ -9,7 +9,7 @@ use Rattle.acs_lex.specs.Tokens.{IsToken, CutsInto, nothing_left, after_gap, aft
 use Rattle.desk_common.specs.Exact.{MayRefuse, IsExact}
 use Rattle.desk_common.proofs.ExactLemmas.{exact_thing, exact_fault as exact_refusal, exact_want}
 use Rattle.acs_lex.specs.LexFault.{StopsBy, FirstStopsBy, here, behind_gap, behind_token, IsFirstLexFault}
-use Rattle.acs_lex.specs.Scanning.{Front, Ends, Skips, Takes, Fails, front}
+use Rattle.acs_lex.specs.Inner.Scanning.{Front, Ends, Skips, Takes, Fails, front}
 use Rattle.acs_lex.proofs.FrontLemmas.{Stands, front_stands}
 use Rattle.acs_lex.proofs.OneFrontLemmas.{stands_front, gap_shorter, token_shorter}
 

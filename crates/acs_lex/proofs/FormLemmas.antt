@@ -4,7 +4,7 @@ use Rattle.acs_lex.specs.declared.token.TokenForm.{TokenForm}
 use Rattle.acs_lex.specs.declared.token.TokenForm.TheVariants.{Word, Variable, Literal, Sign}
 use Rattle.acs_lex.specs.Lexical.{Runs, is_name_byte, is_word_byte, is_ampersand, is_quote, is_quotable, is_single_sign, is_double_sign, IsForm, word, variable, literal, double, single}
 use Rattle.acs_lex.specs.Tokens.{IsLongest}
-use Rattle.acs_lex.specs.Scanning.{after}
+use Rattle.acs_lex.specs.Inner.Scanning.{after}
 use Rattle.acs_lex.proofs.ByteLemmas.{clash, double_begins, double_ampersand, word_no_ampersand, word_no_quote, word_no_single, word_no_double, name_no_ampersand, ampersand_no_quote, ampersand_no_single, quote_no_single, quote_no_double, quote_not_quotable}
 use Rattle.acs_lex.proofs.RunLemmas.{starts, runs_after, runs_shorter, after_least, runs_end}
 

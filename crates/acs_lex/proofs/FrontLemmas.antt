@@ -8,7 +8,7 @@ use Rattle.acs_lex.specs.declared.fault.LexErr.TheVariants.{OpenLiteral, LongWor
 use Rattle.acs_lex.specs.Lexical.{Runs, is_blank, is_line_end, is_name_byte, is_word_byte, is_ampersand, is_quote, is_quotable, is_single_sign, is_double_sign, begins, counted_bytes, most_bytes, IsCommentTail, over, inside, IsGap, blank, comment}
 use Rattle.acs_lex.specs.Tokens.{IsLongest, size_of, token_at, IsToken, token}
 use Rattle.acs_lex.specs.LexFault.{StopsBy, open_comment, open_literal, bad_inside, bad_byte, too_long}
-use Rattle.acs_lex.specs.Scanning.{Front, Ends, Skips, Takes, Fails, after, after_comment, token_front, bad_front, comment_front, slash_front, literal_front, single_front, sign_front, ampersand_front, front}
+use Rattle.acs_lex.specs.Inner.Scanning.{Front, Ends, Skips, Takes, Fails, after, after_comment, token_front, bad_front, comment_front, slash_front, literal_front, single_front, sign_front, ampersand_front, front}
 use Rattle.acs_lex.proofs.ByteLemmas.{same_of, clash, not_slash, only_among, ampersand_no_single, not_printable}
 use Rattle.acs_lex.proofs.RunLemmas.{starts, runs_after, after_stops}
 use Rattle.acs_lex.proofs.FormLemmas.{word_longest, variable_longest, literal_longest, double_longest, single_longest, double_here, no_form}

@@ -5,7 +5,7 @@ use Rattle.std.specs.List.{prefix_len, position_or_len}
 use Rattle.std.proofs.lemmas.Grind.{common_steps}
 use Rattle.std.proofs.lemmas.Bool.Decides.{nat_tests}
 use Rattle.acs_lex.specs.Lexical.{Runs, stop, on}
-use Rattle.acs_lex.specs.Scanning.{after}
+use Rattle.acs_lex.specs.Inner.Scanning.{after}
 
 drop_at : (test : ℕ → Bool) (b : ℕ) (bytes : List ℕ) (v : Bool) → drop (prefix_len (λ x. not (not (test x))) bytes) bytes ≡ after test bytes → drop (cond (not (not v)) (1 + prefix_len (λ x. not (not (test x))) bytes) 0) (b ∷ bytes) ≡ (if v then after test bytes else b ∷ bytes)
 drop_at test b bytes true e = grind (arith, common_steps)

@@ -1,4 +1,4 @@
 pub mod Lexical
 pub mod Tokens
 pub mod LexFault
-pub mod Scanning
+pub mod Inner

@@ -1,5 +1,5 @@
 // The scanner.
-ghost use Rattle.std.specs.Prelude.{◌≡◌, ◌<◌, ◌^◌, ◌⊎◌, ℕ, List, [], length, Some, IfOk, IfErr, All};
+ghost use Rattle.std.specs.Prelude.{◌≡◌, ◌<◌, ◌^◌, [], length, Some, IfOk, IfErr, All};
 ghost use Rattle.acs_lex.specs.Tokens.{IsCut, InOrder, IsTokenOf};
 ghost use Rattle.desk_common.specs.Exact.{MayRefuse, IsExact};
 ghost use Rattle.acs_lex.specs.LexFault.{IsFirstLexFault};

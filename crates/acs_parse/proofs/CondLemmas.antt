@@ -14,9 +14,9 @@ use Rattle.acs_parse.specs.declared.fault.Fault.{Fault}
 use Rattle.acs_parse.specs.declared.fault.Fault.TheVariants.{Deep}
 use Rattle.acs_parse.specs.Wants.{fits}
 use Rattle.acs_parse.specs.Grammar.{starts, place_in, back, limited, IsOperator, IsIndex, IsRef, ref, IsOperand, IsCond, cond_of, IsOrs, no_or, or_more, IsConj, conj_of, IsAnds, no_and, and_more, IsPrim, test, group}
-use Rattle.acs_parse.specs.Table.{Effect, Keep, Lower, To, Part, One, ACondition, MoreOrs, AConjunct, MoreAnds, ATest, AnOperand, ARef, Read, Full, Pass, gate, rule, TooMany, Verdict, verdict}
-use Rattle.acs_parse.specs.Language.{Takes}
-use Rattle.acs_parse.specs.Reads.{Fails, FailsAt, IsCondBefore}
+use Rattle.acs_parse.specs.Inner.Table.{Effect, Keep, Lower, To, Part, One, ACondition, MoreOrs, AConjunct, MoreAnds, ATest, AnOperand, ARef, Read, Full, Pass, gate, rule, TooMany, Verdict, verdict}
+use Rattle.acs_parse.specs.Inner.Language.{Takes}
+use Rattle.acs_parse.specs.Inner.Reads.{Fails, FailsAt, IsCondBefore}
 use Rattle.acs_parse.proofs.RunLemmas.{moved, opened, runs_one, runs_ref, runs_cond, runs_conj, runs_prim, conj_as_test, cond_as_conj, fits_operator}
 use Rattle.acs_parse.proofs.SoundLemmas.{is_variable}
 use Rattle.acs_parse.proofs.ShorterLemmas.{conj_shorter, prim_shorter, cond_shorter, takes_shorter}

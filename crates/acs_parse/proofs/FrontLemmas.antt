@@ -16,9 +16,9 @@ use Rattle.acs_parse.specs.declared.want.Want.{Want}
 use Rattle.acs_parse.specs.declared.want.Want.TheVariants as want
 use Rattle.acs_parse.specs.Wants.{fits}
 use Rattle.acs_parse.specs.Grammar.{starts, takes_words, takes_variables, joins, goes_on, back, limited, unlimited, by_sign, no_index, ref, literal, no_further, operands, no_exclude, IsLists, excluding, no_code, IsCond, cond_of, no_or, IsConj, conj_of, no_and, IsPrim, test, IsStmt, exit, no_alternative, by_condition, IsWhen, when_any, when_holds, no_when, IsBlock, end_of, item_statement, no_number, IsRoutineOf, routine, IsOrNumber}
-use Rattle.acs_parse.specs.Table.{effect, Part, One, OrNumber, ABlock, AnItem, AStatement, Lists, OrExclude, OrAlternative, AChoice, AWhen, MoreWhens, ACondition, MoreOrs, AConjunct, MoreAnds, ATest, AnOperand, MoreOperands, ARef, OrIndex, OrCode, Back, Move, Read, Full, Pass, Refuse, followed, entries, when_parts, opens, item_opens, test_opens, operand_opens, list_opens, choice_opens, rule, start, Step, Go, No, Many, after, step, all_empty, Complete, Short, Stop, TooMany, next, verdict}
+use Rattle.acs_parse.specs.Inner.Table.{effect, Part, One, OrNumber, ABlock, AnItem, AStatement, Lists, OrExclude, OrAlternative, AChoice, AWhen, MoreWhens, ACondition, MoreOrs, AConjunct, MoreAnds, ATest, AnOperand, MoreOperands, ARef, OrIndex, OrCode, Back, Move, Read, Full, Pass, Refuse, followed, entries, when_parts, opens, item_opens, test_opens, operand_opens, list_opens, choice_opens, rule, start, Step, Go, No, Many, after, step, all_empty, Complete, Short, Stop, TooMany, next, verdict}
 use Rattle.acs_parse.proofs.VerdictLemmas.{is_over}
-use Rattle.acs_parse.specs.Language.{Lang, Seq}
+use Rattle.acs_parse.specs.Inner.Language.{Lang, Seq}
 use Rattle.acs_parse.specs.Places.{Begins, IsFirstWrong, IsTooDeep, EndsEarly}
 use Rattle.acs_parse.proofs.RunLemmas.{runs_routine}
 use Rattle.acs_parse.proofs.SoundLemmas.{steps, is_proc, is_head}

@@ -17,9 +17,9 @@ use Rattle.acs_parse.specs.declared.want.Want.TheVariants as want
 use Rattle.acs_parse.specs.declared.fault.Fault.{Fault}
 use Rattle.acs_parse.specs.Wants.{fits}
 use Rattle.acs_parse.specs.Grammar.{starts, place_in, placed, operand_at, takes_words, takes_variables, goes_on, limited, IsListName, IsIndex, no_index, index, IsRef, ref, IsOperand, literal, word_of, variable, IsFurther, no_further, after_comma, joined, IsOperands, operands, IsExclude, no_exclude, exclude, IsLists, including, excluding, IsFilter, filter, IsCode, no_code, code}
-use Rattle.acs_parse.specs.Table.{Effect, Keep, effect, Part, One, AnItem, Lists, OrExclude, AnOperand, MoreOperands, ARef, OrIndex, OrCode, Read, Refuse, Pass, entries, Verdict, verdict}
-use Rattle.acs_parse.specs.Language.{Takes}
-use Rattle.acs_parse.specs.Reads.{Fails, FailsAt, GoesOn, IsEntries}
+use Rattle.acs_parse.specs.Inner.Table.{Effect, Keep, effect, Part, One, AnItem, Lists, OrExclude, AnOperand, MoreOperands, ARef, OrIndex, OrCode, Read, Refuse, Pass, entries, Verdict, verdict}
+use Rattle.acs_parse.specs.Inner.Language.{Takes}
+use Rattle.acs_parse.specs.Inner.Reads.{Fails, FailsAt, GoesOn, IsEntries}
 use Rattle.acs_parse.proofs.RunLemmas.{moved, taken, runs_one, runs_operand, runs_operands, fits_name, joins_as_operand}
 use Rattle.acs_parse.proofs.SoundLemmas.{is_open, is_close, is_exclude, is_code}
 

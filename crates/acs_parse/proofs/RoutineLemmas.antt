@@ -20,9 +20,9 @@ use Rattle.acs_parse.specs.Grammar.{place_in, limited, IsHead, IsBlock, IsOrNumb
 use Rattle.desk_common.specs.Exact.{MayRefuse, IsExact}
 use Rattle.desk_common.proofs.ExactLemmas.{exact_thing, exact_fault as exact_refusal, exact_want, refuses_want}
 use Rattle.acs_parse.specs.ParseFault.{IsParseFault, unexpected, ended, deep}
-use Rattle.acs_parse.specs.Table.{Effect, Keep, One, OrNumber, ABlock, start, Stop, verdict}
-use Rattle.acs_parse.specs.Language.{Takes}
-use Rattle.acs_parse.specs.Reads.{Fails, FailsAt, Skips, told}
+use Rattle.acs_parse.specs.Inner.Table.{Effect, Keep, One, OrNumber, ABlock, start, Stop, verdict}
+use Rattle.acs_parse.specs.Inner.Language.{Takes}
+use Rattle.acs_parse.specs.Inner.Reads.{Fails, FailsAt, Skips, told}
 use Rattle.acs_parse.proofs.RunLemmas.{runs_one, runs_number, runs_block, fits_head}
 use Rattle.acs_parse.proofs.FrontLemmas.{first_wrong, too_deep, ends_early, stop_within, deep_within}
 use Rattle.acs_parse.proofs.OneTreeLemmas.{one_tree}

@@ -17,9 +17,9 @@ use Rattle.acs_parse.specs.declared.want.Want.TheVariants as want
 use Rattle.acs_parse.specs.declared.fault.Fault.{Fault}
 use Rattle.acs_parse.specs.Wants.{fits}
 use Rattle.acs_parse.specs.Grammar.{starts, place_in, when_at, limited, IsRef, IsOperands, IsCond, IsStmt, pick, IsAlternative, IsChoice, by_value, by_condition, IsWhen, when_any, when_holds, IsWhens, no_when, more_whens}
-use Rattle.acs_parse.specs.Table.{Effect, Keep, Lower, To, Part, One, AStatement, OrAlternative, AChoice, AWhen, MoreWhens, ACondition, AnOperand, MoreOperands, ARef, Read, Refuse, when_parts, Step, after, next, step, Verdict, verdict}
-use Rattle.acs_parse.specs.Language.{Takes}
-use Rattle.acs_parse.specs.Reads.{FailsAt, IsInside, AreWhens, IsCondBefore, IsOneMore, IsTest, any_of, holding, test_parts}
+use Rattle.acs_parse.specs.Inner.Table.{Effect, Keep, Lower, To, Part, One, AStatement, OrAlternative, AChoice, AWhen, MoreWhens, ACondition, AnOperand, MoreOperands, ARef, Read, Refuse, when_parts, Step, after, next, step, Verdict, verdict}
+use Rattle.acs_parse.specs.Inner.Language.{Takes}
+use Rattle.acs_parse.specs.Inner.Reads.{FailsAt, IsInside, AreWhens, IsCondBefore, IsOneMore, IsTest, any_of, holding, test_parts}
 use Rattle.acs_parse.proofs.RunLemmas.{runs_ref, runs_operands, runs_cond, runs_alternative, runs_choice, runs_when, whens_as_when}
 use Rattle.acs_parse.proofs.SoundLemmas.{is_when}
 use Rattle.acs_parse.proofs.ShorterLemmas.{when_shorter, operands_shorter, cond_shorter}

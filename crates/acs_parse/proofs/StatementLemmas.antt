@@ -17,9 +17,9 @@ use Rattle.acs_parse.specs.declared.want.Want.TheVariants as want
 use Rattle.acs_parse.specs.declared.fault.Fault.{Fault}
 use Rattle.acs_parse.specs.declared.fault.Fault.TheVariants.{Deep}
 use Rattle.acs_parse.specs.Grammar.{starts, place_in, placed, limited, IsRef, IsOperands, IsFilter, IsCode, IsCond, IsStmt, set, choice, group_of, write, exit, IsAlternative, no_alternative, alternative, IsBlock, end_of, then_more, IsItem, item_filter, item_statement}
-use Rattle.acs_parse.specs.Table.{Effect, Keep, Lower, To, Part, One, ABlock, AnItem, AStatement, OrAlternative, AChoice, ACondition, AnOperand, MoreOperands, ARef, OrCode, Back, Read, Full, Pass, gate, rule, TooMany, verdict}
-use Rattle.acs_parse.specs.Language.{Takes}
-use Rattle.acs_parse.specs.Reads.{FailsAt, IsBehind, IsInside, IsCondBefore, AreArms}
+use Rattle.acs_parse.specs.Inner.Table.{Effect, Keep, Lower, To, Part, One, ABlock, AnItem, AStatement, OrAlternative, AChoice, ACondition, AnOperand, MoreOperands, ARef, OrCode, Back, Read, Full, Pass, gate, rule, TooMany, verdict}
+use Rattle.acs_parse.specs.Inner.Language.{Takes}
+use Rattle.acs_parse.specs.Inner.Reads.{FailsAt, IsBehind, IsInside, IsCondBefore, AreArms}
 use Rattle.acs_parse.proofs.RunLemmas.{moved, taken, opened, runs_ref, runs_cond, runs_stmt, runs_item, block_as_item, item_as_statement}
 use Rattle.acs_parse.proofs.SoundLemmas.{is_then, is_end}
 use Rattle.acs_parse.proofs.ShorterLemmas.{item_shorter}

@@ -1,6 +1,6 @@
 -- When reading is over before the end of the tokens.
 use Rattle.std.specs.Prelude.{Bool, true, false}
-use Rattle.acs_parse.specs.Table.{Verdict, Complete, Short, Stop, TooMany}
+use Rattle.acs_parse.specs.Inner.Table.{Verdict, Complete, Short, Stop, TooMany}
 
 -- it ended at a token
 abbrev pub is_over : Verdict → Bool

@@ -2,7 +2,4 @@ pub mod Wants
 pub mod Grammar
 pub mod Places
 pub mod ParseFault
-pub mod Parts
-pub mod Table
-pub mod Language
-pub mod Reads
+pub mod Inner

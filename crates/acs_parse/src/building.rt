@@ -2,7 +2,7 @@
 // readers that call themselves must not hold while they do: LLVM is told not to inline them, and
 // Rattle's own compiler, which can't be told, doesn't where the readers call them in several places.
 ghost use Rattle.std.specs.Prelude.{◌≡◌, ◌∷◌, ◌++◌, [], IfOk};
-ghost use Rattle.acs_parse.specs.Parts.{form_of_parts, test_of_parts, when_of_parts};
+ghost use Rattle.acs_parse.specs.Inner.Parts.{form_of_parts, test_of_parts, when_of_parts};
 
 use crate::parts::{FormParts, TestParts, WhenParts};
 use acs_tree::{

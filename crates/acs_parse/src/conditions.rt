@@ -3,8 +3,8 @@
 ghost use Rattle.std.specs.Prelude.{◌≡◌, ◌∷◌, [], ℕ, true};
 ghost use Rattle.acs_parse.specs.declared.want.Want.TheVariants as want;
 ghost use Rattle.acs_parse.specs.Grammar.{starts, limited, IsCond, IsConj, IsPrim};
-ghost use Rattle.acs_parse.specs.Table.{To, One, ACondition, AConjunct, ATest};
-ghost use Rattle.acs_parse.specs.Reads.{Reads, Parses, IsCondBefore};
+ghost use Rattle.acs_parse.specs.Inner.Table.{To, One, ACondition, AConjunct, ATest};
+ghost use Rattle.acs_parse.specs.Inner.Reads.{Reads, Parses, IsCondBefore};
 
 use crate::building::{both, either};
 use crate::fault::Fault;

@@ -1,6 +1,6 @@
 // Why tokens are no routine.
 ghost use Rattle.std.specs.Prelude.{◌≡◌, ◌-◌};
-ghost use Rattle.acs_parse.specs.Reads.{told};
+ghost use Rattle.acs_parse.specs.Inner.Reads.{told};
 
 use std::alloc::{AllocError, AllocFailed};
 use thiserror::Error;

@@ -3,8 +3,8 @@
 ghost use Rattle.std.specs.Prelude.{◌≡◌, ◌∷◌, [], true, IfOk};
 ghost use Rattle.acs_parse.specs.declared.want.Want.TheVariants as want;
 ghost use Rattle.acs_parse.specs.Grammar.{starts, IsIndex, IsRef, IsOperand, IsOperands, IsExclude, IsLists, IsFilter, IsCode};
-ghost use Rattle.acs_parse.specs.Table.{AnOperand, MoreOperands, ARef, OrIndex, OrCode, Lists, OrExclude, AnItem, entries};
-ghost use Rattle.acs_parse.specs.Reads.{Reads, IsEntries};
+ghost use Rattle.acs_parse.specs.Inner.Table.{AnOperand, MoreOperands, ARef, OrIndex, OrCode, Lists, OrExclude, AnItem, entries};
+ghost use Rattle.acs_parse.specs.Inner.Reads.{Reads, IsEntries};
 
 use crate::building::stmt_of;
 use crate::fault::Fault;

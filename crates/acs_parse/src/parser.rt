@@ -1,12 +1,11 @@
 // The parser.
 ghost use Rattle.std.specs.Prelude.{◌≡◌, ℕ, length, Some, IfOk, IfErr};
-ghost use Rattle.acs_lex.specs.declared.token.Token.{Token};
 ghost use Rattle.acs_lex.specs.Tokens.{IsCut, InOrder};
 ghost use Rattle.acs_symbol.specs.Symbols.{symbols_of};
 ghost use Rattle.acs_parse.specs.Grammar.{limited, IsRoutine};
 ghost use Rattle.desk_common.specs.Exact.{MayRefuse, IsExact};
 ghost use Rattle.acs_parse.specs.ParseFault.{IsParseFault};
-ghost use Rattle.acs_parse.specs.Reads.{Whole, told};
+ghost use Rattle.acs_parse.specs.Inner.Reads.{Whole, told};
 
 use crate::fault::{Fault, ParseErr};
 use crate::statements::body;

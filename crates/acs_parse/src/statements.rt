@@ -1,13 +1,13 @@
 // Readers of statements and blocks. Each is passed how many constructs are open where it begins, and
 // a reader of what stands behind a word of a statement, how many are open inside it.
-ghost use Rattle.std.specs.Prelude.{◌≡◌, ◌∷◌, [], ℕ, suc, Bool, true, false};
+ghost use Rattle.std.specs.Prelude.{◌∷◌, [], ℕ, true, false};
 ghost use Rattle.acs_parse.specs.declared.list_kind.ListKind.TheVariants as list;
 ghost use Rattle.acs_parse.specs.declared.want.Want.TheVariants as want;
 ghost use Rattle.acs_symbol.specs.declared.symbol.WordKind.TheVariants as word;
-ghost use Rattle.acs_parse.specs.Grammar.{limited, IsStmt, IsAlternative, IsChoice, IsWhen, IsBlock, IsItem};
-ghost use Rattle.acs_parse.specs.Parts.{form_of_parts, test_of_parts};
-ghost use Rattle.acs_parse.specs.Table.{Keep, Lower, To, One, ABlock, AnItem, AStatement, OrAlternative, AChoice, AWhen, MoreWhens, ACondition, AnOperand, MoreOperands, ARef, OrCode, Back};
-ghost use Rattle.acs_parse.specs.Reads.{Reads, Parses, IsBehind, IsInside, AreWhens, IsTest, IsOneMore, AreArms, test_parts};
+ghost use Rattle.acs_parse.specs.Grammar.{limited, IsStmt, IsAlternative, IsChoice, IsBlock, IsItem};
+ghost use Rattle.acs_parse.specs.Inner.Parts.{form_of_parts, test_of_parts};
+ghost use Rattle.acs_parse.specs.Inner.Table.{Keep, Lower, To, One, ABlock, AnItem, AStatement, OrAlternative, AChoice, AWhen, MoreWhens, ACondition, AnOperand, MoreOperands, ARef, OrCode, Back};
+ghost use Rattle.acs_parse.specs.Inner.Reads.{Reads, Parses, IsBehind, IsInside, AreWhens, IsTest, IsOneMore, AreArms, test_parts};
 
 use crate::building::{stmt_of, with_boxed, with_when_parts};
 use crate::conditions::cond_before;

@@ -7,8 +7,8 @@ ghost use Rattle.acs_symbol.specs.declared.symbol.WordKind.{WordKind};
 ghost use Rattle.acs_symbol.specs.declared.symbol.WordKind.TheVariants as word;
 ghost use Rattle.acs_parse.specs.declared.want.Want.TheVariants as want;
 ghost use Rattle.acs_parse.specs.Grammar.{starts, place_in, back, goes_on, IsOperator, IsListName, IsHead};
-ghost use Rattle.acs_parse.specs.Language.{Takes};
-ghost use Rattle.acs_parse.specs.Reads.{ReadsOne, Opens, Skips, GoesOn};
+ghost use Rattle.acs_parse.specs.Inner.Language.{Takes};
+ghost use Rattle.acs_parse.specs.Inner.Reads.{ReadsOne, Opens, Skips, GoesOn};
 
 use crate::fault::Fault;
 use crate::list_kind::ListKind;

@@ -10,7 +10,7 @@ use Rattle.acs_tree.specs.declared.line.Line.{Line}
 use Rattle.acs_tree.specs.declared.more.More.{More}
 use Rattle.acs_tree.specs.Slates.{IsSlate, KeepsOtherKinds, SlateLines, count_of, line, lines_of, more_of, one_more, same_kind, with_more, with_kept_lines}
 use Rattle.acs_tree.specs.KeptLines.{KeptLines, kept_lines_of}
-use Rattle.acs_run.specs.Steps.{with_lines}
+use Rattle.acs_run.specs.Inner.Steps.{with_lines}
 
 same_self : (kind : Kind) → same_kind kind kind ≡ true
 same_self DataClas = refl

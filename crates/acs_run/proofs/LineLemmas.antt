@@ -14,7 +14,7 @@ use Rattle.acs_tree.specs.declared.input.Input.{Input}
 use Rattle.acs_tree.specs.declared.values.Values.{Values}
 use Rattle.acs_code.specs.declared.part.Part.{Part}
 use Rattle.acs_code.specs.Machine.{part_text, parts_text}
-use Rattle.acs_run.specs.Lines.{after_commas}
+use Rattle.acs_run.specs.Inner.Lines.{after_commas}
 use Rattle.acs_run.proofs.CutLemmas.{cut_end, cut_more, cut_twice}
 
 short_byte : (b : ℕ) → is_short_byte b ≡ true → is_literal_byte b ≡ true

@@ -15,9 +15,9 @@ use Rattle.acs_code.specs.declared.probe.Probe.{Probe}
 use Rattle.acs_code.specs.Machine.{CodeParts, part_class, parts_line, probe_holds}
 use Rattle.acs_code.specs.Stands.{Goes, GoesForward}
 use Rattle.acs_run.specs.declared.machine.Next.TheVariants.{On, Exited}
-use Rattle.acs_code.specs.Steps.{act, rest_of}
+use Rattle.acs_code.specs.Inner.Steps.{act, rest_of}
 use Rattle.acs_code.proofs.RunLemmas.{one_step}
-use Rattle.acs_run.specs.Steps.{Leads, Same, with_lines}
+use Rattle.acs_run.specs.Inner.Steps.{Leads, Same, with_lines}
 
 -- what each instruction leads to
 same_on : (kind : Kind) {o p : Outcome} {t : SlateLines} → o ≡ p → Same kind o p t t

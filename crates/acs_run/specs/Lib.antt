@@ -1,3 +1,1 @@
-pub mod Seen
-pub mod Lines
-pub mod Steps
+pub mod Inner

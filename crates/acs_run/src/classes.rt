@@ -4,7 +4,7 @@ ghost use Rattle.acs_code.specs.Machine.{part_class};
 ghost use Rattle.acs_tree.specs.Setting.{as_class, text_of, with_class};
 ghost use Rattle.acs_tree.specs.declared.input.Input.{Input};
 ghost use Rattle.acs_tree.specs.declared.values.Values.{Values};
-ghost use Rattle.acs_run.specs.Seen.{seen};
+ghost use Rattle.acs_run.specs.Inner.Seen.{seen};
 
 use crate::value::Value;
 use crate::values::value;

@@ -7,7 +7,7 @@ ghost use Rattle.acs_tree.specs.declared.input.Input.{Input};
 ghost use Rattle.acs_tree.specs.declared.values.Values.{Values};
 ghost use Rattle.acs_tree.specs.Compares.{compares, counted, groups_or_null, is_that_text, number_beside, number_compares, numbers_compare, text_equals, texts_compare};
 ghost use Rattle.acs_code.specs.Machine.{probe_holds, right_comparand};
-ghost use Rattle.acs_run.specs.Seen.{passes_if_any, seen};
+ghost use Rattle.acs_run.specs.Inner.Seen.{passes_if_any, seen};
 
 use crate::short::{of_name, of_volser};
 use crate::value::Value;

@@ -2,8 +2,8 @@
 ghost use Rattle.std.specs.Prelude.{◌≡◌, ◌≤◌, ◌++◌, ◌∷◌, [], codes, decimal, length, take};
 ghost use Rattle.acs_code.specs.Machine.{part_text, parts_line};
 ghost use Rattle.acs_tree.specs.Writing.{listed, printed};
-ghost use Rattle.acs_run.specs.Lines.{after_commas};
-ghost use Rattle.acs_run.specs.Seen.{seen};
+ghost use Rattle.acs_run.specs.Inner.Lines.{after_commas};
+ghost use Rattle.acs_run.specs.Inner.Seen.{seen};
 
 use crate::draft::Draft;
 use crate::value::Value;

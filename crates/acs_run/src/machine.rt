@@ -4,7 +4,7 @@ ghost use Rattle.acs_code.specs.Machine.{ComesTo};
 ghost use Rattle.acs_tree.specs.Outcome.{Outcome};
 ghost use Rattle.acs_tree.specs.Slates.{KeepsOtherKinds, count_of, with_kept_lines};
 ghost use Rattle.acs_tree.specs.KeptLines.{kept_lines_of};
-ghost use Rattle.acs_run.specs.Steps.{Leads};
+ghost use Rattle.acs_run.specs.Inner.Steps.{Leads};
 
 use crate::classes::{class, set_class};
 use crate::compare::holds;

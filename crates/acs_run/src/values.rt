@@ -6,7 +6,7 @@ ghost use Rattle.acs_tree.specs.declared.input.Input.{Input};
 ghost use Rattle.acs_tree.specs.declared.values.Values.{Values};
 ghost use Rattle.acs_tree.specs.Value.{Number, Size, Text, text_at};
 ghost use Rattle.acs_tree.specs.Variables.{look_up, part_of_name};
-ghost use Rattle.acs_run.specs.Seen.{accounting_variables, attribute_variables, class_variables, default_variables, environment_variables, given_variables, held_in, input_variables, name_variables, number_variables, origin_variables, seen, size_variables, text_variables, volume_variables};
+ghost use Rattle.acs_run.specs.Inner.Seen.{accounting_variables, attribute_variables, class_variables, default_variables, environment_variables, given_variables, held_in, input_variables, name_variables, number_variables, origin_variables, seen, size_variables, text_variables, volume_variables};
 
 use crate::short::qualifier;
 use crate::value::Value;

@@ -20,8 +20,8 @@ is_column column = is_among wanted column || is_key column
 abbrev pub has_wanted : List (List ℕ) → Bool
 has_wanted columns = is_among columns (codes "CASE") && (is_among columns (codes "JOB") && is_among columns (codes "DSN"))
 
--- of the columns behind earlier ones, the number of the first that is no column or an earlier one, from 1; where one that each table
--- has is missing, the number behind the last
+-- of the columns behind earlier ones, the number of the first that is no column or an earlier one, from 1; where one
+-- that each table has is missing, the number behind the last
 abbrev pub fault_behind : List (List ℕ) → List (List ℕ) → Option ℕ
 fault_behind earlier [] = if has_wanted earlier then None else Some (length earlier + 1)
 fault_behind earlier (column ∷ columns) =

@@ -22,7 +22,8 @@ abbrev pub with_line : List ℕ → Result Block ℕ → Result Block ℕ
 with_line line (Ok block) = Ok (record { deck = line ++ block.deck; behind = block.behind })
 with_line line (Err end) = Err end
 
--- of lines from this number on, all bytes up to the first ./END, and the lines behind that; without one, the number behind the last line
+-- of lines from this number on, all bytes up to the first ./END, and the lines behind that; without one, the number
+-- behind the last line
 abbrev pub block_of : ℕ → List (List ℕ) → Result Block ℕ
 block_of line [] = Err line
 block_of line (first ∷ lines) =

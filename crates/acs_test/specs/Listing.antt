@@ -6,7 +6,7 @@ use Rattle.sms_construct.specs.Configuration.{Configuration}
 use Rattle.sms_script.specs.NameText.{spaced}
 use Rattle.sms_script.specs.TraceText.{trace_lines}
 use Rattle.desk_law.specs.Classification.{Classes, classes_of}
-use Rattle.desk_law.specs.declared.stop.Stop.{Stop}
+use Rattle.sms_construct.specs.declared.stop.Stop.{Stop}
 use Rattle.sms_classes.specs.declared.classified.Classified.{Classified}
 use Rattle.sms_simulation.specs.OutcomeText.{behind, outcome_text}
 use Rattle.acs_test.specs.declared.case.Case.{Case}

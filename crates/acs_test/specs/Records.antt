@@ -49,8 +49,8 @@ abbrev pub or_bad : ℕ → Option Case → Result Case CasesErr
 or_bad number None = Err (BadCase number)
 or_bad number (Some case) = Ok case
 
--- the case of the record behind the header and so many cases, or its fault: first that it has another number of fields than the
--- header, then that there are too many, then that it is no case
+-- the case of the record behind the header and so many cases, or its fault: first that it has another number of fields
+-- than the header, then that there are too many, then that it is no case
 abbrev pub case_behind : List (List ℕ) → ℕ → List (List ℕ) → Result Case CasesErr
 case_behind columns count fields =
     if not (length fields == length columns) then Err (Fields (count + 2)) else

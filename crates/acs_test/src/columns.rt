@@ -1,5 +1,5 @@
 //! The columns of a table.
-ghost use Rattle.std.specs.Prelude.{◌≡◌, ◌≤◌, ◌<◌, ◌+◌, ◌^◌, length, map, IfOk, IfSome};
+ghost use Rattle.std.specs.Prelude.{◌≡◌, ◌≤◌, ◌<◌, ◌+◌, length, map, IfOk, IfSome};
 ghost use Rattle.std.specs.Char.{to_ascii_uppercase};
 ghost use Rattle.acs_test.specs.Columns.{columns_of, has_wanted, header_fault, is_among, is_column};
 

@@ -2,7 +2,7 @@
 ghost use Rattle.std.specs.Prelude.{◌≡◌, ◌<◌, ◌+◌, ◌^◌, Ok, Some, length, IfOk, IfErr};
 ghost use Rattle.desk_common.specs.Exact.{IsExact, MayRefuse};
 ghost use Rattle.sms_deck.specs.Reading.{Configures};
-ghost use Rattle.acs_test.specs.Parts.{parts_seen};
+ghost use Rattle.acs_test.specs.Inner.Parts.{parts_seen};
 ghost use Rattle.acs_test.specs.Reading.{Gives, IsReading, IsRefusal, Refuses, TellsDeck};
 
 use crate::cases::Cases;

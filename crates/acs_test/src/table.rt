@@ -1,5 +1,5 @@
 //! The records of a table.
-ghost use Rattle.std.specs.Prelude.{◌≡◌, ◌+◌, ◌≤◌, ◌<◌, length, map, IfOk};
+ghost use Rattle.std.specs.Prelude.{◌<◌, map, IfOk};
 ghost use Rattle.csv.specs.Records.{fields_of};
 ghost use Rattle.acs_test.specs.Table.{IsTable};
 

@@ -2,7 +2,7 @@
 use Rattle.std.proofs.Common.{◌≡◌, ◌≤◌, ◌<◌, ◌+◌, ◌-◌, ℕ, suc, List, [], ◌∷◌, ◌++◌, length, take, refl, append_assoc, length-append, arith}
 use Rattle.std.proofs.Math.ListN.{set}
 use Rattle.std.proofs.Math.Seq.{take-append_seam, set-append_seam}
-use Rattle.acs_tree.specs.Lists.{filled}
+use Rattle.acs_tree.specs.Inner.Lists.{filled}
 
 module _ (size : ℕ) (filler : List ℕ) where
   kept : (xs items : List (List ℕ)) (count : ℕ) → count ≡ length xs → items ≡ filled size filler xs → length xs ≤ size

@@ -16,7 +16,7 @@ pub struct Account {
 
 impl Model for Account {
     ghost use Rattle.std.specs.Prelude.{List, ℕ, length, take, ◌≡◌, ◌≤◌};
-    ghost use Rattle.acs_tree.specs.Lists.{filled, no_field};
+    ghost use Rattle.acs_tree.specs.Inner.Lists.{filled, no_field};
 
     ghost Value = { List (List ℕ) };
 
@@ -26,7 +26,7 @@ impl Model for Account {
 
     ghost inverse = { λ xs. record { items = filled 8 no_field xs; count = length xs } };
 
-    ghost use Rattle.acs_tree.specs.ListsFields.{account_back};
+    ghost use Rattle.acs_tree.specs.Inner.ListsFields.{account_back};
 
     ghost inverse_ok = { λ a h. account_back a h.0 h.1 };
 }

@@ -1,7 +1,7 @@
 //! The volumes that a request names.
 ghost use Rattle.std.specs.Prelude.{◌≡◌, ◌≤◌, ◌<◌, ◌↔◌, ◌∷◌, ◌++◌, [], IsTrue, length};
 ghost use Rattle.desk_common.specs.Limits.{most_volume_count};
-ghost use Rattle.acs_tree.specs.Lists.{no_volume};
+ghost use Rattle.acs_tree.specs.Inner.Lists.{no_volume};
 
 use dsn_mask::Volser;
 use std::marker::Model;
@@ -17,7 +17,7 @@ pub struct Volumes {
 
 impl Model for Volumes {
     ghost use Rattle.std.specs.Prelude.{List, ℕ, length, take, ◌≡◌, ◌≤◌};
-    ghost use Rattle.acs_tree.specs.Lists.{filled, no_volume};
+    ghost use Rattle.acs_tree.specs.Inner.Lists.{filled, no_volume};
 
     ghost Value = { List (List ℕ) };
 
@@ -27,7 +27,7 @@ impl Model for Volumes {
 
     ghost inverse = { λ xs. record { items = filled 59 no_volume xs; count = length xs } };
 
-    ghost use Rattle.acs_tree.specs.ListsFields.{volumes_back};
+    ghost use Rattle.acs_tree.specs.Inner.ListsFields.{volumes_back};
 
     ghost inverse_ok = { λ a h. volumes_back a h.0 h.1 };
 }

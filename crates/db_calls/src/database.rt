@@ -1,6 +1,5 @@
 //! The top call of the desk over a stored keeper.
 ghost use Rattle.std.specs.Prelude.{◌≡◌, ◌↔◌, None, Some, ℕ, List, true, map, string_bytes};
-ghost use Rattle.sms_base.specs.Observed.{Observed};
 ghost use Rattle.sms_keeper.specs.Loading.{SameDamage, StaysDamaged};
 ghost use Rattle.sms_open.specs.Reopening.{NamesRefusal};
 ghost use Rattle.sms_open.specs.declared.open_err.OpenErr.{OpenErr as Refusal};

@@ -35,7 +35,8 @@ pub record Keeping : Type 0 where
   pub told : Option Rows
   pub count : ℕ
 
--- a repeated number: below its floor it is refused, a kept one gets its reply or is refused for another op, and each other is fresh
+-- a repeated number: below its floor it is refused, a kept one gets its reply or is refused for another op, and each
+-- other is fresh
 pub record KeepsReplies (o : Opening) (history : List Entry) : Type 0 where
   pub below : (front rest : List Entry) (entry : Entry) → history ≡ front ++ entry ∷ rest
       → nat_lt entry.request.number (floor_of o front entry.request.job) ≡ true → entry.answer.reply ≡ Below (floor_of o front entry.request.job)
@@ -54,9 +55,9 @@ pub record IsLawfulHistory (o : Opening) (history : List Entry) : Type 0 where
   pub places : (front rest : List Entry) (entry : Entry) → history ≡ front ++ entry ∷ rest → entry.answer.place ≡ o.base + length front + 1
   -- legal history: each entry is a lawful step after those before it
   pub legal : IsLegal o history
-  -- lawful grants: each grant, also a repeated one, is that of a reply of the opening to an equal request, or of an entry with an equal
-  -- request, whose classes and lines are those of the routines of the configuration active there, on a volume that may be chosen, in
-  -- pieces of the gap rule
+  -- lawful grants: each grant, also a repeated one, is that of a reply of the opening to an equal request, or of an
+  -- entry with an equal request, whose classes and lines are those of the routines of the configuration active there,
+  -- on a volume that may be chosen, in pieces of the gap rule
   pub grants : (front rest : List Entry) (entry : Entry) (set : DataSet) (trace : Trace) → history ≡ front ++ entry ∷ rest
       → entry.answer.reply ≡ Granted set trace → WasGranted o front entry set trace
   -- one that was first answered at a place behind the opening's is that of an entry
@@ -78,17 +79,20 @@ pub record IsRecorded (o : Opening) (before after : Keeping) (history : List Ent
   -- the tables of the keeper are those of the history, where it tells them
   pub tables : HasTables o history after.told
 
--- the items were answered by so many workers behind an opening over a keeper, which was one thing before and is another after
+-- the items were answered by so many workers behind an opening over a keeper, which was one thing before and is another
+-- after
 pub record WasRun (o : Opening) (workers : ℕ) (before after : Keeping) (phases : List (List Item)) (answers : List Answer) (history : List Entry) : Type 0 where
-  -- one history, each request once: each item has its answer, and the entries of the answers make the history, those of a phase behind
-  -- those of the phases before it, and in each phase those of each job in script order; the items without a place are those answered M31
-  -- or R24, and R24 comes only where the history has no place for the op
+  -- one history, each request once: each item has its answer, and the entries of the answers make the history, those of
+  -- a phase behind those of the phases before it, and in each phase those of each job in script order; the items
+  -- without a place are those answered M31 or R24, and R24 comes only where the history has no place for the op
   pub once : AreAnswered phases answers [] history
-  -- by one worker all entries stand in script order, and R24 comes exactly where the history before the item has no place for the op
+  -- by one worker all entries stand in script order, and R24 comes exactly where the history before the item has no
+  -- place for the op
   pub in_order : workers ≡ 1 → AnswersInOrder (items_of phases) answers [] history
   pub recorded : IsRecorded o before after history
 
--- the rows are those of the volumes of the active configuration as the history left them, in its order; none where nothing is active
+-- the rows are those of the volumes of the active configuration as the history left them, in its order; none where
+-- nothing is active
 abbrev pub AreRows : Opening → List Entry → List VolRow → Type 0
 AreRows o history rows = (s : DeskState) → Reaches o history s → rows ≡ map (shown_volume s) (volumes_in s.active)
 
@@ -103,7 +107,8 @@ abbrev pub Prints : Opening → Bool → List (List Item) → List Answer → Li
 Prints o false phases answers history text = text ≡ text_of phases answers (length history)
 Prints o true phases answers history text = HasTable o phases answers history text
 
--- the text is that of the answers to the script in these bytes by so many workers, and they are those of one legal history
+-- the text is that of the answers to the script in these bytes by so many workers, and they are those of one legal
+-- history
 pub record IsAnswered (o : Opening) (volumes : Bool) (workers : ℕ) (before after : Keeping) (bytes text : List ℕ) : Type 0 where
   pub phases : List (List Item)
   pub answers : List Answer
@@ -139,7 +144,8 @@ WasBegun o workers before after bytes = WasScriptRun o workers before after byte
 abbrev pub IsLeft : Opening → ℕ → Keeping → Keeping → List ℕ → Type 0
 IsLeft o workers before after bytes = (after ≡ before) ⊎ WasBegun o workers before after bytes
 
--- the text is the summary of the answers to a generated script on a new desk, with the volumes and the number of entries that the history left
+-- the text is the summary of the answers to a generated script on a new desk, with the volumes and the number of
+-- entries that the history left
 pub record SumsUp (seed count : ℕ) (answers : List Answer) (history : List Entry) (text : List ℕ) : Type 0 where
   pub rows : List VolRow
   pub rows_are : AreRows empty_opening history rows

@@ -10,7 +10,8 @@ use Rattle.sms_core.specs.Core.{entry_of}
 use Rattle.sms_script.specs.declared.item.Item.{Item}
 use Rattle.desk_workers.specs.Phases.{entries_for}
 
--- behind these entries the answer has no place exactly where its reply comes without an entry, then with the first place 0 too, and R24 comes exactly where the journal has no place for the op
+-- behind these entries the answer has no place exactly where its reply comes without an entry, then with the first
+-- place 0 too, and R24 comes exactly where the journal has no place for the op
 pub record IsDue (h : List Entry) (request : Request) (answer : Answer) : Type 0 where
   pub unplaced : answer.place ≡ 0 ↔ is_entered answer.reply ≡ false
   pub first : is_entered answer.reply ≡ false → answer.first ≡ 0

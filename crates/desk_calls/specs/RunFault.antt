@@ -3,6 +3,7 @@ use Rattle.std.specs.Prelude.{◌≡◌, ◌⊎◌, Bool, true, false, List, ℕ
 use Rattle.std.specs.Io.KnownBytes.{Appends}
 use Rattle.desk_common.specs.Causes.{Rose}
 use Rattle.desk_common.specs.Fronts.{IsProperPrefix}
+use Rattle.desk_common.specs.Limits.{most_input_bytes}
 use Rattle.desk_law.specs.Records.{empty_opening}
 use Rattle.desk_law.specs.State.{Opening}
 use Rattle.sms_base.specs.Observed.{Observed, IsUnwritten, WasRead, WasAnswered, HasReadFault, HasWriteFault, IsTooLong, IsOutOfMemory}
@@ -14,26 +15,22 @@ use Rattle.desk_calls.specs.Headline.{IsAnswered, IsLoadLeft, IsSummed, Keeping,
 use Rattle.desk_calls.specs.declared.status.RunStatus.{RunStatus}
 use Rattle.desk_calls.specs.declared.status.RunStatus.TheVariants.{Done, BadWords, ReadFault, WriteFault, Script, TooLong, NoMemory}
 
--- the most bytes of a script
-abbrev pub most_bytes : ℕ
-most_bytes = 16777216
-
 -- the bytes that were read have this fault as a script, and nothing was run
 pub record IsFaulty (old new : Observed) (err : ScriptErr) : Type 0 where
   pub bytes : List ℕ
-  pub read : WasRead most_bytes old new bytes
+  pub read : WasRead most_input_bytes old new bytes
   pub fault : script_of bytes ≡ Err err
   pub unwritten : IsUnwritten old new
 
 -- the script that was read was begun by so many workers
 pub record WasReadAndBegun (o : Opening) (workers : ℕ) (old new : Observed) (before after : Keeping) : Type 0 where
   pub bytes : List ℕ
-  pub read : WasRead most_bytes old new bytes
+  pub read : WasRead most_input_bytes old new bytes
   pub begun : WasBegun o workers before after bytes
 
 -- memory was wanting; the keeper is as it was, or the script was begun
 pub record IsWanting (o : Opening) (workers : ℕ) (old new : Observed) (before after : Keeping) : Type 0 where
-  pub wanting : IsOutOfMemory most_bytes old new
+  pub wanting : IsOutOfMemory most_input_bytes old new
   pub kept : (after ≡ before) ⊎ WasReadAndBegun o workers old new before after
 
 -- the statuses with which nothing is written
@@ -58,12 +55,12 @@ leaves_keeper NoMemory = false
 
 -- what each status of a run behind an opening says of what was observed before and after, and of the keeper
 abbrev pub RunEnds : Opening → Bool → ℕ → Observed → Observed → Keeping → Keeping → RunStatus → Type 0
-RunEnds o volumes workers old new before after Done = WasAnswered most_bytes (IsAnswered o volumes workers before after) old new
+RunEnds o volumes workers old new before after Done = WasAnswered most_input_bytes (IsAnswered o volumes workers before after) old new
 RunEnds o volumes workers old new before after BadWords = ⊥
-RunEnds o volumes workers old new before after ReadFault = HasReadFault most_bytes old new
-RunEnds o volumes workers old new before after WriteFault = HasWriteFault most_bytes (IsAnswered o volumes workers before after) old new
+RunEnds o volumes workers old new before after ReadFault = HasReadFault most_input_bytes old new
+RunEnds o volumes workers old new before after WriteFault = HasWriteFault most_input_bytes (IsAnswered o volumes workers before after) old new
 RunEnds o volumes workers old new before after (Script err) = IsFaulty old new err
-RunEnds o volumes workers old new before after TooLong = IsTooLong most_bytes old new
+RunEnds o volumes workers old new before after TooLong = IsTooLong most_input_bytes old new
 RunEnds o volumes workers old new before after NoMemory = IsWanting o workers old new before after
 
 -- the sink took the whole summary

@@ -10,11 +10,13 @@ use sms_desk::Gate;
 use sms_keeper::Keeper;
 use sms_script::{Script, ScriptErr, read_script};
 use std::alloc::Global;
+use std::mem::forget;
 use std::sync::Wait;
 use std::thread::Threads;
 
 /// The text of the answers to the script that the bytes write, by one worker, on a desk without entries; with `volumes`
-/// the table of volumes stands behind it.
+/// the table of volumes stands behind it. Script, answers and journal aren't freed one by one: the program ends behind
+/// it, which frees all at once.
 pub fn answer_text<P: Keeper>(
     alloc: Global,
     bytes: &[u8],
@@ -30,7 +32,11 @@ pub fn answer_text<P: Keeper>(
     ensures left { IfErr result.0 (λ _. IsLeft core.opening 1 (record { told = P.told core.keeper; count = P.count core.keeper }) (record { told = P.told result.1; count = P.count result.1 }) bytes.now) }
 {
     match read_script(alloc, bytes) {
-        Ok(script) => answer_alone(alloc, &script, volumes, core),
+        Ok(script) => {
+            let answered = answer_alone(alloc, &script, volumes, core);
+            forget(script);
+            answered
+        }
         Err(fault) => (Err(fault), core.into_parts().0),
     }
 }
@@ -79,7 +85,9 @@ fn answer_alone<P: Keeper>(
         return (Err(ScriptErr::NoMemory), keeper);
     };
     let text = run_text(alloc, script, answers.as_slice(), volumes, &core);
-    let (keeper, _journal) = core.into_parts();
+    let (keeper, journal) = core.into_parts();
+    forget(answers);
+    forget(journal);
     match text {
         Ok(text) => (Ok(text), keeper),
         Err(_) => (Err(ScriptErr::NoMemory), keeper),

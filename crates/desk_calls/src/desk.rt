@@ -1,17 +1,16 @@
 //! The top call of the desk.
 ghost use Rattle.std.specs.Prelude.{◌≡◌, ◌≤◌, ◌↔◌, ℕ, None, Some, [], true, map, string_bytes, IfSome};
-ghost use Rattle.sms_base.specs.Observed.{Observed};
 ghost use Rattle.sms_keeper.specs.Tables.{AreSame, no_rows};
 ghost use Rattle.desk_law.specs.Records.{empty_opening};
 ghost use Rattle.desk_words.specs.Words.{task_in};
 ghost use Rattle.desk_words.specs.declared.task.Task.{Task as Asked};
 ghost use Rattle.desk_words.specs.declared.task.Task.TheVariants.{Generate};
-ghost use Rattle.desk_calls.specs.Headline.{Keeping};
 ghost use Rattle.desk_calls.specs.RunFault.{Ends, LoadEnds, RunEnds, leaves_keeper, leaves_sink};
 
 use crate::answering::{answer_text, shared_text};
 use crate::load::load_text;
 use crate::status::RunStatus;
+use desk_common::MAX_INPUT;
 use desk_words::{Task, task_asked};
 use sms_base::{ReadEnd, Sink, Source, read_all, write_all};
 use sms_core::Core;
@@ -21,9 +20,6 @@ use sms_script::ScriptErr;
 use std::alloc::Global;
 use std::sync::Wait;
 use std::thread::Threads;
-
-/// The longest script, in bytes.
-pub const MAX_SCRIPT: usize = 16_777_216;
 
 /// Does what the words of the command line ask, on an empty desk over a keeper of empty tables, which it hands back:
 /// reads a script from the source to its end, answers it by as many workers as are asked for and writes the text of
@@ -83,7 +79,7 @@ pub fn run_source<S: Source, K: Sink, P: Keeper>(
         (record { told = P.told core.keeper; count = P.count core.keeper }) (record { told = P.told result.1; count = P.count result.1 })
         result.0 }
 {
-    let bytes = match read_all(alloc, src, MAX_SCRIPT) {
+    let bytes = match read_all(alloc, src, MAX_INPUT) {
         Ok(bytes) => bytes,
         Err(ReadEnd::Failed) => return (RunStatus::ReadFault, core.into_parts().0),
         Err(ReadEnd::TooLong) => return (RunStatus::TooLong, core.into_parts().0),
@@ -123,7 +119,7 @@ fn run_shared<S: Source, K: Sink, P: Keeper + Send, R: Threads + Wait + Sync, G:
         (record { told = P.told keeper; count = P.count keeper }) (record { told = P.told result.1; count = P.count result.1 })
         result.0 }
 {
-    let bytes = match read_all(alloc, src, MAX_SCRIPT) {
+    let bytes = match read_all(alloc, src, MAX_INPUT) {
         Ok(bytes) => bytes,
         Err(ReadEnd::Failed) => return (RunStatus::ReadFault, keeper),
         Err(ReadEnd::TooLong) => return (RunStatus::TooLong, keeper),

@@ -60,7 +60,7 @@ pub fn run_alone<P: Keeper>(
     ensures unrun { OnErr result.0 (result.1 ≡ core) }
     ensures opening { result.1.opening ≡ core.opening }
 {
-    // Facts for the proof; nothing runs.
+    // Facts for the proof; nothing changes.
     legal_is_lawful();
     let _journal = core.journal();
     run_script(alloc, script, core)
@@ -83,7 +83,7 @@ pub fn run_shared<P: Keeper + Send, R: Threads + Wait + Sync, G: Gate + Sync>(
     ensures recorded { IsRecorded core.opening (record { told = P.told core.keeper; count = P.count core.keeper }) (record { told = P.told result.1.keeper; count = P.count result.1.keeper }) result.1.journal }
     ensures opening { result.1.opening ≡ core.opening }
 {
-    // Facts for the proof; nothing runs.
+    // Facts for the proof; nothing changes.
     legal_is_lawful();
     let _journal = core.journal();
     run_workers(alloc, rt, script, core, workers, gate)

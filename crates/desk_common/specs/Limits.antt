@@ -1,5 +1,9 @@
--- The limits of names, of the language and of the volumes.
-use Rattle.std.specs.Prelude.{ℕ}
+-- The limits of names, of the language, of the volumes and of what is read.
+use Rattle.std.specs.Prelude.{ℕ, nat_le, Option, None, Some, if◌then◌else◌}
+
+-- the number, where it is this one at most
+abbrev pub up_to : ℕ → ℕ → Option ℕ
+up_to most number = if nat_le number most then Some number else None
 
 -- the bytes of a name or a qualifier
 abbrev pub most_name_bytes : ℕ
@@ -49,10 +53,6 @@ most_exit_code = 65535
 abbrev pub most_nestings : ℕ
 most_nestings = 200
 
--- the words of a command
-abbrev pub most_words : ℕ
-most_words = 32
-
 -- the digits of a number in a script, in the space of a deck or on a command line
 abbrev pub most_digits : ℕ
 most_digits = 10
@@ -76,3 +76,11 @@ most_pieces = 5
 -- the tracks of a volume
 abbrev pub most_tracks : ℕ
 most_tracks = 982800
+
+-- the bytes of a line of a script, and of an HTTP body that is no deck
+abbrev pub most_line_bytes : ℕ
+most_line_bytes = 4096
+
+-- the bytes of a program's input, where it is no routine
+abbrev pub most_input_bytes : ℕ
+most_input_bytes = 16777216

@@ -1,6 +1,12 @@
 -- The words of a text.
-use Rattle.std.specs.Prelude.{ℕ, Bool, ◌==◌, List, [], ◌∷◌, if◌then◌else◌}
+use Rattle.std.specs.Prelude.{ℕ, Bool, false, ◌==◌, List, [], ◌∷◌, if◌then◌else◌}
 use Rattle.std.specs.List.{list_any}
+use Rattle.desk_common.specs.Bytes.{star}
+
+-- the first byte is an asterisk
+abbrev pub begins_with_star : List ℕ → Bool
+begins_with_star [] = false
+begins_with_star (byte ∷ bytes) = byte == star
 
 -- the byte is one of these
 abbrev pub is_one_of : List ℕ → ℕ → Bool

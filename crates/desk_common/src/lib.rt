@@ -2,10 +2,12 @@
 #![tactic(auto)]
 
 mod cutting;
+mod limits;
 mod number;
 mod shared;
 
 pub use cutting::next_word;
+pub use limits::{MAX_INPUT, MAX_LINE};
 pub use number::push_number;
 pub use shared::Shared;
 pub use sqlite_items::{Boxed, Items};

@@ -46,7 +46,8 @@ tracks_text rows = line_of (codes "GRANTED" ∷ decimal (granted_in rows) ∷ []
 unfoldable pub counts_text : List Answer → List ℕ
 counts_text answers = flat_map (λ code. count_line code (times_answered code answers)) all_codes
 
--- the summary: what was generated, each code that was answered, the tracks that are granted and free then, and the numbers of entries and items
+-- the summary: what was generated, each code that was answered, the tracks that are granted and free then, and the
+-- numbers of entries and items
 abbrev pub summary_of : ℕ → ℕ → List Answer → List VolRow → ℕ → List ℕ
 summary_of seed count answers rows entries =
     line_of (codes "GEN" ∷ decimal seed ∷ decimal count ∷ []) ++ (counts_text answers ++ (tracks_text rows ++ end_text entries (length answers)))

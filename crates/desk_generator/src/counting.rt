@@ -1,5 +1,5 @@
 // How often each code was answered.
-ghost use Rattle.std.specs.Prelude.{◌≡◌, ◌≤◌, length};
+ghost use Rattle.std.specs.Prelude.{◌≡◌};
 ghost use Rattle.desk_generator.specs.Summary.{code_of, times_answered};
 
 use sms_construct::{Answer, Reply, View, WhyNoExtend};

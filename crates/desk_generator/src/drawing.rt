@@ -1,6 +1,6 @@
 // What is drawn for an item of a generated script.
 ghost use Rattle.std.specs.Prelude.{◌≡◌, ◌≤◌, ◌<◌, ◌/◌, ◌^◌, IfOk};
-ghost use Rattle.desk_generator.specs.Generated.{drawn_op, drawn_request, drawn_space, next_number, repeats, request_behind};
+ghost use Rattle.desk_generator.specs.Generated.{drawn_op, drawn_request, drawn_space, next_number, request_behind};
 
 use crate::names::{job_at, numbered_name};
 use sms_construct::{Op, Request, RequestNumber, Space, Unit};

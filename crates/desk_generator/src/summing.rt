@@ -1,5 +1,5 @@
 //! The summary of a generated run.
-ghost use Rattle.std.specs.Prelude.{◌≡◌, ◌≤◌, ◌<◌, ◌-◌, ◌^◌, ◌++◌, ◌∷◌, [], codes, decimal, flat_map, length, map, IfOk, OnOk};
+ghost use Rattle.std.specs.Prelude.{◌≡◌, ◌<◌, ◌-◌, ◌^◌, ◌++◌, ◌∷◌, [], codes, decimal, flat_map, length, map, IfOk, OnOk};
 ghost use Rattle.sms_script.specs.AnswerText.{end_text};
 ghost use Rattle.desk_generator.specs.Summary.{count_line, counts_text, free_in, granted_in, line_of, summary_of, times_answered, tracks_text};
 

@@ -82,7 +82,8 @@ data_set secondary volumes extents = record {
 abbrev pub desk_with : Configuration → DataSet → DeskState
 desk_with config set = record { activations = 1; active = Some config; statuses = (desk_under config).statuses; sets = set ∷ [] }
 
--- what is asked of volumes for a data set that may lie on so many of them, on track-managed space, in any order of storage groups
+-- what is asked of volumes for a data set that may lie on so many of them, on track-managed space, in any order of
+-- storage groups
 abbrev pub ask : SpaceUnit → ℕ → ℕ → Ask
 ask unit tracks volumes = record { unit = unit; tracks = tracks; volumes = volumes; eattr = No; tiers = [] }
 

@@ -17,7 +17,7 @@ use Rattle.desk_law.specs.Extension.{ask_more, extended}
 use Rattle.desk_law.specs.Extents.{with_extents}
 use Rattle.desk_law.specs.State.{with_set, with_status}
 use Rattle.desk_law.specs.Statuses.{bars_group_growth, bars_volume_growth}
-use Rattle.desk_law.specs.declared.stop.Stop.TheVariants as stops
+use Rattle.sms_construct.specs.declared.stop.Stop.TheVariants as stops
 use Rattle.desk_law.proofs.ExampleDecks.{asks, asks_nothing, desk_with, extent, one, piece, volume}
 
 -- an ALLOC that names everything
@@ -38,7 +38,8 @@ wish = wish_with asks_all (one 100) gave (record { unit = Cyl; primary = 2; seco
 wished : wish ≡ record { config = one 100; classes = gave; space = record { unit = Cyl; primary = 2; secondary = 1 }; volumes = 3; eattr = Opt }
 wished = refl
 
--- the new data set: classes of the routines, the storage group of its volume, the secondary quantity in tracks, and the rest of the request
+-- the new data set: classes of the routines, the storage group of its volume, the secondary quantity in tracks, and the
+-- rest of the request
 abbrev made : DataSet
 made = record {
   dsn = codes "A.B";

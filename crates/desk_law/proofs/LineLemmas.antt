@@ -1,10 +1,11 @@
 -- Lines of a rule, and what is chosen.
 use Rattle.std.proofs.Common.{◌≡◌, Bool, true, false, List, refl, sym, subst, inl, inr}
 use Rattle.std.specs.Prelude.{Option, None, Some, map, Result, Ok, Err, MatchResult, MatchOption, MatchBool}
+use Rattle.desk_common.specs.Steps.{◌⊳◌}
 use Rattle.sms_construct.specs.declared.reply.Reply.{Reply}
 use Rattle.sms_construct.specs.declared.volume.VolumeDef.{VolumeDef}
 use Rattle.desk_law.specs.State.{DeskState}
-use Rattle.desk_law.specs.Replies.{found_or, reply_if, ◌⊳◌, Leaves, Makes}
+use Rattle.desk_law.specs.Replies.{found_or, reply_if, Leaves, Makes}
 use Rattle.desk_law.specs.Candidates.{Ask, Chooses, Chosen, view_of, want_of}
 use Rattle.desk_law.specs.Lawful.{IsLawful}
 

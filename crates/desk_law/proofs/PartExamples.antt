@@ -19,7 +19,7 @@ use Rattle.desk_law.specs.Extension.{ask_more}
 use Rattle.desk_law.specs.Lawful.{IsLawful, LiesInPart}
 use Rattle.desk_law.specs.Releasing.{ReleaseRule, kept_of}
 use Rattle.desk_law.specs.Statuses.{may_have}
-use Rattle.desk_law.specs.declared.stop.Stop.TheVariants as stops
+use Rattle.sms_construct.specs.declared.stop.Stop.TheVariants as stops
 use Rattle.desk_law.proofs.ExampleDecks.{ask, data_set, deck_with, desk_under, desk_with, extent, group, one}
 
 -- RELEASE: an extent that goes on is cut by its part of the volume
@@ -87,7 +87,8 @@ no_whole_units (inl before) = omega (arith, before)
 no_whole_units (inr managed) =
     let bad : 300 ≡ 0 = managed.length in omega (arith, bad)
 
--- A state that isn't lawful: its data set meets the border, or has a secondary quantity of ten tracks in cylinders; its volume is NOTCON
+-- A state that isn't lawful: its data set meets the border, or has a secondary quantity of ten tracks in cylinders; its
+-- volume is NOTCON
 
 border_is_met : IsLawful (desk_with (one 983115) (data_set 0 1 (extent (codes "VOL001") 982799 2 ∷ []))) → ⊥
 border_is_met lawful = meets_border lawful.sets.0.parted.0

@@ -79,7 +79,8 @@ own-number-reaches = (
   ),
 )
 
--- an activation, its repeat, and four that are refused: for the deck, for a volume in use, for the number, for the floor; and another op
+-- an activation, its repeat, and four that are refused: for the deck, for a volume in use, for the number, for the
+-- floor; and another op
 abbrev asked : List Entry
 asked =
     entry (codes "SMSADMIN") 1 (ops.Activate (codes "D")) 1 1 (replies.Activated 1)

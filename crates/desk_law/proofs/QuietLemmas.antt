@@ -1,6 +1,7 @@
 -- The lines of a rule answer with replies that change nothing, and are kept.
 use Rattle.std.proofs.Common.{◌≡◌, ℕ, Bool, true, false, List, refl, ap, subst}
 use Rattle.std.specs.Prelude.{Option, None, Some, Result, Ok, Err, nat_eq, nat_lt, is_some}
+use Rattle.desk_common.specs.Steps.{◌⊳◌}
 use Rattle.sms_construct.specs.Fate.{fate_of}
 use Rattle.sms_construct.specs.declared.alloc.Alloc.{Alloc}
 use Rattle.sms_construct.specs.declared.fate.Fate.TheVariants.{Kept}
@@ -14,10 +15,10 @@ use Rattle.sms_construct.specs.Quantities.{Quantities}
 use Rattle.sms_construct.specs.declared.data_set.DataSet.{DataSet}
 use Rattle.desk_law.specs.State.{DeskState, set_named}
 use Rattle.desk_law.specs.Extents.{tracks_of_set}
-use Rattle.desk_law.specs.declared.stop.Stop.{Stop}
-use Rattle.desk_law.specs.declared.stop.Stop.TheVariants as stops
+use Rattle.sms_construct.specs.declared.stop.Stop.{Stop}
+use Rattle.sms_construct.specs.declared.stop.Stop.TheVariants as stops
 use Rattle.desk_law.specs.Classification.{Classes, answer_of, classes_of, trace_of, went_through}
-use Rattle.desk_law.specs.Replies.{found_or, reply_if, ◌⊳◌}
+use Rattle.desk_law.specs.Replies.{found_or, reply_if}
 use Rattle.desk_law.specs.Allocation.{alloc_case, data_class_of, space_case, space_of, wish_with}
 use Rattle.desk_law.specs.Extension.{extend_case}
 use Rattle.desk_law.specs.Usage.{used_case}

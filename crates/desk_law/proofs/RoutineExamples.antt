@@ -1,6 +1,7 @@
 -- ALLOC from the first line to the last, under routines that are trees.
 use Rattle.std.proofs.Common.{◌≡◌, ℕ, List, [], ◌∷◌, refl, sym, ap, ◌∙◌, subst, inl, inr}
 use Rattle.std.specs.Prelude.{codes, Some, None, MatchResult}
+use Rattle.desk_common.specs.Steps.{◌⊳◌}
 use Rattle.acs_tree.specs.CheckedRoutine.{CheckedRoutine}
 use Rattle.acs_tree.specs.Inputs.{input_under}
 use Rattle.acs_tree.specs.Meaning.{Arm, code_of, form_step, in_turn, meaning, meaning_of, stmt_step, when_step, writes}
@@ -32,7 +33,7 @@ use Rattle.desk_law.specs.State.{DeskState, with_set}
 use Rattle.desk_law.specs.Candidates.{view_of}
 use Rattle.desk_law.specs.Classification.{begin, classes_under, went_through}
 use Rattle.desk_law.specs.Allocation.{AllocRule, GrantRule, space_case}
-use Rattle.desk_law.specs.Replies.{◌⊳◌, Leaves}
+use Rattle.desk_law.specs.Replies.{Leaves}
 use Rattle.desk_law.proofs.ExampleDecks.{ask, asks, asks_nothing, data_set, desk_under, extent, one, piece, volume}
 use Rattle.desk_law.proofs.TraceExamples.{line, these, trace}
 

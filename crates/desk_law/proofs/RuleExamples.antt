@@ -24,10 +24,11 @@ use Rattle.desk_law.specs.Varying.{VaryRule}
 use Rattle.desk_law.specs.Display.{DisplayRule}
 use Rattle.desk_law.specs.Purging.{PurgeRule}
 use Rattle.desk_law.specs.Activation.{ConfigurationRule}
-use Rattle.desk_law.specs.declared.stop.Stop.TheVariants as stops
+use Rattle.sms_construct.specs.declared.stop.Stop.TheVariants as stops
 use Rattle.desk_law.proofs.ExampleDecks.{ask, asks, asks_class, data_set, deck_with, desk_under, desk_with, extent, new_desk, one, piece, two, volume}
 
--- A.B with ten tracks of VOL001, of which it uses so many; the desk on which it is catalogued, and the one on which nothing is
+-- A.B with ten tracks of VOL001, of which it uses so many; the desk on which it is catalogued, and the one on which
+-- nothing is
 abbrev ten : ℕ → DataSet
 ten used = record (data_set 5 1 (extent (codes "VOL001") 0 10 ∷ [])) { used = used }
 

@@ -23,7 +23,8 @@ row target status = record { target = target; status = status }
 abbrev rows : Status → Status → Status → List StatusRow
 rows status first second = row (Group (codes "SG1")) status ∷ row (Volume (codes "VOL001")) first ∷ row (Volume (codes "VOL002")) second ∷ []
 
--- two volumes are active, the storage group and the first enabled by the deck and the second quiesced; each has this status now
+-- two volumes are active, the storage group and the first enabled by the deck and the second quiesced; each has this
+-- status now
 abbrev varied : Status → Status → Status → DeskState
 varied status first second = record { activations = 1; active = Some two; statuses = rows status first second; sets = [] }
 

@@ -21,7 +21,8 @@ asks_for dsn = ops.Alloc (record (asks Trk 1 0) { input = record (asks Trk 1 0).
 abbrev pub entry : List ℕ → ℕ → Op → ℕ → ℕ → Reply → Entry
 entry job number op place first reply = record { request = record { job = job; number = number; op = op }; answer = record { place = place; first = first; reply = reply } }
 
--- no configuration is active: a number is used, used for another op, purged, refused below the floor; a lower purge leaves the floor
+-- no configuration is active: a number is used, used for another op, purged, refused below the floor; a lower purge
+-- leaves the floor
 abbrev numbers : List Entry
 numbers =
     entry (codes "JOB1") 5 (asks_for (codes "A.B")) 1 1 replies.NoConfig

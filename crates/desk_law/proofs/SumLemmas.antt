@@ -9,11 +9,11 @@ use Rattle.sms_construct.specs.declared.data_set.DataSet.{DataSet}
 use Rattle.sms_construct.specs.declared.extent.Extent.{Extent}
 use Rattle.sms_construct.specs.declared.volume.VolumeDef.{VolumeDef}
 use Rattle.track_ledger.specs.declared.piece.Piece.{Piece}
-use Rattle.track_ledger.specs.Extents.{LiesInside}
+use Rattle.track_ledger.specs.Extents.{LiesInside, tracks_held}
 use Rattle.track_ledger.specs.Gaps.{before_gaps, free_tracks, runs_of, times_held}
 use Rattle.track_ledger.proofs.HolderLemmas.{gaps-sum}
 use Rattle.desk_law.specs.State.{DeskState}
-use Rattle.desk_law.specs.Extents.{extents_of, granted_on, held_on, piece_of, pieces_on, tracks_of_pieces}
+use Rattle.desk_law.specs.Extents.{extents_of, granted_on, held_on, piece_of, pieces_on}
 use Rattle.desk_law.specs.Volumes.{tracks_of, volumes_in}
 use Rattle.desk_law.specs.Lawful.{IsInside, IsLawful, IsLawfulSet}
 use Rattle.desk_law.proofs.ByteLemmas.{same-bytes}
@@ -22,7 +22,7 @@ use Rattle.desk_law.proofs.PlaceLemmas.{each-at}
 use Rattle.desk_law.proofs.SetLemmas.{each-append}
 use Rattle.desk_law.proofs.GrantLemmas.{each-tracks}
 
-before-sum-at : (track : ℕ) (gap : Piece) (gaps : List Piece) (b : Bool) → nat_eq (track + 1) gap.start ≡ b → tracks_of_pieces (before_gaps track (gap ∷ gaps)) ≡ 1 + tracks_of_pieces (gap ∷ gaps)
+before-sum-at : (track : ℕ) (gap : Piece) (gaps : List Piece) (b : Bool) → nat_eq (track + 1) gap.start ≡ b → tracks_held (before_gaps track (gap ∷ gaps)) ≡ 1 + tracks_held (gap ∷ gaps)
 before-sum-at track gap gaps true is =
     let whole = sum_by-cons (λ (p : Piece). p.length) gap gaps in
     let joined = sum_by-cons (λ (p : Piece). p.length) (record { start = track; length = gap.length + 1 }) gaps in
@@ -31,18 +31,18 @@ before-sum-at track gap gaps false is =
     let more = sum_by-cons (λ (p : Piece). p.length) (record { start = track; length = 1 }) (gap ∷ gaps) in
     rw is (omega (arith, more))
 
-before-sum : (track : ℕ) (gaps : List Piece) → tracks_of_pieces (before_gaps track gaps) ≡ 1 + tracks_of_pieces gaps
+before-sum : (track : ℕ) (gaps : List Piece) → tracks_held (before_gaps track gaps) ≡ 1 + tracks_held gaps
 before-sum track [] = sum_by-cons (λ (p : Piece). p.length) (record { start = track; length = 1 }) []
 before-sum track (gap ∷ gaps) = before-sum-at track gap gaps _ refl
 
 -- the runs of tracks have as many
-runs-sum : (tracks : List ℕ) → tracks_of_pieces (runs_of tracks) ≡ length tracks
+runs-sum : (tracks : List ℕ) → tracks_held (runs_of tracks) ≡ length tracks
 runs-sum [] = refl
 runs-sum (track ∷ tracks) = omega (arith, before-sum track (runs_of tracks), runs-sum tracks)
 
 -- pieces that lie inside a volume and apart, and the tracks that are free beside them
 pieces-sum : (capacity : ℕ) (pieces : List Piece) → 0 < capacity → ((t : ℕ) → times_held pieces t ≤ 1) → All (LiesInside capacity) pieces
-    → tracks_of_pieces pieces + length (free_tracks capacity pieces) ≡ capacity
+    → tracks_held pieces + length (free_tracks capacity pieces) ≡ capacity
 pieces-sum capacity pieces some once inside = omega (arith, gaps-sum capacity pieces some once inside, runs-sum (free_tracks capacity pieces))
 
 pieces-inside-at : (volumes : List VolumeDef) (v : List ℕ) (e : Extent) (es : List Extent) (b : Bool) → bytes_eq e.volser v ≡ b → IsInside volumes e → AllByRecursion (LiesInside (tracks_of v volumes)) (pieces_on v es)

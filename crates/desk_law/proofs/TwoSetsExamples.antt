@@ -19,7 +19,7 @@ use Rattle.desk_law.specs.Deletion.{DeleteRule}
 use Rattle.desk_law.specs.Usage.{UsedRule}
 use Rattle.desk_law.specs.Releasing.{ReleaseRule}
 use Rattle.desk_law.specs.Display.{DisplayRule}
-use Rattle.desk_law.specs.declared.stop.Stop.TheVariants as stops
+use Rattle.sms_construct.specs.declared.stop.Stop.TheVariants as stops
 use Rattle.desk_law.proofs.ExampleDecks.{ask, asks, data_set, deck_with, desk_under, extent, piece, volume}
 
 -- two enabled volumes of 100 tracks

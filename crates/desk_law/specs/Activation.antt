@@ -15,7 +15,8 @@ use Rattle.desk_law.specs.Replies.{Leaves, Makes}
 use Rattle.desk_law.specs.Statuses.{status_in}
 use Rattle.desk_law.specs.Volumes.{tracks_of, volumes_in}
 
--- the first active volume, in byte order, that holds an extent and is missing from the configuration or has fewer tracks there
+-- the first active volume, in byte order, that holds an extent and is missing from the configuration or has fewer
+-- tracks there
 abbrev pub first_barred : DeskState → Configuration → Option VolumeDef
 first_barred s config = find (λ volume. is_used volume.volser (extents_of s.sets) && nat_lt (tracks_of volume.volser config.volumes) volume.tracks) (volumes_in s.active)
 

@@ -2,6 +2,7 @@
 use Rattle.std.specs.Prelude.{ℕ, ◌≡◌, Bool, false, List, [], bytes_eq, filter, find, Option, Some, None, is_some, option_and_then, option_map, unwrap_or, Result, Ok, MatchResult, if◌then◌else◌}
 use Rattle.std.specs.List.{list_any}
 use Rattle.std.specs.Option.{option_or}
+use Rattle.desk_common.specs.Steps.{◌⊳◌}
 use Rattle.sms_construct.specs.Configuration.{Configuration}
 use Rattle.sms_construct.specs.Quantities.{Quantities, primary_tracks_of, secondary_tracks_of}
 use Rattle.sms_construct.specs.declared.alloc.Alloc.{Alloc}
@@ -16,7 +17,7 @@ use Rattle.sms_construct.specs.declared.volume.VolumeDef.{VolumeDef}
 use Rattle.track_ledger.specs.declared.piece.Piece.{Piece}
 use Rattle.desk_law.specs.State.{DeskState, set_named, with_set}
 use Rattle.desk_law.specs.Extents.{extents_at}
-use Rattle.desk_law.specs.Replies.{found_or, reply_if, ◌⊳◌, Leaves, Makes}
+use Rattle.desk_law.specs.Replies.{found_or, reply_if, Leaves, Makes}
 use Rattle.desk_law.specs.Classification.{Classes, classes_of, is_null, trace_of, went_through}
 use Rattle.desk_law.specs.Candidates.{Ask, grant_on, Chosen}
 
@@ -44,7 +45,8 @@ pub record Wish : Type 0 where
   pub volumes : ℕ
   pub eattr : Eattr
 
--- what a new data set is to get when the classification came to these classes and the request or its data class names this space
+-- what a new data set is to get when the classification came to these classes and the request or its data class names
+-- this space
 abbrev pub wish_with : Alloc → Configuration → Classes → Quantities → Wish
 wish_with alloc config classes space =
     let class = data_class_of config classes.values.dataclas in
@@ -61,7 +63,8 @@ abbrev pub space_case : Alloc → Configuration → Classes → Result Wish Repl
 space_case alloc config classes =
     found_or (replies.NoQuantity (trace_of classes)) (space_of alloc (data_class_of config classes.values.dataclas)) ⊳ λ space. Ok (wish_with alloc config classes space)
 
--- the lines of ALLOC up to the choice of a volume: no configuration; the name is in use; the classification stops; no space
+-- the lines of ALLOC up to the choice of a volume: no configuration; the name is in use; the classification stops; no
+-- space
 abbrev pub alloc_case : DeskState → List ℕ → Alloc → Result Wish Reply
 alloc_case s job alloc =
     found_or replies.NoConfig s.active ⊳ λ config.

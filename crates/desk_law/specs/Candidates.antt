@@ -1,4 +1,5 @@
--- What is asked of volumes, which of them a data set gets, and what it grants (docs/rules.md, "The lists", "The gap rule").
+-- What is asked of volumes, which of them a data set gets, and what it grants (docs/rules.md, "The lists", "The gap
+-- rule").
 use Rattle.std.specs.Prelude.{ℕ, ◌+◌, ◌%◌, ◌<◌, ◌≡◌, ◌⊎◌, Bool, false, List, [], ◌∷◌, bytes_eq, length, map, slice_get, Option, None, Some, is_some, if◌then◌else◌}
 use Rattle.sms_construct.specs.Quantities.{tracks_in}
 use Rattle.sms_construct.specs.declared.eattr.Eattr.{Eattr}
@@ -45,7 +46,8 @@ abbrev pub breakpoint_of : Option StorGroup → ℕ
 breakpoint_of None = 0
 breakpoint_of (Some group) = group.breakpoint
 
--- what the data set needs of this volume, where it holds so many extents; the breakpoint is that of the volume's own group
+-- what the data set needs of this volume, where it holds so many extents; the breakpoint is that of the volume's own
+-- group
 abbrev pub need_on : DeskState → VolumeDef → Ask → ℕ → Need
 need_on s volume ask held = record {
   unit = ask.unit;

@@ -17,8 +17,8 @@ use Rattle.sms_construct.specs.declared.alloc.Alloc.{Alloc}
 use Rattle.sms_construct.specs.declared.reply.Reply.{Reply}
 use Rattle.sms_construct.specs.declared.reply.Reply.TheVariants as replies
 use Rattle.sms_construct.specs.declared.trace.Trace.{Trace}
-use Rattle.desk_law.specs.declared.stop.Stop.{Stop}
-use Rattle.desk_law.specs.declared.stop.Stop.TheVariants as stops
+use Rattle.sms_construct.specs.declared.stop.Stop.{Stop}
+use Rattle.sms_construct.specs.declared.stop.Stop.TheVariants as stops
 
 -- the values so far, the lines that were written, and how the last routine ended
 pub record Progress : Type 0 where

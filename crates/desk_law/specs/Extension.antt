@@ -1,5 +1,6 @@
 -- EXTEND (docs/rules.md, "EXTEND").
 use Rattle.std.specs.Prelude.{ℕ, ◌≡◌, ◌==◌, ◌||◌, nat_lt, not, Bool, List, [], ◌∷◌, ◌++◌, length, filter, Option, None, Some, option_map, Result, Ok, MatchResult, MatchOption, MatchBool, if◌then◌else◌}
+use Rattle.desk_common.specs.Steps.{◌⊳◌}
 use Rattle.sms_construct.specs.declared.data_set.DataSet.{DataSet}
 use Rattle.sms_construct.specs.declared.extent.Extent.{Extent}
 use Rattle.sms_construct.specs.declared.reply.Reply.{Reply}
@@ -11,7 +12,7 @@ use Rattle.desk_law.specs.State.{DeskState, set_named, with_set}
 use Rattle.desk_law.specs.Extents.{extents_at, is_among, pieces_on, volumes_of, with_extents}
 use Rattle.desk_law.specs.Statuses.{bars_group_growth, bars_volume_growth, group_status, volume_status}
 use Rattle.desk_law.specs.Volumes.{volume_named, volumes_of_group}
-use Rattle.desk_law.specs.Replies.{found_or, reply_if, ◌⊳◌, Leaves, Makes}
+use Rattle.desk_law.specs.Replies.{found_or, reply_if, Leaves, Makes}
 use Rattle.desk_law.specs.Candidates.{Ask, grant_on, Chosen}
 
 -- the volume of the first extent

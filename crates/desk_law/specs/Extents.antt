@@ -1,5 +1,6 @@
 -- Which tracks data sets hold.
 use Rattle.std.specs.Prelude.{ℕ, ◌-◌, ◌||◌, Bool, false, List, [], ◌∷◌, ◌++◌, min, nat_lt, bytes_eq, sum_by, Option, None, Some, if◌then◌else◌}
+use Rattle.track_ledger.specs.Extents.{tracks_held}
 use Rattle.sms_construct.specs.Quantities.{border, rounded_up, tracks_in_managed}
 use Rattle.sms_construct.specs.declared.data_set.DataSet.{DataSet}
 use Rattle.sms_construct.specs.declared.extent.Extent.{Extent}
@@ -38,13 +39,9 @@ extents_of (set ∷ sets) = set.extents ++ extents_of sets
 abbrev pub held_on : DeskState → List ℕ → List Piece
 held_on s volser = pieces_on volser (extents_of s.sets)
 
--- the tracks of the pieces
-abbrev pub tracks_of_pieces : List Piece → ℕ
-tracks_of_pieces pieces = sum_by (λ piece. piece.length) pieces
-
 -- the tracks of a volume that data sets hold
 abbrev pub granted_on : DeskState → List ℕ → ℕ
-granted_on s volser = tracks_of_pieces (held_on s volser)
+granted_on s volser = tracks_held (held_on s volser)
 
 -- the tracks of a data set
 abbrev pub tracks_of_set : DataSet → ℕ
@@ -74,7 +71,8 @@ volumes_of extents = volumes_after [] extents
 abbrev pub multiple_at : ℕ → ℕ
 multiple_at track = if nat_lt track border then 1 else tracks_in_managed
 
--- what is kept of an extent when so many tracks are to be kept: these in whole units of its part, and never more than it has
+-- what is kept of an extent when so many tracks are to be kept: these in whole units of its part, and never more than
+-- it has
 abbrev pub length_kept : ℕ → Extent → ℕ
 length_kept keep extent = min (rounded_up (multiple_at extent.start) keep) extent.length
 

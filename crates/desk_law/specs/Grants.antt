@@ -18,8 +18,8 @@ use Rattle.desk_law.specs.Candidates.{grant_on, view_of, want_of}
 use Rattle.desk_law.specs.Allocation.{Wish, alloc_case, ask_of, candidates_of, new_set}
 use Rattle.desk_law.specs.History.{Reaches}
 
--- in this state an ALLOC of this job gets this data set and trace: the routines of the active configuration give the classes
--- and the lines, and a volume that may be chosen grants the space by the gap rule
+-- in this state an ALLOC of this job gets this data set and trace: the routines of the active configuration give the
+-- classes and the lines, and a volume that may be chosen grants the space by the gap rule
 pub record IsLawfulGrant (s : DeskState) (job : List ℕ) (alloc : Alloc) (set : DataSet) (trace : Trace) : Type 0 where
   pub wish : Wish
   pub case : alloc_case s job alloc ≡ Ok wish

@@ -56,7 +56,8 @@ abbrev pub decks_of : List Entry → List DeckRow
 decks_of [] = []
 decks_of (e ∷ es) = decks_of_entry e ++ decks_of es
 
--- the rows are the tables of the history, which left the state s: under each key the rows that are due, in any order of the keys
+-- the rows are the tables of the history, which left the state s: under each key the rows that are due, in any order of
+-- the keys
 pub record IsTables (o : Opening) (h : List Entry) (s : DeskState) (rows : Rows) : Type 0 where
   pub sets_are : (dsn : List ℕ) → filter (is_named dsn) rows.sets ≡ filter (is_named dsn) s.sets
   pub kept_are : AreKept (all_floors o h) (all_rows o h) rows.replies rows.floors

@@ -12,12 +12,6 @@ found_or reply (Some found) = Ok found
 abbrev pub reply_if : Reply → Bool → Result (Unit {0}) Reply
 reply_if reply holds = if holds then Err reply else Ok tt
 
--- an answer ends the rule; else the next line is looked at
-abbrev pub ◌⊳◌ : {A B : Type 0} → Result A Reply → (A → Result B Reply) → Result B Reply
-Err reply ⊳ next = Err reply
-Ok found ⊳ next = next found
-
-infixr 10 ◌⊳◌
 -- the reply is this one, and nothing changes
 pub record Leaves (s : DeskState) (answer reply : Reply) (after : DeskState) : Type 0 where
   pub reply_is : reply ≡ answer

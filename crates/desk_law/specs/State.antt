@@ -1,4 +1,5 @@
--- What stands between two entries of the journal, and what stood before the first. There are no totals: tracks are counted over the extents.
+-- What stands between two entries of the journal, and what stood before the first. There are no totals: tracks are
+-- counted over the extents.
 use Rattle.std.specs.Prelude.{ℕ, List, Option, find, length, map}
 use Rattle.sms_construct.specs.Configuration.{Configuration}
 use Rattle.sms_construct.specs.declared.data_set.DataSet.{DataSet}

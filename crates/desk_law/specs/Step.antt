@@ -1,4 +1,5 @@
--- One event of the desk: what an entry may be after the entries before it, and what it does (docs/rules.md, "Order of answers").
+-- One event of the desk: what an entry may be after the entries before it, and what it does (docs/rules.md, "Order of
+-- answers").
 use Rattle.std.specs.Prelude.{ℕ, Bool, true, false, ◌≡◌, ◌+◌, ◌<◌, ◌⊎◌, nat_lt, List, length, count_by, MatchOption, MatchBool}
 use Rattle.sms_construct.specs.Quantities.{IsRequestNumber}
 use Rattle.sms_construct.specs.declared.entry.Entry.{Entry}
@@ -60,7 +61,8 @@ is_activation (ops.Purge job floor) = false
 abbrev pub activates : Entry → Bool
 activates e = is_activation e.request.op
 
--- the entry is lawful after the opening and these entries, which left the desk in the state s, and leaves it in the state after
+-- the entry is lawful after the opening and these entries, which left the desk in the state s, and leaves it in the
+-- state after
 pub record IsStep (o : Opening) (before : List Entry) (s : DeskState) (e : Entry) (after : DeskState) : Type 0 where
   -- the journal has room for it
   pub few : length before < most_entries

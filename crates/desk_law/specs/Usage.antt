@@ -1,11 +1,12 @@
 -- USED (docs/rules.md, "USED").
 use Rattle.std.specs.Prelude.{ℕ, List, nat_lt, Result, Ok, MatchResult}
+use Rattle.desk_common.specs.Steps.{◌⊳◌}
 use Rattle.sms_construct.specs.declared.data_set.DataSet.{DataSet}
 use Rattle.sms_construct.specs.declared.reply.Reply.{Reply}
 use Rattle.sms_construct.specs.declared.reply.Reply.TheVariants as replies
 use Rattle.desk_law.specs.State.{DeskState, set_named, with_set}
 use Rattle.desk_law.specs.Extents.{tracks_of_set, with_extents}
-use Rattle.desk_law.specs.Replies.{found_or, reply_if, ◌⊳◌, Leaves, Makes}
+use Rattle.desk_law.specs.Replies.{found_or, reply_if, Leaves, Makes}
 
 -- no such data set; more than was granted
 abbrev pub used_case : DeskState → List ℕ → ℕ → Result DataSet Reply

@@ -41,7 +41,8 @@ pub fn places_in_order()
     ensures { (o : Opening) (front rest : List Entry) (entry : Entry) → IsLegal o (front ++ entry ∷ rest) → entry.answer.place ≡ o.base + length front + 1 }
 {}
 
-/// A reply that comes with no change leaves the state: refusals, repeats, what is shown, a floor, a fault of the keeper.
+/// A reply that comes with no change leaves the state: refusals, repeats, what is shown, a floor, a fault of the
+/// keeper.
 pub fn refusals_change_nothing()
     ensures { (o : Opening) (before : List Entry) (s after : DeskState) (entry : Entry) → IsStep o before s entry after → may_change entry.answer.reply ≡ false → after ≡ s }
 {}
@@ -67,7 +68,8 @@ pub fn spread_always()
         AllByRecursion IsSpread s.sets }
 {}
 
-/// In a lawful state the granted and the free tracks of each active volume are its tracks, and the free ones are those that no data set holds.
+/// In a lawful state the granted and the free tracks of each active volume are its tracks, and the free ones are those
+/// that no data set holds.
 pub fn tracks_add_up()
     ensures sum { (s : DeskState) (config : Configuration) (volume : VolumeDef) (position : ℕ) → IsLawful s → s.active ≡ Some config → slice_get config.volumes position ≡ Some volume →
         granted_on s volume.volser + free_on s volume ≡ volume.tracks }
@@ -100,7 +102,8 @@ pub fn held_without_a_set()
         AreAlike (held_on (without_name s dsn) volser ++ pieces_on volser (extents_named dsn s.sets)) (held_on s volser) }
 {}
 
-/// In a legal history each grant, also a repeated one, is that of the opening or of an entry that was lawful where it stands.
+/// In a legal history each grant, also a repeated one, is that of the opening or of an entry that was lawful where it
+/// stands.
 pub fn lawful_grants()
     ensures kept { (o : Opening) (front rest : List Entry) (entry : Entry) (set : DataSet) (trace : Trace) →
         IsLegal o (front ++ entry ∷ rest) → entry.answer.reply ≡ Granted set trace → WasGranted o front entry set trace }
@@ -108,7 +111,8 @@ pub fn lawful_grants()
         IsLegal o (front ++ entry ∷ rest) → entry.answer.reply ≡ Granted set trace → kept_for o front entry.request.job entry.request.number ≡ None → GrantsLawfully o front entry.request set trace }
 {}
 
-/// In a legal history a number below the floor of its job is refused, a kept one gets its reply or is refused for another op, and each other is fresh.
+/// In a legal history a number below the floor of its job is refused, a kept one gets its reply or is refused for
+/// another op, and each other is fresh.
 pub fn kept_replies()
     ensures below { (o : Opening) (front rest : List Entry) (entry : Entry) → IsLegal o (front ++ entry ∷ rest) → nat_lt entry.request.number (floor_of o front entry.request.job) ≡ true →
         entry.answer.reply ≡ Below (floor_of o front entry.request.job) }
@@ -138,12 +142,14 @@ pub fn was_active_once()
     ensures { (o : Opening) (history : List Entry) (count : ℕ) (config other : Configuration) → WasActive o history count config → WasActive o history count other → config ≡ other }
 {}
 
-/// Where the opening's rows have places before its first entry, there were as many activations as decks that the opening has and that entries activated.
+/// Where the opening's rows have places before its first entry, there were as many activations as decks that the
+/// opening has and that entries activated.
 pub fn activations_are_counted()
     ensures { (o : Opening) (history : List Entry) (s : DeskState) → AllByRecursion (λ row. row.place ≤ o.base) o.rows.replies → Reaches o history s → s.activations ≡ length o.rows.decks + length (decks_of history) }
 {}
 
-/// Where the opening's rows have places before its first entry and its decks are those of its activations, so are those of each legal history.
+/// Where the opening's rows have places before its first entry and its decks are those of its activations, so are those
+/// of each legal history.
 pub fn decks_in_order()
     ensures { (o : Opening) (history : List Entry) (s : DeskState) → AllByRecursion (λ row. row.place ≤ o.base) o.rows.replies →
         IsDecked o.rows.decks (start_of o) → Reaches o history s → IsDecked (o.rows.decks ++ decks_of history) s }

@@ -2,7 +2,6 @@
 #![tactic(auto)]
 
 mod laws;
-mod stop;
 
 pub use laws::{
     activations_are_counted, decks_in_order, each_entry_is_a_step, empty_is_lawful,
@@ -11,4 +10,3 @@ pub use laws::{
     refusals_change_nothing, repeats_change_nothing, spread_always, tables_are_lawful, to_no_other,
     tracks_add_up, was_active_once, was_active_stays,
 };
-pub use stop::Stop;

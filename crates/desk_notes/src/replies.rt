@@ -1,4 +1,5 @@
 //! Replies of which a person is told more, in the text of the answers.
+ghost use Rattle.std.specs.Prelude.{◌≤◌, length};
 
 // How the reply begins that refuses a deck.
 const REFUSAL: &[u8] = b"R21 DECK ";
@@ -51,15 +52,23 @@ impl RepliesSeen {
     /// Behind this piece too.
     pub fn behind(self, piece: &[u8]) -> Self {
         let mut seen = self;
-        for byte in piece {
-            seen.next = next_behind(seen.next, *byte);
-            match seen.next {
-                Next::Refusal(count) if count == REFUSAL.len() => seen.has_refusal = true,
-                Next::Fault(count) if count == FAULT.len() => seen.has_fault = true,
-                _ => (),
-            }
+        let mut rest = piece;
+        while let [byte, others @ ..] = rest {
+            seen = seen.behind_byte(*byte);
+            rest = from_next(seen.next, others);
         }
         seen
+    }
+
+    // Behind one byte more.
+    fn behind_byte(self, byte: u8) -> Self {
+        let next = next_behind(self.next, byte);
+        RepliesSeen {
+            next,
+            has_refusal: self.has_refusal
+                || matches!(next, Next::Refusal(count) if count == REFUSAL.len()),
+            has_fault: self.has_fault || matches!(next, Next::Fault(count) if count == FAULT.len()),
+        }
     }
 
     /// Notes what a person is told of them.
@@ -70,6 +79,35 @@ impl RepliesSeen {
         if self.has_refusal {
             let _ = note.push_str(REFUSAL_SENTENCE);
         }
+    }
+}
+
+// The text from the next byte on that changes what comes next: most bytes are passed so.
+fn from_next(next: Next, text: &[u8]) -> &[u8]
+    ensures { length result.now ≤ length text.entry.now }
+{
+    match next {
+        Next::Before(_) => from_word_end(text),
+        Next::Other => from_line_end(text),
+        Next::Front | Next::Reply | Next::Refusal(_) | Next::Fault(_) => text,
+    }
+}
+
+fn from_word_end(text: &[u8]) -> &[u8]
+    ensures { length result.now ≤ length text.entry.now }
+{
+    match text.iter().position(|byte| *byte == b' ' || *byte == b'\n') {
+        Some(at) => &text[at..],
+        None => &text[text.len()..],
+    }
+}
+
+fn from_line_end(text: &[u8]) -> &[u8]
+    ensures { length result.now ≤ length text.entry.now }
+{
+    match text.iter().position(|byte| *byte == b'\n') {
+        Some(at) => &text[at..],
+        None => &text[text.len()..],
     }
 }
 

@@ -1,13 +1,11 @@
 //! How a run ended, in words.
 use crate::word_faults::words_note;
 use desk_calls::RunStatus;
+use desk_common::MAX_INPUT;
 use desk_words::managed_day;
 use fault_notes::{reserved_note, script_note};
 use sms_script::{ScriptErr, read_script};
 use std::alloc::{AllocError, Global};
-
-/// The most bytes of a script that are read again for a sentence.
-const MAX_SCRIPT: usize = 16_777_216;
 
 /// Notes what failed in a run with these words and this script, as far as that is known, and what stands.
 pub fn note_run(
@@ -65,7 +63,7 @@ fn fault_note(
 
 // The fault isn't the script's own, but that of a line which is kept for the day.
 fn is_reserved(alloc: Global, text: &[u8], fault: ScriptErr) -> bool {
-    if text.len() > MAX_SCRIPT {
+    if text.len() > MAX_INPUT {
         return false;
     }
     match read_script(alloc, text) {

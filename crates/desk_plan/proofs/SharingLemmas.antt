@@ -104,7 +104,8 @@ module _ {I A E : Type 0} (make : I → A → List E) (job : I → List ℕ) (jo
   abbrev Signs : ℕ → (ℕ → ℕ) → ℕ → Type 0
   Signs count number n = (i : ℕ) × (i < count) × (n ≡ number i)
 
-  -- each entry bears the number of its job's worker, where each number is a worker's and what bears it is of the worker's jobs
+  -- each entry bears the number of its job's worker, where each number is a worker's and what bears it is of the
+  -- worker's jobs
   all-bear : (count : ℕ) (number : ℕ → ℕ) (es : List E) (ns : List ℕ) → length es ≡ length ns → AllByRecursion (Signs count number) ns
       → ((i : ℕ) → i < count → AllByRecursion (IsOfWorker i) (picked (number i) es ns)) → Bear number es ns
   all-bear count number [] [] same signs own = tt
@@ -124,8 +125,8 @@ module _ {I A E : Type 0} (make : I → A → List E) (job : I → List ℕ) (jo
 
   -- Both.
   module _ (jobs : (i : I) (a : A) → AllByRecursion (λ e. job_of e ≡ job i) (make i a)) where
-    -- where each entry bears a worker's number, and what bears it is what that worker's answers make, the entries of each job are
-    -- those of its items in their order
+    -- where each entry bears a worker's number, and what bears it is what that worker's answers make, the entries of
+    -- each job are those of its items in their order
     pub jobs-in-order : (count : ℕ) (number : ℕ → ℕ) (items : List I) (answers : List A) (es : List E) (ns : List ℕ) → length answers ≡ length items → length es ≡ length ns
         → ((j : List ℕ) → worker j < count) → AllByRecursion (Signs count number) ns
         → ((i : ℕ) → i < count → picked (number i) es ns ≡ made_of make (those i (plan_of items) answers) (those i (plan_of items) items))

@@ -13,7 +13,8 @@ with_job jobs job = if is_admin job || list_any (bytes_eq job) jobs then jobs el
 abbrev pub with_jobs : List (List ℕ) → List Item → List (List ℕ)
 with_jobs jobs items = fold (λ before item. with_job before item.request.job) jobs items
 
--- the jobs that get numbers: those of the items but the administrator's, each once, in the order in which they first appear
+-- the jobs that get numbers: those of the items but the administrator's, each once, in the order in which they first
+-- appear
 abbrev pub numbered_jobs : List Item → List (List ℕ)
 numbered_jobs items = with_jobs [] items
 

@@ -1,6 +1,6 @@
 //! Jobs by number.
-ghost use Rattle.std.specs.Prelude.{[], ◌≡◌, ◌<◌, ◌≤◌, Option, option_to_list};
-ghost use Rattle.desk_plan.specs.Plan.{number_in, worker_in};
+ghost use Rattle.std.specs.Prelude.{[], ◌≡◌, ◌<◌, ◌≤◌};
+ghost use Rattle.desk_plan.specs.Plan.{worker_in};
 
 use dsn_mask::Name;
 use std::alloc::Global;

@@ -1,5 +1,5 @@
 //! The plan of a phase.
-ghost use Rattle.std.specs.Prelude.{◌≡◌, ◌<◌, ◌≤◌, Decides, IfOk, All, bytes_eq, length};
+ghost use Rattle.std.specs.Prelude.{◌≡◌, ◌<◌, ◌≤◌, Decides, IfOk, bytes_eq};
 ghost use Rattle.std.specs.List.{list_all};
 ghost use Rattle.desk_plan.specs.Plan.{plan_of};
 ghost use Rattle.desk_plan.specs.Numbering.{AreOfOneJob};

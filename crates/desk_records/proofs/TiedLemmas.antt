@@ -171,7 +171,8 @@ tied-fresh o h s log log' before after mark old new e effect config tied step ma
 
 -- The number was no fresh one.
 
--- an entry that changes nothing: it is no fault, the floors that it tells stand, it has no decks, and its number is known
+-- an entry that changes nothing: it is no fault, the floors that it tells stand, it has no decks, and its number is
+-- known
 pub record IsStill (o : Opening) (h : List Entry) (e : Entry) : Type 0 where
   pub no_fault : is_fault e.answer.reply ≡ false
   pub floors_stand : AllByRecursion (λ (told : Floor). told.floor ≤ floor_of o h told.job) (floor_told e.answer.reply)

@@ -48,7 +48,8 @@ pub record IsSoundOpening (o : Opening) : Type 0 where
 abbrev pub faults_in : List Entry → ℕ
 faults_in h = count_by (λ e. is_fault e.answer.reply) h
 
--- the journal is legal behind a sound opening and left the state s, the log has what it keeps, the tables are its own where they are told, and the keeper counted each of its faults
+-- the journal is legal behind a sound opening and left the state s, the log has what it keeps, the tables are its own
+-- where they are told, and the keeper counted each of its faults
 pub record IsTied (o : Opening) (h : List Entry) (s : DeskState) (log : LogView) (told : Option Rows) (mark count : ℕ) : Type 0 where
   pub sound : IsSoundOpening o
   pub reaches : Reaches o h s

@@ -22,7 +22,7 @@ use Rattle.sms_volumes.specs.Viewing.{running_named}
 use Rattle.sms_volumes.specs.declared.active_volume.ActiveVolume.{ActiveVolume}
 use Rattle.sms_volumes.specs.declared.active_volumes.ActiveVolumes.{ActiveVolumes}
 use Rattle.sms_volumes.proofs.NextLemmas.{volume-none, volume-some}
-use Rattle.desk_restoring.specs.Placing.{CanHold}
+use Rattle.desk_restoring.specs.Inner.Placing.{CanHold}
 
 -- The volume is there.
 

@@ -13,8 +13,8 @@ use Rattle.desk_law.specs.Volumes.{volumes_in}
 use Rattle.desk_law.proofs.ByteLemmas.{bytes-self}
 use Rattle.desk_law.proofs.CountLemmas.{all-append, count-append, names-push, once_of, times-append, times-is, times_on}
 use Rattle.desk_law.proofs.SetLemmas.{each-push}
-use Rattle.desk_restoring.specs.Placing.{placed, sets_placed}
-use Rattle.desk_restoring.specs.Replaying.{with_sets}
+use Rattle.desk_restoring.specs.Inner.Placing.{placed, sets_placed}
+use Rattle.desk_restoring.specs.Inner.Replaying.{with_sets}
 use Rattle.desk_restoring.proofs.ListLemmas.{each-front, each-rest}
 
 -- How often a track is held.

@@ -17,8 +17,8 @@ use Rattle.desk_law.proofs.CountLemmas.{times_on}
 use Rattle.sms_volumes.specs.Holding.{AreVolumesOf}
 use Rattle.sms_volumes.specs.declared.active_volumes.ActiveVolumes.{ActiveVolumes}
 use Rattle.sms_volumes.proofs.NamedLemmas.{named-push}
-use Rattle.desk_restoring.specs.Placing.{CanHold, placed, sets_placed}
-use Rattle.desk_restoring.specs.Replaying.{with_sets}
+use Rattle.desk_restoring.specs.Inner.Placing.{CanHold, placed, sets_placed}
+use Rattle.desk_restoring.specs.Inner.Replaying.{with_sets}
 use Rattle.desk_restoring.proofs.ListLemmas.{each-rest}
 use Rattle.desk_restoring.proofs.PartLemmas.{front-unnamed, last-lawful, lawful-placed, times-last, times-placed, times-split}
 

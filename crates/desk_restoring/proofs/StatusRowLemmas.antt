@@ -22,7 +22,7 @@ use Rattle.sms_volumes.specs.Holding.{AreVolumesOf, IsGroupOf, IsVolumeOf}
 use Rattle.sms_volumes.specs.declared.active_volumes.ActiveVolumes.{ActiveVolumes}
 use Rattle.sms_volumes.proofs.NextLemmas.{status-none}
 use Rattle.sms_volumes.proofs.VaryLemmas.{varied-other, varied-same}
-use Rattle.desk_restoring.specs.Replaying.{IsAllowed, fresh_state, statuses_varied, with_sets, with_statuses}
+use Rattle.desk_restoring.specs.Inner.Replaying.{IsAllowed, fresh_state, statuses_varied, with_sets, with_statuses}
 use Rattle.desk_restoring.proofs.ListLemmas.{each-take, each-weaker, take-next}
 
 -- Each state on the way is lawful.

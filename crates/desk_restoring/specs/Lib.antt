@@ -1,3 +1,2 @@
 pub mod Opened
-pub mod Replaying
-pub mod Placing
+pub mod Inner

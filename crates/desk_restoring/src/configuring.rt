@@ -1,12 +1,12 @@
 //! The volumes of a configuration with recorded statuses.
-ghost use Rattle.std.specs.Prelude.{◌≡◌, IfOk, IfSome};
+ghost use Rattle.std.specs.Prelude.{IfOk, IfSome};
 ghost use Rattle.std.specs.List.{AllByRecursion};
 ghost use Rattle.sms_construct.specs.Configuration.{IsConfiguration};
 ghost use Rattle.desk_law.specs.State.{DeskState, start_of};
 ghost use Rattle.desk_law.specs.Activation.{activated};
 ghost use Rattle.desk_law.specs.Lawful.{IsLawful};
 ghost use Rattle.desk_law.specs.Records.{empty_opening};
-ghost use Rattle.desk_restoring.specs.Replaying.{IsAllowed, fresh_state, statuses_varied, with_statuses};
+ghost use Rattle.desk_restoring.specs.Inner.Replaying.{IsAllowed, fresh_state, statuses_varied, with_statuses};
 ghost use Rattle.sms_volumes.specs.Holding.{AreVolumesOf};
 
 use sms_deck::Config;

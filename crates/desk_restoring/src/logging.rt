@@ -1,9 +1,7 @@
 //! The log of recorded replies and floors.
-ghost use Rattle.std.specs.Prelude.{◌≡◌, ◌<◌, ℕ, List, [], IfOk, OnOk};
-ghost use Rattle.sms_keeper.specs.Log.{floor_in, kept_in, kept_with};
+ghost use Rattle.std.specs.Prelude.{◌≡◌, ◌<◌, [], IfOk, OnOk};
+ghost use Rattle.sms_keeper.specs.Log.{kept_in, kept_with};
 ghost use Rattle.sms_keeper.specs.declared.request_key.RequestKey.{RequestKey};
-ghost use Rattle.desk_law.specs.Kept.{greatest_floor};
-ghost use Rattle.desk_records.specs.Logged.{SameLog};
 ghost use Rattle.desk_records.specs.Tied.{IsLogOf};
 
 use sms_construct::Request;

@@ -4,8 +4,8 @@ ghost use Rattle.sms_construct.specs.declared.data_set.DataSet.{DataSet as Catal
 ghost use Rattle.desk_law.specs.State.{DeskState, with_set};
 ghost use Rattle.desk_law.specs.Extents.{extents_named};
 ghost use Rattle.desk_law.specs.Lawful.{IsLawful};
-ghost use Rattle.desk_restoring.specs.Placing.{CanHold, CanPlace, CanPlaceAll};
-ghost use Rattle.desk_restoring.specs.Replaying.{with_sets};
+ghost use Rattle.desk_restoring.specs.Inner.Placing.{CanHold, CanPlace, CanPlaceAll};
+ghost use Rattle.desk_restoring.specs.Inner.Replaying.{with_sets};
 ghost use Rattle.sms_volumes.specs.Holding.{AreVolumesOf};
 
 use desk_common::Shared;

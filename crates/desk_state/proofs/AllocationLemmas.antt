@@ -2,6 +2,7 @@
 use Rattle.std.proofs.Common.{◌≡◌, ℕ, true, List, [], ◌++◌, refl, sym, ap, ◌∙◌, subst, inl, inr}
 use Rattle.std.specs.Prelude.{Option, None, Some, Result, Ok, Err, MatchResult, bytes_eq, filter, option_map}
 use Rattle.std.specs.List.{list_any}
+use Rattle.desk_common.specs.Steps.{◌⊳◌}
 use Rattle.sms_construct.specs.Configuration.{Configuration}
 use Rattle.sms_construct.specs.Quantities.{Quantities}
 use Rattle.sms_construct.specs.declared.alloc.Alloc.{Alloc}
@@ -17,18 +18,18 @@ use Rattle.desk_law.specs.Allocation.{AllocRule, GrantRule, Wish, alloc_case, as
 use Rattle.desk_law.specs.Candidates.{Ask}
 use Rattle.desk_law.specs.Classification.{Classes, answer_of, classes_of, trace_of, went_through}
 use Rattle.desk_law.specs.Extents.{extents_at, extents_if, extents_named}
-use Rattle.desk_law.specs.Replies.{◌⊳◌, Leaves}
+use Rattle.desk_law.specs.Replies.{Leaves}
 use Rattle.desk_law.specs.Volumes.{volumes_in}
-use Rattle.desk_law.specs.declared.stop.Stop.{Stop}
-use Rattle.desk_law.specs.declared.stop.Stop.TheVariants as stops
+use Rattle.sms_construct.specs.declared.stop.Stop.{Stop}
+use Rattle.sms_construct.specs.declared.stop.Stop.TheVariants as stops
 use Rattle.desk_records.specs.Effects.{state_with, tells_nothing}
 use Rattle.sms_volumes.specs.declared.active_volume.ActiveVolume.{ActiveVolume}
 use Rattle.desk_state.specs.Answering.{Answers}
 use Rattle.desk_state.specs.Catalog.{set_in}
 use Rattle.desk_state.specs.Deeds.{HasMore, config_of, effect_of}
-use Rattle.desk_state.specs.Granting.{IsGrantAmong, IsGranted}
+use Rattle.desk_state.specs.Inner.Granting.{IsGrantAmong, IsGranted}
 use Rattle.desk_state.specs.Standing.{IsRunning}
-use Rattle.desk_state.specs.Wishing.{ClassifiedRule, classes_with, set_granted}
+use Rattle.desk_state.specs.Inner.Wishing.{ClassifiedRule, classes_with, set_granted}
 use Rattle.desk_state.specs.declared.decision.Decision.{Decision}
 use Rattle.desk_state.specs.declared.deed.Deed.TheVariants as deeds
 use Rattle.desk_state.specs.declared.grant.Grant.{Grant}

@@ -2,6 +2,7 @@
 use Rattle.std.proofs.Common.{◌≡◌, ◌≤◌, ℕ, ◌+◌, Bool, true, false, List, [], ◌∷◌, ◌++◌, map, refl, sym, ap, ◌∙◌, subst, arith, inl, inr}
 use Rattle.std.specs.Prelude.{Option, None, Some, Result, Ok, Err, IsSome, is_some, max, nat_eq, nat_lt, length}
 use Rattle.std.specs.List.{list_all}
+use Rattle.desk_common.specs.Steps.{◌⊳◌}
 use Rattle.sms_construct.specs.Configuration.{Configuration}
 use Rattle.sms_construct.specs.Quantities.{Quantities}
 use Rattle.sms_construct.specs.declared.alloc.Alloc.{Alloc}
@@ -23,13 +24,13 @@ use Rattle.desk_law.specs.Activation.{ActivateRule, first_barred, row_of_group, 
 use Rattle.desk_law.specs.Allocation.{AllocRule, GrantsOn, Wish, alloc_case, ask_of, candidates_of, data_class_of, space_case, space_of, wish_with}
 use Rattle.desk_law.specs.Candidates.{Chosen}
 use Rattle.desk_law.specs.Classification.{Classes, answer_of, classes_of, trace_of, went_through}
-use Rattle.desk_law.specs.declared.stop.Stop.{Stop}
-use Rattle.desk_law.specs.declared.stop.Stop.TheVariants as stops
+use Rattle.sms_construct.specs.declared.stop.Stop.{Stop}
+use Rattle.sms_construct.specs.declared.stop.Stop.TheVariants as stops
 use Rattle.desk_law.specs.Display.{reply_for_none, view_of_target}
 use Rattle.desk_law.specs.Extension.{ExtendRule, ExtendsOn, FurtherRule, ask_more, extend_case, first_volume, growth_on, last_volume, others_of}
 use Rattle.desk_law.specs.Extents.{tracks_of_set, volumes_of}
 use Rattle.desk_law.specs.Purging.{PurgeRule}
-use Rattle.desk_law.specs.Replies.{Leaves, Makes, found_or, reply_if, ◌⊳◌}
+use Rattle.desk_law.specs.Replies.{Leaves, Makes, found_or, reply_if}
 use Rattle.desk_law.specs.Rule.{IsSound, Rule}
 use Rattle.desk_law.specs.Usage.{used_case}
 use Rattle.desk_law.specs.Volumes.{times_target}

@@ -28,8 +28,8 @@ use Rattle.sms_volumes.proofs.ViewLemmas.{name-of-found}
 use Rattle.desk_state.specs.Answering.{Answers}
 use Rattle.desk_state.specs.Catalog.{set_in}
 use Rattle.desk_state.specs.Deeds.{HasMore}
-use Rattle.desk_state.specs.Granting.{IsGrantAmong, IsGranted}
-use Rattle.desk_state.specs.Growing.{Grows, IsGrowable, added_of}
+use Rattle.desk_state.specs.Inner.Granting.{IsGrantAmong, IsGranted}
+use Rattle.desk_state.specs.Inner.Growing.{Grows, IsGrowable, added_of}
 use Rattle.desk_state.specs.Standing.{IsSomeState}
 use Rattle.desk_state.specs.declared.deed.Deed.TheVariants as deeds
 use Rattle.desk_state.specs.declared.grant.Grant.{Grant}

@@ -11,7 +11,7 @@ use Rattle.sms_construct.specs.declared.extent.Extent.{Extent}
 use Rattle.sms_construct.specs.declared.volume.VolumeDef.{VolumeDef}
 use Rattle.desk_law.specs.Extents.{front_tracks, length_kept, multiple_at, pieces_on}
 use Rattle.desk_law.specs.Lawful.{IsInside}
-use Rattle.desk_state.specs.Sums.{tracks_in}
+use Rattle.desk_state.specs.Inner.Sums.{tracks_in}
 use Rattle.desk_law.proofs.CountLemmas.{count-append}
 use Rattle.desk_law.proofs.FrontLemmas.{cut_to, rounded-some}
 use Rattle.sms_volumes.specs.Changing.{IsCutTo, IsFront}

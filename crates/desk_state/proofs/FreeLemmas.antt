@@ -7,7 +7,7 @@ use Rattle.std.proofs.lemmas.List.Sums.{sum_by-cons}
 use Rattle.sms_construct.specs.declared.extent.Extent.{Extent}
 use Rattle.desk_law.specs.Extents.{front_tracks, length_kept}
 use Rattle.desk_law.proofs.FrontLemmas.{cut_to}
-use Rattle.desk_state.specs.Sums.{tracks_in}
+use Rattle.desk_state.specs.Inner.Sums.{tracks_in}
 use Rattle.desk_state.proofs.ExtentLemmas.{front-tracks}
 
 -- a track is freed where so many are kept

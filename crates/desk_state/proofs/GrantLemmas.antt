@@ -10,7 +10,7 @@ use Rattle.sms_volumes.specs.declared.active_volumes.ActiveVolumes.{ActiveVolume
 use Rattle.sms_volumes.specs.declared.asked.Asked.{Asked}
 use Rattle.sms_volumes.specs.declared.candidates.Candidates.{Candidates}
 use Rattle.sms_volumes.specs.declared.pick.Pick.{Pick}
-use Rattle.desk_state.specs.Granting.{IsGrantAmong}
+use Rattle.desk_state.specs.Inner.Granting.{IsGrantAmong}
 use Rattle.desk_state.specs.declared.grant.Grant.{Grant}
 
 -- the grant of what was picked

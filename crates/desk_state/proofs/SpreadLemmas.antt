@@ -1,9 +1,7 @@
 -- On how many volumes extents lie, gone over one by one.
-use Rattle.std.proofs.Common.{◌≡◌, ◌<◌, ℕ, ◌+◌, Bool, true, false, cond, List, [], ◌∷◌, ◌++◌, length, map, get_or, take, drop, reverse, refl, sym, ap, ◌∙◌, subst, arith}
+use Rattle.std.proofs.Common.{◌≡◌, ◌<◌, ℕ, ◌+◌, Bool, true, false, cond, List, [], ◌∷◌, ◌++◌, length, map, get_or, take, drop, refl, sym, ap, ◌∙◌, subst, arith}
 use Rattle.std.specs.Prelude.{◌||◌, bytes_eq}
-use Rattle.std.specs.List.{list_any}
 use Rattle.std.proofs.lemmas.List.{take_more, drop_more}
-use Rattle.std.proofs.lemmas.List.Sorted.{IsPermutation-reverse, list_any-IsPermutation}
 use Rattle.sms_construct.specs.declared.extent.Extent.{Extent}
 use Rattle.desk_law.specs.Extents.{is_among, is_used, volumes_after}
 use Rattle.desk_law.proofs.ByteLemmas.{same-bytes}
@@ -72,12 +70,3 @@ counted-more es i e b lt read used =
     ap (λ (l : List Extent). length (volumes_after (serials (take i es)) l)) rest
     ∙ (counted-at (take i es) e (drop (i + 1) es) b used
     ∙ ap (λ (l : List Extent). cond b 0 1 + length (volumes_after (serials l) (drop (i + 1) es))) (sym front))
-
-any-used : (v : List ℕ) (es : List Extent) → list_any (λ (e : Extent). bytes_eq e.volser v) es ≡ is_used v es
-any-used v [] = refl
-any-used v (e ∷ es) = ap (λ (b : Bool). bytes_eq e.volser v || b) (any-used v es)
-
--- whether an extent lies on the volume, the last looked at first
-pub any-reversed : (v : List ℕ) (es : List Extent) → list_any (λ (e : Extent). bytes_eq e.volser v) (reverse es) ≡ is_used v es
-any-reversed v es =
-    sym (list_any-IsPermutation (λ (e : Extent). bytes_eq e.volser v) es (reverse es) (IsPermutation-reverse es)) ∙ any-used v es

@@ -41,7 +41,8 @@ config_of (deeds.Become count config volumes statuses) = Some config
 config_of (deeds.Vary target status) = None
 config_of (deeds.Raise job floor) = None
 
--- the deed can be done without memory: for the pieces that a data set gets there is room and nobody holds them, and what one keeps is the front of what it had
+-- the deed can be done without memory: for the pieces that a data set gets there is room and nobody holds them, and
+-- what one keeps is the front of what it had
 abbrev pub IsPossible : Running → Deed → Type 0
 IsPossible running deeds.Nothing = Unit {0}
 IsPossible running (deeds.Get set place pieces) = IsReadyAt running.volumes place pieces.items

@@ -1,10 +1,7 @@
 pub mod Catalog
-pub mod Sums
 pub mod Standing
 pub mod Deeds
 pub mod Answering
-pub mod Granting
-pub mod Wishing
-pub mod Growing
 pub mod Working
 pub mod Following
+pub mod Inner

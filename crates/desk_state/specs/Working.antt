@@ -41,8 +41,8 @@ pub record IsReadAs (deck : List ℕ) (read : Result Configuration DeckErr) : Ty
 abbrev pub IsReadFor : Request → Result Configuration DeckErr → Type 0
 IsReadFor request read = (deck : List ℕ) → request.op ≡ ops.Activate deck → IsReadAs deck read
 
--- work that may be handed in with a request after these entries, where this is on the slate: classes for another op than
--- ALLOC and a deck for another than ACTIVATE may be any
+-- work that may be handed in with a request after these entries, where this is on the slate: classes for another op
+-- than ALLOC and a deck for another than ACTIVATE may be any
 abbrev pub IsWork : Opening → List Entry → Request → SlateLines → Work → Type 0
 IsWork o h request written Nothing = Unit {0}
 IsWork o h request written (Classes under made) =

@@ -47,7 +47,7 @@ impl Running {
         ensures answers { IfOk result (λ made. (s : DeskState) → IsLawful s → IsRunning s self.now → Answers s self.now (ConfigurationRule s config) made) }
         ensures possible { IfOk result (λ made. IsPossible self.now made.deed) }
     {
-        // Facts for the proof; nothing runs.
+        // Facts for the proof; nothing changes.
         is_configuration(config.get());
         match self.volumes.barred(config.get()) {
             Some(volser) => Ok(Decision::quiet(Reply::VolumeInUse(volser))),

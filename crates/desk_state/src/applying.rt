@@ -1,7 +1,6 @@
 //! What was decided is done.
 ghost use Rattle.std.specs.Prelude.{◌≡◌, ◌<◌, ℕ, List, IfSome};
 ghost use Rattle.std.specs.Option.{option_copied};
-ghost use Rattle.sms_construct.specs.Configuration.{Configuration};
 ghost use Rattle.sms_construct.specs.declared.data_set.DataSet.{DataSet as Catalogued};
 ghost use Rattle.sms_keeper.specs.declared.status_row.StatusRow.{StatusRow as Row};
 ghost use Rattle.desk_law.specs.State.{DeskState, set_named, with_set, with_status, without_name};

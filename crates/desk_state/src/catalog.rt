@@ -1,5 +1,5 @@
 //! The catalogued data sets.
-ghost use Rattle.std.specs.Prelude.{◌≡◌, ◌≤◌, ◌<◌, [], None, Some, List, ℕ, OnOk, bytes_eq, if◌then◌else◌};
+ghost use Rattle.std.specs.Prelude.{◌≡◌, ◌<◌, [], None, Some, List, ℕ, OnOk, bytes_eq, if◌then◌else◌};
 ghost use Rattle.std.specs.Option.{option_copied};
 ghost use Rattle.desk_state.specs.Catalog.{IsCatalog, next_in, set_in};
 

@@ -12,8 +12,8 @@ ghost use Rattle.sms_volumes.specs.declared.active_volume.ActiveVolume.{ActiveVo
 ghost use Rattle.desk_state.specs.Answering.{Answers};
 ghost use Rattle.desk_state.specs.Catalog.{set_in};
 ghost use Rattle.desk_state.specs.Deeds.{IsPossible};
-ghost use Rattle.desk_state.specs.Growing.{Grows, IsGrowable, added_of};
-ghost use Rattle.desk_state.specs.Granting.{IsGrantAmong, IsGranted};
+ghost use Rattle.desk_state.specs.Inner.Growing.{Grows, IsGrowable, added_of};
+ghost use Rattle.desk_state.specs.Inner.Granting.{IsGrantAmong, IsGranted};
 ghost use Rattle.desk_state.specs.Standing.{IsRunning, IsSomeState};
 
 use crate::decision::Decision;

@@ -1,20 +1,15 @@
 //! The extents of data sets.
 ghost use Rattle.std.specs.Prelude.{◌≡◌, ◌<◌, ◌≤◌, ◌^◌, ◌++◌, length, nat_lt, IfOk, if◌then◌else◌};
 ghost use Rattle.sms_construct.specs.Quantities.{rounded_up};
-ghost use Rattle.desk_law.specs.Extents.{extents_at, front_tracks, is_used, length_kept, multiple_at, pieces_on, volumes_of, with_extents};
-ghost use Rattle.desk_state.specs.Sums.{tracks_in};
+ghost use Rattle.desk_law.specs.Extents.{extents_at, front_tracks, length_kept, multiple_at, pieces_on, volumes_of, with_extents};
+ghost use Rattle.desk_state.specs.Inner.Sums.{tracks_in};
 
 use desk_common::{Items, Shared};
 use dsn_mask::Volser;
-use sms_construct::{DataSet, Extent, Extents};
+use sms_construct::{BORDER, DataSet, Extent, Extents, TRACKS_IN_MANAGED};
+use sms_volumes::lies_on;
 use std::alloc::{AllocError, Global};
 use track_ledger::Piece;
-
-// The first track of the cylinder-managed part of a volume, and how many tracks its units have (docs/rules.md, "The
-// tracks of a volume").
-const BORDER: u32 = 982_800;
-
-const TRACKS_IN_MANAGED: u64 = 315;
 
 /// The tracks of the extents.
 pub fn tracks_of(extents: &[Extent]) -> u64
@@ -106,7 +101,11 @@ fn multiple_at(track: u32) -> u64
     ensures some { 1 ≤ result }
     ensures small { result ≤ 315 }
 {
-    if track < BORDER { 1 } else { TRACKS_IN_MANAGED }
+    if track < BORDER {
+        1
+    } else {
+        u64::from(TRACKS_IN_MANAGED)
+    }
 }
 
 /// A number of tracks rounded up to whole units of so many.
@@ -143,14 +142,6 @@ pub fn count_volumes(extents: &[Extent]) -> usize
         }
     }
     count
-}
-
-// Whether one of the extents lies on the volume. Those of one volume mostly stand together, so the last are looked
-// at first.
-fn lies_on(extents: &[Extent], volser: &Volser) -> bool
-    ensures { result ≡ is_used volser.now extents.now }
-{
-    extents.iter().rev().any(|extent| extent.volser == *volser)
 }
 
 /// These pieces of the volume as extents, or want of memory.

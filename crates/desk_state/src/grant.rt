@@ -8,7 +8,7 @@ ghost use Rattle.sms_volumes.specs.Asking.{IsAsked, ask_of};
 ghost use Rattle.sms_volumes.specs.Changing.{IsFreeAt, running_at};
 ghost use Rattle.sms_volumes.specs.Viewing.{candidates_in};
 ghost use Rattle.sms_volumes.specs.declared.active_volume.ActiveVolume.{ActiveVolume};
-ghost use Rattle.desk_state.specs.Granting.{IsGrantAmong, IsGranted};
+ghost use Rattle.desk_state.specs.Inner.Granting.{IsGrantAmong, IsGranted};
 ghost use Rattle.desk_state.specs.Standing.{IsRunning, IsSomeState};
 
 use crate::running::Running;

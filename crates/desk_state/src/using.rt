@@ -10,10 +10,9 @@ ghost use Rattle.desk_state.specs.Working.{IsClassified, IsReadAs};
 use crate::work::Work;
 use acs_tree::Slate;
 use desk_common::Shared;
-use desk_law::Stop;
 use dsn_mask::Name;
 use sms_classes::{Classified, classes_are_known, classify};
-use sms_construct::{Alloc, DeckText};
+use sms_construct::{Alloc, DeckText, Stop};
 use sms_deck::{Config, DeckErr, read_deck};
 use std::alloc::{AllocError, Global};
 

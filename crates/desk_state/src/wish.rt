@@ -3,10 +3,10 @@ ghost use Rattle.std.specs.Prelude.{◌≡◌, ◌≤◌, length, IfOk};
 ghost use Rattle.desk_common.specs.Limits.{most_groups_set};
 ghost use Rattle.desk_law.specs.Allocation.{ask_of as primary_of, new_set, tiers_of, wish_with};
 ghost use Rattle.desk_law.specs.Classification.{trace_of};
-ghost use Rattle.desk_law.specs.declared.stop.Stop.TheVariants.{Done};
+ghost use Rattle.sms_construct.specs.declared.stop.Stop.TheVariants.{Done};
 ghost use Rattle.sms_classes.specs.Known.{AreKnown};
 ghost use Rattle.sms_volumes.specs.Asking.{IsAsked, ask_of};
-ghost use Rattle.desk_state.specs.Wishing.{classes_with};
+ghost use Rattle.desk_state.specs.Inner.Wishing.{classes_with};
 
 use crate::extents::extents_at;
 use acs_tree::{Kind, Values};
@@ -36,9 +36,9 @@ impl<'a> Model for Wish<'a> {
     ghost use Rattle.acs_tree.specs.contracts.routine.Form as form;
     ghost use Rattle.std.specs.Coded.{codes};
     ghost use Rattle.desk_law.specs.Allocation.{Wish};
-    ghost use Rattle.desk_law.specs.declared.stop.Stop.TheVariants.{Done};
+    ghost use Rattle.sms_construct.specs.declared.stop.Stop.TheVariants.{Done};
     ghost use Rattle.sms_classes.specs.Known.{AreKnown};
-    ghost use Rattle.desk_state.specs.Wishing.{classes_with};
+    ghost use Rattle.desk_state.specs.Inner.Wishing.{classes_with};
 
     ghost Value = { Wish };
 

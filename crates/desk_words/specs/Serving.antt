@@ -2,6 +2,7 @@
 use Rattle.std.specs.Prelude.{ℕ, ◌≤◌, ◌&&◌, List, [], ◌∷◌, Bool, nat_le, Option, None, Some, bytes_eq, codes, if◌then◌else◌}
 use Rattle.sms_construct.specs.Numbers.{small_number_of}
 use Rattle.sms_script.specs.Found.{◌⊳◌}
+use Rattle.desk_words.specs.Words.{most_workers}
 use Rattle.desk_words.specs.declared.served.ServeWords.{ServeWords}
 
 -- the greatest port
@@ -11,10 +12,6 @@ most_port = 65535
 -- the connections that a worker may serve
 abbrev pub most_connections : ℕ
 most_connections = 1000000
-
--- the workers that there may be
-abbrev pub most_workers : ℕ
-most_workers = 16
 
 -- the port, the connections and the workers are within their limits
 pub record IsWithinLimits (asked : ServeWords) : Type 0 where

@@ -9,7 +9,7 @@ use Rattle.desk_words.specs.declared.task.Task.TheVariants as tasks
 abbrev pub most_items : ℕ
 most_items = 40000
 
--- the workers that a run may have
+-- the workers that there may be
 abbrev pub most_workers : ℕ
 most_workers = 16
 
@@ -32,8 +32,8 @@ load_in seed count =
     small_number_of count ⊳ λ items.
     load_of from items
 
--- `run`, by one worker, or by so many as stand behind `--workers`, with `--volumes` behind it or not; or `gen`, a seed and a number of
--- items; no other words ask for anything
+-- `run`, by one worker, or by so many as stand behind `--workers`, with `--volumes` behind it or not; or `gen`, a seed
+-- and a number of items; no other words ask for anything
 abbrev pub task_in : List (List ℕ) → Option Task
 task_in [] = None
 task_in (word ∷ []) = if bytes_eq word (codes "run") then Some (tasks.Run false 1) else None

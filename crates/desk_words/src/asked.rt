@@ -8,8 +8,8 @@ use sms_construct::read_number;
 // The most items of a load.
 const MAX_ITEMS: u32 = 40_000;
 
-// The most workers of a run.
-const MAX_WORKERS: u32 = 16;
+/// The most workers.
+pub const MAX_WORKERS: u32 = 16;
 
 /// What the words ask for, and `None` where they ask for nothing.
 pub fn task_asked(words: &[String]) -> Option<Task>

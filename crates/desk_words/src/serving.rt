@@ -2,6 +2,7 @@
 ghost use Rattle.std.specs.Prelude.{◌≡◌, map, string_bytes, IfSome};
 ghost use Rattle.desk_words.specs.Serving.{IsWithinLimits, serving_in, serving_by, serving_of};
 
+use crate::asked::MAX_WORKERS;
 use crate::served::ServeWords;
 use sms_construct::read_number;
 
@@ -10,9 +11,6 @@ const MAX_PORT: u32 = 65_535;
 
 // The most connections of a worker.
 const MAX_CONNECTIONS: u32 = 1_000_000;
-
-// The most workers.
-const MAX_WORKERS: u32 = 16;
 
 /// What the words ask to be served, and `None` where they don't ask to serve the desk.
 pub fn serve_words(words: &[String]) -> Option<ServeWords>

@@ -12,7 +12,7 @@ use Rattle.sms_construct.specs.declared.entry.Entry.{Entry}
 use Rattle.desk_law.specs.State.{Opening}
 use Rattle.desk_signing.specs.Signing.{events, made, sign, signed, signed_last}
 use Rattle.desk_plan.specs.Sharing.{picked}
-use Rattle.desk_workers.specs.Closed.{HasClosed, Signs}
+use Rattle.desk_workers.specs.Inner.Closed.{HasClosed, Signs}
 
 same-made : (a b : Entry) (xs ys : List (Signed Event)) → made None a ∷ xs ≡ made None b ∷ ys → (a ≡ b) × (xs ≡ ys)
 same-made a b xs ys is =

@@ -8,7 +8,7 @@ use Rattle.sms_desk.specs.declared.job_seat.JobSeat.{JobSeat}
 use Rattle.desk_plan.specs.Sharing.{those, times}
 use Rattle.desk_plan.proofs.FrontLemmas.{any-default, take-length, take-more, take-whole, times-less}
 use Rattle.desk_plan.proofs.SharingLemmas.{those-push, those-times}
-use Rattle.desk_workers.specs.Merged.{AreQueues, HasMerged, MergesFront}
+use Rattle.desk_workers.specs.Inner.Merged.{AreQueues, HasMerged, MergesFront}
 
 module _ {P : Type 0} {keeper : Ghosts P} where
   abbrev SameIn : JobSeat P keeper → JobSeat P keeper → Type 0

@@ -10,9 +10,9 @@ use Rattle.sms_desk.specs.Holding.{IsHolding}
 use Rattle.sms_desk.specs.Seats.{HasNoAnswers, HoldsOf, IsJobOf, IsSeated, job_seen, mine_of, seen_at}
 use Rattle.desk_signing.specs.Signing.{IsLegalList}
 use Rattle.desk_plan.specs.Sharing.{times}
-use Rattle.desk_workers.specs.Rooms.{AreKept, HaveRoom}
-use Rattle.desk_workers.specs.Shared.{IsIdle}
-use Rattle.desk_workers.specs.Worked.{IsReady}
+use Rattle.desk_workers.specs.Inner.Rooms.{AreKept, HaveRoom}
+use Rattle.desk_workers.specs.Inner.Shared.{IsIdle}
+use Rattle.desk_workers.specs.Inner.Worked.{IsReady}
 
 module _ {P : Type 0} {keeper : Ghosts P} where
   -- the seat of the lock and what is held are the same

@@ -22,10 +22,10 @@ use Rattle.desk_plan.specs.Sharing.{those}
 use Rattle.desk_plan.proofs.FrontLemmas.{worker-below}
 use Rattle.desk_plan.proofs.SharingLemmas.{all-answers, jobs-in-order, none-at-all}
 use Rattle.desk_workers.specs.Phases.{AreDueIn, HasPhase, IsDueIn, IsPhaseAnswered, entries_for, entry_for, is_of}
-use Rattle.desk_workers.specs.Worked.{HasWorked}
-use Rattle.desk_workers.specs.Merged.{AreQueues, HasMerged}
-use Rattle.desk_workers.specs.Rooms.{AreKept}
-use Rattle.desk_workers.specs.Shared.{HasMade, HasShared, IsIdle}
+use Rattle.desk_workers.specs.Inner.Worked.{HasWorked}
+use Rattle.desk_workers.specs.Inner.Merged.{AreQueues, HasMerged}
+use Rattle.desk_workers.specs.Inner.Rooms.{AreKept}
+use Rattle.desk_workers.specs.Inner.Shared.{HasMade, HasShared, IsIdle}
 use Rattle.desk_workers.proofs.ClosedLemmas.{has-closed}
 use Rattle.desk_workers.proofs.DueLemmas.{all-due-starts}
 use Rattle.desk_workers.proofs.RoomLemmas.{SameIn, same-job}

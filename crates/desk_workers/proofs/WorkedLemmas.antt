@@ -17,7 +17,7 @@ use Rattle.desk_plan.specs.Sharing.{made_of, those, times}
 use Rattle.desk_plan.proofs.FrontLemmas.{made-push}
 use Rattle.desk_plan.proofs.SharingLemmas.{those-push, those-times, times-push}
 use Rattle.desk_workers.specs.Phases.{AreDueIn, entries_for, entry_for}
-use Rattle.desk_workers.specs.Worked.{HasAnswered, HasWorked, IsReady}
+use Rattle.desk_workers.specs.Inner.Worked.{HasAnswered, HasWorked, IsReady}
 use Rattle.desk_workers.proofs.DueLemmas.{all-due-push, all-due-starts}
 
 events-append : (xs ys : List Entry) → events (xs ++ ys) ≡ events xs ++ events ys

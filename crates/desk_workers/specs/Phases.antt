@@ -23,8 +23,8 @@ entries_for answers items = made_of entry_for answers items
 abbrev pub is_of : List ℕ → Entry → Bool
 is_of job entry = bytes_eq entry.request.job job
 
--- in this history the answer has no place exactly where its reply comes without an entry, then with the first place 0 too, and that
--- the journal is full is told only where it has no place for the op
+-- in this history the answer has no place exactly where its reply comes without an entry, then with the first place 0
+-- too, and that the journal is full is told only where it has no place for the op
 pub record IsDueIn (history : List Entry) (request : Request) (answer : Answer) : Type 0 where
   pub unplaced : answer.place ≡ 0 ↔ is_entered answer.reply ≡ false
   pub first : is_entered answer.reply ≡ false → answer.first ≡ 0
@@ -34,8 +34,8 @@ pub record IsDueIn (history : List Entry) (request : Request) (answer : Answer) 
 abbrev pub AreDueIn : List Entry → List Answer → List Item → Type 0
 AreDueIn history answers items = AllZip (λ answer item. IsDueIn history item.request answer) answers items
 
--- the items of a phase are answered: each once, and the history went on by the entries of the answers, those of each job in the order
--- of its items
+-- the items of a phase are answered: each once, and the history went on by the entries of the answers, those of each
+-- job in the order of its items
 pub record IsPhaseAnswered (items : List Item) (answers : List Answer) (old new : List Entry) : Type 0 where
   pub each : length answers ≡ length items
   pub added : List Entry

@@ -1,6 +1,6 @@
 // How answers are put back in order.
 ghost use Rattle.std.specs.Prelude.{◌≡◌, ◌+◌, ◌≤◌, ◌<◌, ◌∷◌, All, length, vec_capacity, vec_len};
-ghost use Rattle.desk_workers.specs.Merged.{AreQueues, HasMerged};
+ghost use Rattle.desk_workers.specs.Inner.Merged.{AreQueues, HasMerged};
 
 use sms_construct::Answer;
 use sms_desk::JobSeat;

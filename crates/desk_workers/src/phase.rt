@@ -1,7 +1,7 @@
 // A phase, by all workers.
-ghost use Rattle.std.specs.Prelude.{◌≡◌, ◌≤◌, ◌<◌, ℕ, length, slice_index_or};
+ghost use Rattle.std.specs.Prelude.{◌≡◌, ◌<◌, ℕ, length, slice_index_or};
 ghost use Rattle.sms_desk.specs.declared.job_seat.JobSeat.{JobSeat as Job};
-ghost use Rattle.desk_workers.specs.Worked.{HasWorked, IsReady};
+ghost use Rattle.desk_workers.specs.Inner.Worked.{HasWorked, IsReady};
 
 use crate::working::work;
 use sms_desk::{Desk, Gate, JobSeat};

@@ -17,8 +17,8 @@ use std::alloc::AllocError;
 use std::sync::Wait;
 use std::thread::Threads;
 
-/// Answers the items of the phases, one phase after the other. Where memory for a phase is wanting, those before it were
-/// answered whole, and nothing of it.
+/// Answers the items of the phases, one phase after the other. Where memory for a phase is wanting, those before it
+/// were answered whole, and nothing of it.
 pub fn run_phases<P: Keeper + Send, R: Threads + Wait + Sync, G: Gate + Sync>(
     crew: &Crew<'_, R, G>,
     phases: &[Phase],

@@ -3,7 +3,7 @@ ghost use Rattle.std.specs.Prelude.{◌≡◌, ◌≤◌, [], All, OnOk, length}
 ghost use Rattle.std.specs.VecDeque.{deque_capacity};
 ghost use Rattle.sms_desk.specs.Seats.{HasNoAnswers};
 ghost use Rattle.desk_plan.specs.Sharing.{times};
-ghost use Rattle.desk_workers.specs.Rooms.{AreKept, HaveRoom};
+ghost use Rattle.desk_workers.specs.Inner.Rooms.{AreKept, HaveRoom};
 
 use sms_desk::JobSeat;
 use sms_keeper::Keeper;

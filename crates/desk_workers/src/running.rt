@@ -1,10 +1,9 @@
 //! A run of a script by several workers.
-ghost use Rattle.std.specs.Prelude.{◌≡◌, ◌+◌, ◌-◌, ◌^◌, ◌≤◌, [], length, min, IfOk, OnErr, OnOk, vec_capacity, vec_len};
+ghost use Rattle.std.specs.Prelude.{◌≡◌, ◌+◌, ◌-◌, ◌^◌, ◌≤◌, min, IfOk, OnErr};
 ghost use Rattle.desk_law.specs.History.{IsLegal};
 ghost use Rattle.desk_records.specs.Tied.{faults_in};
 ghost use Rattle.sms_core.specs.Core.{HasTables};
-ghost use Rattle.sms_script.specs.Script.{items_of};
-ghost use Rattle.desk_workers.specs.Phases.{AreAnswered, HasPhase, IsFrontAnswered};
+ghost use Rattle.desk_workers.specs.Phases.{AreAnswered, IsFrontAnswered};
 
 use crate::crew::Crew;
 use crate::phases::run_phases;
@@ -52,7 +51,7 @@ pub fn run_workers<P: Keeper + Send, R: Threads + Wait + Sync, G: Gate + Sync>(
         }
         Err(e) => (Err(e), core),
     };
-    // A fact for the proof; nothing runs.
+    // A fact for the proof; nothing changes.
     let _journal = core.journal();
     (answers, core)
 }

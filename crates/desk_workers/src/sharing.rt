@@ -2,7 +2,7 @@
 ghost use Rattle.std.specs.Prelude.{◌≡◌, ◌+◌, ◌<◌, ◌≤◌, [], All, OnErr, OnOk, length, vec_capacity, vec_len};
 ghost use Rattle.sms_desk.specs.Seats.{IsJobOf};
 ghost use Rattle.desk_workers.specs.Phases.{HasPhase};
-ghost use Rattle.desk_workers.specs.Shared.{HasShared, IsIdle};
+ghost use Rattle.desk_workers.specs.Inner.Shared.{HasShared, IsIdle};
 
 use crate::crew::Crew;
 use crate::merging::merge;

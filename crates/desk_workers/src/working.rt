@@ -2,7 +2,7 @@
 ghost use Rattle.std.specs.Prelude.{◌≡◌, ◌<◌, length};
 ghost use Rattle.std.specs.VecDeque.{deque_capacity, deque_len};
 ghost use Rattle.sms_desk.specs.Seats.{IsJobOf};
-ghost use Rattle.desk_workers.specs.Worked.{HasAnswered, HasWorked, IsReady};
+ghost use Rattle.desk_workers.specs.Inner.Worked.{HasAnswered, HasWorked, IsReady};
 
 use sms_desk::{Desk, Gate, JobSeat};
 use sms_keeper::Keeper;

@@ -3,7 +3,7 @@ use Rattle.std.proofs.Common.{◌≡◌, ℕ, List, ◌++◌, length, take, drop
 use Rattle.std.proofs.Math.ListN.{replicate}
 use Rattle.std.proofs.Math.Seq.{take-append_seam}
 use Rattle.std.proofs.lemmas.List.{drop-replicate}
-use Rattle.dsn_mask.specs.Text.{padded}
+use Rattle.dsn_mask.specs.Inner.Text.{padded}
 
 abbrev pub filled : ℕ → List ℕ → List ℕ → List ℕ
 filled size front bytes = front ++ drop {A = ℕ} (length bytes) (replicate size 0)

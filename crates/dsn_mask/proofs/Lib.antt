@@ -15,3 +15,4 @@ pub mod ShortBytes
 pub mod Split
 pub mod StarRuns
 pub mod Turns
+pub mod WordLemmas

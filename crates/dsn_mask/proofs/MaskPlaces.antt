@@ -5,7 +5,8 @@ use Rattle.std.proofs.Math.Seq.{drop-cons}
 use Rattle.std.proofs.lemmas.Bool.{leb-true, le-leb, lt-ltb, ltb-true, eqb-true}
 use Rattle.std.proofs.lemmas.List.{length-drop, get_or_past}
 use Rattle.dsn_mask.specs.MaskFault.{is_star_at, opens_qualifier, closes_qualifier, is_stray_stop, IsFault, has_no_fault, IsFirstFault}
-use Rattle.dsn_mask.specs.MaskText.{is_mask_byte, begins_with_star, is_mask, is_simple}
+use Rattle.desk_common.specs.Words.{begins_with_star}
+use Rattle.dsn_mask.specs.MaskText.{is_mask_byte, is_mask, is_simple}
 use Rattle.dsn_mask.specs.declared.mask_err.MaskErr.{MaskErr}
 use Rattle.dsn_mask.specs.declared.mask_err.MaskErr.TheVariants.{Empty, TooLong, ThreeStars, StarsNotAlone, BadByte, EmptyPiece}
 use Rattle.dsn_mask.proofs.Faults.{both, order_of}

@@ -6,7 +6,8 @@ use Rattle.std.proofs.lemmas.Bool.{eqb-true}
 use Rattle.desk_common.specs.Words.{onto}
 use Rattle.dsn_mask.specs.Qualifiers.{qualifiers_of}
 use Rattle.dsn_mask.specs.MaskTest.{is_empty, is_two_stars}
-use Rattle.dsn_mask.specs.MaskText.{is_mask_byte, begins_with_star, are_stars_apart, is_piece, is_mask_qualifier}
+use Rattle.desk_common.specs.Words.{begins_with_star}
+use Rattle.dsn_mask.specs.MaskText.{is_mask_byte, are_stars_apart, is_piece, is_mask_qualifier}
 use Rattle.dsn_mask.proofs.Fitting.{are_stars}
 use Rattle.dsn_mask.proofs.Split.{qualifiers_of-some}
 

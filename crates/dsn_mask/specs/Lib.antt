@@ -1,6 +1,5 @@
 pub mod DataSetName
 pub mod Filter
-pub mod Fronts
 pub mod Mask
 pub mod MaskFault
 pub mod MaskTest
@@ -8,8 +7,6 @@ pub mod MaskText
 pub mod Name
 pub mod NameFault
 pub mod Names
-pub mod NamesFields
 pub mod Qualifiers
 pub mod Quoted
-pub mod Text
-pub mod TextFields
+pub mod Inner

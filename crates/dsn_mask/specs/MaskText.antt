@@ -1,8 +1,9 @@
 -- The texts of masks (docs/acs-language.md, "Masks").
-use Rattle.std.specs.Prelude.{◌≡◌, ◌==◌, ◌&&◌, ◌||◌, ℕ, Bool, true, false, not, List, [], ◌∷◌, Option, None, Some, length, nat_le, if◌then◌else◌}
+use Rattle.std.specs.Prelude.{◌≡◌, ◌==◌, ◌&&◌, ◌||◌, ℕ, Bool, true, not, List, [], ◌∷◌, Option, None, Some, length, nat_le, if◌then◌else◌}
 use Rattle.std.specs.List.{list_all}
 use Rattle.desk_common.specs.Limits.{most_word_bytes}
 use Rattle.desk_common.specs.Bytes.{full_stop, star}
+use Rattle.desk_common.specs.Words.{begins_with_star}
 use Rattle.dsn_mask.specs.Name.{is_name_byte}
 use Rattle.dsn_mask.specs.Qualifiers.{qualifiers_of}
 use Rattle.dsn_mask.specs.MaskTest.{is_empty, is_two_stars}
@@ -10,11 +11,6 @@ use Rattle.dsn_mask.specs.MaskTest.{is_empty, is_two_stars}
 -- A to Z, 0 to 9, #, @, $, -, _, the full stop, % and *
 abbrev pub is_mask_byte : ℕ → Bool
 is_mask_byte byte = is_name_byte byte || (byte == 45 || (byte == 95 || (byte == full_stop || (byte == 37 || byte == star))))
-
--- a star is the first byte
-abbrev pub begins_with_star : List ℕ → Bool
-begins_with_star [] = false
-begins_with_star (byte ∷ bytes) = byte == star
 
 -- no two stars stand side by side
 abbrev pub are_stars_apart : List ℕ → Bool

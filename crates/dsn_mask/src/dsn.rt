@@ -85,7 +85,7 @@ impl Ord for Dsn {
     ghost matches_eq = { texts_ties };
 
     fn cmp(&self, other: &Dsn) -> Ordering {
-        self.bytes().cmp(other.bytes())
+        self.text.order(&other.text)
     }
 }
 

@@ -1,5 +1,5 @@
 //! Filter lists, made ready to be searched.
-ghost use Rattle.std.specs.Prelude.{◌≡◌, ◌≤◌, ◌+◌, ◌-◌, ◌*◌, ◌^◌, ◌&&◌, ◌||◌, ◌↔◌, length, IsTrue, IfOk};
+ghost use Rattle.std.specs.Prelude.{◌≡◌, ◌≤◌, ◌-◌, ◌&&◌, ◌||◌, ◌↔◌, IsTrue, IfOk};
 ghost use Rattle.std.specs.List.{list_any};
 ghost use Rattle.dsn_mask.specs.MaskTest.{is_empty};
 ghost use Rattle.dsn_mask.specs.Filter.{PassesFilter, entry_fits, passes_filter};

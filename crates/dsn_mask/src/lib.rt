@@ -3,6 +3,7 @@
 #![tactic(auto)]
 
 mod byte_class;
+mod byte_words;
 mod dsn;
 mod entry;
 mod filter_index;

@@ -1,5 +1,5 @@
 //! The first fault of a text that is to be a mask.
-ghost use Rattle.std.specs.Prelude.{◌≡◌, ◌≤◌, ◌<◌, ◌+◌, ◌&&◌, Some, None, ℕ, true, false, length, MatchOption};
+ghost use Rattle.std.specs.Prelude.{◌≡◌, ◌≤◌, ◌<◌, ◌+◌, ◌&&◌, Some, None, true, false, length, MatchOption};
 ghost use Rattle.dsn_mask.specs.MaskFault.{is_star_at, is_star_before, is_third_star, is_first_of_two, opens_qualifier, closes_qualifier, is_misplaced_pair, is_stray_stop, fault_at, has_no_fault, IsFirstFault};
 
 use crate::MaskErr;

@@ -2,7 +2,7 @@
 ghost use Rattle.std.specs.Prelude.{◌≡◌, ◌∷◌, false, option_copied};
 ghost use Rattle.dsn_mask.specs.Qualifiers.{qualifiers_of, qualifiers_left};
 ghost use Rattle.dsn_mask.specs.MaskTest.{is_two_stars, mask_fits};
-ghost use Rattle.dsn_mask.specs.Fronts.{IsQualifierFront};
+ghost use Rattle.dsn_mask.specs.Inner.Fronts.{IsQualifierFront};
 
 use crate::piece::piece_fits;
 use crate::qualifiers::{Cut, first_qualifier};

@@ -1,5 +1,5 @@
 //! Lists of names.
-ghost use Rattle.std.specs.Prelude.{◌≡◌, ◌≤◌, ◌<◌, ◌↔◌, List, ℕ, [], ◌∷◌, ◌++◌, length, IsTrue, Contains};
+ghost use Rattle.std.specs.Prelude.{◌≡◌, ◌<◌, ◌↔◌, List, ℕ, [], ◌∷◌, ◌++◌, length, IsTrue, Contains};
 ghost use Rattle.desk_common.specs.Limits.{most_groups_set};
 ghost use Rattle.dsn_mask.specs.Names.{AreFewAndOnce};
 
@@ -14,7 +14,7 @@ pub struct Names {
 }
 
 impl Model for Names {
-    ghost use Rattle.std.specs.Prelude.{List, ℕ, length, take, ◌≡◌, ◌≤◌};
+    ghost use Rattle.std.specs.Prelude.{List, ℕ, length, take, ◌≡◌};
     ghost use Rattle.dsn_mask.specs.Names.{AreFewAndOnce, filled};
 
     ghost Value = { List (List ℕ) };
@@ -25,7 +25,7 @@ impl Model for Names {
 
     ghost inverse = { λ xs. record { items = filled xs; count = length xs } };
 
-    ghost use Rattle.dsn_mask.specs.NamesFields.{fields_back};
+    ghost use Rattle.dsn_mask.specs.Inner.NamesFields.{fields_back};
 
     ghost inverse_ok = { λ a h. fields_back a h.0 h.1 };
 }

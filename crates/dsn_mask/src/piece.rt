@@ -1,7 +1,7 @@
 //! One piece of a mask against bytes.
 ghost use Rattle.std.specs.Prelude.{◌≡◌};
 ghost use Rattle.dsn_mask.specs.MaskTest.{piece_fits};
-ghost use Rattle.dsn_mask.specs.Fronts.{IsByteFront};
+ghost use Rattle.dsn_mask.specs.Inner.Fronts.{IsByteFront};
 
 /// What a piece and bytes have at their fronts.
 #[derive(Clone, Copy)]

@@ -1,5 +1,5 @@
 //! Texts as qualifiers between full stops.
-ghost use Rattle.std.specs.Prelude.{◌≡◌, ◌≤◌, ◌<◌, ◌+◌, ◌≢◌, ◌∷◌, [], ℕ, length, slice_index, Some, option_copied, MatchOption};
+ghost use Rattle.std.specs.Prelude.{◌≡◌, ◌≤◌, ◌<◌, ◌+◌, ◌≢◌, ◌∷◌, ℕ, length, slice_index, Some, option_copied, MatchOption};
 ghost use Rattle.std.specs.List.{slice_get};
 ghost use Rattle.dsn_mask.specs.Qualifiers.{qualifiers_of, qualifiers_left};
 

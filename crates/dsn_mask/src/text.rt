@@ -1,6 +1,10 @@
 //! Bytes in an array of a fixed size.
 ghost use Rattle.std.specs.Prelude.{◌≡◌, ◌≤◌, length};
+ghost use Rattle.std.specs.Cmp.Lexicographic.{slice_cmp};
+ghost use Rattle.std.specs.Ordering.{nat_cmp};
 
+use crate::byte_words::order;
+use std::cmp::Ordering;
 use std::marker::Model;
 
 /// At most `N` bytes, and at most 255.
@@ -12,7 +16,7 @@ pub struct Text<const N: usize> {
 
 impl<const N: usize> Model for Text<N> {
     ghost use Rattle.std.specs.Prelude.{List, ℕ, length, take, ◌≡◌, ◌≤◌};
-    ghost use Rattle.dsn_mask.specs.Text.{padded};
+    ghost use Rattle.dsn_mask.specs.Inner.Text.{padded};
 
     ghost Value = { List ℕ };
 
@@ -22,7 +26,7 @@ impl<const N: usize> Model for Text<N> {
 
     ghost inverse = { λ xs. record { buffer = padded N xs; count = length xs } };
 
-    ghost use Rattle.dsn_mask.specs.TextFields.{fields_back};
+    ghost use Rattle.dsn_mask.specs.Inner.TextFields.{fields_back};
 
     ghost inverse_ok = { λ a h. fields_back N a h.0 h.1 };
 }
@@ -45,5 +49,16 @@ impl<const N: usize> Text<N> {
         ensures { result.now ≡ self.now }
     {
         &self.buffer[..self.count as usize]
+    }
+
+    /// The order of two texts by their bytes.
+    pub fn order(&self, other: &Self) -> Ordering
+        ensures { result ≡ slice_cmp nat_cmp self.now other.now }
+    {
+        let found = order(&self.buffer, &other.buffer);
+        if found.is_ne() {
+            return found;
+        }
+        self.count.cmp(&other.count)
     }
 }

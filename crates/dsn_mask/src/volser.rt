@@ -78,7 +78,7 @@ impl Ord for Volser {
     ghost matches_eq = { Prim.search (comparing, rules) };
 
     fn cmp(&self, other: &Volser) -> Ordering {
-        self.bytes().cmp(other.bytes())
+        self.text.order(&other.text)
     }
 }
 

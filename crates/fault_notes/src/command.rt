@@ -4,12 +4,10 @@ use crate::keys::front_of;
 use crate::misfit::Misfit;
 use crate::operand_values::value_wanted;
 use crate::slot::{Slot, is_op, is_request_number};
+use desk_common::MAX_LINE;
 use dsn_mask::Name;
 use sms_script::{is_key, read_op};
 use std::alloc::{AllocError, Global};
-
-/// The longest command line, in bytes.
-const MAX_LINE: usize = 4096;
 
 const JOB: &str =
     "SYNC alone, or the name of a job: 1 to 8 letters, digits, #, @ and $, the first no digit, and then a space (a tab is none)";

@@ -1,6 +1,6 @@
 //! Places of a text as a person counts them.
 ghost use Rattle.std.specs.Prelude.{◌≡◌, ◌≤◌, ◌+◌, count_by, length, take};
-ghost use Rattle.fault_notes.specs.Places.{column_behind, is_line_feed, line_behind};
+ghost use Rattle.fault_notes.specs.Inner.Places.{column_behind, is_line_feed, line_behind};
 
 /// A place of a text: its line and its column, both from 1, and the bytes of its line.
 #[derive(Clone, Copy)]

@@ -5,7 +5,7 @@ use Rattle.json.specs.Print.{escape, escape_byte}
 use Rattle.sms_construct.specs.declared.entry.Answer.{Answer}
 use Rattle.sms_script.specs.AnswerText.{answer_lines}
 use Rattle.http_answer.specs.AnswerBody.{answer_body, code_of}
-use Rattle.http_answer.specs.Lines.{code_text, lines_text}
+use Rattle.http_answer.specs.Inner.Lines.{code_text, lines_text}
 
 -- what stands before the lines, and the rest
 pub body-parts : (answer : Answer) → code_text (code_of answer) answer.first ++ lines_text (answer_lines answer) answer.place ≡ answer_body answer

@@ -12,7 +12,8 @@ use Rattle.keeper_statements.specs.declared.present.Present.{Present}
 abbrev pub has_table : List Table → List ℕ → Bool
 has_table tables name = list_any (λ t. same_name t.name name) tables
 
--- something other than a table has this name: a view, an index, or a table that is set aside for a trigger or an index on it
+-- something other than a table has this name: a view, an index, or a table that is set aside for a trigger or an index
+-- on it
 abbrev pub is_hidden : Schema → List ℕ → Bool
 is_hidden schema name = is_used schema name && not (has_table schema.tables name)
 

@@ -11,8 +11,8 @@ use Rattle.sqlite_schema.specs.declared.schema.Column.{Column}
 abbrev pub strict_column : List ℕ → Kind → Column
 strict_column name kind = record { name = name; kind = kind; is_strict = true; not_null = true; default = Null; collation = Binary }
 
--- a strict table: its name, its tree, its columns, the column that is the row's number, the places of its key, and of each index with
--- the order of its entries
+-- a strict table: its name, its tree, its columns, the column that is the row's number, the places of its key, and of
+-- each index with the order of its entries
 abbrev pub strict_table : List ℕ → ℕ → List Column → Option ℕ → List ℕ → List (List ℕ) → Table
 strict_table name tree columns key primary uniques = record {
   name = name;

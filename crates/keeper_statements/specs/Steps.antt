@@ -12,7 +12,8 @@ use Rattle.keeper_statements.specs.Schema.{sets_table, replies_table, decks_tabl
 use Rattle.keeper_statements.specs.Tables.{Tables, IsReady, tables_in}
 use Rattle.keeper_statements.specs.declared.present.Present.{Present}
 
--- the schema stayed, and the rows of each table that is none of the five; and the trees still list the schema and obey it
+-- the schema stayed, and the rows of each table that is none of the five; and the trees still list the schema and obey
+-- it
 pub record LeavesRest (old new : Database) : Type 0 where
   pub schema : new.schema ≡ old.schema
   pub others : AllByRecursion (λ t. is_desk_name t.name ≡ false → new.trees t.tree ≡ old.trees t.tree) old.schema.tables
@@ -38,7 +39,8 @@ pub record StaysInside {X : Type 0} (old new : State) (result : Result X Error) 
 abbrev pub MayStay : {X : Type 0} → State → State → Result X Error → Type 0
 MayStay old new result = HasCleanDisk new → IsTrue old.in_transaction → StaysInside old new result
 
--- a table was made behind those that were there, without rows; these stay with their rows, and the trees list the schema
+-- a table was made behind those that were there, without rows; these stay with their rows, and the trees list the
+-- schema
 pub record HasMadeTable (table : Table) (old new : Database) : Type 0 where
   pub schema : new.schema ≡ created old.schema table
   pub low : next_tree old.schema < 65536
@@ -74,7 +76,8 @@ pub record HasMadeLast (there : Present) (old new : Database) : Type 0 where
   pub statuses : Provides there.statuses statuses_table old one
   pub floors : Provides there.floors floors_table one new
 
--- each of the five tables that isn't there was made, without rows, behind those that were there, which stay with their rows
+-- each of the five tables that isn't there was made, without rows, behind those that were there, which stay with their
+-- rows
 pub record HasMade (there : Present) (old new : Database) : Type 0 where
   pub mid : Database
   pub first : HasMadeFirst there old mid

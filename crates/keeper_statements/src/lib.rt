@@ -1,4 +1,5 @@
-//! The texts of the desk's database, a function for each, with what it does to the rows of the five tables or reads of them.
+//! The texts of the desk's database, a function for each, with what it does to the rows of the five tables or reads of
+//! them.
 #![tactic(auto)]
 
 mod decks;

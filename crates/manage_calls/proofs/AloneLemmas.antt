@@ -10,7 +10,7 @@ use Rattle.sms_script.specs.declared.command.Command.{Command}
 use Rattle.sms_script.specs.declared.command.Command.TheVariants.{Activate, Sync, Whole}
 use Rattle.sms_script.specs.declared.item.Item.{Item}
 use Rattle.sms_script.specs.declared.script_err.ScriptErr.{ScriptErr}
-use Rattle.manage_calls.specs.LineAlone.{kind_told}
+use Rattle.manage_calls.specs.Inner.LineAlone.{kind_told}
 use Rattle.manage_calls.specs.declared.line_kind.LineKind.{LineKind}
 use Rattle.manage_calls.specs.Reserved.{is_reserved, kind_of, kind_of_command}
 

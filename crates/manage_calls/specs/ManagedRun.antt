@@ -22,7 +22,8 @@ pub record WasAnsweredAlone (phases : List (List Item)) (answers : List Answer) 
   pub in_order : AnswersInOrder (items_of phases) answers [] history
   pub lawful : IsLawfulHistory empty_opening history
 
--- the items were answered over a keeper, which was one thing before and is another after all, and then the acts of the day were done
+-- the items were answered over a keeper, which was one thing before and is another after all, and then the acts of the
+-- day were done
 pub record WasRunAndManaged (day : ℕ) (before after : Keeping) (phases : List (List Item)) (answers : List Answer) (history : List Entry) (acts : List Act) : Type 0 where
   pub run : WasAnsweredAlone phases answers history
   -- the history with the acts at its end
@@ -32,7 +33,8 @@ pub record WasRunAndManaged (day : ℕ) (before after : Keeping) (phases : List 
   -- faults and tables are those of the whole history
   pub recorded : IsRecorded empty_opening before after whole
 
--- the text is that of the answers to the script in these bytes, with the number of entries before the acts, and behind it that of the acts
+-- the text is that of the answers to the script in these bytes, with the number of entries before the acts, and behind
+-- it that of the acts
 pub record IsAnsweredAndManaged (day : ℕ) (before after : Keeping) (bytes text : List ℕ) : Type 0 where
   pub phases : List (List Item)
   pub answers : List Answer

@@ -1,14 +1,13 @@
 //! The top call of the desk with a day of space management behind the run.
 ghost use Rattle.std.specs.Prelude.{◌≡◌, ◌↔◌, ℕ, None, Some, true, map, string_bytes, IfSome};
-ghost use Rattle.sms_base.specs.Observed.{Observed};
 ghost use Rattle.sms_keeper.specs.Tables.{AreSame, no_rows};
 ghost use Rattle.desk_words.specs.Managing.{managed_day_in};
-ghost use Rattle.desk_calls.specs.Headline.{Keeping};
 ghost use Rattle.desk_calls.specs.RunFault.{leaves_keeper, leaves_sink};
 ghost use Rattle.manage_calls.specs.ManageEnds.{ManageEnds};
 
 use crate::managing::manage_text;
-use desk_calls::{MAX_SCRIPT, RunStatus};
+use desk_calls::RunStatus;
+use desk_common::MAX_INPUT;
 use desk_words::managed_day;
 use sms_base::{ReadEnd, Sink, Source, read_all, write_all};
 use sms_keeper::Keeper;
@@ -60,7 +59,7 @@ fn manage_source<S: Source, K: Sink, P: Keeper>(
         (record { told = P.told keeper; count = P.count keeper }) (record { told = P.told result.1; count = P.count result.1 })
         result.0 }
 {
-    let bytes = match read_all(alloc, src, MAX_SCRIPT) {
+    let bytes = match read_all(alloc, src, MAX_INPUT) {
         Ok(bytes) => bytes,
         Err(ReadEnd::Failed) => return (RunStatus::ReadFault, keeper),
         Err(ReadEnd::TooLong) => return (RunStatus::TooLong, keeper),

@@ -1,13 +1,12 @@
 // From the bytes of a script to the text of its answers and of the acts behind them.
-ghost use Rattle.std.specs.Prelude.{◌≡◌, ◌<◌, ◌≤◌, ◌^◌, ◌++◌, List, ℕ, true, length, Ok, IfErr, IfOk, IfSome, OnErr};
-ghost use Rattle.sms_construct.specs.declared.entry.Entry.{Entry};
+ghost use Rattle.std.specs.Prelude.{◌≡◌, ◌<◌, ◌^◌, ◌++◌, List, ℕ, true, length, Ok, IfErr, IfOk, IfSome};
 ghost use Rattle.sms_keeper.specs.Tables.{AreSame, no_rows};
 ghost use Rattle.sms_manage.specs.Managed.{IsAsking, IsUnused, WasManaged};
 ghost use Rattle.sms_manage.specs.ManageText.{managed_text};
 ghost use Rattle.sms_script.specs.AnswerText.{text_of};
 ghost use Rattle.sms_script.specs.Script.{IsRefusal, items_of};
 ghost use Rattle.manage_calls.specs.Reserved.{are_free, managed_script_of};
-ghost use Rattle.manage_calls.specs.ManagedRun.{IsAnsweredAndManaged, IsManageLeft, WasAnsweredAlone, WasManageBegun, WasRunAndManaged};
+ghost use Rattle.manage_calls.specs.ManagedRun.{IsAnsweredAndManaged, IsManageLeft};
 
 use crate::printing::push_managed;
 use crate::reading::read_managed;

@@ -5,16 +5,14 @@ ghost use Rattle.sms_script.specs.Lines.{lines_of};
 ghost use Rattle.sms_script.specs.Script.{IsRefusal};
 ghost use Rattle.sms_script.specs.declared.item.Item.{Item as Asked};
 ghost use Rattle.sms_script.specs.declared.script_err.ScriptErr.{ScriptErr as Fault};
-ghost use Rattle.manage_calls.specs.LineAlone.{has_reserved, kind_told};
+ghost use Rattle.manage_calls.specs.Inner.LineAlone.{has_reserved, kind_told};
 ghost use Rattle.manage_calls.specs.Reserved.{is_reserved, kind_of, purges_manager, reserved_line};
 
 use crate::line_kind::LineKind;
 use sms_construct::{Op, Request};
+use sms_manage::MANAGER;
 use sms_script::{Item, Script, ScriptErr, first_line, is_block_end, read_script};
 use std::alloc::{AllocError, Global};
-
-// The job of space management.
-const MANAGER: &[u8] = b"SMSMGMT";
 
 /// The first line of a script, outside its deck blocks, in which the job of space management asks or is purged.
 pub fn reserved_line(alloc: Global, bytes: &[u8]) -> Result<Option<u32>, AllocError>

@@ -1,5 +1,5 @@
 //! Rows moved between chunks.
-ghost use Rattle.std.specs.Prelude.{◌≡◌, ◌<◌, ◌≤◌, ◌+◌, ◌++◌, [], length, slice_index_or, vec_capacity, Vec};
+ghost use Rattle.std.specs.Prelude.{◌≡◌, ◌<◌, ◌≤◌, ◌+◌, ◌++◌, length, slice_index_or, vec_capacity, Vec};
 ghost use Rattle.std.specs.List.{insert};
 ghost use Rattle.std.specs.declared.alloc.Global.{Global};
 ghost use Rattle.std.specs.BTreeMap.{insert_entry, is_at};
@@ -56,7 +56,8 @@ pub fn put_in_either<K: Ord + Drop, V: Drop>(
     }
 }
 
-/// Puts a value in a full chunk, whose later half goes to a spare one behind it.
+/// Puts a value in a full chunk, whose later half goes to a spare one behind it. Each half is joined with the chunk
+/// beside it where one has room for both, so that keys that come in order fill their chunks.
 pub fn put_in_full<K: Ord + Drop, V: Drop>(
     chunks: &mut Vec<Vec<(K, V)>>,
     spares: &mut Vec<Vec<(K, V)>>,
@@ -73,6 +74,29 @@ pub fn put_in_full<K: Ord + Drop, V: Drop>(
     ensures rows { rows_of chunks.new.items ≡ insert_entry K.cmp (rows_of chunks.old.items) key value }
     ensures value { result ≡ lookup (is_at (K.cmp key)) (rows_of chunks.old.items) }
 {
+    let old = put_parted(chunks, spares, place, key, value);
+    join_halves(chunks, place);
+    old
+}
+
+// Puts a value in a full chunk, whose later half goes to a spare one behind it.
+fn put_parted<K: Ord + Drop, V: Drop>(
+    chunks: &mut Vec<Vec<(K, V)>>,
+    spares: &mut Vec<Vec<(K, V)>>,
+    place: usize,
+    key: K,
+    value: V,
+) -> Option<V>
+    requires is { IsChunkOf K.cmp key chunks.old.items place }
+    requires index { IsIndex K.cmp chunks.old spares.old }
+    requires full { (d : Vec (K × V) Global) → length (slice_index_or chunks.old.items place d).items ≡ chunk_room }
+    requires some { 0 < length spares.old.items }
+    ensures index { IsIndex K.cmp chunks.new spares.new }
+    ensures spares { length spares.old.items ≤ length spares.new.items + 1 }
+    ensures more { length chunks.new.items ≡ length chunks.old.items + 1 }
+    ensures rows { rows_of chunks.new.items ≡ insert_entry K.cmp (rows_of chunks.old.items) key value }
+    ensures value { result ≡ lookup (is_at (K.cmp key)) (rows_of chunks.old.items) }
+{
     let mut front = chunks.remove(place);
     let mut behind = spares.take_last();
     move_half(&mut front, &mut behind);
@@ -80,6 +104,24 @@ pub fn put_in_full<K: Ord + Drop, V: Drop>(
     insert_chunk(chunks, place, behind);
     insert_chunk(chunks, place, front);
     old
+}
+
+// Joins the chunk at the place with the one before it, and the next one with the one behind that, where one chunk has
+// room for both.
+fn join_halves<K: Drop, V: Drop>(chunks: &mut Vec<Vec<(K, V)>>, place: usize)
+    requires inside { place < length chunks.old.items }
+    requires filled { AreFilled chunks.old.items }
+    requires roomy { AreRoomy chunks.old.items }
+    ensures rows { rows_of chunks.new.items ≡ rows_of chunks.old.items }
+    ensures filled { AreFilled chunks.new.items }
+    ensures roomy { AreRoomy chunks.new.items }
+    ensures fewer { length chunks.new.items ≤ length chunks.old.items }
+    ensures capacity { vec_capacity chunks.new ≡ vec_capacity chunks.old }
+{
+    join_under(chunks, place + 1, ROOM);
+    if place > 0 {
+        join_under(chunks, place - 1, ROOM);
+    }
 }
 
 /// Joins the chunk at the place with its neighbours, where they have few rows together.
@@ -92,14 +134,15 @@ pub fn join_around<K: Drop, V: Drop>(chunks: &mut Vec<Vec<(K, V)>>, place: usize
     ensures fewer { length chunks.new.items ≤ length chunks.old.items }
     ensures capacity { vec_capacity chunks.new ≡ vec_capacity chunks.old }
 {
-    join_small(chunks, place);
+    join_under(chunks, place, HALF);
     if place > 0 {
-        join_small(chunks, place - 1);
+        join_under(chunks, place - 1, HALF);
     }
 }
 
-// Joins the chunk at the place with the next one, where they have few rows together.
-fn join_small<K: Drop, V: Drop>(chunks: &mut Vec<Vec<(K, V)>>, place: usize)
+// Joins the chunk at the place with the next one, where they have at most so many rows together.
+fn join_under<K: Drop, V: Drop>(chunks: &mut Vec<Vec<(K, V)>>, place: usize, most: usize)
+    requires most { most ≤ chunk_room }
     requires filled { AreFilled chunks.old.items }
     requires roomy { AreRoomy chunks.old.items }
     ensures rows { rows_of chunks.new.items ≡ rows_of chunks.old.items }
@@ -111,7 +154,7 @@ fn join_small<K: Drop, V: Drop>(chunks: &mut Vec<Vec<(K, V)>>, place: usize)
     if chunks.len() < 2 || place > chunks.len() - 2 {
         return;
     }
-    if chunks[place].len() + chunks[place + 1].len() <= HALF {
+    if chunks[place].len() + chunks[place + 1].len() <= most {
         join_next(chunks, place);
     }
 }
@@ -121,7 +164,7 @@ fn join_next<K: Drop, V: Drop>(chunks: &mut Vec<Vec<(K, V)>>, place: usize)
     requires inside { place + 1 < length chunks.old.items }
     requires filled { AreFilled chunks.old.items }
     requires roomy { AreRoomy chunks.old.items }
-    requires few { (d e : Vec (K × V) Global) → length (slice_index_or chunks.old.items place d).items + length (slice_index_or chunks.old.items (place + 1) e).items ≤ 64 }
+    requires few { (d e : Vec (K × V) Global) → length (slice_index_or chunks.old.items place d).items + length (slice_index_or chunks.old.items (place + 1) e).items ≤ chunk_room }
     ensures rows { rows_of chunks.new.items ≡ rows_of chunks.old.items }
     ensures filled { AreFilled chunks.new.items }
     ensures roomy { AreRoomy chunks.new.items }

@@ -1,5 +1,5 @@
 //! The extents of a volume and who holds them, beside the ledger of the volume.
-ghost use Rattle.std.specs.Prelude.{◌≡◌, ◌≤◌, ◌<◌, ◌+◌, ◌++◌, ◌∷◌, [], ℕ, List, length, map, slice_index_or, IfOk, IfSome};
+ghost use Rattle.std.specs.Prelude.{◌≡◌, ◌<◌, ◌+◌, ℕ, length, map, IfOk};
 ghost use Rattle.track_ledger.specs.Need.{IsNeed};
 
 use dsn_mask::Dsn;

@@ -1,5 +1,5 @@
 //! The tracks of a volume: what is granted, kept and freed.
-ghost use Rattle.std.specs.Prelude.{◌≡◌, IfSome};
+ghost use Rattle.std.specs.Prelude.{IfSome};
 ghost use Rattle.track_ledger.specs.Need.{IsNeed};
 
 use crate::book::Book;

@@ -1,5 +1,5 @@
 //! Three seats of a turn lock on threads.
-ghost use Rattle.std.specs.Prelude.{◌≡◌, IfOk};
+ghost use Rattle.std.specs.Prelude.{IfOk};
 ghost use Rattle.turn_lock.specs.Contract.{AreAll, IsOf};
 ghost use Rattle.part_tests.specs.Signing.{GrewBy};
 

@@ -15,7 +15,7 @@ use Rattle.desk_signing.proofs.SignLemmas.{signed_entries}
 use Rattle.sms_desk.specs.declared.job_seat.JobSeat.{JobSeat}
 use Rattle.sms_desk.specs.Seats.{AreNumberedDown, IsNewJob, StandsJob, job_number, job_numbers, job_seen}
 use Rattle.desk_plan.specs.Sharing.{picked}
-use Rattle.desk_workers.specs.Closed.{HasClosed, Signs}
+use Rattle.desk_workers.specs.Inner.Closed.{HasClosed, Signs}
 use Rattle.desk_workers.proofs.ClosedLemmas.{has-closed}
 use Rattle.http_talk.specs.declared.talk.Talk.{Talk}
 use Rattle.desk_http.specs.Entered.{IsPlaced, entries_of}
@@ -25,7 +25,7 @@ use Rattle.serve_door.specs.declared.visit.Visit.{Visit}
 use Rattle.serve_door.specs.Doors.{DoorMoment}
 use Rattle.serve_door.specs.Visits.{talks_of}
 use Rattle.serve_calls.specs.OneHistory.{IsOneHistory, made_by}
-use Rattle.serve_calls.specs.Workers.{DidShifts, IsShift, Shift}
+use Rattle.serve_calls.specs.Inner.Workers.{DidShifts, IsShift, Shift}
 use Rattle.serve_calls.proofs.ManningLaws.{at-map}
 
 -- the number of a seat and its worker tell each other

@@ -18,7 +18,7 @@ use Rattle.serve_door.proofs.VisitLaws.{Serves-nil}
 use Rattle.desk_http.specs.SeatTalks.{HasSubmitted, SeatView, view_of}
 use Rattle.serve_calls.specs.ServeEnds.{AreServed, ServedDoor}
 use Rattle.serve_calls.specs.declared.worker.Worker.{Worker}
-use Rattle.serve_calls.specs.Workers.{DidShift, DidShifts, HasMost, HasSeat, IsAtSeat, IsShift, Shift, door_of, end_of, seat_of, visits_of}
+use Rattle.serve_calls.specs.Inner.Workers.{DidShift, DidShifts, HasMost, HasSeat, IsAtSeat, IsShift, Shift, door_of, end_of, seat_of, visits_of}
 use Rattle.serve_calls.proofs.ManningLaws.{All-reverse, all-some, map-reverse}
 
 module _ {P : Type 0} {keeper : Ghosts P} where

@@ -2,4 +2,4 @@ pub mod OneHistory
 pub mod ServedText
 pub mod ServeEnds
 pub mod ServeStatuses
-pub mod Workers
+pub mod Inner

@@ -1,5 +1,5 @@
 //! A door that one worker serves.
-ghost use Rattle.std.specs.Prelude.{◌≡◌, ◌≤◌, [], IfOk, OnErr, length, map, vec_capacity, vec_len};
+ghost use Rattle.std.specs.Prelude.{◌≡◌, ◌≤◌, [], IfOk, OnErr, length, map, vec_capacity};
 ghost use Rattle.serve_calls.specs.OneHistory.{IsOneHistory};
 ghost use Rattle.serve_calls.specs.ServeEnds.{AreServed};
 

@@ -1,6 +1,6 @@
 // How workers go to their doors, and come back.
 ghost use Rattle.std.specs.Prelude.{◌≡◌, ◌≤◌, [], Some, All, map, reverse, vec_capacity, vec_len};
-ghost use Rattle.serve_calls.specs.Workers.{HasMost, IsAtSeat, door_of, end_of, seat_of, visits_of};
+ghost use Rattle.serve_calls.specs.Inner.Workers.{HasMost, IsAtSeat, door_of, end_of, seat_of, visits_of};
 
 use crate::worker::Worker;
 use desk_common::Items;

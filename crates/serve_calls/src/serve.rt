@@ -1,14 +1,12 @@
 //! The top call of the served desk.
-ghost use Rattle.std.specs.Prelude.{◌≡◌, ◌≤◌, ◌↔◌, ◌⊎◌, [], ◌∷◌, ◌++◌, List, None, Some, true, false, length, map, string_bytes, vec_capacity, IfOk, IfSome, OnErr};
-ghost use Rattle.sms_base.specs.Observed.{Observed};
+ghost use Rattle.std.specs.Prelude.{◌≡◌, ◌≤◌, ◌↔◌, ◌⊎◌, [], ◌∷◌, ◌++◌, List, None, Some, true, false, length, map, string_bytes, IfOk, IfSome, OnErr};
 ghost use Rattle.sms_keeper.specs.Tables.{AreSame, no_rows};
 ghost use Rattle.desk_law.specs.Records.{empty_opening};
 ghost use Rattle.desk_words.specs.Serving.{serving_in};
 ghost use Rattle.desk_words.specs.declared.served.ServeWords.{ServeWords as Asked};
-ghost use Rattle.desk_calls.specs.Headline.{Keeping};
 ghost use Rattle.serve_calls.specs.OneHistory.{IsOneHistory, WasHeard};
 ghost use Rattle.serve_calls.specs.ServedText.{served_text};
-ghost use Rattle.serve_calls.specs.ServeEnds.{AllowsStatus, AreServed, IsServeEnd, IsTold, WereServed, WereUnasked, Writing, leaves_sink};
+ghost use Rattle.serve_calls.specs.ServeEnds.{AllowsStatus, AreServed, IsServeEnd, IsTold, WereServed, WereUnasked, leaves_sink};
 
 use crate::alone::serve_alone;
 use crate::connections::served_text;
@@ -187,7 +185,7 @@ fn new_core<P: Keeper>(alloc: Global, keeper: P) -> Core<P>
     ensures keeper { result.keeper ≡ keeper }
     ensures mark { result.mark ≡ P.count keeper }
 {
-    // Facts for the proof; nothing runs.
+    // Facts for the proof; nothing changes.
     new_is_lawful();
     let core = Core::new(alloc, keeper);
     let _journal = core.journal();
@@ -246,7 +244,7 @@ where
         [] result.1.journal) }
     ensures unasked { OnErr result.0 ((doors.new ≡ doors.old) × (result.1.keeper ≡ keeper)) }
 {
-    // Facts for the proof; nothing runs.
+    // Facts for the proof; nothing changes.
     new_is_lawful();
     let core = new_core(alloc, keeper);
     let (served, core) = serve_core(alloc, rt, most, doors, core, gate);

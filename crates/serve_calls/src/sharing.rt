@@ -1,9 +1,9 @@
 //! Doors that several workers serve.
-ghost use Rattle.std.specs.Prelude.{◌≡◌, ◌≤◌, [], All, IfOk, OnErr, length, map, vec_capacity, vec_len};
+ghost use Rattle.std.specs.Prelude.{◌≡◌, ◌≤◌, [], All, IfOk, OnErr, map, vec_capacity, vec_len};
 ghost use Rattle.sms_desk.specs.Seats.{IsJobOf};
 ghost use Rattle.serve_calls.specs.OneHistory.{IsOneHistory};
 ghost use Rattle.serve_calls.specs.ServeEnds.{AreServed};
-ghost use Rattle.serve_calls.specs.Workers.{DidShifts};
+ghost use Rattle.serve_calls.specs.Inner.Workers.{DidShifts};
 
 use crate::manning::{hand_out, take_back};
 use crate::served_doors::ServedDoors;

@@ -1,7 +1,7 @@
 // What the workers do.
 ghost use Rattle.std.specs.Prelude.{◌≡◌, ◌<◌, ℕ, All, length, slice_index_or};
 ghost use Rattle.serve_calls.specs.declared.worker.Worker.{Worker as WorkerOf};
-ghost use Rattle.serve_calls.specs.Workers.{DidShift, HasSeat};
+ghost use Rattle.serve_calls.specs.Inner.Workers.{DidShift, HasSeat};
 
 use crate::seat_bench::SeatBench;
 use crate::worker::Worker;

@@ -1,5 +1,4 @@
 //! Serving the links of a door.
-ghost use Rattle.std.specs.Prelude.{◌≡◌};
 ghost use Rattle.serve_door.specs.Visits.{IsServedLink, WasServed, talks_of};
 
 use crate::bench::Bench;

@@ -9,8 +9,8 @@ use Rattle.acs_tree.specs.declared.kind.Kind.TheVariants.{DataClas, StorClas, Mg
 use Rattle.acs_tree.specs.declared.values.Values.{Values}
 use Rattle.sms_construct.specs.Configuration.{Configuration, has_construct}
 use Rattle.desk_law.specs.Classification.{Classes, Meanings, Progress, after_class, class_of, class_stop, classes_under, end_with_groups, ends, exit_stop, if_managed, is_null, run, unless_stopped}
-use Rattle.desk_law.specs.declared.stop.Stop.{Stop}
-use Rattle.desk_law.specs.declared.stop.Stop.TheVariants as stops
+use Rattle.sms_construct.specs.declared.stop.Stop.{Stop}
+use Rattle.sms_construct.specs.declared.stop.Stop.TheVariants as stops
 use Rattle.sms_classes.specs.Known.{AreKnown, LeavesOthers, known_class}
 use Rattle.sms_classes.proofs.OnwardLemmas.{groups_part, management_part, storage_part}
 

@@ -7,7 +7,7 @@ use Rattle.sms_construct.specs.Configuration.{Configuration, has_construct}
 use Rattle.acs_tree.specs.declared.kind.Kind.{Kind}
 use Rattle.desk_law.specs.Allocation.{class_if_any}
 use Rattle.desk_law.specs.Classification.{class_stop, is_null}
-use Rattle.desk_law.specs.declared.stop.Stop.TheVariants as stops
+use Rattle.sms_construct.specs.declared.stop.Stop.TheVariants as stops
 use Rattle.sms_classes.specs.Known.{known_class}
 
 -- the order of the two names makes no difference

@@ -11,8 +11,8 @@ use Rattle.acs_tree.specs.declared.values.Values.{Values}
 use Rattle.sms_construct.specs.Configuration.{Configuration}
 use Rattle.sms_construct.specs.declared.alloc.Alloc.{Alloc}
 use Rattle.desk_law.specs.Classification.{Classes, Meanings, Progress, after_class, begin, classes_of, classes_under, if_managed, is_null, meanings_of, run, run_of, unless_stopped}
-use Rattle.desk_law.specs.declared.stop.Stop.{Stop}
-use Rattle.sms_classes.specs.Onward.{after_groups, from_data_class, from_groups, from_management_class, from_storage_class, progress, run_on}
+use Rattle.sms_construct.specs.declared.stop.Stop.{Stop}
+use Rattle.sms_classes.specs.Inner.Onward.{after_groups, from_data_class, from_groups, from_management_class, from_storage_class, progress, run_on}
 
 -- the whole is what is left from its first routine on
 

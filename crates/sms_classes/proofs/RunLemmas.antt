@@ -13,7 +13,7 @@ use Rattle.acs_tree.specs.declared.input.Input.{Input}
 use Rattle.acs_tree.specs.declared.kind.Kind.{Kind}
 use Rattle.acs_tree.specs.declared.values.Values.{Values}
 use Rattle.desk_law.specs.Classification.{run_of}
-use Rattle.sms_classes.specs.Onward.{progress}
+use Rattle.sms_classes.specs.Inner.Onward.{progress}
 
 -- the code stands for the routine that was found
 abbrev pub StandsIn : Option CheckedRoutine → CodeParts → Type 0

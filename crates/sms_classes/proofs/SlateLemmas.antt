@@ -5,7 +5,7 @@ use Rattle.acs_tree.specs.declared.kind.Kind.{Kind}
 use Rattle.acs_tree.specs.declared.line.Line.{Line}
 use Rattle.acs_tree.specs.Slates.{KeepsOtherKinds, SlateLines, count_of, lines_of, same_kind}
 use Rattle.acs_tree.specs.Variables.{rank_of}
-use Rattle.sms_classes.specs.Onward.{NoneFrom}
+use Rattle.sms_classes.specs.Inner.Onward.{NoneFrom}
 
 count_more : (b : Bool) (line : Line) (lines : List Line) (count : ℕ) → count ≡ length lines → (if b then suc count else count) ≡ length (cond b (line ∷ lines) lines)
 count_more true line lines count e = ap suc e

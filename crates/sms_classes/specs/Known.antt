@@ -12,7 +12,8 @@ use Rattle.desk_law.specs.Classification.{Meanings, Progress, class_of, class_st
 abbrev pub known_class : Configuration → Kind → List ℕ → Option (List ℕ)
 known_class config kind class = if is_null class then None else (if has_construct kind class config then Some class else None)
 
--- the data class and the management class are null or ones of the configuration, the storage class is one of it, and there is a storage group
+-- the data class and the management class are null or ones of the configuration, the storage class is one of it, and
+-- there is a storage group
 pub record AreKnown (config : Configuration) (values : Values) : Type 0 where
   pub dataclas : class_stop config DataClas values.dataclas ≡ None
   pub storclas : known_class config StorClas values.storclas ≡ Some values.storclas

@@ -1,2 +1,2 @@
-pub mod Onward
 pub mod Known
+pub mod Inner

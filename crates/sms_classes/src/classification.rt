@@ -8,9 +8,8 @@ use crate::classified::Classified;
 use crate::knowing::classes_are_known;
 use crate::onward::from_data_class;
 use acs_tree::{Slate, Values};
-use desk_law::Stop;
 use dsn_mask::{Name, Names, Short};
-use sms_construct::Alloc;
+use sms_construct::{Alloc, Stop};
 use sms_deck::Config;
 
 /// What the routines of a configuration give the new data set of an ALLOC of this job (docs/rules.md,

@@ -5,7 +5,7 @@ ghost use Rattle.desk_law.specs.Classification.{classes_of};
 ghost use Rattle.sms_classes.specs.Known.{AreKnown};
 
 use crate::leaving::leave_others;
-use desk_law::Stop;
+use sms_construct::Stop;
 use sms_deck::Config;
 
 /// Tells a proof that the classes of a classification that is done are ones that the configuration has.

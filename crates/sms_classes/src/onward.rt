@@ -1,12 +1,12 @@
 // A classification from one of its routines on.
 ghost use Rattle.std.specs.Prelude.{◌≡◌};
 ghost use Rattle.desk_law.specs.Classification.{meanings_of};
-ghost use Rattle.sms_classes.specs.Onward.{NoneFrom, classes, from_data_class, from_groups, from_management_class, from_storage_class};
+ghost use Rattle.sms_classes.specs.Inner.Onward.{NoneFrom, classes, from_data_class, from_groups, from_management_class, from_storage_class};
 
 use crate::routine::{run_class, run_routine};
 use crate::stops::{exit_stop, groups_stop, is_null};
 use acs_tree::{Kind, Seen, Slate, Values};
-use desk_law::Stop;
+use sms_construct::Stop;
 use sms_deck::Config;
 
 /// Runs all routines, and tells how it ends.

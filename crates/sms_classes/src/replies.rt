@@ -3,8 +3,7 @@ ghost use Rattle.std.specs.Prelude.{◌≡◌, MatchResult};
 ghost use Rattle.desk_law.specs.Classification.{Classes, answer_of, trace_of};
 
 use desk_common::Shared;
-use desk_law::Stop;
-use sms_construct::{Reply, Trace};
+use sms_construct::{Reply, Stop, Trace};
 
 /// The reply where a classification stops, with what the routines wrote; where it is done, that is handed back
 /// (docs/rules.md, "Classification").

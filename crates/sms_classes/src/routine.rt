@@ -3,13 +3,13 @@ ghost use Rattle.std.specs.Prelude.{◌≡◌, suc};
 ghost use Rattle.std.specs.Option.{option_or};
 ghost use Rattle.acs_tree.specs.Variables.{rank_of};
 ghost use Rattle.desk_law.specs.Classification.{class_of, class_stop, exit_stop, meanings_of};
-ghost use Rattle.sms_classes.specs.Onward.{NoneFrom, progress, run_on};
+ghost use Rattle.sms_classes.specs.Inner.Onward.{NoneFrom, progress, run_on};
 
 use crate::stops::{class_stop, exit_stop};
 use acs_run::run;
 use acs_tree::{Ending, Kind, Seen, Slate, Values};
-use desk_law::Stop;
 use dsn_mask::Short;
+use sms_construct::Stop;
 use sms_deck::Config;
 
 /// Runs the routine of that kind, where there is one.
@@ -24,7 +24,7 @@ pub fn run_routine(
     ensures runs { progress values.new slate.new result ≡ run_on (meanings_of config.now) input.now kind values.old slate.old }
     ensures later_kinds { NoneFrom (suc (rank_of kind)) slate.new }
 {
-    // Facts for the proof; nothing runs.
+    // Facts for the proof; nothing changes.
     let _deck = config.deck();
     match config.code(kind) {
         None => Ending::Falls,

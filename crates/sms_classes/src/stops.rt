@@ -1,11 +1,11 @@
 // What stops a classification.
 ghost use Rattle.std.specs.Prelude.{◌≡◌};
 ghost use Rattle.desk_law.specs.Classification.{class_stop, exit_stop, is_null};
-ghost use Rattle.sms_classes.specs.Onward.{groups_stop};
+ghost use Rattle.sms_classes.specs.Inner.Onward.{groups_stop};
 
 use acs_tree::{Ending, Kind};
-use desk_law::Stop;
 use dsn_mask::{Names, Short};
+use sms_construct::Stop;
 use sms_deck::Config;
 
 /// The stop where a routine ended with another code than 0.

@@ -27,7 +27,7 @@ use Rattle.desk_records.proofs.TiedLemmas.{tied-lawful, tied-reserved, tied-same
 use Rattle.desk_state.specs.declared.running.Running.{Running}
 use Rattle.desk_state.specs.Standing.{IsRunning, IsSomeState}
 use Rattle.sms_core.specs.Core.{Enters, HasTables, needs_no_commit}
-use Rattle.sms_core.specs.Standing.{HasEntered, IsCore, IsHeld, SameRunning}
+use Rattle.sms_core.specs.Inner.Standing.{HasEntered, IsCore, IsHeld, SameRunning}
 
 -- Counts.
 

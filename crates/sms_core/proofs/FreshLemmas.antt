@@ -19,7 +19,7 @@ use Rattle.desk_state.specs.declared.deed.Deed.{Deed}
 use Rattle.desk_state.specs.declared.running.Running.{Running}
 use Rattle.desk_state.specs.Deeds.{config_of, effect_of}
 use Rattle.desk_state.specs.Standing.{IsRunning}
-use Rattle.sms_core.specs.Standing.{HasEntered}
+use Rattle.sms_core.specs.Inner.Standing.{HasEntered}
 
 -- the change was made, and what was decided is done
 pub made-entered : (o : Opening) (h : List Entry) (s : DeskState) (log log' : LogView) (told told' : Option Rows) (mark old new place : ℕ) (request committed entered : Request) (reply answered : Reply)

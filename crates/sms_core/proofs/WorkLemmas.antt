@@ -14,7 +14,7 @@ use Rattle.desk_state.specs.declared.running.Running.{Running}
 use Rattle.desk_state.specs.declared.work.Work.{Work}
 use Rattle.desk_state.specs.declared.work.Work.TheVariants.{Classes, Deck, Nothing}
 use Rattle.desk_state.specs.Working.{IsClassified, IsWork, IsWorkNow, WasClassified}
-use Rattle.sms_core.specs.Standing.{IsHeld}
+use Rattle.sms_core.specs.Inner.Standing.{IsHeld}
 
 -- what is active is so after as many activations as there were
 pub held-active : (o : Opening) (h : List Entry) (running : Running) (log : LogView) (told : Option Rows) (mark count : ℕ) (config : Configuration)

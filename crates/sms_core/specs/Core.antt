@@ -32,11 +32,13 @@ pub record IsNext (o : Opening) (before : List Entry) (e : Entry) : Type 0 where
 abbrev pub entry_of : Request → Answer → List Entry
 entry_of request answer = if is_entered answer.reply then record { request = request; answer = answer } ∷ [] else []
 
--- no commit is made for the request: the journal has no place for its op, or its number is below the floor or has a kept reply
+-- no commit is made for the request: the journal has no place for its op, or its number is below the floor or has a
+-- kept reply
 abbrev pub needs_no_commit : Opening → List Entry → Request → Bool
 needs_no_commit o h request = is_full_for h request.op || (nat_lt request.number (floor_of o h request.job) || is_some (kept_for o h request.job request.number))
 
--- the answer's entry, which is lawful there, joins the journal; an answer without an entry has no place, and the tables stay
+-- the answer's entry, which is lawful there, joins the journal; an answer without an entry has no place, and the tables
+-- stay
 pub record Enters (o : Opening) (old new : List Entry) (told told' : Option Rows) (count count' : ℕ) (request : Request) (answer : Answer) : Type 0 where
   pub journal_is : new ≡ old ++ entry_of request answer
   pub lawful : is_entered answer.reply ≡ true → IsNext o old (record { request = request; answer = answer })

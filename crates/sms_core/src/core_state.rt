@@ -47,7 +47,7 @@ impl<P: Keeper> Model for Core<P> {
     ghost use Rattle.acs_tree.specs.contracts.routine.Form as form;
     ghost use Rattle.std.specs.Coded.{codes};
     ghost use Rattle.sms_core.specs.Core.{CoreView};
-    ghost use Rattle.sms_core.specs.Standing.{IsCore};
+    ghost use Rattle.sms_core.specs.Inner.Standing.{IsCore};
 
     ghost Value = { CoreView P };
 
@@ -152,7 +152,7 @@ impl<P: Keeper> Core<P> {
         if take_room(&mut self.journal, &mut self.records).is_err() {
             return without_entry(Reply::Memory);
         }
-        // Facts for the proof; nothing runs.
+        // Facts for the proof; nothing changes.
         request_is_sound(request);
         let place = self.base + self.journal.len() as u64 + 1;
         let made = prepare(

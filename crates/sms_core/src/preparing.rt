@@ -15,7 +15,7 @@ ghost use Rattle.desk_state.specs.Deeds.{Fits, IsPossible, config_of, effect_of}
 ghost use Rattle.desk_state.specs.Answering.{IsOldFloor};
 ghost use Rattle.desk_state.specs.Standing.{IsRunning, IsSomeState};
 ghost use Rattle.desk_state.specs.Working.{IsWorkNow};
-ghost use Rattle.sms_core.specs.Standing.{HasEntered, SameRunning};
+ghost use Rattle.sms_core.specs.Inner.Standing.{HasEntered, SameRunning};
 
 use acs_tree::Slate;
 use desk_records::{Records, recall};

@@ -19,7 +19,7 @@ use Rattle.acs_tree.specs.declared.kind.Kind.{Kind}
 use Rattle.acs_tree.specs.declared.check_err.CheckErr.{CheckErr}
 use Rattle.acs_tree.specs.declared.routine.Routine.{Routine}
 use Rattle.acs_tree.specs.CheckedRoutine.{CheckedRoutine}
-use Rattle.acs_check.specs.Walk.{first_fault_of}
+use Rattle.acs_check.specs.Inner.Walk.{first_fault_of}
 use Rattle.acs_check.proofs.FirstLemmas.{found, none_found}
 use Rattle.acs_translate.specs.declared.fault.Stage.TheVariants.{Scanner, Parser}
 use Rattle.acs_translate.specs.declared.fault.RoutineFault.{RoutineFault}

@@ -1,4 +1,5 @@
--- The constructs that a deck's tables define. What a table with no fault can't hold is passed over, or read as the default.
+-- The constructs that a deck's tables define. What a table with no fault can't hold is passed over, or read as the
+-- default.
 use Rattle.std.specs.Prelude.{ℕ, ◌*◌, List, [], ◌∷◌, ◌++◌, false, Option, None, Some, codes}
 use Rattle.std.specs.Option.{option_and_then, unwrap_or}
 use Rattle.toml.specs.Data.{Data, Members, no_members, member, get_member, as_bool, as_table}

@@ -45,7 +45,8 @@ assigned_faults top routines = first_of (
     assigned_fault DataClas top routines.dataclas ∷ assigned_fault StorClas top routines.storclas
     ∷ assigned_fault MgmtClas top routines.mgmtclas ∷ assigned_fault StorGrp top routines.storgrp ∷ [])
 
--- the first fault of a deck's tables: of their keys and names, of the number of volumes, of a volume in two storage groups
+-- the first fault of a deck's tables: of their keys and names, of the number of volumes, of a volume in two storage
+-- groups
 abbrev pub form_fault : Members → Option Fault
 form_fault top = first_of (tables_fault top ∷ total_fault top ∷ twice_fault top ∷ [])
 

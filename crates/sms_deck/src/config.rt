@@ -37,7 +37,7 @@ pub struct Config {
 
 impl Model for Config {
     ghost use Rattle.acs_tree.specs.contracts.routine.Form as form;
-    ghost use Rattle.sms_construct.specs.Configuration.{Configuration, IsConfiguration, Routines};
+    ghost use Rattle.sms_construct.specs.Configuration.{Configuration, IsConfiguration};
     ghost use Rattle.std.specs.Coded.{codes};
 
     ghost Value = { Configuration };

@@ -1,9 +1,8 @@
 // The constructs that a deck's tables define.
-ghost use Rattle.std.specs.Prelude.{◌≡◌, ◌≤◌, [], IfOk, IfSome, codes};
+ghost use Rattle.std.specs.Prelude.{◌≡◌, ◌≤◌, IfOk, IfSome, codes};
 ghost use Rattle.toml.specs.Data.{as_bool};
 ghost use Rattle.toml.specs.View.{table_view};
 ghost use Rattle.dsn_mask.specs.Name.{name_of};
-ghost use Rattle.sms_deck.specs.Layout.{table_at};
 ghost use Rattle.sms_deck.specs.Limits.{most_cylinders};
 ghost use Rattle.sms_deck.specs.Values.{cylinders_in, devices, eattrs, group_statuses, integer_in, name_in, space_in, volume_statuses, word_in, yes_or_no};
 ghost use Rattle.sms_deck.specs.Tables.{high_of};

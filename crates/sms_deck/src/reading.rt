@@ -1,12 +1,10 @@
 //! From the bytes of a deck to its configuration.
-ghost use Rattle.std.specs.Prelude.{◌≡◌, ◌≤◌, None, Some, IfErr, IfOk, length};
+ghost use Rattle.std.specs.Prelude.{◌≡◌, None, Some, IfErr, IfOk};
 ghost use Rattle.toml.specs.Data.{no_members};
 ghost use Rattle.toml.specs.View.{table_view};
 ghost use Rattle.desk_common.specs.Exact.{IsExact, MayRefuse};
 ghost use Rattle.sms_construct.specs.Configuration.{IsConfiguration};
-ghost use Rattle.sms_deck.specs.Limits.{most_deck_bytes};
-ghost use Rattle.sms_deck.specs.Layout.{table_at};
-ghost use Rattle.sms_deck.specs.Places.{groups_in, places_of};
+ghost use Rattle.sms_deck.specs.Places.{places_of};
 ghost use Rattle.sms_deck.specs.Reading.{Configures, IsRead, MeansTable, TellsFirstFault, TellsForm, TellsTable, configuration_of, form_fault};
 
 use crate::compiled::Compiled;

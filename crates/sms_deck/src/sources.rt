@@ -2,7 +2,7 @@
 ghost use Rattle.std.specs.Prelude.{◌≡◌, IfErr, IfOk, codes, option_map};
 ghost use Rattle.toml.specs.Data.{no_members};
 ghost use Rattle.toml.specs.View.{table_view};
-ghost use Rattle.sms_deck.specs.Layout.{fault_told, table_at};
+ghost use Rattle.sms_deck.specs.Layout.{fault_told};
 ghost use Rattle.sms_deck.specs.Outcomes.{AreOutcomes, IsOutcomeOf, TellsSource, assigned_fault, outcome_from, outcomes_from, source_of, stage_of, text_fault_of, told_as};
 ghost use Rattle.sms_deck.specs.Reading.{TellsSources, assigned_faults};
 

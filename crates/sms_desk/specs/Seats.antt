@@ -126,7 +126,8 @@ module _ {P : Type 0} {keeper : Ghosts P} where
     pub held : new.held ≡ old.held
     pub answers : new.answers ≡ old.answers
 
-  -- the classes of the request under the configuration that the seat holds, with what was written on its slate; none where it holds none
+  -- the classes of the request under the configuration that the seat holds, with what was written on its slate; none
+  -- where it holds none
   abbrev pub IsClassifiedAt : JobSeat P keeper → Request → Option Classified → Type 0
   IsClassifiedAt j request result = MatchOption result (j.held ≡ None) (λ made. IsSome j.held
       × ((alloc : Alloc) → request.op ≡ ops.Alloc alloc → WasClassified (opening_in (job_seen j)) (entries_in (job_seen j)) (held_count j.held) request.job alloc made j.slate))

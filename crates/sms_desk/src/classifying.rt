@@ -1,5 +1,5 @@
 //! Classification before the turn.
-ghost use Rattle.std.specs.Prelude.{◌≡◌, ℕ, List};
+ghost use Rattle.std.specs.Prelude.{List};
 ghost use Rattle.sms_construct.specs.declared.entry.Entry.{Entry as Entered};
 ghost use Rattle.desk_law.specs.State.{Opening};
 ghost use Rattle.desk_law.specs.History.{WasActive};

@@ -38,7 +38,7 @@ pub fn refresh<P: Keeper>(core: &Core<P>, held: &mut Option<Held>) -> Result<(),
     ensures current { OnOk result (IsHolding core.now.opening core.now.journal held.old → IsCurrent core.now.opening core.now.journal held.new) }
     ensures same { OnErr result (held.new ≡ held.old) }
 {
-    // A fact for the proof; nothing runs.
+    // A fact for the proof; nothing changes.
     let _journal = core.journal();
     match core.active() {
         Some((count, config)) => {
@@ -67,7 +67,7 @@ pub fn renew<P: Keeper>(core: &Core<P>, held: &mut Option<Held>, own: Option<Sha
     ensures current { (old : List Entered) (request : Asked) (answer : Answered) → GoesOn core.now.opening old core.now.journal request answer → IsOwn request own
         → IsCurrent core.now.opening old held.old → IsCurrent core.now.opening core.now.journal held.new }
 {
-    // A fact for the proof; nothing runs.
+    // A fact for the proof; nothing changes.
     let _journal = core.journal();
     match core.active() {
         Some((count, _)) => *held = renewed(count, own, held.take()),

@@ -1,5 +1,5 @@
 // How seats go to workers.
-ghost use Rattle.std.specs.Prelude.{◌≡◌, ◌<◌, ◌≤◌, ℕ, List, [], All, length, vec_capacity, vec_len};
+ghost use Rattle.std.specs.Prelude.{◌≡◌, ◌<◌, ◌≤◌, List, [], All, length, vec_capacity, vec_len};
 ghost use Rattle.atomic_table.specs.Seated.{TableId};
 ghost use Rattle.turn_lock.specs.Contract.{AreNumbered, IsNew};
 ghost use Rattle.turn_lock.specs.declared.signed.Signed.{Signed as SignedEntry};

@@ -11,7 +11,7 @@ use Rattle.desk_law.specs.Kept.{is_entered}
 use Rattle.sms_core.specs.Core.{entry_of}
 use Rattle.sms_manage.specs.declared.act.Act.{Act}
 use Rattle.sms_manage.specs.Managed.{IsAsking, manager}
-use Rattle.sms_manage.specs.Walk.{Asks}
+use Rattle.sms_manage.specs.Inner.Walk.{Asks}
 
 -- no entry was added
 pub asking-none : (h : List Entry) → IsAsking h h

@@ -16,7 +16,7 @@ use Rattle.sms_manage.specs.declared.wanted.Due.{Due}
 use Rattle.sms_manage.specs.declared.wanted.Due.TheVariants.{Nothing, Delete, Release}
 use Rattle.sms_manage.specs.Due.{due_of, is_due, is_due_if}
 use Rattle.sms_manage.specs.Managed.{AreAnswersBehind, IsAnswerBehind, IsManaged, IsUnused, are_counted, entries_of, entry_for, op_for, op_if, is_hindered}
-use Rattle.sms_manage.specs.Walk.{Asks, IsDueNext, IsNextDue}
+use Rattle.sms_manage.specs.Inner.Walk.{Asks, IsDueNext, IsNextDue}
 use Rattle.sms_manage.proofs.ActLemmas.{HasActed, IsUnusedFrom, step-acted, unused-all}
 use Rattle.sms_manage.proofs.DayLemmas.{AllBefore, R, all-push, any-push, ascending-push, before-apart, before-behind, before-push, behind-apart, counted-push, entries-push, further, names-push, other-stays, same-name, settled-act, which-at}
 

@@ -1,4 +1,4 @@
 pub mod Due
 pub mod Managed
 pub mod ManageText
-pub mod Walk
+pub mod Inner

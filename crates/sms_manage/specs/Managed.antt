@@ -67,7 +67,8 @@ is_hindered replies.JournalFull = true
 is_hindered replies.Memory = true
 is_hindered reply = false
 
--- the answer is one of a step behind these entries: without an entry it has no place, and the journal is full exactly where it has none for the op
+-- the answer is one of a step behind these entries: without an entry it has no place, and the journal is full exactly
+-- where it has none for the op
 pub record IsAnswerBehind (h : List Entry) (op : Op) (answer : Answer) : Type 0 where
   pub unplaced : is_entered answer.reply ≡ false → (answer.place ≡ 0) × (answer.first ≡ 0)
   pub full : answer.reply ≡ replies.JournalFull ↔ is_full_for h op ≡ true

@@ -1,9 +1,9 @@
 //! A day of space management.
-ghost use Rattle.std.specs.Prelude.{◌≡◌, ◌+◌, IfOk, IfSome, OnErr, OnOk, Some, length};
+ghost use Rattle.std.specs.Prelude.{◌≡◌, ◌+◌, IfOk, IfSome, OnErr, OnOk, Some};
 ghost use Rattle.desk_law.specs.State.{DeskState};
 ghost use Rattle.desk_law.specs.History.{Reaches};
 ghost use Rattle.sms_manage.specs.Managed.{IsAsking, IsManaged, IsUnused, WasManaged, op_for};
-ghost use Rattle.sms_manage.specs.Walk.{Asks, IsNextDue};
+ghost use Rattle.sms_manage.specs.Inner.Walk.{Asks, IsNextDue};
 
 use crate::act::{Act, Acts};
 use crate::expiry::due;
@@ -20,8 +20,8 @@ use std::alloc::{AllocError, Global};
 // A catalog has fewer data sets than this.
 const MOST_SETS: u64 = 4_294_967_296;
 
-// The job that asks for what is due.
-const MANAGER: &[u8] = b"SMSMGMT";
+/// The job that asks for what is due.
+pub const MANAGER: &[u8] = b"SMSMGMT";
 
 /// Asks for all that is due on a day, one request for each data set, in byte order of their names, numbered from 1 on
 /// (docs/rules.md, "Space management"). Each is answered whatever the earlier ones were. Where memory is wanting, some

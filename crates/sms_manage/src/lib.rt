@@ -7,6 +7,6 @@ mod expiry;
 mod wanted;
 
 pub use act::{Act, Acts};
-pub use day::run_day;
+pub use day::{MANAGER, run_day};
 pub use expiry::due;
 pub use wanted::Due;

@@ -8,8 +8,8 @@ use Rattle.std.specs.Prelude.{bytes_eq, not, slice_get, unwrap_or}
 use Rattle.std.specs.Ordering.{is_eq}
 use Rattle.std.proofs.lemmas.Cmp.{tied_itself}
 use Rattle.ordered_index.proofs.LookupLemmas.{eq-sym, lookup-by}
-use Rattle.sms_open.specs.Keys.{AreApart, AreAsOften, times_found, times_key}
-use Rattle.sms_open.specs.Targets.{number_on}
+use Rattle.sms_open.specs.Inner.Keys.{AreApart, AreAsOften, times_found, times_key}
+use Rattle.sms_open.specs.Inner.Targets.{number_on}
 use Rattle.sms_open.specs.Verdicts.{Tells}
 use Rattle.sms_open.proofs.EachLemmas.{take-end, take-one}
 

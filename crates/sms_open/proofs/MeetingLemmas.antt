@@ -19,7 +19,7 @@ use Rattle.desk_law.specs.Extents.{extents_of, piece_of, pieces_on}
 use Rattle.desk_law.proofs.ByteLemmas.{bytes-self, same-bytes}
 use Rattle.desk_law.proofs.CountLemmas.{once_of, sum-cons, times-is}
 use Rattle.desk_law.proofs.SetLemmas.{each-append}
-use Rattle.sms_open.specs.Meeting.{AreChained, Follows, HasTracks, place_cmp}
+use Rattle.sms_open.specs.Inner.Meeting.{AreChained, Follows, HasTracks, place_cmp}
 use Rattle.sms_open.proofs.EachLemmas.{take-one}
 
 -- How often a track is held, counted over extents.

@@ -23,8 +23,8 @@ use Rattle.sms_keeper.specs.Tables.{same_target}
 use Rattle.desk_law.specs.Statuses.{times_status}
 use Rattle.desk_law.specs.Volumes.{times_group, times_volume}
 use Rattle.desk_law.proofs.AscendLemmas.{groups-once, volumes-once}
-use Rattle.sms_open.specs.Keys.{AreApart, AreAsOften, times_key}
-use Rattle.sms_open.specs.Targets.{group_in, key_of_row, volume_in}
+use Rattle.sms_open.specs.Inner.Keys.{AreApart, AreAsOften, times_key}
+use Rattle.sms_open.specs.Inner.Targets.{group_in, key_of_row, volume_in}
 use Rattle.sms_open.specs.Tests.{times_floor, times_kept}
 use Rattle.sms_open.specs.Verdicts.{Tells}
 

@@ -1,4 +1,5 @@
--- The replies and floors that a history keeps: each reply stands above its job's floor, and tells no floor that is too great.
+-- The replies and floors that a history keeps: each reply stands above its job's floor, and tells no floor that is too
+-- great.
 use Rattle.std.proofs.Common.{◌≡◌, ◌≤◌, ℕ, Bool, true, false, List, [], ◌∷◌, ◌++◌, Option, None, Some, filter, find, length, max, refl, sym, ap, subst, arith}
 use Rattle.std.specs.Prelude.{◌==◌, if◌then◌else◌, nat_lt}
 use Rattle.std.specs.List.{AllByRecursion}

@@ -9,8 +9,8 @@ use Rattle.sms_construct.specs.declared.volume.VolumeDef.{VolumeDef}
 use Rattle.track_ledger.specs.Extents.{LiesInside}
 use Rattle.desk_law.specs.Extents.{piece_of, pieces_on}
 use Rattle.desk_law.specs.Lawful.{IsInside, IsLawfulSet, IsWhole, LiesInPart}
-use Rattle.sms_open.specs.Meeting.{HasTracks}
-use Rattle.sms_open.specs.Targets.{AreTracks, number_on}
+use Rattle.sms_open.specs.Inner.Meeting.{HasTracks}
+use Rattle.sms_open.specs.Inner.Targets.{AreTracks, number_on}
 use Rattle.sms_open.specs.Verdicts.{Tells}
 use Rattle.sms_open.proofs.NameLemmas.{told-alike}
 

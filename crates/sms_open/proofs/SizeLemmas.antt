@@ -4,7 +4,7 @@ use Rattle.std.specs.Prelude.{bytes_eq}
 use Rattle.sms_construct.specs.declared.extent.Extent.{Extent}
 use Rattle.desk_law.proofs.ByteLemmas.{bytes-self, same-bytes}
 use Rattle.desk_law.proofs.CountLemmas.{count-append, count-cons, count_on}
-use Rattle.sms_open.specs.Targets.{number_on}
+use Rattle.sms_open.specs.Inner.Targets.{number_on}
 use Rattle.sms_open.proofs.EachLemmas.{take-end, take-one}
 
 count-more : (v : List ℕ) (es : List Extent) (i : ℕ) (e : Extent) → i < length es → e ≡ get_or es i e → count_on v (take (i + 1) es) ≡ count_on v (take i es) + cond (bytes_eq e.volser v) 1 0

@@ -11,7 +11,7 @@ use Rattle.sms_keeper.specs.Tables.{same_target}
 use Rattle.desk_law.specs.Statuses.{may_have, times_status}
 use Rattle.desk_law.specs.Volumes.{times_group, times_target, times_volume}
 use Rattle.desk_law.proofs.ByteLemmas.{bytes-self}
-use Rattle.sms_open.specs.Targets.{is_set}
+use Rattle.sms_open.specs.Inner.Targets.{is_set}
 use Rattle.sms_open.specs.Tests.{AreStatusesOf}
 use Rattle.sms_open.specs.Verdicts.{Tells}
 use Rattle.sms_open.proofs.NameLemmas.{told-alike}

@@ -13,13 +13,15 @@ use Rattle.sms_open.specs.declared.rows_err.RowsErr.{RowsErr}
 use Rattle.sms_open.specs.declared.rows_err.RowsErr.TheVariants.{Unsound, NoMemory}
 use Rattle.sms_open.specs.Verdicts.{IsVerdict}
 
--- the opening is that of rows that pass all tests, under the configuration of their last deck; they are the tables, where these are told
+-- the opening is that of rows that pass all tests, under the configuration of their last deck; they are the tables,
+-- where these are told
 pub record IsOpened (told : Option Rows) (o : Opening) : Type 0 where
   pub tables : IfSome told (λ tables. AreLoaded tables o.rows)
   pub verdict : IsVerdict o.rows (Ok o.config)
   pub opening : o ≡ opening_of o.rows o.config
 
--- there are rows of which the test of this number is the first that they don't pass; they are the tables, where these are told
+-- there are rows of which the test of this number is the first that they don't pass; they are the tables, where these
+-- are told
 pub record IsUnsound (told : Option Rows) (number : ℕ) : Type 0 where
   pub rows : Rows
   pub tables : IfSome told (λ tables. AreLoaded tables rows)

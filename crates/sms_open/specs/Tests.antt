@@ -49,13 +49,15 @@ HasLastFault [] = ⊥
 HasLastFault (deck ∷ []) = (fault : Fault) × HasFirstFault deck.bytes fault
 HasLastFault (deck ∷ next ∷ decks) = HasLastFault (next ∷ decks)
 
--- test 4: there is one status for each storage group and volume of the configuration and none else, and no volume has NOTCON
+-- test 4: there is one status for each storage group and volume of the configuration and none else, and no volume has
+-- NOTCON
 pub record AreStatusesOf (active : Option Configuration) (statuses : List StatusRow) : Type 0 where
   pub each : (target : Target) → times_status target statuses ≡ times_target active target
   pub connected : AllByRecursion (λ row. may_have row.target row.status ≡ true) statuses
 
--- test 5: each data set may stand in the configuration (it has an extent, on each volume at most 16, each not empty, inside
--- its volume and in one part of it, and a secondary quantity in whole units), and no track of a volume is held twice
+-- test 5: each data set may stand in the configuration (it has an extent, on each volume at most 16, each not empty,
+-- inside its volume and in one part of it, and a secondary quantity in whole units), and no track of a volume is held
+-- twice
 pub record ArePlaced (active : Option Configuration) (sets : List DataSet) : Type 0 where
   pub each : AllByRecursion (IsLawfulSet (volumes_in active)) sets
   pub once : (volser : List ℕ) (track : ℕ) → times_held (pieces_on volser (extents_of sets)) track ≤ 1
@@ -64,8 +66,9 @@ pub record ArePlaced (active : Option Configuration) (sets : List DataSet) : Typ
 abbrev pub most_place : ℕ
 most_place = 4611686018427387904
 
--- a reply that a desk may have kept beside these floors: it is one that is kept, for the job and number of its request and at
--- a place from 1 to the greatest, its number isn't below its job's floor, and a floor that it tells isn't above that of the job
+-- a reply that a desk may have kept beside these floors: it is one that is kept, for the job and number of its request
+-- and at a place from 1 to the greatest, its number isn't below its job's floor, and a floor that it tells isn't above
+-- that of the job
 pub record IsSoundReply (floors : List Floor) (row : KeptRow) : Type 0 where
   pub kept : IsKeptRow most_place row
   pub above : greatest_floor row.job floors ≤ row.number

@@ -8,7 +8,8 @@ use Rattle.sms_open.specs.declared.rows_err.RowsErr.{RowsErr}
 use Rattle.sms_open.specs.declared.rows_err.RowsErr.TheVariants.{Unsound, NoMemory}
 use Rattle.sms_open.specs.Tests.{AreCounted, ArePlaced, AreSingle, AreSoundReplies, AreStatusesOf, HasLastFault}
 
--- the rows don't pass the test of this number, and that is the verdict; or they pass it, and the verdict is what comes next
+-- the rows don't pass the test of this number, and that is the verdict; or they pass it, and the verdict is what comes
+-- next
 abbrev pub Tested : ℕ → Type 0 → (Result (Option Configuration) RowsErr → Type 0) → Result (Option Configuration) RowsErr → Type 0
 Tested number passed next verdict = ((passed → ⊥) × (verdict ≡ Err (Unsound number))) ⊎ (passed × next verdict)
 
@@ -25,7 +26,8 @@ IsVerdictUnder rows active =
     (Tested 6 (AreSoundReplies rows.replies rows.floors)
     (λ verdict. verdict ≡ Ok active)))
 
--- the verdict on rows: the number of the first of the six tests that they don't pass, or the configuration of their last deck
+-- the verdict on rows: the number of the first of the six tests that they don't pass, or the configuration of their
+-- last deck
 abbrev pub IsVerdict : Rows → Result (Option Configuration) RowsErr → Type 0
 IsVerdict rows =
     Tested 1 (AreSingle rows)

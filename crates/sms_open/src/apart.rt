@@ -2,7 +2,7 @@
 ghost use Rattle.std.specs.Prelude.{◌≡◌, IfOk};
 ghost use Rattle.std.specs.BTreeMap.{is_at};
 ghost use Rattle.std.specs.Map.{lookup};
-ghost use Rattle.sms_open.specs.Keys.{AreApart, AreAsOften, times_found, times_key};
+ghost use Rattle.sms_open.specs.Inner.Keys.{AreApart, AreAsOften, times_found, times_key};
 ghost use Rattle.sms_open.specs.Verdicts.{Tells};
 
 use ordered_index::OrderedIndex;

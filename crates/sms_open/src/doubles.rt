@@ -2,7 +2,7 @@
 ghost use Rattle.std.specs.Prelude.{◌≡◌, ◌≤◌, ℕ, List, IfOk, map};
 ghost use Rattle.desk_law.specs.KeptRows.{times_placed};
 ghost use Rattle.desk_law.specs.Lawful.{times_named};
-ghost use Rattle.sms_open.specs.Targets.{key_of_row};
+ghost use Rattle.sms_open.specs.Inner.Targets.{key_of_row};
 ghost use Rattle.sms_open.specs.Tests.{AreSingle, times_floor, times_kept};
 ghost use Rattle.sms_open.specs.Verdicts.{Tells};
 

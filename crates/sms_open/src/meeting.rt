@@ -4,7 +4,7 @@ ghost use Rattle.std.specs.List.{AllByRecursion};
 ghost use Rattle.std.specs.List.Sorted.{IsPermutation, IsSorted};
 ghost use Rattle.track_ledger.specs.Gaps.{times_held};
 ghost use Rattle.desk_law.specs.Extents.{extents_of, pieces_on};
-ghost use Rattle.sms_open.specs.Meeting.{AreChained, Follows, HasTracks, place_cmp};
+ghost use Rattle.sms_open.specs.Inner.Meeting.{AreChained, Follows, HasTracks, place_cmp};
 ghost use Rattle.sms_open.specs.Verdicts.{Tells};
 
 use desk_common::Shared;

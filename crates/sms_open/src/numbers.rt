@@ -1,6 +1,6 @@
 //! A number for each volume.
 ghost use Rattle.std.specs.Prelude.{◌≡◌, ℕ, List, OnOk, if◌then◌else◌, bytes_eq};
-ghost use Rattle.sms_open.specs.Targets.{number_on};
+ghost use Rattle.sms_open.specs.Inner.Targets.{number_on};
 
 use dsn_mask::Volser;
 use ordered_index::OrderedIndex;

@@ -1,10 +1,7 @@
 //! A desk that goes on from what its keeper has.
 ghost use Rattle.std.specs.Prelude.{◌≡◌, [], None, IfErr, IfOk, IfSome};
 ghost use Rattle.desk_common.specs.Causes.{Rose};
-ghost use Rattle.desk_records.specs.Tied.{IsSoundOpening};
-ghost use Rattle.desk_restoring.specs.Opened.{opening_of};
 ghost use Rattle.sms_keeper.specs.Loading.{AreLoaded, StaysDamaged};
-ghost use Rattle.sms_keeper.specs.Tables.{AreSame};
 ghost use Rattle.sms_keeper.specs.Told.{Stays};
 ghost use Rattle.sms_open.specs.Own.{AreOwn, SparesTables};
 ghost use Rattle.sms_open.specs.Reopening.{IsOpened, NamesRefusal, refusal_of_load, refusal_of_rows};

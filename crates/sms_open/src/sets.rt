@@ -1,5 +1,5 @@
 //! Test 5: the data sets, each by itself.
-ghost use Rattle.std.specs.Prelude.{◌≡◌, ◌≤◌, ◌<◌, ℕ, List, IfOk, length};
+ghost use Rattle.std.specs.Prelude.{◌≤◌, ◌<◌, ℕ, List, IfOk, length};
 ghost use Rattle.std.specs.List.{AllByRecursion};
 ghost use Rattle.sms_construct.specs.declared.volume.VolumeDef.{VolumeDef as VolumeOf};
 ghost use Rattle.track_ledger.specs.Extents.{LiesInside};
@@ -7,20 +7,16 @@ ghost use Rattle.desk_common.specs.Limits.{most_extents};
 ghost use Rattle.desk_law.specs.Extents.{piece_of, pieces_on};
 ghost use Rattle.desk_law.specs.Lawful.{IsLawfulSet, IsManaged, IsWhole, LiesInPart};
 ghost use Rattle.desk_law.specs.Volumes.{volumes_in};
-ghost use Rattle.sms_open.specs.Targets.{AreTracks, number_on};
+ghost use Rattle.sms_open.specs.Inner.Targets.{AreTracks, number_on};
 ghost use Rattle.sms_open.specs.Tests.{ArePlaced};
 ghost use Rattle.sms_open.specs.Verdicts.{Tells};
 
 use crate::meeting::are_once;
 use crate::numbers::Numbers;
 use desk_common::Shared;
-use sms_construct::{DataSet, Extent, Unit, VolumeDef};
+use sms_construct::{BORDER, DataSet, Extent, TRACKS_IN_MANAGED, Unit, VolumeDef};
 use sms_deck::Config;
 use std::alloc::{AllocError, Global};
-
-const BORDER: u32 = 982_800;
-
-const TRACKS_IN_MANAGED: u32 = 315;
 
 const TRACKS_IN_CYLINDER: u32 = 15;
 

@@ -6,7 +6,7 @@ ghost use Rattle.sms_construct.specs.declared.target.Target.{Target};
 ghost use Rattle.sms_construct.specs.declared.target.Target.TheVariants as targets;
 ghost use Rattle.desk_law.specs.Statuses.{may_have, times_status};
 ghost use Rattle.desk_law.specs.Volumes.{times_group, times_target, times_volume};
-ghost use Rattle.sms_open.specs.Targets.{group_in, is_set, volume_in};
+ghost use Rattle.sms_open.specs.Inner.Targets.{group_in, is_set, volume_in};
 ghost use Rattle.sms_open.specs.Tests.{AreStatusesOf};
 ghost use Rattle.sms_open.specs.Verdicts.{Tells};
 

@@ -1,8 +1,9 @@
 -- How values are written as bytes, one behind the other, and read off the front of bytes (docs/records.md, "The
 -- record form").
-use Rattle.std.specs.Prelude.{◌≡◌, ◌==◌, ℕ, zero, suc, ◌++◌, ◌<◌, List, [], ◌∷◌, length, take, drop, Option, Some, None, nat_lt, nat_le, get_or, slice_get, if◌then◌else◌}
+use Rattle.std.specs.Prelude.{◌≡◌, ◌==◌, ℕ, zero, suc, ◌++◌, ◌<◌, List, [], ◌∷◌, length, take, drop, Option, Some, None, nat_lt, get_or, slice_get, if◌then◌else◌}
 use Rattle.std.specs.List.{flat_map}
 use Rattle.std.specs.Int.{w64, to_be_bytes, from_be_bytes}
+use Rattle.desk_common.specs.Limits.{up_to}
 
 infixl 10 ◌>>=◌
 -- the next step, where there is a value
@@ -67,13 +68,9 @@ seen_at form test bytes = do
 abbrev pub seen : {A B : Type 0} → Form A → (A → Option B) → (B → A) → Form B
 seen form test back = record { write = λ x. form.write (back x); read = seen_at form test }
 
--- a number up to this one
-abbrev pub within_limit : ℕ → ℕ → Option ℕ
-within_limit most n = if nat_le n most then Some n else None
-
 -- the form of a number up to this one
 abbrev pub small : ℕ → Form ℕ
-small most = seen number_form (within_limit most) (λ n. n)
+small most = seen number_form (up_to most) (λ n. n)
 
 -- a number of 32 bits
 abbrev pub number_32_form : Form ℕ

@@ -23,7 +23,7 @@ type Asked = (Given, Choices);
 
 impl Recorded for Alloc {
     ghost use Rattle.sms_records.specs.Allocs.{alloc_form};
-    ghost use Rattle.sms_records.specs.AllocLaws.{alloc_exact};
+    ghost use Rattle.sms_records.specs.Inner.AllocLaws.{alloc_exact};
 
     ghost form = { alloc_form };
 

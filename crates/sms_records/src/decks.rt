@@ -1,5 +1,5 @@
 //! Decks as records: lists of bytes.
-ghost use Rattle.std.specs.Prelude.{◌≡◌, ◌++◌, ◌∷◌, OnOk, length, ◌<◌, ◌^◌};
+ghost use Rattle.std.specs.Prelude.{◌≡◌, ◌++◌, ◌∷◌, OnOk, ◌<◌};
 ghost use Rattle.sms_records.specs.Form.{IsReadable, text_form, text_at};
 ghost use Rattle.sms_records.specs.Reading.{Gives};
 
@@ -11,7 +11,7 @@ use sms_construct::DeckText;
 use std::alloc::{AllocError, Global};
 
 /// The byte of a variant, and a deck.
-#[tactic(auto, using(crate::specs::FormLaws::text_readable, crate::specs::FormLaws::on_ok))]
+#[tactic(auto, using(crate::specs::Inner::FormLaws::text_readable, crate::specs::Inner::FormLaws::on_ok))]
 pub fn write_deck_variant(tag: u8, deck: &DeckText, out: &mut Vec<u8>) -> Result<(), AllocError>
     ensures written { OnOk result (out.new.items ≡ out.old.items ++ tag ∷ text_form.write deck.now) }
     ensures readable { OnOk result (IsReadable text_form deck.now) }

@@ -1,5 +1,4 @@
 //! Enums without fields as records.
-ghost use Rattle.std.specs.Prelude.{◌≡◌};
 
 use crate::numbers::{read_byte, write_byte};
 use crate::record_err::RecordErr;
@@ -10,13 +9,13 @@ use std::alloc::{AllocError, Global};
 
 impl Recorded for Status {
     ghost use Rattle.sms_records.specs.Enums.{status_form};
-    ghost use Rattle.sms_records.specs.EnumLaws.{status_exact};
+    ghost use Rattle.sms_records.specs.Inner.EnumLaws.{status_exact};
 
     ghost form = { status_form };
 
     ghost exact = { status_exact };
 
-    #[tactic(auto, using(crate::specs::EnumLaws::status_readable, crate::specs::FormLaws::on_ok))]
+    #[tactic(auto, using(crate::specs::Inner::EnumLaws::status_readable, crate::specs::Inner::FormLaws::on_ok))]
     fn write_to(&self, out: &mut Vec<u8>) -> Result<(), AllocError> {
         match self {
             Status::Enable => write_byte(0, out),
@@ -28,7 +27,7 @@ impl Recorded for Status {
         }
     }
 
-    #[tactic(auto, using(crate::specs::VariantLaws::past_readers), unfolding(crate::specs::Form::variant_at))]
+    #[tactic(auto, using(crate::specs::Inner::VariantLaws::past_readers), unfolding(crate::specs::Form::variant_at))]
     fn read_from(_alloc: Global, bytes: &[u8]) -> Result<(Self, &[u8]), RecordErr> {
         let (tag, rest) = read_byte(bytes)?;
         match tag {
@@ -45,13 +44,13 @@ impl Recorded for Status {
 
 impl Recorded for Action {
     ghost use Rattle.sms_records.specs.Enums.{action_form};
-    ghost use Rattle.sms_records.specs.EnumLaws.{action_exact};
+    ghost use Rattle.sms_records.specs.Inner.EnumLaws.{action_exact};
 
     ghost form = { action_form };
 
     ghost exact = { action_exact };
 
-    #[tactic(auto, using(crate::specs::EnumLaws::action_readable, crate::specs::FormLaws::on_ok))]
+    #[tactic(auto, using(crate::specs::Inner::EnumLaws::action_readable, crate::specs::Inner::FormLaws::on_ok))]
     fn write_to(&self, out: &mut Vec<u8>) -> Result<(), AllocError> {
         match self {
             Action::Enable => write_byte(0, out),
@@ -62,7 +61,7 @@ impl Recorded for Action {
         }
     }
 
-    #[tactic(auto, using(crate::specs::VariantLaws::past_readers), unfolding(crate::specs::Form::variant_at))]
+    #[tactic(auto, using(crate::specs::Inner::VariantLaws::past_readers), unfolding(crate::specs::Form::variant_at))]
     fn read_from(_alloc: Global, bytes: &[u8]) -> Result<(Self, &[u8]), RecordErr> {
         let (tag, rest) = read_byte(bytes)?;
         match tag {
@@ -78,13 +77,13 @@ impl Recorded for Action {
 
 impl Recorded for Unit {
     ghost use Rattle.sms_records.specs.Enums.{unit_form};
-    ghost use Rattle.sms_records.specs.EnumLaws.{unit_exact};
+    ghost use Rattle.sms_records.specs.Inner.EnumLaws.{unit_exact};
 
     ghost form = { unit_form };
 
     ghost exact = { unit_exact };
 
-    #[tactic(auto, using(crate::specs::EnumLaws::unit_readable, crate::specs::FormLaws::on_ok))]
+    #[tactic(auto, using(crate::specs::Inner::EnumLaws::unit_readable, crate::specs::Inner::FormLaws::on_ok))]
     fn write_to(&self, out: &mut Vec<u8>) -> Result<(), AllocError> {
         match self {
             Unit::Trk => write_byte(0, out),
@@ -92,7 +91,7 @@ impl Recorded for Unit {
         }
     }
 
-    #[tactic(auto, using(crate::specs::VariantLaws::past_readers), unfolding(crate::specs::Form::variant_at))]
+    #[tactic(auto, using(crate::specs::Inner::VariantLaws::past_readers), unfolding(crate::specs::Form::variant_at))]
     fn read_from(_alloc: Global, bytes: &[u8]) -> Result<(Self, &[u8]), RecordErr> {
         let (tag, rest) = read_byte(bytes)?;
         match tag {
@@ -105,13 +104,13 @@ impl Recorded for Unit {
 
 impl Recorded for Eattr {
     ghost use Rattle.sms_records.specs.Enums.{eattr_form};
-    ghost use Rattle.sms_records.specs.EnumLaws.{eattr_exact};
+    ghost use Rattle.sms_records.specs.Inner.EnumLaws.{eattr_exact};
 
     ghost form = { eattr_form };
 
     ghost exact = { eattr_exact };
 
-    #[tactic(auto, using(crate::specs::EnumLaws::eattr_readable, crate::specs::FormLaws::on_ok))]
+    #[tactic(auto, using(crate::specs::Inner::EnumLaws::eattr_readable, crate::specs::Inner::FormLaws::on_ok))]
     fn write_to(&self, out: &mut Vec<u8>) -> Result<(), AllocError> {
         match self {
             Eattr::No => write_byte(0, out),
@@ -119,7 +118,7 @@ impl Recorded for Eattr {
         }
     }
 
-    #[tactic(auto, using(crate::specs::VariantLaws::past_readers), unfolding(crate::specs::Form::variant_at))]
+    #[tactic(auto, using(crate::specs::Inner::VariantLaws::past_readers), unfolding(crate::specs::Form::variant_at))]
     fn read_from(_alloc: Global, bytes: &[u8]) -> Result<(Self, &[u8]), RecordErr> {
         let (tag, rest) = read_byte(bytes)?;
         match tag {
@@ -132,13 +131,13 @@ impl Recorded for Eattr {
 
 impl Recorded for WhyNoExtend {
     ghost use Rattle.sms_records.specs.Enums.{why_no_extend_form};
-    ghost use Rattle.sms_records.specs.EnumLaws.{why_no_extend_exact};
+    ghost use Rattle.sms_records.specs.Inner.EnumLaws.{why_no_extend_exact};
 
     ghost form = { why_no_extend_form };
 
     ghost exact = { why_no_extend_exact };
 
-    #[tactic(auto, using(crate::specs::EnumLaws::why_no_extend_readable, crate::specs::FormLaws::on_ok))]
+    #[tactic(auto, using(crate::specs::Inner::EnumLaws::why_no_extend_readable, crate::specs::Inner::FormLaws::on_ok))]
     fn write_to(&self, out: &mut Vec<u8>) -> Result<(), AllocError> {
         match self {
             WhyNoExtend::Secondary => write_byte(0, out),
@@ -146,7 +145,7 @@ impl Recorded for WhyNoExtend {
         }
     }
 
-    #[tactic(auto, using(crate::specs::VariantLaws::past_readers), unfolding(crate::specs::Form::variant_at))]
+    #[tactic(auto, using(crate::specs::Inner::VariantLaws::past_readers), unfolding(crate::specs::Form::variant_at))]
     fn read_from(_alloc: Global, bytes: &[u8]) -> Result<(Self, &[u8]), RecordErr> {
         let (tag, rest) = read_byte(bytes)?;
         match tag {
@@ -159,13 +158,13 @@ impl Recorded for WhyNoExtend {
 
 impl Recorded for Kind {
     ghost use Rattle.sms_records.specs.Enums.{kind_form};
-    ghost use Rattle.sms_records.specs.EnumLaws.{kind_exact};
+    ghost use Rattle.sms_records.specs.Inner.EnumLaws.{kind_exact};
 
     ghost form = { kind_form };
 
     ghost exact = { kind_exact };
 
-    #[tactic(auto, using(crate::specs::EnumLaws::kind_readable, crate::specs::FormLaws::on_ok))]
+    #[tactic(auto, using(crate::specs::Inner::EnumLaws::kind_readable, crate::specs::Inner::FormLaws::on_ok))]
     fn write_to(&self, out: &mut Vec<u8>) -> Result<(), AllocError> {
         match self {
             Kind::DataClas => write_byte(0, out),
@@ -175,7 +174,7 @@ impl Recorded for Kind {
         }
     }
 
-    #[tactic(auto, using(crate::specs::VariantLaws::past_readers), unfolding(crate::specs::Form::variant_at))]
+    #[tactic(auto, using(crate::specs::Inner::VariantLaws::past_readers), unfolding(crate::specs::Form::variant_at))]
     fn read_from(_alloc: Global, bytes: &[u8]) -> Result<(Self, &[u8]), RecordErr> {
         let (tag, rest) = read_byte(bytes)?;
         match tag {
@@ -190,13 +189,13 @@ impl Recorded for Kind {
 
 impl Recorded for Stage {
     ghost use Rattle.sms_records.specs.Enums.{stage_form};
-    ghost use Rattle.sms_records.specs.EnumLaws.{stage_exact};
+    ghost use Rattle.sms_records.specs.Inner.EnumLaws.{stage_exact};
 
     ghost form = { stage_form };
 
     ghost exact = { stage_exact };
 
-    #[tactic(auto, using(crate::specs::EnumLaws::stage_readable, crate::specs::FormLaws::on_ok))]
+    #[tactic(auto, using(crate::specs::Inner::EnumLaws::stage_readable, crate::specs::Inner::FormLaws::on_ok))]
     fn write_to(&self, out: &mut Vec<u8>) -> Result<(), AllocError> {
         match self {
             Stage::Scanner => write_byte(0, out),
@@ -205,7 +204,7 @@ impl Recorded for Stage {
         }
     }
 
-    #[tactic(auto, using(crate::specs::VariantLaws::past_readers), unfolding(crate::specs::Form::variant_at))]
+    #[tactic(auto, using(crate::specs::Inner::VariantLaws::past_readers), unfolding(crate::specs::Form::variant_at))]
     fn read_from(_alloc: Global, bytes: &[u8]) -> Result<(Self, &[u8]), RecordErr> {
         let (tag, rest) = read_byte(bytes)?;
         match tag {

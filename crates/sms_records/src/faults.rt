@@ -1,5 +1,4 @@
 //! The faults of decks as records.
-ghost use Rattle.std.specs.Prelude.{◌≡◌};
 
 use crate::numbers::{read_byte, write_byte};
 use crate::pairs::write_variant;
@@ -12,7 +11,7 @@ use std::alloc::{AllocError, Global};
 
 impl Recorded for TextFault {
     ghost use Rattle.sms_records.specs.Faults.{text_fault_form};
-    ghost use Rattle.sms_records.specs.FaultLaws.{text_fault_exact};
+    ghost use Rattle.sms_records.specs.Inner.FaultLaws.{text_fault_exact};
 
     ghost form = { text_fault_form };
 
@@ -33,7 +32,7 @@ impl Recorded for TextFault {
 
 impl Recorded for Fault {
     ghost use Rattle.sms_records.specs.Faults.{fault_form};
-    ghost use Rattle.sms_records.specs.FaultLaws.{fault_exact};
+    ghost use Rattle.sms_records.specs.Inner.FaultLaws.{fault_exact};
 
     ghost form = { fault_form };
 
@@ -54,7 +53,7 @@ impl Recorded for Fault {
         }
     }
 
-    #[tactic(auto, using(crate::specs::VariantLaws::past_readers), unfolding(crate::specs::Form::variant_at, crate::specs::Form::made_at))]
+    #[tactic(auto, using(crate::specs::Inner::VariantLaws::past_readers), unfolding(crate::specs::Form::variant_at, crate::specs::Form::made_at))]
     fn read_from(alloc: Global, bytes: &[u8]) -> Result<(Self, &[u8]), RecordErr> {
         let (tag, rest) = read_byte(bytes)?;
         match tag {

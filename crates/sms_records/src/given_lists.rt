@@ -2,7 +2,7 @@
 ghost use Rattle.std.specs.Prelude.{◌≡◌, ◌++◌, OnOk, unwrap_or};
 ghost use Rattle.acs_tree.specs.Inputs.{no_lists};
 ghost use Rattle.sms_records.specs.Form.{IsReadable};
-ghost use Rattle.sms_records.specs.Givens.{fields_of_lists, lists_form, lists_in};
+ghost use Rattle.sms_records.specs.Inner.Givens.{fields_of_lists, lists_form, lists_in};
 ghost use Rattle.sms_records.specs.Reading.{Gives};
 
 use crate::record_err::RecordErr;

@@ -2,7 +2,7 @@
 ghost use Rattle.std.specs.Prelude.{◌≡◌, ◌++◌, OnOk, unwrap_or};
 ghost use Rattle.acs_tree.specs.Inputs.{no_texts};
 ghost use Rattle.sms_records.specs.Form.{IsReadable};
-ghost use Rattle.sms_records.specs.Givens.{fields_of_texts, texts_form, texts_in, texts_of};
+ghost use Rattle.sms_records.specs.Inner.Givens.{fields_of_texts, texts_form, texts_in, texts_of};
 ghost use Rattle.sms_records.specs.Reading.{Gives};
 
 use crate::record_err::RecordErr;

@@ -2,7 +2,7 @@
 ghost use Rattle.std.specs.Prelude.{◌≡◌, ◌++◌, OnOk, unwrap_or};
 ghost use Rattle.acs_tree.specs.Inputs.{no_lists};
 ghost use Rattle.sms_records.specs.Form.{IsReadable, made_at};
-ghost use Rattle.sms_records.specs.Givens.{counted_form, fields_of_counted, input_of_parts, lists_in, parted_form, parts_of_input};
+ghost use Rattle.sms_records.specs.Inner.Givens.{counted_form, fields_of_counted, input_of_parts, lists_in, parted_form, parts_of_input};
 ghost use Rattle.sms_records.specs.Reading.{Gives};
 
 use crate::given_lists::{read_lists, write_lists};
@@ -19,7 +19,7 @@ type Counted = (Amounts, Option<Boxed<GivenLists>>);
 
 impl Recorded for Given {
     ghost use Rattle.sms_records.specs.Inputs.{input_form};
-    ghost use Rattle.sms_records.specs.InputLaws.{input_exact};
+    ghost use Rattle.sms_records.specs.Inner.InputLaws.{input_exact};
 
     ghost form = { input_form };
 

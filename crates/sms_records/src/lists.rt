@@ -1,6 +1,5 @@
 //! Options, lists and shared values as bytes.
-ghost use Rattle.std.specs.Prelude.{◌≡◌, ◌++◌, ◌∷◌, [], ◌^◌, length, OnOk, IfOk};
-ghost use Rattle.std.specs.Int.{w64, to_be_bytes};
+ghost use Rattle.std.specs.Prelude.{◌≡◌, ◌++◌, [], OnOk};
 ghost use Rattle.std.specs.List.{flat_map, AllByRecursion};
 ghost use Rattle.sms_records.specs.Form.{IsReadable, list, many_at};
 ghost use Rattle.sms_records.specs.Reading.{Gives};
@@ -13,7 +12,7 @@ use std::alloc::{AllocError, Global};
 
 impl<T: Recorded> Recorded for Option<T> {
     ghost use Rattle.sms_records.specs.Form.{option};
-    ghost use Rattle.sms_records.specs.ListLaws.{option_exact};
+    ghost use Rattle.sms_records.specs.Inner.ListLaws.{option_exact};
 
     ghost form = { option T.form };
 
@@ -60,7 +59,7 @@ impl<T: Recorded> Recorded for Shared<T> {
 
 impl<T: Recorded> Recorded for Items<T> {
     ghost use Rattle.sms_records.specs.Form.{list};
-    ghost use Rattle.sms_records.specs.ListLaws.{list_exact};
+    ghost use Rattle.sms_records.specs.Inner.ListLaws.{list_exact};
 
     ghost form = { list T.form };
 

@@ -1,5 +1,5 @@
 //! The name of a data set with what routines see of it, as a record.
-ghost use Rattle.std.specs.Prelude.{◌≡◌, ◌++◌, OnOk, length};
+ghost use Rattle.std.specs.Prelude.{◌≡◌, ◌++◌, OnOk};
 ghost use Rattle.acs_tree.specs.Value.{text_at};
 ghost use Rattle.dsn_mask.specs.Qualifiers.{qualifiers_of};
 ghost use Rattle.sms_records.specs.Form.{IsReadable};

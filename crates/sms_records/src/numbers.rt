@@ -1,5 +1,5 @@
 //! Numbers as bytes.
-ghost use Rattle.std.specs.Prelude.{◌≡◌, ◌++◌, ◌∷◌, [], ◌^◌, ◌<◌, length, OnOk, IfOk};
+ghost use Rattle.std.specs.Prelude.{◌≡◌, ◌++◌, ◌∷◌, [], ◌^◌, ◌<◌, OnOk};
 ghost use Rattle.std.specs.Int.{w64, to_be_bytes};
 ghost use Rattle.sms_records.specs.Form.{IsReadable, byte_at, number_8_form, number_16_form, number_32_form, number_at};
 ghost use Rattle.sms_records.specs.Reading.{Gives};
@@ -73,13 +73,13 @@ pub fn read_byte(bytes: &[u8]) -> Result<(u8, &[u8]), RecordErr>
 
 impl Recorded for u64 {
     ghost use Rattle.sms_records.specs.Form.{number_form};
-    ghost use Rattle.sms_records.specs.FormLaws.{number_exact};
+    ghost use Rattle.sms_records.specs.Inner.FormLaws.{number_exact};
 
     ghost form = { number_form };
 
     ghost exact = { number_exact };
 
-    #[tactic(auto, using(crate::specs::FormLaws::number_readable))]
+    #[tactic(auto, using(crate::specs::Inner::FormLaws::number_readable))]
     fn write_to(&self, out: &mut Vec<u8>) -> Result<(), AllocError> {
         write_number(*self, out)
     }
@@ -91,7 +91,7 @@ impl Recorded for u64 {
 
 impl Recorded for u32 {
     ghost use Rattle.sms_records.specs.Form.{number_32_form};
-    ghost use Rattle.sms_records.specs.FormLaws.{number_32_exact};
+    ghost use Rattle.sms_records.specs.Inner.FormLaws.{number_32_exact};
 
     ghost form = { number_32_form };
 
@@ -113,7 +113,7 @@ impl Recorded for u32 {
 
 impl Recorded for u16 {
     ghost use Rattle.sms_records.specs.Form.{number_16_form};
-    ghost use Rattle.sms_records.specs.FormLaws.{number_16_exact};
+    ghost use Rattle.sms_records.specs.Inner.FormLaws.{number_16_exact};
 
     ghost form = { number_16_form };
 
@@ -135,7 +135,7 @@ impl Recorded for u16 {
 
 impl Recorded for u8 {
     ghost use Rattle.sms_records.specs.Form.{number_8_form};
-    ghost use Rattle.sms_records.specs.FormLaws.{number_8_exact};
+    ghost use Rattle.sms_records.specs.Inner.FormLaws.{number_8_exact};
 
     ghost form = { number_8_form };
 

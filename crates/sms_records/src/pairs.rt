@@ -1,5 +1,5 @@
 //! Pairs as records: structs are read and written by the pairs of their fields.
-ghost use Rattle.std.specs.Prelude.{◌≡◌, ◌++◌, ◌∷◌, [], OnOk};
+ghost use Rattle.std.specs.Prelude.{◌≡◌, ◌++◌, ◌∷◌, OnOk};
 ghost use Rattle.sms_records.specs.Form.{IsReadable};
 
 use crate::numbers::write_byte;
@@ -9,13 +9,13 @@ use std::alloc::{AllocError, Global};
 
 impl<A: Recorded, B: Recorded> Recorded for (A, B) {
     ghost use Rattle.sms_records.specs.Form.{◌&◌};
-    ghost use Rattle.sms_records.specs.FormLaws.{◌&-exact◌};
+    ghost use Rattle.sms_records.specs.Inner.FormLaws.{◌&-exact◌};
 
     ghost form = { A.form & B.form };
 
     ghost exact = { A.exact &-exact B.exact };
 
-    #[tactic(auto, using(crate::specs::FormLaws::both_readable, crate::specs::FormLaws::on_ok))]
+    #[tactic(auto, using(crate::specs::Inner::FormLaws::both_readable, crate::specs::Inner::FormLaws::on_ok))]
     fn write_to(&self, out: &mut Vec<u8>) -> Result<(), AllocError> {
         self.0.write_to(out)?;
         self.1.write_to(out)

@@ -1,5 +1,5 @@
 //! Bounded lists, paths and spaces as records.
-ghost use Rattle.std.specs.Prelude.{◌≡◌, ◌≤◌, ◌&&◌, ◌++◌, OnOk, length, nat_le};
+ghost use Rattle.std.specs.Prelude.{◌≡◌, ◌≤◌, ◌&&◌, length, nat_le};
 ghost use Rattle.std.specs.List.{list_all};
 ghost use Rattle.desk_common.specs.Limits.{most_account_fields, most_volume_count};
 ghost use Rattle.sms_construct.specs.Path.{is_shown};
@@ -12,11 +12,8 @@ use crate::texts::{read_text, write_text};
 use acs_tree::{Account, MAX_FIELDS, MAX_VOLUMES, Volumes};
 use desk_common::Items;
 use dsn_mask::{Short, Volser};
-use sms_construct::{Path, Space, Unit};
+use sms_construct::{MAX_PATH, Path, Space, Unit};
 use std::alloc::{AllocError, Global};
-
-// The most bytes of a path.
-const MAX_PATH: usize = 80;
 
 // The accounting of these fields.
 fn account_of(items: &[Short]) -> Account
@@ -65,13 +62,13 @@ fn is_shown(byte: u8) -> bool
 
 impl Recorded for Account {
     ghost use Rattle.sms_records.specs.Parts.{account_form};
-    ghost use Rattle.sms_records.specs.PartLaws.{account_exact};
+    ghost use Rattle.sms_records.specs.Inner.PartLaws.{account_exact};
 
     ghost form = { account_form };
 
     ghost exact = { account_exact };
 
-    #[tactic(auto, using(crate::specs::PartLaws::account_readable, crate::specs::FormLaws::on_ok))]
+    #[tactic(auto, using(crate::specs::Inner::PartLaws::account_readable, crate::specs::Inner::FormLaws::on_ok))]
     fn write_to(&self, out: &mut Vec<u8>) -> Result<(), AllocError> {
         write_list(self.as_slice(), out)
     }
@@ -91,13 +88,13 @@ impl Recorded for Account {
 
 impl Recorded for Volumes {
     ghost use Rattle.sms_records.specs.Parts.{volumes_form};
-    ghost use Rattle.sms_records.specs.PartLaws.{volumes_exact};
+    ghost use Rattle.sms_records.specs.Inner.PartLaws.{volumes_exact};
 
     ghost form = { volumes_form };
 
     ghost exact = { volumes_exact };
 
-    #[tactic(auto, using(crate::specs::PartLaws::volumes_readable, crate::specs::FormLaws::on_ok))]
+    #[tactic(auto, using(crate::specs::Inner::PartLaws::volumes_readable, crate::specs::Inner::FormLaws::on_ok))]
     fn write_to(&self, out: &mut Vec<u8>) -> Result<(), AllocError> {
         let volsers = self.as_slice();
         write_number(volsers.len() as u64, out)?;
@@ -119,13 +116,13 @@ impl Recorded for Volumes {
 
 impl Recorded for Path {
     ghost use Rattle.sms_records.specs.Parts.{path_form};
-    ghost use Rattle.sms_records.specs.PartLaws.{path_exact};
+    ghost use Rattle.sms_records.specs.Inner.PartLaws.{path_exact};
 
     ghost form = { path_form };
 
     ghost exact = { path_exact };
 
-    #[tactic(auto, using(crate::specs::PartLaws::path_readable, crate::specs::FormLaws::on_ok))]
+    #[tactic(auto, using(crate::specs::Inner::PartLaws::path_readable, crate::specs::Inner::FormLaws::on_ok))]
     fn write_to(&self, out: &mut Vec<u8>) -> Result<(), AllocError> {
         write_text(self.bytes(), out)
     }
@@ -142,7 +139,7 @@ impl Recorded for Path {
 
 impl Recorded for Space {
     ghost use Rattle.sms_records.specs.Parts.{space_form};
-    ghost use Rattle.sms_records.specs.PartLaws.{space_exact};
+    ghost use Rattle.sms_records.specs.Inner.PartLaws.{space_exact};
 
     ghost form = { space_form };
 

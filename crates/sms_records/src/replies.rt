@@ -1,5 +1,5 @@
 //! Replies as records.
-ghost use Rattle.std.specs.Prelude.{◌≡◌, ◌≤◌, ◌∷◌};
+ghost use Rattle.std.specs.Prelude.{◌≤◌, ◌∷◌};
 ghost use Rattle.sms_records.specs.Form.{variant_at};
 ghost use Rattle.sms_records.specs.Reading.{Gives};
 ghost use Rattle.sms_records.specs.Replies.{reply_readers};
@@ -16,7 +16,7 @@ use std::alloc::{AllocError, Global};
 
 impl Recorded for Reply {
     ghost use Rattle.sms_records.specs.Replies.{reply_form};
-    ghost use Rattle.sms_records.specs.ReplyLaws.{reply_exact};
+    ghost use Rattle.sms_records.specs.Inner.ReplyLaws.{reply_exact};
 
     ghost form = { reply_form };
 

@@ -1,5 +1,4 @@
 //! Requests as records.
-ghost use Rattle.std.specs.Prelude.{◌≡◌};
 
 use crate::decks::{read_deck, write_deck_variant};
 use crate::numbers::read_byte;
@@ -13,7 +12,7 @@ use std::alloc::{AllocError, Global};
 
 impl Recorded for Op {
     ghost use Rattle.sms_records.specs.Requests.{op_form};
-    ghost use Rattle.sms_records.specs.RequestLaws.{op_exact};
+    ghost use Rattle.sms_records.specs.Inner.RequestLaws.{op_exact};
 
     ghost form = { op_form };
 
@@ -33,7 +32,7 @@ impl Recorded for Op {
         }
     }
 
-    #[tactic(auto, using(crate::specs::VariantLaws::past_readers), unfolding(crate::specs::Form::variant_at, crate::specs::Form::made_at))]
+    #[tactic(auto, using(crate::specs::Inner::VariantLaws::past_readers), unfolding(crate::specs::Form::variant_at, crate::specs::Form::made_at))]
     fn read_from(alloc: Global, bytes: &[u8]) -> Result<(Self, &[u8]), RecordErr> {
         let (tag, rest) = read_byte(bytes)?;
         match tag {
@@ -80,7 +79,7 @@ impl Recorded for Op {
 
 impl Recorded for Request {
     ghost use Rattle.sms_records.specs.Requests.{request_form};
-    ghost use Rattle.sms_records.specs.RequestLaws.{request_exact};
+    ghost use Rattle.sms_records.specs.Inner.RequestLaws.{request_exact};
 
     ghost form = { request_form };
 

@@ -26,7 +26,7 @@ type Fields = (
 
 impl Recorded for Extent {
     ghost use Rattle.sms_records.specs.Sets.{extent_form};
-    ghost use Rattle.sms_records.specs.SetLaws.{extent_exact};
+    ghost use Rattle.sms_records.specs.Inner.SetLaws.{extent_exact};
 
     ghost form = { extent_form };
 
@@ -54,7 +54,7 @@ impl Recorded for Extent {
 
 impl Recorded for DataSet {
     ghost use Rattle.sms_records.specs.Sets.{data_set_form};
-    ghost use Rattle.sms_records.specs.SetLaws.{data_set_exact};
+    ghost use Rattle.sms_records.specs.Inner.SetLaws.{data_set_exact};
 
     ghost form = { data_set_form };
 

@@ -33,13 +33,13 @@ pub fn read_text(bytes: &[u8]) -> Result<(&[u8], &[u8]), RecordErr>
 
 impl Recorded for Name {
     ghost use Rattle.sms_records.specs.Texts.{name_form};
-    ghost use Rattle.sms_records.specs.TextLaws.{name_exact};
+    ghost use Rattle.sms_records.specs.Inner.TextLaws.{name_exact};
 
     ghost form = { name_form };
 
     ghost exact = { name_exact };
 
-    #[tactic(auto, using(crate::specs::TextLaws::name_readable, crate::specs::FormLaws::on_ok))]
+    #[tactic(auto, using(crate::specs::Inner::TextLaws::name_readable, crate::specs::Inner::FormLaws::on_ok))]
     fn write_to(&self, out: &mut Vec<u8>) -> Result<(), AllocError> {
         write_text(self.bytes(), out)
     }
@@ -56,13 +56,13 @@ impl Recorded for Name {
 
 impl Recorded for Volser {
     ghost use Rattle.sms_records.specs.Texts.{volser_form};
-    ghost use Rattle.sms_records.specs.TextLaws.{volser_exact};
+    ghost use Rattle.sms_records.specs.Inner.TextLaws.{volser_exact};
 
     ghost form = { volser_form };
 
     ghost exact = { volser_exact };
 
-    #[tactic(auto, using(crate::specs::TextLaws::volser_readable, crate::specs::FormLaws::on_ok))]
+    #[tactic(auto, using(crate::specs::Inner::TextLaws::volser_readable, crate::specs::Inner::FormLaws::on_ok))]
     fn write_to(&self, out: &mut Vec<u8>) -> Result<(), AllocError> {
         write_text(self.bytes(), out)
     }
@@ -79,13 +79,13 @@ impl Recorded for Volser {
 
 impl Recorded for Short {
     ghost use Rattle.sms_records.specs.Texts.{short_form};
-    ghost use Rattle.sms_records.specs.TextLaws.{short_exact};
+    ghost use Rattle.sms_records.specs.Inner.TextLaws.{short_exact};
 
     ghost form = { short_form };
 
     ghost exact = { short_exact };
 
-    #[tactic(auto, using(crate::specs::TextLaws::short_readable, crate::specs::FormLaws::on_ok))]
+    #[tactic(auto, using(crate::specs::Inner::TextLaws::short_readable, crate::specs::Inner::FormLaws::on_ok))]
     fn write_to(&self, out: &mut Vec<u8>) -> Result<(), AllocError> {
         write_text(self.bytes(), out)
     }
@@ -102,13 +102,13 @@ impl Recorded for Short {
 
 impl Recorded for Lit {
     ghost use Rattle.sms_records.specs.Texts.{literal_form};
-    ghost use Rattle.sms_records.specs.TextLaws.{literal_exact};
+    ghost use Rattle.sms_records.specs.Inner.TextLaws.{literal_exact};
 
     ghost form = { literal_form };
 
     ghost exact = { literal_exact };
 
-    #[tactic(auto, using(crate::specs::TextLaws::literal_readable, crate::specs::FormLaws::on_ok))]
+    #[tactic(auto, using(crate::specs::Inner::TextLaws::literal_readable, crate::specs::Inner::FormLaws::on_ok))]
     fn write_to(&self, out: &mut Vec<u8>) -> Result<(), AllocError> {
         write_text(self.bytes(), out)
     }
@@ -125,13 +125,13 @@ impl Recorded for Lit {
 
 impl Recorded for Dsn {
     ghost use Rattle.sms_records.specs.Texts.{dsn_form};
-    ghost use Rattle.sms_records.specs.TextLaws.{dsn_exact};
+    ghost use Rattle.sms_records.specs.Inner.TextLaws.{dsn_exact};
 
     ghost form = { dsn_form };
 
     ghost exact = { dsn_exact };
 
-    #[tactic(auto, using(crate::specs::TextLaws::dsn_readable, crate::specs::FormLaws::on_ok))]
+    #[tactic(auto, using(crate::specs::Inner::TextLaws::dsn_readable, crate::specs::Inner::FormLaws::on_ok))]
     fn write_to(&self, out: &mut Vec<u8>) -> Result<(), AllocError> {
         write_text(self.bytes(), out)
     }
@@ -148,13 +148,13 @@ impl Recorded for Dsn {
 
 impl Recorded for RequestNumber {
     ghost use Rattle.sms_records.specs.Texts.{request_number_form};
-    ghost use Rattle.sms_records.specs.TextLaws.{request_number_exact};
+    ghost use Rattle.sms_records.specs.Inner.TextLaws.{request_number_exact};
 
     ghost form = { request_number_form };
 
     ghost exact = { request_number_exact };
 
-    #[tactic(auto, using(crate::specs::TextLaws::request_number_readable, crate::specs::FormLaws::on_ok))]
+    #[tactic(auto, using(crate::specs::Inner::TextLaws::request_number_readable, crate::specs::Inner::FormLaws::on_ok))]
     fn write_to(&self, out: &mut Vec<u8>) -> Result<(), AllocError> {
         write_number(u64::from(self.get()), out)
     }
@@ -174,13 +174,13 @@ impl Recorded for RequestNumber {
 
 impl Recorded for VolumeCount {
     ghost use Rattle.sms_records.specs.Texts.{volume_count_form};
-    ghost use Rattle.sms_records.specs.TextLaws.{volume_count_exact};
+    ghost use Rattle.sms_records.specs.Inner.TextLaws.{volume_count_exact};
 
     ghost form = { volume_count_form };
 
     ghost exact = { volume_count_exact };
 
-    #[tactic(auto, using(crate::specs::TextLaws::volume_count_readable, crate::specs::FormLaws::on_ok))]
+    #[tactic(auto, using(crate::specs::Inner::TextLaws::volume_count_readable, crate::specs::Inner::FormLaws::on_ok))]
     fn write_to(&self, out: &mut Vec<u8>) -> Result<(), AllocError> {
         write_number(u64::from(self.get()), out)
     }

@@ -1,5 +1,4 @@
 //! What routines wrote, as records.
-ghost use Rattle.std.specs.Prelude.{◌≡◌};
 
 use crate::record_err::RecordErr;
 use crate::recorded::Recorded;
@@ -11,7 +10,7 @@ use std::alloc::{AllocError, Global};
 
 impl Recorded for Line {
     ghost use Rattle.sms_records.specs.Traces.{line_form};
-    ghost use Rattle.sms_records.specs.TraceLaws.{line_exact};
+    ghost use Rattle.sms_records.specs.Inner.TraceLaws.{line_exact};
 
     ghost form = { line_form };
 
@@ -32,7 +31,7 @@ impl Recorded for Line {
 
 impl Recorded for More {
     ghost use Rattle.sms_records.specs.Traces.{more_form};
-    ghost use Rattle.sms_records.specs.TraceLaws.{more_exact};
+    ghost use Rattle.sms_records.specs.Inner.TraceLaws.{more_exact};
 
     ghost form = { more_form };
 
@@ -65,7 +64,7 @@ impl Recorded for More {
 
 impl Recorded for Trace {
     ghost use Rattle.sms_records.specs.Traces.{trace_form};
-    ghost use Rattle.sms_records.specs.TraceLaws.{trace_exact};
+    ghost use Rattle.sms_records.specs.Inner.TraceLaws.{trace_exact};
 
     ghost form = { trace_form };
 

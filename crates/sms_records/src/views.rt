@@ -1,5 +1,4 @@
 //! What is named and what is shown, as records.
-ghost use Rattle.std.specs.Prelude.{◌≡◌};
 
 use crate::numbers::read_byte;
 use crate::pairs::write_variant;
@@ -12,7 +11,7 @@ use std::alloc::{AllocError, Global};
 
 impl Recorded for Target {
     ghost use Rattle.sms_records.specs.Views.{target_form};
-    ghost use Rattle.sms_records.specs.ViewLaws.{target_exact};
+    ghost use Rattle.sms_records.specs.Inner.ViewLaws.{target_exact};
 
     ghost form = { target_form };
 
@@ -26,7 +25,7 @@ impl Recorded for Target {
         }
     }
 
-    #[tactic(auto, using(crate::specs::VariantLaws::past_readers), unfolding(crate::specs::Form::variant_at, crate::specs::Form::made_at))]
+    #[tactic(auto, using(crate::specs::Inner::VariantLaws::past_readers), unfolding(crate::specs::Form::variant_at, crate::specs::Form::made_at))]
     fn read_from(alloc: Global, bytes: &[u8]) -> Result<(Self, &[u8]), RecordErr> {
         let (tag, rest) = read_byte(bytes)?;
         match tag {
@@ -49,7 +48,7 @@ impl Recorded for Target {
 
 impl Recorded for VolRow {
     ghost use Rattle.sms_records.specs.Views.{vol_row_form};
-    ghost use Rattle.sms_records.specs.ViewLaws.{vol_row_exact};
+    ghost use Rattle.sms_records.specs.Inner.ViewLaws.{vol_row_exact};
 
     ghost form = { vol_row_form };
 
@@ -87,7 +86,7 @@ impl Recorded for VolRow {
 
 impl Recorded for View {
     ghost use Rattle.sms_records.specs.Views.{view_form};
-    ghost use Rattle.sms_records.specs.ViewLaws.{view_exact};
+    ghost use Rattle.sms_records.specs.Inner.ViewLaws.{view_exact};
 
     ghost form = { view_form };
 
@@ -107,7 +106,7 @@ impl Recorded for View {
         }
     }
 
-    #[tactic(auto, using(crate::specs::VariantLaws::past_readers), unfolding(crate::specs::Form::variant_at, crate::specs::Form::made_at))]
+    #[tactic(auto, using(crate::specs::Inner::VariantLaws::past_readers), unfolding(crate::specs::Form::variant_at, crate::specs::Form::made_at))]
     fn read_from(alloc: Global, bytes: &[u8]) -> Result<(Self, &[u8]), RecordErr> {
         let (tag, rest) = read_byte(bytes)?;
         match tag {

@@ -12,7 +12,7 @@ header = codes "volser" ∷ codes "group" ∷ codes "status" ∷ codes "capacity
 abbrev pub volume_fields : VolRow → List (List ℕ)
 volume_fields row = row.volser ∷ row.group ∷ status_text row.status ∷ decimal row.capacity ∷ decimal row.free ∷ decimal row.extents ∷ []
 
--- the header and a record for each volume, each ended by LF; a field would stand in quotes if it had a comma, a quote or a line end,
--- which names, words and numbers have not
+-- the header and a record for each volume, each ended by LF; a field would stand in quotes if it had a comma, a quote
+-- or a line end, which names, words and numbers have not
 abbrev pub table_text : List VolRow → List ℕ
 table_text rows = row_text default_writer header ++ flat_map (λ row. row_text default_writer (volume_fields row)) rows

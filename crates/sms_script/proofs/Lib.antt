@@ -7,3 +7,5 @@ mod PhaseTextLemmas
 mod FewLemmas
 mod KeyLemmas
 mod GivenLemmas
+mod IndentLemmas
+mod OnceLemmas

@@ -3,7 +3,7 @@ use Rattle.std.proofs.Common.{◌≡◌, ℕ, length, arith, List, [], ◌∷◌
 use Rattle.std.specs.Prelude.{Result}
 use Rattle.sms_script.specs.declared.item.Item.{Item}
 use Rattle.sms_script.specs.declared.script_err.ScriptErr.{ScriptErr}
-use Rattle.sms_script.specs.Reading.{after, onto_phase}
+use Rattle.sms_script.specs.Inner.Reading.{after, onto_phase}
 use Rattle.sms_script.specs.Script.{onto_first, with_first, with_phase}
 
 pub after_none : (script : Result (List (List Item)) ScriptErr) → after [] [] script ≡ script

@@ -117,7 +117,8 @@ answer_lines answer = reply_text answer.reply ∷ further_lines answer.reply
 abbrev pub indented : List ℕ → List ℕ
 indented line = codes "  " ++ line ++ 10 ∷ []
 
--- the first line of an item: its line in the script, the place of its entry, the place of the first reply, and the request
+-- the first line of an item: its line in the script, the place of its entry, the place of the first reply, and the
+-- request
 abbrev pub head_text : Item → Answer → List ℕ
 head_text item answer =
     spaced (decimal item.line ∷ decimal answer.place ∷ decimal answer.first ∷ item.request.job ∷ decimal item.request.number ∷ reply_text answer.reply ∷ [])

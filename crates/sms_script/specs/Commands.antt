@@ -1,5 +1,6 @@
 -- The commands that the lines of a script write (docs/script.md, "Commands").
 use Rattle.std.specs.Prelude.{ℕ, ◌&&◌, Bool, false, List, [], ◌∷◌, length, nat_le, Option, None, Some, bytes_eq, codes, option_map, if◌then◌else◌}
+use Rattle.desk_common.specs.Limits.{most_line_bytes}
 use Rattle.dsn_mask.specs.Name.{name_of}
 use Rattle.sms_script.specs.Found.{◌⊳◌}
 use Rattle.sms_script.specs.Ops.{number_in, op_in, upper_words}
@@ -37,4 +38,4 @@ command_in (job ∷ number ∷ words) =
 
 -- the command that a line of at most 4,096 bytes writes
 abbrev pub command_of : List ℕ → Option Command
-command_of text = if nat_le (length text) 4096 then command_in (upper_words text) else None
+command_of text = if nat_le (length text) most_line_bytes then command_in (upper_words text) else None

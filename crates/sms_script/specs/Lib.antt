@@ -6,8 +6,8 @@ pub mod Operands
 pub mod Ops
 pub mod Commands
 pub mod Script
-pub mod Reading
 pub mod NameText
 pub mod FaultText
 pub mod TraceText
 pub mod AnswerText
+pub mod Inner

@@ -1,8 +1,8 @@
 -- The lines of a text.
-use Rattle.std.specs.Prelude.{◌∷◌, [], ◌==◌, ◌||◌, ℕ, Bool, false, List, Option, None, Some, bytes_eq, codes, unwrap_or, if◌then◌else◌}
+use Rattle.std.specs.Prelude.{◌∷◌, [], ◌==◌, ◌||◌, ℕ, Bool, List, Option, None, Some, bytes_eq, codes, unwrap_or, if◌then◌else◌}
 use Rattle.std.specs.List.{list_all}
-use Rattle.desk_common.specs.Words.{onto}
-use Rattle.desk_common.specs.Bytes.{space_byte, star}
+use Rattle.desk_common.specs.Words.{begins_with_star, onto}
+use Rattle.desk_common.specs.Bytes.{space_byte}
 use Rattle.sms_construct.specs.Parts.{before_last}
 
 -- the lines with their line ends; the last may lack it
@@ -23,14 +23,9 @@ text_of_line line = without_cr line (before_last 10 line)
 abbrev pub is_blank : List ℕ → Bool
 is_blank text = list_all (λ byte. byte == space_byte) text
 
--- the first byte is an asterisk
-abbrev pub is_comment : List ℕ → Bool
-is_comment [] = false
-is_comment (byte ∷ bytes) = byte == star
-
 -- a line that asks nothing
 abbrev pub is_skipped : List ℕ → Bool
-is_skipped text = is_comment text || is_blank text
+is_skipped text = begins_with_star text || is_blank text
 
 -- the line that ends a deck block
 abbrev pub is_block_end : List ℕ → Bool

@@ -38,8 +38,8 @@ with_phase (Err fault) = Err fault
 abbrev pub if_few : ℕ → ℕ → Result (List (List Item)) ScriptErr → Result (List (List Item)) ScriptErr
 if_few count line script = if nat_lt count 100000 then script else Err (TooManyLines line)
 
--- no command: a fault. A request: it, and then what the lines behind it give. SYNC: a phase ends. ACTIVATE: the activation of its
--- deck, and then what the lines behind the ./END give; without an ./END, a fault
+-- no command: a fault. A request: it, and then what the lines behind it give. SYNC: a phase ends. ACTIVATE: the
+-- activation of its deck, and then what the lines behind the ./END give; without an ./END, a fault
 abbrev pub with_command : ℕ → ℕ → Option Command → Option (List ℕ) → (Bool → Result (List (List Item)) ScriptErr) → Result (List (List Item)) ScriptErr
 with_command count line None deck others = Err (BadLine line)
 with_command count line (Some (Whole request)) deck others = if_few count line (with_first line request (others false))
@@ -47,7 +47,8 @@ with_command count line (Some Sync) deck others = if_few count line (with_phase 
 with_command count line (Some (Activate number)) None others = Err (OpenBlock line)
 with_command count line (Some (Activate number)) (Some deck) others = if_few count line (with_first line (activation number deck) (others true))
 
--- the phases of the lines from this number on, behind so many commands, or the first fault; the first line may stand in a deck block
+-- the phases of the lines from this number on, behind so many commands, or the first fault; the first line may stand in
+-- a deck block
 abbrev pub script_from : Bool → ℕ → ℕ → List (List ℕ) → Result (List (List Item)) ScriptErr
 script_from in_block count line [] = Ok ([] ∷ [])
 script_from true count line (first ∷ lines) = script_from (not (is_block_end first)) count (line + 1) lines

@@ -4,17 +4,13 @@ use Rattle.std.specs.List.{list_all, list_any}
 use Rattle.std.specs.Map.{lookup}
 use Rattle.std.specs.Option.{option_and_then}
 use Rattle.desk_common.specs.Words.{is_one_of}
-use Rattle.desk_common.specs.Limits.{most_account_fields, most_value_bytes, most_volume_count}
+use Rattle.desk_common.specs.Limits.{most_account_fields, most_value_bytes, most_volume_count, up_to}
 use Rattle.dsn_mask.specs.Name.{is_digit, is_short, is_volser, name_of, short_of}
 use Rattle.sms_construct.specs.Numbers.{small_number_of}
 use Rattle.sms_construct.specs.declared.eattr.Eattr.{Eattr}
 use Rattle.sms_construct.specs.declared.eattr.Eattr.TheVariants.{Opt, No}
 use Rattle.sms_construct.specs.Quantities.{volume_count_of}
 use Rattle.sms_script.specs.Parts.{listed}
-
--- the number, if it is at most this one
-abbrev pub up_to : ℕ → ℕ → Option ℕ
-up_to most number = if nat_le number most then Some number else None
 
 -- the number up to this one that a text writes, if any
 abbrev pub number_to : ℕ → List ℕ → Option ℕ

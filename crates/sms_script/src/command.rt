@@ -6,12 +6,10 @@ ghost use Rattle.sms_script.specs.Commands.{admin, command_in, command_of, is_ac
 
 use crate::line_words::line_words;
 use crate::op::{read_request_number, read_words};
+use desk_common::MAX_LINE;
 use dsn_mask::Name;
 use sms_construct::{Request, RequestNumber};
 use std::alloc::{AllocError, Global};
-
-/// The longest command line, in bytes.
-const MAX_LINE: usize = 4096;
 
 /// What a command line asks.
 #[derive(Drop)]

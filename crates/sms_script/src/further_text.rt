@@ -90,12 +90,20 @@ fn used_text(alloc: Global, used: u32) -> Result<Vec<u8>, AllocError>
 fn class_text(alloc: Global, set: &DataSet) -> Result<Vec<u8>, AllocError>
     ensures { IfOk result (λ text. text.items ≡ class_text set.now) }
 {
-    let mut text = Vec::from_slice(alloc, b"CLASS ")?;
-    push_word_and_blank(&mut text, name_bytes(&set.dataclas))?;
-    push_word_and_blank(&mut text, set.storclas.bytes())?;
-    push_word_and_blank(&mut text, name_bytes(&set.mgmtclas))?;
-    text.extend_from_slice(set.group.bytes())?;
+    let mut text = Vec::new(alloc);
+    push_class(&mut text, set)?;
     Ok(text)
+}
+
+/// Puts the classes of a data set and its storage group behind a text.
+pub fn push_class(text: &mut Vec<u8>, set: &DataSet) -> Result<(), AllocError>
+    ensures { OnOk result (text.new.items ≡ text.old.items ++ class_text set.now) }
+{
+    text.extend_from_slice(b"CLASS ")?;
+    push_word_and_blank(text, name_bytes(&set.dataclas))?;
+    push_word_and_blank(text, set.storclas.bytes())?;
+    push_word_and_blank(text, name_bytes(&set.mgmtclas))?;
+    text.extend_from_slice(set.group.bytes())
 }
 
 fn push_extents(alloc: Global, lines: &mut TextLines, extents: &[Extent]) -> Result<(), AllocError>
@@ -110,9 +118,17 @@ fn push_extents(alloc: Global, lines: &mut TextLines, extents: &[Extent]) -> Res
 fn extent_text(alloc: Global, extent: &Extent) -> Result<Vec<u8>, AllocError>
     ensures { IfOk result (λ text. text.items ≡ extent_text extent.now) }
 {
-    let mut text = Vec::from_slice(alloc, b"EXTENT ")?;
-    push_word_and_blank(&mut text, extent.volser.bytes())?;
-    push_number_and_blank(&mut text, u64::from(extent.start))?;
-    push_number(&mut text, u64::from(extent.length))?;
+    let mut text = Vec::new(alloc);
+    push_extent(&mut text, extent)?;
     Ok(text)
+}
+
+/// Puts the tracks of an extent behind a text.
+pub fn push_extent(text: &mut Vec<u8>, extent: &Extent) -> Result<(), AllocError>
+    ensures { OnOk result (text.new.items ≡ text.old.items ++ extent_text extent.now) }
+{
+    text.extend_from_slice(b"EXTENT ")?;
+    push_word_and_blank(text, extent.volser.bytes())?;
+    push_number_and_blank(text, u64::from(extent.start))?;
+    push_number(text, u64::from(extent.length))
 }

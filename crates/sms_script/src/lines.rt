@@ -1,6 +1,7 @@
 //! The lines of a text.
 ghost use Rattle.std.specs.Prelude.{◌≡◌, ◌≢◌, ◌≤◌, ◌<◌, ◌∷◌, ◌++◌, ℕ, length, slice_index};
-ghost use Rattle.sms_script.specs.Lines.{is_blank, is_block_end, is_comment, is_skipped, lines_of, text_of_line};
+ghost use Rattle.desk_common.specs.Words.{begins_with_star};
+ghost use Rattle.sms_script.specs.Lines.{is_blank, is_block_end, is_skipped, lines_of, text_of_line};
 
 use sms_construct::before_last;
 
@@ -52,7 +53,7 @@ pub fn is_skipped(text: &[u8]) -> bool
 
 // The first byte is an asterisk.
 fn is_comment(text: &[u8]) -> bool
-    ensures { result ≡ is_comment text.now }
+    ensures { result ≡ begins_with_star text.now }
 {
     matches!(text, [b'*', ..])
 }

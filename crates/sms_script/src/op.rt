@@ -1,8 +1,8 @@
 //! The ops that words write.
-ghost use Rattle.std.specs.Prelude.{◌≡◌, ◌∷◌, [], map, option_map, Some, IfOk, OnErr};
+ghost use Rattle.std.specs.Prelude.{◌≡◌, map, option_map, Some, IfOk, OnErr};
 ghost use Rattle.std.specs.Char.{to_ascii_uppercase};
 ghost use Rattle.std.specs.Option.{option_copied};
-ghost use Rattle.sms_script.specs.Ops.{AskAlloc, alloc_in, dsn_in, number_in, only, only_two, op_in, op_of, op_with, purge_in, upper_words, used_in};
+ghost use Rattle.sms_script.specs.Ops.{AskAlloc, dsn_in, number_in, only, only_two, op_in, op_of, op_with, purge_in, upper_words, used_in};
 
 use crate::allocation::read_allocation;
 use crate::line_words::line_words;
@@ -13,8 +13,8 @@ use sms_construct::{Op, RequestNumber, read_number};
 use std::alloc::{AllocError, Global};
 
 /// The op that the part of a command line behind the request number writes, if any: of the administrator, or of
-/// another job (docs/script.md, "Commands"); or want of memory for an ALLOC. ACTIVATE is none, since its deck stands in other
-/// lines. The letters of the line become upper case, as they are read.
+/// another job (docs/script.md, "Commands"); or want of memory for an ALLOC. ACTIVATE is none, since its deck stands in
+/// other lines. The letters of the line become upper case, as they are read.
 #[tactic(auto, using(crate::proofs::FewLemmas::no_op))]
 pub fn read_op(alloc: Global, line: &mut [u8], admin: bool) -> Result<Option<Op>, AllocError>
     ensures op { IfOk result (λ op. op ≡ op_of admin line.old) }

@@ -3,7 +3,7 @@ ghost use Rattle.std.specs.Prelude.{◌≡◌, ◌∷◌, [], true, map, MatchOp
 ghost use Rattle.std.specs.List.{list_all, list_any};
 ghost use Rattle.dsn_mask.specs.Name.{name_of};
 ghost use Rattle.sms_construct.specs.SpaceText.{space_text};
-ghost use Rattle.sms_script.specs.Operands.{are_operands, given, given_or_none, has_key, have_any, is_key, is_key_of, is_once, is_operand, list_keys, text_keys, values_of};
+ghost use Rattle.sms_script.specs.Operands.{are_operands, given, given_or_none, has_key, have_any, is_key, is_key_of, is_once, is_operand, keys as all_keys, list_keys, text_keys, values_of};
 ghost use Rattle.sms_script.specs.Values.{account_of, count_of, date_of, eattr_of, name_value_of, number_to, plain_of, volumes_of};
 
 use crate::lists::{read_account, read_volumes};
@@ -14,7 +14,8 @@ use acs_tree::{Account, Volumes};
 use dsn_mask::{Name, Short};
 use sms_construct::{Eattr, Space, VolumeCount, behind_front, read_space};
 
-const KEYS: [&[u8]; 29] = [
+/// The keys of the operands of ALLOC (docs/script.md, "Operands").
+pub const KEYS: [&[u8]; 29] = [
     b"SPACE=",
     b"DATACLAS=",
     b"STORCLAS=",
@@ -102,7 +103,17 @@ fn is_key_of(name: &[u8], key: &[u8]) -> bool
 pub fn are_operands(words: &[&[u8]]) -> bool
     ensures { result ≡ are_operands (map (λ word. word.now) words.now) }
 {
-    are_known(words) && are_once(words, &KEYS)
+    are_known(words) && are_all_once(words)
+}
+
+// Whether no key stands twice, as none can in one word.
+fn are_all_once(words: &[&[u8]]) -> bool
+    ensures { result ≡ list_all (is_once (map (λ word. word.now) words.now)) all_keys }
+{
+    if words.len() < 2 {
+        return true;
+    }
+    are_once(words, &KEYS)
 }
 
 fn are_known(mut words: &[&[u8]]) -> bool

@@ -5,6 +5,8 @@ ghost use Rattle.sms_script.specs.Script.{items_of};
 ghost use Rattle.sms_script.specs.AnswerText.{answer_lines, end_text, further_lines, head_text, indented, item_text, items_text, text_of, view_lines, view_text};
 
 use crate::further_text::{push_further, push_view_lines};
+use crate::granted_text::push_granted_text;
+use crate::indenting::push_indented;
 use crate::item::{Item, Phase, Script};
 use crate::pushing::{push_number_and_blank, push_word_and_blank};
 use crate::reply_text::{push_reply, push_view};
@@ -105,8 +107,17 @@ fn push_item(
 {
     push_head(text, item, answer)?;
     text.extend_from_slice(b"\n")?;
-    let lines = further_of(alloc, &answer.reply)?;
-    push_indented(text, lines.as_slice())
+    push_further_text(alloc, text, &answer.reply)
+}
+
+// The lines behind the first one of a reply, indented.
+fn push_further_text(alloc: Global, text: &mut Vec<u8>, reply: &Reply) -> Result<(), AllocError>
+    ensures { OnOk result (text.new.items ≡ text.old.items ++ flat_map indented (further_lines reply.now)) }
+{
+    match reply {
+        Reply::Granted { set, trace } => push_granted_text(alloc, text, set.get(), trace.get()),
+        _ => push_indented(text, further_of(alloc, reply)?.as_slice()),
+    }
 }
 
 fn further_of(alloc: Global, reply: &Reply) -> Result<TextLines, AllocError>
@@ -115,24 +126,6 @@ fn further_of(alloc: Global, reply: &Reply) -> Result<TextLines, AllocError>
     let mut lines = Items::new(alloc);
     push_further(alloc, &mut lines, reply)?;
     Ok(lines)
-}
-
-// Puts each line behind a text, with two spaces before it and LF behind it.
-fn push_indented(text: &mut Vec<u8>, lines: &[Items<u8>]) -> Result<(), AllocError>
-    ensures { OnOk result (text.new.items ≡ text.old.items ++ flat_map indented lines.now) }
-{
-    for line in lines {
-        push_one(text, line.as_slice())?;
-    }
-    Ok(())
-}
-
-fn push_one(text: &mut Vec<u8>, line: &[u8]) -> Result<(), AllocError>
-    ensures { OnOk result (text.new.items ≡ text.old.items ++ indented line.now) }
-{
-    text.extend_from_slice(b"  ")?;
-    text.extend_from_slice(line)?;
-    text.extend_from_slice(b"\n")
 }
 
 fn push_head(text: &mut Vec<u8>, item: &Item, answer: &Answer) -> Result<(), AllocError>

@@ -2,7 +2,7 @@
 ghost use Rattle.std.specs.Prelude.{◌≡◌, ◌≤◌, ◌<◌, ◌+◌, ◌^◌, ◌++◌, ◌∷◌, [], false, Ok, Some, length, IfOk, IfErr, OnOk};
 ghost use Rattle.sms_script.specs.Lines.{lines_of};
 ghost use Rattle.sms_script.specs.Script.{IsRefusal, if_few, script_from, script_of};
-ghost use Rattle.sms_script.specs.Reading.{found_before, script_at, script_behind};
+ghost use Rattle.sms_script.specs.Inner.Reading.{found_before, script_at, script_behind};
 
 use crate::command::{Command, admin, read_command};
 use crate::deck_block::deck_block;

@@ -1,6 +1,5 @@
 //! The lines of a trace.
 ghost use Rattle.std.specs.Prelude.{◌≡◌, ◌++◌, flat_map, OnOk, IfOk};
-ghost use Rattle.acs_tree.specs.Slates.{more_of};
 ghost use Rattle.sms_script.specs.TraceText.{kind_lines, more_lines, more_text, trace_lines, write_text, written_by};
 
 use crate::pushing::push_word_and_blank;

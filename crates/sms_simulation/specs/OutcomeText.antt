@@ -8,8 +8,8 @@ use Rattle.sms_construct.specs.declared.trace.Trace.{Trace}
 use Rattle.sms_script.specs.NameText.{spaced, value_text}
 use Rattle.sms_script.specs.TraceText.{trace_lines}
 use Rattle.desk_law.specs.Classification.{Classes, trace_of}
-use Rattle.desk_law.specs.declared.stop.Stop.{Stop}
-use Rattle.desk_law.specs.declared.stop.Stop.TheVariants as stops
+use Rattle.sms_construct.specs.declared.stop.Stop.{Stop}
+use Rattle.sms_construct.specs.declared.stop.Stop.TheVariants as stops
 
 -- the names of storage groups, with commas between
 abbrev pub groups_text : List (List ℕ) → List ℕ

@@ -1,15 +1,14 @@
 //! What a classification comes to, as text.
-ghost use Rattle.std.specs.Prelude.{◌≡◌, ◌++◌, ◌∷◌, [], OnOk, decimal, flat_map};
+ghost use Rattle.std.specs.Prelude.{◌≡◌, ◌++◌, ◌∷◌, [], OnOk, flat_map};
 ghost use Rattle.desk_common.specs.Bytes.{comma};
 ghost use Rattle.sms_script.specs.TraceText.{trace_lines};
 ghost use Rattle.sms_simulation.specs.OutcomeText.{behind, classes_text, classified_text, groups_text, outcome_line, outcome_text};
 
 use acs_tree::Values;
 use desk_common::{Items, push_number};
-use desk_law::Stop;
 use dsn_mask::Name;
 use sms_classes::Classified;
-use sms_construct::{Request, Trace};
+use sms_construct::{Request, Stop, Trace};
 use sms_script::{push_number_and_blank, push_trace, push_word_and_blank, value_bytes};
 use std::alloc::{AllocError, Global};
 

@@ -1,5 +1,5 @@
 //! The simulation of a script.
-ghost use Rattle.std.specs.Prelude.{◌≡◌, ◌++◌, ◌∷◌, [], None, flat_map, map, IfOk, OnOk};
+ghost use Rattle.std.specs.Prelude.{◌≡◌, ◌++◌, ◌∷◌, [], flat_map, map, IfOk, OnOk};
 ghost use Rattle.sms_script.specs.Script.{items_of};
 ghost use Rattle.desk_law.specs.Classification.{classes_of};
 ghost use Rattle.sms_simulation.specs.OutcomeText.{text_of_classes};

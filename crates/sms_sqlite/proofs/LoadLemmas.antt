@@ -30,7 +30,7 @@ use Rattle.keeper_statements.proofs.OrderLemmas.{order_found, order_sorted}
 use Rattle.keeper_statements.specs.Order.{by_first, by_two, in_order, put_in}
 use Rattle.keeper_statements.specs.Presence.{none_there, present_in}
 use Rattle.keeper_statements.specs.Tables.{Serves, Tables, tables_in}
-use Rattle.sms_sqlite.specs.Columns.{kind_column, name_column}
+use Rattle.sms_sqlite.specs.Inner.Columns.{kind_column, name_column}
 use Rattle.sms_sqlite.specs.Damage.{damage_in, first_unread, ordered, unread_in}
 use Rattle.sms_sqlite.specs.Reading.{IsMadeReady, NamesFault, ReadsAll}
 use Rattle.sms_sqlite.specs.Told.{IsReadable, damage_of, damage_seen, can_tell, is_shown, is_whole, tables_of, told_of}

@@ -4,7 +4,7 @@ use Rattle.sms_construct.specs.declared.target.Target.{Target}
 use Rattle.sms_construct.specs.declared.target.Target.TheVariants as targets
 use Rattle.sms_construct.specs.declared.status.Status.{Status}
 use Rattle.sms_construct.specs.declared.status.Status.TheVariants as statuses
-use Rattle.sms_sqlite.specs.Columns.{kind_column, status_column}
+use Rattle.sms_sqlite.specs.Inner.Columns.{kind_column, status_column}
 
 pub column_is : (z : ℤ) (n : ℕ) → z ≡ pos n → n < 2 ^ 63 → to_z w64 (of_z w64 z) ≡ pos n
 column_is z n is low = subst (λ x. to_z w64 (of_z w64 x) ≡ pos n) (sym is) (to_z-of_z {w = w64} {z = pos n} (record { sfits = low }))

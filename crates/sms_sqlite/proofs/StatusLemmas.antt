@@ -16,7 +16,7 @@ use Rattle.sms_construct.specs.declared.target.Target.{Target}
 use Rattle.sms_construct.specs.declared.target.Target.TheVariants as targets
 use Rattle.sms_keeper.specs.Tables.{is_status_of, same_target, row_with}
 use Rattle.sms_keeper.specs.declared.status_row.StatusRow.{StatusRow}
-use Rattle.sms_sqlite.specs.Columns.{kind_column, name_column, status_column, row_of_status, with_statuses, AreReadable}
+use Rattle.sms_sqlite.specs.Inner.Columns.{kind_column, name_column, status_column, row_of_status, with_statuses, AreReadable}
 use Rattle.sms_sqlite.specs.Values.{each_in, status_in, target_of, all_statuses}
 
 -- the test holds of the same targets alone

@@ -7,7 +7,7 @@ use Rattle.sms_keeper.specs.declared.floor.Floor.{Floor}
 use Rattle.sms_keeper.specs.declared.kept_row.KeptRow.{KeptRow}
 use Rattle.sms_keeper.specs.declared.rows.Rows.{Rows}
 use Rattle.sms_keeper.specs.declared.status_row.StatusRow.{StatusRow}
-use Rattle.sms_records.specs.FormLaws.{bind_some, some_is}
+use Rattle.sms_records.specs.Inner.FormLaws.{bind_some, some_is}
 use Rattle.keeper_statements.specs.Steps.{Makes}
 use Rattle.keeper_statements.specs.Tables.{Tables, tables_in}
 use Rattle.sms_sqlite.specs.Values.{each_in, set_in, reply_in, deck_in, status_in, floor_in, rows_of}

@@ -23,12 +23,12 @@ use Rattle.sms_keeper.specs.declared.floor.Floor.{Floor}
 use Rattle.sms_keeper.specs.declared.kept_row.KeptRow.{KeptRow}
 use Rattle.sms_keeper.specs.declared.status_row.StatusRow.{StatusRow}
 use Rattle.sms_records.specs.Form.{◌>>=◌, whole}
-use Rattle.sms_records.specs.FormLaws.{bind_some, some_is, guard_some_of}
+use Rattle.sms_records.specs.Inner.FormLaws.{bind_some, some_is, guard_some_of}
 use Rattle.sms_records.specs.Replies.{reply_form}
 use Rattle.sms_records.specs.Requests.{request_form}
 use Rattle.sms_records.specs.Sets.{data_set_form}
 use Rattle.keeper_statements.specs.Tests.{is_equal, is_less, is_greater, is_of, is_status, is_below, is_above}
-use Rattle.sms_sqlite.specs.Columns.{kind_column, name_column}
+use Rattle.sms_sqlite.specs.Inner.Columns.{kind_column, name_column}
 use Rattle.sms_sqlite.specs.Values.{text_in, bytes_in, number_in, set_in, reply_in, deck_in, status_in, floor_in, target_of, all_statuses}
 
 back : (b : Bool) → is_true (from_truth (Some b)) ≡ b

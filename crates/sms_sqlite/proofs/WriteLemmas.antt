@@ -5,7 +5,7 @@ use Rattle.sms_construct.specs.declared.target.Target.TheVariants as targets
 use Rattle.std.proofs.lemmas.Bool.{le-leb}
 use Rattle.std.proofs.lemmas.List.Sums.{list_all-from_AllPass}
 use Rattle.std.proofs.lemmas.Slice.Eq.{bytes_eq-Decides}
-use Rattle.desk_common.specs.Limits.{most_name_bytes, most_volser_bytes, most_number}
+use Rattle.desk_common.specs.Limits.{most_name_bytes, most_volser_bytes, most_number, up_to}
 use Rattle.dsn_mask.specs.Name.{IsName, IsVolser, name_of, volser_of, is_name_byte}
 use Rattle.sms_construct.specs.Quantities.{IsRequestNumber, request_number_of}
 use Rattle.sms_construct.specs.declared.data_set.DataSet.{DataSet}
@@ -15,17 +15,17 @@ use Rattle.sms_keeper.specs.Tables.{is_named, is_floor_of, is_reply_below, put_s
 use Rattle.sms_keeper.specs.declared.change.Change.{Change}
 use Rattle.sms_keeper.specs.declared.rows.Rows.{Rows}
 use Rattle.sms_keeper.specs.declared.status_row.StatusRow.{StatusRow}
-use Rattle.sms_records.specs.Form.{IsReadable, within_limit}
+use Rattle.sms_records.specs.Form.{IsReadable}
 use Rattle.sms_records.specs.Replies.{reply_form}
 use Rattle.sms_records.specs.Requests.{request_form}
 use Rattle.sms_records.specs.Sets.{data_set_form}
-use Rattle.sms_records.specs.TextLaws.{and_true}
-use Rattle.sms_records.specs.WholeLaws.{whole-again}
+use Rattle.sms_records.specs.Inner.TextLaws.{and_true}
+use Rattle.sms_records.specs.Inner.WholeLaws.{whole-again}
 use Rattle.sqlite_rules.specs.Edit.{is_taken}
 use Rattle.keeper_statements.specs.Changes as tables
 use Rattle.keeper_statements.specs.Tables.{Tables}
 use Rattle.keeper_statements.specs.Tests.{set_row, reply_row, deck_row, floor_row, is_of, is_status, is_below, without, HasFound}
-use Rattle.sms_sqlite.specs.Columns.{kind_column, name_column, status_column, with_statuses, AreReadable}
+use Rattle.sms_sqlite.specs.Inner.Columns.{kind_column, name_column, status_column, with_statuses, AreReadable}
 use Rattle.sms_sqlite.specs.Values.{each_in, set_in, reply_in, status_in, floor_in, target_of}
 use Rattle.sms_sqlite.proofs.DeckLemmas.{deck_put}
 use Rattle.sms_sqlite.proofs.ReadLemmas.{each_push, each_filter, joins}
@@ -52,7 +52,7 @@ volume_again volser h = ap (option_map targets.Volume) (volser_again volser h)
 number_again : (n : ℕ) → IsRequestNumber n → request_number_of n ≡ Some n
 number_again n h = let is = and_true _ _ (le-leb 1 n h.0) (le-leb n most_number h.1) in rw is refl
 
-floor_again : (n : ℕ) → n ≤ 4294967295 → within_limit 4294967295 n ≡ Some n
+floor_again : (n : ℕ) → n ≤ 4294967295 → up_to 4294967295 n ≡ Some n
 floor_again n low = rw (le-leb n 4294967295 low) refl
 
 set_reads : (set : DataSet) (bytes : List ℕ) → bytes ≡ data_set_form.write set → IsReadable data_set_form set → set_in (set_row set.dsn bytes) ≡ Some set

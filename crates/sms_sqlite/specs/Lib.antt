@@ -3,5 +3,5 @@ pub mod Values
 pub mod Damage
 pub mod Told
 pub mod Reading
-pub mod Columns
 pub mod Writing
+pub mod Inner

@@ -59,7 +59,8 @@ tables_of db = if is_whole db then rows_in db else None
 abbrev pub damage_of : Database → Option (Damaged × ℕ)
 damage_of db = if is_whole db then damage_in (ordered (tables_in db)) else None
 
--- what contracts see of a keeper over a database: the connection, the connection as it was handed in, and the count of faults
+-- what contracts see of a keeper over a database: the connection, the connection as it was handed in, and the count of
+-- faults
 pub record KeeperView (S : Type 0) : Type 0 where
   pub connection : Held S
   pub base : Held S

@@ -1,5 +1,6 @@
 -- What the rows of the database stand for (docs/records.md, "The database").
 use Rattle.std.specs.Prelude.{ℕ, pos, negsuc, zero, suc, List, [], ◌∷◌, bytes_eq, Option, Some, None, option_map, slice_get, if◌then◌else◌}
+use Rattle.desk_common.specs.Limits.{up_to}
 use Rattle.sqlite.specs.Order.{Row}
 use Rattle.sqlite.specs.declared.types.Value.{Value}
 use Rattle.sqlite.specs.declared.types.Value.TheVariants.{Null, Int, Real, Text, Blob}
@@ -16,7 +17,7 @@ use Rattle.sms_keeper.specs.declared.floor.Floor.{Floor}
 use Rattle.sms_keeper.specs.declared.kept_row.KeptRow.{KeptRow}
 use Rattle.sms_keeper.specs.declared.rows.Rows.{Rows}
 use Rattle.sms_keeper.specs.declared.status_row.StatusRow.{StatusRow}
-use Rattle.sms_records.specs.Form.{◌>>=◌, whole, within_limit}
+use Rattle.sms_records.specs.Form.{◌>>=◌, whole}
 use Rattle.sms_records.specs.Replies.{reply_form}
 use Rattle.sms_records.specs.Requests.{request_form}
 use Rattle.sms_records.specs.Sets.{data_set_form}
@@ -110,7 +111,7 @@ floor_in row = do
   text ← text_in (column row 0)
   job ← name_of text
   n ← number_in (column row 1)
-  floor ← within_limit 4294967295 n
+  floor ← up_to 4294967295 n
   Some (record { job = job; floor = floor })
 
 -- what rows stand for, where each stands for something

@@ -36,7 +36,8 @@ pub record HoldsLike (old db : Database) (rows : Rows) : Type 0 where
   pub holds : Holds db found
   pub alike : AreAlike found rows
 
--- the database has these rows, in any order of the keys; and its trees list its schema and obey it, where those of the old one did
+-- the database has these rows, in any order of the keys; and its trees list its schema and obey it, where those of the
+-- old one did
 pub record HasRows (old db : Database) (rows : Rows) : Type 0 where
   pub found : Rows
   pub read : rows_in db ≡ Some found
@@ -52,8 +53,9 @@ pub record IsChangeLeft (old : Database) (trees : Trees) (rows : Rows) : Type 0 
   pub rest : LeavesRest old (with_trees old trees)
   pub has : HasRows old (with_trees old trees) rows
 
--- the trees are those of a database in which each of the five tables that wasn't there was made, and what was told stands; they list its
--- schema and obey it, where the old ones did and a table that counts its rows for good had SQLite's own table beside it
+-- the trees are those of a database in which each of the five tables that wasn't there was made, and what was told
+-- stands; they list its schema and obey it, where the old ones did and a table that counts its rows for good had
+-- SQLite's own table beside it
 pub record IsMadeLeft (old : Database) (trees : Trees) : Type 0 where
   pub schema : Schema
   pub made : IsMadeReady old (record { schema = schema; trees = trees })

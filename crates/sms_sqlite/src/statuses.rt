@@ -7,7 +7,7 @@ ghost use Rattle.sms_keeper.specs.Suits.{has_status};
 ghost use Rattle.sms_keeper.specs.Tables.{row_with};
 ghost use Rattle.keeper_statements.specs.Changes.{with_status};
 ghost use Rattle.keeper_statements.specs.Steps.{MayMake, MayStay};
-ghost use Rattle.sms_sqlite.specs.Columns.{AreReadable, kind_column, name_column, status_column, with_statuses};
+ghost use Rattle.sms_sqlite.specs.Inner.Columns.{AreReadable, kind_column, name_column, status_column, with_statuses};
 ghost use Rattle.sms_sqlite.specs.Values.{target_of};
 ghost use Rattle.sms_sqlite.specs.Writing.{MayLead};
 

@@ -10,7 +10,7 @@ use Rattle.desk_law.specs.State.{DeskState}
 use Rattle.desk_law.specs.Activation.{first_barred}
 use Rattle.desk_law.specs.Extents.{extents_of, is_used, pieces_on}
 use Rattle.desk_law.specs.Volumes.{tracks_of}
-use Rattle.sms_volumes.specs.Barring.{bars, running_barred}
+use Rattle.sms_volumes.specs.Inner.Barring.{bars, running_barred}
 use Rattle.sms_volumes.specs.Holding.{AreVolumesOf, IsVolumeOf}
 use Rattle.sms_volumes.specs.declared.active_group.ActiveGroup.{ActiveGroup}
 use Rattle.sms_volumes.specs.declared.active_volume.ActiveVolume.{ActiveVolume}

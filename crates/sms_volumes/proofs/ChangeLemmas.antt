@@ -16,7 +16,7 @@ use Rattle.desk_law.specs.Extents.{held_on, pieces_on}
 use Rattle.desk_law.specs.Statuses.{status_in}
 use Rattle.desk_law.specs.Volumes.{groups_in, times_volume, volumes_in}
 use Rattle.sms_volumes.specs.Changing.{HasChanged, HoldsAll}
-use Rattle.sms_volumes.specs.Handing.{AreApart}
+use Rattle.sms_volumes.specs.Inner.Handing.{AreApart}
 use Rattle.sms_volumes.specs.Holding.{AreVolumesOf, IsGroupOf, IsVolumeOf, StandsAt}
 use Rattle.sms_volumes.specs.Viewing.{running_named}
 use Rattle.sms_volumes.specs.declared.active_group.ActiveGroup.{ActiveGroup}

@@ -10,7 +10,7 @@ use Rattle.desk_law.specs.Extents.{piece_of, pieces_on}
 use Rattle.desk_law.proofs.ByteLemmas.{bytes-self, bytes-turned, same-bytes}
 use Rattle.desk_law.proofs.PlaceLemmas.{each-at}
 use Rattle.sms_volumes.specs.Changing.{HasChanged, HoldsAll, IsPartOf}
-use Rattle.sms_volumes.specs.Handing.{AreApart}
+use Rattle.sms_volumes.specs.Inner.Handing.{AreApart}
 use Rattle.sms_volumes.specs.Viewing.{running_named}
 use Rattle.sms_volumes.specs.declared.active_volume.ActiveVolume.{ActiveVolume}
 use Rattle.sms_volumes.proofs.ChangeLemmas.{changed-none, zip-none, zip-replaced, zip-stays}

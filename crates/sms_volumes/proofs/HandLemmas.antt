@@ -24,8 +24,8 @@ use Rattle.desk_law.proofs.AscendLemmas.{groups-once, volumes-once}
 use Rattle.desk_law.proofs.ByteLemmas.{bytes-self, bytes-turned, same-bytes}
 use Rattle.desk_law.proofs.GrantLemmas.{each-tracks}
 use Rattle.desk_law.proofs.PlaceLemmas.{each-both, find-each}
-use Rattle.sms_volumes.specs.Barring.{bars, running_barred}
-use Rattle.sms_volumes.specs.Handing.{AreApart, HasTaken, ledger_taken}
+use Rattle.sms_volumes.specs.Inner.Barring.{bars, running_barred}
+use Rattle.sms_volumes.specs.Inner.Handing.{AreApart, HasTaken, ledger_taken}
 use Rattle.sms_volumes.specs.Holding.{AreVolumesOf, IsGroupOf, IsVolumeOf}
 use Rattle.sms_volumes.specs.Next.{AreNext, IsNextGroup, IsNextVolume}
 use Rattle.sms_volumes.specs.Viewing.{running_named}

@@ -15,7 +15,7 @@ use Rattle.desk_law.specs.Candidates.{grant_on, tier_among, view_of, want_of}
 use Rattle.sms_volumes.specs.Asking.{ask_of}
 use Rattle.sms_volumes.specs.Changing.{IsFree}
 use Rattle.sms_volumes.specs.Holding.{AreVolumesOf}
-use Rattle.sms_volumes.specs.Leading.{IsLeading, Leads, before_lead, candidates_among, rank_on}
+use Rattle.sms_volumes.specs.Inner.Leading.{IsLeading, Leads, before_lead, candidates_among, rank_on}
 use Rattle.sms_volumes.specs.Viewing.{IsPick, candidates_in, is_candidate}
 use Rattle.sms_volumes.specs.declared.active_volume.ActiveVolume.{ActiveVolume}
 use Rattle.sms_volumes.specs.declared.active_volumes.ActiveVolumes.{ActiveVolumes}

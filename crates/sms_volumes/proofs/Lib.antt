@@ -15,3 +15,4 @@ pub mod BarLemmas
 pub mod NextLemmas
 pub mod HandLemmas
 pub mod StatusRowLemmas
+pub mod SendLemmas

@@ -19,9 +19,9 @@ use Rattle.desk_law.specs.Volumes.{groups_in, times_group, times_volume, volumes
 use Rattle.desk_law.proofs.ByteLemmas.{bytes-turned, same-bytes}
 use Rattle.desk_law.proofs.PlaceLemmas.{find-each}
 use Rattle.sms_volumes.specs.Holding.{AreVolumesOf, IsGroupOf, IsVolumeOf}
-use Rattle.sms_volumes.specs.Making.{IsMade, next_group, status_of_group, status_of_volume}
+use Rattle.sms_volumes.specs.Inner.Making.{IsMade, next_group, status_of_group, status_of_volume}
 use Rattle.sms_volumes.specs.Next.{AreNext, IsNextGroup, IsNextVolume}
-use Rattle.sms_volumes.specs.Showing.{group_in}
+use Rattle.sms_volumes.specs.Inner.Showing.{group_in}
 use Rattle.sms_volumes.specs.Viewing.{running_named}
 use Rattle.sms_volumes.specs.declared.active_group.ActiveGroup.{ActiveGroup}
 use Rattle.sms_volumes.specs.declared.active_volume.ActiveVolume.{ActiveVolume}

@@ -20,7 +20,7 @@ use Rattle.desk_law.proofs.AscendLemmas.{active-volume-once}
 use Rattle.desk_law.proofs.ByteLemmas.{bytes-self, bytes-turned}
 use Rattle.desk_law.proofs.CountLemmas.{pieces-at, pieces-off}
 use Rattle.sms_volumes.specs.Changing.{HasChanged, HoldsAll, IsFree, IsFreeAt, IsReadyAt, LiesOnSome}
-use Rattle.sms_volumes.specs.Handing.{AreApart}
+use Rattle.sms_volumes.specs.Inner.Handing.{AreApart}
 use Rattle.sms_volumes.specs.Holding.{AreVolumesOf}
 use Rattle.sms_volumes.specs.declared.active_volume.ActiveVolume.{ActiveVolume}
 use Rattle.sms_volumes.specs.declared.active_volumes.ActiveVolumes.{ActiveVolumes}

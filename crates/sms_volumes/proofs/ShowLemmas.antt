@@ -16,7 +16,7 @@ use Rattle.desk_law.specs.Extents.{held_on}
 use Rattle.desk_law.specs.Volumes.{free_on, group_named, groups_in, times_group, times_volume, volume_named, volumes_in, volumes_of_group}
 use Rattle.desk_law.proofs.PlaceLemmas.{each-at, find-each}
 use Rattle.sms_volumes.specs.Holding.{AreVolumesOf, IsGroupOf, IsVolumeOf}
-use Rattle.sms_volumes.specs.Showing.{capacity_in, free_in, group_in, running_free, running_group, running_in, running_row}
+use Rattle.sms_volumes.specs.Inner.Showing.{capacity_in, free_in, group_in, running_free, running_group, running_in, running_row}
 use Rattle.sms_volumes.specs.Viewing.{running_named}
 use Rattle.sms_volumes.specs.declared.active_group.ActiveGroup.{ActiveGroup}
 use Rattle.sms_volumes.specs.declared.active_volume.ActiveVolume.{ActiveVolume}

@@ -17,7 +17,7 @@ use Rattle.desk_law.specs.Lawful.{IsLawful}
 use Rattle.desk_law.specs.Volumes.{groups_in, times_group, times_volume, volumes_in}
 use Rattle.desk_law.proofs.ByteLemmas.{bytes-self, same-bytes}
 use Rattle.sms_volumes.specs.Holding.{AreVolumesOf, IsGroupOf, IsVolumeOf, StandsAt}
-use Rattle.sms_volumes.specs.Varied.{varied_group, varied_volume}
+use Rattle.sms_volumes.specs.Inner.Varied.{varied_group, varied_volume}
 use Rattle.sms_volumes.specs.declared.active_group.ActiveGroup.{ActiveGroup}
 use Rattle.sms_volumes.specs.declared.active_volume.ActiveVolume.{ActiveVolume}
 use Rattle.sms_volumes.specs.declared.active_volumes.ActiveVolumes.{ActiveVolumes}

@@ -20,7 +20,7 @@ use Rattle.desk_law.proofs.ByteLemmas.{same-bytes}
 use Rattle.desk_law.proofs.PlaceLemmas.{each-at, find-each}
 use Rattle.sms_volumes.specs.Asking.{IsAsked, ask_of, need_in}
 use Rattle.sms_volumes.specs.Holding.{AreVolumesOf, IsGroupOf, IsVolumeOf}
-use Rattle.sms_volumes.specs.Leading.{view_in}
+use Rattle.sms_volumes.specs.Inner.Leading.{view_in}
 use Rattle.sms_volumes.specs.Viewing.{running_named}
 use Rattle.sms_volumes.specs.declared.active_group.ActiveGroup.{ActiveGroup}
 use Rattle.sms_volumes.specs.declared.active_volume.ActiveVolume.{ActiveVolume}

@@ -2,11 +2,6 @@ pub mod Holding
 pub mod Asking
 pub mod Changing
 pub mod Viewing
-pub mod Leading
-pub mod Showing
-pub mod Barring
-pub mod Varied
 pub mod Next
-pub mod Making
-pub mod Handing
 pub mod StatusRows
+pub mod Inner

@@ -5,7 +5,7 @@ ghost use Rattle.sms_construct.specs.declared.volume.VolumeDef.{VolumeDef as Def
 ghost use Rattle.desk_law.specs.State.{DeskState};
 ghost use Rattle.desk_law.specs.Activation.{first_barred};
 ghost use Rattle.desk_law.specs.Volumes.{tracks_of};
-ghost use Rattle.sms_volumes.specs.Barring.{bars, running_barred};
+ghost use Rattle.sms_volumes.specs.Inner.Barring.{bars, running_barred};
 ghost use Rattle.sms_volumes.specs.Holding.{AreVolumesOf};
 
 use crate::active_volume::ActiveVolume;

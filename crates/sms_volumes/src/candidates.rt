@@ -36,15 +36,10 @@ fn is_listed(groups: &[Name], name: &[u8]) -> bool
     groups.iter().any(|group| name == group.bytes())
 }
 
-fn any_on(extents: &[Extent], volser: &[u8]) -> bool
-    ensures { result ≡ list_any (λ extent. bytes_eq extent.volser volser.now) extents.now }
-{
-    extents.iter().any(|extent| extent.volser.bytes() == volser)
-}
-
-/// Whether one of the extents lies on the volume.
+/// Whether one of the extents lies on the volume. Those of one volume mostly stand together, so the last are looked
+/// at first.
 pub fn lies_on(extents: &[Extent], volser: &Volser) -> bool
     ensures { result ≡ is_used volser.now extents.now }
 {
-    any_on(extents, volser.bytes())
+    extents.iter().rev().any(|extent| extent.volser == *volser)
 }

@@ -8,7 +8,7 @@ ghost use Rattle.desk_law.specs.State.{DeskState, with_set, without_name};
 ghost use Rattle.desk_law.specs.Extents.{extents_at, extents_named};
 ghost use Rattle.desk_law.specs.Lawful.{IsLawful};
 ghost use Rattle.sms_volumes.specs.Changing.{HasChanged, HoldsAll, IsFreeAt, IsFront, IsPartOf, IsReadyAt, LiesOnSome, extent_if, running_at};
-ghost use Rattle.sms_volumes.specs.Handing.{AreApart};
+ghost use Rattle.sms_volumes.specs.Inner.Handing.{AreApart};
 ghost use Rattle.sms_volumes.specs.Holding.{AreVolumesOf};
 ghost use Rattle.sms_volumes.specs.declared.active_volume.ActiveVolume.{ActiveVolume as Running};
 

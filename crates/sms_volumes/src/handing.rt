@@ -5,7 +5,7 @@ ghost use Rattle.sms_construct.specs.Configuration.{Configuration, IsConfigurati
 ghost use Rattle.desk_law.specs.State.{DeskState};
 ghost use Rattle.desk_law.specs.Activation.{activated, first_barred};
 ghost use Rattle.desk_law.specs.Lawful.{IsLawful};
-ghost use Rattle.sms_volumes.specs.Handing.{AreApart, HasTaken};
+ghost use Rattle.sms_volumes.specs.Inner.Handing.{AreApart, HasTaken};
 ghost use Rattle.sms_volumes.specs.Holding.{AreVolumesOf};
 ghost use Rattle.sms_volumes.specs.Next.{AreNext};
 ghost use Rattle.sms_volumes.specs.Viewing.{running_named};

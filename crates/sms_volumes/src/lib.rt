@@ -21,5 +21,5 @@ pub use active_group::ActiveGroup;
 pub use active_volume::ActiveVolume;
 pub use active_volumes::ActiveVolumes;
 pub use asked::Asked;
-pub use candidates::Candidates;
+pub use candidates::{Candidates, lies_on};
 pub use pick::Pick;

@@ -6,9 +6,9 @@ ghost use Rattle.sms_construct.specs.declared.volume.VolumeDef.{VolumeDef as Def
 ghost use Rattle.desk_law.specs.State.{DeskState};
 ghost use Rattle.desk_law.specs.Lawful.{IsLawful};
 ghost use Rattle.sms_volumes.specs.Holding.{AreVolumesOf};
-ghost use Rattle.sms_volumes.specs.Making.{IsMade, next_group, status_of_group, status_of_volume};
+ghost use Rattle.sms_volumes.specs.Inner.Making.{IsMade, next_group, status_of_group, status_of_volume};
 ghost use Rattle.sms_volumes.specs.Next.{AreNext};
-ghost use Rattle.sms_volumes.specs.Showing.{group_in};
+ghost use Rattle.sms_volumes.specs.Inner.Showing.{group_in};
 ghost use Rattle.sms_volumes.specs.Viewing.{running_named};
 ghost use Rattle.sms_volumes.specs.declared.active_volume.ActiveVolume.{ActiveVolume as Running};
 
@@ -147,7 +147,7 @@ impl ActiveVolumes {
             AreNext s.statuses config.now next) }
         ensures few { length config.now.volumes ≤ most_volumes }
     {
-        // Facts for the proof; nothing runs.
+        // Facts for the proof; nothing changes.
         let _deck = config.deck();
         Ok(ActiveVolumes {
             groups: self.next_groups(alloc, config.groups(), config.volumes())?,

@@ -4,7 +4,7 @@ ghost use Rattle.std.specs.List.{AllZip};
 ghost use Rattle.desk_law.specs.State.{DeskState, with_status};
 ghost use Rattle.desk_law.specs.Lawful.{IsLawful};
 ghost use Rattle.sms_volumes.specs.Holding.{AreVolumesOf};
-ghost use Rattle.sms_volumes.specs.Varied.{varied_group, varied_volume};
+ghost use Rattle.sms_volumes.specs.Inner.Varied.{varied_group, varied_volume};
 
 use crate::active_group::ActiveGroup;
 use crate::active_volume::ActiveVolume;

@@ -7,7 +7,7 @@ ghost use Rattle.desk_law.specs.Lawful.{IsLawful};
 ghost use Rattle.sms_volumes.specs.Asking.{IsAsked, ask_of, need_in};
 ghost use Rattle.sms_volumes.specs.Changing.{IsFreeAt};
 ghost use Rattle.sms_volumes.specs.Holding.{AreVolumesOf, StandForSome};
-ghost use Rattle.sms_volumes.specs.Leading.{Leads, candidates_among, view_in};
+ghost use Rattle.sms_volumes.specs.Inner.Leading.{Leads, candidates_among, view_in};
 ghost use Rattle.sms_volumes.specs.Viewing.{IsPick, running_named};
 ghost use Rattle.sms_volumes.specs.declared.active_volume.ActiveVolume.{ActiveVolume as Running};
 

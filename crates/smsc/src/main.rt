@@ -31,8 +31,8 @@ fn answer(rt: &HostRuntime, words: &[String], note: &mut String) -> ToolStatus {
     smsc_main(rt.alloc(), words, &mut src, &mut out, note)
 }
 
-// Says a status other than 0 and 1 on standard error, with the script's fault, and what a fault means: in the words of the
-// note, or where there is none in its own. Ends the program with the status.
+// Says a status other than 0 and 1 on standard error, with the script's fault, and what a fault means: in the words of
+// the note, or where there is none in its own. Ends the program with the status.
 fn end(rt: &HostRuntime, status: ToolStatus, note: &str) -> ExitCode
     ensures { exit_status result ≡ exit_status_of status }
 {

@@ -108,8 +108,8 @@ fn show(rt: &HostRuntime, text: &str) -> ExitCode {
     }
 }
 
-// Says a status other than 0 on standard error, with the script's fault, and what it means: in the words of the note, or
-// where there is none in its own. Ends the program with it.
+// Says a status other than 0 on standard error, with the script's fault, and what it means: in the words of the note,
+// or where there is none in its own. Ends the program with it.
 fn end(rt: &HostRuntime, status: RunStatus, note: &str) -> ExitCode
     ensures { exit_status result ≡ exit_status_of status }
 {

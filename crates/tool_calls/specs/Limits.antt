@@ -1,11 +1,13 @@
 -- How long an input may be (docs/tool.md).
 use Rattle.std.specs.Prelude.{ℕ}
+use Rattle.desk_common.specs.Limits.{most_input_bytes}
+use Rattle.sms_deck.specs.Limits.{most_routine_bytes}
 use Rattle.tool_words.specs.declared.task.Task.{Task}
 use Rattle.tool_words.specs.declared.task.Task.TheVariants.{Translate, Validate, Simulate, Compare}
 
 -- the most bytes of the input
 abbrev pub most_bytes : Task → ℕ
-most_bytes (Translate kind) = 65536
-most_bytes Validate = 16777216
-most_bytes Simulate = 16777216
-most_bytes Compare = 16777216
+most_bytes (Translate kind) = most_routine_bytes
+most_bytes Validate = most_input_bytes
+most_bytes Simulate = most_input_bytes
+most_bytes Compare = most_input_bytes

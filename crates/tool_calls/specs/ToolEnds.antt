@@ -44,7 +44,8 @@ pub record IsUnread (old new : Observed) : Type 0 where
   pub left : new.left ≡ old.left
   pub read_faults : new.read_faults ≡ old.read_faults
 
--- the statuses that the call ends with where it shows a text of help or of the version; what the sink took then is not told
+-- the statuses that the call ends with where it shows a text of help or of the version; what the sink took then is not
+-- told
 abbrev pub ends_shown : ToolStatus → Bool
 ends_shown Done = true
 ends_shown WriteFault = true

@@ -65,7 +65,8 @@ pub data IsAnswer (bytes : List ℕ) : Task → ToolStatus → List ℕ → Type
   compared : (cases : Cases) (text : List ℕ) → IsReading bytes cases → IsListing cases.before cases.after cases.list text → IsAnswer bytes Compare Done text
   uncompared : (err : CasesErr) → IsRefusal bytes err → IsAnswer bytes Compare FaultFound (cases_fault_text err)
 
--- the input is no script that can be simulated: it has this fault as a script, or is one with an item that isn't the one asked there
+-- the input is no script that can be simulated: it has this fault as a script, or is one with an item that isn't the
+-- one asked there
 pub data IsScriptFault (bytes : List ℕ) : Task → ScriptErr → Type 0 where
   unread : (err : ScriptErr) → script_of bytes ≡ Err err → IsScriptFault bytes Simulate err
   misplaced : (phases : List (List Item)) (line : ℕ) → script_of bytes ≡ Ok phases → first_misplaced (items_of phases) ≡ Some line → IsScriptFault bytes Simulate (scripts.BadLine line)

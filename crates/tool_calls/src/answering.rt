@@ -1,6 +1,5 @@
 //! From the bytes of the input to the text of the answer.
 ghost use Rattle.std.specs.Prelude.{◌≡◌, ◌<◌, ◌^◌, length, IfOk, IfErr};
-ghost use Rattle.sms_deck.specs.Reading.{HasFirstFault};
 ghost use Rattle.tool_calls.specs.ToolText.{letter_of, translated_text, fault_text, refused_text, valid_text, IsAnswer, Hinders, hindrance_of, TellsFault, TellsSimulation, HindersSimulation};
 ghost use Rattle.tool_words.specs.declared.task.Task.TheVariants.{Translate, Validate, Simulate};
 

@@ -2,13 +2,9 @@
 ghost use Rattle.std.specs.Prelude.{◌≡◌};
 ghost use Rattle.tool_calls.specs.Limits.{most_bytes};
 
+use desk_common::MAX_INPUT;
+use sms_deck::MAX_ROUTINE;
 use tool_words::Task;
-
-/// The longest routine, in bytes.
-const MAX_ROUTINE: usize = 65_536;
-
-/// The longest input that holds a deck, a script or a comparison, in bytes.
-const MAX_INPUT: usize = 16_777_216;
 
 /// The most bytes of the input of a task.
 pub fn most_bytes(task: Task) -> usize

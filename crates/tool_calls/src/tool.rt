@@ -1,7 +1,6 @@
 //! The top call of the translator.
 ghost use Rattle.std.specs.Prelude.{◌≡◌, ◌⊎◌, true, map, string_bytes};
 ghost use Rattle.desk_common.specs.Causes.{Rose};
-ghost use Rattle.sms_base.specs.Observed.{Observed};
 ghost use Rattle.tool_calls.specs.ToolEnds.{Ends, EndsFor, ends_shown, leaves_sink};
 ghost use Rattle.tool_words.specs.Asking.{AreRefused, AreShown};
 ghost use Rattle.tool_words.specs.Tool.{words_of};

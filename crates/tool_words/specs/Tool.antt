@@ -52,8 +52,8 @@ names_with texts = lent (map lent texts)
 abbrev pub tool : App
 tool = tool_app (names_with kind_words)
 
--- the words that ask for a translation are `translate` and the name of the kind; those that ask for a validation are `validate`,
--- those that ask for a simulation `simulate`, and those that ask for a comparison `compare`
+-- the words that ask for a translation are `translate` and the name of the kind; those that ask for a validation are
+-- `validate`, those that ask for a simulation `simulate`, and those that ask for a comparison `compare`
 abbrev pub words_of : Task → List Text
 words_of (tasks.Translate kind) = codes "translate" ∷ name_of kind ∷ []
 words_of tasks.Validate = codes "validate" ∷ []

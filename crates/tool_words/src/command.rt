@@ -1,5 +1,5 @@
 // The command that reads the words.
-ghost use Rattle.std.specs.Prelude.{◌≡◌, IfOk};
+ghost use Rattle.std.specs.Prelude.{IfOk};
 ghost use Rattle.clap.specs.Words.{app_of};
 ghost use Rattle.tool_words.specs.Tool.{IsTool};
 

@@ -1,9 +1,6 @@
 //! How a seat comes to its turn.
-ghost use Rattle.std.specs.Prelude.{◌≡◌, ℕ, false, ◌+◌, ◌-◌, ◌%◌, ◌<◌, ◌≤◌, List, [], ◌∷◌, ◌++◌, Some, None, IfOk, IfErr, IfSome, IfNone, All, length, map, vec_len, vec_capacity, slice_index_or};
-ghost use Rattle.turn_lock.specs.Contract.{part_of, seen, mine, taken, mine_at, numbers, IsOf, IsTurnOf, MayGive, AreAll, IsNew, AreNumbered, Stands};
-ghost use Rattle.turn_lock.specs.Rule.{AllFit, AreBelow, copies};
-ghost use Rattle.turn_lock.specs.Steps.{newcomer, idle, parts_from, giving, IsWaiting, HasTaken, remainder, guest};
-ghost use Rattle.turn_lock.specs.Views.{StartsWith, made_by, own, IsMine, AreUnsigned, IsAlone, later, size, IsBy};
+ghost use Rattle.std.specs.Prelude.{◌≡◌, ℕ, ◌+◌, ◌-◌, ◌%◌, ◌<◌, [], Some, None, IfSome, IfNone};
+ghost use Rattle.turn_lock.specs.Steps.{IsWaiting, HasTaken};
 
 use crate::journaled::Journaled;
 use crate::lock::TurnLock;

@@ -39,8 +39,8 @@ impl Series<'_> {
         Ok(None)
     }
 
-    /// The first of so many writes of one byte that doesn't end the run with status 4 and the bytes before it written where
-    /// it fails, or the one behind them if the run makes that too; none for no writes.
+    /// The first of so many writes of one byte that doesn't end the run with status 4 and the bytes before it written
+    /// where it fails, or the one behind them if the run makes that too; none for no writes.
     pub fn odd_write<R: AllocGlobal + Threads + Wait + Sync>(
         &self,
         rt: &R,
@@ -67,8 +67,8 @@ impl Series<'_> {
         Ok(None)
     }
 
-    /// The length of the first front of the input whose run doesn't end as is said of it, or of which nothing is said; none
-    /// where nothing is said of any.
+    /// The length of the first front of the input whose run doesn't end as is said of it, or of which nothing is said;
+    /// none where nothing is said of any.
     pub fn odd_front<R: AllocGlobal + Threads + Wait + Sync>(
         &self,
         rt: &R,

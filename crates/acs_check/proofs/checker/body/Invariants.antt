@@ -1,6 +1,6 @@
 use Rattle.std.proofs.Common.{◌≡◌, ◌≤◌, length, map, take, drop}
-use Rattle.acs_check.specs.Marks.{is_simple_statement}
-use Rattle.acs_check.specs.Walk.{passed}
+use Rattle.acs_check.specs.Inner.Marks.{is_simple_statement}
+use Rattle.acs_check.specs.Inner.Walk.{passed}
 use Rattle.acs_check.proofs.checker.body.Given as goal
 
 abbrev pub invariant-loop-index : goal.invariant-loop-index

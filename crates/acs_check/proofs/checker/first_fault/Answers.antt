@@ -1,6 +1,6 @@
 use Rattle.std.proofs.Common.{arith, rules}
 use Rattle.std.proofs.lemmas.Grind.{common_steps}
-use Rattle.acs_check.specs.Walk.{first_fault_of}
+use Rattle.acs_check.specs.Inner.Walk.{first_fault_of}
 use Rattle.acs_check.proofs.checker.first_fault.Goals as goal
 
 pub returns : goal.returns

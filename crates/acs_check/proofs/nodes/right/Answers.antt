@@ -2,7 +2,7 @@ use Rattle.std.proofs.Common.{◌∙◌, ap, sym}
 use Rattle.acs_tree.specs.declared.routine.Operand.{Operand}
 use Rattle.acs_tree.specs.Nodes.{Right}
 use Rattle.acs_tree.specs.Suits.{is_too_great, is_word_with, token_of}
-use Rattle.acs_check.specs.Walk.{met}
+use Rattle.acs_check.specs.Inner.Walk.{met}
 use Rattle.acs_check.proofs.NodeLemmas.{right_at}
 use Rattle.acs_check.proofs.nodes.right.Goals as goal
 

@@ -1,7 +1,7 @@
 use Rattle.std.proofs.Common.{◌∙◌, ◌+◌, ap, drop}
 use Rattle.acs_tree.specs.Nodes.{nodes_of_cond}
-use Rattle.acs_check.specs.Parts.{nodes_of_block}
-use Rattle.acs_check.specs.Walk.{walked}
+use Rattle.acs_check.specs.Inner.Parts.{nodes_of_block}
+use Rattle.acs_check.specs.Inner.Walk.{walked}
 use Rattle.acs_check.proofs.WalkLemmas.{block_turn, if_at, pick_given, when_at}
 use Rattle.acs_check.proofs.statements.+walk.Goals as goal
 

@@ -1,6 +1,6 @@
 use Rattle.std.proofs.Common.{◌≡◌, drop}
-use Rattle.acs_check.specs.Parts.{nodes_of_block, nodes_of_whens}
-use Rattle.acs_check.specs.Walk.{walked}
+use Rattle.acs_check.specs.Inner.Parts.{nodes_of_block, nodes_of_whens}
+use Rattle.acs_check.specs.Inner.Walk.{walked}
 use Rattle.acs_check.proofs.statements.+walk.Given as goal
 
 abbrev pub invariant-block-statements : goal.invariant-block-statements

@@ -1,7 +1,7 @@
 use Rattle.std.proofs.Common.{◌∙◌, ap}
 use Rattle.std.proofs.Common.{drop, ◌+◌}
 use Rattle.acs_tree.specs.Nodes.{entries_behind}
-use Rattle.acs_check.specs.Walk.{walked}
+use Rattle.acs_check.specs.Inner.Walk.{walked}
 use Rattle.acs_check.proofs.NodeLemmas.{entries_turn}
 use Rattle.acs_check.proofs.statements.entries.Goals as goal
 

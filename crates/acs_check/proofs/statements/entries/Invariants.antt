@@ -1,6 +1,6 @@
 use Rattle.std.proofs.Common.{◌≡◌, drop}
 use Rattle.acs_tree.specs.Nodes.{entries_behind}
-use Rattle.acs_check.specs.Walk.{walked}
+use Rattle.acs_check.specs.Inner.Walk.{walked}
 use Rattle.acs_check.proofs.statements.entries.Given as goal
 
 abbrev pub invariant-loop-count : goal.invariant-loop-count

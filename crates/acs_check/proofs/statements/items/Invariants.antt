@@ -1,6 +1,6 @@
 use Rattle.std.proofs.Common.{◌≡◌, drop, map}
 use Rattle.acs_tree.specs.Nodes.{Right}
-use Rattle.acs_check.specs.Walk.{walked}
+use Rattle.acs_check.specs.Inner.Walk.{walked}
 use Rattle.acs_check.proofs.statements.items.Given as goal
 
 abbrev pub invariant-loop-operand : goal.invariant-loop-operand

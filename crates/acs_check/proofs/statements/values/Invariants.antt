@@ -1,6 +1,6 @@
 use Rattle.std.proofs.Common.{◌≡◌, take, drop}
 use Rattle.acs_tree.specs.Nodes.{values_behind}
-use Rattle.acs_check.specs.Walk.{walked}
+use Rattle.acs_check.specs.Inner.Walk.{walked}
 use Rattle.acs_check.proofs.statements.values.Given as goal
 
 abbrev pub invariant-loop-index : goal.invariant-loop-index

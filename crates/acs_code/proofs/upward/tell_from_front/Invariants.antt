@@ -1,5 +1,5 @@
 use Rattle.std.proofs.Common.{◌≡◌, ◌++◌, take, drop, map}
-use Rattle.acs_code.specs.Upward.{placed}
+use Rattle.acs_code.specs.Inner.Upward.{placed}
 use Rattle.acs_code.proofs.upward.tell_from_front.Given as goal
 
 -- the instructions so far tell their places from the front, those behind are as they were

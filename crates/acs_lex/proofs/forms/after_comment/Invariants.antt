@@ -1,5 +1,5 @@
 use Rattle.std.proofs.Common.{◌≡◌, length}
-use Rattle.acs_lex.specs.Scanning.{after_comment}
+use Rattle.acs_lex.specs.Inner.Scanning.{after_comment}
 use Rattle.acs_lex.proofs.forms.after_comment.Given as goal
 
 abbrev pub invariant-ends : goal.invariant-ends

@@ -1,5 +1,5 @@
 use Rattle.std.proofs.Common.{◌≡◌, ◌≤◌, ◌++◌, drop, length, take}
-use Rattle.acs_run.specs.Lines.{after_commas}
+use Rattle.acs_run.specs.Inner.Lines.{after_commas}
 use Rattle.acs_run.proofs.line.put_more_groups.Given as goal
 
 abbrev pub invariant-loop-group : goal.invariant-loop-group

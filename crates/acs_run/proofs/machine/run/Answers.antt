@@ -2,9 +2,9 @@ use Rattle.std.proofs.Common.{◌≡◌, ◌∙◌, length, sym, ap, arith}
 use Rattle.acs_tree.specs.KeptLines.{kept_lines_of}
 use Rattle.acs_tree.specs.Outcome.{Outcome}
 use Rattle.acs_tree.specs.Slates.{with_kept_lines}
-use Rattle.acs_code.specs.Steps.{rest_of}
+use Rattle.acs_code.specs.Inner.Steps.{rest_of}
 use Rattle.acs_code.proofs.RunLemmas.{comes_to_rest, past_all, rest_is}
-use Rattle.acs_run.specs.Steps.{with_lines}
+use Rattle.acs_run.specs.Inner.Steps.{with_lines}
 use Rattle.acs_run.proofs.KeptLemmas.{all_at_once, keeps_other_kinds}
 use Rattle.acs_run.proofs.machine.run.Goals as goal
 

@@ -1,6 +1,6 @@
 use Rattle.std.proofs.Common.{◌≤◌, ◌-◌, length}
-use Rattle.acs_code.specs.Steps.{rest_of}
-use Rattle.acs_run.specs.Steps.{Same}
+use Rattle.acs_code.specs.Inner.Steps.{rest_of}
+use Rattle.acs_run.specs.Inner.Steps.{Same}
 use Rattle.acs_run.proofs.machine.run.Given as goal
 
 abbrev pub invariant-loop-place : goal.invariant-loop-place

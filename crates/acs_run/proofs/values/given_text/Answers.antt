@@ -1,5 +1,5 @@
 use Rattle.std.proofs.Common.{◌++◌}
-use Rattle.acs_run.specs.Seen.{accounting_variables, default_variables, environment_variables}
+use Rattle.acs_run.specs.Inner.Seen.{accounting_variables, default_variables, environment_variables}
 use Rattle.acs_run.proofs.VariableLemmas.{first, later, value_at}
 use Rattle.acs_run.proofs.values.given_text.Goals as goal
 

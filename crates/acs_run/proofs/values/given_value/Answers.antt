@@ -1,5 +1,5 @@
 use Rattle.std.proofs.Common.{◌++◌}
-use Rattle.acs_run.specs.Seen.{size_variables, text_variables, volume_variables}
+use Rattle.acs_run.specs.Inner.Seen.{size_variables, text_variables, volume_variables}
 use Rattle.acs_run.proofs.VariableLemmas.{first, later, value_at}
 use Rattle.acs_run.proofs.values.given_value.Goals as goal
 

@@ -1,5 +1,5 @@
 use Rattle.std.proofs.Common.{◌++◌}
-use Rattle.acs_run.specs.Seen.{attribute_variables, given_variables, number_variables, origin_variables}
+use Rattle.acs_run.specs.Inner.Seen.{attribute_variables, given_variables, number_variables, origin_variables}
 use Rattle.acs_run.proofs.VariableLemmas.{first, later, value_at}
 use Rattle.acs_run.proofs.values.input_value.Goals as goal
 

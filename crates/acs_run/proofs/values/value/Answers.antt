@@ -1,6 +1,6 @@
 use Rattle.std.proofs.Common.{◌∙◌, ap}
 use Rattle.acs_tree.specs.Value.{Text}
-use Rattle.acs_run.specs.Seen.{class_variables, input_variables, name_variables, seen}
+use Rattle.acs_run.specs.Inner.Seen.{class_variables, input_variables, name_variables, seen}
 use Rattle.acs_run.proofs.VariableLemmas.{by_names, by_none}
 use Rattle.acs_run.proofs.values.value.Goals as goal
 

@@ -1,6 +1,6 @@
 use Rattle.std.proofs.Common.{◌∙◌, List, ℕ, Ok, ap}
 use Rattle.acs_test.specs.Layout.{Parts}
-use Rattle.acs_test.specs.Parts.{block_seen, numbered_in}
+use Rattle.acs_test.specs.Inner.Parts.{block_seen, numbered_in}
 use Rattle.acs_test.proofs.LayoutLemmas.{lines_whole, parts_found}
 use Rattle.acs_test.proofs.layout.parts_of.Goals as goal
 

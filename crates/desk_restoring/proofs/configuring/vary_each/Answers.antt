@@ -2,7 +2,7 @@ use Rattle.std.proofs.Common.{List, subst}
 use Rattle.std.proofs.lemmas.List.{take_all}
 use Rattle.sms_keeper.specs.declared.status_row.StatusRow.{StatusRow}
 use Rattle.sms_volumes.specs.Holding.{AreVolumesOf}
-use Rattle.desk_restoring.specs.Replaying.{statuses_varied, with_statuses}
+use Rattle.desk_restoring.specs.Inner.Replaying.{statuses_varied, with_statuses}
 use Rattle.desk_restoring.proofs.StatusRowLemmas.{statuses-next}
 use Rattle.desk_restoring.proofs.configuring.vary_each.Goals as goal
 

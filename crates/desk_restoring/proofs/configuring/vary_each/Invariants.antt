@@ -2,7 +2,7 @@ use Rattle.std.proofs.Common.{take}
 use Rattle.desk_law.specs.State.{DeskState}
 use Rattle.desk_law.specs.Lawful.{IsLawful}
 use Rattle.sms_volumes.specs.Holding.{AreVolumesOf}
-use Rattle.desk_restoring.specs.Replaying.{statuses_varied, with_statuses}
+use Rattle.desk_restoring.specs.Inner.Replaying.{statuses_varied, with_statuses}
 use Rattle.desk_restoring.proofs.configuring.vary_each.Given as goal
 
 -- the targets of the rows that were gone over have their statuses

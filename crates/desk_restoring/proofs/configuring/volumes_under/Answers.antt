@@ -1,4 +1,4 @@
-use Rattle.desk_restoring.specs.Replaying.{fresh_state}
+use Rattle.desk_restoring.specs.Inner.Replaying.{fresh_state}
 use Rattle.desk_restoring.proofs.StatusRowLemmas.{lawful-fresh}
 use Rattle.desk_restoring.proofs.configuring.volumes_under.Goals as goal
 

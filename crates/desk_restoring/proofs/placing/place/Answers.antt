@@ -2,8 +2,8 @@ use Rattle.std.proofs.Common.{◌≤◌, ◌+◌, List, drop, length, subst, sym
 use Rattle.sms_construct.specs.declared.extent.Extent.{Extent}
 use Rattle.desk_law.specs.State.{DeskState}
 use Rattle.sms_volumes.specs.Holding.{AreVolumesOf}
-use Rattle.desk_restoring.specs.Placing.{sets_placed}
-use Rattle.desk_restoring.specs.Replaying.{with_sets}
+use Rattle.desk_restoring.specs.Inner.Placing.{sets_placed}
+use Rattle.desk_restoring.specs.Inner.Replaying.{with_sets}
 use Rattle.desk_restoring.proofs.ListLemmas.{parts-in, take-in}
 use Rattle.desk_restoring.proofs.PlacingLemmas.{can-hold, place-next, placed-whole}
 use Rattle.desk_restoring.proofs.placing.place.Goals as goal

@@ -3,8 +3,8 @@ use Rattle.sms_construct.specs.declared.data_set.DataSet.{DataSet}
 use Rattle.desk_law.specs.State.{DeskState}
 use Rattle.desk_law.specs.Lawful.{IsLawful}
 use Rattle.sms_volumes.specs.Holding.{AreVolumesOf}
-use Rattle.desk_restoring.specs.Placing.{sets_placed}
-use Rattle.desk_restoring.specs.Replaying.{with_sets}
+use Rattle.desk_restoring.specs.Inner.Placing.{sets_placed}
+use Rattle.desk_restoring.specs.Inner.Replaying.{with_sets}
 use Rattle.desk_restoring.proofs.placing.place.Given as goal
 
 -- the data set has the extents that were gone over

@@ -3,8 +3,8 @@ use Rattle.std.proofs.lemmas.List.{take-append-drop, take_all}
 use Rattle.sms_construct.specs.declared.data_set.DataSet.{DataSet}
 use Rattle.desk_law.specs.State.{DeskState}
 use Rattle.sms_volumes.specs.Holding.{AreVolumesOf}
-use Rattle.desk_restoring.specs.Placing.{CanPlace}
-use Rattle.desk_restoring.specs.Replaying.{with_sets}
+use Rattle.desk_restoring.specs.Inner.Placing.{CanPlace}
+use Rattle.desk_restoring.specs.Inner.Replaying.{with_sets}
 use Rattle.desk_restoring.proofs.ListLemmas.{take-next}
 use Rattle.desk_restoring.proofs.PartLemmas.{lawful-front}
 use Rattle.desk_restoring.proofs.placing.place_all.Goals as goal

@@ -3,7 +3,7 @@ use Rattle.std.specs.List.{AllByRecursion}
 use Rattle.sms_keeper.specs.declared.status_row.StatusRow.{StatusRow}
 use Rattle.desk_law.specs.State.{DeskState}
 use Rattle.sms_volumes.specs.Holding.{AreVolumesOf}
-use Rattle.desk_restoring.specs.Replaying.{IsAllowed, fresh_state, statuses_varied, with_statuses}
+use Rattle.desk_restoring.specs.Inner.Replaying.{IsAllowed, fresh_state, statuses_varied, with_statuses}
 use Rattle.desk_restoring.proofs.StatusRowLemmas.{restored-volumes}
 use Rattle.desk_restoring.proofs.restoring.held_volumes.Goals as goal
 

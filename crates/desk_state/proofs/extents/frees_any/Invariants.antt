@@ -1,7 +1,7 @@
 use Rattle.std.proofs.Common.{◌≡◌, drop}
 use Rattle.std.specs.Prelude.{nat_lt}
 use Rattle.desk_law.specs.Extents.{front_tracks}
-use Rattle.desk_state.specs.Sums.{tracks_in}
+use Rattle.desk_state.specs.Inner.Sums.{tracks_in}
 use Rattle.desk_state.proofs.extents.frees_any.Given as goal
 
 -- a track is freed where one is freed of the extents that are left

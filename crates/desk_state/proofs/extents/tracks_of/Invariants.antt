@@ -1,5 +1,5 @@
 use Rattle.std.proofs.Common.{◌≡◌, ◌≤◌, ◌*◌, take}
-use Rattle.desk_state.specs.Sums.{tracks_in}
+use Rattle.desk_state.specs.Inner.Sums.{tracks_in}
 use Rattle.desk_state.proofs.extents.tracks_of.Given as goal
 
 -- the tracks of the extents that were gone over, each of fewer than 2 ^ 32

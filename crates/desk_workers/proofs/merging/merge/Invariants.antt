@@ -1,5 +1,5 @@
 use Rattle.std.specs.Prelude.{◌≡◌, vec_capacity}
-use Rattle.desk_workers.specs.Merged.{MergesFront}
+use Rattle.desk_workers.specs.Inner.Merged.{MergesFront}
 use Rattle.desk_workers.proofs.merging.merge.Given as goal
 
 -- the answers up to here stand behind the others, and the room is as it was

@@ -1,4 +1,4 @@
-use Rattle.desk_workers.specs.Rooms.{AreKept, HaveRoom}
+use Rattle.desk_workers.specs.Inner.Rooms.{AreKept, HaveRoom}
 use Rattle.desk_workers.proofs.rooms.take_rooms.Given as goal
 
 -- the seats are as they were, and those so far have room

@@ -1,7 +1,7 @@
 use Rattle.std.proofs.Common.{◌≡◌, ◌+◌, ◌<◌, ◌≤◌, ◌++◌, [], All, length, take, drop, arith, sym, ap, subst, ◌∙◌, rules}
 use Rattle.desk_signing.specs.Signing.{signed}
 use Rattle.desk_plan.specs.Plan.{plan_of}
-use Rattle.desk_workers.specs.Shared.{IsIdle}
+use Rattle.desk_workers.specs.Inner.Shared.{IsIdle}
 use Rattle.desk_workers.proofs.SharedLemmas.{closed-desk, lent-all, new-idle, plan-below}
 use Rattle.desk_workers.proofs.sharing.share_phase.Goals as goal
 

@@ -1,5 +1,5 @@
 use Rattle.std.specs.Prelude.{take}
-use Rattle.desk_workers.specs.Worked.{HasWorked}
+use Rattle.desk_workers.specs.Inner.Worked.{HasWorked}
 use Rattle.desk_workers.proofs.working.work.Given as goal
 
 -- the worker's items up to here are answered

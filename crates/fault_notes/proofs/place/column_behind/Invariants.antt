@@ -1,5 +1,5 @@
 use Rattle.std.proofs.Common.{◌≡◌, ◌≤◌, ◌+◌, take}
-use Rattle.fault_notes.specs.Places.{column_behind}
+use Rattle.fault_notes.specs.Inner.Places.{column_behind}
 use Rattle.fault_notes.proofs.place.column_behind.Given as goal
 
 -- the column behind the bytes that were gone over

@@ -1,6 +1,6 @@
 use Rattle.std.proofs.Common.{◌++◌, ◌∙◌, ap, take}
 use Rattle.http_answer.specs.AnswerBody.{answer_body, code_of}
-use Rattle.http_answer.specs.Lines.{code_text, first_of, lines_text}
+use Rattle.http_answer.specs.Inner.Lines.{code_text, first_of, lines_text}
 use Rattle.sms_script.specs.AnswerText.{answer_lines}
 use Rattle.http_answer.proofs.BodyLemmas.{body-parts}
 use Rattle.http_answer.proofs.TextLemmas.{on-behind, on-same}

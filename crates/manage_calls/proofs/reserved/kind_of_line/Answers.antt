@@ -1,5 +1,5 @@
 use Rattle.std.proofs.Common.{sym, ap, ◌∙◌}
-use Rattle.manage_calls.specs.LineAlone.{kind_told}
+use Rattle.manage_calls.specs.Inner.LineAlone.{kind_told}
 use Rattle.manage_calls.proofs.AloneLemmas.{line-told, refused-told}
 use Rattle.manage_calls.proofs.reserved.kind_of_line.Goals as goal
 

@@ -1,6 +1,6 @@
 use Rattle.std.proofs.Common.{rules, Some, map, refl, ap, ◌∙◌}
 use Rattle.std.proofs.lemmas.List.{map_push}
-use Rattle.serve_calls.specs.Workers.{HasMost, door_of, seat_of}
+use Rattle.serve_calls.specs.Inner.Workers.{HasMost, door_of, seat_of}
 use Rattle.serve_calls.proofs.ManningLaws.{handed, more}
 use Rattle.serve_calls.proofs.manning.hand_out.Goals as goal
 

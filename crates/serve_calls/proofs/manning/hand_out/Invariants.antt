@@ -1,5 +1,5 @@
 use Rattle.std.specs.Prelude.{◌≡◌, ◌≤◌, ◌+◌, ◌++◌, Some, All, map, reverse, vec_capacity, vec_len}
-use Rattle.serve_calls.specs.Workers.{HasMost, door_of, seat_of}
+use Rattle.serve_calls.specs.Inner.Workers.{HasMost, door_of, seat_of}
 use Rattle.serve_calls.proofs.manning.hand_out.Given as goal
 
 -- the seats and doors that are handed out, and those that are left

@@ -1,6 +1,6 @@
 use Rattle.std.proofs.Common.{rules, Some, map, refl, ap, ◌∙◌}
 use Rattle.std.proofs.lemmas.List.{map_push}
-use Rattle.serve_calls.specs.Workers.{IsAtSeat, door_of, end_of, seat_of, visits_of}
+use Rattle.serve_calls.specs.Inner.Workers.{IsAtSeat, door_of, end_of, seat_of, visits_of}
 use Rattle.serve_calls.proofs.ManningLaws.{brought, fewer}
 use Rattle.serve_calls.proofs.manning.take_back.Goals as goal
 

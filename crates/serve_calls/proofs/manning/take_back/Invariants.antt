@@ -1,5 +1,5 @@
 use Rattle.std.specs.Prelude.{◌≡◌, ◌≤◌, ◌+◌, ◌++◌, Some, All, map, reverse, vec_capacity, vec_len}
-use Rattle.serve_calls.specs.Workers.{IsAtSeat, door_of, end_of, seat_of, visits_of}
+use Rattle.serve_calls.specs.Inner.Workers.{IsAtSeat, door_of, end_of, seat_of, visits_of}
 use Rattle.serve_calls.proofs.manning.take_back.Given as goal
 
 -- what is back, and what the workers still have

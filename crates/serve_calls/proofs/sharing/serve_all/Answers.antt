@@ -1,7 +1,7 @@
 use Rattle.std.proofs.Common.{◌≡◌, ◌++◌, All, Some, length, map, reverse, take, drop, arith, sym, subst, ap, ◌∙◌}
 use Rattle.sms_desk.specs.Seats.{IsJobOf}
 use Rattle.desk_workers.proofs.SharedLemmas.{lent-all}
-use Rattle.serve_calls.specs.Workers.{HasMost, HasSeat, IsAtSeat, door_of, end_of, seat_of, visits_of}
+use Rattle.serve_calls.specs.Inner.Workers.{HasMost, HasSeat, IsAtSeat, door_of, end_of, seat_of, visits_of}
 use Rattle.serve_calls.proofs.ManningLaws.{All-reverse, map-reverse}
 use Rattle.serve_calls.proofs.ShiftLaws.{at-seats, have-seats, shifts-done}
 use Rattle.serve_calls.proofs.sharing.serve_all.Goals as goal

@@ -1,7 +1,7 @@
 use Rattle.std.proofs.Common.{subst, sym, subst₂}
 use denote.Param.Send.{sendable}
 use Rattle.desk_workers.proofs.SendLemmas.{desk-sync}
-use Rattle.serve_calls.specs.Workers.{DidShift, HasSeat}
+use Rattle.serve_calls.specs.Inner.Workers.{DidShift, HasSeat}
 use Rattle.serve_calls.proofs.SendLemmas.{worker-send}
 use Rattle.serve_calls.proofs.working.work_all.Goals as goal
 

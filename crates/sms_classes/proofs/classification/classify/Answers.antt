@@ -1,7 +1,7 @@
 use Rattle.std.proofs.Common.{◌≡◌, ◌∙◌, ap, subst, sym}
 use Rattle.desk_law.specs.Classification.{Classes, classes_of}
 use Rattle.sms_classes.specs.Known.{AreKnown}
-use Rattle.sms_classes.specs.Onward.{classes}
+use Rattle.sms_classes.specs.Inner.Onward.{classes}
 use Rattle.sms_classes.proofs.OnwardLemmas.{all_routines}
 use Rattle.sms_classes.proofs.classification.classify.Goals as goal
 

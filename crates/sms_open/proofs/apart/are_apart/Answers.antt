@@ -1,7 +1,7 @@
 use Rattle.std.proofs.Common.{Bool, true, List, sym, ap, ◌∙◌}
 use Rattle.std.specs.BTreeMap.{is_at}
 use Rattle.std.specs.Map.{lookup}
-use Rattle.sms_open.specs.Keys.{times_found}
+use Rattle.sms_open.specs.Inner.Keys.{times_found}
 use Rattle.sms_open.proofs.KeyLemmas.{apart-end, counted-put, none-is, some-is, stands-twice}
 use Rattle.sms_open.proofs.apart.are_apart.Goals as goal
 

@@ -1,7 +1,7 @@
 use Rattle.std.proofs.Common.{◌≡◌, take}
 use Rattle.std.specs.BTreeMap.{is_at}
 use Rattle.std.specs.Map.{lookup}
-use Rattle.sms_open.specs.Keys.{times_found, times_key}
+use Rattle.sms_open.specs.Inner.Keys.{times_found, times_key}
 use Rattle.sms_open.proofs.apart.are_apart.Given as goal
 
 -- each key is found as often as it stands among those that were gone over

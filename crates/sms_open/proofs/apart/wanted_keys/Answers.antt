@@ -1,7 +1,7 @@
 use Rattle.std.proofs.Common.{◌≡◌, Bool, true, List, refl, ap, ◌∙◌, take}
 use Rattle.std.specs.BTreeMap.{is_at}
 use Rattle.std.specs.Map.{lookup}
-use Rattle.sms_open.specs.Keys.{times_found, times_key}
+use Rattle.sms_open.specs.Inner.Keys.{times_found, times_key}
 use Rattle.sms_open.proofs.KeyLemmas.{counted-put, not-yet, times-end}
 use Rattle.sms_open.proofs.apart.wanted_keys.Goals as goal
 

@@ -1,5 +1,5 @@
 use Rattle.std.proofs.Common.{◌≡◌, ◌++◌, drop, map}
-use Rattle.sms_open.specs.Targets.{key_of_row}
+use Rattle.sms_open.specs.Inner.Targets.{key_of_row}
 use Rattle.sms_open.proofs.doubles.keys_of.Given as goal
 
 -- the keys so far, and those of the replies that are left

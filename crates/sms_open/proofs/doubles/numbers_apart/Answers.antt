@@ -1,5 +1,5 @@
 use Rattle.std.proofs.Common.{◌≡◌, map, ◌∙◌}
-use Rattle.sms_open.specs.Targets.{key_of_row}
+use Rattle.sms_open.specs.Inner.Targets.{key_of_row}
 use Rattle.sms_open.proofs.NameLemmas.{numbers-told}
 use Rattle.sms_open.proofs.doubles.numbers_apart.Goals as goal
 

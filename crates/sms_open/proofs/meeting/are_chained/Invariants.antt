@@ -1,5 +1,5 @@
 use Rattle.std.proofs.Common.{take}
-use Rattle.sms_open.specs.Meeting.{AreChained}
+use Rattle.sms_open.specs.Inner.Meeting.{AreChained}
 use Rattle.sms_open.proofs.meeting.are_chained.Given as goal
 
 -- the extents before the place follow one another

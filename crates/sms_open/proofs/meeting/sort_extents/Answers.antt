@@ -1,7 +1,7 @@
 use Rattle.std.proofs.Common.{is_lt, rules}
 use Rattle.std.proofs.lemmas.Fn.{always_returns_same}
 use Rattle.sms_construct.specs.declared.extent.Extent.{Extent}
-use Rattle.sms_open.specs.Meeting.{place_cmp}
+use Rattle.sms_open.specs.Inner.Meeting.{place_cmp}
 use Rattle.sms_open.proofs.MeetingLemmas.{order_weak}
 use Rattle.sms_open.proofs.meeting.sort_extents.Goals as goal
 

@@ -2,7 +2,7 @@ use Rattle.std.proofs.Common.{take}
 use Rattle.std.specs.List.{AllByRecursion}
 use Rattle.track_ledger.specs.Extents.{LiesInside}
 use Rattle.desk_law.specs.Extents.{piece_of}
-use Rattle.sms_open.specs.Targets.{number_on}
+use Rattle.sms_open.specs.Inner.Targets.{number_on}
 use Rattle.sms_open.proofs.sets.are_inside.Given as goal
 
 -- it holds of the extents that were gone over

@@ -2,7 +2,7 @@ use Rattle.std.proofs.Common.{List, take}
 use Rattle.std.specs.List.{AllByRecursion}
 use Rattle.sms_construct.specs.declared.volume.VolumeDef.{VolumeDef}
 use Rattle.desk_law.specs.Lawful.{IsLawfulSet}
-use Rattle.sms_open.specs.Targets.{AreTracks}
+use Rattle.sms_open.specs.Inner.Targets.{AreTracks}
 use Rattle.sms_open.proofs.sets.are_lawful.Given as goal
 
 -- it holds of the data sets that were gone over

@@ -1,6 +1,6 @@
 use Rattle.std.proofs.Common.{◌≡◌, ◌≤◌, ℕ, List, length, take}
 use Rattle.desk_law.specs.Extents.{pieces_on}
-use Rattle.sms_open.specs.Targets.{number_on}
+use Rattle.sms_open.specs.Inner.Targets.{number_on}
 use Rattle.sms_open.proofs.sets.count_few.Given as goal
 
 -- the extents on each volume among those that were gone over, at most 16

@@ -1,6 +1,6 @@
 use Rattle.std.proofs.Common.{◌≡◌, ◌-◌, ℕ, List, length, drop}
 use Rattle.desk_law.specs.Volumes.{tracks_of}
-use Rattle.sms_open.specs.Targets.{number_on}
+use Rattle.sms_open.specs.Inner.Targets.{number_on}
 use Rattle.sms_open.proofs.sets.tracks_on.Given as goal
 
 -- the tracks of the volumes that were gone over, from the last on

@@ -2,7 +2,7 @@ use Rattle.std.proofs.Common.{◌≡◌, map, ◌∙◌}
 use Rattle.std.specs.Prelude.{filter_map}
 use Rattle.sms_construct.specs.declared.storage_group.StorGroup.{StorGroup}
 use Rattle.sms_keeper.specs.declared.status_row.StatusRow.{StatusRow}
-use Rattle.sms_open.specs.Targets.{group_in}
+use Rattle.sms_open.specs.Inner.Targets.{group_in}
 use Rattle.sms_open.proofs.NameLemmas.{groups-apart, groups-told}
 use Rattle.sms_open.proofs.statuses.groups_stand.Goals as goal
 

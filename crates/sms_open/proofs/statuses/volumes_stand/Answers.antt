@@ -2,7 +2,7 @@ use Rattle.std.proofs.Common.{◌≡◌, map, ◌∙◌}
 use Rattle.std.specs.Prelude.{filter_map}
 use Rattle.sms_construct.specs.declared.volume.VolumeDef.{VolumeDef}
 use Rattle.sms_keeper.specs.declared.status_row.StatusRow.{StatusRow}
-use Rattle.sms_open.specs.Targets.{volume_in}
+use Rattle.sms_open.specs.Inner.Targets.{volume_in}
 use Rattle.sms_open.proofs.NameLemmas.{volumes-apart, volumes-told}
 use Rattle.sms_open.proofs.statuses.volumes_stand.Goals as goal
 

@@ -1,5 +1,5 @@
 use Rattle.sms_records.specs.Form.{◌&◌}
-use Rattle.sms_records.specs.FormLaws.{both_readable, on_ok}
+use Rattle.sms_records.specs.Inner.FormLaws.{both_readable, on_ok}
 use Rattle.sms_records.specs.Parts.{account_form, volumes_form}
 use Rattle.sms_records.proofs.given_lists.write_lists.Goals as goal
 

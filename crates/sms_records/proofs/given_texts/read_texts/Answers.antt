@@ -1,7 +1,7 @@
 use Rattle.std.proofs.Common.{refl}
 use Rattle.acs_tree.specs.Inputs.{no_texts}
-use Rattle.sms_records.specs.GivenLaws.{no_texts_again, read_at_front}
-use Rattle.sms_records.specs.Givens.{fields_of_texts, texts_form}
+use Rattle.sms_records.specs.Inner.GivenLaws.{no_texts_again, read_at_front}
+use Rattle.sms_records.specs.Inner.Givens.{fields_of_texts, texts_form}
 use Rattle.sms_records.proofs.given_texts.read_texts.Goals as goal
 
 pub returns-in-Some : goal.returns-in-Some

@@ -1,6 +1,6 @@
 use Rattle.sms_records.specs.Form.{◌&◌, number_form, number_32_form}
-use Rattle.sms_records.specs.FormLaws.{both_readable, on_ok}
-use Rattle.sms_records.specs.Givens.{lists_form}
+use Rattle.sms_records.specs.Inner.FormLaws.{both_readable, on_ok}
+use Rattle.sms_records.specs.Inner.Givens.{lists_form}
 use Rattle.sms_records.proofs.inputs.write_counted.Goals as goal
 
 pub returns-clause-readable : goal.returns-clause-readable

@@ -1,6 +1,6 @@
 use Rattle.sms_records.specs.Form.{◌&◌}
-use Rattle.sms_records.specs.FormLaws.{both_readable, on_ok}
-use Rattle.sms_records.specs.Givens.{counted_form, texts_form}
+use Rattle.sms_records.specs.Inner.FormLaws.{both_readable, on_ok}
+use Rattle.sms_records.specs.Inner.Givens.{counted_form, texts_form}
 use Rattle.sms_records.specs.Inputs.{seen_name_form}
 use Rattle.sms_records.proofs.inputs.write_parts.Goals as goal
 

@@ -1,6 +1,6 @@
 use Rattle.std.proofs.lemmas.Result.{err_from_is_err_and}
 use Rattle.sms_records.specs.Form.{many_at}
-use Rattle.sms_records.specs.ListLaws.{goes_on, ends, is_done}
+use Rattle.sms_records.specs.Inner.ListLaws.{goes_on, ends, is_done}
 use Rattle.sms_records.proofs.lists.read_items.Goals as goal
 
 pub returns-in_err-item : goal.returns-in_err-item

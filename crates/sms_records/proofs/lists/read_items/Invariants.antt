@@ -1,6 +1,6 @@
 use Rattle.std.proofs.Common.{◌≡◌, ◌-◌}
 use Rattle.sms_records.specs.Form.{many_at}
-use Rattle.sms_records.specs.ListLaws.{with_front}
+use Rattle.sms_records.specs.Inner.ListLaws.{with_front}
 use Rattle.sms_records.proofs.lists.read_items.Given as goal
 
 abbrev pub invariant-loop : goal.invariant-loop

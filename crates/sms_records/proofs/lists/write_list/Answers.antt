@@ -1,6 +1,6 @@
 use Rattle.std.proofs.Common.{arith, ◌<◌, ◌^◌, length}
-use Rattle.sms_records.specs.FormLaws.{on_ok}
-use Rattle.sms_records.specs.ListLaws.{list_readable}
+use Rattle.sms_records.specs.Inner.FormLaws.{on_ok}
+use Rattle.sms_records.specs.Inner.ListLaws.{list_readable}
 use Rattle.sms_records.proofs.lists.write_list.Goals as goal
 
 pub returns-clause-readable : goal.returns-clause-readable

@@ -1,8 +1,8 @@
 use Rattle.std.proofs.Common.{◌<◌, ◌^◌, ◌∙◌, ℕ, List, length, ap, subst}
 use Rattle.acs_tree.specs.Value.{text_at}
 use Rattle.dsn_mask.specs.Qualifiers.{qualifiers_of}
-use Rattle.sms_records.specs.FormLaws.{on_ok}
-use Rattle.sms_records.specs.InputLaws.{seen_name_readable}
+use Rattle.sms_records.specs.Inner.FormLaws.{on_ok}
+use Rattle.sms_records.specs.Inner.InputLaws.{seen_name_readable}
 use Rattle.sms_records.proofs.name_parts.write_seen_name.Goals as goal
 
 pub returns-clause-readable : goal.returns-clause-readable

@@ -1,5 +1,5 @@
 use Rattle.std.proofs.Common.{arith}
-use Rattle.sms_records.specs.FormLaws.{on_ok, small_readable}
+use Rattle.sms_records.specs.Inner.FormLaws.{on_ok, small_readable}
 use Rattle.sms_records.proofs.numbers.write_u8.Goals as goal
 
 pub returns-clause-readable : goal.returns-clause-readable

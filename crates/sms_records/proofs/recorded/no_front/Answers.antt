@@ -1,4 +1,4 @@
-use Rattle.sms_records.specs.WholeLaws.{no-front}
+use Rattle.sms_records.specs.Inner.WholeLaws.{no-front}
 use Rattle.sms_records.proofs.recorded.no_front.Goals as goal
 
 pub returns : goal.returns

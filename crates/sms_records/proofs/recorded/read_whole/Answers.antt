@@ -1,5 +1,5 @@
 use Rattle.std.proofs.Common.{arith}
-use Rattle.sms_records.specs.WholeLaws.{is_found, is_bad}
+use Rattle.sms_records.specs.Inner.WholeLaws.{is_found, is_bad}
 use Rattle.sms_records.proofs.recorded.read_whole.Goals as goal
 
 pub returns-clause-found : goal.returns-clause-found

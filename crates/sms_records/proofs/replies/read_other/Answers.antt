@@ -1,6 +1,6 @@
 use Rattle.std.proofs.Common.{◌∷◌, arith, refl}
 use Rattle.sms_records.specs.Replies.{reply_readers}
-use Rattle.sms_records.specs.VariantLaws.{variant_past}
+use Rattle.sms_records.specs.Inner.VariantLaws.{variant_past}
 use Rattle.sms_records.proofs.replies.read_other.Goals as goal
 
 pub returns-in_default : goal.returns-in_default

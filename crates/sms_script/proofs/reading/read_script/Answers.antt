@@ -1,6 +1,6 @@
 use Rattle.std.proofs.Common.{◌≡◌, ◌++◌, ◌∷◌, [], Ok, length, sym, ap, ◌∙◌, rules, arith}
 use Rattle.std.proofs.lemmas.Grind.{common_steps}
-use Rattle.sms_script.specs.Reading.{after, found_before, script_behind}
+use Rattle.sms_script.specs.Inner.Reading.{after, found_before, script_behind}
 use Rattle.sms_script.specs.Script.{script_of}
 use Rattle.sms_script.proofs.PhaseLemmas.{after_item, after_last, after_none, after_phase, no_bytes}
 use Rattle.sms_script.proofs.reading.read_script.Goals as goal

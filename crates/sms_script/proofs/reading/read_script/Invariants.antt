@@ -1,6 +1,6 @@
 use Rattle.std.proofs.Common.{◌≡◌, ◌≤◌, ◌+◌, length}
 use Rattle.sms_script.specs.Script.{script_of}
-use Rattle.sms_script.specs.Reading.{after, script_behind}
+use Rattle.sms_script.specs.Inner.Reading.{after, script_behind}
 use Rattle.sms_script.proofs.reading.read_script.Given as goal
 
 -- the phases and the items so far, and the script of the rest

@@ -3,7 +3,7 @@ use Rattle.acs_tree.specs.Slates.{SlateLines}
 use Rattle.acs_tree.specs.declared.values.Values.{Values}
 use Rattle.sms_construct.specs.declared.trace.Trace.{Trace}
 use Rattle.desk_law.specs.Classification.{classes_of, trace_of}
-use Rattle.desk_law.specs.declared.stop.Stop.{Stop}
+use Rattle.sms_construct.specs.declared.stop.Stop.{Stop}
 use Rattle.sms_simulation.specs.OutcomeText.{classified_text}
 use Rattle.sms_simulation.proofs.simulating.push_alloc.Goals as goal
 

@@ -3,7 +3,7 @@ use Rattle.sqlite.specs.State.{Survives}
 use Rattle.sqlite.specs.Held.{state}
 use Rattle.sqlite.specs.declared.error.Error.{Error}
 use Rattle.keeper_statements.specs.Steps.{MayMake, MayStay}
-use Rattle.sms_sqlite.specs.Columns.{with_statuses, AreReadable}
+use Rattle.sms_sqlite.specs.Inner.Columns.{with_statuses, AreReadable}
 use Rattle.sms_sqlite.proofs.statuses.put_statuses.Given as goal
 
 abbrev ended : Result (Unit {0}) Error

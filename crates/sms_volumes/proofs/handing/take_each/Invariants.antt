@@ -1,5 +1,5 @@
 use Rattle.std.proofs.Common.{}
-use Rattle.sms_volumes.specs.Handing.{AreApart}
+use Rattle.sms_volumes.specs.Inner.Handing.{AreApart}
 use Rattle.sms_volumes.proofs.HandLemmas.{IsTaking}
 use Rattle.sms_volumes.proofs.handing.take_each.Given as goal
 

@@ -1,5 +1,5 @@
 use Rattle.std.proofs.Common.{◌≡◌, ◌≤◌, ◌*◌, take}
-use Rattle.sms_volumes.specs.Showing.{capacity_in}
+use Rattle.sms_volumes.specs.Inner.Showing.{capacity_in}
 use Rattle.sms_volumes.proofs.showing.capacity_in.Given as goal
 
 -- the tracks of the volumes that were gone over, fewer than 2 ^ 32 each

@@ -1,6 +1,6 @@
 use Rattle.std.proofs.Common.{arith, cond, true, false, ◌≡◌, ◌∙◌, refl, sym}
 use Rattle.std.specs.Prelude.{bytes_eq}
-use Rattle.sms_volumes.specs.Showing.{running_free}
+use Rattle.sms_volumes.specs.Inner.Showing.{running_free}
 use Rattle.sms_volumes.proofs.ShowLemmas.{in-more}
 use Rattle.sms_volumes.proofs.showing.free_in.Goals.{then-eq, else-eq}
 use Rattle.sms_volumes.proofs.showing.free_in.Goals as goal

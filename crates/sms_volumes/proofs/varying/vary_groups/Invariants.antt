@@ -1,5 +1,5 @@
 use Rattle.std.proofs.Common.{◌≡◌}
-use Rattle.sms_volumes.specs.Varied.{varied_group}
+use Rattle.sms_volumes.specs.Inner.Varied.{varied_group}
 use Rattle.sms_volumes.proofs.ZipLemmas.{IsOver}
 use Rattle.sms_volumes.proofs.varying.vary_groups.Given as goal
 

@@ -1,5 +1,5 @@
 use Rattle.std.proofs.Common.{◌≡◌, arith}
-use Rattle.sms_volumes.specs.Varied.{varied_volume}
+use Rattle.sms_volumes.specs.Inner.Varied.{varied_volume}
 use Rattle.sms_volumes.proofs.ZipLemmas.{over-next}
 use Rattle.sms_volumes.proofs.varying.vary_volumes.Goals as goal
 

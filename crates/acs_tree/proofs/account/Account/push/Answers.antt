@@ -1,4 +1,4 @@
-use Rattle.acs_tree.specs.Lists.{no_field}
+use Rattle.acs_tree.specs.Inner.Lists.{no_field}
 use Rattle.acs_tree.proofs.PushLemmas.{pushed}
 use Rattle.acs_tree.proofs.account.Account.push.Goals as goal
 

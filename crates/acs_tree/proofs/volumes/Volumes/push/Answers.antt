@@ -1,4 +1,4 @@
-use Rattle.acs_tree.specs.Lists.{no_volume}
+use Rattle.acs_tree.specs.Inner.Lists.{no_volume}
 use Rattle.acs_tree.proofs.PushLemmas.{pushed}
 use Rattle.acs_tree.proofs.volumes.Volumes.push.Goals as goal
 

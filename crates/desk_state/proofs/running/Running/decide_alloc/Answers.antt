@@ -9,7 +9,7 @@ use Rattle.desk_law.specs.State.{DeskState}
 use Rattle.desk_state.specs.Answering.{Answers}
 use Rattle.desk_state.specs.Catalog.{set_in}
 use Rattle.desk_state.specs.Standing.{IsRunning}
-use Rattle.desk_state.specs.Wishing.{ClassifiedRule, classes_with}
+use Rattle.desk_state.specs.Inner.Wishing.{ClassifiedRule, classes_with}
 use Rattle.desk_state.specs.declared.decision.Decision.{Decision}
 use Rattle.desk_state.proofs.AllocationLemmas.{alloc-made}
 use Rattle.desk_state.proofs.OkLemmas.{on-ok}

@@ -7,8 +7,8 @@ use Rattle.desk_law.specs.Lawful.{IsLawful}
 use Rattle.desk_law.specs.State.{DeskState}
 use Rattle.desk_state.specs.Answering.{Answers}
 use Rattle.desk_state.specs.Catalog.{set_in}
-use Rattle.desk_state.specs.Granting.{IsGranted}
-use Rattle.desk_state.specs.Growing.{Grows, added_of}
+use Rattle.desk_state.specs.Inner.Granting.{IsGranted}
+use Rattle.desk_state.specs.Inner.Growing.{Grows, added_of}
 use Rattle.desk_state.specs.Standing.{IsRunning}
 use Rattle.desk_state.specs.declared.decision.Decision.{Decision}
 use Rattle.desk_state.specs.declared.deed.Deed.TheVariants as deeds

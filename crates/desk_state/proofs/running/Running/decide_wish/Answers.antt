@@ -7,9 +7,9 @@ use Rattle.desk_law.specs.Classification.{trace_of}
 use Rattle.desk_law.specs.Lawful.{IsLawful}
 use Rattle.desk_law.specs.State.{DeskState}
 use Rattle.desk_state.specs.Answering.{Answers}
-use Rattle.desk_state.specs.Granting.{IsGranted}
+use Rattle.desk_state.specs.Inner.Granting.{IsGranted}
 use Rattle.desk_state.specs.Standing.{IsRunning}
-use Rattle.desk_state.specs.Wishing.{set_granted}
+use Rattle.desk_state.specs.Inner.Wishing.{set_granted}
 use Rattle.desk_state.specs.declared.decision.Decision.{Decision}
 use Rattle.desk_state.specs.declared.deed.Deed.TheVariants as deeds
 use Rattle.desk_state.specs.declared.grant.Grant.{Grant}

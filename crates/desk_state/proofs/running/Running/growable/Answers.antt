@@ -1,6 +1,6 @@
 use Rattle.std.proofs.Common.{◌∙◌, ap, sym, subst}
 use Rattle.std.specs.Option.{option_copied}
-use Rattle.desk_state.specs.Growing.{IsGrowable}
+use Rattle.desk_state.specs.Inner.Growing.{IsGrowable}
 use Rattle.desk_state.proofs.ExtensionLemmas.{found-growable}
 use Rattle.desk_state.proofs.running.Running.growable.Goals as goal
 

@@ -7,7 +7,7 @@ use Rattle.desk_law.specs.Lawful.{IsLawful}
 use Rattle.desk_law.specs.State.{DeskState}
 use Rattle.desk_law.specs.Volumes.{volumes_in}
 use Rattle.sms_volumes.specs.Asking.{ask_of}
-use Rattle.desk_state.specs.Granting.{IsGrantAmong}
+use Rattle.desk_state.specs.Inner.Granting.{IsGrantAmong}
 use Rattle.desk_state.specs.Standing.{IsRunning}
 use Rattle.desk_state.specs.declared.grant.Grant.{Grant}
 use Rattle.desk_state.proofs.ExtensionLemmas.{beside-granted}

@@ -4,7 +4,7 @@ use Rattle.desk_law.specs.Step.{activates, is_activation}
 use Rattle.desk_records.specs.Full.{is_full_for}
 use Rattle.desk_records.specs.Tied.{IsReady}
 use Rattle.desk_state.specs.Working.{IsWork}
-use Rattle.sms_core.specs.Standing.{IsHeld}
+use Rattle.sms_core.specs.Inner.Standing.{IsHeld}
 use Rattle.sms_core.proofs.CoreLemmas.{core-entered, enters-made, held-counted, held-room, held-some, held-untouched, idle-known}
 use Rattle.sms_core.proofs.WorkLemmas.{held-work}
 use Rattle.sms_core.proofs.core_state.Core.step.Goals as goal

@@ -1,7 +1,7 @@
 use Rattle.std.proofs.Common.{◌∙◌, ap}
 use Rattle.std.specs.Prelude.{unwrap_or}
 use Rattle.ordered_index.proofs.LookupLemmas.{lookup-text}
-use Rattle.sms_open.specs.Targets.{number_on}
+use Rattle.sms_open.specs.Inner.Targets.{number_on}
 use Rattle.sms_open.proofs.numbers.Numbers.get.Goals as goal
 
 pub returns : goal.returns

@@ -1,6 +1,6 @@
 use Rattle.std.proofs.Common.{◌∙◌, Some, ap, bytes_eq, cond}
 use Rattle.ordered_index.proofs.LookupLemmas.{found-text}
-use Rattle.sms_open.specs.Targets.{number_on}
+use Rattle.sms_open.specs.Inner.Targets.{number_on}
 use Rattle.sms_open.proofs.KeyLemmas.{number-put}
 use Rattle.sms_open.proofs.numbers.Numbers.put.Goals as goal
 

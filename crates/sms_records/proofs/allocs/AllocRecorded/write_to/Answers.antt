@@ -1,8 +1,8 @@
 use Rattle.std.proofs.Common.{subst}
 use Rattle.sms_records.specs.Allocs.{asked_form, asked_of, choices_form}
-use Rattle.sms_records.specs.AllocLaws.{alloc_readable}
+use Rattle.sms_records.specs.Inner.AllocLaws.{alloc_readable}
 use Rattle.sms_records.specs.Form.{IsReadable}
-use Rattle.sms_records.specs.FormLaws.{both_readable, on_ok}
+use Rattle.sms_records.specs.Inner.FormLaws.{both_readable, on_ok}
 use Rattle.sms_records.specs.Inputs.{input_form}
 use Rattle.sms_records.specs.Texts.{dsn_form}
 use Rattle.sms_records.proofs.allocs.AllocRecorded.write_to.Goals as goal

@@ -1,6 +1,6 @@
 use Rattle.std.proofs.Common.{refl}
-use Rattle.sms_records.specs.FormLaws.{on_ok}
-use Rattle.sms_records.specs.VariantLaws.{as_written, bare_again, variant_again}
+use Rattle.sms_records.specs.Inner.FormLaws.{on_ok}
+use Rattle.sms_records.specs.Inner.VariantLaws.{as_written, bare_again, variant_again}
 use Rattle.sms_records.specs.Faults.{fault_readers, fault_write}
 use Rattle.sms_records.proofs.faults.FaultRecorded.write_to.Goals as goal
 

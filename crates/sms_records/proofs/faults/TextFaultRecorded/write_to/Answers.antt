@@ -1,5 +1,5 @@
-use Rattle.sms_records.specs.FormLaws.{on_ok}
-use Rattle.sms_records.specs.FaultLaws.{text_fault_readable}
+use Rattle.sms_records.specs.Inner.FormLaws.{on_ok}
+use Rattle.sms_records.specs.Inner.FaultLaws.{text_fault_readable}
 use Rattle.sms_records.proofs.faults.TextFaultRecorded.write_to.Goals as goal
 
 pub returns-clause-readable : goal.returns-clause-readable

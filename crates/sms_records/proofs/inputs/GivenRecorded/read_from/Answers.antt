@@ -1,4 +1,4 @@
-use Rattle.sms_records.specs.GivenLaws.{read_in_parts}
+use Rattle.sms_records.specs.Inner.GivenLaws.{read_in_parts}
 use Rattle.sms_records.proofs.inputs.GivenRecorded.read_from.Goals as goal
 
 pub returns : goal.returns

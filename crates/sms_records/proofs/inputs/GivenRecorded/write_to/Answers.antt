@@ -1,7 +1,7 @@
 use Rattle.std.proofs.Common.{◌++◌, ◌∙◌, List, ℕ, ap, subst, sym}
 use Rattle.sms_records.specs.Form.{IsReadable}
-use Rattle.sms_records.specs.FormLaws.{on_ok}
-use Rattle.sms_records.specs.GivenLaws.{readable_in_parts, written_in_parts}
+use Rattle.sms_records.specs.Inner.FormLaws.{on_ok}
+use Rattle.sms_records.specs.Inner.GivenLaws.{readable_in_parts, written_in_parts}
 use Rattle.sms_records.specs.Inputs.{input_form}
 use Rattle.sms_records.proofs.inputs.GivenRecorded.write_to.Goals as goal
 

@@ -1,5 +1,5 @@
-use Rattle.sms_records.specs.FormLaws.{on_ok, seen_as}
-use Rattle.sms_records.specs.ListLaws.{none_readable, some_readable}
+use Rattle.sms_records.specs.Inner.FormLaws.{on_ok, seen_as}
+use Rattle.sms_records.specs.Inner.ListLaws.{none_readable, some_readable}
 use Rattle.sms_records.specs.Form.{option}
 use Rattle.std.proofs.Common.{Some, None}
 use Rattle.sms_records.proofs.lists.OptionRecorded.write_to.Goals as goal

@@ -1,7 +1,7 @@
 use Rattle.std.proofs.Common.{arith, sym}
 use Rattle.sms_records.specs.Form.{list}
-use Rattle.sms_records.specs.FormLaws.{on_ok, seen_as}
-use Rattle.sms_records.specs.PartLaws.{volumes_readable, volumes_written}
+use Rattle.sms_records.specs.Inner.FormLaws.{on_ok, seen_as}
+use Rattle.sms_records.specs.Inner.PartLaws.{volumes_readable, volumes_written}
 use Rattle.sms_records.specs.Texts.{volser_form}
 use Rattle.sms_records.proofs.parts.VolumesRecorded.write_to.Goals as goal
 

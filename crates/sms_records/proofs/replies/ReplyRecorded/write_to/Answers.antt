@@ -1,6 +1,6 @@
 use Rattle.std.proofs.Common.{refl}
-use Rattle.sms_records.specs.FormLaws.{both_readable, on_ok}
-use Rattle.sms_records.specs.VariantLaws.{as_written, bare_again, variant_again}
+use Rattle.sms_records.specs.Inner.FormLaws.{both_readable, on_ok}
+use Rattle.sms_records.specs.Inner.VariantLaws.{as_written, bare_again, variant_again}
 use Rattle.sms_records.specs.Replies.{reply_readers, reply_write}
 use Rattle.sms_records.proofs.replies.ReplyRecorded.write_to.Goals as goal
 

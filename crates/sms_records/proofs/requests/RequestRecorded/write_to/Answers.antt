@@ -1,5 +1,5 @@
-use Rattle.sms_records.specs.FormLaws.{both_readable, on_ok}
-use Rattle.sms_records.specs.RequestLaws.{request_readable}
+use Rattle.sms_records.specs.Inner.FormLaws.{both_readable, on_ok}
+use Rattle.sms_records.specs.Inner.RequestLaws.{request_readable}
 use Rattle.sms_records.proofs.requests.RequestRecorded.write_to.Goals as goal
 
 pub returns-clause-readable : goal.returns-clause-readable

@@ -1,5 +1,5 @@
-use Rattle.sms_records.specs.FormLaws.{on_ok}
-use Rattle.sms_records.specs.SetLaws.{data_set_readable}
+use Rattle.sms_records.specs.Inner.FormLaws.{on_ok}
+use Rattle.sms_records.specs.Inner.SetLaws.{data_set_readable}
 use Rattle.sms_records.proofs.sets.DataSetRecorded.write_to.Goals as goal
 
 pub returns-clause-readable : goal.returns-clause-readable

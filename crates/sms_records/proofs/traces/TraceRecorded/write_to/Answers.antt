@@ -1,5 +1,5 @@
-use Rattle.sms_records.specs.FormLaws.{both_readable, on_ok}
-use Rattle.sms_records.specs.TraceLaws.{trace_readable}
+use Rattle.sms_records.specs.Inner.FormLaws.{both_readable, on_ok}
+use Rattle.sms_records.specs.Inner.TraceLaws.{trace_readable}
 use Rattle.sms_records.proofs.traces.TraceRecorded.write_to.Goals as goal
 
 pub returns-clause-readable : goal.returns-clause-readable

@@ -1,6 +1,6 @@
 use Rattle.std.proofs.Common.{refl}
-use Rattle.sms_records.specs.FormLaws.{on_ok}
-use Rattle.sms_records.specs.VariantLaws.{as_written, variant_again}
+use Rattle.sms_records.specs.Inner.FormLaws.{on_ok}
+use Rattle.sms_records.specs.Inner.VariantLaws.{as_written, variant_again}
 use Rattle.sms_records.specs.Views.{view_readers, view_write}
 use Rattle.sms_records.proofs.views.ViewRecorded.write_to.Goals as goal
 

@@ -2,7 +2,7 @@ use Rattle.std.proofs.Common.{◌∙◌, List, Some, ap, sym}
 use Rattle.std.specs.Prelude.{None}
 use Rattle.std.specs.Option.{option_copied}
 use Rattle.sms_construct.specs.declared.volume.VolumeDef.{VolumeDef}
-use Rattle.sms_volumes.specs.Barring.{running_barred}
+use Rattle.sms_volumes.specs.Inner.Barring.{running_barred}
 use Rattle.sms_volumes.proofs.BarLemmas.{barred-shown}
 use Rattle.sms_volumes.proofs.active_volumes.ActiveVolumes.barred.Goals as goal
 

@@ -1,6 +1,6 @@
 use Rattle.std.proofs.Common.{List, subst, arith, sym}
 use Rattle.std.proofs.lemmas.List.{take_all}
-use Rattle.sms_volumes.specs.Leading.{Leads, candidates_among}
+use Rattle.sms_volumes.specs.Inner.Leading.{Leads, candidates_among}
 use Rattle.sms_volumes.specs.declared.active_volume.ActiveVolume.{ActiveVolume}
 use Rattle.sms_volumes.proofs.LeadLemmas.{lead-first, lead-none, lead-picked}
 use Rattle.sms_volumes.proofs.RankLemmas.{first-is}

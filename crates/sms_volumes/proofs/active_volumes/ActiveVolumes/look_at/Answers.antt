@@ -5,7 +5,7 @@ use Rattle.volume_lists.specs.Choice.{comes_before, rank_of}
 use Rattle.volume_lists.specs.Listing.{listing_of}
 use Rattle.desk_law.specs.Candidates.{want_of}
 use Rattle.sms_volumes.specs.Asking.{ask_of}
-use Rattle.sms_volumes.specs.Leading.{Leads, candidates_among}
+use Rattle.sms_volumes.specs.Inner.Leading.{Leads, candidates_among}
 use Rattle.sms_volumes.proofs.LeadLemmas.{lead-behind, lead-full, lead-past, lead-taken}
 use Rattle.sms_volumes.proofs.RunningLemmas.{there-in, there-is}
 use Rattle.sms_volumes.proofs.ViewLemmas.{granted-at, needed-at, seen-at}

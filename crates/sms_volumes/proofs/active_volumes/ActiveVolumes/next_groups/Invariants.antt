@@ -1,5 +1,5 @@
 use Rattle.std.proofs.Common.{◌≡◌, map, take}
-use Rattle.sms_volumes.specs.Making.{next_group}
+use Rattle.sms_volumes.specs.Inner.Making.{next_group}
 use Rattle.sms_volumes.proofs.active_volumes.ActiveVolumes.next_groups.Given as goal
 
 -- the groups that were gone over, as they will be

@@ -1,6 +1,6 @@
 use Rattle.std.proofs.Common.{◌≡◌, map, take}
 use Rattle.std.specs.List.{AllByRecursion}
-use Rattle.sms_volumes.specs.Making.{IsMade}
+use Rattle.sms_volumes.specs.Inner.Making.{IsMade}
 use Rattle.sms_volumes.specs.declared.active_volume.ActiveVolume.{ActiveVolume}
 use Rattle.sms_volumes.proofs.active_volumes.ActiveVolumes.next_volumes.Given as goal
 

@@ -1,6 +1,6 @@
 use Rattle.std.proofs.Common.{◌∙◌, ◌≤◌, List, ap, length, map, subst}
 use Rattle.std.proofs.lemmas.List.{take_all}
-use Rattle.sms_volumes.specs.Showing.{running_row}
+use Rattle.sms_volumes.specs.Inner.Showing.{running_row}
 use Rattle.sms_volumes.specs.declared.active_volume.ActiveVolume.{ActiveVolume}
 use Rattle.sms_volumes.proofs.ShowLemmas.{rows-are}
 use Rattle.sms_volumes.proofs.active_volumes.ActiveVolumes.rows.Goals as goal

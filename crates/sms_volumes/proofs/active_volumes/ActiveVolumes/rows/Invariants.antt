@@ -1,5 +1,5 @@
 use Rattle.std.proofs.Common.{◌≡◌, map, take}
-use Rattle.sms_volumes.specs.Showing.{running_row}
+use Rattle.sms_volumes.specs.Inner.Showing.{running_row}
 use Rattle.sms_volumes.proofs.active_volumes.ActiveVolumes.rows.Given as goal
 
 -- the rows of the volumes that were gone over

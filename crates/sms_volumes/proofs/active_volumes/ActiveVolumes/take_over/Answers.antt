@@ -1,6 +1,6 @@
 use Rattle.std.proofs.Common.{List, refl, subst, sym}
 use Rattle.std.specs.List.{AllZip}
-use Rattle.sms_volumes.specs.Handing.{AreApart, HasTaken}
+use Rattle.sms_volumes.specs.Inner.Handing.{AreApart, HasTaken}
 use Rattle.sms_volumes.specs.Viewing.{running_named}
 use Rattle.sms_volumes.specs.declared.active_volume.ActiveVolume.{ActiveVolume}
 use Rattle.sms_volumes.proofs.HandLemmas.{all-taken, apart-next}

@@ -2,7 +2,7 @@ use Rattle.std.proofs.Common.{◌∙◌, List, ap, map, subst}
 use Rattle.std.specs.List.{AllByRecursion}
 use Rattle.sms_construct.specs.declared.storage_group.StorGroup.{StorGroup}
 use Rattle.sms_construct.specs.declared.volume.VolumeDef.{VolumeDef}
-use Rattle.sms_volumes.specs.Making.{IsMade, next_group}
+use Rattle.sms_volumes.specs.Inner.Making.{IsMade, next_group}
 use Rattle.sms_volumes.proofs.NextLemmas.{all-next}
 use Rattle.sms_volumes.proofs.active_volumes.ActiveVolumes.under.Goals as goal
 

@@ -4,7 +4,7 @@ use Rattle.std.specs.Vec.{with_items}
 use Rattle.sms_construct.specs.declared.target.Target.{Target}
 use Rattle.desk_law.specs.State.{with_status}
 use Rattle.sms_volumes.specs.Holding.{AreVolumesOf}
-use Rattle.sms_volumes.specs.Varied.{varied_group, varied_volume}
+use Rattle.sms_volumes.specs.Inner.Varied.{varied_group, varied_volume}
 use Rattle.sms_volumes.specs.declared.active_group.ActiveGroup.{ActiveGroup}
 use Rattle.sms_volumes.specs.declared.active_volume.ActiveVolume.{ActiveVolume}
 use Rattle.sms_volumes.specs.declared.active_volumes.ActiveVolumes.{ActiveVolumes}

@@ -3,7 +3,7 @@ use Rattle.std.proofs.lemmas.List.Elements.{All-head}
 use Rattle.std.proofs.lemmas.List.Sums.{sum_by-cons}
 use Rattle.track_ledger.specs.declared.piece.Piece.{Piece}
 use Rattle.track_ledger.specs.Extents.{LiesInside}
-use Rattle.track_ledger.specs.GapChanges.{gaps_with}
+use Rattle.track_ledger.specs.Inner.GapChanges.{gaps_with}
 use Rattle.track_ledger.specs.GapRule.{front_of}
 use Rattle.track_ledger.specs.Ledger.{IsLedgerOf, LedgerView, ledger_view}
 use Rattle.track_ledger.proofs.KeptLemmas.{after, cut-after, kept-granted, ledger-count, ledger-order, ledger-small, settled}

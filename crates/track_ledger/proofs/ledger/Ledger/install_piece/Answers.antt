@@ -2,7 +2,7 @@ use Rattle.std.proofs.Common.{arith, ◌≡◌, ◌+◌, ◌-◌, ◌∷◌, ◌
 use Rattle.std.proofs.lemmas.List.Sums.{sum_by_push}
 use Rattle.track_ledger.specs.declared.piece.Piece.{Piece}
 use Rattle.track_ledger.specs.Extents.{LieInGaps, LiesInside}
-use Rattle.track_ledger.specs.GapChanges.{gaps_without}
+use Rattle.track_ledger.specs.Inner.GapChanges.{gaps_without}
 use Rattle.track_ledger.specs.Ledger.{IsLedgerOf, LedgerView, ledger_view}
 use Rattle.track_ledger.proofs.KeptLemmas.{after, ledger-count, ledger-few, ledger-order, ledger-small, ledger-sum, ledger-times, settled, taken-after}
 use Rattle.track_ledger.proofs.ledger.Ledger.install_piece.Goals as goal

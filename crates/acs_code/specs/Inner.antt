@@ -1,0 +1,6 @@
+-- What private clauses, invariants of types and proofs alone cite.
+pub mod Steps
+pub mod Upward
+pub mod Compiled
+pub mod Arms
+pub mod Rights

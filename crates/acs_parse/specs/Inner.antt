@@ -1,0 +1,5 @@
+-- What private clauses, invariants of types and proofs alone cite.
+pub mod Parts
+pub mod Table
+pub mod Language
+pub mod Reads

@@ -1,0 +1,3 @@
+-- What private clauses, invariants of types and proofs alone cite.
+pub mod Replaying
+pub mod Placing

@@ -1,0 +1,61 @@
+//! The lines behind the first one of an answer to an ALLOC, straight behind a text.
+ghost use Rattle.std.specs.Prelude.{◌≡◌, ◌++◌, flat_map, map, OnOk};
+ghost use Rattle.sms_script.specs.AnswerText.{granted_lines, indented};
+ghost use Rattle.sms_script.specs.NameText.{class_text, extent_text};
+ghost use Rattle.sms_script.specs.TraceText.{trace_lines};
+
+use crate::further_text::{push_class, push_extent};
+use crate::indenting::push_indented;
+use crate::trace_text::push_trace;
+use desk_common::Items;
+use sms_construct::{DataSet, Extent, Trace};
+use std::alloc::{AllocError, Global};
+
+/// The lines of a data set that was allocated and of what its routines wrote, each with two spaces before it and LF
+/// behind it, put behind a text.
+#[tactic(auto, using(crate::proofs::IndentLemmas::granted_indented))]
+pub fn push_granted_text(
+    alloc: Global,
+    text: &mut Vec<u8>,
+    set: &DataSet,
+    trace: &Trace,
+) -> Result<(), AllocError>
+    ensures { OnOk result (text.new.items ≡ text.old.items ++ flat_map indented (granted_lines set.now trace.now)) }
+{
+    push_class_line(text, set)?;
+    push_extent_lines(text, set.extents.as_slice())?;
+    push_trace_lines(alloc, text, trace)
+}
+
+fn push_class_line(text: &mut Vec<u8>, set: &DataSet) -> Result<(), AllocError>
+    ensures { OnOk result (text.new.items ≡ text.old.items ++ indented (class_text set.now)) }
+{
+    text.extend_from_slice(b"  ")?;
+    push_class(text, set)?;
+    text.extend_from_slice(b"\n")
+}
+
+fn push_extent_lines(text: &mut Vec<u8>, extents: &[Extent]) -> Result<(), AllocError>
+    ensures { OnOk result (text.new.items ≡ text.old.items ++ flat_map indented (map extent_text extents.now)) }
+{
+    for extent in extents {
+        push_extent_line(text, extent)?;
+    }
+    Ok(())
+}
+
+fn push_extent_line(text: &mut Vec<u8>, extent: &Extent) -> Result<(), AllocError>
+    ensures { OnOk result (text.new.items ≡ text.old.items ++ indented (extent_text extent.now)) }
+{
+    text.extend_from_slice(b"  ")?;
+    push_extent(text, extent)?;
+    text.extend_from_slice(b"\n")
+}
+
+fn push_trace_lines(alloc: Global, text: &mut Vec<u8>, trace: &Trace) -> Result<(), AllocError>
+    ensures { OnOk result (text.new.items ≡ text.old.items ++ flat_map indented (trace_lines trace.now)) }
+{
+    let mut lines = Items::new(alloc);
+    push_trace(alloc, &mut lines, trace)?;
+    push_indented(text, lines.as_slice())
+}
