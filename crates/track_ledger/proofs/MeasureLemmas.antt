@@ -1,6 +1,6 @@
--- How long the longest of some gaps is in a part, in whole units, and which of them holds a need.
-use Rattle.std.proofs.Common.{◌≡◌, ◌≤◌, ◌<◌, ℕ, Bool, true, false, List, [], ◌∷◌, ◌++◌, refl, sym, ap, ◌∙◌, arith}
-use Rattle.std.specs.Prelude.{Option, None, Some, find, map, max, nat_le, nat_lt, if◌then◌else◌}
+-- Gaps in a part, in whole units: how long the longest is, and which is the lowest that passes a test.
+use Rattle.std.proofs.Common.{◌≡◌, ◌≤◌, ◌<◌, ◌+◌, ℕ, Bool, true, false, List, [], ◌∷◌, ◌++◌, refl, sym, ap, ◌∙◌, arith}
+use Rattle.std.specs.Prelude.{Option, None, Some, find, map, max, nat_lt}
 use Rattle.std.specs.Option.{option_or}
 use Rattle.std.specs.List.{All}
 use Rattle.std.proofs.lemmas.Bool.Decides.{nat_tests}
@@ -11,11 +11,14 @@ use Rattle.track_ledger.specs.declared.measure.Longest.{Longest}
 use Rattle.track_ledger.specs.declared.measure.Measure.{Measure}
 use Rattle.track_ledger.specs.declared.measure.Measure.TheVariants.{Tracks, Cylinders, Managed}
 use Rattle.track_ledger.specs.declared.piece.Piece.{Piece}
-use Rattle.track_ledger.specs.Gaps.{clip, unit_gaps}
+use Rattle.track_ledger.specs.Gaps.{clip, unit_gaps, whole_units}
 use Rattle.track_ledger.specs.GapRule.{comes_first}
-use Rattle.track_ledger.specs.Inner.Measures.{AreLongest, cuts_by, end_by, from_by, length_at, longest_by, unit_by, units_by}
-use Rattle.track_ledger.proofs.LongestLemmas.{find-none, unit-append, unit-one}
-use Rattle.track_ledger.proofs.UnitLemmas.{units-low}
+use Rattle.track_ledger.specs.Inner.GapLists.{StandApart}
+use Rattle.track_ledger.specs.Inner.Measures.{AreLongest, cuts_by, end_by, from_by, length_at, longest_among}
+use Rattle.track_ledger.specs.Inner.Measures.{longest_by, unit_by, units_by}
+use Rattle.track_ledger.proofs.LongestLemmas.{unit-append}
+use Rattle.track_ledger.proofs.NextLemmas.{find-nothing}
+use Rattle.track_ledger.proofs.UnitLemmas.{units-high, units-low}
 
 unit-some : (measure : Measure) → 0 < unit_by measure
 unit-some Tracks = omega arith
@@ -71,41 +74,36 @@ cuts-shorter measure gaps most is =
     All-weaker (IsCut 0 most) (λ (cut : Piece). cut.length ≤ most) (λ cut h. h.1) (cuts_by measure gaps) (cuts-within measure 0 most gaps (all-behind-none gaps) (omega (arith, is)))
 
 -- where the longest is too short none holds the need
-pub holding-none : (measure : Measure) (need : ℕ) (gaps : List Piece) → longest_by measure gaps < need → None ≡ find (λ (cut : Piece). nat_le need cut.length) (cuts_by measure gaps)
-holding-none measure need gaps short =
-    let all = cuts-shorter measure gaps (longest_by measure gaps) refl in
-    sym (find-none need (cuts_by measure gaps) (All-weaker (λ (cut : Piece). cut.length ≤ longest_by measure gaps) (λ (cut : Piece). cut.length < need) (λ cut le. omega (arith, le, short)) (cuts_by measure gaps) all))
+pub holding-none : (measure : Measure) (need : ℕ) (gaps : List Piece) (p : Piece → Bool) → ((cut : Piece) → cut.length < need → p cut ≡ false) → longest_by measure gaps < need → None ≡ find p (cuts_by measure gaps)
+holding-none measure need gaps p off short =
+    sym (find-nothing p (cuts_by measure gaps)
+    (All-weaker (λ (cut : Piece). cut.length ≤ longest_by measure gaps) (λ (cut : Piece). p cut ≡ false) (λ cut le. off cut (omega (arith, le, short))) (cuts_by measure gaps) (cuts-shorter measure gaps (longest_by measure gaps) refl)))
 
--- the lowest that holds the need stands on the left, in the middle or on the right
-abbrev pub lowest_of : Measure → ℕ → List Piece → Option Piece
-lowest_of measure need gaps = find (λ (cut : Piece). nat_le need cut.length) (cuts_by measure gaps)
+-- the lowest that passes stands on the left, in the middle or on the right
+abbrev pub lowest_of : (Piece → Bool) → Measure → List Piece → Option Piece
+lowest_of p measure gaps = find p (cuts_by measure gaps)
 
-pub lowest-node : (measure : Measure) (need : ℕ) (l : List Piece) (g : Piece) (r : List Piece)
-    → lowest_of measure need (l ++ (g ∷ r)) ≡ option_or (lowest_of measure need l) (option_or (lowest_of measure need (g ∷ [])) (lowest_of measure need r))
-lowest-node measure need l g r =
-    let p : Piece → Bool = λ (cut : Piece). nat_le need cut.length in
+lowest-node : (p : Piece → Bool) (measure : Measure) (l : List Piece) (g : Piece) (r : List Piece)
+    → lowest_of p measure (l ++ (g ∷ r)) ≡ option_or (lowest_of p measure l) (option_or (lowest_of p measure (g ∷ [])) (lowest_of p measure r))
+lowest-node p measure l g r =
     ap (find p) (cuts-node measure l g r) ∙ find-append p (cuts_by measure l) (cuts_by measure (g ∷ []) ++ cuts_by measure r)
-    ∙ ap (option_or (lowest_of measure need l)) (find-append p (cuts_by measure (g ∷ [])) (cuts_by measure r))
+    ∙ ap (option_or (lowest_of p measure l)) (find-append p (cuts_by measure (g ∷ [])) (cuts_by measure r))
 
-pub lowest-left : (measure : Measure) (need : ℕ) (l : List Piece) (g : Piece) (r : List Piece) (found : Piece) → Some found ≡ lowest_of measure need l → Some found ≡ lowest_of measure need (l ++ (g ∷ r))
-lowest-left measure need l g r found here =
-    ap (λ (o : Option Piece). option_or o (option_or (lowest_of measure need (g ∷ [])) (lowest_of measure need r))) here ∙ sym (lowest-node measure need l g r)
+pub lowest-left : (p : Piece → Bool) (measure : Measure) (l : List Piece) (g : Piece) (r : List Piece) (found : Piece) → Some found ≡ lowest_of p measure l → Some found ≡ lowest_of p measure (l ++ (g ∷ r))
+lowest-left p measure l g r found here =
+    ap (λ (o : Option Piece). option_or o (option_or (lowest_of p measure (g ∷ [])) (lowest_of p measure r))) here ∙ sym (lowest-node p measure l g r)
 
-pub lowest-own : (measure : Measure) (need : ℕ) (l : List Piece) (g : Piece) (r : List Piece) (found : Piece) → None ≡ lowest_of measure need l → Some found ≡ lowest_of measure need (g ∷ [])
-    → Some found ≡ lowest_of measure need (l ++ (g ∷ r))
-lowest-own measure need l g r found none here =
-    ap (λ (o : Option Piece). option_or o (lowest_of measure need r)) here ∙ ap (λ (o : Option Piece). option_or o (option_or (lowest_of measure need (g ∷ [])) (lowest_of measure need r))) none
-    ∙ sym (lowest-node measure need l g r)
+pub lowest-own : (p : Piece → Bool) (measure : Measure) (l : List Piece) (g : Piece) (r : List Piece) (found : Piece) → None ≡ lowest_of p measure l → Some found ≡ lowest_of p measure (g ∷ [])
+    → Some found ≡ lowest_of p measure (l ++ (g ∷ r))
+lowest-own p measure l g r found none here =
+    ap (λ (o : Option Piece). option_or o (lowest_of p measure r)) here ∙ ap (λ (o : Option Piece). option_or o (option_or (lowest_of p measure (g ∷ [])) (lowest_of p measure r))) none
+    ∙ sym (lowest-node p measure l g r)
 
-pub lowest-right : (measure : Measure) (need : ℕ) (l : List Piece) (g : Piece) (r : List Piece) (found : Option Piece) → None ≡ lowest_of measure need l → None ≡ lowest_of measure need (g ∷ [])
-    → found ≡ lowest_of measure need r → found ≡ lowest_of measure need (l ++ (g ∷ r))
-lowest-right measure need l g r found none own here =
-    here ∙ ap (λ (o : Option Piece). option_or o (lowest_of measure need r)) own ∙ ap (λ (o : Option Piece). option_or o (option_or (lowest_of measure need (g ∷ [])) (lowest_of measure need r))) none
-    ∙ sym (lowest-node measure need l g r)
-
--- one gap alone
-pub cut-one : (measure : Measure) (gap cut : Piece) → Some cut ≡ (if nat_lt 0 (units_by measure gap).length then Some (units_by measure gap) else None) → cuts_by measure (gap ∷ []) ≡ cut ∷ []
-cut-one measure gap cut found = unit-one (unit_by measure) (clip (from_by measure) (end_by measure) gap) cut _ refl found
+pub lowest-right : (p : Piece → Bool) (measure : Measure) (l : List Piece) (g : Piece) (r : List Piece) (found : Option Piece) → None ≡ lowest_of p measure l → None ≡ lowest_of p measure (g ∷ [])
+    → found ≡ lowest_of p measure r → found ≡ lowest_of p measure (l ++ (g ∷ r))
+lowest-right p measure l g r found none own here =
+    here ∙ ap (λ (o : Option Piece). option_or o (lowest_of p measure r)) own ∙ ap (λ (o : Option Piece). option_or o (option_or (lowest_of p measure (g ∷ [])) (lowest_of p measure r))) none
+    ∙ sym (lowest-node p measure l g r)
 
 -- gaps behind a gap that stands behind another
 pub all-behind : (measure : Measure) (gaps : List Piece) (best last : Piece) → best.length ≡ longest_by measure gaps → All (λ (gap : Piece). best.start ≤ gap.start) gaps → comes_first best last ≡ false
@@ -115,9 +113,66 @@ all-behind measure gaps best last long from behind =
     (λ cut h. let low = h.0 in let short = h.1 in grind (arith, nat_tests, behind, low, short))
     (cuts_by measure gaps) (cuts-within measure best.start best.length gaps from (omega (arith, long)))
 
--- no gap has a whole unit
-pub cuts-none : (measure : Measure) (gaps : List Piece) → longest_by measure gaps ≡ 0 → cuts_by measure gaps ≡ []
-cuts-none measure [] none = refl
-cuts-none measure (gap ∷ gaps) none =
-    let off : nat_lt 0 (units_by measure gap).length ≡ false = grind (arith, nat_tests, none) in
-    rw off (cuts-none measure gaps (omega (arith, none)))
+among-append : (p : Piece → Bool) (xs ys : List Piece) → longest_among p (xs ++ ys) ≡ max (longest_among p xs) (longest_among p ys)
+among-append p [] ys = omega arith
+among-append p (x ∷ xs) ys = let rest = among-append p xs ys in omega (arith, rest)
+
+-- the longest that passes stands on the left, in the middle or on the right
+pub among-node : (p : Piece → Bool) (measure : Measure) (l : List Piece) (g : Piece) (r : List Piece) (left own right result : ℕ) → left ≡ longest_among p (cuts_by measure l)
+    → own ≡ longest_among p (cuts_by measure (g ∷ [])) → right ≡ longest_among p (cuts_by measure r) → result ≡ max left (max own right) → result ≡ longest_among p (cuts_by measure (l ++ (g ∷ r)))
+among-node p measure l g r left own right result left_is own_is right_is is =
+    let whole : longest_among p (cuts_by measure (l ++ (g ∷ r))) ≡ longest_among p (cuts_by measure l ++ (cuts_by measure (g ∷ []) ++ cuts_by measure r)) = ap (longest_among p) (cuts-node measure l g r) in
+    let one = among-append p (cuts_by measure l) (cuts_by measure (g ∷ []) ++ cuts_by measure r) in
+    let two = among-append p (cuts_by measure (g ∷ [])) (cuts_by measure r) in
+    omega (arith, whole, one, two, left_is, own_is, right_is, is)
+
+among-all_at : (p : Piece → Bool) (measure : Measure) (gap : Piece) (gaps : List Piece) (b : Bool) → nat_lt 0 (units_by measure gap).length ≡ b → All (λ (cut : Piece). p cut ≡ true) (cuts_by measure (gap ∷ gaps))
+    → (All (λ (cut : Piece). p cut ≡ true) (cuts_by measure gaps) → longest_among p (cuts_by measure gaps) ≡ longest_by measure gaps) → longest_among p (cuts_by measure (gap ∷ gaps)) ≡ longest_by measure (gap ∷ gaps)
+among-all_at p measure gap gaps true is all rest =
+    let P : Piece → Type 0 = λ (cut : Piece). p cut ≡ true in
+    let now : All P (units_by measure gap ∷ cuts_by measure gaps) = rw is at all in
+    let own = All-head P (units_by measure gap) (cuts_by measure gaps) now in
+    rw (is, own) (ap (max (units_by measure gap).length) (rest (All-tail P (units_by measure gap) (cuts_by measure gaps) now)))
+among-all_at p measure gap gaps false is all rest =
+    let now : All (λ (cut : Piece). p cut ≡ true) (cuts_by measure gaps) = rw is at all in
+    let none : (units_by measure gap).length ≡ 0 = grind (arith, nat_tests, is) in
+    let same = rest now in
+    rw is (omega (arith, none, same))
+
+-- where all pass
+pub among-all : (p : Piece → Bool) (measure : Measure) (gaps : List Piece) → All (λ (cut : Piece). p cut ≡ true) (cuts_by measure gaps) → longest_among p (cuts_by measure gaps) ≡ longest_by measure gaps
+among-all p measure [] all = refl
+among-all p measure (gap ∷ gaps) all = among-all_at p measure gap gaps _ refl all (among-all p measure gaps)
+
+cuts-some_at : (measure : Measure) (gap : Piece) (gaps : List Piece) (b : Bool) → nat_lt 0 (units_by measure gap).length ≡ b → All (λ (cut : Piece). 0 < cut.length) (cuts_by measure gaps)
+    → All (λ (cut : Piece). 0 < cut.length) (cuts_by measure (gap ∷ gaps))
+cuts-some_at measure gap gaps true is rest = rw is (All-cons (λ (cut : Piece). 0 < cut.length) (units_by measure gap) (cuts_by measure gaps) (grind (arith, nat_tests, is)) rest)
+cuts-some_at measure gap gaps false is rest = rw is rest
+
+-- none is empty
+pub cuts-some : (measure : Measure) (gaps : List Piece) → All (λ (cut : Piece). 0 < cut.length) (cuts_by measure gaps)
+cuts-some measure [] = All-nil (λ (cut : Piece). 0 < cut.length)
+cuts-some measure (gap ∷ gaps) = cuts-some_at measure gap gaps _ refl (cuts-some measure gaps)
+
+-- they end where the gap does, or before
+cut-end : (measure : Measure) (gap : Piece) → 0 < (units_by measure gap).length → (units_by measure gap).start + (units_by measure gap).length ≤ gap.start + gap.length
+cut-end measure gap some =
+    let n = unit_by measure in
+    let part = clip (from_by measure) (end_by measure) gap in
+    let low : part.start ≤ (whole_units n part).start = units-low n part (unit-some measure) in
+    let high : (whole_units n part).start + (whole_units n part).length ≤ part.start + part.length = units-high n part some in
+    omega (arith, low, high, some)
+
+cuts-apart_at : (measure : Measure) (gap : Piece) (gaps : List Piece) (b : Bool) → nat_lt 0 (units_by measure gap).length ≡ b → All (λ (o : Piece). gap.start + gap.length ≤ o.start) gaps → StandApart (cuts_by measure gaps)
+    → StandApart (cuts_by measure (gap ∷ gaps))
+cuts-apart_at measure gap gaps true is behind rest =
+    let cut = units_by measure gap in
+    let low = cut-end measure gap (grind (arith, nat_tests, is)) in
+    let all = cuts-within measure (gap.start + gap.length) (longest_by measure gaps) gaps behind (omega arith) in
+    rw is (All-weaker (IsCut (gap.start + gap.length) (longest_by measure gaps)) (λ (o : Piece). cut.start + cut.length ≤ o.start) (λ o h. omega (arith, low, h.0)) (cuts_by measure gaps) all, rest)
+cuts-apart_at measure gap gaps false is behind rest = rw is rest
+
+-- they stand apart as the gaps do
+pub cuts-apart : (measure : Measure) (gaps : List Piece) → StandApart gaps → StandApart (cuts_by measure gaps)
+cuts-apart measure [] apart = tt
+cuts-apart measure (gap ∷ gaps) apart = cuts-apart_at measure gap gaps _ refl apart.0 (cuts-apart measure gaps apart.1)

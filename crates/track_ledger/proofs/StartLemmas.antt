@@ -1,10 +1,11 @@
 -- What is granted where the lowest gap that holds the need is known, or how long the longest is.
-use Rattle.std.proofs.Common.{◌≡◌, ◌≤◌, ◌<◌, ◌-◌, ◌*◌, ℕ, zero, suc, Bool, true, false, List, [], ◌∷◌, take, refl, sym, ap, ◌∙◌, arith}
+use Rattle.std.proofs.Common.{◌≡◌, ◌≤◌, ◌<◌, ◌-◌, ◌*◌, ℕ, zero, suc, Bool, true, false, List, [], ◌∷◌, refl, sym, ap}
+use Rattle.std.proofs.Common.{◌∙◌, arith}
 use Rattle.std.specs.Prelude.{Option, None, Some, option_map, find, min, nat_le}
 use Rattle.std.specs.List.{All}
 use Rattle.std.proofs.lemmas.Bool.Decides.{nat_tests}
 use Rattle.std.proofs.Math.Nat.{mul-le-mul_right, suc-mul}
-use Rattle.std.proofs.lemmas.List.Elements.{All-take, All-head, All-tail, All-weaker}
+use Rattle.std.proofs.lemmas.List.Elements.{All-head, All-tail, All-weaker}
 use Rattle.track_ledger.specs.declared.piece.Piece.{Piece}
 use Rattle.track_ledger.specs.GapRule.{grant_of, longest_first, taken_from}
 use Rattle.track_ledger.proofs.GrantLemmas.{longest-inside}
@@ -59,5 +60,5 @@ pub short-granted : (cuts : List Piece) (most need held allowed : ℕ) → All (
 short-granted cuts most need held allowed all allowed_is more short =
     let few : allowed * most ≤ 5 * most = mul-le-mul_right most (omega (arith, allowed_is)) in
     let each : All (λ (g : Piece). g.length < need) cuts = All-weaker (λ (g : Piece). g.length ≤ most) (λ (g : Piece). g.length < need) (λ g le. omega (arith, le, short)) cuts all in
-    let five = All-take (λ (g : Piece). g.length ≤ most) 5 (longest_first cuts) (longest-inside (λ (g : Piece). g.length ≤ most) cuts all) in
-    grant-parts cuts (take 5 (longest_first cuts)) need held allowed None allowed_is more (sym (find-none need cuts each)) refl (sym (taken-short most need allowed (take 5 (longest_first cuts)) five (omega (arith, few, short))))
+    let same = longest-inside (λ (g : Piece). g.length ≤ most) cuts all in
+    grant-parts cuts need held allowed None allowed_is more (sym (find-none need cuts each)) (sym (taken-short most need allowed (longest_first cuts) same (omega (arith, few, short))))

@@ -1,14 +1,15 @@
 //! Gaps in a tree, by start.
-ghost use Rattle.std.specs.Prelude.{◌≡◌, ◌≤◌, ◌<◌, ◌^◌, ◌∷◌, ◌++◌, [], find, length, nat_le, slice_index_or, take, IfSome};
+ghost use Rattle.std.specs.Prelude.{◌≡◌, ◌≤◌, ◌<◌, ◌^◌, ◌∷◌, ◌++◌, ◌&&◌, [], find, length, nat_le, not, slice_index_or};
+ghost use Rattle.std.specs.Prelude.{IfSome};
 ghost use Rattle.std.specs.List.{All};
 ghost use Rattle.track_ledger.specs.declared.piece.Piece.{Piece};
+ghost use Rattle.track_ledger.specs.GapRule.{comes_first};
 ghost use Rattle.track_ledger.specs.Inner.GapChanges.{AreInOrder, IsFirstReaching};
-ghost use Rattle.track_ledger.specs.Inner.GapLists.{StandApart, StandLongestFirst};
-ghost use Rattle.track_ledger.specs.Inner.Measures.{AreLongest, cuts_by, put_all};
+ghost use Rattle.track_ledger.specs.Inner.GapLists.{StandApart};
+ghost use Rattle.track_ledger.specs.Inner.Measures.{AreLongest, cuts_by, longest_among};
 ghost use Rattle.track_ledger.specs.Inner.Trees.{gaps_around, items_of};
 
-use crate::gap_rule::{is_behind, put_among};
-use crate::grant::Grant;
+use crate::gap_rule::is_first;
 use crate::measure::{Longest, Measure, lengths_of, longer, units_in};
 use crate::piece::Piece;
 use std::marker::Model;
@@ -224,40 +225,52 @@ impl Tree {
         }
     }
 
-    /// Puts the gaps of a part, in whole units, among the five longest, and the longer side first. Sides whose gaps all
-    /// stand behind these are left out; `from` is a track before which none of the gaps begins.
-    pub fn put_longest(&self, measure: Measure, from: u32, longest: &mut Grant)
+    /// How long the longest gap of a part is, in whole units, of those that stand behind another, longest first. Where
+    /// all of a side do, it is not gone into; `from` is a track before which none of the gaps begins.
+    pub fn longest_behind(&self, measure: Measure, from: u32, last: &Piece) -> u32
         requires apart { StandApart (items_of self.now) }
         requires behind { All (λ gap. from ≤ gap.start) (items_of self.now) }
-        requires sorted { StandLongestFirst longest.old.items }
-        requires five { length longest.old.items ≤ 5 }
-        ensures items { longest.new.items ≡ take 5 (put_all (cuts_by measure (items_of self.now)) longest.old.items) }
-        ensures sorted { StandLongestFirst longest.new.items }
-        ensures five { length longest.new.items ≤ 5 }
+        ensures { result ≡ longest_among (λ cut. not (comes_first cut last.now)) (cuts_by measure (items_of self.now)) }
     {
         match self {
-            Tree::Empty => {}
+            Tree::Empty => 0,
             Tree::Full(cell) => {
                 let node: &Node = cell;
                 let best = Piece {
                     start: from,
                     length: node.longest.by(measure),
                 };
-                if best.length == 0 {
-                    return;
+                if !is_first(&best, last) {
+                    return best.length;
                 }
-                if is_behind(longest.as_slice(), &best) {
-                    return;
+                let left = node.left.longest_behind(measure, from, last);
+                let own = length_behind(&node.gap, measure, last);
+                let right = node.right.longest_behind(measure, node.gap.start, last);
+                left.max(own.max(right))
+            }
+        }
+    }
+
+    /// The lowest gap of a part, in whole units, that holds so many tracks and stands behind another, longest first: no
+    /// side is gone into where none holds them.
+    pub fn lowest_behind(&self, measure: Measure, tracks: u32, last: &Piece) -> Option<Piece>
+        ensures { result ≡
+            find (λ cut. not (comes_first cut last.now) && nat_le tracks cut.length) (cuts_by measure (items_of self.now)) }
+    {
+        match self {
+            Tree::Empty => None,
+            Tree::Full(cell) => {
+                let node: &Node = cell;
+                if node.longest.by(measure) < tracks {
+                    return None;
                 }
-                if node.left.longest().by(measure) >= node.right.longest().by(measure) {
-                    node.left.put_longest(measure, from, longest);
-                    put_cut(&node.gap, measure, longest);
-                    node.right.put_longest(measure, node.gap.start, longest);
-                } else {
-                    node.right.put_longest(measure, node.gap.start, longest);
-                    put_cut(&node.gap, measure, longest);
-                    node.left.put_longest(measure, from, longest);
+                if let Some(gap) = node.left.lowest_behind(measure, tracks, last) {
+                    return Some(gap);
                 }
+                if let Some(gap) = cut_behind(&node.gap, measure, tracks, last) {
+                    return Some(gap);
+                }
+                node.right.lowest_behind(measure, tracks, last)
             }
         }
     }
@@ -275,18 +288,32 @@ fn cut_holding(gap: &Piece, measure: Measure, tracks: u64) -> Option<Piece>
     Some(cut)
 }
 
-// Puts the whole units of a gap in a part among the five longest.
-fn put_cut(gap: &Piece, measure: Measure, longest: &mut Grant)
-    requires sorted { StandLongestFirst longest.old.items }
-    requires five { length longest.old.items ≤ 5 }
-    ensures items { longest.new.items ≡ take 5 (put_all (cuts_by measure (gap.now ∷ [])) longest.old.items) }
-    ensures sorted { StandLongestFirst longest.new.items }
-    ensures five { length longest.new.items ≤ 5 }
+// How long the whole units of a gap in a part are, if they stand behind another gap.
+fn length_behind(gap: &Piece, measure: Measure, last: &Piece) -> u32
+    ensures { result ≡ longest_among (λ cut. not (comes_first cut last.now)) (cuts_by measure (gap.now ∷ [])) }
 {
-    if let Some(cut) = units_in(gap, measure) {
-        if is_behind(longest.as_slice(), &cut) {
-            return;
+    match units_in(gap, measure) {
+        Some(cut) => {
+            if is_first(&cut, last) {
+                return 0;
+            }
+            cut.length
         }
-        put_among(longest, &cut);
+        None => 0,
     }
+}
+
+// The whole units of a gap in a part, if they are so many tracks and stand behind another gap.
+fn cut_behind(gap: &Piece, measure: Measure, tracks: u32, last: &Piece) -> Option<Piece>
+    ensures { result ≡
+        find (λ cut. not (comes_first cut last.now) && nat_le tracks cut.length) (cuts_by measure (gap.now ∷ [])) }
+{
+    let cut = units_in(gap, measure)?;
+    if cut.length < tracks {
+        return None;
+    }
+    if is_first(&cut, last) {
+        return None;
+    }
+    Some(cut)
 }

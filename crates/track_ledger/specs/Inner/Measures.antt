@@ -1,12 +1,11 @@
 -- The gaps of a part of a volume by the unit in which they are granted, and which of them are the longest.
-use Rattle.std.specs.Prelude.{ℕ, ◌≡◌, ◌^◌, max, List, [], ◌∷◌, map}
+use Rattle.std.specs.Prelude.{ℕ, ◌≡◌, ◌^◌, max, Bool, List, [], ◌∷◌, map, if◌then◌else◌}
 use Rattle.sms_construct.specs.Quantities.{border}
 use Rattle.track_ledger.specs.declared.measure.Longest.{Longest}
 use Rattle.track_ledger.specs.declared.measure.Measure.{Measure}
 use Rattle.track_ledger.specs.declared.measure.Measure.TheVariants.{Tracks, Cylinders, Managed}
 use Rattle.track_ledger.specs.declared.piece.Piece.{Piece}
 use Rattle.track_ledger.specs.Gaps.{clip, unit_gaps, whole_units}
-use Rattle.track_ledger.specs.GapRule.{put_in_order}
 
 -- the tracks of a unit
 abbrev pub unit_by : Measure → ℕ
@@ -49,7 +48,7 @@ length_at longest Managed = longest.managed
 abbrev pub AreLongest : List Piece → Longest → Type 0
 AreLongest gaps longest = (measure : Measure) → length_at longest measure ≡ longest_by measure gaps
 
--- gaps put at their places among gaps that stand longest first
-abbrev pub put_all : List Piece → List Piece → List Piece
-put_all [] longest = longest
-put_all (gap ∷ gaps) longest = put_in_order gap (put_all gaps longest)
+-- how long the longest of the gaps is that pass a test, or 0
+abbrev pub longest_among : (Piece → Bool) → List Piece → ℕ
+longest_among test [] = 0
+longest_among test (gap ∷ gaps) = max (if test gap then gap.length else 0) (longest_among test gaps)
