@@ -119,7 +119,7 @@ among-append p (x ∷ xs) ys = let rest = among-append p xs ys in omega (arith, 
 
 -- the longest that passes stands on the left, in the middle or on the right
 pub among-node : (p : Piece → Bool) (measure : Measure) (l : List Piece) (g : Piece) (r : List Piece) (left own right result : ℕ) → left ≡ longest_among p (cuts_by measure l)
-    → own ≡ longest_among p (cuts_by measure (g ∷ [])) → right ≡ longest_among p (cuts_by measure r) → result ≡ max left (max own right) → result ≡ longest_among p (cuts_by measure (l ++ (g ∷ r)))
+    → own ≡ longest_among p (cuts_by measure (g ∷ [])) → right ≡ longest_among p (cuts_by measure r) → result ≡ max (max left right) own → result ≡ longest_among p (cuts_by measure (l ++ (g ∷ r)))
 among-node p measure l g r left own right result left_is own_is right_is is =
     let whole : longest_among p (cuts_by measure (l ++ (g ∷ r))) ≡ longest_among p (cuts_by measure l ++ (cuts_by measure (g ∷ []) ++ cuts_by measure r)) = ap (longest_among p) (cuts-node measure l g r) in
     let one = among-append p (cuts_by measure l) (cuts_by measure (g ∷ []) ++ cuts_by measure r) in

@@ -1,6 +1,6 @@
 //! Gaps in a tree, by start.
-ghost use Rattle.std.specs.Prelude.{◌≡◌, ◌≤◌, ◌<◌, ◌^◌, ◌∷◌, ◌++◌, ◌&&◌, [], find, length, nat_le, not, slice_index_or};
-ghost use Rattle.std.specs.Prelude.{IfSome};
+ghost use Rattle.std.specs.Prelude.{◌≡◌, ◌≤◌, ◌<◌, ◌^◌, ◌∷◌, ◌++◌, ◌&&◌, [], find, length, max, nat_le, not};
+ghost use Rattle.std.specs.Prelude.{slice_index_or, IfSome};
 ghost use Rattle.std.specs.List.{All};
 ghost use Rattle.track_ledger.specs.declared.piece.Piece.{Piece};
 ghost use Rattle.track_ledger.specs.GapRule.{comes_first};
@@ -244,9 +244,8 @@ impl Tree {
                     return best.length;
                 }
                 let left = node.left.longest_behind(measure, from, last);
-                let own = length_behind(&node.gap, measure, last);
                 let right = node.right.longest_behind(measure, node.gap.start, last);
-                left.max(own.max(right))
+                length_behind(&node.gap, measure, left.max(right), last)
             }
         }
     }
@@ -281,6 +280,9 @@ fn cut_holding(gap: &Piece, measure: Measure, tracks: u64) -> Option<Piece>
     ensures lowest { result ≡ find (λ gap. nat_le tracks gap.length) (cuts_by measure (gap.now ∷ [])) }
     ensures holds { IfSome result (λ gap. tracks ≤ gap.length) }
 {
+    if u64::from(gap.length) < tracks {
+        return None;
+    }
     let cut = units_in(gap, measure)?;
     if u64::from(cut.length) < tracks {
         return None;
@@ -288,18 +290,21 @@ fn cut_holding(gap: &Piece, measure: Measure, tracks: u64) -> Option<Piece>
     Some(cut)
 }
 
-// How long the whole units of a gap in a part are, if they stand behind another gap.
-fn length_behind(gap: &Piece, measure: Measure, last: &Piece) -> u32
-    ensures { result ≡ longest_among (λ cut. not (comes_first cut last.now)) (cuts_by measure (gap.now ∷ [])) }
+// How long the whole units of a gap in a part are, if they stand behind another gap, or `least` where that is more.
+fn length_behind(gap: &Piece, measure: Measure, least: u32, last: &Piece) -> u32
+    ensures { result ≡ max least (longest_among (λ cut. not (comes_first cut last.now)) (cuts_by measure (gap.now ∷ []))) }
 {
+    if gap.length <= least {
+        return least;
+    }
     match units_in(gap, measure) {
         Some(cut) => {
             if is_first(&cut, last) {
-                return 0;
+                return least;
             }
-            cut.length
+            least.max(cut.length)
         }
-        None => 0,
+        None => least,
     }
 }
 
@@ -308,6 +313,9 @@ fn cut_behind(gap: &Piece, measure: Measure, tracks: u32, last: &Piece) -> Optio
     ensures { result ≡
         find (λ cut. not (comes_first cut last.now) && nat_le tracks cut.length) (cuts_by measure (gap.now ∷ [])) }
 {
+    if gap.length < tracks {
+        return None;
+    }
     let cut = units_in(gap, measure)?;
     if cut.length < tracks {
         return None;

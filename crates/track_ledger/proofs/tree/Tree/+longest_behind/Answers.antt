@@ -1,4 +1,4 @@
-use Rattle.std.proofs.Common.{rules, ◌≡◌, ◌≤◌, ◌++◌, ◌∷◌, List, true, false, sym, ap, ◌∙◌, subst, arith}
+use Rattle.std.proofs.Common.{rules, ◌≡◌, ◌≤◌, ◌++◌, ◌∷◌, [], List, true, false, refl, sym, ap, ◌∙◌, subst, arith}
 use Rattle.std.specs.Prelude.{Bool, not}
 use Rattle.std.specs.List.{All}
 use Rattle.std.proofs.lemmas.Grind.{common_steps}
@@ -58,6 +58,6 @@ returns-else-not-is_first t c =
     let gap = c.node.inside.gap in
     let right = items_of c.node.inside.right in
     let whole : items_of c.args.self.now ≡ left ++ (gap ∷ right) = search rules in
-    among-node (after c.args.last.now) m left gap right c.longest_behind-left.result c.length_behind-own.result c.longest_behind-right.result c.max-in-Full.result
-    c.longest_behind-left.ensures c.length_behind-own.ensures c.longest_behind-right.ensures (omega (arith, c.max.ensures, c.max-in-Full.ensures))
+    among-node (after c.args.last.now) m left gap right c.longest_behind-left.result (longest_among (after c.args.last.now) (cuts_by m (gap ∷ []))) c.longest_behind-right.result c.length_behind.result
+    c.longest_behind-left.ensures refl c.longest_behind-right.ensures (omega (arith, c.max.ensures, c.length_behind.ensures))
     ∙ ap (λ (l : List Piece). longest_among (after c.args.last.now) (cuts_by m l)) (sym whole)
