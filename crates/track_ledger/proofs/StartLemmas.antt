@@ -9,7 +9,8 @@ use Rattle.std.proofs.lemmas.List.Elements.{All-head, All-tail, All-weaker}
 use Rattle.track_ledger.specs.declared.piece.Piece.{Piece}
 use Rattle.track_ledger.specs.GapRule.{grant_of, longest_first, taken_from}
 use Rattle.track_ledger.proofs.GrantLemmas.{longest-inside}
-use Rattle.track_ledger.proofs.LongestLemmas.{find-none, grant-parts, grant-whole}
+use Rattle.track_ledger.proofs.LongestLemmas.{grant-parts, grant-whole}
+use Rattle.track_ledger.proofs.NextLemmas.{find-nothing}
 
 -- where a gap begins
 abbrev pub start_of : Piece → ℕ
@@ -54,11 +55,15 @@ taken-short most need (suc pieces) (gap ∷ gaps) all short =
     taken-short_at most need pieces gap gaps _ refl le short
     (taken-short most (need - gap.length) pieces gaps (All-tail (λ (g : Piece). g.length ≤ most) gap gaps all) (omega (arith, le, short, split)))
 
+short-test : (need most n : ℕ) → n ≤ most → most < need → nat_le need n ≡ false
+short-test need most n le short = grind (arith, nat_tests, le, short)
+
 -- where five of the longest have too few tracks nothing is granted
 pub short-granted : (cuts : List Piece) (most need held allowed : ℕ) → All (λ (g : Piece). g.length ≤ most) cuts → allowed ≡ min (16 - held) 5 → (allowed ≡ 0 → ⊥) → 5 * most < need
     → None ≡ grant_of cuts need held
 short-granted cuts most need held allowed all allowed_is more short =
     let few : allowed * most ≤ 5 * most = mul-le-mul_right most (omega (arith, allowed_is)) in
-    let each : All (λ (g : Piece). g.length < need) cuts = All-weaker (λ (g : Piece). g.length ≤ most) (λ (g : Piece). g.length < need) (λ g le. omega (arith, le, short)) cuts all in
+    let each : All (λ (g : Piece). nat_le need g.length ≡ false) cuts =
+    All-weaker (λ (g : Piece). g.length ≤ most) (λ (g : Piece). nat_le need g.length ≡ false) (λ g le. short-test need most g.length le (omega (arith, short))) cuts all in
     let same = longest-inside (λ (g : Piece). g.length ≤ most) cuts all in
-    grant-parts cuts need held allowed None allowed_is more (sym (find-none need cuts each)) (sym (taken-short most need allowed (longest_first cuts) same (omega (arith, few, short))))
+    grant-parts cuts need held allowed None allowed_is more (sym (find-nothing (λ (g : Piece). nat_le need g.length) cuts each)) (sym (taken-short most need allowed (longest_first cuts) same (omega (arith, few, short))))
