@@ -6,6 +6,7 @@ ghost use Rattle.sms_open.specs.declared.open_err.OpenErr.{OpenErr as Refusal};
 ghost use Rattle.desk_calls.specs.declared.status.RunStatus.TheVariants.{BadWords};
 ghost use Rattle.db_calls.specs.DbEnds.{DbEnds, is_told, leaves_sink_of};
 ghost use Rattle.db_calls.specs.DbWords.{database_in};
+ghost use Rattle.sms_base.specs.Observed.{seen_streams};
 
 use crate::status::DbStatus;
 use crate::words::database_asked;
@@ -34,8 +35,8 @@ pub fn db_main<S: Source, K: Sink, P: Stored>(
     ensures unwritten { leaves_sink_of result.0 ≡ true → out.new ≡ out.old }
     ensures unrun { result.0 ≡ DbStatus.Ran BadWords → result.1 ≡ keeper }
     ensures ends { (file : List ℕ) → database_in (map string_bytes words.now) ≡ Some file → DbEnds P.Keeper P.damage
-        (record { left = S.left src.old; reads = S.reads src.old; read_faults = S.read_faults src.old; taken = K.taken out.old; write_faults = K.write_faults out.old })
-        (record { left = S.left src.new; reads = S.reads src.new; read_faults = S.read_faults src.new; taken = K.taken out.new; write_faults = K.write_faults out.new })
+        (seen_streams S.left S.reads S.read_faults K.taken K.write_faults src.old out.old)
+        (seen_streams S.left S.reads S.read_faults K.taken K.write_faults src.new out.new)
         keeper result.1 result.0 }
 {
     if database_asked(words).is_none() {
@@ -58,8 +59,8 @@ fn run_stored<S: Source, K: Sink, P: Stored>(
     ensures damage { (err : Refusal) → result.0 ≡ DbStatus.Store err → SameDamage (P.damage keeper) (P.damage result.1) }
     ensures unwritten { leaves_sink_of result.0 ≡ true → out.new ≡ out.old }
     ensures ends { DbEnds P.Keeper P.damage
-        (record { left = S.left src.old; reads = S.reads src.old; read_faults = S.read_faults src.old; taken = K.taken out.old; write_faults = K.write_faults out.old })
-        (record { left = S.left src.new; reads = S.reads src.new; read_faults = S.read_faults src.new; taken = K.taken out.new; write_faults = K.write_faults out.new })
+        (seen_streams S.left S.reads S.read_faults K.taken K.write_faults src.old out.old)
+        (seen_streams S.left S.reads S.read_faults K.taken K.write_faults src.new out.new)
         keeper result.1 result.0 }
 {
     match keeper.ready() {
@@ -83,8 +84,8 @@ fn run_ready<S: Source, K: Sink, P: Stored>(
     ensures damage { (err : Refusal) → result.0 ≡ DbStatus.Store err → StaysDamaged (P.damage keeper) (P.damage result.1) }
     ensures unwritten { leaves_sink_of result.0 ≡ true → out.new ≡ out.old }
     ensures ends { DbEnds P.Keeper P.damage
-        (record { left = S.left src.old; reads = S.reads src.old; read_faults = S.read_faults src.old; taken = K.taken out.old; write_faults = K.write_faults out.old })
-        (record { left = S.left src.new; reads = S.reads src.new; read_faults = S.read_faults src.new; taken = K.taken out.new; write_faults = K.write_faults out.new })
+        (seen_streams S.left S.reads S.read_faults K.taken K.write_faults src.old out.old)
+        (seen_streams S.left S.reads S.read_faults K.taken K.write_faults src.new out.new)
         keeper result.1 result.0 }
 {
     match reopen(alloc, keeper) {

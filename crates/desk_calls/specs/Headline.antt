@@ -35,6 +35,10 @@ pub record Keeping : Type 0 where
   pub told : Option Rows
   pub count : ℕ
 
+-- what these tell of a keeper
+abbrev pub seen_keeper : {P : Type 0} → (P → Option Rows) → (P → ℕ) → P → Keeping
+seen_keeper told count keeper = record { told = told keeper; count = count keeper }
+
 -- a repeated number: below its floor it is refused, a kept one gets its reply or is refused for another op, and each
 -- other is fresh
 pub record KeepsReplies (o : Opening) (history : List Entry) : Type 0 where

@@ -1,7 +1,7 @@
 // From the bytes of a script to the text of its answers.
 ghost use Rattle.std.specs.Prelude.{◌≡◌, ◌<◌, ◌≤◌, ◌^◌, List, ℕ, [], length, Ok, IfErr, IfOk};
 ghost use Rattle.sms_script.specs.Script.{IsRefusal, script_of};
-ghost use Rattle.desk_calls.specs.Headline.{IsAnswered, IsLeft};
+ghost use Rattle.desk_calls.specs.Headline.{IsAnswered, IsLeft, seen_keeper};
 
 use crate::run_text::run_text;
 use crate::script_run::{run_alone, run_shared};
@@ -26,10 +26,10 @@ pub fn answer_text<P: Keeper>(
     requires few { length bytes.now < 2 ^ 32 }
     requires journal { core.journal ≡ [] }
     requires mark { core.mark ≡ P.count core.keeper }
-    ensures answered { IfOk result.0 (λ text. IsAnswered core.opening volumes 1 (record { told = P.told core.keeper; count = P.count core.keeper }) (record { told = P.told result.1; count = P.count result.1 }) bytes.now text.items) }
+    ensures answered { IfOk result.0 (λ text. IsAnswered core.opening volumes 1 (seen_keeper P.told P.count core.keeper) (seen_keeper P.told P.count result.1) bytes.now text.items) }
     ensures refused { IfErr result.0 (IsRefusal (script_of bytes.now)) }
     ensures unrun { IfErr result.0 (λ fault. (fault ≡ ScriptErr.NoMemory → ⊥) → result.1 ≡ core.keeper) }
-    ensures left { IfErr result.0 (λ _. IsLeft core.opening 1 (record { told = P.told core.keeper; count = P.count core.keeper }) (record { told = P.told result.1; count = P.count result.1 }) bytes.now) }
+    ensures left { IfErr result.0 (λ _. IsLeft core.opening 1 (seen_keeper P.told P.count core.keeper) (seen_keeper P.told P.count result.1) bytes.now) }
 {
     match read_script(alloc, bytes) {
         Ok(script) => {
@@ -55,10 +55,10 @@ pub fn shared_text<P: Keeper + Send, R: Threads + Wait + Sync, G: Gate + Sync>(
     requires workers { (2 ≤ workers) × (workers ≤ 16) }
     requires journal { core.journal ≡ [] }
     requires mark { core.mark ≡ P.count core.keeper }
-    ensures answered { IfOk result.0 (λ text. IsAnswered core.opening volumes workers (record { told = P.told core.keeper; count = P.count core.keeper }) (record { told = P.told result.1; count = P.count result.1 }) bytes.now text.items) }
+    ensures answered { IfOk result.0 (λ text. IsAnswered core.opening volumes workers (seen_keeper P.told P.count core.keeper) (seen_keeper P.told P.count result.1) bytes.now text.items) }
     ensures refused { IfErr result.0 (IsRefusal (script_of bytes.now)) }
     ensures unrun { IfErr result.0 (λ fault. (fault ≡ ScriptErr.NoMemory → ⊥) → result.1 ≡ core.keeper) }
-    ensures left { IfErr result.0 (λ _. IsLeft core.opening workers (record { told = P.told core.keeper; count = P.count core.keeper }) (record { told = P.told result.1; count = P.count result.1 }) bytes.now) }
+    ensures left { IfErr result.0 (λ _. IsLeft core.opening workers (seen_keeper P.told P.count core.keeper) (seen_keeper P.told P.count result.1) bytes.now) }
 {
     match read_script(alloc, bytes) {
         Ok(script) => answer_shared(alloc, rt, &script, volumes, workers, core, gate),
@@ -75,9 +75,9 @@ fn answer_alone<P: Keeper>(
 ) -> (Result<Vec<u8>, ScriptErr>, P)
     requires journal { core.journal ≡ [] }
     requires mark { core.mark ≡ P.count core.keeper }
-    ensures answered { IfOk result.0 (λ text. (bytes : List ℕ) → script_of bytes ≡ Ok script.now → IsAnswered core.opening volumes 1 (record { told = P.told core.keeper; count = P.count core.keeper }) (record { told = P.told result.1; count = P.count result.1 }) bytes text.items) }
+    ensures answered { IfOk result.0 (λ text. (bytes : List ℕ) → script_of bytes ≡ Ok script.now → IsAnswered core.opening volumes 1 (seen_keeper P.told P.count core.keeper) (seen_keeper P.told P.count result.1) bytes text.items) }
     ensures wanting { IfErr result.0 (λ fault. fault ≡ ScriptErr.NoMemory) }
-    ensures left { IfErr result.0 (λ _. (bytes : List ℕ) → script_of bytes ≡ Ok script.now → IsLeft core.opening 1 (record { told = P.told core.keeper; count = P.count core.keeper }) (record { told = P.told result.1; count = P.count result.1 }) bytes) }
+    ensures left { IfErr result.0 (λ _. (bytes : List ℕ) → script_of bytes ≡ Ok script.now → IsLeft core.opening 1 (seen_keeper P.told P.count core.keeper) (seen_keeper P.told P.count result.1) bytes) }
 {
     let (answers, core) = run_alone(alloc, script, core);
     let Ok(answers) = answers else {
@@ -107,9 +107,9 @@ fn answer_shared<P: Keeper + Send, R: Threads + Wait + Sync, G: Gate + Sync>(
     requires workers { (2 ≤ workers) × (workers ≤ 16) }
     requires journal { core.journal ≡ [] }
     requires mark { core.mark ≡ P.count core.keeper }
-    ensures answered { IfOk result.0 (λ text. (bytes : List ℕ) → script_of bytes ≡ Ok script.now → IsAnswered core.opening volumes workers (record { told = P.told core.keeper; count = P.count core.keeper }) (record { told = P.told result.1; count = P.count result.1 }) bytes text.items) }
+    ensures answered { IfOk result.0 (λ text. (bytes : List ℕ) → script_of bytes ≡ Ok script.now → IsAnswered core.opening volumes workers (seen_keeper P.told P.count core.keeper) (seen_keeper P.told P.count result.1) bytes text.items) }
     ensures wanting { IfErr result.0 (λ fault. fault ≡ ScriptErr.NoMemory) }
-    ensures left { IfErr result.0 (λ _. (bytes : List ℕ) → script_of bytes ≡ Ok script.now → IsLeft core.opening workers (record { told = P.told core.keeper; count = P.count core.keeper }) (record { told = P.told result.1; count = P.count result.1 }) bytes) }
+    ensures left { IfErr result.0 (λ _. (bytes : List ℕ) → script_of bytes ≡ Ok script.now → IsLeft core.opening workers (seen_keeper P.told P.count core.keeper) (seen_keeper P.told P.count result.1) bytes) }
 {
     let (answers, core) = run_shared(alloc, rt, script, usize::from(workers), core, gate);
     let Ok(answers) = answers else {

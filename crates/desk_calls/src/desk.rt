@@ -6,6 +6,8 @@ ghost use Rattle.desk_words.specs.Words.{task_in};
 ghost use Rattle.desk_words.specs.declared.task.Task.{Task as Asked};
 ghost use Rattle.desk_words.specs.declared.task.Task.TheVariants.{Generate};
 ghost use Rattle.desk_calls.specs.RunFault.{Ends, LoadEnds, RunEnds, leaves_keeper, leaves_sink};
+ghost use Rattle.sms_base.specs.Observed.{seen_streams};
+ghost use Rattle.desk_calls.specs.Headline.{seen_keeper};
 
 use crate::answering::{answer_text, shared_text};
 use crate::load::load_text;
@@ -42,9 +44,9 @@ pub fn desk_main<S: Source, K: Sink, P: Keeper + Send, R: Threads + Wait + Sync,
     ensures unwritten { leaves_sink result.0 ≡ true → out.new ≡ out.old }
     ensures unrun { leaves_keeper result.0 ≡ true → result.1 ≡ keeper }
     ensures ends { (task : Asked) → task_in (map string_bytes words.now) ≡ Some task → Ends task
-        (record { left = S.left src.old; reads = S.reads src.old; read_faults = S.read_faults src.old; taken = K.taken out.old; write_faults = K.write_faults out.old })
-        (record { left = S.left src.new; reads = S.reads src.new; read_faults = S.read_faults src.new; taken = K.taken out.new; write_faults = K.write_faults out.new })
-        (record { told = P.told keeper; count = P.count keeper }) (record { told = P.told result.1; count = P.count result.1 })
+        (seen_streams S.left S.reads S.read_faults K.taken K.write_faults src.old out.old)
+        (seen_streams S.left S.reads S.read_faults K.taken K.write_faults src.new out.new)
+        (seen_keeper P.told P.count keeper) (seen_keeper P.told P.count result.1)
         result.0 }
 {
     match task_asked(words) {
@@ -74,9 +76,9 @@ pub fn run_source<S: Source, K: Sink, P: Keeper>(
     ensures unwritten { leaves_sink result.0 ≡ true → out.new ≡ out.old }
     ensures unrun { leaves_keeper result.0 ≡ true → result.1 ≡ core.keeper }
     ensures ends { RunEnds core.opening volumes 1
-        (record { left = S.left src.old; reads = S.reads src.old; read_faults = S.read_faults src.old; taken = K.taken out.old; write_faults = K.write_faults out.old })
-        (record { left = S.left src.new; reads = S.reads src.new; read_faults = S.read_faults src.new; taken = K.taken out.new; write_faults = K.write_faults out.new })
-        (record { told = P.told core.keeper; count = P.count core.keeper }) (record { told = P.told result.1; count = P.count result.1 })
+        (seen_streams S.left S.reads S.read_faults K.taken K.write_faults src.old out.old)
+        (seen_streams S.left S.reads S.read_faults K.taken K.write_faults src.new out.new)
+        (seen_keeper P.told P.count core.keeper) (seen_keeper P.told P.count result.1)
         result.0 }
 {
     let bytes = match read_all(alloc, src, MAX_INPUT) {
@@ -114,9 +116,9 @@ fn run_shared<S: Source, K: Sink, P: Keeper + Send, R: Threads + Wait + Sync, G:
     ensures unwritten { leaves_sink result.0 ≡ true → out.new ≡ out.old }
     ensures unrun { leaves_keeper result.0 ≡ true → result.1 ≡ keeper }
     ensures ends { RunEnds empty_opening volumes workers
-        (record { left = S.left src.old; reads = S.reads src.old; read_faults = S.read_faults src.old; taken = K.taken out.old; write_faults = K.write_faults out.old })
-        (record { left = S.left src.new; reads = S.reads src.new; read_faults = S.read_faults src.new; taken = K.taken out.new; write_faults = K.write_faults out.new })
-        (record { told = P.told keeper; count = P.count keeper }) (record { told = P.told result.1; count = P.count result.1 })
+        (seen_streams S.left S.reads S.read_faults K.taken K.write_faults src.old out.old)
+        (seen_streams S.left S.reads S.read_faults K.taken K.write_faults src.new out.new)
+        (seen_keeper P.told P.count keeper) (seen_keeper P.told P.count result.1)
         result.0 }
 {
     let bytes = match read_all(alloc, src, MAX_INPUT) {
@@ -154,9 +156,9 @@ fn load<S: Source, K: Sink, P: Keeper>(
     ensures unwritten { leaves_sink result.0 ≡ true → out.new ≡ out.old }
     ensures unrun { leaves_keeper result.0 ≡ true → result.1 ≡ keeper }
     ensures ends { LoadEnds seed count
-        (record { left = S.left src.old; reads = S.reads src.old; read_faults = S.read_faults src.old; taken = K.taken out.old; write_faults = K.write_faults out.old })
-        (record { left = S.left src.new; reads = S.reads src.new; read_faults = S.read_faults src.new; taken = K.taken out.new; write_faults = K.write_faults out.new })
-        (record { told = P.told keeper; count = P.count keeper }) (record { told = P.told result.1; count = P.count result.1 })
+        (seen_streams S.left S.reads S.read_faults K.taken K.write_faults src.old out.old)
+        (seen_streams S.left S.reads S.read_faults K.taken K.write_faults src.new out.new)
+        (seen_keeper P.told P.count keeper) (seen_keeper P.told P.count result.1)
         result.0 }
 {
     let (text, keeper) = load_text(alloc, seed, count, keeper);

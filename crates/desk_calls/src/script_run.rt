@@ -5,7 +5,7 @@ ghost use Rattle.desk_records.specs.Tied.{faults_in};
 ghost use Rattle.sms_core.specs.Core.{HasTables};
 ghost use Rattle.sms_script.specs.Script.{items_of};
 ghost use Rattle.desk_workers.specs.Phases.{IsFrontAnswered};
-ghost use Rattle.desk_calls.specs.Headline.{IsRecorded, WasRun};
+ghost use Rattle.desk_calls.specs.Headline.{IsRecorded, WasRun, seen_keeper};
 ghost use Rattle.desk_calls.specs.Run.{AnswersFront, AnswersInOrder};
 
 use crate::lawful_history::legal_is_lawful;
@@ -56,7 +56,7 @@ pub fn run_alone<P: Keeper>(
 ) -> (Result<Answers, AllocError>, Core<P>)
     requires journal { core.journal ≡ [] }
     requires mark { core.mark ≡ P.count core.keeper }
-    ensures ran { IfOk result.0 (λ answers. WasRun core.opening 1 (record { told = P.told core.keeper; count = P.count core.keeper }) (record { told = P.told result.1.keeper; count = P.count result.1.keeper }) script.now answers result.1.journal) }
+    ensures ran { IfOk result.0 (λ answers. WasRun core.opening 1 (seen_keeper P.told P.count core.keeper) (seen_keeper P.told P.count result.1.keeper) script.now answers result.1.journal) }
     ensures unrun { OnErr result.0 (result.1 ≡ core) }
     ensures opening { result.1.opening ≡ core.opening }
 {
@@ -78,9 +78,9 @@ pub fn run_shared<P: Keeper + Send, R: Threads + Wait + Sync, G: Gate + Sync>(
     requires workers { (2 ≤ workers) × (workers ≤ 16) }
     requires journal { core.journal ≡ [] }
     requires mark { core.mark ≡ P.count core.keeper }
-    ensures ran { IfOk result.0 (λ answers. WasRun core.opening workers (record { told = P.told core.keeper; count = P.count core.keeper }) (record { told = P.told result.1.keeper; count = P.count result.1.keeper }) script.now answers result.1.journal) }
+    ensures ran { IfOk result.0 (λ answers. WasRun core.opening workers (seen_keeper P.told P.count core.keeper) (seen_keeper P.told P.count result.1.keeper) script.now answers result.1.journal) }
     ensures front { OnErr result.0 (IsFrontAnswered script.now [] result.1.journal) }
-    ensures recorded { IsRecorded core.opening (record { told = P.told core.keeper; count = P.count core.keeper }) (record { told = P.told result.1.keeper; count = P.count result.1.keeper }) result.1.journal }
+    ensures recorded { IsRecorded core.opening (seen_keeper P.told P.count core.keeper) (seen_keeper P.told P.count result.1.keeper) result.1.journal }
     ensures opening { result.1.opening ≡ core.opening }
 {
     // Facts for the proof; nothing changes.

@@ -4,6 +4,8 @@ ghost use Rattle.sms_keeper.specs.Tables.{AreSame, no_rows};
 ghost use Rattle.desk_words.specs.Managing.{managed_day_in};
 ghost use Rattle.desk_calls.specs.RunFault.{leaves_keeper, leaves_sink};
 ghost use Rattle.manage_calls.specs.ManageEnds.{ManageEnds};
+ghost use Rattle.sms_base.specs.Observed.{seen_streams};
+ghost use Rattle.desk_calls.specs.Headline.{seen_keeper};
 
 use crate::managing::manage_text;
 use desk_calls::RunStatus;
@@ -30,9 +32,9 @@ pub fn manage_main<S: Source, K: Sink, P: Keeper>(
     ensures unwritten { leaves_sink result.0 ≡ true → out.new ≡ out.old }
     ensures unrun { leaves_keeper result.0 ≡ true → result.1 ≡ keeper }
     ensures ends { (day : ℕ) → managed_day_in (map string_bytes words.now) ≡ Some day → ManageEnds day
-        (record { left = S.left src.old; reads = S.reads src.old; read_faults = S.read_faults src.old; taken = K.taken out.old; write_faults = K.write_faults out.old })
-        (record { left = S.left src.new; reads = S.reads src.new; read_faults = S.read_faults src.new; taken = K.taken out.new; write_faults = K.write_faults out.new })
-        (record { told = P.told keeper; count = P.count keeper }) (record { told = P.told result.1; count = P.count result.1 })
+        (seen_streams S.left S.reads S.read_faults K.taken K.write_faults src.old out.old)
+        (seen_streams S.left S.reads S.read_faults K.taken K.write_faults src.new out.new)
+        (seen_keeper P.told P.count keeper) (seen_keeper P.told P.count result.1)
         result.0 }
 {
     match managed_day(words) {
@@ -54,9 +56,9 @@ fn manage_source<S: Source, K: Sink, P: Keeper>(
     ensures unwritten { leaves_sink result.0 ≡ true → out.new ≡ out.old }
     ensures unrun { leaves_keeper result.0 ≡ true → result.1 ≡ keeper }
     ensures ends { ManageEnds day
-        (record { left = S.left src.old; reads = S.reads src.old; read_faults = S.read_faults src.old; taken = K.taken out.old; write_faults = K.write_faults out.old })
-        (record { left = S.left src.new; reads = S.reads src.new; read_faults = S.read_faults src.new; taken = K.taken out.new; write_faults = K.write_faults out.new })
-        (record { told = P.told keeper; count = P.count keeper }) (record { told = P.told result.1; count = P.count result.1 })
+        (seen_streams S.left S.reads S.read_faults K.taken K.write_faults src.old out.old)
+        (seen_streams S.left S.reads S.read_faults K.taken K.write_faults src.new out.new)
+        (seen_keeper P.told P.count keeper) (seen_keeper P.told P.count result.1)
         result.0 }
 {
     let bytes = match read_all(alloc, src, MAX_INPUT) {

@@ -7,6 +7,7 @@ ghost use Rattle.desk_words.specs.declared.served.ServeWords.{ServeWords as Aske
 ghost use Rattle.serve_calls.specs.OneHistory.{IsOneHistory, WasHeard};
 ghost use Rattle.serve_calls.specs.ServedText.{served_text};
 ghost use Rattle.serve_calls.specs.ServeEnds.{AllowsStatus, AreServed, IsServeEnd, IsTold, WereServed, WereUnasked, leaves_sink};
+ghost use Rattle.desk_calls.specs.Headline.{seen_keeper};
 
 use crate::alone::serve_alone;
 use crate::connections::served_text;
@@ -55,8 +56,8 @@ where
     ensures unwritten { leaves_sink result.0 ≡ true → out.new ≡ out.old }
     ensures opening { result.1.opening ≡ empty_opening }
     ensures history { WasHeard
-        (record { told = P.told keeper; count = P.count keeper })
-        (record { told = P.told result.1.keeper; count = P.count result.1.keeper })
+        (seen_keeper P.told P.count keeper)
+        (seen_keeper P.told P.count result.1.keeper)
         result.3 result.1.journal }
     ensures ends { (asked : Asked) → serving_in (map string_bytes words.now) ≡ Some asked →
         WereUnasked doors.items result.2.items keeper result.1.keeper result.3 result.0
@@ -125,8 +126,8 @@ where
     ensures unwritten { leaves_sink result.0 ≡ true → out.new ≡ out.old }
     ensures opening { result.1.opening ≡ empty_opening }
     ensures history { WasHeard
-        (record { told = P.told keeper; count = P.count keeper })
-        (record { told = P.told result.1.keeper; count = P.count result.1.keeper })
+        (seen_keeper P.told P.count keeper)
+        (seen_keeper P.told P.count result.1.keeper)
         result.3 result.1.journal }
     ensures ends { WereUnasked doors.items result.2.items keeper result.1.keeper result.3 result.0
         ⊎ WereServed
@@ -177,8 +178,8 @@ where
 fn new_core<P: Keeper>(alloc: Global, keeper: P) -> Core<P>
     requires tables { IfSome (P.told keeper) (λ rows. AreSame rows no_rows) }
     ensures heard { WasHeard
-        (record { told = P.told keeper; count = P.count keeper })
-        (record { told = P.told result.keeper; count = P.count result.keeper })
+        (seen_keeper P.told P.count keeper)
+        (seen_keeper P.told P.count result.keeper)
         [] result.journal }
     ensures opening { result.opening ≡ empty_opening }
     ensures journal { result.journal ≡ [] }
@@ -234,13 +235,13 @@ where
         }) doors.new.items)
         found.visits found.ends.items) }
     ensures heard { IfOk result.0 (λ found. WasHeard
-        (record { told = P.told keeper; count = P.count keeper })
-        (record { told = P.told result.1.keeper; count = P.count result.1.keeper })
+        (seen_keeper P.told P.count keeper)
+        (seen_keeper P.told P.count result.1.keeper)
         found.visits result.1.journal) }
     ensures opening { result.1.opening ≡ empty_opening }
     ensures unheard { OnErr result.0 (WasHeard
-        (record { told = P.told keeper; count = P.count keeper })
-        (record { told = P.told result.1.keeper; count = P.count result.1.keeper })
+        (seen_keeper P.told P.count keeper)
+        (seen_keeper P.told P.count result.1.keeper)
         [] result.1.journal) }
     ensures unasked { OnErr result.0 ((doors.new ≡ doors.old) × (result.1.keeper ≡ keeper)) }
 {

@@ -5,6 +5,7 @@ ghost use Rattle.tool_calls.specs.ToolEnds.{Ends, EndsFor, ends_shown, leaves_si
 ghost use Rattle.tool_words.specs.Asking.{AreRefused, AreShown};
 ghost use Rattle.tool_words.specs.Tool.{words_of};
 ghost use Rattle.tool_words.specs.declared.task.Task.{Task as TaskOf};
+ghost use Rattle.sms_base.specs.Observed.{seen_streams};
 
 use crate::answering::answer;
 use crate::limit::most_bytes;
@@ -34,12 +35,12 @@ pub fn smsc_main<S: Source, K: Sink>(
     ensures refused { AreRefused (map string_bytes words.now) → (result ≡ ToolStatus.BadWords) ⊎ (result ≡ ToolStatus.NoMemory) }
     ensures shown { AreShown (map string_bytes words.now) → (ends_shown result ≡ true) × (src.new ≡ src.old) }
     ensures words { EndsFor (map string_bytes words.now)
-        (record { left = S.left src.old; reads = S.reads src.old; read_faults = S.read_faults src.old; taken = K.taken out.old; write_faults = K.write_faults out.old })
-        (record { left = S.left src.new; reads = S.reads src.new; read_faults = S.read_faults src.new; taken = K.taken out.new; write_faults = K.write_faults out.new })
+        (seen_streams S.left S.reads S.read_faults K.taken K.write_faults src.old out.old)
+        (seen_streams S.left S.reads S.read_faults K.taken K.write_faults src.new out.new)
         result }
     ensures ends { (task : TaskOf) → map string_bytes words.now ≡ words_of task → Ends task
-        (record { left = S.left src.old; reads = S.reads src.old; read_faults = S.read_faults src.old; taken = K.taken out.old; write_faults = K.write_faults out.old })
-        (record { left = S.left src.new; reads = S.reads src.new; read_faults = S.read_faults src.new; taken = K.taken out.new; write_faults = K.write_faults out.new })
+        (seen_streams S.left S.reads S.read_faults K.taken K.write_faults src.old out.old)
+        (seen_streams S.left S.reads S.read_faults K.taken K.write_faults src.new out.new)
         result }
 {
     match task_asked(alloc, words) {
@@ -80,8 +81,8 @@ fn answer_source<S: Source, K: Sink>(
     ensures words { result ≡ ToolStatus.BadWords → ⊥ }
     ensures unwritten { leaves_sink result ≡ true → out.new ≡ out.old }
     ensures ends { Ends task
-        (record { left = S.left src.old; reads = S.reads src.old; read_faults = S.read_faults src.old; taken = K.taken out.old; write_faults = K.write_faults out.old })
-        (record { left = S.left src.new; reads = S.reads src.new; read_faults = S.read_faults src.new; taken = K.taken out.new; write_faults = K.write_faults out.new })
+        (seen_streams S.left S.reads S.read_faults K.taken K.write_faults src.old out.old)
+        (seen_streams S.left S.reads S.read_faults K.taken K.write_faults src.new out.new)
         result }
 {
     let bytes = match read_all(alloc, src, most_bytes(task)) {
