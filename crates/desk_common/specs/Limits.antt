@@ -84,3 +84,19 @@ most_line_bytes = 4096
 -- the bytes of a program's input, where it is no routine
 abbrev pub most_input_bytes : ℕ
 most_input_bytes = 16777216
+
+-- the commands of a script
+abbrev pub most_commands : ℕ
+most_commands = 100000
+
+-- the bytes of a path in a deck
+abbrev pub most_path_bytes : ℕ
+most_path_bytes = 80
+
+-- the days of a retention period
+abbrev pub most_days : ℕ
+most_days = 9999
+
+-- the last day that may be named
+abbrev pub last_day : ℕ
+last_day = 9999999

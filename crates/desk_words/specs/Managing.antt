@@ -1,11 +1,8 @@
 -- What the words of the desk's command line ask of space management (docs/management.md).
 use Rattle.std.specs.Prelude.{ℕ, ◌&&◌, List, [], ◌∷◌, nat_le, Option, None, Some, bytes_eq, codes, if◌then◌else◌}
+use Rattle.desk_common.specs.Limits.{last_day}
 use Rattle.sms_construct.specs.Numbers.{small_number_of}
 use Rattle.sms_script.specs.Found.{◌⊳◌}
-
--- the last day that may be named
-abbrev pub last_day : ℕ
-last_day = 9999999
 
 -- a day up to the last
 abbrev pub day_of : ℕ → Option ℕ

@@ -1,6 +1,7 @@
 //! Reading the words of the command line that ask for a day of space management.
 ghost use Rattle.std.specs.Prelude.{◌≡◌, ◌≤◌, map, string_bytes, IfSome};
-ghost use Rattle.desk_words.specs.Managing.{day_in, day_of, last_day, managed_day_in};
+ghost use Rattle.desk_common.specs.Limits.{last_day};
+ghost use Rattle.desk_words.specs.Managing.{day_in, day_of, managed_day_in};
 
 use sms_construct::read_number;
 

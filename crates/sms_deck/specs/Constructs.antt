@@ -3,7 +3,7 @@
 use Rattle.std.specs.Prelude.{ℕ, ◌*◌, List, [], ◌∷◌, ◌++◌, false, Option, None, Some, codes}
 use Rattle.std.specs.Option.{option_and_then, unwrap_or}
 use Rattle.toml.specs.Data.{Data, Members, no_members, member, get_member, as_bool, as_table}
-use Rattle.desk_common.specs.Limits.{most_tracks, most_volume_count}
+use Rattle.desk_common.specs.Limits.{most_days, most_tracks, most_volume_count}
 use Rattle.dsn_mask.specs.Name.{name_of, volser_of}
 use Rattle.sms_construct.specs.declared.data_class.DataClass.{DataClass}
 use Rattle.sms_construct.specs.declared.eattr.Eattr.TheVariants.{No}
@@ -53,7 +53,7 @@ storage_class_of name keys = record {
 abbrev pub management_class_of : List ℕ → Members → MgmtClass
 management_class_of name keys = record {
   name = name;
-  expire_after = read_at (integer_in 0 9999) (codes "expire_after") keys;
+  expire_after = read_at (integer_in 0 most_days) (codes "expire_after") keys;
   release = unwrap_or (read_at (word_in yes_or_no) (codes "release") keys) false;
 }
 

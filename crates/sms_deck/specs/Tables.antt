@@ -2,7 +2,7 @@
 use Rattle.std.specs.Prelude.{ℕ, List, [], ◌∷◌, true, ◌&&◌, ◌||◌, not, Option, is_some, codes, if◌then◌else◌}
 use Rattle.std.specs.Option.{option_and_then, unwrap_or}
 use Rattle.toml.specs.Data.{Members, get_member}
-use Rattle.desk_common.specs.Limits.{most_tracks, most_volume_count}
+use Rattle.desk_common.specs.Limits.{most_days, most_tracks, most_volume_count}
 use Rattle.dsn_mask.specs.Name.{is_name, is_volser}
 use Rattle.acs_tree.specs.declared.kind.Kind.{Kind}
 use Rattle.acs_tree.specs.declared.kind.Kind.TheVariants.{DataClas, StorClas, MgmtClas, StorGrp}
@@ -73,7 +73,7 @@ storage_class_rows Two = plain (codes "multi_tier") YesOrNo ∷ []
 
 -- the keys of a management class
 abbrev pub management_class_rows : List Row
-management_class_rows = plain (codes "expire_after") (Integer 0 9999) ∷ plain (codes "release") YesOrNo ∷ []
+management_class_rows = plain (codes "expire_after") (Integer 0 most_days) ∷ plain (codes "release") YesOrNo ∷ []
 
 -- the constructs of a kind and the routine of that kind stand under one key
 abbrev pub key_of : Kind → List ℕ

@@ -2,7 +2,7 @@
 -- record form").
 use Rattle.std.specs.Prelude.{◌==◌, ℕ, List, length, ◌&&◌, Option, Some, None, nat_le, if◌then◌else◌}
 use Rattle.std.specs.List.{list_all}
-use Rattle.desk_common.specs.Limits.{most_account_fields, most_volume_count}
+use Rattle.desk_common.specs.Limits.{most_account_fields, most_path_bytes, most_volume_count}
 use Rattle.sms_construct.specs.Path.{is_shown}
 use Rattle.sms_construct.specs.Quantities.{Quantities, space_of}
 use Rattle.sms_records.specs.Form.{◌&◌, Form, list, number_form, number_32_form, seen, text_form}
@@ -27,7 +27,7 @@ volumes_form = seen (number_form & list volser_form) volumes_of (λ x. (length x
 
 -- the bytes, where they are a path
 abbrev pub path_of : List ℕ → Option (List ℕ)
-path_of bytes = if nat_le (length bytes) 80 && list_all is_shown bytes then Some bytes else None
+path_of bytes = if nat_le (length bytes) most_path_bytes && list_all is_shown bytes then Some bytes else None
 
 -- a path: its text
 abbrev pub path_form : Form (List ℕ)

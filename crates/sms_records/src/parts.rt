@@ -1,7 +1,7 @@
 //! Bounded lists, paths and spaces as records.
 ghost use Rattle.std.specs.Prelude.{◌≡◌, ◌≤◌, ◌&&◌, length, nat_le};
 ghost use Rattle.std.specs.List.{list_all};
-ghost use Rattle.desk_common.specs.Limits.{most_account_fields, most_volume_count};
+ghost use Rattle.desk_common.specs.Limits.{most_account_fields, most_path_bytes, most_volume_count};
 ghost use Rattle.sms_construct.specs.Path.{is_shown};
 
 use crate::lists::write_list;
@@ -41,7 +41,7 @@ fn volumes_of(items: &[Volser]) -> Volumes
 
 // Whether the bytes are those of a path.
 fn is_path(bytes: &[u8]) -> bool
-    ensures { result ≡ (nat_le (length bytes.now) 80 && list_all is_shown bytes.now) }
+    ensures { result ≡ (nat_le (length bytes.now) most_path_bytes && list_all is_shown bytes.now) }
 {
     bytes.len() <= MAX_PATH && are_shown(bytes)
 }

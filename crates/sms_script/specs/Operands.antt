@@ -11,7 +11,7 @@ use Rattle.acs_tree.specs.declared.given_texts.GivenTexts.{GivenTexts}
 use Rattle.acs_tree.specs.declared.input.Input.{Input}
 use Rattle.acs_tree.specs.declared.origin.Origin.{Origin}
 use Rattle.acs_tree.specs.Inputs.{input_with}
-use Rattle.desk_common.specs.Limits.{most_name_bytes}
+use Rattle.desk_common.specs.Limits.{last_day, most_days, most_name_bytes}
 use Rattle.dsn_mask.specs.Name.{name_of}
 use Rattle.sms_construct.specs.declared.alloc.Alloc.{Alloc}
 use Rattle.sms_construct.specs.Quantities.{Quantities, size_in_kilobytes, most_in_kilobytes}
@@ -179,8 +179,8 @@ request_in dsn operands =
     given_or_none (codes "STORCLAS=") name_of operands ⊳ λ storclas.
     given_or_none (codes "MGMTCLAS=") name_of operands ⊳ λ mgmtclas.
     given_or_none (codes "VOLCNT=") count_of operands ⊳ λ volumes.
-    given (codes "DAY=") (number_to 9999999) 0 operands ⊳ λ day.
-    given_or_none (codes "RETPD=") (number_to 9999) operands ⊳ λ retpd.
+    given (codes "DAY=") (number_to last_day) 0 operands ⊳ λ day.
+    given_or_none (codes "RETPD=") (number_to most_days) operands ⊳ λ retpd.
     given_or_none (codes "EATTR=") eattr_of operands ⊳ λ eattr.
     input_in dsn retpd space operands ⊳ λ input.
     Some (record {

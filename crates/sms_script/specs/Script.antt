@@ -1,5 +1,6 @@
 -- A script: the requests that its lines write, phase by phase (docs/script.md).
 use Rattle.std.specs.Prelude.{ℕ, ◌+◌, ◌≡◌, List, [], ◌∷◌, ◌++◌, Bool, true, false, not, nat_lt, flat_map, Option, None, Some, Result, Ok, Err, option_map, if◌then◌else◌}
+use Rattle.desk_common.specs.Limits.{most_commands}
 use Rattle.sms_construct.specs.declared.request.Op.TheVariants.{Activate as ActivateOp}
 use Rattle.sms_construct.specs.declared.request.Request.{Request}
 use Rattle.sms_script.specs.Lines.{lines_of, text_of_line, is_skipped, is_block_end}
@@ -34,9 +35,9 @@ abbrev pub with_phase : Result (List (List Item)) ScriptErr → Result (List (Li
 with_phase (Ok phases) = Ok ([] ∷ phases)
 with_phase (Err fault) = Err fault
 
--- at most 100,000 commands
+-- no more commands than a script may have
 abbrev pub if_few : ℕ → ℕ → Result (List (List Item)) ScriptErr → Result (List (List Item)) ScriptErr
-if_few count line script = if nat_lt count 100000 then script else Err (TooManyLines line)
+if_few count line script = if nat_lt count most_commands then script else Err (TooManyLines line)
 
 -- no command: a fault. A request: it, and then what the lines behind it give. SYNC: a phase ends. ACTIVATE: the
 -- activation of its deck, and then what the lines behind the ./END give; without an ./END, a fault

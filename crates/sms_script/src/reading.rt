@@ -1,5 +1,6 @@
 //! Reading a script.
 ghost use Rattle.std.specs.Prelude.{◌≡◌, ◌≤◌, ◌<◌, ◌+◌, ◌^◌, ◌++◌, ◌∷◌, [], false, Ok, Some, length, IfOk, IfErr, OnOk};
+ghost use Rattle.desk_common.specs.Limits.{most_commands};
 ghost use Rattle.sms_script.specs.Lines.{lines_of};
 ghost use Rattle.sms_script.specs.Script.{IsRefusal, if_few, script_from, script_of};
 ghost use Rattle.sms_script.specs.Inner.Reading.{found_before, script_at, script_behind};
@@ -82,10 +83,10 @@ fn read_next<'a>(
 ) -> Result<Next<'a>, ScriptErr>
     requires some { 0 < length text.now }
     requires fits { passed.lines + length text.now < 2 ^ 32 }
-    requires few { passed.commands ≤ 100000 }
+    requires few { passed.commands ≤ most_commands }
     ensures next { IfOk result (λ next. script_behind passed text.entry.now ≡ found_before next.found (script_behind next.passed next.rest.now)) }
     ensures fewer { IfOk result (λ next. next.passed.lines + length next.rest.now ≤ passed.lines + length text.entry.now) }
-    ensures few { IfOk result (λ next. next.passed.commands ≤ 100000) }
+    ensures few { IfOk result (λ next. next.passed.commands ≤ most_commands) }
     ensures shorter { IfOk result (λ next. length next.rest.now < length text.entry.now) }
     ensures refused { IfErr result (IsRefusal (script_behind passed text.entry.now)) }
 {
@@ -117,10 +118,10 @@ fn take_command<'a>(
     text: &'a [u8],
 ) -> Result<Next<'a>, ScriptErr>
     requires fits { at.lines + length text.now < 2 ^ 32 }
-    requires few { at.commands ≤ 100000 }
+    requires few { at.commands ≤ most_commands }
     ensures next { IfOk result (λ next. script_at at.commands at.lines (Some command) text.entry.now ≡ found_before next.found (script_behind next.passed next.rest.now)) }
     ensures fewer { IfOk result (λ next. next.passed.lines + length next.rest.now ≤ at.lines + length text.entry.now) }
-    ensures few { IfOk result (λ next. next.passed.commands ≤ 100000) }
+    ensures few { IfOk result (λ next. next.passed.commands ≤ most_commands) }
     ensures shorter { IfOk result (λ next. length next.rest.now ≤ length text.entry.now) }
     ensures refused { IfErr result (IsRefusal (script_at at.commands at.lines (Some command) text.entry.now)) }
 {
@@ -139,10 +140,10 @@ fn take_command<'a>(
 
 // What a line gives that is a command by itself, with the text behind it.
 fn take_line(at: Progress, found: Found, text: &[u8]) -> Result<Next<'_>, ScriptErr>
-    requires few { at.commands ≤ 100000 }
+    requires few { at.commands ≤ most_commands }
     ensures next { IfOk result (λ next. if_few at.commands at.lines (found_before found (script_from false (at.commands + 1) (at.lines + 1) (lines_of text.entry.now))) ≡ found_before next.found (script_behind next.passed next.rest.now)) }
     ensures fewer { IfOk result (λ next. next.passed.lines + length next.rest.now ≤ at.lines + length text.entry.now) }
-    ensures few { IfOk result (λ next. next.passed.commands ≤ 100000) }
+    ensures few { IfOk result (λ next. next.passed.commands ≤ most_commands) }
     ensures shorter { IfOk result (λ next. length next.rest.now ≤ length text.entry.now) }
     ensures refused { IfErr result (IsRefusal (if_few at.commands at.lines (found_before found (script_from false (at.commands + 1) (at.lines + 1) (lines_of text.entry.now))))) }
 {
@@ -167,10 +168,10 @@ fn take_deck<'a>(
     text: &'a [u8],
 ) -> Result<Next<'a>, ScriptErr>
     requires fits { at.lines + length text.now < 2 ^ 32 }
-    requires few { at.commands ≤ 100000 }
+    requires few { at.commands ≤ most_commands }
     ensures next { IfOk result (λ next. script_at at.commands at.lines (Some (Command.Activate number)) text.entry.now ≡ found_before next.found (script_behind next.passed next.rest.now)) }
     ensures fewer { IfOk result (λ next. next.passed.lines + length next.rest.now ≤ at.lines + length text.entry.now) }
-    ensures few { IfOk result (λ next. next.passed.commands ≤ 100000) }
+    ensures few { IfOk result (λ next. next.passed.commands ≤ most_commands) }
     ensures shorter { IfOk result (λ next. length next.rest.now ≤ length text.entry.now) }
     ensures refused { IfErr result (IsRefusal (script_at at.commands at.lines (Some (Command.Activate number)) text.entry.now)) }
 {

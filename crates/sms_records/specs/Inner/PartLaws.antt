@@ -5,7 +5,7 @@ use Rattle.std.specs.List.{list_all}
 use Rattle.std.specs.Int.{w64, to_be_bytes}
 use Rattle.std.proofs.lemmas.Bool.{le-leb, leb-true, eqb-true}
 use Rattle.std.specs.Cmp.{unsigned_Decides}
-use Rattle.desk_common.specs.Limits.{most_account_fields, most_quantity, most_volume_count}
+use Rattle.desk_common.specs.Limits.{most_account_fields, most_path_bytes, most_quantity, most_volume_count}
 use Rattle.sms_construct.specs.Path.{is_shown, IsPath}
 use Rattle.sms_construct.specs.Quantities.{Quantities, IsSpace, space_of}
 use Rattle.sms_records.specs.Form.{◌&◌, IsExact, IsReadable, list, number_form, number_32_form}
@@ -63,12 +63,12 @@ volumes_written old mid new found x same first second =
     ∙ ap (λ (y : List (List ℕ)). old ++ volumes_form.write y) same
 
 pub path_exact : IsExact path_form
-path_exact = text_type_exact (λ bytes. nat_le (length bytes) 80 && list_all is_shown bytes)
+path_exact = text_type_exact (λ bytes. nat_le (length bytes) most_path_bytes && list_all is_shown bytes)
 
 pub path_readable : (x : List ℕ) → IsPath x → IsReadable path_form x
 path_readable x is =
-    let few : length x ≤ 80 = leb-true (length x) 80 (first_true _ _ is) in
-    text_type_readable (λ bytes. nat_le (length bytes) 80 && list_all is_shown bytes) x (omega (arith, few)) is
+    let few : length x ≤ most_path_bytes = leb-true (length x) most_path_bytes (first_true _ _ is) in
+    text_type_readable (λ bytes. nat_le (length bytes) most_path_bytes && list_all is_shown bytes) x (omega (arith, few)) is
 
 pub space_exact : IsExact space_form
 space_exact = seen_exact (unit_form & number_32_form & number_32_form)
