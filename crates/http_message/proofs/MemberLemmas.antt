@@ -1,5 +1,5 @@
 -- Objects of one member, as they are written and read.
-use Rattle.std.proofs.Common.{◌≡◌, ◌<◌, ℕ, zero, suc, true, List, [], ◌∷◌, ◌++◌, length, get_or, take, drop, None, Some, refl, sym, ap, ◌∙◌, subst, append_assoc, append-nil, arith}
+use Rattle.std.proofs.Common.{◌≡◌, ◌<◌, ℕ, zero, suc, true, List, [], ◌∷◌, ◌++◌, length, get_or, take, drop, None, Some, refl, sym, ap, ◌∙◌, subst, append-nil, arith}
 use Rattle.std.specs.Prelude.{◌&&◌, IsUtf8, Option, is_some, unwrap_or, option_and_then, if◌then◌else◌}
 use Rattle.json.specs.Token.{Token}
 use Rattle.json.specs.Lex.{tokens}
@@ -39,14 +39,6 @@ quote_at (x ∷ xs) zero before less found = ap (λ b. b ∷ xs) found
 quote_at (x ∷ xs) (suc n) before less found =
     let rest = quote_at xs n (λ k l. before (suc k) (omega arith)) (omega (arith, less)) found in
     rw (before 0 (omega arith)) (ap (λ l. x ∷ l) rest)
-
--- the parts of its text
-pub one_is : (body behind key rest last text close : List ℕ) → body ≡ 123 ∷ 34 ∷ behind → behind ≡ escape key ++ 34 ∷ rest → rest ≡ 58 ∷ 34 ∷ last
-    → last ≡ escape text ++ 34 ∷ close → close ≡ 125 ∷ [] → body ≡ compact_text (one key text)
-one_is body behind key rest last text close a b c d e =
-    let value = d ∙ ap (λ l. escape text ++ 34 ∷ l) e ∙ sym (append_assoc (escape text) (34 ∷ []) (125 ∷ [])) in
-    let colon = c ∙ ap (λ l. 58 ∷ 34 ∷ l) value in
-    a ∙ ap (λ l. 123 ∷ 34 ∷ l) (b ∙ ap (λ l. escape key ++ 34 ∷ l) colon ∙ sym (append_assoc (escape key) (34 ∷ []) _))
 
 operands_one : (o : Option (List ℕ)) → (if is_some o && true then Some (unwrap_or o [] ++ []) else None) ≡ o
 operands_one None = refl
