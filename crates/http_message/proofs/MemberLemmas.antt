@@ -21,6 +21,7 @@ use Rattle.http_message.proofs.Utf8Lemmas.{json_is, no_json}
 abbrev one : List ℕ → List ℕ → Data
 one key text = object (member key (string text) no_members)
 
+-- the value, where nothing is left behind it
 abbrev whole : Option (Json × List Token) → Option Data
 whole found = option_and_then of_json (option_and_then (λ p. if_last p.0 p.1) found)
 
@@ -40,6 +41,7 @@ quote_at (x ∷ xs) (suc n) before less found =
     let rest = quote_at xs n (λ k l. before (suc k) (omega arith)) (omega (arith, less)) found in
     rw (before 0 (omega arith)) (ap (λ l. x ∷ l) rest)
 
+-- the operands of one member are that of it
 operands_one : (o : Option (List ℕ)) → (if is_some o && true then Some (unwrap_or o [] ++ []) else None) ≡ o
 operands_one None = refl
 operands_one (Some l) = ap Some (append-nil l)
