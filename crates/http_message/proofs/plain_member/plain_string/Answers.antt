@@ -1,0 +1,9 @@
+-- The quote ends the bytes.
+use Rattle.std.proofs.Common.{add-one}
+use Rattle.std.proofs.lemmas.List.{take_rest}
+use Rattle.http_message.proofs.MemberLemmas.{quote_at}
+use Rattle.http_message.proofs.plain_member.plain_string.Goals as goal
+
+pub returns-then-byte-eq34 : goal.returns-then-byte-eq34
+returns-then-byte-eq34 c =
+    rw (take_rest, add-one) (quote_at c.args.text.now c.loop-at.at c.loop-at.invariant c.loop-at-test.true c.if-byte-eq34.true)
