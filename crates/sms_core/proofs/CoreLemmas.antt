@@ -1,9 +1,11 @@
 -- What a step keeps, and what it enters.
-use Rattle.std.proofs.Common.{◌≡◌, ◌≤◌, ◌<◌, ℕ, ◌+◌, ◌^◌, Bool, true, false, cond, fold, List, [], ◌∷◌, ◌++◌, Option, None, Some, length, refl, sym, ap, ◌∙◌, subst, arith}
+use Rattle.std.proofs.Common.{◌≡◌, ◌≤◌, ◌<◌, ℕ, ◌+◌, ◌^◌, Bool, true, false, cond, fold, List, [], ◌∷◌, ◌++◌, Option}
+use Rattle.std.proofs.Common.{None, Some, length, refl, sym, ap, ◌∙◌, subst, arith}
 use Rattle.std.specs.Prelude.{count_by, IfOk, IfSome, OnErr, Result, Ok, Err}
 use Rattle.desk_common.specs.Causes.{Rose}
 use Rattle.sms_construct.specs.declared.entry.Answer.{Answer}
 use Rattle.sms_construct.specs.declared.entry.Entry.{Entry}
+use Rattle.sms_construct.specs.declared.reply.Reply.{Reply}
 use Rattle.sms_construct.specs.declared.reply.Reply.TheVariants as replies
 use Rattle.sms_construct.specs.declared.request.Op.{Op}
 use Rattle.sms_construct.specs.declared.request.Request.{Request}
@@ -27,7 +29,7 @@ use Rattle.desk_records.proofs.TiedLemmas.{tied-lawful, tied-reserved, tied-same
 use Rattle.desk_state.specs.declared.running.Running.{Running}
 use Rattle.desk_state.specs.Standing.{IsRunning, IsSomeState}
 use Rattle.sms_core.specs.Core.{Enters, HasTables, needs_no_commit}
-use Rattle.sms_core.specs.Inner.Standing.{HasEntered, IsCore, IsHeld, SameRunning}
+use Rattle.sms_core.specs.Inner.Standing.{HasEntered, IsCore, IsHeld, SameRunning, IsUnmade}
 
 -- Counts.
 
@@ -151,6 +153,23 @@ idle-known o h running log told mark count request held not_full idle unknown =
 pub if-ok : {T E : Type 0} (P Q : T → Type 0) (r : Result T E) → IfOk r P → ((x : T) → P x → Q x) → IfOk r Q
 if-ok P Q (Ok x) is give = give x is
 if-ok P Q (Err e) is give = tt
+
+abbrev answer_at : ℕ → Reply → Answer
+answer_at place reply = record { place = place; first = place; reply = reply }
+
+-- answers of one place with one reply are one
+pub same-answer : (place : ℕ) (one two : Reply) → one ≡ two → answer_at place one ≡ answer_at place two
+same-answer place one two is = ap (answer_at place) is
+
+-- what hasn't changed stands as it was
+pub unmade-self : (running : Running) (log : LogView) (told : Option Rows) (count : ℕ) → IsUnmade running running log log told told count count
+unmade-self running log told count = record { running_is = λ s stands. stands; records_are = record { stays = stays-self told; log_is = refl }; spared = refl }
+
+-- nor what was first put in the running state's place
+pub unmade-behind : (running more running' : Running) (log log' : LogView) (told told' : Option Rows) (old new : ℕ) {T E : Type 0} (r : Result T E)
+    → SameRunning running more → OnErr r (IsUnmade more running' log log' told told' old new) → OnErr r (IsUnmade running running' log log' told told' old new)
+unmade-behind running more running' log log' told told' old new (Ok x) same is = tt
+unmade-behind running more running' log log' told told' old new (Err e) same is = record { running_is = λ s stands. is.running_is s (same s stands); records_are = is.records_are; spared = is.spared }
 
 -- what holds anyway holds on a failure
 pub on-err : {T E : Type 0} (P : Type 0) (r : Result T E) → P → OnErr r P

@@ -1,5 +1,6 @@
 -- What contracts see of a core, and what a step does to it.
-use Rattle.std.specs.Prelude.{ℕ, Bool, true, false, ◌≡◌, ◌≤◌, ◌↔◌, ◌||◌, nat_lt, List, [], ◌∷◌, ◌++◌, Option, IfSome, is_some, if◌then◌else◌}
+use Rattle.std.specs.Prelude.{ℕ, Bool, true, false, ◌≡◌, ◌≤◌, ◌↔◌, ◌||◌, nat_lt, List, [], ◌∷◌, ◌++◌, Option, IfSome}
+use Rattle.std.specs.Prelude.{is_some, if◌then◌else◌}
 use Rattle.desk_common.specs.Causes.{Rose}
 use Rattle.sms_construct.specs.declared.entry.Answer.{Answer}
 use Rattle.sms_construct.specs.declared.entry.Entry.{Entry}
@@ -35,11 +36,14 @@ entry_of request answer = if is_entered answer.reply then record { request = req
 -- no commit is made for the request: the journal has no place for its op, or its number is below the floor or has a
 -- kept reply
 abbrev pub needs_no_commit : Opening → List Entry → Request → Bool
-needs_no_commit o h request = is_full_for h request.op || (nat_lt request.number (floor_of o h request.job) || is_some (kept_for o h request.job request.number))
+needs_no_commit o h request =
+    is_full_for h request.op || (nat_lt request.number (floor_of o h request.job) || is_some
+    (kept_for o h request.job request.number))
 
 -- the answer's entry, which is lawful there, joins the journal; an answer without an entry has no place, and the tables
 -- stay
-pub record Enters (o : Opening) (old new : List Entry) (told told' : Option Rows) (count count' : ℕ) (request : Request) (answer : Answer) : Type 0 where
+pub record Enters (o : Opening) (old new : List Entry) (told told' : Option Rows) (count count' : ℕ) (request : Request)
+    (answer : Answer) : Type 0 where
   pub journal_is : new ≡ old ++ entry_of request answer
   pub lawful : is_entered answer.reply ≡ true → IsNext o old (record { request = request; answer = answer })
   pub no_place : is_entered answer.reply ≡ false → (answer.place ≡ 0) × (answer.first ≡ 0)

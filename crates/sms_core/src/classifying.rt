@@ -13,9 +13,12 @@ use sms_deck::Config;
 /// afterwards.
 pub fn classify(config: &Config, request: &Request, slate: &mut Slate) -> Classified
     requires { (alloc : Allocation) × (request.now.op ≡ Op.Alloc alloc) }
-    ensures values { (alloc : Allocation) → request.now.op ≡ Op.Alloc alloc → result.values ≡ (classes_of config.now request.now.job alloc).values }
-    ensures stop { (alloc : Allocation) → request.now.op ≡ Op.Alloc alloc → result.stop ≡ (classes_of config.now request.now.job alloc).stop }
-    ensures slate { (alloc : Allocation) → request.now.op ≡ Op.Alloc alloc → slate.new ≡ (classes_of config.now request.now.job alloc).written }
+    ensures values { (alloc : Allocation) → request.now.op ≡ Op.Alloc alloc →
+        result.values ≡ (classes_of config.now request.now.job alloc).values }
+    ensures stop { (alloc : Allocation) → request.now.op ≡ Op.Alloc alloc →
+        result.stop ≡ (classes_of config.now request.now.job alloc).stop }
+    ensures slate { (alloc : Allocation) → request.now.op ≡ Op.Alloc alloc →
+        slate.new ≡ (classes_of config.now request.now.job alloc).written }
 {
     let Op::Alloc(alloc) = &request.op else {
         unreachable!();

@@ -1,5 +1,6 @@
 //! The core: the journal, the state after it, and the records.
-ghost use Rattle.std.specs.Prelude.{true, ◌≡◌, ◌≤◌, ◌<◌, ◌+◌, ◌-◌, ◌^◌, [], cond, IfErr, IfOk, IfSome, length, MatchOption, map, min, None, Some};
+ghost use Rattle.std.specs.Prelude.{true, ◌≡◌, ◌≤◌, ◌<◌, ◌+◌, ◌-◌, ◌^◌, [], cond, IfErr, IfOk, IfSome, length};
+ghost use Rattle.std.specs.Prelude.{MatchOption, map, min, None, Some};
 ghost use Rattle.std.specs.Option.{option_copied};
 ghost use Rattle.sms_keeper.specs.Tables.{AreSame, no_rows};
 ghost use Rattle.desk_law.specs.State.{DeskState, set_named, start_of};
@@ -53,9 +54,15 @@ impl<P: Keeper> Model for Core<P> {
 
     ghost coded = { Prim.hlevel (codes, form.the_row.coded, P.code) };
 
-    ghost view = { λ c. record { opening = c.opening.value; journal = c.journal.items; keeper = c.records.keeper; mark = c.mark } };
+    ghost view = { λ c. record {
+      opening = c.opening.value;
+      journal = c.journal.items;
+      keeper = c.records.keeper;
+      mark = c.mark;
+    } };
 
-    ghost invariant = { λ c. IsCore c.opening.value c.base c.asked c.journal.items c.running c.records.log (P.told c.records.keeper) c.mark (P.count c.records.keeper) };
+    ghost invariant = { λ c. IsCore c.opening.value c.base c.asked c.journal.items c.running c.records.log
+        (P.told c.records.keeper) c.mark (P.count c.records.keeper) };
 }
 
 impl<P: Keeper> Core<P> {
@@ -143,8 +150,10 @@ impl<P: Keeper> Core<P> {
         requires work { IsWork self.old.opening self.old.journal request.now slate.old work }
         ensures opening { self.new.opening ≡ self.old.opening }
         ensures mark { self.new.mark ≡ self.old.mark }
-        ensures enters { Enters self.old.opening self.old.journal self.new.journal (P.told self.old.keeper) (P.told self.new.keeper) (P.count self.old.keeper) (P.count self.new.keeper) request.now result }
-        ensures idle { needs_no_commit self.old.opening self.old.journal request.now ≡ true → self.new.keeper ≡ self.old.keeper }
+        ensures enters { Enters self.old.opening self.old.journal self.new.journal (P.told self.old.keeper)
+            (P.told self.new.keeper) (P.count self.old.keeper) (P.count self.new.keeper) request.now result }
+        ensures idle { needs_no_commit self.old.opening self.old.journal request.now ≡ true →
+            self.new.keeper ≡ self.old.keeper }
     {
         if is_full(&self.journal, self.asked, &request.op) {
             return without_entry(Reply::JournalFull);
@@ -187,7 +196,9 @@ impl<P: Keeper> Core<P> {
     /// before a step (docs/rules.md, "Work before a step").
     pub fn active(&self) -> Option<(u64, &Shared<Config>)>
         ensures was { IfSome result (λ active. WasActive self.now.opening self.now.journal active.0 active.1.now) }
-        ensures now { (s : DeskState) → Reaches self.now.opening self.now.journal s → MatchOption result (s.active ≡ None) (λ active. (active.0 ≡ s.activations) × (s.active ≡ Some active.1.now)) }
+        ensures now { (s : DeskState) → Reaches self.now.opening self.now.journal s →
+            MatchOption result (s.active ≡ None) (λ active. (active.0 ≡ s.activations) ×
+            (s.active ≡ Some active.1.now)) }
     {
         match &self.running.config {
             Some(config) => Some((self.running.activations, config)),
@@ -198,7 +209,8 @@ impl<P: Keeper> Core<P> {
     /// All volumes of the active configuration as reports show them, in byte order and fewer than 2^32, or want of
     /// memory.
     pub fn vol_rows(&self) -> Result<VolRows, AllocError>
-        ensures rows { IfOk result (λ rows. (s : DeskState) → Reaches self.now.opening self.now.journal s → rows ≡ map (shown_volume s) (volumes_in s.active)) }
+        ensures rows { IfOk result (λ rows. (s : DeskState) → Reaches self.now.opening self.now.journal s →
+            rows ≡ map (shown_volume s) (volumes_in s.active)) }
         ensures few { IfOk result (λ rows. length rows < 2 ^ 32) }
     {
         self.running.volumes.rows(self.running.alloc)
@@ -206,7 +218,8 @@ impl<P: Keeper> Core<P> {
 
     /// The catalogued data set of this name.
     pub fn set(&self, dsn: &Dsn) -> Option<&DataSet>
-        ensures { (s : DeskState) → Reaches self.now.opening self.now.journal s → option_copied result ≡ set_named dsn.now s.sets }
+        ensures { (s : DeskState) → Reaches self.now.opening self.now.journal s →
+            option_copied result ≡ set_named dsn.now s.sets }
     {
         match self.running.catalog.get(dsn) {
             Some(set) => Some(set.get()),
@@ -216,7 +229,8 @@ impl<P: Keeper> Core<P> {
 
     /// The first catalogued data set behind this name in the order of bytes; without a name, the first of all.
     pub fn set_after(&self, dsn: Option<&Dsn>) -> Option<&DataSet>
-        ensures { (s : DeskState) → Reaches self.now.opening self.now.journal s → IsNextSet (option_copied dsn.entry) s.sets (option_copied result) }
+        ensures { (s : DeskState) → Reaches self.now.opening self.now.journal s →
+            IsNextSet (option_copied dsn.entry) s.sets (option_copied result) }
     {
         match self.running.catalog.next(dsn) {
             Some(set) => Some(set.get()),

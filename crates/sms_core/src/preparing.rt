@@ -8,14 +8,13 @@ ghost use Rattle.sms_keeper.specs.Suits.{SuitsOp};
 ghost use Rattle.desk_law.specs.State.{DeskState, Opening};
 ghost use Rattle.desk_law.specs.Rule.{IsSound};
 ghost use Rattle.desk_records.specs.Effects.{IsDecided};
-ghost use Rattle.desk_records.specs.Logged.{IsUntouched};
 ghost use Rattle.desk_records.specs.Recall.{IsUnknown};
 ghost use Rattle.desk_records.specs.Tied.{IsReady};
 ghost use Rattle.desk_state.specs.Deeds.{Fits, IsPossible, config_of, effect_of};
 ghost use Rattle.desk_state.specs.Answering.{IsOldFloor};
 ghost use Rattle.desk_state.specs.Standing.{IsRunning, IsSomeState};
 ghost use Rattle.desk_state.specs.Working.{IsWorkNow};
-ghost use Rattle.sms_core.specs.Inner.Standing.{HasEntered, SameRunning};
+ghost use Rattle.sms_core.specs.Inner.Standing.{HasEntered, HasLogRoom, IsMadeFor, IsUnmade};
 
 use acs_tree::Slate;
 use desk_records::{Records, recall};
@@ -45,16 +44,19 @@ pub fn prepare<P: Keeper>(
     requires sound { IsSound request.now.op }
     requires work { IsWorkNow running.old request.now slate.old work.now }
     requires counted { running.old.activations + 1 < 2 ^ 64 }
-    requires reply_room { 0 < records.old.log.reply_room }
-    requires floor_room { 0 < records.old.log.floor_room }
-    ensures answer { IfOk result (λ made. made.answer ≡ made.entry.answer) }
-    ensures request { IfOk result (λ made. made.entry.request ≡ request.now) }
-    ensures enters { IfOk result (λ made. (o : Opening) (h : List Entered) (s : DeskState) (mark : ℕ) → IsReady o h s records.old.log (P.told records.old.keeper) mark (P.count records.old.keeper) place request.now → IsRunning s running.old → HasEntered o h s made.entry running.new records.new.log (P.told records.new.keeper) mark (P.count records.new.keeper)) }
-    ensures cause { IfOk result (λ made. (o : Opening) (h : List Entered) (s : DeskState) (mark : ℕ) → IsReady o h s records.old.log (P.told records.old.keeper) mark (P.count records.old.keeper) place request.now → made.entry.answer.reply ≡ KeeperFault → Rose (P.count records.old.keeper) (P.count records.new.keeper)) }
-    ensures running { OnErr result (SameRunning running.old running.new) }
-    ensures err { OnErr result (IsUntouched (P.told records.old.keeper) (P.told records.new.keeper) records.old.log records.new.log) }
-    ensures stands { IfOk result (λ made. (made.entry.answer.reply ≡ KeeperFault → ⊥) → P.count records.new.keeper ≡ P.count records.old.keeper) }
-    ensures spared { OnErr result (P.count records.new.keeper ≡ P.count records.old.keeper) }
+    requires room { HasLogRoom records.old.log }
+    ensures made { IfOk result (λ made. IsMadeFor request.now made.entry made.answer (P.count records.old.keeper)
+        (P.count records.new.keeper)) }
+    ensures enters { IfOk result (λ made. (o : Opening) (h : List Entered) (s : DeskState) (mark : ℕ) →
+        IsReady o h s records.old.log (P.told records.old.keeper) mark (P.count records.old.keeper) place request.now →
+        IsRunning s running.old →
+        HasEntered o h s made.entry running.new records.new.log (P.told records.new.keeper) mark
+        (P.count records.new.keeper)) }
+    ensures cause { IfOk result (λ made. (o : Opening) (h : List Entered) (s : DeskState) (mark : ℕ) →
+        IsReady o h s records.old.log (P.told records.old.keeper) mark (P.count records.old.keeper) place request.now →
+        made.entry.answer.reply ≡ KeeperFault → Rose (P.count records.old.keeper) (P.count records.new.keeper)) }
+    ensures unmade { OnErr result (IsUnmade running.old running.new records.old.log records.new.log
+        (P.told records.old.keeper) (P.told records.new.keeper) (P.count records.old.keeper) (P.count records.new.keeper)) }
     ensures idle { (IsUnknown records.old.log request.now → ⊥) → records.new.keeper ≡ records.old.keeper }
     ensures rises { P.count records.old.keeper ≤ P.count records.new.keeper }
 {
@@ -92,16 +94,18 @@ fn prepare_fresh<P: Keeper>(
     requires sound { IsSound request.now.op }
     requires work { IsWorkNow running.old request.now slate.old work.now }
     requires counted { running.old.activations + 1 < 2 ^ 64 }
-    requires reply_room { 0 < records.old.log.reply_room }
-    requires floor_room { 0 < records.old.log.floor_room }
-    ensures answer { IfOk result (λ made. made.answer ≡ made.entry.answer) }
-    ensures request { IfOk result (λ made. made.entry.request ≡ request.now) }
-    ensures enters { IfOk result (λ made. (o : Opening) (h : List Entered) (s : DeskState) (mark : ℕ) → IsReady o h s records.old.log (P.told records.old.keeper) mark (P.count records.old.keeper) place request.now → IsRunning s running.old → HasEntered o h s made.entry running.new records.new.log (P.told records.new.keeper) mark (P.count records.new.keeper)) }
-    ensures cause { IfOk result (λ made. made.entry.answer.reply ≡ KeeperFault → Rose (P.count records.old.keeper) (P.count records.new.keeper)) }
-    ensures running { OnErr result (SameRunning running.old running.new) }
-    ensures err { OnErr result (IsUntouched (P.told records.old.keeper) (P.told records.new.keeper) records.old.log records.new.log) }
-    ensures stands { IfOk result (λ made. (made.entry.answer.reply ≡ KeeperFault → ⊥) → P.count records.new.keeper ≡ P.count records.old.keeper) }
-    ensures spared { OnErr result (P.count records.new.keeper ≡ P.count records.old.keeper) }
+    requires room { HasLogRoom records.old.log }
+    ensures made { IfOk result (λ made. IsMadeFor request.now made.entry made.answer (P.count records.old.keeper)
+        (P.count records.new.keeper)) }
+    ensures enters { IfOk result (λ made. (o : Opening) (h : List Entered) (s : DeskState) (mark : ℕ) →
+        IsReady o h s records.old.log (P.told records.old.keeper) mark (P.count records.old.keeper) place request.now →
+        IsRunning s running.old →
+        HasEntered o h s made.entry running.new records.new.log (P.told records.new.keeper) mark
+        (P.count records.new.keeper)) }
+    ensures cause { IfOk result (λ made. made.entry.answer.reply ≡ KeeperFault →
+        Rose (P.count records.old.keeper) (P.count records.new.keeper)) }
+    ensures unmade { OnErr result (IsUnmade running.old running.new records.old.log records.new.log
+        (P.told records.old.keeper) (P.told records.new.keeper) (P.count records.old.keeper) (P.count records.new.keeper)) }
     ensures rises { P.count records.old.keeper ≤ P.count records.new.keeper }
 {
     let old = old_floor(&records.log, &request.op);
@@ -141,18 +145,19 @@ fn carry_out<P: Keeper>(
     requires state { IsSomeState running.old }
     requires possible { IsPossible running.old decision.deed }
     requires set_room { 0 < running.old.catalog.room }
-    requires reply_room { 0 < records.old.log.reply_room }
-    requires floor_room { 0 < records.old.log.floor_room }
-    ensures answer { IfOk result (λ made. made.answer ≡ made.entry.answer) }
-    ensures request { IfOk result (λ made. made.entry.request ≡ request.now) }
-    ensures enters { IfOk result (λ made. (o : Opening) (h : List Entered) (s : DeskState) (mark : ℕ) → IsReady o h s records.old.log (P.told records.old.keeper) mark (P.count records.old.keeper) place request.now → IsRunning s running.old →
-        IsDecided (λ job. floor_in job records.old.log.floors) s request.now decision.reply (effect_of decision.deed) (config_of decision.deed) → Fits s running.old decision.deed →
+    requires room { HasLogRoom records.old.log }
+    ensures made { IfOk result (λ made. IsMadeFor request.now made.entry made.answer (P.count records.old.keeper)
+        (P.count records.new.keeper)) }
+    ensures enters { IfOk result (λ made. (o : Opening) (h : List Entered) (s : DeskState) (mark : ℕ) →
+        IsReady o h s records.old.log (P.told records.old.keeper) mark (P.count records.old.keeper) place request.now →
+        IsRunning s running.old →
+        IsDecided (λ job. floor_in job records.old.log.floors) s request.now decision.reply (effect_of decision.deed)
+        (config_of decision.deed) → Fits s running.old decision.deed →
         HasEntered o h s made.entry running.new records.new.log (P.told records.new.keeper) mark (P.count records.new.keeper)) }
-    ensures cause { IfOk result (λ made. made.entry.answer.reply ≡ KeeperFault → (decision.reply ≡ KeeperFault → ⊥) → Rose (P.count records.old.keeper) (P.count records.new.keeper)) }
-    ensures running { OnErr result (SameRunning running.old running.new) }
-    ensures err { OnErr result (IsUntouched (P.told records.old.keeper) (P.told records.new.keeper) records.old.log records.new.log) }
-    ensures stands { IfOk result (λ made. (made.entry.answer.reply ≡ KeeperFault → ⊥) → P.count records.new.keeper ≡ P.count records.old.keeper) }
-    ensures spared { OnErr result (P.count records.new.keeper ≡ P.count records.old.keeper) }
+    ensures cause { IfOk result (λ made. made.entry.answer.reply ≡ KeeperFault → (decision.reply ≡ KeeperFault → ⊥) →
+        Rose (P.count records.old.keeper) (P.count records.new.keeper)) }
+    ensures unmade { OnErr result (IsUnmade running.old running.new records.old.log records.new.log
+        (P.told records.old.keeper) (P.told records.new.keeper) (P.count records.old.keeper) (P.count records.new.keeper)) }
     ensures rises { P.count records.old.keeper ≤ P.count records.new.keeper }
 {
     let Decision { reply, deed } = decision;
@@ -176,7 +181,13 @@ fn carry_out<P: Keeper>(
 
 // The entry of a fresh request at its place.
 fn fresh(place: u64, request: Request, entered: Reply, answered: Reply) -> Prepared
-    ensures { result ≡ record { entry = record { request = request; answer = record { place = place; first = place; reply = entered } }; answer = record { place = place; first = place; reply = answered } } }
+    ensures { result ≡ record {
+      entry = record {
+        request = request;
+        answer = record { place = place; first = place; reply = entered };
+      };
+      answer = record { place = place; first = place; reply = answered };
+    } }
 {
     Prepared {
         entry: Entry {

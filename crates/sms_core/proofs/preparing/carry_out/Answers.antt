@@ -1,7 +1,7 @@
-use Rattle.std.proofs.Common.{refl}
+use Rattle.std.proofs.Common.{refl, sym, ◌∙◌}
 use Rattle.desk_records.specs.Logged.{IsDone, IsUntouched}
 use Rattle.desk_records.proofs.TiedLemmas.{tied-lawful}
-use Rattle.sms_core.proofs.CoreLemmas.{on-err, stays-self}
+use Rattle.sms_core.proofs.CoreLemmas.{on-err, same-answer, unmade-self}
 use Rattle.sms_core.proofs.FreshLemmas.{failed-entered, made-entered}
 use Rattle.sms_core.proofs.preparing.carry_out.Goals as goal
 
@@ -24,11 +24,23 @@ returns-clause-enters g c = λ o h s mark ready stands decided fits.
     (failed-entered o h s c.args.records.now.log c.commit.new.self.log (g.P.Keeper.told c.args.records.now.keeper) (g.P.Keeper.told c.commit.new.self.keeper) mark _ _ c.args.place
     c.args.request.now c.in_ok-entered.entered c.args.running.now ready c.requires.unknown c.in_ok-entered.ensures same (c.in_ok-commit.ensures.cause c.if-branch.false) stands)
 
-pub returns-in_err-answered-clause-err : goal.returns-in_err-answered-clause-err
-returns-in_err-answered-clause-err g c = on-err _ c.from_residual-in_err-answered.result (record { stays = stays-self (g.P.Keeper.told c.args.records.now.keeper); log_is = refl })
+pub returns-then-branch-clause-made : goal.returns-then-branch-clause-made
+returns-then-branch-clause-made g c = rw c.fresh.ensures (record { request_is = c.in_ok-entered.ensures; answer_is = same-answer c.args.place _ _ (c.in_ok-answered.ensures ∙ sym c.in_ok-kept.ensures); stands = λ _. c.in_ok-commit.ensures.stands c.if-branch.true })
 
-pub returns-in_err-committed-clause-err : goal.returns-in_err-committed-clause-err
-returns-in_err-committed-clause-err g c = on-err _ c.from_residual-in_err-committed.result (record { stays = stays-self (g.P.Keeper.told c.args.records.now.keeper); log_is = refl })
+pub returns-clause-made : goal.returns-clause-made
+returns-clause-made g c = rw c.fresh-2.ensures (record { request_is = c.in_ok-entered.ensures; answer_is = refl; stands = λ other. absurd (other refl) })
 
-pub returns-in_err-effect-clause-err : goal.returns-in_err-effect-clause-err
-returns-in_err-effect-clause-err g c = on-err _ c.from_residual-in_err-effect.result (record { stays = stays-self (g.P.Keeper.told c.args.records.now.keeper); log_is = refl })
+pub returns-in_err-entered-clause-unmade : goal.returns-in_err-entered-clause-unmade
+returns-in_err-entered-clause-unmade g c = on-err _ c.from_residual.result (unmade-self c.args.running.now c.args.records.now.log (g.P.Keeper.told c.args.records.now.keeper) (g.P.Keeper.count c.args.records.now.keeper))
+
+pub returns-in_err-kept-clause-unmade : goal.returns-in_err-kept-clause-unmade
+returns-in_err-kept-clause-unmade g c = on-err _ c.from_residual-in_err-kept.result (unmade-self c.args.running.now c.args.records.now.log (g.P.Keeper.told c.args.records.now.keeper) (g.P.Keeper.count c.args.records.now.keeper))
+
+pub returns-in_err-answered-clause-unmade : goal.returns-in_err-answered-clause-unmade
+returns-in_err-answered-clause-unmade g c = on-err _ c.from_residual-in_err-answered.result (unmade-self c.args.running.now c.args.records.now.log (g.P.Keeper.told c.args.records.now.keeper) (g.P.Keeper.count c.args.records.now.keeper))
+
+pub returns-in_err-committed-clause-unmade : goal.returns-in_err-committed-clause-unmade
+returns-in_err-committed-clause-unmade g c = on-err _ c.from_residual-in_err-committed.result (unmade-self c.args.running.now c.args.records.now.log (g.P.Keeper.told c.args.records.now.keeper) (g.P.Keeper.count c.args.records.now.keeper))
+
+pub returns-in_err-effect-clause-unmade : goal.returns-in_err-effect-clause-unmade
+returns-in_err-effect-clause-unmade g c = on-err _ c.from_residual-in_err-effect.result (unmade-self c.args.running.now c.args.records.now.log (g.P.Keeper.told c.args.records.now.keeper) (g.P.Keeper.count c.args.records.now.keeper))

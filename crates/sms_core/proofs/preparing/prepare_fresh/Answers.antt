@@ -3,7 +3,7 @@ use Rattle.sms_keeper.specs.Log.{floor_in}
 use Rattle.desk_law.specs.Kept.{is_fault}
 use Rattle.desk_records.proofs.EffectLemmas.{kept-no_fault}
 use Rattle.desk_records.proofs.TiedLemmas.{tied-lawful}
-use Rattle.sms_core.proofs.CoreLemmas.{if-ok}
+use Rattle.sms_core.proofs.CoreLemmas.{if-ok, unmade-behind}
 use Rattle.sms_core.proofs.DeedLemmas.{fits-same, possible-same}
 use Rattle.sms_core.proofs.preparing.prepare_fresh.Goals as goal
 
@@ -28,3 +28,6 @@ returns-clause-cause g c =
     let decided = c.in_ok-decision.ensures.decided there.state (λ job. floor_in job c.args.records.now.log.floors) there.lawful there.stands c.old_floor-old.ensures in
     if-ok _ _ c.carry_out.result c.carry_out.ensures.cause (λ made cause fault. cause fault (λ told.
     let no : true ≡ false = ap is_fault (sym told) ∙ kept-no_fault c.in_ok-decision.decision.reply decided.matches.kept in absurd cc))
+
+pub returns-clause-unmade : goal.returns-clause-unmade
+returns-clause-unmade g c = unmade-behind c.args.running.now c.reserve.new.self _ _ _ _ _ _ _ c.carry_out.result (λ s stands. c.reserve.ensures.same s (c.decide.ensures.same s stands)) c.carry_out.ensures.unmade

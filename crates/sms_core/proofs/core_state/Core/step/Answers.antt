@@ -5,7 +5,8 @@ use Rattle.desk_records.specs.Full.{is_full_for}
 use Rattle.desk_records.specs.Tied.{IsReady}
 use Rattle.desk_state.specs.Working.{IsWork}
 use Rattle.sms_core.specs.Inner.Standing.{IsHeld}
-use Rattle.sms_core.proofs.CoreLemmas.{core-entered, enters-made, held-counted, held-room, held-some, held-untouched, idle-known}
+use Rattle.sms_core.proofs.CoreLemmas.{core-entered, enters-made, held-counted, held-room, held-some, held-untouched}
+use Rattle.sms_core.proofs.CoreLemmas.{idle-known}
 use Rattle.sms_core.proofs.WorkLemmas.{held-work}
 use Rattle.sms_core.proofs.core_state.Core.step.Goals as goal
 
@@ -35,7 +36,7 @@ invariant_of-self-in_default g c =
     let held : IsHeld c.self.inside.opening.value c.take_room.new.journal.items c.self.inside.running c.take_room.new.records.log (g.P.Keeper.told c.take_room.new.records.keeper) c.self.inside.mark (g.P.Keeper.count c.take_room.new.records.keeper)
     = rw (c.take_room.ensures.entries, keeper) (held-room _ _ c.self.inside.running c.self.inside.running c.self.inside.records.log c.take_room.new.records.log _ _ _ c.self.invariant.held (λ s stands. stands) c.take_room.ensures.log) in
     record {
-      held = held-untouched _ _ c.self.inside.running c.prepare-made.new.running c.take_room.new.records.log c.prepare-made.new.records.log _ _ _ _ _ held c.in_default.ensures.running c.in_default.ensures.err c.prepare-made.ensures.rises;
+      held = held-untouched _ _ c.self.inside.running c.prepare-made.new.running c.take_room.new.records.log c.prepare-made.new.records.log _ _ _ _ _ held c.in_default.ensures.unmade.running_is c.in_default.ensures.unmade.records_are c.prepare-made.ensures.rises;
       base_is = c.self.invariant.base_is;
       asked_is = rw c.take_room.ensures.entries c.self.invariant.asked_is;
     }
@@ -53,7 +54,7 @@ invariant_of-self-2 g c =
     = record { tied = held.tied; place_is = omega (arith, c.self.invariant.base_is, length_is); not_full = still; number = c.request_is_sound.ensures.number; sound = c.request_is_sound.ensures.sound } in
     let has = c.in-Ok.ensures.enters c.self.inside.opening.value c.take_room.new.journal.items held.state c.self.inside.mark ready held.stands in
     let asked_is : c.self.inside.asked ≡ count_by activates c.take_room.new.journal.items = rw c.take_room.ensures.entries c.self.invariant.asked_is in
-    let more : c.activations_of.result ≡ cond (is_activation c.in-Ok.field-0.entry.request.op) 1 0 = rw c.in-Ok.ensures.request c.activations_of.ensures in
+    let more : c.activations_of.result ≡ cond (is_activation c.in-Ok.field-0.entry.request.op) 1 0 = rw c.in-Ok.ensures.made.request_is c.activations_of.ensures in
     core-entered c.self.inside.opening.value c.self.inside.base c.self.inside.asked c.activations_of.result c.take_room.new.journal.items c.push_reserved.new.self.items held.state c.in-Ok.field-0.entry c.prepare-made.new.running
     c.prepare-made.new.records.log (g.P.Keeper.told c.prepare-made.new.records.keeper) c.self.inside.mark (g.P.Keeper.count c.prepare-made.new.records.keeper) c.self.invariant.base_is asked_is more has c.push_reserved.ensures.items
 
@@ -73,8 +74,8 @@ returns-clause-enters g c =
     rw (← c.self.view_is, ← keeper, ← c.take_room.ensures.entries)
     (enters-made c.self.inside.opening.value c.take_room.new.journal.items c.push_reserved.new.self.items (g.P.Keeper.told c.take_room.new.records.keeper) (g.P.Keeper.told c.prepare-made.new.records.keeper)
     (g.P.Keeper.count c.take_room.new.records.keeper) (g.P.Keeper.count c.prepare-made.new.records.keeper) c.self.inside.mark c.args.request.now c.in-Ok.field-0.answer held.state c.in-Ok.field-0.entry c.prepare-made.new.running c.prepare-made.new.records.log
-    has held.tied.reaches c.in-Ok.ensures.request c.in-Ok.ensures.answer still c.push_reserved.ensures.items
-    (c.in-Ok.ensures.cause c.self.inside.opening.value c.take_room.new.journal.items held.state c.self.inside.mark ready) c.in-Ok.ensures.stands c.prepare-made.ensures.rises)
+    has held.tied.reaches c.in-Ok.ensures.made.request_is c.in-Ok.ensures.made.answer_is still c.push_reserved.ensures.items
+    (c.in-Ok.ensures.cause c.self.inside.opening.value c.take_room.new.journal.items held.state c.self.inside.mark ready) c.in-Ok.ensures.made.stands c.prepare-made.ensures.rises)
 
 pub returns-clause-idle : goal.returns-clause-idle
 returns-clause-idle g c =
