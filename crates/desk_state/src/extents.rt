@@ -1,6 +1,6 @@
 //! The extents of data sets.
 ghost use Rattle.std.specs.Prelude.{◌≡◌, ◌<◌, ◌≤◌, ◌^◌, ◌++◌, length, nat_lt, IfOk, if◌then◌else◌};
-ghost use Rattle.sms_construct.specs.Quantities.{rounded_up};
+ghost use Rattle.sms_construct.specs.Quantities.{rounded_up, tracks_in_managed};
 ghost use Rattle.desk_law.specs.Extents.{extents_at, front_tracks, length_kept, multiple_at, pieces_on, volumes_of, with_extents};
 ghost use Rattle.desk_state.specs.Inner.Sums.{tracks_in};
 
@@ -99,7 +99,7 @@ fn length_kept(extent: &Extent, keep: u64) -> u32
 fn multiple_at(track: u32) -> u64
     ensures value { result ≡ multiple_at track }
     ensures some { 1 ≤ result }
-    ensures small { result ≤ 315 }
+    ensures small { result ≤ tracks_in_managed }
 {
     if track < BORDER {
         1
@@ -111,7 +111,7 @@ fn multiple_at(track: u32) -> u64
 /// A number of tracks rounded up to whole units of so many.
 pub fn rounded_up(multiple: u64, tracks: u64) -> u64
     requires some { 1 ≤ multiple }
-    requires small { multiple ≤ 315 }
+    requires small { multiple ≤ tracks_in_managed }
     requires few { tracks < 2 ^ 32 }
     ensures { result ≡ rounded_up multiple tracks }
 {

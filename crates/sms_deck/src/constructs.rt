@@ -1,5 +1,6 @@
 // The constructs that a deck's tables define.
 ghost use Rattle.std.specs.Prelude.{◌≡◌, ◌≤◌, IfOk, IfSome, codes};
+ghost use Rattle.desk_common.specs.Limits.{most_volume_count};
 ghost use Rattle.toml.specs.Data.{as_bool};
 ghost use Rattle.toml.specs.View.{table_view};
 ghost use Rattle.dsn_mask.specs.Name.{name_of};
@@ -45,7 +46,7 @@ fn integer_at(keys: &Table, key: &str, least: u32, most: u32) -> Option<u32>
 }
 
 fn volume_count(keys: &Table) -> Option<VolumeCount>
-    ensures { result ≡ read_at (integer_in 1 59) (codes "volcount") (table_view keys.now) }
+    ensures { result ≡ read_at (integer_in 1 most_volume_count) (codes "volcount") (table_view keys.now) }
 {
     match integer_at(keys, "volcount", 1, 59) {
         Some(count) => VolumeCount::new(count as u8),

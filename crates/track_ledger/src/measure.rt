@@ -1,5 +1,6 @@
 //! How long gaps are in a part of a volume, in whole units.
 ghost use Rattle.std.specs.Prelude.{◌≡◌, ◌≤◌, ◌<◌, ◌+◌, ◌^◌, None, Some, max, nat_lt, if◌then◌else◌};
+ghost use Rattle.sms_construct.specs.Quantities.{tracks_in_managed};
 ghost use Rattle.track_ledger.specs.declared.measure.Measure.{Measure};
 ghost use Rattle.track_ledger.specs.Gaps.{whole_units};
 ghost use Rattle.track_ledger.specs.Inner.Measures.{length_at, units_by};
@@ -40,7 +41,7 @@ impl Longest {
 // The whole units in a gap, or `None` where it holds none.
 fn whole_units_in(gap: Piece, multiple: u32) -> Option<Piece>
     requires some { 0 < multiple }
-    requires small { multiple ≤ 315 }
+    requires small { multiple ≤ tracks_in_managed }
     requires fits { gap.start + gap.length ≤ 2 ^ 32 }
     ensures { result ≡ (if nat_lt 0 (whole_units multiple gap).length then Some (whole_units multiple gap) else None) }
 {
