@@ -58,7 +58,12 @@ impl Model for PackedChange {
 
     ghost Value = { Change };
 
-    ghost view = { λ c. record { place = c.place; request = record { job = c.job; number = c.number; op = op_in c.deed }; reply = reply_in c.deed; effect = effect_in c.deed } };
+    ghost view = { λ c. record {
+      place = c.place;
+      request = record { job = c.job; number = c.number; op = op_in c.deed };
+      reply = reply_in c.deed;
+      effect = effect_in c.deed;
+    } };
 }
 
 impl PackedChange {
