@@ -1,5 +1,6 @@
 //! What an ALLOC asks for.
-ghost use Rattle.std.specs.Prelude.{◌≡◌, ◌∷◌, ◌++◌, [], None, codes, map, option_map, unwrap_or, if◌then◌else◌, IfOk, IfSome};
+ghost use Rattle.std.specs.Prelude.{◌≡◌, ◌∷◌, ◌++◌, [], None, codes, map, option_map, unwrap_or};
+ghost use Rattle.std.specs.Prelude.{if◌then◌else◌, IfOk, IfSome};
 ghost use Rattle.acs_tree.specs.Inputs.{no_lists, no_texts};
 ghost use Rattle.sms_construct.specs.Requests.{plain_alloc};
 ghost use Rattle.sms_construct.specs.SpaceText.{space_text};
