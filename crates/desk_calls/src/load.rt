@@ -10,8 +10,10 @@ use sms_construct::Answer;
 use sms_core::Core;
 use sms_keeper::Keeper;
 use std::alloc::{AllocError, Global};
+use std::mem::forget;
 
-/// The summary of the answers to the generated script, from an empty desk over the keeper.
+/// The summary of the answers to the generated script, from an empty desk over the keeper. Script, answers and journal
+/// aren't freed one by one: the program ends behind it, which frees all at once.
 pub fn load_text<P: Keeper>(
     alloc: Global,
     seed: u32,
@@ -32,7 +34,10 @@ pub fn load_text<P: Keeper>(
         return (Err(AllocError), keeper);
     };
     let text = summary_text(alloc, seed, count, answers.as_slice(), &core);
-    let (keeper, _journal) = core.into_parts();
+    let (keeper, journal) = core.into_parts();
+    forget(script);
+    forget(answers);
+    forget(journal);
     (text, keeper)
 }
 

@@ -1,2 +1,4 @@
 mod NameLemmas
 mod GeneratedLemmas
+mod CountLemmas
+mod LineLemmas

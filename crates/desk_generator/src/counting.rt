@@ -1,6 +1,7 @@
 // How often each code was answered.
-ghost use Rattle.std.specs.Prelude.{◌≡◌};
-ghost use Rattle.desk_generator.specs.Summary.{code_of, times_answered};
+ghost use Rattle.std.specs.Prelude.{◌≡◌, ◌<◌, bytes_eq, map};
+ghost use Rattle.std.specs.List.{position_or_len};
+ghost use Rattle.desk_generator.specs.Summary.{all_codes, code_of, times_answered};
 
 use sms_construct::{Answer, Reply, View, WhyNoExtend};
 
@@ -11,51 +12,50 @@ pub const CODES: [&[u8]; 28] = [
     b"R22", b"R23", b"R24", b"R25",
 ];
 
-/// How many of the answers have the code.
-pub fn times_answered(code: &[u8], answers: &[Answer]) -> u64
-    ensures { result ≡ times_answered code.now answers.now }
+/// How many of the answers have each code, in the order of the codes.
+pub fn times_of_all(answers: &[Answer]) -> [u64; 28]
+    ensures { result ≡ map (λ code. times_answered code answers.now) all_codes }
 {
-    let mut times = 0;
+    let mut times = [0u64; 28];
     for answer in answers {
-        if code_of(&answer.reply) == code {
-            times += 1;
-        }
+        times[place_of(&answer.reply)] += 1;
     }
     times
 }
 
-// The code of a reply.
-fn code_of(reply: &Reply) -> &'static [u8]
-    ensures { result.now ≡ code_of reply.now }
+// The place of a reply's code among all codes.
+fn place_of(reply: &Reply) -> usize
+    ensures place { result ≡ position_or_len (bytes_eq (code_of reply.now)) all_codes }
+    ensures inside { result < 28 }
 {
     match reply {
-        Reply::Granted { .. } => b"A00",
-        Reply::NotManaged { .. } => b"A01",
-        Reply::Extended { .. } => b"A02",
-        Reply::Deleted { .. } => b"A03",
-        Reply::Activated { .. } => b"A04",
-        Reply::Varied { .. } => b"A05",
-        Reply::Shown(View::Group { .. } | View::Volume(_) | View::Set(_)) => b"A06",
-        Reply::Purged { .. } => b"A07",
-        Reply::Noted => b"A08",
-        Reply::Released { .. } => b"A09",
-        Reply::Reused { .. } => b"R10",
-        Reply::Below { .. } => b"R11",
-        Reply::NoConfig => b"R12",
-        Reply::NameInUse => b"R13",
-        Reply::Exit { .. } => b"R14",
-        Reply::UnknownClass { .. } => b"R15",
-        Reply::NoQuantity { .. } => b"R16",
-        Reply::NoGroup { .. } => b"R17",
-        Reply::NoVolume { .. } => b"R18",
-        Reply::NotFound => b"R19",
-        Reply::NoExtend(WhyNoExtend::Secondary | WhyNoExtend::Room) => b"R20",
-        Reply::Deck(_) => b"R21",
-        Reply::VolumeInUse(_) => b"R22",
-        Reply::UnknownName => b"R23",
-        Reply::JournalFull => b"R24",
-        Reply::PastGrant { .. } => b"R25",
-        Reply::KeeperFault => b"F30",
-        Reply::Memory => b"M31",
+        Reply::Granted { .. } => 0,
+        Reply::NotManaged { .. } => 1,
+        Reply::Extended { .. } => 2,
+        Reply::Deleted { .. } => 3,
+        Reply::Activated { .. } => 4,
+        Reply::Varied { .. } => 5,
+        Reply::Shown(View::Group { .. } | View::Volume(_) | View::Set(_)) => 6,
+        Reply::Purged { .. } => 7,
+        Reply::Noted => 8,
+        Reply::Released { .. } => 9,
+        Reply::Reused { .. } => 12,
+        Reply::Below { .. } => 13,
+        Reply::NoConfig => 14,
+        Reply::NameInUse => 15,
+        Reply::Exit { .. } => 16,
+        Reply::UnknownClass { .. } => 17,
+        Reply::NoQuantity { .. } => 18,
+        Reply::NoGroup { .. } => 19,
+        Reply::NoVolume { .. } => 20,
+        Reply::NotFound => 21,
+        Reply::NoExtend(WhyNoExtend::Secondary | WhyNoExtend::Room) => 22,
+        Reply::Deck(_) => 23,
+        Reply::VolumeInUse(_) => 24,
+        Reply::UnknownName => 25,
+        Reply::JournalFull => 26,
+        Reply::PastGrant { .. } => 27,
+        Reply::KeeperFault => 10,
+        Reply::Memory => 11,
     }
 }

@@ -7,6 +7,9 @@ use desk_common::push_number;
 use dsn_mask::{Dsn, Name};
 use std::alloc::{AllocError, Global};
 
+// The most bytes of such a name: four before the number, and five digits.
+const MOST_BYTES: usize = 9;
+
 /// The job of an item.
 pub fn job_at(item: u32) -> Name
     ensures { result ≡ job_at item }
@@ -28,7 +31,8 @@ pub fn numbered_name(alloc: Global, number: u32) -> Result<Dsn, AllocError>
     requires { number < 100000 }
     ensures { IfOk result (λ dsn. dsn ≡ numbered_name number) }
 {
-    let mut text = front_of(number).to_vec(alloc)?;
+    let mut text = Vec::with_capacity(alloc, MOST_BYTES)?;
+    text.extend_from_slice(front_of(number))?;
     push_number(&mut text, u64::from(number))?;
     Ok(named(&text))
 }

@@ -1,9 +1,10 @@
 //! The summary of a generated run.
-ghost use Rattle.std.specs.Prelude.{◌≡◌, ◌<◌, ◌-◌, ◌^◌, ◌++◌, ◌∷◌, [], codes, decimal, flat_map, length, map, IfOk, OnOk};
+ghost use Rattle.std.specs.Prelude.{◌≡◌, ◌<◌, ◌-◌, ◌^◌, ◌++◌, ◌∷◌, [], ℕ, List, codes, decimal};
+ghost use Rattle.std.specs.Prelude.{flat_map, length, map, IfOk, OnOk};
 ghost use Rattle.sms_script.specs.AnswerText.{end_text};
-ghost use Rattle.desk_generator.specs.Summary.{count_line, counts_text, free_in, granted_in, line_of, summary_of, times_answered, tracks_text};
+ghost use Rattle.desk_generator.specs.Summary.{count_line, counts_text, free_in, granted_in, line_of, summary_of, tracks_text};
 
-use crate::counting::{CODES, times_answered};
+use crate::counting::{CODES, times_of_all};
 use desk_common::push_number;
 use sms_construct::{Answer, VolRow};
 use std::alloc::{AllocError, Global};
@@ -42,26 +43,30 @@ fn push_end(text: &mut Vec<u8>, entries: u64, items: u64) -> Result<(), AllocErr
 }
 
 // A line for each code that was answered.
-#[tactic(auto, unfolding(crate::specs::Summary::counts_text))]
 fn push_counts(text: &mut Vec<u8>, answers: &[Answer]) -> Result<(), AllocError>
     ensures { OnOk result (text.new.items ≡ text.old.items ++ counts_text answers.now) }
 {
-    push_each(text, &CODES, answers)
+    push_each(text, &CODES, &times_of_all(answers))?;
+    Ok(())
 }
 
-fn push_each(text: &mut Vec<u8>, all: &[&[u8]], answers: &[Answer]) -> Result<(), AllocError>
-    ensures { OnOk result (text.new.items ≡ text.old.items ++ flat_map (λ code. count_line code (times_answered code answers.now)) (map (λ code. code.now) all.now)) }
+// A line for each of the codes whose number, at the same place, isn't 0.
+fn push_each(text: &mut Vec<u8>, all: &[&[u8]], times: &[u64]) -> Result<(), AllocError>
+    requires { length times.now ≡ length all.now }
+    ensures { OnOk result ((times_of : List ℕ → ℕ) → times.now ≡ map times_of (map (λ code. code.now) all.now)
+        → text.new.items ≡ text.old.items
+        ++ flat_map (λ code. count_line code (times_of code)) (map (λ code. code.now) all.now)) }
 {
-    for code in all {
-        push_count(text, code, answers)?;
+    for (place, code) in all.iter().enumerate() {
+        push_count(text, code, times[place])?;
     }
     Ok(())
 }
 
-fn push_count(text: &mut Vec<u8>, code: &[u8], answers: &[Answer]) -> Result<(), AllocError>
-    ensures { OnOk result (text.new.items ≡ text.old.items ++ count_line code.now (times_answered code.now answers.now)) }
+fn push_count(text: &mut Vec<u8>, code: &[u8], times: u64) -> Result<(), AllocError>
+    ensures { OnOk result (text.new.items ≡ text.old.items ++ count_line code.now times) }
 {
-    match times_answered(code, answers) {
+    match times {
         0 => Ok(()),
         times => push_one(text, code, times),
     }

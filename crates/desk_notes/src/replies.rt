@@ -1,6 +1,8 @@
 //! Replies of which a person is told more, in the text of the answers.
 ghost use Rattle.std.specs.Prelude.{◌≤◌, length};
 
+use memchr::{memchr, memmem, memrchr};
+
 // How the reply begins that refuses a deck.
 const REFUSAL: &[u8] = b"R21 DECK ";
 
@@ -49,8 +51,16 @@ impl RepliesSeen {
         }
     }
 
-    /// Behind this piece too.
+    /// Behind this piece too. Where no such reply stands in it, only the lines that it doesn't have whole are walked.
     pub fn behind(self, piece: &[u8]) -> Self {
+        match outer_parts(piece) {
+            Some((front, back)) if !has_either(piece) => self.behind_all(front).behind_all(back),
+            _ => self.behind_all(piece),
+        }
+    }
+
+    // Behind each byte of this piece.
+    fn behind_all(self, piece: &[u8]) -> Self {
         let mut seen = self;
         let mut rest = piece;
         while let [byte, others @ ..] = rest {
@@ -80,6 +90,18 @@ impl RepliesSeen {
             let _ = note.push_str(REFUSAL_SENTENCE);
         }
     }
+}
+
+// Whether the front of such a reply stands anywhere in the text.
+fn has_either(text: &[u8]) -> bool {
+    memmem::find(text, REFUSAL).is_some() || memmem::find(text, FAULT).is_some()
+}
+
+// The text up to its first line end, and behind its last, if it has one.
+fn outer_parts(text: &[u8]) -> Option<(&[u8], &[u8])> {
+    let first = memchr(b'\n', text)?;
+    let last = memrchr(b'\n', text)?;
+    Some((&text[..first + 1], &text[last + 1..]))
 }
 
 // The text from the next byte on that changes what comes next: most bytes are passed so.

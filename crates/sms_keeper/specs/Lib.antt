@@ -4,3 +4,4 @@ pub mod Suits
 pub mod Faults
 pub mod Log
 pub mod Loading
+pub mod Inner

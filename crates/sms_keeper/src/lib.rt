@@ -11,6 +11,7 @@ mod kept;
 mod kept_row;
 mod load_err;
 mod mem_keeper;
+mod packed_change;
 mod replay;
 mod replaying;
 mod request_key;

@@ -7,6 +7,7 @@ ghost use Rattle.sms_keeper.specs.Told.{Applies, Stays};
 use crate::change::Change;
 use crate::keeper::{Keeper, KeeperErr};
 use crate::load_err::LoadErr;
+use crate::packed_change::PackedChange;
 use crate::replay::Replay;
 use crate::rows::Rows;
 use crate::stored::Stored;
@@ -18,7 +19,7 @@ use std::marker::Model;
 #[derive(Drop)]
 pub struct MemKeeper {
     alloc: Global,
-    changes: Vec<Change>,
+    changes: Vec<PackedChange>,
 }
 
 impl Model for MemKeeper {
@@ -63,7 +64,7 @@ impl MemKeeper {
     {
         let mut replay = Replay::new(self.alloc);
         for change in &self.changes {
-            replay.make(change)?;
+            replay.make(&change.change(self.alloc)?)?;
         }
         Ok(replay)
     }
@@ -72,8 +73,8 @@ impl MemKeeper {
         ensures ok { OnOk result (self.new ≡ self.old ++ change.now ∷ []) }
         ensures err { OnErr result (self.new ≡ self.old) }
     {
-        let copy = change.copy(self.alloc)?;
-        match self.changes.push(copy) {
+        let packed = PackedChange::of(self.alloc, change)?;
+        match self.changes.push(packed) {
             Ok(()) => Ok(()),
             Err(_) => Err(AllocError),
         }

@@ -1,7 +1,10 @@
 //! What an ALLOC asks for.
-ghost use Rattle.std.specs.Prelude.{◌≡◌, map, option_map, unwrap_or, IfOk};
+ghost use Rattle.std.specs.Prelude.{◌≡◌, ◌∷◌, ◌++◌, [], None, codes, map, option_map, unwrap_or};
+ghost use Rattle.std.specs.Prelude.{if◌then◌else◌, IfOk, IfSome};
 ghost use Rattle.acs_tree.specs.Inputs.{no_lists, no_texts};
-ghost use Rattle.sms_script.specs.Operands.{accounting_in, amounts_of, attributes_in, defaults_in, environment_in, input_in, lists_in, origin_in, request_in, texts_in};
+ghost use Rattle.sms_construct.specs.Requests.{plain_alloc};
+ghost use Rattle.sms_construct.specs.SpaceText.{space_text};
+ghost use Rattle.sms_script.specs.Operands.{accounting_in, amounts_of, are_operands, attributes_in, defaults_in, environment_in, input_in, lists_in, origin_in, request_in, texts_in};
 ghost use Rattle.sms_script.specs.Ops.{alloc_in};
 
 use crate::operand::{
@@ -13,7 +16,7 @@ use acs_tree::{
 };
 use desk_common::{Boxed, Shared};
 use dsn_mask::{Dsn, Short};
-use sms_construct::{Alloc, Space};
+use sms_construct::{Alloc, Space, behind_front, read_space};
 use std::alloc::{AllocError, Global};
 
 /// What the data set's name and the operands behind it ask for, if all are in form; or want of memory.
@@ -26,10 +29,45 @@ pub fn read_allocation(alloc: Global, words: &[&[u8]]) -> Result<Option<Shared<A
     let Ok(dsn) = Dsn::parse(word) else {
         return Ok(None);
     };
+    read_operands(alloc, dsn, operands)
+}
+
+// What the operands ask for, if all are in form. Where there is a space alone, no other key is looked for.
+fn read_operands(
+    alloc: Global,
+    dsn: Dsn,
+    operands: &[&[u8]],
+) -> Result<Option<Shared<Alloc>>, AllocError>
+    ensures { IfOk result (λ read. read ≡ (if are_operands (map (λ word. word.now) operands.now)
+        then request_in dsn (map (λ word. word.now) operands.now) else None)) }
+{
+    if let Some(value) = only_space(operands) {
+        return read_plain(alloc, dsn, value);
+    }
     if !are_operands(operands) {
         return Ok(None);
     }
     read_request(alloc, dsn, operands)
+}
+
+// What is behind the key of the space, if that is the only operand.
+fn only_space<'a>(operands: &[&'a [u8]]) -> Option<&'a [u8]>
+    ensures { IfSome result (λ value. map (λ word. word.now) operands.now ≡ (codes "SPACE=" ++ value.now) ∷ []) }
+{
+    match operands {
+        [word] => behind_front(b"SPACE=", word),
+        _ => None,
+    }
+}
+
+// What the text of a space asks for, if it is in form, and nothing else is asked for.
+fn read_plain(alloc: Global, dsn: Dsn, space: &[u8]) -> Result<Option<Shared<Alloc>>, AllocError>
+    ensures { IfOk result (λ read. read ≡ option_map (plain_alloc dsn) (space_text space.now)) }
+{
+    match read_space(space) {
+        Some(space) => Ok(Some(Alloc::plain(alloc, dsn, space)?)),
+        None => Ok(None),
+    }
 }
 
 fn read_request(

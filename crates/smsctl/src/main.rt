@@ -24,6 +24,7 @@ use sms_desk::FreeGate;
 use sms_keeper::MemKeeper;
 use std::alloc::Global;
 use std::io::{self, Write};
+use std::mem::forget;
 use std::process::ExitCode;
 use std::sync::Wait;
 use std::thread::Threads;
@@ -93,10 +94,12 @@ fn answer_over<S: Source, K: Sink, T: Threads + Wait + Sync>(
     out: &mut K,
 ) -> RunStatus {
     let keeper = MemKeeper::new(alloc);
-    let (status, _keeper) = match managed_day(words) {
+    let (status, keeper) = match managed_day(words) {
         Some(_) => manage_main(alloc, words, src, out, keeper),
         None => desk_main(alloc, threads, words, src, out, keeper, &FreeGate),
     };
+    // The program ends, which frees all at once.
+    forget(keeper);
     status
 }
 
