@@ -8,7 +8,8 @@ use Rattle.acs_tree.specs.declared.kind.Kind.{Kind}
 use Rattle.acs_tree.specs.declared.routine.Routine.{Routine}
 use Rattle.acs_tree.specs.declared.routine.Stmt.{Stmt}
 use Rattle.acs_tree.specs.Nodes.{Node, Head, nodes_of}
-use Rattle.acs_tree.specs.Sound.{faults_at, Among, here, there, Stands, at_head, in_body, IsFault, broken, place_of, IsFirstFault, IsSound}
+use Rattle.acs_tree.specs.Sound.{faults_at, Among, here, there, Stands, at_head, in_body, IsFault, broken, place_of}
+use Rattle.acs_tree.specs.Sound.{IsFirstFault, IsSound}
 use Rattle.acs_check.specs.Inner.Walk.{least, met, faults_in, faults_behind, faults_of, first_fault_of}
 use Rattle.acs_check.proofs.LeastLemmas.{least_append, Behind, In, LeastOf, least_is}
 use Rattle.acs_check.proofs.WalkLemmas.{passed_least}

@@ -10,12 +10,16 @@ use Rattle.acs_tree.specs.declared.routine.Compare.{Compare}
 use Rattle.acs_tree.specs.declared.routine.Form.{Form, roll-Form, map-Form}
 use Rattle.acs_tree.specs.declared.routine.Form.TheOpen.{Form-F}
 use Rattle.acs_tree.specs.declared.routine.Form.TheFolds.{fold-roll-Form, fold_out-Stmt, fold_out-When}
-use Rattle.acs_tree.specs.declared.routine.Form.TheVariants.{Filt, Put, If, Pick, Do, Write, Exit, rolls-Filt, rolls-Put, rolls-If, rolls-Pick, rolls-Do, rolls-Write, rolls-Exit}
+use Rattle.acs_tree.specs.declared.routine.Form.TheVariants.{Filt, Put, If, Pick, Do, Write, Exit, rolls-Filt}
+use Rattle.acs_tree.specs.declared.routine.Form.TheVariants.{rolls-Put, rolls-If, rolls-Pick, rolls-Do, rolls-Write}
+use Rattle.acs_tree.specs.declared.routine.Form.TheVariants.{rolls-Exit}
 use Rattle.acs_tree.specs.declared.routine.Operand.{Operand}
 use Rattle.acs_tree.specs.declared.routine.Ref.{Ref}
 use Rattle.acs_tree.specs.declared.routine.When.{When, out-When}
 use Rattle.acs_check.specs.Inner.Parts.{nodes_of_form, nodes_of_when, nodes_of_whens, nodes_of_block, nodes_of_optional}
-use Rattle.acs_tree.specs.Nodes.{Node, ListName, Target, Part, entries_behind, values_behind, nodes_of_test, nodes_of_code, Left, Order, Right, nodes_of, nodes_of_cond, cond_step, form_step, stmt_step, when_step, nodes_of_subject, joined, whens_of}
+use Rattle.acs_tree.specs.Nodes.{Node, ListName, Target, Part, entries_behind, values_behind, nodes_of_test}
+use Rattle.acs_tree.specs.Nodes.{nodes_of_code, Left, Order, Right, nodes_of, nodes_of_cond, cond_step, form_step}
+use Rattle.acs_tree.specs.Nodes.{stmt_step, when_step, nodes_of_subject, joined, whens_of}
 
 pub cond_and : (one two : Cond) → nodes_of_cond (And one two) ≡ nodes_of_cond one ++ nodes_of_cond two
 cond_and one two = ap nodes_of_cond (sym (rolls-And one two)) ∙ fold-roll-Cond (List Node) cond_step (Cond-F.And one two)

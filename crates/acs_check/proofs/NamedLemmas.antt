@@ -1,5 +1,6 @@
 -- A filter list by its name, statement by statement.
-use Rattle.std.proofs.Common.{◌≡◌, ◌<◌, ◌+◌, ◌||◌, ℕ, suc, Bool, true, false, List, [], ◌∷◌, length, drop, drop-cons, get_or, refl, sym, ap, ◌∙◌, arith}
+use Rattle.std.proofs.Common.{◌≡◌, ◌<◌, ◌+◌, ◌||◌, ℕ, suc, Bool, true, false, List, [], ◌∷◌, length, drop, drop-cons}
+use Rattle.std.proofs.Common.{get_or, refl, sym, ap, ◌∙◌, arith}
 use Rattle.std.specs.Prelude.{Option, Some, None, bytes_eq, cond, find, is_some}
 use Rattle.std.specs.List.{cons_option, list_any}
 use Rattle.acs_tree.specs.declared.routine.Stmt.{Stmt}

@@ -2,14 +2,16 @@
 use Rattle.std.proofs.Common.{◌≡◌, ◌<◌, ◌+◌, ℕ, suc, List, ◌∷◌, length, drop, drop-cons, get_or, sym, ◌∙◌, ap, arith}
 use Rattle.std.specs.Prelude.{◌&&◌, ◌||◌, Bool, not, is_some, if◌then◌else◌, Option, Some}
 use Rattle.acs_tree.specs.References.{is_known, is_misindexed, is_set_later}
-use Rattle.acs_tree.specs.Suits.{token_of, token_if, is_listed, is_plain_unknown, is_var_with, is_word_with, is_too_great, suits, range_token}
+use Rattle.acs_tree.specs.Suits.{token_of, token_if, is_listed, is_plain_unknown, is_var_with, is_word_with}
+use Rattle.acs_tree.specs.Suits.{is_too_great, suits, range_token}
 use Rattle.acs_tree.specs.declared.check_err.CheckErr.{CheckErr}
 use Rattle.acs_tree.specs.declared.kind.Kind.{Kind}
 use Rattle.acs_tree.specs.declared.routine.Operand.{Operand}
 use Rattle.acs_tree.specs.declared.routine.Ref.{Ref}
 use Rattle.acs_tree.specs.declared.routine.Stmt.{Stmt}
 use Rattle.acs_tree.specs.Nodes.{Entry, Value, Right, entries_behind}
-use Rattle.acs_tree.specs.Sound.{fault, unknown_variable, unknown_list, kind_mismatch, value_out_of_range, mask_misplaced, too_many_values, read_too_early}
+use Rattle.acs_tree.specs.Sound.{fault, unknown_variable, unknown_list, kind_mismatch, value_out_of_range}
+use Rattle.acs_tree.specs.Sound.{mask_misplaced, too_many_values, read_too_early}
 use Rattle.acs_check.specs.Inner.Walk.{least, met, walked}
 use Rattle.acs_check.proofs.LeastLemmas.{least_append}
 

@@ -1,5 +1,6 @@
 -- Nodes that are walked in parts.
-use Rattle.std.proofs.Common.{◌≡◌, ◌<◌, ◌+◌, ℕ, suc, List, [], ◌∷◌, ◌++◌, length, drop, drop-cons, get_or, refl, sym, ◌∙◌, ap, arith}
+use Rattle.std.proofs.Common.{◌≡◌, ◌<◌, ◌+◌, ℕ, suc, List, [], ◌∷◌, ◌++◌, length, drop, drop-cons, get_or, refl, sym}
+use Rattle.std.proofs.Common.{◌∙◌, ap, arith}
 use Rattle.std.specs.Prelude.{Option}
 use Rattle.acs_tree.specs.declared.check_err.CheckErr.{CheckErr}
 use Rattle.acs_tree.specs.declared.kind.Kind.{Kind}
@@ -12,7 +13,8 @@ use Rattle.acs_tree.specs.Nodes.{Node, nodes_of, nodes_of_cond, nodes_of_test, n
 use Rattle.acs_tree.specs.Sound.{faults_at}
 use Rattle.acs_check.specs.Inner.Parts.{nodes_of_form, nodes_of_block, nodes_of_when, nodes_of_whens, nodes_of_optional}
 use Rattle.acs_check.specs.Inner.Walk.{least, met, walked, passed, faults_in, faults_behind}
-use Rattle.acs_check.proofs.FoldLemmas.{cond_and, cond_or, cond_test, form_do, form_exit, form_filt, form_if, form_pick, form_put, form_write, of_branch, of_form}
+use Rattle.acs_check.proofs.FoldLemmas.{cond_and, cond_or, cond_test, form_do, form_exit, form_filt, form_if, form_pick}
+use Rattle.acs_check.proofs.FoldLemmas.{form_put, form_write, of_branch, of_form}
 use Rattle.acs_check.proofs.LeastLemmas.{least_append}
 
 pub walked_append : (kind : Kind) (before : List Stmt) (best : Option CheckErr) (a b : List Node) → walked kind before best (a ++ b) ≡ walked kind before (walked kind before best a) b

@@ -70,7 +70,8 @@ fn is_list(statements: &[Stmt], name: &Ident) -> bool
 fn is_marked(statements: &[Stmt], marks: &[bool], index: usize) -> bool
     requires marked { marks.now ≡ map is_simple_statement (take (length marks.now) statements.now) }
     requires inside { index < length statements.now }
-    ensures { (statement : Stmt) → statement ≡ slice_index_or statements.now index statement → result ≡ is_simple_statement statement }
+    ensures { (statement : Stmt) → statement ≡ slice_index_or statements.now index statement →
+        result ≡ is_simple_statement statement }
 {
     if index < marks.len() {
         marks[index]

@@ -3,7 +3,8 @@ ghost use Rattle.std.specs.Prelude.{◌≡◌, ◌==◌, ◌||◌, ◌&&◌, not
 ghost use Rattle.acs_tree.specs.Nodes.{Head, ListName, Entry, Target, Value, Part, Left, Order, Right, Code};
 ghost use Rattle.acs_tree.specs.Sound.{fault};
 ghost use Rattle.acs_tree.specs.References.{is_group_list};
-ghost use Rattle.acs_tree.specs.Suits.{is_order, range_token, token_if, token_of, is_bad_list, is_bad_mask, is_listed, is_plain_unknown, is_among, is_literal_with, is_word_with};
+ghost use Rattle.acs_tree.specs.Suits.{is_order, range_token, token_if, token_of, is_bad_list, is_bad_mask, is_listed};
+ghost use Rattle.acs_tree.specs.Suits.{is_plain_unknown, is_among, is_literal_with, is_word_with};
 ghost use Rattle.acs_check.specs.Inner.Walk.{least, met};
 
 use crate::check_name::CheckName;
@@ -90,7 +91,10 @@ fn value_range(bad: bool, at: u32, item: &Item<'_>, best: Best) -> Best
 
 // What can't be the first fault isn't looked at: a long SET is gone through once.
 fn too_many(target: &Ref, before: &[Operand], value: &Operand, best: Best) -> Best
-    ensures { result ≡ least best (fault 11 (token_if (if is_group_list target.now then length before.now == 15 || is_literal_with (is_among before.now) value.now.form else length before.now == 1) (token_of value.now))) }
+    ensures { result ≡ least best
+        (fault 11 (token_if (if is_group_list target.now
+        then length before.now == 15 || is_literal_with (is_among before.now) value.now.form
+        else length before.now == 1) (token_of value.now))) }
 {
     let at = token_of(value);
     if !matters(best, CheckName::TooManyValues, at) {
@@ -196,7 +200,9 @@ fn misplaced(
     best: Best,
 ) -> Best
     requires { listed ≡ is_listed before.now right.now.form }
-    ensures { result ≡ least best (fault 9 (token_if (is_word_with (is_bad_mask left.now) right.now.form || is_bad_list before.now left.now right.now.form) (token_of right.now))) }
+    ensures { result ≡ least best
+        (fault 9 (token_if (is_word_with (is_bad_mask left.now) right.now.form || is_bad_list before.now left.now
+        right.now.form) (token_of right.now))) }
 {
     let broken = is_misplaced(before, listed, left, right);
     note(
@@ -240,7 +246,8 @@ pub fn right(
 }
 
 fn unlisted(listed: bool, right: &Item<'_>, best: Best) -> Best
-    ensures { result ≡ least best (fault 4 (token_if (is_plain_unknown right.now.form && not listed) (token_of right.now))) }
+    ensures { result ≡ least best
+        (fault 4 (token_if (is_plain_unknown right.now.form && not listed) (token_of right.now))) }
 {
     let broken = is_plain_unknown(right) && !listed;
     note(

@@ -3,8 +3,12 @@ ghost use Rattle.std.specs.Prelude.{◌≡◌, ◌&&◌, ◌||◌, ◌==◌, not
 ghost use Rattle.std.specs.Str.{bytes_eq};
 ghost use Rattle.acs_tree.specs.Numbers.{is_between, is_past_greatest, number_of, size_of};
 ghost use Rattle.acs_tree.specs.FilterLists.{is_mask, is_simple_list, list_named};
-ghost use Rattle.acs_tree.specs.References.{is_known, passes, is_misindexed, is_set_later, takes_masks, is_whole_name, is_number_variable, is_size_variable, is_group_list};
-ghost use Rattle.acs_tree.specs.Suits.{is_listed, is_plain_unknown, takes_simple, token_of, is_var_with, is_word_with, is_literal_with, suits_text, suits_volumes, suits_number, suits_size, suits_kind, suits, suits_set, is_bad_literal, is_too_great, is_mask_beside, is_bad_mask, is_bad_list, is_among};
+ghost use Rattle.acs_tree.specs.References.{is_known, passes, is_misindexed, is_set_later, takes_masks, is_whole_name};
+ghost use Rattle.acs_tree.specs.References.{is_number_variable, is_size_variable, is_group_list};
+ghost use Rattle.acs_tree.specs.Suits.{is_listed, is_plain_unknown, takes_simple, token_of, is_var_with, is_word_with};
+ghost use Rattle.acs_tree.specs.Suits.{is_literal_with, suits_text, suits_volumes, suits_number, suits_size};
+ghost use Rattle.acs_tree.specs.Suits.{suits_kind, suits, suits_set, is_bad_literal, is_too_great, is_mask_beside};
+ghost use Rattle.acs_tree.specs.Suits.{is_bad_mask, is_bad_list, is_among};
 ghost use Rattle.acs_tree.specs.Variables.{variable_of};
 
 use crate::earlier::Earlier;
@@ -206,7 +210,8 @@ pub fn is_bad_value(before: &[Operand], behind: &[Operand], form: &OperandForm) 
 }
 
 fn is_great_beside(left: &Named<'_>, word: &[u8]) -> bool
-    ensures { result ≡ ((is_number_variable left.now && is_past_greatest (number_of word.now)) || (is_size_variable left.now && is_past_greatest (size_of word.now))) }
+    ensures { result ≡ ((is_number_variable left.now && is_past_greatest (number_of word.now)) || (is_size_variable
+        left.now && is_past_greatest (size_of word.now))) }
 {
     (is_number_variable(left.row()) && is_great_number(word))
         || (is_size_variable(left.row()) && is_great_size(word))
@@ -285,7 +290,8 @@ pub fn is_misplaced(
     item: &Item<'_>,
 ) -> bool
     requires { listed ≡ is_listed before.now item.now.form }
-    ensures { result ≡ (is_word_with (is_bad_mask left.now) item.now.form || is_bad_list before.now left.now item.now.form) }
+    ensures { result ≡ (is_word_with (is_bad_mask left.now) item.now.form || is_bad_list before.now left.now
+        item.now.form) }
 {
     is_bad_word(left, item.form())
         || (listed && takes_simple(left) && is_mixed(before, item.form()))
@@ -330,7 +336,8 @@ fn is_repeated(before: &[Operand], form: &OperandForm) -> bool
 
 /// Whether it is a value too many, or a storage group that stands already before it.
 pub fn is_one_too_many(target: &Ref, before: &[Operand], form: &OperandForm) -> bool
-    ensures { result ≡ (if is_group_list target.now then length before.now == 15 || is_literal_with (is_among before.now) form.now else length before.now == 1) }
+    ensures { result ≡ (if is_group_list target.now
+        then length before.now == 15 || is_literal_with (is_among before.now) form.now else length before.now == 1) }
 {
     if is_group_list(target) {
         before.len() == 15 || is_repeated(before, form)

@@ -1,6 +1,7 @@
 // The first fault so far, with those of the nodes of statements, in the order of the text.
 ghost use Rattle.std.specs.Prelude.{◌≡◌, ◌∷◌, ◌++◌, [], Some, map};
-ghost use Rattle.acs_tree.specs.Nodes.{Left, Order, Part, Right, Target, entries_behind, values_behind, nodes_of, nodes_of_cond, nodes_of_test, nodes_of_subject, nodes_of_code};
+ghost use Rattle.acs_tree.specs.Nodes.{Left, Order, Part, Right, Target, entries_behind, values_behind, nodes_of};
+ghost use Rattle.acs_tree.specs.Nodes.{nodes_of_cond, nodes_of_test, nodes_of_subject, nodes_of_code};
 ghost use Rattle.acs_check.specs.Inner.Parts.{nodes_of_block, nodes_of_whens, nodes_of_optional};
 ghost use Rattle.acs_check.specs.Inner.Walk.{walked};
 
@@ -54,7 +55,8 @@ fn values(kind: Kind, before: &Earlier<'_>, target: &Ref, values: &[Operand], be
 }
 
 fn put(kind: Kind, before: &Earlier<'_>, reference: &Ref, operands: &[Operand], best: Best) -> Best
-    ensures { result ≡ walked kind before.now best (Target reference.now ∷ values_behind reference.now [] operands.now) }
+    ensures { result ≡ walked kind before.now best (Target reference.now ∷ values_behind reference.now []
+        operands.now) }
 {
     let best = target(kind, before, reference, best);
     values(kind, before, reference, operands, best)
@@ -135,7 +137,8 @@ fn test(
     operand: &Operand,
     best: Best,
 ) -> Best
-    ensures { result ≡ walked kind before.now best (Left reference.now ∷ Order reference.now op op_at ∷ Right (Some reference.now) operand.now ∷ []) }
+    ensures { result ≡ walked kind before.now best (Left reference.now ∷ Order reference.now op op_at ∷ Right
+        (Some reference.now) operand.now ∷ []) }
 {
     let compared = Named::new(reference);
     let best = left(kind, before, &compared, best);

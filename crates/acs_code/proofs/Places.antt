@@ -1,5 +1,6 @@
 -- From places told from the end to places told from the front.
-use Rattle.std.proofs.Common.{◌≡◌, ◌≤◌, ◌+◌, ◌-◌, ℕ, zero, suc, Bool, true, false, List, [], ◌∷◌, length, Some, refl, sym, ap, ◌∙◌, subst, ⊎_elim, arith}
+use Rattle.std.proofs.Common.{◌≡◌, ◌≤◌, ◌+◌, ◌-◌, ℕ, zero, suc, Bool, true, false, List, [], ◌∷◌, length, Some, refl}
+use Rattle.std.proofs.Common.{sym, ap, ◌∙◌, subst, ⊎_elim, arith}
 use Rattle.std.specs.Prelude.{if◌then◌else◌, map, slice_get}
 use Rattle.std.proofs.lemmas.Bool.{lt-ltb, le-ltb, cases_lt}
 use Rattle.std.proofs.lemmas.List.{length-map, append-nil}
@@ -16,7 +17,8 @@ use Rattle.acs_tree.specs.Setting.{with_class}
 use Rattle.acs_tree.specs.Outcome.{Outcome, falls, then_do}
 use Rattle.acs_code.specs.declared.instr.Instr.{Instr}
 use Rattle.acs_code.specs.declared.instr.Instr.TheVariants.{Test, Jump, SetClass, SetGroups, Write, Exit}
-use Rattle.acs_code.specs.Machine.{CodeParts, ComesTo, RunsTo, exit, jump, part_class, past_end, probe_holds, set_class, set_groups, test, write}
+use Rattle.acs_code.specs.Machine.{CodeParts, ComesTo, RunsTo, exit, jump, part_class, past_end, probe_holds, set_class}
+use Rattle.acs_code.specs.Machine.{set_groups, test, write}
 use Rattle.acs_code.specs.Stands.{Goes, GoesForward, StandsFor}
 use Rattle.acs_code.specs.Inner.Compiled.{filters_of}
 use Rattle.acs_code.specs.Inner.Steps.{act}

@@ -1,5 +1,6 @@
 -- A code that goes forward comes to one outcome.
-use Rattle.std.proofs.Common.{◌≡◌, ◌<◌, ◌≤◌, ◌+◌, ◌-◌, ℕ, zero, suc, Bool, true, false, List, [], ◌∷◌, length, Option, None, Some, refl, sym, ap, ◌∙◌, arith}
+use Rattle.std.proofs.Common.{◌≡◌, ◌<◌, ◌≤◌, ◌+◌, ◌-◌, ℕ, zero, suc, Bool, true, false, List, [], ◌∷◌, length, Option}
+use Rattle.std.proofs.Common.{None, Some, refl, sym, ap, ◌∙◌, arith}
 use Rattle.std.specs.Prelude.{slice_get, if◌then◌else◌}
 use Rattle.std.proofs.lemmas.Option.{slice_get_past, slice_get_within}
 use Rattle.dsn_mask.specs.Filter.{FilterLists}
@@ -11,7 +12,8 @@ use Rattle.acs_tree.specs.Outcome.{Outcome, behind, falls}
 use Rattle.acs_code.specs.declared.instr.Instr.{Instr}
 use Rattle.acs_code.specs.declared.instr.Instr.TheVariants.{Test, Jump, SetClass, SetGroups, Write, Exit}
 use Rattle.acs_code.specs.declared.probe.Probe.{Probe}
-use Rattle.acs_code.specs.Machine.{CodeParts, ComesTo, RunsTo, exit, jump, part_class, parts_line, past_end, probe_holds, set_class, set_groups, test, write}
+use Rattle.acs_code.specs.Machine.{CodeParts, ComesTo, RunsTo, exit, jump, part_class, parts_line, past_end}
+use Rattle.acs_code.specs.Machine.{probe_holds, set_class, set_groups, test, write}
 use Rattle.acs_code.specs.Stands.{Goes, GoesForward}
 use Rattle.acs_code.specs.Inner.Steps.{act, act_if_any, rest_of, run_for}
 

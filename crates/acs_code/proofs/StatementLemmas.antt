@@ -1,5 +1,6 @@
 -- What each form of statement does, one equation for each, and its code.
-use Rattle.std.proofs.Common.{◌≡◌, ◌<◌, ◌≤◌, ◌+◌, ℕ, suc, List, [], ◌∷◌, ◌++◌, length, map, drop, get_or, Option, Some, None, refl, sym, ap, ◌∙◌, subst, append_assoc, arith}
+use Rattle.std.proofs.Common.{◌≡◌, ◌<◌, ◌≤◌, ◌+◌, ℕ, suc, List, [], ◌∷◌, ◌++◌, length, map, drop, get_or, Option, Some}
+use Rattle.std.proofs.Common.{None, refl, sym, ap, ◌∙◌, subst, append_assoc, arith}
 use Rattle.std.specs.Prelude.{option_map}
 use Rattle.std.proofs.Math.Seq.{drop-cons}
 use Rattle.dsn_mask.specs.Filter.{FilterLists}
@@ -9,14 +10,16 @@ use Rattle.acs_tree.specs.declared.routine.Cond.{Cond}
 use Rattle.acs_tree.specs.declared.routine.Form.{Form, roll-Form, map-Form}
 use Rattle.acs_tree.specs.declared.routine.Form.TheOpen.{Form-F}
 use Rattle.acs_tree.specs.declared.routine.Form.TheFolds.{fold-roll-Form, fold_out-Stmt, fold_out-When}
-use Rattle.acs_tree.specs.declared.routine.Form.TheVariants.{Put, If, Pick, Write, Exit, rolls-Put, rolls-If, rolls-Pick, rolls-Write, rolls-Exit}
+use Rattle.acs_tree.specs.declared.routine.Form.TheVariants.{Put, If, Pick, Write, Exit, rolls-Put, rolls-If}
+use Rattle.acs_tree.specs.declared.routine.Form.TheVariants.{rolls-Pick, rolls-Write, rolls-Exit}
 use Rattle.acs_tree.specs.declared.routine.Operand.{Operand}
 use Rattle.acs_tree.specs.declared.routine.Ref.{Ref}
 use Rattle.acs_tree.specs.declared.routine.Stmt.{Stmt}
 use Rattle.acs_tree.specs.declared.routine.When.{When, out-When}
 use Rattle.acs_tree.specs.declared.values.Values.{Values}
 use Rattle.acs_tree.specs.Conditions.{holds, when_holds}
-use Rattle.acs_tree.specs.Meaning.{Arm, choice, code_of, first_of, form_step, in_turn, meaning, perhaps, stmt_step, when_step, writes}
+use Rattle.acs_tree.specs.Meaning.{Arm, choice, code_of, first_of, form_step, in_turn, meaning, perhaps, stmt_step}
+use Rattle.acs_tree.specs.Meaning.{when_step, writes}
 use Rattle.acs_tree.specs.Outcome.{nothing, Action, exits}
 use Rattle.acs_tree.specs.Setting.{sets}
 use Rattle.acs_tree.specs.Writing.{joined, written}

@@ -68,22 +68,31 @@ right_comparand filters (right.Number number) = comparand.Number number
 
 -- a probe holds
 abbrev pub probe_holds : List FilterLists → Probe → Input → Values → Bool
-probe_holds filters probe input values = compares input values probe.op (slot_value probe.left input values) (right_comparand filters probe.right)
+probe_holds filters probe input values =
+    compares input values probe.op (slot_value probe.left input values) (right_comparand filters probe.right)
 
 -- from a place and with values the code runs to an outcome: the instruction there acts, and the run goes on at the
 -- place that it names, be that later or earlier, or else at the next one; an Exit ends it, and past the end it falls
 -- through
 pub data RunsTo (code : CodeParts) (input : Input) : ℕ → Values → Outcome → Type 0 where
-  test : {place yes' no' : ℕ} {probe : Probe} {values : Values} {outcome : Outcome} → slice_get code.instrs place ≡ Some (Test probe yes' no')
-      → RunsTo code input (if probe_holds code.filters probe input values then yes' else no') values outcome → RunsTo code input place values outcome
+  test : {place yes' no' : ℕ} {probe : Probe} {values : Values} {outcome : Outcome}
+      → slice_get code.instrs place ≡ Some (Test probe yes' no')
+      → RunsTo code input (if probe_holds code.filters probe input values then yes' else no') values outcome
+      → RunsTo code input place values outcome
   jump : {place to : ℕ} {values : Values} {outcome : Outcome} → slice_get code.instrs place ≡ Some (Jump to)
       → RunsTo code input to values outcome → RunsTo code input place values outcome
-  set_class : {place : ℕ} {part : Part} {values : Values} {outcome : Outcome} → slice_get code.instrs place ≡ Some (SetClass part)
-      → RunsTo code input (suc place) (with_class code.kind (part_class part input values) values) outcome → RunsTo code input place values outcome
-  set_groups : {place : ℕ} {groups : List (List ℕ)} {values : Values} {outcome : Outcome} → slice_get code.instrs place ≡ Some (SetGroups groups)
-      → RunsTo code input (suc place) (record values { groups = groups }) outcome → RunsTo code input place values outcome
-  write : {place : ℕ} {parts : List Part} {values : Values} {outcome : Outcome} → slice_get code.instrs place ≡ Some (Write parts)
-      → RunsTo code input (suc place) values outcome → RunsTo code input place values (behind (parts_line parts input values ∷ []) outcome)
+  set_class : {place : ℕ} {part : Part} {values : Values} {outcome : Outcome}
+      → slice_get code.instrs place ≡ Some (SetClass part)
+      → RunsTo code input (suc place) (with_class code.kind (part_class part input values) values) outcome
+      → RunsTo code input place values outcome
+  set_groups : {place : ℕ} {groups : List (List ℕ)} {values : Values} {outcome : Outcome}
+      → slice_get code.instrs place ≡ Some (SetGroups groups)
+      → RunsTo code input (suc place) (record values { groups = groups }) outcome
+      → RunsTo code input place values outcome
+  write : {place : ℕ} {parts : List Part} {values : Values} {outcome : Outcome}
+      → slice_get code.instrs place ≡ Some (Write parts)
+      → RunsTo code input (suc place) values outcome
+      → RunsTo code input place values (behind (parts_line parts input values ∷ []) outcome)
   exit : {place number : ℕ} {values : Values} → slice_get code.instrs place ≡ Some (Exit number)
       → RunsTo code input place values (exits number values)
   past_end : {place : ℕ} {values : Values} → slice_get code.instrs place ≡ None

@@ -15,8 +15,10 @@ use Rattle.acs_code.specs.Machine.{CodeParts, ComesTo}
 -- for every input and start values, the code comes to what the routine means, and to nothing else
 pub record StandsFor (code : CodeParts) (routine : CheckedRoutine) : Type 0 where
   pub kind : code.kind ≡ routine.kind
-  pub means : (input : Input) (values : Values) → ComesTo code input values (meaning_of routine.tree routine.kind input values)
-  pub only : (input : Input) (values : Values) (outcome : Outcome) → ComesTo code input values outcome → outcome ≡ meaning_of routine.tree routine.kind input values
+  pub means : (input : Input) (values : Values) →
+      ComesTo code input values (meaning_of routine.tree routine.kind input values)
+  pub only : (input : Input) (values : Values) (outcome : Outcome) → ComesTo code input values outcome →
+      outcome ≡ meaning_of routine.tree routine.kind input values
 
 -- a filter list is one of so many
 abbrev pub IsThere : ℕ → Right → Type 0
@@ -25,10 +27,12 @@ IsThere filters _ = Unit {0}
 
 -- an instruction at this place goes on at a later place, which is at most the end, and its filter list is there
 abbrev pub Goes : ℕ → ℕ → ℕ → Instr → Type 0
-Goes filters end place (Test probe yes' no') = (place < yes') × (yes' ≤ end) × (place < no') × (no' ≤ end) × IsThere filters probe.right
+Goes filters end place (Test probe yes' no') =
+    (place < yes') × (yes' ≤ end) × (place < no') × (no' ≤ end) × IsThere filters probe.right
 Goes filters end place (Jump to) = (place < to) × (to ≤ end)
 Goes filters end place _ = Unit {0}
 
 -- each instruction goes forward
 abbrev pub GoesForward : CodeParts → Type 0
-GoesForward code = (place : ℕ) (instr : Instr) → slice_get code.instrs place ≡ Some instr → Goes (length code.filters) (length code.instrs) place instr
+GoesForward code = (place : ℕ) (instr : Instr) → slice_get code.instrs place ≡ Some instr →
+    Goes (length code.filters) (length code.instrs) place instr

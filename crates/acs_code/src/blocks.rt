@@ -66,7 +66,8 @@ pub fn block(
     lists: &Lists<'_>,
     body: &[Stmt],
 ) -> Result<(), AllocError>
-    ensures { OnOk result (Does kind (filters_of lists.now) (in_turn (map (meaning kind lists.now) body.now)) code.old code.new) }
+    ensures { OnOk result (Does kind (filters_of lists.now) (in_turn (map (meaning kind lists.now) body.now)) code.old
+        code.new) }
 {
     let mut left = body.len();
     while left > 0 {
@@ -85,7 +86,8 @@ fn alternative(
     lists: &Lists<'_>,
     otherwise: &Option<Boxed<Stmt>>,
 ) -> Result<(), AllocError>
-    ensures { OnOk result (Does kind (filters_of lists.now) (perhaps (option_map (meaning kind lists.now) otherwise.now)) code.old code.new) }
+    ensures { OnOk result (Does kind (filters_of lists.now)
+        (perhaps (option_map (meaning kind lists.now) otherwise.now)) code.old code.new) }
 {
     match otherwise {
         None => Ok(()),
@@ -104,7 +106,10 @@ fn conditional(
     cond: &Cond,
     end: u64,
 ) -> Result<(), AllocError>
-    ensures { OnOk result ((other : Action) (rest : List Instr) → end ≡ length rest → Does kind (filters_of lists.now) other rest code.old → Does kind (filters_of lists.now) (choice (holds lists.now cond.now) (meaning kind lists.now body.now) other) rest code.new) }
+    ensures { OnOk result ((other : Action) (rest : List Instr) → end ≡ length rest →
+        Does kind (filters_of lists.now) other rest code.old →
+        Does kind (filters_of lists.now) (choice (holds lists.now cond.now) (meaning kind lists.now body.now) other)
+        rest code.new) }
 {
     let fails = code.place();
     jump(code, end)?;
@@ -127,7 +132,10 @@ fn when_clause(
     arm: &When,
     behind: u64,
 ) -> Result<(), AllocError>
-    ensures { OnOk result ((other : Action) (rest : List Instr) → behind ≡ length rest → Does kind (filters_of lists.now) other rest code.old → Does kind (filters_of lists.now) (first_of subject.now (arm_of kind lists.now arm.now ∷ []) other) rest code.new) }
+    ensures { OnOk result ((other : Action) (rest : List Instr) → behind ≡ length rest →
+        Does kind (filters_of lists.now) other rest code.old →
+        Does kind (filters_of lists.now) (first_of subject.now (arm_of kind lists.now arm.now ∷ []) other) rest
+        code.new) }
 {
     let fails = code.place();
     jump(code, behind)?;
@@ -150,7 +158,10 @@ fn when_clauses(
     arms: &[When],
     end: u64,
 ) -> Result<(), AllocError>
-    ensures { OnOk result ((other : Action) (rest : List Instr) → end ≡ length rest → Does kind (filters_of lists.now) other rest code.old → Does kind (filters_of lists.now) (first_of subject.now (map (arm_of kind lists.now) arms.now) other) rest code.new) }
+    ensures { OnOk result ((other : Action) (rest : List Instr) → end ≡ length rest →
+        Does kind (filters_of lists.now) other rest code.old →
+        Does kind (filters_of lists.now) (first_of subject.now (map (arm_of kind lists.now) arms.now) other) rest
+        code.new) }
 {
     let mut left = arms.len();
     while left > 0 {

@@ -48,7 +48,8 @@ fn list(
     include: &[Operand],
     exclude: &[Operand],
 ) -> Result<CompiledList, AllocError>
-    ensures { IfOk result (λ list. list ≡ compiled (record { name = name; include = include.now; exclude = exclude.now })) }
+    ensures { IfOk result
+        (λ list. list ≡ compiled (record { name = name; include = include.now; exclude = exclude.now })) }
 {
     Ok(CompiledList {
         name,
@@ -63,7 +64,10 @@ fn filter(
     include: &[Operand],
     exclude: &[Operand],
 ) -> Result<FilterIndex, AllocError>
-    ensures { IfOk result (λ index. index ≡ record { include = entries_of whole include.now; exclude = entries_of whole exclude.now }) }
+    ensures { IfOk result (λ index. index ≡ record {
+      include = entries_of whole include.now;
+      exclude = entries_of whole exclude.now;
+    }) }
 {
     let include = entries(alloc, whole, include)?;
     let exclude = entries(alloc, whole, exclude)?;

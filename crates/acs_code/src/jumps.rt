@@ -16,8 +16,10 @@ use std::alloc::AllocError;
 /// Goes on at a place; where that place is the next one, nothing is needed.
 pub fn jump(code: &mut Upward, end: u64) -> Result<(), AllocError>
     ensures longer { OnOk result (length code.old ≤ length code.new) }
-    ensures over { OnOk result ((kind : Kind) (filters : List FilterLists) → end ≤ length code.old → Over kind filters code.old code.new) }
-    ensures there { OnOk result ((kind : Kind) (filters : List FilterLists) (rest : List Instr) → end ≡ length rest → Over kind filters rest code.old → Does kind filters nothing rest code.new) }
+    ensures over { OnOk result ((kind : Kind) (filters : List FilterLists) → end ≤ length code.old →
+        Over kind filters code.old code.new) }
+    ensures there { OnOk result ((kind : Kind) (filters : List FilterLists) (rest : List Instr) → end ≡ length rest →
+        Over kind filters rest code.old → Does kind filters nothing rest code.new) }
 {
     if code.place() == end {
         return Ok(());
@@ -27,7 +29,8 @@ pub fn jump(code: &mut Upward, end: u64) -> Result<(), AllocError>
 
 /// EXIT.
 pub fn exit(code: &mut Upward, number: &Option<Operand>) -> Result<(), AllocError>
-    ensures { OnOk result ((kind : Kind) (filters : List FilterLists) → Does kind filters (λ input values. exits (code_of number.now) values) code.old code.new) }
+    ensures { OnOk result ((kind : Kind) (filters : List FilterLists) →
+        Does kind filters (λ input values. exits (code_of number.now) values) code.old code.new) }
 {
     code.put(Instr::Exit(exit_code(number)))
 }

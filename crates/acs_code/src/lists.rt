@@ -48,7 +48,8 @@ impl<'a> Lists<'a> {
 
     /// The place among the filters of the list of that name, for the whole data set name or for another text.
     pub fn filter_place(&self, whole: bool, name: &Ident) -> Option<u64>
-        ensures { MatchOption result (list_comparand whole (list_named self.now name.now) ≡ Nothing) (IsFilterOf self.now whole name.now) }
+        ensures { MatchOption result (list_comparand whole (list_named self.now name.now) ≡ Nothing)
+            (IsFilterOf self.now whole name.now) }
     {
         match list_place(self.compiled.as_slice(), name) {
             None => None,

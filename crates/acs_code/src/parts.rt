@@ -26,7 +26,8 @@ pub fn slot(reference: &Ref) -> Slot
 /// An operand as a part of a line or as what a class is set to.
 pub fn part(form: &OperandForm) -> Part
     ensures text { (input : Input) (values : Values) → part_text result input values ≡ written form.now input values }
-    ensures class { (input : Input) (values : Values) → part_class result input values ≡ class_from form.now input values }
+    ensures class { (input : Input) (values : Values) →
+        part_class result input values ≡ class_from form.now input values }
 {
     match form {
         OperandForm::Literal(text) => Part::Literal(*text),

@@ -2,7 +2,8 @@
 ghost use Rattle.std.specs.Prelude.{List};
 ghost use Rattle.dsn_mask.specs.MaskText.{mask_of, simple_of};
 ghost use Rattle.dsn_mask.specs.Filter.{FilterLists};
-ghost use Rattle.acs_tree.specs.Comparands.{Dots, Number, Plain, comparand_of, comparand_or, list_comparand, mask_comparand, name_comparand, word_beside, word_comparand};
+ghost use Rattle.acs_tree.specs.Comparands.{Dots, Number, Plain, comparand_of, comparand_or, list_comparand};
+ghost use Rattle.acs_tree.specs.Comparands.{mask_comparand, name_comparand, word_beside, word_comparand};
 ghost use Rattle.acs_tree.specs.References.{is_whole_name};
 ghost use Rattle.acs_tree.specs.Variables.{variable_of};
 ghost use Rattle.acs_tree.specs.FilterLists.{list_named};
@@ -27,7 +28,8 @@ pub fn right(lists: &Lists<'_>, left: &Ref, operand: &Operand) -> Option<Right>
 }
 
 fn word_right(left: &Ref, word: &Ident) -> Option<Right>
-    ensures { (filters : List FilterLists) → IsRightIfAny filters (word_comparand (variable_of left.now.name) (is_whole_name left.now) word.now) result }
+    ensures { (filters : List FilterLists) →
+        IsRightIfAny filters (word_comparand (variable_of left.now.name) (is_whole_name left.now) word.now) result }
 {
     let variable = Variable::named(&left.name)?;
     word_beside(variable.kind, left.is_whole_name(), word)

@@ -1,7 +1,8 @@
 // SET.
 ghost use Rattle.std.specs.Prelude.{◌≡◌, ◌<◌, [], true, false, List, length, Contains, MatchOption, OnOk};
 ghost use Rattle.dsn_mask.specs.Filter.{FilterLists};
-ghost use Rattle.acs_tree.specs.Setting.{class_set, groups_behind, groups_set, is_new_group, kind_set, sets, with_group};
+ghost use Rattle.acs_tree.specs.Setting.{class_set, groups_behind, groups_set, is_new_group, kind_set, sets};
+ghost use Rattle.acs_tree.specs.Setting.{with_group};
 ghost use Rattle.acs_tree.specs.declared.kind.Kind.{Kind};
 ghost use Rattle.acs_code.specs.Inner.Upward.{Does};
 
@@ -19,7 +20,8 @@ pub fn set(
     target: &Ref,
     values: &[Operand],
 ) -> Result<(), AllocError>
-    ensures { OnOk result ((filters : List FilterLists) → Does kind filters (sets kind target.now values.now) code.old code.new) }
+    ensures { OnOk result ((filters : List FilterLists) →
+        Does kind filters (sets kind target.now values.now) code.old code.new) }
 {
     if target.name.bytes() == kind.name() {
         set_kind(code, kind, values)
@@ -29,7 +31,8 @@ pub fn set(
 }
 
 fn set_kind(code: &mut Upward, kind: Kind, values: &[Operand]) -> Result<(), AllocError>
-    ensures { OnOk result ((filters : List FilterLists) → Does kind filters (kind_set kind values.now) code.old code.new) }
+    ensures { OnOk result ((filters : List FilterLists) →
+        Does kind filters (kind_set kind values.now) code.old code.new) }
 {
     match kind {
         Kind::DataClas | Kind::StorClas | Kind::MgmtClas => set_class(code, kind, values),
@@ -38,7 +41,8 @@ fn set_kind(code: &mut Upward, kind: Kind, values: &[Operand]) -> Result<(), All
 }
 
 fn set_class(code: &mut Upward, kind: Kind, values: &[Operand]) -> Result<(), AllocError>
-    ensures { OnOk result ((filters : List FilterLists) → Does kind filters (class_set kind values.now) code.old code.new) }
+    ensures { OnOk result ((filters : List FilterLists) →
+        Does kind filters (class_set kind values.now) code.old code.new) }
 {
     match values.first() {
         None => Ok(()),
@@ -47,7 +51,8 @@ fn set_class(code: &mut Upward, kind: Kind, values: &[Operand]) -> Result<(), Al
 }
 
 fn set_groups(code: &mut Upward, values: &[Operand]) -> Result<(), AllocError>
-    ensures { OnOk result ((kind : Kind) (filters : List FilterLists) → Does kind filters (groups_set values.now) code.old code.new) }
+    ensures { OnOk result ((kind : Kind) (filters : List FilterLists) →
+        Does kind filters (groups_set values.now) code.old code.new) }
 {
     code.put(Instr::SetGroups(groups(values)))
 }
@@ -78,7 +83,9 @@ fn add_group(groups: &mut Names, form: &OperandForm)
 
 // The name that a text is, if it is one that can be added.
 fn new_group(groups: &Names, text: &Lit) -> Option<Name>
-    ensures { MatchOption result (is_new_group groups.now text.now ≡ false) (λ name. (name ≡ text.now) × (is_new_group groups.now text.now ≡ true) × (length groups.now < 15) × (Contains groups.now text.now → ⊥)) }
+    ensures { MatchOption result (is_new_group groups.now text.now ≡ false)
+        (λ name. (name ≡ text.now) × (is_new_group groups.now text.now ≡ true) × (length groups.now < 15) ×
+        (Contains groups.now text.now → ⊥)) }
 {
     let name = Name::new(text.bytes())?;
     if groups.as_slice().len() >= MAX_GROUPS {

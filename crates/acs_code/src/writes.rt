@@ -17,14 +17,16 @@ use desk_common::Items;
 use std::alloc::{AllocError, Global};
 
 pub fn write(alloc: Global, code: &mut Upward, operands: &[Operand]) -> Result<(), AllocError>
-    ensures { OnOk result ((kind : Kind) (filters : List FilterLists) → Does kind filters (writes operands.now) code.old code.new) }
+    ensures { OnOk result ((kind : Kind) (filters : List FilterLists) →
+        Does kind filters (writes operands.now) code.old code.new) }
 {
     let parts = parts(alloc, operands)?;
     code.put(Instr::Write(parts))
 }
 
 fn parts(alloc: Global, operands: &[Operand]) -> Result<Parts, AllocError>
-    ensures { IfOk result (λ parts. (input : Input) (values : Values) → parts_text parts input values ≡ joined operands.now input values) }
+    ensures { IfOk result (λ parts. (input : Input) (values : Values) →
+        parts_text parts input values ≡ joined operands.now input values) }
 {
     let mut parts = Items::new(alloc);
     for operand in operands {

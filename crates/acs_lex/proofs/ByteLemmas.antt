@@ -3,7 +3,8 @@ use Rattle.std.proofs.Common.{◌≡◌, ℕ, Bool, true, false, not, List, [], 
 use Rattle.std.specs.Prelude.{◌==◌, ◌&&◌, ◌||◌, codes}
 use Rattle.std.specs.List.{list_all}
 use Rattle.std.proofs.lemmas.Bool.Decides.{nat_tests}
-use Rattle.acs_lex.specs.Lexical.{among, is_line_end, is_blank, is_name_byte, is_word_byte, is_ampersand, is_quote, is_printable, is_quotable, is_single_sign, is_double_sign, begins}
+use Rattle.acs_lex.specs.Lexical.{among, is_line_end, is_blank, is_name_byte, is_word_byte, is_ampersand, is_quote}
+use Rattle.acs_lex.specs.Lexical.{is_printable, is_quotable, is_single_sign, is_double_sign, begins}
 
 pub clash : {A : Type 0} → true ≡ false → A
 clash e = cc

@@ -2,10 +2,13 @@
 use Rattle.std.proofs.Common.{◌≡◌, ◌≤◌, ◌<◌, ℕ, Bool, true, false, List, [], ◌∷◌, length, sym, ◌∙◌, ap, subst, arith}
 use Rattle.acs_lex.specs.declared.token.TokenForm.{TokenForm}
 use Rattle.acs_lex.specs.declared.token.TokenForm.TheVariants.{Word, Variable, Literal, Sign}
-use Rattle.acs_lex.specs.Lexical.{Runs, is_name_byte, is_word_byte, is_ampersand, is_quote, is_quotable, is_single_sign, is_double_sign, IsForm, word, variable, literal, double, single}
+use Rattle.acs_lex.specs.Lexical.{Runs, is_name_byte, is_word_byte, is_ampersand, is_quote, is_quotable, is_single_sign}
+use Rattle.acs_lex.specs.Lexical.{is_double_sign, IsForm, word, variable, literal, double, single}
 use Rattle.acs_lex.specs.Tokens.{IsLongest}
 use Rattle.acs_lex.specs.Inner.Scanning.{after}
-use Rattle.acs_lex.proofs.ByteLemmas.{clash, double_begins, double_ampersand, word_no_ampersand, word_no_quote, word_no_single, word_no_double, name_no_ampersand, ampersand_no_quote, ampersand_no_single, quote_no_single, quote_no_double, quote_not_quotable}
+use Rattle.acs_lex.proofs.ByteLemmas.{clash, double_begins, double_ampersand, word_no_ampersand, word_no_quote}
+use Rattle.acs_lex.proofs.ByteLemmas.{word_no_single, word_no_double, name_no_ampersand, ampersand_no_quote}
+use Rattle.acs_lex.proofs.ByteLemmas.{ampersand_no_single, quote_no_single, quote_no_double, quote_not_quotable}
 use Rattle.acs_lex.proofs.RunLemmas.{starts, runs_after, runs_shorter, after_least, runs_end}
 
 against : {A : Type 0} {v : Bool} → v ≡ true → v ≡ false → A

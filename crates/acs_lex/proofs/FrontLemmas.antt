@@ -1,17 +1,23 @@
 -- The step's value stands at the front of the text.
-use Rattle.std.proofs.Common.{◌≡◌, ◌≤◌, ◌<◌, ◌-◌, ℕ, Bool, true, false, List, [], ◌∷◌, length, refl, sym, ◌∙◌, subst, arith}
+use Rattle.std.proofs.Common.{◌≡◌, ◌≤◌, ◌<◌, ◌-◌, ℕ, Bool, true, false, List, [], ◌∷◌, length, refl, sym, ◌∙◌, subst}
+use Rattle.std.proofs.Common.{arith}
 use Rattle.std.specs.Prelude.{if◌then◌else◌, nat_le, ◌==◌, Option, Some, None, codes}
 use Rattle.std.proofs.lemmas.Bool.Decides.{nat_tests}
 use Rattle.acs_lex.specs.declared.token.TokenForm.{TokenForm}
 use Rattle.acs_lex.specs.declared.token.TokenForm.TheVariants.{Word, Variable, Literal, Sign}
 use Rattle.acs_lex.specs.declared.fault.LexErr.TheVariants.{OpenLiteral, LongWord}
-use Rattle.acs_lex.specs.Lexical.{Runs, is_blank, is_line_end, is_name_byte, is_word_byte, is_ampersand, is_quote, is_quotable, is_single_sign, is_double_sign, begins, counted_bytes, most_bytes, IsCommentTail, over, inside, IsGap, blank, comment}
+use Rattle.acs_lex.specs.Lexical.{Runs, is_blank, is_line_end, is_name_byte, is_word_byte, is_ampersand, is_quote}
+use Rattle.acs_lex.specs.Lexical.{is_quotable, is_single_sign, is_double_sign, begins, counted_bytes, most_bytes}
+use Rattle.acs_lex.specs.Lexical.{IsCommentTail, over, inside, IsGap, blank, comment}
 use Rattle.acs_lex.specs.Tokens.{IsLongest, size_of, token_at, IsToken, token}
 use Rattle.acs_lex.specs.LexFault.{StopsBy, open_comment, open_literal, bad_inside, bad_byte, too_long}
-use Rattle.acs_lex.specs.Inner.Scanning.{Front, Ends, Skips, Takes, Fails, after, after_comment, token_front, bad_front, comment_front, slash_front, literal_front, single_front, sign_front, ampersand_front, front}
+use Rattle.acs_lex.specs.Inner.Scanning.{Front, Ends, Skips, Takes, Fails, after, after_comment, token_front, bad_front}
+use Rattle.acs_lex.specs.Inner.Scanning.{comment_front, slash_front, literal_front, single_front, sign_front}
+use Rattle.acs_lex.specs.Inner.Scanning.{ampersand_front, front}
 use Rattle.acs_lex.proofs.ByteLemmas.{same_of, clash, not_slash, only_among, ampersand_no_single, not_printable}
 use Rattle.acs_lex.proofs.RunLemmas.{starts, runs_after, after_stops}
-use Rattle.acs_lex.proofs.FormLemmas.{word_longest, variable_longest, literal_longest, double_longest, single_longest, double_here, no_form}
+use Rattle.acs_lex.proofs.FormLemmas.{word_longest, variable_longest, literal_longest, double_longest, single_longest}
+use Rattle.acs_lex.proofs.FormLemmas.{double_here, no_form}
 
 -- what the value of a step says of the text
 abbrev pub Stands : ℕ → List ℕ → Front → Type 0

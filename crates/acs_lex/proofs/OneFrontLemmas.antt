@@ -1,5 +1,6 @@
 -- Nothing but the step's value stands at the front of a text.
-use Rattle.std.proofs.Common.{◌≡◌, ◌≤◌, ◌<◌, ◌-◌, ℕ, Bool, true, false, List, [], ◌∷◌, length, refl, sym, ◌∙◌, ap, subst, arith}
+use Rattle.std.proofs.Common.{◌≡◌, ◌≤◌, ◌<◌, ◌-◌, ℕ, Bool, true, false, List, [], ◌∷◌, length, refl, sym, ◌∙◌, ap}
+use Rattle.std.proofs.Common.{subst, arith}
 use Rattle.std.specs.Prelude.{if◌then◌else◌, nat_le, ◌==◌, Option, Some, None, codes}
 use Rattle.std.proofs.lemmas.Bool.Decides.{nat_tests}
 use Rattle.acs_lex.specs.declared.token.TokenForm.{TokenForm}
@@ -7,11 +8,17 @@ use Rattle.acs_lex.specs.declared.token.TokenForm.TheVariants.{Word, Variable, S
 use Rattle.acs_lex.specs.declared.token.Token.{Token}
 use Rattle.acs_lex.specs.declared.fault.LexErr.{LexErr}
 use Rattle.acs_lex.specs.declared.fault.LexErr.TheVariants.{OpenLiteral}
-use Rattle.acs_lex.specs.Lexical.{is_blank, is_line_end, is_name_byte, is_word_byte, is_ampersand, is_quote, is_printable, is_quotable, is_single_sign, is_double_sign, begins, IsForm, word, variable, literal, double, single, IsCommentTail, over, inside, IsGap, blank, comment}
+use Rattle.acs_lex.specs.Lexical.{is_blank, is_line_end, is_name_byte, is_word_byte, is_ampersand, is_quote}
+use Rattle.acs_lex.specs.Lexical.{is_printable, is_quotable, is_single_sign, is_double_sign, begins, IsForm, word}
+use Rattle.acs_lex.specs.Lexical.{variable, literal, double, single, IsCommentTail, over, inside, IsGap, blank, comment}
 use Rattle.acs_lex.specs.Tokens.{IsToken, token}
 use Rattle.acs_lex.specs.LexFault.{ends_line, StopsBy, open_comment, open_literal, bad_inside, bad_byte, too_long}
-use Rattle.acs_lex.specs.Inner.Scanning.{Front, Ends, Skips, Takes, Fails, after, after_comment, token_front, bad_front, comment_front, literal_front, sign_front, ampersand_front, front}
-use Rattle.acs_lex.proofs.ByteLemmas.{clash, and_false, slash_of, star_of, only_among, double_begins, double_is_no, single_is_no, double_ampersand, word_no_blank, ampersand_no_name, ampersand_no_single, quote_not_quotable, line_end_not_quotable, line_end_no_quote, quote_is_printable}
+use Rattle.acs_lex.specs.Inner.Scanning.{Front, Ends, Skips, Takes, Fails, after, after_comment, token_front, bad_front}
+use Rattle.acs_lex.specs.Inner.Scanning.{comment_front, literal_front, sign_front, ampersand_front, front}
+use Rattle.acs_lex.proofs.ByteLemmas.{clash, and_false, slash_of, star_of, only_among, double_begins, double_is_no}
+use Rattle.acs_lex.proofs.ByteLemmas.{single_is_no, double_ampersand, word_no_blank, ampersand_no_name}
+use Rattle.acs_lex.proofs.ByteLemmas.{ampersand_no_single, quote_not_quotable, line_end_not_quotable, line_end_no_quote}
+use Rattle.acs_lex.proofs.ByteLemmas.{quote_is_printable}
 use Rattle.acs_lex.proofs.RunLemmas.{starts, runs_after, runs_end, runs_most}
 use Rattle.acs_lex.proofs.FormLemmas.{double_here, form_shorter}
 use Rattle.acs_lex.proofs.FrontLemmas.{Stands, front_stands, tail_of, of_tail, slash_step}

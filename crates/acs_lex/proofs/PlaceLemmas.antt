@@ -1,13 +1,16 @@
 -- Where the tokens of a cut stand, and what text they have.
-use Rattle.std.proofs.Common.{◌≡◌, ◌≤◌, ◌<◌, ◌-◌, ℕ, suc, Bool, true, List, [], ◌∷◌, length, take, drop, refl, sym, ◌∙◌, ap, subst, arith}
+use Rattle.std.proofs.Common.{◌≡◌, ◌≤◌, ◌<◌, ◌-◌, ℕ, suc, Bool, true, List, [], ◌∷◌, length, take, drop, refl, sym, ◌∙◌}
+use Rattle.std.proofs.Common.{ap, subst, arith}
 use Rattle.std.specs.Prelude.{All}
 use Rattle.std.proofs.lemmas.Grind.{common_steps}
 use Rattle.std.proofs.lemmas.List.Elements.{All-nil, All-cons}
 use Rattle.acs_lex.specs.declared.token.TokenForm.{TokenForm}
 use Rattle.acs_lex.specs.declared.token.TokenForm.TheVariants.{Word, Variable, Literal, Sign}
 use Rattle.acs_lex.specs.declared.token.Token.{Token}
-use Rattle.acs_lex.specs.Lexical.{Runs, stop, on, IsForm, word, variable, literal, double, single, counted_bytes, most_bytes, IsCommentTail, over, inside, IsGap, blank, comment}
-use Rattle.acs_lex.specs.Tokens.{IsLongest, size_of, token_at, token, CutsInto, nothing_left, after_gap, after_token, IsCut, InOrder, token_text, IsTokenOf}
+use Rattle.acs_lex.specs.Lexical.{Runs, stop, on, IsForm, word, variable, literal, double, single, counted_bytes}
+use Rattle.acs_lex.specs.Lexical.{most_bytes, IsCommentTail, over, inside, IsGap, blank, comment}
+use Rattle.acs_lex.specs.Tokens.{IsLongest, size_of, token_at, token, CutsInto, nothing_left, after_gap, after_token}
+use Rattle.acs_lex.specs.Tokens.{IsCut, InOrder, token_text, IsTokenOf}
 use Rattle.acs_lex.proofs.RunLemmas.{runs_shorter}
 use Rattle.acs_lex.proofs.FormLemmas.{form_shorter}
 use Rattle.acs_lex.proofs.OneFrontLemmas.{gap_shorter}

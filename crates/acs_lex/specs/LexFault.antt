@@ -4,7 +4,8 @@ use Rattle.acs_lex.specs.declared.token.TokenForm.{TokenForm}
 use Rattle.acs_lex.specs.declared.token.Token.{Token}
 use Rattle.acs_lex.specs.declared.fault.LexErr.{LexErr}
 use Rattle.acs_lex.specs.declared.fault.LexErr.TheVariants.{OpenComment, OpenLiteral, BadByte, LongWord}
-use Rattle.acs_lex.specs.Lexical.{Runs, IsForm, IsCommentTail, IsGap, is_blank, is_quote, is_printable, is_quotable, is_line_end, begins, counted_bytes, most_bytes}
+use Rattle.acs_lex.specs.Lexical.{Runs, IsForm, IsCommentTail, IsGap, is_blank, is_quote, is_printable, is_quotable}
+use Rattle.acs_lex.specs.Lexical.{is_line_end, begins, counted_bytes, most_bytes}
 use Rattle.acs_lex.specs.Tokens.{IsLongest, IsToken, size_of, place_of}
 
 -- the text or its line ends here

@@ -71,7 +71,8 @@ pub data IsForm : TokenForm → List ℕ → List ℕ → Type 0 where
   word : {b : ℕ} {bytes rest : List ℕ}
       → is_word_byte b ≡ true → Runs is_word_byte bytes rest → IsForm Word (b ∷ bytes) rest
   variable : {a b : ℕ} {bytes rest : List ℕ}
-      → is_ampersand a ≡ true → is_name_byte b ≡ true → Runs is_name_byte bytes rest → IsForm Variable (a ∷ b ∷ bytes) rest
+      → is_ampersand a ≡ true → is_name_byte b ≡ true → Runs is_name_byte bytes rest
+      → IsForm Variable (a ∷ b ∷ bytes) rest
   literal : {a b : ℕ} {bytes rest : List ℕ}
       → is_quote a ≡ true → Runs is_quotable bytes (b ∷ rest) → is_quote b ≡ true → IsForm Literal (a ∷ bytes) rest
   double : {a b : ℕ} {rest : List ℕ} → is_double_sign a b ≡ true → IsForm Sign (a ∷ b ∷ rest) rest

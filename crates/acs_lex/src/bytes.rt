@@ -1,6 +1,7 @@
 // What each byte is good for (docs/acs-language.md, Bytes and Tokens).
 ghost use Rattle.std.specs.Prelude.{◌≡◌};
-ghost use Rattle.acs_lex.specs.Lexical.{is_blank, is_line_end, is_name_byte, is_word_byte, is_quotable, is_single_sign, is_double_sign};
+ghost use Rattle.acs_lex.specs.Lexical.{is_blank, is_line_end, is_name_byte, is_word_byte, is_quotable, is_single_sign};
+ghost use Rattle.acs_lex.specs.Lexical.{is_double_sign};
 
 pub fn is_line_end(byte: u8) -> bool
     ensures { result ≡ is_line_end byte }

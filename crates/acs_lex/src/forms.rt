@@ -2,7 +2,9 @@
 // comments and for blanks. Each is passed the size of the whole text, from which places follow.
 ghost use Rattle.std.specs.Prelude.{◌≡◌, ◌≤◌, ◌-◌, length, not, position, MatchOption, None, Some};
 ghost use Rattle.acs_lex.specs.Lexical.{is_name_byte, is_word_byte, is_quotable, counted_bytes, most_bytes};
-ghost use Rattle.acs_lex.specs.Inner.Scanning.{after, after_comment, token_front, bad_front, comment_front, slash_front, literal_front, single_front, sign_front, ampersand_front, front, front_of};
+ghost use Rattle.acs_lex.specs.Inner.Scanning.{after, after_comment, token_front, bad_front, comment_front};
+ghost use Rattle.acs_lex.specs.Inner.Scanning.{slash_front, literal_front, single_front, sign_front, ampersand_front};
+ghost use Rattle.acs_lex.specs.Inner.Scanning.{front, front_of};
 
 use crate::bytes::{
     is_blank, is_double_sign, is_line_end, is_name_byte, is_quotable, is_single_sign, is_word_byte,

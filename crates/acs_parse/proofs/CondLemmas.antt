@@ -1,5 +1,6 @@
 -- What the readers of conditions give, and where they fail.
-use Rattle.std.proofs.Common.{◌≡◌, ◌<◌, ℕ, suc, true, false, cond, List, [], ◌∷◌, length, refl, ap, sym, ◌∙◌, subst, arith}
+use Rattle.std.proofs.Common.{◌≡◌, ◌<◌, ℕ, suc, true, false, cond, List, [], ◌∷◌, length, refl, ap, sym, ◌∙◌, subst}
+use Rattle.std.proofs.Common.{arith}
 use Rattle.acs_tree.specs.declared.routine.Compare.{Compare}
 use Rattle.acs_tree.specs.declared.routine.Ref.{Ref}
 use Rattle.acs_tree.specs.declared.routine.Operand.{Operand}
@@ -13,11 +14,15 @@ use Rattle.acs_parse.specs.declared.want.Want.TheVariants as want
 use Rattle.acs_parse.specs.declared.fault.Fault.{Fault}
 use Rattle.acs_parse.specs.declared.fault.Fault.TheVariants.{Deep}
 use Rattle.acs_parse.specs.Wants.{fits}
-use Rattle.acs_parse.specs.Grammar.{starts, place_in, back, limited, IsOperator, IsIndex, IsRef, ref, IsOperand, IsCond, cond_of, IsOrs, no_or, or_more, IsConj, conj_of, IsAnds, no_and, and_more, IsPrim, test, group}
-use Rattle.acs_parse.specs.Inner.Table.{Effect, Keep, Lower, To, Part, One, ACondition, MoreOrs, AConjunct, MoreAnds, ATest, AnOperand, ARef, Read, Full, Pass, gate, rule, TooMany, Verdict, verdict}
+use Rattle.acs_parse.specs.Grammar.{starts, place_in, back, limited, IsOperator, IsIndex, IsRef, ref, IsOperand, IsCond}
+use Rattle.acs_parse.specs.Grammar.{cond_of, IsOrs, no_or, or_more, IsConj, conj_of, IsAnds, no_and, and_more, IsPrim}
+use Rattle.acs_parse.specs.Grammar.{test, group}
+use Rattle.acs_parse.specs.Inner.Table.{Effect, Keep, Lower, To, Part, One, ACondition, MoreOrs, AConjunct, MoreAnds}
+use Rattle.acs_parse.specs.Inner.Table.{ATest, AnOperand, ARef, Read, Full, Pass, gate, rule, TooMany, Verdict, verdict}
 use Rattle.acs_parse.specs.Inner.Language.{Takes}
 use Rattle.acs_parse.specs.Inner.Reads.{Fails, FailsAt, IsCondBefore}
-use Rattle.acs_parse.proofs.RunLemmas.{moved, opened, runs_one, runs_ref, runs_cond, runs_conj, runs_prim, conj_as_test, cond_as_conj, fits_operator}
+use Rattle.acs_parse.proofs.RunLemmas.{moved, opened, runs_one, runs_ref, runs_cond, runs_conj, runs_prim, conj_as_test}
+use Rattle.acs_parse.proofs.RunLemmas.{cond_as_conj, fits_operator}
 use Rattle.acs_parse.proofs.SoundLemmas.{is_variable}
 use Rattle.acs_parse.proofs.ShorterLemmas.{conj_shorter, prim_shorter, cond_shorter, takes_shorter}
 use Rattle.acs_parse.proofs.OperandLemmas.{along, takes_close}

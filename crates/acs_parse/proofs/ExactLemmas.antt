@@ -1,15 +1,20 @@
 -- The answers exclude one another, and one of them is right.
-use Rattle.std.proofs.Common.{◌≡◌, ◌⊎◌, inl, inr, ℕ, zero, suc, ◌+◌, ◌-◌, ◌<◌, ◌≤◌, Bool, true, false, cond, ◌&&◌, List, [], ◌∷◌, ◌++◌, length, take, drop, refl, ap, sym, ◌∙◌, subst, arith, append_assoc}
+use Rattle.std.proofs.Common.{◌≡◌, ◌⊎◌, inl, inr, ℕ, zero, suc, ◌+◌, ◌-◌, ◌<◌, ◌≤◌, Bool, true, false, cond, ◌&&◌, List}
+use Rattle.std.proofs.Common.{[], ◌∷◌, ◌++◌, length, take, drop, refl, ap, sym, ◌∙◌, subst, arith, append_assoc}
 use Rattle.acs_tree.specs.declared.routine.Routine.{Routine}
 use Rattle.acs_symbol.specs.declared.symbol.Symbol.{Symbol}
-use Rattle.acs_parse.specs.Grammar.{limited, unlimited, back, IsRoutine, no_number, no_exclude, no_alternative, no_when, no_or, no_and, no_further, no_index, no_code}
+use Rattle.acs_parse.specs.Grammar.{limited, unlimited, back, IsRoutine, no_number, no_exclude, no_alternative, no_when}
+use Rattle.acs_parse.specs.Grammar.{no_or, no_and, no_further, no_index, no_code}
 use Rattle.acs_parse.specs.Places.{Begins, IsFirstWrong, IsTooDeep, EndsEarly}
-use Rattle.acs_parse.specs.Inner.Table.{Part, OrNumber, OrExclude, OrAlternative, MoreWhens, MoreOrs, MoreAnds, MoreOperands, OrIndex, OrCode, Back, start, Step, Go, No, Many, step, may_be_empty, all_empty, Verdict, Complete, Short, Stop, TooMany, next, verdict}
+use Rattle.acs_parse.specs.Inner.Table.{Part, OrNumber, OrExclude, OrAlternative, MoreWhens, MoreOrs, MoreAnds}
+use Rattle.acs_parse.specs.Inner.Table.{MoreOperands, OrIndex, OrCode, Back, start, Step, Go, No, Many, step}
+use Rattle.acs_parse.specs.Inner.Table.{may_be_empty, all_empty, Verdict, Complete, Short, Stop, TooMany, next, verdict}
 use Rattle.acs_parse.proofs.VerdictLemmas.{is_over}
 use Rattle.acs_parse.specs.Inner.Language.{Lang, Seq}
 use Rattle.acs_parse.proofs.SoundLemmas.{steps}
 use Rattle.acs_parse.proofs.WideLemmas.{WideStep, wide}
-use Rattle.acs_parse.proofs.FrontLemmas.{begins, begins_not, from_start, first_wrong, too_deep, ends_early, stop_within, deep_within}
+use Rattle.acs_parse.proofs.FrontLemmas.{begins, begins_not, from_start, first_wrong, too_deep, ends_early, stop_within}
+use Rattle.acs_parse.proofs.FrontLemmas.{deep_within}
 
 both_parts : (n : ℕ) (xs : List Symbol) → take n xs ++ drop n xs ≡ xs
 both_parts zero xs = refl

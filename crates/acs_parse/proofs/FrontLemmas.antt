@@ -1,5 +1,6 @@
 -- Which tokens begin a routine, and which place the table's answer tells.
-use Rattle.std.proofs.Common.{◌≡◌, ℕ, suc, ◌+◌, ◌<◌, ◌≤◌, Bool, true, false, cond, List, [], ◌∷◌, ◌++◌, length, take, refl, ap, sym, ◌∙◌, subst, arith, append_assoc}
+use Rattle.std.proofs.Common.{◌≡◌, ℕ, suc, ◌+◌, ◌<◌, ◌≤◌, Bool, true, false, cond, List, [], ◌∷◌, ◌++◌, length, take}
+use Rattle.std.proofs.Common.{refl, ap, sym, ◌∙◌, subst, arith, append_assoc}
 use Rattle.std.specs.Prelude.{None}
 use Rattle.acs_tree.specs.declared.routine.Compare.TheVariants.{Eq}
 use Rattle.acs_tree.specs.declared.routine.Cond.{Cond}
@@ -11,12 +12,22 @@ use Rattle.acs_parse.specs.declared.list_kind.ListKind.{ListKind}
 use Rattle.acs_parse.specs.declared.list_kind.ListKind.TheVariants as list
 use Rattle.acs_symbol.specs.declared.symbol.WordKind.TheVariants as word
 use Rattle.acs_symbol.specs.declared.symbol.Symbol.{Symbol}
-use Rattle.acs_symbol.specs.declared.symbol.Symbol.TheVariants.{Word, Variable, Literal, AndSign, OrSign, Open, Close, Comma, Operator}
+use Rattle.acs_symbol.specs.declared.symbol.Symbol.TheVariants.{Word, Variable, Literal, AndSign, OrSign, Open, Close}
+use Rattle.acs_symbol.specs.declared.symbol.Symbol.TheVariants.{Comma, Operator}
 use Rattle.acs_parse.specs.declared.want.Want.{Want}
 use Rattle.acs_parse.specs.declared.want.Want.TheVariants as want
 use Rattle.acs_parse.specs.Wants.{fits}
-use Rattle.acs_parse.specs.Grammar.{starts, takes_words, takes_variables, joins, goes_on, back, limited, unlimited, by_sign, no_index, ref, literal, no_further, operands, no_exclude, IsLists, excluding, no_code, IsCond, cond_of, no_or, IsConj, conj_of, no_and, IsPrim, test, IsStmt, exit, no_alternative, by_condition, IsWhen, when_any, when_holds, no_when, IsBlock, end_of, item_statement, no_number, IsRoutineOf, routine, IsOrNumber}
-use Rattle.acs_parse.specs.Inner.Table.{effect, Part, One, OrNumber, ABlock, AnItem, AStatement, Lists, OrExclude, OrAlternative, AChoice, AWhen, MoreWhens, ACondition, MoreOrs, AConjunct, MoreAnds, ATest, AnOperand, MoreOperands, ARef, OrIndex, OrCode, Back, Move, Read, Full, Pass, Refuse, followed, entries, when_parts, opens, item_opens, test_opens, operand_opens, list_opens, choice_opens, rule, start, Step, Go, No, Many, after, step, all_empty, Complete, Short, Stop, TooMany, next, verdict}
+use Rattle.acs_parse.specs.Grammar.{starts, takes_words, takes_variables, joins, goes_on, back, limited, unlimited}
+use Rattle.acs_parse.specs.Grammar.{by_sign, no_index, ref, literal, no_further, operands, no_exclude, IsLists}
+use Rattle.acs_parse.specs.Grammar.{excluding, no_code, IsCond, cond_of, no_or, IsConj, conj_of, no_and, IsPrim, test}
+use Rattle.acs_parse.specs.Grammar.{IsStmt, exit, no_alternative, by_condition, IsWhen, when_any, when_holds, no_when}
+use Rattle.acs_parse.specs.Grammar.{IsBlock, end_of, item_statement, no_number, IsRoutineOf, routine, IsOrNumber}
+use Rattle.acs_parse.specs.Inner.Table.{effect, Part, One, OrNumber, ABlock, AnItem, AStatement, Lists, OrExclude}
+use Rattle.acs_parse.specs.Inner.Table.{OrAlternative, AChoice, AWhen, MoreWhens, ACondition, MoreOrs, AConjunct}
+use Rattle.acs_parse.specs.Inner.Table.{MoreAnds, ATest, AnOperand, MoreOperands, ARef, OrIndex, OrCode, Back, Move}
+use Rattle.acs_parse.specs.Inner.Table.{Read, Full, Pass, Refuse, followed, entries, when_parts, opens, item_opens}
+use Rattle.acs_parse.specs.Inner.Table.{test_opens, operand_opens, list_opens, choice_opens, rule, start, Step, Go, No}
+use Rattle.acs_parse.specs.Inner.Table.{Many, after, step, all_empty, Complete, Short, Stop, TooMany, next, verdict}
 use Rattle.acs_parse.proofs.VerdictLemmas.{is_over}
 use Rattle.acs_parse.specs.Inner.Language.{Lang, Seq}
 use Rattle.acs_parse.specs.Places.{Begins, IsFirstWrong, IsTooDeep, EndsEarly}

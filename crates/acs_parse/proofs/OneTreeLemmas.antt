@@ -20,7 +20,17 @@ use Rattle.acs_symbol.specs.declared.symbol.Symbol.TheVariants.{Word, Variable, 
 use Rattle.acs_parse.specs.declared.want.Want.{Want}
 use Rattle.acs_parse.specs.declared.want.Want.TheVariants as want
 use Rattle.acs_parse.specs.Wants.{fits}
-use Rattle.acs_parse.specs.Grammar.{operand_at, when_at, joins, back, IsOperator, by_sign, by_word, IsListName, named_by_word, named_by_variable, IsHead, headed_by_word, headed_by_variable, IsIndex, no_index, index, IsRef, ref, IsOperand, literal, word_of, variable, IsFurther, no_further, after_comma, joined, IsOperands, operands, IsExclude, no_exclude, exclude, IsLists, including, excluding, IsFilter, filter, IsCode, no_code, code, IsCond, cond_of, IsOrs, no_or, or_more, IsConj, conj_of, IsAnds, no_and, and_more, IsPrim, test, group, IsStmt, set, choice, pick, group_of, write, exit, IsAlternative, no_alternative, alternative, IsChoice, by_value, by_condition, IsWhen, when_any, when_holds, IsWhens, no_when, more_whens, IsBlock, end_of, then_more, IsItem, item_filter, item_statement, IsOrNumber, no_number, number, IsRoutineOf, routine, IsRoutine}
+use Rattle.acs_parse.specs.Grammar.{operand_at, when_at, joins, back, IsOperator, by_sign, by_word, IsListName}
+use Rattle.acs_parse.specs.Grammar.{named_by_word, named_by_variable, IsHead, headed_by_word, headed_by_variable}
+use Rattle.acs_parse.specs.Grammar.{IsIndex, no_index, index, IsRef, ref, IsOperand, literal, word_of, variable}
+use Rattle.acs_parse.specs.Grammar.{IsFurther, no_further, after_comma, joined, IsOperands, operands, IsExclude}
+use Rattle.acs_parse.specs.Grammar.{no_exclude, exclude, IsLists, including, excluding, IsFilter, filter, IsCode}
+use Rattle.acs_parse.specs.Grammar.{no_code, code, IsCond, cond_of, IsOrs, no_or, or_more, IsConj, conj_of, IsAnds}
+use Rattle.acs_parse.specs.Grammar.{no_and, and_more, IsPrim, test, group, IsStmt, set, choice, pick, group_of, write}
+use Rattle.acs_parse.specs.Grammar.{exit, IsAlternative, no_alternative, alternative, IsChoice, by_value, by_condition}
+use Rattle.acs_parse.specs.Grammar.{IsWhen, when_any, when_holds, IsWhens, no_when, more_whens, IsBlock, end_of}
+use Rattle.acs_parse.specs.Grammar.{then_more, IsItem, item_filter, item_statement, IsOrNumber, no_number, number}
+use Rattle.acs_parse.specs.Grammar.{IsRoutineOf, routine, IsRoutine}
 use Rattle.acs_parse.proofs.RunLemmas.{item_not_end, not_filter, not_comma}
 
 clash : {b : Bool} → b ≡ true → b ≡ false → ⊥

@@ -1,5 +1,6 @@
 -- What the readers of operands and lists give, and where they fail.
-use Rattle.std.proofs.Common.{◌≡◌, ◌≤◌, inl, inr, ℕ, true, false, cond, List, [], ◌∷◌, ◌++◌, length, refl, ap, sym, ◌∙◌, subst, arith, append_assoc}
+use Rattle.std.proofs.Common.{◌≡◌, ◌≤◌, inl, inr, ℕ, true, false, cond, List, [], ◌∷◌, ◌++◌, length, refl, ap, sym, ◌∙◌}
+use Rattle.std.proofs.Common.{subst, arith, append_assoc}
 use Rattle.std.specs.Prelude.{Option, Some, None}
 use Rattle.acs_tree.specs.declared.routine.Ref.{Ref}
 use Rattle.acs_tree.specs.declared.routine.OperandForm.TheVariants as operand
@@ -16,8 +17,14 @@ use Rattle.acs_parse.specs.declared.want.Want.{Want}
 use Rattle.acs_parse.specs.declared.want.Want.TheVariants as want
 use Rattle.acs_parse.specs.declared.fault.Fault.{Fault}
 use Rattle.acs_parse.specs.Wants.{fits}
-use Rattle.acs_parse.specs.Grammar.{starts, place_in, placed, operand_at, takes_words, takes_variables, goes_on, limited, IsListName, IsIndex, no_index, index, IsRef, ref, IsOperand, literal, word_of, variable, IsFurther, no_further, after_comma, joined, IsOperands, operands, IsExclude, no_exclude, exclude, IsLists, including, excluding, IsFilter, filter, IsCode, no_code, code}
-use Rattle.acs_parse.specs.Inner.Table.{Effect, Keep, effect, Part, One, AnItem, Lists, OrExclude, AnOperand, MoreOperands, ARef, OrIndex, OrCode, Read, Refuse, Pass, entries, Verdict, verdict}
+use Rattle.acs_parse.specs.Grammar.{starts, place_in, placed, operand_at, takes_words, takes_variables, goes_on}
+use Rattle.acs_parse.specs.Grammar.{limited, IsListName, IsIndex, no_index, index, IsRef, ref, IsOperand, literal}
+use Rattle.acs_parse.specs.Grammar.{word_of, variable, IsFurther, no_further, after_comma, joined, IsOperands, operands}
+use Rattle.acs_parse.specs.Grammar.{IsExclude, no_exclude, exclude, IsLists, including, excluding, IsFilter, filter}
+use Rattle.acs_parse.specs.Grammar.{IsCode, no_code, code}
+use Rattle.acs_parse.specs.Inner.Table.{Effect, Keep, effect, Part, One, AnItem, Lists, OrExclude, AnOperand}
+use Rattle.acs_parse.specs.Inner.Table.{MoreOperands, ARef, OrIndex, OrCode, Read, Refuse, Pass, entries, Verdict}
+use Rattle.acs_parse.specs.Inner.Table.{verdict}
 use Rattle.acs_parse.specs.Inner.Language.{Takes}
 use Rattle.acs_parse.specs.Inner.Reads.{Fails, FailsAt, GoesOn, IsEntries}
 use Rattle.acs_parse.proofs.RunLemmas.{moved, taken, runs_one, runs_operand, runs_operands, fits_name, joins_as_operand}

@@ -1,5 +1,6 @@
 -- What the readers of the whole give, and which answers are right.
-use Rattle.std.proofs.Common.{◌≡◌, ◌⊎◌, inl, inr, ◌≤◌, ◌+◌, ◌-◌, ℕ, zero, suc, Bool, true, false, List, [], ◌∷◌, length, refl, ap, sym, ◌∙◌, subst, arith}
+use Rattle.std.proofs.Common.{◌≡◌, ◌⊎◌, inl, inr, ◌≤◌, ◌+◌, ◌-◌, ℕ, zero, suc, Bool, true, false, List, [], ◌∷◌, length}
+use Rattle.std.proofs.Common.{refl, ap, sym, ◌∙◌, subst, arith}
 use Rattle.std.specs.Prelude.{Option, Some, None, Result, Ok, Err, All, slice_get}
 use Rattle.acs_lex.specs.declared.token.Token.{Token}
 use Rattle.acs_lex.specs.Tokens.{IsCut, InOrder, IsTokenOf}
@@ -16,7 +17,8 @@ use Rattle.acs_parse.specs.declared.fault.ParseErr.TheVariants as answer
 use Rattle.acs_parse.specs.declared.fault.Fault.{Fault}
 use Rattle.acs_parse.specs.declared.fault.Fault.TheVariants.{Unexpected, Ended, Deep, NoMemory}
 use Rattle.acs_parse.specs.Wants.{fits}
-use Rattle.acs_parse.specs.Grammar.{place_in, limited, IsHead, IsBlock, IsOrNumber, no_number, number, IsRoutineOf, routine, IsRoutine}
+use Rattle.acs_parse.specs.Grammar.{place_in, limited, IsHead, IsBlock, IsOrNumber, no_number, number, IsRoutineOf}
+use Rattle.acs_parse.specs.Grammar.{routine, IsRoutine}
 use Rattle.desk_common.specs.Exact.{MayRefuse, IsExact}
 use Rattle.desk_common.proofs.ExactLemmas.{exact_thing, exact_fault as exact_refusal, exact_want, refuses_want}
 use Rattle.acs_parse.specs.ParseFault.{IsParseFault, unexpected, ended, deep}
@@ -26,7 +28,8 @@ use Rattle.acs_parse.specs.Inner.Reads.{Fails, FailsAt, Skips, told}
 use Rattle.acs_parse.proofs.RunLemmas.{runs_one, runs_number, runs_block, fits_head}
 use Rattle.acs_parse.proofs.FrontLemmas.{first_wrong, too_deep, ends_early, stop_within, deep_within}
 use Rattle.acs_parse.proofs.OneTreeLemmas.{one_tree}
-use Rattle.acs_parse.proofs.ExactLemmas.{no_wrong, no_deep, whole, apart, one_wrong, one_deep, HasAnswer, tree, wrong, deep as too_many, early, some_answer}
+use Rattle.acs_parse.proofs.ExactLemmas.{no_wrong, no_deep, whole, apart, one_wrong, one_deep, HasAnswer, tree, wrong}
+use Rattle.acs_parse.proofs.ExactLemmas.{deep as too_many, early, some_answer}
 use Rattle.acs_parse.proofs.OperandLemmas.{along, goes_one}
 
 is_proc : (t : Symbol) → fits want.Proc t ≡ true → (text : List ℕ) × (t ≡ Word word.Proc text)

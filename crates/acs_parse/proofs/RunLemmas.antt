@@ -1,5 +1,6 @@
 -- What a rule of the grammar reads, the table reads too, and then goes on with what is behind it.
-use Rattle.std.proofs.Common.{◌≡◌, ◌&&◌, ℕ, suc, Bool, true, false, cond, List, [], ◌∷◌, ◌++◌, length, refl, sym, ap, ◌∙◌, append_assoc}
+use Rattle.std.proofs.Common.{◌≡◌, ◌&&◌, ℕ, suc, Bool, true, false, cond, List, [], ◌∷◌, ◌++◌, length, refl, sym, ap}
+use Rattle.std.proofs.Common.{◌∙◌, append_assoc}
 use Rattle.std.specs.Prelude.{◌||◌, Option}
 use Rattle.acs_tree.specs.declared.routine.Compare.{Compare}
 use Rattle.acs_tree.specs.declared.routine.Ref.{Ref}
@@ -16,8 +17,23 @@ use Rattle.acs_symbol.specs.declared.symbol.Symbol.TheVariants.{Word, Variable, 
 use Rattle.acs_parse.specs.declared.want.Want.{Want}
 use Rattle.acs_parse.specs.declared.want.Want.TheVariants as want
 use Rattle.acs_parse.specs.Wants.{fits}
-use Rattle.acs_parse.specs.Grammar.{starts, takes_words, takes_variables, joins, goes_on, back, IsOperator, by_sign, by_word, IsListName, named_by_word, named_by_variable, IsHead, headed_by_word, headed_by_variable, IsIndex, no_index, index, IsRef, ref, IsOperand, literal, word_of, variable, IsFurther, no_further, after_comma, joined, IsOperands, operands, IsExclude, no_exclude, exclude, IsLists, including, excluding, IsFilter, filter, IsCode, no_code, code, IsCond, cond_of, IsOrs, no_or, or_more, IsConj, conj_of, IsAnds, no_and, and_more, IsPrim, test, group, IsStmt, set, choice, pick, group_of, write, exit, IsAlternative, no_alternative, alternative, IsChoice, by_value, by_condition, IsWhen, when_any, when_holds, IsWhens, no_when, more_whens, IsBlock, end_of, then_more, IsItem, item_filter, item_statement, IsOrNumber, no_number, number, IsRoutineOf, routine}
-use Rattle.acs_parse.specs.Inner.Table.{Effect, Keep, Lower, To, effect, Part, One, OrNumber, ABlock, AnItem, AStatement, Lists, OrExclude, OrAlternative, AChoice, AWhen, MoreWhens, ACondition, MoreOrs, AConjunct, MoreAnds, ATest, AnOperand, MoreOperands, ARef, OrIndex, OrCode, Back, Move, Read, Full, Pass, Refuse, followed, gate, entries, when_parts, opens, item_opens, test_opens, operand_opens, rule, start, Step, Go, after, step, may_be_empty, all_empty, Complete, Short, next, verdict}
+use Rattle.acs_parse.specs.Grammar.{starts, takes_words, takes_variables, joins, goes_on, back, IsOperator, by_sign}
+use Rattle.acs_parse.specs.Grammar.{by_word, IsListName, named_by_word, named_by_variable, IsHead, headed_by_word}
+use Rattle.acs_parse.specs.Grammar.{headed_by_variable, IsIndex, no_index, index, IsRef, ref, IsOperand, literal}
+use Rattle.acs_parse.specs.Grammar.{word_of, variable, IsFurther, no_further, after_comma, joined, IsOperands, operands}
+use Rattle.acs_parse.specs.Grammar.{IsExclude, no_exclude, exclude, IsLists, including, excluding, IsFilter, filter}
+use Rattle.acs_parse.specs.Grammar.{IsCode, no_code, code, IsCond, cond_of, IsOrs, no_or, or_more, IsConj, conj_of}
+use Rattle.acs_parse.specs.Grammar.{IsAnds, no_and, and_more, IsPrim, test, group, IsStmt, set, choice, pick, group_of}
+use Rattle.acs_parse.specs.Grammar.{write, exit, IsAlternative, no_alternative, alternative, IsChoice, by_value}
+use Rattle.acs_parse.specs.Grammar.{by_condition, IsWhen, when_any, when_holds, IsWhens, no_when, more_whens, IsBlock}
+use Rattle.acs_parse.specs.Grammar.{end_of, then_more, IsItem, item_filter, item_statement, IsOrNumber, no_number}
+use Rattle.acs_parse.specs.Grammar.{number, IsRoutineOf, routine}
+use Rattle.acs_parse.specs.Inner.Table.{Effect, Keep, Lower, To, effect, Part, One, OrNumber, ABlock, AnItem}
+use Rattle.acs_parse.specs.Inner.Table.{AStatement, Lists, OrExclude, OrAlternative, AChoice, AWhen, MoreWhens}
+use Rattle.acs_parse.specs.Inner.Table.{ACondition, MoreOrs, AConjunct, MoreAnds, ATest, AnOperand, MoreOperands, ARef}
+use Rattle.acs_parse.specs.Inner.Table.{OrIndex, OrCode, Back, Move, Read, Full, Pass, Refuse, followed, gate, entries}
+use Rattle.acs_parse.specs.Inner.Table.{when_parts, opens, item_opens, test_opens, operand_opens, rule, start, Step, Go}
+use Rattle.acs_parse.specs.Inner.Table.{after, step, may_be_empty, all_empty, Complete, Short, next, verdict}
 
 pub fits_operator : {t : Symbol} {op : Compare} → IsOperator t op → fits want.Operator t ≡ true
 fits_operator by_sign = refl

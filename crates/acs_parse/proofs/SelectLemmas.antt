@@ -1,5 +1,6 @@
 -- What the readers of SELECT and its WHENs give, and where they fail.
-use Rattle.std.proofs.Common.{◌≡◌, ◌<◌, ℕ, suc, Bool, true, false, cond, List, [], ◌∷◌, ◌++◌, length, refl, ap, sym, ◌∙◌, subst, arith, append_assoc}
+use Rattle.std.proofs.Common.{◌≡◌, ◌<◌, ℕ, suc, Bool, true, false, cond, List, [], ◌∷◌, ◌++◌, length, refl, ap, sym}
+use Rattle.std.proofs.Common.{◌∙◌, subst, arith, append_assoc}
 use Rattle.std.specs.Prelude.{Option, Some, None}
 use Rattle.acs_tree.specs.declared.routine.Ref.{Ref}
 use Rattle.acs_tree.specs.declared.routine.Operand.{Operand}
@@ -16,11 +17,17 @@ use Rattle.acs_symbol.specs.declared.symbol.Symbol.TheVariants.{Word, Open}
 use Rattle.acs_parse.specs.declared.want.Want.TheVariants as want
 use Rattle.acs_parse.specs.declared.fault.Fault.{Fault}
 use Rattle.acs_parse.specs.Wants.{fits}
-use Rattle.acs_parse.specs.Grammar.{starts, place_in, when_at, limited, IsRef, IsOperands, IsCond, IsStmt, pick, IsAlternative, IsChoice, by_value, by_condition, IsWhen, when_any, when_holds, IsWhens, no_when, more_whens}
-use Rattle.acs_parse.specs.Inner.Table.{Effect, Keep, Lower, To, Part, One, AStatement, OrAlternative, AChoice, AWhen, MoreWhens, ACondition, AnOperand, MoreOperands, ARef, Read, Refuse, when_parts, Step, after, next, step, Verdict, verdict}
+use Rattle.acs_parse.specs.Grammar.{starts, place_in, when_at, limited, IsRef, IsOperands, IsCond, IsStmt, pick}
+use Rattle.acs_parse.specs.Grammar.{IsAlternative, IsChoice, by_value, by_condition, IsWhen, when_any, when_holds}
+use Rattle.acs_parse.specs.Grammar.{IsWhens, no_when, more_whens}
+use Rattle.acs_parse.specs.Inner.Table.{Effect, Keep, Lower, To, Part, One, AStatement, OrAlternative, AChoice, AWhen}
+use Rattle.acs_parse.specs.Inner.Table.{MoreWhens, ACondition, AnOperand, MoreOperands, ARef, Read, Refuse, when_parts}
+use Rattle.acs_parse.specs.Inner.Table.{Step, after, next, step, Verdict, verdict}
 use Rattle.acs_parse.specs.Inner.Language.{Takes}
-use Rattle.acs_parse.specs.Inner.Reads.{FailsAt, IsInside, AreWhens, IsCondBefore, IsOneMore, IsTest, any_of, holding, test_parts}
-use Rattle.acs_parse.proofs.RunLemmas.{runs_ref, runs_operands, runs_cond, runs_alternative, runs_choice, runs_when, whens_as_when}
+use Rattle.acs_parse.specs.Inner.Reads.{FailsAt, IsInside, AreWhens, IsCondBefore, IsOneMore, IsTest, any_of, holding}
+use Rattle.acs_parse.specs.Inner.Reads.{test_parts}
+use Rattle.acs_parse.proofs.RunLemmas.{runs_ref, runs_operands, runs_cond, runs_alternative, runs_choice, runs_when}
+use Rattle.acs_parse.proofs.RunLemmas.{whens_as_when}
 use Rattle.acs_parse.proofs.SoundLemmas.{is_when}
 use Rattle.acs_parse.proofs.ShorterLemmas.{when_shorter, operands_shorter, cond_shorter}
 use Rattle.acs_parse.proofs.OperandLemmas.{Goes, along, goes_one, takes_open, takes_close, empty_right}

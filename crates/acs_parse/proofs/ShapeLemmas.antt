@@ -8,7 +8,8 @@ use Rattle.acs_symbol.specs.declared.symbol.Symbol.TheVariants.{Word, Variable, 
 use Rattle.acs_parse.specs.declared.want.Want.{Want}
 use Rattle.acs_parse.specs.declared.want.Want.TheVariants as want
 use Rattle.acs_parse.specs.Wants.{fits}
-use Rattle.acs_parse.specs.Grammar.{starts, limited, IsOperator, by_sign, by_word, IsListName, named_by_word, named_by_variable, IsHead, headed_by_word, headed_by_variable}
+use Rattle.acs_parse.specs.Grammar.{starts, limited, IsOperator, by_sign, by_word, IsListName, named_by_word}
+use Rattle.acs_parse.specs.Grammar.{named_by_variable, IsHead, headed_by_word, headed_by_variable}
 use Rattle.acs_parse.specs.Inner.Table.{Effect, Part, One, Stop, next, after, Refuse, Read, effect, step, verdict}
 
 pub named_word : {kind : WordKind} {text : List ℕ} {ts rest : List Symbol} → ts ≡ Word kind text ∷ rest → (t : Symbol) × IsListName t text × (ts ≡ t ∷ rest)

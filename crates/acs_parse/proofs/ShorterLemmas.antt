@@ -10,7 +10,14 @@ use Rattle.acs_parse.specs.declared.list_kind.ListKind.{ListKind}
 use Rattle.acs_symbol.specs.declared.symbol.Symbol.{Symbol}
 use Rattle.acs_parse.specs.declared.want.Want.{Want}
 use Rattle.acs_parse.specs.Inner.Language.{Takes}
-use Rattle.acs_parse.specs.Grammar.{IsIndex, no_index, index, IsRef, ref, IsOperand, literal, word_of, variable, IsFurther, no_further, after_comma, joined, IsOperands, operands, IsExclude, no_exclude, exclude, IsLists, including, excluding, IsFilter, filter, IsCode, no_code, code, IsCond, cond_of, IsOrs, no_or, or_more, IsConj, conj_of, IsAnds, no_and, and_more, IsPrim, test, group, IsStmt, set, choice, pick, group_of, write, exit, IsAlternative, no_alternative, alternative, IsChoice, by_value, by_condition, IsWhen, when_any, when_holds, IsWhens, no_when, more_whens, IsBlock, end_of, then_more, IsItem, item_filter, item_statement}
+use Rattle.acs_parse.specs.Grammar.{IsIndex, no_index, index, IsRef, ref, IsOperand, literal, word_of, variable}
+use Rattle.acs_parse.specs.Grammar.{IsFurther, no_further, after_comma, joined, IsOperands, operands, IsExclude}
+use Rattle.acs_parse.specs.Grammar.{no_exclude, exclude, IsLists, including, excluding, IsFilter, filter, IsCode}
+use Rattle.acs_parse.specs.Grammar.{no_code, code, IsCond, cond_of, IsOrs, no_or, or_more, IsConj, conj_of, IsAnds}
+use Rattle.acs_parse.specs.Grammar.{no_and, and_more, IsPrim, test, group, IsStmt, set, choice, pick, group_of, write}
+use Rattle.acs_parse.specs.Grammar.{exit, IsAlternative, no_alternative, alternative, IsChoice, by_value, by_condition}
+use Rattle.acs_parse.specs.Grammar.{IsWhen, when_any, when_holds, IsWhens, no_when, more_whens, IsBlock, end_of}
+use Rattle.acs_parse.specs.Grammar.{then_more, IsItem, item_filter, item_statement}
 
 pub takes_shorter : (w : Want) {ts rest : List Symbol} → Takes w ts rest → length rest < length ts
 takes_shorter w q = omega (arith, ap length q.2)

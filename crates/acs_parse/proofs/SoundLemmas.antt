@@ -17,8 +17,22 @@ use Rattle.acs_symbol.specs.declared.symbol.Symbol.TheVariants.{Word, Variable, 
 use Rattle.acs_parse.specs.declared.want.Want.{Want}
 use Rattle.acs_parse.specs.declared.want.Want.TheVariants as want
 use Rattle.acs_parse.specs.Wants.{fits}
-use Rattle.acs_parse.specs.Grammar.{takes_words, takes_variables, joins, back, IsOperator, by_sign, by_word, IsListName, named_by_word, named_by_variable, IsHead, headed_by_word, headed_by_variable, IsIndex, no_index, index, IsRef, ref, IsOperand, literal, word_of, variable, IsFurther, no_further, after_comma, joined, IsOperands, operands, IsExclude, no_exclude, exclude, IsLists, including, excluding, filter, IsCode, no_code, code, IsCond, cond_of, IsOrs, no_or, or_more, IsConj, conj_of, IsAnds, no_and, and_more, IsPrim, test, group, IsStmt, set, choice, pick, group_of, write, exit, IsAlternative, no_alternative, alternative, IsChoice, by_value, by_condition, IsWhen, when_any, when_holds, IsWhens, no_when, more_whens, IsBlock, end_of, then_more, IsItem, item_filter, item_statement, IsOrNumber, no_number, number}
-use Rattle.acs_parse.specs.Inner.Table.{Effect, Keep, Lower, To, Part, One, OrNumber, ABlock, AnItem, AStatement, Lists, OrExclude, OrAlternative, AChoice, AWhen, MoreWhens, ACondition, MoreOrs, AConjunct, MoreAnds, ATest, AnOperand, MoreOperands, ARef, OrIndex, OrCode, Back, Move, Read, Full, Pass, Refuse, followed, entries, when_parts, opens, item_opens, test_opens, operand_opens, list_opens, choice_opens, rule, Step, Go, after, step}
+use Rattle.acs_parse.specs.Grammar.{takes_words, takes_variables, joins, back, IsOperator, by_sign, by_word, IsListName}
+use Rattle.acs_parse.specs.Grammar.{named_by_word, named_by_variable, IsHead, headed_by_word, headed_by_variable}
+use Rattle.acs_parse.specs.Grammar.{IsIndex, no_index, index, IsRef, ref, IsOperand, literal, word_of, variable}
+use Rattle.acs_parse.specs.Grammar.{IsFurther, no_further, after_comma, joined, IsOperands, operands, IsExclude}
+use Rattle.acs_parse.specs.Grammar.{no_exclude, exclude, IsLists, including, excluding, filter, IsCode, no_code, code}
+use Rattle.acs_parse.specs.Grammar.{IsCond, cond_of, IsOrs, no_or, or_more, IsConj, conj_of, IsAnds, no_and, and_more}
+use Rattle.acs_parse.specs.Grammar.{IsPrim, test, group, IsStmt, set, choice, pick, group_of, write, exit}
+use Rattle.acs_parse.specs.Grammar.{IsAlternative, no_alternative, alternative, IsChoice, by_value, by_condition}
+use Rattle.acs_parse.specs.Grammar.{IsWhen, when_any, when_holds, IsWhens, no_when, more_whens, IsBlock, end_of}
+use Rattle.acs_parse.specs.Grammar.{then_more, IsItem, item_filter, item_statement, IsOrNumber, no_number, number}
+use Rattle.acs_parse.specs.Inner.Table.{Effect, Keep, Lower, To, Part, One, OrNumber, ABlock, AnItem, AStatement, Lists}
+use Rattle.acs_parse.specs.Inner.Table.{OrExclude, OrAlternative, AChoice, AWhen, MoreWhens, ACondition, MoreOrs}
+use Rattle.acs_parse.specs.Inner.Table.{AConjunct, MoreAnds, ATest, AnOperand, MoreOperands, ARef, OrIndex, OrCode}
+use Rattle.acs_parse.specs.Inner.Table.{Back, Move, Read, Full, Pass, Refuse, followed, entries, when_parts, opens}
+use Rattle.acs_parse.specs.Inner.Table.{item_opens, test_opens, operand_opens, list_opens, choice_opens, rule, Step, Go}
+use Rattle.acs_parse.specs.Inner.Table.{after, step}
 use Rattle.acs_parse.specs.Inner.Language.{Takes, Seq, Holds}
 
 -- what a wanted token is

@@ -1,5 +1,6 @@
 -- What the readers of statements and blocks give, and where they fail.
-use Rattle.std.proofs.Common.{◌≡◌, ◌≤◌, ℕ, suc, Bool, true, false, cond, List, [], ◌∷◌, ◌++◌, length, refl, ap, sym, ◌∙◌, subst, arith, append_assoc}
+use Rattle.std.proofs.Common.{◌≡◌, ◌≤◌, ℕ, suc, Bool, true, false, cond, List, [], ◌∷◌, ◌++◌, length, refl, ap, sym}
+use Rattle.std.proofs.Common.{◌∙◌, subst, arith, append_assoc}
 use Rattle.std.specs.Prelude.{Option, Some, None}
 use Rattle.acs_tree.specs.declared.routine.Ref.{Ref}
 use Rattle.acs_tree.specs.declared.routine.Operand.{Operand}
@@ -16,11 +17,16 @@ use Rattle.acs_parse.specs.declared.want.Want.{Want}
 use Rattle.acs_parse.specs.declared.want.Want.TheVariants as want
 use Rattle.acs_parse.specs.declared.fault.Fault.{Fault}
 use Rattle.acs_parse.specs.declared.fault.Fault.TheVariants.{Deep}
-use Rattle.acs_parse.specs.Grammar.{starts, place_in, placed, limited, IsRef, IsOperands, IsFilter, IsCode, IsCond, IsStmt, set, choice, group_of, write, exit, IsAlternative, no_alternative, alternative, IsBlock, end_of, then_more, IsItem, item_filter, item_statement}
-use Rattle.acs_parse.specs.Inner.Table.{Effect, Keep, Lower, To, Part, One, ABlock, AnItem, AStatement, OrAlternative, AChoice, ACondition, AnOperand, MoreOperands, ARef, OrCode, Back, Read, Full, Pass, gate, rule, TooMany, verdict}
+use Rattle.acs_parse.specs.Grammar.{starts, place_in, placed, limited, IsRef, IsOperands, IsFilter, IsCode, IsCond}
+use Rattle.acs_parse.specs.Grammar.{IsStmt, set, choice, group_of, write, exit, IsAlternative, no_alternative}
+use Rattle.acs_parse.specs.Grammar.{alternative, IsBlock, end_of, then_more, IsItem, item_filter, item_statement}
+use Rattle.acs_parse.specs.Inner.Table.{Effect, Keep, Lower, To, Part, One, ABlock, AnItem, AStatement, OrAlternative}
+use Rattle.acs_parse.specs.Inner.Table.{AChoice, ACondition, AnOperand, MoreOperands, ARef, OrCode, Back, Read, Full}
+use Rattle.acs_parse.specs.Inner.Table.{Pass, gate, rule, TooMany, verdict}
 use Rattle.acs_parse.specs.Inner.Language.{Takes}
 use Rattle.acs_parse.specs.Inner.Reads.{FailsAt, IsBehind, IsInside, IsCondBefore, AreArms}
-use Rattle.acs_parse.proofs.RunLemmas.{moved, taken, opened, runs_ref, runs_cond, runs_stmt, runs_item, block_as_item, item_as_statement}
+use Rattle.acs_parse.proofs.RunLemmas.{moved, taken, opened, runs_ref, runs_cond, runs_stmt, runs_item, block_as_item}
+use Rattle.acs_parse.proofs.RunLemmas.{item_as_statement}
 use Rattle.acs_parse.proofs.SoundLemmas.{is_then, is_end}
 use Rattle.acs_parse.proofs.ShorterLemmas.{item_shorter}
 use Rattle.acs_parse.proofs.OperandLemmas.{Goes, along, goes_one, filter_word, empty_right}

@@ -7,7 +7,11 @@ use Rattle.acs_symbol.specs.declared.symbol.Symbol.TheVariants.{Word, Variable, 
 use Rattle.acs_parse.specs.declared.want.Want.TheVariants as want
 use Rattle.acs_parse.specs.Wants.{fits}
 use Rattle.acs_parse.specs.Grammar.{limited, unlimited, takes_words, takes_variables, joins}
-use Rattle.acs_parse.specs.Inner.Table.{Part, One, OrNumber, ABlock, AnItem, AStatement, Lists, OrExclude, OrAlternative, AChoice, AWhen, MoreWhens, ACondition, MoreOrs, AConjunct, MoreAnds, ATest, AnOperand, MoreOperands, ARef, OrIndex, OrCode, Back, Move, Read, Full, Pass, Refuse, followed, opens, item_opens, test_opens, operand_opens, rule, Step, Go, No, Many, after, step}
+use Rattle.acs_parse.specs.Inner.Table.{Part, One, OrNumber, ABlock, AnItem, AStatement, Lists, OrExclude}
+use Rattle.acs_parse.specs.Inner.Table.{OrAlternative, AChoice, AWhen, MoreWhens, ACondition, MoreOrs, AConjunct}
+use Rattle.acs_parse.specs.Inner.Table.{MoreAnds, ATest, AnOperand, MoreOperands, ARef, OrIndex, OrCode, Back, Move}
+use Rattle.acs_parse.specs.Inner.Table.{Read, Full, Pass, Refuse, followed, opens, item_opens, test_opens}
+use Rattle.acs_parse.specs.Inner.Table.{operand_opens, rule, Step, Go, No, Many, after, step}
 
 abbrev WideMove : Move → Move → Type 0
 WideMove Full x = (p : ℕ) × (new : List Part) × (x ≡ Read p new)

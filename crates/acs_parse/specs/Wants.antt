@@ -3,7 +3,8 @@ use Rattle.std.specs.Prelude.{Bool, true, false}
 use Rattle.acs_tree.specs.declared.routine.Compare.TheVariants.{Eq}
 use Rattle.acs_symbol.specs.declared.symbol.WordKind.TheVariants as word
 use Rattle.acs_symbol.specs.declared.symbol.Symbol.{Symbol}
-use Rattle.acs_symbol.specs.declared.symbol.Symbol.TheVariants.{Word, Variable, AndSign, OrSign, Open, Close, Comma, Operator}
+use Rattle.acs_symbol.specs.declared.symbol.Symbol.TheVariants.{Word, Variable, AndSign, OrSign, Open, Close, Comma}
+use Rattle.acs_symbol.specs.declared.symbol.Symbol.TheVariants.{Operator}
 use Rattle.acs_parse.specs.declared.want.Want.{Want}
 use Rattle.acs_parse.specs.declared.want.Want.TheVariants as want
 

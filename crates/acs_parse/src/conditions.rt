@@ -26,7 +26,8 @@ fn cond(
     depth: u32,
     rest: &mut Rest<'_>,
 ) -> Result<(Boxed<Cond>, u32), Fault>
-    ensures { Parses (λ x. IsCond total limited depth rest.old x.0 x.1 rest.new) (ACondition ∷ []) depth rest.old result }
+    ensures { Parses (λ x. IsCond total limited depth rest.old x.0 x.1 rest.new)
+        (ACondition ∷ []) depth rest.old result }
 {
     let (mut found, mut count) = conj(alloc, total, depth, rest)?;
     'ors: while begins(Want::Or, rest) {
@@ -48,7 +49,8 @@ pub fn cond_before(
     want: Want,
     rest: &mut Rest<'_>,
 ) -> Result<Boxed<Cond>, Fault>
-    ensures { Parses (λ found. IsCondBefore total want depth rest.old found rest.new) (ACondition ∷ One want (To depth) ∷ []) depth rest.old result }
+    ensures { Parses (λ found. IsCondBefore total want depth rest.old found rest.new)
+        (ACondition ∷ One want (To depth) ∷ []) depth rest.old result }
 {
     let (found, _) = cond(alloc, total, depth, rest)?;
     expect(want, rest)?;
@@ -64,7 +66,8 @@ fn conj(
     depth: u32,
     rest: &mut Rest<'_>,
 ) -> Result<(Boxed<Cond>, u32), Fault>
-    ensures { Parses (λ x. IsConj total limited depth rest.old x.0 x.1 rest.new) (AConjunct ∷ []) depth rest.old result }
+    ensures { Parses (λ x. IsConj total limited depth rest.old x.0 x.1 rest.new)
+        (AConjunct ∷ []) depth rest.old result }
 {
     let (mut found, mut count) = prim(alloc, total, depth, rest)?;
     'ands: while begins(Want::And, rest) {

@@ -9,12 +9,14 @@ ghost use Rattle.acs_parse.specs.ParseFault.{IsParseFault};
 
 /// A list of tokens has at most one tree, however deep it may be.
 pub fn one_tree()
-    ensures { (may : ℕ → Bool) (ts : List Symbol) (one two : Routine) → IsRoutine may ts one → IsRoutine may ts two → one ≡ two }
+    ensures { (may : ℕ → Bool) (ts : List Symbol) (one two : Routine) → IsRoutine may ts one → IsRoutine may ts two →
+        one ≡ two }
 {}
 
 /// A list of tokens has a tree or a fault, never both, and at most one fault.
 pub fn tree_or_fault()
-    ensures one_fault { (ts : List Symbol) (one two : ParseErr) → IsParseFault ts one → IsParseFault ts two → one ≡ two }
+    ensures one_fault { (ts : List Symbol) (one two : ParseErr) → IsParseFault ts one → IsParseFault ts two →
+        one ≡ two }
     ensures never_both { (ts : List Symbol) (tree : Routine) (err : ParseErr)
         → IsRoutine limited ts tree → IsParseFault ts err → ⊥ }
     ensures either { (ts : List Symbol)

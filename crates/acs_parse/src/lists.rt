@@ -2,8 +2,10 @@
 // past what it reads.
 ghost use Rattle.std.specs.Prelude.{◌≡◌, ◌∷◌, [], true, IfOk};
 ghost use Rattle.acs_parse.specs.declared.want.Want.TheVariants as want;
-ghost use Rattle.acs_parse.specs.Grammar.{starts, IsIndex, IsRef, IsOperand, IsOperands, IsExclude, IsLists, IsFilter, IsCode};
-ghost use Rattle.acs_parse.specs.Inner.Table.{AnOperand, MoreOperands, ARef, OrIndex, OrCode, Lists, OrExclude, AnItem, entries};
+ghost use Rattle.acs_parse.specs.Grammar.{starts, IsIndex, IsRef, IsOperand, IsOperands, IsExclude, IsLists, IsFilter};
+ghost use Rattle.acs_parse.specs.Grammar.{IsCode};
+ghost use Rattle.acs_parse.specs.Inner.Table.{AnOperand, MoreOperands, ARef, OrIndex, OrCode, Lists, OrExclude, AnItem};
+ghost use Rattle.acs_parse.specs.Inner.Table.{entries};
 ghost use Rattle.acs_parse.specs.Inner.Reads.{Reads, IsEntries};
 
 use crate::building::stmt_of;
@@ -115,7 +117,8 @@ pub fn operands(
     kind: ListKind,
     rest: &mut Rest<'_>,
 ) -> Result<Operands, Fault>
-    ensures { Reads (λ list. IsOperands total kind rest.old list rest.new) (AnOperand kind ∷ MoreOperands kind ∷ []) rest.old result }
+    ensures { Reads (λ list. IsOperands total kind rest.old list rest.new)
+        (AnOperand kind ∷ MoreOperands kind ∷ []) rest.old result }
 {
     // The check has to see the types inside the list's items.
     let _seen: Option<(OperandForm, Ref, Ident)> = None;

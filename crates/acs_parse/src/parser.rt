@@ -23,7 +23,8 @@ pub fn parse(alloc: Global, text: &[u8], tokens: &Tokens) -> Result<Routine, Par
     requires { IsCut text.now tokens.now }
     ensures ok { IfOk result (IsRoutine limited (symbols_of text.now tokens.now)) }
     ensures err { IfErr result (MayRefuse (IsParseFault (symbols_of text.now tokens.now)) (Some ParseErr.NoMemory)) }
-    ensures exactly { IsExact (IsRoutine limited (symbols_of text.now tokens.now)) (IsParseFault (symbols_of text.now tokens.now)) (Some ParseErr.NoMemory) result }
+    ensures exactly { IsExact (IsRoutine limited (symbols_of text.now tokens.now))
+        (IsParseFault (symbols_of text.now tokens.now)) (Some ParseErr.NoMemory) result }
 {
     let total = count(tokens);
     let symbols = symbols(alloc, text, tokens).map_err(|_| ParseErr::NoMemory)?;

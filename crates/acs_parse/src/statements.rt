@@ -6,8 +6,11 @@ ghost use Rattle.acs_parse.specs.declared.want.Want.TheVariants as want;
 ghost use Rattle.acs_symbol.specs.declared.symbol.WordKind.TheVariants as word;
 ghost use Rattle.acs_parse.specs.Grammar.{limited, IsStmt, IsAlternative, IsChoice, IsBlock, IsItem};
 ghost use Rattle.acs_parse.specs.Inner.Parts.{form_of_parts, test_of_parts};
-ghost use Rattle.acs_parse.specs.Inner.Table.{Keep, Lower, To, One, ABlock, AnItem, AStatement, OrAlternative, AChoice, AWhen, MoreWhens, ACondition, AnOperand, MoreOperands, ARef, OrCode, Back};
-ghost use Rattle.acs_parse.specs.Inner.Reads.{Reads, Parses, IsBehind, IsInside, AreWhens, IsTest, IsOneMore, AreArms, test_parts};
+ghost use Rattle.acs_parse.specs.Inner.Table.{Keep, Lower, To, One, ABlock, AnItem, AStatement, OrAlternative, AChoice};
+ghost use Rattle.acs_parse.specs.Inner.Table.{AWhen, MoreWhens, ACondition, AnOperand, MoreOperands, ARef, OrCode};
+ghost use Rattle.acs_parse.specs.Inner.Table.{Back};
+ghost use Rattle.acs_parse.specs.Inner.Reads.{Reads, Parses, IsBehind, IsInside, AreWhens, IsTest, IsOneMore, AreArms};
+ghost use Rattle.acs_parse.specs.Inner.Reads.{test_parts};
 
 use crate::building::{stmt_of, with_boxed, with_when_parts};
 use crate::conditions::cond_before;
@@ -31,7 +34,8 @@ pub fn statement(
     depth: u32,
     rest: &mut Rest<'_>,
 ) -> Result<Boxed<Stmt>, Fault>
-    ensures { Parses (λ found. IsStmt total limited depth rest.old found rest.new) (AStatement ∷ []) depth rest.old result }
+    ensures { Parses (λ found. IsStmt total limited depth rest.old found rest.new)
+        (AStatement ∷ []) depth rest.old result }
 {
     let at = place(total, rest);
     match rest.split_first() {
@@ -76,7 +80,8 @@ pub fn statement(
 /// What stands behind SET.
 #[tactic(auto, using(crate::proofs::StatementLemmas::assignment_steps))]
 fn assignment(alloc: Global, total: u32, rest: &mut Rest<'_>) -> Result<FormParts, Fault>
-    ensures { Reads (λ parts. (n : ℕ) → IsBehind total word.Set n rest.old (form_of_parts parts) rest.new) (ARef ∷ One want.Equal Keep ∷ AnOperand list.Values ∷ MoreOperands list.Values ∷ []) rest.old result }
+    ensures { Reads (λ parts. (n : ℕ) → IsBehind total word.Set n rest.old (form_of_parts parts) rest.new)
+        (ARef ∷ One want.Equal Keep ∷ AnOperand list.Values ∷ MoreOperands list.Values ∷ []) rest.old result }
 {
     let target = boxed_variable(alloc, total, rest)?;
     expect(Want::Equal, rest)?;
@@ -87,7 +92,8 @@ fn assignment(alloc: Global, total: u32, rest: &mut Rest<'_>) -> Result<FormPart
 /// What stands behind WRITE.
 #[tactic(auto, using(crate::proofs::StatementLemmas::write_at))]
 fn written(alloc: Global, total: u32, rest: &mut Rest<'_>) -> Result<FormParts, Fault>
-    ensures { Reads (λ parts. (n : ℕ) → IsBehind total word.Write n rest.old (form_of_parts parts) rest.new) (AnOperand list.Parts ∷ MoreOperands list.Parts ∷ []) rest.old result }
+    ensures { Reads (λ parts. (n : ℕ) → IsBehind total word.Write n rest.old (form_of_parts parts) rest.new)
+        (AnOperand list.Parts ∷ MoreOperands list.Parts ∷ []) rest.old result }
 {
     let parts = operands(alloc, total, ListKind::Parts, rest)?;
     Ok(FormParts::Write(parts))
@@ -96,7 +102,8 @@ fn written(alloc: Global, total: u32, rest: &mut Rest<'_>) -> Result<FormParts, 
 /// What stands behind EXIT.
 #[tactic(auto, using(crate::proofs::StatementLemmas::exit_at))]
 fn ending(alloc: Global, total: u32, rest: &mut Rest<'_>) -> Result<FormParts, Fault>
-    ensures { Reads (λ parts. (n : ℕ) → IsBehind total word.Exit n rest.old (form_of_parts parts) rest.new) (OrCode ∷ []) rest.old result }
+    ensures { Reads (λ parts. (n : ℕ) → IsBehind total word.Exit n rest.old (form_of_parts parts) rest.new)
+        (OrCode ∷ []) rest.old result }
 {
     let code = exit_code(alloc, total, rest)?;
     Ok(FormParts::Exit { code })
@@ -111,7 +118,9 @@ fn conditional(
     depth: u32,
     rest: &mut Rest<'_>,
 ) -> Result<FormParts, Fault>
-    ensures { Parses (λ parts. IsInside total word.If depth rest.old (form_of_parts parts) rest.new) (ACondition ∷ One want.Then (To depth) ∷ AStatement ∷ OrAlternative want.Else ∷ Back ∷ []) depth rest.old result }
+    ensures { Parses (λ parts. IsInside total word.If depth rest.old (form_of_parts parts) rest.new)
+        (ACondition ∷ One want.Then (To depth) ∷ AStatement ∷ OrAlternative want.Else ∷ Back ∷ []) depth rest.old
+        result }
 {
     let cond = cond_before(alloc, total, depth, Want::Then, rest)?;
     let (yes, otherwise) = arms(alloc, total, depth, rest)?;
@@ -131,7 +140,8 @@ fn arms(
     depth: u32,
     rest: &mut Rest<'_>,
 ) -> Result<(Boxed<Stmt>, Option<Boxed<Stmt>>), Fault>
-    ensures { Parses (λ x. AreArms total depth rest.old x.0 x.1 rest.new) (AStatement ∷ OrAlternative want.Else ∷ []) depth rest.old result }
+    ensures { Parses (λ x. AreArms total depth rest.old x.0 x.1 rest.new) (AStatement ∷ OrAlternative want.Else ∷ [])
+        depth rest.old result }
 {
     let yes = statement(alloc, total, depth, rest)?;
     let otherwise = alternative(alloc, total, depth, Want::Else, rest)?;
@@ -148,7 +158,8 @@ fn alternative(
     want: Want,
     rest: &mut Rest<'_>,
 ) -> Result<Option<Boxed<Stmt>>, Fault>
-    ensures { Parses (λ found. IsAlternative total limited want depth rest.old found rest.new) (OrAlternative want ∷ []) depth rest.old result }
+    ensures { Parses (λ found. IsAlternative total limited want depth rest.old found rest.new)
+        (OrAlternative want ∷ []) depth rest.old result }
 {
     if !skip(want, rest) {
         return Ok(None);
@@ -161,7 +172,8 @@ fn alternative(
 #[cycle(statement)]
 #[tactic(auto, using(crate::proofs::StatementLemmas::do_at, crate::proofs::StatementLemmas::do_block_fails))]
 fn group(alloc: Global, total: u32, depth: u32, rest: &mut Rest<'_>) -> Result<FormParts, Fault>
-    ensures { Parses (λ parts. IsInside total word.Do depth rest.old (form_of_parts parts) rest.new) (ABlock false ∷ Back ∷ []) depth rest.old result }
+    ensures { Parses (λ parts. IsInside total word.Do depth rest.old (form_of_parts parts) rest.new)
+        (ABlock false ∷ Back ∷ []) depth rest.old result }
 {
     let body = block(alloc, total, depth, rest)?;
     Ok(FormParts::Do(body))
@@ -171,7 +183,8 @@ fn group(alloc: Global, total: u32, depth: u32, rest: &mut Rest<'_>) -> Result<F
 #[cycle(statement)]
 #[tactic(auto, using(crate::proofs::SelectLemmas::selection_steps))]
 fn selection(alloc: Global, total: u32, depth: u32, rest: &mut Rest<'_>) -> Result<FormParts, Fault>
-    ensures { Parses (λ parts. IsInside total word.Select depth rest.old (form_of_parts parts) rest.new) (AChoice ∷ OrAlternative want.Otherwise ∷ One want.End Lower ∷ []) depth rest.old result }
+    ensures { Parses (λ parts. IsInside total word.Select depth rest.old (form_of_parts parts) rest.new)
+        (AChoice ∷ OrAlternative want.Otherwise ∷ One want.End Lower ∷ []) depth rest.old result }
 {
     let (subject, whens) = choice(alloc, total, depth, rest)?;
     let otherwise = alternative(alloc, total, depth, Want::Otherwise, rest)?;
@@ -192,7 +205,8 @@ fn choice(
     depth: u32,
     rest: &mut Rest<'_>,
 ) -> Result<(Option<Boxed<Ref>>, Whens), Fault>
-    ensures { Parses (λ x. IsChoice total limited depth rest.old x.0 x.1 rest.new) (AChoice ∷ []) depth rest.old result }
+    ensures { Parses (λ x. IsChoice total limited depth rest.old x.0 x.1 rest.new)
+        (AChoice ∷ []) depth rest.old result }
 {
     match rest.split_first() {
         None => Err(Fault::Ended),
@@ -221,7 +235,8 @@ fn when_clauses(
     has_subject: bool,
     rest: &mut Rest<'_>,
 ) -> Result<Whens, Fault>
-    ensures { Parses (λ found. AreWhens total has_subject depth rest.old found rest.new) (AWhen has_subject ∷ MoreWhens has_subject ∷ []) depth rest.old result }
+    ensures { Parses (λ found. AreWhens total has_subject depth rest.old found rest.new)
+        (AWhen has_subject ∷ MoreWhens has_subject ∷ []) depth rest.old result }
 {
     let mut found = when(alloc, total, depth, has_subject, Whens::new(alloc), rest)?;
     'whens: while begins(Want::When, rest) {
@@ -241,7 +256,8 @@ fn when(
     found: Whens,
     rest: &mut Rest<'_>,
 ) -> Result<Whens, Fault>
-    ensures { Parses (λ longer. IsOneMore total has_subject depth rest.old found longer rest.new) (AWhen has_subject ∷ []) depth rest.old result }
+    ensures { Parses (λ longer. IsOneMore total has_subject depth rest.old found longer rest.new)
+        (AWhen has_subject ∷ []) depth rest.old result }
 {
     if has_subject {
         let longer = when_value(alloc, total, depth, found, rest)?;
@@ -262,7 +278,8 @@ fn when_value(
     found: Whens,
     rest: &mut Rest<'_>,
 ) -> Result<Whens, Fault>
-    ensures { Parses (λ longer. IsOneMore total true depth rest.old found longer rest.new) (AWhen true ∷ []) depth rest.old result }
+    ensures { Parses (λ longer. IsOneMore total true depth rest.old found longer rest.new)
+        (AWhen true ∷ []) depth rest.old result }
 {
     let at = place(total, rest);
     expect(Want::When, rest)?;
@@ -281,7 +298,8 @@ fn when_condition(
     found: Whens,
     rest: &mut Rest<'_>,
 ) -> Result<Whens, Fault>
-    ensures { Parses (λ longer. IsOneMore total false depth rest.old found longer rest.new) (AWhen false ∷ []) depth rest.old result }
+    ensures { Parses (λ longer. IsOneMore total false depth rest.old found longer rest.new)
+        (AWhen false ∷ []) depth rest.old result }
 {
     let at = place(total, rest);
     expect(Want::When, rest)?;
@@ -294,7 +312,8 @@ fn when_condition(
 #[cycle(statement)]
 #[tactic(auto, using(crate::proofs::StatementLemmas::block_first, crate::proofs::StatementLemmas::block_over))]
 fn block(alloc: Global, total: u32, depth: u32, rest: &mut Rest<'_>) -> Result<Block, Fault>
-    ensures { Parses (λ found. IsBlock total limited false depth rest.old found rest.new) (ABlock false ∷ []) depth rest.old result }
+    ensures { Parses (λ found. IsBlock total limited false depth rest.old found rest.new)
+        (ABlock false ∷ []) depth rest.old result }
 {
     let mut found = Block::new(alloc);
     'items: while !skip(Want::End, rest) {
@@ -307,7 +326,8 @@ fn block(alloc: Global, total: u32, depth: u32, rest: &mut Rest<'_>) -> Result<B
 /// Statements and filter lists up to the END of the routine.
 #[tactic(auto, using(crate::proofs::StatementLemmas::block_first, crate::proofs::StatementLemmas::block_over))]
 pub fn body(alloc: Global, total: u32, rest: &mut Rest<'_>) -> Result<Block, Fault>
-    ensures { Parses (λ found. IsBlock total limited true 0 rest.old found rest.new) (ABlock true ∷ []) 0 rest.old result }
+    ensures { Parses (λ found. IsBlock total limited true 0 rest.old found rest.new)
+        (ABlock true ∷ []) 0 rest.old result }
 {
     let mut found = Block::new(alloc);
     'items: while !skip(Want::End, rest) {
@@ -319,7 +339,8 @@ pub fn body(alloc: Global, total: u32, rest: &mut Rest<'_>) -> Result<Block, Fau
 
 #[tactic(auto, using(crate::proofs::StatementLemmas::item_steps))]
 fn item(alloc: Global, total: u32, rest: &mut Rest<'_>) -> Result<Boxed<Stmt>, Fault>
-    ensures { Parses (λ found. IsItem total limited true 0 rest.old found rest.new) (AnItem true ∷ []) 0 rest.old result }
+    ensures { Parses (λ found. IsItem total limited true 0 rest.old found rest.new)
+        (AnItem true ∷ []) 0 rest.old result }
 {
     if begins(Want::FiltList, rest) {
         let found = filter_list(alloc, total, rest)?;
@@ -333,7 +354,9 @@ fn item(alloc: Global, total: u32, rest: &mut Rest<'_>) -> Result<Boxed<Stmt>, F
 /// Items in parentheses.
 #[tactic(auto, using(crate::proofs::SelectLemmas::items_test_steps))]
 fn items_test(alloc: Global, total: u32, rest: &mut Rest<'_>) -> Result<TestParts, Fault>
-    ensures { Reads (λ test. (n : ℕ) → IsTest total true n rest.old (test_of_parts test) rest.new) (One want.Open Keep ∷ AnOperand list.Items ∷ MoreOperands list.Items ∷ One want.Close Keep ∷ []) rest.old result }
+    ensures { Reads (λ test. (n : ℕ) → IsTest total true n rest.old (test_of_parts test) rest.new)
+        (One want.Open Keep ∷ AnOperand list.Items ∷ MoreOperands list.Items ∷ One want.Close Keep ∷ []) rest.old
+        result }
 {
     expect(Want::Open, rest)?;
     let items = operands(alloc, total, ListKind::Items, rest)?;
@@ -349,7 +372,8 @@ fn condition_test(
     depth: u32,
     rest: &mut Rest<'_>,
 ) -> Result<TestParts, Fault>
-    ensures { Parses (λ test. IsTest total false depth rest.old (test_of_parts test) rest.new) (test_parts false depth) depth rest.old result }
+    ensures { Parses (λ test. IsTest total false depth rest.old (test_of_parts test) rest.new)
+        (test_parts false depth) depth rest.old result }
 {
     expect(Want::Open, rest)?;
     let cond = cond_before(alloc, total, depth, Want::Close, rest)?;

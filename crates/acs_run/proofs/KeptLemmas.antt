@@ -1,5 +1,6 @@
 -- Line by line is all at once.
-use Rattle.std.proofs.Common.{◌≡◌, ◌≤◌, ◌+◌, ◌-◌, ℕ, suc, Bool, true, false, List, [], ◌∷◌, ◌++◌, length, map, take, refl, sym, subst, ap, ◌∙◌, ⊎_elim, append_assoc, arith}
+use Rattle.std.proofs.Common.{◌≡◌, ◌≤◌, ◌+◌, ◌-◌, ℕ, suc, Bool, true, false, List, [], ◌∷◌, ◌++◌, length, map, take}
+use Rattle.std.proofs.Common.{refl, sym, subst, ap, ◌∙◌, ⊎_elim, append_assoc, arith}
 use Rattle.std.specs.Prelude.{◌^◌, cond, min, if◌then◌else◌}
 use Rattle.std.proofs.lemmas.Bool.{cases_lt, lt-ltb, le-ltb}
 use Rattle.std.proofs.lemmas.List.{append-nil, take_all}
@@ -8,7 +9,8 @@ use Rattle.acs_tree.specs.declared.kind.Kind.{Kind}
 use Rattle.acs_tree.specs.declared.kind.Kind.TheVariants.{DataClas, StorClas, MgmtClas, StorGrp}
 use Rattle.acs_tree.specs.declared.line.Line.{Line}
 use Rattle.acs_tree.specs.declared.more.More.{More}
-use Rattle.acs_tree.specs.Slates.{IsSlate, KeepsOtherKinds, SlateLines, count_of, line, lines_of, more_of, one_more, same_kind, with_more, with_kept_lines}
+use Rattle.acs_tree.specs.Slates.{IsSlate, KeepsOtherKinds, SlateLines, count_of, line, lines_of, more_of, one_more}
+use Rattle.acs_tree.specs.Slates.{same_kind, with_more, with_kept_lines}
 use Rattle.acs_tree.specs.KeptLines.{KeptLines, kept_lines_of}
 use Rattle.acs_run.specs.Inner.Steps.{with_lines}
 

@@ -9,7 +9,8 @@ use Rattle.acs_tree.specs.Variables.{VariableMeaning, Row, look_up, value_by, va
 use Rattle.dsn_mask.specs.Filter.{FilterLists}
 use Rattle.acs_tree.specs.Compares.{text_equals}
 use Rattle.acs_code.specs.Machine.{filter_comparand}
-use Rattle.acs_run.specs.Inner.Seen.{class_variables, held_in, input_variables, name_variables, null_variables, passes_if_any}
+use Rattle.acs_run.specs.Inner.Seen.{class_variables, held_in, input_variables, name_variables, null_variables}
+use Rattle.acs_run.specs.Inner.Seen.{passes_if_any}
 
 in_own : (b : Bool) (v w : Value) (rest other : Option Value) → (rest ≡ Some w → other ≡ Some w) → (if b then Some v else rest) ≡ Some w → (if b then Some v else other) ≡ Some w
 in_own true v w rest other f e = e

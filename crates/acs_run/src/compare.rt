@@ -5,7 +5,8 @@ ghost use Rattle.dsn_mask.specs.Filter.{FilterLists, passes_filter};
 ghost use Rattle.dsn_mask.specs.MaskTest.{is_empty};
 ghost use Rattle.acs_tree.specs.declared.input.Input.{Input};
 ghost use Rattle.acs_tree.specs.declared.values.Values.{Values};
-ghost use Rattle.acs_tree.specs.Compares.{compares, counted, groups_or_null, is_that_text, number_beside, number_compares, numbers_compare, text_equals, texts_compare};
+ghost use Rattle.acs_tree.specs.Compares.{compares, counted, groups_or_null, is_that_text, number_beside};
+ghost use Rattle.acs_tree.specs.Compares.{number_compares, numbers_compare, text_equals, texts_compare};
 ghost use Rattle.acs_code.specs.Machine.{probe_holds, right_comparand};
 ghost use Rattle.acs_run.specs.Inner.Seen.{passes_if_any, seen};
 
@@ -34,7 +35,8 @@ fn compares(
     input: &Seen<'_>,
     values: &Values,
 ) -> bool
-    ensures { result ≡ compares input.now values.now op (seen input.now values.now left.now) (right_comparand filters.now right.now) }
+    ensures { result ≡ compares input.now values.now op (seen input.now values.now left.now)
+        (right_comparand filters.now right.now) }
 {
     match left {
         Value::Text(text) => texts_compare(op, equals(filters, right, input, values, text)),
@@ -98,14 +100,16 @@ fn has<L: Ledger>(filter: &FilterIndex, text: &Short, blank: Blank) -> bool
 }
 
 fn any_volume(filters: &[FilterIndex], right: &Right, input: &Seen<'_>, values: &Values) -> bool
-    ensures { result ≡ list_any (text_equals input.now values.now (right_comparand filters.now right.now)) input.now.volumes }
+    ensures { result ≡ list_any (text_equals input.now values.now (right_comparand filters.now right.now))
+        input.now.volumes }
 {
     let volumes = input.volumes();
     volumes.iter().any(|volume| equals(filters, right, input, values, &of_volser(volume)))
 }
 
 fn all_volumes(filters: &[FilterIndex], right: &Right, input: &Seen<'_>, values: &Values) -> bool
-    ensures { result ≡ (not (is_empty input.now.volumes) && list_all (text_equals input.now values.now (right_comparand filters.now right.now)) input.now.volumes) }
+    ensures { result ≡ (not (is_empty input.now.volumes) && list_all
+        (text_equals input.now values.now (right_comparand filters.now right.now)) input.now.volumes) }
 {
     let volumes = input.volumes();
     !volumes.is_empty() && all_equal(filters, right, input, values, volumes)
@@ -125,7 +129,8 @@ fn all_equal(
 
 // An empty list counts as the null text.
 fn any_group(filters: &[FilterIndex], right: &Right, input: &Seen<'_>, values: &Values) -> bool
-    ensures { result ≡ list_any (text_equals input.now values.now (right_comparand filters.now right.now)) (groups_or_null values.now.groups) }
+    ensures { result ≡ list_any (text_equals input.now values.now (right_comparand filters.now right.now))
+        (groups_or_null values.now.groups) }
 {
     let groups = values.groups.as_slice();
     if groups.is_empty() {
@@ -147,7 +152,8 @@ fn texts_compare(op: Compare, are_equal: bool) -> bool
 
 // The number on the right, if it is one.
 fn number_beside(right: &Right, input: &Seen<'_>, values: &Values) -> Option<u64>
-    ensures { (filters : List FilterLists) → result ≡ number_beside input.now values.now (right_comparand filters right.now) }
+    ensures { (filters : List FilterLists) →
+        result ≡ number_beside input.now values.now (right_comparand filters right.now) }
 {
     match right {
         Right::Number(number) => Some(*number),

@@ -26,7 +26,8 @@ pub fn run(code: &Code, input: &Seen<'_>, values: &mut Values, slate: &mut Slate
     ensures ending { (came : Outcome) → ComesTo code.now input.now values.old came → result ≡ came.ending }
     ensures values { (came : Outcome) → ComesTo code.now input.now values.old came → values.new ≡ came.values }
     ensures other_kinds { KeepsOtherKinds code.now.kind slate.old slate.new }
-    ensures lines { (came : Outcome) → ComesTo code.now input.now values.old came → slate.new ≡ with_kept_lines code.now.kind (kept_lines_of came.lines) slate.old }
+    ensures lines { (came : Outcome) → ComesTo code.now input.now values.old came →
+        slate.new ≡ with_kept_lines code.now.kind (kept_lines_of came.lines) slate.old }
 {
     let _written = slate.lines();
     let end = code.instrs().len();

@@ -6,7 +6,10 @@ ghost use Rattle.acs_tree.specs.declared.input.Input.{Input};
 ghost use Rattle.acs_tree.specs.declared.values.Values.{Values};
 ghost use Rattle.acs_tree.specs.Value.{Number, Size, Text, text_at};
 ghost use Rattle.acs_tree.specs.Variables.{look_up, part_of_name};
-ghost use Rattle.acs_run.specs.Inner.Seen.{accounting_variables, attribute_variables, class_variables, default_variables, environment_variables, given_variables, held_in, input_variables, name_variables, number_variables, origin_variables, seen, size_variables, text_variables, volume_variables};
+ghost use Rattle.acs_run.specs.Inner.Seen.{accounting_variables, attribute_variables, class_variables};
+ghost use Rattle.acs_run.specs.Inner.Seen.{default_variables, environment_variables, given_variables, held_in};
+ghost use Rattle.acs_run.specs.Inner.Seen.{input_variables, name_variables, number_variables, origin_variables, seen};
+ghost use Rattle.acs_run.specs.Inner.Seen.{size_variables, text_variables, volume_variables};
 
 use crate::short::qualifier;
 use crate::value::Value;
@@ -32,7 +35,8 @@ pub fn value(slot: &Slot, input: &Seen<'_>, values: &Values) -> Value
 }
 
 fn input_value(input: &Seen<'_>, name: &[u8], index: u8) -> Option<Value>
-    ensures { (values : Values) → option_map (seen input.now values) result ≡ held_in input_variables name.now index input.now values }
+    ensures { (values : Values) →
+        option_map (seen input.now values) result ≡ held_in input_variables name.now index input.now values }
 {
     if let Some(text) = origin_text(input, name) {
         return Some(Value::Text(text));
@@ -47,7 +51,8 @@ fn input_value(input: &Seen<'_>, name: &[u8], index: u8) -> Option<Value>
 }
 
 fn given_value(input: &Seen<'_>, name: &[u8], index: u8) -> Option<Value>
-    ensures { (values : Values) → option_map (seen input.now values) result ≡ held_in given_variables name.now index input.now values }
+    ensures { (values : Values) →
+        option_map (seen input.now values) result ≡ held_in given_variables name.now index input.now values }
 {
     if let Some(kilobytes) = size(input, name) {
         return Some(Value::Size(kilobytes));
@@ -59,7 +64,8 @@ fn given_value(input: &Seen<'_>, name: &[u8], index: u8) -> Option<Value>
 }
 
 fn given_text(input: &Seen<'_>, name: &[u8], index: u8) -> Option<Value>
-    ensures { (values : Values) → option_map (seen input.now values) result ≡ held_in text_variables name.now index input.now values }
+    ensures { (values : Values) →
+        option_map (seen input.now values) result ≡ held_in text_variables name.now index input.now values }
 {
     if let Some(text) = accounting_text(input, name, index) {
         return Some(Value::Text(text));
@@ -87,7 +93,8 @@ fn text_in(mut rows: &[(&[u8], &Short)], name: &[u8]) -> Option<Short>
 }
 
 fn name_value(input: &Seen<'_>, name: &[u8], index: u8) -> Option<Value>
-    ensures { (values : Values) → option_map (seen input.now values) result ≡ held_in name_variables name.now index input.now values }
+    ensures { (values : Values) →
+        option_map (seen input.now values) result ≡ held_in name_variables name.now index input.now values }
 {
     let dsn = input.dsn();
     if name == b"DSN".as_slice() {
@@ -114,7 +121,8 @@ fn part_of_name(dsn: &Dsn, index: u8) -> Short
 }
 
 fn class_value(values: &Values, name: &[u8]) -> Option<Value>
-    ensures { (index : ℕ) (input : Input) → option_map (seen input values.now) result ≡ held_in class_variables name.now index input values.now }
+    ensures { (index : ℕ) (input : Input) →
+        option_map (seen input values.now) result ≡ held_in class_variables name.now index input values.now }
 {
     if name == b"DATACLAS".as_slice() {
         Some(Value::Text(values.dataclas))
@@ -130,7 +138,8 @@ fn class_value(values: &Values, name: &[u8]) -> Option<Value>
 }
 
 fn origin_text(input: &Seen<'_>, name: &[u8]) -> Option<Short>
-    ensures { (index : ℕ) (values : Values) → option_map Text result ≡ held_in origin_variables name.now index input.now values }
+    ensures { (index : ℕ) (values : Values) →
+        option_map Text result ≡ held_in origin_variables name.now index input.now values }
 {
     let origin = input.origin();
     let rows: [(&[u8], &Short); 6] = [
@@ -145,7 +154,8 @@ fn origin_text(input: &Seen<'_>, name: &[u8]) -> Option<Short>
 }
 
 fn attribute_text(input: &Seen<'_>, name: &[u8]) -> Option<Short>
-    ensures { (index : ℕ) (values : Values) → option_map Text result ≡ held_in attribute_variables name.now index input.now values }
+    ensures { (index : ℕ) (values : Values) →
+        option_map Text result ≡ held_in attribute_variables name.now index input.now values }
 {
     let attributes = input.attributes();
     let rows: [(&[u8], &Short); 7] = [
@@ -161,7 +171,8 @@ fn attribute_text(input: &Seen<'_>, name: &[u8]) -> Option<Short>
 }
 
 fn number(input: &Seen<'_>, name: &[u8]) -> Option<u64>
-    ensures { (index : ℕ) (values : Values) → option_map Number result ≡ held_in number_variables name.now index input.now values }
+    ensures { (index : ℕ) (values : Values) →
+        option_map Number result ≡ held_in number_variables name.now index input.now values }
 {
     if name == b"RETPD".as_slice() {
         Some(input.amounts().retpd as u64)
@@ -177,7 +188,8 @@ fn number(input: &Seen<'_>, name: &[u8]) -> Option<u64>
 }
 
 fn size(input: &Seen<'_>, name: &[u8]) -> Option<u64>
-    ensures { (index : ℕ) (values : Values) → option_map Size result ≡ held_in size_variables name.now index input.now values }
+    ensures { (index : ℕ) (values : Values) →
+        option_map Size result ≡ held_in size_variables name.now index input.now values }
 {
     if name == b"SIZE".as_slice() {
         Some(input.amounts().size)
@@ -189,7 +201,8 @@ fn size(input: &Seen<'_>, name: &[u8]) -> Option<u64>
 }
 
 fn volume_value(input: &Seen<'_>, name: &[u8]) -> Option<Value>
-    ensures { (index : ℕ) (values : Values) → option_map (seen input.now values) result ≡ held_in volume_variables name.now index input.now values }
+    ensures { (index : ℕ) (values : Values) →
+        option_map (seen input.now values) result ≡ held_in volume_variables name.now index input.now values }
 {
     if name == b"NVOL".as_slice() {
         Some(Value::Number(input.volumes().len() as u64))
@@ -203,7 +216,8 @@ fn volume_value(input: &Seen<'_>, name: &[u8]) -> Option<Value>
 }
 
 fn accounting_text(input: &Seen<'_>, name: &[u8], index: u8) -> Option<Short>
-    ensures { (values : Values) → option_map Text result ≡ held_in accounting_variables name.now index input.now values }
+    ensures { (values : Values) →
+        option_map Text result ≡ held_in accounting_variables name.now index input.now values }
 {
     if name == b"ACCT_JOB".as_slice() {
         Some(field(input.acct_job(), index))
@@ -227,7 +241,8 @@ fn field(fields: &[Short], number: u8) -> Short
 }
 
 fn environment_text(input: &Seen<'_>, name: &[u8]) -> Option<Short>
-    ensures { (index : ℕ) (values : Values) → option_map Text result ≡ held_in environment_variables name.now index input.now values }
+    ensures { (index : ℕ) (values : Values) →
+        option_map Text result ≡ held_in environment_variables name.now index input.now values }
 {
     let environment = input.environment();
     let rows: [(&[u8], &Short); 4] = [
@@ -240,7 +255,8 @@ fn environment_text(input: &Seen<'_>, name: &[u8]) -> Option<Short>
 }
 
 fn default_text(input: &Seen<'_>, name: &[u8]) -> Option<Short>
-    ensures { (index : ℕ) (values : Values) → option_map Text result ≡ held_in default_variables name.now index input.now values }
+    ensures { (index : ℕ) (values : Values) →
+        option_map Text result ≡ held_in default_variables name.now index input.now values }
 {
     let defaults = input.defaults();
     let rows: [(&[u8], &Short); 3] = [

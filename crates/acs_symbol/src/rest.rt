@@ -38,7 +38,8 @@ impl<'a> Rest<'a> {
     }
 
     pub fn first(&self) -> Option<&'a Symbol<'a>>
-        ensures { MatchOption result (self.now ≡ []) (λ first. (behind : List Symbol) × (self.now ≡ first.now ∷ behind)) }
+        ensures { MatchOption result (self.now ≡ []) (λ first. (behind : List Symbol) ×
+            (self.now ≡ first.now ∷ behind)) }
     {
         self.symbols.get(self.at)
     }

@@ -1,5 +1,6 @@
 -- The lines of an input, one after the other.
-use Rattle.std.proofs.Common.{◌≡◌, ℕ, ◌+◌, ◌-◌, Bool, true, false, List, [], ◌∷◌, ◌++◌, Ok, Err, length, take, refl, sym, ap, ◌∙◌, append_assoc, length-append, arith}
+use Rattle.std.proofs.Common.{◌≡◌, ℕ, ◌+◌, ◌-◌, Bool, true, false, List, [], ◌∷◌, ◌++◌, Ok, Err, length, take, refl}
+use Rattle.std.proofs.Common.{sym, ap, ◌∙◌, append_assoc, length-append, arith}
 use Rattle.std.specs.Prelude.{◌==◌, Result, codes, if◌then◌else◌}
 use Rattle.desk_common.specs.Words.{onto}
 use Rattle.std.proofs.lemmas.List.{take_at}

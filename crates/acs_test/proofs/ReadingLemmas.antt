@@ -10,7 +10,8 @@ use Rattle.sms_deck.specs.declared.deck_err.DeckErr.TheVariants as decks
 use Rattle.acs_test.specs.Columns.{columns_of, header_fault}
 use Rattle.acs_test.specs.Layout.{Parts, parts_of}
 use Rattle.acs_test.specs.Reading.{DeckFault, Gives, HasFault, IsReading, IsRefusal, Refuses, TableFault, TellsDeck}
-use Rattle.acs_test.specs.Records.{TableGives, case_behind, case_of, cases_behind, cases_of, cases_under, most_cases, or_bad, with_case}
+use Rattle.acs_test.specs.Records.{TableGives, case_behind, case_of, cases_behind, cases_of, cases_under, most_cases}
+use Rattle.acs_test.specs.Records.{or_bad, with_case}
 use Rattle.acs_test.specs.declared.case.Case.{Case}
 use Rattle.acs_test.specs.declared.cases.Cases.{Cases}
 use Rattle.acs_test.specs.declared.cases_err.CasesErr.{CasesErr}

@@ -1,5 +1,6 @@
 -- The line of an ALLOC that a record of a table writes (docs/tool.md, "Comparing two decks").
-use Rattle.std.specs.Prelude.{ℕ, ◌==◌, ◌&&◌, Bool, List, [], ◌∷◌, ◌++◌, bytes_eq, codes, length, nat_lt, position, slice_get, Option, if◌then◌else◌}
+use Rattle.std.specs.Prelude.{ℕ, ◌==◌, ◌&&◌, Bool, List, [], ◌∷◌, ◌++◌, bytes_eq, codes, length, nat_lt, position}
+use Rattle.std.specs.Prelude.{slice_get, Option, if◌then◌else◌}
 use Rattle.std.specs.List.{list_any}
 use Rattle.desk_common.specs.Bytes.{space_byte}
 use Rattle.sms_script.specs.Found.{◌⊳◌}
@@ -15,7 +16,8 @@ has_blank field = list_any (λ byte. byte == space_byte) field
 
 -- a blank, and the operand that the field of a column writes; nothing where the field is empty or the column is no key
 abbrev pub operand_text : List ℕ → List ℕ → List ℕ
-operand_text column field = if nat_lt 0 (length field) && is_key column then codes " " ++ column ++ codes "=" ++ field else []
+operand_text column field =
+    if nat_lt 0 (length field) && is_key column then codes " " ++ column ++ codes "=" ++ field else []
 
 -- the operands of a record, in the order of its columns
 abbrev pub operands_text : List (List ℕ) → List (List ℕ) → List ℕ

@@ -1,5 +1,6 @@
 -- The header of a table of cases (docs/tool.md, "Comparing two decks").
-use Rattle.std.specs.Prelude.{ℕ, ◌+◌, ◌&&◌, ◌||◌, Bool, not, List, [], ◌∷◌, ◌++◌, bytes_eq, codes, length, map, Option, None, Some, if◌then◌else◌}
+use Rattle.std.specs.Prelude.{ℕ, ◌+◌, ◌&&◌, ◌||◌, Bool, not, List, [], ◌∷◌, ◌++◌, bytes_eq, codes, length, map, Option}
+use Rattle.std.specs.Prelude.{None, Some, if◌then◌else◌}
 use Rattle.std.specs.Char.{to_ascii_uppercase}
 use Rattle.std.specs.List.{list_any}
 use Rattle.sms_script.specs.Operands.{is_key}
@@ -18,14 +19,16 @@ is_column column = is_among wanted column || is_key column
 
 -- each of the columns that a table has is among these
 abbrev pub has_wanted : List (List ℕ) → Bool
-has_wanted columns = is_among columns (codes "CASE") && (is_among columns (codes "JOB") && is_among columns (codes "DSN"))
+has_wanted columns = is_among columns (codes "CASE") && (is_among columns (codes "JOB") && is_among columns
+    (codes "DSN"))
 
 -- of the columns behind earlier ones, the number of the first that is no column or an earlier one, from 1; where one
 -- that each table has is missing, the number behind the last
 abbrev pub fault_behind : List (List ℕ) → List (List ℕ) → Option ℕ
 fault_behind earlier [] = if has_wanted earlier then None else Some (length earlier + 1)
 fault_behind earlier (column ∷ columns) =
-    if is_column column && not (is_among earlier column) then fault_behind (earlier ++ column ∷ []) columns else Some (length earlier + 1)
+    if is_column column && not (is_among earlier column) then fault_behind (earlier ++ column ∷ []) columns
+    else Some (length earlier + 1)
 
 -- the columns of a header, in capitals
 abbrev pub columns_of : List (List ℕ) → List (List ℕ)

@@ -10,7 +10,8 @@ pub record Numbered : Type 0 where
 -- of lines from this number on, those behind the first, if it has this text; else its number
 abbrev pub behind_word : List ℕ → ℕ → List (List ℕ) → Result Numbered ℕ
 behind_word word line [] = Err line
-behind_word word line (first ∷ lines) = if bytes_eq (text_of_line first) word then Ok (record { line = line + 1; lines = lines }) else Err line
+behind_word word line (first ∷ lines) =
+    if bytes_eq (text_of_line first) word then Ok (record { line = line + 1; lines = lines }) else Err line
 
 -- a deck, and the lines behind its ./END
 pub record Block : Type 0 where
@@ -27,7 +28,8 @@ with_line line (Err end) = Err end
 abbrev pub block_of : ℕ → List (List ℕ) → Result Block ℕ
 block_of line [] = Err line
 block_of line (first ∷ lines) =
-    if is_block_end first then Ok (record { deck = []; behind = record { line = line + 1; lines = lines } }) else with_line first (block_of (line + 1) lines)
+    if is_block_end first then Ok (record { deck = []; behind = record { line = line + 1; lines = lines } })
+    else with_line first (block_of (line + 1) lines)
 
 -- what goes on where the one before it was found
 abbrev pub and_then : {A B : Type 0} → Result A ℕ → (A → Result B ℕ) → Result B ℕ

@@ -1,5 +1,6 @@
 -- How cases come out under two configurations (docs/tool.md, "Comparing two decks").
-use Rattle.std.specs.Prelude.{ℕ, ◌≡◌, ◌↔◌, ◌+◌, Bool, true, false, List, [], ◌∷◌, ◌++◌, codes, decimal, flat_map, length}
+use Rattle.std.specs.Prelude.{ℕ, ◌≡◌, ◌↔◌, ◌+◌, Bool, true, false, List, [], ◌∷◌, ◌++◌, codes, decimal, flat_map}
+use Rattle.std.specs.Prelude.{length}
 use Rattle.acs_tree.specs.Slates.{SlateLines}
 use Rattle.acs_tree.specs.declared.values.Values.{Values}
 use Rattle.sms_construct.specs.Configuration.{Configuration}
@@ -25,7 +26,8 @@ outcome_line stop values = outcome_text stop values ++ 10 ∷ []
 
 -- the lines that the routines wrote, each behind this front
 abbrev pub written_text : List ℕ → SlateLines → List ℕ
-written_text front written = flat_map (behind front) (trace_lines (record { lines = written.lines; more = written.more }))
+written_text front written =
+    flat_map (behind front) (trace_lines (record { lines = written.lines; more = written.more }))
 
 -- the outcome, and the lines that the routines wrote, each behind this front
 abbrev pub outcome_lines : List ℕ → Classes → List ℕ
@@ -66,7 +68,8 @@ pub data IsListed (before after : Configuration) : List Case → ℕ → List �
   none : IsListed before after [] 0 []
   one : (case : Case) (cases : List Case) (differing : ℕ) (text : List ℕ) (same : Bool)
       → IsSame before after case same → IsListed before after cases differing text
-      → IsListed before after (case ∷ cases) (count_differing same differing) (case_text case (classes_for before case) (classes_for after case) same ++ text)
+      → IsListed before after (case ∷ cases) (count_differing same differing)
+      (case_text case (classes_for before case) (classes_for after case) same ++ text)
 
 -- the last line: the number of the cases, and of those that differ
 abbrev pub end_text : ℕ → ℕ → List ℕ

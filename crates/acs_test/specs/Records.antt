@@ -1,5 +1,6 @@
 -- The cases that the records of a table write (docs/tool.md, "Comparing two decks").
-use Rattle.std.specs.Prelude.{ℕ, ◌≡◌, ◌+◌, ◌==◌, false, not, List, [], ◌∷◌, codes, length, nat_le, Option, None, Some, Result, Ok, Err, if◌then◌else◌}
+use Rattle.std.specs.Prelude.{ℕ, ◌≡◌, ◌+◌, ◌==◌, false, not, List, [], ◌∷◌, codes, length, nat_le, Option, None, Some}
+use Rattle.std.specs.Prelude.{Result, Ok, Err, if◌then◌else◌}
 use Rattle.std.specs.List.{list_any}
 use Rattle.dsn_mask.specs.Name.{name_of}
 use Rattle.sms_construct.specs.declared.alloc.Alloc.{Alloc}
@@ -66,7 +67,8 @@ with_case (Ok case) (Ok cases) = Ok (case ∷ cases)
 -- the cases of the records behind the header and so many cases, or the fault of the first record at fault
 abbrev pub cases_behind : List (List ℕ) → ℕ → List (List (List ℕ)) → Result (List Case) CasesErr
 cases_behind columns count [] = Ok []
-cases_behind columns count (fields ∷ records) = with_case (case_behind columns count fields) (cases_behind columns (count + 1) records)
+cases_behind columns count (fields ∷ records) =
+    with_case (case_behind columns count fields) (cases_behind columns (count + 1) records)
 
 -- the cases under a header, or the header's fault, or that of the first record at fault
 abbrev pub cases_under : Option ℕ → List (List ℕ) → List (List (List ℕ)) → Result (List Case) CasesErr

@@ -28,7 +28,8 @@ fn push_operands(
     fields: &[&[u8]],
 ) -> Result<(), AllocError>
     requires { length fields.now ≡ length columns.now }
-    ensures { OnOk result (line.new.items ≡ line.old.items ++ operands_text columns.now (map (λ field. field.now) fields.now)) }
+    ensures { OnOk result (line.new.items ≡ line.old.items ++ operands_text columns.now
+        (map (λ field. field.now) fields.now)) }
 {
     for (at, column) in columns.iter().enumerate() {
         push_operand(line, column.as_slice(), fields[at])?;

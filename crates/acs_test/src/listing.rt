@@ -1,6 +1,7 @@
 //! The listing of a comparison.
 ghost use Rattle.std.specs.Prelude.{◌≡◌, ◌<◌, ◌+◌, ◌^◌, ◌++◌, IfOk, OnOk};
-ghost use Rattle.acs_test.specs.Listing.{IsListing, IsSame, case_text, classes_for, classes_made, count_differing, differing_head, differing_text, end_text, same_text, side_text};
+ghost use Rattle.acs_test.specs.Listing.{IsListing, IsSame, case_text, classes_for, classes_made, count_differing};
+ghost use Rattle.acs_test.specs.Listing.{differing_head, differing_text, end_text, same_text, side_text};
 
 use crate::case::Case;
 use crate::cases::Cases;
@@ -48,7 +49,8 @@ fn push_case(
     new: &mut Slate,
 ) -> Result<bool, AllocError>
     ensures same { IfOk result (IsSame cases.now.before cases.now.after case.now) }
-    ensures text { IfOk result (λ same. text.new.items ≡ text.old.items ++ case_text case.now (classes_for cases.now.before case.now) (classes_for cases.now.after case.now) same) }
+    ensures text { IfOk result (λ same. text.new.items ≡ text.old.items ++ case_text case.now
+        (classes_for cases.now.before case.now) (classes_for cases.now.after case.now) same) }
 {
     let before = classified(&cases.before, case, old);
     let after = classified(&cases.after, case, new);
@@ -85,7 +87,8 @@ fn push_differing(
     after: &Classified,
     new: &Slate,
 ) -> Result<(), AllocError>
-    ensures { OnOk result (text.new.items ≡ text.old.items ++ differing_text case.now (classes_made before.now old.now) (classes_made after.now new.now)) }
+    ensures { OnOk result (text.new.items ≡ text.old.items ++ differing_text case.now (classes_made before.now old.now)
+        (classes_made after.now new.now)) }
 {
     push_head(text, case)?;
     push_side(alloc, text, b"  OLD ", before, old)?;

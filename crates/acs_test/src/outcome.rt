@@ -107,7 +107,8 @@ pub fn push_outcome_lines(
     made: &Classified,
     written: &Slate,
 ) -> Result<(), AllocError>
-    ensures { OnOk result (text.new.items ≡ text.old.items ++ outcome_lines front.now (classes_made made.now written.now)) }
+    ensures { OnOk result (text.new.items ≡ text.old.items ++ outcome_lines front.now
+        (classes_made made.now written.now)) }
 {
     push_outcome_line(text, made)?;
     push_slate(alloc, text, front, written)?;

@@ -33,7 +33,8 @@ fn read_parts(alloc: Global, parts: InputParts<'_>) -> Result<Cases, CasesErr>
     requires { length parts.table.now + 2 < 2 ^ 32 }
     ensures ok { IfOk result (Gives (parts_seen parts.entry)) }
     ensures err { IfErr result (MayRefuse (Refuses (parts_seen parts.entry)) (Some CasesErr.NoMemory)) }
-    ensures exactly { IsExact (Gives (parts_seen parts.entry)) (Refuses (parts_seen parts.entry)) (Some CasesErr.NoMemory) result }
+    ensures exactly { IsExact (Gives (parts_seen parts.entry)) (Refuses (parts_seen parts.entry))
+        (Some CasesErr.NoMemory) result }
 {
     match read_side(alloc, Side::Old, parts.before) {
         Ok(before) => read_new(alloc, before, parts),
@@ -45,10 +46,12 @@ fn read_parts(alloc: Global, parts: InputParts<'_>) -> Result<Cases, CasesErr>
 fn read_new(alloc: Global, before: Config, parts: InputParts<'_>) -> Result<Cases, CasesErr>
     requires table { length parts.table.now + 2 < 2 ^ 32 }
     requires old { Configures parts.before.now before }
-    requires only { IsExact (Configures parts.before.now) (TellsDeck Side.Old parts.before.now) (Some CasesErr.NoMemory) (Ok before) }
+    requires only { IsExact (Configures parts.before.now) (TellsDeck Side.Old parts.before.now) (Some CasesErr.NoMemory)
+        (Ok before) }
     ensures ok { IfOk result (Gives (parts_seen parts.entry)) }
     ensures err { IfErr result (MayRefuse (Refuses (parts_seen parts.entry)) (Some CasesErr.NoMemory)) }
-    ensures exactly { IsExact (Gives (parts_seen parts.entry)) (Refuses (parts_seen parts.entry)) (Some CasesErr.NoMemory) result }
+    ensures exactly { IsExact (Gives (parts_seen parts.entry)) (Refuses (parts_seen parts.entry))
+        (Some CasesErr.NoMemory) result }
 {
     match read_side(alloc, Side::New, parts.after) {
         Ok(after) => read_list(alloc, before, after, parts),
@@ -65,12 +68,15 @@ fn read_list(
 ) -> Result<Cases, CasesErr>
     requires table { length parts.table.now + 2 < 2 ^ 32 }
     requires old { Configures parts.before.now before }
-    requires only { IsExact (Configures parts.before.now) (TellsDeck Side.Old parts.before.now) (Some CasesErr.NoMemory) (Ok before) }
+    requires only { IsExact (Configures parts.before.now) (TellsDeck Side.Old parts.before.now) (Some CasesErr.NoMemory)
+        (Ok before) }
     requires new { Configures parts.after.now after }
-    requires only_new { IsExact (Configures parts.after.now) (TellsDeck Side.New parts.after.now) (Some CasesErr.NoMemory) (Ok after) }
+    requires only_new { IsExact (Configures parts.after.now) (TellsDeck Side.New parts.after.now)
+        (Some CasesErr.NoMemory) (Ok after) }
     ensures ok { IfOk result (Gives (parts_seen parts.entry)) }
     ensures err { IfErr result (MayRefuse (Refuses (parts_seen parts.entry)) (Some CasesErr.NoMemory)) }
-    ensures exactly { IsExact (Gives (parts_seen parts.entry)) (Refuses (parts_seen parts.entry)) (Some CasesErr.NoMemory) result }
+    ensures exactly { IsExact (Gives (parts_seen parts.entry)) (Refuses (parts_seen parts.entry))
+        (Some CasesErr.NoMemory) result }
 {
     match read_table(alloc, parts.table) {
         Ok(list) => Ok(Cases {

@@ -1,5 +1,6 @@
 //! The case that a record writes.
-ghost use Rattle.std.specs.Prelude.{◌≡◌, ◌≤◌, ◌<◌, ◌+◌, Some, Ok, Err, bytes_eq, length, map, position, slice_get, IfOk, IfErr};
+ghost use Rattle.std.specs.Prelude.{◌≡◌, ◌≤◌, ◌<◌, ◌+◌, Some, Ok, Err, bytes_eq, length, map, position, slice_get};
+ghost use Rattle.std.specs.Prelude.{IfOk, IfErr};
 ghost use Rattle.std.specs.Option.{option_copied};
 ghost use Rattle.std.specs.List.{list_any};
 ghost use Rattle.csv.specs.Records.{fields_of};
@@ -33,7 +34,8 @@ pub fn read_record(
     requires { count ≤ 10000 }
     ensures ok { IfOk result (λ case. case_behind columns.now count (fields_of record.now) ≡ Ok case) }
     ensures few { IfOk result (λ case. count < 10000) }
-    ensures err { IfErr result (MayRefuse (λ err. case_behind columns.now count (fields_of record.now) ≡ Err err) (Some CasesErr.NoMemory)) }
+    ensures err { IfErr result (MayRefuse (λ err. case_behind columns.now count (fields_of record.now) ≡ Err err)
+        (Some CasesErr.NoMemory)) }
 {
     if record.len() != columns.len() {
         return Err(CasesErr::Fields(count + 2));

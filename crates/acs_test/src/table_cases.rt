@@ -38,7 +38,8 @@ fn read_under(
 ) -> Result<Items<Case>, CasesErr>
     requires { length (fields_of header.now) + 1 < 2 ^ 32 }
     ensures ok { IfOk result (λ list. cases_of (fields_of header.now ∷ map fields_of records.now) ≡ Ok list) }
-    ensures err { IfErr result (MayRefuse (λ err. cases_of (fields_of header.now ∷ map fields_of records.now) ≡ Err err) (Some CasesErr.NoMemory)) }
+    ensures err { IfErr result (MayRefuse (λ err. cases_of (fields_of header.now ∷ map fields_of records.now) ≡ Err err)
+        (Some CasesErr.NoMemory)) }
 {
     let Ok(columns) = columns_in(alloc, header) else {
         return Err(CasesErr::NoMemory);
@@ -62,7 +63,8 @@ fn read_records(
     records: &[ByteRecord],
 ) -> Result<Items<Case>, CasesErr>
     ensures ok { IfOk result (λ list. cases_behind columns.now 0 (map fields_of records.now) ≡ Ok list) }
-    ensures err { IfErr result (MayRefuse (λ err. cases_behind columns.now 0 (map fields_of records.now) ≡ Err err) (Some CasesErr.NoMemory)) }
+    ensures err { IfErr result (MayRefuse (λ err. cases_behind columns.now 0 (map fields_of records.now) ≡ Err err)
+        (Some CasesErr.NoMemory)) }
 {
     let mut buffer = Vec::new(alloc);
     let mut list = Items::new(alloc);

@@ -26,7 +26,8 @@ use Rattle.acs_check.proofs.FirstLemmas.{one_first}
 use Rattle.acs_translate.specs.declared.fault.RoutineFault.{RoutineFault}
 use Rattle.acs_translate.specs.declared.fault.TranslateErr.{TranslateErr}
 use Rattle.acs_translate.specs.declared.fault.TranslateErr.TheVariants.{Fault, NoMemory}
-use Rattle.acs_translate.specs.Translation.{IsTranslated, fault_of, lex_err, parse_err, check_fault, IsRoutineFault, in_text, in_tokens, in_tree, MayRefuse, IsExact}
+use Rattle.acs_translate.specs.Translation.{IsTranslated, fault_of, lex_err, parse_err, check_fault, IsRoutineFault}
+use Rattle.acs_translate.specs.Translation.{in_text, in_tokens, in_tree, MayRefuse, IsExact}
 
 pub few_tokens : (text : List ℕ) (tokens : List Token) → length text < 2 ^ 32 → InOrder 0 (length text) tokens → length tokens < 2 ^ 32
 few_tokens text tokens h d = omega (arith, h, count_within 0 (length text) tokens d)

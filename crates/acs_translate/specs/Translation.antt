@@ -55,9 +55,11 @@ check_fault err = fault_of Checks err.number err.at
 -- the fault of a text: of its bytes, or of its tokens, or of its tree
 pub data IsRoutineFault (text : List ℕ) (kind : Kind) (fault : RoutineFault) : Type 0 where
   in_text : (err : LexErr) → IsFirstLexFault text err → lex_err err ≡ Fault fault → IsRoutineFault text kind fault
-  in_tokens : (tokens : List Token) (err : ParseErr) → IsCut text tokens → IsParseFault (symbols_of text tokens) err → parse_err (length tokens) err ≡ Fault fault
+  in_tokens : (tokens : List Token) (err : ParseErr) → IsCut text tokens → IsParseFault (symbols_of text tokens) err
+      → parse_err (length tokens) err ≡ Fault fault
       → IsRoutineFault text kind fault
-  in_tree : (tokens : List Token) (tree : Routine) (err : CheckErr) → IsCut text tokens → IsRoutine limited (symbols_of text tokens) tree → IsFirstFault tree kind err
+  in_tree : (tokens : List Token) (tree : Routine) (err : CheckErr) → IsCut text tokens
+      → IsRoutine limited (symbols_of text tokens) tree → IsFirstFault tree kind err
       → check_fault err ≡ fault → IsRoutineFault text kind fault
 
 -- the error may be answered: want of memory to every text
@@ -69,4 +71,5 @@ MayRefuse text kind NoMemory = Unit {0}
 pub record IsExact (text : List ℕ) (kind : Kind) (result : Result (CheckedRoutine × ℕ) TranslateErr) : Type 0 where
   pub routine : (tree : Routine) (count : ℕ) → IsTranslated text kind tree count
       → (result ≡ Ok (record { tree = tree; kind = kind }, count)) ⊎ (result ≡ Err NoMemory)
-  pub fault : (fault : RoutineFault) → IsRoutineFault text kind fault → (result ≡ Err (Fault fault)) ⊎ (result ≡ Err NoMemory)
+  pub fault : (fault : RoutineFault) → IsRoutineFault text kind fault →
+      (result ≡ Err (Fault fault)) ⊎ (result ≡ Err NoMemory)

@@ -1,5 +1,6 @@
 -- A slate with one line more.
-use Rattle.std.proofs.Common.{◌≡◌, ◌≤◌, ◌<◌, ◌+◌, ℕ, suc, Bool, true, false, List, [], ◌∷◌, ◌++◌, length, take, refl, sym, ap, ◌∙◌, subst, arith}
+use Rattle.std.proofs.Common.{◌≡◌, ◌≤◌, ◌<◌, ◌+◌, ℕ, suc, Bool, true, false, List, [], ◌∷◌, ◌++◌, length, take, refl}
+use Rattle.std.proofs.Common.{sym, ap, ◌∙◌, subst, arith}
 use Rattle.std.specs.Prelude.{slice_set, if◌then◌else◌}
 use Rattle.std.proofs.lemmas.Bool.{lt-ltb}
 use Rattle.std.proofs.lemmas.List.{length-take, take_more_set, length-set}
@@ -7,7 +8,8 @@ use Rattle.acs_tree.specs.declared.kind.Kind.{Kind}
 use Rattle.acs_tree.specs.declared.kind.Kind.TheVariants.{DataClas, StorClas, MgmtClas, StorGrp}
 use Rattle.acs_tree.specs.declared.line.Line.{Line}
 use Rattle.acs_tree.specs.declared.more.More.{More}
-use Rattle.acs_tree.specs.Slates.{SlateLines, IsSlate, line, same_kind, count_of, more_of, with_line, with_more, one_more}
+use Rattle.acs_tree.specs.Slates.{SlateLines, IsSlate, line, same_kind, count_of, more_of, with_line, with_more}
+use Rattle.acs_tree.specs.Slates.{one_more}
 
 one_kind : (kind : Kind) (a b c d : ℕ) → (if same_kind kind DataClas then suc a else a) + ((if same_kind kind StorClas then suc b else b) + ((if same_kind kind MgmtClas then suc c else c) + (if same_kind kind StorGrp then suc d else d))) ≡ suc (a + (b + (c + d)))
 one_kind DataClas a b c d = omega arith

@@ -37,10 +37,12 @@ pub data Comparand : Type 0 where
 
 -- filter lists
 
--- an entry of a filter list, as it is compared with the whole data set name or with another text; what is no such mask is left out
+-- an entry of a filter list, as it is compared with the whole data set name or with another text; what is no such mask
+-- is left out
 abbrev pub entry_of : Bool → OperandForm → Option Entry
 entry_of whole (operand.Literal text) = Some (entry.Quoted text)
-entry_of whole (operand.Word word) = if whole then option_map entry.Dots (mask_of word) else option_map entry.Plain (simple_of word)
+entry_of whole (operand.Word word) =
+    if whole then option_map entry.Dots (mask_of word) else option_map entry.Plain (simple_of word)
 entry_of whole (operand.Var ref) = None
 
 -- the entries of an INCLUDE or an EXCLUDE
@@ -81,7 +83,8 @@ list_comparand whole list = comparand_or (λ found. Filter (filter_of whole foun
 
 -- a variable, or the filter list of that name where there is no such variable
 abbrev pub name_comparand : List Stmt → Bool → Ref → Comparand
-name_comparand body whole ref = if is_known ref then Var ref.name (index_of ref.index) else list_comparand whole (list_named body ref.name)
+name_comparand body whole ref =
+    if is_known ref then Var ref.name (index_of ref.index) else list_comparand whole (list_named body ref.name)
 
 -- an operand beside a variable, in a routine of that body
 abbrev pub form_comparand : List Stmt → Ref → OperandForm → Comparand

@@ -77,5 +77,7 @@ compares input values op (Text text) right = texts_compare op (text_equals input
 compares input values op (Number number) right = number_compares op number (number_beside input values right)
 compares input values op (Size kilobytes) right = number_compares op kilobytes (number_beside input values right)
 compares input values op (AnyOf volumes) right = texts_compare op (list_any (text_equals input values right) volumes)
-compares input values op (AllOf volumes) right = texts_compare op (not (is_empty volumes) && list_all (text_equals input values right) volumes)
-compares input values op (Groups groups) right = texts_compare op (list_any (text_equals input values right) (groups_or_null groups))
+compares input values op (AllOf volumes) right =
+    texts_compare op (not (is_empty volumes) && list_all (text_equals input values right) volumes)
+compares input values op (Groups groups) right =
+    texts_compare op (list_any (text_equals input values right) (groups_or_null groups))

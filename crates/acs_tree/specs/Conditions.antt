@@ -22,7 +22,9 @@ Test = Input → Values → Bool
 
 -- a variable, a comparison and an operand, in a routine of that body
 abbrev pub comparison : List Stmt → Ref → Compare → Operand → Test
-comparison body left op right input values = compares input values op (variable_value left.name (index_of left.index) input values) (comparand_of body left right)
+comparison body left op right input values =
+    compares input values op (variable_value left.name (index_of left.index) input values)
+    (comparand_of body left right)
 
 -- a condition, from those in it
 abbrev pub cond_step : List Stmt → Cond-F Test → Test

@@ -25,7 +25,15 @@ input_with dsn amounts texts lists = record {
 abbrev pub no_texts : GivenTexts
 no_texts = record {
   origin = record { job = []; user = []; group = []; pgm = []; dd = []; applic = [] };
-  attributes = record { unit = []; dsorg = []; recorg = []; dsntype = []; dstype = codes "PERM"; dsowner = []; expdt = [] };
+  attributes = record {
+    unit = [];
+    dsorg = [];
+    recorg = [];
+    dsntype = [];
+    dstype = codes "PERM";
+    dsowner = [];
+    expdt = [];
+  };
   environment = record { acsenvir = codes "ALLOC"; xmode = codes "BATCH"; sysname = []; sysplex = [] };
   defaults = record { dataclas = []; storclas = []; mgmtclas = [] };
 }
@@ -44,7 +52,8 @@ kilobytes_of tracks = div_ceil (tracks * 56664) 1024
 
 -- a request that names a data set and a space of these sizes in KB and gives nothing else
 abbrev pub sized_input : List ℕ → ℕ → ℕ → Input
-sized_input dsn size maxsize = record (bare_input dsn) { amounts = record { retpd = 0; blksize = 0; size = size; maxsize = maxsize } }
+sized_input dsn size maxsize =
+    record (bare_input dsn) { amounts = record { retpd = 0; blksize = 0; size = size; maxsize = maxsize } }
 
 -- the input of a request as its routines see it: with its job, and with the system and the sysplex of the configuration
 abbrev pub input_under : Input → List ℕ → Option (List ℕ) → Option (List ℕ) → Input

@@ -41,7 +41,8 @@ entries_behind count (entry ∷ entries) = Entry count entry ∷ entries_behind 
 -- the values of a SET behind others
 abbrev pub values_behind : Ref → List Operand → List Operand → List Node
 values_behind target before [] = []
-values_behind target before (value ∷ behind) = Value target before value behind ∷ values_behind target (before ++ value ∷ []) behind
+values_behind target before (value ∷ behind) =
+    Value target before value behind ∷ values_behind target (before ++ value ∷ []) behind
 
 -- the nodes of a condition, from those of the conditions in it
 abbrev pub cond_step : Cond-F (List Node) → List Node
@@ -85,10 +86,12 @@ whens_of subject (arm ∷ arms) = arm subject ++ whens_of subject arms
 
 -- the nodes of what a statement is, from those of the statements in it
 abbrev pub form_step : Form-F (List Node) (List Node) (Option Ref → List Node) → List Node
-form_step (Form-F.Filt name name_at include exclude) = ListName name name_at ∷ (entries_behind 0 include ++ entries_behind 0 exclude)
+form_step (Form-F.Filt name name_at include exclude) =
+    ListName name name_at ∷ (entries_behind 0 include ++ entries_behind 0 exclude)
 form_step (Form-F.Put target values) = Target target ∷ values_behind target [] values
 form_step (Form-F.If cond first otherwise) = nodes_of_cond cond ++ (first ++ nodes_of_otherwise otherwise)
-form_step (Form-F.Pick subject whens otherwise) = nodes_of_subject subject ++ (whens_of subject whens ++ nodes_of_otherwise otherwise)
+form_step (Form-F.Pick subject whens otherwise) =
+    nodes_of_subject subject ++ (whens_of subject whens ++ nodes_of_otherwise otherwise)
 form_step (Form-F.Do block) = joined block
 form_step (Form-F.Write parts) = map Part parts
 form_step (Form-F.Exit code) = nodes_of_code code

@@ -45,7 +45,8 @@ class_set kind (value ∷ more) input values = falls (with_class kind (class_fro
 
 -- a name that is not among the groups, where there is room for one more
 abbrev pub is_new_group : List (List ℕ) → List ℕ → Bool
-is_new_group groups name = nat_lt (length groups) most_groups_set && (is_name name && not (list_any (bytes_eq name) groups))
+is_new_group groups name =
+    nat_lt (length groups) most_groups_set && (is_name name && not (list_any (bytes_eq name) groups))
 
 -- the groups with that value behind them
 abbrev pub with_group : List (List ℕ) → OperandForm → List (List ℕ)

@@ -1,5 +1,6 @@
 -- A slate: the lines of the routines of a request.
-use Rattle.std.specs.Prelude.{◌≡◌, ◌≤◌, ◌<◌, ◌==◌, ◌+◌, ◌-◌, ◌^◌, ◌++◌, ℕ, suc, Bool, false, List, [], ◌∷◌, filter, map, min, nat_lt, if◌then◌else◌}
+use Rattle.std.specs.Prelude.{◌≡◌, ◌≤◌, ◌<◌, ◌==◌, ◌+◌, ◌-◌, ◌^◌, ◌++◌, ℕ, suc, Bool, false, List, [], ◌∷◌, filter, map}
+use Rattle.std.specs.Prelude.{min, nat_lt, if◌then◌else◌}
 use Rattle.desk_common.specs.Limits.{most_lines}
 use Rattle.acs_tree.specs.declared.kind.Kind.{Kind}
 use Rattle.acs_tree.specs.declared.kind.Kind.TheVariants.{DataClas, StorClas, MgmtClas, StorGrp}
@@ -57,7 +58,8 @@ with_line kind text slate =
 
 -- the lines of a run of that kind
 abbrev pub with_kept_lines : Kind → KeptLines → SlateLines → SlateLines
-with_kept_lines kind lines slate = record { lines = slate.lines ++ map (line kind) lines.kept; more = with_more kind lines.more slate.more }
+with_kept_lines kind lines slate =
+    record { lines = slate.lines ++ map (line kind) lines.kept; more = with_more kind lines.more slate.more }
 
 -- the lines of that kind
 abbrev pub lines_of : Kind → List Line → List Line

@@ -1,5 +1,6 @@
 -- When a routine is sound (docs/acs-language.md, Checks).
-use Rattle.std.specs.Prelude.{◌≡◌, ◌==◌, ◌&&◌, ◌||◌, ℕ, true, not, List, [], ◌∷◌, ◌++◌, length, Option, Some, None, is_some, if◌then◌else◌}
+use Rattle.std.specs.Prelude.{◌≡◌, ◌==◌, ◌&&◌, ◌||◌, ℕ, true, not, List, [], ◌∷◌, ◌++◌, length, Option, Some, None}
+use Rattle.std.specs.Prelude.{is_some, if◌then◌else◌}
 use Rattle.std.specs.Str.{bytes_eq}
 use Rattle.desk_common.specs.Exact.{Place, IsFirst}
 use Rattle.desk_common.specs.Limits.{most_exit_code, most_groups_set, most_list_entries}
@@ -11,7 +12,9 @@ use Rattle.acs_tree.specs.FilterLists.{is_mask, is_list}
 use Rattle.acs_tree.specs.Nodes.{Node, Head, ListName, Entry, Target, Value, Part, Left, Order, Right, Code, nodes_of}
 use Rattle.acs_tree.specs.Numbers.{is_between}
 use Rattle.acs_tree.specs.References.{is_known, is_counted, is_group_list, is_misindexed, is_out_of_range, is_set_later}
-use Rattle.acs_tree.specs.Suits.{token_of, is_var_with, is_word_with, is_literal_with, is_listed, is_plain_unknown, suits, suits_set, is_order, token_if, is_bad_literal, is_too_great, range_token, is_bad_mask, is_bad_list, is_among}
+use Rattle.acs_tree.specs.Suits.{token_of, is_var_with, is_word_with, is_literal_with, is_listed, is_plain_unknown}
+use Rattle.acs_tree.specs.Suits.{suits, suits_set, is_order, token_if, is_bad_literal, is_too_great, range_token}
+use Rattle.acs_tree.specs.Suits.{is_bad_mask, is_bad_list, is_among}
 use Rattle.acs_tree.specs.Variables.{variable_of, name_of}
 
 -- the checks: each gives the token at which a node breaks it, if it does
@@ -24,10 +27,12 @@ wrong_head kind _ = None
 -- 2: an unknown variable: on the left, in SET, in WRITE or in SELECT (..), or on the right with an index
 abbrev pub unknown_variable : Node → Option ℕ
 unknown_variable (Target target) = token_if (not (is_known target)) target.at
-unknown_variable (Value target before value behind) = token_if (is_var_with (λ ref. not (is_known ref)) value.form) (token_of value)
+unknown_variable (Value target before value behind) =
+    token_if (is_var_with (λ ref. not (is_known ref)) value.form) (token_of value)
 unknown_variable (Part part) = token_if (is_var_with (λ ref. not (is_known ref)) part.form) (token_of part)
 unknown_variable (Left left) = token_if (not (is_known left)) left.at
-unknown_variable (Right left right) = token_if (is_var_with (λ ref. not (is_known ref) && is_some ref.index) right.form) (token_of right)
+unknown_variable (Right left right) =
+    token_if (is_var_with (λ ref. not (is_known ref) && is_some ref.index) right.form) (token_of right)
 unknown_variable _ = None
 
 -- 3: SET of a variable other than the kind's
@@ -37,7 +42,8 @@ not_settable kind _ = None
 
 -- 4: on the right an unknown variable, without an index, that names no earlier list
 abbrev pub unknown_list : List Stmt → Node → Option ℕ
-unknown_list before (Right left right) = token_if (is_plain_unknown right.form && not (is_listed before right.form)) (token_of right)
+unknown_list before (Right left right) =
+    token_if (is_plain_unknown right.form && not (is_listed before right.form)) (token_of right)
 unknown_list before _ = None
 
 -- 5: a list's name is that of a variable or of an earlier list
@@ -48,10 +54,14 @@ list_name_taken before _ = None
 -- 6: an operand whose kind doesn't suit; an index on a variable that takes none, or none on one that needs it
 abbrev pub kind_mismatch : List Stmt → Node → Option ℕ
 kind_mismatch before (Target target) = token_if (is_misindexed target) target.at
-kind_mismatch before (Value target earlier value behind) = token_if (not (suits_set target value.form) || is_var_with is_misindexed value.form) (token_of value)
-kind_mismatch before (Part part) = token_if (is_word_with (λ word. true) part.form || is_var_with is_misindexed part.form) (token_of part)
+kind_mismatch before (Value target earlier value behind) =
+    token_if (not (suits_set target value.form) || is_var_with is_misindexed value.form) (token_of value)
+kind_mismatch before (Part part) =
+    token_if (is_word_with (λ word. true) part.form || is_var_with is_misindexed part.form) (token_of part)
 kind_mismatch before (Left left) = token_if (is_misindexed left) left.at
-kind_mismatch before (Right left right) = token_if (not (suits (is_listed before right.form) left right.form) || is_var_with is_misindexed right.form) (token_of right)
+kind_mismatch before (Right left right) =
+    token_if (not (suits (is_listed before right.form) left right.form) || is_var_with is_misindexed right.form)
+    (token_of right)
 kind_mismatch before _ = None
 
 -- 7: a comparison by order whose left side is no number and no size
@@ -62,16 +72,22 @@ order_of_texts _ = None
 -- 8: a literal that no SET takes, an index out of its range, a number or a size that is too great
 abbrev pub value_out_of_range : Node → Option ℕ
 value_out_of_range (Target target) = token_if (is_out_of_range target) target.index_at
-value_out_of_range (Value target before value behind) = if is_literal_with (is_bad_literal before behind) value.form then Some (token_of value) else range_token value.form
+value_out_of_range (Value target before value behind) =
+    if is_literal_with (is_bad_literal before behind) value.form then Some (token_of value) else range_token value.form
 value_out_of_range (Part part) = range_token part.form
 value_out_of_range (Left left) = token_if (is_out_of_range left) left.index_at
-value_out_of_range (Right left right) = if is_word_with (is_too_great left) right.form then Some (token_of right) else range_token right.form
+value_out_of_range (Right left right) =
+    if is_word_with (is_too_great left) right.form then Some (token_of right) else range_token right.form
 value_out_of_range _ = None
 
--- 9: a word that is no suitable mask; a list entry that is neither a literal nor a mask; a list with a word that isn't simple, where it must be
+-- 9: a word that is no suitable mask; a list entry that is neither a literal nor a mask; a list with a word that isn't
+-- simple, where it must be
 abbrev pub mask_misplaced : List Stmt → Node → Option ℕ
-mask_misplaced before (Entry count entry) = token_if (is_word_with (λ word. not (is_mask word)) entry.form || is_var_with (λ ref. true) entry.form) (token_of entry)
-mask_misplaced before (Right left right) = token_if (is_word_with (is_bad_mask left) right.form || is_bad_list before left right.form) (token_of right)
+mask_misplaced before (Entry count entry) =
+    token_if (is_word_with (λ word. not (is_mask word)) entry.form || is_var_with (λ ref. true) entry.form)
+    (token_of entry)
+mask_misplaced before (Right left right) =
+    token_if (is_word_with (is_bad_mask left) right.form || is_bad_list before left right.form) (token_of right)
 mask_misplaced before _ = None
 
 -- 10: the 256th entry of an INCLUDE or an EXCLUDE
@@ -82,7 +98,8 @@ too_many_entries _ = None
 -- 11: in SET of the group list a 16th value or a repeated literal, in another SET a second value
 abbrev pub too_many_values : Node → Option ℕ
 too_many_values (Value target before value behind) =
-    token_if (if is_group_list target then length before == most_groups_set || is_literal_with (is_among before) value.form else length before == 1) (token_of value)
+    token_if (if is_group_list target then length before == most_groups_set || is_literal_with
+    (is_among before) value.form else length before == 1) (token_of value)
 too_many_values _ = None
 
 -- 12: the code is no number from 0 to 65,535
@@ -92,7 +109,8 @@ bad_exit_code _ = None
 
 -- 13: a read-write variable of a later routine is read
 abbrev pub read_too_early : Kind → Node → Option ℕ
-read_too_early kind (Value target before value behind) = token_if (is_var_with (is_set_later kind) value.form) (token_of value)
+read_too_early kind (Value target before value behind) =
+    token_if (is_var_with (is_set_later kind) value.form) (token_of value)
 read_too_early kind (Part part) = token_if (is_var_with (is_set_later kind) part.form) (token_of part)
 read_too_early kind (Left left) = token_if (is_set_later kind left) left.at
 read_too_early kind (Right left right) = token_if (is_var_with (is_set_later kind) right.form) (token_of right)
@@ -135,7 +153,8 @@ pub data Stands (routine : Routine) : List Stmt → Node → Type 0 where
 
 -- a fault of some node
 pub data IsFault (routine : Routine) (kind : Kind) (err : CheckErr) : Type 0 where
-  broken : (before : List Stmt) (node : Node) → Stands routine before node → Among err (faults_at kind before node) → IsFault routine kind err
+  broken : (before : List Stmt) (node : Node) → Stands routine before node → Among err (faults_at kind before node) →
+      IsFault routine kind err
 
 -- at the token, by the number of the check
 abbrev pub place_of : CheckErr → Place

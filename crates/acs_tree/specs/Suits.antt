@@ -1,5 +1,6 @@
 -- What the checks ask of operands (docs/acs-language.md, Kinds that suit).
-use Rattle.std.specs.Prelude.{◌&&◌, ◌||◌, ℕ, Bool, true, false, not, List, [], ◌∷◌, Option, Some, None, is_none, is_some, if◌then◌else◌}
+use Rattle.std.specs.Prelude.{◌&&◌, ◌||◌, ℕ, Bool, true, false, not, List, [], ◌∷◌, Option, Some, None, is_none}
+use Rattle.std.specs.Prelude.{is_some, if◌then◌else◌}
 use Rattle.std.specs.List.{list_any}
 use Rattle.std.specs.Str.{bytes_eq}
 use Rattle.dsn_mask.specs.Name.{name_of as construct_of}
@@ -14,7 +15,8 @@ use Rattle.acs_tree.specs.declared.variable.VariableKind.{VariableKind}
 use Rattle.acs_tree.specs.declared.variable.VariableKind.TheVariants.{Text, Number, Size, Volumes, Groups}
 use Rattle.acs_tree.specs.FilterLists.{is_mask, is_simple, is_list_ref, is_simple_list, list_named}
 use Rattle.acs_tree.specs.Numbers.{is_past_greatest, number_of, size_of}
-use Rattle.acs_tree.specs.References.{is_known, passes, is_text, is_number_variable, is_size_variable, takes_masks, is_whole_name, is_group_list, is_out_of_range}
+use Rattle.acs_tree.specs.References.{is_known, passes, is_text, is_number_variable, is_size_variable, takes_masks}
+use Rattle.acs_tree.specs.References.{is_whole_name, is_group_list, is_out_of_range}
 use Rattle.acs_tree.specs.Variables.{variable_of}
 
 -- the token of what stands at this token: of a variable, the variable's own
@@ -92,7 +94,8 @@ suits_kind listed form Size = suits_size form
 
 -- the operand may be compared with that left side
 abbrev pub suits : Bool → Option Ref → OperandForm → Bool
-suits listed left form = is_left_with (λ ref. passes (λ variable. suits_kind listed form variable.kind) (variable_of ref.name)) left
+suits listed left form =
+    is_left_with (λ ref. passes (λ variable. suits_kind listed form variable.kind) (variable_of ref.name)) left
 
 -- the operand may be a value of SET: of the group list a literal, of another variable a literal or a text variable
 abbrev pub suits_set : Ref → OperandForm → Bool
@@ -118,7 +121,9 @@ is_bad_literal before behind (byte ∷ bytes) = is_none (construct_of (byte ∷ 
 
 -- a number beside a number, or a size beside a size, that is past the greatest
 abbrev pub is_too_great : Option Ref → List ℕ → Bool
-is_too_great left word = (is_left_with is_number_variable left && is_past_greatest (number_of word)) || (is_left_with is_size_variable left && is_past_greatest (size_of word))
+is_too_great left word =
+    (is_left_with is_number_variable left && is_past_greatest (number_of word)) || (is_left_with is_size_variable
+    left && is_past_greatest (size_of word))
 
 -- the index of a variable, where it is out of its range
 abbrev pub range_token : OperandForm → Option ℕ
@@ -140,7 +145,9 @@ takes_simple left = is_left_with (λ ref. takes_masks ref && not (is_whole_name 
 
 -- the operand is a filter list with a word that is no simple mask, where only simple masks are compared
 abbrev pub is_bad_list : List Stmt → Option Ref → OperandForm → Bool
-is_bad_list before left form = is_listed before form && (takes_simple left && is_var_with (λ ref. not (is_simple_list (list_named before ref.name))) form)
+is_bad_list before left form =
+    is_listed before form && (takes_simple left && is_var_with
+    (λ ref. not (is_simple_list (list_named before ref.name))) form)
 
 -- the text is among the literals
 abbrev pub is_among : List Operand → List ℕ → Bool

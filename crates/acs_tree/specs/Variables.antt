@@ -16,7 +16,8 @@ use Rattle.acs_tree.specs.declared.variable.VariableKind.TheVariants as kind
 use Rattle.acs_tree.specs.Numbers.{number_of, within}
 use Rattle.acs_tree.specs.Value.{Value, Text, Number, Size, AnyOf, AllOf, Groups, text_at}
 
--- what a variable's name means: what the checks know of it, and what it holds in a run, by its index, which is 0 where none is written
+-- what a variable's name means: what the checks know of it, and what it holds in a run, by its index, which is 0 where
+-- none is written
 pub record VariableMeaning : Type 0 where
   pub variable : Variable
   pub value : ℕ → Input → Values → Value
@@ -27,7 +28,13 @@ Row = List ℕ × VariableMeaning
 
 -- a read-only variable without an index
 abbrev pub read_only : List ℕ → VariableKind → (Input → Value) → Row
-read_only name kind held = (name, record { variable = record { kind = kind; indexing = Never; set_by = None }; value = λ index input values. held input })
+read_only name kind held = (
+  name,
+  record {
+    variable = record { kind = kind; indexing = Never; set_by = None };
+    value = λ index input values. held input;
+  },
+)
 
 -- a text of the request
 abbrev pub text : List ℕ → (Input → List ℕ) → Row
@@ -43,11 +50,23 @@ size name held = read_only name kind.Size (λ input. Size (held input))
 
 -- a text of the request, by the index
 abbrev pub indexed : List ℕ → Indexing → (Input → ℕ → List ℕ) → Row
-indexed name indexing held = (name, record { variable = record { kind = kind.Text; indexing = indexing; set_by = None }; value = λ index input values. Text (held input index) })
+indexed name indexing held = (
+  name,
+  record {
+    variable = record { kind = kind.Text; indexing = indexing; set_by = None };
+    value = λ index input values. Text (held input index);
+  },
+)
 
 -- a variable that the routine of a kind sets and later ones read
 abbrev pub read_write : Kind → List ℕ → VariableKind → (Values → Value) → Row
-read_write setter name kind held = (name, record { variable = record { kind = kind; indexing = Never; set_by = Some setter }; value = λ index input values. held values })
+read_write setter name kind held = (
+  name,
+  record {
+    variable = record { kind = kind; indexing = Never; set_by = Some setter };
+    value = λ index input values. held values;
+  },
+)
 
 -- a variable that is always null
 abbrev pub null : List ℕ → Row
@@ -72,7 +91,8 @@ name_of StorClas = codes "STORCLAS"
 name_of MgmtClas = codes "MGMTCLAS"
 name_of StorGrp = codes "STORGRP"
 
--- all variables: parts of the data set's name, what routines set, who asks, what the data set is to be, numbers, sizes, volumes, accounting, where the routine runs, the defaults of the request, and what is always null
+-- all variables: parts of the data set's name, what routines set, who asks, what the data set is to be, numbers, sizes,
+-- volumes, accounting, where the routine runs, the defaults of the request, and what is always null
 abbrev pub variables : List Row
 variables =
     indexed (codes "DSN") (Maybe 22) (λ input index. part_of_name input.dsn index) ∷
@@ -144,7 +164,8 @@ value_by (Some meaning) index input values = meaning.value index input values
 unfoldable pub variable_value : List ℕ → ℕ → Input → Values → Value
 variable_value name = value_by (look_up variables name)
 
--- the index as it is written: 0 where there is none, and 255, which no variable takes, where it is no number from 1 to 254
+-- the index as it is written: 0 where there is none, and 255, which no variable takes, where it is no number from 1 to
+-- 254
 abbrev pub index_of : Option (List ℕ) → ℕ
 index_of None = 0
 index_of (Some word) = unwrap_or (within 1 254 (number_of word)) 255

@@ -22,7 +22,8 @@ impl Model for Account {
 
     ghost view = { λ s. take s.count s.items };
 
-    ghost invariant = { λ s. (s.count ≡ length (take s.count s.items)) × (s.items ≡ filled 8 no_field (take s.count s.items)) × (length (take s.count s.items) ≤ 8) };
+    ghost invariant = { λ s. (s.count ≡ length (take s.count s.items)) ×
+        (s.items ≡ filled 8 no_field (take s.count s.items)) × (length (take s.count s.items) ≤ 8) };
 
     ghost inverse = { λ xs. record { items = filled 8 no_field xs; count = length xs } };
 

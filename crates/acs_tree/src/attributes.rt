@@ -17,7 +17,15 @@ pub struct Attributes {
 
 impl Attributes {
     pub(crate) fn new() -> Self
-        ensures { result ≡ record { unit = []; dsorg = []; recorg = []; dsntype = []; dstype = codes "PERM"; dsowner = []; expdt = [] } }
+        ensures { result ≡ record {
+          unit = [];
+          dsorg = [];
+          recorg = [];
+          dsntype = [];
+          dstype = codes "PERM";
+          dsowner = [];
+          expdt = [];
+        } }
     {
         Attributes {
             unit: Short::null(),

@@ -114,7 +114,12 @@ impl Given {
 }
 
 fn texts_of(input: &Input) -> GivenTexts
-    ensures { result ≡ record { origin = input.now.origin; attributes = input.now.attributes; environment = input.now.environment; defaults = input.now.defaults } }
+    ensures { result ≡ record {
+      origin = input.now.origin;
+      attributes = input.now.attributes;
+      environment = input.now.environment;
+      defaults = input.now.defaults;
+    } }
 {
     GivenTexts {
         origin: input.origin,

@@ -31,7 +31,8 @@ impl Model for Slate {
 
     ghost view = { λ s. record { lines = take s.count s.room.items; more = s.more } };
 
-    ghost invariant = { λ s. (length s.room.items ≡ 256) × (s.count ≤ 256) × IsSlate (record { lines = take s.count s.room.items; more = s.more }) };
+    ghost invariant = { λ s. (length s.room.items ≡ 256) × (s.count ≤ 256) ×
+        IsSlate (record { lines = take s.count s.room.items; more = s.more }) };
 }
 
 impl Slate {

@@ -144,7 +144,8 @@ impl Variable {
 
 // The rows whose names have so many bytes.
 fn with_length(count: usize) -> &'static [(&'static [u8], Variable)]
-    ensures { map (λ row. (row.0.now, row.1)) result.now ≡ map {B = List ℕ × VariableOf} (λ (row : Row). (row.0, row.1.variable)) (filter (λ (row : Row). length row.0 == count) variables) }
+    ensures { map (λ row. (row.0.now, row.1)) result.now ≡ map {B = List ℕ × VariableOf}
+        (λ (row : Row). (row.0, row.1.variable)) (filter (λ (row : Row). length row.0 == count) variables) }
 {
     match count {
         2 => &OF_TWO,

@@ -23,7 +23,8 @@ impl Model for Volumes {
 
     ghost view = { λ s. take s.count s.items };
 
-    ghost invariant = { λ s. (s.count ≡ length (take s.count s.items)) × (s.items ≡ filled 59 no_volume (take s.count s.items)) × (length (take s.count s.items) ≤ 59) };
+    ghost invariant = { λ s. (s.count ≡ length (take s.count s.items)) ×
+        (s.items ≡ filled 59 no_volume (take s.count s.items)) × (length (take s.count s.items) ≤ 59) };
 
     ghost inverse = { λ xs. record { items = filled 59 no_volume xs; count = length xs } };
 

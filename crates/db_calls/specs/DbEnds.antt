@@ -69,7 +69,8 @@ module _ {P : Type 0} (told_by : Ghosts P) (damage : P → Option (Table × ℕ)
   DbEnds old new before after (Ran runs.WriteFault) = WasReopened old new before after runs.WriteFault
   DbEnds old new before after (Ran (runs.Script err)) = WasReopened old new before after (runs.Script err)
   DbEnds old new before after (Ran runs.TooLong) = WasReopened old new before after runs.TooLong
-  DbEnds old new before after (Ran runs.NoMemory) = WasReopened old new before after runs.NoMemory ⊎ IsUnopened old new before after
+  DbEnds old new before after (Ran runs.NoMemory) =
+      WasReopened old new before after runs.NoMemory ⊎ IsUnopened old new before after
   DbEnds old new before after StoreFault = HasStoreFault before after
   DbEnds old new before after (Store err) = IsUnopened old new before after
 

@@ -6,5 +6,6 @@ abbrev pub database_in : List (List ℕ) → Option (List ℕ)
 database_in [] = None
 database_in (word ∷ []) = None
 database_in (word ∷ option ∷ []) = None
-database_in (word ∷ option ∷ file ∷ []) = if bytes_eq word (codes "run") && bytes_eq option (codes "--db") then Some file else None
+database_in (word ∷ option ∷ file ∷ []) =
+    if bytes_eq word (codes "run") && bytes_eq option (codes "--db") then Some file else None
 database_in (word ∷ option ∷ file ∷ more ∷ words) = None

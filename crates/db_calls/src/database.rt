@@ -30,8 +30,10 @@ pub fn db_main<S: Source, K: Sink, P: Stored>(
     ensures unasked { result.0 ≡ DbStatus.Ran BadWords → src.new ≡ src.old }
     ensures unread { result.0 ≡ DbStatus.StoreFault → src.new ≡ src.old }
     ensures unopened { (err : Refusal) → result.0 ≡ DbStatus.Store err → src.new ≡ src.old }
-    ensures refused { (err : Refusal) → result.0 ≡ DbStatus.Store err → (is_told err ≡ true) × NamesRefusal (P.Keeper.told result.1) (P.damage result.1) err }
-    ensures damage { (err : Refusal) → result.0 ≡ DbStatus.Store err → SameDamage (P.damage keeper) (P.damage result.1) }
+    ensures refused { (err : Refusal) → result.0 ≡ DbStatus.Store err →
+        (is_told err ≡ true) × NamesRefusal (P.Keeper.told result.1) (P.damage result.1) err }
+    ensures damage { (err : Refusal) → result.0 ≡ DbStatus.Store err →
+        SameDamage (P.damage keeper) (P.damage result.1) }
     ensures unwritten { leaves_sink_of result.0 ≡ true → out.new ≡ out.old }
     ensures unrun { result.0 ≡ DbStatus.Ran BadWords → result.1 ≡ keeper }
     ensures ends { (file : List ℕ) → database_in (map string_bytes words.now) ≡ Some file → DbEnds P.Keeper P.damage
@@ -55,8 +57,10 @@ fn run_stored<S: Source, K: Sink, P: Stored>(
     ensures words { result.0 ≡ DbStatus.Ran BadWords → ⊥ }
     ensures unread { result.0 ≡ DbStatus.StoreFault → src.new ≡ src.old }
     ensures unopened { (err : Refusal) → result.0 ≡ DbStatus.Store err → src.new ≡ src.old }
-    ensures refused { (err : Refusal) → result.0 ≡ DbStatus.Store err → (is_told err ≡ true) × NamesRefusal (P.Keeper.told result.1) (P.damage result.1) err }
-    ensures damage { (err : Refusal) → result.0 ≡ DbStatus.Store err → SameDamage (P.damage keeper) (P.damage result.1) }
+    ensures refused { (err : Refusal) → result.0 ≡ DbStatus.Store err →
+        (is_told err ≡ true) × NamesRefusal (P.Keeper.told result.1) (P.damage result.1) err }
+    ensures damage { (err : Refusal) → result.0 ≡ DbStatus.Store err →
+        SameDamage (P.damage keeper) (P.damage result.1) }
     ensures unwritten { leaves_sink_of result.0 ≡ true → out.new ≡ out.old }
     ensures ends { DbEnds P.Keeper P.damage
         (seen_streams S.left S.reads S.read_faults K.taken K.write_faults src.old out.old)
@@ -80,8 +84,10 @@ fn run_ready<S: Source, K: Sink, P: Stored>(
     ensures words { result.0 ≡ DbStatus.Ran BadWords → ⊥ }
     ensures unread { result.0 ≡ DbStatus.StoreFault → src.new ≡ src.old }
     ensures unopened { (err : Refusal) → result.0 ≡ DbStatus.Store err → src.new ≡ src.old }
-    ensures refused { (err : Refusal) → result.0 ≡ DbStatus.Store err → (is_told err ≡ true) × NamesRefusal (P.Keeper.told result.1) (P.damage result.1) err }
-    ensures damage { (err : Refusal) → result.0 ≡ DbStatus.Store err → StaysDamaged (P.damage keeper) (P.damage result.1) }
+    ensures refused { (err : Refusal) → result.0 ≡ DbStatus.Store err →
+        (is_told err ≡ true) × NamesRefusal (P.Keeper.told result.1) (P.damage result.1) err }
+    ensures damage { (err : Refusal) → result.0 ≡ DbStatus.Store err →
+        StaysDamaged (P.damage keeper) (P.damage result.1) }
     ensures unwritten { leaves_sink_of result.0 ≡ true → out.new ≡ out.old }
     ensures ends { DbEnds P.Keeper P.damage
         (seen_streams S.left S.reads S.read_faults K.taken K.write_faults src.old out.old)

@@ -4,7 +4,8 @@ ghost use Rattle.db_calls.specs.DbWords.{database_in};
 
 /// The file that the words name, and `None` where they name none.
 pub fn database_asked(words: &[String]) -> Option<&str>
-    ensures { MatchOption result (database_in (map string_bytes words.now) ≡ None) (λ file. database_in (map string_bytes words.now) ≡ Some file.now) }
+    ensures { MatchOption result (database_in (map string_bytes words.now) ≡ None)
+        (λ file. database_in (map string_bytes words.now) ≡ Some file.now) }
 {
     match words {
         [word, option, file] if word.as_str() == "run" && option.as_str() == "--db" => {

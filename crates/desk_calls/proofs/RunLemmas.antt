@@ -1,5 +1,6 @@
 -- One more answer.
-use Rattle.std.proofs.Common.{◌≡◌, ◌<◌, ◌≤◌, ◌+◌, List, [], ◌∷◌, ◌++◌, ℕ, zero, suc, Bool, true, false, take, drop, length, get_or, refl, subst, sym, ap, ◌∙◌, arith, append_assoc, append-nil, length-append}
+use Rattle.std.proofs.Common.{◌≡◌, ◌<◌, ◌≤◌, ◌+◌, List, [], ◌∷◌, ◌++◌, ℕ, zero, suc, Bool, true, false, take, drop}
+use Rattle.std.proofs.Common.{length, get_or, refl, subst, sym, ap, ◌∙◌, arith, append_assoc, append-nil, length-append}
 use Rattle.std.specs.Prelude.{Option}
 use Rattle.sms_construct.specs.declared.entry.Answer.{Answer}
 use Rattle.sms_construct.specs.declared.entry.Entry.{Entry}

@@ -1,5 +1,6 @@
 -- The headline: the answers written are those of one legal history that holds each request of the script once.
-use Rattle.std.specs.Prelude.{◌≡◌, ◌+◌, ◌-◌, ◌^◌, ◌≤◌, ◌<◌, ◌⊎◌, List, [], ◌∷◌, ◌++◌, ℕ, Bool, true, false, length, map, min, nat_lt, Option, Some, None, Ok}
+use Rattle.std.specs.Prelude.{◌≡◌, ◌+◌, ◌-◌, ◌^◌, ◌≤◌, ◌<◌, ◌⊎◌, List, [], ◌∷◌, ◌++◌, ℕ, Bool, true, false, length, map}
+use Rattle.std.specs.Prelude.{min, nat_lt, Option, Some, None, Ok}
 use Rattle.sms_construct.specs.declared.data_set.DataSet.{DataSet}
 use Rattle.sms_construct.specs.declared.entry.Answer.{Answer}
 use Rattle.sms_construct.specs.declared.entry.Entry.{Entry}
@@ -43,35 +44,42 @@ seen_keeper told count keeper = record { told = told keeper; count = count keepe
 -- other is fresh
 pub record KeepsReplies (o : Opening) (history : List Entry) : Type 0 where
   pub below : (front rest : List Entry) (entry : Entry) → history ≡ front ++ entry ∷ rest
-      → nat_lt entry.request.number (floor_of o front entry.request.job) ≡ true → entry.answer.reply ≡ Below (floor_of o front entry.request.job)
+      → nat_lt entry.request.number (floor_of o front entry.request.job) ≡ true
+      → entry.answer.reply ≡ Below (floor_of o front entry.request.job)
   pub kept : (front rest : List Entry) (entry : Entry) (row : KeptRow) → history ≡ front ++ entry ∷ rest
       → nat_lt entry.request.number (floor_of o front entry.request.job) ≡ false
-      → kept_for o front entry.request.job entry.request.number ≡ Some row → RepeatsReply row entry ⊎ ReusesNumber row entry
+      → kept_for o front entry.request.job entry.request.number ≡ Some row
+      → RepeatsReply row entry ⊎ ReusesNumber row entry
   pub fresh : (front rest : List Entry) (entry : Entry) → history ≡ front ++ entry ∷ rest
       → nat_lt entry.request.number (floor_of o front entry.request.job) ≡ false
       → kept_for o front entry.request.job entry.request.number ≡ None
       → (s : DeskState) × (after : DeskState) × Reaches o front s × IsFresh (floor_of o front) s entry after
-  pub floors : (front more rest : List Entry) (job : List ℕ) → history ≡ (front ++ more) ++ rest → floor_of o front job ≤ floor_of o (front ++ more) job
+  pub floors : (front more rest : List Entry) (job : List ℕ) → history ≡ (front ++ more) ++ rest →
+      floor_of o front job ≤ floor_of o (front ++ more) job
 
 -- the history behind the opening is lawful in all that it grants, holds and keeps
 pub record IsLawfulHistory (o : Opening) (history : List Entry) : Type 0 where
   -- each entry has the place at which it stands, counted on from the opening's, which is 0 for a new desk
-  pub places : (front rest : List Entry) (entry : Entry) → history ≡ front ++ entry ∷ rest → entry.answer.place ≡ o.base + length front + 1
+  pub places : (front rest : List Entry) (entry : Entry) → history ≡ front ++ entry ∷ rest →
+      entry.answer.place ≡ o.base + length front + 1
   -- legal history: each entry is a lawful step after those before it
   pub legal : IsLegal o history
   -- lawful grants: each grant, also a repeated one, is that of a reply of the opening to an equal request, or of an
   -- entry with an equal request, whose classes and lines are those of the routines of the configuration active there,
   -- on a volume that may be chosen, in pieces of the gap rule
-  pub grants : (front rest : List Entry) (entry : Entry) (set : DataSet) (trace : Trace) → history ≡ front ++ entry ∷ rest
+  pub grants : (front rest : List Entry) (entry : Entry) (set : DataSet) (trace : Trace)
+      → history ≡ front ++ entry ∷ rest
       → entry.answer.reply ≡ Granted set trace → WasGranted o front entry set trace
   -- one that was first answered at a place behind the opening's is that of an entry
-  pub entered : (front rest : List Entry) (entry : Entry) (set : DataSet) (trace : Trace) → history ≡ front ++ entry ∷ rest
+  pub entered : (front rest : List Entry) (entry : Entry) (set : DataSet) (trace : Trace)
+      → history ≡ front ++ entry ∷ rest
       → entry.answer.reply ≡ Granted set trace → o.base < entry.answer.first → WasEntered o front entry set trace
   -- at each time the state is lawful: no track is held twice, and each extent lies inside its volume
   pub lawful : (front rest : List Entry) (s : DeskState) → history ≡ front ++ rest → Reaches o front s → IsLawful s
   -- no track of two data sets
   pub tracks : (front rest : List Entry) (s : DeskState) → history ≡ front ++ rest → Reaches o front s
-      → (first middle last : List DataSet) (set other : DataSet) (volser : List ℕ) (track : ℕ) → s.sets ≡ first ++ set ∷ (middle ++ other ∷ last)
+      → (first middle last : List DataSet) (set other : DataSet) (volser : List ℕ) (track : ℕ)
+      → s.sets ≡ first ++ set ∷ (middle ++ other ∷ last)
       → times_held (pieces_on volser set.extents) track + times_held (pieces_on volser other.extents) track ≤ 1
   pub kept : KeepsReplies o history
 
@@ -85,7 +93,8 @@ pub record IsRecorded (o : Opening) (before after : Keeping) (history : List Ent
 
 -- the items were answered by so many workers behind an opening over a keeper, which was one thing before and is another
 -- after
-pub record WasRun (o : Opening) (workers : ℕ) (before after : Keeping) (phases : List (List Item)) (answers : List Answer) (history : List Entry) : Type 0 where
+pub record WasRun (o : Opening) (workers : ℕ) (before after : Keeping) (phases : List (List Item))
+    (answers : List Answer) (history : List Entry) : Type 0 where
   -- one history, each request once: each item has its answer, and the entries of the answers make the history, those of
   -- a phase behind those of the phases before it, and in each phase those of each job in script order; the items
   -- without a place are those answered M31 or R24, and R24 comes only where the history has no place for the op
@@ -101,7 +110,8 @@ abbrev pub AreRows : Opening → List Entry → List VolRow → Type 0
 AreRows o history rows = (s : DeskState) → Reaches o history s → rows ≡ map (shown_volume s) (volumes_in s.active)
 
 -- the text of the answers, and behind it the table of volumes
-pub record HasTable (o : Opening) (phases : List (List Item)) (answers : List Answer) (history : List Entry) (text : List ℕ) : Type 0 where
+pub record HasTable (o : Opening) (phases : List (List Item)) (answers : List Answer) (history : List Entry)
+    (text : List ℕ) : Type 0 where
   pub rows : List VolRow
   pub rows_are : AreRows o history rows
   pub text_is : text ≡ text_of phases answers (length history) ++ table_text rows
@@ -113,7 +123,8 @@ Prints o true phases answers history text = HasTable o phases answers history te
 
 -- the text is that of the answers to the script in these bytes by so many workers, and they are those of one legal
 -- history
-pub record IsAnswered (o : Opening) (volumes : Bool) (workers : ℕ) (before after : Keeping) (bytes text : List ℕ) : Type 0 where
+pub record IsAnswered (o : Opening) (volumes : Bool) (workers : ℕ) (before after : Keeping)
+    (bytes text : List ℕ) : Type 0 where
   pub phases : List (List Item)
   pub answers : List Answer
   pub history : List Entry
@@ -142,7 +153,8 @@ pub record WasFrontRun (o : Opening) (workers : ℕ) (before after : Keeping) (b
 
 -- the whole script in these bytes was run, or, by several workers, only some of its first phases
 abbrev pub WasBegun : Opening → ℕ → Keeping → Keeping → List ℕ → Type 0
-WasBegun o workers before after bytes = WasScriptRun o workers before after bytes ⊎ WasFrontRun o workers before after bytes
+WasBegun o workers before after bytes =
+    WasScriptRun o workers before after bytes ⊎ WasFrontRun o workers before after bytes
 
 -- where memory was wanting, the keeper is as it was, or the script in these bytes was begun
 abbrev pub IsLeft : Opening → ℕ → Keeping → Keeping → List ℕ → Type 0

@@ -21,7 +21,8 @@ pub record IsDue (h : List Entry) (request : Request) (answer : Answer) : Type 0
 abbrev pub AreDue : List Entry → List Answer → List Item → Type 0
 AreDue h [] items = Unit {0}
 AreDue h (answer ∷ answers) [] = Unit {0}
-AreDue h (answer ∷ answers) (item ∷ items) = IsDue h item.request answer × AreDue (h ++ entry_of item.request answer) answers items
+AreDue h (answer ∷ answers) (item ∷ items) =
+    IsDue h item.request answer × AreDue (h ++ entry_of item.request answer) answers items
 
 -- each item has its answer, and the journal grew by their entries, each once and in script order
 pub record AnswersInOrder (items : List Item) (answers : List Answer) (old new : List Entry) : Type 0 where
@@ -30,7 +31,8 @@ pub record AnswersInOrder (items : List Item) (answers : List Answer) (old new :
   pub due : AreDue old answers items
 
 -- so many of the items have their answers, behind those before them
-pub record AnswersFront (items : List Item) (count : ℕ) (before after : List Answer) (old new : List Entry) : Type 0 where
+pub record AnswersFront (items : List Item) (count : ℕ) (before after : List Answer)
+    (old new : List Entry) : Type 0 where
   pub answers : List Answer
   pub behind : after ≡ before ++ answers
   pub counted : length answers ≡ count

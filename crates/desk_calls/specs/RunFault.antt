@@ -6,14 +6,16 @@ use Rattle.desk_common.specs.Fronts.{IsProperPrefix}
 use Rattle.desk_common.specs.Limits.{most_input_bytes}
 use Rattle.desk_law.specs.Records.{empty_opening}
 use Rattle.desk_law.specs.State.{Opening}
-use Rattle.sms_base.specs.Observed.{Observed, IsUnwritten, WasRead, WasAnswered, HasReadFault, HasWriteFault, IsTooLong, IsOutOfMemory}
+use Rattle.sms_base.specs.Observed.{Observed, IsUnwritten, WasRead, WasAnswered, HasReadFault, HasWriteFault, IsTooLong}
+use Rattle.sms_base.specs.Observed.{IsOutOfMemory}
 use Rattle.sms_script.specs.declared.script_err.ScriptErr.{ScriptErr}
 use Rattle.sms_script.specs.Script.{script_of}
 use Rattle.desk_words.specs.declared.task.Task.{Task}
 use Rattle.desk_words.specs.declared.task.Task.TheVariants as tasks
 use Rattle.desk_calls.specs.Headline.{IsAnswered, IsLoadLeft, IsSummed, Keeping, WasBegun}
 use Rattle.desk_calls.specs.declared.status.RunStatus.{RunStatus}
-use Rattle.desk_calls.specs.declared.status.RunStatus.TheVariants.{Done, BadWords, ReadFault, WriteFault, Script, TooLong, NoMemory}
+use Rattle.desk_calls.specs.declared.status.RunStatus.TheVariants.{Done, BadWords, ReadFault, WriteFault, Script}
+use Rattle.desk_calls.specs.declared.status.RunStatus.TheVariants.{TooLong, NoMemory}
 
 -- the bytes that were read have this fault as a script, and nothing was run
 pub record IsFaulty (old new : Observed) (err : ScriptErr) : Type 0 where
@@ -55,10 +57,12 @@ leaves_keeper NoMemory = false
 
 -- what each status of a run behind an opening says of what was observed before and after, and of the keeper
 abbrev pub RunEnds : Opening → Bool → ℕ → Observed → Observed → Keeping → Keeping → RunStatus → Type 0
-RunEnds o volumes workers old new before after Done = WasAnswered most_input_bytes (IsAnswered o volumes workers before after) old new
+RunEnds o volumes workers old new before after Done =
+    WasAnswered most_input_bytes (IsAnswered o volumes workers before after) old new
 RunEnds o volumes workers old new before after BadWords = ⊥
 RunEnds o volumes workers old new before after ReadFault = HasReadFault most_input_bytes old new
-RunEnds o volumes workers old new before after WriteFault = HasWriteFault most_input_bytes (IsAnswered o volumes workers before after) old new
+RunEnds o volumes workers old new before after WriteFault =
+    HasWriteFault most_input_bytes (IsAnswered o volumes workers before after) old new
 RunEnds o volumes workers old new before after (Script err) = IsFaulty old new err
 RunEnds o volumes workers old new before after TooLong = IsTooLong most_input_bytes old new
 RunEnds o volumes workers old new before after NoMemory = IsWanting o workers old new before after
@@ -91,5 +95,6 @@ LoadEnds seed count old new before after NoMemory = IsLoadLeft seed count before
 
 -- what each status of a task on a new desk says
 abbrev pub Ends : Task → Observed → Observed → Keeping → Keeping → RunStatus → Type 0
-Ends (tasks.Run volumes workers) old new before after status = RunEnds empty_opening volumes workers old new before after status
+Ends (tasks.Run volumes workers) old new before after status =
+    RunEnds empty_opening volumes workers old new before after status
 Ends (tasks.Generate seed count) old new before after status = LoadEnds seed count old new before after status

@@ -40,7 +40,8 @@ pub fn desk_main<S: Source, K: Sink, P: Keeper + Send, R: Threads + Wait + Sync,
     requires tables { IfSome (P.told keeper) (λ rows. AreSame rows no_rows) }
     ensures words { result.0 ≡ RunStatus.BadWords ↔ (task_in (map string_bytes words.now) ≡ None) }
     ensures unread { result.0 ≡ RunStatus.BadWords → src.new ≡ src.old }
-    ensures unasked { (seed count : ℕ) → task_in (map string_bytes words.now) ≡ Some (Generate seed count) → src.new ≡ src.old }
+    ensures unasked { (seed count : ℕ) → task_in (map string_bytes words.now) ≡ Some (Generate seed count) →
+        src.new ≡ src.old }
     ensures unwritten { leaves_sink result.0 ≡ true → out.new ≡ out.old }
     ensures unrun { leaves_keeper result.0 ≡ true → result.1 ≡ keeper }
     ensures ends { (task : Asked) → task_in (map string_bytes words.now) ≡ Some task → Ends task

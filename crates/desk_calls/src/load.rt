@@ -22,8 +22,10 @@ pub fn load_text<P: Keeper>(
 ) -> (Result<Vec<u8>, AllocError>, P)
     requires few { count ≤ 40000 }
     requires tables { IfSome (P.told keeper) (λ rows. AreSame rows no_rows) }
-    ensures summed { IfOk result.0 (λ text. IsSummed seed count (seen_keeper P.told P.count keeper) (seen_keeper P.told P.count result.1) text.items) }
-    ensures left { OnErr result.0 (IsLoadLeft seed count (seen_keeper P.told P.count keeper) (seen_keeper P.told P.count result.1)) }
+    ensures summed { IfOk result.0 (λ text. IsSummed seed count (seen_keeper P.told P.count keeper)
+        (seen_keeper P.told P.count result.1) text.items) }
+    ensures left { OnErr result.0 (IsLoadLeft seed count (seen_keeper P.told P.count keeper)
+        (seen_keeper P.told P.count result.1)) }
 {
     let Ok(script) = generate(alloc, seed, count) else {
         return (Err(AllocError), keeper);

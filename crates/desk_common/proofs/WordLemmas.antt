@@ -1,5 +1,6 @@
 -- The first piece of a text.
-use Rattle.std.proofs.Common.{◌≡◌, ◌<◌, ℕ, zero, suc, true, false, List, [], ◌∷◌, ◌++◌, length, get_or, take, drop, refl, sym, append-nil, arith}
+use Rattle.std.proofs.Common.{◌≡◌, ◌<◌, ℕ, zero, suc, true, false, List, [], ◌∷◌, ◌++◌, length, get_or, take, drop}
+use Rattle.std.proofs.Common.{refl, sym, append-nil, arith}
 use Rattle.desk_common.specs.Words.{is_one_of, pieces_of, without_empty, words_of}
 
 pub first_piece_is : (blanks text : List ℕ) (n : ℕ) → ((k : ℕ) → k < n → is_one_of blanks (get_or text k 0) ≡ false) → n < length text

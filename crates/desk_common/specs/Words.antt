@@ -20,7 +20,8 @@ onto byte (piece ∷ pieces) = (byte ∷ piece) ∷ pieces
 -- the pieces of a text between the bytes that part it, empty ones too; the empty text has one empty piece
 abbrev pub pieces_between : (ℕ → Bool) → List ℕ → List (List ℕ)
 pieces_between parts [] = [] ∷ []
-pieces_between parts (byte ∷ bytes) = if parts byte then [] ∷ pieces_between parts bytes else onto byte (pieces_between parts bytes)
+pieces_between parts (byte ∷ bytes) =
+    if parts byte then [] ∷ pieces_between parts bytes else onto byte (pieces_between parts bytes)
 
 -- the pieces between the separators
 abbrev pub pieces_of : List ℕ → List ℕ → List (List ℕ)

@@ -1,9 +1,11 @@
 -- The last of the generated items.
-use Rattle.std.proofs.Common.{◌≡◌, ◌+◌, ℕ, zero, suc, List, [], ◌∷◌, ◌++◌, length, get_or, refl, sym, ap, ◌∙◌, arith, length-append}
+use Rattle.std.proofs.Common.{◌≡◌, ◌+◌, ℕ, zero, suc, List, [], ◌∷◌, ◌++◌, length, get_or, refl, sym, ap, ◌∙◌, arith}
+use Rattle.std.proofs.Common.{length-append}
 use Rattle.std.proofs.Math.Seq.{get_or-append_seam}
 use Rattle.sms_construct.specs.declared.request.Request.{Request}
 use Rattle.sms_script.specs.declared.item.Item.{Item}
-use Rattle.desk_generator.specs.Generated.{drawn_at, first_request, item_at, items_up_to, next_number, number_at, request_at, request_behind}
+use Rattle.desk_generator.specs.Generated.{drawn_at, first_request, item_at, items_up_to, next_number, number_at}
+use Rattle.desk_generator.specs.Generated.{request_at, request_behind}
 
 pub length-up_to : (seed i : ℕ) → length (items_up_to seed i) ≡ i + 1
 length-up_to seed zero = refl

@@ -1,5 +1,6 @@
 -- The generated script (docs/generator.md).
-use Rattle.std.specs.Prelude.{ℕ, zero, suc, ◌+◌, ◌*◌, ◌/◌, ◌%◌, ◌==◌, ◌&&◌, not, Bool, List, [], ◌∷◌, ◌++◌, codes, decimal, flat_map, if◌then◌else◌}
+use Rattle.std.specs.Prelude.{ℕ, zero, suc, ◌+◌, ◌*◌, ◌/◌, ◌%◌, ◌==◌, ◌&&◌, not, Bool, List, [], ◌∷◌, ◌++◌, codes}
+use Rattle.std.specs.Prelude.{decimal, flat_map, if◌then◌else◌}
 use Rattle.sms_construct.specs.Quantities.{Quantities}
 use Rattle.sms_construct.specs.Requests.{plain_alloc}
 use Rattle.sms_construct.specs.declared.request.Op.{Op}
@@ -60,7 +61,8 @@ drawn_space drawn = record { unit = Trk; primary = 1 + drawn % 50; secondary = 1
 abbrev pub drawn_op : ℕ → ℕ → Op
 drawn_op i drawn =
     if drawn % 8 == 5 then ops.Extend (numbered_name (1 + drawn % i))
-    else (if drawn % 8 == 6 then ops.Delete (numbered_name (1 + drawn % i)) else ops.Alloc (plain_alloc (numbered_name i) (drawn_space drawn)))
+    else (if drawn % 8 == 6 then ops.Delete (numbered_name (1 + drawn % i))
+    else ops.Alloc (plain_alloc (numbered_name i) (drawn_space drawn)))
 
 -- a request of its own
 abbrev pub drawn_request : ℕ → ℕ → Request

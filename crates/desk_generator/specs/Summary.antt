@@ -1,5 +1,6 @@
 -- The summary of a generated run (docs/generator.md).
-use Rattle.std.specs.Prelude.{ℕ, ◌-◌, ◌==◌, List, [], ◌∷◌, ◌++◌, bytes_eq, codes, count_by, decimal, flat_map, length, sum_by, take, if◌then◌else◌}
+use Rattle.std.specs.Prelude.{ℕ, ◌-◌, ◌==◌, List, [], ◌∷◌, ◌++◌, bytes_eq, codes, count_by, decimal, flat_map, length}
+use Rattle.std.specs.Prelude.{sum_by, take, if◌then◌else◌}
 use Rattle.sms_construct.specs.declared.entry.Answer.{Answer}
 use Rattle.sms_construct.specs.declared.reply.Reply.{Reply}
 use Rattle.sms_construct.specs.declared.vol_row.VolRow.{VolRow}
@@ -13,9 +14,11 @@ code_of reply = take 3 (reply_text reply)
 -- all codes, in byte order
 abbrev pub all_codes : List (List ℕ)
 all_codes =
-    codes "A00" ∷ codes "A01" ∷ codes "A02" ∷ codes "A03" ∷ codes "A04" ∷ codes "A05" ∷ codes "A06" ∷ codes "A07" ∷ codes "A08" ∷ codes "A09"
+    codes "A00" ∷ codes "A01" ∷ codes "A02" ∷ codes "A03" ∷ codes "A04" ∷ codes "A05" ∷ codes "A06" ∷ codes
+    "A07" ∷ codes "A08" ∷ codes "A09"
     ∷ codes "F30" ∷ codes "M31"
-    ∷ codes "R10" ∷ codes "R11" ∷ codes "R12" ∷ codes "R13" ∷ codes "R14" ∷ codes "R15" ∷ codes "R16" ∷ codes "R17" ∷ codes "R18" ∷ codes "R19"
+    ∷ codes "R10" ∷ codes "R11" ∷ codes "R12" ∷ codes "R13" ∷ codes "R14" ∷ codes "R15" ∷ codes "R16" ∷ codes
+    "R17" ∷ codes "R18" ∷ codes "R19"
     ∷ codes "R20" ∷ codes "R21" ∷ codes "R22" ∷ codes "R23" ∷ codes "R24" ∷ codes "R25" ∷ []
 
 -- how many of the answers have the code
@@ -40,7 +43,8 @@ free_in rows = sum_by (λ row. row.free) rows
 
 -- the granted and the free tracks in a line each
 abbrev pub tracks_text : List VolRow → List ℕ
-tracks_text rows = line_of (codes "GRANTED" ∷ decimal (granted_in rows) ∷ []) ++ line_of (codes "FREE" ∷ decimal (free_in rows) ∷ [])
+tracks_text rows = line_of (codes "GRANTED" ∷ decimal (granted_in rows) ∷ []) ++ line_of
+    (codes "FREE" ∷ decimal (free_in rows) ∷ [])
 
 -- a line for each code that was answered
 unfoldable pub counts_text : List Answer → List ℕ
@@ -50,4 +54,5 @@ counts_text answers = flat_map (λ code. count_line code (times_answered code an
 -- numbers of entries and items
 abbrev pub summary_of : ℕ → ℕ → List Answer → List VolRow → ℕ → List ℕ
 summary_of seed count answers rows entries =
-    line_of (codes "GEN" ∷ decimal seed ∷ decimal count ∷ []) ++ (counts_text answers ++ (tracks_text rows ++ end_text entries (length answers)))
+    line_of (codes "GEN" ∷ decimal seed ∷ decimal count ∷ []) ++ (counts_text
+    answers ++ (tracks_text rows ++ end_text entries (length answers)))

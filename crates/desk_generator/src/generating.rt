@@ -41,7 +41,8 @@ fn push_behind(alloc: Global, items: &mut Phase, place: u32, drawn: u32) -> Resu
     requires last { length items.old ≡ place + 1 }
     requires few { place < 40000 }
     requires drawn { drawn < 32768 }
-    ensures { OnOk result ((seed : ℕ) → drawn ≡ drawn_at seed (place + 1) → items.old ≡ items_up_to seed place → items.new ≡ items_up_to seed (place + 1)) }
+    ensures { OnOk result ((seed : ℕ) → drawn ≡ drawn_at seed (place + 1) → items.old ≡ items_up_to seed place →
+        items.new ≡ items_up_to seed (place + 1)) }
 {
     let last = &items.as_slice()[place as usize];
     let request = request_behind(alloc, &last.request, place + 1, drawn)?;

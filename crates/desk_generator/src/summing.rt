@@ -2,7 +2,8 @@
 ghost use Rattle.std.specs.Prelude.{◌≡◌, ◌<◌, ◌-◌, ◌^◌, ◌++◌, ◌∷◌, [], ℕ, List, codes, decimal};
 ghost use Rattle.std.specs.Prelude.{flat_map, length, map, IfOk, OnOk};
 ghost use Rattle.sms_script.specs.AnswerText.{end_text};
-ghost use Rattle.desk_generator.specs.Summary.{count_line, counts_text, free_in, granted_in, line_of, summary_of, tracks_text};
+ghost use Rattle.desk_generator.specs.Summary.{count_line, counts_text, free_in, granted_in, line_of, summary_of};
+ghost use Rattle.desk_generator.specs.Summary.{tracks_text};
 
 use crate::counting::{CODES, times_of_all};
 use desk_common::push_number;
@@ -31,7 +32,8 @@ pub fn summary(
 }
 
 fn push_head(text: &mut Vec<u8>, seed: u32, count: u32) -> Result<(), AllocError>
-    ensures { OnOk result (text.new.items ≡ text.old.items ++ line_of (codes "GEN" ∷ decimal seed ∷ decimal count ∷ [])) }
+    ensures { OnOk result (text.new.items ≡ text.old.items ++ line_of
+        (codes "GEN" ∷ decimal seed ∷ decimal count ∷ [])) }
 {
     push_two(text, b"GEN", u64::from(seed), u64::from(count))
 }
@@ -130,7 +132,8 @@ fn push_one(text: &mut Vec<u8>, word: &[u8], number: u64) -> Result<(), AllocErr
 
 // A word and two numbers likewise.
 fn push_two(text: &mut Vec<u8>, word: &[u8], first: u64, second: u64) -> Result<(), AllocError>
-    ensures { OnOk result (text.new.items ≡ text.old.items ++ line_of (word.now ∷ decimal first ∷ decimal second ∷ [])) }
+    ensures { OnOk result (text.new.items ≡ text.old.items ++ line_of
+        (word.now ∷ decimal first ∷ decimal second ∷ [])) }
 {
     text.extend_from_slice(word)?;
     text.extend_from_slice(b" ")?;

@@ -113,7 +113,8 @@ fn hear<P: Keeper, R: Wait, G: Gate>(
     clerk: &mut SeatClerk<'_, P, R, G>,
     request: &Request,
 ) -> Result<(), AllocError>
-    ensures ok { OnOk result ((one : TalkOf) × (clerk.new.talks ≡ clerk.old.talks ++ one ∷ []) × (one.request ≡ request.now)) }
+    ensures ok { OnOk result ((one : TalkOf) × (clerk.new.talks ≡ clerk.old.talks ++ one ∷ []) ×
+        (one.request ≡ request.now)) }
     ensures err { OnErr result (clerk.new.talks ≡ clerk.old.talks) }
     ensures start { clerk.new.start ≡ clerk.old.start }
 {

@@ -21,7 +21,8 @@ use Rattle.desk_law.specs.Classification.{Classes}
 use Rattle.desk_law.specs.Allocation.{Wish, alloc_case, candidates_of, new_set, space_case, wish_with}
 use Rattle.desk_law.specs.Extension.{extend_case, first_volume, growth_on, last_volume, others_of}
 use Rattle.sms_construct.specs.declared.stop.Stop.TheVariants as stops
-use Rattle.desk_law.proofs.ExampleDecks.{ask, asks, asks_class, asks_nothing, data_set, deck_with, desk_under, desk_with, extent, group, new_desk, one, piece, two, volume}
+use Rattle.desk_law.proofs.ExampleDecks.{ask, asks, asks_class, asks_nothing, data_set, deck_with, desk_under}
+use Rattle.desk_law.proofs.ExampleDecks.{desk_with, extent, group, new_desk, one, piece, two, volume}
 
 -- what routines gave: these classes and the storage group SG1
 abbrev gave : List ℕ → Classes

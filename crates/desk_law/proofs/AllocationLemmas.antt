@@ -17,7 +17,8 @@ use Rattle.desk_law.specs.State.{DeskState}
 use Rattle.desk_law.specs.Replies.{found_or}
 use Rattle.desk_law.specs.Volumes.{tracks_of, volumes_in}
 use Rattle.desk_law.specs.Classification.{Classes, classes_of, trace_of, went_through}
-use Rattle.desk_law.specs.Allocation.{Wish, alloc_case, ask_of, candidates_of, data_class_of, new_set, space_case, space_of, wish_with, GrantsOn}
+use Rattle.desk_law.specs.Allocation.{Wish, alloc_case, ask_of, candidates_of, data_class_of, new_set, space_case}
+use Rattle.desk_law.specs.Allocation.{space_of, wish_with, GrantsOn}
 use Rattle.desk_law.specs.Candidates.{IsSoundAsk}
 use Rattle.desk_law.specs.Rule.{IsSoundAlloc}
 use Rattle.desk_law.specs.Lawful.{IsLawful}

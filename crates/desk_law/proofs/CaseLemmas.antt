@@ -18,14 +18,17 @@ use Rattle.desk_law.specs.Extents.{tracks_of_set, volumes_of, with_extents}
 use Rattle.desk_law.specs.Volumes.{times_target}
 use Rattle.desk_law.specs.Replies.{found_or, reply_if, Leaves, Makes}
 use Rattle.desk_law.specs.Allocation.{Wish, alloc_case, ask_of, candidates_of, AllocRule, GrantsOn}
-use Rattle.desk_law.specs.Extension.{ask_more, extend_case, first_volume, growth_on, last_volume, others_of, ExtendRule, Extends, ExtendsOn, FurtherRule}
+use Rattle.desk_law.specs.Extension.{ask_more, extend_case, first_volume, growth_on, last_volume, others_of, ExtendRule}
+use Rattle.desk_law.specs.Extension.{Extends, ExtendsOn, FurtherRule}
 use Rattle.desk_law.specs.Usage.{used_case}
 use Rattle.desk_law.specs.Releasing.{kept_of}
 use Rattle.desk_law.specs.Display.{reply_for_none, view_of_target}
 use Rattle.desk_law.specs.Activation.{activated, first_barred, ActivateRule}
 use Rattle.desk_law.specs.Rule.{Rule}
-use Rattle.desk_law.proofs.LineLemmas.{OneOf, after-line, found-line, last-line, on-bool, on-chosen, on-option, on-result, passed-line}
-use Rattle.desk_law.proofs.QuietLemmas.{IsQuiet, alloc-quiet, display-quiet, extend-quiet, quiet-found, quiet-if, used-quiet}
+use Rattle.desk_law.proofs.LineLemmas.{OneOf, after-line, found-line, last-line, on-bool, on-chosen, on-option}
+use Rattle.desk_law.proofs.LineLemmas.{on-result, passed-line}
+use Rattle.desk_law.proofs.QuietLemmas.{IsQuiet, alloc-quiet, display-quiet, extend-quiet, quiet-found, quiet-if}
+use Rattle.desk_law.proofs.QuietLemmas.{used-quiet}
 
 -- what the lines of EXTEND come to: a catalogued data set with a secondary quantity
 pub record IsExtendable (s : DeskState) (dsn : List ℕ) (set : DataSet) : Type 0 where

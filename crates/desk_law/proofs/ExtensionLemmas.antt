@@ -11,7 +11,8 @@ use Rattle.desk_law.specs.State.{DeskState, with_set}
 use Rattle.desk_law.specs.Extents.{extents_at, is_among, pieces_on, volumes_of}
 use Rattle.desk_law.specs.Volumes.{tracks_of, volumes_in, volumes_of_group}
 use Rattle.desk_law.specs.Candidates.{IsSoundAsk, grant_on}
-use Rattle.desk_law.specs.Extension.{ask_more, bars_growth, extended, first_volume, growth_on, last_volume, others_of, Extends, ExtendsOn}
+use Rattle.desk_law.specs.Extension.{ask_more, bars_growth, extended, first_volume, growth_on, last_volume, others_of}
+use Rattle.desk_law.specs.Extension.{Extends, ExtendsOn}
 use Rattle.desk_law.specs.Lawful.{IsLawful, IsLawfulSet, IsWhole}
 use Rattle.desk_law.proofs.AscendLemmas.{active-volume-once}
 use Rattle.desk_law.proofs.CaseLemmas.{IsExtendable}

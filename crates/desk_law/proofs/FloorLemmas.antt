@@ -1,12 +1,14 @@
 -- Floors and kept rows of longer histories.
-use Rattle.std.proofs.Common.{◌≡◌, ◌≤◌, ℕ, Bool, true, false, cond, List, [], ◌∷◌, ◌++◌, refl, sym, ap, ◌∙◌, subst, arith}
+use Rattle.std.proofs.Common.{◌≡◌, ◌≤◌, ℕ, Bool, true, false, cond, List, [], ◌∷◌, ◌++◌, refl, sym, ap, ◌∙◌, subst}
+use Rattle.std.proofs.Common.{arith}
 use Rattle.std.specs.Prelude.{Some, find, max}
 use Rattle.sms_construct.specs.declared.entry.Entry.{Entry}
 use Rattle.sms_keeper.specs.declared.floor.Floor.{Floor}
 use Rattle.sms_keeper.specs.declared.kept_row.KeptRow.{KeptRow}
 use Rattle.sms_keeper.specs.Tables.{is_floor_of, is_reply_of}
 use Rattle.desk_law.specs.State.{Opening}
-use Rattle.desk_law.specs.Kept.{all_floors, all_rows, floor_of, floor_told, floors_of, greatest_floor, kept_for, rows_of, rows_of_entry}
+use Rattle.desk_law.specs.Kept.{all_floors, all_rows, floor_of, floor_told, floors_of, greatest_floor, kept_for}
+use Rattle.desk_law.specs.Kept.{rows_of, rows_of_entry}
 
 pub append-none : {X : Type 0} (l : List X) → l ++ [] ≡ l
 append-none [] = refl

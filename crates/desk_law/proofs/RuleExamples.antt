@@ -25,7 +25,8 @@ use Rattle.desk_law.specs.Display.{DisplayRule}
 use Rattle.desk_law.specs.Purging.{PurgeRule}
 use Rattle.desk_law.specs.Activation.{ConfigurationRule}
 use Rattle.sms_construct.specs.declared.stop.Stop.TheVariants as stops
-use Rattle.desk_law.proofs.ExampleDecks.{ask, asks, asks_class, data_set, deck_with, desk_under, desk_with, extent, new_desk, one, piece, two, volume}
+use Rattle.desk_law.proofs.ExampleDecks.{ask, asks, asks_class, data_set, deck_with, desk_under, desk_with, extent}
+use Rattle.desk_law.proofs.ExampleDecks.{new_desk, one, piece, two, volume}
 
 -- A.B with ten tracks of VOL001, of which it uses so many; the desk on which it is catalogued, and the one on which
 -- nothing is

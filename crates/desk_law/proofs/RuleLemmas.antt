@@ -18,7 +18,8 @@ use Rattle.desk_law.specs.Rule.{IsSound, IsSoundAlloc, Rule}
 use Rattle.desk_law.specs.Lawful.{IsInside, IsLawful, IsLawfulSet, LiesInPart}
 use Rattle.desk_law.proofs.LineLemmas.{left, made}
 use Rattle.desk_law.proofs.SetLemmas.{each-named, lawful-changed, lawful-without}
-use Rattle.desk_law.proofs.FrontLemmas.{cut-inside, cut-parted, front-count, front-each, front-some, front-times, rounded-some}
+use Rattle.desk_law.proofs.FrontLemmas.{cut-inside, cut-parted, front-count, front-each, front-some, front-times}
+use Rattle.desk_law.proofs.FrontLemmas.{rounded-some}
 use Rattle.desk_law.proofs.StatusLemmas.{lawful-activated, lawful-varied}
 use Rattle.desk_law.proofs.DeckLemmas.{configures-is}
 use Rattle.desk_law.proofs.AllocationLemmas.{granted-keeps, wish-is}

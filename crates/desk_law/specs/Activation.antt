@@ -18,15 +18,22 @@ use Rattle.desk_law.specs.Volumes.{tracks_of, volumes_in}
 -- the first active volume, in byte order, that holds an extent and is missing from the configuration or has fewer
 -- tracks there
 abbrev pub first_barred : DeskState → Configuration → Option VolumeDef
-first_barred s config = find (λ volume. is_used volume.volser (extents_of s.sets) && nat_lt (tracks_of volume.volser config.volumes) volume.tracks) (volumes_in s.active)
+first_barred s config =
+    find (λ volume. is_used volume.volser (extents_of s.sets) && nat_lt (tracks_of volume.volser config.volumes)
+    volume.tracks) (volumes_in s.active)
 
 -- a storage group with its present status, and with that of the deck where it has none
 abbrev pub row_of_group : List StatusRow → StorGroup → StatusRow
-row_of_group present group = record { target = targets.Group group.name; status = status_in present (targets.Group group.name) group.status }
+row_of_group present group =
+    record { target = targets.Group group.name; status = status_in present (targets.Group group.name) group.status }
 
 -- a volume likewise
 abbrev pub row_of_volume : List StatusRow → VolumeDef → StatusRow
-row_of_volume present volume = record { target = targets.Volume volume.volser; status = status_in present (targets.Volume volume.volser) volume.status }
+row_of_volume present volume =
+    record {
+      target = targets.Volume volume.volser;
+      status = status_in present (targets.Volume volume.volser) volume.status;
+    }
 
 -- the statuses when a configuration becomes active
 abbrev pub statuses_under : Configuration → List StatusRow → List StatusRow

@@ -1,5 +1,6 @@
 -- ALLOC (docs/rules.md, "ALLOC").
-use Rattle.std.specs.Prelude.{ℕ, ◌≡◌, Bool, false, List, [], bytes_eq, filter, find, Option, Some, None, is_some, option_and_then, option_map, unwrap_or, Result, Ok, MatchResult, if◌then◌else◌}
+use Rattle.std.specs.Prelude.{ℕ, ◌≡◌, Bool, false, List, [], bytes_eq, filter, find, Option, Some, None, is_some}
+use Rattle.std.specs.Prelude.{option_and_then, option_map, unwrap_or, Result, Ok, MatchResult, if◌then◌else◌}
 use Rattle.std.specs.List.{list_any}
 use Rattle.std.specs.Option.{option_or}
 use Rattle.desk_common.specs.Steps.{◌⊳◌}
@@ -61,7 +62,8 @@ wish_with alloc config classes space =
 -- the lines behind the classification: there is no space
 abbrev pub space_case : Alloc → Configuration → Classes → Result Wish Reply
 space_case alloc config classes =
-    found_or (replies.NoQuantity (trace_of classes)) (space_of alloc (data_class_of config classes.values.dataclas)) ⊳ λ space. Ok (wish_with alloc config classes space)
+    found_or (replies.NoQuantity (trace_of classes)) (space_of alloc (data_class_of config classes.values.dataclas)) ⊳
+    λ space. Ok (wish_with alloc config classes space)
 
 -- the lines of ALLOC up to the choice of a volume: no configuration; the name is in use; the classification stops; no
 -- space
@@ -123,10 +125,12 @@ new_set alloc wish volume pieces = record {
 }
 
 -- the volume grants the primary quantity, and the data set is catalogued
-pub record GrantsOn (s : DeskState) (alloc : Alloc) (wish : Wish) (volume : VolumeDef) (reply : Reply) (after : DeskState) : Type 0 where
+pub record GrantsOn (s : DeskState) (alloc : Alloc) (wish : Wish) (volume : VolumeDef) (reply : Reply)
+    (after : DeskState) : Type 0 where
   pub pieces : List Piece
   pub granted : grant_on s volume (ask_of wish) 0 ≡ Some pieces
-  pub makes : Makes (with_set s (new_set alloc wish volume pieces)) (replies.Granted (new_set alloc wish volume pieces) (trace_of wish.classes)) reply after
+  pub makes : Makes (with_set s (new_set alloc wish volume pieces))
+      (replies.Granted (new_set alloc wish volume pieces) (trace_of wish.classes)) reply after
 
 -- a volume that may be chosen grants the space, or none can
 abbrev pub GrantRule : DeskState → Alloc → Wish → Reply → DeskState → Type 0
@@ -138,4 +142,5 @@ GrantRule s alloc wish reply after =
 -- the first line that answers, or else the grant
 abbrev pub AllocRule : DeskState → List ℕ → Alloc → Reply → DeskState → Type 0
 AllocRule s job alloc reply after =
-    MatchResult (alloc_case s job alloc) (λ wish. GrantRule s alloc wish reply after) (λ answer. Leaves s answer reply after)
+    MatchResult (alloc_case s job alloc) (λ wish. GrantRule s alloc wish reply after)
+    (λ answer. Leaves s answer reply after)

@@ -1,5 +1,6 @@
 -- What the routines of a configuration give a new data set (docs/rules.md, "Classification").
-use Rattle.std.specs.Prelude.{ℕ, ◌==◌, Bool, true, false, List, [], ◌∷◌, Option, None, Some, option_map, unwrap_or, Result, Ok, Err, if◌then◌else◌}
+use Rattle.std.specs.Prelude.{ℕ, ◌==◌, Bool, true, false, List, [], ◌∷◌, Option, None, Some, option_map, unwrap_or}
+use Rattle.std.specs.Prelude.{Result, Ok, Err, if◌then◌else◌}
 use Rattle.std.specs.Option.{option_or}
 use Rattle.acs_tree.specs.Inputs.{input_under}
 use Rattle.acs_tree.specs.KeptLines.{kept_lines_of}
@@ -86,7 +87,8 @@ exit_stop kind (endings.Exit code) = if code == 0 then None else Some (stops.Exi
 
 -- a class that is neither null nor one of the configuration stops all
 abbrev pub class_stop : Configuration → Kind → List ℕ → Option Stop
-class_stop config kind class = if is_null class then None else (if has_construct kind class config then None else Some (stops.Unknown kind class))
+class_stop config kind class =
+    if is_null class then None else (if has_construct kind class config then None else Some (stops.Unknown kind class))
 
 -- the class of that kind; storage groups are none
 abbrev pub class_of : Kind → Values → List ℕ
@@ -107,7 +109,8 @@ unless_stopped (Some stop) progress next = ends stop progress
 -- the routine of a class is run, and it goes on where its code is 0 and its class is known or null
 abbrev pub after_class : Configuration → Kind → Progress → (Progress → Classes) → Classes
 after_class config kind progress next =
-    unless_stopped (option_or (exit_stop kind progress.ending) (class_stop config kind (class_of kind progress.values))) progress next
+    unless_stopped (option_or (exit_stop kind progress.ending) (class_stop config kind (class_of kind progress.values)))
+    progress next
 
 -- it ends where there is no storage class
 abbrev pub if_managed : Progress → (Progress → Classes) → Classes
@@ -130,7 +133,8 @@ classes_under config meanings input start =
 
 -- what the routines of a configuration give an ALLOC of a job
 abbrev pub classes_of : Configuration → List ℕ → Alloc → Classes
-classes_of config job alloc = classes_under config (meanings_of config) (input_under alloc.input job config.system config.sysplex) (begin alloc)
+classes_of config job alloc =
+    classes_under config (meanings_of config) (input_under alloc.input job config.system config.sysplex) (begin alloc)
 
 -- the lines that were written, as a reply shows them
 abbrev pub trace_of : Classes → Trace

@@ -29,12 +29,14 @@ shown_volume s volume = record {
 -- a storage group with its status, the number of its volumes, and their tracks together, all and the free ones
 abbrev pub view_of_group : DeskState → StorGroup → View
 view_of_group s group = views.Group group.name (group_status s group.name) (length (volumes_of_group s group.name))
-    (sum_by (λ volume. volume.tracks) (volumes_of_group s group.name)) (sum_by (free_on s) (volumes_of_group s group.name))
+    (sum_by (λ volume. volume.tracks) (volumes_of_group s group.name))
+    (sum_by (free_on s) (volumes_of_group s group.name))
 
 -- what is shown of a target, if it is there
 abbrev pub view_of_target : DeskState → Target → Option View
 view_of_target s (targets.Group name) = option_map (view_of_group s) (group_named s name)
-view_of_target s (targets.Volume volser) = option_map (λ volume. views.Volume (shown_volume s volume)) (volume_named s volser)
+view_of_target s (targets.Volume volser) =
+    option_map (λ volume. views.Volume (shown_volume s volume)) (volume_named s volser)
 view_of_target s (targets.Set dsn) = option_map views.Set (set_named dsn s.sets)
 
 -- the reply where it isn't

@@ -1,5 +1,6 @@
 -- EXTEND (docs/rules.md, "EXTEND").
-use Rattle.std.specs.Prelude.{ℕ, ◌≡◌, ◌==◌, ◌||◌, nat_lt, not, Bool, List, [], ◌∷◌, ◌++◌, length, filter, Option, None, Some, option_map, Result, Ok, MatchResult, MatchOption, MatchBool, if◌then◌else◌}
+use Rattle.std.specs.Prelude.{ℕ, ◌≡◌, ◌==◌, ◌||◌, nat_lt, not, Bool, List, [], ◌∷◌, ◌++◌, length, filter, Option, None}
+use Rattle.std.specs.Prelude.{Some, option_map, Result, Ok, MatchResult, MatchOption, MatchBool, if◌then◌else◌}
 use Rattle.desk_common.specs.Steps.{◌⊳◌}
 use Rattle.sms_construct.specs.declared.data_set.DataSet.{DataSet}
 use Rattle.sms_construct.specs.declared.extent.Extent.{Extent}
@@ -32,7 +33,8 @@ ask_more set = record { unit = set.unit; tracks = set.secondary; volumes = set.v
 
 -- the volume's storage group or the volume itself gives no further tracks
 abbrev pub bars_growth : DeskState → VolumeDef → Bool
-bars_growth s volume = bars_group_growth (group_status s volume.group) || bars_volume_growth (volume_status s volume.volser)
+bars_growth s volume =
+    bars_group_growth (group_status s volume.group) || bars_volume_growth (volume_status s volume.volser)
 
 -- what a volume on which the data set lies grants it
 abbrev pub growth_on : DeskState → DataSet → Option VolumeDef → Option (List Extent)
@@ -45,7 +47,8 @@ growth_on s set (Some volume) =
 -- the volumes of the storage group of this one on which the data set doesn't lie
 abbrev pub others_of : DeskState → DataSet → Option VolumeDef → List VolumeDef
 others_of s set None = []
-others_of s set (Some first) = filter (λ volume. not (is_among volume.volser (volumes_of set.extents))) (volumes_of_group s first.group)
+others_of s set (Some first) =
+    filter (λ volume. not (is_among volume.volser (volumes_of set.extents))) (volumes_of_group s first.group)
 
 -- the data set has these extents too
 abbrev pub extended : DataSet → List Extent → DataSet
@@ -56,7 +59,8 @@ abbrev pub Extends : DeskState → DataSet → List Extent → Reply → DeskSta
 Extends s set added reply after = Makes (with_set s (extended set added)) (replies.Extended added) reply after
 
 -- a further volume grants the secondary quantity
-pub record ExtendsOn (s : DeskState) (set : DataSet) (volume : VolumeDef) (reply : Reply) (after : DeskState) : Type 0 where
+pub record ExtendsOn (s : DeskState) (set : DataSet) (volume : VolumeDef) (reply : Reply)
+    (after : DeskState) : Type 0 where
   pub pieces : List Piece
   pub granted : grant_on s volume (ask_more set) 0 ≡ Some pieces
   pub extends : Extends s set (extents_at volume.volser pieces) reply after
@@ -81,5 +85,6 @@ FurtherRule s set reply after =
 abbrev pub ExtendRule : DeskState → List ℕ → Reply → DeskState → Type 0
 ExtendRule s dsn reply after =
     MatchResult (extend_case s dsn)
-    (λ set. MatchOption (growth_on s set (last_volume s set.extents)) (FurtherRule s set reply after) (λ added. Extends s set added reply after))
+    (λ set. MatchOption (growth_on s set (last_volume s set.extents)) (FurtherRule s set reply after)
+    (λ added. Extends s set added reply after))
     (λ answer. Leaves s answer reply after)

@@ -1,5 +1,6 @@
 -- Which tracks data sets hold.
-use Rattle.std.specs.Prelude.{ℕ, ◌-◌, ◌||◌, Bool, false, List, [], ◌∷◌, ◌++◌, min, nat_lt, bytes_eq, sum_by, Option, None, Some, if◌then◌else◌}
+use Rattle.std.specs.Prelude.{ℕ, ◌-◌, ◌||◌, Bool, false, List, [], ◌∷◌, ◌++◌, min, nat_lt, bytes_eq, sum_by, Option}
+use Rattle.std.specs.Prelude.{None, Some, if◌then◌else◌}
 use Rattle.track_ledger.specs.Extents.{tracks_held}
 use Rattle.sms_construct.specs.Quantities.{border, rounded_up, tracks_in_managed}
 use Rattle.sms_construct.specs.declared.data_set.DataSet.{DataSet}
@@ -23,12 +24,14 @@ extents_named dsn sets = extents_if (set_named dsn sets)
 -- what the extents hold of a volume, in their order
 abbrev pub pieces_on : List ℕ → List Extent → List Piece
 pieces_on volser [] = []
-pieces_on volser (extent ∷ extents) = if bytes_eq extent.volser volser then piece_of extent ∷ pieces_on volser extents else pieces_on volser extents
+pieces_on volser (extent ∷ extents) =
+    if bytes_eq extent.volser volser then piece_of extent ∷ pieces_on volser extents else pieces_on volser extents
 
 -- these pieces of a volume as extents
 abbrev pub extents_at : List ℕ → List Piece → List Extent
 extents_at volser [] = []
-extents_at volser (piece ∷ pieces) = record { volser = volser; start = piece.start; length = piece.length } ∷ extents_at volser pieces
+extents_at volser (piece ∷ pieces) =
+    record { volser = volser; start = piece.start; length = piece.length } ∷ extents_at volser pieces
 
 -- all extents of the data sets
 abbrev pub extents_of : List DataSet → List Extent
@@ -61,7 +64,8 @@ is_among volser (other ∷ others) = bytes_eq other volser || is_among volser ot
 abbrev pub volumes_after : List (List ℕ) → List Extent → List (List ℕ)
 volumes_after seen [] = []
 volumes_after seen (extent ∷ extents) =
-    if is_among extent.volser seen then volumes_after seen extents else extent.volser ∷ volumes_after (extent.volser ∷ seen) extents
+    if is_among extent.volser seen then volumes_after seen extents
+    else extent.volser ∷ volumes_after (extent.volser ∷ seen) extents
 
 -- the volumes on which the extents lie, each once, in the order in which they came
 abbrev pub volumes_of : List Extent → List (List ℕ)

@@ -33,7 +33,8 @@ pub record IsLawfulGrant (s : DeskState) (job : List ℕ) (alloc : Alloc) (set :
   pub trace_is : trace ≡ trace_of wish.classes
 
 -- after these entries the request is an ALLOC that lawfully gets this data set and trace
-pub record GrantsLawfully (o : Opening) (before : List Entry) (request : Request) (set : DataSet) (trace : Trace) : Type 0 where
+pub record GrantsLawfully (o : Opening) (before : List Entry) (request : Request) (set : DataSet)
+    (trace : Trace) : Type 0 where
   pub alloc : Alloc
   pub op_is : request.op ≡ ops.Alloc alloc
   pub state : DeskState

@@ -8,7 +8,8 @@ use Rattle.desk_law.specs.Step.{IsStep}
 -- each of the entries is a step after those before it, and they lead from one state to another
 abbrev pub Leads : Opening → List Entry → DeskState → List Entry → DeskState → Type 0
 Leads o before s [] after = after ≡ s
-Leads o before s (e ∷ es) after = (next : DeskState) × IsStep o before s e next × Leads o (before ++ e ∷ []) next es after
+Leads o before s (e ∷ es) after =
+    (next : DeskState) × IsStep o before s e next × Leads o (before ++ e ∷ []) next es after
 
 -- the history is legal behind the opening, and leaves the desk in this state
 abbrev pub Reaches : Opening → List Entry → DeskState → Type 0

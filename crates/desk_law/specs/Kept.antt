@@ -14,7 +14,8 @@ use Rattle.desk_law.specs.Changes.{Consequence, NoChange, Change, Activation, Fl
 -- the greatest floor of a job among these, 0 without one
 abbrev pub greatest_floor : List ℕ → List Floor → ℕ
 greatest_floor job [] = 0
-greatest_floor job (row ∷ rows) = if is_floor_of job row then max row.floor (greatest_floor job rows) else greatest_floor job rows
+greatest_floor job (row ∷ rows) =
+    if is_floor_of job row then max row.floor (greatest_floor job rows) else greatest_floor job rows
 
 -- the floor that was set, if any
 abbrev pub floor_set : Consequence → List Floor

@@ -1,5 +1,6 @@
 -- The tables of a history (docs/records.md).
-use Rattle.std.specs.Prelude.{ℕ, ◌≡◌, ◌==◌, nat_lt, Bool, List, [], ◌∷◌, ◌++◌, filter, find, Option, None, Some, if◌then◌else◌}
+use Rattle.std.specs.Prelude.{ℕ, ◌≡◌, ◌==◌, nat_lt, Bool, List, [], ◌∷◌, ◌++◌, filter, find, Option, None, Some}
+use Rattle.std.specs.Prelude.{if◌then◌else◌}
 use Rattle.sms_construct.specs.declared.entry.Entry.{Entry}
 use Rattle.sms_construct.specs.declared.reply.Reply.{Reply}
 use Rattle.sms_construct.specs.declared.target.Target.{Target}
@@ -31,8 +32,11 @@ abbrev pub floor_rows : List ℕ → ℕ → List Floor
 floor_rows job floor = if floor == 0 then [] else record { job = job; floor = floor } ∷ []
 
 -- replies and floors are those that are kept, each once
-pub record AreKept (floors : List Floor) (rows : List KeptRow) (kept : List KeptRow) (standing : List Floor) : Type 0 where
-  pub replies_are : (job : List ℕ) (number : ℕ) → filter (is_reply_of job number) kept ≡ kept_rows (nat_lt number (greatest_floor job floors)) (find (is_reply_of job number) rows)
+pub record AreKept (floors : List Floor) (rows : List KeptRow) (kept : List KeptRow)
+    (standing : List Floor) : Type 0 where
+  pub replies_are : (job : List ℕ) (number : ℕ) →
+      filter (is_reply_of job number) kept ≡ kept_rows (nat_lt number (greatest_floor job floors))
+      (find (is_reply_of job number) rows)
   pub floors_are : (job : List ℕ) → filter (is_floor_of job) standing ≡ floor_rows job (greatest_floor job floors)
 
 -- the deck that became active, if any
@@ -62,4 +66,5 @@ pub record IsTables (o : Opening) (h : List Entry) (s : DeskState) (rows : Rows)
   pub sets_are : (dsn : List ℕ) → filter (is_named dsn) rows.sets ≡ filter (is_named dsn) s.sets
   pub kept_are : AreKept (all_floors o h) (all_rows o h) rows.replies rows.floors
   pub decks_are : (count : ℕ) → filter (is_deck count) rows.decks ≡ filter (is_deck count) (o.rows.decks ++ decks_of h)
-  pub statuses_are : (target : Target) → filter (is_status_of target) rows.statuses ≡ filter (is_status_of target) s.statuses
+  pub statuses_are : (target : Target) →
+      filter (is_status_of target) rows.statuses ≡ filter (is_status_of target) s.statuses

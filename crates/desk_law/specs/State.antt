@@ -28,7 +28,12 @@ pub record Opening : Type 0 where
 
 -- the state before the first entry: there were as many activations as decks are recorded
 abbrev pub start_of : Opening → DeskState
-start_of o = record { activations = length o.rows.decks; active = o.config; statuses = o.rows.statuses; sets = o.rows.sets }
+start_of o = record {
+  activations = length o.rows.decks;
+  active = o.config;
+  statuses = o.rows.statuses;
+  sets = o.rows.sets;
+}
 
 -- the catalogued data set of this name
 abbrev pub set_named : List ℕ → List DataSet → Option DataSet

@@ -1,6 +1,7 @@
 -- One event of the desk: what an entry may be after the entries before it, and what it does (docs/rules.md, "Order of
 -- answers").
-use Rattle.std.specs.Prelude.{ℕ, Bool, true, false, ◌≡◌, ◌+◌, ◌<◌, ◌⊎◌, nat_lt, List, length, count_by, MatchOption, MatchBool}
+use Rattle.std.specs.Prelude.{ℕ, Bool, true, false, ◌≡◌, ◌+◌, ◌<◌, ◌⊎◌, nat_lt, List, length, count_by, MatchOption}
+use Rattle.std.specs.Prelude.{MatchBool}
 use Rattle.sms_construct.specs.Quantities.{IsRequestNumber}
 use Rattle.sms_construct.specs.declared.entry.Entry.{Entry}
 use Rattle.sms_construct.specs.declared.reply.Reply.TheVariants as replies
@@ -75,4 +76,5 @@ pub record IsStep (o : Opening) (before : List Entry) (s : DeskState) (e : Entry
   -- below the floor; fresh; or kept
   pub answer : MatchBool (nat_lt e.request.number (floor_of o before e.request.job))
       (IsBelow (floor_of o before e.request.job) s e after)
-      (MatchOption (kept_for o before e.request.job e.request.number) (IsFresh (floor_of o before) s e after) (λ kept. IsRepeat kept s e after))
+      (MatchOption (kept_for o before e.request.job e.request.number) (IsFresh (floor_of o before) s e after)
+      (λ kept. IsRepeat kept s e after))

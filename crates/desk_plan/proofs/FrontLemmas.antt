@@ -1,5 +1,6 @@
 -- Fronts of lists, and one more item of a worker.
-use Rattle.std.proofs.Common.{◌≡◌, ℕ, zero, suc, ◌<◌, ◌≤◌, ◌==◌, true, List, [], ◌∷◌, ◌++◌, length, map, take, get_or, refl, sym, ap, ◌∙◌, arith, append-nil, append_assoc, eq-eqb, rules}
+use Rattle.std.proofs.Common.{◌≡◌, ℕ, zero, suc, ◌<◌, ◌≤◌, ◌==◌, true, List, [], ◌∷◌, ◌++◌, length, map, take, get_or}
+use Rattle.std.proofs.Common.{refl, sym, ap, ◌∙◌, arith, append-nil, append_assoc, eq-eqb, rules}
 use Rattle.std.specs.Prelude.{Option, Some, None}
 use Rattle.desk_plan.specs.Plan.{worker_at}
 use Rattle.desk_plan.specs.Sharing.{made_of, times}

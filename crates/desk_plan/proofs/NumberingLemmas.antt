@@ -1,5 +1,7 @@
 -- Jobs that get numbers, one after another.
-use Rattle.std.proofs.Common.{◌≡◌, inl, inr, ℕ, ◌+◌, ◌≤◌, Bool, true, false, List, [], ◌∷◌, ◌++◌, length, length-append, drop, get_or, if◌then◌else◌, refl, sym, ap, subst, ◌∙◌, arith, Decides, bytes_eq, position}
+use Rattle.std.proofs.Common.{◌≡◌, inl, inr, ℕ, ◌+◌, ◌≤◌, Bool, true, false, List, [], ◌∷◌, ◌++◌, length, length-append}
+use Rattle.std.proofs.Common.{drop, get_or, if◌then◌else◌, refl, sym, ap, subst, ◌∙◌, arith, Decides, bytes_eq}
+use Rattle.std.proofs.Common.{position}
 use Rattle.std.proofs.lemmas.Bool.{cases_Bool}
 use Rattle.std.proofs.lemmas.Slice.Eq.{bytes_eq-Decides}
 use Rattle.std.proofs.lemmas.Iterator.Adapters.{position_from-zero}

@@ -20,7 +20,8 @@ numbered_jobs items = with_jobs [] items
 
 -- the number of each of these jobs is how many stand before it, and no other job has a number
 abbrev pub AreNumbersOf : List (List ℕ) → List (List ℕ × ℕ) → Type 0
-AreNumbersOf jobs numbers = ((job : List ℕ) → number_in numbers job ≡ position (bytes_eq job) jobs) × (length numbers ≡ length jobs)
+AreNumbersOf jobs numbers =
+    ((job : List ℕ) → number_in numbers job ≡ position (bytes_eq job) jobs) × (length numbers ≡ length jobs)
 
 -- whichever jobs had numbers before, now those have them that the change makes of these
 abbrev pub Renumbers : (List (List ℕ) → List (List ℕ)) → List (List ℕ × ℕ) → List (List ℕ × ℕ) → Type 0

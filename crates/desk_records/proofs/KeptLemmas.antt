@@ -1,5 +1,6 @@
 -- What is kept after a change, as the tables have it.
-use Rattle.std.proofs.Common.{◌≡◌, ◌≤◌, ℕ, Bool, true, false, cond, List, [], ◌∷◌, ◌++◌, Option, None, Some, filter, find, refl, sym, ap, ◌∙◌, subst, arith, max, inl, inr, append-nil}
+use Rattle.std.proofs.Common.{◌≡◌, ◌≤◌, ℕ, Bool, true, false, cond, List, [], ◌∷◌, ◌++◌, Option, None, Some, filter}
+use Rattle.std.proofs.Common.{find, refl, sym, ap, ◌∙◌, subst, arith, max, inl, inr, append-nil}
 use Rattle.std.specs.Prelude.{not, ◌==◌, ◌&&◌, ◌⊎◌, bytes_eq, nat_lt, if◌then◌else◌}
 use Rattle.std.specs.Option.{option_or}
 use Rattle.std.specs.List.{AllByRecursion, list_any}
@@ -10,7 +11,8 @@ use Rattle.sms_keeper.specs.declared.effect.Effect.{Effect}
 use Rattle.sms_keeper.specs.declared.effect.Effect.TheVariants as effects
 use Rattle.sms_keeper.specs.declared.floor.Floor.{Floor}
 use Rattle.sms_keeper.specs.declared.kept_row.KeptRow.{KeptRow}
-use Rattle.sms_keeper.specs.Tables.{floors_with, is_below_floor, is_floor_of, is_reply_below, is_reply_of, keep_row, put_floor, replies_left}
+use Rattle.sms_keeper.specs.Tables.{floors_with, is_below_floor, is_floor_of, is_reply_below, is_reply_of, keep_row}
+use Rattle.sms_keeper.specs.Tables.{put_floor, replies_left}
 use Rattle.desk_law.specs.Kept.{greatest_floor}
 use Rattle.desk_law.specs.Records.{AreKept, floor_rows, kept_rows}
 use Rattle.desk_law.proofs.ByteLemmas.{bytes-turned, same-bytes}

@@ -1,5 +1,6 @@
 -- The log after a change, and what it says of a number.
-use Rattle.std.proofs.Common.{◌≡◌, ◌≤◌, ℕ, Bool, true, false, cond, List, [], ◌∷◌, ◌++◌, Option, None, Some, find, refl, sym, ap, ◌∙◌, arith, max, inl, inr, append-nil}
+use Rattle.std.proofs.Common.{◌≡◌, ◌≤◌, ℕ, Bool, true, false, cond, List, [], ◌∷◌, ◌++◌, Option, None, Some, find, refl}
+use Rattle.std.proofs.Common.{sym, ap, ◌∙◌, arith, max, inl, inr, append-nil}
 use Rattle.std.specs.Prelude.{◌&&◌, bytes_eq, nat_lt, option_map, if◌then◌else◌}
 use Rattle.std.specs.Option.{option_or}
 use Rattle.std.specs.List.{AllByRecursion}

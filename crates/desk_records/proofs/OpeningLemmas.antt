@@ -1,5 +1,6 @@
 -- What is tied before the first entry.
-use Rattle.std.proofs.Common.{◌≡◌, ℕ, ◌+◌, true, false, List, [], Option, None, Some, filter, refl, sym, ap, subst, arith, append-nil}
+use Rattle.std.proofs.Common.{◌≡◌, ℕ, ◌+◌, true, false, List, [], Option, None, Some, filter, refl, sym, ap, subst}
+use Rattle.std.proofs.Common.{arith, append-nil}
 use Rattle.std.specs.Prelude.{Bool, IfSome, nat_lt}
 use Rattle.std.specs.List.{AllByRecursion}
 use Rattle.sms_construct.specs.declared.target.Target.{Target}

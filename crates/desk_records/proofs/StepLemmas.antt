@@ -1,5 +1,6 @@
 -- The steps that a core makes.
-use Rattle.std.proofs.Common.{◌≡◌, ◌≤◌, ◌<◌, ℕ, ◌+◌, ◌^◌, Bool, true, false, cond, List, [], ◌∷◌, ◌++◌, Option, None, Some, length, refl, sym, ap, ◌∙◌, arith, inl, inr}
+use Rattle.std.proofs.Common.{◌≡◌, ◌≤◌, ◌<◌, ℕ, ◌+◌, ◌^◌, Bool, true, false, cond, List, [], ◌∷◌, ◌++◌, Option, None}
+use Rattle.std.proofs.Common.{Some, length, refl, sym, ap, ◌∙◌, arith, inl, inr}
 use Rattle.std.specs.Prelude.{◌&&◌, ◌||◌, ◌⊎◌, nat_lt, nat_le, count_by, option_map}
 use Rattle.std.proofs.lemmas.Bool.Decides.{nat_tests}
 use Rattle.desk_common.specs.Causes.{Rose}
@@ -27,7 +28,8 @@ use Rattle.desk_records.specs.Recall.{IsUnknown, Recalls, RecallsFloor, RecallsO
 use Rattle.desk_records.specs.Tied.{IsEntered, IsLogOf, IsReady, IsTied, reply_of_row}
 use Rattle.desk_records.proofs.EffectLemmas.{kept-entered, matches-floors, rule-floors}
 use Rattle.desk_records.proofs.TableLemmas.{count-push}
-use Rattle.desk_records.proofs.TiedLemmas.{kept-good, tied-below, tied-few, tied-fault, tied-fresh, tied-repeat, tied-reused}
+use Rattle.desk_records.proofs.TiedLemmas.{kept-good, tied-below, tied-few, tied-fault, tied-fresh, tied-repeat}
+use Rattle.desk_records.proofs.TiedLemmas.{tied-reused}
 
 -- Room.
 

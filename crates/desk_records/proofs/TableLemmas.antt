@@ -1,5 +1,6 @@
 -- The tables after one more entry.
-use Rattle.std.proofs.Common.{◌≡◌, ℕ, ◌+◌, Bool, true, false, cond, List, [], ◌∷◌, ◌++◌, None, filter, refl, sym, ap, ◌∙◌, append-nil}
+use Rattle.std.proofs.Common.{◌≡◌, ℕ, ◌+◌, Bool, true, false, cond, List, [], ◌∷◌, ◌++◌, None, filter, refl, sym, ap}
+use Rattle.std.proofs.Common.{◌∙◌, append-nil}
 use Rattle.std.specs.Prelude.{Option, ◌==◌, bytes_eq, count_by}
 use Rattle.std.proofs.lemmas.Bool.Decides.{Decides-eqb}
 use Rattle.std.proofs.lemmas.List.Elements.{filter-append}
@@ -16,9 +17,12 @@ use Rattle.sms_keeper.specs.declared.kept_row.KeptRow.{KeptRow}
 use Rattle.sms_keeper.specs.declared.rows.Rows.{Rows}
 use Rattle.sms_keeper.specs.declared.status_row.StatusRow.{StatusRow}
 use Rattle.sms_keeper.specs.Suits.{deck_of}
-use Rattle.sms_keeper.specs.Tables.{AreSame, decks_added, floors_with, is_deck, is_floor_of, is_named, is_reply_of, is_status_of, keep_row, put_set, replies_left, row_with, sets_with, statuses_with, with_change, without_set}
+use Rattle.sms_keeper.specs.Tables.{AreSame, decks_added, floors_with, is_deck, is_floor_of, is_named, is_reply_of}
+use Rattle.sms_keeper.specs.Tables.{is_status_of, keep_row, put_set, replies_left, row_with, sets_with, statuses_with}
+use Rattle.sms_keeper.specs.Tables.{with_change, without_set}
 use Rattle.desk_law.specs.State.{DeskState, Opening}
-use Rattle.desk_law.specs.Kept.{all_floors, all_rows, floor_of, floor_told, is_fault, kept_for, row_of_entry, rows_of_entry}
+use Rattle.desk_law.specs.Kept.{all_floors, all_rows, floor_of, floor_told, is_fault, kept_for, row_of_entry}
+use Rattle.desk_law.specs.Kept.{rows_of_entry}
 use Rattle.desk_law.specs.Records.{AreKept, IsTables, decks_of, decks_of_entry, decks_told}
 use Rattle.desk_law.proofs.FloorLemmas.{all-floors-append, all-rows-append}
 use Rattle.desk_records.specs.Effects.{Matches, change_of, state_with}

@@ -1,5 +1,6 @@
 -- What is tied after one more entry.
-use Rattle.std.proofs.Common.{◌≡◌, ◌≤◌, ℕ, ◌+◌, max, Bool, true, false, cond, List, [], ◌∷◌, ◌++◌, Option, None, Some, length, refl, ap, ◌∙◌, arith, append-nil, length-append, inl, inr}
+use Rattle.std.proofs.Common.{◌≡◌, ◌≤◌, ℕ, ◌+◌, max, Bool, true, false, cond, List, [], ◌∷◌, ◌++◌, Option, None, Some}
+use Rattle.std.proofs.Common.{length, refl, ap, ◌∙◌, arith, append-nil, length-append, inl, inr}
 use Rattle.std.specs.Prelude.{◌==◌, nat_lt, if◌then◌else◌, IfSome}
 use Rattle.std.specs.List.{AllByRecursion}
 use Rattle.std.proofs.lemmas.Bool.Decides.{nat_tests}
@@ -18,7 +19,8 @@ use Rattle.sms_keeper.specs.Suits.{deck_of}
 use Rattle.sms_keeper.specs.Tables.{is_reply_of}
 use Rattle.sms_keeper.specs.Told.{Applies, Stays}
 use Rattle.desk_law.specs.State.{DeskState, Opening, start_of}
-use Rattle.desk_law.specs.Kept.{all_floors, all_rows, floor_of, floor_told, greatest_floor, is_entered, is_fault, kept_for, row_of_entry}
+use Rattle.desk_law.specs.Kept.{all_floors, all_rows, floor_of, floor_told, greatest_floor, is_entered, is_fault}
+use Rattle.desk_law.specs.Kept.{kept_for, row_of_entry}
 use Rattle.desk_law.specs.Step.{IsStep}
 use Rattle.desk_law.specs.Lawful.{IsLawful}
 use Rattle.desk_law.specs.Records.{IsTables, decks_of, decks_of_entry, decks_told}
@@ -34,7 +36,8 @@ use Rattle.desk_records.proofs.EffectLemmas.{kept-no_fault}
 use Rattle.desk_records.proofs.GreatestLemmas.{greatest-append}
 use Rattle.desk_records.proofs.KeptLemmas.{IsKnown, kept-quiet}
 use Rattle.desk_records.proofs.LogLemmas.{log-fresh, log-quiet, log-same}
-use Rattle.desk_records.proofs.TableLemmas.{faults-push, floors-push, rows-fault, rows-more, tables-fresh, tables-quiet, tables-same}
+use Rattle.desk_records.proofs.TableLemmas.{faults-push, floors-push, rows-fault, rows-more, tables-fresh, tables-quiet}
+use Rattle.desk_records.proofs.TableLemmas.{tables-same}
 
 -- Each of a list.
 

@@ -68,7 +68,8 @@ pub record Matches (old_floor : List ℕ → ℕ) (op : Op) (reply : Reply) (eff
   pub raises : Raises old_floor effect
 
 -- the reply and the effect are by the rule of the op, they match, and a keeper takes them
-pub record IsDecided (old_floor : List ℕ → ℕ) (s : DeskState) (request : Request) (reply : Reply) (effect : Effect) (config : Option Configuration) : Type 0 where
+pub record IsDecided (old_floor : List ℕ → ℕ) (s : DeskState) (request : Request) (reply : Reply) (effect : Effect)
+    (config : Option Configuration) : Type 0 where
   pub rule : Rule old_floor s request.job request.op reply (state_with s effect config)
   pub matches : Matches old_floor request.op reply effect
   pub suits : SuitsOp request.op effect

@@ -7,4 +7,5 @@ use Rattle.desk_law.specs.Step.{activates, is_activation}
 
 -- the journal has as many entries as it may, or the op activates a deck and as many entries as may do so
 abbrev pub is_full_for : List Entry → Op → Bool
-is_full_for h op = nat_le most_entries (length h) || (is_activation op && nat_le most_activations (count_by activates h))
+is_full_for h op = nat_le most_entries (length h) || (is_activation op && nat_le most_activations
+    (count_by activates h))

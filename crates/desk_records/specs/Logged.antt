@@ -24,12 +24,14 @@ floor_after (effects.Floor raised floor) floors job = floor_with floors raised f
 
 -- the log with other floors
 abbrev pub under_floors : LogView → List (List ℕ × ℕ) → LogView
-under_floors log floors = record { kept = log.kept; floors = floors; reply_room = log.reply_room; floor_room = log.floor_room }
+under_floors log floors =
+    record { kept = log.kept; floors = floors; reply_room = log.reply_room; floor_room = log.floor_room }
 
 -- the floor of the change's effect is raised, and then its reply kept
 pub record IsLogged (change : Change) (old new : LogView) : Type 0 where
   pub floors_are : (job : List ℕ) → floor_in job new.floors ≡ floor_after change.effect old.floors job
-  pub replies_are : (key : RequestKey) → kept_in key new.kept ≡ kept_with (under_floors old new.floors) change.request change.place change.reply key
+  pub replies_are : (key : RequestKey) →
+      kept_in key new.kept ≡ kept_with (under_floors old new.floors) change.request change.place change.reply key
 
 -- the keeper made the change, and the log has it
 pub record IsDone (change : Change) (told told' : Option Rows) (old new : LogView) : Type 0 where

@@ -26,7 +26,8 @@ pub record RecallsOther (log : LogView) (request : Request) (answer : Answer) : 
 
 -- the answer is what the log has for the request
 abbrev pub Recalls : LogView → Request → Answer → Type 0
-Recalls log request answer = RecallsFloor log request answer ⊎ (RecallsReply log request answer ⊎ RecallsOther log request answer)
+Recalls log request answer =
+    RecallsFloor log request answer ⊎ (RecallsReply log request answer ⊎ RecallsOther log request answer)
 
 -- the number is fresh
 pub record IsUnknown (log : LogView) (request : Request) : Type 0 where

@@ -1,5 +1,6 @@
 -- What holds between a journal, the log of its replies, and what its keeper tells.
-use Rattle.std.specs.Prelude.{ℕ, true, false, ◌≡◌, ◌+◌, ◌-◌, ◌^◌, ◌≤◌, ◌<◌, min, nat_lt, List, [], ◌∷◌, ◌++◌, find, length, count_by, Option, option_map, IfSome}
+use Rattle.std.specs.Prelude.{ℕ, true, false, ◌≡◌, ◌+◌, ◌-◌, ◌^◌, ◌≤◌, ◌<◌, min, nat_lt, List, [], ◌∷◌, ◌++◌, find}
+use Rattle.std.specs.Prelude.{length, count_by, Option, option_map, IfSome}
 use Rattle.std.specs.List.{AllByRecursion}
 use Rattle.sms_construct.specs.Quantities.{IsRequestNumber}
 use Rattle.sms_construct.specs.declared.entry.Entry.{Entry}
@@ -27,7 +28,8 @@ reply_of_row row = record { place = row.place; op = row.request.op; reply = row.
 pub record IsLogOf (floors : List Floor) (rows : List KeptRow) (log : LogView) : Type 0 where
   pub floors_are : (job : List ℕ) → floor_in job log.floors ≡ greatest_floor job floors
   pub replies_are : (job : List ℕ) (number : ℕ) → nat_lt number (greatest_floor job floors) ≡ false →
-      kept_in (record { job = job; number = number }) log.kept ≡ option_map reply_of_row (find (is_reply_of job number) rows)
+      kept_in (record { job = job; number = number }) log.kept ≡ option_map reply_of_row
+      (find (is_reply_of job number) rows)
 
 -- a kept row: its place is none to come, its reply came with an entry, and a floor that it tells stands
 pub record IsGoodRow (old_floor : List ℕ → ℕ) (last : ℕ) (row : KeptRow) : Type 0 where
@@ -50,7 +52,8 @@ faults_in h = count_by (λ e. is_fault e.answer.reply) h
 
 -- the journal is legal behind a sound opening and left the state s, the log has what it keeps, the tables are its own
 -- where they are told, and the keeper counted each of its faults
-pub record IsTied (o : Opening) (h : List Entry) (s : DeskState) (log : LogView) (told : Option Rows) (mark count : ℕ) : Type 0 where
+pub record IsTied (o : Opening) (h : List Entry) (s : DeskState) (log : LogView) (told : Option Rows)
+    (mark count : ℕ) : Type 0 where
   pub sound : IsSoundOpening o
   pub reaches : Reaches o h s
   pub good : AllByRecursion (IsGoodRow (floor_of o h) (o.base + length h)) (all_rows o h)
@@ -59,7 +62,8 @@ pub record IsTied (o : Opening) (h : List Entry) (s : DeskState) (log : LogView)
   pub counted : min (mark + faults_in h) (2 ^ 64 - 1) ≤ count
 
 -- all is tied, the journal has a place for the request, which is this one, and the request is sound
-pub record IsReady (o : Opening) (h : List Entry) (s : DeskState) (log : LogView) (told : Option Rows) (mark count : ℕ) (place : ℕ) (request : Request) : Type 0 where
+pub record IsReady (o : Opening) (h : List Entry) (s : DeskState) (log : LogView) (told : Option Rows) (mark count : ℕ)
+    (place : ℕ) (request : Request) : Type 0 where
   pub tied : IsTied o h s log told mark count
   pub place_is : place ≡ o.base + length h + 1
   pub not_full : is_full_for h request.op ≡ false
@@ -67,6 +71,7 @@ pub record IsReady (o : Opening) (h : List Entry) (s : DeskState) (log : LogView
   pub sound : IsSound request.op
 
 -- the entry is a lawful step from s, and all is tied behind it
-pub record IsEntered (o : Opening) (h : List Entry) (s : DeskState) (e : Entry) (after : DeskState) (log : LogView) (told : Option Rows) (mark count : ℕ) : Type 0 where
+pub record IsEntered (o : Opening) (h : List Entry) (s : DeskState) (e : Entry) (after : DeskState) (log : LogView)
+    (told : Option Rows) (mark count : ℕ) : Type 0 where
   pub step : IsStep o h s e after
   pub tied : IsTied o (h ++ e ∷ []) after log told mark count

@@ -9,7 +9,8 @@ use std::alloc::AllocError;
 /// The answer, at this place of the journal, to a request whose number is below its floor or came before, and
 /// `None` where the number is fresh (docs/records.md, "Kept replies"); or want of memory.
 pub fn recall(log: &RequestLog, request: &Request, place: u64) -> Result<Option<Answer>, AllocError>
-    ensures known { IfOk result (λ recalled. MatchOption recalled (IsUnknown log.now request.now) (λ answer. Recalls log.now request.now answer)) }
+    ensures known { IfOk result (λ recalled. MatchOption recalled (IsUnknown log.now request.now)
+        (λ answer. Recalls log.now request.now answer)) }
     ensures place { IfOk result (λ recalled. IfSome recalled (λ answer. answer.place ≡ place)) }
 {
     match log.lookup(request) {

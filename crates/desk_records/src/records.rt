@@ -33,10 +33,13 @@ impl<P: Keeper> Records<P> {
         requires suits { Suits change }
         requires reply_room { 0 < self.old.log.reply_room }
         requires floor_room { 0 < self.old.log.floor_room }
-        ensures done { IfOk result (λ done. MatchBool done (IsDone change (P.told self.old.keeper) (P.told self.new.keeper) self.old.log self.new.log) (IsUntouched (P.told self.old.keeper) (P.told self.new.keeper) self.old.log self.new.log)) }
+        ensures done { IfOk result (λ done. MatchBool done
+            (IsDone change (P.told self.old.keeper) (P.told self.new.keeper) self.old.log self.new.log)
+            (IsUntouched (P.told self.old.keeper) (P.told self.new.keeper) self.old.log self.new.log)) }
         ensures cause { IfOk result (λ done. done ≡ false → Rose (P.count self.old.keeper) (P.count self.new.keeper)) }
         ensures stands { IfOk result (λ done. done ≡ true → P.count self.new.keeper ≡ P.count self.old.keeper) }
-        ensures err { OnErr result (IsUntouched (P.told self.old.keeper) (P.told self.new.keeper) self.old.log self.new.log) }
+        ensures err { OnErr result (IsUntouched (P.told self.old.keeper) (P.told self.new.keeper) self.old.log
+            self.new.log) }
         ensures spared { OnErr result (P.count self.new.keeper ≡ P.count self.old.keeper) }
         ensures rises { P.count self.old.keeper ≤ P.count self.new.keeper }
     {

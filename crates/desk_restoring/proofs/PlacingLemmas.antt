@@ -1,5 +1,6 @@
 -- Data sets that take their tracks one extent after the other.
-use Rattle.std.proofs.Common.{◌≡◌, ◌≤◌, ◌<◌, ℕ, ◌+◌, Bool, true, false, cond, List, [], ◌∷◌, ◌++◌, length, take, append-nil, refl, sym, ap, ◌∙◌, subst, arith}
+use Rattle.std.proofs.Common.{◌≡◌, ◌≤◌, ◌<◌, ℕ, ◌+◌, Bool, true, false, cond, List, [], ◌∷◌, ◌++◌, length, take}
+use Rattle.std.proofs.Common.{append-nil, refl, sym, ap, ◌∙◌, subst, arith}
 use Rattle.std.specs.Prelude.{None, Some}
 use Rattle.std.specs.List.{AllByRecursion}
 use Rattle.std.proofs.lemmas.List.{take_all}
@@ -20,7 +21,8 @@ use Rattle.sms_volumes.proofs.NamedLemmas.{named-push}
 use Rattle.desk_restoring.specs.Inner.Placing.{CanHold, placed, sets_placed}
 use Rattle.desk_restoring.specs.Inner.Replaying.{with_sets}
 use Rattle.desk_restoring.proofs.ListLemmas.{each-rest}
-use Rattle.desk_restoring.proofs.PartLemmas.{front-unnamed, last-lawful, lawful-placed, times-last, times-placed, times-split}
+use Rattle.desk_restoring.proofs.PartLemmas.{front-unnamed, last-lawful, lawful-placed, times-last, times-placed}
+use Rattle.desk_restoring.proofs.PartLemmas.{times-split}
 
 -- A name that no data set before the last has.
 

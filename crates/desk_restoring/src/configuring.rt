@@ -22,7 +22,9 @@ pub fn volumes_under(
 ) -> Result<ActiveVolumes, AllocError>
     requires config { IfSome config.now IsConfiguration }
     requires rows { AllByRecursion IsAllowed rows.now }
-    ensures { IfOk result (AreVolumesOf (with_statuses (fresh_state config.now) (statuses_varied rows.now (fresh_state config.now).statuses))) }
+    ensures { IfOk result
+        (AreVolumesOf (with_statuses (fresh_state config.now)
+        (statuses_varied rows.now (fresh_state config.now).statuses))) }
 {
     let mut volumes = fresh_volumes(alloc, config)?;
     vary_each(&mut volumes, rows);
@@ -53,7 +55,8 @@ fn activated_volumes(alloc: Global, config: &Config) -> Result<ActiveVolumes, Al
 // The target of each row gets its status.
 fn vary_each(volumes: &mut ActiveVolumes, rows: &[StatusRow])
     requires { AllByRecursion IsAllowed rows.now }
-    ensures { (s : DeskState) → IsLawful s → AreVolumesOf s volumes.old → AreVolumesOf (with_statuses s (statuses_varied rows.now s.statuses)) volumes.new }
+    ensures { (s : DeskState) → IsLawful s → AreVolumesOf s volumes.old →
+        AreVolumesOf (with_statuses s (statuses_varied rows.now s.statuses)) volumes.new }
 {
     for row in rows {
         volumes.vary(&row.target, row.status);

@@ -39,7 +39,12 @@ fn floors_of(alloc: Global, floors: &[Floor]) -> Result<RequestLog, AllocError>
 // Keeps the reply of a row under its job and number.
 fn keep(log: &mut RequestLog, row: &KeptRow) -> Result<(), AllocError>
     requires { 0 < log.old.reply_room }
-    ensures replies { OnOk result ((key : RequestKey) → kept_in key log.new.kept ≡ kept_with log.old (record { job = row.now.job; number = row.now.number; op = row.now.request.op }) row.now.place row.now.reply key) }
+    ensures replies { OnOk result ((key : RequestKey) →
+        kept_in key log.new.kept ≡ kept_with log.old (record {
+          job = row.now.job;
+          number = row.now.number;
+          op = row.now.request.op;
+        }) row.now.place row.now.reply key) }
     ensures floors { OnOk result (log.new.floors ≡ log.old.floors) }
 {
     let request = Request {

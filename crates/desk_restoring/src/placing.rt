@@ -17,7 +17,8 @@ use track_ledger::Piece;
 /// The data sets hold their tracks, each extent in its order.
 pub fn place_all(volumes: &mut ActiveVolumes, sets: &[Shared<DataSet>]) -> Result<(), AllocError>
     requires { CanPlaceAll sets.now volumes.old }
-    ensures { OnOk result ((s : DeskState) → IsLawful s → s.sets ≡ sets.now → AreVolumesOf (with_sets s []) volumes.old → AreVolumesOf s volumes.new) }
+    ensures { OnOk result ((s : DeskState) → IsLawful s → s.sets ≡ sets.now →
+        AreVolumesOf (with_sets s []) volumes.old → AreVolumesOf s volumes.new) }
 {
     for set in sets {
         place(volumes, set.get())?;
@@ -28,7 +29,8 @@ pub fn place_all(volumes: &mut ActiveVolumes, sets: &[Shared<DataSet>]) -> Resul
 // The data set holds its tracks too.
 fn place(volumes: &mut ActiveVolumes, set: &DataSet) -> Result<(), AllocError>
     requires { CanPlace set.now volumes.old }
-    ensures { OnOk result ((s : DeskState) (front : List Catalogued) → IsLawful s → s.sets ≡ front ++ set.now ∷ [] → AreVolumesOf (with_sets s front) volumes.old → AreVolumesOf s volumes.new) }
+    ensures { OnOk result ((s : DeskState) (front : List Catalogued) → IsLawful s → s.sets ≡ front ++ set.now ∷ [] →
+        AreVolumesOf (with_sets s front) volumes.old → AreVolumesOf s volumes.new) }
 {
     let extents = set.extents.as_slice();
     for extent in extents {
@@ -40,7 +42,8 @@ fn place(volumes: &mut ActiveVolumes, set: &DataSet) -> Result<(), AllocError>
 // The tracks of the extent are held too.
 fn hold(volumes: &mut ActiveVolumes, extent: &Extent) -> Result<(), AllocError>
     requires { CanHold extent.now volumes.old }
-    ensures { OnOk result ((s : DeskState) (set : Catalogued) → IsLawful s → AreVolumesOf s volumes.old → set.extents ≡ extents_named set.dsn s.sets ++ extent.now ∷ [] → AreVolumesOf (with_set s set) volumes.new) }
+    ensures { OnOk result ((s : DeskState) (set : Catalogued) → IsLawful s → AreVolumesOf s volumes.old →
+        set.extents ≡ extents_named set.dsn s.sets ++ extent.now ∷ [] → AreVolumesOf (with_set s set) volumes.new) }
 {
     let Some(place) = volumes.place_of(&extent.volser) else {
         unreachable!();

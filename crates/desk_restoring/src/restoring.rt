@@ -32,8 +32,19 @@ pub fn restore(alloc: Global, opening: Opening) -> Result<Restored, AllocError>
 
 // What these rows come to under this configuration.
 fn restored(alloc: Global, rows: &Rows, config: Option<Config>) -> Result<Restored, AllocError>
-    requires { IsLawful (record { activations = length rows.now.decks; active = config; statuses = rows.now.statuses; sets = rows.now.sets }) }
-    ensures running { IfOk result (λ restored. IsRunning (record { activations = length rows.now.decks; active = config; statuses = rows.now.statuses; sets = rows.now.sets }) restored.running) }
+    requires { IsLawful (record {
+      activations = length rows.now.decks;
+      active = config;
+      statuses = rows.now.statuses;
+      sets = rows.now.sets;
+    }) }
+    ensures running { IfOk result (λ restored. IsRunning
+        (record {
+          activations = length rows.now.decks;
+          active = config;
+          statuses = rows.now.statuses;
+          sets = rows.now.sets;
+        }) restored.running) }
     ensures log { IfOk result (λ restored. IsLogOf rows.now.floors rows.now.replies restored.log) }
 {
     let running = running_of(alloc, rows, config)?;
@@ -43,8 +54,19 @@ fn restored(alloc: Global, rows: &Rows, config: Option<Config>) -> Result<Restor
 
 // The running state of these rows under this configuration.
 fn running_of(alloc: Global, rows: &Rows, config: Option<Config>) -> Result<Running, AllocError>
-    requires { IsLawful (record { activations = length rows.now.decks; active = config; statuses = rows.now.statuses; sets = rows.now.sets }) }
-    ensures { IfOk result (IsRunning (record { activations = length rows.now.decks; active = config; statuses = rows.now.statuses; sets = rows.now.sets })) }
+    requires { IsLawful (record {
+      activations = length rows.now.decks;
+      active = config;
+      statuses = rows.now.statuses;
+      sets = rows.now.sets;
+    }) }
+    ensures { IfOk result
+        (IsRunning (record {
+          activations = length rows.now.decks;
+          active = config;
+          statuses = rows.now.statuses;
+          sets = rows.now.sets;
+        })) }
 {
     let volumes = held_volumes(alloc, rows, &config)?;
     let config = shared(alloc, config)?;
@@ -64,8 +86,19 @@ fn held_volumes(
     rows: &Rows,
     config: &Option<Config>,
 ) -> Result<ActiveVolumes, AllocError>
-    requires { IsLawful (record { activations = length rows.now.decks; active = config.now; statuses = rows.now.statuses; sets = rows.now.sets }) }
-    ensures { IfOk result (AreVolumesOf (record { activations = length rows.now.decks; active = config.now; statuses = rows.now.statuses; sets = rows.now.sets })) }
+    requires { IsLawful (record {
+      activations = length rows.now.decks;
+      active = config.now;
+      statuses = rows.now.statuses;
+      sets = rows.now.sets;
+    }) }
+    ensures { IfOk result
+        (AreVolumesOf (record {
+          activations = length rows.now.decks;
+          active = config.now;
+          statuses = rows.now.statuses;
+          sets = rows.now.sets;
+        })) }
 {
     let mut volumes = volumes_under(alloc, config, rows.statuses.as_slice())?;
     let sets = rows.sets.as_slice();

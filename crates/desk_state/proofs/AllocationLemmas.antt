@@ -14,7 +14,8 @@ use Rattle.sms_construct.specs.declared.trace.Trace.{Trace}
 use Rattle.sms_construct.specs.declared.volume.VolumeDef.{VolumeDef}
 use Rattle.acs_tree.specs.declared.values.Values.{Values}
 use Rattle.desk_law.specs.State.{DeskState, set_named, with_set}
-use Rattle.desk_law.specs.Allocation.{AllocRule, GrantRule, Wish, alloc_case, ask_of, candidates_of, data_class_of, new_set, space_case, space_of, wish_with}
+use Rattle.desk_law.specs.Allocation.{AllocRule, GrantRule, Wish, alloc_case, ask_of, candidates_of, data_class_of}
+use Rattle.desk_law.specs.Allocation.{new_set, space_case, space_of, wish_with}
 use Rattle.desk_law.specs.Candidates.{Ask}
 use Rattle.desk_law.specs.Classification.{Classes, answer_of, classes_of, trace_of, went_through}
 use Rattle.desk_law.specs.Extents.{extents_at, extents_if, extents_named}

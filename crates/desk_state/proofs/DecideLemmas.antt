@@ -1,5 +1,6 @@
 -- A decision by the rule of the op is one that the records take.
-use Rattle.std.proofs.Common.{◌≡◌, ◌≤◌, ℕ, ◌+◌, Bool, true, false, List, [], ◌∷◌, ◌++◌, map, refl, sym, ap, ◌∙◌, subst, arith, inl, inr}
+use Rattle.std.proofs.Common.{◌≡◌, ◌≤◌, ℕ, ◌+◌, Bool, true, false, List, [], ◌∷◌, ◌++◌, map, refl, sym, ap, ◌∙◌, subst}
+use Rattle.std.proofs.Common.{arith, inl, inr}
 use Rattle.std.specs.Prelude.{Option, None, Some, Result, Ok, Err, IsSome, is_some, max, nat_eq, nat_lt, length}
 use Rattle.std.specs.List.{list_all}
 use Rattle.desk_common.specs.Steps.{◌⊳◌}
@@ -21,13 +22,15 @@ use Rattle.sms_keeper.specs.Suits.{SuitsOp, deck_of, has_status}
 use Rattle.sms_keeper.specs.declared.status_row.StatusRow.{StatusRow}
 use Rattle.desk_law.specs.State.{DeskState, set_named}
 use Rattle.desk_law.specs.Activation.{ActivateRule, first_barred, row_of_group, row_of_volume, statuses_under}
-use Rattle.desk_law.specs.Allocation.{AllocRule, GrantsOn, Wish, alloc_case, ask_of, candidates_of, data_class_of, space_case, space_of, wish_with}
+use Rattle.desk_law.specs.Allocation.{AllocRule, GrantsOn, Wish, alloc_case, ask_of, candidates_of, data_class_of}
+use Rattle.desk_law.specs.Allocation.{space_case, space_of, wish_with}
 use Rattle.desk_law.specs.Candidates.{Chosen}
 use Rattle.desk_law.specs.Classification.{Classes, answer_of, classes_of, trace_of, went_through}
 use Rattle.sms_construct.specs.declared.stop.Stop.{Stop}
 use Rattle.sms_construct.specs.declared.stop.Stop.TheVariants as stops
 use Rattle.desk_law.specs.Display.{reply_for_none, view_of_target}
-use Rattle.desk_law.specs.Extension.{ExtendRule, ExtendsOn, FurtherRule, ask_more, extend_case, first_volume, growth_on, last_volume, others_of}
+use Rattle.desk_law.specs.Extension.{ExtendRule, ExtendsOn, FurtherRule, ask_more, extend_case, first_volume, growth_on}
+use Rattle.desk_law.specs.Extension.{last_volume, others_of}
 use Rattle.desk_law.specs.Extents.{tracks_of_set, volumes_of}
 use Rattle.desk_law.specs.Purging.{PurgeRule}
 use Rattle.desk_law.specs.Replies.{Leaves, Makes, found_or, reply_if}
@@ -36,7 +39,8 @@ use Rattle.desk_law.specs.Usage.{used_case}
 use Rattle.desk_law.specs.Volumes.{times_target}
 use Rattle.desk_law.proofs.LineLemmas.{on-bool, on-option, on-result}
 use Rattle.desk_records.specs.Effects.{IsDecided, Matches, state_with}
-use Rattle.desk_records.proofs.EffectLemmas.{activated-matches, drop-matches, floor-matches, nothing-matches, put-matches, status-matches}
+use Rattle.desk_records.proofs.EffectLemmas.{activated-matches, drop-matches, floor-matches, nothing-matches}
+use Rattle.desk_records.proofs.EffectLemmas.{put-matches, status-matches}
 use Rattle.desk_state.specs.Answering.{Answers, IsOldFloor}
 use Rattle.desk_state.specs.Deeds.{config_of, effect_of}
 use Rattle.desk_state.specs.declared.decision.Decision.{Decision}

@@ -1,6 +1,8 @@
 -- Decisions that are by the rule of EXTEND.
-use Rattle.std.proofs.Common.{◌≡◌, ℕ, zero, suc, ◌+◌, ◌-◌, Bool, true, false, List, [], ◌∷◌, ◌++◌, length, get_or, refl, sym, ap, ◌∙◌, subst, arith, inl, inr}
-use Rattle.std.specs.Prelude.{◌==◌, ◌||◌, ◌&&◌, Option, None, Some, MatchOption, MatchBool, bytes_eq, filter, nat_lt, not, option_map, slice_get}
+use Rattle.std.proofs.Common.{◌≡◌, ℕ, zero, suc, ◌+◌, ◌-◌, Bool, true, false, List, [], ◌∷◌, ◌++◌, length, get_or, refl}
+use Rattle.std.proofs.Common.{sym, ap, ◌∙◌, subst, arith, inl, inr}
+use Rattle.std.specs.Prelude.{◌==◌, ◌||◌, ◌&&◌, Option, None, Some, MatchOption, MatchBool, bytes_eq, filter, nat_lt}
+use Rattle.std.specs.Prelude.{not, option_map, slice_get}
 use Rattle.std.proofs.lemmas.Option.{get_or_from_slice_get, slice_get_within}
 use Rattle.sms_construct.specs.declared.data_set.DataSet.{DataSet}
 use Rattle.sms_construct.specs.declared.extent.Extent.{Extent}
@@ -9,7 +11,8 @@ use Rattle.sms_construct.specs.declared.volume.VolumeDef.{VolumeDef}
 use Rattle.sms_construct.specs.declared.why_no_extend.WhyNoExtend.TheVariants as reasons
 use Rattle.desk_law.specs.State.{DeskState, set_named, with_set}
 use Rattle.desk_law.specs.Candidates.{Ask, Chosen}
-use Rattle.desk_law.specs.Extension.{ExtendRule, Extends, ExtendsOn, ask_more, bars_growth, extended, first_volume, growth_on, last_volume, others_of}
+use Rattle.desk_law.specs.Extension.{ExtendRule, Extends, ExtendsOn, ask_more, bars_growth, extended, first_volume}
+use Rattle.desk_law.specs.Extension.{growth_on, last_volume, others_of}
 use Rattle.desk_law.specs.Extents.{extents_at, is_among, is_used, volumes_after, volumes_of}
 use Rattle.desk_law.specs.Replies.{Leaves}
 use Rattle.desk_law.specs.Statuses.{bars_group_growth, bars_volume_growth, group_status, volume_status}

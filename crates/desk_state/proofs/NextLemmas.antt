@@ -1,5 +1,6 @@
 -- The first row behind a key, and the data set of it.
-use Rattle.std.proofs.Common.{inl, inr, ◌≡◌, ℕ, Bool, true, false, List, [], ◌∷◌, Option, None, Some, Ordering, Less, Equal, Greater, is_lt, refl, sym, ap, subst, ◌∙◌}
+use Rattle.std.proofs.Common.{inl, inr, ◌≡◌, ℕ, Bool, true, false, List, [], ◌∷◌, Option, None, Some, Ordering, Less}
+use Rattle.std.proofs.Common.{Equal, Greater, is_lt, refl, sym, ap, subst, ◌∙◌}
 use Rattle.std.proofs.lemmas.Bool.{cases_Bool}
 use Rattle.std.specs.Prelude.{option_map}
 use Rattle.std.specs.BTreeMap.{is_at}

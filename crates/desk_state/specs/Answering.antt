@@ -24,7 +24,8 @@ Tells (deeds.Vary target status) reply = tells_nothing reply ≡ true
 Tells (deeds.Raise job floor) reply = reply ≡ replies.Purged job floor
 
 -- the decision is by the rule, its reply tells what is done, and its deed fits this state
-pub record Answers (s : DeskState) (running : Running) (Rule : Reply → DeskState → Type 0) (made : Decision) : Type 0 where
+pub record Answers (s : DeskState) (running : Running) (Rule : Reply → DeskState →
+    Type 0) (made : Decision) : Type 0 where
   pub rule : Rule made.reply (state_with s (effect_of made.deed) (config_of made.deed))
   pub tells : Tells made.deed made.reply
   pub fits : Fits s running made.deed

@@ -47,14 +47,16 @@ abbrev pub IsPossible : Running → Deed → Type 0
 IsPossible running deeds.Nothing = Unit {0}
 IsPossible running (deeds.Get set place pieces) = IsReadyAt running.volumes place pieces.items
 IsPossible running (deeds.Note set) = Unit {0}
-IsPossible running (deeds.Keep set) = IfSome (set_in set.dsn running.catalog.sets) (λ old. IsFront set.extents old.extents)
+IsPossible running (deeds.Keep set) =
+    IfSome (set_in set.dsn running.catalog.sets) (λ old. IsFront set.extents old.extents)
 IsPossible running (deeds.Remove dsn) = Unit {0}
 IsPossible running (deeds.Become count config volumes statuses) = Unit {0}
 IsPossible running (deeds.Vary target status) = Unit {0}
 IsPossible running (deeds.Raise job floor) = Unit {0}
 
 -- the data set has what it had, and these pieces of the volume at the place
-pub record HasMore (sets : List DataSet) (running : Running) (set : DataSet) (place : ℕ) (pieces : List Piece) : Type 0 where
+pub record HasMore (sets : List DataSet) (running : Running) (set : DataSet) (place : ℕ)
+    (pieces : List Piece) : Type 0 where
   pub volume : ActiveVolume
   pub at : slice_get running.volumes.volumes.items place ≡ Some volume
   pub extents : set.extents ≡ extents_named set.dsn sets ++ extents_at volume.volume.volser pieces
@@ -65,7 +67,8 @@ pub record HasFront (sets : List DataSet) (set : DataSet) : Type 0 where
   pub extents : set.extents ≡ front_tracks keep (extents_named set.dsn sets)
 
 -- nothing bars the configuration, the volumes are its next, and the statuses theirs
-pub record IsNext (s : DeskState) (count : ℕ) (config : Configuration) (volumes : ActiveVolumes) (statuses : List StatusRow) : Type 0 where
+pub record IsNext (s : DeskState) (count : ℕ) (config : Configuration) (volumes : ActiveVolumes)
+    (statuses : List StatusRow) : Type 0 where
   pub counted : count ≡ s.activations + 1
   pub sound : IsConfiguration config
   pub unbarred : first_barred s config ≡ None

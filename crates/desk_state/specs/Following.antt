@@ -18,7 +18,8 @@ IsLastName from sets = (dsn : List ℕ) → is_behind from dsn ≡ true → set_
 pub record IsFirstBehind (from : Option (List ℕ)) (sets : List DataSet) (set : DataSet) : Type 0 where
   pub behind : is_behind from set.dsn ≡ true
   pub stands : set_named set.dsn sets ≡ Some set
-  pub first : (dsn : List ℕ) → is_behind from dsn ≡ true → is_behind (Some dsn) set.dsn ≡ true → set_named dsn sets ≡ None
+  pub first : (dsn : List ℕ) → is_behind from dsn ≡ true → is_behind (Some dsn) set.dsn ≡ true →
+      set_named dsn sets ≡ None
 
 -- the first data set behind the name, or none only where no name behind it has one
 abbrev pub IsNextSet : Option (List ℕ) → List DataSet → Option DataSet → Type 0

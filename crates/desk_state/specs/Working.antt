@@ -19,7 +19,8 @@ use Rattle.desk_state.specs.declared.work.Work.{Work}
 use Rattle.desk_state.specs.declared.work.Work.TheVariants.{Classes, Deck, Nothing}
 
 -- an ALLOC of the job is classified so under the configuration, and this is written
-pub record IsClassified (config : Configuration) (job : List ℕ) (alloc : Alloc) (made : Classified) (written : SlateLines)
+pub record IsClassified (config : Configuration) (job : List ℕ) (alloc : Alloc) (made : Classified)
+    (written : SlateLines)
     : Type 0 where
   pub values_are : made.values ≡ (classes_of config job alloc).values
   pub stop_is : made.stop ≡ (classes_of config job alloc).stop

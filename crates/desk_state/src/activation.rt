@@ -30,7 +30,8 @@ impl Running {
         requires state { IsSomeState self.now }
         requires work { (read : Result Configuration DeckError) → work.now ≡ Work.Deck read → IsReadAs deck.now read }
         requires counted { self.now.activations + 1 < 2 ^ 64 }
-        ensures answers { IfOk result (λ made. (s : DeskState) → IsLawful s → IsRunning s self.now → Answers s self.now (ActivateRule s deck.now) made) }
+        ensures answers { IfOk result (λ made. (s : DeskState) → IsLawful s → IsRunning s self.now →
+            Answers s self.now (ActivateRule s deck.now) made) }
         ensures possible { IfOk result (λ made. IsPossible self.now made.deed) }
     {
         match configuration(self.alloc, deck, work) {
@@ -44,7 +45,8 @@ impl Running {
     fn decide_configuration(&self, config: Shared<Config>) -> Result<Decision, AllocError>
         requires state { IsSomeState self.now }
         requires counted { self.now.activations + 1 < 2 ^ 64 }
-        ensures answers { IfOk result (λ made. (s : DeskState) → IsLawful s → IsRunning s self.now → Answers s self.now (ConfigurationRule s config) made) }
+        ensures answers { IfOk result (λ made. (s : DeskState) → IsLawful s → IsRunning s self.now →
+            Answers s self.now (ConfigurationRule s config) made) }
         ensures possible { IfOk result (λ made. IsPossible self.now made.deed) }
     {
         // Facts for the proof; nothing changes.
@@ -59,7 +61,8 @@ impl Running {
         requires state { IsSomeState self.now }
         requires counted { self.now.activations + 1 < 2 ^ 64 }
         requires sound { IsConfiguration config }
-        ensures answers { IfOk result (λ made. (s : DeskState) → IsLawful s → IsRunning s self.now → first_barred s config ≡ None → Answers s self.now (ConfigurationRule s config) made) }
+        ensures answers { IfOk result (λ made. (s : DeskState) → IsLawful s → IsRunning s self.now →
+            first_barred s config ≡ None → Answers s self.now (ConfigurationRule s config) made) }
         ensures possible { IfOk result (λ made. IsPossible self.now made.deed) }
     {
         let volumes = self.volumes.under(self.alloc, config.get())?;

@@ -42,7 +42,8 @@ impl Running {
         requires before { IfSome before (λ made. (config : Configuration) → self.old.config ≡ Some config →
             IsClassified config job.now alloc.now made slate.old) }
         ensures same { (s : DeskState) → IsRunning s self.old → IsRunning s self.new }
-        ensures answers { IfOk result (λ made. (s : DeskState) → IsLawful s → IsRunning s self.old → Answers s self.new (AllocRule s job.now alloc.now) made) }
+        ensures answers { IfOk result (λ made. (s : DeskState) → IsLawful s → IsRunning s self.old →
+            Answers s self.new (AllocRule s job.now alloc.now) made) }
         ensures possible { IfOk result (λ made. IsPossible self.new made.deed) }
     {
         let Some(config) = &self.config else {
@@ -71,7 +72,9 @@ impl Running {
         requires unused { set_in alloc.now.input.dsn self.old.catalog.sets ≡ None }
         requires known { classified.now.stop ≡ Stop.Done → AreKnown config.now classified.now.values }
         ensures same { (s : DeskState) → IsRunning s self.old → IsRunning s self.new }
-        ensures answers { IfOk result (λ made. (s : DeskState) → IsLawful s → IsRunning s self.old → Answers s self.new (ClassifiedRule s config.now alloc.now (classes_with classified.now.values classified.now.stop trace)) made) }
+        ensures answers { IfOk result (λ made. (s : DeskState) → IsLawful s → IsRunning s self.old →
+            Answers s self.new (ClassifiedRule s config.now alloc.now
+            (classes_with classified.now.values classified.now.stop trace)) made) }
         ensures possible { IfOk result (λ made. IsPossible self.new made.deed) }
     {
         let trace = match stop_reply(classified.stop, trace) {
@@ -90,7 +93,8 @@ impl Running {
         requires stands { IsSomeState self.old }
         requires unused { set_in alloc.now.input.dsn self.old.catalog.sets ≡ None }
         ensures same { (s : DeskState) → IsRunning s self.old → IsRunning s self.new }
-        ensures answers { IfOk result (λ made. (s : DeskState) → IsLawful s → IsRunning s self.old → s.active ≡ Some wish.entry.config → Answers s self.new (GrantRule s alloc.now wish.entry) made) }
+        ensures answers { IfOk result (λ made. (s : DeskState) → IsLawful s → IsRunning s self.old →
+            s.active ≡ Some wish.entry.config → Answers s self.new (GrantRule s alloc.now wish.entry) made) }
         ensures possible { IfOk result (λ made. IsPossible self.new made.deed) }
     {
         let candidates = Candidates::Listed(wish.groups());
@@ -117,7 +121,13 @@ fn granted(
     wish: Wish<'_>,
     grant: Grant,
 ) -> Result<Decision, AllocError>
-    ensures { IfOk result (λ made. made ≡ record { reply = Reply.Granted (set_granted request.now wish.entry grant) (trace_of wish.entry.classes); deed = Deed.Get (set_granted request.now wish.entry grant) grant.place grant.pieces }) }
+    ensures { IfOk result
+        (λ made. made ≡ record {
+          reply = Reply.Granted (set_granted request.now wish.entry grant)
+              (trace_of wish.entry.classes);
+          deed = Deed.Get (set_granted request.now wish.entry grant) grant.place
+              grant.pieces;
+        }) }
 {
     let set = wish.new_set(alloc, request, &grant.volume, grant.pieces.as_slice())?;
     Ok(Decision {

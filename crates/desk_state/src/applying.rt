@@ -27,7 +27,9 @@ use track_ledger::Piece;
 fn trim(volumes: &mut ActiveVolumes, old: Option<&Shared<DataSet>>, kept: &DataSet)
     requires lies { IfSome (option_copied old) (λ (set : Catalogued). LiesOnSome volumes.old set.extents) }
     requires front { IfSome (option_copied old) (λ (set : Catalogued). IsFront kept.now.extents set.extents) }
-    ensures { (s : DeskState) → IsLawful s → AreVolumesOf s volumes.old → option_copied old.entry ≡ set_named kept.now.dsn s.sets → HasFront s.sets kept.now → AreVolumesOf (with_set s kept.now) volumes.new }
+    ensures { (s : DeskState) → IsLawful s → AreVolumesOf s volumes.old →
+        option_copied old.entry ≡ set_named kept.now.dsn s.sets → HasFront s.sets kept.now →
+        AreVolumesOf (with_set s kept.now) volumes.new }
 {
     if let Some(old) = old {
         volumes.trim(old.get().extents.as_slice(), kept.extents.as_slice());
@@ -37,7 +39,8 @@ fn trim(volumes: &mut ActiveVolumes, old: Option<&Shared<DataSet>>, kept: &DataS
 // What was catalogued under the name, if anything, gives all its tracks back.
 fn release(volumes: &mut ActiveVolumes, old: Option<&Shared<DataSet>>)
     requires { IfSome (option_copied old) (λ (set : Catalogued). LiesOnSome volumes.old set.extents) }
-    ensures { (s : DeskState) (dsn : List ℕ) → IsLawful s → AreVolumesOf s volumes.old → option_copied old.entry ≡ set_named dsn s.sets → AreVolumesOf (without_name s dsn) volumes.new }
+    ensures { (s : DeskState) (dsn : List ℕ) → IsLawful s → AreVolumesOf s volumes.old →
+        option_copied old.entry ≡ set_named dsn s.sets → AreVolumesOf (without_name s dsn) volumes.new }
 {
     if let Some(old) = old {
         volumes.release(old.get().extents.as_slice());
@@ -49,7 +52,8 @@ impl Running {
     fn get(&mut self, set: Shared<DataSet>, place: usize, pieces: &[Piece])
         requires ready { IsReadyAt self.old.volumes place pieces.now }
         requires room { 0 < self.old.catalog.room }
-        ensures { (s : DeskState) → IsLawful s → IsRunning s self.old → HasMore s.sets self.old set place pieces.now → IsRunning (with_set s set) self.new }
+        ensures { (s : DeskState) → IsLawful s → IsRunning s self.old → HasMore s.sets self.old set place pieces.now →
+            IsRunning (with_set s set) self.new }
     {
         self.volumes.install(place, pieces);
         self.catalog.put(set);
@@ -58,7 +62,8 @@ impl Running {
     // The data set, which lies as before, is put in place of the one of its name.
     fn note(&mut self, set: Shared<DataSet>)
         requires room { 0 < self.old.catalog.room }
-        ensures { (s : DeskState) → IsLawful s → IsRunning s self.old → set.extents ≡ extents_named set.dsn s.sets → IsRunning (with_set s set) self.new }
+        ensures { (s : DeskState) → IsLawful s → IsRunning s self.old → set.extents ≡ extents_named set.dsn s.sets →
+            IsRunning (with_set s set) self.new }
     {
         self.catalog.put(set);
     }
@@ -66,9 +71,11 @@ impl Running {
     // The data set, which keeps the front of its tracks, is put in place of the one of its name.
     fn keep(&mut self, set: Shared<DataSet>)
         requires stands { IsSomeState self.old }
-        requires front { IfSome (set_in set.dsn self.old.catalog.sets) (λ (old : Catalogued). IsFront set.extents old.extents) }
+        requires front { IfSome (set_in set.dsn self.old.catalog.sets)
+            (λ (old : Catalogued). IsFront set.extents old.extents) }
         requires room { 0 < self.old.catalog.room }
-        ensures { (s : DeskState) → IsLawful s → IsRunning s self.old → HasFront s.sets set → IsRunning (with_set s set) self.new }
+        ensures { (s : DeskState) → IsLawful s → IsRunning s self.old → HasFront s.sets set →
+            IsRunning (with_set s set) self.new }
     {
         let kept = set.get();
         trim(&mut self.volumes, self.catalog.get(&kept.dsn), kept);
@@ -86,7 +93,8 @@ impl Running {
 
     // The configuration becomes active, and its volumes take over what the old ones hold.
     fn become_active(&mut self, count: u64, config: Shared<Config>, volumes: ActiveVolumes)
-        ensures { (s : DeskState) (statuses : List Row) → IsLawful s → IsRunning s self.old → IsNext s count config volumes statuses → IsRunning (activated s config) self.new }
+        ensures { (s : DeskState) (statuses : List Row) → IsLawful s → IsRunning s self.old →
+            IsNext s count config volumes statuses → IsRunning (activated s config) self.new }
     {
         let mut volumes = volumes;
         volumes.take_over(&mut self.volumes);
@@ -97,7 +105,8 @@ impl Running {
 
     // The storage group or the volume gets this status.
     fn vary(&mut self, target: &Target, status: Status)
-        ensures { (s : DeskState) → IsLawful s → IsRunning s self.old → IsRunning (with_status s target.now status) self.new }
+        ensures { (s : DeskState) → IsLawful s → IsRunning s self.old →
+            IsRunning (with_status s target.now status) self.new }
     {
         self.volumes.vary(target, status);
     }
@@ -107,7 +116,8 @@ impl Running {
         requires stands { IsSomeState self.old }
         requires possible { IsPossible self.old deed }
         requires room { 0 < self.old.catalog.room }
-        ensures { (s : DeskState) → IsLawful s → IsRunning s self.old → Fits s self.old deed → IsRunning (state_with s (effect_of deed) (config_of deed)) self.new }
+        ensures { (s : DeskState) → IsLawful s → IsRunning s self.old → Fits s self.old deed →
+            IsRunning (state_with s (effect_of deed) (config_of deed)) self.new }
     {
         match deed {
             Deed::Nothing | Deed::Raise { .. } => (),

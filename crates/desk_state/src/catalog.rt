@@ -69,7 +69,8 @@ impl Catalog {
     /// Puts a data set in place of the one of its name, or adds it. It takes no memory.
     pub fn put(&mut self, set: Shared<DataSet>)
         requires { 0 < self.old.room }
-        ensures { (dsn : List ℕ) → set_in dsn self.new.sets ≡ (if bytes_eq set.dsn dsn then Some set else set_in dsn self.old.sets) }
+        ensures { (dsn : List ℕ) →
+            set_in dsn self.new.sets ≡ (if bytes_eq set.dsn dsn then Some set else set_in dsn self.old.sets) }
     {
         let dsn = set.get().dsn;
         self.sets.put(dsn, set);
@@ -77,7 +78,8 @@ impl Catalog {
 
     /// Drops the data set of this name.
     pub fn remove(&mut self, dsn: &Dsn)
-        ensures { (other : List ℕ) → set_in other self.new.sets ≡ (if bytes_eq dsn.now other then None else set_in other self.old.sets) }
+        ensures { (other : List ℕ) →
+            set_in other self.new.sets ≡ (if bytes_eq dsn.now other then None else set_in other self.old.sets) }
     {
         self.sets.remove(dsn);
     }

@@ -27,7 +27,8 @@ impl Running {
     fn found(&self, dsn: &Dsn) -> Option<&Shared<DataSet>>
         requires { IsSomeState self.now }
         ensures found { option_copied result ≡ set_in dsn.now self.now.catalog.sets }
-        ensures few { IfSome (set_in dsn.now self.now.catalog.sets) (λ (set : Catalogued). length set.extents < 2 ^ 32) }
+        ensures few { IfSome (set_in dsn.now self.now.catalog.sets)
+            (λ (set : Catalogued). length set.extents < 2 ^ 32) }
     {
         self.catalog.get(dsn)
     }
@@ -35,7 +36,8 @@ impl Running {
     /// What USED is answered (docs/rules.md, "USED"); `tracks` are those that the data set uses.
     pub(crate) fn decide_used(&self, dsn: &Dsn, tracks: u32) -> Result<Decision, AllocError>
         requires { IsSomeState self.now }
-        ensures answers { IfOk result (λ made. (s : DeskState) → IsLawful s → IsRunning s self.now → Answers s self.now (UsedRule s dsn.now tracks) made) }
+        ensures answers { IfOk result (λ made. (s : DeskState) → IsLawful s → IsRunning s self.now →
+            Answers s self.now (UsedRule s dsn.now tracks) made) }
         ensures possible { IfOk result (λ made. IsPossible self.now made.deed) }
     {
         let Some(set) = self.found(dsn) else {
@@ -57,7 +59,8 @@ impl Running {
     /// What DELETE is answered (docs/rules.md, "DELETE").
     pub(crate) fn decide_delete(&self, dsn: &Dsn) -> Decision
         requires { IsSomeState self.now }
-        ensures answers { (s : DeskState) → IsLawful s → IsRunning s self.now → Answers s self.now (DeleteRule s dsn.now) result }
+        ensures answers { (s : DeskState) → IsLawful s → IsRunning s self.now →
+            Answers s self.now (DeleteRule s dsn.now) result }
         ensures possible { IsPossible self.now result.deed }
     {
         let Some(set) = self.found(dsn) else {
@@ -74,7 +77,8 @@ impl Running {
     /// What RELEASE is answered (docs/rules.md, "RELEASE").
     pub(crate) fn decide_release(&self, dsn: &Dsn) -> Result<Decision, AllocError>
         requires { IsSomeState self.now }
-        ensures answers { IfOk result (λ made. (s : DeskState) → IsLawful s → IsRunning s self.now → Answers s self.now (ReleaseRule s dsn.now) made) }
+        ensures answers { IfOk result (λ made. (s : DeskState) → IsLawful s → IsRunning s self.now →
+            Answers s self.now (ReleaseRule s dsn.now) made) }
         ensures possible { IfOk result (λ made. IsPossible self.now made.deed) }
     {
         let Some(set) = self.found(dsn) else {

@@ -32,7 +32,9 @@ impl Running {
         requires sound { IsSound request.now.op }
         requires work { IsWorkNow self.old request.now slate.old work.now }
         ensures same { (s : DeskState) → IsRunning s self.old → IsRunning s self.new }
-        ensures answers { IfOk result (λ made. (s : DeskState) (floors : List ℕ → ℕ) → IsLawful s → IsRunning s self.old → IsOldFloor floors request.now.op old → Answers s self.new (Rule floors s request.now.job request.now.op) made) }
+        ensures answers { IfOk result (λ made. (s : DeskState) (floors : List ℕ → ℕ) → IsLawful s →
+            IsRunning s self.old → IsOldFloor floors request.now.op old →
+            Answers s self.new (Rule floors s request.now.job request.now.op) made) }
         ensures possible { IfOk result (λ made. IsPossible self.new made.deed) }
     {
         match &request.op {
@@ -66,8 +68,11 @@ impl Running {
         requires sound { IsSound request.now.op }
         requires work { IsWorkNow self.old request.now slate.old work.now }
         ensures same { (s : DeskState) → IsRunning s self.old → IsRunning s self.new }
-        ensures decided { IfOk result (λ made. (s : DeskState) (floors : List ℕ → ℕ) → IsLawful s → IsRunning s self.old → IsOldFloor floors request.now.op old → IsDecided floors s request.now made.reply (effect_of made.deed) (config_of made.deed)) }
-        ensures fits { IfOk result (λ made. (s : DeskState) → IsLawful s → IsRunning s self.old → Fits s self.new made.deed) }
+        ensures decided { IfOk result (λ made. (s : DeskState) (floors : List ℕ → ℕ) → IsLawful s →
+            IsRunning s self.old → IsOldFloor floors request.now.op old →
+            IsDecided floors s request.now made.reply (effect_of made.deed) (config_of made.deed)) }
+        ensures fits { IfOk result (λ made. (s : DeskState) → IsLawful s → IsRunning s self.old →
+            Fits s self.new made.deed) }
         ensures possible { IfOk result (λ made. IsPossible self.new made.deed) }
     {
         self.decide_op(request, old, work, slate)

@@ -1,6 +1,8 @@
 //! EXTEND.
-ghost use Rattle.std.specs.Prelude.{◌≡◌, ◌<◌, ◌≤◌, length, option_map, slice_get, IfOk, IfSome, MatchOption, None, Some, nat_lt};
-ghost use Rattle.desk_law.specs.Extension.{ExtendRule, ask_more, bars_growth, extended, first_volume, growth_on, last_volume, others_of};
+ghost use Rattle.std.specs.Prelude.{◌≡◌, ◌<◌, ◌≤◌, length, option_map, slice_get, IfOk, IfSome, MatchOption, None};
+ghost use Rattle.std.specs.Prelude.{Some, nat_lt};
+ghost use Rattle.desk_law.specs.Extension.{ExtendRule, ask_more, bars_growth, extended, first_volume, growth_on};
+ghost use Rattle.desk_law.specs.Extension.{last_volume, others_of};
 ghost use Rattle.desk_law.specs.Extents.{pieces_on, volumes_of};
 ghost use Rattle.desk_law.specs.Lawful.{IsLawful};
 ghost use Rattle.desk_law.specs.State.{DeskState};
@@ -32,7 +34,8 @@ impl Running {
     pub(crate) fn decide_extend(&mut self, dsn: &Dsn) -> Result<Decision, AllocError>
         requires { IsSomeState self.old }
         ensures same { (s : DeskState) → IsRunning s self.old → IsRunning s self.new }
-        ensures answers { IfOk result (λ made. (s : DeskState) → IsLawful s → IsRunning s self.old → Answers s self.new (ExtendRule s dsn.now) made) }
+        ensures answers { IfOk result (λ made. (s : DeskState) → IsLawful s → IsRunning s self.old →
+            Answers s self.new (ExtendRule s dsn.now) made) }
         ensures possible { IfOk result (λ made. IsPossible self.new made.deed) }
     {
         let Some(set) = self.growable(dsn)? else {
@@ -66,7 +69,8 @@ impl Running {
         requires growable { IsGrowable set.now }
         requires some { 0 < set.now.secondary }
         ensures same { (s : DeskState) → IsRunning s self.old → IsRunning s self.new }
-        ensures grows { IfOk result (λ found. (s : DeskState) → IsLawful s → IsRunning s self.old → Grows s set.now found) }
+        ensures grows { IfOk result (λ found. (s : DeskState) → IsLawful s → IsRunning s self.old →
+            Grows s set.now found) }
         ensures ready { IfOk result (λ found. IfSome found (IsGranted self.new)) }
     {
         match self.growth(set)? {
@@ -82,7 +86,8 @@ impl Running {
         requires growable { IsGrowable set.now }
         requires some { 0 < set.now.secondary }
         ensures same { (s : DeskState) → IsRunning s self.old → IsRunning s self.new }
-        ensures grows { IfOk result (λ found. (s : DeskState) → IsLawful s → IsRunning s self.old → option_map added_of found ≡ growth_on s set.now (last_volume s set.now.extents)) }
+        ensures grows { IfOk result (λ found. (s : DeskState) → IsLawful s → IsRunning s self.old →
+            option_map added_of found ≡ growth_on s set.now (last_volume s set.now.extents)) }
         ensures ready { IfOk result (λ found. IfSome found (IsGranted self.new)) }
     {
         let Some(place) = self.last_place(set.extents.as_slice()) else {
@@ -101,7 +106,8 @@ impl Running {
         requires growable { IsGrowable set.now }
         requires some { 0 < set.now.secondary }
         ensures same { (s : DeskState) → IsRunning s self.old → IsRunning s self.new }
-        ensures chosen { IfOk result (λ found. (s : DeskState) → IsLawful s → IsRunning s self.old → IsGrantAmong s (others_of s set.now (first_volume s set.now.extents)) (ask_more set.now) found) }
+        ensures chosen { IfOk result (λ found. (s : DeskState) → IsLawful s → IsRunning s self.old →
+            IsGrantAmong s (others_of s set.now (first_volume s set.now.extents)) (ask_more set.now) found) }
         ensures ready { IfOk result (λ found. IfSome found (IsGranted self.new)) }
     {
         let extents = set.extents.as_slice();
@@ -114,7 +120,9 @@ impl Running {
 
     // The place of the volume of the last extent.
     fn last_place(&self, extents: &[Extent]) -> Option<usize>
-        ensures found { (s : DeskState) → IsRunning s self.now → MatchOption result (last_volume s extents.now ≡ None) (λ place. last_volume s extents.now ≡ running_at place self.now.volumes) }
+        ensures found { (s : DeskState) → IsRunning s self.now →
+            MatchOption result (last_volume s extents.now ≡ None)
+            (λ place. last_volume s extents.now ≡ running_at place self.now.volumes) }
         ensures within { MatchOption result (Unit {0}) (λ place. place < length self.now.volumes.volumes.items) }
     {
         let last = extents.last()?;
@@ -123,7 +131,8 @@ impl Running {
 
     // The storage group of the volume of the first extent.
     fn first_group(&self, extents: &[Extent]) -> Option<Name>
-        ensures { (s : DeskState) → IsRunning s self.now → result ≡ option_map (λ (volume : Defined). volume.group) (first_volume s extents.now) }
+        ensures { (s : DeskState) → IsRunning s self.now →
+            result ≡ option_map (λ (volume : Defined). volume.group) (first_volume s extents.now) }
     {
         let first = extents.first()?;
         match self.volumes.place_of(&first.volser) {
@@ -136,7 +145,8 @@ impl Running {
     fn bars_growth(&self, place: usize) -> bool
         requires stands { IsSomeState self.now }
         requires place { place < length self.now.volumes.volumes.items }
-        ensures { (s : DeskState) (volume : ActiveVolume) → IsRunning s self.now → slice_get self.now.volumes.volumes.items place ≡ Some volume → result ≡ bars_growth s volume.volume }
+        ensures { (s : DeskState) (volume : ActiveVolume) → IsRunning s self.now →
+            slice_get self.now.volumes.volumes.items place ≡ Some volume → result ≡ bars_growth s volume.volume }
     {
         let volume = &self.volumes.volumes[place];
         let group = &self.volumes.groups[volume.group];
@@ -196,7 +206,10 @@ fn asked_more(set: &DataSet) -> Asked<'_>
 
 // The decision that the data set gets what is granted.
 fn extended(alloc: Global, set: &DataSet, grant: Grant) -> Result<Decision, AllocError>
-    ensures { IfOk result (λ made. made ≡ record { reply = Reply.Extended (added_of grant); deed = Deed.Get (extended set.now (added_of grant)) grant.place grant.pieces }) }
+    ensures { IfOk result (λ made. made ≡ record {
+      reply = Reply.Extended (added_of grant);
+      deed = Deed.Get (extended set.now (added_of grant)) grant.place grant.pieces;
+    }) }
 {
     let added = extents_at(alloc, &grant.volume.volser, grant.pieces.as_slice())?;
     let extents = joined(alloc, set.extents.as_slice(), added.as_slice())?;

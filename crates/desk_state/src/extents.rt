@@ -1,7 +1,8 @@
 //! The extents of data sets.
 ghost use Rattle.std.specs.Prelude.{◌≡◌, ◌<◌, ◌≤◌, ◌^◌, ◌++◌, length, nat_lt, IfOk, if◌then◌else◌};
 ghost use Rattle.sms_construct.specs.Quantities.{rounded_up, tracks_in_managed};
-ghost use Rattle.desk_law.specs.Extents.{extents_at, front_tracks, length_kept, multiple_at, pieces_on, volumes_of, with_extents};
+ghost use Rattle.desk_law.specs.Extents.{extents_at, front_tracks, length_kept, multiple_at, pieces_on, volumes_of};
+ghost use Rattle.desk_law.specs.Extents.{with_extents};
 ghost use Rattle.desk_state.specs.Inner.Sums.{tracks_in};
 
 use desk_common::{Items, Shared};
@@ -75,7 +76,11 @@ fn kept_of(extent: &Extent, keep: u64) -> u32
 
 // The extent when so many tracks are to be kept.
 fn cut_to(extent: &Extent, keep: u64) -> Extent
-    ensures { result ≡ record { volser = extent.now.volser; start = extent.now.start; length = length_kept keep extent.now } }
+    ensures { result ≡ record {
+      volser = extent.now.volser;
+      start = extent.now.start;
+      length = length_kept keep extent.now;
+    } }
 {
     Extent {
         volser: extent.volser,

@@ -39,8 +39,12 @@ impl Running {
         requires asked { IsAsked asked.now }
         requires held { held ≤ most_extents }
         ensures same { (s : DeskState) → IsRunning s self.old → IsRunning s self.new }
-        ensures rule { IfOk result (λ found. (s : DeskState) (volume : ActiveVolume) → IsLawful s → IsRunning s self.old → slice_get self.old.volumes.volumes.items place ≡ Some volume → option_map (λ (grant : Grant). grant.pieces.items) found ≡ grant_on s volume.volume (ask_of asked.now) held) }
-        ensures volume { IfOk result (λ found. IfSome found (λ (grant : Grant). running_at place self.old.volumes ≡ Some grant.volume)) }
+        ensures rule { IfOk result (λ found. (s : DeskState) (volume : ActiveVolume) → IsLawful s →
+            IsRunning s self.old → slice_get self.old.volumes.volumes.items place ≡ Some volume →
+            option_map (λ (grant : Grant). grant.pieces.items) found ≡ grant_on s volume.volume
+            (ask_of asked.now) held) }
+        ensures volume { IfOk result (λ found. IfSome found
+            (λ (grant : Grant). running_at place self.old.volumes ≡ Some grant.volume)) }
         ensures ready { IfOk result (λ found. IfSome found (IsGranted self.new)) }
     {
         match self.volumes.plan(place, asked, held) {
@@ -59,7 +63,8 @@ impl Running {
         requires stands { IsSomeState self.old }
         requires asked { IsAsked asked.now }
         ensures same { (s : DeskState) → IsRunning s self.old → IsRunning s self.new }
-        ensures chosen { IfOk result (λ found. (s : DeskState) → IsLawful s → IsRunning s self.old → IsGrantAmong s (candidates_in s candidates.now) (ask_of asked.now) found) }
+        ensures chosen { IfOk result (λ found. (s : DeskState) → IsLawful s → IsRunning s self.old →
+            IsGrantAmong s (candidates_in s candidates.now) (ask_of asked.now) found) }
         ensures ready { IfOk result (λ found. IfSome found (IsGranted self.new)) }
     {
         match self.volumes.choose(candidates, asked) {

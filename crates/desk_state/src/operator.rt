@@ -21,7 +21,8 @@ use std::alloc::AllocError;
 impl Running {
     /// What VARY is answered (docs/rules.md, "VARY").
     pub(crate) fn decide_vary(&self, target: &Target, action: Action) -> Decision
-        ensures answers { (s : DeskState) → IsLawful s → IsRunning s self.now → Answers s self.now (VaryRule s target.now action) result }
+        ensures answers { (s : DeskState) → IsLawful s → IsRunning s self.now →
+            Answers s self.now (VaryRule s target.now action) result }
         ensures possible { IsPossible self.now result.deed }
     {
         if !self.volumes.has(target) {
@@ -43,7 +44,8 @@ impl Running {
     // What DISPLAY shows of the target, if it is there.
     fn view(&self, target: &Target) -> Result<Option<View>, AllocError>
         requires { IsSomeState self.now }
-        ensures { IfOk result (λ (shown : Option Shown). (s : DeskState) → IsRunning s self.now → shown ≡ view_of_target s target.now) }
+        ensures { IfOk result (λ (shown : Option Shown). (s : DeskState) → IsRunning s self.now →
+            shown ≡ view_of_target s target.now) }
     {
         match target {
             Target::Group(name) => Ok(self.volumes.group(name)),
@@ -58,7 +60,8 @@ impl Running {
     /// What DISPLAY is answered (docs/rules.md, "DISPLAY").
     pub(crate) fn decide_display(&self, target: &Target) -> Result<Decision, AllocError>
         requires { IsSomeState self.now }
-        ensures answers { IfOk result (λ made. (s : DeskState) → IsLawful s → IsRunning s self.now → Answers s self.now (DisplayRule s target.now) made) }
+        ensures answers { IfOk result (λ made. (s : DeskState) → IsLawful s → IsRunning s self.now →
+            Answers s self.now (DisplayRule s target.now) made) }
         ensures possible { IfOk result (λ made. IsPossible self.now made.deed) }
     {
         match self.view(target)? {

@@ -44,7 +44,13 @@ impl<'a> Model for Wish<'a> {
 
     ghost coded = { Prim.hlevel (codes, form.the_row.coded) };
 
-    ghost view = { λ w. record { config = w.config.now; classes = classes_with w.values.now Done w.trace; space = w.space; volumes = w.volumes; eattr = w.eattr } };
+    ghost view = { λ w. record {
+      config = w.config.now;
+      classes = classes_with w.values.now Done w.trace;
+      space = w.space;
+      volumes = w.volumes;
+      eattr = w.eattr;
+    } };
 
     ghost invariant = { λ w. AreKnown w.config.now w.values.now };
 }

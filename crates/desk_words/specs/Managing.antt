@@ -17,5 +17,6 @@ abbrev pub managed_day_in : List (List ℕ) → Option ℕ
 managed_day_in [] = None
 managed_day_in (word ∷ []) = None
 managed_day_in (word ∷ option ∷ []) = None
-managed_day_in (word ∷ option ∷ day ∷ []) = if bytes_eq word (codes "run") && bytes_eq option (codes "--manage") then day_in day else None
+managed_day_in (word ∷ option ∷ day ∷ []) =
+    if bytes_eq word (codes "run") && bytes_eq option (codes "--manage") then day_in day else None
 managed_day_in (word ∷ option ∷ day ∷ more ∷ words) = None

@@ -1,5 +1,6 @@
 -- What the words of the desk's command line ask for (docs/script.md, "The program").
-use Rattle.std.specs.Prelude.{ℕ, Bool, ◌&&◌, true, false, List, [], ◌∷◌, nat_le, Option, None, Some, bytes_eq, codes, if◌then◌else◌}
+use Rattle.std.specs.Prelude.{ℕ, Bool, ◌&&◌, true, false, List, [], ◌∷◌, nat_le, Option, None, Some, bytes_eq, codes}
+use Rattle.std.specs.Prelude.{if◌then◌else◌}
 use Rattle.sms_script.specs.Found.{◌⊳◌}
 use Rattle.sms_construct.specs.Numbers.{small_number_of}
 use Rattle.desk_words.specs.declared.task.Task.{Task}
@@ -15,7 +16,8 @@ most_workers = 16
 
 -- a run by 1 to 16 workers
 abbrev pub run_of : Bool → ℕ → Option Task
-run_of volumes workers = if nat_le 1 workers && nat_le workers most_workers then Some (tasks.Run volumes workers) else None
+run_of volumes workers =
+    if nat_le 1 workers && nat_le workers most_workers then Some (tasks.Run volumes workers) else None
 
 -- a run by so many workers as the number says
 abbrev pub run_in : Bool → List ℕ → Option Task
@@ -37,10 +39,12 @@ load_in seed count =
 abbrev pub task_in : List (List ℕ) → Option Task
 task_in [] = None
 task_in (word ∷ []) = if bytes_eq word (codes "run") then Some (tasks.Run false 1) else None
-task_in (word ∷ second ∷ []) = if bytes_eq word (codes "run") && bytes_eq second (codes "--volumes") then Some (tasks.Run true 1) else None
+task_in (word ∷ second ∷ []) =
+    if bytes_eq word (codes "run") && bytes_eq second (codes "--volumes") then Some (tasks.Run true 1) else None
 task_in (word ∷ second ∷ third ∷ []) =
     if bytes_eq word (codes "gen") then load_in second third
     else (if bytes_eq word (codes "run") && bytes_eq second (codes "--workers") then run_in false third else None)
 task_in (word ∷ second ∷ third ∷ fourth ∷ []) =
-    if bytes_eq word (codes "run") && (bytes_eq second (codes "--workers") && bytes_eq fourth (codes "--volumes")) then run_in true third else None
+    if bytes_eq word (codes "run") && (bytes_eq second (codes "--workers") && bytes_eq fourth (codes "--volumes"))
+    then run_in true third else None
 task_in (word ∷ second ∷ third ∷ fourth ∷ fifth ∷ words) = None

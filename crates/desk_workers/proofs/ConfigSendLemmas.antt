@@ -1,6 +1,7 @@
 -- Routines and configurations may go to other threads, and be shared by them.
 use denote.RattleType.{RattleType}
-use denote.Param.Send.{IsSend, IsSync, plain_send, plain_sync, sendable, enum_send, enum_sync, struct_send, struct_sync, recorded_send, recorded_sync, view_send, view_sync}
+use denote.Param.Send.{IsSend, IsSync, plain_send, plain_sync, sendable, enum_send, enum_sync, struct_send, struct_sync}
+use denote.Param.Send.{recorded_send, recorded_sync, view_send, view_sync}
 use denote.Plain.{UInt}
 use mir.Syntax.{w8}
 use denote.Enum.Declared as declared_enum

@@ -1,7 +1,8 @@
 -- Seats may go to other threads, and desks be shared by them.
 use Rattle.std.specs.contracts.impls.GlobalAllocator.TheImpl.{ghosts as heap_ghosts}
 use denote.RattleType.{RattleType}
-use denote.Param.Send.{IsSend, IsSync, plain_send, sendable, struct_send, struct_sync, recorded_send, recorded_sync, view_send}
+use denote.Param.Send.{IsSend, IsSync, plain_send, sendable, struct_send, struct_sync, recorded_send, recorded_sync}
+use denote.Param.Send.{view_send}
 use denote.Plain.{UInt}
 use mir.Syntax.{w32}
 use denote.Struct.Declared as declared_struct

@@ -1,5 +1,6 @@
 -- A phase on a desk that workers share.
-use Rattle.std.proofs.Common.{inl, inr, ◌≡◌, ℕ, zero, suc, ◌+◌, ◌-◌, ◌<◌, ◌≤◌, ◌==◌, true, false, List, [], ◌∷◌, ◌++◌, length, map, take, get_or, All, append-nil, refl, sym, ap, subst, ◌∙◌, arith}
+use Rattle.std.proofs.Common.{inl, inr, ◌≡◌, ℕ, zero, suc, ◌+◌, ◌-◌, ◌<◌, ◌≤◌, ◌==◌, true, false, List, [], ◌∷◌, ◌++◌}
+use Rattle.std.proofs.Common.{length, map, take, get_or, All, append-nil, refl, sym, ap, subst, ◌∙◌, arith}
 use Rattle.std.proofs.lemmas.Bool.{cases_Bool}
 use Rattle.std.specs.Prelude.{Option, Result, Ok, Err, OnOk, OnErr, filter, is_err}
 use Rattle.std.specs.List.{AllByRecursion}
@@ -16,7 +17,8 @@ use Rattle.desk_signing.specs.declared.event.Event.{Event}
 use Rattle.desk_signing.specs.Signing.{entries_in, events, signed, signed_last}
 use Rattle.desk_signing.proofs.SignLemmas.{signed_entries}
 use Rattle.sms_desk.specs.declared.job_seat.JobSeat.{JobSeat}
-use Rattle.sms_desk.specs.Seats.{HasNoAnswers, IsJobOf, IsNewJob, StandsJob, job_mine, job_number, job_numbers, job_seen, mine_of, number_at, seen_at}
+use Rattle.sms_desk.specs.Seats.{HasNoAnswers, IsJobOf, IsNewJob, StandsJob, job_mine, job_number, job_numbers}
+use Rattle.sms_desk.specs.Seats.{job_seen, mine_of, number_at, seen_at}
 use Rattle.desk_plan.specs.Plan.{number_in, plan_of, worker_in}
 use Rattle.desk_plan.specs.Sharing.{those}
 use Rattle.desk_plan.proofs.FrontLemmas.{worker-below}

@@ -47,7 +47,8 @@ pub record IsPhaseAnswered (items : List Item) (answers : List Answer) (old new 
 abbrev pub AreAnswered : List (List Item) → List Answer → List Entry → List Entry → Type 0
 AreAnswered [] answers old new = (answers ≡ []) × (new ≡ old)
 AreAnswered (items ∷ phases) answers old new =
-    (front : List Answer) × (rest : List Answer) × (middle : List Entry) × (answers ≡ front ++ rest) × IsPhaseAnswered items front old middle × AreAnswered phases rest middle new
+    (front : List Answer) × (rest : List Answer) × (middle : List Entry) × (answers ≡ front ++ rest) ×
+    IsPhaseAnswered items front old middle × AreAnswered phases rest middle new
 
 -- some of the first phases are answered whole, and nothing of the others
 pub record IsFrontAnswered (phases : List (List Item)) (old new : List Entry) : Type 0 where

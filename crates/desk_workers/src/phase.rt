@@ -21,9 +21,12 @@ pub fn work_all<P: Keeper + Send, R: Threads + Wait + Sync, G: Gate + Sync>(
     gate: &G,
 )
     requires each { length plan.now ≡ length items.now }
-    requires ready { (i : ℕ) (d : Job P P.Keeper) → i < length seats.old → IsReady desk.now.lock.table.shared.table_id i plan.now (slice_index_or seats.old i d) }
+    requires ready { (i : ℕ) (d : Job P P.Keeper) → i < length seats.old →
+        IsReady desk.now.lock.table.shared.table_id i plan.now (slice_index_or seats.old i d) }
     ensures count { length seats.new ≡ length seats.old }
-    ensures worked { (i : ℕ) (d : Job P P.Keeper) → i < length seats.old → HasWorked desk.now.lock.table.shared.table_id i plan.now items.now (slice_index_or seats.old i d) (slice_index_or seats.new i d) }
+    ensures worked { (i : ℕ) (d : Job P P.Keeper) → i < length seats.old →
+        HasWorked desk.now.lock.table.shared.table_id i plan.now items.now (slice_index_or seats.old i d)
+        (slice_index_or seats.new i d) }
 {
     let count = seats.len();
     if count == 0 {
@@ -34,7 +37,8 @@ pub fn work_all<P: Keeper + Send, R: Threads + Wait + Sync, G: Gate + Sync>(
         seats,
         count,
         &|i: usize, s: &mut JobSeat<P>|
-            requires { (length plan.now ≡ length items.now) × IsReady desk.now.lock.table.shared.table_id i plan.now s.old }
+            requires { (length plan.now ≡ length items.now) ×
+                IsReady desk.now.lock.table.shared.table_id i plan.now s.old }
             ensures { HasWorked desk.entry.now.lock.table.shared.table_id i plan.entry.now items.entry.now s.old s.new }
         { work(rt, desk, i, plan, items, s, gate) },
     );

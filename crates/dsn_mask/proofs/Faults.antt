@@ -1,5 +1,6 @@
 -- Faults of qualifiers, and the first of them.
-use Rattle.std.proofs.Common.{Bool, ◌≡◌, ◌≤◌, ◌<◌, ◌+◌, ℕ, zero, suc, true, false, List, [], ◌∷◌, length, get_or, refl, arith, inl, inr, ◌⊎◌}
+use Rattle.std.proofs.Common.{Bool, ◌≡◌, ◌≤◌, ◌<◌, ◌+◌, ℕ, zero, suc, true, false, List, [], ◌∷◌, length, get_or, refl}
+use Rattle.std.proofs.Common.{arith, inl, inr, ◌⊎◌}
 use Rattle.std.specs.Prelude.{◌&&◌}
 use Rattle.std.specs.List.{list_all}
 use Rattle.std.proofs.lemmas.Bool.{leb-true, le-leb}
@@ -7,7 +8,8 @@ use Rattle.std.proofs.lemmas.List.Folds.{list_all_at}
 use Rattle.desk_common.specs.Exact.{NotBehind}
 use Rattle.dsn_mask.specs.Name.{is_initial}
 use Rattle.dsn_mask.specs.DataSetName.{is_qualifier, is_qualifier_byte}
-use Rattle.dsn_mask.specs.NameFault.{QualifierFault, empty, ninth_byte, bad_first, bad_later, NameFault, here, behind, place_of, IsFirstIn, IsFirstAmong}
+use Rattle.dsn_mask.specs.NameFault.{QualifierFault, empty, ninth_byte, bad_first, bad_later, NameFault, here, behind}
+use Rattle.dsn_mask.specs.NameFault.{place_of, IsFirstIn, IsFirstAmong}
 use Rattle.dsn_mask.specs.declared.name_err.NameErr.{NameErr}
 use Rattle.dsn_mask.specs.declared.name_err.NameErr.TheVariants.{BadQualifier, BadByte}
 

@@ -2,8 +2,10 @@
 use Rattle.std.proofs.Common.{Bool, ◌≡◌, ◌≢◌, ℕ, true, false, List, [], ◌∷◌, refl, sym, ◌∙◌, subst}
 use Rattle.std.specs.Prelude.{◌==◌, ◌||◌, ◌↔◌, IsTrue, if◌then◌else◌}
 use Rattle.std.proofs.lemmas.Bool.{eqb-true}
-use Rattle.dsn_mask.specs.Mask.{IsSuffix, whole, behind, PieceFits, no_bytes, any_bytes, any_byte, same_byte, two_stars, QualifiersFit, no_qualifiers, any_qualifiers, one_qualifier, MaskFits}
-use Rattle.dsn_mask.specs.MaskTest.{passes_behind, passes_somewhere, takes_first, takes_byte, piece_fits, is_two_stars, qualifiers_fit, mask_fits}
+use Rattle.dsn_mask.specs.Mask.{IsSuffix, whole, behind, PieceFits, no_bytes, any_bytes, any_byte, same_byte, two_stars}
+use Rattle.dsn_mask.specs.Mask.{QualifiersFit, no_qualifiers, any_qualifiers, one_qualifier, MaskFits}
+use Rattle.dsn_mask.specs.MaskTest.{passes_behind, passes_somewhere, takes_first, takes_byte, piece_fits, is_two_stars}
+use Rattle.dsn_mask.specs.MaskTest.{qualifiers_fit, mask_fits}
 use Rattle.dsn_mask.proofs.Faults.{both}
 use Rattle.dsn_mask.proofs.Greedy.{left_of_or, right_of_or, by_either}
 use Rattle.dsn_mask.proofs.Split.{differs, agrees}

@@ -1,17 +1,22 @@
 -- Finding a text among sorted ones by halving.
-use Rattle.std.proofs.Common.{◌≡◌, ◌≤◌, ◌<◌, ◌+◌, ◌-◌, ◌*◌, ◌^◌, ℕ, suc, Bool, true, false, List, [], ◌∷◌, ◌++◌, length, map, take, drop, get_or, refl, sym, subst, ap, ◌∙◌, arith, Ordering, Less, Equal, Greater, le_trans, mul-le-mul_left, mul_assoc, pow-suc}
+use Rattle.std.proofs.Common.{◌≡◌, ◌≤◌, ◌<◌, ◌+◌, ◌-◌, ◌*◌, ◌^◌, ℕ, suc, Bool, true, false, List, [], ◌∷◌, ◌++◌, length}
+use Rattle.std.proofs.Common.{map, take, drop, get_or, refl, sym, subst, ap, ◌∙◌, arith, Ordering, Less, Equal, Greater}
+use Rattle.std.proofs.Common.{le_trans, mul-le-mul_left, mul_assoc, pow-suc}
 use Rattle.std.specs.Prelude.{◌||◌, All, IsPermutation, IsSorted, IsSortedBy, Some, bytes_eq}
 use Rattle.std.specs.List.{list_any}
 use Rattle.std.specs.List.Sorted.{IsNonDecreasingBy}
 use Rattle.std.specs.Ordering.{nat_cmp, ordering_index, is_eq, is_lt}
 use Rattle.std.specs.Cmp.Lexicographic.{slice_cmp, nat_list_cmp_total, texts_ties}
-use Rattle.std.proofs.lemmas.List.{take-append-drop, get_or-take, get_or-drop, get_or_default, take_more, length-take, length-drop, length-map, map-append, get_or-map, append-nil}
+use Rattle.std.proofs.lemmas.List.{take-append-drop, get_or-take, get_or-drop, get_or_default, take_more, length-take}
+use Rattle.std.proofs.lemmas.List.{length-drop, length-map, map-append, get_or-map, append-nil}
 use Rattle.std.proofs.lemmas.Option.{slice_get-get_or}
 use Rattle.std.proofs.lemmas.List.Folds.{list_any-append, list_any_none, list_any_at}
-use Rattle.std.proofs.lemmas.List.Sorted.{searchable_from_sorted, list_any-IsPermutation, length_permutation, IsPermutation-map, ranks_by}
+use Rattle.std.proofs.lemmas.List.Sorted.{searchable_from_sorted, list_any-IsPermutation, length_permutation}
+use Rattle.std.proofs.lemmas.List.Sorted.{IsPermutation-map, ranks_by}
 use Rattle.std.specs.Cmp.{IsStrictWeakOrder}
 use Rattle.dsn_mask.specs.Filter.{entry_fits}
-use Rattle.dsn_mask.specs.Quoted.{AreFew, AreSortedPlaces, AreSortedTexts, fits_as_mask, is_quoted, text_at, text_in, texts_of}
+use Rattle.dsn_mask.specs.Quoted.{AreFew, AreSortedPlaces, AreSortedTexts, fits_as_mask, is_quoted, text_at, text_in}
+use Rattle.dsn_mask.specs.Quoted.{texts_of}
 use Rattle.dsn_mask.specs.declared.entry.Entry.{Entry}
 use Rattle.dsn_mask.specs.declared.entry.Entry.TheVariants.{Quoted, Dots, Plain}
 

@@ -1,13 +1,16 @@
 -- Faults of the texts of masks, and the first of them.
-use Rattle.std.proofs.Common.{Bool, ◌≡◌, ◌≤◌, ◌<◌, ℕ, zero, suc, true, false, List, length, get_or, refl, sym, ◌∙◌, ap, subst, arith, inl, inr}
+use Rattle.std.proofs.Common.{Bool, ◌≡◌, ◌≤◌, ◌<◌, ℕ, zero, suc, true, false, List, length, get_or, refl, sym, ◌∙◌, ap}
+use Rattle.std.proofs.Common.{subst, arith, inl, inr}
 use Rattle.std.specs.Prelude.{◌&&◌, ◌==◌, is_none, Option, Some, None, if◌then◌else◌}
 use Rattle.std.proofs.lemmas.Bool.{leb-true, ltb-true, eqb-true}
 use Rattle.std.proofs.lemmas.List.{get_or_past}
 use Rattle.desk_common.specs.Exact.{NotBehind}
 use Rattle.desk_common.proofs.ExactLemmas.{first_at_one}
-use Rattle.dsn_mask.specs.MaskFault.{is_third_star, is_misplaced_pair, is_bad_byte_at, is_stray_stop, IsFault, place_of, IsFirstFault, fault_by, fault_at, is_clear_below, has_no_fault}
+use Rattle.dsn_mask.specs.MaskFault.{is_third_star, is_misplaced_pair, is_bad_byte_at, is_stray_stop, IsFault, place_of}
+use Rattle.dsn_mask.specs.MaskFault.{IsFirstFault, fault_by, fault_at, is_clear_below, has_no_fault}
 use Rattle.dsn_mask.specs.declared.mask_err.MaskErr.{MaskErr}
-use Rattle.dsn_mask.specs.declared.mask_err.MaskErr.TheVariants.{Empty, TooLong, ThreeStars, StarsNotAlone, BadByte, EmptyPiece}
+use Rattle.dsn_mask.specs.declared.mask_err.MaskErr.TheVariants.{Empty, TooLong, ThreeStars, StarsNotAlone, BadByte}
+use Rattle.dsn_mask.specs.declared.mask_err.MaskErr.TheVariants.{EmptyPiece}
 use Rattle.dsn_mask.proofs.Faults.{both, order_of}
 
 same_some : {x y : MaskErr} → Some x ≡ Some y → x ≡ y

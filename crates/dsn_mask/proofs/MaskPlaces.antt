@@ -1,14 +1,17 @@
 -- Faults at places, and what each byte of a text stands before.
-use Rattle.std.proofs.Common.{Bool, ◌≡◌, ◌≤◌, ◌<◌, ◌+◌, ◌-◌, ℕ, suc, true, false, List, [], ◌∷◌, length, get_or, drop, refl, sym, ◌∙◌, ap, arith, inl, inr}
+use Rattle.std.proofs.Common.{Bool, ◌≡◌, ◌≤◌, ◌<◌, ◌+◌, ◌-◌, ℕ, suc, true, false, List, [], ◌∷◌, length, get_or, drop}
+use Rattle.std.proofs.Common.{refl, sym, ◌∙◌, ap, arith, inl, inr}
 use Rattle.std.specs.Prelude.{◌&&◌, ◌||◌, ◌==◌, not, nat_lt}
 use Rattle.std.proofs.Math.Seq.{drop-cons}
 use Rattle.std.proofs.lemmas.Bool.{leb-true, le-leb, lt-ltb, ltb-true, eqb-true}
 use Rattle.std.proofs.lemmas.List.{length-drop, get_or_past}
-use Rattle.dsn_mask.specs.MaskFault.{is_star_at, opens_qualifier, closes_qualifier, is_stray_stop, IsFault, has_no_fault, IsFirstFault}
+use Rattle.dsn_mask.specs.MaskFault.{is_star_at, opens_qualifier, closes_qualifier, is_stray_stop, IsFault}
+use Rattle.dsn_mask.specs.MaskFault.{has_no_fault, IsFirstFault}
 use Rattle.desk_common.specs.Words.{begins_with_star}
 use Rattle.dsn_mask.specs.MaskText.{is_mask_byte, is_mask, is_simple}
 use Rattle.dsn_mask.specs.declared.mask_err.MaskErr.{MaskErr}
-use Rattle.dsn_mask.specs.declared.mask_err.MaskErr.TheVariants.{Empty, TooLong, ThreeStars, StarsNotAlone, BadByte, EmptyPiece}
+use Rattle.dsn_mask.specs.declared.mask_err.MaskErr.TheVariants.{Empty, TooLong, ThreeStars, StarsNotAlone, BadByte}
+use Rattle.dsn_mask.specs.declared.mask_err.MaskErr.TheVariants.{EmptyPiece}
 use Rattle.dsn_mask.proofs.Faults.{both, order_of}
 use Rattle.dsn_mask.proofs.Greedy.{by_either, left_of_or, right_of_or}
 use Rattle.dsn_mask.proofs.MaskFaults.{byte_within, no_fault, false_if}

@@ -6,7 +6,8 @@ use Rattle.std.proofs.lemmas.List.Sums.{AllPass-from_list_all, list_all-from_All
 use Rattle.dsn_mask.specs.Qualifiers.{qualifiers_of}
 use Rattle.dsn_mask.specs.DataSetName.{IsQualifier, IsDataSetName, is_qualifier, is_qualifier_byte}
 use Rattle.desk_common.proofs.ExactLemmas.{first_at_one}
-use Rattle.dsn_mask.specs.NameFault.{QualifierFault, empty, ninth_byte, bad_first, bad_later, NameFault, here, behind, rank, IsFirstAmong, IsFirstNameFault}
+use Rattle.dsn_mask.specs.NameFault.{QualifierFault, empty, ninth_byte, bad_first, bad_later, NameFault, here, behind}
+use Rattle.dsn_mask.specs.NameFault.{rank, IsFirstAmong, IsFirstNameFault}
 use Rattle.dsn_mask.specs.declared.name_err.NameErr.{NameErr}
 use Rattle.dsn_mask.specs.declared.name_err.NameErr.TheVariants.{Empty, TooLong, BadQualifier, BadByte}
 use Rattle.dsn_mask.proofs.Faults.{parts_of, all_good, faults_from, fault_within}

@@ -1,8 +1,10 @@
 -- Two stars side by side, and the faults of runs of stars.
-use Rattle.std.proofs.Common.{Bool, ◌≡◌, ◌≤◌, ◌<◌, ◌+◌, ◌-◌, ℕ, zero, suc, true, false, List, length, get_or, refl, sym, ◌∙◌, ap, arith}
+use Rattle.std.proofs.Common.{Bool, ◌≡◌, ◌≤◌, ◌<◌, ◌+◌, ◌-◌, ℕ, zero, suc, true, false, List, length, get_or, refl, sym}
+use Rattle.std.proofs.Common.{◌∙◌, ap, arith}
 use Rattle.std.specs.Prelude.{◌&&◌, ◌==◌, not, nat_le}
 use Rattle.std.proofs.lemmas.Bool.{leb-true, le-leb, eqb-true}
-use Rattle.dsn_mask.specs.MaskFault.{is_star_at, is_star_before, is_third_star, is_first_of_two, opens_qualifier, closes_qualifier, is_misplaced_pair}
+use Rattle.dsn_mask.specs.MaskFault.{is_star_at, is_star_before, is_third_star, is_first_of_two, opens_qualifier}
+use Rattle.dsn_mask.specs.MaskFault.{closes_qualifier, is_misplaced_pair}
 use Rattle.dsn_mask.proofs.Faults.{both}
 use Rattle.dsn_mask.proofs.Greedy.{by_either}
 use Rattle.dsn_mask.proofs.MaskFaults.{byte_within, false_if}

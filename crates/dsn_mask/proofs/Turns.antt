@@ -1,4 +1,5 @@
--- What a turn of a walk costs at most: going on takes from the last part, going back from the middle one, a new star from the first.
+-- What a turn of a walk costs at most: going on takes from the last part, going back from the middle one, a new star
+-- from the first.
 use Rattle.std.proofs.Common.{◌≤◌, ◌<◌, ◌+◌, ◌*◌, ℕ, arith}
 use Rattle.std.proofs.Math.Nat.{mul-le-mul_left}
 

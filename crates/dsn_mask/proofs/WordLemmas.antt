@@ -1,5 +1,7 @@
 -- Texts are ordered as the numbers that their bytes write.
-use Rattle.std.proofs.Common.{◌≡◌, ◌<◌, ◌≤◌, ◌+◌, ◌*◌, ◌∙◌, ◌++◌, ℕ, zero, suc, List, [], ◌∷◌, length, get_or, take, drop, replicate, sym, ap, refl, true, false, true≢false, drop-cons, drop-drop, length-drop, length-take, arith}
+use Rattle.std.proofs.Common.{◌≡◌, ◌<◌, ◌≤◌, ◌+◌, ◌*◌, ◌∙◌, ◌++◌, ℕ, zero, suc, List, [], ◌∷◌, length, get_or, take}
+use Rattle.std.proofs.Common.{drop, replicate, sym, ap, refl, true, false, true≢false, drop-cons, drop-drop}
+use Rattle.std.proofs.Common.{length-drop, length-take, arith}
 use Rattle.std.specs.Cmp.Lexicographic.{slice_cmp}
 use Rattle.std.specs.Cmp.{nat_cmp_is, ranked}
 use Rattle.std.specs.Ordering.{MatchOrdering, is_ne, nat_cmp, ordering_then}

@@ -32,4 +32,5 @@ entry_fits value (Plain simple) = simple_fits simple value
 
 -- the value passes the filter of these entries
 abbrev pub passes_filter : List ℕ → List Entry → List Entry → Bool
-passes_filter value include exclude = (is_empty include || list_any (entry_fits value) include) && not (list_any (entry_fits value) exclude)
+passes_filter value include exclude =
+    (is_empty include || list_any (entry_fits value) include) && not (list_any (entry_fits value) exclude)

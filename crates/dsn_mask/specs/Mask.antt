@@ -13,17 +13,22 @@ pub data PieceFits : List ℕ → List ℕ → Type 0 where
   no_bytes : PieceFits [] []
   any_bytes : {piece rest bytes : List ℕ} → IsSuffix rest bytes → PieceFits piece rest → PieceFits (star ∷ piece) bytes
   any_byte : {byte : ℕ} {piece bytes : List ℕ} → PieceFits piece bytes → PieceFits (37 ∷ piece) (byte ∷ bytes)
-  same_byte : {byte : ℕ} {piece bytes : List ℕ} → byte ≢ star → byte ≢ 37 → PieceFits piece bytes → PieceFits (byte ∷ piece) (byte ∷ bytes)
+  same_byte : {byte : ℕ} {piece bytes : List ℕ} → byte ≢ star → byte ≢ 37 → PieceFits piece bytes →
+      PieceFits (byte ∷ piece) (byte ∷ bytes)
 
 -- the qualifier `**`
 abbrev pub two_stars : List ℕ
 two_stars = star ∷ star ∷ []
 
--- the qualifiers of a mask against those of a value: `**` stands for zero or more of them, another piece for one that it fits
+-- the qualifiers of a mask against those of a value: `**` stands for zero or more of them, another piece for one that
+-- it fits
 pub data QualifiersFit : List (List ℕ) → List (List ℕ) → Type 0 where
   no_qualifiers : QualifiersFit [] []
-  any_qualifiers : {pieces rest qualifiers : List (List ℕ)} → IsSuffix rest qualifiers → QualifiersFit pieces rest → QualifiersFit (two_stars ∷ pieces) qualifiers
-  one_qualifier : {piece qualifier : List ℕ} {pieces qualifiers : List (List ℕ)} → piece ≢ two_stars → PieceFits piece qualifier → QualifiersFit pieces qualifiers → QualifiersFit (piece ∷ pieces) (qualifier ∷ qualifiers)
+  any_qualifiers : {pieces rest qualifiers : List (List ℕ)} → IsSuffix rest qualifiers → QualifiersFit pieces rest →
+      QualifiersFit (two_stars ∷ pieces) qualifiers
+  one_qualifier : {piece qualifier : List ℕ} {pieces qualifiers : List (List ℕ)} → piece ≢ two_stars →
+      PieceFits piece qualifier → QualifiersFit pieces qualifiers →
+      QualifiersFit (piece ∷ pieces) (qualifier ∷ qualifiers)
 
 -- a mask against a value, both split at their full stops
 abbrev pub MaskFits : List ℕ → List ℕ → Type 0

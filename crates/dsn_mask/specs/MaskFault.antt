@@ -1,11 +1,13 @@
 -- Why a text is no mask (docs/acs-language.md, "Masks").
-use Rattle.std.specs.Prelude.{◌≡◌, ◌<◌, ◌+◌, ◌-◌, ◌==◌, ◌&&◌, ◌||◌, ℕ, zero, suc, Bool, true, false, not, List, [], length, nat_le, nat_lt, slice_index, Option, None, Some, is_none, if◌then◌else◌}
+use Rattle.std.specs.Prelude.{◌≡◌, ◌<◌, ◌+◌, ◌-◌, ◌==◌, ◌&&◌, ◌||◌, ℕ, zero, suc, Bool, true, false, not, List, []}
+use Rattle.std.specs.Prelude.{length, nat_le, nat_lt, slice_index, Option, None, Some, is_none, if◌then◌else◌}
 use Rattle.desk_common.specs.Exact.{Place, IsFirst}
 use Rattle.desk_common.specs.Limits.{most_word_bytes}
 use Rattle.desk_common.specs.Bytes.{full_stop, star}
 use Rattle.dsn_mask.specs.MaskText.{is_mask_byte}
 use Rattle.dsn_mask.specs.declared.mask_err.MaskErr.{MaskErr}
-use Rattle.dsn_mask.specs.declared.mask_err.MaskErr.TheVariants.{Empty, TooLong, ThreeStars, StarsNotAlone, BadByte, EmptyPiece}
+use Rattle.dsn_mask.specs.declared.mask_err.MaskErr.TheVariants.{Empty, TooLong, ThreeStars, StarsNotAlone, BadByte}
+use Rattle.dsn_mask.specs.declared.mask_err.MaskErr.TheVariants.{EmptyPiece}
 
 -- a star stands at the place
 abbrev pub is_star_at : List ℕ → ℕ → Bool
@@ -17,11 +19,14 @@ is_star_before bytes at back = nat_le back at && is_star_at bytes (at - back)
 
 -- the third star of a run
 abbrev pub is_third_star : List ℕ → ℕ → Bool
-is_third_star bytes at = is_star_at bytes at && (is_star_before bytes at 1 && (is_star_before bytes at 2 && not (is_star_before bytes at 3)))
+is_third_star bytes at =
+    is_star_at bytes at && (is_star_before bytes at 1 && (is_star_before bytes at 2 && not (is_star_before bytes at 3)))
 
 -- the first star of a run of exactly two
 abbrev pub is_first_of_two : List ℕ → ℕ → Bool
-is_first_of_two bytes at = is_star_at bytes at && (is_star_at bytes (at + 1) && (not (is_star_at bytes (at + 2)) && not (is_star_before bytes at 1)))
+is_first_of_two bytes at =
+    is_star_at bytes at && (is_star_at bytes
+    (at + 1) && (not (is_star_at bytes (at + 2)) && not (is_star_before bytes at 1)))
 
 -- at the text's front or behind a full stop
 abbrev pub opens_qualifier : List ℕ → ℕ → Bool
@@ -33,7 +38,8 @@ closes_qualifier bytes at = at == length bytes || slice_index bytes at == full_s
 
 -- two stars that may not stand there; in a dotted text they may be a whole qualifier
 abbrev pub is_misplaced_pair : Bool → List ℕ → ℕ → Bool
-is_misplaced_pair dotted bytes at = is_first_of_two bytes at && not (dotted && (opens_qualifier bytes at && closes_qualifier bytes (at + 2)))
+is_misplaced_pair dotted bytes at =
+    is_first_of_two bytes at && not (dotted && (opens_qualifier bytes at && closes_qualifier bytes (at + 2)))
 
 -- a byte that no mask has
 abbrev pub is_bad_byte_at : List ℕ → ℕ → Bool
@@ -78,11 +84,14 @@ IsFirstSimpleFault bytes err = IsFirstFault false bytes err
 -- the fault of the first of four tests that holds, at this place
 abbrev pub fault_by : Bool → Bool → Bool → Bool → ℕ → Option MaskErr
 fault_by third pair bad stray at =
-    if third then Some (ThreeStars at) else if pair then Some (StarsNotAlone at) else if bad then Some (BadByte at) else if stray then Some (EmptyPiece at) else None
+    if third then Some (ThreeStars at) else if pair then Some (StarsNotAlone at) else if bad then Some (BadByte at)
+    else if stray then Some (EmptyPiece at) else None
 
 -- the fault at a place, if any
 abbrev pub fault_at : Bool → List ℕ → ℕ → Option MaskErr
-fault_at dotted bytes at = fault_by (is_third_star bytes at) (is_misplaced_pair dotted bytes at) (is_bad_byte_at bytes at) (dotted && is_stray_stop bytes at) at
+fault_at dotted bytes at =
+    fault_by (is_third_star bytes at) (is_misplaced_pair dotted bytes at) (is_bad_byte_at bytes at)
+    (dotted && is_stray_stop bytes at) at
 
 -- no fault at the first so many places
 abbrev pub is_clear_below : Bool → List ℕ → ℕ → Bool
@@ -91,4 +100,5 @@ is_clear_below dotted bytes (suc at) = is_clear_below dotted bytes at && is_none
 
 -- at least one byte, no more than a mask may have, and no fault at any place
 abbrev pub has_no_fault : Bool → List ℕ → Bool
-has_no_fault dotted bytes = nat_le 1 (length bytes) && (nat_le (length bytes) most_word_bytes && is_clear_below dotted bytes (length bytes))
+has_no_fault dotted bytes =
+    nat_le 1 (length bytes) && (nat_le (length bytes) most_word_bytes && is_clear_below dotted bytes (length bytes))

@@ -26,7 +26,8 @@ is_empty (item ∷ items) = false
 abbrev pub fits_items : {S I : Type 0} → (S → Bool) → (S → I → Bool) → List S → List I → Bool
 fits_items is_any takes [] items = is_empty items
 fits_items is_any takes (symbol ∷ symbols) items =
-    if is_any symbol then passes_somewhere (fits_items is_any takes symbols) items else takes_first (takes symbol) (fits_items is_any takes symbols) items
+    if is_any symbol then passes_somewhere (fits_items is_any takes symbols) items
+    else takes_first (takes symbol) (fits_items is_any takes symbols) items
 
 -- a star
 abbrev pub is_star : ℕ → Bool

@@ -1,5 +1,6 @@
 -- The texts of masks (docs/acs-language.md, "Masks").
-use Rattle.std.specs.Prelude.{◌≡◌, ◌==◌, ◌&&◌, ◌||◌, ℕ, Bool, true, not, List, [], ◌∷◌, Option, None, Some, length, nat_le, if◌then◌else◌}
+use Rattle.std.specs.Prelude.{◌≡◌, ◌==◌, ◌&&◌, ◌||◌, ℕ, Bool, true, not, List, [], ◌∷◌, Option, None, Some, length}
+use Rattle.std.specs.Prelude.{nat_le, if◌then◌else◌}
 use Rattle.std.specs.List.{list_all}
 use Rattle.desk_common.specs.Limits.{most_word_bytes}
 use Rattle.desk_common.specs.Bytes.{full_stop, star}
@@ -10,7 +11,8 @@ use Rattle.dsn_mask.specs.MaskTest.{is_empty, is_two_stars}
 
 -- A to Z, 0 to 9, #, @, $, -, _, the full stop, % and *
 abbrev pub is_mask_byte : ℕ → Bool
-is_mask_byte byte = is_name_byte byte || (byte == 45 || (byte == 95 || (byte == full_stop || (byte == 37 || byte == star))))
+is_mask_byte byte = is_name_byte byte || (byte ==
+    45 || (byte == 95 || (byte == full_stop || (byte == 37 || byte == star))))
 
 -- no two stars stand side by side
 abbrev pub are_stars_apart : List ℕ → Bool
@@ -27,7 +29,8 @@ is_mask_qualifier qualifier = is_two_stars qualifier || (not (is_empty qualifier
 
 -- 1 to 64 bytes, each qualifier in form
 abbrev pub is_mask : List ℕ → Bool
-is_mask bytes = nat_le 1 (length bytes) && (nat_le (length bytes) most_word_bytes && list_all is_mask_qualifier (qualifiers_of bytes))
+is_mask bytes = nat_le 1 (length bytes) && (nat_le (length bytes) most_word_bytes && list_all is_mask_qualifier
+    (qualifiers_of bytes))
 
 -- 1 to 64 bytes of one piece
 abbrev pub is_simple : List ℕ → Bool

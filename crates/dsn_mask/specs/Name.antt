@@ -1,5 +1,6 @@
 -- Names, volume serials, values and literals, as lists of bytes.
-use Rattle.std.specs.Prelude.{◌≡◌, ◌≤◌, ◌==◌, ◌&&◌, ◌||◌, ℕ, Bool, true, List, Option, None, Some, length, nat_le, not, slice_index, if◌then◌else◌}
+use Rattle.std.specs.Prelude.{◌≡◌, ◌≤◌, ◌==◌, ◌&&◌, ◌||◌, ℕ, Bool, true, List, Option, None, Some, length, nat_le, not}
+use Rattle.std.specs.Prelude.{slice_index, if◌then◌else◌}
 use Rattle.std.specs.List.{AllPass, list_all}
 use Rattle.desk_common.specs.Limits.{most_literal_bytes, most_name_bytes, most_value_bytes, most_volser_bytes}
 use Rattle.desk_common.specs.Bytes.{space_byte, quote}
@@ -26,7 +27,8 @@ is_literal_byte byte = byte == space_byte || is_short_byte byte
 
 -- one to eight of A to Z, 0 to 9, #, $ and @, the first no digit
 abbrev pub IsName : List ℕ → Type 0
-IsName bytes = (1 ≤ length bytes) × (length bytes ≤ most_name_bytes) × (is_initial (slice_index bytes 0) ≡ true) × AllPass is_name_byte bytes
+IsName bytes = (1 ≤ length bytes) × (length bytes ≤ most_name_bytes) × (is_initial (slice_index bytes 0) ≡ true) ×
+    AllPass is_name_byte bytes
 
 -- one to six of A to Z, 0 to 9, #, $ and @
 abbrev pub IsVolser : List ℕ → Type 0
@@ -44,7 +46,8 @@ IsLiteral bytes = (length bytes ≤ most_literal_bytes) × AllPass is_literal_by
 
 -- a name
 abbrev pub is_name : List ℕ → Bool
-is_name bytes = nat_le 1 (length bytes) && (nat_le (length bytes) most_name_bytes && (is_initial (slice_index bytes 0) && list_all is_name_byte bytes))
+is_name bytes = nat_le 1 (length bytes) && (nat_le
+    (length bytes) most_name_bytes && (is_initial (slice_index bytes 0) && list_all is_name_byte bytes))
 
 -- a volume serial
 abbrev pub is_volser : List ℕ → Bool

@@ -11,14 +11,20 @@ use Rattle.dsn_mask.specs.declared.name_err.NameErr.TheVariants.{Empty, TooLong,
 -- a fault of the qualifier that begins at a place and has a number, with the place where it is met
 pub data QualifierFault (start number : ℕ) (qualifier : List ℕ) : ℕ → NameErr → Type 0 where
   empty : qualifier ≡ [] → QualifierFault start number qualifier start (BadQualifier number)
-  ninth_byte : most_name_bytes < length qualifier → QualifierFault start number qualifier (start + most_name_bytes) (BadQualifier number)
-  bad_first : 0 < length qualifier → is_initial (slice_index qualifier 0) ≡ false → QualifierFault start number qualifier start (BadByte start)
-  bad_later : {i : ℕ} → 0 < i → i < length qualifier → is_qualifier_byte (slice_index qualifier i) ≡ false → QualifierFault start number qualifier (start + i) (BadByte (start + i))
+  ninth_byte : most_name_bytes < length qualifier →
+      QualifierFault start number qualifier (start + most_name_bytes) (BadQualifier number)
+  bad_first : 0 < length qualifier → is_initial (slice_index qualifier 0) ≡ false →
+      QualifierFault start number qualifier start (BadByte start)
+  bad_later : {i : ℕ} → 0 < i → i < length qualifier → is_qualifier_byte (slice_index qualifier i) ≡ false →
+      QualifierFault start number qualifier (start + i) (BadByte (start + i))
 
 -- a fault of one of the qualifiers, each a full stop behind the one before
 pub data NameFault : ℕ → ℕ → List (List ℕ) → ℕ → NameErr → Type 0 where
-  here : {start number place : ℕ} {qualifier : List ℕ} {others : List (List ℕ)} {err : NameErr} → QualifierFault start number qualifier place err → NameFault start number (qualifier ∷ others) place err
-  behind : {start number place : ℕ} {qualifier : List ℕ} {others : List (List ℕ)} {err : NameErr} → NameFault (start + length qualifier + 1) (number + 1) others place err → NameFault start number (qualifier ∷ others) place err
+  here : {start number place : ℕ} {qualifier : List ℕ} {others : List (List ℕ)} {err : NameErr} →
+      QualifierFault start number qualifier place err → NameFault start number (qualifier ∷ others) place err
+  behind : {start number place : ℕ} {qualifier : List ℕ} {others : List (List ℕ)} {err : NameErr} →
+      NameFault (start + length qualifier + 1) (number + 1) others place err →
+      NameFault start number (qualifier ∷ others) place err
 
 -- the order of the refusals
 abbrev pub rank : NameErr → ℕ
@@ -40,10 +46,13 @@ pub record IsFirstAmong (start number : ℕ) (qualifiers : List (List ℕ)) (err
 abbrev pub IsFirstNameFault : List ℕ → NameErr → Type 0
 IsFirstNameFault bytes Empty = bytes ≡ []
 IsFirstNameFault bytes TooLong = most_value_bytes < length bytes
-IsFirstNameFault bytes (BadQualifier number) = (1 ≤ length bytes) × (length bytes ≤ most_value_bytes) × IsFirstAmong 0 1 (qualifiers_of bytes) (BadQualifier number)
-IsFirstNameFault bytes (BadByte at) = (1 ≤ length bytes) × (length bytes ≤ most_value_bytes) × IsFirstAmong 0 1 (qualifiers_of bytes) (BadByte at)
+IsFirstNameFault bytes (BadQualifier number) = (1 ≤ length bytes) × (length bytes ≤ most_value_bytes) ×
+    IsFirstAmong 0 1 (qualifiers_of bytes) (BadQualifier number)
+IsFirstNameFault bytes (BadByte at) =
+    (1 ≤ length bytes) × (length bytes ≤ most_value_bytes) × IsFirstAmong 0 1 (qualifiers_of bytes) (BadByte at)
 
 -- the first of all faults of one qualifier
 pub record IsFirstIn (start number : ℕ) (qualifier : List ℕ) (err : NameErr) : Type 0 where
   pub place : ℕ
-  pub is : IsFirst (λ (found : ℕ × NameErr). QualifierFault start number qualifier found.0 found.1) place_of (place, err)
+  pub is : IsFirst (λ (found : ℕ × NameErr). QualifierFault start number qualifier found.0 found.1) place_of
+      (place, err)

@@ -1,5 +1,6 @@
 -- The quoted entries of a list, and what finding a text among them takes (docs/acs-language.md, "Filter lists").
-use Rattle.std.specs.Prelude.{◌≤◌, ◌+◌, ◌*◌, ◌^◌, ℕ, Bool, true, false, List, [], ◌∷◌, length, map, slice_get, Option, Some, IsPermutation, IsSorted}
+use Rattle.std.specs.Prelude.{◌≤◌, ◌+◌, ◌*◌, ◌^◌, ℕ, Bool, true, false, List, [], ◌∷◌, length, map, slice_get, Option}
+use Rattle.std.specs.Prelude.{Some, IsPermutation, IsSorted}
 use Rattle.std.specs.Ordering.{nat_cmp}
 use Rattle.std.specs.Cmp.Lexicographic.{slice_cmp}
 use Rattle.dsn_mask.specs.MaskTest.{mask_fits, simple_fits}

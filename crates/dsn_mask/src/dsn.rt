@@ -107,7 +107,8 @@ impl Dsn {
     /// The data set name that the bytes spell, or their first fault.
     pub fn parse(bytes: &[u8]) -> Result<Self, NameErr>
         ensures value { result_ok result ≡ dsn_of bytes.now }
-        ensures exact { MatchResult result (λ dsn. IsDataSetName bytes.now × (dsn ≡ bytes.now)) (λ err. (IsDataSetName bytes.now → ⊥) × IsFirstNameFault bytes.now err) }
+        ensures exact { MatchResult result (λ dsn. IsDataSetName bytes.now × (dsn ≡ bytes.now))
+            (λ err. (IsDataSetName bytes.now → ⊥) × IsFirstNameFault bytes.now err) }
         ensures refused { (err : NameErr) → IsFirstNameFault bytes.now err → result ≡ Err err }
     {
         if bytes.is_empty() {
@@ -140,7 +141,8 @@ impl Dsn {
 
     /// The qualifier of this number, counted from 1, or None where there is no such one.
     pub fn qualifier(&self, number: usize) -> Option<&[u8]>
-        ensures { MatchOption result ((number ≡ 0) ⊎ (length (qualifiers_of self.now) < number)) (λ found. (1 ≤ number) × (slice_get (qualifiers_of self.now) (number - 1) ≡ Some found.now)) }
+        ensures { MatchOption result ((number ≡ 0) ⊎ (length (qualifiers_of self.now) < number))
+            (λ found. (1 ≤ number) × (slice_get (qualifiers_of self.now) (number - 1) ≡ Some found.now)) }
     {
         if number == 0 {
             return None;

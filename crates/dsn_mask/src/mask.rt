@@ -58,7 +58,8 @@ impl Mask {
     /// The mask that the bytes spell, or their first fault.
     pub fn parse(bytes: &[u8]) -> Result<Self, MaskErr>
         ensures value { result_ok result ≡ mask_of bytes.now }
-        ensures exact { MatchResult result (λ made. IsMask bytes.now × (made ≡ bytes.now)) (λ err. (IsMask bytes.now → ⊥) × IsFirstMaskFault bytes.now err) }
+        ensures exact { MatchResult result (λ made. IsMask bytes.now × (made ≡ bytes.now))
+            (λ err. (IsMask bytes.now → ⊥) × IsFirstMaskFault bytes.now err) }
         ensures refused { (err : MaskErr) → IsFirstMaskFault bytes.now err → result ≡ Err err }
     {
         match first_fault(bytes, true) {

@@ -1,6 +1,8 @@
 //! The first fault of a text that is to be a mask.
 ghost use Rattle.std.specs.Prelude.{◌≡◌, ◌≤◌, ◌<◌, ◌+◌, ◌&&◌, Some, None, true, false, length, MatchOption};
-ghost use Rattle.dsn_mask.specs.MaskFault.{is_star_at, is_star_before, is_third_star, is_first_of_two, opens_qualifier, closes_qualifier, is_misplaced_pair, is_stray_stop, fault_at, has_no_fault, IsFirstFault};
+ghost use Rattle.dsn_mask.specs.MaskFault.{is_star_at, is_star_before, is_third_star, is_first_of_two, opens_qualifier};
+ghost use Rattle.dsn_mask.specs.MaskFault.{closes_qualifier, is_misplaced_pair, is_stray_stop, fault_at, has_no_fault};
+ghost use Rattle.dsn_mask.specs.MaskFault.{IsFirstFault};
 
 use crate::MaskErr;
 use crate::byte_class::is_mask_byte;
@@ -86,7 +88,8 @@ fn fault_at(bytes: &[u8], at: usize, dotted: bool) -> Option<MaskErr>
 
 /// The first fault of the text, if it has one: of a mask where it is dotted, else of a simple mask.
 pub fn first_fault(bytes: &[u8], dotted: bool) -> Option<MaskErr>
-    ensures { MatchOption result (has_no_fault dotted bytes.now ≡ true) (λ err. (has_no_fault dotted bytes.now ≡ false) × IsFirstFault dotted bytes.now err) }
+    ensures { MatchOption result (has_no_fault dotted bytes.now ≡ true)
+        (λ err. (has_no_fault dotted bytes.now ≡ false) × IsFirstFault dotted bytes.now err) }
 {
     if bytes.is_empty() {
         return Some(MaskErr::Empty);

@@ -31,7 +31,8 @@ fn is_two_stars(piece: &[u8]) -> bool
 
 fn against<'a>(piece: Cut<'a>, value: &'a [u8]) -> QualifierFront<'a>
     requires { is_two_stars piece.qualifier.now ≡ false }
-    ensures { IsQualifierFront (piece.entry.qualifier.now ∷ qualifiers_left (option_copied piece.entry.rest)) (qualifiers_of value.entry.now) result }
+    ensures { IsQualifierFront (piece.entry.qualifier.now ∷ qualifiers_left (option_copied piece.entry.rest))
+        (qualifiers_of value.entry.now) result }
 {
     let first = first_qualifier(value);
     if piece_fits(piece.qualifier, first.qualifier) {
@@ -42,7 +43,8 @@ fn against<'a>(piece: Cut<'a>, value: &'a [u8]) -> QualifierFront<'a>
 }
 
 fn front<'a>(mask: Option<&'a [u8]>, value: Option<&'a [u8]>) -> QualifierFront<'a>
-    ensures { IsQualifierFront (qualifiers_left (option_copied mask.entry)) (qualifiers_left (option_copied value.entry)) result }
+    ensures { IsQualifierFront (qualifiers_left (option_copied mask.entry))
+        (qualifiers_left (option_copied value.entry)) result }
 {
     match mask {
         None => match value {

@@ -27,7 +27,8 @@ fn good_front(bytes: &[u8]) -> usize
 #[tactic(auto, using(crate::proofs::Faults::qualifier_faults))]
 fn qualifier_fault(start: u32, number: u32, qualifier: &[u8]) -> Option<NameErr>
     requires { start + length qualifier.now ≤ 44 }
-    ensures { MatchOption result (is_qualifier qualifier.now ≡ true) (λ err. (is_qualifier qualifier.now ≡ false) × IsFirstIn start number qualifier.now err) }
+    ensures { MatchOption result (is_qualifier qualifier.now ≡ true) (λ err. (is_qualifier qualifier.now ≡ false) ×
+        IsFirstIn start number qualifier.now err) }
 {
     if qualifier.is_empty() {
         return Some(NameErr::BadQualifier(number));
@@ -47,7 +48,9 @@ fn qualifier_fault(start: u32, number: u32, qualifier: &[u8]) -> Option<NameErr>
 
 pub fn first_fault(bytes: &[u8]) -> Option<NameErr>
     requires { length bytes.now ≤ 44 }
-    ensures { MatchOption result (list_all is_qualifier (qualifiers_of bytes.now) ≡ true) (λ err. (list_all is_qualifier (qualifiers_of bytes.now) ≡ false) × IsFirstAmong 0 1 (qualifiers_of bytes.now) err) }
+    ensures { MatchOption result (list_all is_qualifier (qualifiers_of bytes.now) ≡ true)
+        (λ err. (list_all is_qualifier (qualifiers_of bytes.now) ≡ false) ×
+        IsFirstAmong 0 1 (qualifiers_of bytes.now) err) }
 {
     let mut text = bytes;
     let mut start: u32 = 0;

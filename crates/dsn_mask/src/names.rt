@@ -21,7 +21,8 @@ impl Model for Names {
 
     ghost view = { λ s. take s.count s.items };
 
-    ghost invariant = { λ s. (s.count ≡ length (take s.count s.items)) × (s.items ≡ filled (take s.count s.items)) × AreFewAndOnce (take s.count s.items) };
+    ghost invariant = { λ s. (s.count ≡ length (take s.count s.items)) × (s.items ≡ filled (take s.count s.items)) ×
+        AreFewAndOnce (take s.count s.items) };
 
     ghost inverse = { λ xs. record { items = filled xs; count = length xs } };
 

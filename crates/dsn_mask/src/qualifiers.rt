@@ -1,5 +1,6 @@
 //! Texts as qualifiers between full stops.
-ghost use Rattle.std.specs.Prelude.{◌≡◌, ◌≤◌, ◌<◌, ◌+◌, ◌≢◌, ◌∷◌, ℕ, length, slice_index, Some, option_copied, MatchOption};
+ghost use Rattle.std.specs.Prelude.{◌≡◌, ◌≤◌, ◌<◌, ◌+◌, ◌≢◌, ◌∷◌, ℕ, length, slice_index, Some, option_copied};
+ghost use Rattle.std.specs.Prelude.{MatchOption};
 ghost use Rattle.std.specs.List.{slice_get};
 ghost use Rattle.dsn_mask.specs.Qualifiers.{qualifiers_of, qualifiers_left};
 
@@ -25,7 +26,8 @@ fn full_stop(bytes: &[u8]) -> usize
 
 pub fn first_qualifier(bytes: &[u8]) -> Cut<'_>
     ensures split { qualifiers_of bytes.now ≡ result.qualifier.now ∷ qualifiers_left (option_copied result.rest) }
-    ensures count { MatchOption result.rest (length bytes.now ≡ length result.qualifier.now) (λ rest. length bytes.now ≡ length result.qualifier.now + 1 + length rest.now) }
+    ensures count { MatchOption result.rest (length bytes.now ≡ length result.qualifier.now)
+        (λ rest. length bytes.now ≡ length result.qualifier.now + 1 + length rest.now) }
 {
     let count = full_stop(bytes);
     if count < bytes.len() {
@@ -58,7 +60,8 @@ pub fn count_qualifiers(bytes: &[u8]) -> usize
 
 /// The qualifier at this place, counted from 0.
 pub fn qualifier_at(bytes: &[u8], place: usize) -> Option<&[u8]>
-    ensures { MatchOption result (length (qualifiers_of bytes.entry.now) ≤ place) (λ found. slice_get (qualifiers_of bytes.entry.now) place ≡ Some found.now) }
+    ensures { MatchOption result (length (qualifiers_of bytes.entry.now) ≤ place)
+        (λ found. slice_get (qualifiers_of bytes.entry.now) place ≡ Some found.now) }
 {
     let mut text = bytes;
     let mut left = place;

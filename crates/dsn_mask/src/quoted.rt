@@ -1,5 +1,6 @@
 // The places of quoted entries, sorted by text, and how a text is found by them.
-ghost use Rattle.std.specs.Prelude.{◌≡◌, ◌≤◌, ◌<◌, ◌+◌, ◌-◌, ◌*◌, ◌^◌, drop, length, map, take, IfOk, IsPermutation, IsSorted, OnOk, bytes_eq};
+ghost use Rattle.std.specs.Prelude.{◌≡◌, ◌≤◌, ◌<◌, ◌+◌, ◌-◌, ◌*◌, ◌^◌, drop, length, map, take, IfOk, IsPermutation};
+ghost use Rattle.std.specs.Prelude.{IsSorted, OnOk, bytes_eq};
 ghost use Rattle.std.specs.List.{list_any};
 ghost use Rattle.std.specs.List.Sorted.{IsNonDecreasingBy};
 ghost use Rattle.std.specs.Ordering.{nat_cmp, ordering_index};
@@ -82,7 +83,8 @@ pub fn find<L: Ledger>(
     value: &Short,
     steps: &mut Steps<L>,
 ) -> bool
-    requires rises { IsNonDecreasingBy (λ text. ordering_index (slice_cmp nat_cmp text value.now)) (map (text_at entries.now) places.now) }
+    requires rises { IsNonDecreasingBy (λ text. ordering_index (slice_cmp nat_cmp text value.now))
+        (map (text_at entries.now) places.now) }
     ensures found { result ≡ list_any (λ text. bytes_eq text value.now) (map (text_at entries.now) places.now) }
     ensures later { steps.old ≤ steps.new }
     ensures counted { 2 ^ (steps.new - steps.old) ≤ 2 * length places.now + 1 }

@@ -58,7 +58,8 @@ impl Simple {
     /// The mask that the bytes spell, or their first fault.
     pub fn parse(bytes: &[u8]) -> Result<Self, MaskErr>
         ensures value { result_ok result ≡ simple_of bytes.now }
-        ensures exact { MatchResult result (λ made. IsSimple bytes.now × (made ≡ bytes.now)) (λ err. (IsSimple bytes.now → ⊥) × IsFirstSimpleFault bytes.now err) }
+        ensures exact { MatchResult result (λ made. IsSimple bytes.now × (made ≡ bytes.now))
+            (λ err. (IsSimple bytes.now → ⊥) × IsFirstSimpleFault bytes.now err) }
         ensures refused { (err : MaskErr) → IsFirstSimpleFault bytes.now err → result ≡ Err err }
     {
         match first_fault(bytes, false) {

@@ -22,7 +22,8 @@ impl<const N: usize> Model for Text<N> {
 
     ghost view = { λ s. take s.count s.buffer };
 
-    ghost invariant = { λ s. (s.count ≡ length (take s.count s.buffer)) × (s.buffer ≡ padded N (take s.count s.buffer)) };
+    ghost invariant = { λ s. (s.count ≡ length (take s.count s.buffer)) ×
+        (s.buffer ≡ padded N (take s.count s.buffer)) };
 
     ghost inverse = { λ xs. record { buffer = padded N xs; count = length xs } };
 

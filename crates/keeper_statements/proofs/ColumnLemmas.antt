@@ -1,5 +1,6 @@
 -- What the columns of one table stand for in a query over it, whatever other tables there are.
-use Rattle.std.proofs.Common.{◌≡◌, ◌++◌, ◌-◌, ◌^◌, ℕ, Bool, true, false, cond, List, [], ◌∷◌, Ok, Some, None, codes, map, nat_lt, slice_get, refl, ap, ◌∙◌}
+use Rattle.std.proofs.Common.{◌≡◌, ◌++◌, ◌-◌, ◌^◌, ℕ, Bool, true, false, cond, List, [], ◌∷◌, Ok, Some, None, codes}
+use Rattle.std.proofs.Common.{map, nat_lt, slice_get, refl, ap, ◌∙◌}
 use Rattle.std.specs.Prelude.{option_and_then, option_map}
 use Rattle.std.specs.List.{AllByRecursion}
 use Rattle.sqlite.specs.Schema.{Schema}
@@ -14,7 +15,8 @@ use Rattle.sqlite_resolve.specs.Body as body
 use Rattle.sqlite_resolve.specs.Expr.{lower, lower_to, node, opened, passes}
 use Rattle.sqlite_resolve.specs.Lowering.{alone, and_then, begin, finish, nothing, or_else, spend}
 use Rattle.sqlite_resolve.specs.Order as ordering
-use Rattle.sqlite_resolve.specs.Scope.{Context, Name, column, column_at, column_in, declared, find, hit, in_level, is_among, is_rowid, only, rowid_in, term_of}
+use Rattle.sqlite_resolve.specs.Scope.{Context, Name, column, column_at, column_in, declared, find, hit, in_level}
+use Rattle.sqlite_resolve.specs.Scope.{is_among, is_rowid, only, rowid_in, term_of}
 use Rattle.sqlite_resolve.specs.declared.error.CompileError.TheVariants.{NoSuchColumn}
 use Rattle.sqlite_resolve.specs.declared.scope.Bound.{Bound}
 use Rattle.sqlite_resolve.specs.declared.scope.Found.TheVariants as found

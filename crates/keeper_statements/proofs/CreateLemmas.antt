@@ -1,5 +1,7 @@
 -- What CREATE TABLE makes.
-use Rattle.std.proofs.Common.{◌≡◌, ◌<◌, ◌+◌, ◌++◌, ◌||◌, ◌&&◌, ◌==◌, length, ℕ, zero, suc, Bool, List, [], ◌∷◌, codes, cond, not, true, false, Ok, Err, Option, None, Some, slice_get, refl, sym, ap, subst, ◌∙◌, inl, inr}
+use Rattle.std.proofs.Common.{◌≡◌, ◌<◌, ◌+◌, ◌++◌, ◌||◌, ◌&&◌, ◌==◌, length, ℕ, zero, suc, Bool, List, [], ◌∷◌, codes}
+use Rattle.std.proofs.Common.{cond, not, true, false, Ok, Err, Option, None, Some, slice_get, refl, sym, ap, subst, ◌∙◌}
+use Rattle.std.proofs.Common.{inl, inr}
 use Rattle.std.specs.List.{AllZip, list_any, position_from}
 use Rattle.std.specs.Prelude.{is_some, option_and_then, slice_range}
 use Rattle.sqlite.specs.Table.{Table}
@@ -24,7 +26,8 @@ use Rattle.sqlite_schema.specs.declared.command.Command.{Command}
 use Rattle.sqlite_schema.specs.declared.command.Returning.{Returning}
 use Rattle.sqlite_resolve.specs.Compile as names
 use Rattle.sqlite_resolve.specs.Define as define
-use Rattle.sqlite_resolve.specs.Compile.{command, command_by, compiled, create_table, first, meaning, planned, returning, returning_by, table_defined_by, timed, timed_by, with_command}
+use Rattle.sqlite_resolve.specs.Compile.{command, command_by, compiled, create_table, first, meaning, planned}
+use Rattle.sqlite_resolve.specs.Compile.{returning, returning_by, table_defined_by, timed, timed_by, with_command}
 use Rattle.sqlite_resolve.specs.Lowering.{Checked, and_then}
 use Rattle.sqlite_resolve.specs.Scope.{Name}
 use Rattle.sqlite_resolve.specs.declared.compiled.Compiled.{Compiled}

@@ -1,5 +1,6 @@
 -- What a DELETE does to any rows.
-use Rattle.std.proofs.Common.{◌≡◌, ◌-◌, ◌^◌, ℕ, Bool, true, false, cond, nat_le, not, List, [], ◌∷◌, Ok, None, Some, length, filter, slice_get, refl, sym, ap, subst, ◌∙◌, unwrap_or, Option}
+use Rattle.std.proofs.Common.{◌≡◌, ◌-◌, ◌^◌, ℕ, Bool, true, false, cond, nat_le, not, List, [], ◌∷◌, Ok, None, Some}
+use Rattle.std.proofs.Common.{length, filter, slice_get, refl, sym, ap, subst, ◌∙◌, unwrap_or, Option}
 use Rattle.std.specs.List.{list_all}
 use Rattle.std.proofs.lemmas.List.{length-map}
 use Rattle.sqlite.specs.declared.types.Value.TheVariants.{Null}

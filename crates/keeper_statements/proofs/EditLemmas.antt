@@ -1,5 +1,6 @@
 -- A statement that changes the rows of one table.
-use Rattle.std.proofs.Common.{◌≡◌, ◌++◌, ◌&&◌, ◌==◌, ℕ, true, false, cond, List, [], ◌∷◌, length, Some, None, Option, find, refl, sym, ap, subst, ◌∙◌, ne_eqb}
+use Rattle.std.proofs.Common.{◌≡◌, ◌++◌, ◌&&◌, ◌==◌, ℕ, true, false, cond, List, [], ◌∷◌, length, Some, None, Option}
+use Rattle.std.proofs.Common.{find, refl, sym, ap, subst, ◌∙◌, ne_eqb}
 use Rattle.std.specs.Prelude.{flat_map, filter_map, option_and_then, option_map}
 use Rattle.std.specs.List.{AllByRecursion, cons_option, list_any}
 use Rattle.std.proofs.lemmas.Bool.{or_parts}

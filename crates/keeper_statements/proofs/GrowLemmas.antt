@@ -1,5 +1,7 @@
 -- What the making of the missing tables leaves.
-use Rattle.std.proofs.Common.{◌≡◌, ◌<◌, ◌+◌, ◌++◌, ◌||◌, ◌&&◌, ◌==◌, ℕ, Bool, true, false, cond, List, [], ◌∷◌, codes, map, filter, find, Some, None, Option, refl, sym, ap, subst, ◌∙◌, inl, inr, arith, append-nil, nat_lt, ltb-true, lt-ltb, eq-eqb, ne_eqb}
+use Rattle.std.proofs.Common.{◌≡◌, ◌<◌, ◌+◌, ◌++◌, ◌||◌, ◌&&◌, ◌==◌, ℕ, Bool, true, false, cond, List, [], ◌∷◌, codes}
+use Rattle.std.proofs.Common.{map, filter, find, Some, None, Option, refl, sym, ap, subst, ◌∙◌, inl, inr, arith}
+use Rattle.std.proofs.Common.{append-nil, nat_lt, ltb-true, lt-ltb, eq-eqb, ne_eqb}
 use Rattle.std.specs.Prelude.{is_some}
 use Rattle.std.specs.List.{AllByRecursion, list_any, position_from}
 use Rattle.std.proofs.lemmas.Bool.{or_parts}
@@ -16,13 +18,16 @@ use Rattle.sqlite_schema.specs.Rules.{guards}
 use Rattle.sqlite_schema.specs.declared.schema.Index.{Index}
 use Rattle.sqlite_schema.specs.declared.schema.Reference.{Reference}
 use Rattle.sqlite_schema.specs.declared.schema.View.{View as Stored}
-use Rattle.keeper_statements.specs.Found.{CanServe, HasForm, IsThere, MayBeThere, MayHaveForm, are_bound, is_desk_name, keys_of, keys_on, placed, table_in, table_of}
+use Rattle.keeper_statements.specs.Found.{CanServe, HasForm, IsThere, MayBeThere, MayHaveForm, are_bound, is_desk_name}
+use Rattle.keeper_statements.specs.Found.{keys_of, keys_on, placed, table_in, table_of}
 use Rattle.keeper_statements.specs.Changes.{empty_tables}
 use Rattle.keeper_statements.specs.Presence.{all_there, has_table, none_there, present_in}
 use Rattle.keeper_statements.specs.declared.present.Present.{Present}
-use Rattle.keeper_statements.specs.Schema.{desk_tables, sets_table, replies_table, decks_table, statuses_table, floors_table}
+use Rattle.keeper_statements.specs.Schema.{desk_tables, sets_table, replies_table, decks_table, statuses_table}
+use Rattle.keeper_statements.specs.Schema.{floors_table}
 use Rattle.keeper_statements.specs.Steps.{HasMade, HasMadeTable, Provides}
-use Rattle.keeper_statements.specs.Tables.{HasTable, IsKeyed, IsLegible, IsReady, Serves, bodies, rows_at, rows_named, tables_in}
+use Rattle.keeper_statements.specs.Tables.{HasTable, IsKeyed, IsLegible, IsReady, Serves, bodies, rows_at, rows_named}
+use Rattle.keeper_statements.specs.Tables.{tables_in}
 use Rattle.keeper_statements.proofs.CreateLemmas.{any_past, still_whole}
 use Rattle.keeper_statements.proofs.EditLemmas.{rows_of_form}
 use Rattle.keeper_statements.proofs.PlaceLemmas.{has_table_in}

@@ -1,5 +1,6 @@
 -- What each writing text makes of the tables.
-use Rattle.std.proofs.Common.{◌≡◌, ◌&&◌, ◌||◌, cond, codes, ℕ, ℤ, Bool, true, false, not, List, [], ◌∷◌, ◌++◌, filter, map, drop, Ok, None, Some, refl, sym, ap, ap₂, subst, ◌∙◌, inl, inr}
+use Rattle.std.proofs.Common.{◌≡◌, ◌&&◌, ◌||◌, cond, codes, ℕ, ℤ, Bool, true, false, not, List, [], ◌∷◌, ◌++◌, filter}
+use Rattle.std.proofs.Common.{map, drop, Ok, None, Some, refl, sym, ap, ap₂, subst, ◌∙◌, inl, inr}
 use Rattle.std.specs.List.{list_all, list_any}
 use Rattle.std.proofs.lemmas.List.{map-append}
 use Rattle.sqlite.specs.declared.types.Value.TheVariants.{Null, Int, Text, Blob}
@@ -16,14 +17,19 @@ use Rattle.sqlite.specs.Table.{Table}
 use Rattle.sqlite_rules.specs.Keys.{conflicts, shares}
 use Rattle.sqlite_schema.specs.Rules.{agree, guards}
 use Rattle.sqlite_schema.specs.declared.schema.Index.{Index}
-use Rattle.keeper_statements.specs.Changes.{with_set, without_set, with_reply, without_below, with_deck, without_statuses, with_status, without_status, with_floor}
+use Rattle.keeper_statements.specs.Changes.{with_set, without_set, with_reply, without_below, with_deck}
+use Rattle.keeper_statements.specs.Changes.{without_statuses, with_status, without_status, with_floor}
 use Rattle.keeper_statements.specs.Found.{keys_of, keys_on, placed}
-use Rattle.keeper_statements.specs.Schema.{sets_table, replies_table, decks_table, statuses_table, floors_table, sets_columns, replies_columns, decks_columns, statuses_columns, floors_columns}
+use Rattle.keeper_statements.specs.Schema.{sets_table, replies_table, decks_table, statuses_table, floors_table}
+use Rattle.keeper_statements.specs.Schema.{sets_columns, replies_columns, decks_columns, statuses_columns}
+use Rattle.keeper_statements.specs.Schema.{floors_columns}
 use Rattle.keeper_statements.specs.Steps.{Makes}
 use Rattle.keeper_statements.specs.Tables.{IsKeyed, IsReady, bodies, tables_in}
-use Rattle.keeper_statements.specs.Tests.{set_row, reply_row, deck_row, status_row, floor_row, is_of, is_status, is_below, is_equal, is_less, without, HasFound}
+use Rattle.keeper_statements.specs.Tests.{set_row, reply_row, deck_row, status_row, floor_row, is_of, is_status}
+use Rattle.keeper_statements.specs.Tests.{is_below, is_equal, is_less, without, HasFound}
 use Rattle.keeper_statements.proofs.TextLemmas as texts
-use Rattle.keeper_statements.proofs.RowLemmas.{keyed_next, bodies_next, keyed_filter, keyed_push, keyed_put, next_above, cast_null, cast_int}
+use Rattle.keeper_statements.proofs.RowLemmas.{keyed_next, bodies_next, keyed_filter, keyed_push, keyed_put, next_above}
+use Rattle.keeper_statements.proofs.RowLemmas.{cast_null, cast_int}
 use Rattle.keeper_statements.proofs.FoundLemmas.{column_dropped, and_true, found_count}
 use Rattle.keeper_statements.proofs.InsertLemmas.{inserts, Puts}
 use Rattle.keeper_statements.proofs.ReplaceLemmas.{replaces, replaced}

@@ -1,6 +1,8 @@
 -- Rows in order: of any order that tells them apart there is one, and among rows whose numbers rise it keeps those of
 -- one key as they stood.
-use Rattle.std.proofs.Common.{◌≡◌, ◌+◌, zero, suc, Bool, true, false, cond, List, [], ◌∷◌, map, filter, refl, sym, ap, subst, ◌∙◌, inl, inr, arith, add-one, Ordering, Less, Equal, Greater, is_lt, IsPermutation, IsSorted}
+use Rattle.std.proofs.Common.{◌≡◌, ◌+◌, zero, suc, Bool, true, false, cond, List, [], ◌∷◌, map, filter, refl, sym, ap}
+use Rattle.std.proofs.Common.{subst, ◌∙◌, inl, inr, arith, add-one, Ordering, Less, Equal, Greater, is_lt}
+use Rattle.std.proofs.Common.{IsPermutation, IsSorted}
 use Rattle.std.specs.Cmp.{IsTotalOrder}
 use Rattle.std.specs.List.{AllByRecursion}
 use Rattle.std.specs.Ordering.{is_eq, on, ordering_reverse, ordering_then, then_cmp}

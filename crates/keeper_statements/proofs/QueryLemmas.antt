@@ -1,5 +1,6 @@
 -- What the search for a higher floor finds.
-use Rattle.std.proofs.Common.{◌≡◌, ◌&&◌, ℕ, ℤ, Bool, true, false, not, List, [], ◌∷◌, drop, length, eqb, refl, sym, ap, ap₂, subst, ◌∙◌, inl, arith, ne_eqb, codes}
+use Rattle.std.proofs.Common.{◌≡◌, ◌&&◌, ℕ, ℤ, Bool, true, false, not, List, [], ◌∷◌, drop, length, eqb, refl, sym, ap}
+use Rattle.std.proofs.Common.{ap₂, subst, ◌∙◌, inl, arith, ne_eqb, codes}
 use Rattle.std.specs.List.{list_all, list_any}
 use Rattle.sqlite.specs.declared.types.Value.TheVariants.{Null, Int, Text}
 use Rattle.sqlite.specs.Effect.{Answers}

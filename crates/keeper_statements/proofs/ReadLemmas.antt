@@ -1,5 +1,6 @@
 -- What a reading text answers.
-use Rattle.std.proofs.Common.{◌≡◌, ℕ, Bool, false, List, [], ◌∷◌, map, drop, flat_map, codes, refl, sym, ap, ap₂, subst, ◌∙◌, Ordering, Less, Equal, Greater, is_lt, IsPermutation, IsSorted}
+use Rattle.std.proofs.Common.{◌≡◌, ℕ, Bool, false, List, [], ◌∷◌, map, drop, flat_map, codes, refl, sym, ap, ap₂, subst}
+use Rattle.std.proofs.Common.{◌∙◌, Ordering, Less, Equal, Greater, is_lt, IsPermutation, IsSorted}
 use Rattle.std.specs.Cmp.{IsTotalOrder}
 use Rattle.std.specs.Ordering.{ordering_then}
 use Rattle.std.proofs.lemmas.Cmp.{on_total, then_total}
@@ -18,7 +19,8 @@ use Rattle.sqlite_value.specs.declared.keys.Key.{Key}
 use Rattle.sqlite_value.proofs.OrderLemmas.{value_cmp_total, then-Equal}
 use Rattle.sqlite_trees.proofs.ListLemmas.{map-map, pull_back}
 use Rattle.sqlite_trees.specs.Tree.{rowid}
-use Rattle.keeper_statements.specs.Order.{in_order, by_first, by_two, two_columns, three_columns, five_columns, deck_columns}
+use Rattle.keeper_statements.specs.Order.{in_order, by_first, by_two, two_columns, three_columns, five_columns}
+use Rattle.keeper_statements.specs.Order.{deck_columns}
 use Rattle.sqlite.specs.Table.{Table}
 use Rattle.keeper_statements.specs.Schema.{sets_table, replies_table, decks_table, statuses_table, floors_table}
 use Rattle.keeper_statements.specs.Found.{CanRead, HasForm}
@@ -26,7 +28,8 @@ use Rattle.keeper_statements.specs.Tables.{IsKeyed, bodies, rows_at, rows_named,
 use Rattle.keeper_statements.proofs.DeleteLemmas.{overlay_none}
 use Rattle.keeper_statements.proofs.FoundLemmas.{column_dropped}
 use Rattle.keeper_statements.proofs.PlaceLemmas.{placed_of}
-use Rattle.keeper_statements.proofs.OrderLemmas.{numbered, numbered_total, numbered_apart, numbered_alike, one_order, order_mapped, sorted_from_map, sorted_stays}
+use Rattle.keeper_statements.proofs.OrderLemmas.{numbered, numbered_total, numbered_apart, numbered_alike, one_order}
+use Rattle.keeper_statements.proofs.OrderLemmas.{order_mapped, sorted_from_map, sorted_stays}
 use Rattle.keeper_statements.proofs.ReadTextLemmas as texts
 
 -- the parameters, of which there are none, and the row

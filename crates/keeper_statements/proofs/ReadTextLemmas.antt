@@ -1,5 +1,6 @@
 -- What the reading texts are understood as, where their tables are found by name.
-use Rattle.std.proofs.Common.{◌≡◌, ℕ, pos, negsuc, List, [], ◌∷◌, codes, true, false, map, Ok, Err, Some, None, Option, refl}
+use Rattle.std.proofs.Common.{◌≡◌, ℕ, pos, negsuc, List, [], ◌∷◌, codes, true, false, map, Ok, Err, Some, None, Option}
+use Rattle.std.proofs.Common.{refl}
 use Rattle.sqlite.specs.Collation.TheVariants.{Binary}
 use Rattle.sqlite.specs.Command.TheVariants.{Select}
 use Rattle.sqlite.specs.Kind.TheVariants.{Integer, Text, Blob}
@@ -33,12 +34,15 @@ use Rattle.sqlite_syntax.specs.declared.statement.Parsed.{Parsed}
 use Rattle.sqlite_tied.specs.Compute.{everything}
 use Rattle.sqlite_value.specs.declared.keys.Collation.{Collation}
 use Rattle.sqlite_value.specs.declared.keys.Key.{Key}
-use Rattle.keeper_statements.specs.Schema.{strict_column, sets_table, replies_table, decks_table, statuses_table, floors_table}
-use Rattle.keeper_statements.proofs.ColumnLemmas.{Picked, looked, output_rowid, outputs_for, over, reading, shows_all, shows_rowid, sort_by, sorts_column, sorts_rowid}
+use Rattle.keeper_statements.specs.Schema.{strict_column, sets_table, replies_table, decks_table, statuses_table}
+use Rattle.keeper_statements.specs.Schema.{floors_table}
+use Rattle.keeper_statements.proofs.ColumnLemmas.{Picked, looked, output_rowid, outputs_for, over, reading, shows_all}
+use Rattle.keeper_statements.proofs.ColumnLemmas.{shows_rowid, sort_by, sorts_column, sorts_rowid}
 use Rattle.keeper_statements.proofs.PlaceLemmas.{IsListed}
 use Rattle.keeper_statements.proofs.SelectLemmas.{query_is, sorts_one, sorts_three, sorts_two, source_for}
 use Rattle.keeper_statements.proofs.TextLemmas.{both, compared, first_is}
-use Rattle.keeper_statements.proofs.UnderstoodLemmas.{Means, Reads, deleting, draft_of, means_of, program_is, program_of, selected_as}
+use Rattle.keeper_statements.proofs.UnderstoodLemmas.{Means, Reads, deleting, draft_of, means_of, program_is}
+use Rattle.keeper_statements.proofs.UnderstoodLemmas.{program_of, selected_as}
 
 abbrev pub sets_text : List ℕ
 sets_text = codes "SELECT dsn, rec FROM sets ORDER BY dsn, rowid"

@@ -1,5 +1,7 @@
 -- What INSERT OR REPLACE does to any rows of a table whose key is its first column.
-use Rattle.std.proofs.Common.{◌≡◌, ◌/◌, inl, inr, ℕ, ℤ, Bool, true, false, not, cond, ◌&&◌, ◌||◌, List, [], ◌∷◌, ◌++◌, length, filter, slice_get, Ok, Err, Result, Some, None, Option, Less, drop, refl, sym, ap, subst, ◌∙◌, is_eq}
+use Rattle.std.proofs.Common.{◌≡◌, ◌/◌, inl, inr, ℕ, ℤ, Bool, true, false, not, cond, ◌&&◌, ◌||◌, List, [], ◌∷◌, ◌++◌}
+use Rattle.std.proofs.Common.{length, filter, slice_get, Ok, Err, Result, Some, None, Option, Less, drop, refl, sym, ap}
+use Rattle.std.proofs.Common.{subst, ◌∙◌, is_eq}
 use Rattle.sqlite.specs.declared.types.Value.TheVariants.{Null, Int, Text}
 use Rattle.sqlite.specs.declared.types.Value.{Value}
 use Rattle.sqlite.specs.Collation.TheVariants.{Binary}

@@ -6,7 +6,8 @@ use Rattle.sqlite.specs.declared.error.Error.{Error}
 use Rattle.sqlite_resolve.specs.declared.compiled.Compiled.{Compiled}
 use Rattle.sqlite_schema.specs.declared.command.Returning.{Returning}
 use Rattle.sqlite.specs.Order.{Row}
-use Rattle.sqlite.specs.State.{State, ExecutesInside, IsUnchanged, IsRolledBack, Shows, FailsToQuery, FailsToShow, IsTooLate, Shown, ShowsRows, IsNotRun, RunsCommand, Fails}
+use Rattle.sqlite.specs.State.{State, ExecutesInside, IsUnchanged, IsRolledBack, Shows, FailsToQuery, FailsToShow}
+use Rattle.sqlite.specs.State.{IsTooLate, Shown, ShowsRows, IsNotRun, RunsCommand, Fails}
 use Rattle.keeper_statements.specs.Steps.{StaysInside}
 
 -- nothing changed

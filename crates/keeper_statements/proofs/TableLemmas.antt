@@ -6,7 +6,8 @@ use Rattle.keeper_statements.specs.Found.{CanServe}
 use Rattle.keeper_statements.specs.Schema.{sets_table, replies_table, decks_table, statuses_table, floors_table}
 use Rattle.keeper_statements.specs.Steps.{Makes}
 use Rattle.keeper_statements.specs.Tables.{Tables, IsKeyed, IsReady, bodies, rows_named}
-use Rattle.keeper_statements.proofs.EditLemmas.{Edits, leaves_rest, rows_edited, rows_of_form, rows_stay, table_edited, table_stays}
+use Rattle.keeper_statements.proofs.EditLemmas.{Edits, leaves_rest, rows_edited, rows_of_form, rows_stay, table_edited}
+use Rattle.keeper_statements.proofs.EditLemmas.{table_stays}
 use Rattle.keeper_statements.proofs.PlaceLemmas.{other_tree}
 
 abbrev tables_of : List Row → List Row → List Row → List Row → List Row → Tables

@@ -20,7 +20,9 @@ use Rattle.keeper_statements.specs.Found.{placed}
 use Rattle.keeper_statements.specs.Schema.{sets_table, replies_table, decks_table, statuses_table, floors_table}
 use Rattle.keeper_statements.proofs.PlaceLemmas.{IsListed}
 pub use Rattle.keeper_statements.proofs.UnderstoodLemmas.{deleting}
-use Rattle.keeper_statements.proofs.UnderstoodLemmas.{Means, Reads, base_of, columns_of, deleted_as, draft_of, formats_none, inserted_as, means_of, program_of, replaced_as, rows_of, test_of}
+use Rattle.keeper_statements.proofs.UnderstoodLemmas.{Means, Reads, base_of, columns_of, deleted_as, draft_of}
+use Rattle.keeper_statements.proofs.UnderstoodLemmas.{formats_none, inserted_as, means_of, program_of, replaced_as}
+use Rattle.keeper_statements.proofs.UnderstoodLemmas.{rows_of, test_of}
 
 abbrev pub put_set_text : List ℕ
 put_set_text = codes "INSERT OR REPLACE INTO sets (dsn, rec) VALUES (?1, ?2)"

@@ -1,5 +1,6 @@
 -- What a text on one table is understood as, whatever other tables there are.
-use Rattle.std.proofs.Common.{◌≡◌, ◌+◌, ◌^◌, ◌&&◌, ◌-◌, ℕ, pos, negsuc, true, false, cond, List, [], ◌∷◌, Ok, Err, Some, None, Option, slice_get, refl, sym, ap, subst, ◌∙◌, arith, nat_le, nat_lt}
+use Rattle.std.proofs.Common.{◌≡◌, ◌+◌, ◌^◌, ◌&&◌, ◌-◌, ℕ, pos, negsuc, true, false, cond, List, [], ◌∷◌, Ok, Err, Some}
+use Rattle.std.proofs.Common.{None, Option, slice_get, refl, sym, ap, subst, ◌∙◌, arith, nat_le, nat_lt}
 use Rattle.std.specs.Prelude.{option_and_then, option_map, unwrap_or}
 use Rattle.std.proofs.lemmas.Bool.{lt-leb, lt-ltb}
 use Rattle.sqlite.specs.declared.types.Value.TheVariants.{Int}
@@ -22,7 +23,9 @@ use Rattle.sqlite_draft.specs.declared.join.Step.TheVariants.{Inner}
 use Rattle.sqlite_draft.specs.declared.query.Draft.{Draft}
 use Rattle.sqlite_draft.specs.Query.{query_of}
 use Rattle.sqlite_resolve.specs.Body.{table_at}
-use Rattle.sqlite_resolve.specs.Compile.{command, command_by, compiled, delete, first, formats_of, insert, insert_or, meaning, new_rows, on_table, planned, read, returning, returning_by, small, timed, timed_by, with_command}
+use Rattle.sqlite_resolve.specs.Compile.{command, command_by, compiled, delete, first, formats_of, insert, insert_or}
+use Rattle.sqlite_resolve.specs.Compile.{meaning, new_rows, on_table, planned, read, returning, returning_by, small}
+use Rattle.sqlite_resolve.specs.Compile.{timed, timed_by, with_command}
 use Rattle.sqlite_resolve.specs.Given.{upserts}
 use Rattle.sqlite_resolve.specs.Lowering.{Checked, and_then, or_else}
 use Rattle.sqlite_resolve.specs.Program.{Shown, program, query}

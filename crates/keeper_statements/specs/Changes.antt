@@ -2,7 +2,8 @@
 use Rattle.std.specs.Prelude.{ℕ, ℤ, List, [], ◌∷◌, ◌++◌}
 use Rattle.sqlite_trees.specs.Tree.{put_row}
 use Rattle.keeper_statements.specs.Tables.{Tables}
-use Rattle.keeper_statements.specs.Tests.{set_row, reply_row, deck_row, status_row, floor_row, is_of, is_status, is_below, without}
+use Rattle.keeper_statements.specs.Tests.{set_row, reply_row, deck_row, status_row, floor_row, is_of, is_status}
+use Rattle.keeper_statements.specs.Tests.{is_below, without}
 
 -- the data set in place of the one of its name, or added
 abbrev pub with_set : List ℕ → List ℕ → Tables → Tables
@@ -14,7 +15,8 @@ without_set dsn t = record t { sets = without (is_of dsn) t.sets }
 
 -- the row of a reply added
 abbrev pub with_reply : List ℕ → ℤ → ℤ → List ℕ → List ℕ → Tables → Tables
-with_reply job number place request reply t = record t { replies = t.replies ++ reply_row job number place request reply ∷ [] }
+with_reply job number place request reply t =
+    record t { replies = t.replies ++ reply_row job number place request reply ∷ [] }
 
 -- no reply of the job below this number
 abbrev pub without_below : List ℕ → ℤ → Tables → Tables

@@ -9,7 +9,8 @@ use Rattle.sqlite_schema.specs.declared.schema.Column.{Column}
 
 -- a column without a null, which takes values of its type alone
 abbrev pub strict_column : List ℕ → Kind → Column
-strict_column name kind = record { name = name; kind = kind; is_strict = true; not_null = true; default = Null; collation = Binary }
+strict_column name kind =
+    record { name = name; kind = kind; is_strict = true; not_null = true; default = Null; collation = Binary }
 
 -- a strict table: its name, its tree, its columns, the column that is the row's number, the places of its key, and of
 -- each index with the order of its entries
@@ -34,14 +35,23 @@ abbrev pub sets_columns : List Column
 sets_columns = strict_column (codes "dsn") Text ∷ strict_column (codes "rec") Blob ∷ []
 
 abbrev pub replies_columns : List Column
-replies_columns = strict_column (codes "job") Text ∷ strict_column (codes "number") Integer ∷ strict_column (codes "place") Integer
+replies_columns = strict_column (codes "job") Text ∷ strict_column (codes "number") Integer ∷ strict_column
+    (codes "place") Integer
     ∷ strict_column (codes "request") Blob ∷ strict_column (codes "reply") Blob ∷ []
 
 abbrev pub decks_columns : List Column
-decks_columns = (record { name = codes "count"; kind = Integer; is_strict = true; not_null = false; default = Null; collation = Binary }) ∷ strict_column (codes "bytes") Blob ∷ []
+decks_columns = (record {
+  name = codes "count";
+  kind = Integer;
+  is_strict = true;
+  not_null = false;
+  default = Null;
+  collation = Binary;
+}) ∷ strict_column (codes "bytes") Blob ∷ []
 
 abbrev pub statuses_columns : List Column
-statuses_columns = strict_column (codes "kind") Integer ∷ strict_column (codes "name") Text ∷ strict_column (codes "status") Integer ∷ []
+statuses_columns = strict_column (codes "kind") Integer ∷ strict_column (codes "name") Text ∷ strict_column
+    (codes "status") Integer ∷ []
 
 abbrev pub floors_columns : List Column
 floors_columns = strict_column (codes "job") Text ∷ strict_column (codes "floor") Integer ∷ []

@@ -27,7 +27,8 @@ pub record Makes (change : Tables → Tables) (old new : Database) : Type 0 wher
 
 -- while the disk is clean, a statement that is not refused makes this change
 abbrev pub MayMake : {X : Type 0} → (Tables → Tables) → State → State → Result X Error → Type 0
-MayMake change old new result = HasCleanDisk new → IsTrue old.in_transaction → IsReady old.now → OnOk result (Makes change old.now new.now)
+MayMake change old new result =
+    HasCleanDisk new → IsTrue old.in_transaction → IsReady old.now → OnOk result (Makes change old.now new.now)
 
 -- the transaction goes on where the statement is not refused, and what was committed stays
 pub record StaysInside {X : Type 0} (old new : State) (result : Result X Error) : Type 0 where

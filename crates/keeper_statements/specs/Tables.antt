@@ -7,7 +7,8 @@ use Rattle.sqlite.specs.Table.{Table}
 use Rattle.sqlite_trees.specs.Tree.{Trees, IsTable, rowid}
 use Rattle.sqlite_trees.specs.View.{is_int}
 use Rattle.keeper_statements.specs.Found.{CanRead, CanServe, IsThere, table_of}
-use Rattle.keeper_statements.specs.Schema.{desk_tables, sets_table, replies_table, decks_table, statuses_table, floors_table}
+use Rattle.keeper_statements.specs.Schema.{desk_tables, sets_table, replies_table, decks_table, statuses_table}
+use Rattle.keeper_statements.specs.Schema.{floors_table}
 
 -- the rows' numbers rise
 abbrev pub IsKeyed : List Row → Type 0

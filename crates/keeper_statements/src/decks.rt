@@ -19,8 +19,12 @@ pub fn add_deck<S: Alter>(
     bytes: &[u8],
 ) -> Result<usize, Error>
     ensures same_reference { tx.new.conn.ghost_name ≡ tx.old.conn.ghost_name }
-    ensures made { MayMake (with_deck count bytes.now) (state S.Store tx.old.conn.now) (state S.Store tx.new.conn.now) result }
-    ensures free { HasCleanDisk (state S.Store tx.new.conn.now) → IsTrue (state S.Store tx.old.conn.now).in_transaction → IsReady (state S.Store tx.old.conn.now).now → OnOk result (is_taken (tables_in (state S.Store tx.old.conn.now).now).decks (deck_row count bytes.now) ≡ false) }
+    ensures made { MayMake (with_deck count bytes.now) (state S.Store tx.old.conn.now)
+        (state S.Store tx.new.conn.now) result }
+    ensures free { HasCleanDisk (state S.Store tx.new.conn.now) →
+        IsTrue (state S.Store tx.old.conn.now).in_transaction → IsReady (state S.Store tx.old.conn.now).now →
+        OnOk result (is_taken (tables_in (state S.Store tx.old.conn.now).now).decks (deck_row count bytes.now) ≡
+        false) }
     ensures stays { MayStay (state S.Store tx.old.conn.now) (state S.Store tx.new.conn.now) result }
     ensures survives { Survives (state S.Store tx.old.conn.now) (state S.Store tx.new.conn.now) (λ _. ⊥) }
 {

@@ -10,7 +10,9 @@ use sqlite::{Alter, Error, Transaction};
 // Runs a text without parameters.
 fn run<S: Alter>(tx: &mut Transaction<'_, S>, text: &str) -> Result<usize, Error>
     ensures same_reference { tx.new.conn.ghost_name ≡ tx.old.conn.ghost_name }
-    ensures runs { HasCleanDisk (state S.Store tx.new.conn.now) → IsTrue (state S.Store tx.old.conn.now).in_transaction → ExecutesInside 0 text.now [] (state S.Store tx.old.conn.now) (state S.Store tx.new.conn.now) result }
+    ensures runs { HasCleanDisk (state S.Store tx.new.conn.now) →
+        IsTrue (state S.Store tx.old.conn.now).in_transaction →
+        ExecutesInside 0 text.now [] (state S.Store tx.old.conn.now) (state S.Store tx.new.conn.now) result }
     ensures stays { MayStay (state S.Store tx.old.conn.now) (state S.Store tx.new.conn.now) result }
     ensures survives { Survives (state S.Store tx.old.conn.now) (state S.Store tx.new.conn.now) (λ _. ⊥) }
 {
@@ -24,7 +26,9 @@ fn run_unless<S: Alter>(
     text: &str,
 ) -> Result<(), Error>
     ensures same_reference { tx.new.conn.ghost_name ≡ tx.old.conn.ghost_name }
-    ensures runs { HasCleanDisk (state S.Store tx.new.conn.now) → IsTrue (state S.Store tx.old.conn.now).in_transaction → OnOk result (RunsUnless is_there text.now (state S.Store tx.old.conn.now) (state S.Store tx.new.conn.now)) }
+    ensures runs { HasCleanDisk (state S.Store tx.new.conn.now) →
+        IsTrue (state S.Store tx.old.conn.now).in_transaction →
+        OnOk result (RunsUnless is_there text.now (state S.Store tx.old.conn.now) (state S.Store tx.new.conn.now)) }
     ensures stays { MayStay (state S.Store tx.old.conn.now) (state S.Store tx.new.conn.now) result }
     ensures survives { Survives (state S.Store tx.old.conn.now) (state S.Store tx.new.conn.now) (λ _. ⊥) }
 {
@@ -38,7 +42,9 @@ fn run_unless<S: Alter>(
 // Makes the tables of data sets, kept replies and decks, each unless it is there.
 fn make_first<S: Alter>(tx: &mut Transaction<'_, S>, there: Present) -> Result<(), Error>
     ensures same_reference { tx.new.conn.ghost_name ≡ tx.old.conn.ghost_name }
-    ensures made { HasCleanDisk (state S.Store tx.new.conn.now) → IsTrue (state S.Store tx.old.conn.now).in_transaction → OnOk result (HasMadeFirst there (state S.Store tx.old.conn.now).now (state S.Store tx.new.conn.now).now) }
+    ensures made { HasCleanDisk (state S.Store tx.new.conn.now) →
+        IsTrue (state S.Store tx.old.conn.now).in_transaction →
+        OnOk result (HasMadeFirst there (state S.Store tx.old.conn.now).now (state S.Store tx.new.conn.now).now) }
     ensures stays { MayStay (state S.Store tx.old.conn.now) (state S.Store tx.new.conn.now) result }
     ensures survives { Survives (state S.Store tx.old.conn.now) (state S.Store tx.new.conn.now) (λ _. ⊥) }
 {
@@ -64,7 +70,9 @@ fn make_first<S: Alter>(tx: &mut Transaction<'_, S>, there: Present) -> Result<(
 // Makes the tables of statuses and floors, each unless it is there.
 fn make_last<S: Alter>(tx: &mut Transaction<'_, S>, there: Present) -> Result<(), Error>
     ensures same_reference { tx.new.conn.ghost_name ≡ tx.old.conn.ghost_name }
-    ensures made { HasCleanDisk (state S.Store tx.new.conn.now) → IsTrue (state S.Store tx.old.conn.now).in_transaction → OnOk result (HasMadeLast there (state S.Store tx.old.conn.now).now (state S.Store tx.new.conn.now).now) }
+    ensures made { HasCleanDisk (state S.Store tx.new.conn.now) →
+        IsTrue (state S.Store tx.old.conn.now).in_transaction →
+        OnOk result (HasMadeLast there (state S.Store tx.old.conn.now).now (state S.Store tx.new.conn.now).now) }
     ensures stays { MayStay (state S.Store tx.old.conn.now) (state S.Store tx.new.conn.now) result }
     ensures survives { Survives (state S.Store tx.old.conn.now) (state S.Store tx.new.conn.now) (λ _. ⊥) }
 {
@@ -85,7 +93,9 @@ fn make_last<S: Alter>(tx: &mut Transaction<'_, S>, there: Present) -> Result<()
 /// statuses, floors. The database refuses it where one of them is there under another kind of object, as a view.
 pub fn make_tables<S: Alter>(tx: &mut Transaction<'_, S>, there: Present) -> Result<(), Error>
     ensures same_reference { tx.new.conn.ghost_name ≡ tx.old.conn.ghost_name }
-    ensures made { HasCleanDisk (state S.Store tx.new.conn.now) → IsTrue (state S.Store tx.old.conn.now).in_transaction → OnOk result (HasMade there (state S.Store tx.old.conn.now).now (state S.Store tx.new.conn.now).now) }
+    ensures made { HasCleanDisk (state S.Store tx.new.conn.now) →
+        IsTrue (state S.Store tx.old.conn.now).in_transaction →
+        OnOk result (HasMade there (state S.Store tx.old.conn.now).now (state S.Store tx.new.conn.now).now) }
     ensures stays { MayStay (state S.Store tx.old.conn.now) (state S.Store tx.new.conn.now) result }
     ensures survives { Survives (state S.Store tx.old.conn.now) (state S.Store tx.new.conn.now) (λ _. ⊥) }
 {

@@ -2,7 +2,8 @@
 ghost use Rattle.std.specs.Prelude.{◌≡◌, [], codes, false, map, true, IfOk, OnOk};
 ghost use Rattle.sqlite.specs.State.{HasCleanDisk, Shown, Survives};
 ghost use Rattle.sqlite.specs.Held.{state};
-ghost use Rattle.keeper_statements.specs.Order.{in_order, by_first, by_two, two_columns, three_columns, five_columns, deck_columns};
+ghost use Rattle.keeper_statements.specs.Order.{in_order, by_first, by_two, two_columns, three_columns, five_columns};
+ghost use Rattle.keeper_statements.specs.Order.{deck_columns};
 ghost use Rattle.keeper_statements.specs.Presence.{has_table};
 ghost use Rattle.keeper_statements.specs.Steps.{MayStay};
 ghost use Rattle.keeper_statements.specs.Tables.{tables_in, IsLegible};
@@ -18,9 +19,12 @@ fn all_rows<S: Alter>(
     text: &str,
 ) -> Result<Vec<Row>, Error>
     ensures same_reference { tx.new.conn.ghost_name ≡ tx.old.conn.ghost_name }
-    ensures shown { HasCleanDisk (state S.Store tx.new.conn.now) → is_there ≡ true → IfOk result (λ rows. Shown text.now [] (state S.Store tx.old.conn.now) (state S.Store tx.new.conn.now) rows.items) }
+    ensures shown { HasCleanDisk (state S.Store tx.new.conn.now) → is_there ≡ true →
+        IfOk result (λ rows. Shown text.now [] (state S.Store tx.old.conn.now)
+        (state S.Store tx.new.conn.now) rows.items) }
     ensures none { is_there ≡ false → IfOk result (λ rows. rows.items ≡ []) }
-    ensures same { is_there ≡ false → OnOk result ((state S.Store tx.new.conn.now).now ≡ (state S.Store tx.old.conn.now).now) }
+    ensures same { is_there ≡ false →
+        OnOk result ((state S.Store tx.new.conn.now).now ≡ (state S.Store tx.old.conn.now).now) }
     ensures stays { MayStay (state S.Store tx.old.conn.now) (state S.Store tx.new.conn.now) result }
     ensures survives { Survives (state S.Store tx.old.conn.now) (state S.Store tx.new.conn.now) (λ _. ⊥) }
 {
@@ -37,8 +41,13 @@ pub fn all_sets<S: Alter>(
     is_there: bool,
 ) -> Result<Vec<Row>, Error>
     ensures same_reference { tx.new.conn.ghost_name ≡ tx.old.conn.ghost_name }
-    ensures answer { HasCleanDisk (state S.Store tx.new.conn.now) → IsLegible (state S.Store tx.old.conn.now).now → has_table (state S.Store tx.old.conn.now).now.schema.tables (codes "sets") ≡ is_there → IfOk result (λ rows. rows.items ≡ map two_columns (in_order by_first (tables_in (state S.Store tx.old.conn.now).now).sets)) }
-    ensures same { HasCleanDisk (state S.Store tx.new.conn.now) → IsLegible (state S.Store tx.old.conn.now).now → has_table (state S.Store tx.old.conn.now).now.schema.tables (codes "sets") ≡ is_there → OnOk result ((state S.Store tx.new.conn.now).now ≡ (state S.Store tx.old.conn.now).now) }
+    ensures answer { HasCleanDisk (state S.Store tx.new.conn.now) → IsLegible (state S.Store tx.old.conn.now).now →
+        has_table (state S.Store tx.old.conn.now).now.schema.tables (codes "sets") ≡ is_there →
+        IfOk result (λ rows. rows.items ≡ map two_columns
+        (in_order by_first (tables_in (state S.Store tx.old.conn.now).now).sets)) }
+    ensures same { HasCleanDisk (state S.Store tx.new.conn.now) → IsLegible (state S.Store tx.old.conn.now).now →
+        has_table (state S.Store tx.old.conn.now).now.schema.tables (codes "sets") ≡ is_there →
+        OnOk result ((state S.Store tx.new.conn.now).now ≡ (state S.Store tx.old.conn.now).now) }
     ensures stays { MayStay (state S.Store tx.old.conn.now) (state S.Store tx.new.conn.now) result }
     ensures survives { Survives (state S.Store tx.old.conn.now) (state S.Store tx.new.conn.now) (λ _. ⊥) }
 {
@@ -57,8 +66,13 @@ pub fn all_replies<S: Alter>(
     is_there: bool,
 ) -> Result<Vec<Row>, Error>
     ensures same_reference { tx.new.conn.ghost_name ≡ tx.old.conn.ghost_name }
-    ensures answer { HasCleanDisk (state S.Store tx.new.conn.now) → IsLegible (state S.Store tx.old.conn.now).now → has_table (state S.Store tx.old.conn.now).now.schema.tables (codes "replies") ≡ is_there → IfOk result (λ rows. rows.items ≡ map five_columns (in_order by_two (tables_in (state S.Store tx.old.conn.now).now).replies)) }
-    ensures same { HasCleanDisk (state S.Store tx.new.conn.now) → IsLegible (state S.Store tx.old.conn.now).now → has_table (state S.Store tx.old.conn.now).now.schema.tables (codes "replies") ≡ is_there → OnOk result ((state S.Store tx.new.conn.now).now ≡ (state S.Store tx.old.conn.now).now) }
+    ensures answer { HasCleanDisk (state S.Store tx.new.conn.now) → IsLegible (state S.Store tx.old.conn.now).now →
+        has_table (state S.Store tx.old.conn.now).now.schema.tables (codes "replies") ≡ is_there →
+        IfOk result (λ rows. rows.items ≡ map five_columns
+        (in_order by_two (tables_in (state S.Store tx.old.conn.now).now).replies)) }
+    ensures same { HasCleanDisk (state S.Store tx.new.conn.now) → IsLegible (state S.Store tx.old.conn.now).now →
+        has_table (state S.Store tx.old.conn.now).now.schema.tables (codes "replies") ≡ is_there →
+        OnOk result ((state S.Store tx.new.conn.now).now ≡ (state S.Store tx.old.conn.now).now) }
     ensures stays { MayStay (state S.Store tx.old.conn.now) (state S.Store tx.new.conn.now) result }
     ensures survives { Survives (state S.Store tx.old.conn.now) (state S.Store tx.new.conn.now) (λ _. ⊥) }
 {
@@ -77,8 +91,13 @@ pub fn all_decks<S: Alter>(
     is_there: bool,
 ) -> Result<Vec<Row>, Error>
     ensures same_reference { tx.new.conn.ghost_name ≡ tx.old.conn.ghost_name }
-    ensures answer { HasCleanDisk (state S.Store tx.new.conn.now) → IsLegible (state S.Store tx.old.conn.now).now → has_table (state S.Store tx.old.conn.now).now.schema.tables (codes "decks") ≡ is_there → IfOk result (λ rows. rows.items ≡ map deck_columns (in_order by_first (tables_in (state S.Store tx.old.conn.now).now).decks)) }
-    ensures same { HasCleanDisk (state S.Store tx.new.conn.now) → IsLegible (state S.Store tx.old.conn.now).now → has_table (state S.Store tx.old.conn.now).now.schema.tables (codes "decks") ≡ is_there → OnOk result ((state S.Store tx.new.conn.now).now ≡ (state S.Store tx.old.conn.now).now) }
+    ensures answer { HasCleanDisk (state S.Store tx.new.conn.now) → IsLegible (state S.Store tx.old.conn.now).now →
+        has_table (state S.Store tx.old.conn.now).now.schema.tables (codes "decks") ≡ is_there →
+        IfOk result (λ rows. rows.items ≡ map deck_columns
+        (in_order by_first (tables_in (state S.Store tx.old.conn.now).now).decks)) }
+    ensures same { HasCleanDisk (state S.Store tx.new.conn.now) → IsLegible (state S.Store tx.old.conn.now).now →
+        has_table (state S.Store tx.old.conn.now).now.schema.tables (codes "decks") ≡ is_there →
+        OnOk result ((state S.Store tx.new.conn.now).now ≡ (state S.Store tx.old.conn.now).now) }
     ensures stays { MayStay (state S.Store tx.old.conn.now) (state S.Store tx.new.conn.now) result }
     ensures survives { Survives (state S.Store tx.old.conn.now) (state S.Store tx.new.conn.now) (λ _. ⊥) }
 {
@@ -97,8 +116,13 @@ pub fn all_statuses<S: Alter>(
     is_there: bool,
 ) -> Result<Vec<Row>, Error>
     ensures same_reference { tx.new.conn.ghost_name ≡ tx.old.conn.ghost_name }
-    ensures answer { HasCleanDisk (state S.Store tx.new.conn.now) → IsLegible (state S.Store tx.old.conn.now).now → has_table (state S.Store tx.old.conn.now).now.schema.tables (codes "statuses") ≡ is_there → IfOk result (λ rows. rows.items ≡ map three_columns (in_order by_two (tables_in (state S.Store tx.old.conn.now).now).statuses)) }
-    ensures same { HasCleanDisk (state S.Store tx.new.conn.now) → IsLegible (state S.Store tx.old.conn.now).now → has_table (state S.Store tx.old.conn.now).now.schema.tables (codes "statuses") ≡ is_there → OnOk result ((state S.Store tx.new.conn.now).now ≡ (state S.Store tx.old.conn.now).now) }
+    ensures answer { HasCleanDisk (state S.Store tx.new.conn.now) → IsLegible (state S.Store tx.old.conn.now).now →
+        has_table (state S.Store tx.old.conn.now).now.schema.tables (codes "statuses") ≡ is_there →
+        IfOk result (λ rows. rows.items ≡ map three_columns
+        (in_order by_two (tables_in (state S.Store tx.old.conn.now).now).statuses)) }
+    ensures same { HasCleanDisk (state S.Store tx.new.conn.now) → IsLegible (state S.Store tx.old.conn.now).now →
+        has_table (state S.Store tx.old.conn.now).now.schema.tables (codes "statuses") ≡ is_there →
+        OnOk result ((state S.Store tx.new.conn.now).now ≡ (state S.Store tx.old.conn.now).now) }
     ensures stays { MayStay (state S.Store tx.old.conn.now) (state S.Store tx.new.conn.now) result }
     ensures survives { Survives (state S.Store tx.old.conn.now) (state S.Store tx.new.conn.now) (λ _. ⊥) }
 {
@@ -117,8 +141,13 @@ pub fn all_floors<S: Alter>(
     is_there: bool,
 ) -> Result<Vec<Row>, Error>
     ensures same_reference { tx.new.conn.ghost_name ≡ tx.old.conn.ghost_name }
-    ensures answer { HasCleanDisk (state S.Store tx.new.conn.now) → IsLegible (state S.Store tx.old.conn.now).now → has_table (state S.Store tx.old.conn.now).now.schema.tables (codes "floors") ≡ is_there → IfOk result (λ rows. rows.items ≡ map two_columns (in_order by_first (tables_in (state S.Store tx.old.conn.now).now).floors)) }
-    ensures same { HasCleanDisk (state S.Store tx.new.conn.now) → IsLegible (state S.Store tx.old.conn.now).now → has_table (state S.Store tx.old.conn.now).now.schema.tables (codes "floors") ≡ is_there → OnOk result ((state S.Store tx.new.conn.now).now ≡ (state S.Store tx.old.conn.now).now) }
+    ensures answer { HasCleanDisk (state S.Store tx.new.conn.now) → IsLegible (state S.Store tx.old.conn.now).now →
+        has_table (state S.Store tx.old.conn.now).now.schema.tables (codes "floors") ≡ is_there →
+        IfOk result (λ rows. rows.items ≡ map two_columns
+        (in_order by_first (tables_in (state S.Store tx.old.conn.now).now).floors)) }
+    ensures same { HasCleanDisk (state S.Store tx.new.conn.now) → IsLegible (state S.Store tx.old.conn.now).now →
+        has_table (state S.Store tx.old.conn.now).now.schema.tables (codes "floors") ≡ is_there →
+        OnOk result ((state S.Store tx.new.conn.now).now ≡ (state S.Store tx.old.conn.now).now) }
     ensures stays { MayStay (state S.Store tx.old.conn.now) (state S.Store tx.new.conn.now) result }
     ensures survives { Survives (state S.Store tx.old.conn.now) (state S.Store tx.new.conn.now) (λ _. ⊥) }
 {

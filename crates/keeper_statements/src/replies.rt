@@ -19,7 +19,8 @@ pub fn add_reply<'x, S: Alter>(
     reply: &'x [u8],
 ) -> Result<usize, Error>
     ensures same_reference { tx.new.conn.ghost_name ≡ tx.old.conn.ghost_name }
-    ensures made { MayMake (with_reply job.now number place request.now reply.now) (state S.Store tx.old.conn.now) (state S.Store tx.new.conn.now) result }
+    ensures made { MayMake (with_reply job.now number place request.now reply.now) (state S.Store tx.old.conn.now)
+        (state S.Store tx.new.conn.now) result }
     ensures stays { MayStay (state S.Store tx.old.conn.now) (state S.Store tx.new.conn.now) result }
     ensures survives { Survives (state S.Store tx.old.conn.now) (state S.Store tx.new.conn.now) (λ _. ⊥) }
 {
@@ -42,7 +43,8 @@ pub fn drop_replies_below<S: Alter>(
     floor: i64,
 ) -> Result<usize, Error>
     ensures same_reference { tx.new.conn.ghost_name ≡ tx.old.conn.ghost_name }
-    ensures made { MayMake (without_below job.now floor) (state S.Store tx.old.conn.now) (state S.Store tx.new.conn.now) result }
+    ensures made { MayMake (without_below job.now floor) (state S.Store tx.old.conn.now)
+        (state S.Store tx.new.conn.now) result }
     ensures stays { MayStay (state S.Store tx.old.conn.now) (state S.Store tx.new.conn.now) result }
     ensures survives { Survives (state S.Store tx.old.conn.now) (state S.Store tx.new.conn.now) (λ _. ⊥) }
 {

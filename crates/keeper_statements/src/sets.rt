@@ -15,7 +15,8 @@ pub fn put_set<'x, S: Alter>(
     bytes: &'x [u8],
 ) -> Result<usize, Error>
     ensures same_reference { tx.new.conn.ghost_name ≡ tx.old.conn.ghost_name }
-    ensures made { MayMake (with_set dsn.now bytes.now) (state S.Store tx.old.conn.now) (state S.Store tx.new.conn.now) result }
+    ensures made { MayMake (with_set dsn.now bytes.now) (state S.Store tx.old.conn.now)
+        (state S.Store tx.new.conn.now) result }
     ensures stays { MayStay (state S.Store tx.old.conn.now) (state S.Store tx.new.conn.now) result }
     ensures survives { Survives (state S.Store tx.old.conn.now) (state S.Store tx.new.conn.now) (λ _. ⊥) }
 {
@@ -28,7 +29,8 @@ pub fn put_set<'x, S: Alter>(
 /// Drops the data set of this name, where there is one.
 pub fn drop_set<S: Alter>(tx: &mut Transaction<'_, S>, dsn: &[u8]) -> Result<usize, Error>
     ensures same_reference { tx.new.conn.ghost_name ≡ tx.old.conn.ghost_name }
-    ensures made { MayMake (without_set dsn.now) (state S.Store tx.old.conn.now) (state S.Store tx.new.conn.now) result }
+    ensures made { MayMake (without_set dsn.now) (state S.Store tx.old.conn.now)
+        (state S.Store tx.new.conn.now) result }
     ensures stays { MayStay (state S.Store tx.old.conn.now) (state S.Store tx.new.conn.now) result }
     ensures survives { Survives (state S.Store tx.old.conn.now) (state S.Store tx.new.conn.now) (λ _. ⊥) }
 {

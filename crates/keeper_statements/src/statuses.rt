@@ -29,7 +29,8 @@ pub fn add_status<S: Alter>(
     status: i64,
 ) -> Result<usize, Error>
     ensures same_reference { tx.new.conn.ghost_name ≡ tx.old.conn.ghost_name }
-    ensures made { MayMake (with_status kind name.now status) (state S.Store tx.old.conn.now) (state S.Store tx.new.conn.now) result }
+    ensures made { MayMake (with_status kind name.now status) (state S.Store tx.old.conn.now)
+        (state S.Store tx.new.conn.now) result }
     ensures stays { MayStay (state S.Store tx.old.conn.now) (state S.Store tx.new.conn.now) result }
     ensures survives { Survives (state S.Store tx.old.conn.now) (state S.Store tx.new.conn.now) (λ _. ⊥) }
 {
@@ -50,8 +51,12 @@ pub fn drop_status<S: Alter>(
     name: &[u8],
 ) -> Result<usize, Error>
     ensures same_reference { tx.new.conn.ghost_name ≡ tx.old.conn.ghost_name }
-    ensures made { MayMake (without_status kind name.now) (state S.Store tx.old.conn.now) (state S.Store tx.new.conn.now) result }
-    ensures counted { HasCleanDisk (state S.Store tx.new.conn.now) → IsTrue (state S.Store tx.old.conn.now).in_transaction → IsReady (state S.Store tx.old.conn.now).now → IfOk result (λ count. HasFound (is_status kind name.now) (tables_in (state S.Store tx.old.conn.now).now).statuses count) }
+    ensures made { MayMake (without_status kind name.now) (state S.Store tx.old.conn.now)
+        (state S.Store tx.new.conn.now) result }
+    ensures counted { HasCleanDisk (state S.Store tx.new.conn.now) →
+        IsTrue (state S.Store tx.old.conn.now).in_transaction → IsReady (state S.Store tx.old.conn.now).now →
+        IfOk result (λ count. HasFound (is_status kind name.now)
+        (tables_in (state S.Store tx.old.conn.now).now).statuses count) }
     ensures stays { MayStay (state S.Store tx.old.conn.now) (state S.Store tx.new.conn.now) result }
     ensures survives { Survives (state S.Store tx.old.conn.now) (state S.Store tx.new.conn.now) (λ _. ⊥) }
 {

@@ -15,13 +15,15 @@ use Rattle.sms_construct.specs.declared.target.Target.TheVariants as targets
 use Rattle.sms_construct.specs.declared.why_no_extend.WhyNoExtend.TheVariants as reasons
 use Rattle.desk_law.specs.State.{DeskState, set_named}
 use Rattle.desk_law.specs.Activation.{ActivateRule, first_barred}
-use Rattle.desk_law.specs.Allocation.{AllocRule, GrantsOn, Wish, alloc_case, ask_of, candidates_of, data_class_of, space_case, space_of, wish_with}
+use Rattle.desk_law.specs.Allocation.{AllocRule, GrantsOn, Wish, alloc_case, ask_of, candidates_of, data_class_of}
+use Rattle.desk_law.specs.Allocation.{space_case, space_of, wish_with}
 use Rattle.desk_law.specs.Candidates.{Chosen}
 use Rattle.desk_law.specs.Classification.{Classes, answer_of, classes_of, trace_of, went_through}
 use Rattle.sms_construct.specs.declared.stop.Stop.{Stop}
 use Rattle.sms_construct.specs.declared.stop.Stop.TheVariants as stops
 use Rattle.desk_law.specs.Display.{reply_for_none, view_of_target}
-use Rattle.desk_law.specs.Extension.{ExtendRule, ExtendsOn, FurtherRule, ask_more, extend_case, first_volume, growth_on, last_volume, others_of}
+use Rattle.desk_law.specs.Extension.{ExtendRule, ExtendsOn, FurtherRule, ask_more, extend_case, first_volume, growth_on}
+use Rattle.desk_law.specs.Extension.{last_volume, others_of}
 use Rattle.desk_law.specs.Extents.{tracks_of_set, volumes_of}
 use Rattle.desk_law.specs.Kept.{floor_told}
 use Rattle.desk_law.specs.Replies.{Leaves, Makes, found_or, reply_if}

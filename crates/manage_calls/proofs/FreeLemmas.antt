@@ -5,13 +5,15 @@ use Rattle.std.proofs.lemmas.Bool.{cases_Bool}
 use Rattle.sms_construct.specs.declared.request.Request.{Request}
 use Rattle.sms_script.specs.Commands.{command_of}
 use Rattle.sms_script.specs.Lines.{is_block_end, is_skipped, lines_of, text_of_line}
-use Rattle.sms_script.specs.Script.{activation, deck_of, if_few, onto_first, script_from, script_of, with_command, with_first, with_phase}
+use Rattle.sms_script.specs.Script.{activation, deck_of, if_few, onto_first, script_from, script_of, with_command}
+use Rattle.sms_script.specs.Script.{with_first, with_phase}
 use Rattle.sms_script.specs.declared.command.Command.{Command}
 use Rattle.sms_script.specs.declared.command.Command.TheVariants.{Activate, Sync, Whole}
 use Rattle.sms_script.specs.declared.item.Item.{Item}
 use Rattle.sms_script.specs.declared.script_err.ScriptErr.{ScriptErr}
 use Rattle.sms_script.specs.declared.script_err.ScriptErr.TheVariants.{TooManyLines}
-use Rattle.manage_calls.specs.Reserved.{are_free, if_reserved, is_reserved, kind_of_command, reserved_from, reserved_line}
+use Rattle.manage_calls.specs.Reserved.{are_free, if_reserved, is_reserved, kind_of_command, reserved_from}
+use Rattle.manage_calls.specs.Reserved.{reserved_line}
 
 -- where it is a script its requests are free
 abbrev AreFreeIn : Result (List (List Item)) ScriptErr → Type 0

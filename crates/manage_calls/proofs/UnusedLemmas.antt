@@ -1,5 +1,6 @@
 -- A history without reserved requests: the job of space management has no kept reply and no floor.
-use Rattle.std.proofs.Common.{◌≡◌, ◌⊎◌, ◌&&◌, ◌||◌, ℕ, not, Bool, true, false, List, [], ◌∷◌, ◌++◌, refl, sym, ap, subst, append-nil, append_assoc, inl, inr}
+use Rattle.std.proofs.Common.{◌≡◌, ◌⊎◌, ◌&&◌, ◌||◌, ℕ, not, Bool, true, false, List, [], ◌∷◌, ◌++◌, refl, sym, ap}
+use Rattle.std.proofs.Common.{subst, append-nil, append_assoc, inl, inr}
 use Rattle.std.specs.Prelude.{None, Some, bytes_eq, find}
 use Rattle.std.specs.List.{list_all}
 use Rattle.std.proofs.lemmas.Bool.{cases_Bool}
@@ -13,7 +14,8 @@ use Rattle.sms_keeper.specs.declared.floor.Floor.{Floor}
 use Rattle.sms_keeper.specs.declared.kept_row.KeptRow.{KeptRow}
 use Rattle.sms_keeper.specs.Tables.{is_floor_of, is_reply_of}
 use Rattle.desk_law.specs.State.{DeskState, start_of}
-use Rattle.desk_law.specs.Kept.{floor_of, floor_told, floors_of, greatest_floor, is_entered, is_fault, row_of_entry, rows_of, rows_of_entry}
+use Rattle.desk_law.specs.Kept.{floor_of, floor_told, floors_of, greatest_floor, is_entered, is_fault, row_of_entry}
+use Rattle.desk_law.specs.Kept.{rows_of, rows_of_entry}
 use Rattle.desk_law.specs.Records.{empty_opening}
 use Rattle.desk_law.specs.Rule.{Rule}
 use Rattle.desk_law.specs.Step.{IsFault, IsStep, RepeatsReply, ReusesNumber}

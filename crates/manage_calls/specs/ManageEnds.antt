@@ -1,11 +1,13 @@
 -- How a run with a day of space management ends: each status and its cause.
 use Rattle.std.specs.Prelude.{◌≡◌, ◌⊎◌, ℕ, List, Err}
-use Rattle.sms_base.specs.Observed.{Observed, IsUnwritten, WasRead, WasAnswered, HasReadFault, HasWriteFault, IsTooLong, IsOutOfMemory}
+use Rattle.sms_base.specs.Observed.{Observed, IsUnwritten, WasRead, WasAnswered, HasReadFault, HasWriteFault, IsTooLong}
+use Rattle.sms_base.specs.Observed.{IsOutOfMemory}
 use Rattle.sms_script.specs.declared.script_err.ScriptErr.{ScriptErr}
 use Rattle.desk_calls.specs.Headline.{Keeping}
 use Rattle.desk_common.specs.Limits.{most_input_bytes}
 use Rattle.desk_calls.specs.declared.status.RunStatus.{RunStatus}
-use Rattle.desk_calls.specs.declared.status.RunStatus.TheVariants.{Done, BadWords, ReadFault, WriteFault, Script, TooLong, NoMemory}
+use Rattle.desk_calls.specs.declared.status.RunStatus.TheVariants.{Done, BadWords, ReadFault, WriteFault, Script}
+use Rattle.desk_calls.specs.declared.status.RunStatus.TheVariants.{TooLong, NoMemory}
 use Rattle.manage_calls.specs.Reserved.{managed_script_of}
 use Rattle.manage_calls.specs.ManagedRun.{IsAnsweredAndManaged, WasManageBegun}
 
@@ -32,7 +34,8 @@ abbrev pub ManageEnds : ℕ → Observed → Observed → Keeping → Keeping �
 ManageEnds day old new before after Done = WasAnswered most_input_bytes (IsAnsweredAndManaged day before after) old new
 ManageEnds day old new before after BadWords = ⊥
 ManageEnds day old new before after ReadFault = HasReadFault most_input_bytes old new
-ManageEnds day old new before after WriteFault = HasWriteFault most_input_bytes (IsAnsweredAndManaged day before after) old new
+ManageEnds day old new before after WriteFault =
+    HasWriteFault most_input_bytes (IsAnsweredAndManaged day before after) old new
 ManageEnds day old new before after (Script err) = IsRefused old new err
 ManageEnds day old new before after TooLong = IsTooLong most_input_bytes old new
 ManageEnds day old new before after NoMemory = IsManageWanting old new before after

@@ -24,7 +24,8 @@ pub record WasAnsweredAlone (phases : List (List Item)) (answers : List Answer) 
 
 -- the items were answered over a keeper, which was one thing before and is another after all, and then the acts of the
 -- day were done
-pub record WasRunAndManaged (day : ℕ) (before after : Keeping) (phases : List (List Item)) (answers : List Answer) (history : List Entry) (acts : List Act) : Type 0 where
+pub record WasRunAndManaged (day : ℕ) (before after : Keeping) (phases : List (List Item)) (answers : List Answer)
+    (history : List Entry) (acts : List Act) : Type 0 where
   pub run : WasAnsweredAlone phases answers history
   -- the history with the acts at its end
   pub whole : List Entry

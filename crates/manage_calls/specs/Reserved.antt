@@ -1,5 +1,6 @@
 -- The lines that a run with a day of space management doesn't take (docs/management.md).
-use Rattle.std.specs.Prelude.{ℕ, ◌+◌, ◌||◌, Bool, true, false, not, List, [], ◌∷◌, nat_le, Option, None, Some, Result, Ok, Err, bytes_eq, if◌then◌else◌}
+use Rattle.std.specs.Prelude.{ℕ, ◌+◌, ◌||◌, Bool, true, false, not, List, [], ◌∷◌, nat_le, Option, None, Some, Result}
+use Rattle.std.specs.Prelude.{Ok, Err, bytes_eq, if◌then◌else◌}
 use Rattle.std.specs.List.{list_all}
 use Rattle.sms_construct.specs.declared.request.Op.{Op}
 use Rattle.sms_construct.specs.declared.request.Op.TheVariants.{Purge}
@@ -46,7 +47,8 @@ if_reserved Other line others = others false
 abbrev pub reserved_from : Bool → ℕ → List (List ℕ) → Option ℕ
 reserved_from in_block line [] = None
 reserved_from true line (first ∷ lines) = reserved_from (not (is_block_end first)) (line + 1) lines
-reserved_from false line (first ∷ lines) = if_reserved (kind_of first) line (λ in_block. reserved_from in_block (line + 1) lines)
+reserved_from false line (first ∷ lines) =
+    if_reserved (kind_of first) line (λ in_block. reserved_from in_block (line + 1) lines)
 
 -- the first reserved line of a script
 abbrev pub reserved_line : List ℕ → Option ℕ

@@ -62,7 +62,8 @@ fn kind_of_script(script: &Script) -> LineKind
 }
 
 fn kind_of_fault(fault: ScriptErr) -> Result<LineKind, AllocError>
-    ensures { IfOk result (λ kind. (read : Result (List (List Asked)) Fault) → IsRefusal read fault → kind ≡ kind_told read) }
+    ensures { IfOk result (λ kind. (read : Result (List (List Asked)) Fault) → IsRefusal read fault →
+        kind ≡ kind_told read) }
 {
     match fault {
         ScriptErr::OpenBlock(_) => Ok(LineKind::Opening),

@@ -1,5 +1,6 @@
 -- A chunk that is parted, dropped, or joined with the next one.
-use Rattle.std.proofs.Common.{◌≡◌, ◌<◌, ◌+◌, ℕ, zero, suc, List, [], ◌∷◌, ◌++◌, length, get_or, take, drop, Vec, Global, Ordering, refl, sym, ap, ◌∙◌, append_assoc, length-append, arith}
+use Rattle.std.proofs.Common.{◌≡◌, ◌<◌, ◌+◌, ℕ, zero, suc, List, [], ◌∷◌, ◌++◌, length, get_or, take, drop, Vec, Global}
+use Rattle.std.proofs.Common.{Ordering, refl, sym, ap, ◌∙◌, append_assoc, length-append, arith}
 use Rattle.std.specs.BTreeMap.{insert_entry, is_at}
 use Rattle.std.specs.List.{All, insert, remove}
 use Rattle.std.specs.Map.{remove_entry}

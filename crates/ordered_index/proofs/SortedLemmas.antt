@@ -1,5 +1,6 @@
 -- Rows stay in the order of their keys.
-use Rattle.std.proofs.Common.{◌≡◌, ◌≤◌, ◌<◌, suc, length, Bool, true, false, List, [], ◌∷◌, Ordering, Less, Equal, Greater, refl, ap, ◌∙◌, arith}
+use Rattle.std.proofs.Common.{◌≡◌, ◌≤◌, ◌<◌, suc, length, Bool, true, false, List, [], ◌∷◌, Ordering, Less, Equal}
+use Rattle.std.proofs.Common.{Greater, refl, ap, ◌∙◌, arith}
 use Rattle.std.specs.BTreeMap.{insert_entry}
 use Rattle.std.specs.Cmp.{IsTotalOrder}
 use Rattle.std.specs.List.{AllByRecursion}

@@ -28,7 +28,8 @@ abbrev pub AreSpare : {K V : Type 0} → List (Vec (K × V) Global) → Type 0
 AreSpare chunks = All IsSpare chunks
 
 -- the rows of the chunks stand in order, no chunk is empty, and there is a place for each spare chunk
-pub record IsIndex {K V : Type 0} (R : K → K → Ordering) (chunks spares : Vec (Vec (K × V) Global) Global) : Type 0 where
+pub record IsIndex {K V : Type 0} (R : K → K →
+    Ordering) (chunks spares : Vec (Vec (K × V) Global) Global) : Type 0 where
   pub sorted : AreRows R (rows_of chunks.items)
   pub filled : AreFilled chunks.items
   pub roomy : AreRoomy chunks.items
@@ -36,5 +37,6 @@ pub record IsIndex {K V : Type 0} (R : K → K → Ordering) (chunks spares : Ve
   pub places : length chunks.items + length spares.items ≤ vec_capacity chunks
 
 -- what is seen of the chunks
-abbrev pub index_view : {K V : Type 0} → Vec (Vec (K × V) Global) Global → Vec (Vec (K × V) Global) Global → IndexView K V
+abbrev pub index_view : {K V : Type 0} → Vec (Vec (K × V) Global) Global → Vec (Vec (K × V) Global) Global →
+    IndexView K V
 index_view chunks spares = record { rows = rows_of chunks.items; room = length spares.items }

@@ -64,7 +64,8 @@ pub fn put_among<K: Ord + Drop, V: Drop>(
     ensures value { result ≡ lookup (is_at (K.cmp key)) (rows_of chunks.old.items) }
     ensures filled { AreFilled chunks.new.items }
     ensures roomy { AreRoomy chunks.new.items }
-    ensures same { (length chunks.new.items ≡ length chunks.old.items) × (vec_capacity chunks.new ≡ vec_capacity chunks.old) }
+    ensures same { (length chunks.new.items ≡ length chunks.old.items) ×
+        (vec_capacity chunks.new ≡ vec_capacity chunks.old) }
 {
     put_in(&mut chunks[place], key, value)
 }
@@ -84,7 +85,8 @@ pub fn take_among<K: Ord + Drop, V: Drop>(
     ensures value { result ≡ lookup (is_at (K.cmp key.now)) (rows_of chunks.old.items) }
     ensures filled { AreFilled chunks.new.items }
     ensures roomy { AreRoomy chunks.new.items }
-    ensures same { (length chunks.new.items ≡ length chunks.old.items) × (vec_capacity chunks.new ≡ vec_capacity chunks.old) }
+    ensures same { (length chunks.new.items ≡ length chunks.old.items) ×
+        (vec_capacity chunks.new ≡ vec_capacity chunks.old) }
 {
     take_from(&mut chunks[place], key)
 }

@@ -44,10 +44,13 @@ pub fn put_in_either<K: Ord + Drop, V: Drop>(
     requires some { 0 < length behind.old.items }
     requires front { length front.old.items < vec_capacity front.old }
     requires behind { length behind.old.items < vec_capacity behind.old }
-    ensures rows { front.new.items ++ behind.new.items ≡ insert_entry K.cmp (front.old.items ++ behind.old.items) key value }
+    ensures rows { front.new.items ++ behind.new.items ≡ insert_entry K.cmp
+        (front.old.items ++ behind.old.items) key value }
     ensures value { result ≡ lookup (is_at (K.cmp key)) (front.old.items ++ behind.old.items) }
-    ensures front { (length front.old.items ≤ length front.new.items) × (length front.new.items ≤ length front.old.items + 1) × (vec_capacity front.new ≡ vec_capacity front.old) }
-    ensures behind { (length behind.old.items ≤ length behind.new.items) × (length behind.new.items ≤ length behind.old.items + 1) × (vec_capacity behind.new ≡ vec_capacity behind.old) }
+    ensures front { (length front.old.items ≤ length front.new.items) ×
+        (length front.new.items ≤ length front.old.items + 1) × (vec_capacity front.new ≡ vec_capacity front.old) }
+    ensures behind { (length behind.old.items ≤ length behind.new.items) ×
+        (length behind.new.items ≤ length behind.old.items + 1) × (vec_capacity behind.new ≡ vec_capacity behind.old) }
 {
     if starts(behind, &key) {
         put_in(behind, key, value)
@@ -164,7 +167,9 @@ fn join_next<K: Drop, V: Drop>(chunks: &mut Vec<Vec<(K, V)>>, place: usize)
     requires inside { place + 1 < length chunks.old.items }
     requires filled { AreFilled chunks.old.items }
     requires roomy { AreRoomy chunks.old.items }
-    requires few { (d e : Vec (K × V) Global) → length (slice_index_or chunks.old.items place d).items + length (slice_index_or chunks.old.items (place + 1) e).items ≤ chunk_room }
+    requires few { (d e : Vec (K × V) Global) →
+        length (slice_index_or chunks.old.items place d).items + length
+        (slice_index_or chunks.old.items (place + 1) e).items ≤ chunk_room }
     ensures rows { rows_of chunks.new.items ≡ rows_of chunks.old.items }
     ensures filled { AreFilled chunks.new.items }
     ensures roomy { AreRoomy chunks.new.items }

@@ -1,5 +1,6 @@
 -- How serving doors ends.
-use Rattle.std.proofs.Common.{◌≡◌, ℕ, List, [], ◌∷◌, ◌++◌, length, map, refl, ap, subst, ◌∙◌, inl, inr, arith, append_assoc}
+use Rattle.std.proofs.Common.{◌≡◌, ℕ, List, [], ◌∷◌, ◌++◌, length, map, refl, ap, subst, ◌∙◌, inl, inr, arith}
+use Rattle.std.proofs.Common.{append_assoc}
 use Rattle.std.specs.Prelude.{All, slice_index_or, slice_set}
 use Rattle.std.proofs.lemmas.List.Elements.{All-cons, All-nil, All-push, All-weaker}
 use Rattle.sms_base.specs.Observed.{Observed}
@@ -8,7 +9,8 @@ use Rattle.serve_door.specs.declared.door_end.DoorEnd.TheVariants as door_ends
 use Rattle.serve_door.specs.declared.visit.Visit.{Visit}
 use Rattle.serve_door.specs.Doors.{DoorMoment}
 use Rattle.serve_door.specs.Visits.{WasServed}
-use Rattle.serve_calls.specs.ServeEnds.{AllowsStatus, AreServed, IsOver, IsOverOrFailed, IsServeEnd, IsTold, ServedDoor, Writing}
+use Rattle.serve_calls.specs.ServeEnds.{AllowsStatus, AreServed, IsOver, IsOverOrFailed, IsServeEnd, IsTold, ServedDoor}
+use Rattle.serve_calls.specs.ServeEnds.{Writing}
 use Rattle.serve_calls.specs.declared.status.ServeStatus.{ServeStatus}
 use Rattle.serve_calls.specs.declared.status.ServeStatus.TheVariants.{AcceptFault, BadWords, Done, NoMemory, WriteFault}
 

@@ -1,5 +1,6 @@
 -- What goes from lists to workers, and back.
-use Rattle.std.proofs.Common.{◌≡◌, ◌<◌, ℕ, zero, suc, length, get_or, refl, arith, List, [], ◌∷◌, ◌++◌, map, reverse, ap, sym, subst, ◌∙◌, append_assoc}
+use Rattle.std.proofs.Common.{◌≡◌, ◌<◌, ℕ, zero, suc, length, get_or, refl, arith, List, [], ◌∷◌, ◌++◌, map, reverse}
+use Rattle.std.proofs.Common.{ap, sym, subst, ◌∙◌, append_assoc}
 use Rattle.std.specs.Prelude.{All, Option, Some}
 use Rattle.std.proofs.lemmas.List.{map_push, reverse-append}
 use Rattle.std.proofs.lemmas.List.Elements.{All-head, All-pop, All-push, All-tail}

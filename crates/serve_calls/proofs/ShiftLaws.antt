@@ -1,5 +1,6 @@
 -- The shifts of workers.
-use Rattle.std.proofs.Common.{◌≡◌, ◌<◌, ℕ, suc, List, [], ◌∷◌, length, map, reverse, get_or, refl, sym, subst, ◌∙◌, ap, arith}
+use Rattle.std.proofs.Common.{◌≡◌, ◌<◌, ℕ, suc, List, [], ◌∷◌, length, map, reverse, get_or, refl, sym, subst, ◌∙◌, ap}
+use Rattle.std.proofs.Common.{arith}
 use Rattle.std.specs.Prelude.{All, Option, Some, IsSome}
 use Rattle.std.proofs.lemmas.List.{length-map, reverse-reverse}
 use Rattle.std.proofs.lemmas.List.Elements.{All-cons, All-head, All-nil, All-tail}
@@ -18,7 +19,8 @@ use Rattle.serve_door.proofs.VisitLaws.{Serves-nil}
 use Rattle.desk_http.specs.SeatTalks.{HasSubmitted, SeatView, view_of}
 use Rattle.serve_calls.specs.ServeEnds.{AreServed, ServedDoor}
 use Rattle.serve_calls.specs.declared.worker.Worker.{Worker}
-use Rattle.serve_calls.specs.Inner.Workers.{DidShift, DidShifts, HasMost, HasSeat, IsAtSeat, IsShift, Shift, door_of, end_of, seat_of, visits_of}
+use Rattle.serve_calls.specs.Inner.Workers.{DidShift, DidShifts, HasMost, HasSeat, IsAtSeat, IsShift, Shift, door_of}
+use Rattle.serve_calls.specs.Inner.Workers.{end_of, seat_of, visits_of}
 use Rattle.serve_calls.proofs.ManningLaws.{All-reverse, all-some, map-reverse}
 
 module _ {P : Type 0} {keeper : Ghosts P} where

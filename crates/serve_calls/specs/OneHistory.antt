@@ -1,5 +1,6 @@
 -- The visits of all workers as one history.
-use Rattle.std.specs.Prelude.{◌≡◌, ◌≤◌, ◌<◌, ◌+◌, ◌-◌, ◌^◌, ◌==◌, ℕ, List, [], ◌∷◌, length, min, get_or, All, if◌then◌else◌}
+use Rattle.std.specs.Prelude.{◌≡◌, ◌≤◌, ◌<◌, ◌+◌, ◌-◌, ◌^◌, ◌==◌, ℕ, List, [], ◌∷◌, length, min, get_or, All}
+use Rattle.std.specs.Prelude.{if◌then◌else◌}
 use Rattle.sms_construct.specs.declared.entry.Entry.{Entry}
 use Rattle.desk_law.specs.Records.{empty_opening}
 use Rattle.desk_records.specs.Tied.{faults_in}

@@ -18,12 +18,15 @@ pub fn hand_out<A, P: Keeper>(
     workers: &mut Vec<Worker<A, P>>,
 )
     requires same { vec_len seats.old ≡ vec_len doors.old }
-    requires room { (workers.old.items ≡ []) × (vec_len workers.old ≡ 0) × (vec_len doors.old ≤ vec_capacity workers.old) }
+    requires room { (workers.old.items ≡ []) × (vec_len workers.old ≡ 0) ×
+        (vec_len doors.old ≤ vec_capacity workers.old) }
     ensures seats { map seat_of workers.new.items ≡ reverse (map (λ seat. Some seat) seats.old.items) }
     ensures doors { map door_of workers.new.items ≡ reverse doors.old.items }
     ensures most { All (HasMost most) workers.new.items }
-    ensures no_seats { (seats.new.items ≡ []) × (vec_len seats.new ≡ 0) × (vec_capacity seats.new ≡ vec_capacity seats.old) }
-    ensures no_doors { (doors.new.items ≡ []) × (vec_len doors.new ≡ 0) × (vec_capacity doors.new ≡ vec_capacity doors.old) }
+    ensures no_seats { (seats.new.items ≡ []) × (vec_len seats.new ≡ 0) ×
+        (vec_capacity seats.new ≡ vec_capacity seats.old) }
+    ensures no_doors { (doors.new.items ≡ []) × (vec_len doors.new ≡ 0) ×
+        (vec_capacity doors.new ≡ vec_capacity doors.old) }
 {
     while let Some(door) = doors.pop() {
         let Some(seat) = seats.pop() else {

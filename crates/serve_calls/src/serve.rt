@@ -1,12 +1,14 @@
 //! The top call of the served desk.
-ghost use Rattle.std.specs.Prelude.{◌≡◌, ◌≤◌, ◌↔◌, ◌⊎◌, [], ◌∷◌, ◌++◌, List, None, Some, true, false, length, map, string_bytes, IfOk, IfSome, OnErr};
+ghost use Rattle.std.specs.Prelude.{◌≡◌, ◌≤◌, ◌↔◌, ◌⊎◌, [], ◌∷◌, ◌++◌, List, None, Some, true, false, length, map};
+ghost use Rattle.std.specs.Prelude.{string_bytes, IfOk, IfSome, OnErr};
 ghost use Rattle.sms_keeper.specs.Tables.{AreSame, no_rows};
 ghost use Rattle.desk_law.specs.Records.{empty_opening};
 ghost use Rattle.desk_words.specs.Serving.{serving_in};
 ghost use Rattle.desk_words.specs.declared.served.ServeWords.{ServeWords as Asked};
 ghost use Rattle.serve_calls.specs.OneHistory.{IsOneHistory, WasHeard};
 ghost use Rattle.serve_calls.specs.ServedText.{served_text};
-ghost use Rattle.serve_calls.specs.ServeEnds.{AllowsStatus, AreServed, IsServeEnd, IsTold, WereServed, WereUnasked, leaves_sink};
+ghost use Rattle.serve_calls.specs.ServeEnds.{AllowsStatus, AreServed, IsServeEnd, IsTold, WereServed, WereUnasked};
+ghost use Rattle.serve_calls.specs.ServeEnds.{leaves_sink};
 ghost use Rattle.desk_calls.specs.Headline.{seen_keeper};
 
 use crate::alone::serve_alone;
@@ -340,7 +342,8 @@ fn status_of(ends: &[DoorEnd]) -> Option<ServeStatus>
 
 // The status where one more door ended so.
 fn status_with(done: ServeStatus, end: DoorEnd) -> Option<ServeStatus>
-    ensures { (ends : List DoorEnd) → AllowsStatus ends done → IfSome result (λ then. AllowsStatus (ends ++ end ∷ []) then) }
+    ensures { (ends : List DoorEnd) → AllowsStatus ends done →
+        IfSome result (λ then. AllowsStatus (ends ++ end ∷ []) then) }
 {
     match end {
         DoorEnd::Served | DoorEnd::Ended => Some(done),

@@ -130,7 +130,8 @@ where
     requires jobs { All (IsJobOf desk.now.lock.table.shared.table_id) seats.old.items }
     requires same { vec_len seats.old ≡ vec_len doors.old }
     requires workers { (workers.items ≡ []) × (vec_len workers ≡ 0) × (vec_len doors.old ≤ vec_capacity workers) }
-    requires visits { (visits.old.items ≡ []) × (vec_len visits.old ≡ 0) × (vec_len doors.old ≤ vec_capacity visits.old) }
+    requires visits { (visits.old.items ≡ []) × (vec_len visits.old ≡ 0) ×
+        (vec_len doors.old ≤ vec_capacity visits.old) }
     requires ends { (ends.old.items ≡ []) × (vec_len ends.old ≡ 0) × (vec_len doors.old ≤ vec_capacity ends.old) }
     ensures done { DidShifts
         (λ link. record {

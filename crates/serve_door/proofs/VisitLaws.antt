@@ -1,5 +1,6 @@
 -- One more visit.
-use Rattle.std.proofs.Common.{◌≡◌, ◌≤◌, ◌<◌, ◌+◌, ◌==◌, ℕ, false, List, [], ◌∷◌, ◌++◌, length, map, refl, ap, sym, ◌∙◌, arith, inl, inr, append-nil, length-append, if◌then◌else◌}
+use Rattle.std.proofs.Common.{◌≡◌, ◌≤◌, ◌<◌, ◌+◌, ◌==◌, ℕ, false, List, [], ◌∷◌, ◌++◌, length, map, refl, ap, sym, ◌∙◌}
+use Rattle.std.proofs.Common.{arith, inl, inr, append-nil, length-append, if◌then◌else◌}
 use Rattle.std.specs.Prelude.{suc, Option, None, Some, MatchOption}
 use Rattle.std.proofs.Math.Bool.{and-false}
 use Rattle.std.proofs.lemmas.Bool.{ne_eqb}
@@ -17,7 +18,8 @@ use Rattle.http_talk.specs.declared.end.End.TheVariants as ends
 use Rattle.http_talk.specs.declared.talk.Talk.{Talk}
 use Rattle.serve_door.specs.declared.visit.Visit.{Visit}
 use Rattle.serve_door.specs.Doors.{DoorMoment}
-use Rattle.serve_door.specs.Visits.{IsServedLink, IsVisit, Served, Serves, counted_for, counted_over, is_link_fault, talks_of}
+use Rattle.serve_door.specs.Visits.{IsServedLink, IsVisit, Served, Serves, counted_for, counted_over, is_link_fault}
+use Rattle.serve_door.specs.Visits.{talks_of}
 use Rattle.serve_door.proofs.DoorLaws.{CameBack-more, CameBack-nil, WereGiven-more, WereGiven-nil, if_told}
 
 -- Talks.

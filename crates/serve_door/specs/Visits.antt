@@ -1,5 +1,6 @@
 -- What serving the links of a door does.
-use Rattle.std.specs.Prelude.{ℕ, ◌≡◌, ◌≤◌, ◌<◌, ◌+◌, Bool, true, false, List, [], ◌∷◌, length, map, All, flat_map, IfSome, if◌then◌else◌}
+use Rattle.std.specs.Prelude.{ℕ, ◌≡◌, ◌≤◌, ◌<◌, ◌+◌, Bool, true, false, List, [], ◌∷◌, length, map, All, flat_map}
+use Rattle.std.specs.Prelude.{IfSome, if◌then◌else◌}
 use Rattle.desk_common.specs.Causes.{Rose, counted}
 use Rattle.sms_base.specs.Counts.{after_calls}
 use Rattle.sms_base.specs.Door.{HandsBack, faults_behind}

@@ -242,7 +242,8 @@ fn answer_wanting(alloc: Global, items: &[Item]) -> Result<Answer, Fail> {
 
 // A deck that was read without memory.
 fn wanting() -> Work
-    ensures { (o : Opening) (history : List Entered) (request : Asked) (written : SlateLines) → IsWork o history request written result }
+    ensures { (o : Opening) (history : List Entered) (request : Asked) (written : SlateLines) →
+        IsWork o history request written result }
 {
     Work::Deck(Err(DeckErr::NoMemory))
 }

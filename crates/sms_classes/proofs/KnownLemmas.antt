@@ -1,5 +1,6 @@
 -- What a classification that is done leaves.
-use Rattle.std.proofs.Common.{◌≡◌, ◌≢◌, ℕ, Bool, true, false, List, [], ◌∷◌, Option, Some, None, ◌==◌, refl, sym, ap, subst, ◌∙◌, if◌then◌else◌}
+use Rattle.std.proofs.Common.{◌≡◌, ◌≢◌, ℕ, Bool, true, false, List, [], ◌∷◌, Option, Some, None, ◌==◌, refl, sym, ap}
+use Rattle.std.proofs.Common.{subst, ◌∙◌, if◌then◌else◌}
 use Rattle.std.specs.Option.{option_or}
 use Rattle.acs_tree.specs.declared.ending.Ending.{Ending}
 use Rattle.acs_tree.specs.declared.ending.Ending.TheVariants as endings
@@ -8,7 +9,8 @@ use Rattle.acs_tree.specs.declared.kind.Kind.{Kind}
 use Rattle.acs_tree.specs.declared.kind.Kind.TheVariants.{DataClas, StorClas, MgmtClas, StorGrp}
 use Rattle.acs_tree.specs.declared.values.Values.{Values}
 use Rattle.sms_construct.specs.Configuration.{Configuration, has_construct}
-use Rattle.desk_law.specs.Classification.{Classes, Meanings, Progress, after_class, class_of, class_stop, classes_under, end_with_groups, ends, exit_stop, if_managed, is_null, run, unless_stopped}
+use Rattle.desk_law.specs.Classification.{Classes, Meanings, Progress, after_class, class_of, class_stop, classes_under}
+use Rattle.desk_law.specs.Classification.{end_with_groups, ends, exit_stop, if_managed, is_null, run, unless_stopped}
 use Rattle.sms_construct.specs.declared.stop.Stop.{Stop}
 use Rattle.sms_construct.specs.declared.stop.Stop.TheVariants as stops
 use Rattle.sms_classes.specs.Known.{AreKnown, LeavesOthers, known_class}

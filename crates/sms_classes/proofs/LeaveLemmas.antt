@@ -1,5 +1,6 @@
 -- A routine leaves the classes of the other kinds, as its code does.
-use Rattle.std.proofs.Common.{◌≡◌, false, Option, Some, None, MatchOption, IfSome, option_map, refl, ap, ◌∙◌, subst, Bor}
+use Rattle.std.proofs.Common.{◌≡◌, false, Option, Some, None, MatchOption, IfSome, option_map, refl, ap, ◌∙◌, subst}
+use Rattle.std.proofs.Common.{Bor}
 use Rattle.acs_code.specs.Machine.{CodeParts, ComesTo}
 use Rattle.acs_code.specs.Stands.{StandsFor}
 use Rattle.acs_tree.specs.CheckedRoutine.{CheckedRoutine}

@@ -1,5 +1,6 @@
 -- A classification from one of its routines on.
-use Rattle.std.proofs.Common.{◌≡◌, ℕ, Bool, true, false, List, Option, Some, None, refl, sym, ap, ap₂, ◌∙◌, if◌then◌else◌}
+use Rattle.std.proofs.Common.{◌≡◌, ℕ, Bool, true, false, List, Option, Some, None, refl, sym, ap, ap₂, ◌∙◌}
+use Rattle.std.proofs.Common.{if◌then◌else◌}
 use Rattle.acs_tree.specs.Outcome.{Action}
 use Rattle.acs_tree.specs.Inputs.{input_under}
 use Rattle.acs_tree.specs.Slates.{SlateLines, blank}
@@ -10,9 +11,11 @@ use Rattle.acs_tree.specs.declared.kind.Kind.TheVariants.{DataClas, StorClas, Mg
 use Rattle.acs_tree.specs.declared.values.Values.{Values}
 use Rattle.sms_construct.specs.Configuration.{Configuration}
 use Rattle.sms_construct.specs.declared.alloc.Alloc.{Alloc}
-use Rattle.desk_law.specs.Classification.{Classes, Meanings, Progress, after_class, begin, classes_of, classes_under, if_managed, is_null, meanings_of, run, run_of, unless_stopped}
+use Rattle.desk_law.specs.Classification.{Classes, Meanings, Progress, after_class, begin, classes_of, classes_under}
+use Rattle.desk_law.specs.Classification.{if_managed, is_null, meanings_of, run, run_of, unless_stopped}
 use Rattle.sms_construct.specs.declared.stop.Stop.{Stop}
-use Rattle.sms_classes.specs.Inner.Onward.{after_groups, from_data_class, from_groups, from_management_class, from_storage_class, progress, run_on}
+use Rattle.sms_classes.specs.Inner.Onward.{after_groups, from_data_class, from_groups, from_management_class}
+use Rattle.sms_classes.specs.Inner.Onward.{from_storage_class, progress, run_on}
 
 -- the whole is what is left from its first routine on
 

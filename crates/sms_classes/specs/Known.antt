@@ -10,7 +10,8 @@ use Rattle.desk_law.specs.Classification.{Meanings, Progress, class_of, class_st
 
 -- a class that isn't null, where the configuration has it
 abbrev pub known_class : Configuration → Kind → List ℕ → Option (List ℕ)
-known_class config kind class = if is_null class then None else (if has_construct kind class config then Some class else None)
+known_class config kind class =
+    if is_null class then None else (if has_construct kind class config then Some class else None)
 
 -- the data class and the management class are null or ones of the configuration, the storage class is one of it, and
 -- there is a storage group
@@ -22,4 +23,5 @@ pub record AreKnown (config : Configuration) (values : Values) : Type 0 where
 
 -- the routine of that kind, if there is one, leaves the classes of the other kinds
 abbrev pub LeavesOthers : Meanings → Kind → Type 0
-LeavesOthers meanings kind = (input : Input) (before : Progress) (other : Kind) → same_kind kind other ≡ false → class_of other (run meanings input kind before).values ≡ class_of other before.values
+LeavesOthers meanings kind = (input : Input) (before : Progress) (other : Kind) → same_kind kind other ≡ false →
+    class_of other (run meanings input kind before).values ≡ class_of other before.values

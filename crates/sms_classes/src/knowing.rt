@@ -10,7 +10,8 @@ use sms_deck::Config;
 
 /// Tells a proof that the classes of a classification that is done are ones that the configuration has.
 pub fn classes_are_known(config: &Config)
-    ensures { (job : List ℕ) (alloc : Allocation) → (classes_of config.now job alloc).stop ≡ Stop.Done → AreKnown config.now (classes_of config.now job alloc).values }
+    ensures { (job : List ℕ) (alloc : Allocation) → (classes_of config.now job alloc).stop ≡ Stop.Done →
+        AreKnown config.now (classes_of config.now job alloc).values }
 {
     leave_others(config);
 }

@@ -21,7 +21,8 @@ pub fn run_routine(
     slate: &mut Slate,
 ) -> Ending
     requires { NoneFrom (rank_of kind) slate.old }
-    ensures runs { progress values.new slate.new result ≡ run_on (meanings_of config.now) input.now kind values.old slate.old }
+    ensures runs { progress values.new slate.new result ≡
+        run_on (meanings_of config.now) input.now kind values.old slate.old }
     ensures later_kinds { NoneFrom (suc (rank_of kind)) slate.new }
 {
     // Facts for the proof; nothing changes.
@@ -43,7 +44,8 @@ pub fn run_class(
     requires { NoneFrom (rank_of kind) slate.old }
     ensures values { values.new ≡ (run_on (meanings_of config.now) input.now kind values.old slate.old).values }
     ensures slate { slate.new ≡ (run_on (meanings_of config.now) input.now kind values.old slate.old).written }
-    ensures stop { let last = run_on (meanings_of config.now) input.now kind values.old slate.old in result ≡ option_or (exit_stop kind last.ending) (class_stop config.now kind (class_of kind last.values)) }
+    ensures stop { let last = run_on (meanings_of config.now) input.now kind values.old slate.old in result ≡
+        option_or (exit_stop kind last.ending) (class_stop config.now kind (class_of kind last.values)) }
     ensures later_kinds { NoneFrom (suc (rank_of kind)) slate.new }
 {
     let ending = run_routine(config, kind, input, values, slate);

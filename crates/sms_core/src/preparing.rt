@@ -56,7 +56,8 @@ pub fn prepare<P: Keeper>(
         IsReady o h s records.old.log (P.told records.old.keeper) mark (P.count records.old.keeper) place request.now →
         made.entry.answer.reply ≡ KeeperFault → Rose (P.count records.old.keeper) (P.count records.new.keeper)) }
     ensures unmade { OnErr result (IsUnmade running.old running.new records.old.log records.new.log
-        (P.told records.old.keeper) (P.told records.new.keeper) (P.count records.old.keeper) (P.count records.new.keeper)) }
+        (P.told records.old.keeper) (P.told records.new.keeper) (P.count records.old.keeper)
+        (P.count records.new.keeper)) }
     ensures idle { (IsUnknown records.old.log request.now → ⊥) → records.new.keeper ≡ records.old.keeper }
     ensures rises { P.count records.old.keeper ≤ P.count records.new.keeper }
 {
@@ -105,7 +106,8 @@ fn prepare_fresh<P: Keeper>(
     ensures cause { IfOk result (λ made. made.entry.answer.reply ≡ KeeperFault →
         Rose (P.count records.old.keeper) (P.count records.new.keeper)) }
     ensures unmade { OnErr result (IsUnmade running.old running.new records.old.log records.new.log
-        (P.told records.old.keeper) (P.told records.new.keeper) (P.count records.old.keeper) (P.count records.new.keeper)) }
+        (P.told records.old.keeper) (P.told records.new.keeper) (P.count records.old.keeper)
+        (P.count records.new.keeper)) }
     ensures rises { P.count records.old.keeper ≤ P.count records.new.keeper }
 {
     let old = old_floor(&records.log, &request.op);
@@ -153,11 +155,13 @@ fn carry_out<P: Keeper>(
         IsRunning s running.old →
         IsDecided (λ job. floor_in job records.old.log.floors) s request.now decision.reply (effect_of decision.deed)
         (config_of decision.deed) → Fits s running.old decision.deed →
-        HasEntered o h s made.entry running.new records.new.log (P.told records.new.keeper) mark (P.count records.new.keeper)) }
+        HasEntered o h s made.entry running.new records.new.log (P.told records.new.keeper) mark
+        (P.count records.new.keeper)) }
     ensures cause { IfOk result (λ made. made.entry.answer.reply ≡ KeeperFault → (decision.reply ≡ KeeperFault → ⊥) →
         Rose (P.count records.old.keeper) (P.count records.new.keeper)) }
     ensures unmade { OnErr result (IsUnmade running.old running.new records.old.log records.new.log
-        (P.told records.old.keeper) (P.told records.new.keeper) (P.count records.old.keeper) (P.count records.new.keeper)) }
+        (P.told records.old.keeper) (P.told records.new.keeper) (P.count records.old.keeper)
+        (P.count records.new.keeper)) }
     ensures rises { P.count records.old.keeper ≤ P.count records.new.keeper }
 {
     let Decision { reply, deed } = decision;

@@ -1,5 +1,6 @@
 -- The names in each form of statement.
-use Rattle.std.proofs.Common.{◌≡◌, ◌<◌, ◌+◌, ℕ, suc, true, false, is_some, List, [], ◌∷◌, ◌++◌, length, drop, drop-cons, get_or, map, not, refl, sym, ◌∙◌, ap, arith}
+use Rattle.std.proofs.Common.{◌≡◌, ◌<◌, ◌+◌, ℕ, suc, true, false, is_some, List, [], ◌∷◌, ◌++◌, length, drop, drop-cons}
+use Rattle.std.proofs.Common.{get_or, map, not, refl, sym, ◌∙◌, ap, arith}
 use Rattle.std.specs.Prelude.{Option, Some, None}
 use Rattle.std.specs.Option.{option_or}
 use Rattle.std.proofs.lemmas.List.Folds.{find-append}
@@ -9,12 +10,16 @@ use Rattle.acs_tree.specs.declared.routine.Cond.{Cond}
 use Rattle.acs_tree.specs.declared.routine.Form.{Form, roll-Form, map-Form}
 use Rattle.acs_tree.specs.declared.routine.Form.TheOpen.{Form-F}
 use Rattle.acs_tree.specs.declared.routine.Form.TheFolds.{fold-roll-Form, fold_out-Stmt, fold_out-When}
-use Rattle.acs_tree.specs.declared.routine.Form.TheVariants.{Filt, Put, If, Pick, Do, Write, Exit, rolls-Filt, rolls-Put, rolls-If, rolls-Pick, rolls-Do, rolls-Write, rolls-Exit}
+use Rattle.acs_tree.specs.declared.routine.Form.TheVariants.{Filt, Put, If, Pick, Do, Write, Exit, rolls-Filt}
+use Rattle.acs_tree.specs.declared.routine.Form.TheVariants.{rolls-Put, rolls-If, rolls-Pick, rolls-Do, rolls-Write}
+use Rattle.acs_tree.specs.declared.routine.Form.TheVariants.{rolls-Exit}
 use Rattle.acs_tree.specs.declared.routine.Operand.{Operand}
 use Rattle.acs_tree.specs.declared.routine.Ref.{Ref}
 use Rattle.acs_tree.specs.declared.routine.When.{When, out-When}
 use Rattle.sms_deck.specs.Layout.{has}
-use Rattle.sms_deck.specs.Assigned.{literal_names, joined, form_step, stmt_step, when_step, assigned_in, assigned_by, assigned_in_form, assigned_in_when, assigned_in_whens, assigned_in_other, first_unknown}
+use Rattle.sms_deck.specs.Assigned.{literal_names, joined, form_step, stmt_step, when_step, assigned_in, assigned_by}
+use Rattle.sms_deck.specs.Assigned.{assigned_in_form, assigned_in_when, assigned_in_whens, assigned_in_other}
+use Rattle.sms_deck.specs.Assigned.{first_unknown}
 
 pub of_form : (s : Stmt) → assigned_in s ≡ assigned_in_form s.form
 of_form s = fold_out-Stmt (List (List ℕ)) (List (List ℕ)) (List (List ℕ)) form_step stmt_step when_step s

@@ -1,6 +1,8 @@
 -- What holds of each configuration that a deck gives.
-use Rattle.std.proofs.Common.{◌≡◌, ◌≤◌, ◌<◌, ◌+◌, take, drop, ◌||◌, ℕ, Bool, true, false, List, [], ◌∷◌, ◌++◌, map, bytes_eq, length, refl, sym, subst, arith, nat_lt}
-use Rattle.std.specs.Prelude.{Option, Some, None, ◌&&◌, ◌==◌, nat_le, IfSome, unwrap_or, position, pos, codes, if◌then◌else◌}
+use Rattle.std.proofs.Common.{◌≡◌, ◌≤◌, ◌<◌, ◌+◌, take, drop, ◌||◌, ℕ, Bool, true, false, List, [], ◌∷◌, ◌++◌, map}
+use Rattle.std.proofs.Common.{bytes_eq, length, refl, sym, subst, arith, nat_lt}
+use Rattle.std.specs.Prelude.{Option, Some, None, ◌&&◌, ◌==◌, nat_le, IfSome, unwrap_or, position, pos, codes}
+use Rattle.std.specs.Prelude.{if◌then◌else◌}
 use Rattle.std.specs.Option.{option_and_then, option_or}
 use Rattle.std.specs.BTreeMap.{insert_entry}
 use Rattle.std.specs.List.{AllByRecursion, list_any}
@@ -11,7 +13,8 @@ use Rattle.std.specs.Cmp.Lexicographic.{slice_cmp}
 use Rattle.std.proofs.lemmas.Bool.Decides.{nat_tests}
 use Rattle.std.proofs.lemmas.List.{length-append, length-map}
 use Rattle.std.proofs.lemmas.Slice.Eq.{bytes_eq-Decides}
-use Rattle.toml.specs.Data.{Data, integer, Members, no_members, member, get_member, as_table, as_str, members_are_sorted}
+use Rattle.toml.specs.Data.{Data, integer, Members, no_members, member, get_member, as_table, as_str}
+use Rattle.toml.specs.Data.{members_are_sorted}
 use Rattle.desk_common.specs.Limits.{most_tracks}
 use Rattle.dsn_mask.specs.Name.{name_of, volser_of}
 use Rattle.acs_tree.specs.declared.kind.Kind.{Kind}
@@ -25,19 +28,26 @@ use Rattle.sms_construct.specs.declared.status.Status.TheVariants.{Enable}
 use Rattle.sms_construct.specs.declared.volume.VolumeDef.{VolumeDef}
 use Rattle.sms_construct.specs.declared.storage_group.StorGroup.{StorGroup}
 use Rattle.sms_construct.specs.Quantities.{IsSpace, IsVolumeCount, most_breakpoint}
-use Rattle.sms_construct.specs.Configuration.{Configuration, IsConfiguration, IsDataClass, Routines, most_volumes, names_of, are_ascending, routine_of, is_connected}
+use Rattle.sms_construct.specs.Configuration.{Configuration, IsConfiguration, IsDataClass, Routines, most_volumes}
+use Rattle.sms_construct.specs.Configuration.{names_of, are_ascending, routine_of, is_connected}
 use Rattle.sms_deck.specs.declared.place.Place.{Place}
 use Rattle.sms_deck.specs.Limits.{most_cylinders}
 use Rattle.sms_deck.specs.Tables.{tables_fault}
 use Rattle.sms_construct.specs.Numbers.{small_number_of}
 use Rattle.sms_construct.specs.Parts.{behind_front, in_parentheses}
-use Rattle.sms_construct.specs.SpaceText.{space_with, list_of_quantities, quantities_in, quantities_of, space_behind, space_inside, space_text}
-use Rattle.sms_deck.specs.Values.{Words, devices, volume_statuses, meaning_in, word_in, integer_in, are_whole, cylinders_in, space_in}
+use Rattle.sms_construct.specs.SpaceText.{space_with, list_of_quantities, quantities_in, quantities_of, space_behind}
+use Rattle.sms_construct.specs.SpaceText.{space_inside, space_text}
+use Rattle.sms_deck.specs.Values.{Words, devices, volume_statuses, meaning_in, word_in, integer_in, are_whole}
+use Rattle.sms_deck.specs.Values.{cylinders_in, space_in}
 use Rattle.sms_deck.specs.Layout.{key_count, or_empty, table_at}
-use Rattle.sms_deck.specs.Constructs.{read_at, with_named, named, data_class_of, storage_class_of, management_class_of, group_of, size_of, tracks_of, volume_of, group_volumes, all_volumes}
-use Rattle.sms_deck.specs.Places.{Places, has_place, put_volume, put_volumes, groups_in, places_of, volumes_in, volume_total, total_fault, twice_fault}
-use Rattle.sms_deck.specs.Outcomes.{Outcome, Absent, Long, Sound, Faulty, IsOutcomeOf, Outcomes, AreOutcomes, outcomes_from, routines_in, sound_in, source_of}
-use Rattle.sms_deck.specs.Reading.{Configures, MeansTable, configuration_of, fault_of, first_of, form_fault, sources_fault, assigned_faults}
+use Rattle.sms_deck.specs.Constructs.{read_at, with_named, named, data_class_of, storage_class_of, management_class_of}
+use Rattle.sms_deck.specs.Constructs.{group_of, size_of, tracks_of, volume_of, group_volumes, all_volumes}
+use Rattle.sms_deck.specs.Places.{Places, has_place, put_volume, put_volumes, groups_in, places_of, volumes_in}
+use Rattle.sms_deck.specs.Places.{volume_total, total_fault, twice_fault}
+use Rattle.sms_deck.specs.Outcomes.{Outcome, Absent, Long, Sound, Faulty, IsOutcomeOf, Outcomes, AreOutcomes}
+use Rattle.sms_deck.specs.Outcomes.{outcomes_from, routines_in, sound_in, source_of}
+use Rattle.sms_deck.specs.Reading.{Configures, MeansTable, configuration_of, fault_of, first_of, form_fault}
+use Rattle.sms_deck.specs.Reading.{sources_fault, assigned_faults}
 use Rattle.sms_deck.proofs.OrderLemmas.{ascending, names_ascend, inner_sorted, lined_volumes, volsers_ascend}
 use Rattle.sms_deck.proofs.ReadingLemmas.{back_from_outcomes}
 use Rattle.sms_deck.proofs.SortedLemmas.{document_ascends}

@@ -13,7 +13,8 @@ use Rattle.std.proofs.lemmas.Bool.{and_parts}
 use Rattle.std.proofs.lemmas.Cmp.{nat_list_cmp_total}
 use Rattle.std.proofs.lemmas.Map.Text.{is_eq-slice_cmp}
 use Rattle.std.proofs.lemmas.Slice.Eq.{bytes_eq-Decides}
-use Rattle.toml.specs.Data.{Data, string, integer, float, boolean, datetime, array, table, Members, no_members, member, get_member, as_table, is_sorted, members_are_sorted}
+use Rattle.toml.specs.Data.{Data, string, integer, float, boolean, datetime, array, table, Members, no_members, member}
+use Rattle.toml.specs.Data.{get_member, as_table, is_sorted, members_are_sorted}
 use Rattle.toml.specs.Data as toml
 use Rattle.dsn_mask.specs.Name.{is_name, name_of}
 use Rattle.sms_construct.specs.Configuration.{is_before, are_ascending}

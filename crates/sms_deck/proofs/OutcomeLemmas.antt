@@ -1,5 +1,6 @@
 -- The text of a routine comes to one outcome.
-use Rattle.std.proofs.Common.{◌≡◌, ◌⊎◌, inl, inr, ◌≤◌, ◌<◌, ℕ, List, Bool, true, false, nat_lt, length, refl, ap, sym, ◌∙◌, subst, arith}
+use Rattle.std.proofs.Common.{◌≡◌, ◌⊎◌, inl, inr, ◌≤◌, ◌<◌, ℕ, List, Bool, true, false, nat_lt, length, refl, ap, sym}
+use Rattle.std.proofs.Common.{◌∙◌, subst, arith}
 use Rattle.std.proofs.lemmas.Bool.Decides.{nat_tests}
 use Rattle.std.specs.Prelude.{Option, Some, None, Result, Ok, Err}
 use Rattle.acs_lex.specs.declared.token.Token.{Token}
@@ -25,10 +26,12 @@ use Rattle.acs_translate.specs.declared.fault.Stage.TheVariants.{Scanner, Parser
 use Rattle.acs_translate.specs.declared.fault.RoutineFault.{RoutineFault}
 use Rattle.acs_translate.specs.declared.fault.TranslateErr.{TranslateErr}
 use Rattle.acs_translate.specs.declared.fault.TranslateErr.TheVariants as told
-use Rattle.acs_translate.specs.Translation.{IsTranslated, fault_of, check_fault, IsRoutineFault, in_text, in_tokens, in_tree, IsExact, MayRefuse as TranslateMayRefuse}
+use Rattle.acs_translate.specs.Translation.{IsTranslated, fault_of, check_fault, IsRoutineFault, in_text, in_tokens}
+use Rattle.acs_translate.specs.Translation.{in_tree, IsExact, MayRefuse as TranslateMayRefuse}
 use Rattle.acs_translate.proofs.TranslateLemmas.{exact, exact_lex, exact_parse, exact_check}
 use Rattle.sms_deck.specs.Limits.{most_routine_bytes}
-use Rattle.sms_deck.specs.Outcomes.{Outcome, Absent, Long, Sound, Faulty, IsFaulty, IsOutcomeOf, Outcomes, AreOutcomes, TellsSource, outcome_from, sound_in, source_fault, source_of, told_as}
+use Rattle.sms_deck.specs.Outcomes.{Outcome, Absent, Long, Sound, Faulty, IsFaulty, IsOutcomeOf, Outcomes, AreOutcomes}
+use Rattle.sms_deck.specs.Outcomes.{TellsSource, outcome_from, sound_in, source_fault, source_of, told_as}
 use Rattle.sms_deck.specs.Reading.{TellsSources}
 use Rattle.sms_deck.specs.declared.deck_err.DeckErr.{DeckErr}
 use Rattle.sms_deck.specs.declared.deck_err.DeckErr.TheVariants.{Fault as Faulted, NoMemory}

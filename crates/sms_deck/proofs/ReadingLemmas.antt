@@ -9,7 +9,9 @@ use Rattle.sms_construct.specs.declared.fault.Fault.{Fault}
 use Rattle.acs_tree.specs.declared.kind.Kind.TheVariants.{DataClas, StorClas, MgmtClas, StorGrp}
 use Rattle.sms_construct.specs.Configuration.{Configuration, Routines}
 use Rattle.sms_deck.specs.Outcomes.{Outcomes, AreOutcomes, outcomes_from, routines_in}
-use Rattle.sms_deck.specs.Reading.{MeansTable, Configures, HasFirstFault, TellsFirstFault, TellsForm, TellsSources, TellsTable, IsRead, form_fault, sources_fault, assigned_faults, fault_of, configuration_of}
+use Rattle.sms_deck.specs.Reading.{MeansTable, Configures, HasFirstFault, TellsFirstFault, TellsForm, TellsSources}
+use Rattle.sms_deck.specs.Reading.{TellsTable, IsRead, form_fault, sources_fault, assigned_faults, fault_of}
+use Rattle.sms_deck.specs.Reading.{configuration_of}
 use Rattle.sms_deck.specs.declared.deck_err.DeckErr.{DeckErr}
 use Rattle.sms_deck.specs.declared.deck_err.DeckErr.TheVariants.{Fault as Faulted, NoMemory}
 use Rattle.sms_deck.proofs.OutcomeLemmas.{one_outcomes, some_outcomes, quiet, sound_from}

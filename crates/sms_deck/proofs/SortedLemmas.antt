@@ -1,5 +1,6 @@
 -- The members of a document ascend, and so do those of each table inside.
-use Rattle.std.proofs.Common.{◌≡◌, ℕ, zero, suc, Bool, true, false, List, [], ◌∷◌, ◌++◌, length, drop, refl, sym, ap, ◌∙◌, subst}
+use Rattle.std.proofs.Common.{◌≡◌, ℕ, zero, suc, Bool, true, false, List, [], ◌∷◌, ◌++◌, length, drop, refl, sym, ap}
+use Rattle.std.proofs.Common.{◌∙◌, subst}
 use Rattle.std.specs.Prelude.{Option, Some, None, option_map, option_and_then, ◌&&◌, ◌==◌, if◌then◌else◌, slice_index}
 use Rattle.std.specs.Ordering.{nat_cmp, is_lt, match_ordering, ordering_reverse}
 use Rattle.std.specs.declared.cmp.Ordering.{Ordering}
@@ -7,14 +8,20 @@ use Rattle.std.specs.declared.cmp.Ordering.TheVariants.{Less, Equal, Greater}
 use Rattle.std.specs.Cmp.Lexicographic.{slice_cmp}
 use Rattle.std.proofs.lemmas.Bool.{and_parts}
 use Rattle.std.proofs.lemmas.Cmp.{nat_list_cmp_total}
-use Rattle.toml_parser.specs.Lexical.{Read, right_bracket, left_bracket, left_brace, right_brace, first, skip_ws, skip_blank}
+use Rattle.toml_parser.specs.Lexical.{Read, right_bracket, left_bracket, left_brace, right_brace, first, skip_ws}
+use Rattle.toml_parser.specs.Lexical.{skip_blank}
 use Rattle.toml_parser.specs.Strings.{Key, quoted, starts_string, recursion_limit}
 use Rattle.toml_parser.specs.Numbers.{unquoted}
 use Rattle.toml_parser.specs.declared.scalar.Scalar.{Scalar}
 use Rattle.toml_parser.specs.declared.scalar.Scalar.TheVariants.{Boolean, Integer, Float, Datetime}
-use Rattle.toml.specs.Data.{Data, string, array, table, Items, no_items, item, Members, is_before, is_sorted, items_are_sorted, members_are_sorted, push_item, same_key}
-use Rattle.toml.specs.Tables.{implicit, dotted, header, Node, Nodes, value, open_table, open_array, no_nodes, node, get_node, insert, replace, close, close_node, Edit, header_node, dot_node, by_header, by_dot, along_header, along_dots, Definition, key_value, std_table, array_table, Expression, new_node, redefine, at_found, at_key, put, Document, define_as, define}
-use Rattle.toml.specs.Parse.{after_element, key_equals, keyval, items, members, scalar_data, atom, val, header_key, expression, ends_line, line, lines, skip_bom, parse_document, read_map, after_byte}
+use Rattle.toml.specs.Data.{Data, string, array, table, Items, no_items, item, Members, is_before, is_sorted}
+use Rattle.toml.specs.Data.{items_are_sorted, members_are_sorted, push_item, same_key}
+use Rattle.toml.specs.Tables.{implicit, dotted, header, Node, Nodes, value, open_table, open_array, no_nodes, node}
+use Rattle.toml.specs.Tables.{get_node, insert, replace, close, close_node, Edit, header_node, dot_node, by_header}
+use Rattle.toml.specs.Tables.{by_dot, along_header, along_dots, Definition, key_value, std_table, array_table}
+use Rattle.toml.specs.Tables.{Expression, new_node, redefine, at_found, at_key, put, Document, define_as, define}
+use Rattle.toml.specs.Parse.{after_element, key_equals, keyval, items, members, scalar_data, atom, val, header_key}
+use Rattle.toml.specs.Parse.{expression, ends_line, line, lines, skip_bom, parse_document, read_map, after_byte}
 
 -- options
 

@@ -12,7 +12,8 @@ use Rattle.sms_construct.specs.Configuration.{Configuration}
 use Rattle.sms_construct.specs.Path.{below}
 use Rattle.sms_deck.specs.declared.version.Version.TheVariants.{One}
 use Rattle.sms_deck.specs.Limits.{most_classes}
-use Rattle.sms_deck.specs.Layout.{Row, Walk, each_fault, key_count, name_fault, names, or_empty, row_fault, rows_fault, table_at, table_fault, unknown_fault, walk_inside}
+use Rattle.sms_deck.specs.Layout.{Row, Walk, each_fault, key_count, name_fault, names, or_empty, row_fault, rows_fault}
+use Rattle.sms_deck.specs.Layout.{table_at, table_fault, unknown_fault, walk_inside}
 use Rattle.sms_deck.specs.Tables.{constructs_row, construct_walk, top_rows, top_walk, version_of}
 use Rattle.sms_deck.specs.Constructs.{named, storage_class_of, with_named}
 use Rattle.sms_deck.specs.Reading.{Configures}

@@ -15,7 +15,8 @@ use Rattle.sms_construct.specs.declared.unit.Unit.TheVariants.{Cyl}
 use Rattle.sms_construct.specs.declared.volume.VolumeDef.{VolumeDef}
 use Rattle.sms_construct.specs.Quantities.{tracks_in, most_breakpoint}
 use Rattle.sms_deck.specs.Layout.{table_at}
-use Rattle.sms_deck.specs.Values.{devices, group_statuses, volume_statuses, yes_or_no, eattrs, word_in, integer_in, cylinders_in, space_in}
+use Rattle.sms_deck.specs.Values.{devices, group_statuses, volume_statuses, yes_or_no, eattrs, word_in, integer_in}
+use Rattle.sms_deck.specs.Values.{cylinders_in, space_in}
 use Rattle.sms_deck.specs.Tables.{high_of}
 
 -- what a key's value means, if the key is there and its value means something
@@ -31,7 +32,8 @@ with_named build (Some name) (Some keys) items = build name keys ∷ items
 -- what the names of a table stand for, in the order of the table
 abbrev pub named : {X : Type 0} → (List ℕ → Option (List ℕ)) → (List ℕ → Members → X) → Members → List X
 named reading build no_members = []
-named reading build (member name value others) = with_named build (reading name) (as_table value) (named reading build others)
+named reading build (member name value others) =
+    with_named build (reading name) (as_table value) (named reading build others)
 
 -- the data class of this name, by its keys
 abbrev pub data_class_of : List ℕ → Members → DataClass

@@ -1,5 +1,6 @@
 -- How the tables of a deck are laid out, and the first fault of a table (docs/deck.md, "Order of faults").
-use Rattle.std.specs.Prelude.{ℕ, ◌+◌, List, [], ◌∷◌, Bool, false, Option, None, Some, is_some, bytes_eq, nat_le, map, Result, Ok, Err, if◌then◌else◌}
+use Rattle.std.specs.Prelude.{ℕ, ◌+◌, List, [], ◌∷◌, Bool, false, Option, None, Some, is_some, bytes_eq, nat_le, map}
+use Rattle.std.specs.Prelude.{Result, Ok, Err, if◌then◌else◌}
 use Rattle.std.specs.List.{list_any}
 use Rattle.std.specs.Option.{option_or, option_and_then}
 use Rattle.toml.specs.Data.{Data, Members, no_members, member, get_member, as_table}
@@ -57,12 +58,14 @@ walk_inside walk path (Some keys) = walk path keys
 abbrev pub row_fault : List ℕ → Members → Row → Option Data → Option Fault
 row_fault path keys row None = if row.is_needed keys then Some (Missing (below path row.key)) else None
 row_fault path keys row (Some value) =
-    if row.is_right keys value then walk_inside row.walk (below path row.key) (as_table value) else Some (BadValue (below path row.key))
+    if row.is_right keys value then walk_inside row.walk (below path row.key) (as_table value)
+    else Some (BadValue (below path row.key))
 
 -- the first fault of the keys, in the order of the rows
 abbrev pub rows_fault : List ℕ → Members → List Row → Option Fault
 rows_fault path keys [] = None
-rows_fault path keys (row ∷ rows) = option_or (row_fault path keys row (get_member row.key keys)) (rows_fault path keys rows)
+rows_fault path keys (row ∷ rows) =
+    option_or (row_fault path keys row (get_member row.key keys)) (rows_fault path keys rows)
 
 -- the first key in byte order that is none of these; the members of a table ascend
 abbrev pub unknown_fault : List ℕ → List (List ℕ) → Members → Option Fault
@@ -83,12 +86,14 @@ table_fault walk path (Some keys) = walk path keys
 
 -- the fault of one name
 abbrev pub name_fault : (List ℕ → Bool) → Walk → List ℕ → List ℕ → Data → Option Fault
-name_fault is_name walk path name value = if is_name name then table_fault walk (below path name) (as_table value) else Some (BadName (below path name))
+name_fault is_name walk path name value =
+    if is_name name then table_fault walk (below path name) (as_table value) else Some (BadName (below path name))
 
 -- the first fault of the names, in byte order
 abbrev pub each_fault : (List ℕ → Bool) → Walk → Walk
 each_fault is_name walk path no_members = None
-each_fault is_name walk path (member name value others) = option_or (name_fault is_name walk path name value) (each_fault is_name walk path others)
+each_fault is_name walk path (member name value others) =
+    option_or (name_fault is_name walk path name value) (each_fault is_name walk path others)
 
 -- the walk of a table of at most so many names
 abbrev pub names : ℕ → (List ℕ → Bool) → Walk → Walk
@@ -103,8 +108,18 @@ no_walk path keys = None
 
 -- a key whose value has a form
 abbrev pub plain : List ℕ → ValueForm → Row
-plain key form = record { key = key; is_needed = λ keys. false; is_right = λ keys value. has_form form value; walk = no_walk }
+plain key form = record {
+  key = key;
+  is_needed = λ keys. false;
+  is_right = λ keys value. has_form form value;
+  walk = no_walk;
+}
 
 -- a key whose value is a table
 abbrev pub inner : List ℕ → Walk → Row
-inner key walk = record { key = key; is_needed = λ keys. false; is_right = λ keys value. is_some (as_table value); walk = walk }
+inner key walk = record {
+  key = key;
+  is_needed = λ keys. false;
+  is_right = λ keys value. is_some (as_table value);
+  walk = walk;
+}

@@ -129,7 +129,8 @@ told_as kind translate.NoMemory = NoMemory
 
 -- the refusal of a text that tells its fault
 abbrev pub TellsSource : Kind → Option (List ℕ) → DeckErr → Type 0
-TellsSource kind source (Faulted fault) = (outcome : Outcome) × IsOutcomeOf kind source outcome × (source_fault kind outcome ≡ Some fault)
+TellsSource kind source (Faulted fault) =
+    (outcome : Outcome) × IsOutcomeOf kind source outcome × (source_fault kind outcome ≡ Some fault)
 TellsSource kind source NoMemory = Unit {0}
 
 -- the first name that a routine sets and that is no construct of its kind

@@ -1,5 +1,6 @@
 -- The volumes of a deck in byte order, and those that stand in two storage groups.
-use Rattle.std.specs.Prelude.{ℕ, ◌+◌, List, [], ◌∷◌, Bool, Option, None, Some, codes, is_some, map, nat_lt, if◌then◌else◌}
+use Rattle.std.specs.Prelude.{ℕ, ◌+◌, List, [], ◌∷◌, Bool, Option, None, Some, codes, is_some, map, nat_lt}
+use Rattle.std.specs.Prelude.{if◌then◌else◌}
 use Rattle.std.specs.BTreeMap.{insert_entry, is_at}
 use Rattle.std.specs.Cmp.Lexicographic.{slice_cmp}
 use Rattle.std.specs.Map.{lookup}
@@ -23,7 +24,9 @@ has_place volser places = is_some (lookup (is_at (slice_cmp nat_cmp volser)) pla
 
 -- a volume at its place in the order
 abbrev pub put_volume : Places → VolumeDef → Places
-put_volume places volume = insert_entry (slice_cmp nat_cmp) places volume.volser (record { volume = volume; is_twice = has_place volume.volser places })
+put_volume places volume =
+    insert_entry (slice_cmp nat_cmp) places volume.volser
+    (record { volume = volume; is_twice = has_place volume.volser places })
 
 -- volumes at their places, one after another
 abbrev pub put_volumes : Places → List VolumeDef → Places

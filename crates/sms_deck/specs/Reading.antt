@@ -36,7 +36,8 @@ sources_fault outcomes = first_of (
 
 -- the refusal of the texts that tells their first fault
 abbrev pub TellsSources : Members → DeckErr → Type 0
-TellsSources top (Faulted fault) = (outcomes : Outcomes) × AreOutcomes top outcomes × (sources_fault outcomes ≡ Some fault)
+TellsSources top (Faulted fault) =
+    (outcomes : Outcomes) × AreOutcomes top outcomes × (sources_fault outcomes ≡ Some fault)
 TellsSources top NoMemory = Unit {0}
 
 -- the first fault of what the routines set
@@ -53,7 +54,8 @@ form_fault top = first_of (tables_fault top ∷ total_fault top ∷ twice_fault 
 -- the first fault of a deck's table, whose routines come to this: of the tables, of the routines as texts, and of
 -- what they set
 abbrev pub fault_of : Members → Outcomes → Option Fault
-fault_of top outcomes = first_of (form_fault top ∷ sources_fault outcomes ∷ assigned_faults top (routines_in outcomes) ∷ [])
+fault_of top outcomes =
+    first_of (form_fault top ∷ sources_fault outcomes ∷ assigned_faults top (routines_in outcomes) ∷ [])
 
 -- the configuration of a deck with this table and these routines
 abbrev pub configuration_of : List ℕ → Members → Routines → Configuration

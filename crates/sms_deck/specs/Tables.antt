@@ -10,7 +10,9 @@ use Rattle.sms_construct.specs.declared.fault.Fault.{Fault}
 use Rattle.sms_construct.specs.Quantities.{most_breakpoint}
 use Rattle.sms_deck.specs.Limits.{most_classes, most_groups, most_group_volumes}
 use Rattle.sms_deck.specs.Layout.{Walk, Row, has, fixed_keys, names, plain, inner}
-use Rattle.sms_deck.specs.declared.value_form.ValueForm.TheVariants.{Integer, Text, Flag, ConstructName, SpaceText, Pool, GroupStatus, VolumeStatus, Device, Cylinders, YesOrNo, OptOrNo}
+use Rattle.sms_deck.specs.declared.value_form.ValueForm.TheVariants.{Integer, Text, Flag, ConstructName, SpaceText}
+use Rattle.sms_deck.specs.declared.value_form.ValueForm.TheVariants.{Pool, GroupStatus, VolumeStatus, Device, Cylinders}
+use Rattle.sms_deck.specs.declared.value_form.ValueForm.TheVariants.{YesOrNo, OptOrNo}
 use Rattle.sms_deck.specs.declared.version.Version.{Version}
 use Rattle.sms_deck.specs.declared.version.Version.TheVariants.{One, Two}
 use Rattle.sms_deck.specs.Values.{integer_in, has_form}
@@ -19,16 +21,25 @@ use Rattle.sms_deck.specs.Values.{integer_in, has_form}
 
 -- the device, which must stand where neither of the others does
 abbrev pub device_row : Row
-device_row = record (plain (codes "device") Device) { is_needed = λ keys. not (has (codes "cylinders") keys || has (codes "tracks") keys) }
+device_row = record (plain (codes "device") Device) {
+  is_needed = λ keys. not (has (codes "cylinders") keys || has
+      (codes "tracks") keys);
+}
 
 -- the cylinders, which are right where a volume may have so many, and only where no device stands
 abbrev pub cylinders_row : Row
 cylinders_row =
-    record (plain (codes "cylinders") Cylinders) { is_right = λ keys value. not (has (codes "device") keys) && has_form Cylinders value }
+    record (plain (codes "cylinders") Cylinders) {
+      is_right = λ keys value. not (has
+          (codes "device") keys) && has_form Cylinders value;
+    }
 
 -- the tracks, which are right in their range, and only where neither of the others stands
 abbrev pub tracks_row : Row
-tracks_row = record (plain (codes "tracks") (Integer 1 most_tracks)) { is_right = λ keys value. not (has (codes "device") keys || has (codes "cylinders") keys) && has_form (Integer 1 most_tracks) value }
+tracks_row = record (plain (codes "tracks") (Integer 1 most_tracks)) {
+  is_right = λ keys value. not (has
+      (codes "device") keys || has (codes "cylinders") keys) && has_form (Integer 1 most_tracks) value;
+}
 
 -- the keys of a volume
 abbrev pub volume_rows : List Row
@@ -44,7 +55,10 @@ high_of keys = unwrap_or (option_and_then (integer_in 1 100) (get_member (codes 
 
 -- the low threshold is at most the high one
 abbrev pub low_row : Row
-low_row = record (plain (codes "low") (Integer 0 100)) { is_right = λ keys value. has_form (Integer 0 (high_of keys)) value }
+low_row = record (plain (codes "low") (Integer 0 100)) {
+  is_right = λ keys value. has_form (Integer 0
+      (high_of keys)) value;
+}
 
 -- the keys of a storage group
 abbrev pub group_rows : List Row

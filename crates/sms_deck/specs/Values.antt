@@ -1,5 +1,6 @@
 -- What single values of a deck mean (docs/deck.md, "Keys").
-use Rattle.std.specs.Prelude.{ℕ, ◌%◌, ◌==◌, ◌&&◌, ◌||◌, List, [], ◌∷◌, Bool, true, false, Option, None, Some, bytes_eq, codes, is_some, nat_le, pos, if◌then◌else◌}
+use Rattle.std.specs.Prelude.{ℕ, ◌%◌, ◌==◌, ◌&&◌, ◌||◌, List, [], ◌∷◌, Bool, true, false, Option, None, Some, bytes_eq}
+use Rattle.std.specs.Prelude.{codes, is_some, nat_le, pos, if◌then◌else◌}
 use Rattle.std.specs.Option.{option_and_then}
 use Rattle.toml.specs.Data.{Data, integer, as_bool, as_str}
 use Rattle.dsn_mask.specs.Name.{name_of}
@@ -10,7 +11,9 @@ use Rattle.sms_construct.specs.declared.status.Status.TheVariants.{Enable, NotCo
 use Rattle.sms_construct.specs.Quantities.{Quantities}
 use Rattle.sms_deck.specs.Limits.{most_cylinders, most_track_managed, cylinders_in_managed}
 use Rattle.sms_deck.specs.declared.value_form.ValueForm.{ValueForm}
-use Rattle.sms_deck.specs.declared.value_form.ValueForm.TheVariants.{Integer, Text, Flag, ConstructName, SpaceText, Pool, GroupStatus, VolumeStatus, Device, Cylinders, YesOrNo, OptOrNo}
+use Rattle.sms_deck.specs.declared.value_form.ValueForm.TheVariants.{Integer, Text, Flag, ConstructName, SpaceText}
+use Rattle.sms_deck.specs.declared.value_form.ValueForm.TheVariants.{Pool, GroupStatus, VolumeStatus, Device, Cylinders}
+use Rattle.sms_deck.specs.declared.value_form.ValueForm.TheVariants.{YesOrNo, OptOrNo}
 use Rattle.sms_construct.specs.SpaceText.{space_text}
 
 -- words, each with what it stands for
@@ -24,7 +27,10 @@ meaning_in (word ∷ words) text = if bytes_eq text word.0 then Some word.1 else
 
 -- the statuses of a volume
 abbrev pub volume_statuses : Words Status
-volume_statuses = (codes "ENABLE", Enable) ∷ (codes "DISALL", DisAll) ∷ (codes "DISNEW", DisNew) ∷ (codes "QUIALL", QuiAll) ∷ (codes "QUINEW", QuiNew) ∷ []
+volume_statuses = (codes "ENABLE", Enable) ∷ (codes "DISALL", DisAll) ∷ (codes "DISNEW", DisNew) ∷ (
+  codes "QUIALL",
+  QuiAll,
+) ∷ (codes "QUINEW", QuiNew) ∷ []
 
 -- the statuses of a storage group
 abbrev pub group_statuses : Words Status
@@ -62,7 +68,8 @@ are_whole cylinders = nat_le cylinders most_track_managed || (cylinders % cylind
 -- the cylinders of a volume, if the value is a number that it may have
 abbrev pub cylinders_in : Data → Option ℕ
 cylinders_in value =
-    option_and_then (λ cylinders. if are_whole cylinders then Some cylinders else None) (integer_in 1 most_cylinders value)
+    option_and_then (λ cylinders. if are_whole cylinders then Some cylinders else None)
+    (integer_in 1 most_cylinders value)
 
 -- the construct name, if the value is one
 abbrev pub name_in : Data → Option (List ℕ)

@@ -185,7 +185,8 @@ impl Config {
 
     /// The code of the routine of a kind, if there is one: what `compile` gives for it.
     pub fn code(&self, kind: Kind) -> Option<&Code>
-        ensures { MatchOption (routine_of kind self.now.routines) (option_map (λ c. c.now) result ≡ None) (λ routine. MatchOption result ⊥ (λ code. StandsFor code.now routine)) }
+        ensures { MatchOption (routine_of kind self.now.routines) (option_map (λ c. c.now) result ≡ None)
+            (λ routine. MatchOption result ⊥ (λ code. StandsFor code.now routine)) }
     {
         match self.compiled(kind) {
             Some(compiled) => Some(compiled.code()),

@@ -4,7 +4,8 @@ ghost use Rattle.toml.specs.Data.{get_member};
 ghost use Rattle.toml.specs.View.{table_view, view};
 ghost use Rattle.dsn_mask.specs.Name.{is_name};
 ghost use Rattle.sms_deck.specs.Layout.{fault_told, fixed_keys, name_fault, names, row_fault};
-ghost use Rattle.sms_deck.specs.Tables.{construct_walk, constructs_row, data_class_rows, group_rows, high_of, key_of, low_row, management_class_rows, most_constructs, storage_class_rows};
+ghost use Rattle.sms_deck.specs.Tables.{construct_walk, constructs_row, data_class_rows, group_rows, high_of, key_of};
+ghost use Rattle.sms_deck.specs.Tables.{low_row, management_class_rows, most_constructs, storage_class_rows};
 
 use crate::limits::{MAX_BREAKPOINT, MAX_CLASSES, MAX_GROUPS};
 use crate::rows::{check_keys, check_row, count_keys, value_at};
@@ -88,7 +89,8 @@ pub fn high_of(keys: &Table) -> u32
 }
 
 fn check_low(keys: &Table, path: &Path) -> Result<(), Fault>
-    ensures { fault_told result ≡ row_fault path.now (table_view keys.now) low_row (get_member (codes "low") (table_view keys.now)) }
+    ensures { fault_told result ≡ row_fault path.now (table_view keys.now) low_row
+        (get_member (codes "low") (table_view keys.now)) }
 {
     check_row(keys, "low", ValueForm::Integer(0, high_of(keys)), path)
 }
@@ -166,7 +168,8 @@ fn check_each(version: Version, kind: Kind, constructs: &Table, path: &Path) -> 
 /// Checks the key of the constructs of a kind.
 pub fn check_constructs(top: &Table, version: Version, kind: Kind, path: &Path) -> Result<(), Fault>
     ensures { fault_told result
-        ≡ row_fault path.now (table_view top.now) (constructs_row version kind) (get_member (key_of kind) (table_view top.now)) }
+        ≡ row_fault path.now (table_view top.now) (constructs_row version kind)
+        (get_member (key_of kind) (table_view top.now)) }
 {
     let key = key_of(kind);
     match value_at(top, key) {

@@ -5,9 +5,11 @@ ghost use Rattle.toml.specs.Data.{as_bool};
 ghost use Rattle.toml.specs.View.{table_view};
 ghost use Rattle.dsn_mask.specs.Name.{name_of};
 ghost use Rattle.sms_deck.specs.Limits.{most_cylinders};
-ghost use Rattle.sms_deck.specs.Values.{cylinders_in, devices, eattrs, group_statuses, integer_in, name_in, space_in, volume_statuses, word_in, yes_or_no};
+ghost use Rattle.sms_deck.specs.Values.{cylinders_in, devices, eattrs, group_statuses, integer_in, name_in, space_in};
+ghost use Rattle.sms_deck.specs.Values.{volume_statuses, word_in, yes_or_no};
 ghost use Rattle.sms_deck.specs.Tables.{high_of};
-ghost use Rattle.sms_deck.specs.Constructs.{data_class_of, group_of, management_class_of, named, read_at, storage_class_of, tracks_of, volume_of};
+ghost use Rattle.sms_deck.specs.Constructs.{data_class_of, group_of, management_class_of, named, read_at};
+ghost use Rattle.sms_deck.specs.Constructs.{storage_class_of, tracks_of, volume_of};
 
 use crate::construct_tables::high_of;
 use crate::limits::{MAX_BREAKPOINT, MAX_TRACKS};

@@ -10,10 +10,14 @@ ghost use Rattle.sms_deck.specs.declared.version.Version.TheVariants.{One};
 
 /// A deck has a configuration or a first fault, never both, and at most one of each.
 pub fn one_reading()
-    ensures one_configuration { (bytes : List ℕ) (one other : Configuration) → Configures bytes one → Configures bytes other → one ≡ other }
-    ensures one_fault { (bytes : List ℕ) (one other : FaultOf) → HasFirstFault bytes one → HasFirstFault bytes other → one ≡ other }
-    ensures never_both { (bytes : List ℕ) (config : Configuration) (fault : FaultOf) → Configures bytes config → HasFirstFault bytes fault → ⊥ }
-    ensures either { (bytes : List ℕ) → ((config : Configuration) × Configures bytes config) ⊎ ((fault : FaultOf) × HasFirstFault bytes fault) }
+    ensures one_configuration { (bytes : List ℕ) (one other : Configuration) → Configures bytes one →
+        Configures bytes other → one ≡ other }
+    ensures one_fault { (bytes : List ℕ) (one other : FaultOf) → HasFirstFault bytes one → HasFirstFault bytes other →
+        one ≡ other }
+    ensures never_both { (bytes : List ℕ) (config : Configuration) (fault : FaultOf) → Configures bytes config →
+        HasFirstFault bytes fault → ⊥ }
+    ensures either { (bytes : List ℕ) → ((config : Configuration) × Configures bytes config) ⊎
+        ((fault : FaultOf) × HasFirstFault bytes fault) }
 {}
 
 /// What a deck configures is a configuration: no construct and no serial stands twice, all stand in byte order,

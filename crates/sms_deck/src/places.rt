@@ -7,7 +7,8 @@ ghost use Rattle.dsn_mask.specs.Name.{name_of, volser_of};
 ghost use Rattle.sms_deck.specs.Layout.{fault_told};
 ghost use Rattle.sms_construct.specs.Configuration.{most_volumes};
 ghost use Rattle.sms_deck.specs.Constructs.{all_volumes, group_volumes, named, volume_of};
-ghost use Rattle.sms_deck.specs.Places.{first_twice, put_volume, put_volumes, total_fault, volume_count, volume_total, volumes_in};
+ghost use Rattle.sms_deck.specs.Places.{first_twice, put_volume, put_volumes, total_fault, volume_count, volume_total};
+ghost use Rattle.sms_deck.specs.Places.{volumes_in};
 
 use crate::constructs::volume;
 use crate::limits::MAX_DECK_VOLUMES;
@@ -32,7 +33,9 @@ fn count_volumes(group: &Value) -> usize
 
 // The volumes of a storage group, if it has any.
 fn volumes_of(group: &Value) -> Option<&Table>
-    ensures { option_map (λ t. table_view t.now) result ≡ option_and_then (λ keys. option_and_then as_table (get_member (codes "volume") keys)) (as_table (view group.entry.now)) }
+    ensures { option_map (λ t. table_view t.now) result ≡
+        option_and_then (λ keys. option_and_then as_table (get_member (codes "volume") keys))
+        (as_table (view group.entry.now)) }
 {
     match group.as_table() {
         Some(keys) => find_table(keys, "volume"),
@@ -88,7 +91,8 @@ fn put_group(
     group: &Name,
     volumes: &Table,
 ) -> Result<(), AllocError>
-    ensures { OnOk result (places.new.entries ≡ put_volumes places.old.entries (named volser_of (volume_of group.now) (table_view volumes.now))) }
+    ensures { OnOk result (places.new.entries ≡ put_volumes places.old.entries
+        (named volser_of (volume_of group.now) (table_view volumes.now))) }
 {
     for (volser, value) in volumes {
         if let Some(volser) = Volser::new(volser.as_bytes()) {
@@ -106,7 +110,8 @@ fn put_named(
     name: &str,
     value: &Value,
 ) -> Result<(), AllocError>
-    ensures { OnOk result (places.new.entries ≡ put_volumes places.old.entries (group_volumes (name_of name.now) (as_table (view value.now)))) }
+    ensures { OnOk result (places.new.entries ≡ put_volumes places.old.entries
+        (group_volumes (name_of name.now) (as_table (view value.now)))) }
 {
     let Some(name) = Name::new(name.as_bytes()) else {
         return Ok(());

@@ -5,7 +5,8 @@ ghost use Rattle.toml.specs.View.{table_view};
 ghost use Rattle.desk_common.specs.Exact.{IsExact, MayRefuse};
 ghost use Rattle.sms_construct.specs.Configuration.{IsConfiguration};
 ghost use Rattle.sms_deck.specs.Places.{places_of};
-ghost use Rattle.sms_deck.specs.Reading.{Configures, IsRead, MeansTable, TellsFirstFault, TellsForm, TellsTable, configuration_of, form_fault};
+ghost use Rattle.sms_deck.specs.Reading.{Configures, IsRead, MeansTable, TellsFirstFault, TellsForm, TellsTable};
+ghost use Rattle.sms_deck.specs.Reading.{configuration_of, form_fault};
 
 use crate::compiled::Compiled;
 use crate::config::Config;

@@ -22,7 +22,8 @@ pub fn value_at<'a>(keys: &'a Table, key: &str) -> Option<&'a Value>
 
 /// The table at a key.
 pub fn find_table<'a>(keys: &'a Table, key: &str) -> Option<&'a Table>
-    ensures { option_map (λ t. table_view t.now) result ≡ option_and_then as_table (get_member key.now (table_view keys.entry.now)) }
+    ensures { option_map (λ t. table_view t.now) result ≡ option_and_then as_table
+        (get_member key.now (table_view keys.entry.now)) }
 {
     match value_at(keys, key) {
         Some(value) => value.as_table(),
@@ -101,7 +102,8 @@ fn judge(is_right: bool, key: &str, path: &Path) -> Result<(), Fault>
 
 /// Checks a key whose value has a form.
 pub fn check_row(keys: &Table, key: &str, form: ValueForm, path: &Path) -> Result<(), Fault>
-    ensures { fault_told result ≡ row_fault path.now (table_view keys.now) (plain key.now form) (get_member key.now (table_view keys.now)) }
+    ensures { fault_told result ≡ row_fault path.now (table_view keys.now) (plain key.now form)
+        (get_member key.now (table_view keys.now)) }
 {
     match value_at(keys, key) {
         Some(value) => judge(form.fits(value), key, path),
@@ -117,7 +119,9 @@ pub fn check_size(
     form: ValueForm,
     path: &Path,
 ) -> Result<(), Fault>
-    ensures { fault_told result ≡ row_fault path.now (table_view keys.now) (record (plain key.now form) { is_right = λ keys value. not is_second && has_form form value }) (get_member key.now (table_view keys.now)) }
+    ensures { fault_told result ≡ row_fault path.now (table_view keys.now)
+        (record (plain key.now form) { is_right = λ keys value. not is_second && has_form form value })
+        (get_member key.now (table_view keys.now)) }
 {
     match value_at(keys, key) {
         Some(value) => judge(!is_second && form.fits(value), key, path),

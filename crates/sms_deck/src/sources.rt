@@ -3,7 +3,8 @@ ghost use Rattle.std.specs.Prelude.{◌≡◌, IfErr, IfOk, codes, option_map};
 ghost use Rattle.toml.specs.Data.{no_members};
 ghost use Rattle.toml.specs.View.{table_view};
 ghost use Rattle.sms_deck.specs.Layout.{fault_told};
-ghost use Rattle.sms_deck.specs.Outcomes.{AreOutcomes, IsOutcomeOf, TellsSource, assigned_fault, outcome_from, outcomes_from, source_of, stage_of, text_fault_of, told_as};
+ghost use Rattle.sms_deck.specs.Outcomes.{AreOutcomes, IsOutcomeOf, TellsSource, assigned_fault, outcome_from};
+ghost use Rattle.sms_deck.specs.Outcomes.{outcomes_from, source_of, stage_of, text_fault_of, told_as};
 ghost use Rattle.sms_deck.specs.Reading.{TellsSources, assigned_faults};
 
 use crate::assigned::unknown_in_body;
@@ -36,7 +37,12 @@ impl Model for Sources {
 
     ghost coded = { Prim.hlevel (codes, form.the_row.coded) };
 
-    ghost view = { λ s. record { dataclas = s.dataclas; storclas = s.storclas; mgmtclas = s.mgmtclas; storgrp = s.storgrp } };
+    ghost view = { λ s. record {
+      dataclas = s.dataclas;
+      storclas = s.storclas;
+      mgmtclas = s.mgmtclas;
+      storgrp = s.storgrp;
+    } };
 }
 
 // The text of the routine of a kind.
@@ -84,7 +90,8 @@ fn told_as(kind: Kind, err: TranslateErr) -> DeckErr
 
 // The routine of a kind, if there is one.
 fn read_source(alloc: Global, top: &Table, kind: Kind) -> Result<Option<Checked>, DeckErr>
-    ensures ok { IfOk result (λ routine. IsOutcomeOf kind (source_of kind (table_view top.now)) (outcome_from routine)) }
+    ensures ok { IfOk result (λ routine. IsOutcomeOf kind (source_of kind (table_view top.now))
+        (outcome_from routine)) }
     ensures err { IfErr result (TellsSource kind (source_of kind (table_view top.now))) }
 {
     let Some(text) = find_source(top, kind) else {

@@ -26,7 +26,8 @@ const TOP_KEYS: [&str; 8] = [
 ];
 
 fn check_version(top: &Table, path: &Path) -> Result<(), Fault>
-    ensures { fault_told result ≡ row_fault path.now (table_view top.now) version_row (get_member (codes "version") (table_view top.now)) }
+    ensures { fault_told result ≡ row_fault path.now (table_view top.now) version_row
+        (get_member (codes "version") (table_view top.now)) }
 {
     if value_at(top, "version").is_none() {
         return Err(Fault::Missing(path.below(b"version")));
@@ -66,7 +67,8 @@ fn check_routine_table(keys: &Table, path: &Path) -> Result<(), Fault>
 }
 
 fn check_routines(top: &Table, path: &Path) -> Result<(), Fault>
-    ensures { fault_told result ≡ row_fault path.now (table_view top.now) (inner (codes "routine") routine_walk) (get_member (codes "routine") (table_view top.now)) }
+    ensures { fault_told result ≡ row_fault path.now (table_view top.now) (inner (codes "routine") routine_walk)
+        (get_member (codes "routine") (table_view top.now)) }
 {
     match value_at(top, "routine") {
         Some(value) => {

@@ -16,7 +16,8 @@ use toml::{Table, Value};
 
 // A volume has at least one size.
 fn check_device(keys: &Table, path: &Path) -> Result<(), Fault>
-    ensures { fault_told result ≡ row_fault path.now (table_view keys.now) device_row (get_member (codes "device") (table_view keys.now)) }
+    ensures { fault_told result ≡ row_fault path.now (table_view keys.now) device_row
+        (get_member (codes "device") (table_view keys.now)) }
 {
     if !has_key(keys, "device") && !has_either(keys, "cylinders", "tracks") {
         return Err(Fault::Missing(path.below(b"device")));
@@ -82,7 +83,9 @@ fn check_each(volumes: &Table, path: &Path) -> Result<(), Fault>
 
 /// Checks the key of a storage group's volumes.
 pub fn check_volumes(keys: &Table, path: &Path) -> Result<(), Fault>
-    ensures { fault_told result ≡ row_fault path.now (table_view keys.now) (inner (codes "volume") (names most_group_volumes is_volser volume_walk)) (get_member (codes "volume") (table_view keys.now)) }
+    ensures { fault_told result ≡ row_fault path.now (table_view keys.now)
+        (inner (codes "volume") (names most_group_volumes is_volser volume_walk))
+        (get_member (codes "volume") (table_view keys.now)) }
 {
     match value_at(keys, "volume") {
         Some(value) => {

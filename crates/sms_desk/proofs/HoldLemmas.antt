@@ -1,5 +1,6 @@
 -- What a seat holds, as the history goes on.
-use Rattle.std.proofs.Common.{◌≡◌, ◌⊎◌, inl, inr, ◌<◌, ◌≤◌, ℕ, ◌+◌, ◌==◌, Bool, true, false, List, [], ◌∷◌, ◌++◌, length, append-nil, eqb-true, eq-eqb, refl, sym, ap, subst, ◌∙◌, arith}
+use Rattle.std.proofs.Common.{◌≡◌, ◌⊎◌, inl, inr, ◌<◌, ◌≤◌, ℕ, ◌+◌, ◌==◌, Bool, true, false, List, [], ◌∷◌, ◌++◌}
+use Rattle.std.proofs.Common.{length, append-nil, eqb-true, eq-eqb, refl, sym, ap, subst, ◌∙◌, arith}
 use Rattle.std.proofs.lemmas.Bool.{cases_Bool}
 use Rattle.std.specs.List.{AllByRecursion}
 use Rattle.std.specs.Result.{is_err}
@@ -33,7 +34,8 @@ use Rattle.desk_signing.specs.declared.event.Event.{Event}
 use Rattle.desk_signing.specs.Signing.{entries_in, opening_in}
 use Rattle.desk_signing.proofs.SignLemmas.{entries-starts, opening-starts}
 use Rattle.sms_desk.specs.declared.held.Held.{Held}
-use Rattle.sms_desk.specs.Holding.{GoesOn, IsCurrent, IsHeldIn, IsHolding, IsOwn, held_count, held_under, holds, renewed}
+use Rattle.sms_desk.specs.Holding.{GoesOn, IsCurrent, IsHeldIn, IsHolding, IsOwn, held_count, held_under, holds}
+use Rattle.sms_desk.specs.Holding.{renewed}
 use Rattle.sms_desk.specs.Seats.{HoldsOf, IsWorkFor}
 
 -- Longer histories.

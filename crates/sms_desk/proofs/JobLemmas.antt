@@ -1,8 +1,11 @@
 -- Seats that go from a lock to workers, and back.
-use Rattle.std.proofs.Common.{◌≡◌, ◌⊎◌, inl, inr, ⊎_elim, ℕ, zero, suc, ◌+◌, ◌<◌, List, [], ◌∷◌, ◌++◌, length, map, All, Contains, slice_index_or, Some, None, Option, IfSome, length-append, refl, sym, ap, subst, ◌∙◌, arith}
+use Rattle.std.proofs.Common.{◌≡◌, ◌⊎◌, inl, inr, ⊎_elim, ℕ, zero, suc, ◌+◌, ◌<◌, List, [], ◌∷◌, ◌++◌, length, map, All}
+use Rattle.std.proofs.Common.{Contains, slice_index_or, Some, None, Option, IfSome, length-append, refl, sym, ap, subst}
+use Rattle.std.proofs.Common.{◌∙◌, arith}
 use mathlib.Core.Logic.{dite}
 use native.Mathlib.Decide.{ℕ_discrete}
-use Rattle.std.proofs.lemmas.List.Elements.{All-pop, All-push, All-weaker, Contains-push, Contains-push_cases, Contains-append_left}
+use Rattle.std.proofs.lemmas.List.Elements.{All-pop, All-push, All-weaker, Contains-push, Contains-push_cases}
+use Rattle.std.proofs.lemmas.List.Elements.{Contains-append_left}
 use Rattle.atomic_table.specs.Seated.{TableId}
 use Rattle.sms_construct.specs.declared.entry.Entry.{Entry}
 use Rattle.sms_keeper.specs.declared.keeper.Keeper.{Ghosts}
@@ -18,7 +21,8 @@ use Rattle.desk_signing.proofs.SignLemmas.{signed_entries}
 use Rattle.sms_desk.specs.declared.job_seat.JobSeat.{JobSeat}
 use Rattle.sms_desk.specs.declared.outfit.Outfit.{Outfit}
 use Rattle.sms_desk.specs.declared.signed_core.SignedCore.{SignedCore}
-use Rattle.sms_desk.specs.Seats.{AreNumberedDown, HasNoAnswers, IsJobOf, IsNewJob, IsOutfit, IsSeated, StandsJob, job_number, job_numbers, mine_of, number_at, seen_at}
+use Rattle.sms_desk.specs.Seats.{AreNumberedDown, HasNoAnswers, IsJobOf, IsNewJob, IsOutfit, IsSeated, StandsJob}
+use Rattle.sms_desk.specs.Seats.{job_number, job_numbers, mine_of, number_at, seen_at}
 use Rattle.sms_desk.proofs.HoldLemmas.{current-holding}
 
 map_push : {A B : Type 0} (f : A → B) (xs : List A) (x : A) → map f (xs ++ x ∷ []) ≡ map f xs ++ f x ∷ []

@@ -1,5 +1,6 @@
 -- What a seat knows after its turn.
-use Rattle.std.proofs.Common.{◌≡◌, inl, inr, ℕ, ◌<◌, ◌++◌, true, false, List, [], length, length-append, append-nil, append_assoc, refl, sym, ap, subst, ◌∙◌, arith}
+use Rattle.std.proofs.Common.{◌≡◌, inl, inr, ℕ, ◌<◌, ◌++◌, true, false, List, [], length, length-append, append-nil}
+use Rattle.std.proofs.Common.{append_assoc, refl, sym, ap, subst, ◌∙◌, arith}
 use Rattle.std.specs.Prelude.{Option, Some}
 use Rattle.atomic_table.specs.Seated.{TableId}
 use Rattle.sms_construct.specs.Configuration.{Configuration}
@@ -24,7 +25,8 @@ use Rattle.sms_desk.specs.declared.job_seat.JobSeat.{JobSeat}
 use Rattle.sms_desk.specs.declared.signed_core.SignedCore.{SignedCore}
 use Rattle.sms_desk.specs.Holding.{GoesOn, IsCurrent, IsHolding, IsOwn}
 use Rattle.sms_desk.specs.Signed.{Adds, list_of}
-use Rattle.sms_desk.specs.Seats.{HasLooked, HoldsNow, HoldsOf, IsJobOf, IsSeated, KeepsUp, Submitted, TookTurn, job_mine, job_number, job_seen, mine_of, number_at, seen_at}
+use Rattle.sms_desk.specs.Seats.{HasLooked, HoldsNow, HoldsOf, IsJobOf, IsSeated, KeepsUp, Submitted, TookTurn}
+use Rattle.sms_desk.specs.Seats.{job_mine, job_number, job_seen, mine_of, number_at, seen_at}
 use Rattle.sms_desk.proofs.AddLemmas.{adds-goes-on, adds-nothing}
 use Rattle.sms_desk.proofs.HoldLemmas.{current-holding}
 

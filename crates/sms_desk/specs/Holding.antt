@@ -1,6 +1,7 @@
 -- What a seat holds: a configuration, with the number of activations under which it was active (docs/workers.md, "What
 -- a seat holds").
-use Rattle.std.specs.Prelude.{ℕ, ◌≡◌, ◌==◌, Bool, true, false, List, ◌++◌, Option, None, Some, IfSome, MatchOption, if◌then◌else◌}
+use Rattle.std.specs.Prelude.{ℕ, ◌≡◌, ◌==◌, Bool, true, false, List, ◌++◌, Option, None, Some, IfSome, MatchOption}
+use Rattle.std.specs.Prelude.{if◌then◌else◌}
 use Rattle.sms_construct.specs.Configuration.{Configuration}
 use Rattle.sms_construct.specs.declared.entry.Answer.{Answer}
 use Rattle.sms_construct.specs.declared.entry.Entry.{Entry}
@@ -29,7 +30,8 @@ IsHolding o h held = IfSome held (λ held. WasActive o h held.count held.config)
 
 -- what the seat holds is active in the state, after as many activations as there were; it holds none where none is
 abbrev pub IsHeldIn : DeskState → Option Held → Type 0
-IsHeldIn s held = MatchOption held (s.active ≡ None) (λ held. (held.count ≡ s.activations) × (s.active ≡ Some held.config))
+IsHeldIn s held = MatchOption held (s.active ≡ None) (λ held. (held.count ≡ s.activations) ×
+    (s.active ≡ Some held.config))
 
 -- what the seat holds is active where the history ends
 abbrev pub IsCurrent : Opening → List Entry → Option Held → Type 0
@@ -37,7 +39,8 @@ IsCurrent o h held = (s : DeskState) → Reaches o h s → IsHeldIn s held
 
 -- what the deck configures; nothing only where it configures nothing
 abbrev pub IsOwnOf : List ℕ → Option Configuration → Type 0
-IsOwnOf deck own = MatchOption own ((config : Configuration) → Configures deck config → ⊥) (λ config. Configures deck config)
+IsOwnOf deck own = MatchOption own ((config : Configuration) → Configures deck config →
+    ⊥) (λ config. Configures deck config)
 
 -- the same of the deck of an ACTIVATE
 abbrev pub IsOwn : Request → Option Configuration → Type 0

@@ -1,5 +1,6 @@
 -- What a worker's seat has seen, made and held (docs/workers.md, "The desk").
-use Rattle.std.specs.Prelude.{◌≡◌, ◌⊎◌, ℕ, suc, ◌+◌, ◌<◌, true, false, List, [], ◌++◌, Option, Some, None, IfSome, IsSome, MatchOption, length, map, All, slice_index_or}
+use Rattle.std.specs.Prelude.{◌≡◌, ◌⊎◌, ℕ, suc, ◌+◌, ◌<◌, true, false, List, [], ◌++◌, Option, Some, None, IfSome}
+use Rattle.std.specs.Prelude.{IsSome, MatchOption, length, map, All, slice_index_or}
 use Rattle.atomic_table.specs.Seated.{TableId}
 use Rattle.acs_tree.specs.Slates.{SlateLines}
 use Rattle.sms_construct.specs.declared.alloc.Alloc.{Alloc}
@@ -110,7 +111,8 @@ module _ {P : Type 0} {keeper : Ghosts P} where
 
   -- the seats have the numbers below their count, from the greatest down
   abbrev pub AreNumberedDown : ℕ → List (JobSeat P keeper) → Type 0
-  AreNumberedDown count jobs = (i : ℕ) (j : JobSeat P keeper) → i < length jobs → job_number (slice_index_or jobs i j) + suc i ≡ count
+  AreNumberedDown count jobs =
+      (i : ℕ) (j : JobSeat P keeper) → i < length jobs → job_number (slice_index_or jobs i j) + suc i ≡ count
 
   -- the seat has no answers
   abbrev pub HasNoAnswers : JobSeat P keeper → Type 0
@@ -130,10 +132,13 @@ module _ {P : Type 0} {keeper : Ghosts P} where
   -- where it holds none
   abbrev pub IsClassifiedAt : JobSeat P keeper → Request → Option Classified → Type 0
   IsClassifiedAt j request result = MatchOption result (j.held ≡ None) (λ made. IsSome j.held
-      × ((alloc : Alloc) → request.op ≡ ops.Alloc alloc → WasClassified (opening_in (job_seen j)) (entries_in (job_seen j)) (held_count j.held) request.job alloc made j.slate))
+      × ((alloc : Alloc) → request.op ≡ ops.Alloc alloc →
+      WasClassified (opening_in (job_seen j)) (entries_in (job_seen j)) (held_count j.held) request.job alloc made
+      j.slate))
 
   -- the seat made this answer's entry, if it has one, and nothing else
-  pub record Submitted (lock : TableId) (old new : JobSeat P keeper) (request : Request) (answer : Answer) : Type 0 where
+  pub record Submitted (lock : TableId) (old new : JobSeat P keeper) (request : Request)
+      (answer : Answer) : Type 0 where
     pub job : IsJobOf lock new
     pub number : job_number new ≡ job_number old
     pub answers : new.answers ≡ old.answers
@@ -152,7 +157,9 @@ module _ {P : Type 0} {keeper : Ghosts P} where
     pub held : new.held ≡ old.held
 
   -- a turn with this list ended with this answer, and the seat came back
-  pub record TookTurn (lock : TableId) (number : ℕ) (list : List (Signed Event)) (seat : Seat (SignedCore P keeper) Event) (old new : Option Held) (request : Request) (answer : Answer) : Type 0 where
+  pub record TookTurn (lock : TableId) (number : ℕ) (list : List (Signed Event))
+      (seat : Seat (SignedCore P keeper) Event) (old new : Option Held) (request : Request)
+      (answer : Answer) : Type 0 where
     pub of : IsOf lock seat
     pub number_is : seat.number ≡ number
     pub adds : Adds list (seen seat) number request answer

@@ -18,4 +18,5 @@ IsAlloc request = (alloc : Alloc) × (request.op ≡ ops.Alloc alloc)
 
 -- the request is an ALLOC, and is classified so under the configuration
 abbrev pub IsShown : Configuration → Request → Classified → Type 0
-IsShown config request made = (alloc : Alloc) × (request.op ≡ ops.Alloc alloc) × HasClasses config request.job alloc made
+IsShown config request made =
+    (alloc : Alloc) × (request.op ≡ ops.Alloc alloc) × HasClasses config request.job alloc made

@@ -16,12 +16,14 @@ use Rattle.sms_desk.specs.declared.signed_core.SignedCore.{SignedCore}
 -- no place
 pub record Adds (old new : List (Signed Event)) (number : ℕ) (request : Request) (answer : Answer) : Type 0 where
   pub list_is : new ≡ old ++ by_seat number (entry_of request answer)
-  pub lawful : is_entered answer.reply ≡ true → IsNext (opening_in old) (entries_in old) (record { request = request; answer = answer })
+  pub lawful : is_entered answer.reply ≡ true →
+      IsNext (opening_in old) (entries_in old) (record { request = request; answer = answer })
   pub no_place : is_entered answer.reply ≡ false → (answer.place ≡ 0) × (answer.first ≡ 0)
   -- that the journal is full is told only where it has no place for the op, and there nothing else is told but want of
   -- memory
   pub full : answer.reply ≡ replies.JournalFull → is_full_for (entries_in old) request.op ≡ true
-  pub told : is_full_for (entries_in old) request.op ≡ true → (answer.reply ≡ replies.JournalFull) ⊎ (answer.reply ≡ replies.Memory)
+  pub told : is_full_for (entries_in old) request.op ≡ true →
+      (answer.reply ≡ replies.JournalFull) ⊎ (answer.reply ≡ replies.Memory)
 
 module _ {P : Type 0} {keeper : Ghosts P} where
   -- the signed list of a core in a lock

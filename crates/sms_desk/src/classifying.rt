@@ -64,7 +64,8 @@ fn classified_under<R: Wait, G: Gate>(
     round: u8,
 ) -> Work
     requires alloc { IsAlloc request.now }
-    ensures work { (o : Opening) (h : List Entered) → WasActive o h held.now.count held.now.config → IsWork o h request.now slate.new result }
+    ensures work { (o : Opening) (h : List Entered) → WasActive o h held.now.count held.now.config →
+        IsWork o h request.now slate.new result }
 {
     let config = held.config.get();
     let classified = classify(config, request, slate);

@@ -24,8 +24,10 @@ impl<P: Keeper> Desk<P> {
     /// number is that of a seat. It waits for nobody and takes no memory.
     pub fn close(self, seats: JobSeats<P>) -> (Core<P>, SeatNumbers)
         requires { AreAllJobs self.lock.table.shared.table_id self.lock.table.shared.key.seats seats.jobs.items }
-        ensures stands { All (StandsJob (signed_last result.0.opening result.0.mark result.0.journal result.1)) seats.jobs.items }
-        ensures by { All (IsBy (job_numbers seats.jobs.items)) (signed_last result.0.opening result.0.mark result.0.journal result.1) }
+        ensures stands { All (StandsJob (signed_last result.0.opening result.0.mark result.0.journal result.1))
+            seats.jobs.items }
+        ensures by { All (IsBy (job_numbers seats.jobs.items))
+            (signed_last result.0.opening result.0.mark result.0.journal result.1) }
         ensures few { length result.1 ≤ length result.0.journal }
     {
         let (jobs, mut room) = seats.take_apart();
@@ -54,7 +56,8 @@ fn unseat_all<P: Keeper>(mut jobs: Vec<JobSeat<P>>, room: &mut Seats<SignedCore<
     requires room { (room.old.items ≡ []) × (vec_len room.old ≡ 0) × (vec_len jobs ≤ vec_capacity room.old) }
     ensures count { length room.new.items ≡ length jobs.items }
     ensures lock { (lock : TableId) → All (IsJobOf lock) jobs.items → All (IsOf lock) room.new.items }
-    ensures stands { (list : List (SignedEntry Told)) → All (Stands list) room.new.items → All (StandsJob list) jobs.items }
+    ensures stands { (list : List (SignedEntry Told)) → All (Stands list) room.new.items →
+        All (StandsJob list) jobs.items }
     ensures numbers { (k : ℕ) → Contains (numbers room.new.items) k → Contains (job_numbers jobs.items) k }
 {
     while let Some(job) = jobs.pop() {

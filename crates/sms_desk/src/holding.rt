@@ -35,7 +35,8 @@ pub fn is_current<P: Keeper>(core: &Core<P>, held: &Option<Held>) -> bool {
 /// Lets the seat hold the active configuration, where it doesn't yet. Where memory is wanting it holds what it held.
 pub fn refresh<P: Keeper>(core: &Core<P>, held: &mut Option<Held>) -> Result<(), AllocError>
     ensures legal { IsLegal core.now.opening core.now.journal }
-    ensures current { OnOk result (IsHolding core.now.opening core.now.journal held.old → IsCurrent core.now.opening core.now.journal held.new) }
+    ensures current { OnOk result (IsHolding core.now.opening core.now.journal held.old →
+        IsCurrent core.now.opening core.now.journal held.new) }
     ensures same { OnErr result (held.new ≡ held.old) }
 {
     // A fact for the proof; nothing changes.
@@ -64,7 +65,8 @@ fn held_at(count: u64, config: &Shared<Config>) -> Result<Held, AllocError>
 /// Lets the seat hold its own deck's configuration, where a step has just made it the active one. It takes no memory.
 pub fn renew<P: Keeper>(core: &Core<P>, held: &mut Option<Held>, own: Option<Shared<Config>>)
     ensures legal { IsLegal core.now.opening core.now.journal }
-    ensures current { (old : List Entered) (request : Asked) (answer : Answered) → GoesOn core.now.opening old core.now.journal request answer → IsOwn request own
+    ensures current { (old : List Entered) (request : Asked) (answer : Answered) →
+        GoesOn core.now.opening old core.now.journal request answer → IsOwn request own
         → IsCurrent core.now.opening old held.old → IsCurrent core.now.opening core.now.journal held.new }
 {
     // A fact for the proof; nothing changes.

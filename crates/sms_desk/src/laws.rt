@@ -12,8 +12,11 @@ ghost use Rattle.sms_desk.specs.Holding.{IsCurrent, IsHolding, held_count};
 /// holds what is active holds it under as many activations as there were, under 0 where nothing is active; and what a
 /// seat holds is held under one activation at least.
 pub fn activations_are_held()
-    ensures current { (o : Opening) (history : List Entry) (s : DeskState) (held : Option HeldBy) → AllByRecursion (λ row. row.place ≤ o.base) o.rows.replies →
-        IsDecked o.rows.decks (start_of o) → Reaches o history s → IsCurrent o history held → held_count held ≡ s.activations }
-    ensures some { (o : Opening) (history : List Entry) (held : HeldBy) → AllByRecursion (λ row. row.place ≤ o.base) o.rows.replies →
+    ensures current { (o : Opening) (history : List Entry) (s : DeskState) (held : Option HeldBy) →
+        AllByRecursion (λ row. row.place ≤ o.base) o.rows.replies →
+        IsDecked o.rows.decks (start_of o) → Reaches o history s → IsCurrent o history held →
+        held_count held ≡ s.activations }
+    ensures some { (o : Opening) (history : List Entry) (held : HeldBy) →
+        AllByRecursion (λ row. row.place ≤ o.base) o.rows.replies →
         IsDecked o.rows.decks (start_of o) → IsHolding o history (Some held) → 0 < held.count }
 {}

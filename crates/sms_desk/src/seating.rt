@@ -25,10 +25,12 @@ pub fn seat_all<P: Keeper>(
 )
     requires room { (jobs.old.items ≡ []) × (vec_len jobs.old ≡ 0) × (vec_len seats.old ≤ vec_capacity jobs.old) }
     requires outfits { vec_len outfits ≡ vec_len seats.old }
-    ensures emptied { (seats.new.items ≡ []) × (vec_len seats.new ≡ 0) × (vec_capacity seats.new ≡ vec_capacity seats.old) }
+    ensures emptied { (seats.new.items ≡ []) × (vec_len seats.new ≡ 0) ×
+        (vec_capacity seats.new ≡ vec_capacity seats.old) }
     ensures count { length jobs.new.items ≡ length seats.old.items }
     ensures idle { All HasNoAnswers jobs.new.items }
-    ensures new { (lock : TableId) (list : List (SignedEntry Told)) → 0 < length list → IsLegalList list → All (IsNew lock list) seats.old.items
+    ensures new { (lock : TableId) (list : List (SignedEntry Told)) → 0 < length list → IsLegalList list →
+        All (IsNew lock list) seats.old.items
         → All (IsOutfit (opening_in list) (entries_in list)) outfits.items → All (IsNewJob lock list) jobs.new.items }
     ensures numbers { AreNumbered seats.old.items → AreNumberedDown (length seats.old.items) jobs.new.items }
 {

@@ -1,5 +1,6 @@
 -- What is found under a key.
-use Rattle.std.proofs.Common.{◌≡◌, ℕ, Bool, true, false, cond, ◌&&◌, List, Option, Some, Ordering, Less, Equal, Greater, refl, ap, sym, ◌∙◌, bytes_eq}
+use Rattle.std.proofs.Common.{◌≡◌, ℕ, Bool, true, false, cond, ◌&&◌, List, Option, Some, Ordering, Less, Equal, Greater}
+use Rattle.std.proofs.Common.{refl, ap, sym, ◌∙◌, bytes_eq}
 use Rattle.std.proofs.lemmas.Map.Text.{is_eq-slice_cmp}
 use Rattle.std.specs.BTreeMap.{is_at}
 use Rattle.std.specs.Cmp.{unsigned_ties}

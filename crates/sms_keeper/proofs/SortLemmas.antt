@@ -1,5 +1,7 @@
 -- A stable sort by key leaves what stands under each key.
-use Rattle.std.proofs.Common.{◌≡◌, ℕ, Bool, true, false, cond, not, ◌&&◌, ◌==◌, List, [], ◌∷◌, filter, Ordering, Less, Equal, Greater, is_lt, refl, sym, ap, ◌∙◌, bytes_eq, eqb-true, inl, inr, Ok, Err, Result, OnOk}
+use Rattle.std.proofs.Common.{◌≡◌, ℕ, Bool, true, false, cond, not, ◌&&◌, ◌==◌, List, [], ◌∷◌, filter, Ordering, Less}
+use Rattle.std.proofs.Common.{Equal, Greater, is_lt, refl, sym, ap, ◌∙◌, bytes_eq, eqb-true, inl, inr, Ok, Err, Result}
+use Rattle.std.proofs.Common.{OnOk}
 use Rattle.std.proofs.lemmas.Bool.{cases_Bool}
 use Rattle.std.proofs.lemmas.Cmp.{nat_cmp_total, nat_list_cmp_total, on_total, then_total}
 use Rattle.std.proofs.lemmas.Map.Text.{is_eq-slice_cmp}

@@ -1,5 +1,6 @@
 -- The log of the replies that are kept, and what it answers (docs/records.md, "Kept replies").
-use Rattle.std.specs.Prelude.{◌≡◌, ℕ, Bool, true, false, not, ◌&&◌, ◌==◌, nat_lt, max, List, bytes_eq, Option, Some, None, is_none, unwrap_or, if◌then◌else◌}
+use Rattle.std.specs.Prelude.{◌≡◌, ℕ, Bool, true, false, not, ◌&&◌, ◌==◌, nat_lt, max, List, bytes_eq, Option, Some}
+use Rattle.std.specs.Prelude.{None, is_none, unwrap_or, if◌then◌else◌}
 use Rattle.std.specs.Map.{lookup}
 use Rattle.sms_construct.specs.declared.request.Op.{Op}
 use Rattle.sms_construct.specs.declared.request.Request.{Request}
@@ -55,8 +56,10 @@ pub record IsOther (found : Option KeptReply) (op : Op) (first : ℕ) : Type 0 w
 abbrev pub IsKept : LogView → Request → Kept → Type 0
 IsKept log request (Below floor) = (is_below log request ≡ true) × (floor ≡ floor_in request.job log.floors)
 IsKept log request New = (is_below log request ≡ false) × (kept_in (key_of request) log.kept ≡ None)
-IsKept log request (Same first reply) = (is_below log request ≡ false) × IsSame (kept_in (key_of request) log.kept) request.op first reply.now
-IsKept log request (Other first) = (is_below log request ≡ false) × IsOther (kept_in (key_of request) log.kept) request.op first
+IsKept log request (Same first reply) =
+    (is_below log request ≡ false) × IsSame (kept_in (key_of request) log.kept) request.op first reply.now
+IsKept log request (Other first) =
+    (is_below log request ≡ false) × IsOther (kept_in (key_of request) log.kept) request.op first
 
 -- a reply may be kept for the request: its number isn't below the floor, and none is kept there
 abbrev pub is_open : LogView → Request → Bool
@@ -65,9 +68,11 @@ is_open log request = not (is_below log request) && is_none (kept_in (key_of req
 -- the reply is kept under the key of its request where one may be kept there
 abbrev pub kept_with : LogView → Request → ℕ → Reply → RequestKey → Option KeptReply
 kept_with log request place reply key =
-    if is_open log request && same_key (key_of request) key then Some (record { place = place; op = request.op; reply = reply })
+    if is_open log request && same_key (key_of request) key
+    then Some (record { place = place; op = request.op; reply = reply })
     else kept_in key log.kept
 
 -- the floor of the job is raised to this number; the others stay
 abbrev pub floor_with : List (List ℕ × ℕ) → List ℕ → ℕ → List ℕ → ℕ
-floor_with floors job floor other = if bytes_eq job other then max floor (floor_in job floors) else floor_in other floors
+floor_with floors job floor other =
+    if bytes_eq job other then max floor (floor_in job floors) else floor_in other floors

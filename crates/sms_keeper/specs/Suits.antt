@@ -32,7 +32,8 @@ abbrev pub SuitsOp : Op → Effect → Type 0
 SuitsOp op effects.Nothing = Unit {0}
 SuitsOp op (effects.PutSet set) = Unit {0}
 SuitsOp op (effects.DropSet dsn) = Unit {0}
-SuitsOp op (effects.Activated count statuses) = IsSome (deck_of op) × (list_all (λ row. has_status row.target) statuses ≡ true)
+SuitsOp op (effects.Activated count statuses) =
+    IsSome (deck_of op) × (list_all (λ row. has_status row.target) statuses ≡ true)
 SuitsOp op (effects.SetStatus target status) = has_status target ≡ true
 SuitsOp op (effects.Floor job floor) = Unit {0}
 

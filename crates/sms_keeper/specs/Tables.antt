@@ -1,5 +1,6 @@
 -- The tables of a desk, and a change of them (docs/records.md).
-use Rattle.std.specs.Prelude.{ℕ, Bool, false, ◌≡◌, ◌==◌, ◌&&◌, not, nat_lt, bytes_eq, fold, List, [], ◌∷◌, ◌++◌, filter, map, Option, Some, None, if◌then◌else◌}
+use Rattle.std.specs.Prelude.{ℕ, Bool, false, ◌≡◌, ◌==◌, ◌&&◌, not, nat_lt, bytes_eq, fold, List, [], ◌∷◌, ◌++◌, filter}
+use Rattle.std.specs.Prelude.{map, Option, Some, None, if◌then◌else◌}
 use Rattle.std.specs.List.{list_any}
 use Rattle.sms_construct.specs.declared.data_set.DataSet.{DataSet}
 use Rattle.sms_construct.specs.declared.request.Op.{Op}
@@ -51,7 +52,8 @@ is_floor_of job row = bytes_eq row.job job
 -- under each key the same rows: the tables have the same rows, in any order of the keys
 pub record AreSame (a b : Rows) : Type 0 where
   pub sets : (dsn : List ℕ) → filter (is_named dsn) a.sets ≡ filter (is_named dsn) b.sets
-  pub replies : (job : List ℕ) (number : ℕ) → filter (is_reply_of job number) a.replies ≡ filter (is_reply_of job number) b.replies
+  pub replies : (job : List ℕ) (number : ℕ) →
+      filter (is_reply_of job number) a.replies ≡ filter (is_reply_of job number) b.replies
   pub decks : (count : ℕ) → filter (is_deck count) a.decks ≡ filter (is_deck count) b.decks
   pub statuses : (target : Target) → filter (is_status_of target) a.statuses ≡ filter (is_status_of target) b.statuses
   pub floors : (job : List ℕ) → filter (is_floor_of job) a.floors ≡ filter (is_floor_of job) b.floors
@@ -75,7 +77,8 @@ sets_with (effects.Floor job floor) sets = sets
 
 -- the floor in place of the job's, or added
 abbrev pub put_floor : List ℕ → ℕ → List Floor → List Floor
-put_floor job floor floors = filter (λ row. not (is_floor_of job row)) floors ++ record { job = job; floor = floor } ∷ []
+put_floor job floor floors =
+    filter (λ row. not (is_floor_of job row)) floors ++ record { job = job; floor = floor } ∷ []
 
 -- the floors after an effect
 abbrev pub floors_with : Effect → List Floor → List Floor
@@ -105,7 +108,13 @@ is_below_floor job number row = bytes_eq row.job job && nat_lt number row.floor
 
 -- the row of a change's reply
 abbrev pub row_of : Change → KeptRow
-row_of change = record { job = change.request.job; number = change.request.number; place = change.place; request = change.request; reply = change.reply }
+row_of change = record {
+  job = change.request.job;
+  number = change.request.number;
+  place = change.place;
+  request = change.request;
+  reply = change.reply;
+}
 
 -- the row is added, unless its number is below its job's floor
 abbrev pub keep_row : List Floor → KeptRow → List KeptRow → List KeptRow
@@ -113,7 +122,8 @@ keep_row floors row rows = if list_any (is_below_floor row.job row.number) floor
 
 -- the row with the status, where it is the target's
 abbrev pub row_with : Target → Status → StatusRow → StatusRow
-row_with target status row = record { target = row.target; status = if is_status_of target row then status else row.status }
+row_with target status row =
+    record { target = row.target; status = if is_status_of target row then status else row.status }
 
 -- the statuses after an effect
 abbrev pub statuses_with : Effect → List StatusRow → List StatusRow

@@ -1,5 +1,6 @@
 //! A keeper that fails where it is told to.
-ghost use Rattle.std.specs.Prelude.{◌≡◌, ◌≤◌, ◌↔◌, ◌++◌, ◌∷◌, [], Some, IfErr, IfOk, OnOk, OnErr, IsErr, IsErrOf, Contains};
+ghost use Rattle.std.specs.Prelude.{◌≡◌, ◌≤◌, ◌↔◌, ◌++◌, ◌∷◌, [], Some, IfErr, IfOk, OnOk, OnErr, IsErr, IsErrOf};
+ghost use Rattle.std.specs.Prelude.{Contains};
 ghost use Rattle.sms_keeper.specs.Loading.{AreLoaded};
 ghost use Rattle.desk_common.specs.Causes.{Rose, counted};
 ghost use Rattle.sms_keeper.specs.Tables.{rows_after};
@@ -77,7 +78,8 @@ impl Keeper for FaultKeeper {
     ghost count = { λ k. k.faults };
 
     fn commit(&mut self, change: &Change) -> Result<(), KeeperErr>
-        ensures applied { OnOk result (Applies change.now (Some (rows_after self.old.changes)) (Some (rows_after self.new.changes))) }
+        ensures applied { OnOk result (Applies change.now (Some (rows_after self.old.changes))
+            (Some (rows_after self.new.changes))) }
         ensures kept { OnErr result (Stays (Some (rows_after self.old.changes)) (Some (rows_after self.new.changes))) }
         ensures cause { IsErrOf result KeeperErr.Failed → Rose self.old.faults self.new.faults }
         ensures stands { (IsErrOf result KeeperErr.Failed → ⊥) → self.new.faults ≡ self.old.faults }

@@ -1,7 +1,8 @@
 //! The tables that a list of changes comes to.
 ghost use Rattle.std.specs.Prelude.{◌≡◌, ◌++◌, OnOk};
 ghost use Rattle.sms_keeper.specs.Loading.{AreOrdered};
-ghost use Rattle.sms_keeper.specs.Tables.{AreSame, no_rows, with_change, sets_with, statuses_with, decks_added, floors_with, keep_row, replies_left, row_of};
+ghost use Rattle.sms_keeper.specs.Tables.{AreSame, no_rows, with_change, sets_with, statuses_with, decks_added};
+ghost use Rattle.sms_keeper.specs.Tables.{floors_with, keep_row, replies_left, row_of};
 
 use crate::change::Change;
 use crate::deck_row::DeckRow;
@@ -35,7 +36,13 @@ impl Model for Replay {
 
     ghost Value = { Rows };
 
-    ghost view = { λ r. record { sets = r.sets.items; replies = r.replies.items; decks = r.decks.items; statuses = r.statuses.items; floors = r.floors.items } };
+    ghost view = { λ r. record {
+      sets = r.sets.items;
+      replies = r.replies.items;
+      decks = r.decks.items;
+      statuses = r.statuses.items;
+      floors = r.floors.items;
+    } };
 }
 
 impl Replay {
@@ -91,7 +98,8 @@ impl Replay {
 
     fn keep(&mut self, change: &Change) -> Result<(), AllocError>
         ensures sets { OnOk result (self.new.sets ≡ self.old.sets) }
-        ensures replies { OnOk result (self.new.replies ≡ keep_row self.old.floors (row_of change.now) self.old.replies) }
+        ensures replies { OnOk result (self.new.replies ≡ keep_row self.old.floors
+            (row_of change.now) self.old.replies) }
         ensures decks { OnOk result (self.new.decks ≡ self.old.decks) }
         ensures statuses { OnOk result (self.new.statuses ≡ self.old.statuses) }
         ensures floors { OnOk result (self.new.floors ≡ self.old.floors) }

@@ -2,7 +2,8 @@
 ghost use Rattle.std.specs.Prelude.{◌≡◌, ◌++◌, OnOk, filter, not, map};
 ghost use Rattle.std.specs.List.{list_any};
 ghost use Rattle.sms_keeper.specs.Suits.{deck_of};
-ghost use Rattle.sms_keeper.specs.Tables.{without_set, is_reply_below, put_set, put_floor, is_below_floor, row_with, same_target, deck_rows, is_floor_of};
+ghost use Rattle.sms_keeper.specs.Tables.{without_set, is_reply_below, put_set, put_floor, is_below_floor, row_with};
+ghost use Rattle.sms_keeper.specs.Tables.{same_target, deck_rows, is_floor_of};
 
 use crate::deck_row::DeckRow;
 use crate::floor::Floor;

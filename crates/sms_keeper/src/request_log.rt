@@ -24,7 +24,12 @@ impl Model for RequestLog {
 
     ghost Value = { LogView };
 
-    ghost view = { λ l. record { kept = l.kept.rows; floors = l.floors.rows; reply_room = l.kept.room; floor_room = l.floors.room } };
+    ghost view = { λ l. record {
+      kept = l.kept.rows;
+      floors = l.floors.rows;
+      reply_room = l.kept.room;
+      floor_room = l.floors.room;
+    } };
 }
 
 impl RequestLog {
@@ -122,7 +127,8 @@ impl RequestLog {
 
     fn put(&mut self, key: RequestKey, kept: KeptReply)
         requires { 0 < self.old.reply_room }
-        ensures kept { (other : RequestKey) → kept_in other self.new.kept ≡ (if same_key key other then Some kept else kept_in other self.old.kept) }
+        ensures kept { (other : RequestKey) →
+            kept_in other self.new.kept ≡ (if same_key key other then Some kept else kept_in other self.old.kept) }
         ensures floors { self.new.floors ≡ self.old.floors }
         ensures room { self.new.floor_room ≡ self.old.floor_room }
     {
@@ -132,7 +138,8 @@ impl RequestLog {
     /// Raises the floor of a job to this number; a floor never falls. It takes no memory.
     pub fn purge(&mut self, job: &Name, floor: u32)
         requires { 0 < self.old.floor_room }
-        ensures floors { (other : List ℕ) → floor_in other self.new.floors ≡ floor_with self.old.floors job.now floor other }
+        ensures floors { (other : List ℕ) →
+            floor_in other self.new.floors ≡ floor_with self.old.floors job.now floor other }
         ensures kept { self.new.kept ≡ self.old.kept }
         ensures room { self.new.reply_room ≡ self.old.reply_room }
     {

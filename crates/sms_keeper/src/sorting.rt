@@ -1,7 +1,8 @@
 //! Tables in the order of their keys.
 ghost use Rattle.std.specs.Prelude.{◌≡◌, ℕ, List, IsSorted, OnOk, filter};
 ghost use Rattle.sms_construct.specs.declared.target.Target.{Target as TargetModel};
-ghost use Rattle.sms_keeper.specs.Loading.{by_count, by_job, by_name, by_request, by_target, target_cmp, target_name, target_rank};
+ghost use Rattle.sms_keeper.specs.Loading.{by_count, by_job, by_name, by_request, by_target, target_cmp, target_name};
+ghost use Rattle.sms_keeper.specs.Loading.{target_rank};
 ghost use Rattle.sms_keeper.specs.Tables.{is_deck, is_floor_of, is_named, is_reply_of, is_status_of};
 
 use crate::deck_row::DeckRow;
@@ -29,7 +30,8 @@ fn compare_sets(one: &Shared<DataSet>, other: &Shared<DataSet>) -> Ordering
 
 /// Sorts kept replies by job, and then by number.
 pub fn sort_replies(replies: &mut Vec<KeptRow>) -> Result<(), AllocError>
-    ensures same { (job : List ℕ) (number : ℕ) → filter (is_reply_of job number) replies.new.items ≡ filter (is_reply_of job number) replies.old.items }
+    ensures same { (job : List ℕ) (number : ℕ) →
+        filter (is_reply_of job number) replies.new.items ≡ filter (is_reply_of job number) replies.old.items }
     ensures ordered { OnOk result (IsSorted by_request replies.new.items) }
 {
     replies.sort_by(|one, other| compare_replies(one, other))
@@ -83,7 +85,8 @@ fn compare_targets(one: &Target, other: &Target) -> Ordering
 
 /// Sorts statuses by target: storage groups before volumes, each by name.
 pub fn sort_statuses(statuses: &mut Vec<StatusRow>) -> Result<(), AllocError>
-    ensures same { (target : TargetModel) → filter (is_status_of target) statuses.new.items ≡ filter (is_status_of target) statuses.old.items }
+    ensures same { (target : TargetModel) →
+        filter (is_status_of target) statuses.new.items ≡ filter (is_status_of target) statuses.old.items }
     ensures ordered { OnOk result (IsSorted by_target statuses.new.items) }
 {
     statuses.sort_by(|one, other| compare_targets(&one.target, &other.target))
@@ -91,7 +94,8 @@ pub fn sort_statuses(statuses: &mut Vec<StatusRow>) -> Result<(), AllocError>
 
 /// Sorts floors by job.
 pub fn sort_floors(floors: &mut Vec<Floor>) -> Result<(), AllocError>
-    ensures same { (job : List ℕ) → filter (is_floor_of job) floors.new.items ≡ filter (is_floor_of job) floors.old.items }
+    ensures same { (job : List ℕ) →
+        filter (is_floor_of job) floors.new.items ≡ filter (is_floor_of job) floors.old.items }
     ensures ordered { OnOk result (IsSorted by_job floors.new.items) }
 {
     floors.sort_by(|one, other| one.job.cmp(&other.job))

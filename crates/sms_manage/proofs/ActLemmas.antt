@@ -1,5 +1,6 @@
 -- One request of space management.
-use Rattle.std.proofs.Common.{inl, inr, ◌≡◌, ◌⊎◌, ◌≤◌, ℕ, ◌+◌, ◌==◌, ◌&&◌, not, Bool, true, false, List, [], ◌∷◌, ◌++◌, Option, None, Some, refl, sym, ap, subst, ◌∙◌, arith, append-nil}
+use Rattle.std.proofs.Common.{inl, inr, ◌≡◌, ◌⊎◌, ◌≤◌, ℕ, ◌+◌, ◌==◌, ◌&&◌, not, Bool, true, false, List, [], ◌∷◌, ◌++◌}
+use Rattle.std.proofs.Common.{Option, None, Some, refl, sym, ap, subst, ◌∙◌, arith, append-nil}
 use Rattle.std.specs.Prelude.{bytes_eq, find, nat_lt}
 use Rattle.std.proofs.lemmas.Bool.{cases_Bool}
 use Rattle.std.proofs.lemmas.Bool.Decides.{nat_tests}
@@ -15,7 +16,8 @@ use Rattle.sms_keeper.specs.declared.kept_row.KeptRow.{KeptRow}
 use Rattle.sms_keeper.specs.declared.rows.Rows.{Rows}
 use Rattle.sms_keeper.specs.Tables.{is_reply_of}
 use Rattle.desk_law.specs.State.{DeskState, Opening, set_named, start_of, with_set, without_name}
-use Rattle.desk_law.specs.Kept.{all_floors, all_rows, floor_of, floor_told, greatest_floor, is_entered, is_fault, kept_for, row_of_entry, rows_of_entry}
+use Rattle.desk_law.specs.Kept.{all_floors, all_rows, floor_of, floor_told, greatest_floor, is_entered, is_fault}
+use Rattle.desk_law.specs.Kept.{kept_for, row_of_entry, rows_of_entry}
 use Rattle.desk_law.specs.Step.{IsFresh, IsStep}
 use Rattle.desk_law.specs.History.{Reaches}
 use Rattle.desk_law.specs.Extents.{tracks_of_set}

@@ -1,5 +1,7 @@
 -- The day up to a name.
-use Rattle.std.proofs.Common.{inl, inr, ◌≡◌, ◌⊎◌, ℕ, ◌+◌, ◌&&◌, ◌||◌, not, Bool, true, false, List, [], ◌∷◌, ◌++◌, length, map, Option, None, Some, refl, sym, ap, subst, ◌∙◌, arith, append-nil, append_assoc, length-append}
+use Rattle.std.proofs.Common.{inl, inr, ◌≡◌, ◌⊎◌, ℕ, ◌+◌, ◌&&◌, ◌||◌, not, Bool, true, false, List, [], ◌∷◌, ◌++◌}
+use Rattle.std.proofs.Common.{length, map, Option, None, Some, refl, sym, ap, subst, ◌∙◌, arith, append-nil}
+use Rattle.std.proofs.Common.{append_assoc, length-append}
 use Rattle.std.specs.Prelude.{bytes_eq}
 use Rattle.std.specs.List.{list_all, list_any}
 use Rattle.std.proofs.lemmas.Bool.{cases_Bool}
@@ -15,10 +17,13 @@ use Rattle.sms_manage.specs.declared.act.Act.{Act}
 use Rattle.sms_manage.specs.declared.wanted.Due.{Due}
 use Rattle.sms_manage.specs.declared.wanted.Due.TheVariants.{Nothing, Delete, Release}
 use Rattle.sms_manage.specs.Due.{due_of, is_due, is_due_if}
-use Rattle.sms_manage.specs.Managed.{AreAnswersBehind, IsAnswerBehind, IsManaged, IsUnused, are_counted, entries_of, entry_for, op_for, op_if, is_hindered}
+use Rattle.sms_manage.specs.Managed.{AreAnswersBehind, IsAnswerBehind, IsManaged, IsUnused, are_counted, entries_of}
+use Rattle.sms_manage.specs.Managed.{entry_for, op_for, op_if, is_hindered}
 use Rattle.sms_manage.specs.Inner.Walk.{Asks, IsDueNext, IsNextDue}
 use Rattle.sms_manage.proofs.ActLemmas.{HasActed, IsUnusedFrom, step-acted, unused-all}
-use Rattle.sms_manage.proofs.DayLemmas.{AllBefore, R, all-push, any-push, ascending-push, before-apart, before-behind, before-push, behind-apart, counted-push, entries-push, further, names-push, other-stays, same-name, settled-act, which-at}
+use Rattle.sms_manage.proofs.DayLemmas.{AllBefore, R, all-push, any-push, ascending-push, before-apart, before-behind}
+use Rattle.sms_manage.proofs.DayLemmas.{before-push, behind-apart, counted-push, entries-push, further, names-push}
+use Rattle.sms_manage.proofs.DayLemmas.{other-stays, same-name, settled-act, which-at}
 
 -- the data sets up to a name were gone through, from the state before
 pub record IsDaySoFar (o : Opening) (day : ℕ) (config : Configuration) (before : DeskState) (old h : List Entry) (last : Option (List ℕ)) (acts : List Act) : Type 0 where

@@ -1,5 +1,6 @@
 -- A day of space management: which requests are made, and what they come to.
-use Rattle.std.specs.Prelude.{ℕ, ◌≡◌, ◌↔◌, ◌+◌, ◌==◌, ◌&&◌, ◌⊎◌, Bool, true, false, not, List, [], ◌∷◌, ◌++◌, map, codes, bytes_eq, Option, None, Some, IfSome}
+use Rattle.std.specs.Prelude.{ℕ, ◌≡◌, ◌↔◌, ◌+◌, ◌==◌, ◌&&◌, ◌⊎◌, Bool, true, false, not, List, [], ◌∷◌, ◌++◌, map}
+use Rattle.std.specs.Prelude.{codes, bytes_eq, Option, None, Some, IfSome}
 use Rattle.std.specs.List.{list_all, list_any}
 use Rattle.sms_construct.specs.Configuration.{Configuration, are_ascending}
 use Rattle.sms_construct.specs.declared.data_set.DataSet.{DataSet}
@@ -47,7 +48,8 @@ entry_for (Some op) act = entry_of (record { job = manager; number = act.number;
 -- the entries of the acts
 abbrev pub entries_of : Configuration → ℕ → List DataSet → List Act → List Entry
 entries_of config day sets [] = []
-entries_of config day sets (act ∷ acts) = entry_for (op_if config day (set_named act.dsn sets)) act ++ entries_of config day sets acts
+entries_of config day sets (act ∷ acts) =
+    entry_for (op_if config day (set_named act.dsn sets)) act ++ entries_of config day sets acts
 
 -- the acts have the numbers from this one on
 abbrev pub are_counted : ℕ → List Act → Bool
@@ -81,16 +83,19 @@ AreAnswersBehind config day sets h (act ∷ acts) =
     × AreAnswersBehind config day sets (h ++ entry_for (op_if config day (set_named act.dsn sets)) act) acts
 
 -- from the state before, in which this configuration was active, the acts lead to the state after
-pub record IsManaged (o : Opening) (day : ℕ) (config : Configuration) (before after : DeskState) (old new : List Entry) (acts : List Act) : Type 0 where
+pub record IsManaged (o : Opening) (day : ℕ) (config : Configuration) (before after : DeskState) (old new : List Entry)
+    (acts : List Act) : Type 0 where
   pub active : before.active ≡ Some config
   pub acts_are : AreActs config day before.sets acts
   pub journal : new ≡ old ++ entries_of config day before.sets acts
   pub answers : AreAnswersBehind config day before.sets old acts
   pub legal : Reaches o new after
   -- other data sets are as before
-  pub others : (dsn : List ℕ) → is_due_if config day (set_named dsn before.sets) ≡ false → set_named dsn after.sets ≡ set_named dsn before.sets
+  pub others : (dsn : List ℕ) → is_due_if config day (set_named dsn before.sets) ≡ false →
+      set_named dsn after.sets ≡ set_named dsn before.sets
   -- where nothing hindered them nothing is due any more
-  pub settled : list_all (λ act. not (is_hindered act.answer.reply)) acts ≡ true → (dsn : List ℕ) → is_due_if config day (set_named dsn after.sets) ≡ false
+  pub settled : list_all (λ act. not (is_hindered act.answer.reply)) acts ≡ true → (dsn : List ℕ) →
+      is_due_if config day (set_named dsn after.sets) ≡ false
 
 -- behind these entries stand only some that the job asked for
 pub record IsAsking (old new : List Entry) : Type 0 where
@@ -108,4 +113,5 @@ pub record IsIdle (before : DeskState) (old new : List Entry) (acts : List Act) 
 abbrev pub WasManaged : Opening → ℕ → List Entry → List Entry → List Act → Type 0
 WasManaged o day old new acts =
     (before : DeskState) → Reaches o old before
-    → ((config : Configuration) × (after : DeskState) × IsManaged o day config before after old new acts) ⊎ IsIdle before old new acts
+    → ((config : Configuration) × (after : DeskState) × IsManaged o day config before after old new acts) ⊎
+    IsIdle before old new acts

@@ -53,8 +53,10 @@ fn act_all<P: Keeper>(
     day: u32,
 ) -> Result<Acts, AllocError>
     requires { IsUnused core.old.opening core.old.journal }
-    ensures managed { IfOk result (λ acts. (before : DeskState) → Reaches core.old.opening core.old.journal before → before.active ≡ Some config.now →
-        (after : DeskState) × IsManaged core.old.opening day config.now before after core.old.journal core.new.journal acts) }
+    ensures managed { IfOk result (λ acts. (before : DeskState) → Reaches core.old.opening core.old.journal before →
+        before.active ≡ Some config.now →
+        (after : DeskState) × IsManaged core.old.opening day config.now before after core.old.journal core.new.journal
+        acts) }
     ensures asking { IsAsking core.old.journal core.new.journal }
     ensures opening { core.new.opening ≡ core.old.opening }
     ensures mark { core.new.mark ≡ core.old.mark }
@@ -75,7 +77,8 @@ fn act_all<P: Keeper>(
 
 // The active configuration, if there is one.
 fn active<P: Keeper>(core: &Core<P>) -> Result<Option<Shared<Config>>, AllocError>
-    ensures { IfOk result (λ config. (s : DeskState) → Reaches core.now.opening core.now.journal s → s.active ≡ config) }
+    ensures { IfOk result (λ config. (s : DeskState) → Reaches core.now.opening core.now.journal s →
+        s.active ≡ config) }
 {
     match core.active() {
         Some((_, config)) => Ok(Some(config.share()?)),
@@ -90,7 +93,8 @@ fn next_set<P: Keeper>(
     day: u32,
     last: &Option<Dsn>,
 ) -> Option<(Dsn, Due)>
-    ensures { (s : DeskState) → Reaches core.now.opening core.now.journal s → IsNextDue config.now day s.sets last.now result }
+    ensures { (s : DeskState) → Reaches core.now.opening core.now.journal s →
+        IsNextDue config.now day s.sets last.now result }
 {
     let set = core.set_after(last.as_ref())?;
     Some((set.dsn, due(set, config, day)))
@@ -115,7 +119,8 @@ fn act_on<P: Keeper>(
     op: Op,
     acts: &mut Vec<Act>,
 ) -> Result<(), AllocError>
-    ensures asked { OnOk result (Asks core.old.opening core.old.journal core.new.journal dsn op acts.old.items acts.new.items) }
+    ensures asked { OnOk result (Asks core.old.opening core.old.journal core.new.journal dsn op acts.old.items
+        acts.new.items) }
     ensures unasked { OnErr result (core.new.journal ≡ core.old.journal) }
     ensures opening { core.new.opening ≡ core.old.opening }
     ensures mark { core.new.mark ≡ core.old.mark }

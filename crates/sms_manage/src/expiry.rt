@@ -34,7 +34,8 @@ fn class_of<'a>(config: &'a Config, set: &DataSet) -> Option<&'a MgmtClass>
 
 // For how many days a data set of this class is kept, if it expires.
 fn lifetime_of(set: &DataSet, class: Option<&MgmtClass>) -> Option<u32>
-    ensures { result ≡ option_or set.now.retpd (option_and_then (λ class. class.expire_after) (option_copied class.entry)) }
+    ensures { result ≡ option_or set.now.retpd (option_and_then (λ class. class.expire_after)
+        (option_copied class.entry)) }
 {
     match set.retpd {
         Some(days) => Some(days),

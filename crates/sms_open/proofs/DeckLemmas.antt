@@ -1,5 +1,6 @@
 -- Decks that are counted in order.
-use Rattle.std.proofs.Common.{◌≡◌, ◌<◌, ◌+◌, ◌-◌, ℕ, zero, suc, List, [], ◌∷◌, Some, length, get_or, slice_get, take, refl, sym, ap, subst, arith}
+use Rattle.std.proofs.Common.{◌≡◌, ◌<◌, ◌+◌, ◌-◌, ℕ, zero, suc, List, [], ◌∷◌, Some, length, get_or, slice_get, take}
+use Rattle.std.proofs.Common.{refl, sym, ap, subst, arith}
 use Rattle.sms_construct.specs.Configuration.{Configuration}
 use Rattle.sms_construct.specs.declared.fault.Fault.{Fault}
 use Rattle.sms_deck.specs.Reading.{Configures, HasFirstFault}

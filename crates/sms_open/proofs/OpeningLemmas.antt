@@ -1,5 +1,6 @@
 -- Rows that pass all tests are an opening from which a desk may go on.
-use Rattle.std.proofs.Common.{◌≡◌, ◌≤◌, ◌<◌, ◌^◌, ℕ, zero, suc, Bool, true, false, cond, List, [], ◌∷◌, Option, Result, Ok, Err, length, max, filter, find, refl, sym, ap, ◌∙◌, subst, arith, inl, inr}
+use Rattle.std.proofs.Common.{◌≡◌, ◌≤◌, ◌<◌, ◌^◌, ℕ, zero, suc, Bool, true, false, cond, List, [], ◌∷◌, Option, Result}
+use Rattle.std.proofs.Common.{Ok, Err, length, max, filter, find, refl, sym, ap, ◌∙◌, subst, arith, inl, inr}
 use Rattle.std.specs.Prelude.{◌==◌, IfOk, IfSome, nat_lt}
 use Rattle.std.specs.List.{AllByRecursion}
 use Rattle.std.proofs.lemmas.Bool.Decides.{nat_tests}
@@ -25,7 +26,8 @@ use Rattle.desk_records.proofs.KeyLemmas.{reply-key}
 use Rattle.sms_open.specs.declared.rows_err.RowsErr.{RowsErr}
 use Rattle.sms_open.specs.declared.rows_err.RowsErr.TheVariants.{Unsound}
 use Rattle.desk_restoring.specs.Opened.{greatest_place, opening_of}
-use Rattle.sms_open.specs.Tests.{AreCounted, ArePlaced, AreSingle, AreSoundReplies, AreStatusesOf, IsSoundReply, most_place, times_floor, times_kept}
+use Rattle.sms_open.specs.Tests.{AreCounted, ArePlaced, AreSingle, AreSoundReplies, AreStatusesOf, IsSoundReply}
+use Rattle.sms_open.specs.Tests.{most_place, times_floor, times_kept}
 use Rattle.sms_open.specs.Verdicts.{IsVerdict, Tested}
 use Rattle.sms_open.proofs.VerdictLemmas.{IsAnswer, from_counts, from_deck, from_end, from_replies, from_sets}
 

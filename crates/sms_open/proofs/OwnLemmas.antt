@@ -1,5 +1,6 @@
 -- The tables that a desk leaves, in the order of their keys, pass all tests.
-use Rattle.std.proofs.Common.{◌≡◌, ◌≤◌, ◌<◌, ◌+◌, ℕ, zero, suc, cond, List, [], ◌∷◌, ◌++◌, Option, None, Some, Ok, Err, length, refl, sym, ap, ◌∙◌, subst, arith}
+use Rattle.std.proofs.Common.{◌≡◌, ◌≤◌, ◌<◌, ◌+◌, ℕ, zero, suc, cond, List, [], ◌∷◌, ◌++◌, Option, None, Some, Ok, Err}
+use Rattle.std.proofs.Common.{length, refl, sym, ap, ◌∙◌, subst, arith}
 use Rattle.std.specs.Prelude.{IfErr, IfSome, IsSorted, Result}
 use Rattle.std.specs.List.{AllByRecursion}
 use Rattle.sms_construct.specs.Configuration.{Configuration}
@@ -40,7 +41,8 @@ use Rattle.sms_open.specs.declared.rows_err.RowsErr.{RowsErr}
 use Rattle.sms_open.specs.declared.rows_err.RowsErr.TheVariants.{Unsound}
 use Rattle.sms_open.specs.Own.{AreOwn, HasSoundRows, SparesTables}
 use Rattle.sms_open.specs.Reopening.{IsOpened, NamesRefusal, refusal_of_load}
-use Rattle.sms_open.specs.Tests.{AreCounted, ArePlaced, AreSingle, AreSoundReplies, AreStatusesOf, HasLastFault, IsSoundReply, most_place}
+use Rattle.sms_open.specs.Tests.{AreCounted, ArePlaced, AreSingle, AreSoundReplies, AreStatusesOf, HasLastFault}
+use Rattle.sms_open.specs.Tests.{IsSoundReply, most_place}
 use Rattle.sms_open.specs.Verdicts.{IsVerdict}
 use Rattle.sms_open.proofs.EachLemmas.{each-alike}
 use Rattle.sms_open.proofs.OpeningLemmas.{Passed, decked-at, lawful, passed-all, passes-all}

@@ -1,6 +1,7 @@
 -- The replies and floors that a history keeps: each reply stands above its job's floor, and tells no floor that is too
 -- great.
-use Rattle.std.proofs.Common.{◌≡◌, ◌≤◌, ℕ, Bool, true, false, List, [], ◌∷◌, ◌++◌, Option, None, Some, filter, find, length, max, refl, sym, ap, subst, arith}
+use Rattle.std.proofs.Common.{◌≡◌, ◌≤◌, ℕ, Bool, true, false, List, [], ◌∷◌, ◌++◌, Option, None, Some, filter, find}
+use Rattle.std.proofs.Common.{length, max, refl, sym, ap, subst, arith}
 use Rattle.std.specs.Prelude.{◌==◌, if◌then◌else◌, nat_lt}
 use Rattle.std.specs.List.{AllByRecursion}
 use Rattle.std.proofs.lemmas.Bool.Decides.{nat_tests}
@@ -8,7 +9,8 @@ use Rattle.sms_construct.specs.declared.entry.Entry.{Entry}
 use Rattle.sms_keeper.specs.declared.floor.Floor.{Floor}
 use Rattle.sms_keeper.specs.declared.kept_row.KeptRow.{KeptRow}
 use Rattle.sms_keeper.specs.Tables.{is_floor_of, is_reply_of}
-use Rattle.desk_law.specs.Kept.{all_floors, all_rows, floor_told, floors_of, greatest_floor, is_fault, row_of_entry, rows_of, rows_of_entry}
+use Rattle.desk_law.specs.Kept.{all_floors, all_rows, floor_told, floors_of, greatest_floor, is_fault, row_of_entry}
+use Rattle.desk_law.specs.Kept.{rows_of, rows_of_entry}
 use Rattle.desk_law.specs.KeptRows.{AreKeptRows, IsKeptRow}
 use Rattle.desk_law.specs.Records.{AreKept, floor_rows, kept_rows}
 use Rattle.desk_law.specs.State.{Opening}

@@ -1,5 +1,6 @@
 -- How many extents lie on a volume.
-use Rattle.std.proofs.Common.{◌≡◌, ◌≤◌, ◌<◌, ◌+◌, ℕ, zero, suc, Bool, true, false, cond, List, [], ◌∷◌, length, take, get_or, refl, sym, ap, ◌∙◌, arith}
+use Rattle.std.proofs.Common.{◌≡◌, ◌≤◌, ◌<◌, ◌+◌, ℕ, zero, suc, Bool, true, false, cond, List, [], ◌∷◌, length, take}
+use Rattle.std.proofs.Common.{get_or, refl, sym, ap, ◌∙◌, arith}
 use Rattle.std.specs.Prelude.{bytes_eq}
 use Rattle.sms_construct.specs.declared.extent.Extent.{Extent}
 use Rattle.desk_law.proofs.ByteLemmas.{bytes-self, same-bytes}

@@ -1,5 +1,6 @@
 -- The verdict that follows from what the tests tell, and that there is one.
-use Rattle.std.proofs.Common.{◌≡◌, ℕ, Bool, true, false, List, [], ◌∷◌, Option, Some, Result, Ok, Err, refl, sym, ap, ◌∙◌, subst, inl, inr}
+use Rattle.std.proofs.Common.{◌≡◌, ℕ, Bool, true, false, List, [], ◌∷◌, Option, Some, Result, Ok, Err, refl, sym, ap}
+use Rattle.std.proofs.Common.{◌∙◌, subst, inl, inr}
 use Rattle.std.specs.Prelude.{◌⊎◌, IfOk}
 use Rattle.sms_construct.specs.Configuration.{Configuration}
 use Rattle.sms_deck.proofs.ReadingLemmas.{never_both, one_configuration}

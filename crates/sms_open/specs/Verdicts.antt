@@ -10,13 +10,16 @@ use Rattle.sms_open.specs.Tests.{AreCounted, ArePlaced, AreSingle, AreSoundRepli
 
 -- the rows don't pass the test of this number, and that is the verdict; or they pass it, and the verdict is what comes
 -- next
-abbrev pub Tested : ℕ → Type 0 → (Result (Option Configuration) RowsErr → Type 0) → Result (Option Configuration) RowsErr → Type 0
+abbrev pub Tested : ℕ → Type 0 → (Result (Option Configuration) RowsErr → Type 0) →
+    Result (Option Configuration) RowsErr → Type 0
 Tested number passed next verdict = ((passed → ⊥) × (verdict ≡ Err (Unsound number))) ⊎ (passed × next verdict)
 
 -- the last deck has a fault, and that is the verdict; or this is what it configures, and the verdict is what comes next
-abbrev pub Configured : ℕ → List DeckRow → (Option Configuration → Result (Option Configuration) RowsErr → Type 0) → Result (Option Configuration) RowsErr → Type 0
+abbrev pub Configured : ℕ → List DeckRow → (Option Configuration → Result (Option Configuration) RowsErr → Type 0) →
+    Result (Option Configuration) RowsErr → Type 0
 Configured number decks next verdict =
-    (HasLastFault decks × (verdict ≡ Err (Unsound number))) ⊎ ((active : Option Configuration) × IsLastActive decks active × next active verdict)
+    (HasLastFault decks × (verdict ≡ Err (Unsound number))) ⊎
+    ((active : Option Configuration) × IsLastActive decks active × next active verdict)
 
 -- the verdict on rows whose last deck configures this: the last three tests
 abbrev pub IsVerdictUnder : Rows → Option Configuration → Result (Option Configuration) RowsErr → Type 0

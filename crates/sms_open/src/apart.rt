@@ -28,7 +28,8 @@ fn wanted_keys<K: Ord + Copy + Drop>(
     keys: &[K],
 ) -> Result<OrderedIndex<K, bool>, AllocError>
     requires { AreApart K.cmp keys.now }
-    ensures { IfOk result (λ index. (key : K) → times_found (lookup (is_at (K.cmp key)) index.rows) ≡ times_key K.cmp key keys.now) }
+    ensures { IfOk result (λ index. (key : K) →
+        times_found (lookup (is_at (K.cmp key)) index.rows) ≡ times_key K.cmp key keys.now) }
 {
     let mut index: OrderedIndex<K, bool> = OrderedIndex::new(alloc);
     for key in keys {

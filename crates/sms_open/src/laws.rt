@@ -24,7 +24,8 @@ pub fn opened_desks_are_sound()
 
 /// The tables of a desk that began with sound rows and came to no place over the greatest are its own.
 pub fn left_tables_are_own()
-    ensures { (o : Opening) (history : List Entry) (s : DeskState) (tables : Rows) → HasSoundRows o → Reaches o history s →
+    ensures { (o : Opening) (history : List Entry) (s : DeskState) (tables : Rows) → HasSoundRows o →
+        Reaches o history s →
         IsTables o history s tables → o.base + length history ≤ most_place → AreOwn tables }
 {}
 
@@ -35,5 +36,6 @@ pub fn same_tables_are_own()
 
 /// The tables that a desk left, in the order of their keys, pass all tests, under the configuration that was active.
 pub fn own_tables_pass()
-    ensures { (tables rows : Rows) (own : AreOwn tables) → AreLoaded tables rows → IsVerdict rows (Ok own.state.active) }
+    ensures { (tables rows : Rows) (own : AreOwn tables) → AreLoaded tables rows →
+        IsVerdict rows (Ok own.state.active) }
 {}

@@ -66,7 +66,8 @@ fn are_chained(extents: &[Extent]) -> bool
 /// memory.
 pub fn are_once(alloc: Global, sets: &[Shared<DataSet>]) -> Result<bool, AllocError>
     requires { AllByRecursion HasTracks sets.now }
-    ensures { IfOk result (Tells ((volser : List ℕ) (track : ℕ) → times_held (pieces_on volser (extents_of sets.now)) track ≤ 1)) }
+    ensures { IfOk result (Tells ((volser : List ℕ) (track : ℕ) →
+        times_held (pieces_on volser (extents_of sets.now)) track ≤ 1)) }
 {
     let mut extents = all_extents(alloc, sets)?;
     sort_extents(&mut extents);

@@ -40,7 +40,8 @@ impl Numbers {
 
     /// Puts the number of a volume in place of the old one; or want of memory.
     pub fn put(&mut self, volser: Volser, number: u32) -> Result<(), AllocError>
-        ensures { OnOk result ((other : List ℕ) → number_on other self.new ≡ (if bytes_eq volser other then number else number_on other self.old)) }
+        ensures { OnOk result ((other : List ℕ) →
+            number_on other self.new ≡ (if bytes_eq volser other then number else number_on other self.old)) }
     {
         self.numbers.reserve()?;
         self.numbers.put(volser, number);

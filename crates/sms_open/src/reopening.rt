@@ -26,8 +26,10 @@ pub fn reopen<P: Stored>(alloc: Global, mut keeper: P) -> Result<Core<P>, (P, Op
     ensures own { IfErr result (λ back. IfSome (P.Keeper.told back.0) (λ tables. AreOwn tables → SparesTables back.1)) }
     ensures left { IfErr result (λ back. Stays (P.Keeper.told keeper) (P.Keeper.told back.0)) }
     ensures damage_left { IfErr result (λ back. StaysDamaged (P.damage keeper) (P.damage back.0)) }
-    ensures cause { IfErr result (λ back. back.1 ≡ OpenErr.Failed → Rose (P.Keeper.count keeper) (P.Keeper.count back.0)) }
-    ensures unfailed { IfErr result (λ back. (back.1 ≡ OpenErr.Failed → ⊥) → P.Keeper.count back.0 ≡ P.Keeper.count keeper) }
+    ensures cause { IfErr result (λ back. back.1 ≡ OpenErr.Failed →
+        Rose (P.Keeper.count keeper) (P.Keeper.count back.0)) }
+    ensures unfailed { IfErr result (λ back. (back.1 ≡ OpenErr.Failed → ⊥) →
+        P.Keeper.count back.0 ≡ P.Keeper.count keeper) }
 {
     match keeper.load() {
         Ok(rows) => go_on(alloc, keeper, rows),

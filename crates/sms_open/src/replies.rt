@@ -58,7 +58,8 @@ fn is_kept(row: &KeptRow) -> bool
 
 // Whether a floor that the reply tells isn't above the one that is logged.
 fn tells_low(log: &RequestLog, reply: &Reply) -> bool
-    ensures { Tells (AllByRecursion (λ told. told.floor ≤ floor_in told.job log.now.floors) (floor_told reply.now)) result }
+    ensures { Tells (AllByRecursion (λ told. told.floor ≤ floor_in told.job log.now.floors) (floor_told reply.now))
+        result }
 {
     match reply {
         Reply::Purged { job, floor } => *floor <= log.floor(job),
@@ -67,7 +68,8 @@ fn tells_low(log: &RequestLog, reply: &Reply) -> bool
 }
 
 fn is_sound(log: &RequestLog, row: &KeptRow) -> bool
-    ensures { (floors : List FloorOf) → ((job : List ℕ) → floor_in job log.now.floors ≡ greatest_floor job floors) → Tells (IsSoundReply floors row.now) result }
+    ensures { (floors : List FloorOf) → ((job : List ℕ) → floor_in job log.now.floors ≡ greatest_floor job floors) →
+        Tells (IsSoundReply floors row.now) result }
 {
     if !is_kept(row) {
         return false;
@@ -79,7 +81,8 @@ fn is_sound(log: &RequestLog, row: &KeptRow) -> bool
 }
 
 fn each_is_sound(log: &RequestLog, replies: &[KeptRow]) -> bool
-    ensures { (floors : List FloorOf) → ((job : List ℕ) → floor_in job log.now.floors ≡ greatest_floor job floors) → Tells (AllByRecursion (IsSoundReply floors) replies.now) result }
+    ensures { (floors : List FloorOf) → ((job : List ℕ) → floor_in job log.now.floors ≡ greatest_floor job floors) →
+        Tells (AllByRecursion (IsSoundReply floors) replies.now) result }
 {
     for row in replies {
         if !is_sound(log, row) {

@@ -64,7 +64,8 @@ fn is_inside(tracks: &Numbers, extent: &Extent) -> bool
 }
 
 fn are_inside(tracks: &Numbers, extents: &[Extent]) -> bool
-    ensures { Tells (AllByRecursion (λ extent. LiesInside (number_on extent.volser tracks.now) (piece_of extent)) extents.now) result }
+    ensures { Tells (AllByRecursion (λ extent. LiesInside (number_on extent.volser tracks.now) (piece_of extent))
+        extents.now) result }
 {
     for extent in extents {
         if !is_inside(tracks, extent) {
@@ -109,7 +110,8 @@ fn is_whole(set: &DataSet) -> bool
 
 // Whether the data set may stand on volumes with so many tracks.
 fn is_lawful(alloc: Global, tracks: &Numbers, set: &DataSet) -> Result<bool, AllocError>
-    ensures { (volumes : List VolumeOf) → AreTracks volumes tracks.now → IfOk result (Tells (IsLawfulSet volumes set.now)) }
+    ensures { (volumes : List VolumeOf) → AreTracks volumes tracks.now →
+        IfOk result (Tells (IsLawfulSet volumes set.now)) }
 {
     if set.extents.is_empty() {
         return Ok(false);
@@ -127,7 +129,8 @@ fn is_lawful(alloc: Global, tracks: &Numbers, set: &DataSet) -> Result<bool, All
 }
 
 fn are_lawful(alloc: Global, tracks: &Numbers, sets: &[Shared<DataSet>]) -> Result<bool, AllocError>
-    ensures { (volumes : List VolumeOf) → AreTracks volumes tracks.now → IfOk result (Tells (AllByRecursion (IsLawfulSet volumes) sets.now)) }
+    ensures { (volumes : List VolumeOf) → AreTracks volumes tracks.now →
+        IfOk result (Tells (AllByRecursion (IsLawfulSet volumes) sets.now)) }
 {
     for set in sets {
         if !is_lawful(alloc, tracks, set.get())? {

@@ -90,7 +90,8 @@ fn groups_found(alloc: Global, rows: &[StatusRow]) -> Result<Vec<Name>, AllocErr
 
 fn groups_stand(alloc: Global, groups: &[StorGroup], rows: &[StatusRow]) -> Result<bool, AllocError>
     requires { are_ascending (map (λ group. group.name) groups.now) ≡ true }
-    ensures { IfOk result (Tells ((name : List ℕ) → times_status (targets.Group name) rows.now ≡ times_group name groups.now)) }
+    ensures { IfOk result (Tells ((name : List ℕ) →
+        times_status (targets.Group name) rows.now ≡ times_group name groups.now)) }
 {
     let wanted = names_of(alloc, groups)?;
     let found = groups_found(alloc, rows)?;
@@ -115,7 +116,8 @@ fn volumes_stand(
     rows: &[StatusRow],
 ) -> Result<bool, AllocError>
     requires { are_ascending (map (λ volume. volume.volser) volumes.now) ≡ true }
-    ensures { IfOk result (Tells ((volser : List ℕ) → times_status (targets.Volume volser) rows.now ≡ times_volume volser volumes.now)) }
+    ensures { IfOk result (Tells ((volser : List ℕ) →
+        times_status (targets.Volume volser) rows.now ≡ times_volume volser volumes.now)) }
 {
     let wanted = volsers_of(alloc, volumes)?;
     let found = volumes_found(alloc, rows)?;
@@ -123,7 +125,8 @@ fn volumes_stand(
 }
 
 fn all_stand(alloc: Global, config: &Config, rows: &[StatusRow]) -> Result<bool, AllocError>
-    ensures { IfOk result (Tells ((target : Target) → times_status target rows.now ≡ times_target (Some config.now) target)) }
+    ensures { IfOk result (Tells ((target : Target) →
+        times_status target rows.now ≡ times_target (Some config.now) target)) }
 {
     config.deck();
     if !none_of_sets(rows) {

@@ -33,7 +33,8 @@ fn answer(number: u8, passed: Result<bool, AllocError>) -> Result<(), RowsErr>
 
 // The last three tests.
 fn judge_under(alloc: Global, rows: &Rows, active: &Option<Config>) -> Result<(), RowsErr>
-    ensures { IsVerdictUnder rows.now active.now (answer_with active.now result) ⊎ IsErrOf (answer_with active.now result) RowsErr.NoMemory }
+    ensures { IsVerdictUnder rows.now active.now (answer_with active.now result) ⊎
+        IsErrOf (answer_with active.now result) RowsErr.NoMemory }
 {
     answer(4, are_statuses_of(alloc, active, rows.statuses.as_slice()))?;
     answer(5, are_placed(alloc, active, rows.sets.as_slice()))?;
@@ -58,7 +59,8 @@ fn judge(alloc: Global, rows: &Rows) -> Result<Option<Config>, RowsErr>
 /// Rows that pass are an opening from which a desk may go on, its base at their greatest place.
 pub fn test_rows(alloc: Global, rows: &Rows) -> Result<Option<Config>, RowsErr>
     ensures verdict { IsVerdict rows.now result ⊎ IsErrOf result RowsErr.NoMemory }
-    ensures exactly { (verdict : Result (Option Configuration) RowsErrOf) → IsVerdict rows.now verdict → (result ≡ verdict) ⊎ IsErrOf result RowsErr.NoMemory }
+    ensures exactly { (verdict : Result (Option Configuration) RowsErrOf) → IsVerdict rows.now verdict →
+        (result ≡ verdict) ⊎ IsErrOf result RowsErr.NoMemory }
     ensures opening { IfOk result (λ active. IsSoundOpening (opening_of rows.now active)) }
     ensures decked { IfOk result (λ active. IsDecked rows.now.decks (start_of (opening_of rows.now active))) }
 {

@@ -1,6 +1,7 @@
 -- How values are written as bytes, one behind the other, and read off the front of bytes (docs/records.md, "The
 -- record form").
-use Rattle.std.specs.Prelude.{◌≡◌, ◌==◌, ℕ, zero, suc, ◌++◌, ◌<◌, List, [], ◌∷◌, length, take, drop, Option, Some, None, nat_lt, get_or, slice_get, if◌then◌else◌}
+use Rattle.std.specs.Prelude.{◌≡◌, ◌==◌, ℕ, zero, suc, ◌++◌, ◌<◌, List, [], ◌∷◌, length, take, drop, Option, Some, None}
+use Rattle.std.specs.Prelude.{nat_lt, get_or, slice_get, if◌then◌else◌}
 use Rattle.std.specs.List.{flat_map}
 use Rattle.std.specs.Int.{w64, to_be_bytes, from_be_bytes}
 use Rattle.desk_common.specs.Limits.{up_to}

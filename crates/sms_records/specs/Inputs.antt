@@ -94,7 +94,16 @@ fields_of_input x = (
   (
     (x.attributes.unit, (x.attributes.dsorg, (x.attributes.recorg, x.attributes.dsntype))),
     (
-      (x.origin.applic, (x.attributes.expdt, (x.attributes.dstype, (x.environment.acsenvir, (x.environment.xmode, x.attributes.dsowner))))),
+      (
+        x.origin.applic,
+        (
+          x.attributes.expdt,
+          (
+            x.attributes.dstype,
+            (x.environment.acsenvir, (x.environment.xmode, x.attributes.dsowner)),
+          ),
+        ),
+      ),
       (
         (x.defaults.dataclas, (x.defaults.storclas, x.defaults.mgmtclas)),
         (

@@ -2,7 +2,8 @@
 use Rattle.std.specs.Prelude.{◌++◌, ◌∷◌, [], ℕ, List, Option}
 use Rattle.sms_construct.specs.declared.reply.Reply.TheVariants as replies
 use Rattle.sms_construct.specs.declared.reply.Reply.{Reply}
-use Rattle.sms_records.specs.Form.{◌&◌, Form, made_at, list, variants, bare_at, number_form, number_32_form, number_16_form}
+use Rattle.sms_records.specs.Form.{◌&◌, Form, made_at, list, variants, bare_at, number_form, number_32_form}
+use Rattle.sms_records.specs.Form.{number_16_form}
 use Rattle.sms_records.specs.Enums.{kind_form, status_form, why_no_extend_form}
 use Rattle.sms_records.specs.Texts.{name_form, short_form, volser_form}
 use Rattle.sms_records.specs.Sets.{data_set_form, extent_form}

@@ -52,8 +52,13 @@ data_set_fields = fixed_fields & list extent_form & eattr_form
 
 -- the fields of fixed size of a data set
 abbrev pub fixed_fields_of : DataSet → FixedFields
-fixed_fields_of x =
-    (x.dsn, ((x.dataclas, (x.storclas, (x.mgmtclas, x.group))), ((x.unit, (x.secondary, x.volumes)), (x.day, (x.retpd, x.used)))))
+fixed_fields_of x = (
+  x.dsn,
+  (
+    (x.dataclas, (x.storclas, (x.mgmtclas, x.group))),
+    ((x.unit, (x.secondary, x.volumes)), (x.day, (x.retpd, x.used))),
+  ),
+)
 
 -- the data set of these fields
 abbrev pub data_set_of : DataSetFields → DataSet

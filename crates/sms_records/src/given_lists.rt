@@ -54,7 +54,8 @@ fn read_given_lists(
 
 /// The lists of what routines see.
 pub fn write_lists(input: &Input, out: &mut Vec<u8>) -> Result<(), AllocError>
-    ensures written { OnOk result (out.new.items ≡ out.old.items ++ lists_form.write (fields_of_lists (lists_in input.now))) }
+    ensures written { OnOk result (out.new.items ≡ out.old.items ++ lists_form.write
+        (fields_of_lists (lists_in input.now))) }
     ensures readable { OnOk result (IsReadable lists_form (fields_of_lists (lists_in input.now))) }
 {
     let accounting = &input.accounting;

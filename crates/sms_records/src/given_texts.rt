@@ -89,7 +89,14 @@ fn texts_of(fields: Texts) -> GivenTexts
 
 // Who asks, of these fields and the application.
 fn origin_of(asking: Asking, application: Short) -> Origin
-    ensures { result ≡ record { job = asking.0; user = asking.1.0; group = asking.1.1.0; pgm = asking.1.1.1.0; dd = asking.1.1.1.1; applic = application } }
+    ensures { result ≡ record {
+      job = asking.0;
+      user = asking.1.0;
+      group = asking.1.1.0;
+      pgm = asking.1.1.1.0;
+      dd = asking.1.1.1.1;
+      applic = application;
+    } }
 {
     let (job, (user, (group, (pgm, dd)))) = asking;
     Origin {
@@ -104,7 +111,15 @@ fn origin_of(asking: Asking, application: Short) -> Origin
 
 // What the data set is to be, of these fields, its expiration date, its type and its owner.
 fn attributes_of(wanted: Wanted, expiration: Short, set_type: Short, owner: Short) -> Attributes
-    ensures { result ≡ record { unit = wanted.0; dsorg = wanted.1.0; recorg = wanted.1.1.0; dsntype = wanted.1.1.1; dstype = set_type; dsowner = owner; expdt = expiration } }
+    ensures { result ≡ record {
+      unit = wanted.0;
+      dsorg = wanted.1.0;
+      recorg = wanted.1.1.0;
+      dsntype = wanted.1.1.1;
+      dstype = set_type;
+      dsowner = owner;
+      expdt = expiration;
+    } }
 {
     let (unit, (dsorg, (recorg, dsntype))) = wanted;
     Attributes {
@@ -120,7 +135,8 @@ fn attributes_of(wanted: Wanted, expiration: Short, set_type: Short, owner: Shor
 
 /// The texts of what routines see.
 pub fn write_texts(input: &Input, out: &mut Vec<u8>) -> Result<(), AllocError>
-    ensures written { OnOk result (out.new.items ≡ out.old.items ++ texts_form.write (fields_of_texts (texts_in input.now))) }
+    ensures written { OnOk result (out.new.items ≡ out.old.items ++ texts_form.write
+        (fields_of_texts (texts_in input.now))) }
     ensures readable { OnOk result (IsReadable texts_form (fields_of_texts (texts_in input.now))) }
 {
     let origin = &input.origin;
@@ -156,7 +172,13 @@ fn wanted_of(attributes: &Attributes) -> Wanted
 
 // The fields of the setting.
 fn setting_of(origin: &Origin, attributes: &Attributes, environment: &Environment) -> Setting
-    ensures { result ≡ (origin.now.applic, (attributes.now.expdt, (attributes.now.dstype, (environment.now.acsenvir, (environment.now.xmode, attributes.now.dsowner))))) }
+    ensures { result ≡ (
+      origin.now.applic,
+      (
+        attributes.now.expdt,
+        (attributes.now.dstype, (environment.now.acsenvir, (environment.now.xmode, attributes.now.dsowner))),
+      ),
+    ) }
 {
     let modes = (
         environment.acsenvir,

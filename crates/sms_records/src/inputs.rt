@@ -2,7 +2,8 @@
 ghost use Rattle.std.specs.Prelude.{◌≡◌, ◌++◌, OnOk, unwrap_or};
 ghost use Rattle.acs_tree.specs.Inputs.{no_lists};
 ghost use Rattle.sms_records.specs.Form.{IsReadable, made_at};
-ghost use Rattle.sms_records.specs.Inner.Givens.{counted_form, fields_of_counted, input_of_parts, lists_in, parted_form, parts_of_input};
+ghost use Rattle.sms_records.specs.Inner.Givens.{counted_form, fields_of_counted, input_of_parts, lists_in};
+ghost use Rattle.sms_records.specs.Inner.Givens.{parted_form, parts_of_input};
 ghost use Rattle.sms_records.specs.Reading.{Gives};
 
 use crate::given_lists::{read_lists, write_lists};
@@ -46,8 +47,10 @@ fn write_parts(input: &Input, out: &mut Vec<u8>) -> Result<(), AllocError>
 
 // The numbers and the lists of what routines see.
 fn write_counted(input: &Input, out: &mut Vec<u8>) -> Result<(), AllocError>
-    ensures written { OnOk result (out.new.items ≡ out.old.items ++ counted_form.write (fields_of_counted input.now.amounts (lists_in input.now))) }
-    ensures readable { OnOk result (IsReadable counted_form (fields_of_counted input.now.amounts (lists_in input.now))) }
+    ensures written { OnOk result (out.new.items ≡ out.old.items ++ counted_form.write
+        (fields_of_counted input.now.amounts (lists_in input.now))) }
+    ensures readable { OnOk result (IsReadable counted_form
+        (fields_of_counted input.now.amounts (lists_in input.now))) }
 {
     let amounts = &input.amounts;
     (amounts.retpd, amounts.blksize).write_to(out)?;
@@ -75,7 +78,8 @@ fn read_parts(alloc: Global, bytes: &[u8]) -> Result<(Given, &[u8]), RecordErr>
 // The numbers and the lists at the front of the bytes.
 #[tactic(auto, unfolding(crate::specs::Form::both_at))]
 fn read_counted(alloc: Global, bytes: &[u8]) -> Result<(Counted, &[u8]), RecordErr>
-    ensures { Gives (λ x. (fields_of_counted x.0.0 (unwrap_or x.0.1 no_lists), x.1.now)) result (counted_form.read bytes.now) }
+    ensures { Gives (λ x. (fields_of_counted x.0.0 (unwrap_or x.0.1 no_lists), x.1.now)) result
+        (counted_form.read bytes.now) }
 {
     let ((retpd, blksize), rest) = <(u32, u32)>::read_from(alloc, bytes)?;
     match read_lists(alloc, rest) {

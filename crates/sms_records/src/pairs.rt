@@ -45,7 +45,8 @@ pub fn write_variant_of_two<A: Recorded, B: Recorded>(
     second: &B,
     out: &mut Vec<u8>,
 ) -> Result<(), AllocError>
-    ensures written { OnOk result (out.new.items ≡ out.old.items ++ tag ∷ (A.form.write first.now ++ B.form.write second.now)) }
+    ensures written { OnOk result
+        (out.new.items ≡ out.old.items ++ tag ∷ (A.form.write first.now ++ B.form.write second.now)) }
     ensures readable { OnOk result (IsReadable A.form first.now × IsReadable B.form second.now) }
 {
     write_byte(tag, out)?;

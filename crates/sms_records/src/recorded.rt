@@ -55,7 +55,8 @@ fn whole<T: Recorded>(alloc: Global, bytes: &[u8]) -> Result<T, RecordErr>
 pub fn read_whole<T: Recorded>(alloc: Global, bytes: &[u8]) -> Result<T, RecordErr>
     ensures read { Gives (λ x. x) result (whole T.form bytes.now) }
     ensures found { IfOk result (λ value. bytes.now ≡ T.form.write value) }
-    ensures bad { IsErrOf result RecordErr.Bad → (value : T) → IsReadable T.form value → bytes.now ≡ T.form.write value → ⊥ }
+    ensures bad { IsErrOf result RecordErr.Bad → (value : T) → IsReadable T.form value →
+        bytes.now ≡ T.form.write value → ⊥ }
 {
     whole(alloc, bytes)
 }
@@ -63,5 +64,6 @@ pub fn read_whole<T: Recorded>(alloc: Global, bytes: &[u8]) -> Result<T, RecordE
 /// No record of a value is the front of another's: where more stands behind it, the values are equal and there is
 /// no more.
 pub fn no_front<T: Recorded>()
-    ensures { (value other : T) (more : List ℕ) → IsReadable T.form value → IsReadable T.form other → T.form.write other ≡ T.form.write value ++ more → (other ≡ value) × (more ≡ []) }
+    ensures { (value other : T) (more : List ℕ) → IsReadable T.form value → IsReadable T.form other →
+        T.form.write other ≡ T.form.write value ++ more → (other ≡ value) × (more ≡ []) }
 {}

@@ -29,7 +29,8 @@ pub fn request_record(alloc: Global, request: &Request) -> Result<Vec<u8>, Alloc
 pub fn read_request(alloc: Global, bytes: &[u8]) -> Result<Request, RecordErr>
     ensures read { Gives (λ x. x) result (whole request_form bytes.now) }
     ensures found { IfOk result (λ value. bytes.now ≡ request_form.write value) }
-    ensures bad { IsErrOf result Bad → (value : Request) → IsReadable request_form value → bytes.now ≡ request_form.write value → ⊥ }
+    ensures bad { IsErrOf result Bad → (value : Request) → IsReadable request_form value →
+        bytes.now ≡ request_form.write value → ⊥ }
 {
     read_whole(alloc, bytes)
 }
@@ -48,7 +49,8 @@ pub fn reply_record(alloc: Global, reply: &Reply) -> Result<Vec<u8>, AllocError>
 pub fn read_reply(alloc: Global, bytes: &[u8]) -> Result<Reply, RecordErr>
     ensures read { Gives (λ x. x) result (whole reply_form bytes.now) }
     ensures found { IfOk result (λ value. bytes.now ≡ reply_form.write value) }
-    ensures bad { IsErrOf result Bad → (value : Reply) → IsReadable reply_form value → bytes.now ≡ reply_form.write value → ⊥ }
+    ensures bad { IsErrOf result Bad → (value : Reply) → IsReadable reply_form value →
+        bytes.now ≡ reply_form.write value → ⊥ }
 {
     read_whole(alloc, bytes)
 }
@@ -67,7 +69,8 @@ pub fn set_record(alloc: Global, set: &DataSet) -> Result<Vec<u8>, AllocError>
 pub fn read_set(alloc: Global, bytes: &[u8]) -> Result<DataSet, RecordErr>
     ensures read { Gives (λ x. x) result (whole data_set_form bytes.now) }
     ensures found { IfOk result (λ value. bytes.now ≡ data_set_form.write value) }
-    ensures bad { IsErrOf result Bad → (value : DataSet) → IsReadable data_set_form value → bytes.now ≡ data_set_form.write value → ⊥ }
+    ensures bad { IsErrOf result Bad → (value : DataSet) → IsReadable data_set_form value →
+        bytes.now ≡ data_set_form.write value → ⊥ }
 {
     read_whole(alloc, bytes)
 }

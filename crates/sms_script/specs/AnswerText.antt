@@ -4,7 +4,12 @@ use Rattle.acs_tree.specs.Variables.{name_of}
 use Rattle.sms_construct.specs.declared.data_set.DataSet.{DataSet}
 use Rattle.sms_construct.specs.declared.entry.Answer.{Answer}
 use Rattle.sms_construct.specs.declared.reply.Reply.{Reply}
-use Rattle.sms_construct.specs.declared.reply.Reply.TheVariants.{Granted, NotManaged, Extended, Deleted, Activated, Varied, Shown, Purged, Noted, Released, Reused, Below, NoConfig, NameInUse, Exit, UnknownClass, NoQuantity, NoGroup, NoVolume, NotFound, NoExtend, Deck, VolumeInUse, UnknownName, JournalFull, PastGrant, KeeperFault, Memory}
+use Rattle.sms_construct.specs.declared.reply.Reply.TheVariants.{Granted, NotManaged, Extended, Deleted, Activated}
+use Rattle.sms_construct.specs.declared.reply.Reply.TheVariants.{Varied, Shown, Purged, Noted, Released, Reused, Below}
+use Rattle.sms_construct.specs.declared.reply.Reply.TheVariants.{NoConfig, NameInUse, Exit, UnknownClass, NoQuantity}
+use Rattle.sms_construct.specs.declared.reply.Reply.TheVariants.{NoGroup, NoVolume, NotFound, NoExtend, Deck}
+use Rattle.sms_construct.specs.declared.reply.Reply.TheVariants.{VolumeInUse, UnknownName, JournalFull, PastGrant}
+use Rattle.sms_construct.specs.declared.reply.Reply.TheVariants.{KeeperFault, Memory}
 use Rattle.sms_construct.specs.declared.trace.Trace.{Trace}
 use Rattle.sms_construct.specs.declared.view.View.{View}
 use Rattle.sms_construct.specs.declared.view.View.TheVariants.{Group, Volume, Set}
@@ -21,7 +26,8 @@ abbrev pub view_text : View → List ℕ
 view_text (Group name status volumes capacity free) =
     spaced (codes "STORGRP" ∷ name ∷ status_text status ∷ decimal volumes ∷ decimal capacity ∷ decimal free ∷ [])
 view_text (Volume row) =
-    spaced (codes "VOLUME" ∷ row.volser ∷ row.group ∷ status_text row.status ∷ decimal row.capacity ∷ decimal row.free ∷ decimal row.extents ∷ [])
+    spaced (codes "VOLUME" ∷ row.volser ∷ row.group ∷ status_text row.status ∷ decimal row.capacity ∷ decimal
+    row.free ∷ decimal row.extents ∷ [])
 view_text (Set set) = spaced (codes "SET" ∷ set.dsn ∷ [])
 
 -- why a data set isn't extended
@@ -121,7 +127,8 @@ indented line = codes "  " ++ line ++ 10 ∷ []
 -- request
 abbrev pub head_text : Item → Answer → List ℕ
 head_text item answer =
-    spaced (decimal item.line ∷ decimal answer.place ∷ decimal answer.first ∷ item.request.job ∷ decimal item.request.number ∷ reply_text answer.reply ∷ [])
+    spaced (decimal item.line ∷ decimal answer.place ∷ decimal answer.first ∷ item.request.job ∷ decimal
+    item.request.number ∷ reply_text answer.reply ∷ [])
 
 -- all lines of an item
 abbrev pub item_text : Item → Answer → List ℕ

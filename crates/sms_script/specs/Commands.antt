@@ -1,5 +1,6 @@
 -- The commands that the lines of a script write (docs/script.md, "Commands").
-use Rattle.std.specs.Prelude.{ℕ, ◌&&◌, Bool, false, List, [], ◌∷◌, length, nat_le, Option, None, Some, bytes_eq, codes, option_map, if◌then◌else◌}
+use Rattle.std.specs.Prelude.{ℕ, ◌&&◌, Bool, false, List, [], ◌∷◌, length, nat_le, Option, None, Some, bytes_eq, codes}
+use Rattle.std.specs.Prelude.{option_map, if◌then◌else◌}
 use Rattle.desk_common.specs.Limits.{most_line_bytes}
 use Rattle.dsn_mask.specs.Name.{name_of}
 use Rattle.sms_script.specs.Found.{◌⊳◌}
@@ -34,7 +35,8 @@ abbrev pub command_in : List (List ℕ) → Option Command
 command_in [] = None
 command_in (word ∷ []) = if bytes_eq word (codes "SYNC") then Some Sync else None
 command_in (job ∷ number ∷ words) =
-    if is_admin job && is_activate words then option_map (λ n. Activate n) (number_in number) else request_of job number words
+    if is_admin job && is_activate words then option_map (λ n. Activate n) (number_in number)
+    else request_of job number words
 
 -- the command that a line of at most 4,096 bytes writes
 abbrev pub command_of : List ℕ → Option Command

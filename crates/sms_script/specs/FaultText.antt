@@ -2,7 +2,8 @@
 use Rattle.std.specs.Prelude.{ℕ, List, [], ◌∷◌, ◌++◌, decimal, codes}
 use Rattle.acs_tree.specs.Variables.{name_of}
 use Rattle.sms_construct.specs.declared.fault.Fault.{Fault}
-use Rattle.sms_construct.specs.declared.fault.Fault.TheVariants.{NotBuilt, NotToml, UnknownKey, Missing, BadValue, BadName, TwoGroups, Routine, Unassigned, TooMany}
+use Rattle.sms_construct.specs.declared.fault.Fault.TheVariants.{NotBuilt, NotToml, UnknownKey, Missing, BadValue}
+use Rattle.sms_construct.specs.declared.fault.Fault.TheVariants.{BadName, TwoGroups, Routine, Unassigned, TooMany}
 use Rattle.sms_construct.specs.declared.stage.Stage.{Stage}
 use Rattle.sms_construct.specs.declared.stage.Stage.TheVariants.{Scanner, Parser, Checks}
 use Rattle.sms_construct.specs.declared.text_fault.TextFault.{TextFault}

@@ -1,5 +1,6 @@
 -- The lines of a text.
-use Rattle.std.specs.Prelude.{◌∷◌, [], ◌==◌, ◌||◌, ℕ, Bool, List, Option, None, Some, bytes_eq, codes, unwrap_or, if◌then◌else◌}
+use Rattle.std.specs.Prelude.{◌∷◌, [], ◌==◌, ◌||◌, ℕ, Bool, List, Option, None, Some, bytes_eq, codes, unwrap_or}
+use Rattle.std.specs.Prelude.{if◌then◌else◌}
 use Rattle.std.specs.List.{list_all}
 use Rattle.desk_common.specs.Words.{begins_with_star, onto}
 use Rattle.desk_common.specs.Bytes.{space_byte}

@@ -40,7 +40,8 @@ target_text (Set dsn) = dsn
 
 -- the classes of a data set and its storage group
 abbrev pub class_text : DataSet → List ℕ
-class_text set = spaced (codes "CLASS" ∷ name_text set.dataclas ∷ set.storclas ∷ name_text set.mgmtclas ∷ set.group ∷ [])
+class_text set = spaced (codes "CLASS" ∷ name_text set.dataclas ∷ set.storclas ∷ name_text
+    set.mgmtclas ∷ set.group ∷ [])
 
 -- the tracks of an extent
 abbrev pub extent_text : Extent → List ℕ

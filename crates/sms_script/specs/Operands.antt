@@ -1,5 +1,6 @@
 -- The operands of ALLOC (docs/script.md, "Operands"): which stand in a line, and what each gives.
-use Rattle.std.specs.Prelude.{ℕ, Bool, true, false, not, ◌&&◌, List, [], ◌∷◌, ◌++◌, Option, None, Some, bytes_eq, is_some, codes, option_map, unwrap_or}
+use Rattle.std.specs.Prelude.{ℕ, Bool, true, false, not, ◌&&◌, List, [], ◌∷◌, ◌++◌, Option, None, Some, bytes_eq}
+use Rattle.std.specs.Prelude.{is_some, codes, option_map, unwrap_or}
 use Rattle.std.specs.List.{filter_map, list_all, list_any}
 use Rattle.acs_tree.specs.declared.accounting.Accounting.{Accounting}
 use Rattle.acs_tree.specs.declared.amounts.Amounts.{Amounts}
@@ -18,14 +19,18 @@ use Rattle.sms_construct.specs.Quantities.{Quantities, size_in_kilobytes, most_i
 use Rattle.sms_script.specs.Found.{◌⊳◌}
 use Rattle.sms_construct.specs.Parts.{behind_front}
 use Rattle.sms_construct.specs.SpaceText.{space_text}
-use Rattle.sms_script.specs.Values.{number_to, plain_of, name_value_of, date_of, volumes_of, account_of, count_of, eattr_of}
+use Rattle.sms_script.specs.Values.{number_to, plain_of, name_value_of, date_of, volumes_of, account_of, count_of}
+use Rattle.sms_script.specs.Values.{eattr_of}
 
 -- the keys of the operands
 abbrev pub keys : List (List ℕ)
 keys =
-    codes "SPACE=" ∷ codes "DATACLAS=" ∷ codes "STORCLAS=" ∷ codes "MGMTCLAS=" ∷ codes "DEFDC=" ∷ codes "DEFSC=" ∷ codes "DEFMC=" ∷ codes "VOL=" ∷ codes "VOLCNT="
-    ∷ codes "USER=" ∷ codes "GROUP=" ∷ codes "PGM=" ∷ codes "DD=" ∷ codes "UNIT=" ∷ codes "DSORG=" ∷ codes "RECORG=" ∷ codes "DSNTYPE=" ∷ codes "DSTYPE="
-    ∷ codes "ACSENVIR=" ∷ codes "XMODE=" ∷ codes "APPLIC=" ∷ codes "OWNER=" ∷ codes "ACCT=" ∷ codes "STEPACCT=" ∷ codes "RETPD=" ∷ codes "EXPDT=" ∷ codes "BLKSIZE="
+    codes "SPACE=" ∷ codes "DATACLAS=" ∷ codes "STORCLAS=" ∷ codes "MGMTCLAS=" ∷ codes "DEFDC=" ∷ codes "DEFSC=" ∷ codes
+    "DEFMC=" ∷ codes "VOL=" ∷ codes "VOLCNT="
+    ∷ codes "USER=" ∷ codes "GROUP=" ∷ codes "PGM=" ∷ codes "DD=" ∷ codes "UNIT=" ∷ codes "DSORG=" ∷ codes
+    "RECORG=" ∷ codes "DSNTYPE=" ∷ codes "DSTYPE="
+    ∷ codes "ACSENVIR=" ∷ codes "XMODE=" ∷ codes "APPLIC=" ∷ codes "OWNER=" ∷ codes "ACCT=" ∷ codes "STEPACCT=" ∷ codes
+    "RETPD=" ∷ codes "EXPDT=" ∷ codes "BLKSIZE="
     ∷ codes "DAY=" ∷ codes "EATTR=" ∷ []
 
 -- the key is this name and an equals sign
@@ -35,8 +40,10 @@ is_key_of name key = bytes_eq key (name ++ codes "=")
 -- the keys of the texts that routines see
 abbrev pub text_keys : List (List ℕ)
 text_keys =
-    codes "USER=" ∷ codes "GROUP=" ∷ codes "PGM=" ∷ codes "DD=" ∷ codes "APPLIC=" ∷ codes "UNIT=" ∷ codes "DSORG=" ∷ codes "RECORG=" ∷ codes "DSNTYPE="
-    ∷ codes "DSTYPE=" ∷ codes "OWNER=" ∷ codes "EXPDT=" ∷ codes "ACSENVIR=" ∷ codes "XMODE=" ∷ codes "DEFDC=" ∷ codes "DEFSC=" ∷ codes "DEFMC=" ∷ []
+    codes "USER=" ∷ codes "GROUP=" ∷ codes "PGM=" ∷ codes "DD=" ∷ codes "APPLIC=" ∷ codes "UNIT=" ∷ codes
+    "DSORG=" ∷ codes "RECORG=" ∷ codes "DSNTYPE="
+    ∷ codes "DSTYPE=" ∷ codes "OWNER=" ∷ codes "EXPDT=" ∷ codes "ACSENVIR=" ∷ codes "XMODE=" ∷ codes "DEFDC=" ∷ codes
+    "DEFSC=" ∷ codes "DEFMC=" ∷ []
 
 -- the keys of the lists that routines see
 abbrev pub list_keys : List (List ℕ)
@@ -116,7 +123,15 @@ attributes_in operands =
     given (codes "DSTYPE=") (plain_of most_name_bytes) (codes "PERM") operands ⊳ λ dstype.
     given (codes "OWNER=") (plain_of most_name_bytes) [] operands ⊳ λ dsowner.
     given (codes "EXPDT=") date_of [] operands ⊳ λ expdt.
-    Some (record { unit = unit; dsorg = dsorg; recorg = recorg; dsntype = dsntype; dstype = dstype; dsowner = dsowner; expdt = expdt })
+    Some (record {
+      unit = unit;
+      dsorg = dsorg;
+      recorg = recorg;
+      dsntype = dsntype;
+      dstype = dstype;
+      dsowner = dsowner;
+      expdt = expdt;
+    })
 
 -- where the request runs; the system joins later
 abbrev pub environment_in : List (List ℕ) → Option Environment
@@ -161,7 +176,8 @@ maxsize_of (Some space) = most_in_kilobytes space
 
 -- the numbers that routines see
 abbrev pub amounts_of : Option ℕ → ℕ → Option Quantities → Amounts
-amounts_of retpd blksize space = record { retpd = unwrap_or retpd 0; blksize = blksize; size = size_of space; maxsize = maxsize_of space }
+amounts_of retpd blksize space =
+    record { retpd = unwrap_or retpd 0; blksize = blksize; size = size_of space; maxsize = maxsize_of space }
 
 -- the input that an ALLOC gives its routines; the job and the system join later
 abbrev pub input_in : List ℕ → Option ℕ → Option Quantities → List (List ℕ) → Option Input

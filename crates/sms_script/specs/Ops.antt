@@ -1,5 +1,6 @@
 -- The ops that words write (docs/script.md, "Commands").
-use Rattle.std.specs.Prelude.{ℕ, ◌≡◌, ◌+◌, ◌==◌, Bool, true, not, List, [], ◌∷◌, map, take, drop, position, Option, None, Some, bytes_eq, codes, option_map, unwrap_or, if◌then◌else◌}
+use Rattle.std.specs.Prelude.{ℕ, ◌≡◌, ◌+◌, ◌==◌, Bool, true, not, List, [], ◌∷◌, map, take, drop, position, Option}
+use Rattle.std.specs.Prelude.{None, Some, bytes_eq, codes, option_map, unwrap_or, if◌then◌else◌}
 use Rattle.std.specs.Map.{lookup}
 use Rattle.std.specs.Option.{option_and_then, option_or}
 use Rattle.std.specs.Char.{to_ascii_uppercase}
@@ -26,8 +27,14 @@ use Rattle.sms_script.specs.declared.verb.Verb.TheVariants as verbs
 -- the words of the verbs
 abbrev pub verb_words : List (List ℕ × Verb)
 verb_words =
-    (codes "ALLOC", verbs.Alloc) ∷ (codes "EXTEND", verbs.Extend) ∷ (codes "DELETE", verbs.Delete) ∷ (codes "RELEASE", verbs.Release) ∷ (codes "USED", verbs.Used)
-    ∷ (codes "DISPLAY", verbs.Display) ∷ (codes "D", verbs.Display) ∷ (codes "VARY", verbs.Vary) ∷ (codes "V", verbs.Vary) ∷ (codes "PURGE", verbs.Purge) ∷ []
+    (codes "ALLOC", verbs.Alloc) ∷ (codes "EXTEND", verbs.Extend) ∷ (codes "DELETE", verbs.Delete) ∷ (
+      codes "RELEASE",
+      verbs.Release,
+    ) ∷ (codes "USED", verbs.Used)
+    ∷ (codes "DISPLAY", verbs.Display) ∷ (codes "D", verbs.Display) ∷ (codes "VARY", verbs.Vary) ∷ (
+      codes "V",
+      verbs.Vary,
+    ) ∷ (codes "PURGE", verbs.Purge) ∷ []
 
 -- the verb that a word is, if any
 abbrev pub verb_of : List ℕ → Option Verb
@@ -81,7 +88,8 @@ set_of text = option_map (λ dsn. Set dsn) (dsn_of text)
 -- what a DISPLAY shows: SMS,STORGRP(g), SMS,VOLUME(v) or SET(dsn)
 abbrev pub target_in : List ℕ → Option Target
 target_in what =
-    option_or (in_call (codes "SMS,STORGRP") what ⊳ group_of) (option_or (in_call (codes "SMS,VOLUME") what ⊳ volume_of) (in_call (codes "SET") what ⊳ set_of))
+    option_or (in_call (codes "SMS,STORGRP") what ⊳ group_of)
+    (option_or (in_call (codes "SMS,VOLUME") what ⊳ volume_of) (in_call (codes "SET") what ⊳ set_of))
 
 -- a place may say that it is for all systems
 abbrev pub without_all : List ℕ → List ℕ
@@ -90,12 +98,16 @@ without_all text = unwrap_or (before_end (codes ",ALL") text) text
 -- where a VARY is done: STORGRP(g), STORGRP(g,ALL), VOLUME(v) or VOLUME(v,ALL)
 abbrev pub place_in : List ℕ → Option Target
 place_in place =
-    option_or (in_call (codes "STORGRP") place ⊳ λ inner. group_of (without_all inner)) (in_call (codes "VOLUME") place ⊳ λ inner. volume_of (without_all inner))
+    option_or (in_call (codes "STORGRP") place ⊳ λ inner. group_of (without_all inner))
+    (in_call (codes "VOLUME") place ⊳ λ inner. volume_of (without_all inner))
 
 -- the actions behind a place
 abbrev pub actions : List (List ℕ × Action)
 actions =
-    (codes ",ENABLE", Enable) ∷ (codes ",DISABLE", Disable) ∷ (codes ",DISABLE,NEW", DisableNew) ∷ (codes ",QUIESCE", Quiesce) ∷ (codes ",QUIESCE,NEW", QuiesceNew) ∷ []
+    (codes ",ENABLE", Enable) ∷ (codes ",DISABLE", Disable) ∷ (codes ",DISABLE,NEW", DisableNew) ∷ (
+      codes ",QUIESCE",
+      Quiesce,
+    ) ∷ (codes ",QUIESCE,NEW", QuiesceNew) ∷ []
 
 -- the action that a text is, if any
 abbrev pub action_in : List ℕ → Option Action
@@ -126,11 +138,13 @@ dsn_in operands = only operands ⊳ dsn_of
 
 -- a USED: the data set, and its tracks
 abbrev pub used_in : List (List ℕ) → Option Op
-used_in operands = only_two operands ⊳ λ words. dsn_of words.0 ⊳ λ dsn. small_number_of words.1 ⊳ λ tracks. Some (ops.Used dsn tracks)
+used_in operands = only_two operands ⊳ λ words. dsn_of words.0 ⊳ λ dsn. small_number_of words.1 ⊳ λ tracks. Some
+    (ops.Used dsn tracks)
 
 -- a PURGE: the job, and its floor
 abbrev pub purge_in : List (List ℕ) → Option Op
-purge_in operands = only_two operands ⊳ λ words. name_of words.0 ⊳ λ job. number_in words.1 ⊳ λ floor. Some (ops.Purge job floor)
+purge_in operands = only_two operands ⊳ λ words. name_of words.0 ⊳ λ job. number_in words.1 ⊳ λ floor. Some
+    (ops.Purge job floor)
 
 -- the op of a verb with its operands, one line a form
 abbrev pub op_with : Verb → List (List ℕ) → Option Op

@@ -1,5 +1,6 @@
 -- Parts of a text.
-use Rattle.std.specs.Prelude.{◌-◌, ◌&&◌, ℕ, List, [], ◌∷◌, length, take, drop, nat_le, Option, None, Some, bytes_eq, if◌then◌else◌}
+use Rattle.std.specs.Prelude.{◌-◌, ◌&&◌, ℕ, List, [], ◌∷◌, length, take, drop, nat_le, Option, None, Some, bytes_eq}
+use Rattle.std.specs.Prelude.{if◌then◌else◌}
 use Rattle.std.specs.Option.{option_and_then}
 use Rattle.desk_common.specs.Bytes.{comma}
 use Rattle.desk_common.specs.Words.{pieces_of}
@@ -8,7 +9,8 @@ use Rattle.sms_construct.specs.Parts.{behind_front, in_parentheses}
 -- what is before this end, if it stands there
 abbrev pub before_end : List ℕ → List ℕ → Option (List ℕ)
 before_end end bytes =
-    if nat_le (length end) (length bytes) && bytes_eq (drop (length bytes - length end) bytes) end then Some (take (length bytes - length end) bytes) else None
+    if nat_le (length end) (length bytes) && bytes_eq (drop (length bytes - length end) bytes) end
+    then Some (take (length bytes - length end) bytes) else None
 
 -- what stands in parentheses behind a word, if it does
 abbrev pub in_call : List ℕ → List ℕ → Option (List ℕ)

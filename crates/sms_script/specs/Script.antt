@@ -1,5 +1,6 @@
 -- A script: the requests that its lines write, phase by phase (docs/script.md).
-use Rattle.std.specs.Prelude.{ℕ, ◌+◌, ◌≡◌, List, [], ◌∷◌, ◌++◌, Bool, true, false, not, nat_lt, flat_map, Option, None, Some, Result, Ok, Err, option_map, if◌then◌else◌}
+use Rattle.std.specs.Prelude.{ℕ, ◌+◌, ◌≡◌, List, [], ◌∷◌, ◌++◌, Bool, true, false, not, nat_lt, flat_map, Option, None}
+use Rattle.std.specs.Prelude.{Some, Result, Ok, Err, option_map, if◌then◌else◌}
 use Rattle.desk_common.specs.Limits.{most_commands}
 use Rattle.sms_construct.specs.declared.request.Op.TheVariants.{Activate as ActivateOp}
 use Rattle.sms_construct.specs.declared.request.Request.{Request}
@@ -41,12 +42,14 @@ if_few count line script = if nat_lt count most_commands then script else Err (T
 
 -- no command: a fault. A request: it, and then what the lines behind it give. SYNC: a phase ends. ACTIVATE: the
 -- activation of its deck, and then what the lines behind the ./END give; without an ./END, a fault
-abbrev pub with_command : ℕ → ℕ → Option Command → Option (List ℕ) → (Bool → Result (List (List Item)) ScriptErr) → Result (List (List Item)) ScriptErr
+abbrev pub with_command : ℕ → ℕ → Option Command → Option (List ℕ) → (Bool → Result (List (List Item)) ScriptErr) →
+    Result (List (List Item)) ScriptErr
 with_command count line None deck others = Err (BadLine line)
 with_command count line (Some (Whole request)) deck others = if_few count line (with_first line request (others false))
 with_command count line (Some Sync) deck others = if_few count line (with_phase (others false))
 with_command count line (Some (Activate number)) None others = Err (OpenBlock line)
-with_command count line (Some (Activate number)) (Some deck) others = if_few count line (with_first line (activation number deck) (others true))
+with_command count line (Some (Activate number)) (Some deck) others =
+    if_few count line (with_first line (activation number deck) (others true))
 
 -- the phases of the lines from this number on, behind so many commands, or the first fault; the first line may stand in
 -- a deck block
@@ -55,7 +58,8 @@ script_from in_block count line [] = Ok ([] ∷ [])
 script_from true count line (first ∷ lines) = script_from (not (is_block_end first)) count (line + 1) lines
 script_from false count line (first ∷ lines) =
     if is_skipped (text_of_line first) then script_from false count (line + 1) lines
-    else with_command count line (command_of (text_of_line first)) (deck_of lines) (λ in_block. script_from in_block (count + 1) (line + 1) lines)
+    else with_command count line (command_of (text_of_line first)) (deck_of lines)
+    (λ in_block. script_from in_block (count + 1) (line + 1) lines)
 
 -- the phases of a script, or its first fault
 abbrev pub script_of : List ℕ → Result (List (List Item)) ScriptErr

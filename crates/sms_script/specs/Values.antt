@@ -1,5 +1,6 @@
 -- The values of operands (docs/script.md, "Operands").
-use Rattle.std.specs.Prelude.{ℕ, ◌==◌, ◌&&◌, Bool, true, List, [], ◌∷◌, length, nat_le, not, Option, None, Some, bytes_eq, codes, if◌then◌else◌}
+use Rattle.std.specs.Prelude.{ℕ, ◌==◌, ◌&&◌, Bool, true, List, [], ◌∷◌, length, nat_le, not, Option, None, Some}
+use Rattle.std.specs.Prelude.{bytes_eq, codes, if◌then◌else◌}
 use Rattle.std.specs.List.{list_all, list_any}
 use Rattle.std.specs.Map.{lookup}
 use Rattle.std.specs.Option.{option_and_then}
@@ -22,7 +23,8 @@ is_open_byte byte = not (is_one_of (codes "(),") byte)
 
 -- a value of routines of 1 to so many bytes, with no parenthesis and no comma
 abbrev pub is_plain : ℕ → List ℕ → Bool
-is_plain most bytes = (nat_le 1 (length bytes) && nat_le (length bytes) most) && (list_all is_open_byte bytes && is_short bytes)
+is_plain most bytes =
+    (nat_le 1 (length bytes) && nat_le (length bytes) most) && (list_all is_open_byte bytes && is_short bytes)
 
 -- the text, if it is such a value
 abbrev pub plain_of : ℕ → List ℕ → Option (List ℕ)

@@ -4,7 +4,8 @@ ghost use Rattle.std.specs.Prelude.{if◌then◌else◌, IfOk, IfSome};
 ghost use Rattle.acs_tree.specs.Inputs.{no_lists, no_texts};
 ghost use Rattle.sms_construct.specs.Requests.{plain_alloc};
 ghost use Rattle.sms_construct.specs.SpaceText.{space_text};
-ghost use Rattle.sms_script.specs.Operands.{accounting_in, amounts_of, are_operands, attributes_in, defaults_in, environment_in, input_in, lists_in, origin_in, request_in, texts_in};
+ghost use Rattle.sms_script.specs.Operands.{accounting_in, amounts_of, are_operands, attributes_in, defaults_in};
+ghost use Rattle.sms_script.specs.Operands.{environment_in, input_in, lists_in, origin_in, request_in, texts_in};
 ghost use Rattle.sms_script.specs.Ops.{alloc_in};
 
 use crate::operand::{
@@ -146,7 +147,8 @@ fn read_texts(
     alloc: Global,
     operands: &[&[u8]],
 ) -> Result<Option<Option<Boxed<GivenTexts>>>, AllocError>
-    ensures { IfOk result (λ read. option_map (λ texts. unwrap_or texts no_texts) read ≡ texts_in (map (λ word. word.now) operands.now)) }
+    ensures { IfOk result (λ read. option_map (λ texts. unwrap_or texts no_texts) read ≡
+        texts_in (map (λ word. word.now) operands.now)) }
 {
     if has_text(operands) {
         boxed_texts(alloc, operands)
@@ -159,7 +161,8 @@ fn boxed_texts(
     alloc: Global,
     operands: &[&[u8]],
 ) -> Result<Option<Option<Boxed<GivenTexts>>>, AllocError>
-    ensures { IfOk result (λ read. option_map (λ texts. unwrap_or texts no_texts) read ≡ texts_in (map (λ word. word.now) operands.now)) }
+    ensures { IfOk result (λ read. option_map (λ texts. unwrap_or texts no_texts) read ≡
+        texts_in (map (λ word. word.now) operands.now)) }
 {
     match texts_at(operands) {
         Some(texts) => Ok(Some(Some(Boxed::new(alloc, texts)?))),
@@ -188,7 +191,8 @@ fn read_lists(
     alloc: Global,
     operands: &[&[u8]],
 ) -> Result<Option<Option<Boxed<GivenLists>>>, AllocError>
-    ensures { IfOk result (λ read. option_map (λ lists. unwrap_or lists no_lists) read ≡ lists_in (map (λ word. word.now) operands.now)) }
+    ensures { IfOk result (λ read. option_map (λ lists. unwrap_or lists no_lists) read ≡
+        lists_in (map (λ word. word.now) operands.now)) }
 {
     if has_list(operands) {
         boxed_lists(alloc, operands)
@@ -201,7 +205,8 @@ fn boxed_lists(
     alloc: Global,
     operands: &[&[u8]],
 ) -> Result<Option<Option<Boxed<GivenLists>>>, AllocError>
-    ensures { IfOk result (λ read. option_map (λ lists. unwrap_or lists no_lists) read ≡ lists_in (map (λ word. word.now) operands.now)) }
+    ensures { IfOk result (λ read. option_map (λ lists. unwrap_or lists no_lists) read ≡
+        lists_in (map (λ word. word.now) operands.now)) }
 {
     match lists_at(operands) {
         Some(lists) => Ok(Some(Some(Boxed::new(alloc, lists)?))),

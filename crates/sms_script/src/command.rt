@@ -87,7 +87,9 @@ fn read_numbered(
     number: &[u8],
     rest: &[&[u8]],
 ) -> Result<Option<Command>, AllocError>
-    ensures { IfOk result (λ command. command ≡ if is_admin job.now && is_activate (map (λ word. word.now) rest.now) then option_map (λ n. Command.Activate n) (number_in number.now) else request_of job.now number.now (map (λ word. word.now) rest.now)) }
+    ensures { IfOk result (λ command. command ≡ if is_admin job.now && is_activate (map (λ word. word.now) rest.now)
+        then option_map (λ n. Command.Activate n) (number_in number.now)
+        else request_of job.now number.now (map (λ word. word.now) rest.now)) }
 {
     if is_admin(job) && is_activate(rest) {
         Ok(read_request_number(number).map(Command::Activate))

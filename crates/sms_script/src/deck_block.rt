@@ -16,8 +16,11 @@ pub struct DeckBlock<'a> {
 /// The deck block at the front of the text, if it ends.
 pub fn deck_block(text: &[u8]) -> Option<DeckBlock<'_>>
     requires { length text.now < 2 ^ 32 }
-    ensures deck { MatchOption result (deck_of (lines_of text.entry.now) ≡ None) (λ block. deck_of (lines_of text.entry.now) ≡ Some block.deck.now) }
-    ensures rest { IfSome result (λ block. (count line : ℕ) → script_from true count line (lines_of text.entry.now) ≡ script_from false count (line + block.lines) (lines_of block.rest.now)) }
+    ensures deck { MatchOption result (deck_of (lines_of text.entry.now) ≡ None)
+        (λ block. deck_of (lines_of text.entry.now) ≡ Some block.deck.now) }
+    ensures rest { IfSome result (λ block. (count line : ℕ) →
+        script_from true count line (lines_of text.entry.now) ≡ script_from false count (line + block.lines)
+        (lines_of block.rest.now)) }
     ensures shorter { IfSome result (λ block. length block.rest.now ≤ length text.entry.now) }
     ensures fits { IfSome result (λ block. block.lines + length block.rest.now ≤ length text.entry.now) }
 {

@@ -12,7 +12,8 @@ pub const MOST_WORDS: usize = 33;
 
 /// The words of the line, if they are no more than a command may have.
 pub fn line_words(line: &[u8]) -> Option<ArrayVec<&[u8], MOST_WORDS>>
-    ensures { MatchOption result (most_words < length (words_of (space_byte ∷ []) line.entry.now)) (λ words. map (λ word. word.now) words.items ≡ words_of (space_byte ∷ []) line.entry.now) }
+    ensures { MatchOption result (most_words < length (words_of (space_byte ∷ []) line.entry.now))
+        (λ words. map (λ word. word.now) words.items ≡ words_of (space_byte ∷ []) line.entry.now) }
 {
     let mut words = ArrayVec::new();
     let mut rest = line;

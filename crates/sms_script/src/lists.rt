@@ -32,7 +32,8 @@ pub fn read_volumes(value: &[u8]) -> Option<Volumes>
 
 // Puts a volume serial behind the others where there is room, and says whether it is one that isn't among them.
 fn push_volume(volumes: &mut Volumes, piece: &[u8]) -> bool
-    ensures said { result ≡ (nat_lt (length volumes.old) 59 && (is_volser piece.now && not (list_any (bytes_eq piece.now) volumes.old))) }
+    ensures said { result ≡
+        (nat_lt (length volumes.old) 59 && (is_volser piece.now && not (list_any (bytes_eq piece.now) volumes.old))) }
     ensures volumes { volumes.new ≡ if result then volumes.old ++ piece.now ∷ [] else volumes.old }
 {
     if volumes.is_full() {

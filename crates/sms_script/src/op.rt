@@ -2,7 +2,8 @@
 ghost use Rattle.std.specs.Prelude.{◌≡◌, map, option_map, Some, IfOk, OnErr};
 ghost use Rattle.std.specs.Char.{to_ascii_uppercase};
 ghost use Rattle.std.specs.Option.{option_copied};
-ghost use Rattle.sms_script.specs.Ops.{AskAlloc, dsn_in, number_in, only, only_two, op_in, op_of, op_with, purge_in, upper_words, used_in};
+ghost use Rattle.sms_script.specs.Ops.{AskAlloc, dsn_in, number_in, only, only_two, op_in, op_of, op_with, purge_in};
+ghost use Rattle.sms_script.specs.Ops.{upper_words, used_in};
 
 use crate::allocation::read_allocation;
 use crate::line_words::line_words;

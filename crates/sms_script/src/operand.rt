@@ -3,8 +3,10 @@ ghost use Rattle.std.specs.Prelude.{◌≡◌, ◌∷◌, [], true, map, MatchOp
 ghost use Rattle.std.specs.List.{list_all, list_any};
 ghost use Rattle.dsn_mask.specs.Name.{name_of};
 ghost use Rattle.sms_construct.specs.SpaceText.{space_text};
-ghost use Rattle.sms_script.specs.Operands.{are_operands, given, given_or_none, has_key, have_any, is_key, is_key_of, is_once, is_operand, keys as all_keys, list_keys, text_keys, values_of};
-ghost use Rattle.sms_script.specs.Values.{account_of, count_of, date_of, eattr_of, name_value_of, number_to, plain_of, volumes_of};
+ghost use Rattle.sms_script.specs.Operands.{are_operands, given, given_or_none, has_key, have_any, is_key, is_key_of};
+ghost use Rattle.sms_script.specs.Operands.{is_once, is_operand, keys as all_keys, list_keys, text_keys, values_of};
+ghost use Rattle.sms_script.specs.Values.{account_of, count_of, date_of, eattr_of, name_value_of, number_to, plain_of};
+ghost use Rattle.sms_script.specs.Values.{volumes_of};
 
 use crate::lists::{read_account, read_volumes};
 use crate::value::{
@@ -203,7 +205,8 @@ fn has_key(word: &[u8], key: &[u8]) -> bool
 // The value behind the first of these words that has the key, and the words behind that.
 fn first_value<'a, 'b>(key: &[u8], words: &'b [&'a [u8]]) -> Option<(&'a [u8], &'b [&'a [u8]])>
     ensures { MatchOption result (values_of key.now (map (λ word. word.now) words.entry.now) ≡ [])
-        (λ found. values_of key.now (map (λ word. word.now) words.entry.now) ≡ found.0.now ∷ values_of key.now (map (λ word. word.now) found.1.now)) }
+        (λ found. values_of key.now (map (λ word. word.now) words.entry.now) ≡
+        found.0.now ∷ values_of key.now (map (λ word. word.now) found.1.now)) }
 {
     let mut rest = words;
     while let [word, others @ ..] = rest {

@@ -2,7 +2,8 @@
 ghost use Rattle.std.specs.Prelude.{◌≡◌, ◌++◌, ◌∷◌, [], flat_map, length, IfOk, OnOk, decimal};
 ghost use Rattle.desk_common.specs.Bytes.{space_byte};
 ghost use Rattle.sms_script.specs.Script.{items_of};
-ghost use Rattle.sms_script.specs.AnswerText.{answer_lines, end_text, further_lines, head_text, indented, item_text, items_text, text_of, view_lines, view_text};
+ghost use Rattle.sms_script.specs.AnswerText.{answer_lines, end_text, further_lines, head_text, indented, item_text};
+ghost use Rattle.sms_script.specs.AnswerText.{items_text, text_of, view_lines, view_text};
 
 use crate::further_text::{push_further, push_view_lines};
 use crate::granted_text::push_granted_text;
@@ -139,7 +140,9 @@ fn push_head(text: &mut Vec<u8>, item: &Item, answer: &Answer) -> Result<(), All
 
 // The line of an item, and the places of its entry and of the first reply.
 fn push_places(text: &mut Vec<u8>, line: u32, answer: &Answer) -> Result<(), AllocError>
-    ensures { OnOk result (text.new.items ≡ text.old.items ++ (decimal line ++ space_byte ∷ (decimal answer.now.place ++ space_byte ∷ (decimal answer.now.first ++ space_byte ∷ [])))) }
+    ensures { OnOk result
+        (text.new.items ≡ text.old.items ++ (decimal line ++ space_byte ∷ (decimal
+        answer.now.place ++ space_byte ∷ (decimal answer.now.first ++ space_byte ∷ [])))) }
 {
     push_number_and_blank(text, u64::from(line))?;
     push_number_and_blank(text, answer.place)?;

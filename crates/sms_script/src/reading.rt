@@ -84,8 +84,10 @@ fn read_next<'a>(
     requires some { 0 < length text.now }
     requires fits { passed.lines + length text.now < 2 ^ 32 }
     requires few { passed.commands ≤ most_commands }
-    ensures next { IfOk result (λ next. script_behind passed text.entry.now ≡ found_before next.found (script_behind next.passed next.rest.now)) }
-    ensures fewer { IfOk result (λ next. next.passed.lines + length next.rest.now ≤ passed.lines + length text.entry.now) }
+    ensures next { IfOk result (λ next. script_behind passed text.entry.now ≡
+        found_before next.found (script_behind next.passed next.rest.now)) }
+    ensures fewer { IfOk result (λ next. next.passed.lines + length next.rest.now ≤ passed.lines + length
+        text.entry.now) }
     ensures few { IfOk result (λ next. next.passed.commands ≤ most_commands) }
     ensures shorter { IfOk result (λ next. length next.rest.now < length text.entry.now) }
     ensures refused { IfErr result (IsRefusal (script_behind passed text.entry.now)) }
@@ -119,7 +121,8 @@ fn take_command<'a>(
 ) -> Result<Next<'a>, ScriptErr>
     requires fits { at.lines + length text.now < 2 ^ 32 }
     requires few { at.commands ≤ most_commands }
-    ensures next { IfOk result (λ next. script_at at.commands at.lines (Some command) text.entry.now ≡ found_before next.found (script_behind next.passed next.rest.now)) }
+    ensures next { IfOk result (λ next. script_at at.commands at.lines (Some command) text.entry.now ≡
+        found_before next.found (script_behind next.passed next.rest.now)) }
     ensures fewer { IfOk result (λ next. next.passed.lines + length next.rest.now ≤ at.lines + length text.entry.now) }
     ensures few { IfOk result (λ next. next.passed.commands ≤ most_commands) }
     ensures shorter { IfOk result (λ next. length next.rest.now ≤ length text.entry.now) }
@@ -141,11 +144,15 @@ fn take_command<'a>(
 // What a line gives that is a command by itself, with the text behind it.
 fn take_line(at: Progress, found: Found, text: &[u8]) -> Result<Next<'_>, ScriptErr>
     requires few { at.commands ≤ most_commands }
-    ensures next { IfOk result (λ next. if_few at.commands at.lines (found_before found (script_from false (at.commands + 1) (at.lines + 1) (lines_of text.entry.now))) ≡ found_before next.found (script_behind next.passed next.rest.now)) }
+    ensures next { IfOk result (λ next. if_few at.commands at.lines
+        (found_before found (script_from false (at.commands + 1) (at.lines + 1) (lines_of text.entry.now))) ≡
+        found_before next.found (script_behind next.passed next.rest.now)) }
     ensures fewer { IfOk result (λ next. next.passed.lines + length next.rest.now ≤ at.lines + length text.entry.now) }
     ensures few { IfOk result (λ next. next.passed.commands ≤ most_commands) }
     ensures shorter { IfOk result (λ next. length next.rest.now ≤ length text.entry.now) }
-    ensures refused { IfErr result (IsRefusal (if_few at.commands at.lines (found_before found (script_from false (at.commands + 1) (at.lines + 1) (lines_of text.entry.now))))) }
+    ensures refused { IfErr result
+        (IsRefusal (if_few at.commands at.lines (found_before found
+        (script_from false (at.commands + 1) (at.lines + 1) (lines_of text.entry.now))))) }
 {
     if at.commands >= MAX_COMMANDS {
         return Err(ScriptErr::TooManyLines(at.lines));
@@ -169,11 +176,13 @@ fn take_deck<'a>(
 ) -> Result<Next<'a>, ScriptErr>
     requires fits { at.lines + length text.now < 2 ^ 32 }
     requires few { at.commands ≤ most_commands }
-    ensures next { IfOk result (λ next. script_at at.commands at.lines (Some (Command.Activate number)) text.entry.now ≡ found_before next.found (script_behind next.passed next.rest.now)) }
+    ensures next { IfOk result (λ next. script_at at.commands at.lines (Some (Command.Activate number)) text.entry.now ≡
+        found_before next.found (script_behind next.passed next.rest.now)) }
     ensures fewer { IfOk result (λ next. next.passed.lines + length next.rest.now ≤ at.lines + length text.entry.now) }
     ensures few { IfOk result (λ next. next.passed.commands ≤ most_commands) }
     ensures shorter { IfOk result (λ next. length next.rest.now ≤ length text.entry.now) }
-    ensures refused { IfErr result (IsRefusal (script_at at.commands at.lines (Some (Command.Activate number)) text.entry.now)) }
+    ensures refused { IfErr result
+        (IsRefusal (script_at at.commands at.lines (Some (Command.Activate number)) text.entry.now)) }
 {
     let Some(block) = deck_block(text) else {
         return Err(ScriptErr::OpenBlock(at.lines));

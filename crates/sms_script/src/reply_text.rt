@@ -73,7 +73,8 @@ fn push_purged(text: &mut Vec<u8>, job: &Name, floor: u32) -> Result<(), AllocEr
 
 // What stands in the answer where a routine of this kind ended with this code.
 fn push_exit(text: &mut Vec<u8>, kind: Kind, code: u16) -> Result<(), AllocError>
-    ensures { OnOk result (text.new.items ≡ text.old.items ++ spaced (codes "R14 EXIT" ∷ name_of kind ∷ decimal code ∷ [])) }
+    ensures { OnOk result (text.new.items ≡ text.old.items ++ spaced
+        (codes "R14 EXIT" ∷ name_of kind ∷ decimal code ∷ [])) }
 {
     text.extend_from_slice(b"R14 EXIT ")?;
     push_word_and_blank(text, kind.name())?;
@@ -82,7 +83,8 @@ fn push_exit(text: &mut Vec<u8>, kind: Kind, code: u16) -> Result<(), AllocError
 
 // What stands in the answer where a routine of this kind chose this name.
 fn push_unknown_class(text: &mut Vec<u8>, kind: Kind, name: &Short) -> Result<(), AllocError>
-    ensures { OnOk result (text.new.items ≡ text.old.items ++ spaced (codes "R15 UNKNOWN CLASS" ∷ name_of kind ∷ value_text name.now ∷ [])) }
+    ensures { OnOk result (text.new.items ≡ text.old.items ++ spaced
+        (codes "R15 UNKNOWN CLASS" ∷ name_of kind ∷ value_text name.now ∷ [])) }
 {
     text.extend_from_slice(b"R15 UNKNOWN CLASS ")?;
     push_word_and_blank(text, kind.name())?;
@@ -140,7 +142,9 @@ pub fn push_view(text: &mut Vec<u8>, view: &View) -> Result<(), AllocError>
 
 // The words of a storage group, with a blank behind them.
 fn push_group(text: &mut Vec<u8>, name: &Name, status: Status) -> Result<(), AllocError>
-    ensures { OnOk result (text.new.items ≡ text.old.items ++ (codes "STORGRP " ++ (name.now ++ space_byte ∷ (status_text status ++ space_byte ∷ [])))) }
+    ensures { OnOk result
+        (text.new.items ≡ text.old.items ++ (codes
+        "STORGRP " ++ (name.now ++ space_byte ∷ (status_text status ++ space_byte ∷ [])))) }
 {
     text.extend_from_slice(b"STORGRP ")?;
     push_word_and_blank(text, name.bytes())?;
@@ -158,7 +162,10 @@ fn push_row(text: &mut Vec<u8>, row: &VolRow) -> Result<(), AllocError>
 
 // The words of a volume, with a blank behind them.
 fn push_volume(text: &mut Vec<u8>, row: &VolRow) -> Result<(), AllocError>
-    ensures { OnOk result (text.new.items ≡ text.old.items ++ (codes "VOLUME " ++ (row.now.volser ++ space_byte ∷ (row.now.group ++ space_byte ∷ (status_text row.now.status ++ space_byte ∷ []))))) }
+    ensures { OnOk result
+        (text.new.items ≡ text.old.items ++ (codes
+        "VOLUME " ++ (row.now.volser ++ space_byte ∷ (row.now.group ++ space_byte ∷ (status_text
+        row.now.status ++ space_byte ∷ []))))) }
 {
     text.extend_from_slice(b"VOLUME ")?;
     push_word_and_blank(text, row.volser.bytes())?;

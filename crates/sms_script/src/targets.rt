@@ -2,7 +2,8 @@
 ghost use Rattle.std.specs.Prelude.{◌≡◌, codes};
 ghost use Rattle.sms_script.specs.Found.{◌⊳◌};
 ghost use Rattle.sms_script.specs.Parts.{in_call};
-ghost use Rattle.sms_script.specs.Ops.{action_in, group_of, place_in, set_of, target_in, vary_in, volume_of, without_all};
+ghost use Rattle.sms_script.specs.Ops.{action_in, group_of, place_in, set_of, target_in, vary_in, volume_of};
+ghost use Rattle.sms_script.specs.Ops.{without_all};
 
 use crate::parts::{before_end, in_call, place_of};
 use dsn_mask::{Dsn, Name, Volser};

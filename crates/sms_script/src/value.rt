@@ -2,7 +2,8 @@
 ghost use Rattle.std.specs.Prelude.{◌≡◌};
 ghost use Rattle.std.specs.List.{list_all};
 ghost use Rattle.dsn_mask.specs.Name.{is_digit};
-ghost use Rattle.sms_script.specs.Values.{count_of, date_of, eattr_of, is_open_byte, name_value_of, number_to, plain_of};
+ghost use Rattle.sms_script.specs.Values.{count_of, date_of, eattr_of, is_open_byte, name_value_of, number_to};
+ghost use Rattle.sms_script.specs.Values.{plain_of};
 
 use dsn_mask::{Name, Short};
 use sms_construct::{Eattr, VolumeCount, read_number};

@@ -3,7 +3,8 @@ use Rattle.std.proofs.Common.{◌≡◌, ℕ, List, ◌∷◌, refl, ap, ◌∙�
 use Rattle.std.specs.Prelude.{Option, None, Some}
 use Rattle.sms_keeper.specs.Suits.{deck_of}
 use Rattle.sms_script.specs.declared.item.Item.{Item}
-use Rattle.sms_simulation.specs.Simulation.{AreAsked, IsSimulatedUnder, IsSimulation, first_misplaced, first_other, misplaced_from}
+use Rattle.sms_simulation.specs.Simulation.{AreAsked, IsSimulatedUnder, IsSimulation, first_misplaced, first_other}
+use Rattle.sms_simulation.specs.Simulation.{misplaced_from}
 use Rattle.sms_simulation.specs.declared.simulated.Simulated.{Simulated}
 use Rattle.sms_simulation.specs.declared.simulated.Simulated.TheVariants as simulations
 

@@ -17,7 +17,9 @@ groups_text groups = join_with_byte comma groups
 
 -- the classes and the storage groups
 abbrev pub classes_text : Values → List ℕ
-classes_text values = spaced (codes "CLASSES" ∷ value_text values.dataclas ∷ value_text values.storclas ∷ value_text values.mgmtclas ∷ groups_text values.groups ∷ [])
+classes_text values =
+    spaced (codes "CLASSES" ∷ value_text values.dataclas ∷ value_text values.storclas ∷ value_text
+    values.mgmtclas ∷ groups_text values.groups ∷ [])
 
 -- how a classification ends
 abbrev pub outcome_text : Stop → Values → List ℕ
@@ -37,7 +39,8 @@ behind front line = front ++ line ++ 10 ∷ []
 
 -- that line, and the lines that the routines wrote, each behind two blanks
 abbrev pub classified_text : ℕ → List ℕ → ℕ → Stop → Values → Trace → List ℕ
-classified_text line job number stop values trace = outcome_line line job number stop values ++ 10 ∷ [] ++ flat_map (behind (codes "  ")) (trace_lines trace)
+classified_text line job number stop values trace =
+    outcome_line line job number stop values ++ 10 ∷ [] ++ flat_map (behind (codes "  ")) (trace_lines trace)
 
 -- the same of classes
 abbrev pub text_of_classes : ℕ → List ℕ → ℕ → Classes → List ℕ

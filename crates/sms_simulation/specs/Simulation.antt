@@ -46,7 +46,8 @@ first_misplaced (item ∷ items) = misplaced_from (deck_of item.request.op) item
 -- what is printed of an item: what the routines give its ALLOC
 abbrev pub text_if : Configuration → Item → Option Alloc → List ℕ
 text_if config item None = []
-text_if config item (Some alloc) = text_of_classes item.line item.request.job item.request.number (classes_of config item.request.job alloc)
+text_if config item (Some alloc) =
+    text_of_classes item.line item.request.job item.request.number (classes_of config item.request.job alloc)
 
 -- what is printed of an item; nothing but of an ALLOC
 abbrev pub item_text : Configuration → Item → List ℕ

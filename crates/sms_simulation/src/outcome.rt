@@ -2,7 +2,8 @@
 ghost use Rattle.std.specs.Prelude.{◌≡◌, ◌++◌, ◌∷◌, [], OnOk, flat_map};
 ghost use Rattle.desk_common.specs.Bytes.{comma};
 ghost use Rattle.sms_script.specs.TraceText.{trace_lines};
-ghost use Rattle.sms_simulation.specs.OutcomeText.{behind, classes_text, classified_text, groups_text, outcome_line, outcome_text};
+ghost use Rattle.sms_simulation.specs.OutcomeText.{behind, classes_text, classified_text, groups_text, outcome_line};
+ghost use Rattle.sms_simulation.specs.OutcomeText.{outcome_text};
 
 use acs_tree::Values;
 use desk_common::{Items, push_number};
@@ -21,7 +22,8 @@ pub fn push_classified(
     classified: &Classified,
     trace: &Trace,
 ) -> Result<(), AllocError>
-    ensures { OnOk result (text.new.items ≡ text.old.items ++ classified_text line request.now.job request.now.number classified.now.stop classified.now.values trace.now) }
+    ensures { OnOk result (text.new.items ≡ text.old.items ++ classified_text line request.now.job request.now.number
+        classified.now.stop classified.now.values trace.now) }
 {
     push_line(text, line, request, classified)?;
     text.extend_from_slice(b"\n")?;
@@ -34,7 +36,8 @@ fn push_line(
     request: &Request,
     classified: &Classified,
 ) -> Result<(), AllocError>
-    ensures { OnOk result (text.new.items ≡ text.old.items ++ outcome_line line request.now.job request.now.number classified.now.stop classified.now.values) }
+    ensures { OnOk result (text.new.items ≡ text.old.items ++ outcome_line line request.now.job request.now.number
+        classified.now.stop classified.now.values) }
 {
     push_number_and_blank(text, u64::from(line))?;
     push_word_and_blank(text, request.job.bytes())?;

@@ -98,7 +98,8 @@ fn push_alloc(
     allocation: &Alloc,
     slate: &mut Slate,
 ) -> Result<(), AllocError>
-    ensures { OnOk result (text.new.items ≡ text.old.items ++ text_of_classes item.now.line item.now.request.job item.now.request.number (classes_of config.now item.now.request.job allocation.now)) }
+    ensures { OnOk result (text.new.items ≡ text.old.items ++ text_of_classes item.now.line item.now.request.job
+        item.now.request.number (classes_of config.now item.now.request.job allocation.now)) }
 {
     let classified = classify(config, &item.request.job, allocation, slate);
     let trace = Trace::of(alloc, slate)?;

@@ -1,5 +1,6 @@
 -- A transaction from its beginning to its end.
-use Rattle.std.proofs.Common.{◌≡◌, false, [], Ok, Err, Result, OnOk, OnErr, Some, IsTrue, inl, inr, refl, sym, ap, subst, ◌∙◌}
+use Rattle.std.proofs.Common.{◌≡◌, false, [], Ok, Err, Result, OnOk, OnErr, Some, IsTrue, inl, inr, refl, sym, ap}
+use Rattle.std.proofs.Common.{subst, ◌∙◌}
 use Rattle.sqlite.specs.Effect.{Database, IsDatabase}
 use Rattle.sqlite.specs.Schema.{Schema}
 use Rattle.sqlite.specs.State.{State, Shows, KeepsCounts, Survives}
@@ -15,7 +16,8 @@ use Rattle.keeper_statements.specs.Steps.{LeavesRest}
 use Rattle.sms_sqlite.specs.Reading.{IsMadeReady}
 use Rattle.sms_sqlite.specs.Told.{tables_of}
 use Rattle.sms_sqlite.specs.Values.{rows_in, rows_of}
-use Rattle.sms_sqlite.specs.Writing.{Holds, HoldsLike, AreAlike, HasRows, IsAsBefore, IsChangeLeft, IsCommitted, IsMadeLeft, IsSettled, with_effect, with_row, with_trees}
+use Rattle.sms_sqlite.specs.Writing.{Holds, HoldsLike, AreAlike, HasRows, IsAsBefore, IsChangeLeft, IsCommitted}
+use Rattle.sms_sqlite.specs.Writing.{IsMadeLeft, IsSettled, with_effect, with_row, with_trees}
 use Rattle.sms_sqlite.proofs.TablesLemmas.{alike_self, alike_then}
 use Rattle.sms_sqlite.proofs.ToldLemmas.{alike_same, reads_of, same_self_rows}
 

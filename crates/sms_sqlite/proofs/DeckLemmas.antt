@@ -1,5 +1,6 @@
 -- A deck put where its number belongs.
-use Rattle.std.proofs.Common.{◌≡◌, Bool, true, false, cond, ℕ, pos, List, [], ◌∷◌, ◌++◌, filter, Some, refl, ap, ap₂, sym, subst, ◌∙◌, append-nil, Ordering, Less, Equal, Greater, is_eq, nat_eq}
+use Rattle.std.proofs.Common.{◌≡◌, Bool, true, false, cond, ℕ, pos, List, [], ◌∷◌, ◌++◌, filter, Some, refl, ap, ap₂}
+use Rattle.std.proofs.Common.{sym, subst, ◌∙◌, append-nil, Ordering, Less, Equal, Greater, is_eq, nat_eq}
 use Rattle.std.specs.List.{list_any}
 use Rattle.sqlite.specs.Order.{Row}
 use Rattle.sqlite.specs.declared.types.Value.TheVariants.{Int}

@@ -1,5 +1,6 @@
 -- Databases whose tables are told, and some whose tables aren't: the definitions hold of what a desk finds.
-use Rattle.std.proofs.Common.{◌≡◌, ◌==◌, ◌∙◌, true, false, cond, pos, [], ◌∷◌, Some, None, codes, ap, refl, inl, inr, arith}
+use Rattle.std.proofs.Common.{◌≡◌, ◌==◌, ◌∙◌, true, false, cond, pos, [], ◌∷◌, Some, None, codes, ap, refl, inl, inr}
+use Rattle.std.proofs.Common.{arith}
 use Rattle.sqlite.specs.Effect.{Database}
 use Rattle.sqlite.specs.declared.types.Value.TheVariants.{Int}
 use Rattle.sqlite_schema.specs.declared.schema.View.{View as Stored}
@@ -27,7 +28,8 @@ use Rattle.sqlite.specs.Schema.{Schema}
 use Rattle.sqlite.specs.Table.{Table}
 use Rattle.sqlite.specs.Tree.{Trees}
 use Rattle.sqlite_schema.specs.Names.{same_name}
-use Rattle.keeper_statements.specs.Schema.{decks_table, floors_table, replies_table, sets_table, statuses_table, strict_column, strict_table}
+use Rattle.keeper_statements.specs.Schema.{decks_table, floors_table, replies_table, sets_table, statuses_table}
+use Rattle.keeper_statements.specs.Schema.{strict_column, strict_table}
 use Rattle.sms_keeper.specs.Tables.{no_rows}
 use Rattle.keeper_statements.specs.Presence.{has_hidden}
 use Rattle.keeper_statements.specs.Tables.{Serves, tables_in}

@@ -1,11 +1,13 @@
 -- What follows of an answer, whatever it is, and of one effect behind the other.
-use Rattle.std.proofs.Common.{◌≡◌, ◌++◌, ◌∷◌, [], ℕ, ℤ, pos, Bool, true, false, cond, arith, inl, not, append-nil, List, Ok, Err, Result, OnOk, filter, refl, ap, ap₂, sym, subst, ◌∙◌}
+use Rattle.std.proofs.Common.{◌≡◌, ◌++◌, ◌∷◌, [], ℕ, ℤ, pos, Bool, true, false, cond, arith, inl, not, append-nil, List}
+use Rattle.std.proofs.Common.{Ok, Err, Result, OnOk, filter, refl, ap, ap₂, sym, subst, ◌∙◌}
 use Rattle.std.specs.List.{list_any}
 use Rattle.sqlite.specs.Effect.{Database}
 use Rattle.sqlite.specs.Schema.{Schema}
 use Rattle.sqlite.specs.State.{State, Survives}
 use Rattle.sqlite.specs.declared.error.Error.{Error}
-use Rattle.sms_keeper.specs.Tables.{is_below_floor, row_of, is_deck, is_reply_below, put_floor, sets_with, replies_left, decks_added, statuses_with, floors_with}
+use Rattle.sms_keeper.specs.Tables.{is_below_floor, row_of, is_deck, is_reply_below, put_floor, sets_with, replies_left}
+use Rattle.sms_keeper.specs.Tables.{decks_added, statuses_with, floors_with}
 use Rattle.sms_keeper.specs.declared.change.Change.{Change}
 use Rattle.sms_keeper.specs.declared.deck_row.DeckRow.{DeckRow}
 use Rattle.sms_keeper.specs.declared.effect.Effect.{Effect}

@@ -1,5 +1,7 @@
 -- What a reading of the tables says of what is told.
-use Rattle.std.proofs.Common.{◌≡◌, ◌≤◌, ◌&&◌, ℕ, suc, pos, Bool, true, false, cond, List, [], ◌∷◌, filter, Ok, Err, Result, OnOk, OnErr, Some, None, Option, IsTrue, Ordering, is_lt, nat_cmp, refl, sym, ap, ap₂, subst, ◌∙◌, arith, IsSorted}
+use Rattle.std.proofs.Common.{◌≡◌, ◌≤◌, ◌&&◌, ℕ, suc, pos, Bool, true, false, cond, List, [], ◌∷◌, filter, Ok, Err}
+use Rattle.std.proofs.Common.{Result, OnOk, OnErr, Some, None, Option, IsTrue, Ordering, is_lt, nat_cmp, refl, sym, ap}
+use Rattle.std.proofs.Common.{ap₂, subst, ◌∙◌, arith, IsSorted}
 use Rattle.std.specs.Prelude.{IfErr, IfOk, IfSome, is_some, option_map}
 use Rattle.std.specs.Option.{option_or}
 use Rattle.std.specs.Ordering.{ordering_then}
@@ -15,8 +17,10 @@ use Rattle.sqlite_value.specs.Order.{column, value_cmp}
 use Rattle.sms_construct.specs.declared.data_set.DataSet.{DataSet}
 use Rattle.sms_construct.specs.declared.target.Target.{Target}
 use Rattle.sms_construct.specs.declared.target.Target.TheVariants as targets
-use Rattle.sms_keeper.proofs.SortLemmas.{count_known, count_total, job_known, job_total, name_known, name_total, request_known, request_total, status_total, target_known}
-use Rattle.sms_keeper.specs.Loading.{AreLoaded, SameDamage, StaysDamaged, by_count, by_job, by_name, by_request, by_target, target_name, target_rank, text_cmp}
+use Rattle.sms_keeper.proofs.SortLemmas.{count_known, count_total, job_known, job_total, name_known, name_total}
+use Rattle.sms_keeper.proofs.SortLemmas.{request_known, request_total, status_total, target_known}
+use Rattle.sms_keeper.specs.Loading.{AreLoaded, SameDamage, StaysDamaged, by_count, by_job, by_name, by_request}
+use Rattle.sms_keeper.specs.Loading.{by_target, target_name, target_rank, text_cmp}
 use Rattle.sms_keeper.specs.Tables.{no_rows, is_deck, is_floor_of, is_named, is_reply_of, is_status_of}
 use Rattle.sms_keeper.specs.declared.deck_row.DeckRow.{DeckRow}
 use Rattle.sms_keeper.specs.declared.floor.Floor.{Floor}

@@ -1,5 +1,6 @@
 -- A status set, and what is written of statuses.
-use Rattle.std.proofs.Common.{◌≡◌, Bool, true, false, not, cond, ℕ, ℤ, ◌≤◌, pos, List, [], ◌∷◌, ◌++◌, filter, map, Some, ◌+◌, ◌<◌, length, take, get_or, append_assoc, append-nil, refl, ap, ap₂, sym, subst, ◌∙◌}
+use Rattle.std.proofs.Common.{◌≡◌, Bool, true, false, not, cond, ℕ, ℤ, ◌≤◌, pos, List, [], ◌∷◌, ◌++◌, filter, map, Some}
+use Rattle.std.proofs.Common.{◌+◌, ◌<◌, length, take, get_or, append_assoc, append-nil, refl, ap, ap₂, sym, subst, ◌∙◌}
 use Rattle.std.specs.Prelude.{slice_get}
 use Rattle.std.proofs.lemmas.Grind.{take_at_read}
 use Rattle.std.proofs.lemmas.List.{map-append, take_all}
@@ -16,7 +17,8 @@ use Rattle.sms_construct.specs.declared.target.Target.{Target}
 use Rattle.sms_construct.specs.declared.target.Target.TheVariants as targets
 use Rattle.sms_keeper.specs.Tables.{is_status_of, same_target, row_with}
 use Rattle.sms_keeper.specs.declared.status_row.StatusRow.{StatusRow}
-use Rattle.sms_sqlite.specs.Inner.Columns.{kind_column, name_column, status_column, row_of_status, with_statuses, AreReadable}
+use Rattle.sms_sqlite.specs.Inner.Columns.{kind_column, name_column, status_column, row_of_status, with_statuses}
+use Rattle.sms_sqlite.specs.Inner.Columns.{AreReadable}
 use Rattle.sms_sqlite.specs.Values.{each_in, status_in, target_of, all_statuses}
 
 -- the test holds of the same targets alone

@@ -1,5 +1,7 @@
 -- What is told of a database before and after a transaction.
-use Rattle.std.proofs.Common.{◌≡◌, ◌≤◌, ◌&&◌, inl, inr, not, nat_lt, ltb-true, lt-ltb, ℕ, Bool, true, false, cond, List, [], ◌∷◌, filter, Ok, Err, Result, OnOk, OnErr, Some, None, Option, IsTrue, refl, sym, ap, subst, ◌∙◌, arith, Ordering, Less, Equal, Greater, is_lt}
+use Rattle.std.proofs.Common.{◌≡◌, ◌≤◌, ◌&&◌, inl, inr, not, nat_lt, ltb-true, lt-ltb, ℕ, Bool, true, false, cond, List}
+use Rattle.std.proofs.Common.{[], ◌∷◌, filter, Ok, Err, Result, OnOk, OnErr, Some, None, Option, IsTrue, refl, sym, ap}
+use Rattle.std.proofs.Common.{subst, ◌∙◌, arith, Ordering, Less, Equal, Greater, is_lt}
 use Rattle.std.specs.Coded.{Coded, coded×, coded_list, coded_option, coded_ℕ}
 use Rattle.std.specs.Prelude.{IfSome, is_some}
 use Rattle.std.specs.List.{AllByRecursion, list_all}
@@ -25,7 +27,8 @@ use Rattle.keeper_statements.specs.Schema.{desk_tables}
 use Rattle.keeper_statements.specs.Tables.{IsKeyed, Serves, rows_named}
 use Rattle.keeper_statements.proofs.GrowLemmas.{all_ready, ready_serves, unused_table}
 use Rattle.sms_sqlite.specs.Same.{is_same}
-use Rattle.sms_sqlite.specs.Told.{can_serve, can_tell, is_apart, is_formed, is_keyed, is_whole, tables_of, is_shown, told_of, IsReadable}
+use Rattle.sms_sqlite.specs.Told.{can_serve, can_tell, is_apart, is_formed, is_keyed, is_whole, tables_of, is_shown}
+use Rattle.sms_sqlite.specs.Told.{told_of, IsReadable}
 use Rattle.sms_sqlite.specs.Values.{rows_in}
 use Rattle.sms_sqlite.specs.Writing.{Holds, AreAlike, HasRows, IsCommitted, with_trees}
 use Rattle.sms_sqlite.proofs.SameLemmas.{and_parts, and_true, same_is, same_self}

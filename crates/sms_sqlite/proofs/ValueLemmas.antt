@@ -1,5 +1,6 @@
 -- What the columns of a row are, where it stands for something, and the tests of SQL on them.
-use Rattle.std.proofs.Common.{◌≡◌, ◌&&◌, ℕ, zero, suc, pos, negsuc, Bool, true, false, List, Option, Some, None, refl, ap, ap₂, sym, ◌∙◌, arith, is_eq, is_lt, is_gt, nat_eq, nat_lt}
+use Rattle.std.proofs.Common.{◌≡◌, ◌&&◌, ℕ, zero, suc, pos, negsuc, Bool, true, false, List, Option, Some, None, refl}
+use Rattle.std.proofs.Common.{ap, ap₂, sym, ◌∙◌, arith, is_eq, is_lt, is_gt, nat_eq, nat_lt}
 use Rattle.std.specs.Prelude.{bytes_eq, option_map, slice_get, nat_le, if◌then◌else◌}
 use Rattle.std.proofs.lemmas.Bool.Decides.{nat_tests}
 use Rattle.std.proofs.lemmas.Int.{ints}
@@ -29,7 +30,8 @@ use Rattle.sms_records.specs.Requests.{request_form}
 use Rattle.sms_records.specs.Sets.{data_set_form}
 use Rattle.keeper_statements.specs.Tests.{is_equal, is_less, is_greater, is_of, is_status, is_below, is_above}
 use Rattle.sms_sqlite.specs.Inner.Columns.{kind_column, name_column}
-use Rattle.sms_sqlite.specs.Values.{text_in, bytes_in, number_in, set_in, reply_in, deck_in, status_in, floor_in, target_of, all_statuses}
+use Rattle.sms_sqlite.specs.Values.{text_in, bytes_in, number_in, set_in, reply_in, deck_in, status_in, floor_in}
+use Rattle.sms_sqlite.specs.Values.{target_of, all_statuses}
 
 back : (b : Bool) → is_true (from_truth (Some b)) ≡ b
 back true = refl

@@ -1,5 +1,6 @@
 -- What each written row reads as, and each change of the tables.
-use Rattle.std.proofs.Common.{◌≡◌, ◌≤◌, ◌++◌, ◌∷◌, [], ℕ, ℤ, pos, Bool, true, false, not, cond, List, Some, filter, map, refl, ap, sym, subst, ◌∙◌}
+use Rattle.std.proofs.Common.{◌≡◌, ◌≤◌, ◌++◌, ◌∷◌, [], ℕ, ℤ, pos, Bool, true, false, not, cond, List, Some, filter, map}
+use Rattle.std.proofs.Common.{refl, ap, sym, subst, ◌∙◌}
 use Rattle.std.specs.Prelude.{option_map}
 use Rattle.sms_construct.specs.declared.target.Target.TheVariants as targets
 use Rattle.std.proofs.lemmas.Bool.{le-leb}
@@ -11,7 +12,8 @@ use Rattle.sms_construct.specs.Quantities.{IsRequestNumber, request_number_of}
 use Rattle.sms_construct.specs.declared.data_set.DataSet.{DataSet}
 use Rattle.sms_construct.specs.declared.status.Status.{Status}
 use Rattle.sms_construct.specs.declared.target.Target.{Target}
-use Rattle.sms_keeper.specs.Tables.{is_named, is_floor_of, is_reply_below, put_set, put_floor, without_set, row_with, is_status_of, row_of}
+use Rattle.sms_keeper.specs.Tables.{is_named, is_floor_of, is_reply_below, put_set, put_floor, without_set, row_with}
+use Rattle.sms_keeper.specs.Tables.{is_status_of, row_of}
 use Rattle.sms_keeper.specs.declared.change.Change.{Change}
 use Rattle.sms_keeper.specs.declared.rows.Rows.{Rows}
 use Rattle.sms_keeper.specs.declared.status_row.StatusRow.{StatusRow}
@@ -24,7 +26,8 @@ use Rattle.sms_records.specs.Inner.WholeLaws.{whole-again}
 use Rattle.sqlite_rules.specs.Edit.{is_taken}
 use Rattle.keeper_statements.specs.Changes as tables
 use Rattle.keeper_statements.specs.Tables.{Tables}
-use Rattle.keeper_statements.specs.Tests.{set_row, reply_row, deck_row, floor_row, is_of, is_status, is_below, without, HasFound}
+use Rattle.keeper_statements.specs.Tests.{set_row, reply_row, deck_row, floor_row, is_of, is_status, is_below, without}
+use Rattle.keeper_statements.specs.Tests.{HasFound}
 use Rattle.sms_sqlite.specs.Inner.Columns.{kind_column, name_column, status_column, with_statuses, AreReadable}
 use Rattle.sms_sqlite.specs.Values.{each_in, set_in, reply_in, status_in, floor_in, target_of}
 use Rattle.sms_sqlite.proofs.DeckLemmas.{deck_put}

@@ -1,5 +1,6 @@
 -- What the keeper over a database tells.
-use Rattle.std.specs.Prelude.{◌&&◌, ℕ, Bool, true, not, nat_lt, List, [], ◌∷◌, Option, Some, None, IsTrue, is_some, refl, if◌then◌else◌}
+use Rattle.std.specs.Prelude.{◌&&◌, ℕ, Bool, true, not, nat_lt, List, [], ◌∷◌, Option, Some, None, IsTrue, is_some}
+use Rattle.std.specs.Prelude.{refl, if◌then◌else◌}
 use Rattle.std.specs.Coded.{Coded, code_by, coded×, coded_list, coded_option, coded_ℕ}
 use Rattle.std.specs.List.{list_all}
 use Rattle.std.specs.Ordering.{is_lt}
@@ -35,7 +36,8 @@ abbrev pub is_formed : Table → Schema → Option Table → Bool
 is_formed form schema None = not (is_used schema form.name)
 is_formed form schema (Some t) =
     is_same the_table.the_row.coded t (placed form t.tree)
-    && (nat_lt t.tree 65536 && is_same (coded_list (coded× (coded_list coded_ℕ) coded_ℕ)) (keys_on schema (placed form t.tree)) (keys_of form))
+    && (nat_lt t.tree 65536 && is_same (coded_list (coded× (coded_list coded_ℕ) coded_ℕ))
+    (keys_on schema (placed form t.tree)) (keys_of form))
 
 -- a table has a tree of its own
 abbrev pub is_apart : Schema → Table → Bool
@@ -45,7 +47,8 @@ is_apart schema t = is_same (coded_option the_table.the_row.coded) (table_in sch
 abbrev pub can_serve : Schema → Bool
 can_serve schema =
     list_all (λ form. is_formed form schema (table_of schema form.name)) desk_tables
-    && (not (has_referrers schema) && (list_all (is_apart schema) schema.tables && (are_bound schema && not (lacks_sequence schema))))
+    && (not (has_referrers schema) && (list_all (is_apart schema)
+    schema.tables && (are_bound schema && not (lacks_sequence schema))))
 
 -- so it is, and the numbers of their rows rise
 abbrev pub is_whole : Database → Bool
@@ -70,7 +73,8 @@ pub record KeeperView (S : Type 0) : Type 0 where
 abbrev pub keeper_code : {S : Type 0} → Coded S → Coded (KeeperView S)
 keeper_code {S} store =
     code_by (Held S × (Held S × ℕ)) (coded× (held_code store) (coded× (held_code store) coded_ℕ))
-    (λ k. (k.connection, (k.base, k.faults))) (λ p. record { connection = p.0; base = p.1.0; faults = p.1.1 }) (λ _. refl)
+    (λ k. (k.connection, (k.base, k.faults))) (λ p. record { connection = p.0; base = p.1.0; faults = p.1.1 })
+    (λ _. refl)
 
 -- what the database holds can be told: so far the disk returned what was written, and the connection is open
 abbrev pub is_shown : State → Bool

@@ -1,5 +1,6 @@
 -- What the rows of the database stand for (docs/records.md, "The database").
-use Rattle.std.specs.Prelude.{ℕ, pos, negsuc, zero, suc, List, [], ◌∷◌, bytes_eq, Option, Some, None, option_map, slice_get, if◌then◌else◌}
+use Rattle.std.specs.Prelude.{ℕ, pos, negsuc, zero, suc, List, [], ◌∷◌, bytes_eq, Option, Some, None, option_map}
+use Rattle.std.specs.Prelude.{slice_get, if◌then◌else◌}
 use Rattle.desk_common.specs.Limits.{up_to}
 use Rattle.sqlite.specs.Order.{Row}
 use Rattle.sqlite.specs.declared.types.Value.{Value}
@@ -93,7 +94,8 @@ target_of (suc (suc kind)) name = None
 
 -- the statuses in the order of their numbers, from 0
 abbrev pub all_statuses : List Status
-all_statuses = statuses.Enable ∷ statuses.NotCon ∷ statuses.DisAll ∷ statuses.DisNew ∷ statuses.QuiAll ∷ statuses.QuiNew ∷ []
+all_statuses =
+    statuses.Enable ∷ statuses.NotCon ∷ statuses.DisAll ∷ statuses.DisNew ∷ statuses.QuiAll ∷ statuses.QuiNew ∷ []
 
 -- the status of a storage group or a volume
 unfoldable pub status_in : Row → Option StatusRow

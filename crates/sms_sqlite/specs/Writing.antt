@@ -6,7 +6,8 @@ use Rattle.sqlite.specs.Schema.{Schema}
 use Rattle.sqlite.specs.State.{State, HasCleanDisk}
 use Rattle.sqlite.specs.declared.error.Error.{Error}
 use Rattle.sqlite_trees.specs.Tree.{Trees}
-use Rattle.sms_keeper.specs.Tables.{AreSame, sets_with, floors_with, replies_left, statuses_with, decks_added, keep_row, row_of, is_deck, is_status_of}
+use Rattle.sms_keeper.specs.Tables.{AreSame, sets_with, floors_with, replies_left, statuses_with, decks_added, keep_row}
+use Rattle.sms_keeper.specs.Tables.{row_of, is_deck, is_status_of}
 use Rattle.sms_keeper.specs.declared.change.Change.{Change}
 use Rattle.sms_keeper.specs.declared.rows.Rows.{Rows}
 use Rattle.sms_construct.specs.declared.target.Target.{Target}
@@ -59,12 +60,14 @@ pub record IsChangeLeft (old : Database) (trees : Trees) (rows : Rows) : Type 0 
 pub record IsMadeLeft (old : Database) (trees : Trees) : Type 0 where
   pub schema : Schema
   pub made : IsMadeReady old (record { schema = schema; trees = trees })
-  pub sound : lacks_sequence old.schema ≡ false → IsDatabase old → IsDatabase (record { schema = schema; trees = trees })
+  pub sound : lacks_sequence old.schema ≡ false → IsDatabase old →
+      IsDatabase (record { schema = schema; trees = trees })
   pub rows : (rows : Rows) → tables_of old ≡ Some rows → HasRows old (record { schema = schema; trees = trees }) rows
 
 -- while the disk is clean, what isn't refused makes this change of the rows, inside its transaction
 abbrev pub MayLead : {X : Type 0} → (Rows → Rows) → State → State → Result X Error → Type 0
-MayLead change old new result = HasCleanDisk new → IsTrue old.in_transaction → (rows : Rows) → Holds old.now rows → OnOk result (HoldsLike old.now new.now (change rows))
+MayLead change old new result = HasCleanDisk new → IsTrue old.in_transaction → (rows : Rows) → Holds old.now rows →
+    OnOk result (HoldsLike old.now new.now (change rows))
 
 -- the tables with the effect of a change, and without the row of its reply
 abbrev pub with_effect : Change → Rows → Rows
@@ -107,4 +110,5 @@ pub record IsCommitted (old : Database) (new : State) (rows : Rows) : Type 0 whe
 
 -- while the disk is clean, what isn't refused commits this change of the rows, whoever wrote them
 abbrev pub MayCommit : {X E : Type 0} → (Rows → Rows) → State → State → Result X E → Type 0
-MayCommit change old new result = HasCleanDisk new → (rows : Rows) → tables_of old.now ≡ Some rows → OnOk result (IsCommitted old.now new (change rows))
+MayCommit change old new result = HasCleanDisk new → (rows : Rows) → tables_of old.now ≡ Some rows →
+    OnOk result (IsCommitted old.now new (change rows))

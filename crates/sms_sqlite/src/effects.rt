@@ -26,7 +26,8 @@ pub fn make_effect<S: Alter>(
 ) -> Result<(), Error>
     requires { Suits change.now }
     ensures same_reference { tx.new.conn.ghost_name ≡ tx.old.conn.ghost_name }
-    ensures leads { MayLead (with_effect change.now) (state S.Store tx.old.conn.now) (state S.Store tx.new.conn.now) result }
+    ensures leads { MayLead (with_effect change.now) (state S.Store tx.old.conn.now)
+        (state S.Store tx.new.conn.now) result }
     ensures stays { MayStay (state S.Store tx.old.conn.now) (state S.Store tx.new.conn.now) result }
     ensures survives { Survives (state S.Store tx.old.conn.now) (state S.Store tx.new.conn.now) (λ _. ⊥) }
 {
@@ -49,7 +50,8 @@ fn put_data_set<S: Alter>(
     set: &DataSet,
 ) -> Result<(), Error>
     ensures same_reference { tx.new.conn.ghost_name ≡ tx.old.conn.ghost_name }
-    ensures leads { MayLead (λ rows. record rows { sets = put_set set.now rows.sets }) (state S.Store tx.old.conn.now) (state S.Store tx.new.conn.now) result }
+    ensures leads { MayLead (λ rows. record rows { sets = put_set set.now rows.sets }) (state S.Store tx.old.conn.now)
+        (state S.Store tx.new.conn.now) result }
     ensures stays { MayStay (state S.Store tx.old.conn.now) (state S.Store tx.new.conn.now) result }
     ensures survives { Survives (state S.Store tx.old.conn.now) (state S.Store tx.new.conn.now) (λ _. ⊥) }
 {
@@ -61,7 +63,8 @@ fn put_data_set<S: Alter>(
 // Drops the data set of this name, where there is one.
 fn drop_data_set<S: Alter>(tx: &mut Transaction<'_, S>, dsn: &Dsn) -> Result<(), Error>
     ensures same_reference { tx.new.conn.ghost_name ≡ tx.old.conn.ghost_name }
-    ensures leads { MayLead (λ rows. record rows { sets = without_set dsn.now rows.sets }) (state S.Store tx.old.conn.now) (state S.Store tx.new.conn.now) result }
+    ensures leads { MayLead (λ rows. record rows { sets = without_set dsn.now rows.sets })
+        (state S.Store tx.old.conn.now) (state S.Store tx.new.conn.now) result }
     ensures stays { MayStay (state S.Store tx.old.conn.now) (state S.Store tx.new.conn.now) result }
     ensures survives { Survives (state S.Store tx.old.conn.now) (state S.Store tx.new.conn.now) (λ _. ⊥) }
 {
@@ -72,7 +75,12 @@ fn drop_data_set<S: Alter>(tx: &mut Transaction<'_, S>, dsn: &Dsn) -> Result<(),
 // Sets the floor of the job, and drops its replies below it.
 fn raise_floor<S: Alter>(tx: &mut Transaction<'_, S>, job: &Name, floor: u32) -> Result<(), Error>
     ensures same_reference { tx.new.conn.ghost_name ≡ tx.old.conn.ghost_name }
-    ensures leads { MayLead (λ rows. record rows { replies = filter (λ row. not (is_reply_below job.now floor row)) rows.replies; floors = put_floor job.now floor rows.floors }) (state S.Store tx.old.conn.now) (state S.Store tx.new.conn.now) result }
+    ensures leads { MayLead
+        (λ rows. record rows {
+          replies = filter (λ row. not (is_reply_below job.now floor row)) rows.replies;
+          floors = put_floor job.now floor rows.floors;
+        }) (state S.Store tx.old.conn.now)
+        (state S.Store tx.new.conn.now) result }
     ensures stays { MayStay (state S.Store tx.old.conn.now) (state S.Store tx.new.conn.now) result }
     ensures survives { Survives (state S.Store tx.old.conn.now) (state S.Store tx.new.conn.now) (λ _. ⊥) }
 {
@@ -85,7 +93,9 @@ fn raise_floor<S: Alter>(tx: &mut Transaction<'_, S>, job: &Name, floor: u32) ->
 // Adds the deck of the op under its number.
 fn add_deck<S: Alter>(tx: &mut Transaction<'_, S>, count: u64, deck: &[u8]) -> Result<(), Error>
     ensures same_reference { tx.new.conn.ghost_name ≡ tx.old.conn.ghost_name }
-    ensures leads { MayLead (λ rows. record rows { decks = rows.decks ++ record { count = count; bytes = deck.now } ∷ [] }) (state S.Store tx.old.conn.now) (state S.Store tx.new.conn.now) result }
+    ensures leads { MayLead
+        (λ rows. record rows { decks = rows.decks ++ record { count = count; bytes = deck.now } ∷ [] })
+        (state S.Store tx.old.conn.now) (state S.Store tx.new.conn.now) result }
     ensures stays { MayStay (state S.Store tx.old.conn.now) (state S.Store tx.new.conn.now) result }
     ensures survives { Survives (state S.Store tx.old.conn.now) (state S.Store tx.new.conn.now) (λ _. ⊥) }
 {
@@ -105,7 +115,11 @@ fn activate_deck<S: Alter>(
 ) -> Result<(), Error>
     requires { list_all (λ row. has_status row.target) statuses.now ≡ true }
     ensures same_reference { tx.new.conn.ghost_name ≡ tx.old.conn.ghost_name }
-    ensures leads { MayLead (λ rows. record rows { decks = rows.decks ++ record { count = count; bytes = deck.now } ∷ []; statuses = statuses.now }) (state S.Store tx.old.conn.now) (state S.Store tx.new.conn.now) result }
+    ensures leads { MayLead
+        (λ rows. record rows {
+          decks = rows.decks ++ record { count = count; bytes = deck.now } ∷ [];
+          statuses = statuses.now;
+        }) (state S.Store tx.old.conn.now) (state S.Store tx.new.conn.now) result }
     ensures stays { MayStay (state S.Store tx.old.conn.now) (state S.Store tx.new.conn.now) result }
     ensures survives { Survives (state S.Store tx.old.conn.now) (state S.Store tx.new.conn.now) (λ _. ⊥) }
 {
@@ -123,7 +137,10 @@ fn activate<S: Alter>(
     requires deck { IsSome (deck_of op.now) }
     requires statuses { list_all (λ row. has_status row.target) statuses.now ≡ true }
     ensures same_reference { tx.new.conn.ghost_name ≡ tx.old.conn.ghost_name }
-    ensures leads { MayLead (λ rows. record rows { decks = rows.decks ++ deck_rows count (deck_of op.now); statuses = statuses.now }) (state S.Store tx.old.conn.now) (state S.Store tx.new.conn.now) result }
+    ensures leads { MayLead (λ rows. record rows {
+      decks = rows.decks ++ deck_rows count (deck_of op.now);
+      statuses = statuses.now;
+    }) (state S.Store tx.old.conn.now) (state S.Store tx.new.conn.now) result }
     ensures stays { MayStay (state S.Store tx.old.conn.now) (state S.Store tx.new.conn.now) result }
     ensures survives { Survives (state S.Store tx.old.conn.now) (state S.Store tx.new.conn.now) (λ _. ⊥) }
 {

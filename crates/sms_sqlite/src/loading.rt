@@ -71,7 +71,10 @@ fn find_rows<S: Alter>(
     there: Present,
 ) -> Result<ShownRows, Error>
     ensures same_reference { tx.new.conn.ghost_name ≡ tx.old.conn.ghost_name }
-    ensures found { HasCleanDisk (state S.Store tx.new.conn.now) → IsTrue (state S.Store tx.old.conn.now).in_transaction → IsLegible (state S.Store tx.old.conn.now).now → present_in (state S.Store tx.old.conn.now).now.schema.tables ≡ there → IfOk result (AreShown (ordered (tables_in (state S.Store tx.old.conn.now).now))) }
+    ensures found { HasCleanDisk (state S.Store tx.new.conn.now) →
+        IsTrue (state S.Store tx.old.conn.now).in_transaction → IsLegible (state S.Store tx.old.conn.now).now →
+        present_in (state S.Store tx.old.conn.now).now.schema.tables ≡ there →
+        IfOk result (AreShown (ordered (tables_in (state S.Store tx.old.conn.now).now))) }
     ensures stays { MayStay (state S.Store tx.old.conn.now) (state S.Store tx.new.conn.now) result }
     ensures survives { Survives (state S.Store tx.old.conn.now) (state S.Store tx.new.conn.now) (λ _. ⊥) }
 {
@@ -95,11 +98,18 @@ fn query_rows<S: Alter>(
     alloc: Global,
     there: Present,
 ) -> Result<ShownRows, Error>
-    ensures found { HasCleanDisk (state S.Store connection.new) → IsLegible (state S.Store connection.old).now → present_in (state S.Store connection.old).now.schema.tables ≡ there → IfOk result (AreShown (ordered (tables_in (state S.Store connection.old).now))) }
-    ensures kept { HasCleanDisk (state S.Store connection.new) → IsTrue (state S.Store connection.new).is_open → (state S.Store connection.new).now ≡ (state S.Store connection.old).now }
-    ensures kept_committed { HasCleanDisk (state S.Store connection.new) → IsTrue (state S.Store connection.new).is_open → (state S.Store connection.new).committed ≡ (state S.Store connection.old).committed }
-    ensures was_open { HasCleanDisk (state S.Store connection.new) → IsTrue (state S.Store connection.new).is_open → IsTrue (state S.Store connection.old).is_open }
-    ensures ended { (state S.Store connection.old).in_transaction ≡ false → (state S.Store connection.new).in_transaction ≡ false }
+    ensures found { HasCleanDisk (state S.Store connection.new) → IsLegible (state S.Store connection.old).now →
+        present_in (state S.Store connection.old).now.schema.tables ≡ there →
+        IfOk result (AreShown (ordered (tables_in (state S.Store connection.old).now))) }
+    ensures kept { HasCleanDisk (state S.Store connection.new) → IsTrue (state S.Store connection.new).is_open →
+        (state S.Store connection.new).now ≡ (state S.Store connection.old).now }
+    ensures kept_committed { HasCleanDisk (state S.Store connection.new) →
+        IsTrue (state S.Store connection.new).is_open →
+        (state S.Store connection.new).committed ≡ (state S.Store connection.old).committed }
+    ensures was_open { HasCleanDisk (state S.Store connection.new) → IsTrue (state S.Store connection.new).is_open →
+        IsTrue (state S.Store connection.old).is_open }
+    ensures ended { (state S.Store connection.old).in_transaction ≡ false →
+        (state S.Store connection.new).in_transaction ≡ false }
     ensures crash { Survives (state S.Store connection.old) (state S.Store connection.new) (λ _. ⊥) }
 {
     if !connection.is_autocommit() {
@@ -125,11 +135,17 @@ fn empty_rows(alloc: Global) -> Rows
 // a table has one of the names they are refused. Nothing changes.
 pub fn load_rows<S: Alter>(connection: &mut Connection<S>, alloc: Global) -> Result<Rows, LoadFault>
     ensures refuses { has_hidden (state S.Store connection.old).now.schema ≡ true → OnOk result ⊥ }
-    ensures reads { HasCleanDisk (state S.Store connection.new) → IsLegible (state S.Store connection.old).now → ReadsAll (ordered (tables_in (state S.Store connection.old).now)) result }
-    ensures kept { HasCleanDisk (state S.Store connection.new) → IsTrue (state S.Store connection.new).is_open → (state S.Store connection.new).now ≡ (state S.Store connection.old).now }
-    ensures kept_committed { HasCleanDisk (state S.Store connection.new) → IsTrue (state S.Store connection.new).is_open → (state S.Store connection.new).committed ≡ (state S.Store connection.old).committed }
-    ensures was_open { HasCleanDisk (state S.Store connection.new) → IsTrue (state S.Store connection.new).is_open → IsTrue (state S.Store connection.old).is_open }
-    ensures ended { (state S.Store connection.old).in_transaction ≡ false → (state S.Store connection.new).in_transaction ≡ false }
+    ensures reads { HasCleanDisk (state S.Store connection.new) → IsLegible (state S.Store connection.old).now →
+        ReadsAll (ordered (tables_in (state S.Store connection.old).now)) result }
+    ensures kept { HasCleanDisk (state S.Store connection.new) → IsTrue (state S.Store connection.new).is_open →
+        (state S.Store connection.new).now ≡ (state S.Store connection.old).now }
+    ensures kept_committed { HasCleanDisk (state S.Store connection.new) →
+        IsTrue (state S.Store connection.new).is_open →
+        (state S.Store connection.new).committed ≡ (state S.Store connection.old).committed }
+    ensures was_open { HasCleanDisk (state S.Store connection.new) → IsTrue (state S.Store connection.new).is_open →
+        IsTrue (state S.Store connection.old).is_open }
+    ensures ended { (state S.Store connection.old).in_transaction ≡ false →
+        (state S.Store connection.new).in_transaction ≡ false }
     ensures crash { Survives (state S.Store connection.old) (state S.Store connection.new) (λ _. ⊥) }
 {
     if has_hidden(connection.schema()) {

@@ -20,7 +20,8 @@ pub fn keep_reply<S: Alter>(
     change: &Change,
 ) -> Result<(), Error>
     ensures same_reference { tx.new.conn.ghost_name ≡ tx.old.conn.ghost_name }
-    ensures leads { MayLead (with_row change.now) (state S.Store tx.old.conn.now) (state S.Store tx.new.conn.now) result }
+    ensures leads { MayLead (with_row change.now) (state S.Store tx.old.conn.now)
+        (state S.Store tx.new.conn.now) result }
     ensures stays { MayStay (state S.Store tx.old.conn.now) (state S.Store tx.new.conn.now) result }
     ensures survives { Survives (state S.Store tx.old.conn.now) (state S.Store tx.new.conn.now) (λ _. ⊥) }
 {
@@ -38,7 +39,8 @@ fn add_row<S: Alter>(
     change: &Change,
 ) -> Result<(), Error>
     ensures same_reference { tx.new.conn.ghost_name ≡ tx.old.conn.ghost_name }
-    ensures leads { MayLead (λ rows. record rows { replies = rows.replies ++ row_of change.now ∷ [] }) (state S.Store tx.old.conn.now) (state S.Store tx.new.conn.now) result }
+    ensures leads { MayLead (λ rows. record rows { replies = rows.replies ++ row_of change.now ∷ [] })
+        (state S.Store tx.old.conn.now) (state S.Store tx.new.conn.now) result }
     ensures stays { MayStay (state S.Store tx.old.conn.now) (state S.Store tx.new.conn.now) result }
     ensures survives { Survives (state S.Store tx.old.conn.now) (state S.Store tx.new.conn.now) (λ _. ⊥) }
 {

@@ -1,5 +1,6 @@
 //! A keeper over a database.
-ghost use Rattle.std.specs.Prelude.{◌≡◌, ◌≤◌, IfErr, IfOk, IfSome, IsErrOf, IsTrue, None, OnErr, OnOk, Some, false, true};
+ghost use Rattle.std.specs.Prelude.{◌≡◌, ◌≤◌, IfErr, IfOk, IfSome, IsErrOf, IsTrue, None, OnErr, OnOk, Some, false};
+ghost use Rattle.std.specs.Prelude.{true};
 ghost use Rattle.desk_common.specs.Causes.{Rose, counted};
 ghost use Rattle.sqlite.specs.Held.{state};
 ghost use Rattle.sqlite.specs.State.{HasCleanDisk, Survives};
@@ -15,7 +16,8 @@ ghost use Rattle.sms_keeper.specs.declared.rows.Rows.{Rows as Told};
 ghost use Rattle.sms_sqlite.specs.Damage.{ordered};
 ghost use Rattle.sms_sqlite.specs.Reading.{AnswersAll, IsMadeReady, NamesFault, ReadsAll, faults_after};
 ghost use Rattle.sms_sqlite.specs.Told.{damage_by, tables_of, told_by};
-ghost use Rattle.sms_sqlite.specs.Writing.{HasRows, IsAsBefore, IsChangeLeft, IsMadeLeft, MayCommit, MayUndo, MaySettle, with_trees};
+ghost use Rattle.sms_sqlite.specs.Writing.{HasRows, IsAsBefore, IsChangeLeft, IsMadeLeft, MayCommit, MayUndo};
+ghost use Rattle.sms_sqlite.specs.Writing.{MaySettle, with_trees};
 
 use crate::load_fault::LoadFault;
 use crate::loading::load_rows;
@@ -81,10 +83,17 @@ impl<S: Alter + Drop> SqlKeeper<S> {
         ensures kept { OnErr result (Stays (told_by S.Store self.old) (told_by S.Store self.new)) }
         ensures unchanged { MayUndo (state S.Store self.old.connection) (state S.Store self.new.connection) result }
         ensures settled { MaySettle (state S.Store self.new.connection) result }
-        ensures made { MayCommit (λ rows. with_change rows change.now) (state S.Store self.old.connection) (state S.Store self.new.connection) result }
-        ensures ended { (state S.Store self.old.connection).in_transaction ≡ false → (state S.Store self.new.connection).in_transaction ≡ false }
-        ensures crash { Survives (state S.Store self.old.connection) (state S.Store self.new.connection) (λ db. (rows : Told) → tables_of (state S.Store self.old.connection).now ≡ Some rows → IsChangeLeft (state S.Store self.old.connection).now db (with_change rows change.now)) }
-        ensures alone { OnOk result (IfSome (told_by S.Store self.new) (λ rows. (db : Trees) → (state S.Store self.new.connection).may_leave db → HasRows (state S.Store self.new.connection).now (with_trees (state S.Store self.new.connection).now db) rows)) }
+        ensures made { MayCommit (λ rows. with_change rows change.now) (state S.Store self.old.connection)
+            (state S.Store self.new.connection) result }
+        ensures ended { (state S.Store self.old.connection).in_transaction ≡ false →
+            (state S.Store self.new.connection).in_transaction ≡ false }
+        ensures crash { Survives (state S.Store self.old.connection) (state S.Store self.new.connection)
+            (λ db. (rows : Told) → tables_of (state S.Store self.old.connection).now ≡ Some rows →
+            IsChangeLeft (state S.Store self.old.connection).now db (with_change rows change.now)) }
+        ensures alone { OnOk result (IfSome (told_by S.Store self.new) (λ rows. (db : Trees) →
+            (state S.Store self.new.connection).may_leave db →
+            HasRows (state S.Store self.new.connection).now (with_trees (state S.Store self.new.connection).now db)
+            rows)) }
     {
         write_change(&mut self.connection, self.alloc, change)
     }
@@ -94,14 +103,19 @@ impl<S: Alter + Drop> SqlKeeper<S> {
         ensures base { self.new.base ≡ self.old.base }
         ensures faults { self.new.faults ≡ self.old.faults }
         ensures refuses { has_hidden (state S.Store self.old.connection).now.schema ≡ true → OnOk result ⊥ }
-        ensures reads { HasCleanDisk (state S.Store self.new.connection) → IsLegible (state S.Store self.old.connection).now → ReadsAll (ordered (tables_in (state S.Store self.old.connection).now)) result }
+        ensures reads { HasCleanDisk (state S.Store self.new.connection) →
+            IsLegible (state S.Store self.old.connection).now →
+            ReadsAll (ordered (tables_in (state S.Store self.old.connection).now)) result }
         ensures loaded { IfOk result (λ rows. IfSome (told_by S.Store self.new) (λ told. AreLoaded told rows)) }
         ensures sound { OnOk result (damage_by S.Store self.new ≡ None) }
         ensures damaged { IfErr result (NamesFault (told_by S.Store self.new) (damage_by S.Store self.new)) }
         ensures kept { Stays (told_by S.Store self.old) (told_by S.Store self.new) }
         ensures damage_kept { StaysDamaged (damage_by S.Store self.old) (damage_by S.Store self.new) }
-        ensures unchanged { HasCleanDisk (state S.Store self.new.connection) → IsTrue (state S.Store self.new.connection).is_open → IsAsBefore (state S.Store self.old.connection) (state S.Store self.new.connection) }
-        ensures ended { (state S.Store self.old.connection).in_transaction ≡ false → (state S.Store self.new.connection).in_transaction ≡ false }
+        ensures unchanged { HasCleanDisk (state S.Store self.new.connection) →
+            IsTrue (state S.Store self.new.connection).is_open →
+            IsAsBefore (state S.Store self.old.connection) (state S.Store self.new.connection) }
+        ensures ended { (state S.Store self.old.connection).in_transaction ≡ false →
+            (state S.Store self.new.connection).in_transaction ≡ false }
         ensures crash { Survives (state S.Store self.old.connection) (state S.Store self.new.connection) (λ _. ⊥) }
     {
         load_rows(&mut self.connection, self.alloc)
@@ -115,9 +129,12 @@ impl<S: Alter + Drop> SqlKeeper<S> {
         ensures damage_kept { SameDamage (damage_by S.Store self.old) (damage_by S.Store self.new) }
         ensures unchanged { MayUndo (state S.Store self.old.connection) (state S.Store self.new.connection) result }
         ensures settled { MaySettle (state S.Store self.new.connection) result }
-        ensures made { HasCleanDisk (state S.Store self.new.connection) → OnOk result (IsMadeReady (state S.Store self.old.connection).now (state S.Store self.new.connection).now) }
-        ensures ended { (state S.Store self.old.connection).in_transaction ≡ false → (state S.Store self.new.connection).in_transaction ≡ false }
-        ensures crash { Survives (state S.Store self.old.connection) (state S.Store self.new.connection) (IsMadeLeft (state S.Store self.old.connection).now) }
+        ensures made { HasCleanDisk (state S.Store self.new.connection) →
+            OnOk result (IsMadeReady (state S.Store self.old.connection).now (state S.Store self.new.connection).now) }
+        ensures ended { (state S.Store self.old.connection).in_transaction ≡ false →
+            (state S.Store self.new.connection).in_transaction ≡ false }
+        ensures crash { Survives (state S.Store self.old.connection) (state S.Store self.new.connection)
+            (IsMadeLeft (state S.Store self.old.connection).now) }
     {
         write_tables(&mut self.connection)
     }
@@ -158,10 +175,17 @@ impl<S: Alter + Drop> Keeper for SqlKeeper<S> {
         ensures base { self.new.base ≡ self.old.base }
         ensures unchanged { MayUndo (state S.Store self.old.connection) (state S.Store self.new.connection) result }
         ensures settled { MaySettle (state S.Store self.new.connection) result }
-        ensures made { MayCommit (λ rows. with_change rows change.now) (state S.Store self.old.connection) (state S.Store self.new.connection) result }
-        ensures ended { (state S.Store self.old.connection).in_transaction ≡ false → (state S.Store self.new.connection).in_transaction ≡ false }
-        ensures crash { Survives (state S.Store self.old.connection) (state S.Store self.new.connection) (λ db. (rows : Told) → tables_of (state S.Store self.old.connection).now ≡ Some rows → IsChangeLeft (state S.Store self.old.connection).now db (with_change rows change.now)) }
-        ensures alone { OnOk result (IfSome (told_by S.Store self.new) (λ rows. (db : Trees) → (state S.Store self.new.connection).may_leave db → HasRows (state S.Store self.new.connection).now (with_trees (state S.Store self.new.connection).now db) rows)) }
+        ensures made { MayCommit (λ rows. with_change rows change.now) (state S.Store self.old.connection)
+            (state S.Store self.new.connection) result }
+        ensures ended { (state S.Store self.old.connection).in_transaction ≡ false →
+            (state S.Store self.new.connection).in_transaction ≡ false }
+        ensures crash { Survives (state S.Store self.old.connection) (state S.Store self.new.connection)
+            (λ db. (rows : Told) → tables_of (state S.Store self.old.connection).now ≡ Some rows →
+            IsChangeLeft (state S.Store self.old.connection).now db (with_change rows change.now)) }
+        ensures alone { OnOk result (IfSome (told_by S.Store self.new) (λ rows. (db : Trees) →
+            (state S.Store self.new.connection).may_leave db →
+            HasRows (state S.Store self.new.connection).now (with_trees (state S.Store self.new.connection).now db)
+            rows)) }
     {
         match self.write(change) {
             Ok(()) => Ok(()),
@@ -189,9 +213,12 @@ impl<S: Alter + Drop> Stored for SqlKeeper<S> {
         ensures base { self.new.base ≡ self.old.base }
         ensures unchanged { MayUndo (state S.Store self.old.connection) (state S.Store self.new.connection) result }
         ensures settled { MaySettle (state S.Store self.new.connection) result }
-        ensures made { HasCleanDisk (state S.Store self.new.connection) → OnOk result (IsMadeReady (state S.Store self.old.connection).now (state S.Store self.new.connection).now) }
-        ensures ended { (state S.Store self.old.connection).in_transaction ≡ false → (state S.Store self.new.connection).in_transaction ≡ false }
-        ensures crash { Survives (state S.Store self.old.connection) (state S.Store self.new.connection) (IsMadeLeft (state S.Store self.old.connection).now) }
+        ensures made { HasCleanDisk (state S.Store self.new.connection) →
+            OnOk result (IsMadeReady (state S.Store self.old.connection).now (state S.Store self.new.connection).now) }
+        ensures ended { (state S.Store self.old.connection).in_transaction ≡ false →
+            (state S.Store self.new.connection).in_transaction ≡ false }
+        ensures crash { Survives (state S.Store self.old.connection) (state S.Store self.new.connection)
+            (IsMadeLeft (state S.Store self.old.connection).now) }
     {
         match self.make() {
             Ok(()) => Ok(()),
@@ -210,10 +237,15 @@ impl<S: Alter + Drop> Stored for SqlKeeper<S> {
         ensures rises { self.old.faults ≤ self.new.faults }
         ensures faults { self.new.faults ≡ faults_after self.old.faults result }
         ensures refuses { has_hidden (state S.Store self.old.connection).now.schema ≡ true → OnOk result ⊥ }
-        ensures reads { HasCleanDisk (state S.Store self.new.connection) → IsLegible (state S.Store self.old.connection).now → AnswersAll (ordered (tables_in (state S.Store self.old.connection).now)) result }
+        ensures reads { HasCleanDisk (state S.Store self.new.connection) →
+            IsLegible (state S.Store self.old.connection).now →
+            AnswersAll (ordered (tables_in (state S.Store self.old.connection).now)) result }
         ensures base { self.new.base ≡ self.old.base }
-        ensures unchanged { HasCleanDisk (state S.Store self.new.connection) → IsTrue (state S.Store self.new.connection).is_open → IsAsBefore (state S.Store self.old.connection) (state S.Store self.new.connection) }
-        ensures ended { (state S.Store self.old.connection).in_transaction ≡ false → (state S.Store self.new.connection).in_transaction ≡ false }
+        ensures unchanged { HasCleanDisk (state S.Store self.new.connection) →
+            IsTrue (state S.Store self.new.connection).is_open →
+            IsAsBefore (state S.Store self.old.connection) (state S.Store self.new.connection) }
+        ensures ended { (state S.Store self.old.connection).in_transaction ≡ false →
+            (state S.Store self.new.connection).in_transaction ≡ false }
         ensures crash { Survives (state S.Store self.old.connection) (state S.Store self.new.connection) (λ _. ⊥) }
     {
         match self.read() {

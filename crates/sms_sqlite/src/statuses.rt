@@ -53,7 +53,8 @@ fn put_status<S: Alter>(
 ) -> Result<(), Error>
     requires { has_status target.now ≡ true }
     ensures same_reference { tx.new.conn.ghost_name ≡ tx.old.conn.ghost_name }
-    ensures made { MayMake (with_status (pos (kind_column target.now)) (name_column target.now) (pos (status_column status))) (state S.Store tx.old.conn.now) (state S.Store tx.new.conn.now) result }
+    ensures made { MayMake (with_status (pos (kind_column target.now)) (name_column target.now)
+        (pos (status_column status))) (state S.Store tx.old.conn.now) (state S.Store tx.new.conn.now) result }
     ensures read { target_of (kind_column target.now) (name_column target.now) ≡ Some target.now }
     ensures stays { MayStay (state S.Store tx.old.conn.now) (state S.Store tx.new.conn.now) result }
     ensures survives { Survives (state S.Store tx.old.conn.now) (state S.Store tx.new.conn.now) (λ _. ⊥) }
@@ -67,7 +68,8 @@ fn put_status<S: Alter>(
 fn put_statuses<S: Alter>(tx: &mut Transaction<'_, S>, statuses: &[StatusRow]) -> Result<(), Error>
     requires { list_all (λ row. has_status row.target) statuses.now ≡ true }
     ensures same_reference { tx.new.conn.ghost_name ≡ tx.old.conn.ghost_name }
-    ensures made { MayMake (with_statuses statuses.now) (state S.Store tx.old.conn.now) (state S.Store tx.new.conn.now) result }
+    ensures made { MayMake (with_statuses statuses.now) (state S.Store tx.old.conn.now)
+        (state S.Store tx.new.conn.now) result }
     ensures read { OnOk result (AreReadable statuses.now) }
     ensures stays { MayStay (state S.Store tx.old.conn.now) (state S.Store tx.new.conn.now) result }
     ensures survives { Survives (state S.Store tx.old.conn.now) (state S.Store tx.new.conn.now) (λ _. ⊥) }
@@ -85,7 +87,8 @@ pub fn replace_statuses<S: Alter>(
 ) -> Result<(), Error>
     requires { list_all (λ row. has_status row.target) statuses.now ≡ true }
     ensures same_reference { tx.new.conn.ghost_name ≡ tx.old.conn.ghost_name }
-    ensures leads { MayLead (λ rows. record rows { statuses = statuses.now }) (state S.Store tx.old.conn.now) (state S.Store tx.new.conn.now) result }
+    ensures leads { MayLead (λ rows. record rows { statuses = statuses.now }) (state S.Store tx.old.conn.now)
+        (state S.Store tx.new.conn.now) result }
     ensures stays { MayStay (state S.Store tx.old.conn.now) (state S.Store tx.new.conn.now) result }
     ensures survives { Survives (state S.Store tx.old.conn.now) (state S.Store tx.new.conn.now) (λ _. ⊥) }
 {
@@ -102,7 +105,8 @@ pub fn set_status<S: Alter>(
 ) -> Result<(), Error>
     requires { has_status target.now ≡ true }
     ensures same_reference { tx.new.conn.ghost_name ≡ tx.old.conn.ghost_name }
-    ensures leads { MayLead (λ rows. record rows { statuses = map (row_with target.now status) rows.statuses }) (state S.Store tx.old.conn.now) (state S.Store tx.new.conn.now) result }
+    ensures leads { MayLead (λ rows. record rows { statuses = map (row_with target.now status) rows.statuses })
+        (state S.Store tx.old.conn.now) (state S.Store tx.new.conn.now) result }
     ensures stays { MayStay (state S.Store tx.old.conn.now) (state S.Store tx.new.conn.now) result }
     ensures survives { Survives (state S.Store tx.old.conn.now) (state S.Store tx.new.conn.now) (λ _. ⊥) }
 {

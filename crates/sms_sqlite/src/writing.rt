@@ -23,14 +23,26 @@ fn write_inside<S: Alter>(
     change: &Change,
 ) -> Result<(), Error>
     requires { Suits change.now }
-    ensures made { HasCleanDisk (state S.Store connection.new) → (rows : Rows) → Holds (state S.Store connection.old).now rows → OnOk result (IsCommitted (state S.Store connection.old).now (state S.Store connection.new) (with_change rows change.now)) }
-    ensures kept { HasCleanDisk (state S.Store connection.new) → IsTrue (state S.Store connection.new).is_open → OnErr result ((state S.Store connection.new).now ≡ (state S.Store connection.old).now) }
-    ensures kept_committed { HasCleanDisk (state S.Store connection.new) → IsTrue (state S.Store connection.new).is_open → OnErr result ((state S.Store connection.new).committed ≡ (state S.Store connection.old).committed) }
-    ensures open { HasCleanDisk (state S.Store connection.new) → OnOk result (IsTrue (state S.Store connection.new).is_open) }
-    ensures committed { HasCleanDisk (state S.Store connection.new) → OnOk result ((state S.Store connection.new).committed ≡ (state S.Store connection.new).now) }
-    ensures was_open { HasCleanDisk (state S.Store connection.new) → IsTrue (state S.Store connection.new).is_open → IsTrue (state S.Store connection.old).is_open }
-    ensures ended { (state S.Store connection.old).in_transaction ≡ false → (state S.Store connection.new).in_transaction ≡ false }
-    ensures crash { Survives (state S.Store connection.old) (state S.Store connection.new) (λ db. (rows : Rows) → Holds (state S.Store connection.old).now rows → IsChangeLeft (state S.Store connection.old).now db (with_change rows change.now)) }
+    ensures made { HasCleanDisk (state S.Store connection.new) → (rows : Rows) →
+        Holds (state S.Store connection.old).now rows →
+        OnOk result (IsCommitted (state S.Store connection.old).now (state S.Store connection.new)
+        (with_change rows change.now)) }
+    ensures kept { HasCleanDisk (state S.Store connection.new) → IsTrue (state S.Store connection.new).is_open →
+        OnErr result ((state S.Store connection.new).now ≡ (state S.Store connection.old).now) }
+    ensures kept_committed { HasCleanDisk (state S.Store connection.new) →
+        IsTrue (state S.Store connection.new).is_open →
+        OnErr result ((state S.Store connection.new).committed ≡ (state S.Store connection.old).committed) }
+    ensures open { HasCleanDisk (state S.Store connection.new) →
+        OnOk result (IsTrue (state S.Store connection.new).is_open) }
+    ensures committed { HasCleanDisk (state S.Store connection.new) →
+        OnOk result ((state S.Store connection.new).committed ≡ (state S.Store connection.new).now) }
+    ensures was_open { HasCleanDisk (state S.Store connection.new) → IsTrue (state S.Store connection.new).is_open →
+        IsTrue (state S.Store connection.old).is_open }
+    ensures ended { (state S.Store connection.old).in_transaction ≡ false →
+        (state S.Store connection.new).in_transaction ≡ false }
+    ensures crash { Survives (state S.Store connection.old) (state S.Store connection.new) (λ db. (rows : Rows) →
+        Holds (state S.Store connection.old).now rows →
+        IsChangeLeft (state S.Store connection.old).now db (with_change rows change.now)) }
 {
     if !connection.is_autocommit() {
         return Err(Error::SqliteFailure(ErrorCode::TransactionState));
@@ -48,14 +60,26 @@ pub fn write_change<S: Alter>(
     change: &Change,
 ) -> Result<(), Error>
     requires { Suits change.now }
-    ensures made { HasCleanDisk (state S.Store connection.new) → (rows : Rows) → tables_of (state S.Store connection.old).now ≡ Some rows → OnOk result (IsCommitted (state S.Store connection.old).now (state S.Store connection.new) (with_change rows change.now)) }
-    ensures kept { HasCleanDisk (state S.Store connection.new) → IsTrue (state S.Store connection.new).is_open → OnErr result ((state S.Store connection.new).now ≡ (state S.Store connection.old).now) }
-    ensures kept_committed { HasCleanDisk (state S.Store connection.new) → IsTrue (state S.Store connection.new).is_open → OnErr result ((state S.Store connection.new).committed ≡ (state S.Store connection.old).committed) }
-    ensures open { HasCleanDisk (state S.Store connection.new) → OnOk result (IsTrue (state S.Store connection.new).is_open) }
-    ensures committed { HasCleanDisk (state S.Store connection.new) → OnOk result ((state S.Store connection.new).committed ≡ (state S.Store connection.new).now) }
-    ensures was_open { HasCleanDisk (state S.Store connection.new) → IsTrue (state S.Store connection.new).is_open → IsTrue (state S.Store connection.old).is_open }
-    ensures ended { (state S.Store connection.old).in_transaction ≡ false → (state S.Store connection.new).in_transaction ≡ false }
-    ensures crash { Survives (state S.Store connection.old) (state S.Store connection.new) (λ db. (rows : Rows) → tables_of (state S.Store connection.old).now ≡ Some rows → IsChangeLeft (state S.Store connection.old).now db (with_change rows change.now)) }
+    ensures made { HasCleanDisk (state S.Store connection.new) → (rows : Rows) →
+        tables_of (state S.Store connection.old).now ≡ Some rows →
+        OnOk result (IsCommitted (state S.Store connection.old).now (state S.Store connection.new)
+        (with_change rows change.now)) }
+    ensures kept { HasCleanDisk (state S.Store connection.new) → IsTrue (state S.Store connection.new).is_open →
+        OnErr result ((state S.Store connection.new).now ≡ (state S.Store connection.old).now) }
+    ensures kept_committed { HasCleanDisk (state S.Store connection.new) →
+        IsTrue (state S.Store connection.new).is_open →
+        OnErr result ((state S.Store connection.new).committed ≡ (state S.Store connection.old).committed) }
+    ensures open { HasCleanDisk (state S.Store connection.new) →
+        OnOk result (IsTrue (state S.Store connection.new).is_open) }
+    ensures committed { HasCleanDisk (state S.Store connection.new) →
+        OnOk result ((state S.Store connection.new).committed ≡ (state S.Store connection.new).now) }
+    ensures was_open { HasCleanDisk (state S.Store connection.new) → IsTrue (state S.Store connection.new).is_open →
+        IsTrue (state S.Store connection.old).is_open }
+    ensures ended { (state S.Store connection.old).in_transaction ≡ false →
+        (state S.Store connection.new).in_transaction ≡ false }
+    ensures crash { Survives (state S.Store connection.old) (state S.Store connection.new) (λ db. (rows : Rows) →
+        tables_of (state S.Store connection.old).now ≡ Some rows →
+        IsChangeLeft (state S.Store connection.old).now db (with_change rows change.now)) }
 {
     let there = present_among(connection.schema().tables.as_slice());
     if !there.has_all() {
@@ -66,15 +90,26 @@ pub fn write_change<S: Alter>(
 
 // Makes the tables that aren't there in one transaction, or leaves all as it is.
 pub fn write_tables<S: Alter>(connection: &mut Connection<S>) -> Result<(), Error>
-    ensures made { HasCleanDisk (state S.Store connection.new) → (rows : Rows) → tables_of (state S.Store connection.old).now ≡ Some rows → OnOk result (IsCommitted (state S.Store connection.new).now (state S.Store connection.new) rows) }
-    ensures tables { HasCleanDisk (state S.Store connection.new) → OnOk result (IsMadeReady (state S.Store connection.old).now (state S.Store connection.new).now) }
-    ensures kept { HasCleanDisk (state S.Store connection.new) → IsTrue (state S.Store connection.new).is_open → OnErr result ((state S.Store connection.new).now ≡ (state S.Store connection.old).now) }
-    ensures kept_committed { HasCleanDisk (state S.Store connection.new) → IsTrue (state S.Store connection.new).is_open → OnErr result ((state S.Store connection.new).committed ≡ (state S.Store connection.old).committed) }
-    ensures open { HasCleanDisk (state S.Store connection.new) → OnOk result (IsTrue (state S.Store connection.new).is_open) }
-    ensures committed { HasCleanDisk (state S.Store connection.new) → OnOk result ((state S.Store connection.new).committed ≡ (state S.Store connection.new).now) }
-    ensures was_open { HasCleanDisk (state S.Store connection.new) → IsTrue (state S.Store connection.new).is_open → IsTrue (state S.Store connection.old).is_open }
-    ensures ended { (state S.Store connection.old).in_transaction ≡ false → (state S.Store connection.new).in_transaction ≡ false }
-    ensures crash { Survives (state S.Store connection.old) (state S.Store connection.new) (IsMadeLeft (state S.Store connection.old).now) }
+    ensures made { HasCleanDisk (state S.Store connection.new) → (rows : Rows) →
+        tables_of (state S.Store connection.old).now ≡ Some rows →
+        OnOk result (IsCommitted (state S.Store connection.new).now (state S.Store connection.new) rows) }
+    ensures tables { HasCleanDisk (state S.Store connection.new) →
+        OnOk result (IsMadeReady (state S.Store connection.old).now (state S.Store connection.new).now) }
+    ensures kept { HasCleanDisk (state S.Store connection.new) → IsTrue (state S.Store connection.new).is_open →
+        OnErr result ((state S.Store connection.new).now ≡ (state S.Store connection.old).now) }
+    ensures kept_committed { HasCleanDisk (state S.Store connection.new) →
+        IsTrue (state S.Store connection.new).is_open →
+        OnErr result ((state S.Store connection.new).committed ≡ (state S.Store connection.old).committed) }
+    ensures open { HasCleanDisk (state S.Store connection.new) →
+        OnOk result (IsTrue (state S.Store connection.new).is_open) }
+    ensures committed { HasCleanDisk (state S.Store connection.new) →
+        OnOk result ((state S.Store connection.new).committed ≡ (state S.Store connection.new).now) }
+    ensures was_open { HasCleanDisk (state S.Store connection.new) → IsTrue (state S.Store connection.new).is_open →
+        IsTrue (state S.Store connection.old).is_open }
+    ensures ended { (state S.Store connection.old).in_transaction ≡ false →
+        (state S.Store connection.new).in_transaction ≡ false }
+    ensures crash { Survives (state S.Store connection.old) (state S.Store connection.new)
+        (IsMadeLeft (state S.Store connection.old).now) }
 {
     if !connection.is_autocommit() {
         return Err(Error::SqliteFailure(ErrorCode::TransactionState));

@@ -1,5 +1,6 @@
 -- The volume that leads, volume by volume.
-use Rattle.std.proofs.Common.{◌≡◌, ◌≤◌, ◌<◌, ℕ, zero, suc, ◌+◌, Bool, true, false, List, [], ◌∷◌, ◌++◌, length, map, take, drop, refl, sym, ap, ◌∙◌, subst, arith}
+use Rattle.std.proofs.Common.{◌≡◌, ◌≤◌, ◌<◌, ℕ, zero, suc, ◌+◌, Bool, true, false, List, [], ◌∷◌, ◌++◌, length, map}
+use Rattle.std.proofs.Common.{take, drop, refl, sym, ap, ◌∙◌, subst, arith}
 use Rattle.std.specs.Prelude.{Option, None, Some, MatchOption, filter, is_some, nat_lt, slice_get}
 use Rattle.std.specs.List.{list_all, list_any}
 use Rattle.std.proofs.lemmas.Bool.Decides.{nat_tests}
@@ -23,7 +24,9 @@ use Rattle.sms_volumes.specs.declared.asked.Asked.{Asked}
 use Rattle.sms_volumes.specs.declared.candidates.Candidates.{Candidates}
 use Rattle.sms_volumes.specs.declared.lead.Lead.{Lead}
 use Rattle.sms_volumes.specs.declared.pick.Pick.{Pick}
-use Rattle.sms_volumes.proofs.RankLemmas.{any-both, any-none, any-weaker, before-first, before-none, before-self, before-then, behind-all, front-none, none-of, rank-full, rank-listed, rank-most, rank-rejected, rank-some, there-last, there-longer, there-mapped}
+use Rattle.sms_volumes.proofs.RankLemmas.{any-both, any-none, any-weaker, before-first, before-none, before-self}
+use Rattle.sms_volumes.proofs.RankLemmas.{before-then, behind-all, front-none, none-of, rank-full, rank-listed}
+use Rattle.sms_volumes.proofs.RankLemmas.{rank-most, rank-rejected, rank-some, there-last, there-longer, there-mapped}
 
 -- Candidates among some volumes and among more.
 

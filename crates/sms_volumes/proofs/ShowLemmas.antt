@@ -1,6 +1,8 @@
 -- What is shown is what the state has.
-use Rattle.std.proofs.Common.{◌≡◌, ◌<◌, ℕ, zero, suc, ◌+◌, Bool, true, false, cond, List, [], ◌∷◌, ◌++◌, length, map, get_or, take, refl, sym, ap, ◌∙◌, arith}
-use Rattle.std.specs.Prelude.{Option, None, Some, MatchOption, is_some, nat_eq, not, bytes_eq, filter, find, option_map, slice_get, sum_by}
+use Rattle.std.proofs.Common.{◌≡◌, ◌<◌, ℕ, zero, suc, ◌+◌, Bool, true, false, cond, List, [], ◌∷◌, ◌++◌, length, map}
+use Rattle.std.proofs.Common.{get_or, take, refl, sym, ap, ◌∙◌, arith}
+use Rattle.std.specs.Prelude.{Option, None, Some, MatchOption, is_some, nat_eq, not, bytes_eq, filter, find, option_map}
+use Rattle.std.specs.Prelude.{slice_get, sum_by}
 use Rattle.std.specs.Borrow.{Bor}
 use Rattle.std.specs.Option.{option_copied}
 use Rattle.std.specs.List.{AllByRecursion}
@@ -13,10 +15,12 @@ use Rattle.track_ledger.specs.Extents.{tracks_held}
 use Rattle.desk_law.specs.State.{DeskState}
 use Rattle.desk_law.specs.Display.{shown_volume, view_of_group}
 use Rattle.desk_law.specs.Extents.{held_on}
-use Rattle.desk_law.specs.Volumes.{free_on, group_named, groups_in, times_group, times_volume, volume_named, volumes_in, volumes_of_group}
+use Rattle.desk_law.specs.Volumes.{free_on, group_named, groups_in, times_group, times_volume, volume_named, volumes_in}
+use Rattle.desk_law.specs.Volumes.{volumes_of_group}
 use Rattle.desk_law.proofs.PlaceLemmas.{each-at, find-each}
 use Rattle.sms_volumes.specs.Holding.{AreVolumesOf, IsGroupOf, IsVolumeOf}
-use Rattle.sms_volumes.specs.Inner.Showing.{capacity_in, free_in, group_in, running_free, running_group, running_in, running_row}
+use Rattle.sms_volumes.specs.Inner.Showing.{capacity_in, free_in, group_in, running_free, running_group, running_in}
+use Rattle.sms_volumes.specs.Inner.Showing.{running_row}
 use Rattle.sms_volumes.specs.Viewing.{running_named}
 use Rattle.sms_volumes.specs.declared.active_group.ActiveGroup.{ActiveGroup}
 use Rattle.sms_volumes.specs.declared.active_volume.ActiveVolume.{ActiveVolume}

@@ -1,5 +1,6 @@
 -- Which running volume is chosen.
-use Rattle.std.specs.Prelude.{ℕ, ◌≡◌, ◌≤◌, Bool, not, ◌&&◌, List, Option, Some, MatchOption, bytes_eq, find, length, map, filter, slice_get}
+use Rattle.std.specs.Prelude.{ℕ, ◌≡◌, ◌≤◌, Bool, not, ◌&&◌, List, Option, Some, MatchOption, bytes_eq, find, length}
+use Rattle.std.specs.Prelude.{map, filter, slice_get}
 use Rattle.std.specs.List.{list_any}
 use Rattle.desk_common.specs.Limits.{most_pieces}
 use Rattle.sms_construct.specs.declared.volume.VolumeDef.{VolumeDef}

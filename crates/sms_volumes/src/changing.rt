@@ -7,7 +7,8 @@ ghost use Rattle.desk_common.specs.Limits.{most_pieces};
 ghost use Rattle.desk_law.specs.State.{DeskState, with_set, without_name};
 ghost use Rattle.desk_law.specs.Extents.{extents_at, extents_named};
 ghost use Rattle.desk_law.specs.Lawful.{IsLawful};
-ghost use Rattle.sms_volumes.specs.Changing.{HasChanged, HoldsAll, IsFreeAt, IsFront, IsPartOf, IsReadyAt, LiesOnSome, extent_if, running_at};
+ghost use Rattle.sms_volumes.specs.Changing.{HasChanged, HoldsAll, IsFreeAt, IsFront, IsPartOf, IsReadyAt, LiesOnSome};
+ghost use Rattle.sms_volumes.specs.Changing.{extent_if, running_at};
 ghost use Rattle.sms_volumes.specs.Inner.Handing.{AreApart};
 ghost use Rattle.sms_volumes.specs.Holding.{AreVolumesOf};
 ghost use Rattle.sms_volumes.specs.declared.active_volume.ActiveVolume.{ActiveVolume as Running};
@@ -93,7 +94,8 @@ impl ActiveVolumes {
         requires held { AllByRecursion (HoldsAll (extent.now ∷ [])) self.old.volumes.items }
         requires part { IfSome kept (λ part. IsPartOf part extent.now) }
         ensures groups { self.new.groups.items ≡ self.old.groups.items }
-        ensures volumes { AllZip (HasChanged (extent.now ∷ []) (extent_if kept)) self.old.volumes.items self.new.volumes.items }
+        ensures volumes { AllZip (HasChanged (extent.now ∷ []) (extent_if kept)) self.old.volumes.items
+            self.new.volumes.items }
     {
         match kept {
             Some(part) => self.cut(extent, &part),
@@ -120,7 +122,8 @@ impl ActiveVolumes {
         requires held { AllByRecursion (HoldsAll (extent.now ∷ [])) self.old.volumes.items }
         requires part { IsPartOf part.now extent.now }
         ensures groups { self.new.groups.items ≡ self.old.groups.items }
-        ensures volumes { AllZip (HasChanged (extent.now ∷ []) (part.now ∷ [])) self.old.volumes.items self.new.volumes.items }
+        ensures volumes { AllZip (HasChanged (extent.now ∷ []) (part.now ∷ [])) self.old.volumes.items
+            self.new.volumes.items }
     {
         if part.length == extent.length {
             return;

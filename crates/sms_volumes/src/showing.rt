@@ -5,7 +5,8 @@ ghost use Rattle.desk_law.specs.State.{DeskState};
 ghost use Rattle.desk_law.specs.Display.{shown_volume, view_of_group};
 ghost use Rattle.desk_law.specs.Volumes.{group_named, times_target, volume_named, volumes_in};
 ghost use Rattle.sms_volumes.specs.Holding.{AreVolumesOf};
-ghost use Rattle.sms_volumes.specs.Inner.Showing.{capacity_in, free_in, group_in, running_free, running_group, running_row};
+ghost use Rattle.sms_volumes.specs.Inner.Showing.{capacity_in, free_in, group_in, running_free, running_group};
+ghost use Rattle.sms_volumes.specs.Inner.Showing.{running_row};
 
 use crate::active_group::ActiveGroup;
 use crate::active_volume::ActiveVolume;

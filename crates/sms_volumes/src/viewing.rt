@@ -1,5 +1,6 @@
 //! The choice of a volume.
-ghost use Rattle.std.specs.Prelude.{◌≡◌, ◌≤◌, ◌<◌, ◌+◌, length, slice_get, take, IfSome, MatchOption, None, Some, option_map};
+ghost use Rattle.std.specs.Prelude.{◌≡◌, ◌≤◌, ◌<◌, ◌+◌, length, slice_get, take, IfSome, MatchOption, None, Some};
+ghost use Rattle.std.specs.Prelude.{option_map};
 ghost use Rattle.desk_common.specs.Limits.{most_pieces};
 ghost use Rattle.desk_law.specs.State.{DeskState};
 ghost use Rattle.desk_law.specs.Candidates.{grant_on, tier_among, want_of};
@@ -123,7 +124,8 @@ impl ActiveVolumes {
         requires stand { StandForSome self.now }
         ensures { (s : DeskState) → IsLawful s → AreVolumesOf s self.now →
             Leads s self.now (candidates_among candidates.now (take place self.now.volumes.items)) asked.now lead.old →
-            Leads s self.now (candidates_among candidates.now (take (place + 1) self.now.volumes.items)) asked.now lead.new }
+            Leads s self.now (candidates_among candidates.now (take (place + 1) self.now.volumes.items)) asked.now
+            lead.new }
     {
         let volume = &self.volumes[place];
         if !candidates.has(&volume.volume) {

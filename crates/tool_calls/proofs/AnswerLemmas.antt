@@ -30,7 +30,9 @@ use Rattle.desk_common.specs.Exact.{MayRefuse as MayRefuseAs}
 use Rattle.tool_calls.specs.CasesText.{TellsCases, cases_fault_text}
 use Rattle.tool_calls.specs.declared.no_answer.NoAnswer.{NoAnswer}
 use Rattle.tool_calls.specs.declared.no_answer.NoAnswer.TheVariants as hindrances
-use Rattle.tool_calls.specs.ToolText.{translated_text, valid_text, refused_text, IsAnswer, translated, faulty, valid, refused, simulated, unsimulated, compared, uncompared, unread, misplaced, Hinders, hindrance_of, TellsFault, TellsSimulation, HindersSimulation}
+use Rattle.tool_calls.specs.ToolText.{translated_text, valid_text, refused_text, IsAnswer, translated, faulty, valid}
+use Rattle.tool_calls.specs.ToolText.{refused, simulated, unsimulated, compared, uncompared, unread, misplaced, Hinders}
+use Rattle.tool_calls.specs.ToolText.{hindrance_of, TellsFault, TellsSimulation, HindersSimulation}
 use Rattle.tool_calls.specs.ToolEnds.{Ends, HasAnswer, leaves_sink}
 use Rattle.tool_calls.specs.declared.status.ToolStatus.{ToolStatus}
 use Rattle.tool_calls.specs.declared.status.ToolStatus.TheVariants.{Done, FaultFound, BadWords}

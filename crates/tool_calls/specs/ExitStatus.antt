@@ -1,7 +1,8 @@
 -- The exit status of the program.
 use Rattle.std.specs.Prelude.{ℕ}
 use Rattle.tool_calls.specs.declared.status.ToolStatus.{ToolStatus}
-use Rattle.tool_calls.specs.declared.status.ToolStatus.TheVariants.{Done, FaultFound, BadWords, ReadFault, WriteFault, Script, TooLong, NoMemory}
+use Rattle.tool_calls.specs.declared.status.ToolStatus.TheVariants.{Done, FaultFound, BadWords, ReadFault, WriteFault}
+use Rattle.tool_calls.specs.declared.status.ToolStatus.TheVariants.{Script, TooLong, NoMemory}
 
 -- the number that each ending of a call is told by
 abbrev pub exit_status_of : ToolStatus → ℕ

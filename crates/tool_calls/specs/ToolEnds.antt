@@ -1,12 +1,14 @@
 -- How a call of the translator ends: each status and its cause (docs/tool.md).
 use Rattle.std.specs.Prelude.{◌≡◌, ◌⊎◌, Bool, true, false, List, ℕ}
 use Rattle.desk_common.specs.Causes.{Rose}
-use Rattle.sms_base.specs.Observed.{Observed, IsUnwritten, WasRead, WasAnswered, HasReadFault, HasWriteFault, IsTooLong, IsOutOfMemory}
+use Rattle.sms_base.specs.Observed.{Observed, IsUnwritten, WasRead, WasAnswered, HasReadFault, HasWriteFault, IsTooLong}
+use Rattle.sms_base.specs.Observed.{IsOutOfMemory}
 use Rattle.tool_calls.specs.Limits.{most_bytes}
 use Rattle.sms_script.specs.declared.script_err.ScriptErr.{ScriptErr}
 use Rattle.tool_calls.specs.ToolText.{IsAnswer, IsScriptFault}
 use Rattle.tool_calls.specs.declared.status.ToolStatus.{ToolStatus}
-use Rattle.tool_calls.specs.declared.status.ToolStatus.TheVariants.{Done, FaultFound, BadWords, ReadFault, WriteFault, Script, TooLong, NoMemory}
+use Rattle.tool_calls.specs.declared.status.ToolStatus.TheVariants.{Done, FaultFound, BadWords, ReadFault, WriteFault}
+use Rattle.tool_calls.specs.declared.status.ToolStatus.TheVariants.{Script, TooLong, NoMemory}
 use Rattle.tool_words.specs.Asking.{AreRefused, AreShown, AskFor}
 use Rattle.tool_words.specs.declared.task.Task.{Task}
 
@@ -78,4 +80,5 @@ pub record WantsMemory (old new : Observed) (status : ToolStatus) : Type 0 where
 
 -- what a call with these words comes to
 abbrev pub EndsFor : List (List ℕ) → Observed → Observed → ToolStatus → Type 0
-EndsFor words old new status = (DoesTask words old new status ⊎ RefusesWords words old new status) ⊎ (ShowsText words old new status ⊎ WantsMemory old new status)
+EndsFor words old new status = (DoesTask words old new status ⊎ RefusesWords words old new status) ⊎
+    (ShowsText words old new status ⊎ WantsMemory old new status)

@@ -44,7 +44,8 @@ translated_text kind count = codes "TRANSLATED " ++ (name_of kind ++ (codes " " 
 
 -- the line of a fault
 abbrev pub fault_text : RoutineFault → List ℕ
-fault_text fault = codes "FAULT " ++ (letter_of fault.stage ++ (decimal fault.number ++ (codes " " ++ (decimal fault.at ++ codes "\n"))))
+fault_text fault = codes
+    "FAULT " ++ (letter_of fault.stage ++ (decimal fault.number ++ (codes " " ++ (decimal fault.at ++ codes "\n"))))
 
 -- the line of a deck with so many storage groups and volumes
 abbrev pub valid_text : ℕ → ℕ → List ℕ
@@ -56,20 +57,28 @@ refused_text fault = codes "FAULT " ++ (deck_fault_text fault ++ codes "\n")
 
 -- the answer to an input: its status and what is printed
 pub data IsAnswer (bytes : List ℕ) : Task → ToolStatus → List ℕ → Type 0 where
-  translated : (kind : Kind) (tree : Routine) (count : ℕ) → IsTranslated bytes kind tree count → IsAnswer bytes (Translate kind) Done (translated_text kind count)
-  faulty : (kind : Kind) (fault : RoutineFault) → IsRoutineFault bytes kind fault → IsAnswer bytes (Translate kind) FaultFound (fault_text fault)
-  valid : (config : Configuration) → Configures bytes config → IsAnswer bytes Validate Done (valid_text (length config.groups) (length config.volumes))
+  translated : (kind : Kind) (tree : Routine) (count : ℕ) → IsTranslated bytes kind tree count →
+      IsAnswer bytes (Translate kind) Done (translated_text kind count)
+  faulty : (kind : Kind) (fault : RoutineFault) → IsRoutineFault bytes kind fault →
+      IsAnswer bytes (Translate kind) FaultFound (fault_text fault)
+  valid : (config : Configuration) → Configures bytes config →
+      IsAnswer bytes Validate Done (valid_text (length config.groups) (length config.volumes))
   refused : (fault : DeckFault) → HasFirstFault bytes fault → IsAnswer bytes Validate FaultFound (refused_text fault)
-  simulated : (phases : List (List Item)) (text : List ℕ) → script_of bytes ≡ Ok phases → IsSimulation (items_of phases) (simulations.Shown text) → IsAnswer bytes Simulate Done text
-  unsimulated : (phases : List (List Item)) (fault : DeckFault) → script_of bytes ≡ Ok phases → IsSimulation (items_of phases) (simulations.Refused fault) → IsAnswer bytes Simulate FaultFound (refused_text fault)
-  compared : (cases : Cases) (text : List ℕ) → IsReading bytes cases → IsListing cases.before cases.after cases.list text → IsAnswer bytes Compare Done text
+  simulated : (phases : List (List Item)) (text : List ℕ) → script_of bytes ≡ Ok phases →
+      IsSimulation (items_of phases) (simulations.Shown text) → IsAnswer bytes Simulate Done text
+  unsimulated : (phases : List (List Item)) (fault : DeckFault) → script_of bytes ≡ Ok phases →
+      IsSimulation (items_of phases) (simulations.Refused fault) →
+      IsAnswer bytes Simulate FaultFound (refused_text fault)
+  compared : (cases : Cases) (text : List ℕ) → IsReading bytes cases →
+      IsListing cases.before cases.after cases.list text → IsAnswer bytes Compare Done text
   uncompared : (err : CasesErr) → IsRefusal bytes err → IsAnswer bytes Compare FaultFound (cases_fault_text err)
 
 -- the input is no script that can be simulated: it has this fault as a script, or is one with an item that isn't the
 -- one asked there
 pub data IsScriptFault (bytes : List ℕ) : Task → ScriptErr → Type 0 where
   unread : (err : ScriptErr) → script_of bytes ≡ Err err → IsScriptFault bytes Simulate err
-  misplaced : (phases : List (List Item)) (line : ℕ) → script_of bytes ≡ Ok phases → first_misplaced (items_of phases) ≡ Some line → IsScriptFault bytes Simulate (scripts.BadLine line)
+  misplaced : (phases : List (List Item)) (line : ℕ) → script_of bytes ≡ Ok phases →
+      first_misplaced (items_of phases) ≡ Some line → IsScriptFault bytes Simulate (scripts.BadLine line)
 
 -- why an input has no answer; want of memory says nothing of it
 abbrev pub Hinders : List ℕ → Task → NoAnswer → Type 0
@@ -96,5 +105,6 @@ TellsSimulation (simulations.Misplaced line) status text = ⊥
 
 -- why a simulation has no text
 abbrev pub HindersSimulation : Simulated → NoAnswer → Type 0
-HindersSimulation (simulations.Misplaced line) why = (why ≡ hindrances.Script (scripts.BadLine line)) ⊎ (why ≡ hindrances.NoMemory)
+HindersSimulation (simulations.Misplaced line) why =
+    (why ≡ hindrances.Script (scripts.BadLine line)) ⊎ (why ≡ hindrances.NoMemory)
 HindersSimulation made why = why ≡ hindrances.NoMemory

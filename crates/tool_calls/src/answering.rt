@@ -1,6 +1,7 @@
 //! From the bytes of the input to the text of the answer.
 ghost use Rattle.std.specs.Prelude.{◌≡◌, ◌<◌, ◌^◌, length, IfOk, IfErr};
-ghost use Rattle.tool_calls.specs.ToolText.{letter_of, translated_text, fault_text, refused_text, valid_text, IsAnswer, Hinders, hindrance_of, TellsFault, TellsSimulation, HindersSimulation};
+ghost use Rattle.tool_calls.specs.ToolText.{letter_of, translated_text, fault_text, refused_text, valid_text, IsAnswer};
+ghost use Rattle.tool_calls.specs.ToolText.{Hinders, hindrance_of, TellsFault, TellsSimulation, HindersSimulation};
 ghost use Rattle.tool_words.specs.declared.task.Task.TheVariants.{Translate, Validate, Simulate};
 
 use crate::comparing::compared;

@@ -33,7 +33,8 @@ pub fn compared(
 }
 
 fn listed(alloc: Global, cases: &Cases) -> Result<(ToolStatus, Items<u8>), AllocError>
-    ensures { IfOk result (λ found. (found.0 ≡ ToolStatus.Done) × IsListing cases.now.before cases.now.after cases.now.list found.1) }
+    ensures { IfOk result (λ found. (found.0 ≡ ToolStatus.Done) ×
+        IsListing cases.now.before cases.now.after cases.now.list found.1) }
 {
     let text = compare(alloc, cases)?;
     Ok((ToolStatus::Done, Items::from_vec(text)))

@@ -32,7 +32,8 @@ pub fn smsc_main<S: Source, K: Sink>(
     ensures unread { result ≡ ToolStatus.BadWords → src.new ≡ src.old }
     ensures unwritten { leaves_sink result ≡ true → out.new ≡ out.old }
     ensures bad { result ≡ ToolStatus.BadWords → AreRefused (map string_bytes words.now) }
-    ensures refused { AreRefused (map string_bytes words.now) → (result ≡ ToolStatus.BadWords) ⊎ (result ≡ ToolStatus.NoMemory) }
+    ensures refused { AreRefused (map string_bytes words.now) →
+        (result ≡ ToolStatus.BadWords) ⊎ (result ≡ ToolStatus.NoMemory) }
     ensures shown { AreShown (map string_bytes words.now) → (ends_shown result ≡ true) × (src.new ≡ src.old) }
     ensures words { EndsFor (map string_bytes words.now)
         (seen_streams S.left S.reads S.read_faults K.taken K.write_faults src.old out.old)

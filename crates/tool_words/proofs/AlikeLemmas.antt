@@ -1,20 +1,28 @@
 -- The tool never has a kind of refusal beside a kind that shows a text.
-use Rattle.std.proofs.Common.{◌≡◌, refl, ℕ, List, [], ◌∷◌, Bool, true, false, not, ◌&&◌, ◌||◌, Option, Some, None, find, zero, suc, codes, is_some, length, drop, encode_utf8, nat_lt, ◌==◌, inl, inr, if◌then◌else◌}
+use Rattle.std.proofs.Common.{◌≡◌, refl, ℕ, List, [], ◌∷◌, Bool, true, false, not, ◌&&◌, ◌||◌, Option, Some, None, find}
+use Rattle.std.proofs.Common.{zero, suc, codes, is_some, length, drop, encode_utf8, nat_lt, ◌==◌, inl, inr}
+use Rattle.std.proofs.Common.{if◌then◌else◌}
 use Rattle.std.specs.List.{list_all, list_any}
 use Rattle.std.specs.Option.{option_map_or}
 use Rattle.std.specs.Str.{bytes_eq}
 use Rattle.std.proofs.lemmas.Bool.{cases_Bool, and_parts}
-use Rattle.clap.specs.Walk.{Held, Names, Row, Rule, Step, Text, Walk, value, arg_by_id, arg_by_index, arg_by_short, nothing_held, arg_by_long, word_met, subcommand_met, walk, walk_from, walked, settled, finished, answers_to, most_values, action_of, values_or_missing}
+use Rattle.clap.specs.Walk.{Held, Names, Row, Rule, Step, Text, Walk, value, arg_by_id, arg_by_index, arg_by_short}
+use Rattle.clap.specs.Walk.{nothing_held, arg_by_long, word_met, subcommand_met, walk, walk_from, walked, settled}
+use Rattle.clap.specs.Walk.{finished, answers_to, most_values, action_of, values_or_missing}
 use Rattle.clap.specs.Facts.{unwrap_or_range, explicit_source}
 use Rattle.clap.specs.Lexer.{long_of, short_of}
 use Rattle.clap.specs.declared.builder.action.ArgAction.{ArgAction}
-use Rattle.clap.specs.declared.builder.action.ArgAction.TheVariants.{Set, Append, SetTrue, SetFalse, Count, Help, HelpShort, HelpLong, Version}
+use Rattle.clap.specs.declared.builder.action.ArgAction.TheVariants.{Set, Append, SetTrue, SetFalse, Count, Help}
+use Rattle.clap.specs.declared.builder.action.ArgAction.TheVariants.{HelpShort, HelpLong, Version}
 use Rattle.tool_words.specs.Asking.{is_text}
 use Rattle.tool_words.specs.Tool.{Names as KindNames, tool_app}
 use Rattle.clap.specs.Simple.{App, Shape, built, names_of, argument_words, entered, label_of}
 use Rattle.clap.specs.Takes.{is_given}
 use Rattle.clap.specs.Kinds.{Kinds, or_else, values_kinds, range_kinds, request_kinds, check_kinds}
-use Rattle.clap.specs.Faults.{set_fault, action_fault, count_fault, use_fault, settle_fault, react_fault, option_fault, long_fault, short_fault, bundle_step_fault, flags_fault, bundle_fault, flag_word_fault, other_fault, word_fault, step_fault, turn_fault, walk_fault, default_fault, defaults_fault, check_fault, level_fault, entered_fault, fault_of}
+use Rattle.clap.specs.Faults.{set_fault, action_fault, count_fault, use_fault, settle_fault, react_fault, option_fault}
+use Rattle.clap.specs.Faults.{long_fault, short_fault, bundle_step_fault, flags_fault, bundle_fault, flag_word_fault}
+use Rattle.clap.specs.Faults.{other_fault, word_fault, step_fault, turn_fault, walk_fault, default_fault}
+use Rattle.clap.specs.Faults.{defaults_fault, check_fault, level_fault, entered_fault, fault_of}
 use Rattle.clap.specs.declared.error.kind.ErrorKind.{ErrorKind}
 use Rattle.clap.specs.declared.error.kind.ErrorKind.TheVariants as kind
 

@@ -1,5 +1,6 @@
 -- What the kinds of a refusal say, and what a subcommand asks for.
-use Rattle.std.proofs.Common.{◌≡◌, refl, ap, ◌∙◌, sym, subst, ℕ, List, [], ◌∷◌, Bool, true, false, not, ◌&&◌, Option, Some, None, codes, length, arith, inl, inr, ◌⊎◌}
+use Rattle.std.proofs.Common.{◌≡◌, refl, ap, ◌∙◌, sym, subst, ℕ, List, [], ◌∷◌, Bool, true, false, not, ◌&&◌, Option}
+use Rattle.std.proofs.Common.{Some, None, codes, length, arith, inl, inr, ◌⊎◌}
 use Rattle.std.specs.Prelude.{Result, Ok, Err, IfOk, IfErr, MatchResult}
 use Rattle.std.specs.List.{list_all}
 use Rattle.std.proofs.lemmas.Bool.{cases_Bool, and_parts}
@@ -17,7 +18,8 @@ use Rattle.desk_common.specs.Exact.{IsExact, MayRefuse}
 use Rattle.desk_common.proofs.ExactLemmas.{exact_fault, exact_thing, exact_want}
 use Rattle.std.proofs.lemmas.Option.{same_Some}
 use Rattle.tool_words.specs.Tool.{kind_words, names_with, tool, words_of}
-use Rattle.tool_words.specs.Asking.{AreRefused, AreShown, AskFor, AsksKind, Finds, Hinders, AreSorted, err_of, is_free, is_refused, is_shown, is_text}
+use Rattle.tool_words.specs.Asking.{AreRefused, AreShown, AskFor, AsksKind, Finds, Hinders, AreSorted, err_of, is_free}
+use Rattle.tool_words.specs.Asking.{is_refused, is_shown, is_text}
 use Rattle.tool_words.specs.declared.task.Task.{Task}
 use Rattle.tool_words.specs.declared.task.Task.TheVariants as tasks
 use Rattle.tool_words.specs.declared.words_err.WordsErr.{WordsErr}

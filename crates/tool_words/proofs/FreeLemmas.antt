@@ -1,16 +1,19 @@
 -- Words without a fault ask for a task.
-use Rattle.std.proofs.Common.{◌≡◌, refl, ap, ◌∙◌, sym, subst, List, [], ◌∷◌, Bool, true, false, Option, Some, None, codes, is_some, inl, inr, if◌then◌else◌}
+use Rattle.std.proofs.Common.{◌≡◌, refl, ap, ◌∙◌, sym, subst, List, [], ◌∷◌, Bool, true, false, Option, Some, None}
+use Rattle.std.proofs.Common.{codes, is_some, inl, inr, if◌then◌else◌}
 use Rattle.std.specs.Str.{bytes_eq}
 use Rattle.std.proofs.lemmas.Bool.{cases_Bool}
 use Rattle.std.proofs.lemmas.Slice.Eq.{bytes_eq-Decides}
 use Rattle.acs_tree.specs.Variables.{name_of}
 use Rattle.acs_tree.specs.declared.kind.Kind.{Kind}
 use Rattle.acs_tree.specs.declared.kind.Kind.TheVariants.{DataClas, StorClas, MgmtClas, StorGrp}
-use Rattle.clap.specs.Walk.{Held, Row, Text, answers_to, finished, first_of, has_row, nothing_held, rows_after, settled, walk, walk_from, with_default}
+use Rattle.clap.specs.Walk.{Held, Row, Text, answers_to, finished, first_of, has_row, nothing_held, rows_after, settled}
+use Rattle.clap.specs.Walk.{walk, walk_from, with_default}
 use Rattle.clap.specs.Simple.{App, entered, names_of, subcommand_of}
 use Rattle.clap.specs.Takes.{is_given}
 use Rattle.clap.specs.Kinds.{or_else}
-use Rattle.clap.specs.Faults.{settle_fault, walk_fault, built_fault, defaults_fault, check_fault, level_fault, entered_fault, fault_of}
+use Rattle.clap.specs.Faults.{settle_fault, walk_fault, built_fault, defaults_fault, check_fault, level_fault}
+use Rattle.clap.specs.Faults.{entered_fault, fault_of}
 use Rattle.clap.proofs.OnLiterals.{clap_on_literals}
 use Rattle.tool_words.specs.Asking.{Finds}
 use Rattle.tool_words.specs.Tool.{tool}

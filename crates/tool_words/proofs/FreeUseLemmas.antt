@@ -1,9 +1,11 @@
 -- What `translate` holds where a use of its arguments is without a fault.
-use Rattle.std.proofs.Common.{◌≡◌, refl, sym, subst, ℕ, List, [], ◌∷◌, ◌++◌, Bool, true, false, not, ◌&&◌, Option, Some, None, codes, length, slice_get, inl, inr, if◌then◌else◌, ◌==◌, arith}
+use Rattle.std.proofs.Common.{◌≡◌, refl, sym, subst, ℕ, List, [], ◌∷◌, ◌++◌, Bool, true, false, not, ◌&&◌, Option, Some}
+use Rattle.std.proofs.Common.{None, codes, length, slice_get, inl, inr, if◌then◌else◌, ◌==◌, arith}
 use Rattle.std.specs.Option.{option_map_or}
 use Rattle.std.specs.Str.{bytes_eq}
 use Rattle.std.proofs.lemmas.Bool.{cases_Bool, eqb-true}
-use Rattle.clap.specs.Walk.{Held, Row, Rule, Text, arg_by_id, arg_by_long, arg_by_short, at_row, has_row, more_values, reacted, settled, settled_rows, used, used_by_id, stronger, values_or_missing, without}
+use Rattle.clap.specs.Walk.{Held, Row, Rule, Text, arg_by_id, arg_by_long, arg_by_short, at_row, has_row, more_values}
+use Rattle.clap.specs.Walk.{reacted, settled, settled_rows, used, used_by_id, stronger, values_or_missing, without}
 use Rattle.clap.specs.Simple.{filled, help_rule, with_index}
 use Rattle.clap.specs.Kinds.{Kinds, or_else, range_kinds, value_kinds}
 use Rattle.clap.specs.ValueTests.{accepts}

@@ -1,17 +1,23 @@
 -- The walk over the words behind `translate`, where they are without a fault.
-use Rattle.std.proofs.Common.{◌≡◌, refl, ap, ◌∙◌, sym, subst, ℕ, List, [], ◌∷◌, Bool, true, false, ◌&&◌, Option, Some, None, fold, zero, suc, codes, length, drop, encode_utf8, slice_get, inl, inr, ◌⊎◌, if◌then◌else◌, ◌==◌}
+use Rattle.std.proofs.Common.{◌≡◌, refl, ap, ◌∙◌, sym, subst, ℕ, List, [], ◌∷◌, Bool, true, false, ◌&&◌, Option, Some}
+use Rattle.std.proofs.Common.{None, fold, zero, suc, codes, length, drop, encode_utf8, slice_get, inl, inr, ◌⊎◌}
+use Rattle.std.proofs.Common.{if◌then◌else◌, ◌==◌}
 use Rattle.std.specs.Option.{option_map_or}
 use Rattle.std.specs.Str.{bytes_eq, chars}
 use Rattle.std.proofs.lemmas.Bool.{cases_Bool}
 use Rattle.clap.specs.Lexer.{long_of, short_of}
-use Rattle.clap.specs.Walk.{Held, Outcome, Rule, Step, Text, Waiting, Walk, is_pending, pushed, settled, subcommand_or_other, walked, walked_from, word_met, after_step, bundle_met, bundle_step, plain_word, after_flag, short_or_plain, long_or_other}
+use Rattle.clap.specs.Walk.{Held, Outcome, Rule, Step, Text, Waiting, Walk, is_pending, pushed, settled}
+use Rattle.clap.specs.Walk.{subcommand_or_other, walked, walked_from, word_met, after_step, bundle_met, bundle_step}
+use Rattle.clap.specs.Walk.{plain_word, after_flag, short_or_plain, long_or_other}
 use Rattle.clap.specs.Walk.{plain, idle, option, positional, trailing, value}
 use Rattle.clap.specs.Simple.{App, Shape, built, filled, help_rule, new_shape, with_index}
 use Rattle.clap.specs.Kinds.{or_else}
-use Rattle.clap.specs.Faults.{settle_fault, flags_fault, bundle_step_fault, flag_word_fault, bundle_fault, other_fault, step_fault, turn_fault, walk_fault, word_fault}
+use Rattle.clap.specs.Faults.{settle_fault, flags_fault, bundle_step_fault, flag_word_fault, bundle_fault, other_fault}
+use Rattle.clap.specs.Faults.{step_fault, turn_fault, walk_fault, word_fault}
 use Rattle.clap.proofs.OnLiterals.{clap_on_literals}
 use Rattle.tool_words.specs.Tool.{tool}
-use Rattle.tool_words.proofs.FreeUseLemmas.{nil_left, nil_right, kind_id, kinds, both, GoodRows, good_settled, no_long, no_short}
+use Rattle.tool_words.proofs.FreeUseLemmas.{nil_left, nil_right, kind_id, kinds, both, GoodRows, good_settled, no_long}
+use Rattle.tool_words.proofs.FreeUseLemmas.{no_short}
 
 -- ---- what a word comes to
 

@@ -1,5 +1,7 @@
 -- The walk over words doesn't depend on where the names of the kinds lie.
-use Rattle.std.proofs.Common.{◌≡◌, refl, ap, ap₂, ◌∙◌, ℕ, List, [], ◌∷◌, Bool, ◌&&◌, ◌||◌, Option, Some, None, option_map, find, fold, map, zero, suc, length, drop, encode_utf8, slice_get, inl, inr, if◌then◌else◌}
+use Rattle.std.proofs.Common.{◌≡◌, refl, ap, ap₂, ◌∙◌, ℕ, List, [], ◌∷◌, Bool, ◌&&◌, ◌||◌, Option, Some, None}
+use Rattle.std.proofs.Common.{option_map, find, fold, map, zero, suc, length, drop, encode_utf8, slice_get, inl, inr}
+use Rattle.std.proofs.Common.{if◌then◌else◌}
 use Rattle.std.specs.List.{list_any}
 use Rattle.std.specs.Option.{option_map_or}
 use Rattle.std.specs.Str.{bytes_eq, chars}
@@ -7,8 +9,14 @@ use Rattle.std.proofs.lemmas.Bool.{cases_Bool}
 use Rattle.clap.specs.Facts.{parser_of_value}
 use Rattle.clap.specs.Lexer.{long_of, short_of}
 use Rattle.clap.specs.Values.{reading_of}
-use Rattle.clap.specs.Walk.{Held, Names, Outcome, Row, Rule, Step, Text, Waiting, Walk, action_of, arg_by_id, arg_by_index, arg_by_long, arg_by_short, attached_value, default_rows, finished, has_row, is_pending, next_position, nothing_held, pushed, reacted, rows_after, settled, settled_rows, subcommand_met, takes_several, takes_values, used, used_as, used_by_id, values_or_missing, walk, walk_from, walked, walked_from, with_default, word_met}
-use Rattle.clap.specs.Walk.{option_met, flag_met, long_met, short_met, bundle_step, bundle_met, bundle, option_word, plain_word, after_flag, long_word, short_word, short_or_plain, long_or_other, subcommand_or_other, positional_held, to_positional, after_step, is_multiple}
+use Rattle.clap.specs.Walk.{Held, Names, Outcome, Row, Rule, Step, Text, Waiting, Walk, action_of, arg_by_id}
+use Rattle.clap.specs.Walk.{arg_by_index, arg_by_long, arg_by_short, attached_value, default_rows, finished, has_row}
+use Rattle.clap.specs.Walk.{is_pending, next_position, nothing_held, pushed, reacted, rows_after, settled, settled_rows}
+use Rattle.clap.specs.Walk.{subcommand_met, takes_several, takes_values, used, used_as, used_by_id, values_or_missing}
+use Rattle.clap.specs.Walk.{walk, walk_from, walked, walked_from, with_default, word_met}
+use Rattle.clap.specs.Walk.{option_met, flag_met, long_met, short_met, bundle_step, bundle_met, bundle, option_word}
+use Rattle.clap.specs.Walk.{plain_word, after_flag, long_word, short_word, short_or_plain, long_or_other}
+use Rattle.clap.specs.Walk.{subcommand_or_other, positional_held, to_positional, after_step, is_multiple}
 use Rattle.clap.specs.Walk.{done, waits, plain, refused, idle, option, positional, next, trailing, subcommand, value}
 use Rattle.clap.specs.declared.builder.value_parser.ValueParser.{ValueParser}
 use Rattle.clap.specs.declared.builder.value_parser.ValueParser.TheVariants as vp

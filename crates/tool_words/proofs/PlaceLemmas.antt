@@ -1,5 +1,7 @@
 -- How words are read doesn't depend on where the names of the kinds lie.
-use Rattle.std.proofs.Common.{◌≡◌, refl, ap, ap₂, ◌∙◌, sym, ℕ, List, [], ◌∷◌, Bool, false, not, ◌&&◌, ◌||◌, Option, Some, None, option_map, find, map, zero, suc, is_some, length, drop, encode_utf8, slice_get, inl, inr, if◌then◌else◌}
+use Rattle.std.proofs.Common.{◌≡◌, refl, ap, ap₂, ◌∙◌, sym, ℕ, List, [], ◌∷◌, Bool, false, not, ◌&&◌, ◌||◌, Option}
+use Rattle.std.proofs.Common.{Some, None, option_map, find, map, zero, suc, is_some, length, drop, encode_utf8}
+use Rattle.std.proofs.Common.{slice_get, inl, inr, if◌then◌else◌}
 use Rattle.std.specs.Borrow.{Bor}
 use Rattle.std.specs.List.{list_any}
 use Rattle.std.specs.Option.{option_map_or}
@@ -9,20 +11,30 @@ use Rattle.clap.specs.Facts.{parser_of_value, unwrap_or_range, explicit_source}
 use Rattle.clap.specs.Lexer.{long_of, short_of}
 use Rattle.clap.specs.Values.{refused_kind, same_text}
 use Rattle.clap.specs.ValueTests.{accepts}
-use Rattle.clap.specs.Walk.{Held, Names, Row, Rule, Step, Text, Walk, action_of, answers_to, arg_by_id, arg_by_index, arg_by_long, arg_by_short, attached_value, finished, has_row, is_empty, is_pending, most_values, nothing_held, reacted, settled, subcommand_met, takes_several, takes_values, values_or_missing, walk, walk_from, walked, with_default, word_met}
+use Rattle.clap.specs.Walk.{Held, Names, Row, Rule, Step, Text, Walk, action_of, answers_to, arg_by_id, arg_by_index}
+use Rattle.clap.specs.Walk.{arg_by_long, arg_by_short, attached_value, finished, has_row, is_empty, is_pending}
+use Rattle.clap.specs.Walk.{most_values, nothing_held, reacted, settled, subcommand_met, takes_several, takes_values}
+use Rattle.clap.specs.Walk.{values_or_missing, walk, walk_from, walked, with_default, word_met}
 use Rattle.clap.specs.Walk.{next, trailing, subcommand, value}
 use Rattle.clap.specs.Simple.{App, Shape, built, entered, label_of, names_of, rows_at, subcommand_of}
 use Rattle.clap.specs.Takes.{is_given}
 use Rattle.clap.specs.Kinds.{Kinds, check_kinds, or_else, range_kinds, request_kinds, value_kinds, values_kinds}
-use Rattle.clap.specs.Faults.{count_fault, repeat_fault, set_fault, action_fault, use_fault, settle_fault, react_fault, option_fault, long_fault, short_fault, bundle_step_fault, flags_fault, bundle_fault, flag_word_fault, other_fault, positional_fault, stray_fault, step_fault, turn_fault, walk_fault, default_fault, defaults_fault, check_fault, level_fault, entered_fault, built_fault, fault_of}
+use Rattle.clap.specs.Faults.{count_fault, repeat_fault, set_fault, action_fault, use_fault, settle_fault, react_fault}
+use Rattle.clap.specs.Faults.{option_fault, long_fault, short_fault, bundle_step_fault, flags_fault, bundle_fault}
+use Rattle.clap.specs.Faults.{flag_word_fault, other_fault, positional_fault, stray_fault, step_fault, turn_fault}
+use Rattle.clap.specs.Faults.{walk_fault, default_fault, defaults_fault, check_fault, level_fault, entered_fault}
+use Rattle.clap.specs.Faults.{built_fault, fault_of}
 use Rattle.clap.specs.declared.builder.action.ArgAction.{ArgAction}
-use Rattle.clap.specs.declared.builder.action.ArgAction.TheVariants.{Set, Append, SetTrue, SetFalse, Count, Help, HelpShort, HelpLong, Version}
+use Rattle.clap.specs.declared.builder.action.ArgAction.TheVariants.{Set, Append, SetTrue, SetFalse, Count, Help}
+use Rattle.clap.specs.declared.builder.action.ArgAction.TheVariants.{HelpShort, HelpLong, Version}
 use Rattle.clap.specs.declared.builder.value_parser.ValueParser.{ValueParser}
 use Rattle.clap.specs.declared.builder.value_parser.ValueParser.TheVariants as vp
 use Rattle.clap.specs.declared.error.kind.ErrorKind.TheVariants as kind
 use Rattle.clap.proofs.OnLiterals.{clap_on_literals}
 use Rattle.tool_words.specs.Tool.{IsTool, Names as KindNames, names_with, texts_of, tool, tool_app}
-use Rattle.tool_words.proofs.MovedWalkLemmas.{moved_parser, moved, all, any_moved, or_same, by_id, by_long, by_short, by_index, settled_moved, reacted_moved, word_met_moved, walked_moved, walk_moved, with_default_moved, finished_moved, rows_after_moved}
+use Rattle.tool_words.proofs.MovedWalkLemmas.{moved_parser, moved, all, any_moved, or_same, by_id, by_long, by_short}
+use Rattle.tool_words.proofs.MovedWalkLemmas.{by_index, settled_moved, reacted_moved, word_met_moved, walked_moved}
+use Rattle.tool_words.proofs.MovedWalkLemmas.{walk_moved, with_default_moved, finished_moved, rows_after_moved}
 
 -- ---- the values
 

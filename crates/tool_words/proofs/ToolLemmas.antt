@@ -1,5 +1,6 @@
 -- The tool's command on its words.
-use Rattle.std.proofs.Common.{◌≡◌, refl, ap, sym, subst, ◌∙◌, List, [], ◌∷◌, map, true, false, codes, inl, inr, Bor, Result, Ok, Err, IfOk, IfErr, ◌⊎◌, Option, Some, None, option_map, Box}
+use Rattle.std.proofs.Common.{◌≡◌, refl, ap, sym, subst, ◌∙◌, List, [], ◌∷◌, map, true, false, codes, inl, inr, Bor}
+use Rattle.std.proofs.Common.{Result, Ok, Err, IfOk, IfErr, ◌⊎◌, Option, Some, None, option_map, Box}
 use Rattle.std.specs.Box.{box_value}
 use Rattle.std.proofs.lemmas.Option.{same_Some}
 use Rattle.clap.specs.Walk.{Row}
@@ -10,7 +11,8 @@ use Rattle.clap.specs.declared.parser.matches.ArgMatches.TheViews.{out-ArgMatche
 use Rattle.std.specs.List.{list_any}
 use Rattle.clap.specs.Values.{same_text}
 use Rattle.clap.specs.Walk.{Text}
-use Rattle.clap.specs.Words.{App, Kinds, is_simple, takes, is_simple_and_free, FailsBy, IsAmong, fault_of, HasMatchesOf, subcommand_of, subcommand_rows_of, kind_of}
+use Rattle.clap.specs.Words.{App, Kinds, is_simple, takes, is_simple_and_free, FailsBy, IsAmong, fault_of, HasMatchesOf}
+use Rattle.clap.specs.Words.{subcommand_of, subcommand_rows_of, kind_of}
 use Rattle.clap.specs.declared.parser.matches.ArgMatches.{ArgMatches}
 use Rattle.clap.specs.declared.error.Error.{Error}
 use Rattle.clap.specs.declared.error.kind.ErrorKind.TheVariants.{OutOfMemory}

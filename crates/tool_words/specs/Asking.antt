@@ -33,7 +33,8 @@ is_refused kinds = not (is_free kinds) && list_all (λ k. not (is_text k)) kinds
 
 -- what the subcommand that was found asks for
 abbrev pub Finds : Option (Text × List Row) → Task → Type 0
-Finds found (tasks.Translate kind) = (rows : List Row) × (found ≡ Some (codes "translate", rows)) × (first_of (codes "kind") rows ≡ Some (name_of kind))
+Finds found (tasks.Translate kind) =
+    (rows : List Row) × (found ≡ Some (codes "translate", rows)) × (first_of (codes "kind") rows ≡ Some (name_of kind))
 Finds found tasks.Validate = (rows : List Row) × (found ≡ Some (codes "validate", rows))
 Finds found tasks.Simulate = (rows : List Row) × (found ≡ Some (codes "simulate", rows))
 Finds found tasks.Compare = (rows : List Row) × (found ≡ Some (codes "compare", rows))

@@ -25,7 +25,12 @@ abbrev pub tool_app : Names → App
 tool_app names =
     with_subcommand (with_subcommand (with_subcommand (with_subcommand
     (record (new_app (codes "smsc")) {
-      top = record (new_shape (codes "smsc")) { no_binary_name = true; disable_help_subcommand = true; subcommand_required = true; has_version = true };
+      top = record (new_shape (codes "smsc")) {
+        no_binary_name = true;
+        disable_help_subcommand = true;
+        subcommand_required = true;
+        has_version = true;
+      };
     })
     (with_rule (new_app (codes "translate")) (kind_rule names)).top)
     (new_shape (codes "validate")))

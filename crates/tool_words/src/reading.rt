@@ -22,7 +22,8 @@ fn read_matches<'a>(alloc: Global, words: &'a [String]) -> Result<ArgMatches<'a>
         × (subcommand_rows_of m ≡ subcommand_of tool (map string_bytes words.entry.now))) }
     ensures err { IfErr result (λ e. (kind_of e ≡ ErrorKind.OutOfMemory)
         ⊎ IsAmong (kind_of e) (fault_of tool (map string_bytes words.entry.now))) }
-    ensures known { (task : TaskOf) → map string_bytes words.entry.now ≡ words_of task → IfErr result (λ e. kind_of e ≡ ErrorKind.OutOfMemory) }
+    ensures known { (task : TaskOf) → map string_bytes words.entry.now ≡ words_of task →
+        IfErr result (λ e. kind_of e ≡ ErrorKind.OutOfMemory) }
 {
     let tool = tool_command(alloc)?;
     tool.try_get_matches_from(words)
@@ -32,9 +33,11 @@ fn read_matches<'a>(alloc: Global, words: &'a [String]) -> Result<ArgMatches<'a>
 pub fn task_asked(alloc: Global, words: &[String]) -> Result<Task, WordsErr>
     ensures asked { IfOk result (AskFor (map string_bytes words.now)) }
     ensures hindered { IfErr result (MayRefuse (Hinders (map string_bytes words.now)) (Some WordsErr.NoMemory)) }
-    ensures exactly { IsExact (AskFor (map string_bytes words.now)) (Hinders (map string_bytes words.now)) (Some WordsErr.NoMemory) result }
+    ensures exactly { IsExact (AskFor (map string_bytes words.now)) (Hinders (map string_bytes words.now))
+        (Some WordsErr.NoMemory) result }
     ensures sorted { AreSorted (map string_bytes words.now) }
-    ensures known { (task : TaskOf) → map string_bytes words.now ≡ words_of task → MatchResult result (λ found. found ≡ task) (λ err. err ≡ WordsErr.NoMemory) }
+    ensures known { (task : TaskOf) → map string_bytes words.now ≡ words_of task →
+        MatchResult result (λ found. found ≡ task) (λ err. err ≡ WordsErr.NoMemory) }
 {
     match read_matches(alloc, words) {
         Ok(matches) => task_in(&matches),

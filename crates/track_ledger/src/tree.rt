@@ -254,7 +254,8 @@ impl Tree {
     /// side is gone into where none holds them.
     pub fn lowest_behind(&self, measure: Measure, tracks: u32, last: &Piece) -> Option<Piece>
         ensures { result ≡
-            find (λ cut. not (comes_first cut last.now) && nat_le tracks cut.length) (cuts_by measure (items_of self.now)) }
+            find (λ cut. not (comes_first cut last.now) && nat_le tracks cut.length)
+            (cuts_by measure (items_of self.now)) }
     {
         match self {
             Tree::Empty => None,
@@ -292,7 +293,8 @@ fn cut_holding(gap: &Piece, measure: Measure, tracks: u64) -> Option<Piece>
 
 // How long the whole units of a gap in a part are, if they stand behind another gap, or `least` where that is more.
 fn length_behind(gap: &Piece, measure: Measure, least: u32, last: &Piece) -> u32
-    ensures { result ≡ max least (longest_among (λ cut. not (comes_first cut last.now)) (cuts_by measure (gap.now ∷ []))) }
+    ensures { result ≡ max least (longest_among (λ cut. not (comes_first cut last.now))
+        (cuts_by measure (gap.now ∷ []))) }
 {
     if gap.length <= least {
         return least;

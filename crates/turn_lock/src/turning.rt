@@ -15,7 +15,8 @@ impl<T: Journaled<E> + Drop, E> TurnLock<T, E> {
     pub(crate) fn draw(&self, seat: Seat<T, E>) -> (u64, Held<T, E>)
         requires { seat.held.table_id ≡ self.now.table.shared.table_id }
         ensures same { result.1.table_id ≡ self.now.table.shared.table_id }
-        ensures drew { (k : ℕ) × (result.1.me ≡ (record seat.held.me.0 { ticket = Some k }, [])) × (k % 18446744073709551616 ≡ result.0) }
+        ensures drew { (k : ℕ) × (result.1.me ≡ (record seat.held.me.0 { ticket = Some k }, [])) ×
+            (k % 18446744073709551616 ≡ result.0) }
     {
         let Seat {
             number: _,

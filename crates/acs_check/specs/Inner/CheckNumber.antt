@@ -1,7 +1,11 @@
 -- The numbers of the checks (docs/acs-language.md, Checks).
 use Rattle.std.specs.Prelude.{ℕ}
 use Rattle.acs_check.specs.declared.check_name.CheckName.{CheckName}
-use Rattle.acs_check.specs.declared.check_name.CheckName.TheVariants.{WrongHead, UnknownVariable, NotSettable, UnknownList, ListNameTaken, KindMismatch, OrderOfTexts, ValueOutOfRange, MaskMisplaced, TooManyEntries, TooManyValues, BadExitCode, ReadTooEarly}
+use Rattle.acs_check.specs.declared.check_name.CheckName.TheVariants.{WrongHead, UnknownVariable, NotSettable}
+use Rattle.acs_check.specs.declared.check_name.CheckName.TheVariants.{UnknownList, ListNameTaken, KindMismatch}
+use Rattle.acs_check.specs.declared.check_name.CheckName.TheVariants.{OrderOfTexts, ValueOutOfRange, MaskMisplaced}
+use Rattle.acs_check.specs.declared.check_name.CheckName.TheVariants.{TooManyEntries, TooManyValues, BadExitCode}
+use Rattle.acs_check.specs.declared.check_name.CheckName.TheVariants.{ReadTooEarly}
 
 -- the number behind the C
 abbrev pub number_of : CheckName → ℕ

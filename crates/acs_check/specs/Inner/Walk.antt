@@ -1,5 +1,6 @@
 -- The first of many faults, found by going through the nodes of a routine one by one.
-use Rattle.std.specs.Prelude.{◌==◌, ◌&&◌, ◌||◌, Bool, true, List, [], ◌∷◌, ◌++◌, nat_lt, Option, Some, None, if◌then◌else◌}
+use Rattle.std.specs.Prelude.{◌==◌, ◌&&◌, ◌||◌, Bool, true, List, [], ◌∷◌, ◌++◌, nat_lt, Option, Some, None}
+use Rattle.std.specs.Prelude.{if◌then◌else◌}
 use Rattle.acs_tree.specs.declared.check_err.CheckErr.{CheckErr}
 use Rattle.acs_tree.specs.declared.kind.Kind.{Kind}
 use Rattle.acs_tree.specs.declared.routine.Routine.{Routine}
@@ -34,7 +35,8 @@ faults_in kind before (node ∷ nodes) = faults_at kind before node ++ faults_in
 -- the faults of statements that stand behind others
 abbrev pub faults_behind : Kind → List Stmt → List Stmt → List CheckErr
 faults_behind kind before [] = []
-faults_behind kind before (statement ∷ behind) = faults_in kind before (nodes_of statement) ++ faults_behind kind (before ++ statement ∷ []) behind
+faults_behind kind before (statement ∷ behind) =
+    faults_in kind before (nodes_of statement) ++ faults_behind kind (before ++ statement ∷ []) behind
 
 -- the faults of a routine
 abbrev pub faults_of : Routine → Kind → List CheckErr
@@ -52,7 +54,8 @@ walked kind before best (node ∷ nodes) = walked kind before (met kind before b
 -- the first fault so far, with those of statements that stand behind others
 abbrev pub passed : Kind → List Stmt → Option CheckErr → List Stmt → Option CheckErr
 passed kind before best [] = best
-passed kind before best (statement ∷ behind) = passed kind (before ++ statement ∷ []) (walked kind before best (nodes_of statement)) behind
+passed kind before best (statement ∷ behind) =
+    passed kind (before ++ statement ∷ []) (walked kind before best (nodes_of statement)) behind
 
 -- the first fault of a routine, if it has one
 unfoldable pub first_fault_of : Routine → Kind → Option CheckErr

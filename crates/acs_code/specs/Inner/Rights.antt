@@ -28,7 +28,8 @@ filter_place whole place = if whole then 2 * place else 2 * place + 1
 -- the filters of the compiled list at a place are those of that name
 pub record IsPlaceAmong (lists : List CompiledList) (name : List ℕ) (place : ℕ) : Type 0 where
   pub within : place < length lists
-  pub same : (whole : Bool) → filter_comparand (slice_get (filters_in lists) (filter_place whole place)) ≡ compiled_comparand whole lists name
+  pub same : (whole : Bool) →
+      filter_comparand (slice_get (filters_in lists) (filter_place whole place)) ≡ compiled_comparand whole lists name
   pub there : (whole : Bool) → filter_place whole place < length (filters_in lists)
 
 -- no compiled list has that name

@@ -12,9 +12,11 @@ use Rattle.acs_code.specs.Machine.{CodeParts, part_class, parts_line, probe_hold
 
 -- one instruction: `next` goes on at a place, and `past` is the place behind the instruction
 abbrev pub act : Kind → List FilterLists → Input → Instr → (ℕ → Values → Outcome) → ℕ → Values → Outcome
-act kind filters input (Test probe yes' no') next past values = next (if probe_holds filters probe input values then yes' else no') values
+act kind filters input (Test probe yes' no') next past values =
+    next (if probe_holds filters probe input values then yes' else no') values
 act kind filters input (Jump to) next past values = next to values
-act kind filters input (SetClass part) next past values = next past (with_class kind (part_class part input values) values)
+act kind filters input (SetClass part) next past values =
+    next past (with_class kind (part_class part input values) values)
 act kind filters input (SetGroups groups) next past values = next past (record values { groups = groups })
 act kind filters input (Write parts) next past values = behind (parts_line parts input values ∷ []) (next past values)
 act kind filters input (Exit code) next past values = exits code values
@@ -27,7 +29,8 @@ act_if_any kind filters input (Some instr) next past values = act kind filters i
 -- running from a place for at most so many steps; behind those it falls through
 abbrev pub run_for : CodeParts → Input → ℕ → ℕ → Values → Outcome
 run_for code input zero place values = falls values
-run_for code input (suc steps) place values = act_if_any code.kind code.filters input (slice_get code.instrs place) (run_for code input steps) (suc place) values
+run_for code input (suc steps) place values =
+    act_if_any code.kind code.filters input (slice_get code.instrs place) (run_for code input steps) (suc place) values
 
 -- running from a place, with as many steps as there are instructions
 abbrev pub rest_of : CodeParts → Input → ℕ → Values → Outcome

@@ -9,7 +9,8 @@ use Rattle.acs_lex.specs.declared.fault.LexErr.{LexErr}
 use Rattle.acs_lex.specs.declared.fault.LexErr.TheVariants.{OpenComment, OpenLiteral, BadByte, LongWord}
 use Rattle.acs_lex.specs.declared.piece.Piece.{Piece}
 use Rattle.acs_lex.specs.declared.piece.Piece.TheVariants as piece
-use Rattle.acs_lex.specs.Lexical.{is_blank, is_line_end, is_name_byte, is_word_byte, is_ampersand, is_quote, is_quotable, is_single_sign, is_double_sign, begins, counted_bytes, most_bytes}
+use Rattle.acs_lex.specs.Lexical.{is_blank, is_line_end, is_name_byte, is_word_byte, is_ampersand, is_quote}
+use Rattle.acs_lex.specs.Lexical.{is_quotable, is_single_sign, is_double_sign, begins, counted_bytes, most_bytes}
 use Rattle.acs_lex.specs.Tokens.{size_of, place_of, token_at}
 
 -- what stands at the front of a text, with what is behind it
@@ -69,7 +70,8 @@ literal_front total text (b ∷ rest) =
 
 -- behind a first byte that makes no sign of two bytes
 abbrev pub single_front : ℕ → List ℕ → ℕ → List ℕ → Front
-single_front total text first bytes = if is_single_sign first then token_front total Sign text bytes else bad_front total text
+single_front total text first bytes =
+    if is_single_sign first then token_front total Sign text bytes else bad_front total text
 
 -- behind a first byte that may be a sign's
 abbrev pub sign_front : ℕ → List ℕ → ℕ → List ℕ → Front
@@ -81,7 +83,8 @@ sign_front total text first (b ∷ rest) =
 abbrev pub ampersand_front : ℕ → List ℕ → ℕ → List ℕ → Front
 ampersand_front total text first [] = bad_front total text
 ampersand_front total text first (b ∷ rest) =
-    if is_name_byte b then token_front total Variable text (after is_name_byte rest) else sign_front total text first (b ∷ rest)
+    if is_name_byte b then token_front total Variable text (after is_name_byte rest)
+    else sign_front total text first (b ∷ rest)
 
 -- one step: what stands at the front of what is left of a text of so many bytes
 abbrev pub front : ℕ → List ℕ → Front

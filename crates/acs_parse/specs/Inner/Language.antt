@@ -9,8 +9,13 @@ use Rattle.acs_tree.specs.declared.routine.Stmt.{Stmt}
 use Rattle.acs_symbol.specs.declared.symbol.Symbol.{Symbol}
 use Rattle.acs_parse.specs.declared.want.Want.{Want}
 use Rattle.acs_parse.specs.Wants.{fits}
-use Rattle.acs_parse.specs.Grammar.{back, IsIndex, IsRef, IsOperand, IsFurther, IsExclude, IsLists, IsCode, IsCond, IsOrs, IsConj, IsAnds, IsPrim, IsStmt, IsAlternative, IsChoice, IsWhen, IsWhens, IsBlock, IsItem, IsOrNumber}
-use Rattle.acs_parse.specs.Inner.Table.{effect, Part, One, OrNumber, ABlock, AnItem, AStatement, Lists, OrExclude, OrAlternative, AChoice, AWhen, MoreWhens, ACondition, MoreOrs, AConjunct, MoreAnds, ATest, AnOperand, MoreOperands, ARef, OrIndex, OrCode, Back, Move, Read, Full, Pass, Refuse}
+use Rattle.acs_parse.specs.Grammar.{back, IsIndex, IsRef, IsOperand, IsFurther, IsExclude, IsLists, IsCode, IsCond}
+use Rattle.acs_parse.specs.Grammar.{IsOrs, IsConj, IsAnds, IsPrim, IsStmt, IsAlternative, IsChoice, IsWhen, IsWhens}
+use Rattle.acs_parse.specs.Grammar.{IsBlock, IsItem, IsOrNumber}
+use Rattle.acs_parse.specs.Inner.Table.{effect, Part, One, OrNumber, ABlock, AnItem, AStatement, Lists, OrExclude}
+use Rattle.acs_parse.specs.Inner.Table.{OrAlternative, AChoice, AWhen, MoreWhens, ACondition, MoreOrs, AConjunct}
+use Rattle.acs_parse.specs.Inner.Table.{MoreAnds, ATest, AnOperand, MoreOperands, ARef, OrIndex, OrCode, Back, Move}
+use Rattle.acs_parse.specs.Inner.Table.{Read, Full, Pass, Refuse}
 
 -- the tokens begin with the one that is wanted
 abbrev pub Takes : Want → List Symbol → List Symbol → Type 0
@@ -44,11 +49,13 @@ Lang total may Back n ts m rest = (ts ≡ rest) × (back n ≡ m)
 -- the parts one after another
 abbrev pub Seq : ℕ → (ℕ → Bool) → List Part → ℕ → List Symbol → ℕ → List Symbol → Type 0
 Seq total may [] n ts m rest = (n ≡ m) × (ts ≡ rest)
-Seq total may (s ∷ k) n ts m rest = (p : ℕ) × (ms : List Symbol) × Lang total may s n ts p ms × Seq total may k p ms m rest
+Seq total may (s ∷ k) n ts m rest =
+    (p : ℕ) × (ms : List Symbol) × Lang total may s n ts p ms × Seq total may k p ms m rest
 
 -- a move is right
 abbrev pub Holds : ℕ → (ℕ → Bool) → Part → ℕ → Symbol → Move → Type 0
-Holds total may s n t (Read p new) = (m : ℕ) (ms rest : List Symbol) → Seq total may new p ms m rest → Lang total may s n (t ∷ ms) m rest
+Holds total may s n t (Read p new) =
+    (m : ℕ) (ms rest : List Symbol) → Seq total may new p ms m rest → Lang total may s n (t ∷ ms) m rest
 Holds total may s n t (Pass m) = (ms : List Symbol) → Lang total may s n (t ∷ ms) m (t ∷ ms)
 Holds total may s n t Full = Unit {0}
 Holds total may s n t Refuse = Unit {0}

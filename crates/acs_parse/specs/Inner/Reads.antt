@@ -1,6 +1,7 @@
 -- What a reader of the parser says of its answer. It is the means of the parser: what is promised
 -- stands in Grammar, Places and ParseFault.
-use Rattle.std.specs.Prelude.{◌≡◌, ◌⊎◌, ◌-◌, ℕ, suc, Bool, true, false, List, [], ◌∷◌, ◌++◌, length, Option, Result, Ok, Err}
+use Rattle.std.specs.Prelude.{◌≡◌, ◌⊎◌, ◌-◌, ℕ, suc, Bool, true, false, List, [], ◌∷◌, ◌++◌, length, Option, Result, Ok}
+use Rattle.std.specs.Prelude.{Err}
 use Rattle.acs_tree.specs.declared.routine.Operand.{Operand}
 use Rattle.acs_tree.specs.declared.routine.Cond.{Cond}
 use Rattle.acs_tree.specs.declared.routine.WhenTest.{WhenTest}
@@ -20,9 +21,11 @@ use Rattle.acs_parse.specs.declared.fault.ParseErr.{ParseErr}
 use Rattle.acs_parse.specs.declared.fault.ParseErr.TheVariants as answer
 use Rattle.acs_parse.specs.declared.fault.Fault.{Fault}
 use Rattle.acs_parse.specs.declared.fault.Fault.TheVariants.{Unexpected, Ended, Deep, NoMemory}
-use Rattle.acs_parse.specs.Grammar.{starts, placed, joins, limited, IsOperands, IsCond, IsStmt, IsAlternative, IsWhen, IsWhens, IsRoutineOf}
+use Rattle.acs_parse.specs.Grammar.{starts, placed, joins, limited, IsOperands, IsCond, IsStmt, IsAlternative, IsWhen}
+use Rattle.acs_parse.specs.Grammar.{IsWhens, IsRoutineOf}
 use Rattle.acs_parse.specs.Inner.Language.{Takes}
-use Rattle.acs_parse.specs.Inner.Table.{Effect, Keep, To, Part, One, ACondition, AnOperand, MoreOperands, start, Verdict, Short, Stop, TooMany, verdict}
+use Rattle.acs_parse.specs.Inner.Table.{Effect, Keep, To, Part, One, ACondition, AnOperand, MoreOperands, start}
+use Rattle.acs_parse.specs.Inner.Table.{Verdict, Short, Stop, TooMany, verdict}
 
 -- the table ends in the same way
 abbrev pub Fails : Fault → Verdict → Type 0
@@ -62,7 +65,8 @@ Skips w ts ms false = (starts w ts ≡ false) × (ms ≡ ts)
 
 -- the next operand of a list begins here: behind a comma, or at once
 abbrev pub GoesOn : ListKind → List Symbol → List Symbol → Type 0
-GoesOn kind ts behind = (ts ≡ Comma ∷ behind) ⊎ ((t : Symbol) × (ms : List Symbol) × (ts ≡ t ∷ ms) × (joins kind t ≡ true) × (behind ≡ ts))
+GoesOn kind ts behind =
+    (ts ≡ Comma ∷ behind) ⊎ ((t : Symbol) × (ms : List Symbol) × (ts ≡ t ∷ ms) × (joins kind t ≡ true) × (behind ≡ ts))
 
 -- a list of entries in parentheses
 abbrev pub IsEntries : ℕ → List Symbol → List Operand → List Symbol → Type 0
@@ -70,7 +74,8 @@ IsEntries total ts os rest = (ms : List Symbol) × (ts ≡ Open ∷ ms) × IsOpe
 
 -- what a statement with this word is, by the tokens behind the word
 abbrev pub IsBehind : ℕ → WordKind → ℕ → List Symbol → Form → List Symbol → Type 0
-IsBehind total kind n ts form rest = (a : List ℕ) → IsStmt total limited n (Word kind a ∷ ts) (placed total (Word kind a ∷ ts) form) rest
+IsBehind total kind n ts form rest =
+    (a : List ℕ) → IsStmt total limited n (Word kind a ∷ ts) (placed total (Word kind a ∷ ts) form) rest
 
 -- the same where the word opens one more, so that this many are open behind it
 abbrev pub IsInside : ℕ → WordKind → ℕ → List Symbol → Form → List Symbol → Type 0
@@ -78,7 +83,8 @@ IsInside total kind inner ts form rest = (n : ℕ) → limited n ≡ true → in
 
 -- the WHENs of a SELECT, at least one
 abbrev pub AreWhens : ℕ → Bool → ℕ → List Symbol → List When → List Symbol → Type 0
-AreWhens total b n ts list rest = (w : When) × (ws : List When) × (ms : List Symbol) × IsWhen total limited b n ts w ms × IsWhens total limited b n ms ws rest × (list ≡ w ∷ ws)
+AreWhens total b n ts list rest = (w : When) × (ws : List When) × (ms : List Symbol) ×
+    IsWhen total limited b n ts w ms × IsWhens total limited b n ms ws rest × (list ≡ w ∷ ws)
 
 -- a condition and the wanted token behind it
 abbrev pub IsCondBefore : ℕ → Want → ℕ → List Symbol → Cond → List Symbol → Type 0
@@ -86,7 +92,8 @@ IsCondBefore total w n ts c rest = (m : ℕ) × (a : List Symbol) × IsCond tota
 
 -- the statements of an IF, with the ELSE's if there is one
 abbrev pub AreArms : ℕ → ℕ → List Symbol → Stmt → Option Stmt → List Symbol → Type 0
-AreArms total n ts s o rest = (ms : List Symbol) × IsStmt total limited n ts s ms × IsAlternative total limited want.Else n ms o rest
+AreArms total n ts s o rest =
+    (ms : List Symbol) × IsStmt total limited n ts s ms × IsAlternative total limited want.Else n ms o rest
 
 -- this list of WHENs and one more, which is read
 abbrev pub IsOneMore : ℕ → Bool → ℕ → List Symbol → List When → List When → List Symbol → Type 0
@@ -94,8 +101,10 @@ IsOneMore total b n ts list longer rest = (w : When) × IsWhen total limited b n
 
 -- what stands behind a WHEN in parentheses: items, or a condition
 pub data IsTest (total : ℕ) : Bool → ℕ → List Symbol → WhenTest → List Symbol → Type 0 where
-  any_of : {n : ℕ} {ts rest : List Symbol} {os : List Operand} → IsOperands total list.Items ts os (Close ∷ rest) → IsTest total true n (Open ∷ ts) (Any os) rest
-  holding : {n m : ℕ} {ts rest : List Symbol} {c : Cond} → IsCond total limited n ts c m (Close ∷ rest) → IsTest total false n (Open ∷ ts) (Holds c) rest
+  any_of : {n : ℕ} {ts rest : List Symbol} {os : List Operand} → IsOperands total list.Items ts os (Close ∷ rest) →
+      IsTest total true n (Open ∷ ts) (Any os) rest
+  holding : {n m : ℕ} {ts rest : List Symbol} {c : Cond} → IsCond total limited n ts c m (Close ∷ rest) →
+      IsTest total false n (Open ∷ ts) (Holds c) rest
 
 -- the parts of the same
 abbrev pub test_parts : Bool → ℕ → List Part

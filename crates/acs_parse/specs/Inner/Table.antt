@@ -73,13 +73,16 @@ entries = One want.Open Keep ∷ AnOperand list.Entries ∷ MoreOperands list.En
 
 -- behind a WHEN
 abbrev pub when_parts : Bool → ℕ → List Part
-when_parts true n = One want.Open Keep ∷ AnOperand list.Items ∷ MoreOperands list.Items ∷ One want.Close Keep ∷ AStatement ∷ []
+when_parts true n = One want.Open Keep ∷ AnOperand list.Items ∷ MoreOperands list.Items ∷ One want.Close
+    Keep ∷ AStatement ∷ []
 when_parts false n = One want.Open Keep ∷ ACondition ∷ One want.Close (To n) ∷ AStatement ∷ []
 
 -- what a token that begins a statement asks for
 abbrev pub opens : (ℕ → Bool) → ℕ → Symbol → Move
-opens may n (Word word.Set a) = Read n (ARef ∷ One want.Equal Keep ∷ AnOperand list.Values ∷ MoreOperands list.Values ∷ [])
-opens may n (Word word.If a) = gate may n (ACondition ∷ One want.Then (To (suc n)) ∷ AStatement ∷ OrAlternative want.Else ∷ Back ∷ [])
+opens may n (Word word.Set a) =
+    Read n (ARef ∷ One want.Equal Keep ∷ AnOperand list.Values ∷ MoreOperands list.Values ∷ [])
+opens may n (Word word.If a) =
+    gate may n (ACondition ∷ One want.Then (To (suc n)) ∷ AStatement ∷ OrAlternative want.Else ∷ Back ∷ [])
 opens may n (Word word.Select a) = gate may n (AChoice ∷ OrAlternative want.Otherwise ∷ One want.End Lower ∷ [])
 opens may n (Word word.Do a) = gate may n (ABlock false ∷ Back ∷ [])
 opens may n (Word word.Write a) = Read n (AnOperand list.Parts ∷ MoreOperands list.Parts ∷ [])
@@ -136,10 +139,12 @@ rule may MoreAnds n t = cond (fits want.And t) (gate may n (ATest ∷ MoreAnds �
 rule may ATest n t = test_opens may n t
 rule may (AnOperand kind) n t = operand_opens kind n t
 rule may (MoreOperands kind) n t =
-    cond (fits want.Comma t) (Read n (AnOperand kind ∷ MoreOperands kind ∷ [])) (cond (joins kind t) (followed (operand_opens kind n t) (MoreOperands kind ∷ [])) (Pass n))
+    cond (fits want.Comma t) (Read n (AnOperand kind ∷ MoreOperands kind ∷ []))
+    (cond (joins kind t) (followed (operand_opens kind n t) (MoreOperands kind ∷ [])) (Pass n))
 rule may ARef n t = cond (fits want.Variable t) (Read n (OrIndex ∷ [])) Refuse
 rule may OrIndex n t = cond (fits want.Open t) (Read n (One want.Number Keep ∷ One want.Close Keep ∷ [])) (Pass n)
-rule may OrCode n t = cond (fits want.Code t) (Read n (One want.Open Keep ∷ One want.Word Keep ∷ One want.Close Keep ∷ [])) (Pass n)
+rule may OrCode n t =
+    cond (fits want.Code t) (Read n (One want.Open Keep ∷ One want.Word Keep ∷ One want.Close Keep ∷ [])) (Pass n)
 rule may Back n t = Pass (back n)
 
 -- the whole of a routine

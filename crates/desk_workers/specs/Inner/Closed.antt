@@ -11,7 +11,8 @@ Signs count number n = (i : ℕ) × (i < count) × (n ≡ number i)
 
 -- from the list of a new desk a list went on by signed entries: opening and mark stand, and each worker's entries are
 -- its own
-pub record HasClosed (count : ℕ) (number : ℕ → ℕ) (owned : ℕ → List Entry) (o : Opening) (mark : ℕ) (o' : Opening) (mark' : ℕ) (js js' : List Entry) (ns : List ℕ) : Type 0 where
+pub record HasClosed (count : ℕ) (number : ℕ → ℕ) (owned : ℕ → List Entry) (o : Opening) (mark : ℕ) (o' : Opening)
+    (mark' : ℕ) (js js' : List Entry) (ns : List ℕ) : Type 0 where
   pub opening : o' ≡ o
   pub mark_is : mark' ≡ mark
   pub added : List Entry

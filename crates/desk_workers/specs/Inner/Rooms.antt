@@ -15,4 +15,5 @@ module _ {P : Type 0} {keeper : Ghosts P} where
 
   -- each of the first so many seats has room for the answers that the plan gives it
   abbrev pub HaveRoom : List ℕ → ℕ → List (JobSeat P keeper) → Type 0
-  HaveRoom plan count seats = (k : ℕ) (d : JobSeat P keeper) → k < count → k < length seats → times k plan ≤ deque_capacity (slice_index_or seats k d).answers
+  HaveRoom plan count seats = (k : ℕ) (d : JobSeat P keeper) → k < count → k < length seats →
+      times k plan ≤ deque_capacity (slice_index_or seats k d).answers

@@ -19,7 +19,8 @@ module _ {P : Type 0} {keeper : Ghosts P} where
     pub answers : j.answers.items ≡ []
 
   -- from one seat to the other it made the entries of these answers to these items, and nothing else
-  pub record HasMade (lock : TableId) (answers : List Answer) (items : List Item) (old new : JobSeat P keeper) : Type 0 where
+  pub record HasMade (lock : TableId) (answers : List Answer) (items : List Item)
+      (old new : JobSeat P keeper) : Type 0 where
     pub job : IsJobOf lock new
     pub number : job_number new ≡ job_number old
     pub seen_more : StartsWith (job_seen new) (job_seen old)
@@ -27,9 +28,11 @@ module _ {P : Type 0} {keeper : Ghosts P} where
     pub due : AreDueIn (entries_in (job_seen new)) answers items
 
   -- the answers to all items stand behind the others, and each seat made the entries of its own, and nothing else
-  pub record HasShared (lock : TableId) (plan : List ℕ) (items : List Item) (old new : List (JobSeat P keeper)) (before after : List Answer) : Type 0 where
+  pub record HasShared (lock : TableId) (plan : List ℕ) (items : List Item) (old new : List (JobSeat P keeper))
+      (before after : List Answer) : Type 0 where
     pub answers : List Answer
     pub behind : after ≡ before ++ answers
     pub each : length answers ≡ length items
     pub count : length new ≡ length old
-    pub made : (k : ℕ) (d : JobSeat P keeper) → k < length old → HasMade lock (those k plan answers) (those k plan items) (slice_index_or old k d) (slice_index_or new k d)
+    pub made : (k : ℕ) (d : JobSeat P keeper) → k < length old →
+        HasMade lock (those k plan answers) (those k plan items) (slice_index_or old k d) (slice_index_or new k d)

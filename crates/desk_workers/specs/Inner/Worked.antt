@@ -25,7 +25,8 @@ module _ {P : Type 0} {keeper : Ghosts P} where
     pub due : IsDueIn (entries_in (job_seen new)) item.request answer
 
   -- the seat answered the items that the plan gives it
-  pub record HasWorked (lock : TableId) (me : ℕ) (plan : List ℕ) (items : List Item) (old new : JobSeat P keeper) : Type 0 where
+  pub record HasWorked (lock : TableId) (me : ℕ) (plan : List ℕ) (items : List Item)
+      (old new : JobSeat P keeper) : Type 0 where
     pub job : IsJobOf lock new
     pub number : job_number new ≡ job_number old
     pub capacity : deque_capacity new.answers ≡ deque_capacity old.answers

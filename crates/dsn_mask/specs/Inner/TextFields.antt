@@ -12,6 +12,7 @@ same_fields : (size : ℕ) (b b' : List ℕ) (c c' : ℕ) → b ≡ b' → c ≡
 same_fields size b b' c c' p q = cc
 
 -- a text is made of its bytes and of unused ones behind them
-pub fields_back : (size : ℕ) (a : Inside size) → a.count ≡ length (take a.count a.buffer) → a.buffer ≡ padded size (take a.count a.buffer)
+pub fields_back : (size : ℕ) (a : Inside size) → a.count ≡ length (take a.count a.buffer)
+    → a.buffer ≡ padded size (take a.count a.buffer)
     → inside_of size (padded size (take a.count a.buffer)) (length (take a.count a.buffer)) ≡ a
 fields_back size a p q = same_fields size _ _ _ _ (sym q) (sym p)

@@ -9,7 +9,8 @@ use Rattle.acs_tree.specs.declared.kind.Kind.{Kind}
 use Rattle.acs_tree.specs.declared.kind.Kind.TheVariants.{DataClas, StorClas, MgmtClas, StorGrp}
 use Rattle.acs_tree.specs.declared.values.Values.{Values}
 use Rattle.sms_construct.specs.Configuration.{Configuration}
-use Rattle.desk_law.specs.Classification.{Classes, Meanings, Progress, after_class, end_with_groups, exit_stop, if_managed, run, unless_stopped}
+use Rattle.desk_law.specs.Classification.{Classes, Meanings, Progress, after_class, end_with_groups, exit_stop}
+use Rattle.desk_law.specs.Classification.{if_managed, run, unless_stopped}
 use Rattle.sms_construct.specs.declared.stop.Stop.{Stop}
 use Rattle.sms_construct.specs.declared.stop.Stop.TheVariants as stops
 
@@ -36,7 +37,8 @@ groups_stop (group ∷ groups) = stops.Done
 
 -- behind the storage group routine
 abbrev pub after_groups : Progress → Classes
-after_groups last = unless_stopped (exit_stop StorGrp last.ending) last (λ listed. end_with_groups listed.values.groups listed)
+after_groups last = unless_stopped (exit_stop StorGrp last.ending) last
+    (λ listed. end_with_groups listed.values.groups listed)
 
 -- from the storage group routine on
 abbrev pub from_groups : Meanings → Input → Values → SlateLines → Classes
@@ -45,7 +47,8 @@ from_groups meanings input values written = after_groups (run_on meanings input 
 -- from the management class routine on
 abbrev pub from_management_class : Configuration → Meanings → Input → Values → SlateLines → Classes
 from_management_class config meanings input values written =
-    after_class config MgmtClas (run_on meanings input MgmtClas values written) (λ third. from_groups meanings input third.values third.written)
+    after_class config MgmtClas (run_on meanings input MgmtClas values written)
+    (λ third. from_groups meanings input third.values third.written)
 
 -- from the storage class routine on
 abbrev pub from_storage_class : Configuration → Meanings → Input → Values → SlateLines → Classes
@@ -56,4 +59,5 @@ from_storage_class config meanings input values written =
 -- from the data class routine on
 abbrev pub from_data_class : Configuration → Meanings → Input → Values → SlateLines → Classes
 from_data_class config meanings input values written =
-    after_class config DataClas (run_on meanings input DataClas values written) (λ first. from_storage_class config meanings input first.values first.written)
+    after_class config DataClas (run_on meanings input DataClas values written)
+    (λ first. from_storage_class config meanings input first.values first.written)

@@ -15,7 +15,8 @@ use Rattle.sms_manage.specs.Due.{due_of}
 use Rattle.sms_manage.specs.Managed.{manager}
 
 -- the name is that of the next data set, and this is due of it
-pub record IsDueNext (config : Configuration) (day : ℕ) (sets : List DataSet) (last : Option (List ℕ)) (found : List ℕ × Due) : Type 0 where
+pub record IsDueNext (config : Configuration) (day : ℕ) (sets : List DataSet) (last : Option (List ℕ))
+    (found : List ℕ × Due) : Type 0 where
   pub set : DataSet
   pub first : IsFirstBehind last sets set
   pub name : found.0 ≡ set.dsn
@@ -33,4 +34,5 @@ pub record Asks (o : Opening) (old new : List Entry) (dsn : List ℕ) (op : Op) 
   pub told_then : Option Rows
   pub count : ℕ
   pub count_then : ℕ
-  pub enters : Enters o old new told told_then count count_then (record { job = manager; number = length acts + 1; op = op }) answer
+  pub enters : Enters o old new told told_then count count_then
+      (record { job = manager; number = length acts + 1; op = op }) answer

@@ -19,7 +19,8 @@ HasTracks set = AllByRecursion (λ extent. 0 < extent.length) set.extents
 -- the second extent lies on a volume behind that of the first, or on that volume and behind the first
 abbrev pub Follows : Extent → Extent → Type 0
 Follows first second =
-    (slice_cmp nat_cmp first.volser second.volser ≡ Less) ⊎ ((first.volser ≡ second.volser) × (first.start + first.length ≤ second.start))
+    (slice_cmp nat_cmp first.volser second.volser ≡ Less) ⊎
+    ((first.volser ≡ second.volser) × (first.start + first.length ≤ second.start))
 
 -- each extent follows the one before it
 abbrev pub AreChained : List Extent → Type 0

@@ -16,7 +16,10 @@ use Rattle.acs_tree.specs.declared.kind.Kind.TheVariants as kinds
 use Rattle.sms_construct.specs.declared.stage.Stage.TheVariants as stages
 use Rattle.sms_records.specs.Form.{IsExact, IsReadable}
 use Rattle.sms_records.specs.Inner.VariantLaws.{variants_exact, bare_readable, bare_exact}
-use Rattle.sms_records.specs.Enums.{action_form, action_readers, action_write, eattr_form, eattr_readers, eattr_write, kind_form, kind_readers, kind_write, stage_form, stage_readers, stage_write, status_form, status_readers, status_write, unit_form, unit_readers, unit_write, why_no_extend_form, why_no_extend_readers, why_no_extend_write}
+use Rattle.sms_records.specs.Enums.{action_form, action_readers, action_write, eattr_form, eattr_readers, eattr_write}
+use Rattle.sms_records.specs.Enums.{kind_form, kind_readers, kind_write, stage_form, stage_readers, stage_write}
+use Rattle.sms_records.specs.Enums.{status_form, status_readers, status_write, unit_form, unit_readers, unit_write}
+use Rattle.sms_records.specs.Enums.{why_no_extend_form, why_no_extend_readers, why_no_extend_write}
 
 pub status_exact : IsExact status_form
 status_exact = variants_exact status_write status_readers (

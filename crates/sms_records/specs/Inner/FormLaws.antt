@@ -1,14 +1,19 @@
 -- What forms promise: what is read is written so, and what is written is read again. Numbers, texts, values seen as
 -- others,
 -- and one behind the other.
-use Rattle.std.proofs.Common.{◌≡◌, ℕ, suc, ◌+◌, ◌^◌, ◌<◌, ◌≤◌, Bool, true, false, cond, ltb, List, ◌∷◌, ◌++◌, length, take, drop, Option, Some, None, Result, Ok, Err, refl, sym, ap, subst, ◌∙◌, append_assoc, arith, inl, inr}
+use Rattle.std.proofs.Common.{◌≡◌, ℕ, suc, ◌+◌, ◌^◌, ◌<◌, ◌≤◌, Bool, true, false, cond, ltb, List, ◌∷◌, ◌++◌, length}
+use Rattle.std.proofs.Common.{take, drop, Option, Some, None, Result, Ok, Err, refl, sym, ap, subst, ◌∙◌, append_assoc}
+use Rattle.std.proofs.Common.{arith, inl, inr}
 use Rattle.std.specs.Prelude.{nat_le, OnOk}
 use Rattle.std.specs.Int.{w64, from_be_bytes, to_be_bytes}
 use Rattle.std.proofs.lemmas.Bool.{cases_lt, ltb-false, le-ltb, le-leb}
-use Rattle.std.proofs.lemmas.List.{take_at, drop_at, take-append-drop, length-append, length-take, get_or-drop, get_or-take, get_or_past}
+use Rattle.std.proofs.lemmas.List.{take_at, drop_at, take-append-drop, length-append, length-take, get_or-drop}
+use Rattle.std.proofs.lemmas.List.{get_or-take, get_or_past}
 use Rattle.std.proofs.lemmas.Nat.{be_bytes_8, from_be_bytes-to_be_bytes_8}
 use Rattle.desk_common.specs.Limits.{up_to}
-use Rattle.sms_records.specs.Form.{◌>>=◌, Form, AreBytes, Takes, IsExact, IsReadable, number_form, number_at, text_form, text_at, seen, seen_at, number_32_form, number_16_form, number_8_form, small, made, ◌&◌, both_at}
+use Rattle.sms_records.specs.Form.{◌>>=◌, Form, AreBytes, Takes, IsExact, IsReadable, number_form, number_at, text_form}
+use Rattle.sms_records.specs.Form.{text_at, seen, seen_at, number_32_form, number_16_form, number_8_form, small, made}
+use Rattle.sms_records.specs.Form.{◌&◌, both_at}
 
 AreBytes-drop : (n : ℕ) (bytes : List ℕ) → AreBytes bytes → AreBytes (drop n bytes)
 AreBytes-drop n bytes h i = rw get_or-drop (h (n + i))

@@ -1,5 +1,6 @@
 -- What routines see is read and written in parts as it is as a whole, and where no text and no list is given.
-use Rattle.std.proofs.Common.{arith, ◌≡◌, ◌<◌, ◌^◌, ◌∙◌, ℕ, true, List, [], ◌++◌, length, take, drop, Option, Some, None, refl, sym, ap, ap₂, append_assoc}
+use Rattle.std.proofs.Common.{arith, ◌≡◌, ◌<◌, ◌^◌, ◌∙◌, ℕ, true, List, [], ◌++◌, length, take, drop, Option, Some}
+use Rattle.std.proofs.Common.{None, refl, sym, ap, ap₂, append_assoc}
 use Rattle.std.specs.Prelude.{codes}
 use Rattle.std.specs.Str.{bytes_eq}
 use Rattle.std.proofs.lemmas.List.{take-append-drop}
@@ -7,15 +8,18 @@ use Rattle.std.proofs.lemmas.Slice.Eq.{bytes_eq-Decides}
 use Rattle.acs_tree.specs.declared.input.Input.{Input}
 use Rattle.acs_tree.specs.Inputs.{no_lists, no_texts}
 use Rattle.dsn_mask.specs.Name.{is_short}
-use Rattle.sms_records.specs.Form.{◌>>=◌, ◌&◌, Form, IsReadable, both_at, list, made, made_at, number_form, number_32_form, seen_at}
+use Rattle.sms_records.specs.Form.{◌>>=◌, ◌&◌, Form, IsReadable, both_at, list, made, made_at, number_form}
+use Rattle.sms_records.specs.Form.{number_32_form, seen_at}
 use Rattle.sms_records.specs.Inner.FormLaws.{both_readable}
 use Rattle.sms_records.specs.Inner.ListLaws.{list_readable}
 use Rattle.sms_records.specs.Texts.{short_form, volser_form}
 use Rattle.sms_records.specs.Inner.TextLaws.{text_type_readable}
 use Rattle.sms_records.specs.Parts.{account_form, volumes_form}
 use Rattle.sms_records.specs.Inner.PartLaws.{account_readable, volumes_readable}
-use Rattle.sms_records.specs.Inputs.{asking_form, default_form, fields_of_input, input_form, input_of, seen_name_form, setting_form, wanted_form}
-use Rattle.sms_records.specs.Inner.Givens.{fields_of_lists, fields_of_texts, input_of_parts, lists_form, parted_form, parts_of_input, texts_form}
+use Rattle.sms_records.specs.Inputs.{asking_form, default_form, fields_of_input, input_form, input_of, seen_name_form}
+use Rattle.sms_records.specs.Inputs.{setting_form, wanted_form}
+use Rattle.sms_records.specs.Inner.Givens.{fields_of_lists, fields_of_texts, input_of_parts, lists_form, parted_form}
+use Rattle.sms_records.specs.Inner.Givens.{parts_of_input, texts_form}
 
 -- fields one behind the other: a name, five, one that joins the fifth, two, and the last
 abbrev WholeFields : Type 0 → Type 0 → Type 0 → Type 0 → Type 0 → Type 0 → Type 0 → Type 0 → Type 0 → Type 0 → Type 0

@@ -9,7 +9,8 @@ use Rattle.acs_tree.specs.Inputs.{input_with}
 use Rattle.sms_records.specs.Form.{◌&◌, Form, number_form, number_32_form}
 use Rattle.sms_records.specs.Texts.{short_form}
 use Rattle.sms_records.specs.Parts.{account_form, volumes_form}
-use Rattle.sms_records.specs.Inputs.{AskingFields, SettingFields, TwoTexts, WantedFields, asking_form, default_form, seen_name_form, setting_form, wanted_form}
+use Rattle.sms_records.specs.Inputs.{AskingFields, SettingFields, TwoTexts, WantedFields, asking_form, default_form}
+use Rattle.sms_records.specs.Inputs.{seen_name_form, setting_form, wanted_form}
 
 -- the texts: who asks, what is wanted, the setting, the default classes, the system and its sysplex
 abbrev pub TextFields : Type 0
@@ -26,7 +27,16 @@ fields_of_texts x = (
   (
     (x.attributes.unit, (x.attributes.dsorg, (x.attributes.recorg, x.attributes.dsntype))),
     (
-      (x.origin.applic, (x.attributes.expdt, (x.attributes.dstype, (x.environment.acsenvir, (x.environment.xmode, x.attributes.dsowner))))),
+      (
+        x.origin.applic,
+        (
+          x.attributes.expdt,
+          (
+            x.attributes.dstype,
+            (x.environment.acsenvir, (x.environment.xmode, x.attributes.dsowner)),
+          ),
+        ),
+      ),
       (
         (x.defaults.dataclas, (x.defaults.storclas, x.defaults.mgmtclas)),
         (x.environment.sysname, x.environment.sysplex),

@@ -6,11 +6,14 @@ use Rattle.std.proofs.lemmas.Slice.Eq.{bytes_eq-Decides}
 use Rattle.acs_tree.specs.Variables.{first_qualifier, last_qualifier}
 use Rattle.dsn_mask.specs.Qualifiers.{qualifiers_of}
 use Rattle.sms_records.specs.Form.{◌&◌, IsExact, IsReadable, number_form, text_form}
-use Rattle.sms_records.specs.Inner.FormLaws.{◌&-exact◌, both_readable, guard_some_of, made_exact, number_exact, number_32_exact, number_readable, seen_exact, seen_readable, text_exact, text_readable}
+use Rattle.sms_records.specs.Inner.FormLaws.{◌&-exact◌, both_readable, guard_some_of, made_exact, number_exact}
+use Rattle.sms_records.specs.Inner.FormLaws.{number_32_exact, number_readable, seen_exact, seen_readable, text_exact}
+use Rattle.sms_records.specs.Inner.FormLaws.{text_readable}
 use Rattle.sms_records.specs.Texts.{dsn_form}
 use Rattle.sms_records.specs.Inner.TextLaws.{and_true, dsn_exact, short_exact}
 use Rattle.sms_records.specs.Inner.PartLaws.{account_exact, first_true, second_true, volumes_exact}
-use Rattle.sms_records.specs.Inputs.{NameParts, are_parts, input_form, name_parts_form, name_with_parts, parts_of_name, seen_name_form}
+use Rattle.sms_records.specs.Inputs.{NameParts, are_parts, input_form, name_parts_form, name_with_parts, parts_of_name}
+use Rattle.sms_records.specs.Inputs.{seen_name_form}
 
 same_parts : (dsn first last : List ℕ) (count : ℕ) → first ≡ first_qualifier dsn → last ≡ last_qualifier dsn
     → count ≡ length (qualifiers_of dsn)
@@ -58,7 +61,8 @@ input_exact = made_exact _ _ _
     (seen_name_exact
     &-exact (short_exact &-exact short_exact &-exact short_exact &-exact short_exact &-exact short_exact)
     &-exact (short_exact &-exact short_exact &-exact short_exact &-exact short_exact)
-    &-exact (short_exact &-exact short_exact &-exact short_exact &-exact short_exact &-exact short_exact &-exact short_exact)
+    &-exact (short_exact &-exact short_exact &-exact short_exact &-exact short_exact &-exact short_exact &-exact
+    short_exact)
     &-exact (short_exact &-exact short_exact &-exact short_exact)
     &-exact ((short_exact &-exact short_exact) &-exact number_32_exact &-exact number_32_exact)
     &-exact volumes_exact &-exact (account_exact &-exact account_exact) &-exact number_exact &-exact number_exact)

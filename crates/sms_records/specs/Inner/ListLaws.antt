@@ -1,10 +1,12 @@
 -- What the forms of lists and options promise, and reading items one after the other, as a loop does.
-use Rattle.std.proofs.Common.{◌≡◌, ℕ, zero, suc, ◌+◌, ◌^◌, ◌<◌, ◌≤◌, List, [], ◌∷◌, ◌++◌, length, Option, Some, None, refl, sym, ap, subst, ◌∙◌, append_assoc, arith, ◌-◌}
+use Rattle.std.proofs.Common.{◌≡◌, ℕ, zero, suc, ◌+◌, ◌^◌, ◌<◌, ◌≤◌, List, [], ◌∷◌, ◌++◌, length, Option, Some, None}
+use Rattle.std.proofs.Common.{refl, sym, ap, subst, ◌∙◌, append_assoc, arith, ◌-◌}
 use Rattle.std.specs.List.{flat_map, AllByRecursion}
 use Rattle.std.specs.Int.{w64, to_be_bytes}
 use Rattle.std.proofs.lemmas.List.{append-nil}
 use Rattle.std.proofs.lemmas.List.Concat.{flat_map-cons}
-use Rattle.sms_records.specs.Form.{◌>>=◌, Form, AreBytes, Takes, IsExact, IsReadable, number_at, list, list_at, many_at, option, option_at}
+use Rattle.sms_records.specs.Form.{◌>>=◌, Form, AreBytes, Takes, IsExact, IsReadable, number_at, list, list_at, many_at}
+use Rattle.sms_records.specs.Form.{option, option_at}
 use Rattle.sms_records.specs.declared.record_err.RecordErr.{RecordErr}
 use Rattle.sms_records.specs.declared.record_err.RecordErr.TheVariants as errors
 use Rattle.sms_records.specs.Reading.{Fails}

@@ -1,5 +1,6 @@
 -- What these record forms promise: what is read is written so, and what is written is read again.
-use Rattle.std.proofs.Common.{arith, ◌≡◌, ◌<◌, ◌≤◌, ◌^◌, ℕ, Bool, true, false, List, length, ◌++◌, ◌∙◌, append_assoc, refl, ap}
+use Rattle.std.proofs.Common.{arith, ◌≡◌, ◌<◌, ◌≤◌, ◌^◌, ℕ, Bool, true, false, List, length, ◌++◌, ◌∙◌, append_assoc}
+use Rattle.std.proofs.Common.{refl, ap}
 use Rattle.std.specs.Prelude.{◌==◌, nat_le, ◌&&◌}
 use Rattle.std.specs.List.{list_all}
 use Rattle.std.specs.Int.{w64, to_be_bytes}
@@ -9,7 +10,8 @@ use Rattle.desk_common.specs.Limits.{most_account_fields, most_path_bytes, most_
 use Rattle.sms_construct.specs.Path.{is_shown, IsPath}
 use Rattle.sms_construct.specs.Quantities.{Quantities, IsSpace, space_of}
 use Rattle.sms_records.specs.Form.{◌&◌, IsExact, IsReadable, list, number_form, number_32_form}
-use Rattle.sms_records.specs.Inner.FormLaws.{◌&-exact◌, both_readable, guard_some_of, number_exact, number_32_exact, number_readable, seen_exact, seen_readable}
+use Rattle.sms_records.specs.Inner.FormLaws.{◌&-exact◌, both_readable, guard_some_of, number_exact, number_32_exact}
+use Rattle.sms_records.specs.Inner.FormLaws.{number_readable, seen_exact, seen_readable}
 use Rattle.sms_records.specs.Inner.ListLaws.{list_exact}
 use Rattle.sms_records.specs.Texts.{short_form, volser_form}
 use Rattle.sms_records.specs.Inner.TextLaws.{short_exact, volser_exact, and_true, text_type_exact, text_type_readable}
@@ -68,7 +70,8 @@ path_exact = text_type_exact (λ bytes. nat_le (length bytes) most_path_bytes &&
 pub path_readable : (x : List ℕ) → IsPath x → IsReadable path_form x
 path_readable x is =
     let few : length x ≤ most_path_bytes = leb-true (length x) most_path_bytes (first_true _ _ is) in
-    text_type_readable (λ bytes. nat_le (length bytes) most_path_bytes && list_all is_shown bytes) x (omega (arith, few)) is
+    text_type_readable (λ bytes. nat_le (length bytes) most_path_bytes && list_all is_shown bytes) x
+    (omega (arith, few)) is
 
 pub space_exact : IsExact space_form
 space_exact = seen_exact (unit_form & number_32_form & number_32_form)

@@ -8,7 +8,8 @@ use Rattle.sms_records.specs.Inner.ListLaws.{option_exact, list_exact}
 use Rattle.sms_records.specs.Enums.{eattr_form}
 use Rattle.sms_records.specs.Inner.EnumLaws.{eattr_exact, unit_exact}
 use Rattle.sms_records.specs.Inner.TextLaws.{dsn_exact, name_exact, volser_exact, volume_count_exact}
-use Rattle.sms_records.specs.Sets.{data_set_fields, data_set_form, data_set_of, extent_fields, extent_form, fixed_fields, fixed_fields_of}
+use Rattle.sms_records.specs.Sets.{data_set_fields, data_set_form, data_set_of, extent_fields, extent_form}
+use Rattle.sms_records.specs.Sets.{fixed_fields, fixed_fields_of}
 
 pub extent_exact : IsExact extent_form
 extent_exact = made_exact _ _ _ (volser_exact &-exact number_32_exact &-exact number_32_exact) (λ a. refl)

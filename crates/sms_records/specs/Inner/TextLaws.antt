@@ -3,14 +3,18 @@ use Rattle.std.proofs.Common.{arith, ◌≡◌, ◌<◌, ◌^◌, ℕ, Bool, tru
 use Rattle.std.specs.Prelude.{nat_le, ◌&&◌}
 use Rattle.std.proofs.lemmas.Bool.{le-leb}
 use Rattle.std.proofs.lemmas.List.Sums.{list_all-from_AllPass}
-use Rattle.desk_common.specs.Limits.{most_literal_bytes, most_name_bytes, most_value_bytes, most_volser_bytes, most_number, most_volume_count}
-use Rattle.dsn_mask.specs.Name.{IsName, IsVolser, IsShort, IsLiteral, is_name, is_volser, is_short, is_literal, is_name_byte, is_short_byte, is_literal_byte}
+use Rattle.desk_common.specs.Limits.{most_literal_bytes, most_name_bytes, most_value_bytes, most_volser_bytes}
+use Rattle.desk_common.specs.Limits.{most_number, most_volume_count}
+use Rattle.dsn_mask.specs.Name.{IsName, IsVolser, IsShort, IsLiteral, is_name, is_volser, is_short, is_literal}
+use Rattle.dsn_mask.specs.Name.{is_name_byte, is_short_byte, is_literal_byte}
 use Rattle.dsn_mask.specs.DataSetName.{IsDataSetName, IsQualifier, is_qualifier, is_qualifier_byte, is_data_set_name}
 use Rattle.dsn_mask.specs.Qualifiers.{qualifiers_of}
 use Rattle.sms_construct.specs.Quantities.{IsRequestNumber, IsVolumeCount}
 use Rattle.sms_records.specs.Form.{IsExact, IsReadable, seen, text_form, number_form}
-use Rattle.sms_records.specs.Inner.FormLaws.{seen_exact, seen_readable, text_exact, text_readable, number_exact, number_readable, guard_some_of}
-use Rattle.sms_records.specs.Texts.{name_form, volser_form, short_form, literal_form, dsn_form, request_number_form, volume_count_form}
+use Rattle.sms_records.specs.Inner.FormLaws.{seen_exact, seen_readable, text_exact, text_readable, number_exact}
+use Rattle.sms_records.specs.Inner.FormLaws.{number_readable, guard_some_of}
+use Rattle.sms_records.specs.Texts.{name_form, volser_form, short_form, literal_form, dsn_form, request_number_form}
+use Rattle.sms_records.specs.Texts.{volume_count_form}
 
 pub text_type_exact : (test : List ℕ → Bool) → IsExact (seen text_form (λ a. cond (test a) (Some a) None) (λ x. x))
 text_type_exact test = seen_exact text_form (λ a. cond (test a) (Some a) None) (λ x. x) text_exact

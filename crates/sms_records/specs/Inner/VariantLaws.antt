@@ -1,7 +1,9 @@
 -- What the forms of enums promise.
-use Rattle.std.proofs.Common.{◌≡◌, ℕ, zero, suc, ◌+◌, ◌≤◌, List, [], ◌∷◌, ◌++◌, length, Option, Some, None, refl, sym, ap, subst, ◌∙◌, arith}
+use Rattle.std.proofs.Common.{◌≡◌, ℕ, zero, suc, ◌+◌, ◌≤◌, List, [], ◌∷◌, ◌++◌, length, Option, Some, None, refl, sym}
+use Rattle.std.proofs.Common.{ap, subst, ◌∙◌, arith}
 use Rattle.std.specs.Prelude.{slice_get}
-use Rattle.sms_records.specs.Form.{Form, Takes, IsExact, IsReadable, byte_at, made, variants, variant_at, made_at, bare_at, IsVariant, AreVariants}
+use Rattle.sms_records.specs.Form.{Form, Takes, IsExact, IsReadable, byte_at, made, variants, variant_at, made_at}
+use Rattle.sms_records.specs.Form.{bare_at, IsVariant, AreVariants}
 use Rattle.sms_records.specs.Inner.FormLaws.{AreBytes-rest, bind_some, some_is, seen_as}
 
 pub variant_exact : {P T : Type 0} (write : T → List ℕ) (tag : ℕ) (payload : Form P) (make : P → T) → IsExact payload

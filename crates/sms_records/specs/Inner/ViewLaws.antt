@@ -7,7 +7,8 @@ use Rattle.sms_records.specs.Inner.VariantLaws.{variants_exact, variant_exact}
 use Rattle.sms_records.specs.Inner.EnumLaws.{status_exact}
 use Rattle.sms_records.specs.Inner.TextLaws.{dsn_exact, name_exact, volser_exact}
 use Rattle.sms_records.specs.Inner.SetLaws.{data_set_exact}
-use Rattle.sms_records.specs.Views.{target_form, target_readers, target_write, view_form, view_readers, view_write, vol_row_fields, vol_row_form}
+use Rattle.sms_records.specs.Views.{target_form, target_readers, target_write, view_form, view_readers, view_write}
+use Rattle.sms_records.specs.Views.{vol_row_fields, vol_row_form}
 
 pub target_exact : IsExact target_form
 target_exact = variants_exact target_write target_readers (

@@ -15,7 +15,9 @@ script_behind passed text = script_from false passed.commands (passed.lines + 1)
 
 -- the script of a command line, behind so many commands, with the text behind it
 abbrev pub script_at : ℕ → ℕ → Option Command → List ℕ → Result (List (List Item)) ScriptErr
-script_at count line command text = with_command count line command (deck_of (lines_of text)) (λ inside. script_from inside (count + 1) (line + 1) (lines_of text))
+script_at count line command text =
+    with_command count line command (deck_of (lines_of text))
+    (λ inside. script_from inside (count + 1) (line + 1) (lines_of text))
 
 -- what a line gives before the phases of the others
 abbrev pub found_before : Found → Result (List (List Item)) ScriptErr → Result (List (List Item)) ScriptErr
@@ -29,6 +31,7 @@ onto_phase [] phases = phases
 onto_phase (item ∷ items) phases = onto_first item (onto_phase items phases)
 
 -- phases and the items of one more before those of a script
-abbrev pub after : List (List Item) → List Item → Result (List (List Item)) ScriptErr → Result (List (List Item)) ScriptErr
+abbrev pub after : List (List Item) → List Item → Result (List (List Item)) ScriptErr →
+    Result (List (List Item)) ScriptErr
 after phases items (Ok others) = Ok (phases ++ onto_phase items others)
 after phases items (Err fault) = Err fault

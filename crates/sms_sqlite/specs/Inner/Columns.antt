@@ -42,4 +42,5 @@ with_statuses rows t = record t { statuses = t.statuses ++ map row_of_status row
 -- each target is read off its kind and its name
 abbrev pub AreReadable : List StatusRow → Type 0
 AreReadable [] = Unit {0}
-AreReadable (row ∷ rows) = (target_of (kind_column row.target) (name_column row.target) ≡ Some row.target) × AreReadable rows
+AreReadable (row ∷ rows) =
+    (target_of (kind_column row.target) (name_column row.target) ≡ Some row.target) × AreReadable rows

@@ -1,5 +1,6 @@
 -- The volume that leads among those looked at so far, while one is chosen.
-use Rattle.std.specs.Prelude.{ℕ, Bool, ◌≡◌, ◌-◌, ◌<◌, ◌≤◌, true, false, List, Some, MatchOption, filter, length, map, slice_get}
+use Rattle.std.specs.Prelude.{ℕ, Bool, ◌≡◌, ◌-◌, ◌<◌, ◌≤◌, true, false, List, Some, MatchOption, filter, length, map}
+use Rattle.std.specs.Prelude.{slice_get}
 use Rattle.std.specs.List.{list_any}
 use Rattle.desk_common.specs.Limits.{most_pieces}
 use Rattle.sms_construct.specs.declared.volume.VolumeDef.{VolumeDef}
@@ -50,7 +51,8 @@ before_lead s asked lead volume =
     comes_before (rank_on s asked volume) (tier_among asked.tiers.now volume.group) lead.rank lead.tier
 
 -- a volume that stands in a list of the lead's rank, with its tier, and that grants these pieces
-pub record IsLeading (s : DeskState) (running : ActiveVolumes) (looked_at : List VolumeDef) (asked : Asked) (lead : Lead)
+pub record IsLeading (s : DeskState) (running : ActiveVolumes) (looked_at : List VolumeDef) (asked : Asked)
+    (lead : Lead)
     (pick : Pick) : Type 0 where
   pub position : ℕ
   pub volume : ActiveVolume

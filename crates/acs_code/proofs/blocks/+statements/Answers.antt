@@ -5,7 +5,8 @@ use Rattle.acs_tree.specs.Meaning.{first_of}
 use Rattle.acs_code.specs.Inner.Arms.{arm_of}
 use Rattle.acs_code.specs.Inner.Compiled.{filters_of}
 use Rattle.acs_code.specs.Inner.Upward.{Does}
-use Rattle.acs_code.proofs.StatementLemmas.{block_turn, when_clause_turn, when_clauses_turn, conditional_turn, exit_turn, if_turn, pick_turn, put_turn, written_turn}
+use Rattle.acs_code.proofs.StatementLemmas.{block_turn, when_clause_turn, when_clauses_turn, conditional_turn}
+use Rattle.acs_code.proofs.StatementLemmas.{exit_turn, if_turn, pick_turn, put_turn, written_turn}
 use Rattle.acs_code.proofs.blocks.+statements.Goals as goal
 
 pub block-loop-left-preserved : goal.block-loop-left-preserved

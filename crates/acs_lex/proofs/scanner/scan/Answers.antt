@@ -1,7 +1,8 @@
 -- What is read so far is cut, and the next piece takes the cut on.
 use Rattle.std.proofs.Common.{◌<◌, length, arith}
 use Rattle.std.proofs.lemmas.Grind.{common_steps}
-use Rattle.acs_lex.proofs.CutLemmas.{cut_at_end, cut_past_gap, cut_past_token, fault_at, gap_less, token_less, may_refuse, exact_tokens, exact_fault}
+use Rattle.acs_lex.proofs.CutLemmas.{cut_at_end, cut_past_gap, cut_past_token, fault_at, gap_less, token_less}
+use Rattle.acs_lex.proofs.CutLemmas.{may_refuse, exact_tokens, exact_fault}
 use Rattle.acs_lex.proofs.PlaceLemmas.{cut_in_order, cut_of_tokens}
 use Rattle.acs_lex.proofs.scanner.scan.Goals as goal
 

@@ -5,8 +5,11 @@ use Rattle.acs_symbol.specs.declared.symbol.Symbol.TheVariants.{Open}
 use Rattle.acs_parse.specs.declared.want.Want.TheVariants as want
 use Rattle.acs_parse.proofs.ShorterLemmas.{takes_shorter, stmt_shorter, choice_shorter, when_shorter}
 use Rattle.acs_parse.proofs.CondLemmas.{before_shorter}
-use Rattle.acs_parse.proofs.StatementLemmas.{block_turn, block_fails, inner_fails, item_is_statement, if_at, if_arms_fail}
-use Rattle.acs_parse.proofs.SelectLemmas.{when_clauses_first, when_clauses_turn, when_clauses_fail, choice_by_value, choice_values_fail, when_of, when_test_fails, when_items_fail, when_body_fails, test_shorter}
+use Rattle.acs_parse.proofs.StatementLemmas.{block_turn, block_fails, inner_fails, item_is_statement, if_at}
+use Rattle.acs_parse.proofs.StatementLemmas.{if_arms_fail}
+use Rattle.acs_parse.proofs.SelectLemmas.{when_clauses_first, when_clauses_turn, when_clauses_fail, choice_by_value}
+use Rattle.acs_parse.proofs.SelectLemmas.{choice_values_fail, when_of, when_test_fails, when_items_fail}
+use Rattle.acs_parse.proofs.SelectLemmas.{when_body_fails, test_shorter}
 use Rattle.acs_parse.proofs.statements.+statement.Goals as goal
 
 pub block-returns-in_err-next : goal.block-returns-in_err-next

@@ -1,4 +1,5 @@
-use Rattle.std.proofs.Common.{inl, inr, ◌≡◌, ◌<◌, ◌+◌, ◌∷◌, ◌++◌, [], true, false, suc, ◌==◌, length, take, get_or, add-one, arith, sym, ap, subst, ◌∙◌, rules}
+use Rattle.std.proofs.Common.{inl, inr, ◌≡◌, ◌<◌, ◌+◌, ◌∷◌, ◌++◌, [], true, false, suc, ◌==◌, length, take, get_or}
+use Rattle.std.proofs.Common.{add-one, arith, sym, ap, subst, ◌∙◌, rules}
 use Rattle.desk_plan.specs.Sharing.{times}
 use Rattle.desk_plan.proofs.FrontLemmas.{any-default, take-length, take-more, take-whole, times-less}
 use Rattle.desk_workers.specs.Inner.Worked.{HasAnswered, HasWorked}

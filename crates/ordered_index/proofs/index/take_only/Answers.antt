@@ -1,4 +1,5 @@
-use Rattle.std.proofs.Common.{◌≡◌, ◌≤◌, ◌<◌, ◌++◌, ◌∷◌, ◌∙◌, [], suc, length, get_or, take, drop, vec_capacity, sym, ap, subst, rules, arith}
+use Rattle.std.proofs.Common.{◌≡◌, ◌≤◌, ◌<◌, ◌++◌, ◌∷◌, ◌∙◌, [], suc, length, get_or, take, drop, vec_capacity, sym, ap}
+use Rattle.std.proofs.Common.{subst, rules, arith}
 use Rattle.std.proofs.lemmas.List.Elements.{All-same}
 use Rattle.std.proofs.lemmas.Bool.Decides.{nat_tests}
 use Rattle.std.specs.BTreeMap.{is_at}
@@ -8,7 +9,8 @@ use Rattle.ordered_index.specs.Chunks.{rows_of}
 use Rattle.ordered_index.specs.Room.{IsRoomy, chunk_room}
 use Rattle.ordered_index.specs.Rows.{AreRows}
 use Rattle.ordered_index.proofs.ChunkLemmas.{chunk-sorted, value-chunk}
-use Rattle.ordered_index.proofs.PartLemmas.{All-one, All-removed, none-of, one-chunk-is, rows-append, rows-without, take-parts}
+use Rattle.ordered_index.proofs.PartLemmas.{All-one, All-removed, none-of, one-chunk-is, rows-append, rows-without}
+use Rattle.ordered_index.proofs.PartLemmas.{take-parts}
 use Rattle.ordered_index.proofs.SortedLemmas.{take-fewer}
 use Rattle.ordered_index.proofs.index.take_only.Goals as goal
 

@@ -1,7 +1,8 @@
 use Rattle.std.proofs.Common.{◌≡◌, ◌+◌, ℕ, suc, take, subst, arith}
 use Rattle.desk_law.specs.Decked.{AreNumbered}
 use Rattle.sms_open.proofs.DeckLemmas.{numbered-at, numbered-more}
-use Rattle.sms_open.proofs.decks.are_numbered.Goals.{then-deck-eq0-via-then-deck-eq0, then-deck-eq0-via-else-deck-eq0+then-deck-before}
+use Rattle.sms_open.proofs.decks.are_numbered.Goals.{then-deck-eq0-via-then-deck-eq0}
+use Rattle.sms_open.proofs.decks.are_numbered.Goals.{then-deck-eq0-via-else-deck-eq0+then-deck-before}
 use Rattle.sms_open.proofs.decks.are_numbered.Goals as goal
 
 pub returns-then-deck-eq0 : goal.returns-then-deck-eq0

@@ -3,7 +3,8 @@ use Rattle.std.specs.declared.alloc.AllocError.{AllocError}
 use Rattle.desk_law.specs.Decked.{IsLastActive}
 use Rattle.sms_open.specs.Tests.{AreCounted, AreSingle}
 use Rattle.sms_open.specs.Verdicts.{IsVerdict}
-use Rattle.sms_open.proofs.VerdictLemmas.{IsAnswer, from_counts, from_deck, from_statuses, onward, passed, refused, under, unread}
+use Rattle.sms_open.proofs.VerdictLemmas.{IsAnswer, from_counts, from_deck, from_statuses, onward, passed, refused}
+use Rattle.sms_open.proofs.VerdictLemmas.{under, unread}
 use Rattle.sms_open.proofs.testing.judge.Goals as goal
 
 pub returns-in_err-answer : goal.returns-in_err-answer

@@ -2,7 +2,8 @@ use Rattle.std.proofs.Common.{◌≡◌, Result, Err, sym, ◌∙◌, subst, rul
 use Rattle.sms_open.specs.declared.rows_err.RowsErr.{RowsErr}
 use Rattle.sms_open.specs.Tests.{ArePlaced, AreStatusesOf}
 use Rattle.sms_open.specs.Verdicts.{answer_with}
-use Rattle.sms_open.proofs.VerdictLemmas.{IsAnswer, from_replies, from_sets, from_statuses, last-test, onward, passed, refused}
+use Rattle.sms_open.proofs.VerdictLemmas.{IsAnswer, from_replies, from_sets, from_statuses, last-test, onward, passed}
+use Rattle.sms_open.proofs.VerdictLemmas.{refused}
 use Rattle.sms_open.proofs.testing.judge_under.Goals as goal
 
 pub returns-in_err-answer : goal.returns-in_err-answer

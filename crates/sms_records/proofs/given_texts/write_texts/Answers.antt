@@ -2,7 +2,8 @@ use Rattle.std.proofs.Common.{◌≡◌, ◌++◌, subst}
 use Rattle.sms_records.specs.Form.{◌&◌, IsReadable}
 use Rattle.sms_records.specs.Inner.FormLaws.{both_readable, both_written, on_ok}
 use Rattle.sms_records.specs.Inner.Givens.{fields_of_texts, texts_in}
-use Rattle.sms_records.specs.Inputs.{AskingFields, SettingFields, WantedFields, asking_form, default_form, setting_form, wanted_form}
+use Rattle.sms_records.specs.Inputs.{AskingFields, SettingFields, WantedFields, asking_form, default_form, setting_form}
+use Rattle.sms_records.specs.Inputs.{wanted_form}
 use Rattle.sms_records.specs.Texts.{short_form}
 use Rattle.sms_records.proofs.given_texts.write_texts.Goals as goal
 

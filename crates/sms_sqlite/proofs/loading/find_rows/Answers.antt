@@ -2,7 +2,8 @@ use Rattle.std.proofs.Common.{◌≡◌, ◌∙◌, arith, codes, subst, sym, ap
 use Rattle.sqlite.specs.Effect.{Database}
 use Rattle.sqlite.specs.Held.{state}
 use Rattle.sqlite.specs.State.{HasCleanDisk}
-use Rattle.keeper_statements.specs.Order.{by_first, by_two, deck_columns, five_columns, in_order, three_columns, two_columns}
+use Rattle.keeper_statements.specs.Order.{by_first, by_two, deck_columns, five_columns, in_order, three_columns}
+use Rattle.keeper_statements.specs.Order.{two_columns}
 use Rattle.keeper_statements.specs.Presence.{has_table}
 use Rattle.keeper_statements.specs.Tables.{IsLegible, tables_in}
 use Rattle.keeper_statements.specs.declared.present.Present.{Present}

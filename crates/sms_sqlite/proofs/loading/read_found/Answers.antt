@@ -4,7 +4,8 @@ use Rattle.sms_keeper.specs.declared.table.Table.TheVariants.{Sets, Replies, Dec
 use Rattle.keeper_statements.specs.Order.{deck_columns, five_columns, three_columns, two_columns}
 use Rattle.sms_sqlite.specs.Values.{deck_in, floor_in, reply_in, set_in, shown_deck_in, status_in}
 use Rattle.sms_sqlite.proofs.TablesLemmas.{reads_as}
-use Rattle.sms_sqlite.proofs.TableLemmas.{deck_shown, decks_fail, floor_shown, floors_fail, replies_fail, reply_shown, reads_shown, set_shown, sets_fail, status_shown, statuses_fail}
+use Rattle.sms_sqlite.proofs.TableLemmas.{deck_shown, decks_fail, floor_shown, floors_fail, replies_fail, reply_shown}
+use Rattle.sms_sqlite.proofs.TableLemmas.{reads_shown, set_shown, sets_fail, status_shown, statuses_fail}
 use Rattle.sms_sqlite.proofs.loading.read_found.Goals as goal
 
 pub returns-in_err-sets : goal.returns-in_err-sets

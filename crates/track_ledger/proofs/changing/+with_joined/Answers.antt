@@ -1,7 +1,8 @@
 use Rattle.std.proofs.Common.{◌≡◌, ◌-◌, ◌++◌, ◌∷◌, ◌∙◌, List, length, ap, arith}
 use Rattle.track_ledger.specs.declared.piece.Piece.{Piece}
 use Rattle.track_ledger.specs.Inner.Trees.{items_of}
-use Rattle.track_ledger.proofs.TreeLemmas.{after-join-here, after-join-last, after-join-left, after-join-right, fewer-joined, fewer-removed, length-node}
+use Rattle.track_ledger.proofs.TreeLemmas.{after-join-here, after-join-last, after-join-left, after-join-right}
+use Rattle.track_ledger.proofs.TreeLemmas.{fewer-joined, fewer-removed, length-node}
 use Rattle.track_ledger.proofs.changing.+with_joined.Goals as goal
 
 pub returns-then-index-before : goal.returns-then-index-before

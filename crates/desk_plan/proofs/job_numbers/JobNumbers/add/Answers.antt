@@ -4,7 +4,8 @@ use Rattle.sms_script.specs.Commands.{is_admin}
 use Rattle.desk_plan.specs.Plan.{number_in}
 use Rattle.desk_plan.proofs.NumberingLemmas.{kept-numbered, kept-admin, one-more, value-of, of-ok}
 use Rattle.desk_plan.proofs.job_numbers.JobNumbers.add.Goals as goal
-use Rattle.desk_plan.proofs.job_numbers.JobNumbers.add.Goals.{then-eq-via-then-eq, then-eq-via-else-eq+then-contains_key}
+use Rattle.desk_plan.proofs.job_numbers.JobNumbers.add.Goals.{then-eq-via-then-eq}
+use Rattle.desk_plan.proofs.job_numbers.JobNumbers.add.Goals.{then-eq-via-else-eq+then-contains_key}
 
 -- the job gets no number, or has one
 pub returns-then-eq : goal.returns-then-eq

@@ -6,7 +6,8 @@ use Rattle.track_ledger.specs.Extents.{LiesInside}
 use Rattle.track_ledger.specs.Inner.GapChanges.{gaps_with}
 use Rattle.track_ledger.specs.GapRule.{front_of}
 use Rattle.track_ledger.specs.Ledger.{IsLedgerOf, LedgerView, ledger_view}
-use Rattle.track_ledger.proofs.KeptLemmas.{after, cut-after, kept-granted, ledger-count, ledger-order, ledger-small, settled}
+use Rattle.track_ledger.proofs.KeptLemmas.{after, cut-after, kept-granted, ledger-count, ledger-order, ledger-small}
+use Rattle.track_ledger.proofs.KeptLemmas.{settled}
 use Rattle.track_ledger.proofs.LineLemmas.{piece_of}
 use Rattle.track_ledger.proofs.ledger.Ledger.cut.Goals as goal
 

@@ -4,7 +4,8 @@ use Rattle.track_ledger.specs.declared.piece.Piece.{Piece}
 use Rattle.track_ledger.specs.Extents.{LieInGaps, LiesInside}
 use Rattle.track_ledger.specs.Inner.GapChanges.{gaps_without}
 use Rattle.track_ledger.specs.Ledger.{IsLedgerOf, LedgerView, ledger_view}
-use Rattle.track_ledger.proofs.KeptLemmas.{after, ledger-count, ledger-few, ledger-order, ledger-small, ledger-sum, ledger-times, settled, taken-after}
+use Rattle.track_ledger.proofs.KeptLemmas.{after, ledger-count, ledger-few, ledger-order, ledger-small, ledger-sum}
+use Rattle.track_ledger.proofs.KeptLemmas.{ledger-times, settled, taken-after}
 use Rattle.track_ledger.proofs.ledger.Ledger.install_piece.Goals as goal
 
 pub take_piece-requires-clause-order : goal.take_piece-requires-clause-order
