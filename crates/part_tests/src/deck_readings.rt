@@ -84,7 +84,7 @@ END
 \"\"\"
 ";
 
-/// A deck in which no value is the default.
+/// A deck with other values than the defaults.
 const OTHER: &str = "version = 1
 [storgroup.G2]
 type = 'POOL'

@@ -161,7 +161,7 @@ static PATHS: [&str; 27] = [
 
 /// Bodies of alloc that aren't as asked.
 #[rattlefmt::skip]
-static BODIES: [&str; 27] = [
+static BODIES: [&str; 28] = [
     " ", "{", "{}{}", "[]", "1", "null", "\"SPACE\"", "{\"SPACE\"}",
     "{\"NO\":\"1\"}", "{\"SPACE=\":\"(TRK,1)\"}", "{\"\":\"1\"}", "{\"VOLCNT=1 RETPD\":1}",
     "{\"VOLCNT\":1,\"volcnt\":1}",
@@ -169,7 +169,7 @@ static BODIES: [&str; 27] = [
     "{\"SPACE\":{}}", "{\"RETPD\":true}", "{\"RETPD\":1.0}", "{\"RETPD\":1e0}", "{\"RETPD\":-1}",
     "{\"RETPD\":4294967296}",
     "{\"RETPD\":18446744073709551616}", "{\"RETPD\":\"1\",\"retpd\":2}",
-    "{\"EXPDT\":2030001}", "{\"SPACE\":1}",
+    "{\"EXPDT\":2030001}", "{\"SPACE\":1}", "{\"USER\":\"é\"}",
 ];
 
 /// Paths and bodies, and the line of a script that asks the same.
@@ -279,6 +279,9 @@ fn the_first_cause_is_told(rt: HostRuntime) -> Result<(), Fail> {
         assert!(rt; is_told(alloc, "/job/JOB1/1/alloc/A", body, 400)?, "{body}");
     }
     let text = b"POST /job/JOB1/1/alloc/A HTTP/1.1\r\nContent-Length: 3\r\n\r\n\"\xff\"";
+    assert!(rt; status_of(alloc, text)? == 400);
+    let text =
+        b"POST /job/JOB1/1/alloc/A HTTP/1.1\r\nContent-Length: 12\r\n\r\n{\"USER\":\"\xff\"}";
     assert!(rt; status_of(alloc, text)? == 400);
     Ok(())
 }
