@@ -91,10 +91,11 @@ fn value_range(bad: bool, at: u32, item: &Item<'_>, best: Best) -> Best
 
 // What can't be the first fault isn't looked at: a long SET is gone through once.
 fn too_many(target: &Ref, before: &[Operand], value: &Operand, best: Best) -> Best
-    ensures { result ≡ least best
-        (fault 11 (token_if (if is_group_list target.now
+    ensures { result ≡ least best (fault 11 (token_if
+        (if is_group_list target.now
         then length before.now == 15 || is_literal_with (is_among before.now) value.now.form
-        else length before.now == 1) (token_of value.now))) }
+        else length before.now == 1)
+        (token_of value.now))) }
 {
     let at = token_of(value);
     if !matters(best, CheckName::TooManyValues, at) {
@@ -200,9 +201,9 @@ fn misplaced(
     best: Best,
 ) -> Best
     requires { listed ≡ is_listed before.now right.now.form }
-    ensures { result ≡ least best
-        (fault 9 (token_if (is_word_with (is_bad_mask left.now) right.now.form || is_bad_list before.now left.now
-        right.now.form) (token_of right.now))) }
+    ensures { result ≡ least best (fault 9 (token_if
+        (is_word_with (is_bad_mask left.now) right.now.form || is_bad_list before.now left.now right.now.form)
+        (token_of right.now))) }
 {
     let broken = is_misplaced(before, listed, left, right);
     note(

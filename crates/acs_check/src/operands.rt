@@ -210,8 +210,8 @@ pub fn is_bad_value(before: &[Operand], behind: &[Operand], form: &OperandForm) 
 }
 
 fn is_great_beside(left: &Named<'_>, word: &[u8]) -> bool
-    ensures { result ≡ ((is_number_variable left.now && is_past_greatest (number_of word.now)) || (is_size_variable
-        left.now && is_past_greatest (size_of word.now))) }
+    ensures { result ≡ ((is_number_variable left.now && is_past_greatest (number_of word.now)) ||
+        (is_size_variable left.now && is_past_greatest (size_of word.now))) }
 {
     (is_number_variable(left.row()) && is_great_number(word))
         || (is_size_variable(left.row()) && is_great_size(word))
@@ -290,8 +290,8 @@ pub fn is_misplaced(
     item: &Item<'_>,
 ) -> bool
     requires { listed ≡ is_listed before.now item.now.form }
-    ensures { result ≡ (is_word_with (is_bad_mask left.now) item.now.form || is_bad_list before.now left.now
-        item.now.form) }
+    ensures { result ≡
+        (is_word_with (is_bad_mask left.now) item.now.form || is_bad_list before.now left.now item.now.form) }
 {
     is_bad_word(left, item.form())
         || (listed && takes_simple(left) && is_mixed(before, item.form()))

@@ -55,8 +55,8 @@ fn values(kind: Kind, before: &Earlier<'_>, target: &Ref, values: &[Operand], be
 }
 
 fn put(kind: Kind, before: &Earlier<'_>, reference: &Ref, operands: &[Operand], best: Best) -> Best
-    ensures { result ≡ walked kind before.now best (Target reference.now ∷ values_behind reference.now []
-        operands.now) }
+    ensures { result ≡
+        walked kind before.now best (Target reference.now ∷ values_behind reference.now [] operands.now) }
 {
     let best = target(kind, before, reference, best);
     values(kind, before, reference, operands, best)
@@ -137,8 +137,8 @@ fn test(
     operand: &Operand,
     best: Best,
 ) -> Best
-    ensures { result ≡ walked kind before.now best (Left reference.now ∷ Order reference.now op op_at ∷ Right
-        (Some reference.now) operand.now ∷ []) }
+    ensures { result ≡ walked kind before.now best
+        (Left reference.now ∷ Order reference.now op op_at ∷ Right (Some reference.now) operand.now ∷ []) }
 {
     let compared = Named::new(reference);
     let best = left(kind, before, &compared, best);

@@ -66,8 +66,8 @@ pub fn block(
     lists: &Lists<'_>,
     body: &[Stmt],
 ) -> Result<(), AllocError>
-    ensures { OnOk result (Does kind (filters_of lists.now) (in_turn (map (meaning kind lists.now) body.now)) code.old
-        code.new) }
+    ensures { OnOk result
+        (Does kind (filters_of lists.now) (in_turn (map (meaning kind lists.now) body.now)) code.old code.new) }
 {
     let mut left = body.len();
     while left > 0 {
@@ -108,8 +108,8 @@ fn conditional(
 ) -> Result<(), AllocError>
     ensures { OnOk result ((other : Action) (rest : List Instr) → end ≡ length rest →
         Does kind (filters_of lists.now) other rest code.old →
-        Does kind (filters_of lists.now) (choice (holds lists.now cond.now) (meaning kind lists.now body.now) other)
-        rest code.new) }
+        Does kind (filters_of lists.now)
+        (choice (holds lists.now cond.now) (meaning kind lists.now body.now) other) rest code.new) }
 {
     let fails = code.place();
     jump(code, end)?;
@@ -134,8 +134,8 @@ fn when_clause(
 ) -> Result<(), AllocError>
     ensures { OnOk result ((other : Action) (rest : List Instr) → behind ≡ length rest →
         Does kind (filters_of lists.now) other rest code.old →
-        Does kind (filters_of lists.now) (first_of subject.now (arm_of kind lists.now arm.now ∷ []) other) rest
-        code.new) }
+        Does kind (filters_of lists.now)
+        (first_of subject.now (arm_of kind lists.now arm.now ∷ []) other) rest code.new) }
 {
     let fails = code.place();
     jump(code, behind)?;
@@ -160,8 +160,8 @@ fn when_clauses(
 ) -> Result<(), AllocError>
     ensures { OnOk result ((other : Action) (rest : List Instr) → end ≡ length rest →
         Does kind (filters_of lists.now) other rest code.old →
-        Does kind (filters_of lists.now) (first_of subject.now (map (arm_of kind lists.now) arms.now) other) rest
-        code.new) }
+        Does kind (filters_of lists.now)
+        (first_of subject.now (map (arm_of kind lists.now) arms.now) other) rest code.new) }
 {
     let mut left = arms.len();
     while left > 0 {

@@ -190,8 +190,8 @@ mutual
   pub data IsAnds (total : ℕ) (may : ℕ → Bool) : ℕ → Cond → List Symbol → Cond → ℕ → List Symbol → Type 0 where
     no_and : {n : ℕ} {x : Cond} {rest : List Symbol} → starts want.And rest ≡ false → IsAnds total may n x rest x n rest
     and_more : {n p m : ℕ} {x y c : Cond} {t : Symbol} {ts ms rest : List Symbol} → fits want.And t ≡ true
-        → may n ≡ true
-        → IsPrim total may (suc n) ts y p ms → IsAnds total may p (condition.And x y) ms c m rest
+        → may n ≡ true → IsPrim total may (suc n) ts y p ms
+        → IsAnds total may p (condition.And x y) ms c m rest
         → IsAnds total may n x (t ∷ ts) c m rest
 
   -- one comparison, or a condition in parentheses
@@ -209,13 +209,13 @@ mutual
         → IsRef total ts r (t ∷ ms) → fits want.Equal t ≡ true → IsOperands total list.Values ms os rest
         → IsStmt total may n (Word word.Set a ∷ ts) (placed total (Word word.Set a ∷ ts) (form.Put r os)) rest
     choice : {n m : ℕ} {a b : List ℕ} {ts ms ns rest : List Symbol} {c : Cond} {yes : Stmt} {no : Option Stmt}
-        → may n ≡ true
-        → IsCond total may (suc n) ts c m (Word word.Then b ∷ ms) → IsStmt total may (suc n) ms yes ns
+        → may n ≡ true → IsCond total may (suc n) ts c m (Word word.Then b ∷ ms)
+        → IsStmt total may (suc n) ms yes ns
         → IsAlternative total may want.Else (suc n) ns no rest
         → IsStmt total may n (Word word.If a ∷ ts) (placed total (Word word.If a ∷ ts) (form.If c yes no)) rest
     pick : {n : ℕ} {a b : List ℕ} {ts ms rest : List Symbol} {subject : Option Ref} {ws : List When}
-        {other : Option Stmt} → may n ≡ true
-        → IsChoice total may (suc n) ts subject ws ms
+        {other : Option Stmt}
+        → may n ≡ true → IsChoice total may (suc n) ts subject ws ms
         → IsAlternative total may want.Otherwise (suc n) ms other (Word word.End b ∷ rest)
         → IsStmt total may n (Word word.Select a ∷ ts)
         (placed total (Word word.Select a ∷ ts) (form.Pick subject ws other)) rest
@@ -228,18 +228,17 @@ mutual
         → IsStmt total may n (Word word.Exit a ∷ ts) (placed total (Word word.Exit a ∷ ts) (form.Exit o)) rest
 
   -- the statement behind an ELSE or an OTHERWISE, or none: an ELSE belongs to the nearest IF
-  pub data IsAlternative (total : ℕ) (may : ℕ → Bool) : Want → ℕ → List Symbol → Option Stmt → List Symbol →
-      Type 0 where
-    no_alternative : {w : Want} {n : ℕ} {rest : List Symbol} → starts w rest ≡ false →
-        IsAlternative total may w n rest None rest
+  pub data IsAlternative (total : ℕ) (may : ℕ → Bool)
+      : Want → ℕ → List Symbol → Option Stmt → List Symbol → Type 0 where
+    no_alternative : {w : Want} {n : ℕ} {rest : List Symbol} → starts w rest ≡ false
+        → IsAlternative total may w n rest None rest
     alternative : {w : Want} {n : ℕ} {t : Symbol} {ts rest : List Symbol} {s : Stmt} → fits w t ≡ true
         → IsStmt total may n ts s rest → IsAlternative total may w n (t ∷ ts) (Some s) rest
 
   -- a SELECT's subject and its WHENs, at least one: a ( behind SELECT begins the subject
   pub data IsChoice (total : ℕ) (may : ℕ → Bool) : ℕ → List Symbol → Option Ref → List When → List Symbol → Type 0 where
     by_value : {n : ℕ} {ts ms ns rest : List Symbol} {r : Ref} {w : When} {ws : List When}
-        → IsRef total ts r (Close ∷ ms)
-        → IsWhen total may true n ms w ns → IsWhens total may true n ns ws rest
+        → IsRef total ts r (Close ∷ ms) → IsWhen total may true n ms w ns → IsWhens total may true n ns ws rest
         → IsChoice total may n (Open ∷ ts) (Some r) (w ∷ ws) rest
     by_condition : {n : ℕ} {a : List ℕ} {ts ns rest : List Symbol} {w : When} {ws : List When}
         → IsWhen total may false n (Word word.When a ∷ ts) w ns → IsWhens total may false n ns ws rest
@@ -258,16 +257,16 @@ mutual
 
   -- the WHENs behind the first
   pub data IsWhens (total : ℕ) (may : ℕ → Bool) : Bool → ℕ → List Symbol → List When → List Symbol → Type 0 where
-    no_when : {b : Bool} {n : ℕ} {rest : List Symbol} → starts want.When rest ≡ false →
-        IsWhens total may b n rest [] rest
+    no_when : {b : Bool} {n : ℕ} {rest : List Symbol} → starts want.When rest ≡ false
+        → IsWhens total may b n rest [] rest
     more_whens : {b : Bool} {n : ℕ} {a : List ℕ} {ts ms rest : List Symbol} {w : When} {ws : List When}
         → IsWhen total may b n (Word word.When a ∷ ts) w ms → IsWhens total may b n ms ws rest
         → IsWhens total may b n (Word word.When a ∷ ts) (w ∷ ws) rest
 
   -- statements and END; filter lists too where it is the routine's own
   pub data IsBlock (total : ℕ) (may : ℕ → Bool) : Bool → ℕ → List Symbol → List Stmt → List Symbol → Type 0 where
-    end_of : {top : Bool} {n : ℕ} {a : List ℕ} {rest : List Symbol} →
-        IsBlock total may top n (Word word.End a ∷ rest) [] rest
+    end_of : {top : Bool} {n : ℕ} {a : List ℕ} {rest : List Symbol}
+        → IsBlock total may top n (Word word.End a ∷ rest) [] rest
     then_more : {top : Bool} {n : ℕ} {ts ms rest : List Symbol} {s : Stmt} {ss : List Stmt}
         → IsItem total may top n ts s ms → IsBlock total may top n ms ss rest → IsBlock total may top n ts (s ∷ ss) rest
 
@@ -276,8 +275,8 @@ mutual
     item_filter : {n : ℕ} {a : List ℕ} {ts rest : List Symbol} {s : Stmt}
         → IsFilter total (Word word.FiltList a ∷ ts) s rest
         → IsItem total may true n (Word word.FiltList a ∷ ts) s rest
-    item_statement : {top : Bool} {n : ℕ} {ts rest : List Symbol} {s : Stmt} → IsStmt total may n ts s rest →
-        IsItem total may top n ts s rest
+    item_statement : {top : Bool} {n : ℕ} {ts rest : List Symbol} {s : Stmt} → IsStmt total may n ts s rest
+        → IsItem total may top n ts s rest
 
 -- a number, or none
 pub data IsOrNumber : List Symbol → List Symbol → Type 0 where

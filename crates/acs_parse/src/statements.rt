@@ -119,8 +119,8 @@ fn conditional(
     rest: &mut Rest<'_>,
 ) -> Result<FormParts, Fault>
     ensures { Parses (λ parts. IsInside total word.If depth rest.old (form_of_parts parts) rest.new)
-        (ACondition ∷ One want.Then (To depth) ∷ AStatement ∷ OrAlternative want.Else ∷ Back ∷ []) depth rest.old
-        result }
+        (ACondition ∷ One want.Then (To depth) ∷ AStatement ∷ OrAlternative want.Else ∷ Back ∷ [])
+        depth rest.old result }
 {
     let cond = cond_before(alloc, total, depth, Want::Then, rest)?;
     let (yes, otherwise) = arms(alloc, total, depth, rest)?;
@@ -140,8 +140,8 @@ fn arms(
     depth: u32,
     rest: &mut Rest<'_>,
 ) -> Result<(Boxed<Stmt>, Option<Boxed<Stmt>>), Fault>
-    ensures { Parses (λ x. AreArms total depth rest.old x.0 x.1 rest.new) (AStatement ∷ OrAlternative want.Else ∷ [])
-        depth rest.old result }
+    ensures { Parses (λ x. AreArms total depth rest.old x.0 x.1 rest.new)
+        (AStatement ∷ OrAlternative want.Else ∷ []) depth rest.old result }
 {
     let yes = statement(alloc, total, depth, rest)?;
     let otherwise = alternative(alloc, total, depth, Want::Else, rest)?;
@@ -355,8 +355,8 @@ fn item(alloc: Global, total: u32, rest: &mut Rest<'_>) -> Result<Boxed<Stmt>, F
 #[tactic(auto, using(crate::proofs::SelectLemmas::items_test_steps))]
 fn items_test(alloc: Global, total: u32, rest: &mut Rest<'_>) -> Result<TestParts, Fault>
     ensures { Reads (λ test. (n : ℕ) → IsTest total true n rest.old (test_of_parts test) rest.new)
-        (One want.Open Keep ∷ AnOperand list.Items ∷ MoreOperands list.Items ∷ One want.Close Keep ∷ []) rest.old
-        result }
+        (One want.Open Keep ∷ AnOperand list.Items ∷ MoreOperands list.Items ∷ One want.Close Keep ∷ [])
+        rest.old result }
 {
     expect(Want::Open, rest)?;
     let items = operands(alloc, total, ListKind::Items, rest)?;

@@ -105,8 +105,8 @@ pub fn word(rest: &mut Rest<'_>) -> Result<Ident, Fault>
 /// The name of a filter list.
 #[tactic(auto, using(crate::proofs::ShapeLemmas::named_word, crate::proofs::ShapeLemmas::named_variable))]
 pub fn list_name(rest: &mut Rest<'_>) -> Result<Ident, Fault>
-    ensures { ReadsOne (λ text. (t : Symbol) × IsListName t text × (rest.old ≡ t ∷ rest.new)) want.Name rest.old
-        result }
+    ensures { ReadsOne (λ text. (t : Symbol) × IsListName t text × (rest.old ≡ t ∷ rest.new))
+        want.Name rest.old result }
 {
     match rest.split_first() {
         None => Err(Fault::Ended),
@@ -146,8 +146,8 @@ pub fn head(rest: &mut Rest<'_>) -> Result<Ident, Fault>
 
 #[tactic(auto, using(crate::proofs::ShapeLemmas::operator_sign, crate::proofs::ShapeLemmas::operator_word))]
 pub fn operator(rest: &mut Rest<'_>) -> Result<Compare, Fault>
-    ensures { ReadsOne (λ op. (t : Symbol) × IsOperator t op × (rest.old ≡ t ∷ rest.new)) want.Operator rest.old
-        result }
+    ensures { ReadsOne (λ op. (t : Symbol) × IsOperator t op × (rest.old ≡ t ∷ rest.new))
+        want.Operator rest.old result }
 {
     match rest.split_first() {
         None => Err(Fault::Ended),

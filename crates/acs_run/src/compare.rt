@@ -108,8 +108,8 @@ fn any_volume(filters: &[FilterIndex], right: &Right, input: &Seen<'_>, values: 
 }
 
 fn all_volumes(filters: &[FilterIndex], right: &Right, input: &Seen<'_>, values: &Values) -> bool
-    ensures { result ≡ (not (is_empty input.now.volumes) && list_all
-        (text_equals input.now values.now (right_comparand filters.now right.now)) input.now.volumes) }
+    ensures { result ≡ (not (is_empty input.now.volumes) &&
+        list_all (text_equals input.now values.now (right_comparand filters.now right.now)) input.now.volumes) }
 {
     let volumes = input.volumes();
     !volumes.is_empty() && all_equal(filters, right, input, values, volumes)

@@ -17,42 +17,34 @@ use Rattle.acs_symbol.specs.declared.symbol.Symbol.TheVariants.{Comma, Operator}
 -- the words that begin a statement, and those of a routine's frame
 abbrev pub outer_words : List (List ℕ × WordKind)
 outer_words =
-    (codes "PROC", word.Proc) ∷ (codes "END", word.End) ∷ (codes "FILTLIST", word.FiltList) ∷ (
-      codes "SET",
-      word.Set,
-    ) ∷ (codes "IF", word.If) ∷
-    (codes "SELECT", word.Select) ∷ (codes "DO", word.Do) ∷ (codes "WRITE", word.Write) ∷ (codes "EXIT", word.Exit) ∷ []
+    (codes "PROC", word.Proc) ∷ (codes "END", word.End) ∷ (codes "FILTLIST", word.FiltList) ∷
+    (codes "SET", word.Set) ∷ (codes "IF", word.If) ∷ (codes "SELECT", word.Select) ∷
+    (codes "DO", word.Do) ∷ (codes "WRITE", word.Write) ∷ (codes "EXIT", word.Exit) ∷ []
 
 -- the words that stand inside a statement
 abbrev pub inner_words : List (List ℕ × WordKind)
 inner_words =
-    (codes "THEN", word.Then) ∷ (codes "ELSE", word.Else) ∷ (codes "WHEN", word.When) ∷ (
-      codes "OTHERWISE",
-      word.Otherwise,
-    ) ∷ (codes "INCLUDE", word.Include) ∷
-    (codes "EXCLUDE", word.Exclude) ∷ (codes "CODE", word.Code) ∷ (codes "AND", word.And) ∷ (codes "OR", word.Or) ∷ []
+    (codes "THEN", word.Then) ∷ (codes "ELSE", word.Else) ∷
+    (codes "WHEN", word.When) ∷ (codes "OTHERWISE", word.Otherwise) ∷
+    (codes "INCLUDE", word.Include) ∷ (codes "EXCLUDE", word.Exclude) ∷ (codes "CODE", word.Code) ∷
+    (codes "AND", word.And) ∷ (codes "OR", word.Or) ∷ []
 
 -- the words that compare
 abbrev pub comparisons : List (List ℕ × WordKind)
 comparisons =
-    (codes "EQ", word.Compare Eq) ∷ (codes "NE", word.Compare Ne) ∷ (codes "GT", word.Compare Gt) ∷ (
-      codes "LT",
-      word.Compare Lt,
-    ) ∷
-    (codes "GE", word.Compare Ge) ∷ (codes "LE", word.Compare Le) ∷ (codes "NG", word.Compare Ng) ∷ (
-      codes "NL",
-      word.Compare Nl,
-    ) ∷ []
+    (codes "EQ", word.Compare Eq) ∷ (codes "NE", word.Compare Ne) ∷
+    (codes "GT", word.Compare Gt) ∷ (codes "LT", word.Compare Lt) ∷
+    (codes "GE", word.Compare Ge) ∷ (codes "LE", word.Compare Le) ∷
+    (codes "NG", word.Compare Ng) ∷ (codes "NL", word.Compare Nl) ∷ []
 
 -- the signs
 abbrev pub signs : List (List ℕ × Symbol)
 signs =
     (codes "&&", AndSign) ∷ (codes "|", OrSign) ∷ (codes "(", Open) ∷ (codes ")", Close) ∷ (codes ",", Comma) ∷
-    (codes "=", Operator Eq) ∷ (codes "^=", Operator Ne) ∷ (codes ">", Operator Gt) ∷ (
-      codes "<",
-      Operator Lt,
-    ) ∷ (codes ">=", Operator Ge) ∷
-    (codes "<=", Operator Le) ∷ (codes "^>", Operator Ng) ∷ (codes "^<", Operator Nl) ∷ []
+    (codes "=", Operator Eq) ∷ (codes "^=", Operator Ne) ∷
+    (codes ">", Operator Gt) ∷ (codes "<", Operator Lt) ∷
+    (codes ">=", Operator Ge) ∷ (codes "<=", Operator Le) ∷
+    (codes "^>", Operator Ng) ∷ (codes "^<", Operator Nl) ∷ []
 
 -- what a table has beside the text, and else the other
 abbrev pub listed : {A : Type 0} → List (List ℕ × A) → List ℕ → A → A

@@ -98,8 +98,10 @@ too_many_entries _ = None
 -- 11: in SET of the group list a 16th value or a repeated literal, in another SET a second value
 abbrev pub too_many_values : Node → Option ℕ
 too_many_values (Value target before value behind) =
-    token_if (if is_group_list target then length before == most_groups_set || is_literal_with
-    (is_among before) value.form else length before == 1) (token_of value)
+    token_if
+    (if is_group_list target then length before == most_groups_set || is_literal_with (is_among before) value.form
+    else length before == 1)
+    (token_of value)
 too_many_values _ = None
 
 -- 12: the code is no number from 0 to 65,535

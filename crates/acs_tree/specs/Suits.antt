@@ -122,8 +122,8 @@ is_bad_literal before behind (byte ∷ bytes) = is_none (construct_of (byte ∷ 
 -- a number beside a number, or a size beside a size, that is past the greatest
 abbrev pub is_too_great : Option Ref → List ℕ → Bool
 is_too_great left word =
-    (is_left_with is_number_variable left && is_past_greatest (number_of word)) || (is_left_with is_size_variable
-    left && is_past_greatest (size_of word))
+    (is_left_with is_number_variable left && is_past_greatest (number_of word)) ||
+    (is_left_with is_size_variable left && is_past_greatest (size_of word))
 
 -- the index of a variable, where it is out of its range
 abbrev pub range_token : OperandForm → Option ℕ
@@ -146,8 +146,8 @@ takes_simple left = is_left_with (λ ref. takes_masks ref && not (is_whole_name 
 -- the operand is a filter list with a word that is no simple mask, where only simple masks are compared
 abbrev pub is_bad_list : List Stmt → Option Ref → OperandForm → Bool
 is_bad_list before left form =
-    is_listed before form && (takes_simple left && is_var_with
-    (λ ref. not (is_simple_list (list_named before ref.name))) form)
+    is_listed before form &&
+    (takes_simple left && is_var_with (λ ref. not (is_simple_list (list_named before ref.name))) form)
 
 -- the text is among the literals
 abbrev pub is_among : List Operand → List ℕ → Bool

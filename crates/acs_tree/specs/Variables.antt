@@ -16,8 +16,8 @@ use Rattle.acs_tree.specs.declared.variable.VariableKind.TheVariants as kind
 use Rattle.acs_tree.specs.Numbers.{number_of, within}
 use Rattle.acs_tree.specs.Value.{Value, Text, Number, Size, AnyOf, AllOf, Groups, text_at}
 
--- what a variable's name means: what the checks know of it, and what it holds in a run, by its index, which is 0 where
--- none is written
+-- what a variable's name means: what the checks know of it, and what it holds in a run, by its index,
+-- which is 0 where none is written
 pub record VariableMeaning : Type 0 where
   pub variable : Variable
   pub value : ℕ → Input → Values → Value
@@ -164,8 +164,8 @@ value_by (Some meaning) index input values = meaning.value index input values
 unfoldable pub variable_value : List ℕ → ℕ → Input → Values → Value
 variable_value name = value_by (look_up variables name)
 
--- the index as it is written: 0 where there is none, and 255, which no variable takes, where it is no number from 1 to
--- 254
+-- the index as it is written: 0 where there is none, and 255, which no variable takes, where it is no number
+-- from 1 to 254
 abbrev pub index_of : Option (List ℕ) → ℕ
 index_of None = 0
 index_of (Some word) = unwrap_or (within 1 254 (number_of word)) 255

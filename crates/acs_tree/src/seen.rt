@@ -30,11 +30,10 @@ impl<'a> Model for Seen<'a> {
 
     ghost Value = { Input };
 
-    ghost view = { λ s. input_with s.dsn.now s.amounts.now s.texts
-        (record {
-          accounting = record { acct_job = s.acct_job.now; acct_step = s.acct_step.now };
-          volumes = s.volumes.now;
-        }) };
+    ghost view = { λ s. input_with s.dsn.now s.amounts.now s.texts (record {
+      accounting = record { acct_job = s.acct_job.now; acct_step = s.acct_step.now };
+      volumes = s.volumes.now;
+    }) };
 }
 
 impl<'a> Seen<'a> {

@@ -23,8 +23,8 @@ IsWant memory err = memory ≡ Some err
 abbrev pub MayRefuse : {E : Type 0} → (E → Type 0) → Option E → E → Type 0
 MayRefuse fault memory err = fault err ⊎ IsWant memory err
 
--- the thing is answered wherever there is one, and the fault wherever there is one; want of memory alone may come in
--- their place
+-- the thing is answered wherever there is one, and the fault wherever there is one; want of memory alone may come
+-- in their place
 pub record IsExact {T E : Type 0} (is : T → Type 0) (fault : E → Type 0) (memory : Option E)
     (result : Result T E) : Type 0 where
   pub thing : (made : T) → is made → (result ≡ Ok made) ⊎ IsErrAnd result (IsWant memory)

@@ -12,8 +12,9 @@ is_qualifier_byte byte = is_name_byte byte || byte == 45
 
 -- one to eight bytes, the first no digit and no hyphen
 abbrev pub IsQualifier : List ℕ → Type 0
-IsQualifier bytes = (1 ≤ length bytes) × (length bytes ≤ most_name_bytes) × (is_initial (slice_index bytes 0) ≡ true) ×
-    AllPass is_qualifier_byte bytes
+IsQualifier bytes =
+    (1 ≤ length bytes) × (length bytes ≤ most_name_bytes) ×
+    (is_initial (slice_index bytes 0) ≡ true) × AllPass is_qualifier_byte bytes
 
 -- at most 44 bytes, each qualifier in form
 abbrev pub IsDataSetName : List ℕ → Type 0
@@ -23,8 +24,9 @@ IsDataSetName bytes = (length bytes ≤ most_value_bytes) × All IsQualifier (qu
 
 -- a qualifier in form
 abbrev pub is_qualifier : List ℕ → Bool
-is_qualifier bytes = nat_le 1 (length bytes) && (nat_le
-    (length bytes) most_name_bytes && (is_initial (slice_index bytes 0) && list_all is_qualifier_byte bytes))
+is_qualifier bytes =
+    nat_le 1 (length bytes) && (nat_le (length bytes) most_name_bytes &&
+    (is_initial (slice_index bytes 0) && list_all is_qualifier_byte bytes))
 
 -- a data set name
 abbrev pub is_data_set_name : List ℕ → Bool

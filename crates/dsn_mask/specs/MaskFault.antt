@@ -25,8 +25,8 @@ is_third_star bytes at =
 -- the first star of a run of exactly two
 abbrev pub is_first_of_two : List ℕ → ℕ → Bool
 is_first_of_two bytes at =
-    is_star_at bytes at && (is_star_at bytes
-    (at + 1) && (not (is_star_at bytes (at + 2)) && not (is_star_before bytes at 1)))
+    is_star_at bytes at && (is_star_at bytes (at + 1) &&
+    (not (is_star_at bytes (at + 2)) && not (is_star_before bytes at 1)))
 
 -- at the text's front or behind a full stop
 abbrev pub opens_qualifier : List ℕ → ℕ → Bool
@@ -84,8 +84,8 @@ IsFirstSimpleFault bytes err = IsFirstFault false bytes err
 -- the fault of the first of four tests that holds, at this place
 abbrev pub fault_by : Bool → Bool → Bool → Bool → ℕ → Option MaskErr
 fault_by third pair bad stray at =
-    if third then Some (ThreeStars at) else if pair then Some (StarsNotAlone at) else if bad then Some (BadByte at)
-    else if stray then Some (EmptyPiece at) else None
+    if third then Some (ThreeStars at) else if pair then Some (StarsNotAlone at)
+    else if bad then Some (BadByte at) else if stray then Some (EmptyPiece at) else None
 
 -- the fault at a place, if any
 abbrev pub fault_at : Bool → List ℕ → ℕ → Option MaskErr

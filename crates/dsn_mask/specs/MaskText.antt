@@ -11,8 +11,8 @@ use Rattle.dsn_mask.specs.MaskTest.{is_empty, is_two_stars}
 
 -- A to Z, 0 to 9, #, @, $, -, _, the full stop, % and *
 abbrev pub is_mask_byte : ℕ → Bool
-is_mask_byte byte = is_name_byte byte || (byte ==
-    45 || (byte == 95 || (byte == full_stop || (byte == 37 || byte == star))))
+is_mask_byte byte =
+    is_name_byte byte || (byte == 45 || (byte == 95 || (byte == full_stop || (byte == 37 || byte == star))))
 
 -- no two stars stand side by side
 abbrev pub are_stars_apart : List ℕ → Bool
@@ -29,8 +29,9 @@ is_mask_qualifier qualifier = is_two_stars qualifier || (not (is_empty qualifier
 
 -- 1 to 64 bytes, each qualifier in form
 abbrev pub is_mask : List ℕ → Bool
-is_mask bytes = nat_le 1 (length bytes) && (nat_le (length bytes) most_word_bytes && list_all is_mask_qualifier
-    (qualifiers_of bytes))
+is_mask bytes =
+    nat_le 1 (length bytes) && (nat_le (length bytes) most_word_bytes &&
+    list_all is_mask_qualifier (qualifiers_of bytes))
 
 -- 1 to 64 bytes of one piece
 abbrev pub is_simple : List ℕ → Bool

@@ -27,8 +27,9 @@ is_literal_byte byte = byte == space_byte || is_short_byte byte
 
 -- one to eight of A to Z, 0 to 9, #, $ and @, the first no digit
 abbrev pub IsName : List ℕ → Type 0
-IsName bytes = (1 ≤ length bytes) × (length bytes ≤ most_name_bytes) × (is_initial (slice_index bytes 0) ≡ true) ×
-    AllPass is_name_byte bytes
+IsName bytes =
+    (1 ≤ length bytes) × (length bytes ≤ most_name_bytes) ×
+    (is_initial (slice_index bytes 0) ≡ true) × AllPass is_name_byte bytes
 
 -- one to six of A to Z, 0 to 9, #, $ and @
 abbrev pub IsVolser : List ℕ → Type 0
@@ -46,8 +47,9 @@ IsLiteral bytes = (length bytes ≤ most_literal_bytes) × AllPass is_literal_by
 
 -- a name
 abbrev pub is_name : List ℕ → Bool
-is_name bytes = nat_le 1 (length bytes) && (nat_le
-    (length bytes) most_name_bytes && (is_initial (slice_index bytes 0) && list_all is_name_byte bytes))
+is_name bytes =
+    nat_le 1 (length bytes) && (nat_le (length bytes) most_name_bytes &&
+    (is_initial (slice_index bytes 0) && list_all is_name_byte bytes))
 
 -- a volume serial
 abbrev pub is_volser : List ℕ → Bool

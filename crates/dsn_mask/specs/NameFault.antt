@@ -46,7 +46,8 @@ pub record IsFirstAmong (start number : ℕ) (qualifiers : List (List ℕ)) (err
 abbrev pub IsFirstNameFault : List ℕ → NameErr → Type 0
 IsFirstNameFault bytes Empty = bytes ≡ []
 IsFirstNameFault bytes TooLong = most_value_bytes < length bytes
-IsFirstNameFault bytes (BadQualifier number) = (1 ≤ length bytes) × (length bytes ≤ most_value_bytes) ×
+IsFirstNameFault bytes (BadQualifier number) =
+    (1 ≤ length bytes) × (length bytes ≤ most_value_bytes) ×
     IsFirstAmong 0 1 (qualifiers_of bytes) (BadQualifier number)
 IsFirstNameFault bytes (BadByte at) =
     (1 ≤ length bytes) × (length bytes ≤ most_value_bytes) × IsFirstAmong 0 1 (qualifiers_of bytes) (BadByte at)
@@ -54,5 +55,5 @@ IsFirstNameFault bytes (BadByte at) =
 -- the first of all faults of one qualifier
 pub record IsFirstIn (start number : ℕ) (qualifier : List ℕ) (err : NameErr) : Type 0 where
   pub place : ℕ
-  pub is : IsFirst (λ (found : ℕ × NameErr). QualifierFault start number qualifier found.0 found.1) place_of
-      (place, err)
+  pub is :
+      IsFirst (λ (found : ℕ × NameErr). QualifierFault start number qualifier found.0 found.1) place_of (place, err)

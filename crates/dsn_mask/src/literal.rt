@@ -51,8 +51,8 @@ impl Lit {
     /// None where the bytes are out of form.
     pub fn new(bytes: &[u8]) -> Option<Self>
         ensures value { result ≡ literal_of bytes.now }
-        ensures exact { MatchOption result (IsLiteral bytes.now →
-            ⊥) (λ made. IsLiteral bytes.now × (made ≡ bytes.now)) }
+        ensures exact { MatchOption result (IsLiteral bytes.now → ⊥)
+            (λ made. IsLiteral bytes.now × (made ≡ bytes.now)) }
     {
         if bytes.len() > 110 || !are_literal_bytes(bytes) {
             return None;

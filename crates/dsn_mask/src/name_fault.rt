@@ -27,8 +27,8 @@ fn good_front(bytes: &[u8]) -> usize
 #[tactic(auto, using(crate::proofs::Faults::qualifier_faults))]
 fn qualifier_fault(start: u32, number: u32, qualifier: &[u8]) -> Option<NameErr>
     requires { start + length qualifier.now ≤ 44 }
-    ensures { MatchOption result (is_qualifier qualifier.now ≡ true) (λ err. (is_qualifier qualifier.now ≡ false) ×
-        IsFirstIn start number qualifier.now err) }
+    ensures { MatchOption result (is_qualifier qualifier.now ≡ true)
+        (λ err. (is_qualifier qualifier.now ≡ false) × IsFirstIn start number qualifier.now err) }
 {
     if qualifier.is_empty() {
         return Some(NameErr::BadQualifier(number));

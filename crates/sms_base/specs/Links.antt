@@ -15,9 +15,8 @@ pub record IsUntouched (link : LinkInMemory) : Type 0 where
   pub reads : link.source.faults ≡ 0
   pub writes : link.sink.faults ≡ 0
 
--- the links that are left and those that came back, how often one was asked for, how many were given, whether no
--- further
--- one comes, and how many of those that came back had failed
+-- the links that are left and those that came back, how often one was asked for, how many were given, whether
+-- no further one comes, and how many of those that came back had failed
 pub record DoorInMemory : Type 0 where
   pub waiting : List LinkInMemory
   pub back : List LinkInMemory

@@ -27,5 +27,6 @@ filters_of body = filters_in (compiled_in body)
 -- the compiled list of that name, as it is compared with the whole data set name or with another text
 abbrev pub compiled_comparand : Bool → List CompiledList → List ℕ → Comparand
 compiled_comparand whole [] name = Nothing
-compiled_comparand whole (list ∷ lists) name = if bytes_eq list.name name
-    then Filter (if whole then list.dotted else list.plain) else compiled_comparand whole lists name
+compiled_comparand whole (list ∷ lists) name =
+    if bytes_eq list.name name then Filter (if whole then list.dotted else list.plain)
+    else compiled_comparand whole lists name

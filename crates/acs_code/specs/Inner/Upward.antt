@@ -16,8 +16,8 @@ use Rattle.acs_code.specs.Stands.{IsThere}
 abbrev pub leap : Kind → List FilterLists → Input → ℕ → List Instr → Values → Outcome
 leap kind filters input left [] values = falls values
 leap kind filters input left (instr ∷ instrs) values =
-    if nat_lt (length instrs) left then act kind filters input instr (λ to. leap kind filters input to instrs)
-    (length instrs) values
+    if nat_lt (length instrs) left
+    then act kind filters input instr (λ to. leap kind filters input to instrs) (length instrs) values
     else leap kind filters input left instrs values
 
 -- an instruction goes on where at most so many are left, and its filter list is there
@@ -44,15 +44,15 @@ pub record Branches (kind : Kind) (filters : List FilterLists) (test : condition
     (rest code : List Instr) : Type 0 where
   pub over : Over kind filters rest code
   pub goes : (input : Input) (values : Values) →
-      leap kind filters input (length code) code values ≡ leap kind filters input
-      (if test input values then one else other) rest values
+      leap kind filters input (length code) code values ≡
+      leap kind filters input (if test input values then one else other) rest values
 
 -- the code of a statement: it does what the statement does, and then what was there
 pub record Does (kind : Kind) (filters : List FilterLists) (action : Action) (rest code : List Instr) : Type 0 where
   pub over : Over kind filters rest code
   pub does : (input : Input) (values : Values) →
-      leap kind filters input (length code) code values ≡ then_do (action input values)
-      (λ after. leap kind filters input (length rest) rest after)
+      leap kind filters input (length code) code values ≡
+      then_do (action input values) (λ after. leap kind filters input (length rest) rest after)
 
 -- the same instruction by places from the front, in a code of so many instructions
 abbrev pub placed : ℕ → Instr → Instr

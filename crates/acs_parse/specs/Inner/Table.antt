@@ -73,8 +73,8 @@ entries = One want.Open Keep ∷ AnOperand list.Entries ∷ MoreOperands list.En
 
 -- behind a WHEN
 abbrev pub when_parts : Bool → ℕ → List Part
-when_parts true n = One want.Open Keep ∷ AnOperand list.Items ∷ MoreOperands list.Items ∷ One want.Close
-    Keep ∷ AStatement ∷ []
+when_parts true n =
+    One want.Open Keep ∷ AnOperand list.Items ∷ MoreOperands list.Items ∷ One want.Close Keep ∷ AStatement ∷ []
 when_parts false n = One want.Open Keep ∷ ACondition ∷ One want.Close (To n) ∷ AStatement ∷ []
 
 -- what a token that begins a statement asks for

@@ -20,8 +20,9 @@ seen input values held.StorageGroups = Groups values.groups
 -- what is held under a name that is one of these
 abbrev pub held_in : List (List ℕ) → List ℕ → ℕ → Input → Values → Option Value
 held_in names name index input values =
-    look_up (map {B = List ℕ × Value} (λ (own : List ℕ). (own, value_by (look_up variables own) index input values))
-    names) name
+    look_up
+    (map {B = List ℕ × Value} (λ (own : List ℕ). (own, value_by (look_up variables own) index input values)) names)
+    name
 
 -- the variables of the data set's name
 abbrev pub name_variables : List (List ℕ)
@@ -38,8 +39,8 @@ origin_variables = codes "JOB" ∷ codes "USER" ∷ codes "GROUP" ∷ codes "PGM
 -- the variables of what the data set is to be
 abbrev pub attribute_variables : List (List ℕ)
 attribute_variables =
-    codes "UNIT" ∷ codes "DSORG" ∷ codes "RECORG" ∷ codes "DSNTYPE" ∷ codes "DSTYPE" ∷ codes "DSOWNER" ∷ codes
-    "EXPDT" ∷ []
+    codes "UNIT" ∷ codes "DSORG" ∷ codes "RECORG" ∷ codes "DSNTYPE" ∷ codes "DSTYPE" ∷ codes "DSOWNER" ∷
+    codes "EXPDT" ∷ []
 
 -- the variables of numbers given, and of those that are always 0
 abbrev pub number_variables : List (List ℕ)
@@ -79,8 +80,9 @@ input_variables = origin_variables ++ (attribute_variables ++ (number_variables 
 
 -- the variables that are always null
 abbrev pub null_variables : List (List ℕ)
-null_variables = codes "ACSENVR2" ∷ codes "LABEL" ∷ codes "LIBNAME" ∷ codes "MEMN" ∷ codes "MEMHLQ" ∷ codes
-    "MEMLLQ" ∷ codes "MSPARM" ∷ codes "MSPDEST" ∷ codes "MSPOLICY" ∷ codes "MSPOOL" ∷ codes "MSVGP" ∷ []
+null_variables =
+    codes "ACSENVR2" ∷ codes "LABEL" ∷ codes "LIBNAME" ∷ codes "MEMN" ∷ codes "MEMHLQ" ∷ codes "MEMLLQ" ∷
+    codes "MSPARM" ∷ codes "MSPDEST" ∷ codes "MSPOLICY" ∷ codes "MSPOOL" ∷ codes "MSVGP" ∷ []
 
 -- the text passes the filter list, if there is one
 abbrev pub passes_if_any : List ℕ → Option FilterLists → Bool

@@ -25,8 +25,8 @@ pub record Same (kind : Kind) (one other : Outcome) (before now : SlateLines) : 
 -- an instruction leads on to a later place and leaves the same to come, or to the ending
 abbrev pub Leads : CodeParts → Input → ℕ → Values → SlateLines → Values → SlateLines → Next → Type 0
 Leads code input place values slate values' slate' (On to) =
-    (place < to) × (to ≤ length code.instrs) × Same code.kind (rest_of code input place values)
-    (rest_of code input to values') slate slate'
+    (place < to) × (to ≤ length code.instrs) ×
+    Same code.kind (rest_of code input place values) (rest_of code input to values') slate slate'
 Leads code input place values slate values' slate' (Exited number) =
     (values' ≡ (rest_of code input place values).values) × (Exit number ≡ (rest_of code input place values).ending) ×
     (slate' ≡ with_lines code.kind slate (rest_of code input place values).lines)
