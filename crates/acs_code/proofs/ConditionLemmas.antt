@@ -15,10 +15,10 @@ use Rattle.acs_tree.specs.declared.routine.Ref.{Ref}
 use Rattle.acs_tree.specs.declared.routine.Stmt.{Stmt}
 use Rattle.acs_tree.specs.declared.values.Values.{Values}
 use Rattle.acs_tree.specs.Comparands as comparand
-use Rattle.acs_tree.specs.Comparands.{Comparand, comparand_of}
+use Rattle.acs_tree.specs.Comparands.{comparand_of}
 use Rattle.acs_tree.specs.Compares.{compares, texts_compare, text_equals, groups_or_null}
 use Rattle.acs_tree.specs.Conditions as conditions
-use Rattle.acs_tree.specs.Conditions.{comparison, cond_step, equals_any, holds}
+use Rattle.acs_tree.specs.Conditions.{comparison, cond_step, holds}
 use Rattle.acs_tree.specs.Value.{Value, Text, Number, Size, AnyOf, AllOf, Groups}
 use Rattle.acs_tree.specs.Variables.{variable_value, index_of}
 use Rattle.dsn_mask.specs.MaskTest.{is_empty}

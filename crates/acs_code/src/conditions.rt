@@ -26,8 +26,8 @@ pub fn when(
 ) -> Result<(), AllocError>
     requires holds { fork.holds ≤ length code.old }
     requires fails { fork.fails ≤ length code.old }
-    ensures { OnOk result
-        (Branches kind (filters_of lists.now) (when_holds lists.now subject.now test.now) fork.holds fork.fails code.old code.new) }
+    ensures { OnOk result (Branches kind (filters_of lists.now)
+        (when_holds lists.now subject.now test.now) fork.holds fork.fails code.old code.new) }
 {
     match test {
         WhenTest::Holds(cond) => condition(code, kind, lists, cond.get(), fork),
@@ -47,8 +47,8 @@ pub fn condition(
 ) -> Result<(), AllocError>
     requires holds { fork.holds ≤ length code.old }
     requires fails { fork.fails ≤ length code.old }
-    ensures { OnOk result
-        (Branches kind (filters_of lists.now) (holds lists.now cond.now) fork.holds fork.fails code.old code.new) }
+    ensures { OnOk result (Branches kind (filters_of lists.now)
+        (holds lists.now cond.now) fork.holds fork.fails code.old code.new) }
 {
     match cond {
         Cond::And(one, two) => {
@@ -87,8 +87,8 @@ fn items(
 ) -> Result<(), AllocError>
     requires holds { fork.holds ≤ length code.old }
     requires fails { fork.fails ≤ length code.old }
-    ensures { OnOk result
-        (Branches kind (filters_of lists.now) (equals_any lists.now subject.now items.now) fork.holds fork.fails code.old code.new) }
+    ensures { OnOk result (Branches kind (filters_of lists.now)
+        (equals_any lists.now subject.now items.now) fork.holds fork.fails code.old code.new) }
 {
     code.put(Instr::Jump(fork.fails))?;
     let mut left = items.len();
@@ -115,8 +115,8 @@ fn comparison(
 ) -> Result<(), AllocError>
     requires holds { fork.holds ≤ length code.old }
     requires fails { fork.fails ≤ length code.old }
-    ensures { OnOk result
-        (Branches kind (filters_of lists.now) (comparison lists.now left.now op operand.now) fork.holds fork.fails code.old code.new) }
+    ensures { OnOk result (Branches kind (filters_of lists.now)
+        (comparison lists.now left.now op operand.now) fork.holds fork.fails code.old code.new) }
 {
     match right(lists, left, operand) {
         Some(right) => code.put(Instr::Test {

@@ -100,8 +100,8 @@ fn has<L: Ledger>(filter: &FilterIndex, text: &Short, blank: Blank) -> bool
 }
 
 fn any_volume(filters: &[FilterIndex], right: &Right, input: &Seen<'_>, values: &Values) -> bool
-    ensures { result ≡ list_any (text_equals input.now values.now (right_comparand filters.now right.now))
-        input.now.volumes }
+    ensures { result ≡
+        list_any (text_equals input.now values.now (right_comparand filters.now right.now)) input.now.volumes }
 {
     let volumes = input.volumes();
     volumes.iter().any(|volume| equals(filters, right, input, values, &of_volser(volume)))
@@ -129,8 +129,8 @@ fn all_equal(
 
 // An empty list counts as the null text.
 fn any_group(filters: &[FilterIndex], right: &Right, input: &Seen<'_>, values: &Values) -> bool
-    ensures { result ≡ list_any (text_equals input.now values.now (right_comparand filters.now right.now))
-        (groups_or_null values.now.groups) }
+    ensures { result ≡ list_any
+        (text_equals input.now values.now (right_comparand filters.now right.now)) (groups_or_null values.now.groups) }
 {
     let groups = values.groups.as_slice();
     if groups.is_empty() {

@@ -29,6 +29,7 @@ pub fn run(code: &Code, input: &Seen<'_>, values: &mut Values, slate: &mut Slate
     ensures lines { (came : Outcome) → ComesTo code.now input.now values.old came →
         slate.new ≡ with_kept_lines code.now.kind (kept_lines_of came.lines) slate.old }
 {
+    // A fact for the proof; nothing changes.
     let _written = slate.lines();
     let end = code.instrs().len();
     let mut place = 0;

@@ -29,6 +29,7 @@ pub fn of_volser(volser: &Volser) -> Short
 pub fn qualifier(dsn: &Dsn, number: usize) -> Short
     ensures { result ≡ text_at (qualifiers_of dsn.now) number }
 {
+    // A fact for the proof; nothing changes.
     let _form = dsn.bytes();
     match dsn.qualifier(number) {
         None => Short::null(),

@@ -1,6 +1,6 @@
 -- Which answers of the translator are right.
-use Rattle.std.proofs.Common.{◌≡◌, ◌⊎◌, inl, inr, ◌≤◌, ◌<◌, ◌+◌, ◌^◌, ℕ, List, length, refl, ap, sym, ◌∙◌, subst, arith}
-use Rattle.std.specs.Prelude.{Some, Result, Ok, Err}
+use Rattle.std.proofs.Common.{◌≡◌, inl, inr, ◌<◌, ◌^◌, ℕ, List, length, refl, ap, sym, ◌∙◌, subst, arith}
+use Rattle.std.specs.Prelude.{Some, Ok, Err}
 use Rattle.acs_lex.specs.declared.token.Token.{Token}
 use Rattle.acs_lex.specs.declared.fault.LexErr.{LexErr}
 use Rattle.acs_lex.specs.declared.fault.LexErr.TheVariants as lex
@@ -26,7 +26,7 @@ use Rattle.acs_check.proofs.FirstLemmas.{one_first}
 use Rattle.acs_translate.specs.declared.fault.RoutineFault.{RoutineFault}
 use Rattle.acs_translate.specs.declared.fault.TranslateErr.{TranslateErr}
 use Rattle.acs_translate.specs.declared.fault.TranslateErr.TheVariants.{Fault, NoMemory}
-use Rattle.acs_translate.specs.Translation.{IsTranslated, fault_of, lex_err, parse_err, check_fault, IsRoutineFault}
+use Rattle.acs_translate.specs.Translation.{IsTranslated, lex_err, parse_err, check_fault, IsRoutineFault}
 use Rattle.acs_translate.specs.Translation.{in_text, in_tokens, in_tree, MayRefuse, IsExact}
 
 pub few_tokens : (text : List ℕ) (tokens : List Token) → length text < 2 ^ 32 → InOrder 0 (length text) tokens → length tokens < 2 ^ 32

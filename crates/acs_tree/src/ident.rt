@@ -1,5 +1,5 @@
 // Names of variables and words.
-ghost use Rattle.std.specs.Prelude.{◌≡◌, ◌≤◌, ◌<◌, length};
+ghost use Rattle.std.specs.Prelude.{◌≡◌, ◌≤◌, length};
 ghost use Rattle.std.specs.Str.{str_to_ascii_uppercase};
 ghost use Rattle.desk_common.specs.Limits.{most_word_bytes};
 ghost use Rattle.acs_tree.specs.Ident.{IsIdent};

@@ -1,4 +1,4 @@
-use Rattle.std.proofs.Common.{◌≡◌, ◌≤◌, ◌-◌, length, drop, nat_cmp}
+use Rattle.std.proofs.Common.{◌≡◌, ◌≤◌, ◌-◌, drop, nat_cmp}
 use Rattle.std.specs.Cmp.Lexicographic.{slice_cmp}
 use Rattle.dsn_mask.proofs.byte_words.order.Given as goal
 
