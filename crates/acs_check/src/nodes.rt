@@ -1,5 +1,6 @@
 // The first fault so far, with those of one node.
 ghost use Rattle.std.specs.Prelude.{◌≡◌, ◌==◌, ◌||◌, ◌&&◌, not, [], Some, if◌then◌else◌, length};
+ghost use Rattle.desk_common.specs.Limits.{most_groups_set};
 ghost use Rattle.acs_tree.specs.Nodes.{Head, ListName, Entry, Target, Value, Part, Left, Order, Right, Code};
 ghost use Rattle.acs_tree.specs.Sound.{fault};
 ghost use Rattle.acs_tree.specs.References.{is_group_list};
@@ -19,6 +20,7 @@ use crate::operands::{
 };
 use crate::references::{is_counted, is_misindexed, is_out_of_range, is_set_later};
 use acs_tree::{CheckErr, Compare, Ident, Kind, Operand, OperandForm, Ref, Variable};
+use desk_common::MAX_ENTRIES;
 
 /// The first fault so far.
 pub type Best = Option<CheckErr>;
@@ -41,7 +43,7 @@ pub fn entry(kind: Kind, before: &Earlier<'_>, count: usize, entry: &Operand, be
 {
     let at = token_of(entry);
     let best = note(best, CheckName::MaskMisplaced, is_no_entry(&entry.form), at);
-    note(best, CheckName::TooManyEntries, count == 255, at)
+    note(best, CheckName::TooManyEntries, count == MAX_ENTRIES, at)
 }
 
 pub fn target(kind: Kind, before: &Earlier<'_>, target: &Ref, best: Best) -> Best
@@ -93,7 +95,7 @@ fn value_range(bad: bool, at: u32, item: &Item<'_>, best: Best) -> Best
 fn too_many(target: &Ref, before: &[Operand], value: &Operand, best: Best) -> Best
     ensures { result ≡ least best (fault 11 (token_if
         (if is_group_list target.now
-        then length before.now == 15 || is_literal_with (is_among before.now) value.now.form
+        then length before.now == most_groups_set || is_literal_with (is_among before.now) value.now.form
         else length before.now == 1)
         (token_of value.now))) }
 {

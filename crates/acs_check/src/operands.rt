@@ -1,6 +1,7 @@
 // What the checks ask of an operand (docs/acs-language.md, Kinds that suit).
 ghost use Rattle.std.specs.Prelude.{◌≡◌, ◌&&◌, ◌||◌, ◌==◌, not, is_some, is_none, true, length, if◌then◌else◌};
 ghost use Rattle.std.specs.Str.{bytes_eq};
+ghost use Rattle.desk_common.specs.Limits.{most_exit_code, most_groups_set};
 ghost use Rattle.acs_tree.specs.Numbers.{is_between, is_past_greatest, number_of, size_of};
 ghost use Rattle.acs_tree.specs.FilterLists.{is_mask, is_simple_list, list_named};
 ghost use Rattle.acs_tree.specs.References.{is_known, passes, is_misindexed, is_set_later, takes_masks, is_whole_name};
@@ -21,6 +22,7 @@ use crate::references::{
     takes_masks,
 };
 use acs_tree::{Ident, Kind, Operand, OperandForm, Ref, VariableKind, is_number, is_size};
+use desk_common::{MAX_EXIT_CODE, MAX_GROUPS_SET};
 use dsn_mask::{Lit, Name};
 
 /// The token of an operand: of a variable, the variable's.
@@ -337,10 +339,10 @@ fn is_repeated(before: &[Operand], form: &OperandForm) -> bool
 /// Whether it is a value too many, or a storage group that stands already before it.
 pub fn is_one_too_many(target: &Ref, before: &[Operand], form: &OperandForm) -> bool
     ensures { result ≡ (if is_group_list target.now
-        then length before.now == 15 || is_literal_with (is_among before.now) form.now else length before.now == 1) }
+        then length before.now == most_groups_set || is_literal_with (is_among before.now) form.now else length before.now == 1) }
 {
     if is_group_list(target) {
-        before.len() == 15 || is_repeated(before, form)
+        before.len() == MAX_GROUPS_SET || is_repeated(before, form)
     } else {
         before.len() == 1
     }
@@ -348,10 +350,10 @@ pub fn is_one_too_many(target: &Ref, before: &[Operand], form: &OperandForm) -> 
 
 /// Whether it is an exit code: a number from 0 to 65,535.
 pub fn is_exit_code(form: &OperandForm) -> bool
-    ensures { result ≡ is_word_with (is_between 0 65535) form.now }
+    ensures { result ≡ is_word_with (is_between 0 most_exit_code) form.now }
 {
     match form {
-        OperandForm::Word(word) => is_between(0, 65535, word.bytes()),
+        OperandForm::Word(word) => is_between(0, MAX_EXIT_CODE, word.bytes()),
         OperandForm::Literal(_) | OperandForm::Var(_) => false,
     }
 }

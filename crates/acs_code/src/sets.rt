@@ -1,5 +1,6 @@
 // SET.
 ghost use Rattle.std.specs.Prelude.{◌≡◌, ◌<◌, [], true, false, List, length, Contains, MatchOption, OnOk};
+ghost use Rattle.desk_common.specs.Limits.{most_groups_set};
 ghost use Rattle.dsn_mask.specs.Filter.{FilterLists};
 ghost use Rattle.acs_tree.specs.Setting.{class_set, groups_behind, groups_set, is_new_group, kind_set, sets};
 ghost use Rattle.acs_tree.specs.Setting.{with_group};
@@ -10,6 +11,7 @@ use crate::instr::Instr;
 use crate::parts::part;
 use crate::upward::Upward;
 use acs_tree::{Kind, Operand, OperandForm, Ref};
+use desk_common::MAX_GROUPS_SET;
 use dsn_mask::{Lit, Name, Names};
 use std::alloc::AllocError;
 
@@ -57,9 +59,6 @@ fn set_groups(code: &mut Upward, values: &[Operand]) -> Result<(), AllocError>
     code.put(Instr::SetGroups(groups(values)))
 }
 
-// The most groups that one SET can name.
-const MAX_GROUPS: usize = 15;
-
 /// The groups that SET names.
 pub fn groups(values: &[Operand]) -> Names
     ensures { result ≡ groups_behind [] values.now }
@@ -84,11 +83,11 @@ fn add_group(groups: &mut Names, form: &OperandForm)
 // The name that a text is, if it is one that can be added.
 fn new_group(groups: &Names, text: &Lit) -> Option<Name>
     ensures { MatchOption result (is_new_group groups.now text.now ≡ false)
-        (λ name. (name ≡ text.now) × (is_new_group groups.now text.now ≡ true) × (length groups.now < 15) ×
+        (λ name. (name ≡ text.now) × (is_new_group groups.now text.now ≡ true) × (length groups.now < most_groups_set) ×
         (Contains groups.now text.now → ⊥)) }
 {
     let name = Name::new(text.bytes())?;
-    if groups.as_slice().len() >= MAX_GROUPS {
+    if groups.as_slice().len() >= MAX_GROUPS_SET {
         return None;
     }
     if groups.contains(&name) {

@@ -12,4 +12,4 @@ mod token;
 pub use fault::LexErr;
 pub use laws::{token_laws, tokens_or_fault};
 pub use scanner::scan;
-pub use token::{MAX_LITERAL, MAX_WORD, Token, TokenForm, Tokens};
+pub use token::{Token, TokenForm, Tokens};

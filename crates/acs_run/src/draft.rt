@@ -1,30 +1,31 @@
 //! A line that is being written.
 ghost use Rattle.std.specs.Prelude.{◌≡◌, ◌≤◌, ◌<◌, ◌+◌, ◌∷◌, ◌++◌, [], true, length, take};
 ghost use Rattle.std.specs.List.{AllPass};
+ghost use Rattle.desk_common.specs.Limits.{most_literal_bytes};
 ghost use Rattle.dsn_mask.specs.Name.{is_literal_byte};
 
+use desk_common::MAX_LITERAL;
 use dsn_mask::Lit;
 use std::marker::Model;
-
-const MAX_LINE: usize = 110;
 
 /// A line that is being written, which is cut to 110 bytes.
 #[derive(Drop)]
 pub struct Draft {
-    buffer: [u8; 110],
+    buffer: [u8; MAX_LITERAL],
     count: usize,
 }
 
 impl Model for Draft {
     ghost use Rattle.std.specs.Prelude.{List, ℕ, take, ◌≤◌};
     ghost use Rattle.std.specs.List.{AllPass};
+    ghost use Rattle.desk_common.specs.Limits.{most_literal_bytes};
     ghost use Rattle.dsn_mask.specs.Name.{is_literal_byte};
 
     ghost Value = { List ℕ };
 
     ghost view = { λ s. take s.count s.buffer };
 
-    ghost invariant = { λ s. (s.count ≤ 110) × AllPass is_literal_byte (take s.count s.buffer) };
+    ghost invariant = { λ s. (s.count ≤ most_literal_bytes) × AllPass is_literal_byte (take s.count s.buffer) };
 }
 
 impl Draft {
@@ -32,19 +33,19 @@ impl Draft {
         ensures { result ≡ [] }
     {
         Draft {
-            buffer: [0; 110],
+            buffer: [0; MAX_LITERAL],
             count: 0,
         }
     }
 
     fn room(&self) -> usize
-        ensures { result + length self.now ≡ 110 }
+        ensures { result + length self.now ≡ most_literal_bytes }
     {
-        MAX_LINE - self.count
+        MAX_LITERAL - self.count
     }
 
     fn push(&mut self, byte: u8)
-        requires room { length self.old < 110 }
+        requires room { length self.old < most_literal_bytes }
         requires form { is_literal_byte byte ≡ true }
         ensures { self.new ≡ self.old ++ byte ∷ [] }
     {
@@ -55,7 +56,7 @@ impl Draft {
     /// Writes the bytes, as many as there is room for.
     pub fn put(&mut self, bytes: &[u8])
         requires { AllPass is_literal_byte bytes.now }
-        ensures { self.new ≡ take 110 (self.old ++ bytes.now) }
+        ensures { self.new ≡ take most_literal_bytes (self.old ++ bytes.now) }
     {
         let kept = &bytes[..bytes.len().min(self.room())];
         for byte in kept {
@@ -66,7 +67,7 @@ impl Draft {
     /// The line.
     pub fn text(&self) -> Lit
         ensures text { result ≡ self.now }
-        ensures within { length self.now ≤ 110 }
+        ensures within { length self.now ≤ most_literal_bytes }
     {
         Lit::new(&self.buffer[..self.count]).unwrap()
     }

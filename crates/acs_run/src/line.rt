@@ -1,5 +1,7 @@
 // What WRITE writes.
 ghost use Rattle.std.specs.Prelude.{◌≡◌, ◌≤◌, ◌++◌, ◌∷◌, [], codes, decimal, length, take};
+ghost use Rattle.desk_common.specs.Bytes.{comma};
+ghost use Rattle.desk_common.specs.Limits.{most_literal_bytes};
 ghost use Rattle.acs_code.specs.Machine.{part_text, parts_line};
 ghost use Rattle.acs_tree.specs.Writing.{listed, printed};
 ghost use Rattle.acs_run.specs.Inner.Lines.{after_commas};
@@ -25,8 +27,8 @@ pub fn line(parts: &[Part], input: &Seen<'_>, values: &Values) -> Lit
 }
 
 fn put_part(draft: &mut Draft, part: &Part, input: &Seen<'_>, values: &Values)
-    requires { length draft.old ≤ 110 }
-    ensures { draft.new ≡ take 110 (draft.old ++ part_text part.now input.now values.now) }
+    requires { length draft.old ≤ most_literal_bytes }
+    ensures { draft.new ≡ take most_literal_bytes (draft.old ++ part_text part.now input.now values.now) }
 {
     match part {
         Part::Literal(text) => draft.put(text.bytes()),
@@ -35,8 +37,8 @@ fn put_part(draft: &mut Draft, part: &Part, input: &Seen<'_>, values: &Values)
 }
 
 fn put_value(draft: &mut Draft, value: &Value, input: &Seen<'_>, values: &Values)
-    requires { length draft.old ≤ 110 }
-    ensures { draft.new ≡ take 110 (draft.old ++ printed (seen input.now values.now value.now)) }
+    requires { length draft.old ≤ most_literal_bytes }
+    ensures { draft.new ≡ take most_literal_bytes (draft.old ++ printed (seen input.now values.now value.now)) }
 {
     match value {
         Value::Text(text) => put_text(draft, text),
@@ -49,28 +51,28 @@ fn put_value(draft: &mut Draft, value: &Value, input: &Seen<'_>, values: &Values
 
 #[tactic(auto, using(crate::proofs::LineLemmas::short_is_literal))]
 fn put_text(draft: &mut Draft, text: &Short)
-    ensures { draft.new ≡ take 110 (draft.old ++ text.now) }
+    ensures { draft.new ≡ take most_literal_bytes (draft.old ++ text.now) }
 {
     draft.put(text.bytes());
 }
 
 fn put_number(draft: &mut Draft, number: u64)
-    ensures { draft.new ≡ take 110 (draft.old ++ decimal number) }
+    ensures { draft.new ≡ take most_literal_bytes (draft.old ++ decimal number) }
 {
     let mut buffer = Buffer::new();
     draft.put(buffer.format(number).as_bytes());
 }
 
 fn put_size(draft: &mut Draft, kilobytes: u64)
-    ensures { draft.new ≡ take 110 (draft.old ++ (decimal kilobytes ++ codes "KB")) }
+    ensures { draft.new ≡ take most_literal_bytes (draft.old ++ (decimal kilobytes ++ codes "KB")) }
 {
     put_number(draft, kilobytes);
     draft.put(b"KB");
 }
 
 fn put_volumes(draft: &mut Draft, volumes: &[Volser])
-    requires { length draft.old ≤ 110 }
-    ensures { draft.new ≡ take 110 (draft.old ++ listed volumes.now) }
+    requires { length draft.old ≤ most_literal_bytes }
+    ensures { draft.new ≡ take most_literal_bytes (draft.old ++ listed volumes.now) }
 {
     if let Some((first, rest)) = volumes.split_first() {
         put_volume(draft, first);
@@ -79,8 +81,8 @@ fn put_volumes(draft: &mut Draft, volumes: &[Volser])
 }
 
 fn put_more_volumes(draft: &mut Draft, volumes: &[Volser])
-    requires { length draft.old ≤ 110 }
-    ensures { draft.new ≡ take 110 (draft.old ++ after_commas volumes.now) }
+    requires { length draft.old ≤ most_literal_bytes }
+    ensures { draft.new ≡ take most_literal_bytes (draft.old ++ after_commas volumes.now) }
 {
     for volume in volumes {
         put_comma(draft);
@@ -90,20 +92,20 @@ fn put_more_volumes(draft: &mut Draft, volumes: &[Volser])
 
 #[tactic(auto, using(crate::proofs::LineLemmas::volser_is_literal))]
 fn put_volume(draft: &mut Draft, volume: &Volser)
-    ensures { draft.new ≡ take 110 (draft.old ++ volume.now) }
+    ensures { draft.new ≡ take most_literal_bytes (draft.old ++ volume.now) }
 {
     draft.put(volume.bytes());
 }
 
 fn put_comma(draft: &mut Draft)
-    ensures { draft.new ≡ take 110 (draft.old ++ 44 ∷ []) }
+    ensures { draft.new ≡ take most_literal_bytes (draft.old ++ comma ∷ []) }
 {
     draft.put(b",");
 }
 
 fn put_groups(draft: &mut Draft, groups: &[Name])
-    requires { length draft.old ≤ 110 }
-    ensures { draft.new ≡ take 110 (draft.old ++ listed groups.now) }
+    requires { length draft.old ≤ most_literal_bytes }
+    ensures { draft.new ≡ take most_literal_bytes (draft.old ++ listed groups.now) }
 {
     if let Some((first, rest)) = groups.split_first() {
         put_group(draft, first);
@@ -112,8 +114,8 @@ fn put_groups(draft: &mut Draft, groups: &[Name])
 }
 
 fn put_more_groups(draft: &mut Draft, groups: &[Name])
-    requires { length draft.old ≤ 110 }
-    ensures { draft.new ≡ take 110 (draft.old ++ after_commas groups.now) }
+    requires { length draft.old ≤ most_literal_bytes }
+    ensures { draft.new ≡ take most_literal_bytes (draft.old ++ after_commas groups.now) }
 {
     for group in groups {
         put_comma(draft);
@@ -123,7 +125,7 @@ fn put_more_groups(draft: &mut Draft, groups: &[Name])
 
 #[tactic(auto, using(crate::proofs::LineLemmas::name_is_literal))]
 fn put_group(draft: &mut Draft, group: &Name)
-    ensures { draft.new ≡ take 110 (draft.old ++ group.now) }
+    ensures { draft.new ≡ take most_literal_bytes (draft.old ++ group.now) }
 {
     draft.put(group.bytes());
 }

@@ -7,8 +7,8 @@ ghost use Rattle.acs_tree.specs.Ident.{is_upper_byte};
 ghost use Rattle.acs_symbol.specs.Symbols.{inner_words, comparisons, listed, number_kind, word_kind, sign_of};
 
 use crate::symbol::{Symbol, WordKind};
-use acs_lex::MAX_WORD;
 use acs_tree::{Compare, are_digits};
+use desk_common::MAX_WORD;
 
 /// What the word can be besides a name, its letters in either case. Most words have no small letter, and
 /// are read where they stand.

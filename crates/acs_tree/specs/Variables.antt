@@ -2,7 +2,7 @@
 use Rattle.std.specs.Prelude.{◌==◌, ℕ, List, [], ◌∷◌, length, Option, Some, None, codes, if◌then◌else◌}
 use Rattle.std.specs.Option.{option_map, unwrap_or}
 use Rattle.std.specs.Str.{bytes_eq}
-use Rattle.desk_common.specs.Limits.{most_account_fields}
+use Rattle.desk_common.specs.Limits.{most_account_fields, most_index, most_qualifiers}
 use Rattle.dsn_mask.specs.Qualifiers.{qualifiers_of}
 use Rattle.acs_tree.specs.declared.input.Input.{Input}
 use Rattle.acs_tree.specs.declared.kind.Kind.{Kind}
@@ -95,7 +95,7 @@ name_of StorGrp = codes "STORGRP"
 -- volumes, accounting, where the routine runs, the defaults of the request, and what is always null
 abbrev pub variables : List Row
 variables =
-    indexed (codes "DSN") (Maybe 22) (λ input index. part_of_name input.dsn index) ∷
+    indexed (codes "DSN") (Maybe most_qualifiers) (λ input index. part_of_name input.dsn index) ∷
     text (codes "HLQ") (λ input. first_qualifier input.dsn) ∷
     text (codes "LLQ") (λ input. last_qualifier input.dsn) ∷
     number (codes "NQUAL") (λ input. length (qualifiers_of input.dsn)) ∷
@@ -168,7 +168,7 @@ variable_value name = value_by (look_up variables name)
 -- from 1 to 254
 abbrev pub index_of : Option (List ℕ) → ℕ
 index_of None = 0
-index_of (Some word) = unwrap_or (within 1 254 (number_of word)) 255
+index_of (Some word) = unwrap_or (within 1 most_index (number_of word)) (most_index + 1)
 
 -- the order in which the routines run
 abbrev pub rank_of : Kind → ℕ

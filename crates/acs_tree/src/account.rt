@@ -2,20 +2,19 @@
 ghost use Rattle.std.specs.Prelude.{◌≡◌, ◌≤◌, ◌<◌, ◌↔◌, ◌∷◌, ◌++◌, [], IsTrue, length};
 ghost use Rattle.desk_common.specs.Limits.{most_account_fields};
 
+use desk_common::MAX_FIELDS;
 use dsn_mask::Short;
 use std::marker::Model;
 
-/// The most fields of an accounting.
-pub const MAX_FIELDS: usize = 8;
-
 /// At most 8 texts, in their order.
 pub struct Account {
-    items: [Short; 8],
+    items: [Short; MAX_FIELDS],
     count: u8,
 }
 
 impl Model for Account {
     ghost use Rattle.std.specs.Prelude.{List, ℕ, length, take, ◌≡◌, ◌≤◌};
+    ghost use Rattle.desk_common.specs.Limits.{most_account_fields};
     ghost use Rattle.acs_tree.specs.Inner.Lists.{filled, no_field};
 
     ghost Value = { List (List ℕ) };
@@ -23,9 +22,10 @@ impl Model for Account {
     ghost view = { λ s. take s.count s.items };
 
     ghost invariant = { λ s. (s.count ≡ length (take s.count s.items)) ×
-        (s.items ≡ filled 8 no_field (take s.count s.items)) × (length (take s.count s.items) ≤ 8) };
+        (s.items ≡ filled most_account_fields no_field (take s.count s.items)) ×
+        (length (take s.count s.items) ≤ most_account_fields) };
 
-    ghost inverse = { λ xs. record { items = filled 8 no_field xs; count = length xs } };
+    ghost inverse = { λ xs. record { items = filled most_account_fields no_field xs; count = length xs } };
 
     ghost use Rattle.acs_tree.specs.Inner.ListsFields.{account_back};
 
@@ -71,7 +71,7 @@ impl Account {
         ensures { result ≡ [] }
     {
         Account {
-            items: [Short::null(); 8],
+            items: [Short::null(); MAX_FIELDS],
             count: 0,
         }
     }
@@ -87,7 +87,7 @@ impl Account {
     pub fn is_full(&self) -> bool
         ensures { IsTrue result ↔ (length self.now ≡ most_account_fields) }
     {
-        self.count == 8
+        self.as_slice().len() == MAX_FIELDS
     }
 
     /// Adds one behind the others.

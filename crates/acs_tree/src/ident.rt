@@ -4,15 +4,13 @@ ghost use Rattle.std.specs.Str.{str_to_ascii_uppercase};
 ghost use Rattle.desk_common.specs.Limits.{most_word_bytes};
 ghost use Rattle.acs_tree.specs.Ident.{IsIdent};
 
+use desk_common::MAX_WORD;
 use dsn_mask::Text;
 use std::marker::Model;
 
-/// The most bytes of an Ident.
-pub const MAX_IDENT: usize = 64;
-
 /// At most 64 bytes with no small letter: a word, or a variable without its ampersand.
 pub struct Ident {
-    text: Text<64>,
+    text: Text<MAX_WORD>,
 }
 
 impl Model for Ident {
@@ -68,7 +66,7 @@ impl Ident {
         requires { length bytes.now ≤ most_word_bytes }
         ensures { result ≡ str_to_ascii_uppercase bytes.now }
     {
-        let mut upper = [0; MAX_IDENT];
+        let mut upper = [0; MAX_WORD];
         let upper = &mut upper[..bytes.len()];
         upper.copy_from_slice(bytes);
         upper.make_ascii_uppercase();

@@ -29,7 +29,7 @@ mod variable;
 mod variables;
 mod volumes;
 
-pub use account::{Account, MAX_FIELDS};
+pub use account::Account;
 pub use accounting::Accounting;
 pub use amounts::Amounts;
 pub use attributes::Attributes;
@@ -37,12 +37,13 @@ pub use building::{with_operand, with_stmt, with_when};
 pub use check_err::CheckErr;
 pub use checked::Checked;
 pub use defaults::Defaults;
+pub use desk_common::{MAX_FIELDS, MAX_VOLUMES, MAX_WORD as MAX_IDENT};
 pub use ending::Ending;
 pub use environment::Environment;
 pub use given::Given;
 pub use given_lists::GivenLists;
 pub use given_texts::GivenTexts;
-pub use ident::{Ident, MAX_IDENT};
+pub use ident::Ident;
 pub use input::{Input, kilobytes_of};
 pub use kind::Kind;
 pub use line::Line;
@@ -54,7 +55,7 @@ pub use routine::{
     Whens,
 };
 pub use seen::Seen;
-pub use slate::{MAX_LINES, Slate, same_kind};
+pub use slate::{Slate, same_kind};
 pub use values::Values;
 pub use variable::{Indexing, Variable, VariableKind};
-pub use volumes::{MAX_VOLUMES, Volumes};
+pub use volumes::Volumes;

@@ -5,13 +5,12 @@ ghost use Rattle.acs_tree.specs.Slates.{blank, count_of, more_of, same_kind, wit
 use crate::kind::Kind;
 use crate::line::Line;
 use crate::more::More;
+use desk_common::MAX_LINES;
 use dsn_mask::Lit;
 use std::alloc::{AllocError, Global};
 use std::marker::Model;
 
-/// The most lines that are kept of one kind of routine.
-pub const MAX_LINES: usize = 64;
-
+// Room for the lines of all four kinds.
 const ROOM: usize = 256;
 
 /// The lines that the routines of a request wrote: at most 64 of each kind, and how many others there were.

@@ -6,6 +6,7 @@ ghost use Rattle.acs_tree.specs.Variables.{Row, look_up, variable_of, variables}
 use crate::ident::Ident;
 use crate::kind::Kind;
 use crate::variable::{Indexing, Variable, VariableKind};
+use desk_common::{MAX_FIELDS, MAX_QUALIFIERS};
 
 const TEXT: Variable = Variable {
     kind: VariableKind::Text,
@@ -29,12 +30,12 @@ const VOLUMES: Variable = Variable {
 };
 
 const QUALIFIERS: Variable = Variable {
-    indexing: Indexing::Maybe(22),
+    indexing: Indexing::Maybe(MAX_QUALIFIERS),
     ..TEXT
 };
 
 const ACCOUNT: Variable = Variable {
-    indexing: Indexing::Always(8),
+    indexing: Indexing::Always(MAX_FIELDS as u64),
     ..TEXT
 };
 

@@ -3,20 +3,19 @@ ghost use Rattle.std.specs.Prelude.{◌≡◌, ◌≤◌, ◌<◌, ◌↔◌, �
 ghost use Rattle.desk_common.specs.Limits.{most_volume_count};
 ghost use Rattle.acs_tree.specs.Inner.Lists.{no_volume};
 
+use desk_common::MAX_VOLUMES;
 use dsn_mask::Volser;
 use std::marker::Model;
 
-/// The most volumes that a request can name.
-pub const MAX_VOLUMES: usize = 59;
-
 /// At most 59 volume serials, in their order.
 pub struct Volumes {
-    items: [Volser; 59],
+    items: [Volser; MAX_VOLUMES],
     count: u8,
 }
 
 impl Model for Volumes {
     ghost use Rattle.std.specs.Prelude.{List, ℕ, length, take, ◌≡◌, ◌≤◌};
+    ghost use Rattle.desk_common.specs.Limits.{most_volume_count};
     ghost use Rattle.acs_tree.specs.Inner.Lists.{filled, no_volume};
 
     ghost Value = { List (List ℕ) };
@@ -24,9 +23,10 @@ impl Model for Volumes {
     ghost view = { λ s. take s.count s.items };
 
     ghost invariant = { λ s. (s.count ≡ length (take s.count s.items)) ×
-        (s.items ≡ filled 59 no_volume (take s.count s.items)) × (length (take s.count s.items) ≤ 59) };
+        (s.items ≡ filled most_volume_count no_volume (take s.count s.items)) ×
+        (length (take s.count s.items) ≤ most_volume_count) };
 
-    ghost inverse = { λ xs. record { items = filled 59 no_volume xs; count = length xs } };
+    ghost inverse = { λ xs. record { items = filled most_volume_count no_volume xs; count = length xs } };
 
     ghost use Rattle.acs_tree.specs.Inner.ListsFields.{volumes_back};
 
@@ -72,7 +72,7 @@ impl Volumes {
         ensures { result ≡ [] }
     {
         Volumes {
-            items: [unused(); 59],
+            items: [unused(); MAX_VOLUMES],
             count: 0,
         }
     }
@@ -88,7 +88,7 @@ impl Volumes {
     pub fn is_full(&self) -> bool
         ensures { IsTrue result ↔ (length self.now ≡ most_volume_count) }
     {
-        self.count == 59
+        self.as_slice().len() == MAX_VOLUMES
     }
 
     /// Adds one behind the others.

@@ -1,4 +1,4 @@
-//! The words, the lists and the shared values of all crates.
+//! The words, the limits, the lists and the shared values of all crates.
 #![tactic(auto)]
 
 mod cutting;

@@ -10,7 +10,7 @@ returns-then-contains c =
 pub returns : goal.returns
 returns c =
     let same = c.in_ok-name.ensures.exact.1 ∙ c.bytes.ensures.bytes in
-    let less : length c.args.groups.now < 15 = omega (arith, c.if-as_slice-ge-MAX_GROUPS.false, ap length c.as_slice.ensures.names) in
+    let less : length c.args.groups.now < 15 = omega (arith, c.if-as_slice-ge-MAX_GROUPS_SET.false, ap length c.as_slice.ensures.names) in
     let value = ap name_of (sym c.bytes.ensures.bytes) ∙ sym c.in_ok-name.ensures.value in
     let absent : Contains c.args.groups.now c.args.text.now → ⊥ = λ h. not_false (c.if-contains.ensures.1 (subst (Contains c.args.groups.now) (sym same) h)) in
     (same, added c.args.groups.now c.args.text.now c.in_ok-name.name value less absent, less, absent)
