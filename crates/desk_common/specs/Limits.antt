@@ -82,6 +82,10 @@ most_extents = 16
 abbrev pub most_pieces : ℕ
 most_pieces = 5
 
+-- the tracks of a cylinder
+abbrev pub tracks_in_cylinder : ℕ
+tracks_in_cylinder = 15
+
 -- the tracks of the track-managed part of a volume; from this track on it is cylinder-managed
 abbrev pub border : ℕ
 border = 982800
@@ -105,6 +109,14 @@ most_input_bytes = 16777216
 -- the commands of a script
 abbrev pub most_commands : ℕ
 most_commands = 100000
+
+-- the workers of a run or a desk
+abbrev pub most_workers : ℕ
+most_workers = 16
+
+-- the items of a generated script
+abbrev pub most_items : ℕ
+most_items = 40000
 
 -- the bytes of a deck
 abbrev pub most_deck_bytes : ℕ

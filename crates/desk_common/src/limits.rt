@@ -45,6 +45,9 @@ pub const MAX_EXTENTS: u32 = 16;
 /// The most pieces of one grant.
 pub const MAX_PIECES: usize = 5;
 
+/// The tracks of a cylinder.
+pub const TRACKS_IN_CYLINDER: u32 = 15;
+
 /// The first track of the cylinder-managed part of a volume (docs/rules.md, "The tracks of a volume").
 pub const BORDER: u32 = 982_800;
 
@@ -59,6 +62,12 @@ pub const MAX_INPUT: usize = 16_777_216;
 
 /// The most commands of a script.
 pub const MAX_COMMANDS: u32 = 100_000;
+
+/// The most workers of a run or a desk.
+pub const MAX_WORKERS: u32 = 16;
+
+/// The most items of a generated script.
+pub const MAX_ITEMS: u32 = 40_000;
 
 /// The most bytes of a deck.
 pub const MAX_DECK: usize = 262_144;
