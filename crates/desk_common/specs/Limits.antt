@@ -49,8 +49,7 @@ most_lines = 64
 abbrev pub most_list_entries : ℕ
 most_list_entries = 255
 
--- the greatest index that is told apart: a word that is none from 1 to it stands for the number behind it, which no
--- variable takes
+-- the greatest index; a word that is no number from 1 to it stands for the number behind it, which no variable takes
 abbrev pub most_index : ℕ
 most_index = 254
 
