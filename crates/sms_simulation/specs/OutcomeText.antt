@@ -1,4 +1,4 @@
--- What a classification comes to, as text (docs/tool.md, "simulate").
+-- What a classification comes to, as text (docs/tool.md, "Simulating a script").
 use Rattle.std.specs.Prelude.{ℕ, List, [], ◌∷◌, ◌++◌, codes, decimal, flat_map}
 use Rattle.std.specs.List.{join_with_byte}
 use Rattle.acs_tree.specs.Variables.{name_of}
