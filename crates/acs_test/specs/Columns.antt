@@ -19,8 +19,8 @@ is_column column = is_among wanted column || is_key column
 
 -- each of the columns that a table has is among these
 abbrev pub has_wanted : List (List ℕ) → Bool
-has_wanted columns = is_among columns (codes "CASE") && (is_among columns (codes "JOB") && is_among columns
-    (codes "DSN"))
+has_wanted columns =
+    is_among columns (codes "CASE") && (is_among columns (codes "JOB") && is_among columns (codes "DSN"))
 
 -- of the columns behind earlier ones, the number of the first that is no column or an earlier one, from 1; where one
 -- that each table has is missing, the number behind the last

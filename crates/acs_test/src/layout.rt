@@ -57,9 +57,9 @@ pub fn parts_of(bytes: &[u8]) -> Result<InputParts<'_>, u32>
 // What is behind the first line, if that is this word; else its number.
 fn behind_word<'a>(word: &[u8], left: Left<'a>) -> Result<Left<'a>, u32>
     requires { left.line + 1 < 2 ^ 32 }
-    ensures behind { MatchResult result (λ behind. behind_word word.now left.entry.line (lines_of left.entry.text.now) ≡
-        Ok (numbered_in behind)) (λ line. behind_word word.now left.entry.line (lines_of left.entry.text.now) ≡
-        Err line) }
+    ensures behind { MatchResult result
+        (λ behind. behind_word word.now left.entry.line (lines_of left.entry.text.now) ≡ Ok (numbered_in behind))
+        (λ line. behind_word word.now left.entry.line (lines_of left.entry.text.now) ≡ Err line) }
     ensures line { IfOk result (λ behind. behind.line ≡ left.entry.line + 1) }
     ensures shorter { IfOk result (λ behind. length behind.text.now + length word.now ≤ length left.entry.text.now) }
 {
@@ -79,10 +79,11 @@ fn behind_word<'a>(word: &[u8], left: Left<'a>) -> Result<Left<'a>, u32>
 // The deck at the front of the lines, and what is behind its ./END; without one, the number behind the last line.
 fn deck_part(left: Left<'_>) -> Result<DeckPart<'_>, u32>
     requires { left.line + length left.text.now < 2 ^ 32 }
-    ensures block { MatchResult result (λ part. block_of left.entry.line (lines_of left.entry.text.now) ≡
-        Ok (block_seen part)) (λ line. block_of left.entry.line (lines_of left.entry.text.now) ≡ Err line) }
-    ensures shorter { IfOk result (λ part. part.behind.line + length part.behind.text.now ≤ left.entry.line + length
-        left.entry.text.now) }
+    ensures block { MatchResult result
+        (λ part. block_of left.entry.line (lines_of left.entry.text.now) ≡ Ok (block_seen part))
+        (λ line. block_of left.entry.line (lines_of left.entry.text.now) ≡ Err line) }
+    ensures shorter { IfOk result (λ part. part.behind.line + length part.behind.text.now
+        ≤ left.entry.line + length left.entry.text.now) }
     ensures fits { IfOk result (λ part. length part.behind.text.now ≤ length left.entry.text.now) }
 {
     let mut rest = left.text;

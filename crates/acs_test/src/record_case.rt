@@ -6,7 +6,7 @@ ghost use Rattle.std.specs.List.{list_any};
 ghost use Rattle.csv.specs.Records.{fields_of};
 ghost use Rattle.desk_common.specs.Exact.{MayRefuse};
 ghost use Rattle.acs_test.specs.AllocLine.{field_of, has_blank};
-ghost use Rattle.acs_test.specs.Records.{alloc_in, case_behind, case_of, job_in, job_of, name_in};
+ghost use Rattle.acs_test.specs.Records.{alloc_in, case_behind, case_of, job_in, job_of, most_cases, name_in};
 
 use crate::case::Case;
 use crate::cases_err::CasesErr;
@@ -31,9 +31,9 @@ pub fn read_record(
     count: u32,
     record: &ByteRecord,
 ) -> Result<Case, CasesErr>
-    requires { count ≤ 10000 }
+    requires { count ≤ most_cases }
     ensures ok { IfOk result (λ case. case_behind columns.now count (fields_of record.now) ≡ Ok case) }
-    ensures few { IfOk result (λ case. count < 10000) }
+    ensures few { IfOk result (λ case. count < most_cases) }
     ensures err { IfErr result (MayRefuse (λ err. case_behind columns.now count (fields_of record.now) ≡ Err err)
         (Some CasesErr.NoMemory)) }
 {

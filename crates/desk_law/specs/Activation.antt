@@ -19,8 +19,8 @@ use Rattle.desk_law.specs.Volumes.{tracks_of, volumes_in}
 -- tracks there
 abbrev pub first_barred : DeskState → Configuration → Option VolumeDef
 first_barred s config =
-    find (λ volume. is_used volume.volser (extents_of s.sets) && nat_lt (tracks_of volume.volser config.volumes)
-    volume.tracks) (volumes_in s.active)
+    find (λ volume. is_used volume.volser (extents_of s.sets)
+    && nat_lt (tracks_of volume.volser config.volumes) volume.tracks) (volumes_in s.active)
 
 -- a storage group with its present status, and with that of the deck where it has none
 abbrev pub row_of_group : List StatusRow → StorGroup → StatusRow

@@ -20,6 +20,6 @@ kept_of set = with_extents set set.used (front_tracks (tracks_kept set) set.exte
 abbrev pub ReleaseRule : DeskState → List ℕ → Reply → DeskState → Type 0
 ReleaseRule s dsn reply after =
     MatchResult (found_or replies.NotFound (set_named dsn s.sets))
-    (λ set. Makes (with_set s (kept_of set)) (replies.Released (tracks_of_set set - tracks_of_set (kept_of set))) reply
-    after)
+    (λ set. Makes (with_set s (kept_of set))
+    (replies.Released (tracks_of_set set - tracks_of_set (kept_of set))) reply after)
     (λ answer. Leaves s answer reply after)

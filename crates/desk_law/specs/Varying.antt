@@ -13,6 +13,6 @@ use Rattle.desk_law.specs.Replies.{reply_if, Leaves, Makes}
 abbrev pub VaryRule : DeskState → Target → Action → Reply → DeskState → Type 0
 VaryRule s target action reply after =
     MatchResult (reply_if replies.UnknownName (times_target s.active target == 0))
-    (λ _. Makes (with_status s target (status_of_action action)) (replies.Varied target (status_of_action action)) reply
-    after)
+    (λ _. Makes (with_status s target (status_of_action action))
+    (replies.Varied target (status_of_action action)) reply after)
     (λ answer. Leaves s answer reply after)

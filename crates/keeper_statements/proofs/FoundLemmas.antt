@@ -1,6 +1,6 @@
 -- What is left of a table once the rows that were found are taken out.
-use Rattle.std.proofs.Common.{◌≡◌, ℕ, ◌⊎◌, Bool, true, false, cond, not, ◌||◌, ◌&&◌, arith, length, List, [], ◌∷◌, ◌++◌}
-use Rattle.std.proofs.Common.{map, drop, filter, refl, sym, ap, ap₂, subst, ◌∙◌, inl, inr, ℤ, Ordering, Less, Equal}
+use Rattle.std.proofs.Common.{◌≡◌, ℕ, Bool, true, false, cond, not, ◌||◌, ◌&&◌, arith, length, List, [], ◌∷◌}
+use Rattle.std.proofs.Common.{drop, filter, refl, sym, ap, subst, ◌∙◌, inl, inr, ℤ, Ordering, Less, Equal}
 use Rattle.std.proofs.Common.{Greater, is_eq}
 use Rattle.std.proofs.lemmas.Bool.{cases_Bool, false_from_ne_true}
 use Rattle.std.proofs.lemmas.Cmp.{tied_itself}

@@ -1,5 +1,5 @@
 -- A table that is found by its name has a place in the schema.
-use Rattle.std.proofs.Common.{◌≡◌, ◌<◌, ◌+◌, eqb, ℕ, suc, Bool, true, false, cond, not, List, [], ◌∷◌, Some, None}
+use Rattle.std.proofs.Common.{◌≡◌, ◌<◌, ◌+◌, eqb, ℕ, suc, Bool, true, false, cond, List, [], ◌∷◌, Some, None}
 use Rattle.std.proofs.Common.{Option, length, find, slice_get, refl, sym, ap, ◌∙◌, arith}
 use Rattle.std.specs.List.{AllByRecursion, position_from}
 use Rattle.sqlite.specs.Schema.{Schema}

@@ -1,6 +1,6 @@
 -- What a reading text answers.
-use Rattle.std.proofs.Common.{◌≡◌, ℕ, Bool, false, List, [], ◌∷◌, map, drop, flat_map, codes, refl, sym, ap, ap₂, subst}
-use Rattle.std.proofs.Common.{◌∙◌, Ordering, Less, Equal, Greater, is_lt, IsPermutation, IsSorted}
+use Rattle.std.proofs.Common.{◌≡◌, ℕ, List, [], ◌∷◌, map, drop, flat_map, codes, refl, sym, ap, subst}
+use Rattle.std.proofs.Common.{◌∙◌, Ordering, Less, Equal, Greater, IsSorted}
 use Rattle.std.specs.Cmp.{IsTotalOrder}
 use Rattle.std.specs.Ordering.{ordering_then}
 use Rattle.std.proofs.lemmas.Cmp.{on_total, then_total}

@@ -35,9 +35,10 @@ abbrev pub sets_columns : List Column
 sets_columns = strict_column (codes "dsn") Text ∷ strict_column (codes "rec") Blob ∷ []
 
 abbrev pub replies_columns : List Column
-replies_columns = strict_column (codes "job") Text ∷ strict_column (codes "number") Integer ∷ strict_column
-    (codes "place") Integer
-    ∷ strict_column (codes "request") Blob ∷ strict_column (codes "reply") Blob ∷ []
+replies_columns =
+    strict_column (codes "job") Text ∷ strict_column (codes "number") Integer
+    ∷ strict_column (codes "place") Integer ∷ strict_column (codes "request") Blob
+    ∷ strict_column (codes "reply") Blob ∷ []
 
 abbrev pub decks_columns : List Column
 decks_columns = (record {
@@ -50,8 +51,9 @@ decks_columns = (record {
 }) ∷ strict_column (codes "bytes") Blob ∷ []
 
 abbrev pub statuses_columns : List Column
-statuses_columns = strict_column (codes "kind") Integer ∷ strict_column (codes "name") Text ∷ strict_column
-    (codes "status") Integer ∷ []
+statuses_columns =
+    strict_column (codes "kind") Integer ∷ strict_column (codes "name") Text
+    ∷ strict_column (codes "status") Integer ∷ []
 
 abbrev pub floors_columns : List Column
 floors_columns = strict_column (codes "job") Text ∷ strict_column (codes "floor") Integer ∷ []

@@ -19,6 +19,7 @@ pub fn leave_others(config: &Config)
 fn leaves_others(config: &Config, kind: Kind)
     ensures { LeavesOthers (meanings_of config.now) kind }
 {
+    // Facts for the proof; nothing changes.
     let _deck = config.deck();
     let _code = config.code(kind);
 }

@@ -10,7 +10,7 @@ use acs_tree::{Kind, Seen, Slate, Values};
 use sms_construct::Stop;
 use sms_deck::Config;
 
-/// Runs all routines, and tells how it ends.
+/// Runs the four routines in their order until something stops the classification, and tells how it ends.
 pub fn from_data_class(
     config: &Config,
     input: &Seen<'_>,

@@ -12,7 +12,6 @@ use Rattle.acs_lex.proofs.CutLemmas.{CutOrFault, cut_or_fault, may_refuse}
 use Rattle.acs_symbol.specs.Symbols.{symbols_of}
 use Rattle.acs_parse.specs.declared.fault.ParseErr.TheVariants as parse
 use Rattle.acs_parse.specs.Grammar.{limited, IsRoutine}
-use Rattle.acs_parse.specs.ParseFault.{IsParseFault}
 use Rattle.acs_parse.specs.ParseFault as met
 use Rattle.acs_parse.proofs.ExactLemmas.{HasAnswer, some_answer}
 use Rattle.acs_parse.proofs.ExactLemmas as has

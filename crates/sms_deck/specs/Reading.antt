@@ -30,8 +30,8 @@ first_of (fault ∷ faults) = option_or fault (first_of faults)
 
 -- the first fault of the routines as texts
 abbrev pub sources_fault : Outcomes → Option Fault
-sources_fault outcomes = first_of (
-    source_fault DataClas outcomes.dataclas ∷ source_fault StorClas outcomes.storclas
+sources_fault outcomes =
+    first_of (source_fault DataClas outcomes.dataclas ∷ source_fault StorClas outcomes.storclas
     ∷ source_fault MgmtClas outcomes.mgmtclas ∷ source_fault StorGrp outcomes.storgrp ∷ [])
 
 -- the refusal of the texts that tells their first fault

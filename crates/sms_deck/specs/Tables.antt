@@ -22,23 +22,20 @@ use Rattle.sms_deck.specs.Values.{integer_in, has_form}
 -- the device, which must stand where neither of the others does
 abbrev pub device_row : Row
 device_row = record (plain (codes "device") Device) {
-  is_needed = λ keys. not (has (codes "cylinders") keys || has
-      (codes "tracks") keys);
+  is_needed = λ keys. not (has (codes "cylinders") keys || has (codes "tracks") keys);
 }
 
 -- the cylinders, which are right where a volume may have so many, and only where no device stands
 abbrev pub cylinders_row : Row
-cylinders_row =
-    record (plain (codes "cylinders") Cylinders) {
-      is_right = λ keys value. not (has
-          (codes "device") keys) && has_form Cylinders value;
-    }
+cylinders_row = record (plain (codes "cylinders") Cylinders) {
+  is_right = λ keys value. not (has (codes "device") keys) && has_form Cylinders value;
+}
 
 -- the tracks, which are right in their range, and only where neither of the others stands
 abbrev pub tracks_row : Row
 tracks_row = record (plain (codes "tracks") (Integer 1 most_tracks)) {
-  is_right = λ keys value. not (has
-      (codes "device") keys || has (codes "cylinders") keys) && has_form (Integer 1 most_tracks) value;
+  is_right = λ keys value.
+      not (has (codes "device") keys || has (codes "cylinders") keys) && has_form (Integer 1 most_tracks) value;
 }
 
 -- the keys of a volume
@@ -56,8 +53,7 @@ high_of keys = unwrap_or (option_and_then (integer_in 1 100) (get_member (codes 
 -- the low threshold is at most the high one
 abbrev pub low_row : Row
 low_row = record (plain (codes "low") (Integer 0 100)) {
-  is_right = λ keys value. has_form (Integer 0
-      (high_of keys)) value;
+  is_right = λ keys value. has_form (Integer 0 (high_of keys)) value;
 }
 
 -- the keys of a storage group

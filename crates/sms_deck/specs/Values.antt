@@ -27,10 +27,9 @@ meaning_in (word ∷ words) text = if bytes_eq text word.0 then Some word.1 else
 
 -- the statuses of a volume
 abbrev pub volume_statuses : Words Status
-volume_statuses = (codes "ENABLE", Enable) ∷ (codes "DISALL", DisAll) ∷ (codes "DISNEW", DisNew) ∷ (
-  codes "QUIALL",
-  QuiAll,
-) ∷ (codes "QUINEW", QuiNew) ∷ []
+volume_statuses =
+    (codes "ENABLE", Enable) ∷ (codes "DISALL", DisAll) ∷ (codes "DISNEW", DisNew) ∷ (codes "QUIALL", QuiAll)
+    ∷ (codes "QUINEW", QuiNew) ∷ []
 
 -- the statuses of a storage group
 abbrev pub group_statuses : Words Status

@@ -1,4 +1,4 @@
--- What a classification comes to, as text (docs/tool.md, "simulate").
+-- What a classification comes to, as text (docs/tool.md, "Simulating a script").
 use Rattle.std.specs.Prelude.{ℕ, List, [], ◌∷◌, ◌++◌, codes, decimal, flat_map}
 use Rattle.std.specs.List.{join_with_byte}
 use Rattle.acs_tree.specs.Variables.{name_of}
@@ -18,8 +18,8 @@ groups_text groups = join_with_byte comma groups
 -- the classes and the storage groups
 abbrev pub classes_text : Values → List ℕ
 classes_text values =
-    spaced (codes "CLASSES" ∷ value_text values.dataclas ∷ value_text values.storclas ∷ value_text
-    values.mgmtclas ∷ groups_text values.groups ∷ [])
+    spaced (codes "CLASSES" ∷ value_text values.dataclas ∷ value_text values.storclas
+    ∷ value_text values.mgmtclas ∷ groups_text values.groups ∷ [])
 
 -- how a classification ends
 abbrev pub outcome_text : Stop → Values → List ℕ

@@ -3,6 +3,7 @@ use Rattle.std.proofs.Common.{◌≡◌, ◌≤◌, ◌<◌, ℕ, zero, suc, ◌
 use Rattle.std.proofs.Common.{drop, refl, sym, ap, ◌∙◌, subst, arith}
 use Rattle.std.specs.Prelude.{Option, None, Some, IfSome, bytes_eq, find, slice_get}
 use Rattle.std.specs.List.{AllByRecursion}
+use Rattle.desk_common.specs.Limits.{most_extents}
 use Rattle.sms_construct.specs.Configuration.{Configuration, IsConfiguration}
 use Rattle.sms_construct.specs.Quantities.{most_breakpoint}
 use Rattle.sms_construct.specs.declared.storage_group.StorGroup.{StorGroup}
@@ -67,7 +68,7 @@ breakpoint-small (Some config) name is = found-small (find (λ (group : StorGrou
     found-small None found = omega arith
     found-small (Some group) found = find-each (λ (g : StorGroup). g.breakpoint ≤ most_breakpoint) (λ (g : StorGroup). bytes_eq g.name name) config.groups group is.breakpoints found
 
-pub need-sound : (s : DeskState) (groups : List ActiveGroup) (asked : Asked) (held : ℕ) (volume : ActiveVolume) (group : ActiveGroup) → IsLawful s → IsAsked asked → held ≤ 16 → IsVolumeOf s groups volume
+pub need-sound : (s : DeskState) (groups : List ActiveGroup) (asked : Asked) (held : ℕ) (volume : ActiveVolume) (group : ActiveGroup) → IsLawful s → IsAsked asked → held ≤ most_extents → IsVolumeOf s groups volume
     → slice_get groups volume.group ≡ Some group → IsNeed (need_in asked group held)
 need-sound s groups asked held volume group lawful sound most is there =
     subst IsNeed (sym (need-is s groups asked held volume group is there))
@@ -103,7 +104,7 @@ module _ (s : DeskState) (running : ActiveVolumes) (asked : Asked) (place : ℕ)
   own-at : IsVolumeOf s running.groups.items v
   own-at = each-at (IsVolumeOf s running.groups.items) running.volumes.items place v are.each_volume at
 
-  pub needed-at : (held : ℕ) → IsLawful s → IsAsked asked → held ≤ 16 → IsNeed (need_in asked group held)
+  pub needed-at : (held : ℕ) → IsLawful s → IsAsked asked → held ≤ most_extents → IsNeed (need_in asked group held)
   needed-at held lawful sound most = need-sound s running.groups.items asked held v group lawful sound most own-at there
 
   pub granted-at : (held : ℕ) (need : Need) (found : Option (List Piece)) → need ≡ need_in asked group held

@@ -1,5 +1,6 @@
 -- What the desk asks of the running volumes.
 use Rattle.std.specs.Prelude.{ℕ, ◌≡◌, ◌<◌, ◌≤◌, ◌%◌, length}
+use Rattle.desk_common.specs.Limits.{most_groups_set}
 use Rattle.sms_construct.specs.Quantities.{tracks_in}
 use Rattle.track_ledger.specs.declared.need.Need.{Need}
 use Rattle.desk_law.specs.Candidates.{Ask}
@@ -20,7 +21,7 @@ ask_of asked = record {
 pub record IsAsked (asked : Asked) : Type 0 where
   pub some : 0 < asked.tracks
   pub whole : asked.tracks % tracks_in asked.unit ≡ 0
-  pub few : length asked.tiers.now ≤ 15
+  pub few : length asked.tiers.now ≤ most_groups_set
 
 -- what the data set needs of a volume of this storage group, on which it holds so many extents
 abbrev pub need_in : Asked → ActiveGroup → ℕ → Need

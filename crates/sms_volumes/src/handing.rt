@@ -42,8 +42,8 @@ impl ActiveVolume {
 // Each volume takes over what is held of the running volume of its serial.
 fn take_each(volumes: &mut [ActiveVolume], old: &mut ActiveVolumes)
     ensures { AreApart volumes.old →
-        AllZip (λ (before after : Running). HasTaken (running_named before.volume.volser old.old.volumes.items) before
-        after) volumes.old volumes.new }
+        AllZip (λ (before after : Running).
+        HasTaken (running_named before.volume.volser old.old.volumes.items) before after) volumes.old volumes.new }
 {
     for volume in volumes {
         volume.take_from(old);

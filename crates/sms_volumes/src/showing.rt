@@ -36,7 +36,7 @@ impl ActiveVolume {
         ensures value { result ≡ running_free self.now }
         ensures small { result < 2 ^ 32 }
     {
-        // A fact for the proof.
+        // A fact for the proof; nothing changes.
         let _granted = self.ledger.granted();
         self.ledger.free()
     }

@@ -1,7 +1,7 @@
 //! The choice of a volume.
 ghost use Rattle.std.specs.Prelude.{◌≡◌, ◌≤◌, ◌<◌, ◌+◌, length, slice_get, take, IfSome, MatchOption, None, Some};
 ghost use Rattle.std.specs.Prelude.{option_map};
-ghost use Rattle.desk_common.specs.Limits.{most_pieces};
+ghost use Rattle.desk_common.specs.Limits.{most_extents, most_groups_set, most_pieces};
 ghost use Rattle.desk_law.specs.State.{DeskState};
 ghost use Rattle.desk_law.specs.Candidates.{grant_on, tier_among, want_of};
 ghost use Rattle.desk_law.specs.Lawful.{IsLawful};
@@ -49,7 +49,7 @@ impl Asked<'_> {
 
     // The position of the storage group where the order counts.
     fn tier(&self, name: &Name) -> u8
-        requires { length self.now.tiers.now ≤ 15 }
+        requires { length self.now.tiers.now ≤ most_groups_set }
         ensures { result ≡ tier_among self.now.tiers.now name.now }
     {
         let mut tier = 0;
@@ -64,7 +64,7 @@ impl Asked<'_> {
 
     // The volume as it would stand if it had room.
     fn view(&self, volume: &ActiveVolume, group: &ActiveGroup) -> VolView
-        requires { length self.now.tiers.now ≤ 15 }
+        requires { length self.now.tiers.now ≤ most_groups_set }
         ensures { result ≡ view_in self.now volume.now group.now }
     {
         VolView {
@@ -154,7 +154,7 @@ impl ActiveVolumes {
     pub fn plan(&self, place: usize, asked: &Asked<'_>, held: u8) -> Option<Grant>
         requires place { place < length self.now.volumes.items }
         requires asked { IsAsked asked.now }
-        requires held { held ≤ 16 }
+        requires held { held ≤ most_extents }
         requires stand { StandForSome self.now }
         ensures rule { (s : DeskState) (volume : Running) → IsLawful s → AreVolumesOf s self.now →
             slice_get self.now.volumes.items place ≡ Some volume →
