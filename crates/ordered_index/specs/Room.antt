@@ -9,7 +9,11 @@ use Rattle.ordered_index.specs.Index.{IndexView}
 
 -- how many rows a chunk has room for
 abbrev pub chunk_room : ℕ
-chunk_room = 128
+chunk_room = 64
+
+-- how many rows stay in a chunk that is parted
+abbrev pub half_room : ℕ
+half_room = 32
 
 -- the chunk has its whole room, and no more rows than that
 abbrev pub IsRoomy : {K V : Type 0} → Vec (K × V) Global → Type 0

@@ -15,7 +15,7 @@ use crate::rows::{first_after, take_from};
 use std::alloc::{AllocError, Global};
 use std::marker::Model;
 
-/// Rows of keys and values in the order of the keys, in chunks of at most 128 rows that are searched by halving.
+/// Rows of keys and values in the order of the keys, in chunks of at most 64 rows that are searched by halving.
 /// Room is taken ahead, and then a row is put without memory. A removal takes none either, and joins the chunk with
 /// its neighbours where they have few rows together, so that memory falls with the rows.
 #[derive(Drop)]

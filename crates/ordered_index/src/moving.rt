@@ -6,24 +6,24 @@ ghost use Rattle.std.specs.BTreeMap.{insert_entry, is_at};
 ghost use Rattle.std.specs.Map.{lookup};
 ghost use Rattle.ordered_index.specs.Rows.{AreRows};
 ghost use Rattle.ordered_index.specs.Chunks.{AreFilled, IsChunkOf, rows_of};
-ghost use Rattle.ordered_index.specs.Room.{AreRoomy, IsIndex, IsSpare, chunk_room};
+ghost use Rattle.ordered_index.specs.Room.{AreRoomy, IsIndex, IsSpare, chunk_room, half_room};
 
 use crate::chunks::starts;
 use crate::rows::put_in;
 
 /// How many rows a chunk has room for.
-pub const ROOM: usize = 128;
+pub const ROOM: usize = 64;
 
 /// How many rows stay in a chunk that is parted, and how many two chunks have together that are joined.
-const HALF: usize = 64;
+const HALF: usize = 32;
 
 /// Moves the later half of a full chunk to an empty one.
 pub fn move_half<K, V>(chunk: &mut Vec<(K, V)>, behind: &mut Vec<(K, V)>)
     requires full { length chunk.old.items ≡ chunk_room }
     requires spare { IsSpare behind.old }
     ensures rows { chunk.new.items ++ behind.new.items ≡ chunk.old.items }
-    ensures front { length chunk.new.items ≡ 64 }
-    ensures back { length behind.new.items ≡ 64 }
+    ensures front { length chunk.new.items ≡ half_room }
+    ensures back { length behind.new.items ≡ half_room }
     ensures capacity { vec_capacity chunk.new ≡ vec_capacity chunk.old }
     ensures room { vec_capacity behind.new ≡ vec_capacity behind.old }
 {
