@@ -7,7 +7,7 @@ use Rattle.std.specs.Cmp.{unsigned_ties}
 use Rattle.std.specs.Cmp.Lexicographic.{slice_cmp}
 use Rattle.std.specs.Map.{lookup}
 use Rattle.std.specs.Ordering.{is_eq, nat_cmp, ordering_then}
-use Rattle.std.specs.Prelude.{unwrap_or}
+use Rattle.std.specs.Prelude.{is_none, unwrap_or}
 use Rattle.ordered_index.proofs.LookupLemmas.{lookup-by}
 use Rattle.sms_keeper.specs.Log.{floor_in, kept_in, same_key}
 use Rattle.sms_keeper.specs.declared.kept.KeptReply.{KeptReply}
@@ -40,6 +40,16 @@ found-key key other one old new is =
     sym (lookup-key other new) ∙ is
     ∙ ap (λ (b : Bool). cond b one (lookup (is_at (key_cmp other)) old)) (key-is key other)
     ∙ ap (λ (o : Option KeptReply). cond (same_key key other) one o) (lookup-key other old)
+
+-- the reply of the key is another where it had none; each other as before
+pub added-key : (key other : RequestKey) (one : KeptReply) (old new : List (RequestKey × KeptReply))
+    → lookup (is_at (key_cmp other)) new ≡ cond (is_none (lookup (is_at (key_cmp key)) old) && is_eq (key_cmp key other)) (Some one) (lookup (is_at (key_cmp other)) old)
+    → kept_in other new ≡ cond (is_none (kept_in key old) && same_key key other) (Some one) (kept_in other old)
+added-key key other one old new is =
+    sym (lookup-key other new) ∙ is
+    ∙ ap (λ (o : Option KeptReply). cond (is_none o && is_eq (key_cmp key other)) (Some one) (lookup (is_at (key_cmp other)) old)) (lookup-key key old)
+    ∙ ap (λ (b : Bool). cond (is_none (kept_in key old) && b) (Some one) (lookup (is_at (key_cmp other)) old)) (key-is key other)
+    ∙ ap (λ (o : Option KeptReply). cond (is_none (kept_in key old) && same_key key other) (Some one) o) (lookup-key other old)
 
 -- a floor that was found, or was put
 raised_at : (b : Bool) (floor : ℕ) (found : Option ℕ) → unwrap_or (cond b (Some floor) found) 0 ≡ cond b floor (unwrap_or found 0)
