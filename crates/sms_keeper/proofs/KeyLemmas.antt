@@ -32,16 +32,7 @@ key-is a b =
 pub lookup-key : (key : RequestKey) (es : List (RequestKey × KeptReply)) → lookup (is_at (key_cmp key)) es ≡ kept_in key es
 lookup-key key es = lookup-by (is_at (key_cmp key)) (same_key key) es (key-is key)
 
--- one key has another reply; each other as before
-pub found-key : (key other : RequestKey) (one : Option KeptReply) (old new : List (RequestKey × KeptReply))
-    → lookup (is_at (key_cmp other)) new ≡ cond (is_eq (key_cmp key other)) one (lookup (is_at (key_cmp other)) old)
-    → kept_in other new ≡ cond (same_key key other) one (kept_in other old)
-found-key key other one old new is =
-    sym (lookup-key other new) ∙ is
-    ∙ ap (λ (b : Bool). cond b one (lookup (is_at (key_cmp other)) old)) (key-is key other)
-    ∙ ap (λ (o : Option KeptReply). cond (same_key key other) one o) (lookup-key other old)
-
--- the reply of the key is another where it had none; each other as before
+-- a key that had no reply has this one; each other as before
 pub added-key : (key other : RequestKey) (one : KeptReply) (old new : List (RequestKey × KeptReply))
     → lookup (is_at (key_cmp other)) new ≡ cond (is_none (lookup (is_at (key_cmp key)) old) && is_eq (key_cmp key other)) (Some one) (lookup (is_at (key_cmp other)) old)
     → kept_in other new ≡ cond (is_none (kept_in key old) && same_key key other) (Some one) (kept_in other old)
