@@ -4,26 +4,26 @@ ghost use Rattle.std.specs.List.{insert};
 ghost use Rattle.std.specs.declared.alloc.Global.{Global};
 ghost use Rattle.std.specs.BTreeMap.{insert_entry, is_at};
 ghost use Rattle.std.specs.Map.{lookup};
-ghost use Rattle.ordered_index.specs.Rows.{AreRows};
+ghost use Rattle.ordered_index.specs.Rows.{AreRows, add_entry, is_free};
 ghost use Rattle.ordered_index.specs.Chunks.{AreFilled, IsChunkOf, rows_of};
-ghost use Rattle.ordered_index.specs.Room.{AreRoomy, IsIndex, IsSpare, chunk_room};
+ghost use Rattle.ordered_index.specs.Room.{AreRoomy, IsIndex, IsSpare, chunk_room, half_room};
 
-use crate::chunks::starts;
+use crate::chunks::{is_free_among, starts};
 use crate::rows::put_in;
 
 /// How many rows a chunk has room for.
-pub const ROOM: usize = 128;
+pub const ROOM: usize = 64;
 
 /// How many rows stay in a chunk that is parted, and how many two chunks have together that are joined.
-const HALF: usize = 64;
+const HALF: usize = 32;
 
 /// Moves the later half of a full chunk to an empty one.
 pub fn move_half<K, V>(chunk: &mut Vec<(K, V)>, behind: &mut Vec<(K, V)>)
     requires full { length chunk.old.items ≡ chunk_room }
     requires spare { IsSpare behind.old }
     ensures rows { chunk.new.items ++ behind.new.items ≡ chunk.old.items }
-    ensures front { length chunk.new.items ≡ 64 }
-    ensures back { length behind.new.items ≡ 64 }
+    ensures front { length chunk.new.items ≡ half_room }
+    ensures back { length behind.new.items ≡ half_room }
     ensures capacity { vec_capacity chunk.new ≡ vec_capacity chunk.old }
     ensures room { vec_capacity behind.new ≡ vec_capacity behind.old }
 {
@@ -44,8 +44,8 @@ pub fn put_in_either<K: Ord + Drop, V: Drop>(
     requires some { 0 < length behind.old.items }
     requires front { length front.old.items < vec_capacity front.old }
     requires behind { length behind.old.items < vec_capacity behind.old }
-    ensures rows { front.new.items ++ behind.new.items ≡ insert_entry K.cmp
-        (front.old.items ++ behind.old.items) key value }
+    ensures rows { front.new.items ++ behind.new.items
+        ≡ insert_entry K.cmp (front.old.items ++ behind.old.items) key value }
     ensures value { result ≡ lookup (is_at (K.cmp key)) (front.old.items ++ behind.old.items) }
     ensures front { (length front.old.items ≤ length front.new.items) ×
         (length front.new.items ≤ length front.old.items + 1) × (vec_capacity front.new ≡ vec_capacity front.old) }
@@ -80,6 +80,31 @@ pub fn put_in_full<K: Ord + Drop, V: Drop>(
     let old = put_parted(chunks, spares, place, key, value);
     join_halves(chunks, place);
     old
+}
+
+/// Adds the row to its chunk, which is full, where none has its key, and tells whether it did.
+pub fn add_in_full<K: Ord + Drop, V: Drop>(
+    chunks: &mut Vec<Vec<(K, V)>>,
+    spares: &mut Vec<Vec<(K, V)>>,
+    place: usize,
+    key: K,
+    value: V,
+) -> bool
+    requires is { IsChunkOf K.cmp key chunks.old.items place }
+    requires index { IsIndex K.cmp chunks.old spares.old }
+    requires full { (d : Vec (K × V) Global) → length (slice_index_or chunks.old.items place d).items ≡ chunk_room }
+    requires some { 0 < length spares.old.items }
+    ensures index { IsIndex K.cmp chunks.new spares.new }
+    ensures spares { length spares.old.items ≤ length spares.new.items + 1 }
+    ensures rows { rows_of chunks.new.items ≡ add_entry K.cmp (rows_of chunks.old.items) key value }
+    ensures added { result ≡ is_free K.cmp key (rows_of chunks.old.items) }
+{
+    if is_free_among(chunks, place, &key) {
+        put_in_full(chunks, spares, place, key, value);
+        true
+    } else {
+        false
+    }
 }
 
 // Puts a value in a full chunk, whose later half goes to a spare one behind it.
@@ -168,8 +193,8 @@ fn join_next<K: Drop, V: Drop>(chunks: &mut Vec<Vec<(K, V)>>, place: usize)
     requires filled { AreFilled chunks.old.items }
     requires roomy { AreRoomy chunks.old.items }
     requires few { (d e : Vec (K × V) Global) →
-        length (slice_index_or chunks.old.items place d).items + length
-        (slice_index_or chunks.old.items (place + 1) e).items ≤ chunk_room }
+        length (slice_index_or chunks.old.items place d).items
+        + length (slice_index_or chunks.old.items (place + 1) e).items ≤ chunk_room }
     ensures rows { rows_of chunks.new.items ≡ rows_of chunks.old.items }
     ensures filled { AreFilled chunks.new.items }
     ensures roomy { AreRoomy chunks.new.items }
