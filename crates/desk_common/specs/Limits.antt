@@ -17,11 +17,15 @@ most_volser_bytes = 6
 abbrev pub most_value_bytes : ℕ
 most_value_bytes = 44
 
+-- the qualifiers of a data set name
+abbrev pub most_qualifiers : ℕ
+most_qualifiers = 22
+
 -- the storage groups that one SET may name
 abbrev pub most_groups_set : ℕ
 most_groups_set = 15
 
--- the volumes of a data set
+-- the volumes of a data set, and the serials that a request names
 abbrev pub most_volume_count : ℕ
 most_volume_count = 59
 
@@ -44,6 +48,10 @@ most_lines = 64
 -- the entries of an INCLUDE or an EXCLUDE
 abbrev pub most_list_entries : ℕ
 most_list_entries = 255
+
+-- the greatest index; a word that is no number from 1 to it stands for the number behind it, which no variable takes
+abbrev pub most_index : ℕ
+most_index = 254
 
 -- the greatest code of an EXIT
 abbrev pub most_exit_code : ℕ
@@ -73,9 +81,21 @@ most_extents = 16
 abbrev pub most_pieces : ℕ
 most_pieces = 5
 
--- the tracks of a volume
+-- the tracks of a cylinder
+abbrev pub tracks_in_cylinder : ℕ
+tracks_in_cylinder = 15
+
+-- the tracks of the track-managed part of a volume; from this track on it is cylinder-managed
+abbrev pub border : ℕ
+border = 982800
+
+-- the cylinders of that part
+abbrev pub most_track_managed : ℕ
+most_track_managed = 65520
+
+-- the tracks of a volume whose size a deck gives in tracks
 abbrev pub most_tracks : ℕ
-most_tracks = 982800
+most_tracks = border
 
 -- the bytes of a line of a script, and of an HTTP body that is no deck
 abbrev pub most_line_bytes : ℕ
@@ -88,6 +108,18 @@ most_input_bytes = 16777216
 -- the commands of a script
 abbrev pub most_commands : ℕ
 most_commands = 100000
+
+-- the workers of a run or a desk
+abbrev pub most_workers : ℕ
+most_workers = 16
+
+-- the items of a generated script
+abbrev pub most_items : ℕ
+most_items = 40000
+
+-- the bytes of a deck
+abbrev pub most_deck_bytes : ℕ
+most_deck_bytes = 262144
 
 -- the bytes of a path in a deck
 abbrev pub most_path_bytes : ℕ

@@ -17,7 +17,7 @@ pub fn line_words(line: &[u8]) -> Option<ArrayVec<&[u8], MOST_WORDS>>
 {
     let mut words = ArrayVec::new();
     let mut rest = line;
-    while let Some((word, behind)) = next_word(b" ", rest) {
+    while let Some((word, behind)) = next_word(b' ', rest) {
         if words.is_full() {
             return None;
         }

@@ -5,9 +5,9 @@ use Rattle.desk_common.proofs.cutting.first_piece.Goals as goal
 
 pub returns-then-count-text-clause-words : goal.returns-then-count-text-clause-words
 returns-then-count-text-clause-words c =
-    let said = c.piece_len-count.ensures in
-    rw (take_rest, add-one) (words_of_first c.args.blanks.now c.args.text.now c.piece_len-count.result said.before c.if-count-text.true (said.found c.if-count-text.true))
+    let said = c.bytes_before-count.ensures in
+    rw (take_rest, add-one) (words_of_first c.args.blank c.args.text.now c.bytes_before-count.result said.before c.if-count-text.true (said.found c.if-count-text.true))
 
 pub returns-else-count-text-clause-words : goal.returns-else-count-text-clause-words
 returns-else-count-text-clause-words c =
-    words_of_only c.args.blanks.now c.args.text.now (λ k less. c.piece_len-count.ensures.before k (omega arith))
+    words_of_only c.args.blank c.args.text.now (λ k less. c.bytes_before-count.ensures.before k (omega arith))
