@@ -8,7 +8,7 @@ use Rattle.dsn_mask.specs.MaskTest.{passes_behind, passes_somewhere, takes_first
 use Rattle.dsn_mask.specs.MaskTest.{qualifiers_fit, mask_fits}
 use Rattle.dsn_mask.proofs.Faults.{both}
 use Rattle.dsn_mask.proofs.Greedy.{left_of_or, right_of_or, by_either}
-use Rattle.dsn_mask.proofs.Split.{differs, agrees}
+use Rattle.desk_common.proofs.WordLemmas.{agrees, differs}
 
 not_both : false ≡ true → ⊥
 not_both e = cc

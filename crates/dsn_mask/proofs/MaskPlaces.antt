@@ -16,7 +16,7 @@ use Rattle.dsn_mask.proofs.Faults.{both, order_of}
 use Rattle.dsn_mask.proofs.Greedy.{by_either, left_of_or, right_of_or}
 use Rattle.dsn_mask.proofs.MaskFaults.{byte_within, no_fault, false_if}
 use Rattle.dsn_mask.proofs.MaskTexts.{is_close, head_is_good, is_good, good_mask, good_piece}
-use Rattle.dsn_mask.proofs.Split.{differs, agrees}
+use Rattle.desk_common.proofs.WordLemmas.{agrees, differs}
 use Rattle.dsn_mask.proofs.StarRuns.{are_whole, PairsAreWhole, pairs_whole, no_run_faults}
 
 no_way : true ≡ false → ⊥

@@ -10,6 +10,7 @@ use crate::name_fault::first_fault;
 use crate::qualifiers::{count_qualifiers, qualifier_at};
 use crate::text::Text;
 use crate::{NameErr, Short};
+use desk_common::MAX_VALUE;
 use std::cmp::Ordering;
 use std::hash::{Hash, Hasher};
 use std::marker::Model;
@@ -18,7 +19,7 @@ use std::marker::Model;
 /// (docs/names.md, "Data set names").
 #[derive(Clone, Copy)]
 pub struct Dsn {
-    text: Text<44>,
+    text: Text<MAX_VALUE>,
 }
 
 impl Model for Dsn {
@@ -114,7 +115,7 @@ impl Dsn {
         if bytes.is_empty() {
             return Err(NameErr::Empty);
         }
-        if bytes.len() > 44 {
+        if bytes.len() > MAX_VALUE {
             return Err(NameErr::TooLong);
         }
         match first_fault(bytes) {

@@ -4,12 +4,13 @@ ghost use Rattle.dsn_mask.specs.Name.{IsLiteral, literal_of};
 
 use crate::byte_class::are_literal_bytes;
 use crate::text::Text;
+use desk_common::MAX_LITERAL;
 use std::marker::Model;
 
 /// A literal: at most 110 printed bytes with no quote.
 #[derive(Clone, Copy)]
 pub struct Lit {
-    text: Text<110>,
+    text: Text<MAX_LITERAL>,
 }
 
 impl Model for Lit {
@@ -54,7 +55,7 @@ impl Lit {
         ensures exact { MatchOption result (IsLiteral bytes.now → ⊥)
             (λ made. IsLiteral bytes.now × (made ≡ bytes.now)) }
     {
-        if bytes.len() > 110 || !are_literal_bytes(bytes) {
+        if bytes.len() > MAX_LITERAL || !are_literal_bytes(bytes) {
             return None;
         }
         Some(Lit {

@@ -10,13 +10,14 @@ use crate::mask_fault::first_fault;
 use crate::mask_walk::mask_fits;
 use crate::text::Text;
 use crate::{MaskErr, Short};
+use desk_common::MAX_WORD;
 use std::marker::Model;
 
 /// A mask of data set names: qualifiers between full stops, of which `**` stands for zero or more
 /// (docs/acs-language.md, "Masks").
 #[derive(Clone, Copy)]
 pub struct Mask {
-    text: Text<64>,
+    text: Text<MAX_WORD>,
 }
 
 impl Model for Mask {

@@ -1,11 +1,13 @@
 //! The first fault of a text that is to be a mask.
 ghost use Rattle.std.specs.Prelude.{◌≡◌, ◌≤◌, ◌<◌, ◌+◌, ◌&&◌, Some, None, true, false, length, MatchOption};
+ghost use Rattle.desk_common.specs.Limits.{most_word_bytes};
 ghost use Rattle.dsn_mask.specs.MaskFault.{is_star_at, is_star_before, is_third_star, is_first_of_two, opens_qualifier};
 ghost use Rattle.dsn_mask.specs.MaskFault.{closes_qualifier, is_misplaced_pair, is_stray_stop, fault_at, has_no_fault};
 ghost use Rattle.dsn_mask.specs.MaskFault.{IsFirstFault};
 
 use crate::MaskErr;
 use crate::byte_class::is_mask_byte;
+use desk_common::MAX_WORD;
 
 fn is_star_at(bytes: &[u8], at: usize) -> bool
     ensures { result ≡ is_star_at bytes.now at }
@@ -29,7 +31,7 @@ fn is_third_star(bytes: &[u8], at: usize) -> bool
 }
 
 fn is_first_of_two(bytes: &[u8], at: usize) -> bool
-    requires { at < 64 }
+    requires { at < most_word_bytes }
     ensures { result ≡ is_first_of_two bytes.now at }
 {
     is_star_at(bytes, at)
@@ -53,7 +55,7 @@ fn closes_qualifier(bytes: &[u8], at: usize) -> bool
 }
 
 fn is_misplaced_pair(bytes: &[u8], at: usize, dotted: bool) -> bool
-    requires { at < 64 }
+    requires { at < most_word_bytes }
     ensures { result ≡ is_misplaced_pair dotted bytes.now at }
 {
     is_first_of_two(bytes, at)
@@ -69,7 +71,7 @@ fn is_stray_stop(bytes: &[u8], at: usize) -> bool
 
 fn fault_at(bytes: &[u8], at: usize, dotted: bool) -> Option<MaskErr>
     requires inside { at < length bytes.now }
-    requires short { at < 64 }
+    requires short { at < most_word_bytes }
     ensures { result ≡ fault_at dotted bytes.now at }
 {
     let place = at as u32;
@@ -94,7 +96,7 @@ pub fn first_fault(bytes: &[u8], dotted: bool) -> Option<MaskErr>
     if bytes.is_empty() {
         return Some(MaskErr::Empty);
     }
-    if bytes.len() > 64 {
+    if bytes.len() > MAX_WORD {
         return Some(MaskErr::TooLong);
     }
     for at in 0..bytes.len() {

@@ -5,6 +5,7 @@ ghost use Rattle.dsn_mask.specs.Names.{filler};
 
 use crate::byte_class::{are_name_bytes, is_initial};
 use crate::text::Text;
+use desk_common::MAX_NAME;
 use std::cmp::Ordering;
 use std::hash::{Hash, Hasher};
 use std::marker::Model;
@@ -12,7 +13,7 @@ use std::marker::Model;
 /// A name: one to eight letters, digits, `#`, `@` and `$`, the first no digit.
 #[derive(Clone, Copy)]
 pub struct Name {
-    text: Text<8>,
+    text: Text<MAX_NAME>,
 }
 
 impl Model for Name {
@@ -103,7 +104,11 @@ impl Name {
         ensures value { result ≡ name_of bytes.now }
         ensures exact { MatchOption result (IsName bytes.now → ⊥) (λ made. IsName bytes.now × (made ≡ bytes.now)) }
     {
-        if bytes.is_empty() || bytes.len() > 8 || !is_initial(bytes[0]) || !are_name_bytes(bytes) {
+        if bytes.is_empty()
+            || bytes.len() > MAX_NAME
+            || !is_initial(bytes[0])
+            || !are_name_bytes(bytes)
+        {
             return None;
         }
         Some(Name {

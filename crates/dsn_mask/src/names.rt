@@ -4,12 +4,13 @@ ghost use Rattle.desk_common.specs.Limits.{most_groups_set};
 ghost use Rattle.dsn_mask.specs.Names.{AreFewAndOnce};
 
 use crate::Name;
+use desk_common::MAX_GROUPS_SET;
 use std::marker::Model;
 
 /// At most 15 names, none twice, in the order in which they were added.
 #[derive(Clone, Copy)]
 pub struct Names {
-    items: [Name; 15],
+    items: [Name; MAX_GROUPS_SET],
     count: usize,
 }
 
@@ -59,7 +60,7 @@ impl Names {
         ensures { result ≡ [] }
     {
         Names {
-            items: [Name::filler(); 15],
+            items: [Name::filler(); MAX_GROUPS_SET],
             count: 0,
         }
     }
@@ -80,7 +81,7 @@ impl Names {
     pub fn is_full(&self) -> bool
         ensures { IsTrue result ↔ (length self.now ≡ most_groups_set) }
     {
-        self.count == 15
+        self.count == MAX_GROUPS_SET
     }
 
     pub fn as_slice(&self) -> &[Name]

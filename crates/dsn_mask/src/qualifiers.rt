@@ -1,8 +1,10 @@
 //! Texts as qualifiers between full stops.
-ghost use Rattle.std.specs.Prelude.{◌≡◌, ◌≤◌, ◌<◌, ◌+◌, ◌≢◌, ◌∷◌, ℕ, length, slice_index, Some, option_copied};
-ghost use Rattle.std.specs.Prelude.{MatchOption};
+ghost use Rattle.std.specs.Prelude.{◌≡◌, ◌≤◌, ◌+◌, ◌∷◌, length, Some, option_copied, MatchOption};
 ghost use Rattle.std.specs.List.{slice_get};
+ghost use Rattle.desk_common.specs.Limits.{most_value_bytes};
 ghost use Rattle.dsn_mask.specs.Qualifiers.{qualifiers_of, qualifiers_left};
+
+use desk_common::bytes_before;
 
 /// The first qualifier, and what is behind its full stop, if it has one.
 #[derive(Clone, Copy)]
@@ -11,25 +13,12 @@ pub struct Cut<'a> {
     pub rest: Option<&'a [u8]>,
 }
 
-fn full_stop(bytes: &[u8]) -> usize
-    ensures within { result ≤ length bytes.now }
-    ensures before { (k : ℕ) → k < result → slice_index bytes.now k ≢ 46 }
-    ensures found { result < length bytes.now → slice_index bytes.now result ≡ 46 }
-{
-    for (at, byte) in bytes.iter().enumerate() {
-        if *byte == b'.' {
-            return at;
-        }
-    }
-    bytes.len()
-}
-
 pub fn first_qualifier(bytes: &[u8]) -> Cut<'_>
     ensures split { qualifiers_of bytes.now ≡ result.qualifier.now ∷ qualifiers_left (option_copied result.rest) }
     ensures count { MatchOption result.rest (length bytes.now ≡ length result.qualifier.now)
         (λ rest. length bytes.now ≡ length result.qualifier.now + 1 + length rest.now) }
 {
-    let count = full_stop(bytes);
+    let count = bytes_before(b'.', bytes);
     if count < bytes.len() {
         Cut {
             qualifier: &bytes[..count],
@@ -44,7 +33,7 @@ pub fn first_qualifier(bytes: &[u8]) -> Cut<'_>
 }
 
 pub fn count_qualifiers(bytes: &[u8]) -> usize
-    requires { length bytes.now ≤ 44 }
+    requires { length bytes.now ≤ most_value_bytes }
     ensures { result ≡ length (qualifiers_of bytes.now) }
 {
     let mut text = bytes;

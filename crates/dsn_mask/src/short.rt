@@ -4,12 +4,13 @@ ghost use Rattle.dsn_mask.specs.Name.{IsShort, short_of};
 
 use crate::byte_class::are_short_bytes;
 use crate::text::Text;
+use desk_common::MAX_VALUE;
 use std::marker::Model;
 
 /// A value of at most 44 printed bytes with no blank and no quote; the empty one is the null value.
 #[derive(Clone, Copy)]
 pub struct Short {
-    pub(crate) text: Text<44>,
+    pub(crate) text: Text<MAX_VALUE>,
 }
 
 impl Model for Short {
@@ -62,7 +63,7 @@ impl Short {
         ensures value { result ≡ short_of bytes.now }
         ensures exact { MatchOption result (IsShort bytes.now → ⊥) (λ made. IsShort bytes.now × (made ≡ bytes.now)) }
     {
-        if bytes.len() > 44 || !are_short_bytes(bytes) {
+        if bytes.len() > MAX_VALUE || !are_short_bytes(bytes) {
             return None;
         }
         Some(Short {

@@ -10,13 +10,14 @@ use crate::mask_fault::first_fault;
 use crate::piece::piece_fits;
 use crate::text::Text;
 use crate::{MaskErr, Short};
+use desk_common::MAX_WORD;
 use std::marker::Model;
 
 /// A simple mask: one piece over a whole value, in which a full stop stands for itself
 /// (docs/acs-language.md, "Masks").
 #[derive(Clone, Copy)]
 pub struct Simple {
-    text: Text<64>,
+    text: Text<MAX_WORD>,
 }
 
 impl Model for Simple {

@@ -4,6 +4,7 @@ ghost use Rattle.dsn_mask.specs.Name.{IsVolser, volser_of};
 
 use crate::byte_class::are_name_bytes;
 use crate::text::Text;
+use desk_common::MAX_VOLSER;
 use std::cmp::Ordering;
 use std::hash::{Hash, Hasher};
 use std::marker::Model;
@@ -11,7 +12,7 @@ use std::marker::Model;
 /// A volume serial: one to six letters, digits, `#`, `@` and `$`, in the order of the bytes.
 #[derive(Clone, Copy)]
 pub struct Volser {
-    text: Text<6>,
+    text: Text<MAX_VOLSER>,
 }
 
 impl Model for Volser {
@@ -105,7 +106,7 @@ impl Volser {
         ensures value { result ≡ volser_of bytes.now }
         ensures exact { MatchOption result (IsVolser bytes.now → ⊥) (λ made. IsVolser bytes.now × (made ≡ bytes.now)) }
     {
-        if bytes.is_empty() || bytes.len() > 6 || !are_name_bytes(bytes) {
+        if bytes.is_empty() || bytes.len() > MAX_VOLSER || !are_name_bytes(bytes) {
             return None;
         }
         Some(Volser {

@@ -5,8 +5,8 @@ use Rattle.dsn_mask.proofs.qualifiers.first_qualifier.Goals as goal
 
 pub returns-then-count-bytes-clause-split : goal.returns-then-count-bytes-clause-split
 returns-then-count-bytes-clause-split c =
-    let said = c.full_stop-count.ensures in
-    rw (take_rest, add-one) (qualifiers_of-stop c.args.bytes.now c.full_stop-count.result said.before c.if-count-bytes.true (said.found c.if-count-bytes.true))
+    let said = c.bytes_before-count.ensures in
+    rw (take_rest, add-one) (qualifiers_of-stop c.args.bytes.now c.bytes_before-count.result said.before c.if-count-bytes.true (said.found c.if-count-bytes.true))
 
 pub returns-else-count-bytes-clause-split : goal.returns-else-count-bytes-clause-split
-returns-else-count-bytes-clause-split c = qualifiers_of-one c.args.bytes.now (λ k less. c.full_stop-count.ensures.before k (omega arith))
+returns-else-count-bytes-clause-split c = qualifiers_of-one c.args.bytes.now (λ k less. c.bytes_before-count.ensures.before k (omega arith))
