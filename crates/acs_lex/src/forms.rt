@@ -11,7 +11,8 @@ use crate::bytes::{
 };
 use crate::fault::LexErr;
 use crate::piece::Piece;
-use crate::token::{MAX_LITERAL, MAX_SIGN, MAX_WORD, Token, TokenForm};
+use crate::token::{MAX_SIGN, Token, TokenForm};
+use desk_common::{MAX_LITERAL, MAX_WORD};
 
 pub fn front(total: u32, text: &[u8]) -> Piece<'_>
     requires { length text.now ≤ total }

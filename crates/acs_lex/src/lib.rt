@@ -9,7 +9,8 @@ mod piece;
 mod scanner;
 mod token;
 
+pub use desk_common::MAX_WORD;
 pub use fault::LexErr;
 pub use laws::{token_laws, tokens_or_fault};
 pub use scanner::scan;
-pub use token::{MAX_LITERAL, MAX_WORD, Token, TokenForm, Tokens};
+pub use token::{Token, TokenForm, Tokens};

@@ -2,12 +2,6 @@
 
 use desk_common::Items;
 
-/// The most bytes of a word, and of a variable with its ampersand.
-pub const MAX_WORD: usize = 64;
-
-/// The most bytes between the quotes of a literal.
-pub const MAX_LITERAL: usize = 110;
-
 /// The bytes of the longest sign.
 pub const MAX_SIGN: usize = 2;
 
