@@ -9,6 +9,7 @@ mod piece;
 mod scanner;
 mod token;
 
+pub use desk_common::MAX_WORD;
 pub use fault::LexErr;
 pub use laws::{token_laws, tokens_or_fault};
 pub use scanner::scan;
