@@ -1,5 +1,5 @@
 //! What a request gives its routines.
-ghost use Rattle.std.specs.Prelude.{◌≡◌, ◌↔◌, IsTrue, IfOk, unwrap_or};
+ghost use Rattle.std.specs.Prelude.{◌≡◌, ◌↔◌, IsTrue, IfOk, option_copied, unwrap_or};
 ghost use Rattle.acs_tree.specs.Inputs.{input_under, input_with, no_lists, no_texts};
 ghost use Rattle.acs_tree.specs.Value.{or_null};
 
@@ -92,14 +92,14 @@ impl Given {
     pub fn under(&self, job: &Name, system: Option<Name>, sysplex: Option<Name>) -> Seen<'_>
         ensures { result ≡ input_under self.now job.now system sysplex }
     {
-        let mut texts = texts_or_none(&self.texts);
+        let mut texts = GivenTexts::new();
+        if let Some(given) = &self.texts {
+            texts = *given.get();
+        }
         texts.origin.job = text_of(job);
         texts.environment.sysname = text_or_null(system);
         texts.environment.sysplex = text_or_null(sysplex);
-        match &self.lists {
-            Some(lists) => Seen::new(&self.dsn, &self.amounts, texts, Some(lists.get())),
-            None => Seen::new(&self.dsn, &self.amounts, texts, None),
-        }
+        Seen::new(&self.dsn, &self.amounts, texts, lists_in(&self.lists))
     }
 
     /// Whether all parts of the two are equal.
@@ -173,6 +173,16 @@ fn lists_or_none(lists: &Option<Boxed<GivenLists>>) -> GivenLists
     match lists {
         Some(lists) => *lists.get(),
         None => GivenLists::new(),
+    }
+}
+
+// The lists where they stand, if some are given.
+fn lists_in(lists: &Option<Boxed<GivenLists>>) -> Option<&GivenLists>
+    ensures { option_copied result ≡ lists.now }
+{
+    match lists {
+        Some(lists) => Some(lists.get()),
+        None => None,
     }
 }
 

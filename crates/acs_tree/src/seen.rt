@@ -66,24 +66,20 @@ impl<'a> Seen<'a> {
     ) -> Self
         ensures { result ≡ input_with dsn.now amounts.now texts (unwrap_or (option_copied lists.entry) no_lists) }
     {
-        match lists {
-            Some(lists) => Seen {
-                dsn,
-                amounts,
-                texts,
-                acct_job: lists.accounting.acct_job.as_slice(),
-                acct_step: lists.accounting.acct_step.as_slice(),
-                volumes: lists.volumes.as_slice(),
-            },
-            None => Seen {
-                dsn,
-                amounts,
-                texts,
-                acct_job: &[],
-                acct_step: &[],
-                volumes: &[],
-            },
+        let mut seen = Seen {
+            dsn,
+            amounts,
+            texts,
+            acct_job: &[],
+            acct_step: &[],
+            volumes: &[],
+        };
+        if let Some(lists) = lists {
+            seen.acct_job = lists.accounting.acct_job.as_slice();
+            seen.acct_step = lists.accounting.acct_step.as_slice();
+            seen.volumes = lists.volumes.as_slice();
         }
+        seen
     }
 
     pub fn dsn(&self) -> &Dsn
