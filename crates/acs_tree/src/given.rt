@@ -8,6 +8,7 @@ use crate::given_lists::GivenLists;
 use crate::given_texts::GivenTexts;
 use crate::input::Input;
 use crate::seen::Seen;
+use crate::seen_texts::SeenTexts;
 use desk_common::Boxed;
 use dsn_mask::{Dsn, Name, Short};
 use std::alloc::{AllocError, Global};
@@ -92,13 +93,10 @@ impl Given {
     pub fn under(&self, job: &Name, system: Option<Name>, sysplex: Option<Name>) -> Seen<'_>
         ensures { result ≡ input_under self.now job.now system sysplex }
     {
-        let mut texts = GivenTexts::new();
-        if let Some(given) = &self.texts {
-            texts = *given.get();
-        }
-        texts.origin.job = text_of(job);
-        texts.environment.sysname = text_or_null(system);
-        texts.environment.sysplex = text_or_null(sysplex);
+        let job = text_of(job);
+        let sysname = text_or_null(system);
+        let sysplex = text_or_null(sysplex);
+        let texts = SeenTexts::new(texts_in(&self.texts), job, sysname, sysplex);
         Seen::new(&self.dsn, &self.amounts, texts, lists_in(&self.lists))
     }
 
@@ -173,6 +171,16 @@ fn lists_or_none(lists: &Option<Boxed<GivenLists>>) -> GivenLists
     match lists {
         Some(lists) => *lists.get(),
         None => GivenLists::new(),
+    }
+}
+
+// The texts where they stand, if some are given.
+fn texts_in(texts: &Option<Boxed<GivenTexts>>) -> Option<&GivenTexts>
+    ensures { option_copied result ≡ texts.now }
+{
+    match texts {
+        Some(texts) => Some(texts.get()),
+        None => None,
     }
 }
 
