@@ -1,5 +1,5 @@
 //! What a request gives its routines.
-ghost use Rattle.std.specs.Prelude.{◌≡◌, ◌↔◌, IsTrue, IfOk, unwrap_or};
+ghost use Rattle.std.specs.Prelude.{◌≡◌, ◌↔◌, IsTrue, IfOk, option_copied, unwrap_or};
 ghost use Rattle.acs_tree.specs.Inputs.{input_under, input_with, no_lists, no_texts};
 ghost use Rattle.acs_tree.specs.Value.{or_null};
 
@@ -8,6 +8,7 @@ use crate::given_lists::GivenLists;
 use crate::given_texts::GivenTexts;
 use crate::input::Input;
 use crate::seen::Seen;
+use crate::seen_texts::SeenTexts;
 use desk_common::Boxed;
 use dsn_mask::{Dsn, Name, Short};
 use std::alloc::{AllocError, Global};
@@ -92,14 +93,11 @@ impl Given {
     pub fn under(&self, job: &Name, system: Option<Name>, sysplex: Option<Name>) -> Seen<'_>
         ensures { result ≡ input_under self.now job.now system sysplex }
     {
-        let mut texts = texts_or_none(&self.texts);
-        texts.origin.job = text_of(job);
-        texts.environment.sysname = text_or_null(system);
-        texts.environment.sysplex = text_or_null(sysplex);
-        match &self.lists {
-            Some(lists) => Seen::new(&self.dsn, &self.amounts, texts, Some(lists.get())),
-            None => Seen::new(&self.dsn, &self.amounts, texts, None),
-        }
+        let job = text_of(job);
+        let sysname = text_or_null(system);
+        let sysplex = text_or_null(sysplex);
+        let texts = SeenTexts::new(texts_in(&self.texts), job, sysname, sysplex);
+        Seen::new(&self.dsn, &self.amounts, texts, lists_in(&self.lists))
     }
 
     /// Whether all parts of the two are equal.
@@ -173,6 +171,26 @@ fn lists_or_none(lists: &Option<Boxed<GivenLists>>) -> GivenLists
     match lists {
         Some(lists) => *lists.get(),
         None => GivenLists::new(),
+    }
+}
+
+// The texts where they stand, if some are given.
+fn texts_in(texts: &Option<Boxed<GivenTexts>>) -> Option<&GivenTexts>
+    ensures { option_copied result ≡ texts.now }
+{
+    match texts {
+        Some(texts) => Some(texts.get()),
+        None => None,
+    }
+}
+
+// The lists where they stand, if some are given.
+fn lists_in(lists: &Option<Boxed<GivenLists>>) -> Option<&GivenLists>
+    ensures { option_copied result ≡ lists.now }
+{
+    match lists {
+        Some(lists) => Some(lists.get()),
+        None => None,
     }
 }
 

@@ -23,6 +23,7 @@ mod numbers;
 mod origin;
 mod routine;
 mod seen;
+mod seen_texts;
 mod slate;
 mod values;
 mod variable;

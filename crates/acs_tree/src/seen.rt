@@ -7,9 +7,9 @@ use crate::attributes::Attributes;
 use crate::defaults::Defaults;
 use crate::environment::Environment;
 use crate::given_lists::GivenLists;
-use crate::given_texts::GivenTexts;
 use crate::input::Input;
 use crate::origin::Origin;
+use crate::seen_texts::SeenTexts;
 use dsn_mask::{Dsn, Short, Volser};
 use std::marker::Model;
 
@@ -18,7 +18,7 @@ use std::marker::Model;
 pub struct Seen<'a> {
     dsn: &'a Dsn,
     amounts: &'a Amounts,
-    texts: GivenTexts,
+    texts: SeenTexts<'a>,
     acct_job: &'a [Short],
     acct_step: &'a [Short],
     volumes: &'a [Volser],
@@ -44,12 +44,7 @@ impl<'a> Seen<'a> {
         Seen {
             dsn: &input.dsn,
             amounts: &input.amounts,
-            texts: GivenTexts {
-                origin: input.origin,
-                attributes: input.attributes,
-                environment: input.environment,
-                defaults: input.defaults,
-            },
+            texts: SeenTexts::of(input),
             acct_job: input.accounting.acct_job.as_slice(),
             acct_step: input.accounting.acct_step.as_slice(),
             volumes: input.volumes.as_slice(),
@@ -60,29 +55,25 @@ impl<'a> Seen<'a> {
     pub(crate) fn new(
         dsn: &'a Dsn,
         amounts: &'a Amounts,
-        texts: GivenTexts,
+        texts: SeenTexts<'a>,
         lists: Option<&'a GivenLists>,
     ) -> Self
-        ensures { result ≡ input_with dsn.now amounts.now texts (unwrap_or (option_copied lists.entry) no_lists) }
+        ensures { result ≡ input_with dsn.now amounts.now texts.entry (unwrap_or (option_copied lists.entry) no_lists) }
     {
-        match lists {
-            Some(lists) => Seen {
-                dsn,
-                amounts,
-                texts,
-                acct_job: lists.accounting.acct_job.as_slice(),
-                acct_step: lists.accounting.acct_step.as_slice(),
-                volumes: lists.volumes.as_slice(),
-            },
-            None => Seen {
-                dsn,
-                amounts,
-                texts,
-                acct_job: &[],
-                acct_step: &[],
-                volumes: &[],
-            },
+        let mut seen = Seen {
+            dsn,
+            amounts,
+            texts,
+            acct_job: &[],
+            acct_step: &[],
+            volumes: &[],
+        };
+        if let Some(lists) = lists {
+            seen.acct_job = lists.accounting.acct_job.as_slice();
+            seen.acct_step = lists.accounting.acct_step.as_slice();
+            seen.volumes = lists.volumes.as_slice();
         }
+        seen
     }
 
     pub fn dsn(&self) -> &Dsn
@@ -97,28 +88,28 @@ impl<'a> Seen<'a> {
         self.amounts
     }
 
-    pub fn origin(&self) -> &Origin
-        ensures { result.now ≡ self.now.origin }
+    pub fn origin(&self) -> Origin
+        ensures { result ≡ self.now.origin }
     {
-        &self.texts.origin
+        self.texts.origin()
     }
 
-    pub fn attributes(&self) -> &Attributes
-        ensures { result.now ≡ self.now.attributes }
+    pub fn attributes(&self) -> Attributes
+        ensures { result ≡ self.now.attributes }
     {
-        &self.texts.attributes
+        self.texts.attributes()
     }
 
-    pub fn environment(&self) -> &Environment
-        ensures { result.now ≡ self.now.environment }
+    pub fn environment(&self) -> Environment
+        ensures { result ≡ self.now.environment }
     {
-        &self.texts.environment
+        self.texts.environment()
     }
 
-    pub fn defaults(&self) -> &Defaults
-        ensures { result.now ≡ self.now.defaults }
+    pub fn defaults(&self) -> Defaults
+        ensures { result ≡ self.now.defaults }
     {
-        &self.texts.defaults
+        self.texts.defaults()
     }
 
     pub fn acct_job(&self) -> &[Short]

@@ -245,6 +245,6 @@ fn the_input_of_a_run_has_the_job_and_the_system(rt: HostRuntime) -> Result<(), 
     assert!(rt; under.origin().job.bytes() == b"PAYROLL".as_slice());
     assert!(rt; under.environment().sysname.bytes() == b"SYSA".as_slice());
     assert!(rt; under.environment().sysplex.bytes().is_empty());
-    assert!(rt; *under.dsn() == input.dsn && *under.attributes() == input.attributes);
+    assert!(rt; *under.dsn() == input.dsn && under.attributes() == input.attributes);
     Ok(())
 }

@@ -8,7 +8,6 @@ ghost use Rattle.sms_classes.specs.Inner.Onward.{NoneFrom, progress, run_on};
 use crate::stops::{class_stop, exit_stop};
 use acs_run::run;
 use acs_tree::{Ending, Kind, Seen, Slate, Values};
-use dsn_mask::Short;
 use sms_construct::Stop;
 use sms_deck::Config;
 
@@ -49,16 +48,20 @@ pub fn run_class(
     ensures later_kinds { NoneFrom (suc (rank_of kind)) slate.new }
 {
     let ending = run_routine(config, kind, input, values, slate);
-    exit_stop(kind, ending).or_else(|| class_stop(config, kind, class_of(kind, values)))
+    match exit_stop(kind, ending) {
+        Some(stop) => Some(stop),
+        None => stop_behind(config, kind, values),
+    }
 }
 
-fn class_of(kind: Kind, values: &Values) -> Short
-    ensures { result ≡ class_of kind values.now }
+// The stop where the class of that kind is neither null nor one of the configuration.
+fn stop_behind(config: &Config, kind: Kind, values: &Values) -> Option<Stop>
+    ensures { result ≡ class_stop config.now kind (class_of kind values.now) }
 {
     match kind {
-        Kind::DataClas => values.dataclas,
-        Kind::StorClas => values.storclas,
-        Kind::MgmtClas => values.mgmtclas,
-        Kind::StorGrp => Short::null(),
+        Kind::DataClas => class_stop(config, kind, &values.dataclas),
+        Kind::StorClas => class_stop(config, kind, &values.storclas),
+        Kind::MgmtClas => class_stop(config, kind, &values.mgmtclas),
+        Kind::StorGrp => None,
     }
 }

@@ -19,13 +19,13 @@ pub fn exit_stop(kind: Kind, ending: Ending) -> Option<Stop>
 }
 
 /// The stop where a class is neither null nor one of the configuration.
-pub fn class_stop(config: &Config, kind: Kind, class: Short) -> Option<Stop>
-    ensures { result ≡ class_stop config.now kind class }
+pub fn class_stop(config: &Config, kind: Kind, class: &Short) -> Option<Stop>
+    ensures { result ≡ class_stop config.now kind class.now }
 {
-    if is_null(&class) || config.has(kind, &class) {
+    if is_null(class) || config.has(kind, class) {
         return None;
     }
-    Some(Stop::Unknown { kind, name: class })
+    Some(Stop::Unknown { kind, name: *class })
 }
 
 /// How it ends behind the storage group routine.
