@@ -2,6 +2,7 @@
 use crate::finding::find_path;
 use crate::keys::without_blanks;
 use acs_tree::Kind;
+use sms_construct::key_of;
 use std::alloc::{AllocError, Global};
 use toml::Table;
 
@@ -66,14 +67,5 @@ fn without_line_end(text: &[u8]) -> &[u8] {
     match text {
         [b'\n', text @ ..] | [b'\r', b'\n', text @ ..] => text,
         _ => text,
-    }
-}
-
-fn key_of(kind: Kind) -> &'static str {
-    match kind {
-        Kind::DataClas => "dataclass",
-        Kind::StorClas => "storclass",
-        Kind::MgmtClas => "mgmtclass",
-        Kind::StorGrp => "storgroup",
     }
 }

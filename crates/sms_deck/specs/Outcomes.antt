@@ -17,12 +17,12 @@ use Rattle.sms_construct.specs.declared.stage.Stage.{Stage}
 use Rattle.sms_construct.specs.declared.stage.Stage.TheVariants.{Scanner, Parser, Checks}
 use Rattle.sms_construct.specs.declared.text_fault.TextFault.{TextFault}
 use Rattle.sms_construct.specs.Configuration.{Routines}
+use Rattle.sms_construct.specs.Keys.{key_of}
 use Rattle.sms_construct.specs.Path.{below}
 use Rattle.sms_deck.specs.declared.deck_err.DeckErr.{DeckErr}
 use Rattle.sms_deck.specs.declared.deck_err.DeckErr.TheVariants.{Fault as Faulted, NoMemory}
 use Rattle.sms_deck.specs.Limits.{most_routine_bytes}
 use Rattle.sms_deck.specs.Layout.{table_at}
-use Rattle.sms_deck.specs.Tables.{key_of}
 use Rattle.sms_deck.specs.Assigned.{assigned_by, first_unknown}
 
 -- the text of the routine of a kind

@@ -7,6 +7,7 @@ use Rattle.dsn_mask.specs.Name.{is_name, is_volser}
 use Rattle.acs_tree.specs.declared.kind.Kind.{Kind}
 use Rattle.acs_tree.specs.declared.kind.Kind.TheVariants.{DataClas, StorClas, MgmtClas, StorGrp}
 use Rattle.sms_construct.specs.declared.fault.Fault.{Fault}
+use Rattle.sms_construct.specs.Keys.{key_of}
 use Rattle.sms_construct.specs.Quantities.{most_breakpoint}
 use Rattle.sms_deck.specs.Limits.{most_classes, most_groups, most_group_volumes}
 use Rattle.sms_deck.specs.Layout.{Walk, Row, has, fixed_keys, names, plain, inner}
@@ -84,13 +85,6 @@ storage_class_rows Two = plain (codes "multi_tier") YesOrNo ∷ []
 -- the keys of a management class
 abbrev pub management_class_rows : List Row
 management_class_rows = plain (codes "expire_after") (Integer 0 most_days) ∷ plain (codes "release") YesOrNo ∷ []
-
--- the constructs of a kind and the routine of that kind stand under one key
-abbrev pub key_of : Kind → List ℕ
-key_of DataClas = codes "dataclass"
-key_of StorClas = codes "storclass"
-key_of MgmtClas = codes "mgmtclass"
-key_of StorGrp = codes "storgroup"
 
 -- the keys of a construct
 abbrev pub construct_rows : Version → Kind → List Row

@@ -133,13 +133,6 @@ impl Config {
         data_class_named(self.data_classes.as_slice(), name.bytes())
     }
 
-    /// The storage class of this name.
-    pub fn stor_class(&self, name: &Name) -> Option<&StorClass>
-        ensures { option_copied result ≡ find (λ class. bytes_eq name.now class.name) self.now.storage_classes }
-    {
-        storage_class_named(self.storage_classes.as_slice(), name.bytes())
-    }
-
     /// The storage class that a routine's value names; none where it is null.
     pub fn stor_class_for(&self, name: &Short) -> Option<&StorClass>
         ensures { option_copied result ≡ find (λ class. bytes_eq name.now class.name) self.now.storage_classes }

@@ -3,8 +3,9 @@ ghost use Rattle.std.specs.Prelude.{◌≡◌, codes};
 ghost use Rattle.toml.specs.Data.{get_member};
 ghost use Rattle.toml.specs.View.{table_view, view};
 ghost use Rattle.dsn_mask.specs.Name.{is_name};
+ghost use Rattle.sms_construct.specs.Keys.{key_of};
 ghost use Rattle.sms_deck.specs.Layout.{fault_told, fixed_keys, name_fault, names, row_fault};
-ghost use Rattle.sms_deck.specs.Tables.{construct_walk, constructs_row, data_class_rows, group_rows, high_of, key_of};
+ghost use Rattle.sms_deck.specs.Tables.{construct_walk, constructs_row, data_class_rows, group_rows, high_of};
 ghost use Rattle.sms_deck.specs.Tables.{low_row, management_class_rows, most_constructs, storage_class_rows};
 
 use crate::limits::{MAX_BREAKPOINT, MAX_CLASSES, MAX_GROUPS};
@@ -15,7 +16,7 @@ use crate::version::Version;
 use crate::volume_table::check_volumes;
 use acs_tree::Kind;
 use dsn_mask::Name;
-use sms_construct::{Fault, Path};
+use sms_construct::{Fault, Path, key_of};
 use toml::{Table, Value};
 
 const GROUP_KEYS: [&str; 7] = [
@@ -27,18 +28,6 @@ const GROUP_KEYS: [&str; 7] = [
     "breakpoint",
     "volume",
 ];
-
-/// The key of the constructs of a kind, and of the routine of that kind.
-pub fn key_of(kind: Kind) -> &'static str
-    ensures { result.now ≡ key_of kind }
-{
-    match kind {
-        Kind::DataClas => "dataclass",
-        Kind::StorClas => "storclass",
-        Kind::MgmtClas => "mgmtclass",
-        Kind::StorGrp => "storgroup",
-    }
-}
 
 fn most_constructs(kind: Kind) -> usize
     ensures { result ≡ most_constructs kind }

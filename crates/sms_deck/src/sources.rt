@@ -8,13 +8,12 @@ ghost use Rattle.sms_deck.specs.Outcomes.{outcomes_from, source_of, stage_of, te
 ghost use Rattle.sms_deck.specs.Reading.{TellsSources, assigned_faults};
 
 use crate::assigned::unknown_in_body;
-use crate::construct_tables::key_of;
 use crate::deck_err::DeckErr;
 use crate::limits::MAX_ROUTINE;
 use crate::rows::{find_table, table_or, value_at};
 use acs_translate::{RoutineFault, TranslateErr, translate};
 use acs_tree::{Checked, Kind};
-use sms_construct::{Fault, Path, Stage, TextFault};
+use sms_construct::{Fault, Path, Stage, TextFault, key_of};
 use std::alloc::Global;
 use std::marker::Model;
 use toml::Table;
