@@ -34,8 +34,8 @@ fn header_text(alloc: Global) -> Result<Vec<u8>, AllocError>
 }
 
 fn push_rows(alloc: Global, text: &mut Vec<u8>, rows: &[VolRow]) -> Result<(), AllocError>
-    ensures { OnOk result (text.new.items ≡ text.old.items ++ flat_map
-        (λ row. row_text default_writer (volume_fields row)) rows.now) }
+    ensures { OnOk result (text.new.items ≡
+        text.old.items ++ flat_map (λ row. row_text default_writer (volume_fields row)) rows.now) }
 {
     for row in rows {
         push_row(alloc, text, row)?;
@@ -71,8 +71,8 @@ fn six_fields<'a>(
     fifth: &'a [u8],
     sixth: &'a [u8],
 ) -> Result<Vec<u8>, AllocError>
-    ensures { IfOk result (λ text. text.items ≡ row_text default_writer
-        (first.now ∷ second.now ∷ third.now ∷ fourth.now ∷ fifth.now ∷ sixth.now ∷ [])) }
+    ensures { IfOk result (λ text. text.items ≡
+        row_text default_writer (first.now ∷ second.now ∷ third.now ∷ fourth.now ∷ fifth.now ∷ sixth.now ∷ [])) }
 {
     record_text(alloc, &[first, second, third, fourth, fifth, sixth])
 }

@@ -33,8 +33,8 @@ fn read_matches<'a>(alloc: Global, words: &'a [String]) -> Result<ArgMatches<'a>
 pub fn task_asked(alloc: Global, words: &[String]) -> Result<Task, WordsErr>
     ensures asked { IfOk result (AskFor (map string_bytes words.now)) }
     ensures hindered { IfErr result (MayRefuse (Hinders (map string_bytes words.now)) (Some WordsErr.NoMemory)) }
-    ensures exactly { IsExact (AskFor (map string_bytes words.now)) (Hinders (map string_bytes words.now))
-        (Some WordsErr.NoMemory) result }
+    ensures exactly { IsExact (AskFor (map string_bytes words.now))
+        (Hinders (map string_bytes words.now)) (Some WordsErr.NoMemory) result }
     ensures sorted { AreSorted (map string_bytes words.now) }
     ensures known { (task : TaskOf) → map string_bytes words.now ≡ words_of task →
         MatchResult result (λ found. found ≡ task) (λ err. err ≡ WordsErr.NoMemory) }
