@@ -76,7 +76,7 @@ rows-parts [] i d less = absurd (omega (arith, less))
 rows-parts (c ∷ cs) zero d less = refl
 rows-parts (c ∷ cs) (suc i) d less = ap (λ l. c.items ++ l) (rows-parts cs i d (omega (arith, less))) ∙ sym (append_assoc c.items (rows_of (take i cs)) ((get_or cs i d).items ++ rows_of (drop (suc i) cs)))
 
-rows-set : {K V : Type 0} (cs : List (Vec (K × V) Global)) (i : ℕ) (c : Vec (K × V) Global) → i < length cs → rows_of (set cs i c) ≡ rows_of (take i cs) ++ (c.items ++ rows_of (drop (suc i) cs))
+pub rows-set : {K V : Type 0} (cs : List (Vec (K × V) Global)) (i : ℕ) (c : Vec (K × V) Global) → i < length cs → rows_of (set cs i c) ≡ rows_of (take i cs) ++ (c.items ++ rows_of (drop (suc i) cs))
 rows-set [] i c less = absurd (omega (arith, less))
 rows-set (x ∷ cs) zero c less = refl
 rows-set (x ∷ cs) (suc i) c less = ap (λ l. x.items ++ l) (rows-set cs i c (omega (arith, less))) ∙ sym (append_assoc x.items (rows_of (take i cs)) (c.items ++ rows_of (drop (suc i) cs)))

@@ -1,3 +1,4 @@
+mod AddLemmas
 mod ChunkLemmas
 mod EitherLemmas
 mod FirstLemmas

@@ -32,8 +32,8 @@ abbrev pub AreSpare : {K V : Type 0} → List (Vec (K × V) Global) → Type 0
 AreSpare chunks = All IsSpare chunks
 
 -- the rows of the chunks stand in order, no chunk is empty, and there is a place for each spare chunk
-pub record IsIndex {K V : Type 0} (R : K → K →
-    Ordering) (chunks spares : Vec (Vec (K × V) Global) Global) : Type 0 where
+pub record IsIndex {K V : Type 0} (R : K → K → Ordering)
+    (chunks spares : Vec (Vec (K × V) Global) Global) : Type 0 where
   pub sorted : AreRows R (rows_of chunks.items)
   pub filled : AreFilled chunks.items
   pub roomy : AreRoomy chunks.items

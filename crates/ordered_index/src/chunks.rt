@@ -3,12 +3,12 @@ ghost use Rattle.std.specs.Prelude.{◌≡◌, ◌<◌, drop, length, slice_get,
 ghost use Rattle.std.specs.BTreeMap.{insert_entry, is_at};
 ghost use Rattle.std.specs.Map.{lookup, remove_entry};
 ghost use Rattle.std.specs.Option.{option_copied};
-ghost use Rattle.ordered_index.specs.Rows.{AreRows};
+ghost use Rattle.ordered_index.specs.Rows.{AreRows, add_entry, is_free};
 ghost use Rattle.ordered_index.specs.Chunks.{AreFilled, IsChunkOf, rows_of, starts_by};
 ghost use Rattle.ordered_index.specs.Room.{AreRoomy, chunk_room};
 ghost use Rattle.std.specs.declared.alloc.Global.{Global};
 
-use crate::rows::{put_in, row_at, take_from, value_in};
+use crate::rows::{add_in, is_free_in, put_in, row_at, take_from, value_in};
 
 /// Whether the first row stands before the key or at it.
 pub fn starts<K: Ord, V>(chunk: &[(K, V)], key: &K) -> bool
@@ -68,6 +68,37 @@ pub fn put_among<K: Ord + Drop, V: Drop>(
         (vec_capacity chunks.new ≡ vec_capacity chunks.old) }
 {
     put_in(&mut chunks[place], key, value)
+}
+
+/// Whether no row has the key, for which its chunk is looked into.
+pub fn is_free_among<K: Ord, V>(chunks: &[Vec<(K, V)>], place: usize, key: &K) -> bool
+    requires is { IsChunkOf K.cmp key.now chunks.now place }
+    requires sorted { AreRows K.cmp (rows_of chunks.now) }
+    ensures { result ≡ is_free K.cmp key.now (rows_of chunks.now) }
+{
+    is_free_in(&chunks[place], key)
+}
+
+/// Adds the row to its chunk, which isn't full, where none has its key, and tells whether it did.
+pub fn add_among<K: Ord + Drop, V: Drop>(
+    chunks: &mut Vec<Vec<(K, V)>>,
+    place: usize,
+    key: K,
+    value: V,
+) -> bool
+    requires is { IsChunkOf K.cmp key chunks.old.items place }
+    requires filled { AreFilled chunks.old.items }
+    requires sorted { AreRows K.cmp (rows_of chunks.old.items) }
+    requires roomy { AreRoomy chunks.old.items }
+    requires room { (d : Vec (K × V) Global) → length (slice_index_or chunks.old.items place d).items < chunk_room }
+    ensures rows { rows_of chunks.new.items ≡ add_entry K.cmp (rows_of chunks.old.items) key value }
+    ensures added { result ≡ is_free K.cmp key (rows_of chunks.old.items) }
+    ensures filled { AreFilled chunks.new.items }
+    ensures roomy { AreRoomy chunks.new.items }
+    ensures same { (length chunks.new.items ≡ length chunks.old.items) ×
+        (vec_capacity chunks.new ≡ vec_capacity chunks.old) }
+{
+    add_in(&mut chunks[place], key, value)
 }
 
 /// Takes the row of the key from its chunk, which has more than one, and gives its value.

@@ -1,16 +1,17 @@
 //! A map in the order of its keys.
-ghost use Rattle.std.specs.Prelude.{◌≡◌, ◌<◌, ◌≤◌, ◌+◌, [], OnOk, Some, None, length, vec_capacity, if◌then◌else◌};
+ghost use Rattle.std.specs.Prelude.{◌≡◌, ◌<◌, ◌≤◌, ◌+◌, ◌&&◌, [], OnOk, Some, None, length, vec_capacity};
+ghost use Rattle.std.specs.Prelude.{if◌then◌else◌};
 ghost use Rattle.std.specs.Ordering.{is_eq};
 ghost use Rattle.std.specs.BTreeMap.{insert_entry, is_at};
 ghost use Rattle.std.specs.Map.{lookup, remove_entry};
 ghost use Rattle.std.specs.Option.{option_copied};
 ghost use Rattle.ordered_index.specs.Chunks.{AreFilled, IsChunkOf, rows_of};
 ghost use Rattle.ordered_index.specs.Room.{AreRoomy, IsIndex};
-ghost use Rattle.ordered_index.specs.Rows.{AreRows, row_after};
+ghost use Rattle.ordered_index.specs.Rows.{AreRows, add_entry, is_free, row_after};
 ghost use Rattle.ordered_index.specs.Index.{next_row};
 
-use crate::chunks::{chunk_of, first_from, put_among, take_among, value_among};
-use crate::moving::{ROOM, insert_chunk, join_around, put_in_full};
+use crate::chunks::{add_among, chunk_of, first_from, put_among, take_among, value_among};
+use crate::moving::{ROOM, add_in_full, insert_chunk, join_around, put_in_full};
 use crate::rows::{first_after, take_from};
 use std::alloc::{AllocError, Global};
 use std::marker::Model;
@@ -98,6 +99,19 @@ impl<K: Ord + Drop, V: Drop> OrderedIndex<K, V> {
         put_row(&mut self.chunks, &mut self.spares, key, value)
     }
 
+    /// Adds the row where none has its key, and tells whether it did, by one search. It takes no memory.
+    pub fn put_new(&mut self, key: K, value: V) -> bool
+        requires { 0 < self.old.room }
+        ensures rows { self.new.rows ≡ add_entry K.cmp self.old.rows key value }
+        ensures found { (other : K) → lookup (is_at (K.cmp other)) self.new.rows
+            ≡ (if is_free K.cmp key self.old.rows && is_eq (K.cmp key other) then Some value
+            else lookup (is_at (K.cmp other)) self.old.rows) }
+        ensures added { result ≡ is_free K.cmp key self.old.rows }
+        ensures room { self.old.room ≤ self.new.room + 1 }
+    {
+        add_row(&mut self.chunks, &mut self.spares, key, value)
+    }
+
     /// Takes the row of the key, and gives its value. It takes no memory.
     pub fn remove(&mut self, key: &K) -> Option<V>
         ensures rows { self.new.rows ≡ remove_entry (is_at (K.cmp key.now)) self.old.rows }
@@ -133,6 +147,32 @@ fn put_row<K: Ord + Drop, V: Drop>(
         put_among(chunks, place, key, value)
     } else {
         put_in_full(chunks, spares, place, key, value)
+    }
+}
+
+// Adds the row where none has its key, and tells whether it did.
+fn add_row<K: Ord + Drop, V: Drop>(
+    chunks: &mut Vec<Vec<(K, V)>>,
+    spares: &mut Vec<Vec<(K, V)>>,
+    key: K,
+    value: V,
+) -> bool
+    requires index { IsIndex K.cmp chunks.old spares.old }
+    requires some { 0 < length spares.old.items }
+    ensures index { IsIndex K.cmp chunks.new spares.new }
+    ensures spares { length spares.old.items ≤ length spares.new.items + 1 }
+    ensures rows { rows_of chunks.new.items ≡ add_entry K.cmp (rows_of chunks.old.items) key value }
+    ensures added { result ≡ is_free K.cmp key (rows_of chunks.old.items) }
+{
+    if chunks.is_empty() {
+        put_first(chunks, spares, key, value);
+        return true;
+    }
+    let place = chunk_of(chunks, &key);
+    if chunks[place].len() < ROOM {
+        add_among(chunks, place, key, value)
+    } else {
+        add_in_full(chunks, spares, place, key, value)
     }
 }
 

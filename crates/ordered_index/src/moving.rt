@@ -4,11 +4,11 @@ ghost use Rattle.std.specs.List.{insert};
 ghost use Rattle.std.specs.declared.alloc.Global.{Global};
 ghost use Rattle.std.specs.BTreeMap.{insert_entry, is_at};
 ghost use Rattle.std.specs.Map.{lookup};
-ghost use Rattle.ordered_index.specs.Rows.{AreRows};
+ghost use Rattle.ordered_index.specs.Rows.{AreRows, add_entry, is_free};
 ghost use Rattle.ordered_index.specs.Chunks.{AreFilled, IsChunkOf, rows_of};
 ghost use Rattle.ordered_index.specs.Room.{AreRoomy, IsIndex, IsSpare, chunk_room, half_room};
 
-use crate::chunks::starts;
+use crate::chunks::{is_free_among, starts};
 use crate::rows::put_in;
 
 /// How many rows a chunk has room for.
@@ -44,8 +44,8 @@ pub fn put_in_either<K: Ord + Drop, V: Drop>(
     requires some { 0 < length behind.old.items }
     requires front { length front.old.items < vec_capacity front.old }
     requires behind { length behind.old.items < vec_capacity behind.old }
-    ensures rows { front.new.items ++ behind.new.items ≡ insert_entry K.cmp
-        (front.old.items ++ behind.old.items) key value }
+    ensures rows { front.new.items ++ behind.new.items
+        ≡ insert_entry K.cmp (front.old.items ++ behind.old.items) key value }
     ensures value { result ≡ lookup (is_at (K.cmp key)) (front.old.items ++ behind.old.items) }
     ensures front { (length front.old.items ≤ length front.new.items) ×
         (length front.new.items ≤ length front.old.items + 1) × (vec_capacity front.new ≡ vec_capacity front.old) }
@@ -80,6 +80,31 @@ pub fn put_in_full<K: Ord + Drop, V: Drop>(
     let old = put_parted(chunks, spares, place, key, value);
     join_halves(chunks, place);
     old
+}
+
+/// Adds the row to its chunk, which is full, where none has its key, and tells whether it did.
+pub fn add_in_full<K: Ord + Drop, V: Drop>(
+    chunks: &mut Vec<Vec<(K, V)>>,
+    spares: &mut Vec<Vec<(K, V)>>,
+    place: usize,
+    key: K,
+    value: V,
+) -> bool
+    requires is { IsChunkOf K.cmp key chunks.old.items place }
+    requires index { IsIndex K.cmp chunks.old spares.old }
+    requires full { (d : Vec (K × V) Global) → length (slice_index_or chunks.old.items place d).items ≡ chunk_room }
+    requires some { 0 < length spares.old.items }
+    ensures index { IsIndex K.cmp chunks.new spares.new }
+    ensures spares { length spares.old.items ≤ length spares.new.items + 1 }
+    ensures rows { rows_of chunks.new.items ≡ add_entry K.cmp (rows_of chunks.old.items) key value }
+    ensures added { result ≡ is_free K.cmp key (rows_of chunks.old.items) }
+{
+    if is_free_among(chunks, place, &key) {
+        put_in_full(chunks, spares, place, key, value);
+        true
+    } else {
+        false
+    }
 }
 
 // Puts a value in a full chunk, whose later half goes to a spare one behind it.
@@ -168,8 +193,8 @@ fn join_next<K: Drop, V: Drop>(chunks: &mut Vec<Vec<(K, V)>>, place: usize)
     requires filled { AreFilled chunks.old.items }
     requires roomy { AreRoomy chunks.old.items }
     requires few { (d e : Vec (K × V) Global) →
-        length (slice_index_or chunks.old.items place d).items + length
-        (slice_index_or chunks.old.items (place + 1) e).items ≤ chunk_room }
+        length (slice_index_or chunks.old.items place d).items
+        + length (slice_index_or chunks.old.items (place + 1) e).items ≤ chunk_room }
     ensures rows { rows_of chunks.new.items ≡ rows_of chunks.old.items }
     ensures filled { AreFilled chunks.new.items }
     ensures roomy { AreRoomy chunks.new.items }

@@ -1,8 +1,7 @@
-use Rattle.std.proofs.Common.{◌≡◌, ◌≤◌, ◌<◌, ◌∙◌, length, get_or, set, vec_capacity, sym, ap, subst, rules, arith}
+use Rattle.std.proofs.Common.{◌≡◌, ◌≤◌, ◌<◌, ◌∙◌, length, get_or, vec_capacity, sym, ap, subst, rules, arith}
 use Rattle.std.specs.BTreeMap.{insert_entry, is_at}
 use Rattle.std.specs.Map.{lookup}
 use Rattle.std.proofs.lemmas.List.Elements.{All-set}
-use Rattle.ordered_index.specs.Chunks.{IsChunkOf}
 use Rattle.ordered_index.specs.Room.{IsRoomy, chunk_room}
 use Rattle.ordered_index.specs.Rows.{AreRows}
 use Rattle.ordered_index.proofs.ChunkLemmas.{chunk-sorted, put-chunk, value-chunk}

@@ -1,5 +1,4 @@
-use Rattle.std.proofs.Common.{◌≡◌, ◌≤◌, ◌+◌, ◌++◌, ◌∙◌, length, suc, true, false, sym, ap, rules, arith}
-use Rattle.std.specs.BTreeMap.{insert_entry, is_at}
+use Rattle.std.proofs.Common.{◌≡◌, ◌+◌, ◌++◌, ◌∙◌, length, true, false, sym, ap, rules, arith}
 use Rattle.ordered_index.specs.Chunks.{starts_by}
 use Rattle.ordered_index.proofs.ChunkLemmas.{put-past, put-short, sorted-left, sorted-right, value-past, value-short}
 use Rattle.ordered_index.proofs.EitherLemmas.{front-before, back-behind}

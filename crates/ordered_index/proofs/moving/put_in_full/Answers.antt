@@ -1,4 +1,4 @@
-use Rattle.std.proofs.Common.{◌∙◌, sym, subst, arith}
+use Rattle.std.proofs.Common.{sym, subst, arith}
 use Rattle.ordered_index.specs.Rows.{AreRows}
 use Rattle.ordered_index.proofs.moving.put_in_full.Goals as goal
 
