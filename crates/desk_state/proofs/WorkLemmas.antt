@@ -8,11 +8,14 @@ use Rattle.sms_construct.specs.declared.alloc.Alloc.{Alloc}
 use Rattle.sms_construct.specs.declared.entry.Entry.{Entry}
 use Rattle.sms_construct.specs.declared.request.Op.TheVariants as ops
 use Rattle.sms_construct.specs.declared.request.Request.{Request}
+use Rattle.sms_construct.specs.declared.stop.Stop.TheVariants.{Done}
 use Rattle.sms_deck.specs.declared.deck_err.DeckErr.{DeckErr}
 use Rattle.sms_deck.specs.Reading.{Configures}
+use Rattle.sms_classes.specs.Known.{AreKnown}
 use Rattle.sms_classes.specs.declared.classified.Classified.{Classified}
 use Rattle.desk_law.specs.State.{Opening}
 use Rattle.desk_law.specs.History.{WasActive}
+use Rattle.desk_law.specs.Classification.{classes_of}
 use Rattle.desk_state.specs.declared.running.Running.{Running}
 use Rattle.desk_state.specs.declared.work.Work.{Work}
 use Rattle.desk_state.specs.declared.work.Work.TheVariants.{Classes, Deck, Nothing}
@@ -54,6 +57,11 @@ pub classified-active : (running : Running) (job : List ℕ) (alloc : Alloc) (wr
 classified-active running job alloc written None config same was active is = tt
 classified-active running job alloc written (Some made) config same was active is =
     subst (λ (c : Configuration). IsClassified c job alloc made written) (sym is) (was config active)
+
+-- so the configuration has its classes, where the classification came through
+pub found-known : (config : Configuration) (job : List ℕ) (alloc : Alloc) (made : Classified) (written : SlateLines) → IsClassified config job alloc made written
+    → ((classes_of config job alloc).stop ≡ Done → AreKnown config (classes_of config job alloc).values) → made.stop ≡ Done → AreKnown config made.values
+found-known config job alloc made written is known done = subst (AreKnown config) (sym is.values_are) (known (sym is.stop_is ∙ done))
 
 -- what was active in a history was so in each longer one
 pub active-longer : (o : Opening) (h more : List Entry) (n : ℕ) (config : Configuration) → WasActive o h n config → WasActive o (h ++ more) n config

@@ -55,15 +55,37 @@ impl Running {
             return Ok(Decision::quiet(Reply::NameInUse));
         }
         let config = config.share()?;
+        self.decide_classes(config.get(), job, alloc, before, slate)
+    }
+
+    // The same where this configuration is active; no data set of its name is catalogued.
+    fn decide_classes(
+        &mut self,
+        config: &Config,
+        job: &Name,
+        alloc: &Alloc,
+        before: Option<&Classified>,
+        slate: &mut Slate,
+    ) -> Result<Decision, AllocError>
+        requires stands { IsSomeState self.old }
+        requires active { self.old.config ≡ Some config.now }
+        requires unused { set_in alloc.now.input.dsn self.old.catalog.sets ≡ None }
+        requires before { IfSome (option_copied before)
+            (λ (made : Came). IsClassified config.now job.now alloc.now made slate.old) }
+        ensures same { (s : DeskState) → IsRunning s self.old → IsRunning s self.new }
+        ensures answers { IfOk result (λ made. (s : DeskState) → IsLawful s → IsRunning s self.old →
+            Answers s self.new (AllocRule s job.now alloc.now) made) }
+        ensures possible { IfOk result (λ made. IsPossible self.new made.deed) }
+    {
         // Facts for the proof; nothing runs.
-        classes_are_known(config.get());
+        classes_are_known(config);
         match before {
-            Some(classified) => self.decide_with(config.get(), alloc, classified, slate),
-            None => self.decide_now(config.get(), job, alloc, slate),
+            Some(classified) => self.decide_with(config, alloc, classified, slate),
+            None => self.decide_now(config, job, alloc, slate),
         }
     }
 
-    // What ALLOC is answered where it is classified now; no data set of its name is catalogued.
+    // The same where it wasn't classified before.
     fn decide_now(
         &mut self,
         config: &Config,
@@ -83,7 +105,7 @@ impl Running {
         self.decide_with(config, alloc, &classified, slate)
     }
 
-    // The same where it was classified so, and this is on the slate.
+    // The same where it was classified so, with what is on the slate.
     fn decide_with(
         &mut self,
         config: &Config,
@@ -110,7 +132,7 @@ impl Running {
         ensures trace { IfOk result
             (λ trace. trace ≡ record { lines = slate.now.lines; more = slate.now.more }) }
         ensures config { self.new.config ≡ self.old.config }
-        ensures catalog { self.new.catalog ≡ self.old.catalog }
+        ensures sets { (dsn : List ℕ) → set_in dsn self.new.catalog.sets ≡ set_in dsn self.old.catalog.sets }
         ensures same { (s : DeskState) → IsRunning s self.old → IsRunning s self.new }
     {
         if is_blank(slate) {
