@@ -30,6 +30,9 @@ decide_classified-requires-clause-active c = c.trace_of.ensures.config ∙ c.req
 pub decide_classified-requires-clause-unused : goal.decide_classified-requires-clause-unused
 decide_classified-requires-clause-unused c = c.trace_of.ensures.sets c.args.alloc.now.input.dsn ∙ c.requires.unused
 
+pub returns-clause-same : goal.returns-clause-same
+returns-clause-same c = λ s is. c.decide_classified.ensures.same s (c.trace_of.ensures.same s is)
+
 pub returns-clause-answers : goal.returns-clause-answers
 returns-clause-answers c =
     let running = c.args.self.now in
