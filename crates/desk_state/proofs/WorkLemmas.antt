@@ -1,16 +1,19 @@
 -- Work that was done before a step: what of it is used, and that it stays work.
-use Rattle.std.proofs.Common.{◌≡◌, ℕ, List, ◌++◌, Option, None, Some, append_assoc, refl, sym, ap, subst, ◌∙◌}
+use Rattle.std.proofs.Common.{◌≡◌, ℕ, List, ◌++◌, Option, None, Some, append_assoc, refl, sym, ap, subst, inl, inr, ◌∙◌}
 use Rattle.std.specs.Prelude.{IfOk, IfSome, Result, Ok, Err}
 use Rattle.std.specs.declared.alloc.AllocError.{AllocError}
 use Rattle.acs_tree.specs.Slates.{SlateLines}
+use Rattle.desk_common.specs.Exact.{MayRefuse}
 use Rattle.sms_construct.specs.Configuration.{Configuration}
 use Rattle.sms_construct.specs.declared.alloc.Alloc.{Alloc}
 use Rattle.sms_construct.specs.declared.entry.Entry.{Entry}
+use Rattle.sms_construct.specs.declared.fault.Fault.{Fault}
 use Rattle.sms_construct.specs.declared.request.Op.TheVariants as ops
 use Rattle.sms_construct.specs.declared.request.Request.{Request}
 use Rattle.sms_construct.specs.declared.stop.Stop.TheVariants.{Done}
 use Rattle.sms_deck.specs.declared.deck_err.DeckErr.{DeckErr}
-use Rattle.sms_deck.specs.Reading.{Configures}
+use Rattle.sms_deck.specs.declared.deck_err.DeckErr.TheVariants.{Fault as Faulted, NoMemory}
+use Rattle.sms_deck.specs.Reading.{Configures, HasFirstFault, TellsFirstFault}
 use Rattle.sms_classes.specs.Known.{AreKnown}
 use Rattle.sms_classes.specs.declared.classified.Classified.{Classified}
 use Rattle.desk_law.specs.State.{Opening}
@@ -36,6 +39,16 @@ pub deck-used : (running : Running) (request : Request) (written : SlateLines) (
 deck-used running request written work read deck is_work op is =
     let now : IsWorkNow running request written (Deck read) = subst (IsWorkNow running request written) is is_work in
     now deck op
+
+-- the fault that is told
+told-fault : (deck : List ℕ) (fault : Fault) → MayRefuse (TellsFirstFault deck) (Some NoMemory) (Faulted fault) → HasFirstFault deck fault
+told-fault deck fault (inl found) = found
+told-fault deck fault (inr none) = absurd cc
+
+-- a deck that is read as a fault has it
+pub fault-found : (deck : List ℕ) (read : Result Configuration DeckErr) (fault same : Fault) → read ≡ Err (Faulted fault) → same ≡ fault → IsReadAs deck read → HasFirstFault deck same
+fault-found deck read fault same is shared as_read =
+    subst (HasFirstFault deck) (sym shared) (told-fault deck fault (subst (IsReadAs deck) is as_read).err)
 
 -- a configuration that was read is shared, or memory is wanting
 pub read-shared : (deck : List ℕ) (read : Result Configuration DeckErr) (config : Configuration) (made : Result Configuration AllocError)
