@@ -13,7 +13,7 @@ use crate::placing::place_all;
 use crate::restored::Restored;
 use desk_common::Shared;
 use desk_records::Opening;
-use desk_state::Running;
+use desk_state::{BlankTrace, Running};
 use sms_deck::Config;
 use sms_keeper::Rows;
 use sms_volumes::ActiveVolumes;
@@ -77,6 +77,7 @@ fn running_of(alloc: Global, rows: &Rows, config: Option<Config>) -> Result<Runn
         config,
         volumes,
         catalog,
+        blank: BlankTrace::new(),
     })
 }
 

@@ -1,18 +1,24 @@
 -- Work that was done before a step: what of it is used, and that it stays work.
-use Rattle.std.proofs.Common.{◌≡◌, ℕ, List, ◌++◌, Option, None, Some, append_assoc, refl, sym, ap, subst, ◌∙◌}
+use Rattle.std.proofs.Common.{◌≡◌, ℕ, List, ◌++◌, Option, None, Some, append_assoc, refl, sym, ap, subst, inl, inr, ◌∙◌}
 use Rattle.std.specs.Prelude.{IfOk, IfSome, Result, Ok, Err}
 use Rattle.std.specs.declared.alloc.AllocError.{AllocError}
 use Rattle.acs_tree.specs.Slates.{SlateLines}
+use Rattle.desk_common.specs.Exact.{MayRefuse}
 use Rattle.sms_construct.specs.Configuration.{Configuration}
 use Rattle.sms_construct.specs.declared.alloc.Alloc.{Alloc}
 use Rattle.sms_construct.specs.declared.entry.Entry.{Entry}
+use Rattle.sms_construct.specs.declared.fault.Fault.{Fault}
 use Rattle.sms_construct.specs.declared.request.Op.TheVariants as ops
 use Rattle.sms_construct.specs.declared.request.Request.{Request}
+use Rattle.sms_construct.specs.declared.stop.Stop.TheVariants.{Done}
 use Rattle.sms_deck.specs.declared.deck_err.DeckErr.{DeckErr}
-use Rattle.sms_deck.specs.Reading.{Configures}
+use Rattle.sms_deck.specs.declared.deck_err.DeckErr.TheVariants.{Fault as Faulted, NoMemory}
+use Rattle.sms_deck.specs.Reading.{Configures, HasFirstFault, TellsFirstFault}
+use Rattle.sms_classes.specs.Known.{AreKnown}
 use Rattle.sms_classes.specs.declared.classified.Classified.{Classified}
 use Rattle.desk_law.specs.State.{Opening}
 use Rattle.desk_law.specs.History.{WasActive}
+use Rattle.desk_law.specs.Classification.{classes_of}
 use Rattle.desk_state.specs.declared.running.Running.{Running}
 use Rattle.desk_state.specs.declared.work.Work.{Work}
 use Rattle.desk_state.specs.declared.work.Work.TheVariants.{Classes, Deck, Nothing}
@@ -34,6 +40,16 @@ deck-used running request written work read deck is_work op is =
     let now : IsWorkNow running request written (Deck read) = subst (IsWorkNow running request written) is is_work in
     now deck op
 
+-- the fault that is told
+told-fault : (deck : List ℕ) (fault : Fault) → MayRefuse (TellsFirstFault deck) (Some NoMemory) (Faulted fault) → HasFirstFault deck fault
+told-fault deck fault (inl found) = found
+told-fault deck fault (inr none) = absurd cc
+
+-- a deck that is read as a fault has it
+pub fault-found : (deck : List ℕ) (read : Result Configuration DeckErr) (fault same : Fault) → read ≡ Err (Faulted fault) → same ≡ fault → IsReadAs deck read → HasFirstFault deck same
+fault-found deck read fault same is shared as_read =
+    subst (HasFirstFault deck) (sym shared) (told-fault deck fault (subst (IsReadAs deck) is as_read).err)
+
 -- a configuration that was read is shared, or memory is wanting
 pub read-shared : (deck : List ℕ) (read : Result Configuration DeckErr) (config : Configuration) (made : Result Configuration AllocError)
     → read ≡ Ok config → IfOk made (λ same. same ≡ config) → IsReadAs deck read → IfOk made (Configures deck)
@@ -54,6 +70,11 @@ pub classified-active : (running : Running) (job : List ℕ) (alloc : Alloc) (wr
 classified-active running job alloc written None config same was active is = tt
 classified-active running job alloc written (Some made) config same was active is =
     subst (λ (c : Configuration). IsClassified c job alloc made written) (sym is) (was config active)
+
+-- so the configuration has its classes, where the classification came through
+pub found-known : (config : Configuration) (job : List ℕ) (alloc : Alloc) (made : Classified) (written : SlateLines) → IsClassified config job alloc made written
+    → ((classes_of config job alloc).stop ≡ Done → AreKnown config (classes_of config job alloc).values) → made.stop ≡ Done → AreKnown config made.values
+found-known config job alloc made written is known done = subst (AreKnown config) (sym is.values_are) (known (sym is.stop_is ∙ done))
 
 -- what was active in a history was so in each longer one
 pub active-longer : (o : Opening) (h more : List Entry) (n : ℕ) (config : Configuration) → WasActive o h n config → WasActive o (h ++ more) n config

@@ -36,7 +36,10 @@ impl Running {
     {
         match configuration(self.alloc, deck, work) {
             Ok(config) => self.decide_configuration(config),
-            Err(DeckErr::Fault(fault)) => Ok(Decision::quiet(Reply::Deck(fault))),
+            Err(DeckErr::Fault(fault)) => {
+                let fault = Shared::new(self.alloc, fault)?;
+                Ok(Decision::quiet(Reply::Deck(fault)))
+            }
             Err(DeckErr::NoMemory) => Err(AllocError),
         }
     }

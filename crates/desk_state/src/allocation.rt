@@ -1,11 +1,14 @@
 //! ALLOC.
-ghost use Rattle.std.specs.Prelude.{◌≡◌, IfOk, IfSome, None, Some};
+ghost use Rattle.std.specs.Prelude.{true, ◌≡◌, ℕ, List, IfOk, IfSome, None, Some};
+ghost use Rattle.std.specs.Option.{option_copied};
+ghost use Rattle.acs_tree.specs.Slates.{blank};
 ghost use Rattle.sms_construct.specs.Configuration.{Configuration};
 ghost use Rattle.desk_law.specs.Allocation.{AllocRule, GrantRule};
 ghost use Rattle.desk_law.specs.Classification.{trace_of};
 ghost use Rattle.desk_law.specs.Lawful.{IsLawful};
 ghost use Rattle.desk_law.specs.State.{DeskState};
 ghost use Rattle.sms_classes.specs.Known.{AreKnown};
+ghost use Rattle.sms_classes.specs.declared.classified.Classified.{Classified as Came};
 ghost use Rattle.desk_state.specs.Answering.{Answers};
 ghost use Rattle.desk_state.specs.Catalog.{set_in};
 ghost use Rattle.desk_state.specs.Deeds.{IsPossible};
@@ -17,12 +20,11 @@ use crate::decision::Decision;
 use crate::deed::Deed;
 use crate::grant::Grant;
 use crate::running::Running;
-use crate::using::classes;
 use crate::wish::Wish;
-use acs_tree::Slate;
+use acs_tree::{Kind, Slate};
 use desk_common::Shared;
 use dsn_mask::Name;
-use sms_classes::{Classified, data_class_of, space_of, stop_reply};
+use sms_classes::{Classified, classes_are_known, classify, data_class_of, space_of, stop_reply};
 use sms_construct::{Alloc, Reply, Stop, Trace};
 use sms_deck::Config;
 use sms_volumes::Candidates;
@@ -35,12 +37,12 @@ impl Running {
         &mut self,
         job: &Name,
         alloc: &Alloc,
-        before: Option<Classified>,
+        before: Option<&Classified>,
         slate: &mut Slate,
     ) -> Result<Decision, AllocError>
         requires state { IsSomeState self.old }
-        requires before { IfSome before (λ made. (config : Configuration) → self.old.config ≡ Some config →
-            IsClassified config job.now alloc.now made slate.old) }
+        requires before { IfSome (option_copied before) (λ (made : Came). (config : Configuration) →
+            self.old.config ≡ Some config → IsClassified config job.now alloc.now made slate.old) }
         ensures same { (s : DeskState) → IsRunning s self.old → IsRunning s self.new }
         ensures answers { IfOk result (λ made. (s : DeskState) → IsLawful s → IsRunning s self.old →
             Answers s self.new (AllocRule s job.now alloc.now) made) }
@@ -53,9 +55,90 @@ impl Running {
             return Ok(Decision::quiet(Reply::NameInUse));
         }
         let config = config.share()?;
-        let classified = classes(config.get(), job, alloc, before, slate);
-        let trace = trace_of(self.alloc, slate)?;
-        self.decide_classified(config.get(), alloc, &classified, trace)
+        self.decide_classes(config.get(), job, alloc, before, slate)
+    }
+
+    // The same where this configuration is active; no data set of its name is catalogued.
+    fn decide_classes(
+        &mut self,
+        config: &Config,
+        job: &Name,
+        alloc: &Alloc,
+        before: Option<&Classified>,
+        slate: &mut Slate,
+    ) -> Result<Decision, AllocError>
+        requires stands { IsSomeState self.old }
+        requires active { self.old.config ≡ Some config.now }
+        requires unused { set_in alloc.now.input.dsn self.old.catalog.sets ≡ None }
+        requires before { IfSome (option_copied before)
+            (λ (made : Came). IsClassified config.now job.now alloc.now made slate.old) }
+        ensures same { (s : DeskState) → IsRunning s self.old → IsRunning s self.new }
+        ensures answers { IfOk result (λ made. (s : DeskState) → IsLawful s → IsRunning s self.old →
+            Answers s self.new (AllocRule s job.now alloc.now) made) }
+        ensures possible { IfOk result (λ made. IsPossible self.new made.deed) }
+    {
+        // Facts for the proof; nothing runs.
+        classes_are_known(config);
+        match before {
+            Some(classified) => self.decide_with(config, alloc, classified, slate),
+            None => self.decide_now(config, job, alloc, slate),
+        }
+    }
+
+    // The same where it wasn't classified before.
+    fn decide_now(
+        &mut self,
+        config: &Config,
+        job: &Name,
+        alloc: &Alloc,
+        slate: &mut Slate,
+    ) -> Result<Decision, AllocError>
+        requires stands { IsSomeState self.old }
+        requires active { self.old.config ≡ Some config.now }
+        requires unused { set_in alloc.now.input.dsn self.old.catalog.sets ≡ None }
+        ensures same { (s : DeskState) → IsRunning s self.old → IsRunning s self.new }
+        ensures answers { IfOk result (λ made. (s : DeskState) → IsLawful s → IsRunning s self.old →
+            Answers s self.new (AllocRule s job.now alloc.now) made) }
+        ensures possible { IfOk result (λ made. IsPossible self.new made.deed) }
+    {
+        let classified = classify(config, job, alloc, slate);
+        self.decide_with(config, alloc, &classified, slate)
+    }
+
+    // The same where it was classified so, with what is on the slate.
+    fn decide_with(
+        &mut self,
+        config: &Config,
+        alloc: &Alloc,
+        classified: &Classified,
+        slate: &Slate,
+    ) -> Result<Decision, AllocError>
+        requires stands { IsSomeState self.old }
+        requires active { self.old.config ≡ Some config.now }
+        requires unused { set_in alloc.now.input.dsn self.old.catalog.sets ≡ None }
+        requires known { classified.now.stop ≡ Stop.Done → AreKnown config.now classified.now.values }
+        ensures same { (s : DeskState) → IsRunning s self.old → IsRunning s self.new }
+        ensures answers { IfOk result (λ made. (s : DeskState) (job : List ℕ) →
+            IsClassified config.now job alloc.now classified.now slate.now → IsLawful s → IsRunning s self.old →
+            Answers s self.new (AllocRule s job alloc.now) made) }
+        ensures possible { IfOk result (λ made. IsPossible self.new made.deed) }
+    {
+        let trace = self.trace_of(slate)?;
+        self.decide_classified(config, alloc, classified, trace)
+    }
+
+    // What the routines wrote; the trace without lines is shared by all.
+    fn trace_of(&mut self, slate: &Slate) -> Result<Shared<Trace>, AllocError>
+        ensures trace { IfOk result
+            (λ trace. trace ≡ record { lines = slate.now.lines; more = slate.now.more }) }
+        ensures config { self.new.config ≡ self.old.config }
+        ensures sets { (dsn : List ℕ) → set_in dsn self.new.catalog.sets ≡ set_in dsn self.old.catalog.sets }
+        ensures same { (s : DeskState) → IsRunning s self.old → IsRunning s self.new }
+    {
+        if is_blank(slate) {
+            return self.blank.share(self.alloc);
+        }
+        Shared::new(self.alloc, Trace::of(self.alloc, slate)?)
     }
 
     /// What ALLOC is answered where the classification under the active configuration came to this and its
@@ -107,11 +190,15 @@ impl Running {
     }
 }
 
-// What the routines wrote.
-fn trace_of(alloc: Global, slate: &Slate) -> Result<Shared<Trace>, AllocError>
-    ensures { IfOk result (λ trace. trace ≡ record { lines = slate.now.lines; more = slate.now.more }) }
+// Whether nothing is on the slate.
+fn is_blank(slate: &Slate) -> bool
+    ensures { result ≡ true → slate.now ≡ blank }
 {
-    Shared::new(alloc, Trace::of(alloc, slate)?)
+    slate.lines().is_empty()
+        && slate.more(Kind::DataClas) == 0
+        && slate.more(Kind::StorClas) == 0
+        && slate.more(Kind::MgmtClas) == 0
+        && slate.more(Kind::StorGrp) == 0
 }
 
 // The decision that the new data set gets what is granted.

@@ -4,6 +4,7 @@
 mod activation;
 mod allocation;
 mod applying;
+mod blank_trace;
 mod catalog;
 mod data_sets;
 mod deciding;
@@ -19,6 +20,7 @@ mod using;
 mod wish;
 mod work;
 
+pub use blank_trace::BlankTrace;
 pub use catalog::Catalog;
 pub use data_sets::has_unused;
 pub use decision::Decision;

@@ -5,6 +5,7 @@ ghost use Rattle.desk_law.specs.Records.{empty_opening};
 ghost use Rattle.desk_state.specs.Catalog.{set_in};
 ghost use Rattle.desk_state.specs.Standing.{IsRunning};
 
+use crate::blank_trace::BlankTrace;
 use crate::catalog::Catalog;
 use desk_common::Shared;
 use sms_deck::Config;
@@ -12,7 +13,7 @@ use sms_volumes::ActiveVolumes;
 use std::alloc::{AllocError, Global};
 
 /// The running state of the desk: how many activations there were, the active configuration with its volumes, and
-/// the catalogued data sets.
+/// the catalogued data sets; beside them the trace that most replies to ALLOC share.
 #[derive(Drop)]
 pub struct Running {
     pub alloc: Global,
@@ -20,6 +21,7 @@ pub struct Running {
     pub config: Option<Shared<Config>>,
     pub volumes: ActiveVolumes,
     pub catalog: Catalog,
+    pub blank: BlankTrace,
 }
 
 impl Running {
@@ -33,6 +35,7 @@ impl Running {
             config: None,
             volumes: ActiveVolumes::none(alloc),
             catalog: Catalog::new(alloc),
+            blank: BlankTrace::new(),
         }
     }
 

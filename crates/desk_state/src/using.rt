@@ -1,50 +1,26 @@
 // What is used of the work before a step.
 ghost use Rattle.std.specs.Prelude.{◌≡◌, List, ℕ, Result, IfOk, IfSome};
+ghost use Rattle.std.specs.Option.{option_copied};
 ghost use Rattle.sms_construct.specs.Configuration.{Configuration};
 ghost use Rattle.sms_deck.specs.declared.deck_err.DeckErr.{DeckErr as DeckError};
 ghost use Rattle.sms_deck.specs.Reading.{Configures};
-ghost use Rattle.desk_law.specs.Classification.{classes_of};
-ghost use Rattle.sms_classes.specs.Known.{AreKnown};
-ghost use Rattle.desk_state.specs.Working.{IsClassified, IsReadAs};
+ghost use Rattle.sms_classes.specs.declared.classified.Classified.{Classified as Came};
+ghost use Rattle.desk_state.specs.Working.{IsReadAs};
 
 use crate::work::Work;
-use acs_tree::Slate;
 use desk_common::Shared;
-use dsn_mask::Name;
-use sms_classes::{Classified, classes_are_known, classify};
-use sms_construct::{Alloc, DeckText, Stop};
+use sms_classes::Classified;
+use sms_construct::DeckText;
 use sms_deck::{Config, DeckErr, read_deck};
 use std::alloc::{AllocError, Global};
 
 /// What was classified under so many activations, if anything was.
-pub fn classified_under(work: &Work, activations: u64) -> Option<Classified>
-    ensures { IfSome result (λ made. work.now ≡ Work.Classes activations made) }
+pub fn classified_under(work: &Work, activations: u64) -> Option<&Classified>
+    ensures { IfSome (option_copied result) (λ (made : Came). work.now ≡ Work.Classes activations made) }
 {
     match work {
-        Work::Classes { under, classified } if *under == activations => Some(*classified),
+        Work::Classes { under, classified } if *under == activations => Some(classified),
         Work::Nothing | Work::Classes { .. } | Work::Deck(_) => None,
-    }
-}
-
-/// What the routines give an ALLOC: as it was classified before, else as it is classified now.
-pub fn classes(
-    config: &Config,
-    job: &Name,
-    alloc: &Alloc,
-    before: Option<Classified>,
-    slate: &mut Slate,
-) -> Classified
-    requires { IfSome before (λ made. IsClassified config.now job.now alloc.now made slate.old) }
-    ensures values { result.values ≡ (classes_of config.now job.now alloc.now).values }
-    ensures stop { result.stop ≡ (classes_of config.now job.now alloc.now).stop }
-    ensures slate { slate.new ≡ (classes_of config.now job.now alloc.now).written }
-    ensures known { result.stop ≡ Stop.Done → AreKnown config.now result.values }
-{
-    // Facts for the proof; nothing runs.
-    classes_are_known(config);
-    match before {
-        Some(classified) => classified,
-        None => classify(config, job, alloc, slate),
     }
 }
 

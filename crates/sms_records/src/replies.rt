@@ -175,7 +175,7 @@ fn read_other(alloc: Global, tag: u8, bytes: &[u8]) -> Result<(Reply, &[u8]), Re
             Ok((why, rest)) => Ok((Reply::NoExtend(why), rest)),
             Err(err) => Err(err),
         },
-        21 => match Fault::read_from(alloc, bytes) {
+        21 => match <Shared<Fault>>::read_from(alloc, bytes) {
             Ok((fault, rest)) => Ok((Reply::Deck(fault), rest)),
             Err(err) => Err(err),
         },

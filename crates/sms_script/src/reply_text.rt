@@ -46,7 +46,7 @@ pub fn push_reply(text: &mut Vec<u8>, reply: &Reply) -> Result<(), AllocError>
         Reply::NoVolume { .. } => text.extend_from_slice(b"R18 NO VOLUME"),
         Reply::NotFound => text.extend_from_slice(b"R19 NOT FOUND"),
         Reply::NoExtend(why) => text.extend_from_slice(why_bytes(*why)),
-        Reply::Deck(fault) => push_refused_deck(text, fault),
+        Reply::Deck(fault) => push_refused_deck(text, fault.get()),
         Reply::VolumeInUse(volser) => push_both(text, b"R22 VOLUME IN USE ", volser.bytes()),
         Reply::UnknownName => text.extend_from_slice(b"R23 UNKNOWN NAME"),
         Reply::JournalFull => text.extend_from_slice(b"R24 JOURNAL FULL"),

@@ -177,7 +177,9 @@ fn of_operators(job: Name, volser: Volser, at: u32) -> (Reply, &'static str) {
 
 /// The faults of a deck.
 #[rattlefmt::skip]
-fn of_decks(class: Name, volser: Volser, at: u32) -> (Reply, &'static str) {
+fn of_decks(
+    alloc: Global, class: Name, volser: Volser, at: u32,
+) -> Result<(Reply, &'static str), Fail> {
     let path = Path::top().below(b"storgroup").below(b"SG1");
     let stop = TextFault { stage: Stage::Parser, number: 1, at: 4 };
     let (fault, first) = match at {
@@ -192,7 +194,7 @@ fn of_decks(class: Name, volser: Volser, at: u32) -> (Reply, &'static str) {
         8 => (Fault::Unassigned(Kind::StorClas, class), "R21 DECK K8 STORCLAS SC9"),
         _ => (Fault::TooMany(path), "R21 DECK K9 storgroup.SG1"),
     };
-    (Reply::Deck(fault), first)
+    Ok((Reply::Deck(Shared::new(alloc, fault)?), first))
 }
 
 /// A status, and how it is told of a volume.
@@ -232,7 +234,7 @@ fn compare_named(rt: &impl Abort, alloc: Global, volser: Volser) -> Result<(), F
         compare(rt, alloc, of_operators(job, volser, at), "")?;
     }
     for at in 0..10 {
-        compare(rt, alloc, of_decks(class, volser, at), "")?;
+        compare(rt, alloc, of_decks(alloc, class, volser, at)?, "")?;
     }
     for at in 0..3 {
         compare(rt, alloc, of_group(group, volser, at), "")?;

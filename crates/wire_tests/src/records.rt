@@ -219,7 +219,8 @@ fn a_fault_of_a_deck_is_read_again(rt: HostRuntime) -> Result<(), Fail> {
         number: 1,
         at: 260,
     };
-    let reply = Reply::Deck(Fault::Routine(Kind::StorClas, stop));
+    let fault = Shared::new(rt.alloc(), Fault::Routine(Kind::StorClas, stop))?;
+    let reply = Reply::Deck(fault);
     assert!(rt; is_record_of(rt.alloc(), &reply, FAULT)?);
     Ok(())
 }

@@ -1,4 +1,5 @@
 use Rattle.std.proofs.Common.{◌≡◌, subst, sym}
+use Rattle.std.specs.Option.{option_copied}
 use Rattle.sms_construct.specs.declared.alloc.Alloc.{Alloc}
 use Rattle.sms_construct.specs.declared.request.Op.TheVariants as ops
 use Rattle.desk_state.proofs.DecideLemmas.{purge-answers}
@@ -15,7 +16,7 @@ returns-in-Purge-clause-possible c = c.decide_purge.ensures.possible c.args.self
 
 pub decide_alloc-requires-clause-before : goal.decide_alloc-requires-clause-before
 decide_alloc-requires-clause-before c =
-    classes-used c.args.self.now c.args.request.now c.args.slate.now c.args.work.now c.classified_under-before.result c.get.result.now c.requires.work
+    classes-used c.args.self.now c.args.request.now c.args.slate.now c.args.work.now (option_copied c.classified_under-before.result) c.get.result.now c.requires.work
     (subst (λ (alloc : Alloc). c.args.request.now.op ≡ ops.Alloc alloc) (sym c.get.ensures) c.in-Alloc.is) c.classified_under-before.ensures
 
 pub decide_activate-requires-clause-work : goal.decide_activate-requires-clause-work
