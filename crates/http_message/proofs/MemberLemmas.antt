@@ -16,7 +16,7 @@ use Rattle.serde_json.specs.Written.{compact_text, outline}
 use Rattle.serde_json.proofs.Texts.{print-outline}
 use Rattle.sms_script.specs.Found.{◌⊳◌}
 use Rattle.http_message.specs.Operands.{body_operands, key_of, operand_of, operands_of}
-use Rattle.http_message.proofs.Utf8Lemmas.{json_is, no_json}
+use Rattle.http_message.proofs.Utf8Lemmas.{json_is}
 
 -- the object of one member with a text
 abbrev one : List ℕ → List ℕ → Data
@@ -52,10 +52,4 @@ pub one_operand : (body key text : List ℕ) → body ≡ compact_text (one key 
 one_operand body key text is utf8 =
     sym (operands_one (operand_of (key_of key) (string text)))
     ∙ ap (λ o. (o ⊳ as_object) ⊳ operands_of) (json_is (compact_text (one key text)) (Some (one key text)) (subst IsUtf8 is utf8) (read_one key text))
-    ∙ sym (ap body_operands is)
-
--- bytes that are no text have none
-pub no_operand : (body key text : List ℕ) → body ≡ compact_text (one key text) → (IsUtf8 body → ⊥) → None ≡ body_operands body
-no_operand body key text is bad =
-    ap (λ o. (o ⊳ as_object) ⊳ operands_of) (no_json (compact_text (one key text)) (λ utf8. bad (subst IsUtf8 (sym is) utf8)))
     ∙ sym (ap body_operands is)

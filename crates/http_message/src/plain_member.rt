@@ -1,13 +1,16 @@
 //! Bodies of one member.
-ghost use Rattle.std.specs.Prelude.{◌≡◌, ◌++◌, ◌∷◌, [], IfSome, IsTrue};
+ghost use Rattle.std.specs.Prelude.{◌≡◌, ◌<◌, ◌++◌, ◌∷◌, [], IfSome, IsTrue};
+ghost use Rattle.std.specs.Str.{IsAscii};
 ghost use Rattle.json.specs.Print.{escape, escape_byte};
 ghost use Rattle.serde_json.specs.Data.{object, member, no_members, string};
 ghost use Rattle.serde_json.specs.Written.{compact_text};
 
-/// The key and the text of an object that has one member and no blanks, where each byte of the two stands for itself.
+/// The key and the text of an object that has one member and no blanks, where each byte of the two is of ASCII and
+/// stands for itself.
 pub fn plain_member(body: &[u8]) -> Option<(&[u8], &[u8])>
-    ensures { IfSome result (λ parts.
+    ensures member { IfSome result (λ parts.
         body.entry.now ≡ compact_text (object (member parts.0.now (string parts.1.now) no_members))) }
+    ensures ascii { IfSome result (λ parts. IsAscii body.entry.now) }
 {
     let [b'{', b'"', rest @ ..] = body else {
         return None;
@@ -23,9 +26,10 @@ pub fn plain_member(body: &[u8]) -> Option<(&[u8], &[u8])>
     Some((key, text))
 }
 
-// The bytes before the closing quote, each of which stands for itself, and what is behind that.
+// The bytes before the closing quote, each of ASCII and standing for itself, and what is behind that.
 fn plain_string(text: &[u8]) -> Option<(&[u8], &[u8])>
-    ensures { IfSome result (λ parts. text.entry.now ≡ escape parts.0.now ++ 34 ∷ parts.1.now) }
+    ensures cut { IfSome result (λ parts. text.entry.now ≡ escape parts.0.now ++ 34 ∷ parts.1.now) }
+    ensures ascii { IfSome result (λ parts. IsAscii parts.1.now → IsAscii text.entry.now) }
 {
     for (at, byte) in text.iter().enumerate() {
         if *byte == b'"' {
@@ -38,9 +42,10 @@ fn plain_string(text: &[u8]) -> Option<(&[u8], &[u8])>
     None
 }
 
-// Whether the byte stands for itself in a string.
+// Whether the byte is of ASCII and stands for itself in a string.
 fn is_plain(byte: u8) -> bool
-    ensures { IsTrue result → escape_byte byte ≡ byte ∷ [] }
+    ensures itself { IsTrue result → escape_byte byte ≡ byte ∷ [] }
+    ensures ascii { IsTrue result → byte < 128 }
 {
     if byte < 0x20 {
         return false;
@@ -51,5 +56,5 @@ fn is_plain(byte: u8) -> bool
     if byte == b'\\' {
         return false;
     }
-    true
+    byte < 128
 }

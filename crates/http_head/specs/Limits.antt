@@ -1,0 +1,26 @@
+-- The limits of a message over HTTP (docs/http.md, "Limits" and "Refusals").
+use Rattle.std.specs.Prelude.{ℕ}
+
+-- the most bytes of a head
+abbrev pub most_head_bytes : ℕ
+most_head_bytes = 8192
+
+-- the most headers of a head
+abbrev pub most_headers : ℕ
+most_headers = 32
+
+-- the line feeds that a head of more headers has at least: those of the first line, of each header and of the end
+abbrev pub feeds_past_headers : ℕ
+feeds_past_headers = 34
+
+-- the most digits of a length
+abbrev pub most_length_digits : ℕ
+most_length_digits = 10
+
+-- the greatest length that so many digits write
+abbrev pub most_length : ℕ
+most_length = 9999999999
+
+-- the most bytes of a body that is a deck
+abbrev pub most_deck_bytes : ℕ
+most_deck_bytes = 262144
