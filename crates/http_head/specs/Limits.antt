@@ -20,7 +20,3 @@ most_length_digits = 10
 -- the greatest length that so many digits write
 abbrev pub most_length : ℕ
 most_length = 9999999999
-
--- the most bytes of a body that is a deck
-abbrev pub most_deck_bytes : ℕ
-most_deck_bytes = 262144

@@ -10,7 +10,7 @@ use Rattle.toml.specs.Parse.{parse_document}
 use Rattle.sms_construct.specs.declared.fault.Fault.{Fault}
 use Rattle.sms_construct.specs.declared.fault.Fault.TheVariants.{NotToml, TooMany}
 use Rattle.sms_construct.specs.Configuration.{Configuration}
-use Rattle.sms_deck.specs.Limits.{most_deck_bytes}
+use Rattle.desk_common.specs.Limits.{most_deck_bytes}
 use Rattle.sms_deck.specs.Outcomes.{Outcomes, AreOutcomes, routines_in}
 use Rattle.sms_deck.specs.Reading.{MeansTable, Configures, HasFirstFault, fault_of, configuration_of}
 use Rattle.sms_deck.proofs.OutcomeLemmas.{some_outcomes}

@@ -1,10 +1,6 @@
 -- The limits of a deck (docs/deck.md, "Limits").
 use Rattle.std.specs.Prelude.{ℕ}
 
--- the bytes of a deck
-abbrev pub most_deck_bytes : ℕ
-most_deck_bytes = 262144
-
 -- the bytes of a routine's text
 abbrev pub most_routine_bytes : ℕ
 most_routine_bytes = 65536
@@ -24,10 +20,6 @@ most_group_volumes = 256
 -- the cylinders of a volume
 abbrev pub most_cylinders : ℕ
 most_cylinders = 1182006
-
--- the cylinders of a volume that may be track-managed; those past them are cylinder-managed
-abbrev pub most_track_managed : ℕ
-most_track_managed = 65520
 
 -- the cylinders of a unit of cylinder-managed space
 abbrev pub cylinders_in_managed : ℕ

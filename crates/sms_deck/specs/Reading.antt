@@ -10,7 +10,7 @@ use Rattle.sms_construct.specs.declared.fault.Fault.TheVariants.{NotToml, TooMan
 use Rattle.sms_construct.specs.Configuration.{Configuration, Routines}
 use Rattle.sms_deck.specs.declared.deck_err.DeckErr.{DeckErr}
 use Rattle.sms_deck.specs.declared.deck_err.DeckErr.TheVariants.{Fault as Faulted, NoMemory}
-use Rattle.sms_deck.specs.Limits.{most_deck_bytes}
+use Rattle.desk_common.specs.Limits.{most_deck_bytes}
 use Rattle.sms_deck.specs.Layout.{table_at}
 use Rattle.sms_deck.specs.Values.{name_in}
 use Rattle.sms_deck.specs.Tables.{tables_fault}

@@ -9,7 +9,8 @@ use Rattle.sms_construct.specs.declared.eattr.Eattr.TheVariants.{Opt, No}
 use Rattle.sms_construct.specs.declared.status.Status.{Status}
 use Rattle.sms_construct.specs.declared.status.Status.TheVariants.{Enable, NotCon, DisAll, DisNew, QuiAll, QuiNew}
 use Rattle.sms_construct.specs.Quantities.{Quantities}
-use Rattle.sms_deck.specs.Limits.{most_cylinders, most_track_managed, cylinders_in_managed}
+use Rattle.desk_common.specs.Limits.{most_track_managed}
+use Rattle.sms_deck.specs.Limits.{most_cylinders, cylinders_in_managed}
 use Rattle.sms_deck.specs.declared.value_form.ValueForm.{ValueForm}
 use Rattle.sms_deck.specs.declared.value_form.ValueForm.TheVariants.{Integer, Text, Flag, ConstructName, SpaceText}
 use Rattle.sms_deck.specs.declared.value_form.ValueForm.TheVariants.{Pool, GroupStatus, VolumeStatus, Device, Cylinders}

@@ -24,5 +24,5 @@ mod volume_table;
 pub use config::Config;
 pub use deck_err::DeckErr;
 pub use laws::{first_version, keys_ascend, lawful_configurations, one_reading};
-pub use limits::{MAX_DECK, MAX_ROUTINE};
+pub use limits::MAX_ROUTINE;
 pub use reading::read_deck;

@@ -1,8 +1,5 @@
 //! The limits of a deck (docs/deck.md, "Limits").
 
-/// The most bytes of a deck.
-pub const MAX_DECK: usize = 262_144;
-
 /// The most bytes of a routine's text.
 pub const MAX_ROUTINE: usize = 65_536;
 
