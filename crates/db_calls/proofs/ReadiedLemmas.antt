@@ -1,7 +1,6 @@
 -- What a run says of the keeper as the desk found it, said of the keeper as it was handed in.
 use Rattle.std.proofs.Common.{◌≡◌, ◌∙◌, true, false, None, Some, inl, inr}
-use Rattle.std.specs.Prelude.{ℕ, Option, IfSome}
-use Rattle.desk_common.specs.Causes.{Rose}
+use Rattle.std.specs.Prelude.{ℕ, Option}
 use Rattle.desk_law.specs.State.{Opening}
 use Rattle.sms_base.specs.Observed.{Observed}
 use Rattle.sms_keeper.specs.Loading.{SameDamage, StaysDamaged}

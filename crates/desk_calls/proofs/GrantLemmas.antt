@@ -1,5 +1,5 @@
 -- Grants that were first answered behind the opening.
-use Rattle.std.proofs.Common.{◌≡◌, ◌≤◌, ◌<◌, ℕ, Bool, true, false, List, [], ◌∷◌, Option, None, Some, find, arith, inl}
+use Rattle.std.proofs.Common.{◌≡◌, ◌<◌, Bool, List, [], ◌∷◌, Some, find, arith, inl}
 use Rattle.std.proofs.Common.{inr, subst}
 use Rattle.std.specs.List.{AllByRecursion}
 use Rattle.std.proofs.lemmas.Bool.{cases_Bool}
@@ -9,7 +9,7 @@ use Rattle.sms_construct.specs.declared.trace.Trace.{Trace}
 use Rattle.sms_keeper.specs.declared.kept_row.KeptRow.{KeptRow}
 use Rattle.sms_keeper.specs.Tables.{is_reply_of}
 use Rattle.desk_law.specs.State.{Opening}
-use Rattle.desk_law.specs.Grants.{WasEntered, WasGranted, WasOpened}
+use Rattle.desk_law.specs.Grants.{WasEntered, WasGranted}
 use Rattle.desk_records.specs.Tied.{IsSoundOpening}
 
 -- what holds of each row holds of the one that is found

@@ -1,6 +1,7 @@
 // From the bytes of a script to the text of its answers.
 ghost use Rattle.std.specs.Prelude.{◌≡◌, ◌<◌, ◌≤◌, ◌^◌, List, ℕ, [], length, Ok, IfErr, IfOk};
 ghost use Rattle.sms_script.specs.Script.{IsRefusal, script_of};
+ghost use Rattle.desk_words.specs.Words.{most_workers};
 ghost use Rattle.desk_calls.specs.Headline.{IsAnswered, IsLeft, seen_keeper};
 
 use crate::run_text::run_text;
@@ -26,12 +27,12 @@ pub fn answer_text<P: Keeper>(
     requires few { length bytes.now < 2 ^ 32 }
     requires journal { core.journal ≡ [] }
     requires mark { core.mark ≡ P.count core.keeper }
-    ensures answered { IfOk result.0 (λ text. IsAnswered core.opening volumes 1 (seen_keeper P.told P.count core.keeper)
-        (seen_keeper P.told P.count result.1) bytes.now text.items) }
+    ensures answered { IfOk result.0 (λ text. IsAnswered core.opening volumes 1
+        (seen_keeper P.told P.count core.keeper) (seen_keeper P.told P.count result.1) bytes.now text.items) }
     ensures refused { IfErr result.0 (IsRefusal (script_of bytes.now)) }
     ensures unrun { IfErr result.0 (λ fault. (fault ≡ ScriptErr.NoMemory → ⊥) → result.1 ≡ core.keeper) }
-    ensures left { IfErr result.0 (λ _. IsLeft core.opening 1 (seen_keeper P.told P.count core.keeper)
-        (seen_keeper P.told P.count result.1) bytes.now) }
+    ensures left { IfErr result.0 (λ _. IsLeft core.opening 1
+        (seen_keeper P.told P.count core.keeper) (seen_keeper P.told P.count result.1) bytes.now) }
 {
     match read_script(alloc, bytes) {
         Ok(script) => {
@@ -54,15 +55,15 @@ pub fn shared_text<P: Keeper + Send, R: Threads + Wait + Sync, G: Gate + Sync>(
     gate: &G,
 ) -> (Result<Vec<u8>, ScriptErr>, P)
     requires few { length bytes.now < 2 ^ 32 }
-    requires workers { (2 ≤ workers) × (workers ≤ 16) }
+    requires workers { (2 ≤ workers) × (workers ≤ most_workers) }
     requires journal { core.journal ≡ [] }
     requires mark { core.mark ≡ P.count core.keeper }
     ensures answered { IfOk result.0 (λ text. IsAnswered core.opening volumes workers
         (seen_keeper P.told P.count core.keeper) (seen_keeper P.told P.count result.1) bytes.now text.items) }
     ensures refused { IfErr result.0 (IsRefusal (script_of bytes.now)) }
     ensures unrun { IfErr result.0 (λ fault. (fault ≡ ScriptErr.NoMemory → ⊥) → result.1 ≡ core.keeper) }
-    ensures left { IfErr result.0 (λ _. IsLeft core.opening workers (seen_keeper P.told P.count core.keeper)
-        (seen_keeper P.told P.count result.1) bytes.now) }
+    ensures left { IfErr result.0 (λ _. IsLeft core.opening workers
+        (seen_keeper P.told P.count core.keeper) (seen_keeper P.told P.count result.1) bytes.now) }
 {
     match read_script(alloc, bytes) {
         Ok(script) => answer_shared(alloc, rt, &script, volumes, workers, core, gate),
@@ -80,8 +81,8 @@ fn answer_alone<P: Keeper>(
     requires journal { core.journal ≡ [] }
     requires mark { core.mark ≡ P.count core.keeper }
     ensures answered { IfOk result.0 (λ text. (bytes : List ℕ) → script_of bytes ≡ Ok script.now →
-        IsAnswered core.opening volumes 1 (seen_keeper P.told P.count core.keeper)
-        (seen_keeper P.told P.count result.1) bytes text.items) }
+        IsAnswered core.opening volumes 1
+        (seen_keeper P.told P.count core.keeper) (seen_keeper P.told P.count result.1) bytes text.items) }
     ensures wanting { IfErr result.0 (λ fault. fault ≡ ScriptErr.NoMemory) }
     ensures left { IfErr result.0 (λ _. (bytes : List ℕ) → script_of bytes ≡ Ok script.now →
         IsLeft core.opening 1 (seen_keeper P.told P.count core.keeper) (seen_keeper P.told P.count result.1) bytes) }
@@ -111,16 +112,16 @@ fn answer_shared<P: Keeper + Send, R: Threads + Wait + Sync, G: Gate + Sync>(
     core: Core<P>,
     gate: &G,
 ) -> (Result<Vec<u8>, ScriptErr>, P)
-    requires workers { (2 ≤ workers) × (workers ≤ 16) }
+    requires workers { (2 ≤ workers) × (workers ≤ most_workers) }
     requires journal { core.journal ≡ [] }
     requires mark { core.mark ≡ P.count core.keeper }
     ensures answered { IfOk result.0 (λ text. (bytes : List ℕ) → script_of bytes ≡ Ok script.now →
-        IsAnswered core.opening volumes workers (seen_keeper P.told P.count core.keeper)
-        (seen_keeper P.told P.count result.1) bytes text.items) }
+        IsAnswered core.opening volumes workers
+        (seen_keeper P.told P.count core.keeper) (seen_keeper P.told P.count result.1) bytes text.items) }
     ensures wanting { IfErr result.0 (λ fault. fault ≡ ScriptErr.NoMemory) }
     ensures left { IfErr result.0 (λ _. (bytes : List ℕ) → script_of bytes ≡ Ok script.now →
-        IsLeft core.opening workers (seen_keeper P.told P.count core.keeper)
-        (seen_keeper P.told P.count result.1) bytes) }
+        IsLeft core.opening workers
+        (seen_keeper P.told P.count core.keeper) (seen_keeper P.told P.count result.1) bytes) }
 {
     let (answers, core) = run_shared(alloc, rt, script, usize::from(workers), core, gate);
     let Ok(answers) = answers else {

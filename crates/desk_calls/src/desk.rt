@@ -2,7 +2,7 @@
 ghost use Rattle.std.specs.Prelude.{◌≡◌, ◌≤◌, ◌↔◌, ℕ, None, Some, [], true, map, string_bytes, IfSome};
 ghost use Rattle.sms_keeper.specs.Tables.{AreSame, no_rows};
 ghost use Rattle.desk_law.specs.Records.{empty_opening};
-ghost use Rattle.desk_words.specs.Words.{task_in};
+ghost use Rattle.desk_words.specs.Words.{most_items, most_workers, task_in};
 ghost use Rattle.desk_words.specs.declared.task.Task.{Task as Asked};
 ghost use Rattle.desk_words.specs.declared.task.Task.TheVariants.{Generate};
 ghost use Rattle.desk_calls.specs.RunFault.{Ends, LoadEnds, RunEnds, leaves_keeper, leaves_sink};
@@ -111,7 +111,7 @@ fn run_shared<S: Source, K: Sink, P: Keeper + Send, R: Threads + Wait + Sync, G:
     keeper: P,
     gate: &G,
 ) -> (RunStatus, P)
-    requires workers { (2 ≤ workers) × (workers ≤ 16) }
+    requires workers { (2 ≤ workers) × (workers ≤ most_workers) }
     requires tables { IfSome (P.told keeper) (λ rows. AreSame rows no_rows) }
     ensures words { result.0 ≡ RunStatus.BadWords → ⊥ }
     ensures unwritten { leaves_sink result.0 ≡ true → out.new ≡ out.old }
@@ -150,7 +150,7 @@ fn load<S: Source, K: Sink, P: Keeper>(
     out: &mut K,
     keeper: P,
 ) -> (RunStatus, P)
-    requires few { count ≤ 40000 }
+    requires few { count ≤ most_items }
     requires tables { IfSome (P.told keeper) (λ rows. AreSame rows no_rows) }
     ensures words { result.0 ≡ RunStatus.BadWords → ⊥ }
     ensures unread { src.new ≡ src.old }

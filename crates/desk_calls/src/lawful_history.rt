@@ -28,6 +28,6 @@ pub fn legal_is_lawful()
 pub fn new_is_lawful()
     ensures { (history : List Entry) → IsLegal empty_opening history → IsLawfulHistory empty_opening history }
 {
-    // Facts for the proof; nothing runs.
+    // A fact for the proof; nothing runs.
     legal_is_lawful();
 }

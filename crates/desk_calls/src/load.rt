@@ -2,6 +2,7 @@
 ghost use Rattle.std.specs.Prelude.{◌≡◌, ◌≤◌, IfOk, IfSome, OnErr};
 ghost use Rattle.sms_keeper.specs.Tables.{AreSame, no_rows};
 ghost use Rattle.desk_law.specs.Records.{empty_opening};
+ghost use Rattle.desk_words.specs.Words.{most_items};
 ghost use Rattle.desk_calls.specs.Headline.{IsLoadLeft, IsSummed, SumsUp, seen_keeper};
 
 use crate::script_run::run_alone;
@@ -20,12 +21,12 @@ pub fn load_text<P: Keeper>(
     count: u32,
     keeper: P,
 ) -> (Result<Vec<u8>, AllocError>, P)
-    requires few { count ≤ 40000 }
+    requires few { count ≤ most_items }
     requires tables { IfSome (P.told keeper) (λ rows. AreSame rows no_rows) }
-    ensures summed { IfOk result.0 (λ text. IsSummed seed count (seen_keeper P.told P.count keeper)
-        (seen_keeper P.told P.count result.1) text.items) }
-    ensures left { OnErr result.0 (IsLoadLeft seed count (seen_keeper P.told P.count keeper)
-        (seen_keeper P.told P.count result.1)) }
+    ensures summed { IfOk result.0 (λ text. IsSummed seed count
+        (seen_keeper P.told P.count keeper) (seen_keeper P.told P.count result.1) text.items) }
+    ensures left { OnErr result.0 (IsLoadLeft seed count
+        (seen_keeper P.told P.count keeper) (seen_keeper P.told P.count result.1)) }
 {
     let Ok(script) = generate(alloc, seed, count) else {
         return (Err(AllocError), keeper);

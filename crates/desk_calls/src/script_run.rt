@@ -5,6 +5,7 @@ ghost use Rattle.desk_law.specs.History.{IsLegal};
 ghost use Rattle.desk_records.specs.Tied.{faults_in};
 ghost use Rattle.sms_core.specs.Core.{HasTables};
 ghost use Rattle.sms_script.specs.Script.{items_of};
+ghost use Rattle.desk_words.specs.Words.{most_workers};
 ghost use Rattle.desk_workers.specs.Phases.{IsFrontAnswered};
 ghost use Rattle.desk_calls.specs.Headline.{IsRecorded, WasRun, seen_keeper};
 ghost use Rattle.desk_calls.specs.Run.{AnswersFront, AnswersInOrder};
@@ -29,8 +30,8 @@ pub fn run_script<P: Keeper>(
     script: &Script,
     mut core: Core<P>,
 ) -> (Result<Answers, AllocError>, Core<P>)
-    ensures answered { IfOk result.0 (λ answers. AnswersInOrder (items_of script.now) answers core.journal
-        result.1.journal) }
+    ensures answered { IfOk result.0 (λ answers.
+        AnswersInOrder (items_of script.now) answers core.journal result.1.journal) }
     ensures unrun { OnErr result.0 (result.1 ≡ core) }
     ensures opening { result.1.opening ≡ core.opening }
     ensures mark { result.1.mark ≡ core.mark }
@@ -40,10 +41,12 @@ pub fn run_script<P: Keeper>(
 {
     let room = take_room(alloc, script.as_slice());
     let Ok((mut answers, mut slate)) = room else {
+        // A fact for the proof; nothing changes.
         let _journal = core.journal();
         return (Err(AllocError), core);
     };
     answer_phases(script.as_slice(), &mut core, &mut slate, &mut answers);
+    // A fact for the proof; nothing changes.
     let _journal = core.journal();
     (Ok(Items::from_vec(answers)), core)
 }
@@ -58,8 +61,9 @@ pub fn run_alone<P: Keeper>(
 ) -> (Result<Answers, AllocError>, Core<P>)
     requires journal { core.journal ≡ [] }
     requires mark { core.mark ≡ P.count core.keeper }
-    ensures ran { IfOk result.0 (λ answers. WasRun core.opening 1 (seen_keeper P.told P.count core.keeper)
-        (seen_keeper P.told P.count result.1.keeper) script.now answers result.1.journal) }
+    ensures ran { IfOk result.0 (λ answers. WasRun core.opening 1
+        (seen_keeper P.told P.count core.keeper) (seen_keeper P.told P.count result.1.keeper)
+        script.now answers result.1.journal) }
     ensures unrun { OnErr result.0 (result.1 ≡ core) }
     ensures opening { result.1.opening ≡ core.opening }
 {
@@ -78,14 +82,15 @@ pub fn run_shared<P: Keeper + Send, R: Threads + Wait + Sync, G: Gate + Sync>(
     core: Core<P>,
     gate: &G,
 ) -> (Result<Answers, AllocError>, Core<P>)
-    requires workers { (2 ≤ workers) × (workers ≤ 16) }
+    requires workers { (2 ≤ workers) × (workers ≤ most_workers) }
     requires journal { core.journal ≡ [] }
     requires mark { core.mark ≡ P.count core.keeper }
-    ensures ran { IfOk result.0 (λ answers. WasRun core.opening workers (seen_keeper P.told P.count core.keeper)
-        (seen_keeper P.told P.count result.1.keeper) script.now answers result.1.journal) }
+    ensures ran { IfOk result.0 (λ answers. WasRun core.opening workers
+        (seen_keeper P.told P.count core.keeper) (seen_keeper P.told P.count result.1.keeper)
+        script.now answers result.1.journal) }
     ensures front { OnErr result.0 (IsFrontAnswered script.now [] result.1.journal) }
-    ensures recorded { IsRecorded core.opening (seen_keeper P.told P.count core.keeper)
-        (seen_keeper P.told P.count result.1.keeper) result.1.journal }
+    ensures recorded { IsRecorded core.opening
+        (seen_keeper P.told P.count core.keeper) (seen_keeper P.told P.count result.1.keeper) result.1.journal }
     ensures opening { result.1.opening ≡ core.opening }
 {
     // Facts for the proof; nothing changes.
@@ -152,8 +157,8 @@ fn answer_items<P: Keeper>(
     answers: &mut Vec<Answer>,
 )
     requires room { vec_len answers.old + length items.now ≤ vec_capacity answers.old }
-    ensures answered { AnswersFront items.now (length items.now) answers.old.items answers.new.items core.old.journal
-        core.new.journal }
+    ensures answered { AnswersFront items.now (length items.now)
+        answers.old.items answers.new.items core.old.journal core.new.journal }
     ensures capacity { vec_capacity answers.new ≡ vec_capacity answers.old }
     ensures opening { core.new.opening ≡ core.old.opening }
     ensures mark { core.new.mark ≡ core.old.mark }

@@ -1,11 +1,10 @@
 -- Answers that are due, as the history goes on.
 use Rattle.std.proofs.lemmas.Bool.Decides.{nat_tests}
 use Rattle.std.proofs.lemmas.List.Sums.{sum_by-append}
-use Rattle.std.proofs.Common.{◌≡◌, ◌⊎◌, inl, inr, ℕ, zero, suc, ◌+◌, ◌<◌, ◌≤◌, ◌&&◌, ◌||◌, Bool, true, false, cond}
-use Rattle.std.proofs.Common.{List, [], ◌∷◌, ◌++◌, length, append-nil, append_assoc, length-append, refl, sym, ap}
-use Rattle.std.proofs.Common.{subst, ◌∙◌, arith}
+use Rattle.std.proofs.Common.{◌≡◌, ℕ, ◌+◌, ◌≤◌, ◌&&◌, ◌||◌, Bool, true, false, cond}
+use Rattle.std.proofs.Common.{List, [], ◌∷◌, ◌++◌, length, append_assoc, length-append, refl}
+use Rattle.std.proofs.Common.{◌∙◌, arith}
 use Rattle.std.specs.Prelude.{count_by, nat_le}
-use Rattle.std.specs.List.{AllZip}
 use Rattle.sms_construct.specs.declared.entry.Answer.{Answer}
 use Rattle.sms_construct.specs.declared.entry.Entry.{Entry}
 use Rattle.sms_construct.specs.declared.request.Op.{Op}
@@ -19,7 +18,7 @@ use Rattle.desk_records.specs.Full.{is_full_for}
 use Rattle.sms_core.specs.Core.{entry_of}
 use Rattle.sms_script.specs.declared.item.Item.{Item}
 use Rattle.desk_signing.specs.declared.event.Event.{Event}
-use Rattle.desk_signing.specs.Signing.{entries_in, opening_in, by_seat}
+use Rattle.desk_signing.specs.Signing.{entries_in, by_seat}
 use Rattle.desk_signing.proofs.SignLemmas.{entries-starts}
 use Rattle.sms_desk.specs.Signed.{Adds}
 use Rattle.sms_desk.specs.Seats.{Submits}

@@ -1,8 +1,8 @@
 -- Phases one after the other, and items of a phase that are answered in their order.
-use Rattle.std.proofs.Common.{◌≡◌, ◌⊎◌, inl, inr, ℕ, zero, suc, ◌+◌, ◌<◌, ◌≤◌, Bool, true, false, List, [], ◌∷◌, ◌++◌}
+use Rattle.std.proofs.Common.{◌≡◌, ℕ, suc, ◌+◌, ◌<◌, Bool, true, false, List, [], ◌∷◌, ◌++◌}
 use Rattle.std.proofs.Common.{length, take, get_or, append-nil, append_assoc, length-append, refl, sym, ap, subst, ◌∙◌}
 use Rattle.std.proofs.Common.{arith}
-use Rattle.std.specs.Prelude.{Option, filter}
+use Rattle.std.specs.Prelude.{Option}
 use Rattle.sms_construct.specs.declared.entry.Answer.{Answer}
 use Rattle.sms_construct.specs.declared.entry.Entry.{Entry}
 use Rattle.sms_construct.specs.declared.request.Request.{Request}
@@ -12,8 +12,8 @@ use Rattle.desk_law.specs.Kept.{is_entered}
 use Rattle.sms_core.specs.Core.{Enters, entry_of}
 use Rattle.sms_script.specs.declared.item.Item.{Item}
 use Rattle.desk_plan.proofs.FrontLemmas.{made-push, take-length, take-more, take-whole}
-use Rattle.desk_workers.specs.Phases.{AreAnswered, AreDueIn, HasPhase, HasSteps, IsDueIn, IsFrontAnswered}
-use Rattle.desk_workers.specs.Phases.{IsPhaseAnswered, entries_for, entry_for, is_of}
+use Rattle.desk_workers.specs.Phases.{AreAnswered, HasPhase, HasSteps, IsDueIn, IsFrontAnswered}
+use Rattle.desk_workers.specs.Phases.{IsPhaseAnswered, entries_for, entry_for}
 use Rattle.desk_workers.proofs.DueLemmas.{all-due-longer, all-due-push, full-longer}
 
 -- Steps on a core.

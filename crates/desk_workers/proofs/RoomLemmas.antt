@@ -7,9 +7,7 @@ use Rattle.std.specs.VecDeque.{deque_capacity}
 use Rattle.atomic_table.specs.Seated.{TableId}
 use Rattle.sms_keeper.specs.declared.keeper.Keeper.{Ghosts}
 use Rattle.sms_desk.specs.declared.job_seat.JobSeat.{JobSeat}
-use Rattle.sms_desk.specs.Holding.{IsHolding}
-use Rattle.sms_desk.specs.Seats.{HasNoAnswers, HoldsOf, IsJobOf, IsSeated, job_seen, mine_of, seen_at}
-use Rattle.desk_signing.specs.Signing.{IsLegalList}
+use Rattle.sms_desk.specs.Seats.{HasNoAnswers, IsJobOf, IsSeated, job_seen, mine_of, seen_at}
 use Rattle.desk_plan.specs.Sharing.{times}
 use Rattle.desk_workers.specs.Inner.Rooms.{AreKept, HaveRoom}
 use Rattle.desk_workers.specs.Inner.Shared.{IsIdle}

@@ -1,8 +1,8 @@
 -- A phase on a desk that workers share.
-use Rattle.std.proofs.Common.{inl, inr, ◌≡◌, ℕ, zero, suc, ◌+◌, ◌-◌, ◌<◌, ◌≤◌, ◌==◌, true, false, List, [], ◌∷◌, ◌++◌}
-use Rattle.std.proofs.Common.{length, map, take, get_or, All, append-nil, refl, sym, ap, subst, ◌∙◌, arith}
+use Rattle.std.proofs.Common.{inl, inr, ◌≡◌, ℕ, zero, suc, ◌+◌, ◌-◌, ◌<◌, ◌≤◌, true, false, List, [], ◌∷◌, ◌++◌}
+use Rattle.std.proofs.Common.{length, take, get_or, All, append-nil, refl, sym, ap, subst, ◌∙◌, arith}
 use Rattle.std.proofs.lemmas.Bool.{cases_Bool}
-use Rattle.std.specs.Prelude.{Option, Result, Ok, Err, OnOk, OnErr, filter, is_err}
+use Rattle.std.specs.Prelude.{Result, Ok, Err, OnOk, OnErr, filter, is_err}
 use Rattle.std.specs.List.{AllByRecursion}
 use Rattle.atomic_table.specs.Seated.{TableId}
 use Rattle.sms_construct.specs.declared.entry.Answer.{Answer}
@@ -14,23 +14,23 @@ use Rattle.turn_lock.specs.Views.{IsBy, StartsWith, made_by}
 use Rattle.desk_law.specs.State.{Opening}
 use Rattle.desk_law.specs.Kept.{is_entered}
 use Rattle.desk_signing.specs.declared.event.Event.{Event}
-use Rattle.desk_signing.specs.Signing.{entries_in, events, signed, signed_last}
+use Rattle.desk_signing.specs.Signing.{events, signed, signed_last}
 use Rattle.desk_signing.proofs.SignLemmas.{signed_entries}
 use Rattle.sms_desk.specs.declared.job_seat.JobSeat.{JobSeat}
-use Rattle.sms_desk.specs.Seats.{HasNoAnswers, IsJobOf, IsNewJob, StandsJob, job_mine, job_number, job_numbers}
+use Rattle.sms_desk.specs.Seats.{HasNoAnswers, IsJobOf, IsNewJob, StandsJob, job_number, job_numbers}
 use Rattle.sms_desk.specs.Seats.{job_seen, mine_of, number_at, seen_at}
 use Rattle.desk_plan.specs.Plan.{number_in, plan_of, worker_in}
 use Rattle.desk_plan.specs.Sharing.{those}
 use Rattle.desk_plan.proofs.FrontLemmas.{worker-below}
 use Rattle.desk_plan.proofs.SharingLemmas.{all-answers, jobs-in-order, none-at-all}
-use Rattle.desk_workers.specs.Phases.{AreDueIn, HasPhase, IsDueIn, IsPhaseAnswered, entries_for, entry_for, is_of}
+use Rattle.desk_workers.specs.Phases.{HasPhase, IsDueIn, entries_for, entry_for, is_of}
 use Rattle.desk_workers.specs.Inner.Worked.{HasWorked}
 use Rattle.desk_workers.specs.Inner.Merged.{AreQueues, HasMerged}
 use Rattle.desk_workers.specs.Inner.Rooms.{AreKept}
-use Rattle.desk_workers.specs.Inner.Shared.{HasMade, HasShared, IsIdle}
+use Rattle.desk_workers.specs.Inner.Shared.{HasShared, IsIdle}
 use Rattle.desk_workers.proofs.ClosedLemmas.{has-closed}
 use Rattle.desk_workers.proofs.DueLemmas.{all-due-starts}
-use Rattle.desk_workers.proofs.RoomLemmas.{SameIn, same-job}
+use Rattle.desk_workers.proofs.RoomLemmas.{same-job}
 use Rattle.desk_workers.proofs.WorkedLemmas.{starts-on}
 
 -- an answer's entry is of the item's job

@@ -1,9 +1,7 @@
 -- One more item of a worker.
 use Rattle.std.proofs.Common.{◌≡◌, ℕ, ◌+◌, ◌==◌, true, false, List, [], ◌∷◌, ◌++◌, length, refl, sym, ap, ◌∙◌, arith}
-use Rattle.std.proofs.Common.{append-nil, append_assoc, length-append, subst}
-use Rattle.std.specs.VecDeque.{deque_capacity}
+use Rattle.std.proofs.Common.{append-nil, append_assoc, length-append}
 use Rattle.atomic_table.specs.Seated.{TableId}
-use Rattle.sms_construct.specs.declared.entry.Answer.{Answer}
 use Rattle.sms_construct.specs.declared.entry.Entry.{Entry}
 use Rattle.sms_keeper.specs.declared.keeper.Keeper.{Ghosts}
 use Rattle.sms_script.specs.declared.item.Item.{Item}
@@ -13,11 +11,11 @@ use Rattle.desk_signing.specs.declared.event.Event.{Event}
 use Rattle.desk_signing.specs.declared.event.Event.TheVariants.{Made}
 use Rattle.desk_signing.specs.Signing.{entries_in, events}
 use Rattle.sms_desk.specs.declared.job_seat.JobSeat.{JobSeat}
-use Rattle.sms_desk.specs.Seats.{job_mine, job_seen}
-use Rattle.desk_plan.specs.Sharing.{made_of, those, times}
+use Rattle.sms_desk.specs.Seats.{job_seen}
+use Rattle.desk_plan.specs.Sharing.{those, times}
 use Rattle.desk_plan.proofs.FrontLemmas.{made-push}
 use Rattle.desk_plan.proofs.SharingLemmas.{those-push, those-times, times-push}
-use Rattle.desk_workers.specs.Phases.{AreDueIn, entries_for, entry_for}
+use Rattle.desk_workers.specs.Phases.{entries_for, entry_for}
 use Rattle.desk_workers.specs.Inner.Worked.{HasAnswered, HasWorked, IsReady}
 use Rattle.desk_workers.proofs.DueLemmas.{all-due-push, all-due-starts}
 

@@ -25,8 +25,8 @@ pub fn work_all<P: Keeper + Send, R: Threads + Wait + Sync, G: Gate + Sync>(
         IsReady desk.now.lock.table.shared.table_id i plan.now (slice_index_or seats.old i d) }
     ensures count { length seats.new ≡ length seats.old }
     ensures worked { (i : ℕ) (d : Job P P.Keeper) → i < length seats.old →
-        HasWorked desk.now.lock.table.shared.table_id i plan.now items.now (slice_index_or seats.old i d)
-        (slice_index_or seats.new i d) }
+        HasWorked desk.now.lock.table.shared.table_id i plan.now items.now
+        (slice_index_or seats.old i d) (slice_index_or seats.new i d) }
 {
     let count = seats.len();
     if count == 0 {

@@ -52,8 +52,8 @@ fn run_phase<P: Keeper + Send, R: Threads + Wait + Sync, G: Gate + Sync>(
     answers: &mut Vec<Answer>,
 ) -> (Result<(), AllocError>, Core<P>)
     requires workers { (2 ≤ crew.now.workers) × (crew.now.workers ≤ 16) }
-    ensures answered { OnOk result.0 (HasPhase items.now answers.old.items answers.new.items core.journal
-        result.1.journal) }
+    ensures answered { OnOk result.0
+        (HasPhase items.now answers.old.items answers.new.items core.journal result.1.journal) }
     ensures wanting { OnErr result.0 ((answers.new.items ≡ answers.old.items) × (result.1.journal ≡ core.journal)) }
     ensures opening { result.1.opening ≡ core.opening }
     ensures mark { result.1.mark ≡ core.mark }

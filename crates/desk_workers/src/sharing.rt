@@ -28,8 +28,8 @@ pub fn share_phase<P: Keeper + Send, R: Threads + Wait + Sync, G: Gate + Sync>(
 ) -> (Result<(), AllocError>, Core<P>)
     requires workers { (2 ≤ crew.now.workers) × (crew.now.workers ≤ 16) }
     requires room { vec_len answers.old + length items.now ≤ vec_capacity answers.old }
-    ensures answered { OnOk result.0 (HasPhase items.now answers.old.items answers.new.items core.journal
-        result.1.journal) }
+    ensures answered { OnOk result.0
+        (HasPhase items.now answers.old.items answers.new.items core.journal result.1.journal) }
     ensures wanting { OnErr result.0 ((answers.new.items ≡ answers.old.items) × (result.1.journal ≡ core.journal)) }
     ensures opening { result.1.opening ≡ core.opening }
     ensures mark { result.1.mark ≡ core.mark }
@@ -63,10 +63,10 @@ fn answer_all<P: Keeper + Send, R: Threads + Wait + Sync, G: Gate + Sync>(
     requires room { vec_len answers.old + length plan.now ≤ vec_capacity answers.old }
     ensures count { length seats.new ≡ length seats.old }
     ensures jobs { All (IsJobOf desk.now.lock.table.shared.table_id) seats.new }
-    ensures answered { OnOk result (HasShared desk.now.lock.table.shared.table_id plan.now items.now seats.old seats.new
-        answers.old.items answers.new.items) }
-    ensures wanting { OnErr result (HasShared desk.now.lock.table.shared.table_id [] [] seats.old seats.new
-        answers.old.items answers.new.items) }
+    ensures answered { OnOk result (HasShared desk.now.lock.table.shared.table_id plan.now items.now
+        seats.old seats.new answers.old.items answers.new.items) }
+    ensures wanting { OnErr result (HasShared desk.now.lock.table.shared.table_id [] []
+        seats.old seats.new answers.old.items answers.new.items) }
 {
     take_rooms(plan, seats)?;
     work_all(crew.rt, desk, plan, items, seats, crew.gate);

@@ -10,7 +10,8 @@ use sms_script::{is_key, read_op};
 use std::alloc::{AllocError, Global};
 
 const JOB: &str =
-    "SYNC alone, or the name of a job: 1 to 8 letters, digits, #, @ and $, the first no digit, and then a space (a tab is none)";
+    "SYNC alone, or the name of a job: 1 to 8 letters, digits, #, @ and $, the first no digit, \
+    and then a space (a tab is none)";
 
 const NUMBER: &str = "a request number, 1 to 4294967295";
 

@@ -30,12 +30,12 @@ pub fn manage_text<P: Keeper>(
 ) -> (Result<Vec<u8>, ScriptErr>, P)
     requires few { length bytes.now < 2 ^ 32 }
     requires tables { IfSome (P.told keeper) (λ rows. AreSame rows no_rows) }
-    ensures answered { IfOk result.0 (λ text. IsAnsweredAndManaged day (seen_keeper P.told P.count keeper)
-        (seen_keeper P.told P.count result.1) bytes.now text.items) }
+    ensures answered { IfOk result.0 (λ text. IsAnsweredAndManaged day
+        (seen_keeper P.told P.count keeper) (seen_keeper P.told P.count result.1) bytes.now text.items) }
     ensures refused { IfErr result.0 (IsRefusal (managed_script_of bytes.now)) }
     ensures unrun { IfErr result.0 (λ fault. (fault ≡ ScriptErr.NoMemory → ⊥) → result.1 ≡ keeper) }
-    ensures left { IfErr result.0 (λ _. IsManageLeft (seen_keeper P.told P.count keeper)
-        (seen_keeper P.told P.count result.1) bytes.now) }
+    ensures left { IfErr result.0 (λ _. IsManageLeft
+        (seen_keeper P.told P.count keeper) (seen_keeper P.told P.count result.1) bytes.now) }
 {
     match read_managed(alloc, bytes) {
         Ok(script) => manage_script(alloc, &script, day, keeper),
@@ -53,13 +53,13 @@ fn manage_script<P: Keeper>(
     requires free { are_free script.now ≡ true }
     requires tables { IfSome (P.told keeper) (λ rows. AreSame rows no_rows) }
     ensures answered { IfOk result.0 (λ text. (bytes : List ℕ) → managed_script_of bytes ≡ Ok script.now →
-        IsAnsweredAndManaged day (seen_keeper P.told P.count keeper) (seen_keeper P.told P.count result.1) bytes
-        text.items) }
+        IsAnsweredAndManaged day
+        (seen_keeper P.told P.count keeper) (seen_keeper P.told P.count result.1) bytes text.items) }
     ensures wanting { IfErr result.0 (λ fault. fault ≡ ScriptErr.NoMemory) }
     ensures left { IfErr result.0 (λ _. (bytes : List ℕ) → managed_script_of bytes ≡ Ok script.now →
         IsManageLeft (seen_keeper P.told P.count keeper) (seen_keeper P.told P.count result.1) bytes) }
 {
-    // Facts for the proof; nothing runs.
+    // A fact for the proof; nothing runs.
     new_is_lawful();
     let (answers, mut core) = run_script(alloc, script, Core::new(alloc, keeper));
     let Ok(answers) = answers else {

@@ -77,8 +77,9 @@ fn deck(alloc: Global, text: &[u8]) -> Result<Op, Fail> {
 }
 
 #[rattlefmt::skip]
-static PARTS: [Part; 6] = [Part::Account, Part::DataClass, Part::Cylinders, Part::Volumes, Part::Day,
-Part::ManagedSpace];
+static PARTS: [Part; 6] = [
+    Part::Account, Part::DataClass, Part::Cylinders, Part::Volumes, Part::Day, Part::ManagedSpace,
+];
 
 #[test]
 fn ops_are_equal_where_all_their_fields_are(rt: HostRuntime) -> Result<(), Fail> {

@@ -1,4 +1,5 @@
 pub mod OneHistory
+pub mod Seen
 pub mod ServedText
 pub mod ServeEnds
 pub mod ServeStatuses

@@ -2,6 +2,7 @@
 ghost use Rattle.std.specs.Prelude.{◌≡◌, ◌≤◌, [], IfOk, OnErr, length, map, vec_capacity};
 ghost use Rattle.serve_calls.specs.OneHistory.{IsOneHistory};
 ghost use Rattle.serve_calls.specs.ServeEnds.{AreServed};
+ghost use Rattle.serve_calls.specs.Seen.{seen_door, seen_link};
 
 use crate::core_bench::CoreBench;
 use crate::served_doors::ServedDoors;
@@ -25,32 +26,10 @@ pub fn serve_alone<A: Accept, P: Keeper>(
     requires count { length doors.old.items ≡ 1 }
     requires new { core.journal ≡ [] }
     ensures served { IfOk result.0 (λ found. AreServed
-        (λ link. record {
-          left = A.Conn.left link;
-          reads = A.Conn.reads link;
-          read_faults = A.Conn.read_faults link;
-          taken = A.Conn.taken link;
-          write_faults = A.Conn.write_faults link;
-        })
+        (seen_link A.Conn.left A.Conn.reads A.Conn.read_faults A.Conn.taken A.Conn.write_faults)
         most
-        (map (λ door. record {
-          asked = A.asked door;
-          given = A.given door;
-          ended = A.ended door;
-          door_faults = A.door_faults door;
-          link_faults = A.link_faults door;
-          waiting = A.waiting door;
-          back = A.back door;
-        }) doors.old.items)
-        (map (λ door. record {
-          asked = A.asked door;
-          given = A.given door;
-          ended = A.ended door;
-          door_faults = A.door_faults door;
-          link_faults = A.link_faults door;
-          waiting = A.waiting door;
-          back = A.back door;
-        }) doors.new.items)
+        (map (seen_door A.asked A.given A.ended A.door_faults A.link_faults A.waiting A.back) doors.old.items)
+        (map (seen_door A.asked A.given A.ended A.door_faults A.link_faults A.waiting A.back) doors.new.items)
         found.visits found.ends.items) }
     ensures once { IfOk result.0 (λ found. IsOneHistory found.visits result.1.journal) }
     ensures opening { result.1.opening ≡ core.opening }

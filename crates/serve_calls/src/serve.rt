@@ -4,11 +4,13 @@ ghost use Rattle.std.specs.Prelude.{string_bytes, IfOk, IfSome, OnErr};
 ghost use Rattle.sms_keeper.specs.Tables.{AreSame, no_rows};
 ghost use Rattle.desk_law.specs.Records.{empty_opening};
 ghost use Rattle.desk_words.specs.Serving.{serving_in};
+ghost use Rattle.desk_words.specs.Words.{most_workers};
 ghost use Rattle.desk_words.specs.declared.served.ServeWords.{ServeWords as Asked};
 ghost use Rattle.serve_calls.specs.OneHistory.{IsOneHistory, WasHeard};
 ghost use Rattle.serve_calls.specs.ServedText.{served_text};
 ghost use Rattle.serve_calls.specs.ServeEnds.{AllowsStatus, AreServed, IsServeEnd, IsTold, WereServed, WereUnasked};
 ghost use Rattle.serve_calls.specs.ServeEnds.{leaves_sink};
+ghost use Rattle.serve_calls.specs.Seen.{seen_door, seen_link, seen_sink};
 ghost use Rattle.desk_calls.specs.Headline.{seen_keeper};
 
 use crate::alone::serve_alone;
@@ -64,35 +66,13 @@ where
     ensures ends { (asked : Asked) → serving_in (map string_bytes words.now) ≡ Some asked →
         WereUnasked doors.items result.2.items keeper result.1.keeper result.3 result.0
         ⊎ WereServed
-        (λ link. record {
-          left = A.Conn.left link;
-          reads = A.Conn.reads link;
-          read_faults = A.Conn.read_faults link;
-          taken = A.Conn.taken link;
-          write_faults = A.Conn.write_faults link;
-        })
+        (seen_link A.Conn.left A.Conn.reads A.Conn.read_faults A.Conn.taken A.Conn.write_faults)
         asked.connections
-        (map (λ door. record {
-          asked = A.asked door;
-          given = A.given door;
-          ended = A.ended door;
-          door_faults = A.door_faults door;
-          link_faults = A.link_faults door;
-          waiting = A.waiting door;
-          back = A.back door;
-        }) doors.items)
-        (map (λ door. record {
-          asked = A.asked door;
-          given = A.given door;
-          ended = A.ended door;
-          door_faults = A.door_faults door;
-          link_faults = A.link_faults door;
-          waiting = A.waiting door;
-          back = A.back door;
-        }) result.2.items)
+        (map (seen_door A.asked A.given A.ended A.door_faults A.link_faults A.waiting A.back) doors.items)
+        (map (seen_door A.asked A.given A.ended A.door_faults A.link_faults A.waiting A.back) result.2.items)
         result.3 (length result.1.journal)
-        (record { taken = K.taken out.old; faults = K.write_faults out.old })
-        (record { taken = K.taken out.new; faults = K.write_faults out.new })
+        (seen_sink K.taken K.write_faults out.old)
+        (seen_sink K.taken K.write_faults out.new)
         result.0 }
 {
     match serve_words(words) {
@@ -123,7 +103,7 @@ fn serve_doors<
 where
     A::Conn: Send,
     requires tables { IfSome (P.told keeper) (λ rows. AreSame rows no_rows) }
-    requires doors { (1 ≤ length doors.items) × (length doors.items ≤ 16) }
+    requires doors { (1 ≤ length doors.items) × (length doors.items ≤ most_workers) }
     ensures words { result.0 ≡ ServeStatus.BadWords → ⊥ }
     ensures unwritten { leaves_sink result.0 ≡ true → out.new ≡ out.old }
     ensures opening { result.1.opening ≡ empty_opening }
@@ -133,35 +113,13 @@ where
         result.3 result.1.journal }
     ensures ends { WereUnasked doors.items result.2.items keeper result.1.keeper result.3 result.0
         ⊎ WereServed
-        (λ link. record {
-          left = A.Conn.left link;
-          reads = A.Conn.reads link;
-          read_faults = A.Conn.read_faults link;
-          taken = A.Conn.taken link;
-          write_faults = A.Conn.write_faults link;
-        })
+        (seen_link A.Conn.left A.Conn.reads A.Conn.read_faults A.Conn.taken A.Conn.write_faults)
         most
-        (map (λ door. record {
-          asked = A.asked door;
-          given = A.given door;
-          ended = A.ended door;
-          door_faults = A.door_faults door;
-          link_faults = A.link_faults door;
-          waiting = A.waiting door;
-          back = A.back door;
-        }) doors.items)
-        (map (λ door. record {
-          asked = A.asked door;
-          given = A.given door;
-          ended = A.ended door;
-          door_faults = A.door_faults door;
-          link_faults = A.link_faults door;
-          waiting = A.waiting door;
-          back = A.back door;
-        }) result.2.items)
+        (map (seen_door A.asked A.given A.ended A.door_faults A.link_faults A.waiting A.back) doors.items)
+        (map (seen_door A.asked A.given A.ended A.door_faults A.link_faults A.waiting A.back) result.2.items)
         result.3 (length result.1.journal)
-        (record { taken = K.taken out.old; faults = K.write_faults out.old })
-        (record { taken = K.taken out.new; faults = K.write_faults out.new })
+        (seen_sink K.taken K.write_faults out.old)
+        (seen_sink K.taken K.write_faults out.new)
         result.0 }
 {
     let mut doors = doors;
@@ -188,9 +146,10 @@ fn new_core<P: Keeper>(alloc: Global, keeper: P) -> Core<P>
     ensures keeper { result.keeper ≡ keeper }
     ensures mark { result.mark ≡ P.count keeper }
 {
-    // Facts for the proof; nothing changes.
+    // A fact for the proof; nothing runs.
     new_is_lawful();
     let core = Core::new(alloc, keeper);
+    // A fact for the proof; nothing changes.
     let _journal = core.journal();
     core
 }
@@ -207,34 +166,12 @@ fn serve_new<A: Accept + Drop + Send, P: Keeper + Send, R: Threads + Wait + Sync
 where
     A::Conn: Send,
     requires tables { IfSome (P.told keeper) (λ rows. AreSame rows no_rows) }
-    requires count { (1 ≤ length doors.old.items) × (length doors.old.items ≤ 16) }
+    requires count { (1 ≤ length doors.old.items) × (length doors.old.items ≤ most_workers) }
     ensures served { IfOk result.0 (λ found. AreServed
-        (λ link. record {
-          left = A.Conn.left link;
-          reads = A.Conn.reads link;
-          read_faults = A.Conn.read_faults link;
-          taken = A.Conn.taken link;
-          write_faults = A.Conn.write_faults link;
-        })
+        (seen_link A.Conn.left A.Conn.reads A.Conn.read_faults A.Conn.taken A.Conn.write_faults)
         most
-        (map (λ door. record {
-          asked = A.asked door;
-          given = A.given door;
-          ended = A.ended door;
-          door_faults = A.door_faults door;
-          link_faults = A.link_faults door;
-          waiting = A.waiting door;
-          back = A.back door;
-        }) doors.old.items)
-        (map (λ door. record {
-          asked = A.asked door;
-          given = A.given door;
-          ended = A.ended door;
-          door_faults = A.door_faults door;
-          link_faults = A.link_faults door;
-          waiting = A.waiting door;
-          back = A.back door;
-        }) doors.new.items)
+        (map (seen_door A.asked A.given A.ended A.door_faults A.link_faults A.waiting A.back) doors.old.items)
+        (map (seen_door A.asked A.given A.ended A.door_faults A.link_faults A.waiting A.back) doors.new.items)
         found.visits found.ends.items) }
     ensures heard { IfOk result.0 (λ found. WasHeard
         (seen_keeper P.told P.count keeper)
@@ -247,10 +184,11 @@ where
         [] result.1.journal) }
     ensures unasked { OnErr result.0 ((doors.new ≡ doors.old) × (result.1.keeper ≡ keeper)) }
 {
-    // Facts for the proof; nothing changes.
+    // A fact for the proof; nothing runs.
     new_is_lawful();
     let core = new_core(alloc, keeper);
     let (served, core) = serve_core(alloc, rt, most, doors, core, gate);
+    // A fact for the proof; nothing changes.
     let _journal = core.journal();
     (served, core)
 }
@@ -266,35 +204,13 @@ fn serve_core<A: Accept + Drop + Send, P: Keeper + Send, R: Threads + Wait + Syn
 ) -> (Result<ServedDoors, AllocError>, Core<P>)
 where
     A::Conn: Send,
-    requires count { (1 ≤ length doors.old.items) × (length doors.old.items ≤ 16) }
+    requires count { (1 ≤ length doors.old.items) × (length doors.old.items ≤ most_workers) }
     requires new { core.journal ≡ [] }
     ensures served { IfOk result.0 (λ found. AreServed
-        (λ link. record {
-          left = A.Conn.left link;
-          reads = A.Conn.reads link;
-          read_faults = A.Conn.read_faults link;
-          taken = A.Conn.taken link;
-          write_faults = A.Conn.write_faults link;
-        })
+        (seen_link A.Conn.left A.Conn.reads A.Conn.read_faults A.Conn.taken A.Conn.write_faults)
         most
-        (map (λ door. record {
-          asked = A.asked door;
-          given = A.given door;
-          ended = A.ended door;
-          door_faults = A.door_faults door;
-          link_faults = A.link_faults door;
-          waiting = A.waiting door;
-          back = A.back door;
-        }) doors.old.items)
-        (map (λ door. record {
-          asked = A.asked door;
-          given = A.given door;
-          ended = A.ended door;
-          door_faults = A.door_faults door;
-          link_faults = A.link_faults door;
-          waiting = A.waiting door;
-          back = A.back door;
-        }) doors.new.items)
+        (map (seen_door A.asked A.given A.ended A.door_faults A.link_faults A.waiting A.back) doors.old.items)
+        (map (seen_door A.asked A.given A.ended A.door_faults A.link_faults A.waiting A.back) doors.new.items)
         found.visits found.ends.items) }
     ensures once { IfOk result.0 (λ found. IsOneHistory found.visits result.1.journal) }
     ensures opening { result.1.opening ≡ core.opening }
@@ -319,8 +235,8 @@ fn write_visits<K: Sink>(
     ensures words { result ≡ ServeStatus.BadWords → ⊥ }
     ensures unwritten { leaves_sink result ≡ true → out.new ≡ out.old }
     ensures ends { IsServeEnd ends.now
-        (record { taken = K.taken out.old; faults = K.write_faults out.old })
-        (record { taken = K.taken out.new; faults = K.write_faults out.new })
+        (seen_sink K.taken K.write_faults out.old)
+        (seen_sink K.taken K.write_faults out.new)
         (served_text visits.now entries) result }
 {
     match status_of(ends) {
@@ -361,8 +277,8 @@ fn write_text<K: Sink>(
     out: &mut K,
 ) -> ServeStatus
     ensures told { IsTold done
-        (record { taken = K.taken out.old; faults = K.write_faults out.old })
-        (record { taken = K.taken out.new; faults = K.write_faults out.new })
+        (seen_sink K.taken K.write_faults out.old)
+        (seen_sink K.taken K.write_faults out.new)
         (served_text visits.now entries) result }
     ensures unwritten { leaves_sink done ≡ false → leaves_sink result ≡ true → out.new ≡ out.old }
 {

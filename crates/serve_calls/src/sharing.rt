@@ -1,8 +1,10 @@
 //! Doors that several workers serve.
 ghost use Rattle.std.specs.Prelude.{◌≡◌, ◌≤◌, [], All, IfOk, OnErr, map, vec_capacity, vec_len};
 ghost use Rattle.sms_desk.specs.Seats.{IsJobOf};
+ghost use Rattle.desk_words.specs.Words.{most_workers};
 ghost use Rattle.serve_calls.specs.OneHistory.{IsOneHistory};
 ghost use Rattle.serve_calls.specs.ServeEnds.{AreServed};
+ghost use Rattle.serve_calls.specs.Seen.{seen_door, seen_link};
 ghost use Rattle.serve_calls.specs.Inner.Workers.{DidShifts};
 
 use crate::manning::{hand_out, take_back};
@@ -36,35 +38,13 @@ pub fn serve_shared<
 ) -> (Result<ServedDoors, AllocError>, Core<P>)
 where
     A::Conn: Send,
-    requires count { (2 ≤ vec_len doors.old) × (vec_len doors.old ≤ 16) }
+    requires count { (2 ≤ vec_len doors.old) × (vec_len doors.old ≤ most_workers) }
     requires new { core.journal ≡ [] }
     ensures served { IfOk result.0 (λ found. AreServed
-        (λ link. record {
-          left = A.Conn.left link;
-          reads = A.Conn.reads link;
-          read_faults = A.Conn.read_faults link;
-          taken = A.Conn.taken link;
-          write_faults = A.Conn.write_faults link;
-        })
+        (seen_link A.Conn.left A.Conn.reads A.Conn.read_faults A.Conn.taken A.Conn.write_faults)
         most
-        (map (λ door. record {
-          asked = A.asked door;
-          given = A.given door;
-          ended = A.ended door;
-          door_faults = A.door_faults door;
-          link_faults = A.link_faults door;
-          waiting = A.waiting door;
-          back = A.back door;
-        }) doors.old.items)
-        (map (λ door. record {
-          asked = A.asked door;
-          given = A.given door;
-          ended = A.ended door;
-          door_faults = A.door_faults door;
-          link_faults = A.link_faults door;
-          waiting = A.waiting door;
-          back = A.back door;
-        }) doors.new.items)
+        (map (seen_door A.asked A.given A.ended A.door_faults A.link_faults A.waiting A.back) doors.old.items)
+        (map (seen_door A.asked A.given A.ended A.door_faults A.link_faults A.waiting A.back) doors.new.items)
         found.visits found.ends.items) }
     ensures once { IfOk result.0 (λ found. IsOneHistory found.visits result.1.journal) }
     ensures opening { result.1.opening ≡ core.opening }
@@ -134,22 +114,8 @@ where
         (vec_len doors.old ≤ vec_capacity visits.old) }
     requires ends { (ends.old.items ≡ []) × (vec_len ends.old ≡ 0) × (vec_len doors.old ≤ vec_capacity ends.old) }
     ensures done { DidShifts
-        (λ link. record {
-          left = A.Conn.left link;
-          reads = A.Conn.reads link;
-          read_faults = A.Conn.read_faults link;
-          taken = A.Conn.taken link;
-          write_faults = A.Conn.write_faults link;
-        })
-        (λ door. record {
-          asked = A.asked door;
-          given = A.given door;
-          ended = A.ended door;
-          door_faults = A.door_faults door;
-          link_faults = A.link_faults door;
-          waiting = A.waiting door;
-          back = A.back door;
-        })
+        (seen_link A.Conn.left A.Conn.reads A.Conn.read_faults A.Conn.taken A.Conn.write_faults)
+        (seen_door A.asked A.given A.ended A.door_faults A.link_faults A.waiting A.back)
         desk.now.lock.table.shared.table_id most
         seats.old.items seats.new.items doors.old.items doors.new.items visits.new.items ends.new.items }
 {

@@ -1,6 +1,7 @@
 // What the workers do.
 ghost use Rattle.std.specs.Prelude.{◌≡◌, ◌<◌, ℕ, All, length, slice_index_or};
 ghost use Rattle.serve_calls.specs.declared.worker.Worker.{Worker as WorkerOf};
+ghost use Rattle.serve_calls.specs.Seen.{seen_door, seen_link};
 ghost use Rattle.serve_calls.specs.Inner.Workers.{DidShift, HasSeat};
 
 use crate::seat_bench::SeatBench;
@@ -28,22 +29,8 @@ where
     requires { All (HasSeat desk.now.lock.table.shared.table_id) workers.old }
     ensures count { length workers.new ≡ length workers.old }
     ensures shifts { (i : ℕ) (d : WorkerOf A P P.Keeper) → i < length workers.old → DidShift
-        (λ link. record {
-          left = A.Conn.left link;
-          reads = A.Conn.reads link;
-          read_faults = A.Conn.read_faults link;
-          taken = A.Conn.taken link;
-          write_faults = A.Conn.write_faults link;
-        })
-        (λ door. record {
-          asked = A.asked door;
-          given = A.given door;
-          ended = A.ended door;
-          door_faults = A.door_faults door;
-          link_faults = A.link_faults door;
-          waiting = A.waiting door;
-          back = A.back door;
-        })
+        (seen_link A.Conn.left A.Conn.reads A.Conn.read_faults A.Conn.taken A.Conn.write_faults)
+        (seen_door A.asked A.given A.ended A.door_faults A.link_faults A.waiting A.back)
         desk.now.lock.table.shared.table_id (slice_index_or workers.old i d) (slice_index_or workers.new i d) }
 {
     let count = workers.len();
@@ -57,22 +44,8 @@ where
         &|_i: usize, worker: &mut Worker<A, P>|
             requires { HasSeat desk.now.lock.table.shared.table_id worker.old }
             ensures { DidShift
-                (λ link. record {
-                  left = A.Conn.left link;
-                  reads = A.Conn.reads link;
-                  read_faults = A.Conn.read_faults link;
-                  taken = A.Conn.taken link;
-                  write_faults = A.Conn.write_faults link;
-                })
-                (λ door. record {
-                  asked = A.asked door;
-                  given = A.given door;
-                  ended = A.ended door;
-                  door_faults = A.door_faults door;
-                  link_faults = A.link_faults door;
-                  waiting = A.waiting door;
-                  back = A.back door;
-                })
+                (seen_link A.Conn.left A.Conn.reads A.Conn.read_faults A.Conn.taken A.Conn.write_faults)
+                (seen_door A.asked A.given A.ended A.door_faults A.link_faults A.waiting A.back)
                 desk.entry.now.lock.table.shared.table_id worker.old worker.new }
         { work(rt, desk, worker, gate) },
     );
@@ -87,22 +60,8 @@ fn work<A: Accept, P: Keeper, R: Wait, G: Gate>(
 )
     requires { HasSeat desk.now.lock.table.shared.table_id worker.old }
     ensures { DidShift
-        (λ link. record {
-          left = A.Conn.left link;
-          reads = A.Conn.reads link;
-          read_faults = A.Conn.read_faults link;
-          taken = A.Conn.taken link;
-          write_faults = A.Conn.write_faults link;
-        })
-        (λ door. record {
-          asked = A.asked door;
-          given = A.given door;
-          ended = A.ended door;
-          door_faults = A.door_faults door;
-          link_faults = A.link_faults door;
-          waiting = A.waiting door;
-          back = A.back door;
-        })
+        (seen_link A.Conn.left A.Conn.reads A.Conn.read_faults A.Conn.taken A.Conn.write_faults)
+        (seen_door A.asked A.given A.ended A.door_faults A.link_faults A.waiting A.back)
         desk.now.lock.table.shared.table_id worker.old worker.new }
 {
     let Ok(routes) = Routes::new(worker.alloc) else {

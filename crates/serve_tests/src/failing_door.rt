@@ -28,7 +28,7 @@ impl Accept for FailingDoor {
     ghost back = { λ d. Some d.door.back };
 
     fn accept(&mut self) -> Result<Option<MemLink>, Failed> {
-        // Facts for the proof; nothing runs.
+        // A fact for the proof; nothing changes.
         let _back = self.door.back();
         if self.left == 0 {
             self.ended = false;

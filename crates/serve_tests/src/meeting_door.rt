@@ -27,7 +27,7 @@ impl<'a> Accept for MeetingDoor<'a> {
     ghost back = { λ d. Some d.door.back };
 
     fn accept(&mut self) -> Result<Option<MemLink>, Failed> {
-        // Facts for the proof; nothing runs.
+        // A fact for the proof; nothing changes.
         let _back = self.door.back();
         self.meeting.meet();
         self.door.accept()

@@ -25,12 +25,13 @@ impl<P: Keeper> Desk<P> {
         seats: usize,
     ) -> Result<(Desk<P>, JobSeats<P>), (Core<P>, AllocError)>
         requires { (0 < seats) × (seats ≤ 16) }
-        ensures all { IfOk result (λ r. AreAllJobs r.0.lock.table.shared.table_id r.0.lock.table.shared.key.seats
-            r.1.jobs.items) }
+        ensures all { IfOk result (λ r.
+            AreAllJobs r.0.lock.table.shared.table_id r.0.lock.table.shared.key.seats r.1.jobs.items) }
         ensures count { IfOk result (λ r. length r.1.jobs.items ≡ seats) }
-        ensures new { IfOk result
-            (λ r. All (IsNewJob r.0.lock.table.shared.table_id
-            (signed core.opening core.mark (length core.journal) core.journal [])) r.1.jobs.items) }
+        ensures new { IfOk result (λ r. All
+            (IsNewJob r.0.lock.table.shared.table_id
+            (signed core.opening core.mark (length core.journal) core.journal []))
+            r.1.jobs.items) }
         ensures numbers { IfOk result (λ r. AreNumberedDown seats r.1.jobs.items) }
         ensures idle { IfOk result (λ r. All HasNoAnswers r.1.jobs.items) }
         ensures core { IfErr result (λ e. e.0 ≡ core) }

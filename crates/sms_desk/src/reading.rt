@@ -20,7 +20,7 @@ pub fn read_ahead(alloc: Global, deck: &DeckText) -> Result<ReadAhead, AllocErro
     ensures read { IfOk result (λ ahead. IsReadAs deck.now ahead.read) }
     ensures own { IfOk result (λ ahead. IsOwnOf deck.now ahead.own) }
 {
-    // Facts for the proof; nothing runs.
+    // A fact for the proof; nothing runs.
     one_reading();
     match read_deck(alloc, deck) {
         Ok(config) => share_read(alloc, config),

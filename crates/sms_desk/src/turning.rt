@@ -125,8 +125,8 @@ impl<P: Keeper> Desk<P> {
         requires work { IsWorkFor (list_of turn.value) request.now slate.old work }
         requires own { IsOwn request.now own }
         requires held { HoldsOf (list_of turn.value) held.old }
-        ensures { TookTurn self.now.lock.table.shared.table_id number (list_of turn.value) result.0 held.old held.new
-            request.now result.1 }
+        ensures { TookTurn self.now.lock.table.shared.table_id number (list_of turn.value)
+            result.0 held.old held.new request.now result.1 }
     {
         if refresh(&turn.shown().core, held).is_err() {
             return (self.lock.give(turn), no_memory());

@@ -1,6 +1,6 @@
 -- How many workers the words ask for.
-use Rattle.std.proofs.Common.{◌≡◌, List, ℕ, ap, sym}
-use Rattle.std.specs.Prelude.{Option, Some}
+use Rattle.std.proofs.Common.{◌≡◌, List, ℕ, ap}
+use Rattle.std.specs.Prelude.{Some}
 use Rattle.desk_words.specs.Serving.{serving_in}
 use Rattle.desk_words.specs.declared.served.ServeWords.{ServeWords}
 

@@ -44,8 +44,9 @@ translated_text kind count = codes "TRANSLATED " ++ (name_of kind ++ (codes " " 
 
 -- the line of a fault
 abbrev pub fault_text : RoutineFault → List ℕ
-fault_text fault = codes
-    "FAULT " ++ (letter_of fault.stage ++ (decimal fault.number ++ (codes " " ++ (decimal fault.at ++ codes "\n"))))
+fault_text fault =
+    codes "FAULT " ++ (letter_of fault.stage ++ (decimal fault.number
+    ++ (codes " " ++ (decimal fault.at ++ codes "\n"))))
 
 -- the line of a deck with so many storage groups and volumes
 abbrev pub valid_text : ℕ → ℕ → List ℕ

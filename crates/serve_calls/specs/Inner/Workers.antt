@@ -68,8 +68,7 @@ module _ {A P : Type 0} {keeper : Ghosts P} where
 
     -- a worker at each seat and each door did its shift
     pub record DidShifts (most : ℕ) (seats seats' : List (JobSeat P keeper)) (doors doors' : List A)
-        (visits : List (List Visit))
-        (ends : List DoorEnd) : Type 0 where
+        (visits : List (List Visit)) (ends : List DoorEnd) : Type 0 where
       pub shifts : List (Shift A P keeper)
       pub each : All (IsShift most) shifts
       pub seats_are : seats ≡ map (λ one. one.seat_before) shifts

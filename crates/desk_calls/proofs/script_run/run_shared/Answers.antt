@@ -1,4 +1,4 @@
-use Rattle.std.proofs.Common.{◌≡◌, ◌∙◌}
+use Rattle.std.proofs.Common.{◌∙◌}
 use Rattle.desk_calls.proofs.script_run.run_shared.Goals as goal
 
 -- what is legal behind a sound opening is lawful, and the keeper's count and tables go with it

@@ -1,4 +1,4 @@
-use Rattle.std.proofs.Common.{◌≡◌, ◌<◌, length, arith, refl, subst, ◌∙◌, rules}
+use Rattle.std.proofs.Common.{◌≡◌, length, arith, refl, subst, ◌∙◌, rules}
 use Rattle.desk_workers.proofs.MergedLemmas.{merged-all, merged-none, merged-push, some-left}
 use Rattle.desk_workers.specs.Inner.Merged.{MergesFront}
 use Rattle.desk_workers.proofs.merging.merge.Goals as goal

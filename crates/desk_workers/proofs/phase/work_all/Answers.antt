@@ -1,7 +1,7 @@
-use Rattle.std.proofs.Common.{rules, ◌≡◌, ◌≤◌, ◌<◌, ℕ, length, slice_index_or, subst₂}
+use Rattle.std.proofs.Common.{subst₂}
 use denote.Param.Send.{sendable}
 use Rattle.sms_script.proofs.item.Item.TheSendSync as item
-use Rattle.desk_workers.specs.Inner.Worked.{HasWorked, IsReady}
+use Rattle.desk_workers.specs.Inner.Worked.{HasWorked}
 use Rattle.desk_workers.proofs.SendLemmas.{desk-sync, job_seat-send}
 use Rattle.desk_workers.proofs.phase.work_all.Goals as goal
 

@@ -1,4 +1,4 @@
-use Rattle.std.proofs.Common.{◌≡◌, ◌+◌, ◌<◌, false, take, add-one, ◌∙◌, rules}
+use Rattle.std.proofs.Common.{◌≡◌, false, add-one, ◌∙◌, rules}
 use Rattle.std.specs.Prelude.{is_err}
 use Rattle.desk_workers.specs.Phases.{HasPhase}
 use Rattle.desk_workers.proofs.PhaseLemmas.{phases-push}

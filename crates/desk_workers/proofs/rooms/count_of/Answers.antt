@@ -1,5 +1,5 @@
-use Rattle.std.proofs.Common.{inl, inr, ◌≡◌, ◌<◌, ◌≤◌, ◌+◌, ◌∷◌, ◌++◌, [], true, false, suc, ◌==◌, length, take, get_or}
-use Rattle.std.proofs.Common.{add-one, arith, sym, ap, subst, ◌∙◌, rules}
+use Rattle.std.proofs.Common.{◌≡◌, ◌+◌, ◌∷◌, ◌++◌, [], true, false, suc, ◌==◌, take, get_or}
+use Rattle.std.proofs.Common.{add-one, arith, rules}
 use Rattle.desk_plan.specs.Sharing.{times}
 use Rattle.desk_plan.proofs.FrontLemmas.{any-default, take-more}
 use Rattle.desk_plan.proofs.SharingLemmas.{times-push}

@@ -1,5 +1,4 @@
-use Rattle.std.proofs.Common.{◌≡◌, ◌<◌, ◌≤◌, length, arith, refl, sym, ap, subst, ◌∙◌, rules}
-use Rattle.desk_workers.specs.Inner.Rooms.{AreKept, HaveRoom}
+use Rattle.std.proofs.Common.{◌<◌, length, arith}
 use Rattle.desk_workers.proofs.RoomLemmas.{kept-none, kept-put, room-none, room-put}
 use Rattle.desk_workers.proofs.rooms.take_rooms.Goals as goal
 

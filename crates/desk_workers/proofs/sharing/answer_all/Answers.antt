@@ -1,7 +1,6 @@
-use Rattle.std.proofs.Common.{◌≡◌, ◌+◌, ◌<◌, ◌≤◌, [], length, get_or, arith, ◌∙◌, rules}
-use Rattle.desk_workers.specs.Inner.Shared.{HasShared, IsIdle}
-use Rattle.desk_workers.proofs.RoomLemmas.{kept-ready, no-answers, same-job}
-use Rattle.desk_workers.proofs.SharedLemmas.{on-err, shared-done, shared-jobs, shared-none, worked-queues}
+use Rattle.std.proofs.Common.{[]}
+use Rattle.desk_workers.proofs.RoomLemmas.{kept-ready}
+use Rattle.desk_workers.proofs.SharedLemmas.{on-err, shared-done, shared-jobs, shared-none}
 use Rattle.desk_workers.proofs.sharing.answer_all.Goals as goal
 
 -- where room is wanting the seats are as they were

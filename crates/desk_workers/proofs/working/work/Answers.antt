@@ -1,8 +1,7 @@
-use Rattle.std.proofs.Common.{inl, inr, ◌≡◌, ◌<◌, ◌+◌, ◌∷◌, ◌++◌, [], true, false, suc, ◌==◌, length, take, get_or}
-use Rattle.std.proofs.Common.{add-one, arith, sym, ap, subst, ◌∙◌, rules}
-use Rattle.desk_plan.specs.Sharing.{times}
-use Rattle.desk_plan.proofs.FrontLemmas.{any-default, take-length, take-more, take-whole, times-less}
-use Rattle.desk_workers.specs.Inner.Worked.{HasAnswered, HasWorked}
+use Rattle.std.proofs.Common.{◌≡◌, ◌<◌, ◌+◌, ◌∷◌, ◌++◌, [], true, false, suc, ◌==◌, length, take, get_or}
+use Rattle.std.proofs.Common.{add-one, arith, sym, ◌∙◌, rules}
+use Rattle.desk_plan.proofs.FrontLemmas.{any-default, take-length, take-more, times-less}
+use Rattle.desk_workers.specs.Inner.Worked.{HasAnswered}
 use Rattle.desk_workers.proofs.WorkedLemmas.{worked-none, worked-push, worked-skip}
 use Rattle.desk_workers.proofs.working.work.Goals as goal
 use Rattle.desk_workers.proofs.working.work.Goals.{then-plan-at, else-plan-at}

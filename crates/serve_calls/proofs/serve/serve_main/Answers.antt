@@ -2,7 +2,7 @@ use Rattle.std.proofs.Common.{rules, ◌≡◌, ◌≤◌, length, Some, map, st
 use Rattle.desk_words.specs.Serving.{serving_in}
 use Rattle.serve_calls.proofs.serve.serve_main.Goals as goal
 
--- the words ask for at most 16 workers
+-- the words ask for so many workers at most
 pub serve_doors-requires-clause-doors : goal.serve_doors-requires-clause-doors
 serve_doors-requires-clause-doors g c κs within =
     let this : serving_in (map string_bytes c.args.words.now) ≡ Some c.in-Some.asked = search rules in

@@ -1,6 +1,7 @@
 use Rattle.std.proofs.Common.{subst, sym, subst₂}
 use denote.Param.Send.{sendable}
 use Rattle.desk_workers.proofs.SendLemmas.{desk-sync}
+use Rattle.serve_calls.specs.Seen.{seen_door, seen_link}
 use Rattle.serve_calls.specs.Inner.Workers.{DidShift, HasSeat}
 use Rattle.serve_calls.proofs.SendLemmas.{worker-send}
 use Rattle.serve_calls.proofs.working.work_all.Goals as goal
@@ -21,20 +22,8 @@ pub returns-clause-shifts : goal.returns-clause-shifts
 returns-clause-shifts g c = λ i d less.
     let h = (c.for_each_mut.ensures i d less).1 in
     subst₂ (λ new old. DidShift
-    (λ link. record {
-      left = g.A.Conn.Source.left link;
-      reads = g.A.Conn.Source.reads link;
-      read_faults = g.A.Conn.Source.read_faults link;
-      taken = g.A.Conn.Sink.taken link;
-      write_faults = g.A.Conn.Sink.write_faults link;
-    })
-    (λ door. record {
-      asked = g.A.Accept.asked door;
-      given = g.A.Accept.given door;
-      ended = g.A.Accept.ended door;
-      door_faults = g.A.Accept.door_faults door;
-      link_faults = g.A.Accept.link_faults door;
-      waiting = g.A.Accept.waiting door;
-      back = g.A.Accept.back door;
-    })
+    (seen_link g.A.Conn.Source.left g.A.Conn.Source.reads g.A.Conn.Source.read_faults g.A.Conn.Sink.taken
+    g.A.Conn.Sink.write_faults)
+    (seen_door g.A.Accept.asked g.A.Accept.given g.A.Accept.ended g.A.Accept.door_faults g.A.Accept.link_faults
+    g.A.Accept.waiting g.A.Accept.back)
     c.args.desk.now.lock.table.shared.table_id old new) h.left h.argument_is h.call
