@@ -2,6 +2,18 @@
 use Rattle.std.proofs.Common.{◌≡◌, ℕ, Bool, true, false, List, [], ◌∷◌, ◌++◌, length, take, drop, refl}
 use Rattle.std.specs.Prelude.{◌==◌, ◌&&◌, bytes_eq}
 
+moved : (first second third : Bool) → (first && (second && third)) ≡ (second && (first && third))
+moved true second third = refl
+moved false true third = refl
+moved false false third = refl
+
+-- a text is a word where it is as long and the word stands at its front
+pub word_is : (word text : List ℕ) → bytes_eq text word ≡ ((length text == length word) && bytes_eq (take (length word) text) word)
+word_is [] [] = refl
+word_is [] (byte ∷ text) = refl
+word_is (byte ∷ word) [] = refl
+word_is (byte ∷ word) (other ∷ text) = rw (word_is word text) (moved (other == byte) (length text == length word) (bytes_eq (take (length word) text) word))
+
 grouped : (first : Bool) (second third : Bool) → (first && (second && third)) ≡ ((first && second) && third)
 grouped true second third = refl
 grouped false second third = refl

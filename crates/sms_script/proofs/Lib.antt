@@ -9,3 +9,4 @@ mod KeyLemmas
 mod GivenLemmas
 mod IndentLemmas
 mod OnceLemmas
+mod TraceLemmas
