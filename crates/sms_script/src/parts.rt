@@ -10,7 +10,7 @@ use sms_construct::{behind_front, in_parentheses};
 
 /// Whether the text is this word. A word whose length is known where this is called costs a compare or two.
 #[inline(always)]
-#[tactic(auto, using(crate::proofs::KeyLemmas::word_is))]
+#[tactic(auto, using(crate::proofs::KeyLemmas::front_is))]
 pub fn is_word(text: &[u8], word: &[u8]) -> bool
     ensures { result ≡ bytes_eq text.now word.now }
 {
