@@ -62,12 +62,7 @@ fn drawn_request(
     })
 }
 
-fn drawn_op(
-    alloc: Global,
-    buffer: &mut Vec<u8>,
-    item: u32,
-    drawn: u32,
-) -> Result<Op, AllocError>
+fn drawn_op(alloc: Global, buffer: &mut Vec<u8>, item: u32, drawn: u32) -> Result<Op, AllocError>
     requires item { (1 ≤ item) × (item < 100000) }
     requires drawn { drawn < 32768 }
     ensures { IfOk result (λ op. op ≡ drawn_op item drawn) }

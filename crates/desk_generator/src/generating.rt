@@ -53,5 +53,6 @@ fn push_behind(
 {
     let last = &items.as_slice()[place as usize];
     let request = request_behind(alloc, buffer, &last.request, place + 1, drawn)?;
-    push_item(items, request)
+    push_item(items, request)?;
+    Ok(())
 }

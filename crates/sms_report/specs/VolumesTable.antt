@@ -10,8 +10,8 @@ header = codes "volser" ∷ codes "group" ∷ codes "status" ∷ codes "capacity
 
 -- the record of a volume
 abbrev pub volume_fields : VolRow → List (List ℕ)
-volume_fields row = row.volser ∷ row.group ∷ status_text row.status ∷ decimal row.capacity ∷ decimal row.free ∷ decimal
-    row.extents ∷ []
+volume_fields row =
+    row.volser ∷ row.group ∷ status_text row.status ∷ decimal row.capacity ∷ decimal row.free ∷ decimal row.extents ∷ []
 
 -- the header and a record for each volume, each ended by LF; a field would stand in quotes if it had a comma, a quote
 -- or a line end, which names, words and numbers have not

@@ -10,3 +10,4 @@ mod GivenLemmas
 mod IndentLemmas
 mod OnceLemmas
 mod TraceLemmas
+mod DigitLemmas

@@ -1,6 +1,5 @@
 -- A trace without lines.
 use Rattle.std.proofs.Common.{◌≡◌, [], refl}
-use Rattle.acs_tree.specs.declared.more.More.{More}
 use Rattle.sms_construct.specs.declared.trace.Trace.{Trace}
 use Rattle.sms_script.specs.TraceText.{trace_lines}
 

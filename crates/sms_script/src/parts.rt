@@ -1,5 +1,6 @@
 //! Parts of a text.
-ghost use Rattle.std.specs.Prelude.{◌≡◌, ◌≢◌, ◌==◌, ◌≤◌, ◌<◌, ◌∷◌, [], ℕ, IfSome, bytes_eq, length, position, slice_index};
+ghost use Rattle.std.specs.Prelude.{◌≡◌, ◌≢◌, ◌==◌, ◌≤◌, ◌<◌, ◌∷◌, [], ℕ, IfSome, bytes_eq, length, position};
+ghost use Rattle.std.specs.Prelude.{slice_index};
 ghost use Rattle.std.specs.Option.{option_copied};
 ghost use Rattle.desk_common.specs.Bytes.{comma};
 ghost use Rattle.desk_common.specs.Words.{pieces_of};
