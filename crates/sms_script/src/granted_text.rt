@@ -6,7 +6,7 @@ ghost use Rattle.sms_script.specs.TraceText.{trace_lines};
 
 use crate::further_text::{push_class, push_extent};
 use crate::indenting::push_indented;
-use crate::trace_text::{is_silent, push_trace};
+use crate::trace_text::push_trace;
 use desk_common::Items;
 use sms_construct::{DataSet, Extent, Trace};
 use std::alloc::{AllocError, Global};
@@ -55,9 +55,6 @@ fn push_extent_line(text: &mut Vec<u8>, extent: &Extent) -> Result<(), AllocErro
 fn push_trace_lines(alloc: Global, text: &mut Vec<u8>, trace: &Trace) -> Result<(), AllocError>
     ensures { OnOk result (text.new.items ≡ text.old.items ++ flat_map indented (trace_lines trace.now)) }
 {
-    if is_silent(trace) {
-        return Ok(());
-    }
     let mut lines = Items::new(alloc);
     push_trace(alloc, &mut lines, trace)?;
     push_indented(text, lines.as_slice())

@@ -11,7 +11,7 @@ use crate::indenting::push_indented;
 use crate::item::{Item, Phase, Script};
 use crate::pushing::{push_number_and_blank, push_word_and_blank, write_number_and_blank};
 use crate::reply_text::{push_reply, push_view};
-use crate::text_lines::{TextLines, push_line};
+use crate::text_lines::{TextLines, new_line, push_line};
 use desk_common::{Items, push_number};
 use sms_construct::{Answer, Reply, View};
 use std::alloc::{AllocError, Global};
@@ -23,7 +23,7 @@ const THREE_NUMBERS: usize = 63;
 pub fn answer_lines(alloc: Global, answer: &Answer) -> Result<TextLines, AllocError>
     ensures { IfOk result (λ lines. lines ≡ answer_lines answer.now) }
 {
-    let mut first = Vec::new(alloc);
+    let mut first = new_line(alloc)?;
     push_reply(&mut first, &answer.reply)?;
     let mut lines = Items::new(alloc);
     push_line(&mut lines, first)?;
@@ -35,7 +35,7 @@ pub fn answer_lines(alloc: Global, answer: &Answer) -> Result<TextLines, AllocEr
 pub fn view_lines(alloc: Global, view: &View) -> Result<TextLines, AllocError>
     ensures { IfOk result (λ lines. lines ≡ view_text view.now ∷ view_lines view.now) }
 {
-    let mut first = Vec::new(alloc);
+    let mut first = new_line(alloc)?;
     push_view(&mut first, view)?;
     let mut lines = Items::new(alloc);
     push_line(&mut lines, first)?;

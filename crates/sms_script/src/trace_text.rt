@@ -9,9 +9,22 @@ use desk_common::push_number;
 use sms_construct::Trace;
 use std::alloc::{AllocError, Global};
 
-/// Whether no routine wrote a line.
+/// Puts the lines of a trace behind others: kind by kind what its routine wrote, and how much more it wrote.
+pub fn push_trace(alloc: Global, lines: &mut TextLines, trace: &Trace) -> Result<(), AllocError>
+    ensures { OnOk result (lines.new ≡ lines.old ++ trace_lines trace.now) }
+{
+    if is_silent(trace) {
+        return Ok(());
+    }
+    push_kind(alloc, lines, Kind::DataClas, trace)?;
+    push_kind(alloc, lines, Kind::StorClas, trace)?;
+    push_kind(alloc, lines, Kind::MgmtClas, trace)?;
+    push_kind(alloc, lines, Kind::StorGrp, trace)
+}
+
+// Whether no routine wrote a line.
 #[tactic(auto, using(crate::proofs::TraceLemmas::silent))]
-pub fn is_silent(trace: &Trace) -> bool
+fn is_silent(trace: &Trace) -> bool
     ensures { IsTrue result → trace_lines trace.now ≡ [] }
 {
     trace.lines.is_empty() && are_none(&trace.more)
@@ -22,16 +35,6 @@ fn are_none(more: &More) -> bool
     ensures { IsTrue result → more.now ≡ record { dataclas = 0; storclas = 0; mgmtclas = 0; storgrp = 0 } }
 {
     more.dataclas == 0 && more.storclas == 0 && more.mgmtclas == 0 && more.storgrp == 0
-}
-
-/// Puts the lines of a trace behind others: kind by kind what its routine wrote, and how much more it wrote.
-pub fn push_trace(alloc: Global, lines: &mut TextLines, trace: &Trace) -> Result<(), AllocError>
-    ensures { OnOk result (lines.new ≡ lines.old ++ trace_lines trace.now) }
-{
-    push_kind(alloc, lines, Kind::DataClas, trace)?;
-    push_kind(alloc, lines, Kind::StorClas, trace)?;
-    push_kind(alloc, lines, Kind::MgmtClas, trace)?;
-    push_kind(alloc, lines, Kind::StorGrp, trace)
 }
 
 fn push_kind(
