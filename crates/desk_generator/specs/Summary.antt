@@ -14,12 +14,10 @@ code_of reply = take 3 (reply_text reply)
 -- all codes, in byte order
 abbrev pub all_codes : List (List ℕ)
 all_codes =
-    codes "A00" ∷ codes "A01" ∷ codes "A02" ∷ codes "A03" ∷ codes "A04" ∷ codes "A05" ∷ codes "A06" ∷ codes
-    "A07" ∷ codes "A08" ∷ codes "A09"
-    ∷ codes "F30" ∷ codes "M31"
-    ∷ codes "R10" ∷ codes "R11" ∷ codes "R12" ∷ codes "R13" ∷ codes "R14" ∷ codes "R15" ∷ codes "R16" ∷ codes
-    "R17" ∷ codes "R18" ∷ codes "R19"
-    ∷ codes "R20" ∷ codes "R21" ∷ codes "R22" ∷ codes "R23" ∷ codes "R24" ∷ codes "R25" ∷ []
+    codes "A00" ∷ codes "A01" ∷ codes "A02" ∷ codes "A03" ∷ codes "A04" ∷ codes "A05" ∷ codes "A06" ∷ codes "A07"
+    ∷ codes "A08" ∷ codes "A09" ∷ codes "F30" ∷ codes "M31" ∷ codes "R10" ∷ codes "R11" ∷ codes "R12" ∷ codes "R13"
+    ∷ codes "R14" ∷ codes "R15" ∷ codes "R16" ∷ codes "R17" ∷ codes "R18" ∷ codes "R19" ∷ codes "R20" ∷ codes "R21"
+    ∷ codes "R22" ∷ codes "R23" ∷ codes "R24" ∷ codes "R25" ∷ []
 
 -- how many of the answers have the code
 abbrev pub times_answered : List ℕ → List Answer → ℕ

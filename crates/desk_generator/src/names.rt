@@ -5,10 +5,7 @@ ghost use Rattle.desk_generator.specs.Generated.{job_at, numbered_name};
 
 use desk_common::push_number;
 use dsn_mask::{Dsn, Name};
-use std::alloc::{AllocError, Global};
-
-// The most bytes of such a name: four before the number, and five digits.
-const MOST_BYTES: usize = 9;
+use std::alloc::AllocError;
 
 /// The job of an item.
 pub fn job_at(item: u32) -> Name
@@ -25,16 +22,16 @@ fn digit_of(number: u32) -> u8
     b'0' + number as u8
 }
 
-/// The data set of a number up to 99,999.
+/// The data set of a number up to 99,999. The buffer is for its text.
 #[tactic(auto, using(crate::proofs::NameLemmas::numbered_is))]
-pub fn numbered_name(alloc: Global, number: u32) -> Result<Dsn, AllocError>
+pub fn numbered_name(buffer: &mut Vec<u8>, number: u32) -> Result<Dsn, AllocError>
     requires { number < 100000 }
     ensures { IfOk result (λ dsn. dsn ≡ numbered_name number) }
 {
-    let mut text = Vec::with_capacity(alloc, MOST_BYTES)?;
-    text.extend_from_slice(front_of(number))?;
-    push_number(&mut text, u64::from(number))?;
-    Ok(named(&text))
+    buffer.clear();
+    buffer.extend_from_slice(front_of(number))?;
+    push_number(buffer, u64::from(number))?;
+    Ok(named(buffer))
 }
 
 // The data set name that a text is.

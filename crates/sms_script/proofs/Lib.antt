@@ -9,3 +9,5 @@ mod KeyLemmas
 mod GivenLemmas
 mod IndentLemmas
 mod OnceLemmas
+mod TraceLemmas
+mod DigitLemmas

@@ -26,8 +26,8 @@ abbrev pub view_text : View → List ℕ
 view_text (Group name status volumes capacity free) =
     spaced (codes "STORGRP" ∷ name ∷ status_text status ∷ decimal volumes ∷ decimal capacity ∷ decimal free ∷ [])
 view_text (Volume row) =
-    spaced (codes "VOLUME" ∷ row.volser ∷ row.group ∷ status_text row.status ∷ decimal row.capacity ∷ decimal
-    row.free ∷ decimal row.extents ∷ [])
+    spaced (codes "VOLUME" ∷ row.volser ∷ row.group ∷ status_text row.status ∷ decimal row.capacity
+    ∷ decimal row.free ∷ decimal row.extents ∷ [])
 view_text (Set set) = spaced (codes "SET" ∷ set.dsn ∷ [])
 
 -- why a data set isn't extended
@@ -127,8 +127,8 @@ indented line = codes "  " ++ line ++ 10 ∷ []
 -- request
 abbrev pub head_text : Item → Answer → List ℕ
 head_text item answer =
-    spaced (decimal item.line ∷ decimal answer.place ∷ decimal answer.first ∷ item.request.job ∷ decimal
-    item.request.number ∷ reply_text answer.reply ∷ [])
+    spaced (decimal item.line ∷ decimal answer.place ∷ decimal answer.first ∷ item.request.job
+    ∷ decimal item.request.number ∷ reply_text answer.reply ∷ [])
 
 -- all lines of an item
 abbrev pub item_text : Item → Answer → List ℕ

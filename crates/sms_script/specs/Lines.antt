@@ -31,7 +31,3 @@ is_skipped text = begins_with_star text || is_blank text
 -- the line that ends a deck block
 abbrev pub is_block_end : List ℕ → Bool
 is_block_end line = bytes_eq (text_of_line line) (codes "./END")
-
--- the words that the line of a command may have: a job, a request number, a verb, a data set and 29 operands
-abbrev pub most_words : ℕ
-most_words = 33

@@ -25,13 +25,11 @@ use Rattle.sms_script.specs.Values.{eattr_of}
 -- the keys of the operands
 abbrev pub keys : List (List ℕ)
 keys =
-    codes "SPACE=" ∷ codes "DATACLAS=" ∷ codes "STORCLAS=" ∷ codes "MGMTCLAS=" ∷ codes "DEFDC=" ∷ codes "DEFSC=" ∷ codes
-    "DEFMC=" ∷ codes "VOL=" ∷ codes "VOLCNT="
-    ∷ codes "USER=" ∷ codes "GROUP=" ∷ codes "PGM=" ∷ codes "DD=" ∷ codes "UNIT=" ∷ codes "DSORG=" ∷ codes
-    "RECORG=" ∷ codes "DSNTYPE=" ∷ codes "DSTYPE="
-    ∷ codes "ACSENVIR=" ∷ codes "XMODE=" ∷ codes "APPLIC=" ∷ codes "OWNER=" ∷ codes "ACCT=" ∷ codes "STEPACCT=" ∷ codes
-    "RETPD=" ∷ codes "EXPDT=" ∷ codes "BLKSIZE="
-    ∷ codes "DAY=" ∷ codes "EATTR=" ∷ []
+    codes "SPACE=" ∷ codes "DATACLAS=" ∷ codes "STORCLAS=" ∷ codes "MGMTCLAS=" ∷ codes "DEFDC=" ∷ codes "DEFSC="
+    ∷ codes "DEFMC=" ∷ codes "VOL=" ∷ codes "VOLCNT=" ∷ codes "USER=" ∷ codes "GROUP=" ∷ codes "PGM=" ∷ codes "DD="
+    ∷ codes "UNIT=" ∷ codes "DSORG=" ∷ codes "RECORG=" ∷ codes "DSNTYPE=" ∷ codes "DSTYPE=" ∷ codes "ACSENVIR="
+    ∷ codes "XMODE=" ∷ codes "APPLIC=" ∷ codes "OWNER=" ∷ codes "ACCT=" ∷ codes "STEPACCT=" ∷ codes "RETPD="
+    ∷ codes "EXPDT=" ∷ codes "BLKSIZE=" ∷ codes "DAY=" ∷ codes "EATTR=" ∷ []
 
 -- the key is this name and an equals sign
 abbrev pub is_key_of : List ℕ → List ℕ → Bool
@@ -40,10 +38,9 @@ is_key_of name key = bytes_eq key (name ++ codes "=")
 -- the keys of the texts that routines see
 abbrev pub text_keys : List (List ℕ)
 text_keys =
-    codes "USER=" ∷ codes "GROUP=" ∷ codes "PGM=" ∷ codes "DD=" ∷ codes "APPLIC=" ∷ codes "UNIT=" ∷ codes
-    "DSORG=" ∷ codes "RECORG=" ∷ codes "DSNTYPE="
-    ∷ codes "DSTYPE=" ∷ codes "OWNER=" ∷ codes "EXPDT=" ∷ codes "ACSENVIR=" ∷ codes "XMODE=" ∷ codes "DEFDC=" ∷ codes
-    "DEFSC=" ∷ codes "DEFMC=" ∷ []
+    codes "USER=" ∷ codes "GROUP=" ∷ codes "PGM=" ∷ codes "DD=" ∷ codes "APPLIC=" ∷ codes "UNIT=" ∷ codes "DSORG="
+    ∷ codes "RECORG=" ∷ codes "DSNTYPE=" ∷ codes "DSTYPE=" ∷ codes "OWNER=" ∷ codes "EXPDT=" ∷ codes "ACSENVIR="
+    ∷ codes "XMODE=" ∷ codes "DEFDC=" ∷ codes "DEFSC=" ∷ codes "DEFMC=" ∷ []
 
 -- the keys of the lists that routines see
 abbrev pub list_keys : List (List ℕ)

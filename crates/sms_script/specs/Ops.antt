@@ -27,14 +27,10 @@ use Rattle.sms_script.specs.declared.verb.Verb.TheVariants as verbs
 -- the words of the verbs
 abbrev pub verb_words : List (List ℕ × Verb)
 verb_words =
-    (codes "ALLOC", verbs.Alloc) ∷ (codes "EXTEND", verbs.Extend) ∷ (codes "DELETE", verbs.Delete) ∷ (
-      codes "RELEASE",
-      verbs.Release,
-    ) ∷ (codes "USED", verbs.Used)
-    ∷ (codes "DISPLAY", verbs.Display) ∷ (codes "D", verbs.Display) ∷ (codes "VARY", verbs.Vary) ∷ (
-      codes "V",
-      verbs.Vary,
-    ) ∷ (codes "PURGE", verbs.Purge) ∷ []
+    (codes "ALLOC", verbs.Alloc) ∷ (codes "EXTEND", verbs.Extend) ∷ (codes "DELETE", verbs.Delete)
+    ∷ (codes "RELEASE", verbs.Release) ∷ (codes "USED", verbs.Used) ∷ (codes "DISPLAY", verbs.Display)
+    ∷ (codes "D", verbs.Display) ∷ (codes "VARY", verbs.Vary) ∷ (codes "V", verbs.Vary)
+    ∷ (codes "PURGE", verbs.Purge) ∷ []
 
 -- the verb that a word is, if any
 abbrev pub verb_of : List ℕ → Option Verb
@@ -104,10 +100,8 @@ place_in place =
 -- the actions behind a place
 abbrev pub actions : List (List ℕ × Action)
 actions =
-    (codes ",ENABLE", Enable) ∷ (codes ",DISABLE", Disable) ∷ (codes ",DISABLE,NEW", DisableNew) ∷ (
-      codes ",QUIESCE",
-      Quiesce,
-    ) ∷ (codes ",QUIESCE,NEW", QuiesceNew) ∷ []
+    (codes ",ENABLE", Enable) ∷ (codes ",DISABLE", Disable) ∷ (codes ",DISABLE,NEW", DisableNew)
+    ∷ (codes ",QUIESCE", Quiesce) ∷ (codes ",QUIESCE,NEW", QuiesceNew) ∷ []
 
 -- the action that a text is, if any
 abbrev pub action_in : List ℕ → Option Action
@@ -138,13 +132,19 @@ dsn_in operands = only operands ⊳ dsn_of
 
 -- a USED: the data set, and its tracks
 abbrev pub used_in : List (List ℕ) → Option Op
-used_in operands = only_two operands ⊳ λ words. dsn_of words.0 ⊳ λ dsn. small_number_of words.1 ⊳ λ tracks. Some
-    (ops.Used dsn tracks)
+used_in operands =
+    only_two operands ⊳ λ words.
+    dsn_of words.0 ⊳ λ dsn.
+    small_number_of words.1 ⊳ λ tracks.
+    Some (ops.Used dsn tracks)
 
 -- a PURGE: the job, and its floor
 abbrev pub purge_in : List (List ℕ) → Option Op
-purge_in operands = only_two operands ⊳ λ words. name_of words.0 ⊳ λ job. number_in words.1 ⊳ λ floor. Some
-    (ops.Purge job floor)
+purge_in operands =
+    only_two operands ⊳ λ words.
+    name_of words.0 ⊳ λ job.
+    number_in words.1 ⊳ λ floor.
+    Some (ops.Purge job floor)
 
 -- the op of a verb with its operands, one line a form
 abbrev pub op_with : Verb → List (List ℕ) → Option Op

@@ -30,5 +30,5 @@ kind_lines kind trace = flat_map (written_by kind) trace.lines ++ more_lines kin
 
 -- the lines of all kinds, in the order in which the routines run
 abbrev pub trace_lines : Trace → List (List ℕ)
-trace_lines trace = kind_lines DataClas trace ++ (kind_lines StorClas
-    trace ++ (kind_lines MgmtClas trace ++ kind_lines StorGrp trace))
+trace_lines trace =
+    kind_lines DataClas trace ++ (kind_lines StorClas trace ++ (kind_lines MgmtClas trace ++ kind_lines StorGrp trace))

@@ -4,8 +4,9 @@ ghost use Rattle.std.specs.Char.{to_ascii_uppercase};
 ghost use Rattle.sms_script.specs.Ops.{number_in};
 ghost use Rattle.sms_script.specs.Commands.{admin, command_in, command_of, is_activate, is_admin, request_of};
 
-use crate::line_words::line_words;
+use crate::line_words::{FEW_WORDS, MOST_WORDS, line_words};
 use crate::op::{read_request_number, read_words};
+use crate::parts::is_word;
 use desk_common::MAX_LINE;
 use dsn_mask::Name;
 use sms_construct::{Request, RequestNumber};
@@ -35,7 +36,10 @@ pub fn read_command(
         return Ok(None);
     }
     upper_case(buffer, text)?;
-    match line_words(buffer) {
+    if let Some(words) = line_words::<FEW_WORDS>(buffer) {
+        return read_line(alloc, &words);
+    }
+    match line_words::<MOST_WORDS>(buffer) {
         Some(words) => read_line(alloc, &words),
         None => Ok(None),
     }
@@ -74,7 +78,7 @@ fn read_line(alloc: Global, words: &[&[u8]]) -> Result<Option<Command>, AllocErr
 fn read_sync(word: &[u8]) -> Option<Command>
     ensures { result ≡ if bytes_eq word.now (codes "SYNC") then Some Command.Sync else None }
 {
-    if word == b"SYNC".as_slice() {
+    if is_word(word, b"SYNC") {
         Some(Command::Sync)
     } else {
         None
@@ -121,7 +125,7 @@ fn is_activate(words: &[&[u8]]) -> bool
     ensures { result ≡ is_activate (map (λ word. word.now) words.now) }
 {
     match words {
-        [word] => *word == b"ACTIVATE".as_slice(),
+        [word] => is_word(word, b"ACTIVATE"),
         _ => false,
     }
 }
@@ -129,5 +133,5 @@ fn is_activate(words: &[&[u8]]) -> bool
 fn is_admin(word: &[u8]) -> bool
     ensures { result ≡ is_admin word.now }
 {
-    word == b"SMSADMIN".as_slice()
+    is_word(word, b"SMSADMIN")
 }

@@ -2,7 +2,6 @@
 ghost use Rattle.std.specs.Prelude.{◌≡◌, ◌<◌, ◌∷◌, [], length, map, MatchOption};
 ghost use Rattle.desk_common.specs.Bytes.{space_byte};
 ghost use Rattle.desk_common.specs.Words.{words_of};
-ghost use Rattle.sms_script.specs.Lines.{most_words};
 
 use arrayvec::ArrayVec;
 use desk_common::next_word;
@@ -10,9 +9,12 @@ use desk_common::next_word;
 /// The most words of a command line: a job, a request number, a verb, a data set and 29 operands.
 pub const MOST_WORDS: usize = 33;
 
-/// The words of the line, if they are no more than a command may have.
-pub fn line_words(line: &[u8]) -> Option<ArrayVec<&[u8], MOST_WORDS>>
-    ensures { MatchOption result (most_words < length (words_of (space_byte ∷ []) line.entry.now))
+/// So few words as most command lines have.
+pub const FEW_WORDS: usize = 8;
+
+/// The words of the line, if they are no more than so many.
+pub fn line_words<const MOST: usize>(line: &[u8]) -> Option<ArrayVec<&[u8], MOST>>
+    ensures { MatchOption result (MOST < length (words_of (space_byte ∷ []) line.entry.now))
         (λ words. map (λ word. word.now) words.items ≡ words_of (space_byte ∷ []) line.entry.now) }
 {
     let mut words = ArrayVec::new();

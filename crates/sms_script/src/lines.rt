@@ -1,8 +1,9 @@
 //! The lines of a text.
-ghost use Rattle.std.specs.Prelude.{◌≡◌, ◌≢◌, ◌≤◌, ◌<◌, ◌∷◌, ◌++◌, ℕ, length, slice_index};
+ghost use Rattle.std.specs.Prelude.{◌≡◌, ◌<◌, ◌∷◌, ◌++◌, length};
 ghost use Rattle.desk_common.specs.Words.{begins_with_star};
 ghost use Rattle.sms_script.specs.Lines.{is_blank, is_block_end, is_skipped, lines_of, text_of_line};
 
+use crate::parts::{count_before, is_word};
 use sms_construct::before_last;
 
 /// The first line with its line end, and what is behind it.
@@ -12,26 +13,12 @@ pub fn first_line(text: &[u8]) -> (&[u8], &[u8])
     ensures parts { text.now ≡ result.0.now ++ result.1.now }
     ensures shorter { length result.1.now < length text.now }
 {
-    let count = line_feed(text);
+    let count = count_before(b'\n', text);
     if count < text.len() {
         (&text[..count + 1], &text[count + 1..])
     } else {
         (text, &[])
     }
-}
-
-// The place of the first LF, or the length.
-fn line_feed(text: &[u8]) -> usize
-    ensures within { result ≤ length text.now }
-    ensures before { (k : ℕ) → k < result → slice_index text.now k ≢ 10 }
-    ensures found { result < length text.now → slice_index text.now result ≡ 10 }
-{
-    for (at, byte) in text.iter().enumerate() {
-        if *byte == b'\n' {
-            return at;
-        }
-    }
-    text.len()
 }
 
 /// The line without its line end.
@@ -69,5 +56,5 @@ fn is_blank(text: &[u8]) -> bool
 pub fn is_block_end(line: &[u8]) -> bool
     ensures { result ≡ is_block_end line.now }
 {
-    line_text(line) == b"./END".as_slice()
+    is_word(line_text(line), b"./END")
 }

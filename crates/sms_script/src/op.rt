@@ -6,7 +6,7 @@ ghost use Rattle.sms_script.specs.Ops.{AskAlloc, dsn_in, number_in, only, only_t
 ghost use Rattle.sms_script.specs.Ops.{upper_words, used_in};
 
 use crate::allocation::read_allocation;
-use crate::line_words::line_words;
+use crate::line_words::{FEW_WORDS, MOST_WORDS, line_words};
 use crate::targets::{read_target, read_vary};
 use crate::verb::Verb;
 use dsn_mask::{Dsn, Name};
@@ -23,7 +23,10 @@ pub fn read_op(alloc: Global, line: &mut [u8], admin: bool) -> Result<Option<Op>
     ensures line { line.new ≡ map to_ascii_uppercase line.old }
 {
     line.make_ascii_uppercase();
-    match line_words(line) {
+    if let Some(words) = line_words::<FEW_WORDS>(line) {
+        return read_words(alloc, &words, admin);
+    }
+    match line_words::<MOST_WORDS>(line) {
         Some(words) => read_words(alloc, &words, admin),
         None => Ok(None),
     }

@@ -1,7 +1,9 @@
 //! The operands of a command, by their keys.
 ghost use Rattle.std.specs.Prelude.{◌≡◌, ◌∷◌, [], true, map, MatchOption};
 ghost use Rattle.std.specs.List.{list_all, list_any};
+ghost use Rattle.std.specs.Option.{option_copied};
 ghost use Rattle.dsn_mask.specs.Name.{name_of};
+ghost use Rattle.sms_construct.specs.Parts.{behind_front};
 ghost use Rattle.sms_construct.specs.SpaceText.{space_text};
 ghost use Rattle.sms_script.specs.Operands.{are_operands, given, given_or_none, has_key, have_any, is_key, is_key_of};
 ghost use Rattle.sms_script.specs.Operands.{is_once, is_operand, keys as all_keys, list_keys, text_keys, values_of};
@@ -14,7 +16,7 @@ use crate::value::{
 };
 use acs_tree::{Account, Volumes};
 use dsn_mask::{Name, Short};
-use sms_construct::{Eattr, Space, VolumeCount, behind_front, read_space};
+use sms_construct::{Eattr, Space, VolumeCount, read_space};
 
 /// The keys of the operands of ALLOC (docs/script.md, "Operands").
 pub const KEYS: [&[u8]; 29] = [
@@ -95,7 +97,7 @@ fn is_key_among(name: &[u8], mut keys: &[&[u8]]) -> bool
 fn is_key_of(name: &[u8], key: &[u8]) -> bool
     ensures { result ≡ is_key_of name.now key.now }
 {
-    match behind_front(name, key) {
+    match behind_key(name, key) {
         Some(end) => end == b"=".as_slice(),
         None => false,
     }
@@ -199,7 +201,17 @@ fn have_any(mut words: &[&[u8]], keys: &[&[u8]]) -> bool
 fn has_key(word: &[u8], key: &[u8]) -> bool
     ensures { result ≡ has_key word.now key.now }
 {
-    behind_front(key, word).is_some()
+    behind_key(key, word).is_some()
+}
+
+// What is behind the key, if the word begins with it. Most keys differ from a word in the first bytes.
+fn behind_key<'a>(key: &[u8], word: &'a [u8]) -> Option<&'a [u8]>
+    ensures { option_copied result ≡ behind_front key.now word.entry.now }
+{
+    if word.len() < key.len() || &word[..key.len()] != key {
+        return None;
+    }
+    Some(&word[key.len()..])
 }
 
 // The value behind the first of these words that has the key, and the words behind that.
@@ -210,7 +222,7 @@ fn first_value<'a, 'b>(key: &[u8], words: &'b [&'a [u8]]) -> Option<(&'a [u8], &
 {
     let mut rest = words;
     while let [word, others @ ..] = rest {
-        if let Some(value) = behind_front(key, word) {
+        if let Some(value) = behind_key(key, word) {
             return Some((value, others));
         }
         rest = others;

@@ -1,11 +1,22 @@
 //! Parts of a text.
-ghost use Rattle.std.specs.Prelude.{◌≡◌, ◌≢◌, ◌==◌, ◌≤◌, ◌<◌, ◌∷◌, [], ℕ, IfSome, length, position, slice_index};
+ghost use Rattle.std.specs.Prelude.{◌≡◌, ◌≢◌, ◌==◌, ◌≤◌, ◌<◌, ◌∷◌, [], ℕ, IfSome, bytes_eq, length, position};
+ghost use Rattle.std.specs.Prelude.{slice_index};
 ghost use Rattle.std.specs.Option.{option_copied};
 ghost use Rattle.desk_common.specs.Bytes.{comma};
 ghost use Rattle.desk_common.specs.Words.{pieces_of};
 ghost use Rattle.sms_script.specs.Parts.{before_end, in_call, pieces_behind};
 
+use memchr::memchr;
 use sms_construct::{behind_front, in_parentheses};
+
+/// Whether the text is this word. A word whose length is known where this is called costs a compare or two.
+#[inline(always)]
+#[tactic(auto, using(crate::proofs::KeyLemmas::front_is))]
+pub fn is_word(text: &[u8], word: &[u8]) -> bool
+    ensures { result ≡ bytes_eq text.now word.now }
+{
+    text.len() == word.len() && text.strip_prefix(word).is_some()
+}
 
 /// What is before this end, if it stands there.
 pub fn before_end<'a>(end: &[u8], bytes: &'a [u8]) -> Option<&'a [u8]>
@@ -37,7 +48,7 @@ pub fn first_piece(text: &[u8]) -> (&[u8], Option<&[u8]>)
     ensures pieces { pieces_of (comma ∷ []) text.entry.now ≡ result.0.now ∷ pieces_behind (option_copied result.1) }
     ensures shorter { IfSome result.1 (λ rest. length rest.now < length text.entry.now) }
 {
-    let count = piece_len(text);
+    let count = count_before(b',', text);
     if count < text.len() {
         (&text[..count], Some(&text[count + 1..]))
     } else {
@@ -45,16 +56,11 @@ pub fn first_piece(text: &[u8]) -> (&[u8], Option<&[u8]>)
     }
 }
 
-// The number of bytes before the first comma.
-fn piece_len(text: &[u8]) -> usize
+/// The number of bytes before the first such byte; of all where there is none.
+pub fn count_before(byte: u8, text: &[u8]) -> usize
     ensures within { result ≤ length text.now }
-    ensures before { (k : ℕ) → k < result → slice_index text.now k ≢ comma }
-    ensures found { result < length text.now → slice_index text.now result ≡ comma }
+    ensures before { (k : ℕ) → k < result → slice_index text.now k ≢ byte }
+    ensures found { result < length text.now → slice_index text.now result ≡ byte }
 {
-    for (at, byte) in text.iter().enumerate() {
-        if *byte == b',' {
-            return at;
-        }
-    }
-    text.len()
+    memchr(byte, text).unwrap_or(text.len())
 }

@@ -9,18 +9,21 @@ use crate::further_text::{push_further, push_view_lines};
 use crate::granted_text::push_granted_text;
 use crate::indenting::push_indented;
 use crate::item::{Item, Phase, Script};
-use crate::pushing::{push_number_and_blank, push_word_and_blank};
+use crate::pushing::{push_number_and_blank, push_word_and_blank, write_number_and_blank};
 use crate::reply_text::{push_reply, push_view};
-use crate::text_lines::{TextLines, push_line};
+use crate::text_lines::{TextLines, new_line, push_line};
 use desk_common::{Items, push_number};
 use sms_construct::{Answer, Reply, View};
 use std::alloc::{AllocError, Global};
+
+// The most bytes of three numbers, a blank behind each.
+const THREE_NUMBERS: usize = 63;
 
 /// The lines of an answer: its reply, and what stands behind that (docs/script.md, "Answers").
 pub fn answer_lines(alloc: Global, answer: &Answer) -> Result<TextLines, AllocError>
     ensures { IfOk result (λ lines. lines ≡ answer_lines answer.now) }
 {
-    let mut first = Vec::new(alloc);
+    let mut first = new_line(alloc)?;
     push_reply(&mut first, &answer.reply)?;
     let mut lines = Items::new(alloc);
     push_line(&mut lines, first)?;
@@ -32,7 +35,7 @@ pub fn answer_lines(alloc: Global, answer: &Answer) -> Result<TextLines, AllocEr
 pub fn view_lines(alloc: Global, view: &View) -> Result<TextLines, AllocError>
     ensures { IfOk result (λ lines. lines ≡ view_text view.now ∷ view_lines view.now) }
 {
-    let mut first = Vec::new(alloc);
+    let mut first = new_line(alloc)?;
     push_view(&mut first, view)?;
     let mut lines = Items::new(alloc);
     push_line(&mut lines, first)?;
@@ -140,11 +143,13 @@ fn push_head(text: &mut Vec<u8>, item: &Item, answer: &Answer) -> Result<(), All
 
 // The line of an item, and the places of its entry and of the first reply.
 fn push_places(text: &mut Vec<u8>, line: u32, answer: &Answer) -> Result<(), AllocError>
-    ensures { OnOk result
-        (text.new.items ≡ text.old.items ++ (decimal line ++ space_byte ∷ (decimal
-        answer.now.place ++ space_byte ∷ (decimal answer.now.first ++ space_byte ∷ [])))) }
+    ensures { OnOk result (text.new.items ≡ text.old.items ++
+        (decimal line ++ space_byte ∷ (decimal answer.now.place ++ space_byte ∷
+        (decimal answer.now.first ++ space_byte ∷ [])))) }
 {
-    push_number_and_blank(text, u64::from(line))?;
-    push_number_and_blank(text, answer.place)?;
-    push_number_and_blank(text, answer.first)
+    let mut room = [0u8; THREE_NUMBERS];
+    let first = write_number_and_blank(answer.first, &mut room, THREE_NUMBERS);
+    let place = write_number_and_blank(answer.place, &mut room, first);
+    let start = write_number_and_blank(u64::from(line), &mut room, place);
+    text.extend_from_slice(&room[start..])
 }

@@ -1,10 +1,11 @@
 //! Words, numbers and names put behind a text.
-ghost use Rattle.std.specs.Prelude.{◌≡◌, ◌++◌, ◌∷◌, [], OnOk, decimal};
+ghost use Rattle.std.specs.Prelude.{◌≡◌, ◌+◌, ◌≤◌, ◌++◌, ◌∷◌, [], OnOk, decimal, drop, length};
 ghost use Rattle.desk_common.specs.Bytes.{space_byte};
 ghost use Rattle.sms_script.specs.NameText.{name_text, status_text, target_text, value_text};
 
 use desk_common::push_number;
 use dsn_mask::{Name, Short};
+use itoa::write_digits;
 use sms_construct::{Status, Target};
 use std::alloc::AllocError;
 
@@ -16,12 +17,26 @@ pub fn push_word_and_blank(text: &mut Vec<u8>, word: &[u8]) -> Result<(), AllocE
     text.extend_from_slice(b" ")
 }
 
+// The most bytes of a number and a blank.
+const MOST_BYTES: usize = 21;
+
 /// A number and a blank.
 pub fn push_number_and_blank(text: &mut Vec<u8>, number: u64) -> Result<(), AllocError>
     ensures { OnOk result (text.new.items ≡ text.old.items ++ decimal number ++ space_byte ∷ []) }
 {
-    push_number(text, number)?;
-    text.extend_from_slice(b" ")
+    let mut room = [0u8; MOST_BYTES];
+    let start = write_number_and_blank(number, &mut room, MOST_BYTES);
+    text.extend_from_slice(&room[start..])
+}
+
+/// Writes a number and a blank so that they end at this place; tells where they start.
+pub fn write_number_and_blank(number: u64, room: &mut [u8], end: usize) -> usize
+    requires { (21 ≤ end) × (end ≤ length room.old) }
+    ensures start { (end ≤ result + 21) × (result ≤ end) }
+    ensures written { drop result room.new ≡ decimal number ++ space_byte ∷ drop end room.old }
+{
+    room[end - 1] = b' ';
+    write_digits(number, room, end - 1)
 }
 
 /// A word and a number behind it.

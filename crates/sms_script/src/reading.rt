@@ -86,8 +86,8 @@ fn read_next<'a>(
     requires few { passed.commands ≤ most_commands }
     ensures next { IfOk result (λ next. script_behind passed text.entry.now ≡
         found_before next.found (script_behind next.passed next.rest.now)) }
-    ensures fewer { IfOk result (λ next. next.passed.lines + length next.rest.now ≤ passed.lines + length
-        text.entry.now) }
+    ensures fewer { IfOk result (λ next.
+        next.passed.lines + length next.rest.now ≤ passed.lines + length text.entry.now) }
     ensures few { IfOk result (λ next. next.passed.commands ≤ most_commands) }
     ensures shorter { IfOk result (λ next. length next.rest.now < length text.entry.now) }
     ensures refused { IfErr result (IsRefusal (script_behind passed text.entry.now)) }
@@ -150,9 +150,8 @@ fn take_line(at: Progress, found: Found, text: &[u8]) -> Result<Next<'_>, Script
     ensures fewer { IfOk result (λ next. next.passed.lines + length next.rest.now ≤ at.lines + length text.entry.now) }
     ensures few { IfOk result (λ next. next.passed.commands ≤ most_commands) }
     ensures shorter { IfOk result (λ next. length next.rest.now ≤ length text.entry.now) }
-    ensures refused { IfErr result
-        (IsRefusal (if_few at.commands at.lines (found_before found
-        (script_from false (at.commands + 1) (at.lines + 1) (lines_of text.entry.now))))) }
+    ensures refused { IfErr result (IsRefusal (if_few at.commands at.lines
+        (found_before found (script_from false (at.commands + 1) (at.lines + 1) (lines_of text.entry.now))))) }
 {
     if at.commands >= MAX_COMMANDS {
         return Err(ScriptErr::TooManyLines(at.lines));

@@ -142,9 +142,8 @@ pub fn push_view(text: &mut Vec<u8>, view: &View) -> Result<(), AllocError>
 
 // The words of a storage group, with a blank behind them.
 fn push_group(text: &mut Vec<u8>, name: &Name, status: Status) -> Result<(), AllocError>
-    ensures { OnOk result
-        (text.new.items ≡ text.old.items ++ (codes
-        "STORGRP " ++ (name.now ++ space_byte ∷ (status_text status ++ space_byte ∷ [])))) }
+    ensures { OnOk result (text.new.items ≡ text.old.items ++
+        (codes "STORGRP " ++ (name.now ++ space_byte ∷ (status_text status ++ space_byte ∷ [])))) }
 {
     text.extend_from_slice(b"STORGRP ")?;
     push_word_and_blank(text, name.bytes())?;
@@ -162,10 +161,9 @@ fn push_row(text: &mut Vec<u8>, row: &VolRow) -> Result<(), AllocError>
 
 // The words of a volume, with a blank behind them.
 fn push_volume(text: &mut Vec<u8>, row: &VolRow) -> Result<(), AllocError>
-    ensures { OnOk result
-        (text.new.items ≡ text.old.items ++ (codes
-        "VOLUME " ++ (row.now.volser ++ space_byte ∷ (row.now.group ++ space_byte ∷ (status_text
-        row.now.status ++ space_byte ∷ []))))) }
+    ensures { OnOk result (text.new.items ≡ text.old.items ++
+        (codes "VOLUME " ++ (row.now.volser ++ space_byte ∷ (row.now.group ++ space_byte ∷
+        (status_text row.now.status ++ space_byte ∷ []))))) }
 {
     text.extend_from_slice(b"VOLUME ")?;
     push_word_and_blank(text, row.volser.bytes())?;

@@ -5,7 +5,7 @@ ghost use Rattle.sms_script.specs.Parts.{in_call};
 ghost use Rattle.sms_script.specs.Ops.{action_in, group_of, place_in, set_of, target_in, vary_in, volume_of};
 ghost use Rattle.sms_script.specs.Ops.{without_all};
 
-use crate::parts::{before_end, in_call, place_of};
+use crate::parts::{before_end, in_call, is_word, place_of};
 use dsn_mask::{Dsn, Name, Volser};
 use sms_construct::{Action, Op, Target, behind_front};
 
@@ -91,15 +91,15 @@ fn without_all(text: &[u8]) -> &[u8]
 fn read_action(text: &[u8]) -> Option<Action>
     ensures { result ≡ action_in text.now }
 {
-    if text == b",ENABLE".as_slice() {
+    if is_word(text, b",ENABLE") {
         Some(Action::Enable)
-    } else if text == b",DISABLE".as_slice() {
+    } else if is_word(text, b",DISABLE") {
         Some(Action::Disable)
-    } else if text == b",DISABLE,NEW".as_slice() {
+    } else if is_word(text, b",DISABLE,NEW") {
         Some(Action::DisableNew)
-    } else if text == b",QUIESCE".as_slice() {
+    } else if is_word(text, b",QUIESCE") {
         Some(Action::Quiesce)
-    } else if text == b",QUIESCE,NEW".as_slice() {
+    } else if is_word(text, b",QUIESCE,NEW") {
         Some(Action::QuiesceNew)
     } else {
         None

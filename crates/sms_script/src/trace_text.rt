@@ -1,10 +1,10 @@
 //! The lines of a trace.
-ghost use Rattle.std.specs.Prelude.{◌≡◌, ◌++◌, flat_map, OnOk, IfOk};
+ghost use Rattle.std.specs.Prelude.{◌≡◌, ◌++◌, [], flat_map, IfOk, IsTrue, OnOk};
 ghost use Rattle.sms_script.specs.TraceText.{kind_lines, more_lines, more_text, trace_lines, write_text, written_by};
 
 use crate::pushing::push_word_and_blank;
 use crate::text_lines::{TextLines, push_line};
-use acs_tree::{Kind, Line, same_kind};
+use acs_tree::{Kind, Line, More, same_kind};
 use desk_common::push_number;
 use sms_construct::Trace;
 use std::alloc::{AllocError, Global};
@@ -13,10 +13,28 @@ use std::alloc::{AllocError, Global};
 pub fn push_trace(alloc: Global, lines: &mut TextLines, trace: &Trace) -> Result<(), AllocError>
     ensures { OnOk result (lines.new ≡ lines.old ++ trace_lines trace.now) }
 {
+    if is_silent(trace) {
+        return Ok(());
+    }
     push_kind(alloc, lines, Kind::DataClas, trace)?;
     push_kind(alloc, lines, Kind::StorClas, trace)?;
     push_kind(alloc, lines, Kind::MgmtClas, trace)?;
     push_kind(alloc, lines, Kind::StorGrp, trace)
+}
+
+// Whether no routine wrote a line.
+#[tactic(auto, using(crate::proofs::TraceLemmas::silent))]
+fn is_silent(trace: &Trace) -> bool
+    ensures { IsTrue result → trace_lines trace.now ≡ [] }
+{
+    trace.lines.is_empty() && are_none(&trace.more)
+}
+
+// Whether no kind of routine wrote further lines.
+fn are_none(more: &More) -> bool
+    ensures { IsTrue result → more.now ≡ record { dataclas = 0; storclas = 0; mgmtclas = 0; storgrp = 0 } }
+{
+    more.dataclas == 0 && more.storclas == 0 && more.mgmtclas == 0 && more.storgrp == 0
 }
 
 fn push_kind(

@@ -5,6 +5,7 @@ ghost use Rattle.dsn_mask.specs.Name.{is_digit};
 ghost use Rattle.sms_script.specs.Values.{count_of, date_of, eattr_of, is_open_byte, name_value_of, number_to};
 ghost use Rattle.sms_script.specs.Values.{plain_of};
 
+use crate::parts::is_word;
 use dsn_mask::{Name, Short};
 use sms_construct::{Eattr, VolumeCount, read_number};
 
@@ -83,9 +84,9 @@ pub fn read_count(bytes: &[u8]) -> Option<VolumeCount>
 pub fn read_eattr(bytes: &[u8]) -> Option<Eattr>
     ensures { result ≡ eattr_of bytes.now }
 {
-    if bytes == b"OPT".as_slice() {
+    if is_word(bytes, b"OPT") {
         Some(Eattr::Opt)
-    } else if bytes == b"NO".as_slice() {
+    } else if is_word(bytes, b"NO") {
         Some(Eattr::No)
     } else {
         None

@@ -2,6 +2,8 @@
 ghost use Rattle.std.specs.Prelude.{◌≡◌};
 ghost use Rattle.sms_script.specs.Ops.{may_ask, verb_of};
 
+use crate::parts::is_word;
+
 /// What a command does, as the word behind its request number says; ACTIVATE stands alone.
 #[derive(Clone, Copy)]
 pub enum Verb {
@@ -20,21 +22,21 @@ impl Verb {
     pub fn named(word: &[u8]) -> Option<Self>
         ensures { result ≡ verb_of word.now }
     {
-        if word == b"ALLOC".as_slice() {
+        if is_word(word, b"ALLOC") {
             Some(Verb::Alloc)
-        } else if word == b"EXTEND".as_slice() {
+        } else if is_word(word, b"EXTEND") {
             Some(Verb::Extend)
-        } else if word == b"DELETE".as_slice() {
+        } else if is_word(word, b"DELETE") {
             Some(Verb::Delete)
-        } else if word == b"RELEASE".as_slice() {
+        } else if is_word(word, b"RELEASE") {
             Some(Verb::Release)
-        } else if word == b"USED".as_slice() {
+        } else if is_word(word, b"USED") {
             Some(Verb::Used)
-        } else if word == b"DISPLAY".as_slice() || word == b"D".as_slice() {
+        } else if is_word(word, b"DISPLAY") || is_word(word, b"D") {
             Some(Verb::Display)
-        } else if word == b"VARY".as_slice() || word == b"V".as_slice() {
+        } else if is_word(word, b"VARY") || is_word(word, b"V") {
             Some(Verb::Vary)
-        } else if word == b"PURGE".as_slice() {
+        } else if is_word(word, b"PURGE") {
             Some(Verb::Purge)
         } else {
             None

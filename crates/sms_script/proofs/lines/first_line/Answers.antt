@@ -5,9 +5,9 @@ use Rattle.sms_script.proofs.lines.first_line.Goals as goal
 
 pub returns-then-count-text-clause-lines : goal.returns-then-count-text-clause-lines
 returns-then-count-text-clause-lines c =
-    let said = c.line_feed-count.ensures in
-    rw (take_rest, add-one) (first_line_is c.args.text.now c.line_feed-count.result said.before c.if-count-text.true (said.found c.if-count-text.true))
+    let said = c.count_before-count.ensures in
+    rw (take_rest, add-one) (first_line_is c.args.text.now c.count_before-count.result said.before c.if-count-text.true (said.found c.if-count-text.true))
 
 pub returns-else-count-text-clause-lines : goal.returns-else-count-text-clause-lines
 returns-else-count-text-clause-lines c =
-    only_line_is c.args.text.now (λ k less. c.line_feed-count.ensures.before k (omega arith)) c.requires
+    only_line_is c.args.text.now (λ k less. c.count_before-count.ensures.before k (omega arith)) c.requires
