@@ -2,7 +2,11 @@
 -- in the order of the table of variables (docs/records.md, "The record form").
 use Rattle.std.specs.Prelude.{◌==◌, ◌&&◌, ℕ, Bool, List, length, Option, Some, None, if◌then◌else◌}
 use Rattle.std.specs.Str.{bytes_eq}
+use Rattle.acs_tree.specs.declared.attributes.Attributes.{Attributes}
+use Rattle.acs_tree.specs.declared.defaults.Defaults.{Defaults}
+use Rattle.acs_tree.specs.declared.environment.Environment.{Environment}
 use Rattle.acs_tree.specs.declared.input.Input.{Input}
+use Rattle.acs_tree.specs.declared.origin.Origin.{Origin}
 use Rattle.acs_tree.specs.Variables.{first_qualifier, last_qualifier}
 use Rattle.dsn_mask.specs.Qualifiers.{qualifiers_of}
 use Rattle.sms_records.specs.Form.{◌&◌, Form, made, number_form, number_32_form, seen, text_form}
@@ -46,6 +50,10 @@ AskingFields = List ℕ × (List ℕ × (List ℕ × TwoTexts))
 abbrev pub asking_form : Form AskingFields
 asking_form = short_form & short_form & short_form & short_form & short_form
 
+-- the fields of who asks
+abbrev pub asking_of : Origin → AskingFields
+asking_of x = (x.job, (x.user, (x.group, (x.pgm, x.dd))))
+
 -- &UNIT, &DSORG, &RECORG, &DSNTYPE
 abbrev pub WantedFields : Type 0
 WantedFields = List ℕ × (List ℕ × TwoTexts)
@@ -53,6 +61,10 @@ WantedFields = List ℕ × (List ℕ × TwoTexts)
 -- their form
 abbrev pub wanted_form : Form WantedFields
 wanted_form = short_form & short_form & short_form & short_form
+
+-- the fields of what the data set is to be
+abbrev pub wanted_of : Attributes → WantedFields
+wanted_of x = (x.unit, (x.dsorg, (x.recorg, x.dsntype)))
 
 -- &APPLIC, &EXPDT, &DSTYPE, &ACSENVIR, &XMODE, &DSOWNER
 abbrev pub SettingFields : Type 0
@@ -62,13 +74,26 @@ SettingFields = List ℕ × (List ℕ × (List ℕ × (List ℕ × TwoTexts)))
 abbrev pub setting_form : Form SettingFields
 setting_form = short_form & short_form & short_form & short_form & short_form & short_form
 
+-- the fields of the setting
+abbrev pub setting_of : Origin → Attributes → Environment → SettingFields
+setting_of origin set env =
+    (origin.applic, (set.expdt, (set.dstype, (env.acsenvir, (env.xmode, set.dsowner)))))
+
 -- &DEF_DATACLAS, &DEF_STORCLAS, &DEF_MGMTCLAS
 abbrev pub default_form : Form (List ℕ × TwoTexts)
 default_form = short_form & short_form & short_form
 
+-- the fields of the default classes
+abbrev pub default_of : Defaults → List ℕ × TwoTexts
+default_of x = (x.dataclas, (x.storclas, x.mgmtclas))
+
 -- &SYSNAME, &SYSPLEX; &RETPD, &BLKSIZE
 abbrev pub system_form : Form (TwoTexts × (ℕ × ℕ))
 system_form = (short_form & short_form) & number_32_form & number_32_form
+
+-- the fields of the system, and the numbers behind them
+abbrev pub system_of : Input → TwoTexts × (ℕ × ℕ)
+system_of x = ((x.environment.sysname, x.environment.sysplex), (x.amounts.retpd, x.amounts.blksize))
 
 -- &NVOL with &ANYVOL and &ALLVOL; &ACCT_JOB, &ACCT_STEP; &SIZE, &MAXSIZE
 abbrev pub GivenFields : Type 0
@@ -78,42 +103,30 @@ GivenFields = List (List ℕ) × ((List (List ℕ) × List (List ℕ)) × (ℕ �
 abbrev pub given_form : Form GivenFields
 given_form = volumes_form & (account_form & account_form) & number_form & number_form
 
+-- the lists, and the sizes
+abbrev pub given_of : Input → GivenFields
+given_of x = (x.volumes, ((x.accounting.acct_job, x.accounting.acct_step), (x.amounts.size, x.amounts.maxsize)))
+
+-- all behind the setting
+abbrev pub LaterFields : Type 0
+LaterFields = (List ℕ × TwoTexts) × ((TwoTexts × (ℕ × ℕ)) × GivenFields)
+
 -- all but the name
 abbrev pub InputFields : Type 0
-InputFields = AskingFields × (WantedFields ×
-    (SettingFields × ((List ℕ × TwoTexts) × ((TwoTexts × (ℕ × ℕ)) × GivenFields))))
+InputFields = AskingFields × (WantedFields × (SettingFields × LaterFields))
 
 -- their form
 abbrev pub input_fields : Form InputFields
 input_fields = asking_form & wanted_form & setting_form & default_form & system_form & given_form
 
+-- the fields behind the setting
+abbrev pub later_of : Input → LaterFields
+later_of x = (default_of x.defaults, (system_of x, given_of x))
+
 -- the fields of what routines see
 abbrev pub fields_of_input : Input → InputFields
-fields_of_input x = (
-  (x.origin.job, (x.origin.user, (x.origin.group, (x.origin.pgm, x.origin.dd)))),
-  (
-    (x.attributes.unit, (x.attributes.dsorg, (x.attributes.recorg, x.attributes.dsntype))),
-    (
-      (
-        x.origin.applic,
-        (
-          x.attributes.expdt,
-          (
-            x.attributes.dstype,
-            (x.environment.acsenvir, (x.environment.xmode, x.attributes.dsowner)),
-          ),
-        ),
-      ),
-      (
-        (x.defaults.dataclas, (x.defaults.storclas, x.defaults.mgmtclas)),
-        (
-          ((x.environment.sysname, x.environment.sysplex), (x.amounts.retpd, x.amounts.blksize)),
-          (x.volumes, ((x.accounting.acct_job, x.accounting.acct_step), (x.amounts.size, x.amounts.maxsize))),
-        ),
-      ),
-    ),
-  ),
-)
+fields_of_input x =
+    (asking_of x.origin, (wanted_of x.attributes, (setting_of x.origin x.attributes x.environment, later_of x)))
 
 -- what routines see, of a name and these fields
 abbrev pub input_of : List ℕ → InputFields → Input
@@ -124,8 +137,7 @@ input_of its_dsn (asking, (wanted, (setting, (default, (system, given))))) = rec
     user = asking.1.0;
     group = asking.1.1.0;
     pgm = asking.1.1.1.0;
-    dd =
-        asking.1.1.1.1;
+    dd = asking.1.1.1.1;
     applic = setting.0;
   };
   accounting = record { acct_job = given.1.0.0; acct_step = given.1.0.1 };
@@ -142,8 +154,7 @@ input_of its_dsn (asking, (wanted, (setting, (default, (system, given))))) = rec
     acsenvir = setting.1.1.1.0;
     xmode = setting.1.1.1.1.0;
     sysname = system.0.0;
-    sysplex =
-        system.0.1;
+    sysplex = system.0.1;
   };
   defaults = record { dataclas = default.0; storclas = default.1.0; mgmtclas = default.1.1 };
   amounts = record { retpd = system.1.0; blksize = system.1.1; size = given.1.1.0; maxsize = given.1.1.1 };

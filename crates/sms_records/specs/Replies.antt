@@ -27,15 +27,10 @@ reply_write (replies.Reused first) = 10 ∷ number_form.write first
 reply_write (replies.Below floor) = 11 ∷ number_32_form.write floor
 reply_write replies.NoConfig = 12 ∷ []
 reply_write replies.NameInUse = 13 ∷ []
-reply_write (replies.Exit kind code trace) = 14 ∷ ((kind_form & number_16_form) & trace_form).write (
-  (
-    kind,
-    code,
-  ),
-  trace,
-)
-reply_write (replies.UnknownClass kind name trace) = 15 ∷ ((kind_form & short_form)
-    & trace_form).write ((kind, name), trace)
+reply_write (replies.Exit kind code trace) =
+    14 ∷ ((kind_form & number_16_form) & trace_form).write ((kind, code), trace)
+reply_write (replies.UnknownClass kind name trace) =
+    15 ∷ ((kind_form & short_form) & trace_form).write ((kind, name), trace)
 reply_write (replies.NoQuantity trace) = 16 ∷ trace_form.write trace
 reply_write (replies.NoGroup trace) = 17 ∷ trace_form.write trace
 reply_write (replies.NoVolume trace) = 18 ∷ trace_form.write trace

@@ -26,13 +26,25 @@ ClassFields = Option (List ℕ) × (List ℕ × (Option (List ℕ) × List ℕ))
 abbrev pub class_fields : Form ClassFields
 class_fields = option name_form & name_form & option name_form & name_form
 
+-- those of a data set
+abbrev pub class_fields_of : DataSet → ClassFields
+class_fields_of x = (x.dataclas, (x.storclas, (x.mgmtclas, x.group)))
+
 -- the unit, the secondary quantity and the number of volumes
 abbrev pub quantity_fields : Form (UnitOf × (ℕ × ℕ))
 quantity_fields = unit_form & number_32_form & volume_count_form
 
+-- those of a data set
+abbrev pub quantity_fields_of : DataSet → UnitOf × (ℕ × ℕ)
+quantity_fields_of x = (x.unit, (x.secondary, x.volumes))
+
 -- the day, the retention period and the used tracks
 abbrev pub use_fields : Form (ℕ × (Option ℕ × ℕ))
 use_fields = number_32_form & option number_32_form & number_32_form
+
+-- those of a data set
+abbrev pub use_fields_of : DataSet → ℕ × (Option ℕ × ℕ)
+use_fields_of x = (x.day, (x.retpd, x.used))
 
 -- the fields of a data set that have a fixed size
 abbrev pub FixedFields : Type 0
@@ -52,13 +64,7 @@ data_set_fields = fixed_fields & list extent_form & eattr_form
 
 -- the fields of fixed size of a data set
 abbrev pub fixed_fields_of : DataSet → FixedFields
-fixed_fields_of x = (
-  x.dsn,
-  (
-    (x.dataclas, (x.storclas, (x.mgmtclas, x.group))),
-    ((x.unit, (x.secondary, x.volumes)), (x.day, (x.retpd, x.used))),
-  ),
-)
+fixed_fields_of x = (x.dsn, (class_fields_of x, (quantity_fields_of x, use_fields_of x)))
 
 -- the data set of these fields
 abbrev pub data_set_of : DataSetFields → DataSet

@@ -45,18 +45,21 @@ vol_row_form = made vol_row_fields
     })
     (λ x. (x.volser, (x.group, (x.status, (x.capacity, (x.free, x.extents))))))
 
+-- a storage group as a DISPLAY shows it: its name, its status, its volumes, its tracks and its free tracks
+abbrev pub group_fields : Form (List ℕ × (Status × (ℕ × (ℕ × ℕ))))
+group_fields = name_form & status_form & number_32_form & number_form & number_form
+
 -- what a DISPLAY shows
 abbrev pub view_write : View → List ℕ
-view_write (views.Group name status volumes capacity free) = 0 ∷ (name_form & status_form & number_32_form
-    & number_form & number_form).write (name, (status, (volumes, (capacity, free))))
+view_write (views.Group name status volumes capacity free) =
+    0 ∷ group_fields.write (name, (status, (volumes, (capacity, free))))
 view_write (views.Volume row) = 1 ∷ vol_row_form.write row
 view_write (views.Set set) = 2 ∷ data_set_form.write set
 
 -- the readers of its variants
 abbrev pub view_readers : List (List ℕ → Option (View × List ℕ))
 view_readers =
-    made_at (name_form & status_form & number_32_form & number_form & number_form)
-    (λ x. views.Group x.0 x.1.0 x.1.1.0 x.1.1.1.0 x.1.1.1.1) ∷
+    made_at group_fields (λ x. views.Group x.0 x.1.0 x.1.1.0 x.1.1.1.0 x.1.1.1.1) ∷
     made_at vol_row_form views.Volume ∷
     made_at data_set_form views.Set ∷ []
 

@@ -2,6 +2,7 @@
 ghost use Rattle.std.specs.Prelude.{◌≡◌, ◌++◌, OnOk, unwrap_or};
 ghost use Rattle.acs_tree.specs.Inputs.{no_texts};
 ghost use Rattle.sms_records.specs.Form.{IsReadable};
+ghost use Rattle.sms_records.specs.Inputs.{asking_of, setting_of, wanted_of};
 ghost use Rattle.sms_records.specs.Inner.Givens.{fields_of_texts, texts_form, texts_in, texts_of};
 ghost use Rattle.sms_records.specs.Reading.{Gives};
 
@@ -152,7 +153,7 @@ pub fn write_texts(input: &Input, out: &mut Vec<u8>) -> Result<(), AllocError>
 
 // The fields of who asks, without the application.
 fn asking_of(origin: &Origin) -> Asking
-    ensures { result ≡ (origin.now.job, (origin.now.user, (origin.now.group, (origin.now.pgm, origin.now.dd)))) }
+    ensures { result ≡ asking_of origin.now }
 {
     (
         origin.job,
@@ -162,7 +163,7 @@ fn asking_of(origin: &Origin) -> Asking
 
 // The fields of what the data set is to be, without its expiration date, its type and its owner.
 fn wanted_of(attributes: &Attributes) -> Wanted
-    ensures { result ≡ (attributes.now.unit, (attributes.now.dsorg, (attributes.now.recorg, attributes.now.dsntype))) }
+    ensures { result ≡ wanted_of attributes.now }
 {
     (
         attributes.unit,
@@ -172,13 +173,7 @@ fn wanted_of(attributes: &Attributes) -> Wanted
 
 // The fields of the setting.
 fn setting_of(origin: &Origin, attributes: &Attributes, environment: &Environment) -> Setting
-    ensures { result ≡ (
-      origin.now.applic,
-      (
-        attributes.now.expdt,
-        (attributes.now.dstype, (environment.now.acsenvir, (environment.now.xmode, attributes.now.dsowner))),
-      ),
-    ) }
+    ensures { result ≡ setting_of origin.now attributes.now environment.now }
 {
     let modes = (
         environment.acsenvir,

@@ -102,13 +102,8 @@ unfolding text_at
 text_readable x lt rest =
     let long : ltb (length (x ++ rest)) (length x) ≡ false = le-ltb _ _ (omega (arith, length-append x rest)) in
     ap text_at (append_assoc (to_be_bytes w64 (length x)) x rest)
-    ∙ rw (
-      number_again (length x) (x ++ rest) lt,
-      long,
-      take_at x rest (length x) refl,
-      drop_at x rest
-          (length x) refl,
-    ) refl
+    ∙ rw (number_again (length x) (x ++ rest) lt, long, take_at x rest (length x) refl, drop_at x rest (length x) refl)
+    refl
 
 pub seen_exact : {A B : Type 0} (form : Form A) (test : A → Option B) (back : B → A) → IsExact form
     → ((a : A) (b : B) → test a ≡ Some b → a ≡ back b) → IsExact (seen form test back)

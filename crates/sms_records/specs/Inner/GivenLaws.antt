@@ -18,6 +18,7 @@ use Rattle.sms_records.specs.Parts.{account_form, volumes_form}
 use Rattle.sms_records.specs.Inner.PartLaws.{account_readable, volumes_readable}
 use Rattle.sms_records.specs.Inputs.{asking_form, default_form, fields_of_input, input_form, input_of, seen_name_form}
 use Rattle.sms_records.specs.Inputs.{setting_form, wanted_form}
+use Rattle.sms_records.specs.Inner.VariantLaws.{◌also◌}
 use Rattle.sms_records.specs.Inner.Givens.{fields_of_lists, fields_of_texts, input_of_parts, lists_form, parted_form}
 use Rattle.sms_records.specs.Inner.Givens.{parts_of_input, texts_form}
 
@@ -31,22 +32,9 @@ PartFields N A B C D E F V W S = N × ((A × (B × (C × (D × E)))) × (F × ((
 
 -- the fields of the parts
 abbrev fields_of : {N A B C D E F V W S : Type 0} → PartFields N A B C D E F V W S → WholeFields N A B C D E F V W S
-fields_of x = (
-  x.0,
-  (
-    x.1.0.0,
-    (
-      x.1.0.1.0,
-      (
-        x.1.0.1.1.0,
-        (
-          x.1.0.1.1.1.0,
-          ((x.1.0.1.1.1.1, x.1.1.0), (x.1.1.1.0.0, (x.1.1.1.0.1, x.1.1.1.1))),
-        ),
-      ),
-    ),
-  ),
-)
+fields_of x =
+    x.0 also x.1.0.0 also x.1.0.1.0 also x.1.0.1.1.0 also x.1.0.1.1.1.0
+    also (x.1.0.1.1.1.1, x.1.1.0) also x.1.1.1.0.0 also x.1.1.1.0.1 also x.1.1.1.1
 
 then_then : {A B C : Type 0} (r : Option A) (f : A → Option B) (g : B → Option C)
     → ((r >>= f) >>= g) ≡ (r >>= λ x. f x >>= g)

@@ -9,8 +9,9 @@ use Rattle.acs_tree.specs.Inputs.{input_with}
 use Rattle.sms_records.specs.Form.{◌&◌, Form, number_form, number_32_form}
 use Rattle.sms_records.specs.Texts.{short_form}
 use Rattle.sms_records.specs.Parts.{account_form, volumes_form}
-use Rattle.sms_records.specs.Inputs.{AskingFields, SettingFields, TwoTexts, WantedFields, asking_form, default_form}
-use Rattle.sms_records.specs.Inputs.{seen_name_form, setting_form, wanted_form}
+use Rattle.sms_records.specs.Inputs.{AskingFields, SettingFields, TwoTexts, WantedFields, asking_form, asking_of}
+use Rattle.sms_records.specs.Inputs.{default_form, default_of, seen_name_form, setting_form, setting_of, wanted_form}
+use Rattle.sms_records.specs.Inputs.{wanted_of}
 
 -- the texts: who asks, what is wanted, the setting, the default classes, the system and its sysplex
 abbrev pub TextFields : Type 0
@@ -20,30 +21,14 @@ TextFields = AskingFields × (WantedFields × (SettingFields × ((List ℕ × Tw
 abbrev pub texts_form : Form TextFields
 texts_form = asking_form & wanted_form & setting_form & default_form & (short_form & short_form)
 
+-- the default classes, the system and its sysplex of these texts
+abbrev pub last_of : GivenTexts → (List ℕ × TwoTexts) × TwoTexts
+last_of x = (default_of x.defaults, (x.environment.sysname, x.environment.sysplex))
+
 -- the fields of these texts
 abbrev pub fields_of_texts : GivenTexts → TextFields
-fields_of_texts x = (
-  (x.origin.job, (x.origin.user, (x.origin.group, (x.origin.pgm, x.origin.dd)))),
-  (
-    (x.attributes.unit, (x.attributes.dsorg, (x.attributes.recorg, x.attributes.dsntype))),
-    (
-      (
-        x.origin.applic,
-        (
-          x.attributes.expdt,
-          (
-            x.attributes.dstype,
-            (x.environment.acsenvir, (x.environment.xmode, x.attributes.dsowner)),
-          ),
-        ),
-      ),
-      (
-        (x.defaults.dataclas, (x.defaults.storclas, x.defaults.mgmtclas)),
-        (x.environment.sysname, x.environment.sysplex),
-      ),
-    ),
-  ),
-)
+fields_of_texts x =
+    (asking_of x.origin, (wanted_of x.attributes, (setting_of x.origin x.attributes x.environment, last_of x)))
 
 -- the texts of these fields
 abbrev pub texts_of : TextFields → GivenTexts

@@ -61,8 +61,8 @@ input_exact = made_exact _ _ _
     (seen_name_exact
     &-exact (short_exact &-exact short_exact &-exact short_exact &-exact short_exact &-exact short_exact)
     &-exact (short_exact &-exact short_exact &-exact short_exact &-exact short_exact)
-    &-exact (short_exact &-exact short_exact &-exact short_exact &-exact short_exact &-exact short_exact &-exact
-    short_exact)
+    &-exact (short_exact &-exact short_exact &-exact short_exact &-exact short_exact &-exact short_exact
+    &-exact short_exact)
     &-exact (short_exact &-exact short_exact &-exact short_exact)
     &-exact ((short_exact &-exact short_exact) &-exact number_32_exact &-exact number_32_exact)
     &-exact volumes_exact &-exact (account_exact &-exact account_exact) &-exact number_exact &-exact number_exact)

@@ -19,8 +19,8 @@ many_exact form exact zero bytes x fits e =
     subst (λ (y : List _ × List ℕ). Takes bytes (flat_map form.write y.0) y.1 × (length y.0 ≡ 0))
     (some_is ([], bytes) x e) (record { parts = refl; rest_fits = fits }, refl)
 many_exact form exact (suc n) bytes x fits e =
-    let a = bind_some (form.read bytes) (λ first. many_at form n first.1 >>= λ others. Some
-    (first.0 ∷ others.0, others.1)) x e in
+    let a = bind_some (form.read bytes)
+    (λ first. many_at form n first.1 >>= λ others. Some (first.0 ∷ others.0, others.1)) x e in
     let b = bind_some (many_at form n a.0.1) (λ others. Some (a.0.0 ∷ others.0, others.1)) x a.2 in
     let first = exact bytes a.0.1 a.0.0 fits a.1 in
     let second = many_exact form exact n a.0.1 b.0 first.rest_fits b.1 in
@@ -65,11 +65,8 @@ option_exact form exact (suc zero ∷ bytes) rest o fits e =
     let b = bind_some (form.read bytes) (λ x. Some (Some x.0, x.1)) (o, rest) e in
     let t = exact bytes b.0.1 b.0.0 (AreBytes-rest 1 bytes fits) b.1 in
     subst (λ (x : Option _ × List ℕ). Takes (1 ∷ bytes) ((option form).write x.0) x.1)
-    (some_is (Some b.0.0, b.0.1) (o, rest) b.2) (record {
-      parts = ap (λ (w : List ℕ). 1 ∷ w) t.parts;
-      rest_fits =
-          t.rest_fits;
-    })
+    (some_is (Some b.0.0, b.0.1) (o, rest) b.2)
+    (record { parts = ap (λ (w : List ℕ). 1 ∷ w) t.parts; rest_fits = t.rest_fits })
 option_exact form exact (suc (suc byte) ∷ bytes) rest o fits e = absurd cc
 
 pub none_readable : {T : Type 0} (form : Form T) → IsReadable (option form) None

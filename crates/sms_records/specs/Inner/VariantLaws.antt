@@ -6,6 +6,11 @@ use Rattle.sms_records.specs.Form.{Form, Takes, IsExact, IsReadable, byte_at, ma
 use Rattle.sms_records.specs.Form.{bare_at, IsVariant, AreVariants}
 use Rattle.sms_records.specs.Inner.FormLaws.{AreBytes-rest, bind_some, some_is, seen_as}
 
+-- a thing, and those behind it
+infixr 30 ◌also◌
+abbrev pub ◌also◌ : {A B : Type 0} → A → B → A × B
+first also others = (first, others)
+
 pub variant_exact : {P T : Type 0} (write : T → List ℕ) (tag : ℕ) (payload : Form P) (make : P → T) → IsExact payload
     → ((p : P) → write (make p) ≡ tag ∷ payload.write p) → IsVariant write tag (made_at payload make)
 unfolding made_at
@@ -13,10 +18,8 @@ variant_exact write tag payload make exact written bytes rest x fits e =
     let a = bind_some (payload.read bytes) (λ p. Some (make p.0, p.1)) (x, rest) e in
     let t = exact bytes a.0.1 a.0.0 (AreBytes-rest tag bytes fits) a.1 in
     let whole : Takes (tag ∷ bytes) (write (make a.0.0)) a.0.1 = record {
-      parts =
-          ap (λ (w : List ℕ). tag ∷ w) t.parts ∙ ap (λ (w : List ℕ). w ++ a.0.1) (sym (written a.0.0));
-      rest_fits =
-          t.rest_fits;
+      parts = ap (λ (w : List ℕ). tag ∷ w) t.parts ∙ ap (λ (w : List ℕ). w ++ a.0.1) (sym (written a.0.0));
+      rest_fits = t.rest_fits;
     } in
     subst (λ (p : _ × List ℕ). Takes (tag ∷ bytes) (write p.0) p.1) (some_is (make a.0.0, a.0.1) (x, rest) a.2) whole
 
@@ -50,8 +53,7 @@ pub bare_exact : {T : Type 0} (write : T → List ℕ) (tag : ℕ) (x : T) → w
     → IsVariant write tag (bare_at x)
 bare_exact write tag x written bytes rest y fits e =
     let whole : Takes (tag ∷ bytes) (write x) bytes = record {
-      parts =
-          ap (λ (w : List ℕ). w ++ bytes) (sym written);
+      parts = ap (λ (w : List ℕ). w ++ bytes) (sym written);
       rest_fits = AreBytes-rest tag bytes fits;
     } in
     subst (λ (p : _ × List ℕ). Takes (tag ∷ bytes) (write p.0) p.1) (some_is (x, bytes) (y, rest) e) whole
