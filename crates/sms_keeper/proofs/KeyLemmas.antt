@@ -7,7 +7,7 @@ use Rattle.std.specs.Cmp.{unsigned_ties}
 use Rattle.std.specs.Cmp.Lexicographic.{slice_cmp}
 use Rattle.std.specs.Map.{lookup}
 use Rattle.std.specs.Ordering.{is_eq, nat_cmp, ordering_then}
-use Rattle.std.specs.Prelude.{unwrap_or}
+use Rattle.std.specs.Prelude.{is_none, unwrap_or}
 use Rattle.ordered_index.proofs.LookupLemmas.{lookup-by}
 use Rattle.sms_keeper.specs.Log.{floor_in, kept_in, same_key}
 use Rattle.sms_keeper.specs.declared.kept.KeptReply.{KeptReply}
@@ -32,14 +32,15 @@ key-is a b =
 pub lookup-key : (key : RequestKey) (es : List (RequestKey × KeptReply)) → lookup (is_at (key_cmp key)) es ≡ kept_in key es
 lookup-key key es = lookup-by (is_at (key_cmp key)) (same_key key) es (key-is key)
 
--- one key has another reply; each other as before
-pub found-key : (key other : RequestKey) (one : Option KeptReply) (old new : List (RequestKey × KeptReply))
-    → lookup (is_at (key_cmp other)) new ≡ cond (is_eq (key_cmp key other)) one (lookup (is_at (key_cmp other)) old)
-    → kept_in other new ≡ cond (same_key key other) one (kept_in other old)
-found-key key other one old new is =
+-- a key that had no reply has this one; each other as before
+pub added-key : (key other : RequestKey) (one : KeptReply) (old new : List (RequestKey × KeptReply))
+    → lookup (is_at (key_cmp other)) new ≡ cond (is_none (lookup (is_at (key_cmp key)) old) && is_eq (key_cmp key other)) (Some one) (lookup (is_at (key_cmp other)) old)
+    → kept_in other new ≡ cond (is_none (kept_in key old) && same_key key other) (Some one) (kept_in other old)
+added-key key other one old new is =
     sym (lookup-key other new) ∙ is
-    ∙ ap (λ (b : Bool). cond b one (lookup (is_at (key_cmp other)) old)) (key-is key other)
-    ∙ ap (λ (o : Option KeptReply). cond (same_key key other) one o) (lookup-key other old)
+    ∙ ap (λ (o : Option KeptReply). cond (is_none o && is_eq (key_cmp key other)) (Some one) (lookup (is_at (key_cmp other)) old)) (lookup-key key old)
+    ∙ ap (λ (b : Bool). cond (is_none (kept_in key old) && b) (Some one) (lookup (is_at (key_cmp other)) old)) (key-is key other)
+    ∙ ap (λ (o : Option KeptReply). cond (is_none (kept_in key old) && same_key key other) (Some one) o) (lookup-key other old)
 
 -- a floor that was found, or was put
 raised_at : (b : Bool) (floor : ℕ) (found : Option ℕ) → unwrap_or (cond b (Some floor) found) 0 ≡ cond b floor (unwrap_or found 0)

@@ -78,8 +78,8 @@ impl Keeper for FaultKeeper {
     ghost count = { λ k. k.faults };
 
     fn commit(&mut self, change: &Change) -> Result<(), KeeperErr>
-        ensures applied { OnOk result (Applies change.now (Some (rows_after self.old.changes))
-            (Some (rows_after self.new.changes))) }
+        ensures applied { OnOk result
+            (Applies change.now (Some (rows_after self.old.changes)) (Some (rows_after self.new.changes))) }
         ensures kept { OnErr result (Stays (Some (rows_after self.old.changes)) (Some (rows_after self.new.changes))) }
         ensures cause { IsErrOf result KeeperErr.Failed → Rose self.old.faults self.new.faults }
         ensures stands { (IsErrOf result KeeperErr.Failed → ⊥) → self.new.faults ≡ self.old.faults }

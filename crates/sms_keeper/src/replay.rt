@@ -98,8 +98,8 @@ impl Replay {
 
     fn keep(&mut self, change: &Change) -> Result<(), AllocError>
         ensures sets { OnOk result (self.new.sets ≡ self.old.sets) }
-        ensures replies { OnOk result (self.new.replies ≡ keep_row self.old.floors
-            (row_of change.now) self.old.replies) }
+        ensures replies { OnOk result (self.new.replies
+            ≡ keep_row self.old.floors (row_of change.now) self.old.replies) }
         ensures decks { OnOk result (self.new.decks ≡ self.old.decks) }
         ensures statuses { OnOk result (self.new.statuses ≡ self.old.statuses) }
         ensures floors { OnOk result (self.new.floors ≡ self.old.floors) }

@@ -1,7 +1,7 @@
 //! The log of the replies that are kept.
-ghost use Rattle.std.specs.Prelude.{◌≡◌, ◌≤◌, ◌<◌, ℕ, List, [], OnOk, Some, if◌then◌else◌};
+ghost use Rattle.std.specs.Prelude.{◌≡◌, ◌≤◌, ◌<◌, ◌&&◌, ℕ, List, [], OnOk, Some, is_none, if◌then◌else◌};
 ghost use Rattle.std.specs.Option.{option_copied};
-ghost use Rattle.sms_keeper.specs.Log.{IsKept, floor_in, kept_in, kept_with, floor_with, same_key, is_open};
+ghost use Rattle.sms_keeper.specs.Log.{IsKept, floor_in, kept_in, kept_with, floor_with, same_key};
 
 use crate::kept::{Kept, KeptReply};
 use crate::request_key::RequestKey;
@@ -104,35 +104,27 @@ impl RequestLog {
         ensures floors { self.new.floors ≡ self.old.floors }
         ensures room { self.new.floor_room ≡ self.old.floor_room }
     {
-        if self.is_open(&request) {
-            let key = RequestKey {
-                job: request.job,
-                number: request.number,
-            };
-            let op = request.op;
-            self.put(key, KeptReply { place, op, reply });
+        if request.number.get() < self.floor(&request.job) {
+            return;
         }
-    }
-
-    // Whether a reply may be kept under the number of the request.
-    fn is_open(&self, request: &Request) -> bool
-        ensures { result ≡ is_open self.now request.now }
-    {
         let key = RequestKey {
             job: request.job,
             number: request.number,
         };
-        request.number.get() >= self.floor(&request.job) && self.kept(&key).is_none()
+        let op = request.op;
+        self.put_new(key, KeptReply { place, op, reply });
     }
 
-    fn put(&mut self, key: RequestKey, kept: KeptReply)
+    // Keeps a reply under a key where none is kept.
+    fn put_new(&mut self, key: RequestKey, kept: KeptReply)
         requires { 0 < self.old.reply_room }
-        ensures kept { (other : RequestKey) →
-            kept_in other self.new.kept ≡ (if same_key key other then Some kept else kept_in other self.old.kept) }
+        ensures kept { (other : RequestKey) → kept_in other self.new.kept
+            ≡ (if is_none (kept_in key self.old.kept) && same_key key other then Some kept
+                else kept_in other self.old.kept) }
         ensures floors { self.new.floors ≡ self.old.floors }
         ensures room { self.new.floor_room ≡ self.old.floor_room }
     {
-        self.kept.put(key, kept);
+        self.kept.put_new(key, kept);
     }
 
     /// Raises the floor of a job to this number; a floor never falls. It takes no memory.
