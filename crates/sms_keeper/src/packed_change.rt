@@ -31,17 +31,20 @@ pub enum PackedDeed {
     },
     /// A data set was extended, and is put so.
     Extended {
-        dsn: Dsn,
         added: Shared<Extents>,
         put: Shared<DataSet>,
     },
     /// A data set was deleted, and is dropped.
-    Deleted {
-        dsn: Dsn,
-        tracks: u64,
-    },
+    Deleted(Boxed<DeletedDeed>),
     /// All else.
     Other(Boxed<OtherDeed>),
+}
+
+/// A data set that was deleted, and the tracks that are free.
+#[derive(Drop)]
+pub struct DeletedDeed {
+    pub dsn: Dsn,
+    pub tracks: u64,
 }
 
 /// An op with a reply and an effect.
@@ -112,19 +115,20 @@ fn deed_of(alloc: Global, op: &Op, reply: &Reply, effect: &Effect) -> Result<Pac
                 put: put.share()?,
             })
         }
-        (Op::Extend(dsn), Reply::Extended { added }, Effect::PutSet(put)) => {
+        (Op::Extend(dsn), Reply::Extended { added }, Effect::PutSet(put))
+            if *dsn == put.get().dsn => {
             Ok(PackedDeed::Extended {
-                dsn: *dsn,
                 added: added.share()?,
                 put: put.share()?,
             })
         }
         (Op::Delete(dsn), Reply::Deleted { tracks }, Effect::DropSet(dropped)) if dsn == dropped =>
             {
-                Ok(PackedDeed::Deleted {
+                let deed = DeletedDeed {
                     dsn: *dsn,
                     tracks: *tracks,
-                })
+                };
+                Ok(PackedDeed::Deleted(Boxed::new(alloc, deed)?))
             }
         _ => other_deed(alloc, op, reply, effect),
     }
@@ -170,17 +174,19 @@ impl PackedDeed {
                 },
                 effect: Effect::PutSet(put.share()?),
             }),
-            PackedDeed::Extended { dsn, added, put } => Ok(OtherDeed {
-                op: Op::Extend(*dsn),
+            PackedDeed::Extended { added, put } => Ok(OtherDeed {
+                op: Op::Extend(put.get().dsn),
                 reply: Reply::Extended {
                     added: added.share()?,
                 },
                 effect: Effect::PutSet(put.share()?),
             }),
-            PackedDeed::Deleted { dsn, tracks } => Ok(OtherDeed {
-                op: Op::Delete(*dsn),
-                reply: Reply::Deleted { tracks: *tracks },
-                effect: Effect::DropSet(*dsn),
+            PackedDeed::Deleted(deed) => Ok(OtherDeed {
+                op: Op::Delete(deed.get().dsn),
+                reply: Reply::Deleted {
+                    tracks: deed.get().tracks,
+                },
+                effect: Effect::DropSet(deed.get().dsn),
             }),
             PackedDeed::Other(other) => other.get().copy(alloc),
         }

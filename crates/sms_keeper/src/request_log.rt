@@ -120,7 +120,7 @@ impl RequestLog {
         requires { 0 < self.old.reply_room }
         ensures kept { (other : RequestKey) → kept_in other self.new.kept
             ≡ (if is_none (kept_in key self.old.kept) && same_key key other then Some kept
-                else kept_in other self.old.kept) }
+            else kept_in other self.old.kept) }
         ensures floors { self.new.floors ≡ self.old.floors }
         ensures room { self.new.floor_room ≡ self.old.floor_room }
     {
