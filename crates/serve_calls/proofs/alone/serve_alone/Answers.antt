@@ -14,9 +14,9 @@ returns-clause-served g c =
     let all : c.from_vec-visits.result ≡ visits ∷ [] = search rules in
     let ends : c.push_reserved-2.new.self.items ≡ end ∷ [] = search rules in
     rw (all, ends) (AreServed-one _ c.args.most
-        (seen_door g.A.Accept.asked g.A.Accept.given g.A.Accept.ended g.A.Accept.door_faults g.A.Accept.link_faults
-        g.A.Accept.waiting g.A.Accept.back)
-        c.args.doors.now.items c.index_mut.result.now c.serve_door-end.new.door visits end c.requires.count (search rules) c.serve_door-end.ensures.served)
+    (seen_door g.A.Accept.asked g.A.Accept.given g.A.Accept.ended g.A.Accept.door_faults g.A.Accept.link_faults
+    g.A.Accept.waiting g.A.Accept.back)
+    c.args.doors.now.items c.index_mut.result.now c.serve_door-end.new.door visits end c.requires.count (search rules) c.serve_door-end.ensures.served)
 
 -- the talks of the door's visits are all that was heard
 pub returns-clause-once : goal.returns-clause-once
