@@ -1,7 +1,7 @@
 // From the bytes of a script to the text of its answers.
 ghost use Rattle.std.specs.Prelude.{◌≡◌, ◌<◌, ◌≤◌, ◌^◌, List, ℕ, [], length, Ok, IfErr, IfOk};
 ghost use Rattle.sms_script.specs.Script.{IsRefusal, script_of};
-ghost use Rattle.desk_words.specs.Words.{most_workers};
+ghost use Rattle.desk_common.specs.Limits.{most_workers};
 ghost use Rattle.desk_calls.specs.Headline.{IsAnswered, IsLeft, seen_keeper};
 
 use crate::run_text::run_text;

@@ -2,7 +2,8 @@
 ghost use Rattle.std.specs.Prelude.{◌≡◌, ◌≤◌, ◌↔◌, ℕ, None, Some, [], true, map, string_bytes, IfSome};
 ghost use Rattle.sms_keeper.specs.Tables.{AreSame, no_rows};
 ghost use Rattle.desk_law.specs.Records.{empty_opening};
-ghost use Rattle.desk_words.specs.Words.{most_items, most_workers, task_in};
+ghost use Rattle.desk_common.specs.Limits.{most_items, most_workers};
+ghost use Rattle.desk_words.specs.Words.{task_in};
 ghost use Rattle.desk_words.specs.declared.task.Task.{Task as Asked};
 ghost use Rattle.desk_words.specs.declared.task.Task.TheVariants.{Generate};
 ghost use Rattle.desk_calls.specs.RunFault.{Ends, LoadEnds, RunEnds, leaves_keeper, leaves_sink};

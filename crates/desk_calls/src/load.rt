@@ -2,7 +2,7 @@
 ghost use Rattle.std.specs.Prelude.{◌≡◌, ◌≤◌, IfOk, IfSome, OnErr};
 ghost use Rattle.sms_keeper.specs.Tables.{AreSame, no_rows};
 ghost use Rattle.desk_law.specs.Records.{empty_opening};
-ghost use Rattle.desk_words.specs.Words.{most_items};
+ghost use Rattle.desk_common.specs.Limits.{most_items};
 ghost use Rattle.desk_calls.specs.Headline.{IsLoadLeft, IsSummed, SumsUp, seen_keeper};
 
 use crate::script_run::run_alone;

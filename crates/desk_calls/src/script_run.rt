@@ -5,7 +5,7 @@ ghost use Rattle.desk_law.specs.History.{IsLegal};
 ghost use Rattle.desk_records.specs.Tied.{faults_in};
 ghost use Rattle.sms_core.specs.Core.{HasTables};
 ghost use Rattle.sms_script.specs.Script.{items_of};
-ghost use Rattle.desk_words.specs.Words.{most_workers};
+ghost use Rattle.desk_common.specs.Limits.{most_workers};
 ghost use Rattle.desk_workers.specs.Phases.{IsFrontAnswered};
 ghost use Rattle.desk_calls.specs.Headline.{IsRecorded, WasRun, seen_keeper};
 ghost use Rattle.desk_calls.specs.Run.{AnswersFront, AnswersInOrder};

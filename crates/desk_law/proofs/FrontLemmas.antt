@@ -5,7 +5,8 @@ use Rattle.std.specs.Prelude.{bytes_eq, min, nat_lt}
 use Rattle.std.specs.List.{AllByRecursion}
 use Rattle.std.proofs.Math.Nat.{lt-div-mul-add, mul-mod_left}
 use Rattle.std.proofs.lemmas.Bool.Decides.{nat_tests}
-use Rattle.sms_construct.specs.Quantities.{border, rounded_up, tracks_in_managed}
+use Rattle.desk_common.specs.Limits.{border}
+use Rattle.sms_construct.specs.Quantities.{rounded_up, tracks_in_managed}
 use Rattle.sms_construct.specs.declared.extent.Extent.{Extent}
 use Rattle.sms_construct.specs.declared.volume.VolumeDef.{VolumeDef}
 use Rattle.track_ledger.proofs.GrantLemmas.{once-in-part}

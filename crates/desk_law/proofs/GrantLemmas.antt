@@ -5,7 +5,8 @@ use Rattle.std.specs.Prelude.{◌⊎◌, Option, None, Some, IfSome, find, bytes
 use Rattle.std.specs.List.{All, AllByRecursion, sum_by}
 use Rattle.std.proofs.lemmas.List.Elements.{All-head, All-tail}
 use Rattle.sms_construct.specs.Configuration.{Configuration, IsConfiguration}
-use Rattle.sms_construct.specs.Quantities.{border, most_breakpoint, rounded_up, tracks_in, tracks_in_managed}
+use Rattle.desk_common.specs.Limits.{border}
+use Rattle.sms_construct.specs.Quantities.{most_breakpoint, rounded_up, tracks_in, tracks_in_managed}
 use Rattle.sms_construct.specs.declared.data_set.DataSet.{DataSet}
 use Rattle.sms_construct.specs.declared.extent.Extent.{Extent}
 use Rattle.sms_construct.specs.declared.storage_group.StorGroup.{StorGroup}

@@ -2,7 +2,8 @@
 use Rattle.std.specs.Prelude.{ℕ, ◌-◌, ◌||◌, Bool, false, List, [], ◌∷◌, ◌++◌, min, nat_lt, bytes_eq, sum_by, Option}
 use Rattle.std.specs.Prelude.{None, Some, if◌then◌else◌}
 use Rattle.track_ledger.specs.Extents.{tracks_held}
-use Rattle.sms_construct.specs.Quantities.{border, rounded_up, tracks_in_managed}
+use Rattle.desk_common.specs.Limits.{border}
+use Rattle.sms_construct.specs.Quantities.{rounded_up, tracks_in_managed}
 use Rattle.sms_construct.specs.declared.data_set.DataSet.{DataSet}
 use Rattle.sms_construct.specs.declared.extent.Extent.{Extent}
 use Rattle.track_ledger.specs.declared.piece.Piece.{Piece}

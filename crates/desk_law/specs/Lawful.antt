@@ -1,9 +1,9 @@
 -- What holds of each state that a legal history reaches.
 use Rattle.std.specs.Prelude.{ℕ, true, ◌%◌, ◌≡◌, ◌≤◌, ◌<◌, ◌+◌, ◌⊎◌, List, [], ◌∷◌, length, IfSome, if◌then◌else◌}
 use Rattle.std.specs.List.{AllByRecursion}
-use Rattle.desk_common.specs.Limits.{most_extents}
+use Rattle.desk_common.specs.Limits.{border, most_extents}
 use Rattle.sms_construct.specs.Configuration.{IsConfiguration}
-use Rattle.sms_construct.specs.Quantities.{border, tracks_in, tracks_in_managed}
+use Rattle.sms_construct.specs.Quantities.{tracks_in, tracks_in_managed}
 use Rattle.sms_construct.specs.declared.data_set.DataSet.{DataSet}
 use Rattle.sms_construct.specs.declared.extent.Extent.{Extent}
 use Rattle.sms_construct.specs.declared.target.Target.{Target}

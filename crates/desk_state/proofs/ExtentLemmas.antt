@@ -7,7 +7,8 @@ use Rattle.std.proofs.Math.Nat.{lt-div-mul-add}
 use Rattle.std.proofs.lemmas.Bool.Decides.{nat_tests}
 use Rattle.std.proofs.lemmas.List.{take_more}
 use Rattle.std.proofs.lemmas.List.Sums.{sum_by_more, sum_by-cons}
-use Rattle.sms_construct.specs.Quantities.{border, rounded_up}
+use Rattle.desk_common.specs.Limits.{border}
+use Rattle.sms_construct.specs.Quantities.{rounded_up}
 use Rattle.sms_construct.specs.declared.extent.Extent.{Extent}
 use Rattle.sms_construct.specs.declared.volume.VolumeDef.{VolumeDef}
 use Rattle.desk_law.specs.Extents.{front_tracks, length_kept, multiple_at, pieces_on}

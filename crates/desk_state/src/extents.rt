@@ -5,9 +5,9 @@ ghost use Rattle.desk_law.specs.Extents.{extents_at, front_tracks, length_kept, 
 ghost use Rattle.desk_law.specs.Extents.{with_extents};
 ghost use Rattle.desk_state.specs.Inner.Sums.{tracks_in};
 
-use desk_common::{Items, Shared};
+use desk_common::{BORDER, Items, Shared};
 use dsn_mask::Volser;
-use sms_construct::{BORDER, DataSet, Extent, Extents, TRACKS_IN_MANAGED};
+use sms_construct::{DataSet, Extent, Extents, TRACKS_IN_MANAGED};
 use sms_volumes::lies_on;
 use std::alloc::{AllocError, Global};
 use track_ledger::Piece;

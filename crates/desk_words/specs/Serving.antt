@@ -3,7 +3,7 @@ use Rattle.std.specs.Prelude.{ℕ, ◌≤◌, ◌&&◌, List, [], ◌∷◌, Boo
 use Rattle.std.specs.Prelude.{if◌then◌else◌}
 use Rattle.sms_construct.specs.Numbers.{small_number_of}
 use Rattle.sms_script.specs.Found.{◌⊳◌}
-use Rattle.desk_words.specs.Words.{most_workers}
+use Rattle.desk_common.specs.Limits.{most_workers}
 use Rattle.desk_words.specs.declared.served.ServeWords.{ServeWords}
 
 -- the greatest port

@@ -1,18 +1,11 @@
 -- What the words of the desk's command line ask for (docs/script.md, "The program").
 use Rattle.std.specs.Prelude.{ℕ, Bool, ◌&&◌, true, false, List, [], ◌∷◌, nat_le, Option, None, Some, bytes_eq, codes}
 use Rattle.std.specs.Prelude.{if◌then◌else◌}
+use Rattle.desk_common.specs.Limits.{most_items, most_workers}
 use Rattle.sms_script.specs.Found.{◌⊳◌}
 use Rattle.sms_construct.specs.Numbers.{small_number_of}
 use Rattle.desk_words.specs.declared.task.Task.{Task}
 use Rattle.desk_words.specs.declared.task.Task.TheVariants as tasks
-
--- the number of items that a load may have
-abbrev pub most_items : ℕ
-most_items = 40000
-
--- the workers that there may be
-abbrev pub most_workers : ℕ
-most_workers = 16
 
 -- a run by 1 to 16 workers
 abbrev pub run_of : Bool → ℕ → Option Task

@@ -3,13 +3,8 @@ ghost use Rattle.std.specs.Prelude.{◌≡◌, map, string_bytes};
 ghost use Rattle.desk_words.specs.Words.{load_in, load_of, run_in, run_of, task_in};
 
 use crate::task::Task;
+use desk_common::{MAX_ITEMS, MAX_WORKERS};
 use sms_construct::read_number;
-
-// The most items of a load.
-const MAX_ITEMS: u32 = 40_000;
-
-/// The most workers.
-pub const MAX_WORKERS: u32 = 16;
 
 /// What the words ask for, and `None` where they ask for nothing.
 pub fn task_asked(words: &[String]) -> Option<Task>

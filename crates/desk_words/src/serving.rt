@@ -2,8 +2,8 @@
 ghost use Rattle.std.specs.Prelude.{◌≡◌, map, string_bytes, IfSome};
 ghost use Rattle.desk_words.specs.Serving.{IsWithinLimits, serving_in, serving_by, serving_of};
 
-use crate::asked::MAX_WORKERS;
 use crate::served::ServeWords;
+use desk_common::MAX_WORKERS;
 use sms_construct::read_number;
 
 // The greatest port.

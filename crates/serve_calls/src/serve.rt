@@ -4,7 +4,7 @@ ghost use Rattle.std.specs.Prelude.{string_bytes, IfOk, IfSome, OnErr};
 ghost use Rattle.sms_keeper.specs.Tables.{AreSame, no_rows};
 ghost use Rattle.desk_law.specs.Records.{empty_opening};
 ghost use Rattle.desk_words.specs.Serving.{serving_in};
-ghost use Rattle.desk_words.specs.Words.{most_workers};
+ghost use Rattle.desk_common.specs.Limits.{most_workers};
 ghost use Rattle.desk_words.specs.declared.served.ServeWords.{ServeWords as Asked};
 ghost use Rattle.serve_calls.specs.OneHistory.{IsOneHistory, WasHeard};
 ghost use Rattle.serve_calls.specs.ServedText.{served_text};

@@ -1,7 +1,7 @@
 //! Doors that several workers serve.
 ghost use Rattle.std.specs.Prelude.{◌≡◌, ◌≤◌, [], All, IfOk, OnErr, map, vec_capacity, vec_len};
 ghost use Rattle.sms_desk.specs.Seats.{IsJobOf};
-ghost use Rattle.desk_words.specs.Words.{most_workers};
+ghost use Rattle.desk_common.specs.Limits.{most_workers};
 ghost use Rattle.serve_calls.specs.OneHistory.{IsOneHistory};
 ghost use Rattle.serve_calls.specs.ServeEnds.{AreServed};
 ghost use Rattle.serve_calls.specs.Seen.{seen_door, seen_link};

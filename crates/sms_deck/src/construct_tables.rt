@@ -15,6 +15,7 @@ use crate::values::integer_in;
 use crate::version::Version;
 use crate::volume_table::check_volumes;
 use acs_tree::Kind;
+use desk_common::MAX_DAYS;
 use dsn_mask::Name;
 use sms_construct::{Fault, Path, key_of};
 use toml::{Table, Value};
@@ -63,7 +64,7 @@ fn check_management_class(keys: &Table, path: &Path) -> Result<(), Fault>
     ensures { fault_told result ≡ fixed_keys management_class_rows path.now (table_view keys.now) }
 {
     check_keys(keys, &["expire_after", "release"], path)?;
-    check_row(keys, "expire_after", ValueForm::Integer(0, 9_999), path)?;
+    check_row(keys, "expire_after", ValueForm::Integer(0, MAX_DAYS), path)?;
     check_row(keys, "release", ValueForm::YesOrNo, path)
 }
 

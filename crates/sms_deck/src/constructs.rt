@@ -18,7 +18,7 @@ use crate::values::{
     cylinders_in, device_in, eattr_in, group_status_in, integer_in, name_in, space_in,
     volume_status_in, yes_or_no_in,
 };
-use desk_common::Items;
+use desk_common::{Items, MAX_DAYS};
 use dsn_mask::{Name, Volser};
 use sms_construct::{
     DataClass, Eattr, MgmtClass, Space, Status, StorClass, StorGroup, VolumeCount, VolumeDef,
@@ -98,7 +98,7 @@ fn management_class(name: Name, keys: &Table) -> MgmtClass
 {
     MgmtClass {
         name,
-        expire_after: integer_at(keys, "expire_after", 0, 9_999),
+        expire_after: integer_at(keys, "expire_after", 0, MAX_DAYS),
         release: yes_or_no_at(keys, "release").unwrap_or(false),
     }
 }

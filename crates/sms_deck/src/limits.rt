@@ -18,9 +18,6 @@ pub const MAX_DECK_VOLUMES: usize = 1_024;
 /// The most cylinders of a volume.
 pub const MAX_CYLINDERS: u32 = 1_182_006;
 
-/// The most cylinders of a volume that are track-managed.
-pub const MAX_TRACK_MANAGED: u32 = 65_520;
-
 /// The cylinders of a unit of cylinder-managed space.
 pub const MANAGED_CYLINDERS: u32 = 21;
 

@@ -13,14 +13,10 @@ ghost use Rattle.sms_open.specs.Verdicts.{Tells};
 
 use crate::meeting::are_once;
 use crate::numbers::Numbers;
-use desk_common::Shared;
-use sms_construct::{BORDER, DataSet, Extent, TRACKS_IN_MANAGED, Unit, VolumeDef};
+use desk_common::{BORDER, MAX_EXTENTS, Shared, TRACKS_IN_CYLINDER};
+use sms_construct::{DataSet, Extent, TRACKS_IN_MANAGED, Unit, VolumeDef};
 use sms_deck::Config;
 use std::alloc::{AllocError, Global};
-
-const TRACKS_IN_CYLINDER: u32 = 15;
-
-const MOST_EXTENTS: u32 = 16;
 
 fn is_managed(extent: &Extent) -> bool
     ensures { Tells (IsManaged extent.now) result }
@@ -81,7 +77,7 @@ fn count_few(alloc: Global, extents: &[Extent]) -> Result<bool, AllocError>
     let mut counts = Numbers::new(alloc);
     for extent in extents {
         let count = counts.get(&extent.volser);
-        if count >= MOST_EXTENTS {
+        if count >= MAX_EXTENTS {
             return Ok(false);
         }
         counts.put(extent.volser, count + 1)?;
@@ -93,7 +89,7 @@ fn count_few(alloc: Global, extents: &[Extent]) -> Result<bool, AllocError>
 fn are_few(alloc: Global, extents: &[Extent]) -> Result<bool, AllocError>
     ensures { IfOk result (Tells ((volser : List ℕ) → length (pieces_on volser extents.now) ≤ most_extents)) }
 {
-    if extents.len() <= MOST_EXTENTS as usize {
+    if extents.len() <= MAX_EXTENTS as usize {
         return Ok(true);
     }
     count_few(alloc, extents)

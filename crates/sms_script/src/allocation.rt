@@ -15,7 +15,7 @@ use crate::operand::{
 use acs_tree::{
     Accounting, Amounts, Attributes, Defaults, Environment, Given, GivenLists, GivenTexts, Origin,
 };
-use desk_common::{Boxed, Shared};
+use desk_common::{Boxed, LAST_DAY, MAX_DAYS, Shared};
 use dsn_mask::{Dsn, Short};
 use sms_construct::{Alloc, Space, behind_front, read_space};
 use std::alloc::{AllocError, Global};
@@ -93,10 +93,10 @@ fn read_request(
     let Some(volumes) = count_at(b"VOLCNT=", operands) else {
         return Ok(None);
     };
-    let Some(day) = number_at(b"DAY=", 9_999_999, operands) else {
+    let Some(day) = number_at(b"DAY=", LAST_DAY, operands) else {
         return Ok(None);
     };
-    let Some(retpd) = some_number_at(b"RETPD=", 9_999, operands) else {
+    let Some(retpd) = some_number_at(b"RETPD=", MAX_DAYS, operands) else {
         return Ok(None);
     };
     let Some(eattr) = eattr_at(b"EATTR=", operands) else {

@@ -11,12 +11,9 @@ use crate::item::{Item, Phase, Script};
 use crate::lines::{first_line, is_skipped, line_text};
 use crate::next::{Found, Next, Progress};
 use crate::script_err::ScriptErr;
-use desk_common::{Items, Shared};
+use desk_common::{Items, MAX_COMMANDS, Shared};
 use sms_construct::{DeckText, Op, Request, RequestNumber};
 use std::alloc::{AllocError, Global};
-
-/// The most commands of a script, SYNC lines included.
-const MAX_COMMANDS: u32 = 100_000;
 
 /// The script that the bytes write, or its first fault (docs/script.md). It walks once over the text,
 /// and copies the decks, and each command line into one buffer.

@@ -1,6 +1,7 @@
 -- The gaps of a part of a volume by the unit in which they are granted, and which of them are the longest.
 use Rattle.std.specs.Prelude.{ℕ, ◌≡◌, ◌^◌, max, Bool, List, [], ◌∷◌, map, if◌then◌else◌}
-use Rattle.sms_construct.specs.Quantities.{border, tracks_in_managed}
+use Rattle.desk_common.specs.Limits.{border}
+use Rattle.sms_construct.specs.Quantities.{tracks_in_managed}
 use Rattle.track_ledger.specs.declared.measure.Longest.{Longest}
 use Rattle.track_ledger.specs.declared.measure.Measure.{Measure}
 use Rattle.track_ledger.specs.declared.measure.Measure.TheVariants.{Tracks, Cylinders, Managed}
