@@ -13,6 +13,7 @@ use Rattle.desk_common.specs.contracts.shared.Shared as shares
 use Rattle.desk_common.proofs.shared.Shared.TheSendSync as shared
 use Rattle.sms_volumes.proofs.SendLemmas.{volumes-send}
 use Rattle.desk_state.proofs.catalog.Catalog.TheSendSync as catalog
+use Rattle.desk_state.proofs.blank_trace.BlankTrace.TheSendSync as blank
 use Rattle.desk_state.specs.contracts.running.Running as running
 use Rattle.sms_construct.specs.contracts.entry.Entry as entries
 use Rattle.sms_construct.proofs.entry.Entry.TheSendSync as entry
@@ -45,7 +46,7 @@ active-send : IsSend (options.the_field (shares.the_row config.the_row)).row
 active-send = option.the_field_send (shares.the_row config.the_row) shared_config-send
 
 running-send : IsSend (running.the_field).row
-running-send = struct_send (declared_struct.shape running.the_type) (heap_facts.the_field_send, (plain_send _ _ _ _ _, (active-send, (volumes-send, (catalog.the_send, tt)))))
+running-send = struct_send (declared_struct.shape running.the_type) (heap_facts.the_field_send, (plain_send _ _ _ _ _, (active-send, (volumes-send, (catalog.the_send, (blank.the_send, tt))))))
 
 journal-send : IsSend (vec.the_row entries.the_row heap.the_row heap_ghosts)
 journal-send = search (crosses, entry.the_send) depth 10
