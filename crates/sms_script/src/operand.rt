@@ -206,7 +206,8 @@ fn has_key(word: &[u8], key: &[u8]) -> bool
     behind_key(key, word).is_some()
 }
 
-// What is behind the key, if the word begins with it. Most keys differ from a word in the first bytes.
+// What is behind the key, if the word begins with it. `behind_front` says the same, and is made for a front whose
+// length is known where it is called; the keys here come from a list, and most differ from a word in the first bytes.
 fn behind_key<'a>(key: &[u8], word: &'a [u8]) -> Option<&'a [u8]>
     ensures { option_copied result ≡ behind_front key.now word.entry.now }
 {
