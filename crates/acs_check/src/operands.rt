@@ -339,7 +339,8 @@ fn is_repeated(before: &[Operand], form: &OperandForm) -> bool
 /// Whether it is a value too many, or a storage group that stands already before it.
 pub fn is_one_too_many(target: &Ref, before: &[Operand], form: &OperandForm) -> bool
     ensures { result ≡ (if is_group_list target.now
-        then length before.now == most_groups_set || is_literal_with (is_among before.now) form.now else length before.now == 1) }
+        then length before.now == most_groups_set || is_literal_with (is_among before.now) form.now
+        else length before.now == 1) }
 {
     if is_group_list(target) {
         before.len() == MAX_GROUPS_SET || is_repeated(before, form)

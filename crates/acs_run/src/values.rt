@@ -1,11 +1,11 @@
 // The table of variables.
-ghost use Rattle.std.specs.Prelude.{◌≡◌, ℕ, map};
+ghost use Rattle.std.specs.Prelude.{◌≡◌, ℕ};
 ghost use Rattle.std.specs.Option.{option_map};
 ghost use Rattle.acs_code.specs.Machine.{slot_value};
 ghost use Rattle.acs_tree.specs.declared.input.Input.{Input};
 ghost use Rattle.acs_tree.specs.declared.values.Values.{Values};
 ghost use Rattle.acs_tree.specs.Value.{Number, Size, Text, text_at};
-ghost use Rattle.acs_tree.specs.Variables.{look_up, part_of_name};
+ghost use Rattle.acs_tree.specs.Variables.{part_of_name};
 ghost use Rattle.acs_run.specs.Inner.Seen.{accounting_variables, attribute_variables, class_variables};
 ghost use Rattle.acs_run.specs.Inner.Seen.{default_variables, environment_variables, given_variables, held_in};
 ghost use Rattle.acs_run.specs.Inner.Seen.{input_variables, name_variables, number_variables, origin_variables, seen};
@@ -79,19 +79,6 @@ fn given_text(input: &Seen<'_>, name: &[u8], index: u8) -> Option<Value>
     }
 }
 
-// The text in the row of that name.
-fn text_in(mut rows: &[(&[u8], &Short)], name: &[u8]) -> Option<Short>
-    ensures { option_map Text result ≡ look_up (map (λ row. (row.0.now, Text row.1.now)) rows.entry.now) name.now }
-{
-    while let [row, rest @ ..] = rows {
-        if name == row.0 {
-            return Some(*row.1);
-        }
-        rows = rest;
-    }
-    None
-}
-
 fn name_value(input: &Seen<'_>, name: &[u8], index: u8) -> Option<Value>
     ensures { (values : Values) →
         option_map (seen input.now values) result ≡ held_in name_variables name.now index input.now values }
@@ -141,33 +128,44 @@ fn origin_text(input: &Seen<'_>, name: &[u8]) -> Option<Short>
     ensures { (index : ℕ) (values : Values) →
         option_map Text result ≡ held_in origin_variables name.now index input.now values }
 {
-    let origin = input.origin();
-    let rows: [(&[u8], &Short); 6] = [
-        (b"JOB", &origin.job),
-        (b"USER", &origin.user),
-        (b"GROUP", &origin.group),
-        (b"PGM", &origin.pgm),
-        (b"DD", &origin.dd),
-        (b"APPLIC", &origin.applic),
-    ];
-    text_in(&rows, name)
+    if name == b"JOB".as_slice() {
+        Some(input.origin().job)
+    } else if name == b"USER".as_slice() {
+        Some(input.origin().user)
+    } else if name == b"GROUP".as_slice() {
+        Some(input.origin().group)
+    } else if name == b"PGM".as_slice() {
+        Some(input.origin().pgm)
+    } else if name == b"DD".as_slice() {
+        Some(input.origin().dd)
+    } else if name == b"APPLIC".as_slice() {
+        Some(input.origin().applic)
+    } else {
+        None
+    }
 }
 
 fn attribute_text(input: &Seen<'_>, name: &[u8]) -> Option<Short>
     ensures { (index : ℕ) (values : Values) →
         option_map Text result ≡ held_in attribute_variables name.now index input.now values }
 {
-    let attributes = input.attributes();
-    let rows: [(&[u8], &Short); 7] = [
-        (b"UNIT", &attributes.unit),
-        (b"DSORG", &attributes.dsorg),
-        (b"RECORG", &attributes.recorg),
-        (b"DSNTYPE", &attributes.dsntype),
-        (b"DSTYPE", &attributes.dstype),
-        (b"DSOWNER", &attributes.dsowner),
-        (b"EXPDT", &attributes.expdt),
-    ];
-    text_in(&rows, name)
+    if name == b"UNIT".as_slice() {
+        Some(input.attributes().unit)
+    } else if name == b"DSORG".as_slice() {
+        Some(input.attributes().dsorg)
+    } else if name == b"RECORG".as_slice() {
+        Some(input.attributes().recorg)
+    } else if name == b"DSNTYPE".as_slice() {
+        Some(input.attributes().dsntype)
+    } else if name == b"DSTYPE".as_slice() {
+        Some(input.attributes().dstype)
+    } else if name == b"DSOWNER".as_slice() {
+        Some(input.attributes().dsowner)
+    } else if name == b"EXPDT".as_slice() {
+        Some(input.attributes().expdt)
+    } else {
+        None
+    }
 }
 
 fn number(input: &Seen<'_>, name: &[u8]) -> Option<u64>
@@ -244,25 +242,30 @@ fn environment_text(input: &Seen<'_>, name: &[u8]) -> Option<Short>
     ensures { (index : ℕ) (values : Values) →
         option_map Text result ≡ held_in environment_variables name.now index input.now values }
 {
-    let environment = input.environment();
-    let rows: [(&[u8], &Short); 4] = [
-        (b"ACSENVIR", &environment.acsenvir),
-        (b"XMODE", &environment.xmode),
-        (b"SYSNAME", &environment.sysname),
-        (b"SYSPLEX", &environment.sysplex),
-    ];
-    text_in(&rows, name)
+    if name == b"ACSENVIR".as_slice() {
+        Some(input.environment().acsenvir)
+    } else if name == b"XMODE".as_slice() {
+        Some(input.environment().xmode)
+    } else if name == b"SYSNAME".as_slice() {
+        Some(input.environment().sysname)
+    } else if name == b"SYSPLEX".as_slice() {
+        Some(input.environment().sysplex)
+    } else {
+        None
+    }
 }
 
 fn default_text(input: &Seen<'_>, name: &[u8]) -> Option<Short>
     ensures { (index : ℕ) (values : Values) →
         option_map Text result ≡ held_in default_variables name.now index input.now values }
 {
-    let defaults = input.defaults();
-    let rows: [(&[u8], &Short); 3] = [
-        (b"DEF_DATACLAS", &defaults.dataclas),
-        (b"DEF_STORCLAS", &defaults.storclas),
-        (b"DEF_MGMTCLAS", &defaults.mgmtclas),
-    ];
-    text_in(&rows, name)
+    if name == b"DEF_DATACLAS".as_slice() {
+        Some(input.defaults().dataclas)
+    } else if name == b"DEF_STORCLAS".as_slice() {
+        Some(input.defaults().storclas)
+    } else if name == b"DEF_MGMTCLAS".as_slice() {
+        Some(input.defaults().mgmtclas)
+    } else {
+        None
+    }
 }

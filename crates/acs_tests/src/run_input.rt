@@ -1,7 +1,8 @@
 //! What a run is given: words `NAME=value`, each with what one variable holds, one volume, one field of an
 //! accounting or one group of the list. `VOLUMES=n` stands for n times the volume V1. Without a name the data
 //! set is A.B.
-use acs_tree::{Account, Input, MAX_FIELDS, MAX_VOLUMES, Values, Volumes};
+use acs_tree::{Account, Input, Values, Volumes};
+use desk_common::{MAX_FIELDS, MAX_VOLUMES};
 use dsn_mask::{Dsn, Name, Names, Short, Volser};
 use std::process::Abort;
 

@@ -5,10 +5,10 @@ use Place::{Code, Entry, Item, Line};
 use Text::{Quoted, Variable, Word};
 use acs_check::{CheckErr, check};
 use acs_tree::{
-    Block, Form, Ident, Kind, MAX_IDENT, Operand, OperandForm, Ref, Routine, Stmt, When, WhenTest,
+    Block, Form, Ident, Kind, Operand, OperandForm, Ref, Routine, Stmt, When, WhenTest,
     with_operand, with_when,
 };
-use desk_common::{Boxed, Items};
+use desk_common::{Boxed, Items, MAX_WORD};
 use dsn_mask::Lit;
 use std::alloc::{AllocError, Global};
 use std::process::Abort;
@@ -187,7 +187,7 @@ fn literal(rt: &impl Abort, bytes: &[u8]) -> Lit {
 }
 
 fn ident(rt: &impl Abort, bytes: &[u8]) -> Ident {
-    assert!(rt; bytes.len() <= MAX_IDENT);
+    assert!(rt; bytes.len() <= MAX_WORD);
     Ident::upper(bytes)
 }
 

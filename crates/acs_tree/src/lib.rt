@@ -38,7 +38,6 @@ pub use building::{with_operand, with_stmt, with_when};
 pub use check_err::CheckErr;
 pub use checked::Checked;
 pub use defaults::Defaults;
-pub use desk_common::{MAX_FIELDS, MAX_VOLUMES, MAX_WORD as MAX_IDENT};
 pub use ending::Ending;
 pub use environment::Environment;
 pub use given::Given;

@@ -88,24 +88,28 @@ impl<'a> Seen<'a> {
         self.amounts
     }
 
+    /// Who asks for the data set. The value, of 270 bytes, is put together at each call.
     pub fn origin(&self) -> Origin
         ensures { result ≡ self.now.origin }
     {
         self.texts.origin()
     }
 
+    /// What the data set is to be. The value, of 315 bytes, is put together at each call.
     pub fn attributes(&self) -> Attributes
         ensures { result ≡ self.now.attributes }
     {
         self.texts.attributes()
     }
 
+    /// Where and for what the routine runs. The value, of 180 bytes, is put together at each call.
     pub fn environment(&self) -> Environment
         ensures { result ≡ self.now.environment }
     {
         self.texts.environment()
     }
 
+    /// The classes that the request names as defaults. The value, of 135 bytes, is put together at each call.
     pub fn defaults(&self) -> Defaults
         ensures { result ≡ self.now.defaults }
     {

@@ -1,5 +1,6 @@
 //! What routines write.
-ghost use Rattle.std.specs.Prelude.{◌≡◌, IfOk, length};
+ghost use Rattle.std.specs.Prelude.{◌≡◌, ◌*◌, IfOk, length};
+ghost use Rattle.desk_common.specs.Limits.{most_lines};
 ghost use Rattle.acs_tree.specs.Slates.{blank, count_of, more_of, same_kind, with_line, IsSlate};
 
 use crate::kind::Kind;
@@ -11,7 +12,7 @@ use std::alloc::{AllocError, Global};
 use std::marker::Model;
 
 // Room for the lines of all four kinds.
-const ROOM: usize = 256;
+const ROOM: usize = 4 * MAX_LINES;
 
 /// The lines that the routines of a request wrote: at most 64 of each kind, and how many others there were.
 /// All room is taken when it is made.
@@ -23,14 +24,15 @@ pub struct Slate {
 }
 
 impl Model for Slate {
-    ghost use Rattle.std.specs.Prelude.{length, take, ◌≡◌, ◌≤◌};
+    ghost use Rattle.std.specs.Prelude.{length, take, ◌≡◌, ◌≤◌, ◌*◌};
+    ghost use Rattle.desk_common.specs.Limits.{most_lines};
     ghost use Rattle.acs_tree.specs.Slates.{SlateLines, IsSlate};
 
     ghost Value = { SlateLines };
 
     ghost view = { λ s. record { lines = take s.count s.room.items; more = s.more } };
 
-    ghost invariant = { λ s. (length s.room.items ≡ 256) × (s.count ≤ 256) ×
+    ghost invariant = { λ s. (length s.room.items ≡ 4 * most_lines) × (s.count ≤ 4 * most_lines) ×
         IsSlate (record { lines = take s.count s.room.items; more = s.more }) };
 }
 
@@ -93,7 +95,7 @@ impl Slate {
 
 // Room for all lines, with empty lines in it.
 fn unwritten(alloc: Global) -> Result<Vec<Line>, AllocError>
-    ensures { IfOk result (λ room. length room.items ≡ 256) }
+    ensures { IfOk result (λ room. length room.items ≡ 4 * most_lines) }
 {
     let mut room = Vec::with_capacity(alloc, ROOM)?;
     for _ in 0..ROOM {

@@ -1,4 +1,4 @@
-//! The limits that code tests, each by the word that specs/Limits has for clauses.
+//! The limits that code tests, and the measures that it counts with; for each, specs/Limits has the word of clauses.
 
 /// The most bytes of a name or a qualifier.
 pub const MAX_NAME: usize = 8;
@@ -54,7 +54,7 @@ pub const BORDER: u32 = 982_800;
 /// The cylinders of a volume before its border.
 pub const MAX_TRACK_MANAGED: u32 = 65_520;
 
-/// The most bytes of a line of a script.
+/// The most bytes of a line of a script, and of an HTTP body that is no deck.
 pub const MAX_LINE: usize = 4_096;
 
 /// The most bytes of a program's input, where it is no routine.

@@ -1,5 +1,6 @@
 //! The generated script.
 ghost use Rattle.std.specs.Prelude.{◌≡◌, ◌≤◌, ◌<◌, ◌^◌, ◌+◌, ℕ, IfOk, OnOk, ◌++◌, ◌∷◌, [], length};
+ghost use Rattle.desk_common.specs.Limits.{most_items};
 ghost use Rattle.desk_generator.specs.Generated.{drawn_at, generated, items_up_to};
 
 use crate::deck::first_request;
@@ -12,7 +13,7 @@ use std::alloc::{AllocError, Global};
 /// The generated script: the activation of its deck and behind it so many items, 1 to 40,000, which the seed
 /// determines (docs/generator.md).
 pub fn generate(alloc: Global, seed: u32, count: u32) -> Result<Script, AllocError>
-    requires { count ≤ 40000 }
+    requires { count ≤ most_items }
     ensures { IfOk result (λ script. script ≡ generated seed count) }
 {
     let mut buffer = Vec::new(alloc);
@@ -46,7 +47,7 @@ fn push_behind(
     drawn: u32,
 ) -> Result<(), AllocError>
     requires last { length items.old ≡ place + 1 }
-    requires few { place < 40000 }
+    requires few { place < most_items }
     requires drawn { drawn < 32768 }
     ensures { OnOk result ((seed : ℕ) → drawn ≡ drawn_at seed (place + 1) → items.old ≡ items_up_to seed place →
         items.new ≡ items_up_to seed (place + 1)) }

@@ -55,11 +55,11 @@ impl Running {
             return Ok(Decision::quiet(Reply::NameInUse));
         }
         let config = config.share()?;
-        self.decide_classes(config.get(), job, alloc, before, slate)
+        self.decide_unused(config.get(), job, alloc, before, slate)
     }
 
     // The same where this configuration is active; no data set of its name is catalogued.
-    fn decide_classes(
+    fn decide_unused(
         &mut self,
         config: &Config,
         job: &Name,
@@ -77,16 +77,16 @@ impl Running {
             Answers s self.new (AllocRule s job.now alloc.now) made) }
         ensures possible { IfOk result (λ made. IsPossible self.new made.deed) }
     {
-        // Facts for the proof; nothing runs.
+        // A fact for the proof; nothing runs.
         classes_are_known(config);
         match before {
-            Some(classified) => self.decide_with(config, alloc, classified, slate),
-            None => self.decide_now(config, job, alloc, slate),
+            Some(classified) => self.decide_as_classified(config, alloc, classified, slate),
+            None => self.decide_unclassified(config, job, alloc, slate),
         }
     }
 
     // The same where it wasn't classified before.
-    fn decide_now(
+    fn decide_unclassified(
         &mut self,
         config: &Config,
         job: &Name,
@@ -102,11 +102,11 @@ impl Running {
         ensures possible { IfOk result (λ made. IsPossible self.new made.deed) }
     {
         let classified = classify(config, job, alloc, slate);
-        self.decide_with(config, alloc, &classified, slate)
+        self.decide_as_classified(config, alloc, &classified, slate)
     }
 
     // The same where it was classified so, with what is on the slate.
-    fn decide_with(
+    fn decide_as_classified(
         &mut self,
         config: &Config,
         alloc: &Alloc,
@@ -141,9 +141,9 @@ impl Running {
         Shared::new(self.alloc, Trace::of(self.alloc, slate)?)
     }
 
-    /// What ALLOC is answered where the classification under the active configuration came to this and its
-    /// routines wrote this; no data set of its name is catalogued.
-    pub(crate) fn decide_classified(
+    // What ALLOC is answered where the classification under the active configuration came to this and its
+    // routines wrote this; no data set of its name is catalogued.
+    fn decide_classified(
         &mut self,
         config: &Config,
         alloc: &Alloc,

@@ -17,7 +17,7 @@ use crate::decision::Decision;
 use crate::deed::Deed;
 use crate::extents::{frees_any, front_of, rounded_up, tracks_of, with_extents};
 use crate::running::Running;
-use desk_common::{Items, Shared};
+use desk_common::{Items, Shared, TRACKS_IN_CYLINDER};
 use dsn_mask::Dsn;
 use sms_construct::{DataSet, Reply, Unit};
 use std::alloc::{AllocError, Global};
@@ -141,7 +141,7 @@ fn tracks_kept(set: &DataSet) -> u64
 {
     let unit = match set.unit {
         Unit::Trk => 1,
-        Unit::Cyl => 15,
+        Unit::Cyl => TRACKS_IN_CYLINDER as u64,
     };
     rounded_up(unit, u64::from(set.used.max(1)))
 }

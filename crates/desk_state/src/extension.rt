@@ -1,6 +1,7 @@
 //! EXTEND.
 ghost use Rattle.std.specs.Prelude.{◌≡◌, ◌<◌, ◌≤◌, length, option_map, slice_get, IfOk, IfSome, MatchOption, None};
 ghost use Rattle.std.specs.Prelude.{Some, nat_lt};
+ghost use Rattle.desk_common.specs.Limits.{most_extents};
 ghost use Rattle.desk_law.specs.Extension.{ExtendRule, ask_more, bars_growth, extended, first_volume, growth_on};
 ghost use Rattle.desk_law.specs.Extension.{last_volume, others_of};
 ghost use Rattle.desk_law.specs.Extents.{pieces_on, volumes_of};
@@ -183,7 +184,7 @@ fn may_spread(set: &DataSet) -> bool
 fn held_on(set: &DataSet, volser: &Volser) -> u8
     requires { IsGrowable set.now }
     ensures value { result ≡ length (pieces_on volser.now set.now.extents) }
-    ensures few { result ≤ 16 }
+    ensures few { result ≤ most_extents }
 {
     count_on(set.extents.as_slice(), volser) as u8
 }

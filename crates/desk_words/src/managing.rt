@@ -3,10 +3,8 @@ ghost use Rattle.std.specs.Prelude.{◌≡◌, ◌≤◌, map, string_bytes, IfS
 ghost use Rattle.desk_common.specs.Limits.{last_day};
 ghost use Rattle.desk_words.specs.Managing.{day_in, day_of, managed_day_in};
 
+use desk_common::LAST_DAY;
 use sms_construct::read_number;
-
-// The last day that may be named.
-const LAST_DAY: u32 = 9_999_999;
 
 /// The day whose space management the words ask for behind a run, and `None` where they don't ask for one.
 pub fn managed_day(words: &[String]) -> Option<u32>

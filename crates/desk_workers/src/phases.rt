@@ -1,5 +1,6 @@
 // The phases of a script, one after the other.
 ghost use Rattle.std.specs.Prelude.{◌≡◌, ◌≤◌, IfOk, OnErr, OnOk};
+ghost use Rattle.desk_common.specs.Limits.{most_workers};
 ghost use Rattle.desk_workers.specs.Phases.{AreAnswered, HasPhase, IsFrontAnswered};
 
 use crate::crew::Crew;
@@ -25,7 +26,7 @@ pub fn run_phases<P: Keeper + Send, R: Threads + Wait + Sync, G: Gate + Sync>(
     core: Core<P>,
     slate: &mut Slate,
 ) -> (Result<Answers, AllocError>, Core<P>)
-    requires workers { (2 ≤ crew.now.workers) × (crew.now.workers ≤ 16) }
+    requires workers { (2 ≤ crew.now.workers) × (crew.now.workers ≤ most_workers) }
     ensures answered { IfOk result.0 (λ answers. AreAnswered phases.now answers core.journal result.1.journal) }
     ensures wanting { OnErr result.0 (IsFrontAnswered phases.now core.journal result.1.journal) }
     ensures opening { result.1.opening ≡ core.opening }
@@ -51,7 +52,7 @@ fn run_phase<P: Keeper + Send, R: Threads + Wait + Sync, G: Gate + Sync>(
     slate: &mut Slate,
     answers: &mut Vec<Answer>,
 ) -> (Result<(), AllocError>, Core<P>)
-    requires workers { (2 ≤ crew.now.workers) × (crew.now.workers ≤ 16) }
+    requires workers { (2 ≤ crew.now.workers) × (crew.now.workers ≤ most_workers) }
     ensures answered { OnOk result.0
         (HasPhase items.now answers.old.items answers.new.items core.journal result.1.journal) }
     ensures wanting { OnErr result.0 ((answers.new.items ≡ answers.old.items) × (result.1.journal ≡ core.journal)) }

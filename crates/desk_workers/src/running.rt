@@ -1,5 +1,6 @@
 //! A run of a script by several workers.
 ghost use Rattle.std.specs.Prelude.{◌≡◌, ◌+◌, ◌-◌, ◌^◌, ◌≤◌, min, IfOk, OnErr};
+ghost use Rattle.desk_common.specs.Limits.{most_workers};
 ghost use Rattle.desk_law.specs.History.{IsLegal};
 ghost use Rattle.desk_records.specs.Tied.{faults_in};
 ghost use Rattle.sms_core.specs.Core.{HasTables};
@@ -29,7 +30,7 @@ pub fn run_workers<P: Keeper + Send, R: Threads + Wait + Sync, G: Gate + Sync>(
     workers: usize,
     gate: &G,
 ) -> (Result<Answers, AllocError>, Core<P>)
-    requires workers { (2 ≤ workers) × (workers ≤ 16) }
+    requires workers { (2 ≤ workers) × (workers ≤ most_workers) }
     ensures answered { IfOk result.0 (λ answers. AreAnswered script.now answers core.journal result.1.journal) }
     ensures wanting { OnErr result.0 (IsFrontAnswered script.now core.journal result.1.journal) }
     ensures opening { result.1.opening ≡ core.opening }

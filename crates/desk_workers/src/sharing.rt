@@ -1,5 +1,6 @@
 // A phase on a desk that workers share.
 ghost use Rattle.std.specs.Prelude.{◌≡◌, ◌+◌, ◌<◌, ◌≤◌, [], All, OnErr, OnOk, length, vec_capacity, vec_len};
+ghost use Rattle.desk_common.specs.Limits.{most_workers};
 ghost use Rattle.sms_desk.specs.Seats.{IsJobOf};
 ghost use Rattle.desk_workers.specs.Phases.{HasPhase};
 ghost use Rattle.desk_workers.specs.Inner.Shared.{HasShared, IsIdle};
@@ -26,7 +27,7 @@ pub fn share_phase<P: Keeper + Send, R: Threads + Wait + Sync, G: Gate + Sync>(
     core: Core<P>,
     answers: &mut Vec<Answer>,
 ) -> (Result<(), AllocError>, Core<P>)
-    requires workers { (2 ≤ crew.now.workers) × (crew.now.workers ≤ 16) }
+    requires workers { (2 ≤ crew.now.workers) × (crew.now.workers ≤ most_workers) }
     requires room { vec_len answers.old + length items.now ≤ vec_capacity answers.old }
     ensures answered { OnOk result.0
         (HasPhase items.now answers.old.items answers.new.items core.journal result.1.journal) }

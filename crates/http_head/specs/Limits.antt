@@ -9,7 +9,7 @@ most_head_bytes = 8192
 abbrev pub most_headers : ℕ
 most_headers = 32
 
--- the line feeds that a head of more headers has at least: those of the first line, of each header and of the end
+-- the line feeds of a first line and of one header more than that
 abbrev pub feeds_past_headers : ℕ
 feeds_past_headers = 34
 

@@ -1,9 +1,9 @@
-//! Texts that grow.
+//! What stands in a command line behind the request number.
 ghost use Rattle.std.specs.Prelude.{◌≡◌};
 
 use std::marker::Model;
 
-/// The part of a command line behind the request number, with room for more.
+/// The part of a command line behind the request number, as bytes; contracts see their list.
 #[derive(Drop)]
 pub struct LineText {
     bytes: Vec<u8>,
@@ -18,12 +18,14 @@ impl Model for LineText {
 }
 
 impl LineText {
+    /// These bytes.
     pub fn from_vec(bytes: Vec<u8>) -> LineText
         ensures { result ≡ bytes.items }
     {
         LineText { bytes }
     }
 
+    /// The bytes, behind which more can be put.
     pub fn into_vec(self) -> Vec<u8>
         ensures { result.items ≡ self }
     {

@@ -99,7 +99,8 @@ impl<K: Ord + Drop, V: Drop> OrderedIndex<K, V> {
         put_row(&mut self.chunks, &mut self.spares, key, value)
     }
 
-    /// Adds the row where none has its key, and tells whether it did, by one search. It takes no memory.
+    /// Adds the row where none has its key, and tells whether it did: by one search, and by a second one where the
+    /// chunk of a key that none has is full. It takes no memory.
     pub fn put_new(&mut self, key: K, value: V) -> bool
         requires { 0 < self.old.room }
         ensures rows { self.new.rows ≡ add_entry K.cmp self.old.rows key value }
@@ -107,7 +108,7 @@ impl<K: Ord + Drop, V: Drop> OrderedIndex<K, V> {
             ≡ (if is_free K.cmp key self.old.rows && is_eq (K.cmp key other) then Some value
             else lookup (is_at (K.cmp other)) self.old.rows) }
         ensures added { result ≡ is_free K.cmp key self.old.rows }
-        ensures room { self.old.room ≤ self.new.room + 1 }
+        ensures room { self.old.room ≤ self.new.room + (if result then 1 else 0) }
     {
         add_row(&mut self.chunks, &mut self.spares, key, value)
     }
@@ -160,7 +161,7 @@ fn add_row<K: Ord + Drop, V: Drop>(
     requires index { IsIndex K.cmp chunks.old spares.old }
     requires some { 0 < length spares.old.items }
     ensures index { IsIndex K.cmp chunks.new spares.new }
-    ensures spares { length spares.old.items ≤ length spares.new.items + 1 }
+    ensures spares { length spares.old.items ≤ length spares.new.items + (if result then 1 else 0) }
     ensures rows { rows_of chunks.new.items ≡ add_entry K.cmp (rows_of chunks.old.items) key value }
     ensures added { result ≡ is_free K.cmp key (rows_of chunks.old.items) }
 {

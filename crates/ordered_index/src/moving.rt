@@ -1,5 +1,6 @@
 //! Rows moved between chunks.
 ghost use Rattle.std.specs.Prelude.{◌≡◌, ◌<◌, ◌≤◌, ◌+◌, ◌++◌, length, slice_index_or, vec_capacity, Vec};
+ghost use Rattle.std.specs.Prelude.{if◌then◌else◌};
 ghost use Rattle.std.specs.List.{insert};
 ghost use Rattle.std.specs.declared.alloc.Global.{Global};
 ghost use Rattle.std.specs.BTreeMap.{insert_entry, is_at};
@@ -14,7 +15,8 @@ use crate::rows::put_in;
 /// How many rows a chunk has room for.
 pub const ROOM: usize = 64;
 
-/// How many rows stay in a chunk that is parted, and how many two chunks have together that are joined.
+/// How many rows stay in a chunk that is parted, and how many two chunks have together at most that are joined behind a
+/// removal; behind a put they are joined up to `ROOM`.
 const HALF: usize = 32;
 
 /// Moves the later half of a full chunk to an empty one.
@@ -95,7 +97,7 @@ pub fn add_in_full<K: Ord + Drop, V: Drop>(
     requires full { (d : Vec (K × V) Global) → length (slice_index_or chunks.old.items place d).items ≡ chunk_room }
     requires some { 0 < length spares.old.items }
     ensures index { IsIndex K.cmp chunks.new spares.new }
-    ensures spares { length spares.old.items ≤ length spares.new.items + 1 }
+    ensures spares { length spares.old.items ≤ length spares.new.items + (if result then 1 else 0) }
     ensures rows { rows_of chunks.new.items ≡ add_entry K.cmp (rows_of chunks.old.items) key value }
     ensures added { result ≡ is_free K.cmp key (rows_of chunks.old.items) }
 {

@@ -15,7 +15,7 @@ use crate::values::integer_in;
 use crate::version::Version;
 use crate::volume_table::check_volumes;
 use acs_tree::Kind;
-use desk_common::MAX_DAYS;
+use desk_common::{MAX_DAYS, MAX_VOLUMES};
 use dsn_mask::Name;
 use sms_construct::{Fault, Path, key_of};
 use toml::{Table, Value};
@@ -44,7 +44,12 @@ fn check_data_class(keys: &Table, path: &Path) -> Result<(), Fault>
 {
     check_keys(keys, &["space", "volcount", "eattr"], path)?;
     check_row(keys, "space", ValueForm::SpaceText, path)?;
-    check_row(keys, "volcount", ValueForm::Integer(1, 59), path)?;
+    check_row(
+        keys,
+        "volcount",
+        ValueForm::Integer(1, MAX_VOLUMES as u32),
+        path,
+    )?;
     check_row(keys, "eattr", ValueForm::OptOrNo, path)
 }
 

@@ -18,7 +18,7 @@ use crate::values::{
     cylinders_in, device_in, eattr_in, group_status_in, integer_in, name_in, space_in,
     volume_status_in, yes_or_no_in,
 };
-use desk_common::{Items, MAX_DAYS};
+use desk_common::{Items, MAX_DAYS, MAX_VOLUMES, TRACKS_IN_CYLINDER};
 use dsn_mask::{Name, Volser};
 use sms_construct::{
     DataClass, Eattr, MgmtClass, Space, Status, StorClass, StorGroup, VolumeCount, VolumeDef,
@@ -50,7 +50,7 @@ fn integer_at(keys: &Table, key: &str, least: u32, most: u32) -> Option<u32>
 fn volume_count(keys: &Table) -> Option<VolumeCount>
     ensures { result ≡ read_at (integer_in 1 most_volume_count) (codes "volcount") (table_view keys.now) }
 {
-    match integer_at(keys, "volcount", 1, 59) {
+    match integer_at(keys, "volcount", 1, MAX_VOLUMES as u32) {
         Some(count) => VolumeCount::new(count as u8),
         None => None,
     }
@@ -162,7 +162,7 @@ fn tracks_of(keys: &Table) -> u32
         return tracks;
     }
     match cylinders(keys) {
-        Some(cylinders) => cylinders * 15,
+        Some(cylinders) => cylinders * TRACKS_IN_CYLINDER,
         None => integer_at(keys, "tracks", 1, MAX_TRACKS).unwrap_or(1),
     }
 }

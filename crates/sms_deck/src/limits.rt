@@ -21,7 +21,7 @@ pub const MAX_CYLINDERS: u32 = 1_182_006;
 /// The cylinders of a unit of cylinder-managed space.
 pub const MANAGED_CYLINDERS: u32 = 21;
 
-/// The most tracks of a volume.
+/// The most tracks of a volume whose size a deck gives in tracks.
 pub const MAX_TRACKS: u32 = 982_800;
 
 /// The highest breakpoint, in cylinders.

@@ -1,5 +1,6 @@
 //! How a desk opens.
 ghost use Rattle.std.specs.Prelude.{◌≡◌, ◌<◌, ◌≤◌, [], IfOk, IfErr, All, length, vec_capacity, vec_len};
+ghost use Rattle.desk_common.specs.Limits.{most_workers};
 ghost use Rattle.desk_signing.specs.Signing.{signed};
 ghost use Rattle.sms_desk.specs.Seats.{AreAllJobs, AreNumberedDown, HasNoAnswers, IsNewJob, IsOutfit};
 
@@ -24,7 +25,7 @@ impl<P: Keeper> Desk<P> {
         core: Core<P>,
         seats: usize,
     ) -> Result<(Desk<P>, JobSeats<P>), (Core<P>, AllocError)>
-        requires { (0 < seats) × (seats ≤ 16) }
+        requires { (0 < seats) × (seats ≤ most_workers) }
         ensures all { IfOk result (λ r.
             AreAllJobs r.0.lock.table.shared.table_id r.0.lock.table.shared.key.seats r.1.jobs.items) }
         ensures count { IfOk result (λ r. length r.1.jobs.items ≡ seats) }

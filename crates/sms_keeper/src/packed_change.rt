@@ -40,7 +40,7 @@ pub enum PackedDeed {
     Other(Boxed<OtherDeed>),
 }
 
-/// A data set that was deleted, and the tracks that are free.
+/// A data set that was deleted, and the tracks that became free.
 #[derive(Drop)]
 pub struct DeletedDeed {
     pub dsn: Dsn,

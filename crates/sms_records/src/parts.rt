@@ -9,10 +9,10 @@ use crate::numbers::write_number;
 use crate::record_err::RecordErr;
 use crate::recorded::Recorded;
 use crate::texts::{read_text, write_text};
-use acs_tree::{Account, MAX_FIELDS, MAX_VOLUMES, Volumes};
-use desk_common::Items;
+use acs_tree::{Account, Volumes};
+use desk_common::{Items, MAX_FIELDS, MAX_PATH, MAX_VOLUMES};
 use dsn_mask::{Short, Volser};
-use sms_construct::{MAX_PATH, Path, Space, Unit};
+use sms_construct::{Path, Space, Unit};
 use std::alloc::{AllocError, Global};
 
 // The accounting of these fields.

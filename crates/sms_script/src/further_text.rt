@@ -4,7 +4,7 @@ ghost use Rattle.sms_script.specs.AnswerText.{further_lines, granted_lines, show
 ghost use Rattle.sms_script.specs.NameText.{class_text, extent_text};
 
 use crate::pushing::{name_bytes, push_number_and_blank, push_word_and_blank};
-use crate::text_lines::{TextLines, new_line, push_line};
+use crate::text_lines::{TextLines, empty_line, push_line};
 use crate::trace_text::push_trace;
 use desk_common::push_number;
 use sms_construct::{DataSet, Extent, Reply, Trace, View};
@@ -82,7 +82,7 @@ fn push_set_lines(alloc: Global, lines: &mut TextLines, set: &DataSet) -> Result
 fn used_text(alloc: Global, used: u32) -> Result<Vec<u8>, AllocError>
     ensures { IfOk result (λ text. text.items ≡ used_text used) }
 {
-    let mut text = new_line(alloc)?;
+    let mut text = empty_line(alloc)?;
     text.extend_from_slice(b"USED ")?;
     push_number(&mut text, u64::from(used))?;
     Ok(text)
@@ -91,7 +91,7 @@ fn used_text(alloc: Global, used: u32) -> Result<Vec<u8>, AllocError>
 fn class_text(alloc: Global, set: &DataSet) -> Result<Vec<u8>, AllocError>
     ensures { IfOk result (λ text. text.items ≡ class_text set.now) }
 {
-    let mut text = new_line(alloc)?;
+    let mut text = empty_line(alloc)?;
     push_class(&mut text, set)?;
     Ok(text)
 }
@@ -119,7 +119,7 @@ fn push_extents(alloc: Global, lines: &mut TextLines, extents: &[Extent]) -> Res
 fn extent_text(alloc: Global, extent: &Extent) -> Result<Vec<u8>, AllocError>
     ensures { IfOk result (λ text. text.items ≡ extent_text extent.now) }
 {
-    let mut text = new_line(alloc)?;
+    let mut text = empty_line(alloc)?;
     push_extent(&mut text, extent)?;
     Ok(text)
 }

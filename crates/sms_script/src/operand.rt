@@ -2,6 +2,7 @@
 ghost use Rattle.std.specs.Prelude.{◌≡◌, ◌∷◌, [], true, map, MatchOption};
 ghost use Rattle.std.specs.List.{list_all, list_any};
 ghost use Rattle.std.specs.Option.{option_copied};
+ghost use Rattle.desk_common.specs.Limits.{most_name_bytes};
 ghost use Rattle.dsn_mask.specs.Name.{name_of};
 ghost use Rattle.sms_construct.specs.Parts.{behind_front};
 ghost use Rattle.sms_construct.specs.SpaceText.{space_text};
@@ -15,6 +16,7 @@ use crate::value::{
     read_count, read_date, read_eattr, read_name_value, read_number_to, read_plain,
 };
 use acs_tree::{Account, Volumes};
+use desk_common::MAX_NAME;
 use dsn_mask::{Name, Short};
 use sms_construct::{Eattr, Space, VolumeCount, read_space};
 
@@ -204,7 +206,8 @@ fn has_key(word: &[u8], key: &[u8]) -> bool
     behind_key(key, word).is_some()
 }
 
-// What is behind the key, if the word begins with it. Most keys differ from a word in the first bytes.
+// What is behind the key, if the word begins with it. `behind_front` says the same, and is made for a front whose
+// length is known where it is called; the keys here come from a list, and most differ from a word in the first bytes.
 fn behind_key<'a>(key: &[u8], word: &'a [u8]) -> Option<&'a [u8]>
     ensures { option_copied result ≡ behind_front key.now word.entry.now }
 {
@@ -232,10 +235,10 @@ fn first_value<'a, 'b>(key: &[u8], words: &'b [&'a [u8]]) -> Option<(&'a [u8], &
 
 /// A text of at most 8 bytes; the default where none has the key.
 pub fn word_at(key: &[u8], default: Short, words: &[&[u8]]) -> Option<Short>
-    ensures { result ≡ given key.now (plain_of 8) default (map (λ word. word.now) words.now) }
+    ensures { result ≡ given key.now (plain_of most_name_bytes) default (map (λ word. word.now) words.now) }
 {
     match first_value(key, words) {
-        Some((value, _)) => read_plain(8, value),
+        Some((value, _)) => read_plain(MAX_NAME, value),
         None => Some(default),
     }
 }

@@ -56,7 +56,9 @@ pub fn first_piece(text: &[u8]) -> (&[u8], Option<&[u8]>)
     }
 }
 
-/// The number of bytes before the first such byte; of all where there is none.
+/// The number of bytes before the first such byte; of all where there is none. `bytes_before` of desk_common says the
+/// same of a walk byte by byte, which is right for short texts; lines and lists may be long, and memchr goes over many
+/// bytes at a time.
 pub fn count_before(byte: u8, text: &[u8]) -> usize
     ensures within { result ≤ length text.now }
     ensures before { (k : ℕ) → k < result → slice_index text.now k ≢ byte }

@@ -9,21 +9,23 @@ use crate::further_text::{push_further, push_view_lines};
 use crate::granted_text::push_granted_text;
 use crate::indenting::push_indented;
 use crate::item::{Item, Phase, Script};
-use crate::pushing::{push_number_and_blank, push_word_and_blank, write_number_and_blank};
+use crate::pushing::{
+    MOST_BYTES, push_number_and_blank, push_word_and_blank, write_number_and_blank,
+};
 use crate::reply_text::{push_reply, push_view};
-use crate::text_lines::{TextLines, new_line, push_line};
+use crate::text_lines::{TextLines, empty_line, push_line};
 use desk_common::{Items, push_number};
 use sms_construct::{Answer, Reply, View};
 use std::alloc::{AllocError, Global};
 
 // The most bytes of three numbers, a blank behind each.
-const THREE_NUMBERS: usize = 63;
+const THREE_NUMBERS: usize = 3 * MOST_BYTES;
 
 /// The lines of an answer: its reply, and what stands behind that (docs/script.md, "Answers").
 pub fn answer_lines(alloc: Global, answer: &Answer) -> Result<TextLines, AllocError>
     ensures { IfOk result (λ lines. lines ≡ answer_lines answer.now) }
 {
-    let mut first = new_line(alloc)?;
+    let mut first = empty_line(alloc)?;
     push_reply(&mut first, &answer.reply)?;
     let mut lines = Items::new(alloc);
     push_line(&mut lines, first)?;
@@ -35,7 +37,7 @@ pub fn answer_lines(alloc: Global, answer: &Answer) -> Result<TextLines, AllocEr
 pub fn view_lines(alloc: Global, view: &View) -> Result<TextLines, AllocError>
     ensures { IfOk result (λ lines. lines ≡ view_text view.now ∷ view_lines view.now) }
 {
-    let mut first = new_line(alloc)?;
+    let mut first = empty_line(alloc)?;
     push_view(&mut first, view)?;
     let mut lines = Items::new(alloc);
     push_line(&mut lines, first)?;

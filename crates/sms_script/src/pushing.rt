@@ -17,8 +17,8 @@ pub fn push_word_and_blank(text: &mut Vec<u8>, word: &[u8]) -> Result<(), AllocE
     text.extend_from_slice(b" ")
 }
 
-// The most bytes of a number and a blank.
-const MOST_BYTES: usize = 21;
+/// The most bytes of a number and a blank.
+pub const MOST_BYTES: usize = 21;
 
 /// A number and a blank.
 pub fn push_number_and_blank(text: &mut Vec<u8>, number: u64) -> Result<(), AllocError>
@@ -29,7 +29,8 @@ pub fn push_number_and_blank(text: &mut Vec<u8>, number: u64) -> Result<(), Allo
     text.extend_from_slice(&room[start..])
 }
 
-/// Writes a number and a blank so that they end at this place; tells where they start.
+/// Writes a number and a blank so that they end at this place; tells where they start. Any bytes may stand before that
+/// afterwards.
 pub fn write_number_and_blank(number: u64, room: &mut [u8], end: usize) -> usize
     requires { (21 ≤ end) × (end ≤ length room.old) }
     ensures start { (end ≤ result + 21) × (result ≤ end) }

@@ -11,7 +11,7 @@ pub type TextLines = Items<Items<u8>>;
 const LINE_ROOM: usize = 64;
 
 /// A line without bytes, with room for those of most lines.
-pub fn new_line(alloc: Global) -> Result<Vec<u8>, AllocError>
+pub fn empty_line(alloc: Global) -> Result<Vec<u8>, AllocError>
     ensures { IfOk result (λ line. line.items ≡ []) }
 {
     Vec::with_capacity(alloc, LINE_ROOM)

@@ -6,6 +6,7 @@ ghost use Rattle.sms_script.specs.Values.{count_of, date_of, eattr_of, is_open_b
 ghost use Rattle.sms_script.specs.Values.{plain_of};
 
 use crate::parts::is_word;
+use desk_common::MAX_VOLUMES;
 use dsn_mask::{Name, Short};
 use sms_construct::{Eattr, VolumeCount, read_number};
 
@@ -74,7 +75,7 @@ pub fn read_count(bytes: &[u8]) -> Option<VolumeCount>
     ensures { result ≡ count_of bytes.now }
 {
     let number = read_number(bytes)?;
-    if number > 59 {
+    if number > MAX_VOLUMES as u32 {
         return None;
     }
     VolumeCount::new(number as u8)

@@ -14,12 +14,10 @@ ghost use Rattle.sms_volumes.specs.Holding.{AreVolumesOf};
 ghost use Rattle.sms_volumes.specs.declared.active_volume.ActiveVolume.{ActiveVolume as Running};
 
 use crate::active_volumes::ActiveVolumes;
+use desk_common::MAX_PIECES;
 use sms_construct::Extent;
 use std::alloc::AllocError;
 use track_ledger::Piece;
-
-// The most pieces of one grant (docs/rules.md, "The gap rule").
-const MOST_PIECES: usize = 5;
 
 fn piece_of(extent: &Extent) -> Piece
     ensures { result ≡ record { start = extent.now.start; length = extent.now.length } }
@@ -40,7 +38,7 @@ impl ActiveVolumes {
         ensures named { running_at place self.new ≡ running_at place self.old }
     {
         let volume = &mut self.volumes[place];
-        volume.ledger.reserve(MOST_PIECES)
+        volume.ledger.reserve(MAX_PIECES)
     }
 
     /// A data set holds these pieces of the volume at a place too. It takes no memory.

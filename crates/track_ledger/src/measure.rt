@@ -7,6 +7,8 @@ ghost use Rattle.track_ledger.specs.Inner.Measures.{length_at, units_by};
 
 use crate::part::{clipped, cylinder_managed, track_managed};
 use crate::piece::Piece;
+use desk_common::TRACKS_IN_CYLINDER;
+use sms_construct::TRACKS_IN_MANAGED;
 
 /// A part of a volume with the unit in which its gaps are granted: the track-managed part in tracks or in cylinders,
 /// or the cylinder-managed part.
@@ -67,8 +69,8 @@ pub fn units_in(gap: &Piece, measure: Measure) -> Option<Piece>
 {
     match measure {
         Measure::Tracks => whole_units_in(clipped(gap, &track_managed()), 1),
-        Measure::Cylinders => whole_units_in(clipped(gap, &track_managed()), 15),
-        Measure::Managed => whole_units_in(clipped(gap, &cylinder_managed()), 315),
+        Measure::Cylinders => whole_units_in(clipped(gap, &track_managed()), TRACKS_IN_CYLINDER),
+        Measure::Managed => whole_units_in(clipped(gap, &cylinder_managed()), TRACKS_IN_MANAGED),
     }
 }
 

@@ -11,7 +11,7 @@ use Rattle.desk_state.specs.Working.{IsClassified}
 use Rattle.desk_state.specs.declared.decision.Decision.{Decision}
 use Rattle.desk_state.proofs.AllocationLemmas.{alloc-made}
 use Rattle.desk_state.proofs.OkLemmas.{on-ok}
-use Rattle.desk_state.proofs.running.Running.decide_with.Goals as goal
+use Rattle.desk_state.proofs.running.Running.decide_as_classified.Goals as goal
 
 -- what is on a slate, as a trace
 abbrev trace_on : SlateLines → Trace

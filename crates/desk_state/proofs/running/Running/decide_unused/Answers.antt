@@ -8,16 +8,16 @@ use Rattle.desk_state.specs.Working.{IsClassified}
 use Rattle.desk_state.specs.declared.decision.Decision.{Decision}
 use Rattle.desk_state.proofs.OkLemmas.{on-ok}
 use Rattle.desk_state.proofs.WorkLemmas.{found-known}
-use Rattle.desk_state.proofs.running.Running.decide_classes.Goals as goal
+use Rattle.desk_state.proofs.running.Running.decide_unused.Goals as goal
 
-pub decide_with-requires-clause-known : goal.decide_with-requires-clause-known
-decide_with-requires-clause-known c =
+pub decide_as_classified-requires-clause-known : goal.decide_as_classified-requires-clause-known
+decide_as_classified-requires-clause-known c =
     found-known c.args.config.now c.args.job.now c.args.alloc.now c.in-Some.classified.now c.args.slate.now (rw c.in-Some.is at c.requires.before) (c.classes_are_known.ensures c.args.job.now c.args.alloc.now)
 
 pub returns-in-Some-clause-answers : goal.returns-in-Some-clause-answers
 returns-in-Some-clause-answers c =
     let running = c.args.self.now in
-    let after = c.decide_with.new.self in
+    let after = c.decide_as_classified.new.self in
     let job = c.args.job.now in
     let alloc = c.args.alloc.now in
     let came = c.in-Some.classified.now in
@@ -26,6 +26,6 @@ returns-in-Some-clause-answers c =
     on-ok
     (λ (made : Decision). (s : DeskState) (other : List ℕ) → IsClassified c.args.config.now other alloc came slate → IsLawful s → IsRunning s running → Answers s after (AllocRule s other alloc) made)
     (λ (made : Decision). (s : DeskState) → IsLawful s → IsRunning s running → Answers s after (AllocRule s job alloc) made)
-    c.decide_with.result
+    c.decide_as_classified.result
     (λ made next. λ s lawful is. next s job so lawful is)
-    c.decide_with.ensures.answers
+    c.decide_as_classified.ensures.answers
