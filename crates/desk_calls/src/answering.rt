@@ -16,8 +16,8 @@ use std::sync::Wait;
 use std::thread::Threads;
 
 /// The text of the answers to the script that the bytes write, by one worker, on a desk without entries; with `volumes`
-/// the table of volumes stands behind it. Script, answers and journal aren't freed one by one: the program ends behind
-/// it, which frees all at once.
+/// the table of volumes stands behind it. Script, answers and journal aren't freed: a program that
+/// ends behind it gives all back at once.
 pub fn answer_text<P: Keeper>(
     alloc: Global,
     bytes: &[u8],

@@ -14,7 +14,7 @@ use std::alloc::{AllocError, Global};
 use std::mem::forget;
 
 /// The summary of the answers to the generated script, from an empty desk over the keeper. Script, answers and journal
-/// aren't freed one by one: the program ends behind it, which frees all at once.
+/// aren't freed: a program that ends behind it gives all back at once.
 pub fn load_text<P: Keeper>(
     alloc: Global,
     seed: u32,

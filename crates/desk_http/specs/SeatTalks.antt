@@ -22,7 +22,7 @@ pub record SeatView : Type 0 where
 abbrev pub view_of : {P : Type 0} {keeper : Ghosts P} → TableId → JobSeat P keeper → SeatView
 view_of lock j = record { lock = lock; number = job_number j; seen = job_seen j; mine = job_mine j }
 
--- a clerk: the seat as it was lent, the seat now, and the requests and answers so far
+-- a clerk: the seat as it was handed in, the seat now, and the requests and answers so far
 pub record SeatClerkView : Type 0 where
   pub start : SeatView
   pub seat : SeatView

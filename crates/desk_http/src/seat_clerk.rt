@@ -66,7 +66,7 @@ impl<'a, P: Keeper, R, G> SeatClerk<'a, P, R, G> {
         }
     }
 
-    /// The desk, the seat, and the requests with their answers.
+    /// The runtime, the desk, the seat, the gate, and the requests with their answers.
     pub fn into_parts(self) -> (&'a R, &'a Desk<P>, JobSeat<P>, &'a G, Talks)
         ensures seat { self.entry.seat ≡ view_of result.1.now.lock.table.shared.table_id result.2 }
         ensures talks { result.4 ≡ self.entry.talks }

@@ -77,7 +77,7 @@ impl Running {
             Answers s self.new (AllocRule s job.now alloc.now) made) }
         ensures possible { IfOk result (λ made. IsPossible self.new made.deed) }
     {
-        // A fact for the proof; nothing runs.
+        // A fact for the proof; nothing changes.
         classes_are_known(config);
         match before {
             Some(classified) => self.decide_as_classified(config, alloc, classified, slate),

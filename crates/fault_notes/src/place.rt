@@ -70,7 +70,7 @@ fn column_behind(text: &[u8]) -> usize
     column
 }
 
-// The number of bytes before the first line end.
+// The number of bytes before the first LF or CR.
 fn line_len(text: &[u8]) -> usize
     ensures { result ≤ length text.now }
 {

@@ -21,7 +21,7 @@ pub fn classify(config: &Config, job: &Name, alloc: &Alloc, slate: &mut Slate) -
     ensures slate { slate.new ≡ (classes_of config.now job.now alloc.now).written }
     ensures known { result.stop ≡ Stop.Done → AreKnown config.now result.values }
 {
-    // Facts for the proof; nothing runs.
+    // A fact for the proof; nothing changes.
     classes_are_known(config);
     slate.clear();
     let input = alloc.input.under(job, config.system(), config.sysplex());

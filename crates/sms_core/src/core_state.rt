@@ -181,7 +181,7 @@ impl<P: Keeper> Core<P> {
     }
 
     /// All entries so far, in their order: a legal history behind the opening. Of its entries no more are faults of
-    /// the keeper than the keeper counted since it was handed in.
+    /// the keeper than the keeper counted since it was handed in, unless its count stands at its greatest value.
     pub fn journal(&self) -> &[Entry]
         ensures entries { result.now ≡ self.now.journal }
         ensures sound { IsSoundOpening self.now.opening }

@@ -128,6 +128,7 @@ fn all_stand(alloc: Global, config: &Config, rows: &[StatusRow]) -> Result<bool,
     ensures { IfOk result (Tells ((target : Target) →
         times_status target rows.now ≡ times_target (Some config.now) target)) }
 {
+    // A fact for the proof; nothing changes.
     config.deck();
     if !none_of_sets(rows) {
         return Ok(false);

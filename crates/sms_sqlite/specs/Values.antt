@@ -1,7 +1,7 @@
 -- What the rows of the database stand for (docs/records.md, "The database").
 use Rattle.std.specs.Prelude.{ℕ, pos, negsuc, zero, suc, List, [], ◌∷◌, bytes_eq, Option, Some, None, option_map}
 use Rattle.std.specs.Prelude.{slice_get, if◌then◌else◌}
-use Rattle.desk_common.specs.Limits.{up_to}
+use Rattle.desk_common.specs.Limits.{most_number, up_to}
 use Rattle.sqlite.specs.Order.{Row}
 use Rattle.sqlite.specs.declared.types.Value.{Value}
 use Rattle.sqlite.specs.declared.types.Value.TheVariants.{Null, Int, Real, Text, Blob}
@@ -113,7 +113,7 @@ floor_in row = do
   text ← text_in (column row 0)
   job ← name_of text
   n ← number_in (column row 1)
-  floor ← up_to 4294967295 n
+  floor ← up_to most_number n
   Some (record { job = job; floor = floor })
 
 -- what rows stand for, where each stands for something

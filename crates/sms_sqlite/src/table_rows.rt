@@ -1,6 +1,6 @@
 // The rows of the five tables.
 ghost use Rattle.std.specs.Prelude.{◌≡◌, slice_get};
-ghost use Rattle.desk_common.specs.Limits.{up_to};
+ghost use Rattle.desk_common.specs.Limits.{most_number, up_to};
 ghost use Rattle.sms_construct.specs.Quantities.{request_number_of};
 ghost use Rattle.sms_sqlite.specs.Values.{all_statuses, target_of};
 
@@ -131,7 +131,7 @@ impl TableRow for StatusRow {
 
 // The floor of this value.
 fn floor_of(number: u64) -> Option<u32>
-    ensures { result ≡ up_to 4294967295 number }
+    ensures { result ≡ up_to most_number number }
 {
     match u32::try_from(number) {
         Ok(floor) => Some(floor),

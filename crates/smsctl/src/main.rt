@@ -1,4 +1,4 @@
-//! The desk as a program: it answers the script on standard input, or serves the desk over HTTP.
+//! The desk as a program: it answers the script on standard input or a generated one, or serves the desk over HTTP.
 #![tactic(auto)]
 
 ghost use Rattle.std.specs.Prelude.{◌≡◌};
@@ -70,7 +70,7 @@ fn run<T: Threads + Wait + Sync>(rt: &HostRuntime, threads: &T, words: &[String]
     end(rt, status, &note)
 }
 
-// Answers the script on standard input.
+// Answers the script on standard input, or a generated one.
 fn answer<T: Threads + Wait + Sync>(
     rt: &HostRuntime,
     threads: &T,
