@@ -13,6 +13,7 @@ use sms_desk::FreeGate;
 use sms_keeper::MemKeeper;
 use std::alloc::{AllocError, Global};
 use std::io::{self, ErrorKind, Write};
+use std::mem::forget;
 use std::net::{Ipv4Addr, TcpListener};
 use std::process::ExitCode;
 use std::sync::Wait;
@@ -55,7 +56,7 @@ fn serve_on<T: Threads + Wait + Sync>(
     };
     let mut out = StdSink::new(io::writer(rt));
     let keeper = MemKeeper::new(rt.alloc());
-    let (status, _core, _doors, _visits) = serve_main(
+    let (status, core, _doors, visits) = serve_main(
         rt.alloc(),
         threads,
         words,
@@ -64,6 +65,9 @@ fn serve_on<T: Threads + Wait + Sync>(
         keeper,
         &FreeGate,
     );
+    // The program ends, which frees all at once.
+    forget(core);
+    forget(visits);
     status
 }
 
