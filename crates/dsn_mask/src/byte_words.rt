@@ -21,7 +21,7 @@ pub fn order<const N: usize>(a: &[u8; N], b: &[u8; N]) -> Ordering
         }
         place += 8;
     }
-    if place == N {
+    if are_same(&one[place..], &other[place..]) {
         return Ordering::Equal;
     }
     one[place..].cmp(&other[place..])
