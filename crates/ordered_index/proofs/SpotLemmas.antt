@@ -1,7 +1,7 @@
 -- What the rows beside a spot tell.
 use Rattle.std.proofs.Common.{◌≡◌, ◌≤◌, ◌<◌, ℕ, zero, suc, Bool, true, false, List, [], ◌∷◌, ◌++◌, length, get_or, take}
-use Rattle.std.proofs.Common.{drop, Vec, Global, Ordering, Less, Equal, Greater, is_gt, not, refl, sym, ◌∙◌, subst, true≢false}
-use Rattle.std.proofs.Common.{arith}
+use Rattle.std.proofs.Common.{drop, Vec, Global, Ordering, Less, Equal, Greater, is_gt, not, refl, sym, ◌∙◌, subst}
+use Rattle.std.proofs.Common.{true≢false, arith}
 use Rattle.std.specs.Cmp.{IsTotalOrder}
 use Rattle.std.specs.List.{AllByRecursion}
 use Rattle.std.specs.List.Sorted.{IsStrictlySortedBy}
@@ -9,7 +9,7 @@ use Rattle.std.specs.Map.{keys_of}
 use Rattle.std.proofs.lemmas.Map.Keys.{sorted_tail}
 use Rattle.ordered_index.specs.declared.spot.Spot.{Spot}
 use Rattle.ordered_index.specs.Rows.{AreRows, rank}
-use Rattle.ordered_index.specs.Chunks.{AreBehind, AreFilled, IsSpotOf, rows_of, starts_by}
+use Rattle.ordered_index.specs.Chunks.{AreBehind, IsSpotOf, rows_of, starts_by}
 use Rattle.ordered_index.proofs.ChunkLemmas.{before-first, behind-rows, rows-parts, sorted-right}
 use Rattle.ordered_index.proofs.RowLemmas.{parted}
 

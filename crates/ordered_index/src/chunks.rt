@@ -66,7 +66,8 @@ pub fn put_among<K: Ord + Drop, V: Drop>(
     requires filled { AreFilled chunks.old.items }
     requires sorted { AreRows K.cmp (rows_of chunks.old.items) }
     requires roomy { AreRoomy chunks.old.items }
-    requires room { (d : Vec (K × V) Global) → length (slice_index_or chunks.old.items spot.chunk d).items < chunk_room }
+    requires room { (d : Vec (K × V) Global) →
+        length (slice_index_or chunks.old.items spot.chunk d).items < chunk_room }
     ensures rows { rows_of chunks.new.items ≡ insert_entry K.cmp (rows_of chunks.old.items) key value }
     ensures value { result ≡ lookup (is_at (K.cmp key)) (rows_of chunks.old.items) }
     ensures filled { AreFilled chunks.new.items }
@@ -97,7 +98,8 @@ pub fn add_among<K: Ord + Drop, V: Drop>(
     requires filled { AreFilled chunks.old.items }
     requires sorted { AreRows K.cmp (rows_of chunks.old.items) }
     requires roomy { AreRoomy chunks.old.items }
-    requires room { (d : Vec (K × V) Global) → length (slice_index_or chunks.old.items spot.chunk d).items < chunk_room }
+    requires room { (d : Vec (K × V) Global) →
+        length (slice_index_or chunks.old.items spot.chunk d).items < chunk_room }
     ensures rows { rows_of chunks.new.items ≡ add_entry K.cmp (rows_of chunks.old.items) key value }
     ensures added { result ≡ is_free K.cmp key (rows_of chunks.old.items) }
     ensures filled { AreFilled chunks.new.items }

@@ -97,7 +97,8 @@ pub fn add_in_full<K: Ord + Drop, V: Drop>(
 ) -> bool
     requires is { IsSpotOf K.cmp key chunks.old.items spot }
     requires index { IsIndex K.cmp chunks.old spares.old }
-    requires full { (d : Vec (K × V) Global) → length (slice_index_or chunks.old.items spot.chunk d).items ≡ chunk_room }
+    requires full { (d : Vec (K × V) Global) →
+        length (slice_index_or chunks.old.items spot.chunk d).items ≡ chunk_room }
     requires some { 0 < length spares.old.items }
     ensures index { IsIndex K.cmp chunks.new spares.new }
     ensures spares { length spares.old.items ≤ length spares.new.items + (if result then 1 else 0) }
