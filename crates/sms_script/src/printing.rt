@@ -9,17 +9,12 @@ use crate::further_text::{push_further, push_view_lines};
 use crate::granted_text::push_granted_text;
 use crate::indenting::push_indented;
 use crate::item::{Item, Phase, Script};
-use crate::pushing::{
-    MOST_BYTES, push_number_and_blank, push_word_and_blank, write_number_and_blank,
-};
+use crate::pushing::{ROOM, push_number_and_blank, write_number_and_blank, write_word_and_blank};
 use crate::reply_text::{push_reply, push_view};
 use crate::text_lines::{TextLines, empty_line, push_line};
 use desk_common::{Items, push_number};
 use sms_construct::{Answer, Reply, View};
 use std::alloc::{AllocError, Global};
-
-// The most bytes of three numbers, a blank behind each.
-const THREE_NUMBERS: usize = 3 * MOST_BYTES;
 
 /// The lines of an answer: its reply, and what stands behind that (docs/script.md, "Answers").
 pub fn answer_lines(alloc: Global, answer: &Answer) -> Result<TextLines, AllocError>
@@ -137,21 +132,23 @@ fn further_of(alloc: Global, reply: &Reply) -> Result<TextLines, AllocError>
 fn push_head(text: &mut Vec<u8>, item: &Item, answer: &Answer) -> Result<(), AllocError>
     ensures { OnOk result (text.new.items ≡ text.old.items ++ head_text item.now answer.now) }
 {
-    push_places(text, item.line, answer)?;
-    push_word_and_blank(text, item.request.job.bytes())?;
-    push_number_and_blank(text, u64::from(item.request.number.get()))?;
+    push_places(text, item, answer)?;
     push_reply(text, &answer.reply)
 }
 
-// The line of an item, and the places of its entry and of the first reply.
-fn push_places(text: &mut Vec<u8>, line: u32, answer: &Answer) -> Result<(), AllocError>
+// The line of an item, the places of its entry and of the first reply, and the request.
+fn push_places(text: &mut Vec<u8>, item: &Item, answer: &Answer) -> Result<(), AllocError>
     ensures { OnOk result (text.new.items ≡ text.old.items ++
-        (decimal line ++ space_byte ∷ (decimal answer.now.place ++ space_byte ∷
-        (decimal answer.now.first ++ space_byte ∷ [])))) }
+        (decimal item.now.line ++ space_byte ∷ (decimal answer.now.place ++ space_byte ∷
+        (decimal answer.now.first ++ space_byte ∷ (item.now.request.job ++ space_byte ∷
+        (decimal item.now.request.number ++ space_byte ∷ [])))))) }
 {
-    let mut room = [0u8; THREE_NUMBERS];
-    let first = write_number_and_blank(answer.first, &mut room, THREE_NUMBERS);
+    let mut room = [0u8; ROOM];
+    let number = u64::from(item.request.number.get());
+    let number = write_number_and_blank(number, &mut room, ROOM);
+    let job = write_word_and_blank(item.request.job.bytes(), &mut room, number);
+    let first = write_number_and_blank(answer.first, &mut room, job);
     let place = write_number_and_blank(answer.place, &mut room, first);
-    let start = write_number_and_blank(u64::from(line), &mut room, place);
+    let start = write_number_and_blank(u64::from(item.line), &mut room, place);
     text.extend_from_slice(&room[start..])
 }
