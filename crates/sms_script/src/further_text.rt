@@ -110,7 +110,7 @@ fn push_class(text: &mut Vec<u8>, set: &DataSet) -> Result<(), AllocError>
 /// Writes the classes of a data set and its storage group so that they end at this place; tells where they start. Any
 /// bytes may stand before that afterwards.
 pub fn write_class(set: &DataSet, room: &mut [u8; ROOM], end: usize) -> usize
-    requires { (41 ≤ end) × (end ≤ 96) }
+    requires { (41 ≤ end) × (end ≤ 112) }
     ensures start { (end ≤ result + 41) × (result ≤ end) }
     ensures written { drop result room.new ≡ class_text set.now ++ drop end room.old }
 {
@@ -149,7 +149,7 @@ fn push_extent(text: &mut Vec<u8>, extent: &Extent) -> Result<(), AllocError>
 
 /// Writes the tracks of an extent in the same way.
 pub fn write_extent(extent: &Extent, room: &mut [u8; ROOM], end: usize) -> usize
-    requires { (55 ≤ end) × (end ≤ 96) }
+    requires { (55 ≤ end) × (end ≤ 112) }
     ensures start { (end ≤ result + 55) × (result ≤ end) }
     ensures written { drop result room.new ≡ extent_text extent.now ++ drop end room.old }
 {

@@ -42,12 +42,12 @@ pub fn write_number_and_blank(number: u64, room: &mut [u8], end: usize) -> usize
 }
 
 /// The bytes of a room in which a line is written from its end to its front. No line that is written so has more.
-pub const ROOM: usize = 96;
+pub const ROOM: usize = 112;
 
 /// Writes a word so that it ends at this place; tells where it starts. Any bytes may stand before that afterwards.
 #[inline(always)]
 pub fn write_word(word: &[u8], room: &mut [u8; ROOM], end: usize) -> usize
-    requires { (length word.now ≤ end) × (end ≤ 96) }
+    requires { (length word.now ≤ end) × (end ≤ 112) }
     ensures start { result + length word.now ≡ end }
     ensures written { drop result room.new ≡ word.now ++ drop end room.old }
 {
@@ -59,7 +59,7 @@ pub fn write_word(word: &[u8], room: &mut [u8; ROOM], end: usize) -> usize
 /// Writes a word and a blank in the same way.
 #[inline(always)]
 pub fn write_word_and_blank(word: &[u8], room: &mut [u8; ROOM], end: usize) -> usize
-    requires { (length word.now < end) × (end ≤ 96) }
+    requires { (length word.now < end) × (end ≤ 112) }
     ensures start { result + length word.now + 1 ≡ end }
     ensures written { drop result room.new ≡ word.now ++ space_byte ∷ drop end room.old }
 {
