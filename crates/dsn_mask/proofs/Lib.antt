@@ -5,6 +5,7 @@ pub mod Filtering
 pub mod Fitting
 pub mod Greedy
 pub mod Halving
+pub mod InForm
 pub mod MaskFaults
 pub mod MaskPlaces
 pub mod MaskTexts
