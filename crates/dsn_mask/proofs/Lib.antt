@@ -11,6 +11,7 @@ pub mod MaskTexts
 pub mod Parsing
 pub mod Pushed
 pub mod QualifierTurns
+pub mod SameLemmas
 pub mod ShortBytes
 pub mod Split
 pub mod StarRuns

@@ -46,7 +46,7 @@ impl PartialEq for Dsn {
     ghost laws = { Prim.search (comparing, rules) };
 
     fn eq(&self, other: &Dsn) -> bool {
-        self.bytes() == other.bytes()
+        self.text.equals(&other.text)
     }
 }
 

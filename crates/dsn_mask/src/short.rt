@@ -37,7 +37,7 @@ impl PartialEq for Short {
     ghost laws = { Prim.search (comparing, rules) };
 
     fn eq(&self, other: &Short) -> bool {
-        self.bytes() == other.bytes()
+        self.text.equals(&other.text)
     }
 }
 

@@ -39,7 +39,7 @@ impl PartialEq for Volser {
     ghost laws = { Prim.search (comparing, rules) };
 
     fn eq(&self, other: &Volser) -> bool {
-        self.bytes() == other.bytes()
+        self.text.equals(&other.text)
     }
 }
 
