@@ -63,6 +63,7 @@ impl Lit {
         })
     }
 
+    /// The bytes between the quotes, 0 to 110.
     pub fn bytes(&self) -> &[u8]
         ensures bytes { result.now ≡ self.now }
         ensures form { IsLiteral self.now }
