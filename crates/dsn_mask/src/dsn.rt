@@ -126,6 +126,7 @@ impl Dsn {
         }
     }
 
+    /// The bytes of the name, 1 to 44.
     pub fn bytes(&self) -> &[u8]
         ensures bytes { result.now ≡ self.now }
         ensures form { IsDataSetName self.now }

@@ -33,6 +33,7 @@ impl<const N: usize> Model for Text<N> {
 }
 
 impl<const N: usize> Text<N> {
+    /// These bytes, copied into the array.
     pub fn new(bytes: &[u8]) -> Self
         requires fits { length bytes.now ≤ N }
         requires small { length bytes.now ≤ 255 }
@@ -46,6 +47,7 @@ impl<const N: usize> Text<N> {
         }
     }
 
+    /// The bytes that were put in.
     pub fn bytes(&self) -> &[u8]
         ensures { result.now ≡ self.now }
     {
