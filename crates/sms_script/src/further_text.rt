@@ -2,6 +2,7 @@
 ghost use Rattle.std.specs.Prelude.{◌≡◌, ◌≤◌, ◌+◌, ◌++◌, drop, map, IfOk, OnOk};
 ghost use Rattle.sms_script.specs.AnswerText.{further_lines, granted_lines, shown_lines, used_text, view_lines};
 ghost use Rattle.sms_script.specs.NameText.{class_text, extent_text};
+ghost use Rattle.sms_script.specs.Inner.Rooms.{class_room, extent_room, line_room};
 
 use crate::pushing::{
     ROOM, name_bytes, write_number, write_number_and_blank, write_word, write_word_and_blank,
@@ -110,8 +111,8 @@ fn push_class(text: &mut Vec<u8>, set: &DataSet) -> Result<(), AllocError>
 /// Writes the classes of a data set and its storage group so that they end at this place; tells where they start. Any
 /// bytes may stand before that afterwards.
 pub fn write_class(set: &DataSet, room: &mut [u8; ROOM], end: usize) -> usize
-    requires { (41 ≤ end) × (end ≤ 112) }
-    ensures start { (end ≤ result + 41) × (result ≤ end) }
+    requires { (class_room ≤ end) × (end ≤ line_room) }
+    ensures start { (end ≤ result + class_room) × (result ≤ end) }
     ensures written { drop result room.new ≡ class_text set.now ++ drop end room.old }
 {
     let group = write_word(set.group.bytes(), room, end);
@@ -149,8 +150,8 @@ fn push_extent(text: &mut Vec<u8>, extent: &Extent) -> Result<(), AllocError>
 
 /// Writes the tracks of an extent in the same way.
 pub fn write_extent(extent: &Extent, room: &mut [u8; ROOM], end: usize) -> usize
-    requires { (55 ≤ end) × (end ≤ 112) }
-    ensures start { (end ≤ result + 55) × (result ≤ end) }
+    requires { (extent_room ≤ end) × (end ≤ line_room) }
+    ensures start { (end ≤ result + extent_room) × (result ≤ end) }
     ensures written { drop result room.new ≡ extent_text extent.now ++ drop end room.old }
 {
     let length = write_number(u64::from(extent.length), room, end);

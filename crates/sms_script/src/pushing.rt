@@ -3,6 +3,7 @@ ghost use Rattle.std.specs.Prelude.{◌≡◌, ◌+◌, ◌≤◌, ◌<◌, ◌+
 ghost use Rattle.desk_common.specs.Bytes.{space_byte};
 ghost use Rattle.desk_common.specs.Limits.{most_name_bytes};
 ghost use Rattle.sms_script.specs.NameText.{name_text, status_text, target_text, value_text};
+ghost use Rattle.sms_script.specs.Inner.Rooms.{line_room, number_room};
 
 use desk_common::push_number;
 use dsn_mask::{Name, Short};
@@ -33,8 +34,8 @@ pub fn push_number_and_blank(text: &mut Vec<u8>, number: u64) -> Result<(), Allo
 /// Writes a number and a blank so that they end at this place; tells where they start. Any bytes may stand before that
 /// afterwards.
 pub fn write_number_and_blank(number: u64, room: &mut [u8], end: usize) -> usize
-    requires { (21 ≤ end) × (end ≤ length room.old) }
-    ensures start { (end ≤ result + 21) × (result ≤ end) }
+    requires { (number_room ≤ end) × (end ≤ length room.old) }
+    ensures start { (end ≤ result + number_room) × (result ≤ end) }
     ensures written { drop result room.new ≡ decimal number ++ space_byte ∷ drop end room.old }
 {
     room[end - 1] = b' ';
@@ -47,7 +48,7 @@ pub const ROOM: usize = 112;
 /// Writes a word so that it ends at this place; tells where it starts. Any bytes may stand before that afterwards.
 #[inline(always)]
 pub fn write_word(word: &[u8], room: &mut [u8; ROOM], end: usize) -> usize
-    requires { (length word.now ≤ end) × (end ≤ 112) }
+    requires { (length word.now ≤ end) × (end ≤ line_room) }
     ensures start { result + length word.now ≡ end }
     ensures written { drop result room.new ≡ word.now ++ drop end room.old }
 {
@@ -59,7 +60,7 @@ pub fn write_word(word: &[u8], room: &mut [u8; ROOM], end: usize) -> usize
 /// Writes a word and a blank in the same way.
 #[inline(always)]
 pub fn write_word_and_blank(word: &[u8], room: &mut [u8; ROOM], end: usize) -> usize
-    requires { (length word.now < end) × (end ≤ 112) }
+    requires { (length word.now < end) × (end ≤ line_room) }
     ensures start { result + length word.now + 1 ≡ end }
     ensures written { drop result room.new ≡ word.now ++ space_byte ∷ drop end room.old }
 {
