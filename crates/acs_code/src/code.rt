@@ -43,12 +43,14 @@ impl Code {
         }
     }
 
+    /// What the routine chooses: a class, or storage groups.
     pub fn kind(&self) -> Kind
         ensures { result ≡ self.now.kind }
     {
         self.kind
     }
 
+    /// The instructions, whose places count from 0; a run begins at the first.
     pub fn instrs(&self) -> &[Instr]
         ensures instrs { result.now ≡ self.now.instrs }
         ensures forward { GoesForward self.now }
@@ -56,6 +58,7 @@ impl Code {
         self.instrs.as_slice()
     }
 
+    /// The filter lists, which instructions name by their places from 0.
     pub fn filters(&self) -> &[FilterIndex]
         ensures { result.now ≡ self.now.filters }
     {

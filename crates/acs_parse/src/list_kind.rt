@@ -15,12 +15,14 @@ pub enum ListKind {
 }
 
 impl ListKind {
+    /// Whether a word may stand in the list: in each but the parts of a WRITE.
     pub fn takes_words(self) -> bool
         ensures { result ≡ takes_words self }
     {
         !matches!(self, ListKind::Parts)
     }
 
+    /// Whether a variable may stand in the list: in each but the entries of a filter list.
     pub fn takes_variables(self) -> bool
         ensures { result ≡ takes_variables self }
     {

@@ -32,6 +32,7 @@ pub enum Want {
 }
 
 impl Want {
+    /// Whether the token is what is wanted; AND, OR and comparisons may be words or signs.
     pub fn fits(self, symbol: &Symbol<'_>) -> bool
         ensures { result ≡ fits self symbol.now }
     {

@@ -1,9 +1,10 @@
 -- What stands between the quotes of a literal.
-use Rattle.std.proofs.Common.{◌≡◌, ◌≤◌, ◌-◌, ℕ, true, List, [], ◌∷◌, length, take, sym, subst, arith}
+use Rattle.std.proofs.Common.{◌≡◌, ◌≤◌, ◌+◌, ◌-◌, ℕ, true, List, [], ◌∷◌, length, take, sym, subst, arith}
 use Rattle.std.specs.List.{AllPass}
 use Rattle.std.proofs.lemmas.Grind.{common_steps}
 use Rattle.std.proofs.lemmas.Bool.Decides.{nat_tests}
 use Rattle.std.proofs.lemmas.List.Elements.{All-nil, All-cons}
+use Rattle.desk_common.specs.Limits.{most_literal_bytes}
 use Rattle.dsn_mask.specs.Name.{is_literal_byte, IsLiteral}
 use Rattle.acs_lex.specs.declared.token.TokenForm.TheVariants.{Literal}
 use Rattle.acs_lex.specs.Lexical.{Runs, stop, on, is_quotable, IsForm, literal}
@@ -37,6 +38,6 @@ pub two_quotes : {text : List ℕ} → IsForm Literal text [] → 2 ≤ length t
 two_quotes (literal e d k) = omega (arith, runs_shorter d)
 
 -- what is between them is a literal's text
-pub unquoted_is_literal : {text : List ℕ} → IsForm Literal text [] → length text ≤ 112 → IsLiteral (unquoted text)
+pub unquoted_is_literal : {text : List ℕ} → IsForm Literal text [] → length text ≤ most_literal_bytes + 2 → IsLiteral (unquoted text)
 unquoted_is_literal (literal {a = a} {b = b} {bytes = bytes} e d k) h =
     subst (λ z. IsLiteral z) (sym (unquoted_cons a bytes)) (omega (arith, length_taken 1 bytes), run_passes d)

@@ -1,7 +1,7 @@
 // The tokens of a text, each with its text.
-ghost use Rattle.std.specs.Prelude.{◌≡◌, ◌≤◌, ◌<◌, [], length, slice_range, All, IfOk};
+ghost use Rattle.std.specs.Prelude.{◌≡◌, ◌≤◌, ◌<◌, ◌+◌, [], length, slice_range, All, IfOk};
 ghost use Rattle.std.specs.Str.{str_to_ascii_uppercase};
-ghost use Rattle.desk_common.specs.Limits.{most_word_bytes};
+ghost use Rattle.desk_common.specs.Limits.{most_literal_bytes, most_word_bytes};
 ghost use Rattle.acs_lex.specs.declared.token.TokenForm.TheVariants as token_form;
 ghost use Rattle.acs_lex.specs.Lexical.{IsForm};
 ghost use Rattle.acs_lex.specs.Tokens.{IsTokenOf};
@@ -65,7 +65,7 @@ fn variable(bytes: &[u8]) -> Symbol<'_>
 #[tactic(auto, using(crate::proofs::LiteralLemmas::two_quotes, crate::proofs::LiteralLemmas::unquoted_is_literal))]
 fn literal(bytes: &[u8]) -> Symbol<'_>
     requires form { IsForm token_form.Literal bytes.now [] }
-    requires fits { length bytes.now ≤ 112 }
+    requires fits { length bytes.now ≤ most_literal_bytes + 2 }
     ensures { result ≡ Symbol.Literal (unquoted bytes.entry.now) }
 {
     Symbol::Literal(Unquoted::new(&bytes[1..bytes.len() - 1]))

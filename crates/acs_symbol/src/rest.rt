@@ -31,12 +31,14 @@ impl<'a> Rest<'a> {
         Rest { symbols, at: 0 }
     }
 
+    /// How many tokens are left.
     pub fn len(&self) -> usize
         ensures { result ≡ length self.now }
     {
         self.symbols.len() - self.at
     }
 
+    /// The first token, or None where none is left.
     pub fn first(&self) -> Option<&'a Symbol<'a>>
         ensures { MatchOption result (self.now ≡ []) (λ first. (behind : List Symbol) ×
             (self.now ≡ first.now ∷ behind)) }
@@ -44,6 +46,7 @@ impl<'a> Rest<'a> {
         self.symbols.get(self.at)
     }
 
+    /// The same list; no token is copied.
     pub fn copied(&self) -> Rest<'a>
         ensures { result ≡ self.now }
     {

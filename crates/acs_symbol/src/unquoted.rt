@@ -23,6 +23,7 @@ impl<'a> Model for Unquoted<'a> {
 }
 
 impl<'a> Unquoted<'a> {
+    /// The literal with these bytes between its quotes.
     pub fn new(bytes: &'a [u8]) -> Self
         requires { IsLiteral bytes.now }
         ensures { result ≡ bytes.now }

@@ -25,6 +25,7 @@ impl<'a> Model for Upper<'a> {
 }
 
 impl<'a> Upper<'a> {
+    /// The text of these bytes, whose letters may be small.
     pub fn new(bytes: &'a [u8]) -> Self
         requires { length bytes.now ≤ most_word_bytes }
         ensures { result ≡ str_to_ascii_uppercase bytes.now }

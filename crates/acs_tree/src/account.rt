@@ -67,6 +67,7 @@ impl Eq for Account {
 }
 
 impl Account {
+    /// No texts.
     pub fn new() -> Self
         ensures { result ≡ [] }
     {
@@ -76,6 +77,7 @@ impl Account {
         }
     }
 
+    /// The texts in their order, 0 to 8.
     pub fn as_slice(&self) -> &[Short]
         ensures items { result.now ≡ self.now }
         ensures few { length self.now ≤ most_account_fields }

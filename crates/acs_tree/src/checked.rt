@@ -38,6 +38,7 @@ impl Checked {
         Checked { tree, kind }
     }
 
+    /// The tree as it was checked.
     pub fn tree(&self) -> &Routine
         ensures tree { result.now ≡ self.now.tree }
         ensures sound { IsSound self.now.tree self.now.kind }
@@ -45,6 +46,7 @@ impl Checked {
         &self.tree
     }
 
+    /// The kind of routine that it was checked as.
     pub fn kind(&self) -> Kind
         ensures { result ≡ self.now.kind }
     {

@@ -75,6 +75,7 @@ impl Ident {
         }
     }
 
+    /// The bytes of the text, 0 to 64.
     pub fn bytes(&self) -> &[u8]
         ensures bytes { result.now ≡ self.now }
         ensures form { IsIdent self.now }

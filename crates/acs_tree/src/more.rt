@@ -14,6 +14,7 @@ pub struct More {
 }
 
 impl More {
+    /// How many lines of that kind were not kept, as far as 32 bits count.
     pub fn of(&self, kind: Kind) -> u32
         ensures { result ≡ more_of kind self.now }
     {

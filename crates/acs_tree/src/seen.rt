@@ -76,12 +76,14 @@ impl<'a> Seen<'a> {
         seen
     }
 
+    /// The name of the data set.
     pub fn dsn(&self) -> &Dsn
         ensures { result.now ≡ self.now.dsn }
     {
         self.dsn
     }
 
+    /// The numbers that the request gives, the sizes in KB.
     pub fn amounts(&self) -> &Amounts
         ensures { result.now ≡ self.now.amounts }
     {
@@ -116,18 +118,21 @@ impl<'a> Seen<'a> {
         self.texts.defaults()
     }
 
+    /// The accounting of the job, 0 to 8 texts.
     pub fn acct_job(&self) -> &[Short]
         ensures { result.now ≡ self.now.accounting.acct_job }
     {
         self.acct_job
     }
 
+    /// The accounting of the step, 0 to 8 texts.
     pub fn acct_step(&self) -> &[Short]
         ensures { result.now ≡ self.now.accounting.acct_step }
     {
         self.acct_step
     }
 
+    /// The serials of the volumes that the request names, 0 to 59.
     pub fn volumes(&self) -> &[Volser]
         ensures { result.now ≡ self.now.volumes }
     {

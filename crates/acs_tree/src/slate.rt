@@ -37,6 +37,7 @@ impl Model for Slate {
 }
 
 impl Slate {
+    /// No lines yet, with room for all; or want of memory.
     pub fn new(alloc: Global) -> Result<Self, AllocError>
         ensures { IfOk result (λ slate. slate ≡ blank) }
     {
@@ -52,6 +53,7 @@ impl Slate {
         })
     }
 
+    /// Forgets all lines; the room stays.
     pub fn clear(&mut self)
         ensures { self.new ≡ blank }
     {

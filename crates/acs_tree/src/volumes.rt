@@ -68,6 +68,7 @@ impl Eq for Volumes {
 }
 
 impl Volumes {
+    /// No volumes.
     pub fn new() -> Self
         ensures { result ≡ [] }
     {
@@ -77,6 +78,7 @@ impl Volumes {
         }
     }
 
+    /// The serials in their order, 0 to 59.
     pub fn as_slice(&self) -> &[Volser]
         ensures items { result.now ≡ self.now }
         ensures few { length self.now ≤ most_volume_count }

@@ -16,8 +16,8 @@ use std::sync::Wait;
 use std::thread::Threads;
 
 /// The text of the answers to the script that the bytes write, by one worker, on a desk without entries; with `volumes`
-/// the table of volumes stands behind it. Script, answers and journal aren't freed: a program that
-/// ends behind it gives all back at once.
+/// the table of volumes stands behind it. Script, answers and what the core holds aren't freed: a program that ends
+/// behind it gives all back at once.
 pub fn answer_text<P: Keeper>(
     alloc: Global,
     bytes: &[u8],
@@ -93,9 +93,8 @@ fn answer_alone<P: Keeper>(
         return (Err(ScriptErr::NoMemory), keeper);
     };
     let text = run_text(alloc, script, answers.as_slice(), volumes, &core);
-    let (keeper, journal) = core.into_parts();
+    let keeper = core.into_keeper();
     forget(answers);
-    forget(journal);
     match text {
         Ok(text) => (Ok(text), keeper),
         Err(_) => (Err(ScriptErr::NoMemory), keeper),

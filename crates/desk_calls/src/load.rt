@@ -13,8 +13,8 @@ use sms_keeper::Keeper;
 use std::alloc::{AllocError, Global};
 use std::mem::forget;
 
-/// The summary of the answers to the generated script, from an empty desk over the keeper. Script, answers and journal
-/// aren't freed: a program that ends behind it gives all back at once.
+/// The summary of the answers to the generated script, from an empty desk over the keeper. Script, answers and what the
+/// core holds aren't freed: a program that ends behind it gives all back at once.
 pub fn load_text<P: Keeper>(
     alloc: Global,
     seed: u32,
@@ -37,10 +37,9 @@ pub fn load_text<P: Keeper>(
         return (Err(AllocError), keeper);
     };
     let text = summary_text(alloc, seed, count, answers.as_slice(), &core);
-    let (keeper, journal) = core.into_parts();
+    let keeper = core.into_keeper();
     forget(script);
     forget(answers);
-    forget(journal);
     (text, keeper)
 }
 

@@ -4,6 +4,7 @@
 mod cutting;
 mod limits;
 mod number;
+mod sameness;
 mod shared;
 
 pub use cutting::{bytes_before, next_word};
@@ -14,5 +15,6 @@ pub use limits::{
     MAX_VOLUMES, MAX_WORD, MAX_WORKERS, TRACKS_IN_CYLINDER,
 };
 pub use number::push_number;
+pub use sameness::are_same;
 pub use shared::Shared;
 pub use sqlite_items::{Boxed, Items};

@@ -37,6 +37,9 @@ under second ds front other all few =
 named : (bytes : List ℕ) → is_data_set_name bytes ≡ true → dsn_of bytes ≡ Some bytes
 named bytes is = rw is refl
 
+pub few_digits : (n : ℕ) → n < 100000 → length (decimal n) ≤ 5
+few_digits n small = length-decimal-le 5 n (omega arith) (omega arith) (omega arith)
+
 pub numbered_is : (n : ℕ) → n < 100000 → dsn_of (numbered_name n) ≡ Some (numbered_name n)
 numbered_is n small = by (n % 2 == 0)
   where
@@ -44,7 +47,7 @@ numbered_is n small = by (n % 2 == 0)
     all = (decimal_is_IsNumeral n (omega arith)).0.1
 
     few : length (decimal n) ≤ 5
-    few = length-decimal-le 5 n (omega arith) (omega arith) (omega arith)
+    few = few_digits n small
 
     by : (even : Bool) → dsn_of ((if even then codes "GA.D" else codes "GB.D") ++ decimal n) ≡ Some ((if even then codes "GA.D" else codes "GB.D") ++ decimal n)
     by true = named _ (under 65 (decimal n) refl refl all few)

@@ -27,10 +27,9 @@ pub fn drawn_from(number: u64) -> u32
     (number / 65_536) as u32
 }
 
-/// The request behind another, for the item at this place. The buffer is for the text of its data set's name.
+/// The request behind another, for the item at this place.
 pub fn request_behind(
     alloc: Global,
-    buffer: &mut Vec<u8>,
     before: &Request,
     item: u32,
     drawn: u32,
@@ -42,15 +41,10 @@ pub fn request_behind(
     if drawn % 8 == 7 && item != 1 {
         return before.copy();
     }
-    drawn_request(alloc, buffer, item, drawn)
+    drawn_request(alloc, item, drawn)
 }
 
-fn drawn_request(
-    alloc: Global,
-    buffer: &mut Vec<u8>,
-    item: u32,
-    drawn: u32,
-) -> Result<Request, AllocError>
+fn drawn_request(alloc: Global, item: u32, drawn: u32) -> Result<Request, AllocError>
     requires item { (1 ≤ item) × (item < 100000) }
     requires drawn { drawn < 32768 }
     ensures { IfOk result (λ request. request ≡ drawn_request item drawn) }
@@ -58,19 +52,19 @@ fn drawn_request(
     Ok(Request {
         job: job_at(item),
         number: RequestNumber::new(item).unwrap(),
-        op: drawn_op(alloc, buffer, item, drawn)?,
+        op: drawn_op(alloc, item, drawn)?,
     })
 }
 
-fn drawn_op(alloc: Global, buffer: &mut Vec<u8>, item: u32, drawn: u32) -> Result<Op, AllocError>
+fn drawn_op(alloc: Global, item: u32, drawn: u32) -> Result<Op, AllocError>
     requires item { (1 ≤ item) × (item < 100000) }
     requires drawn { drawn < 32768 }
     ensures { IfOk result (λ op. op ≡ drawn_op item drawn) }
 {
     match drawn % 8 {
-        5 => Ok(Op::Extend(numbered_name(buffer, 1 + drawn % item)?)),
-        6 => Ok(Op::Delete(numbered_name(buffer, 1 + drawn % item)?)),
-        _ => Op::plain(alloc, numbered_name(buffer, item)?, drawn_space(drawn)),
+        5 => Ok(Op::Extend(numbered_name(1 + drawn % item))),
+        6 => Ok(Op::Delete(numbered_name(1 + drawn % item))),
+        _ => Op::plain(alloc, numbered_name(item), drawn_space(drawn)),
     }
 }
 

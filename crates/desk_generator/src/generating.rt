@@ -16,13 +16,12 @@ pub fn generate(alloc: Global, seed: u32, count: u32) -> Result<Script, AllocErr
     requires { count ≤ most_items }
     ensures { IfOk result (λ script. script ≡ generated seed count) }
 {
-    let mut buffer = Vec::new(alloc);
     let mut items = Items::new(alloc);
     push_item(&mut items, first_request(alloc)?)?;
     let mut number = u64::from(seed) % MODULUS;
     for place in 0..count {
         number = next_number(number);
-        push_behind(alloc, &mut buffer, &mut items, place, drawn_from(number))?;
+        push_behind(alloc, &mut items, place, drawn_from(number))?;
     }
     let mut script = Items::new(alloc);
     script.push(items)?;
@@ -38,14 +37,8 @@ fn push_item(items: &mut Phase, request: Request) -> Result<(), AllocError>
     items.push(Item { line, request })
 }
 
-// The item behind the one at this place, which is the last. The buffer is for the text of its data set's name.
-fn push_behind(
-    alloc: Global,
-    buffer: &mut Vec<u8>,
-    items: &mut Phase,
-    place: u32,
-    drawn: u32,
-) -> Result<(), AllocError>
+// The item behind the one at this place, which is the last.
+fn push_behind(alloc: Global, items: &mut Phase, place: u32, drawn: u32) -> Result<(), AllocError>
     requires last { length items.old ≡ place + 1 }
     requires few { place < most_items }
     requires drawn { drawn < 32768 }
@@ -53,7 +46,7 @@ fn push_behind(
         items.new ≡ items_up_to seed (place + 1)) }
 {
     let last = &items.as_slice()[place as usize];
-    let request = request_behind(alloc, buffer, &last.request, place + 1, drawn)?;
+    let request = request_behind(alloc, &last.request, place + 1, drawn)?;
     push_item(items, request)?;
     Ok(())
 }

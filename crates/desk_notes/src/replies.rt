@@ -92,9 +92,10 @@ impl RepliesSeen {
     }
 }
 
-// Whether the front of such a reply stands anywhere in the text.
+// Whether the front of such a reply stands anywhere in the text. Each has the letter K, which most texts don't have.
 fn has_either(text: &[u8]) -> bool {
-    memmem::find(text, REFUSAL).is_some() || memmem::find(text, FAULT).is_some()
+    memchr(b'K', text).is_some()
+        && (memmem::find(text, REFUSAL).is_some() || memmem::find(text, FAULT).is_some())
 }
 
 // The text up to its first line end, and behind its last, if it has one.

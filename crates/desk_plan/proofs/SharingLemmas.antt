@@ -5,7 +5,7 @@ use Rattle.std.proofs.lemmas.Bool.{cases_Bool}
 use Rattle.std.proofs.lemmas.Slice.Eq.{bytes_eq-Decides}
 use Rattle.std.specs.Prelude.{bytes_eq, filter}
 use Rattle.std.specs.List.{AllByRecursion, AllZip}
-use Rattle.desk_plan.specs.Sharing.{made_of, picked, those, times}
+use Rattle.desk_plan.specs.Sharing.{made_of, those, times}
 
 module _ {I A E : Type 0} (make : I → A → List E) (job : I → List ℕ) (job_of : E → List ℕ) (worker : List ℕ → ℕ) where
   -- the entry is of this job
@@ -78,7 +78,7 @@ module _ {I A E : Type 0} (make : I → A → List E) (job : I → List ℕ) (jo
             sym hit ∙ not
 
   -- where each entry bears the number of its job's worker, those of a job are among those with that number
-  job-picked : (number : ℕ → ℕ) (j : List ℕ) (es : List E) (ns : List ℕ) → Bear number es ns → filter (is_of j) (picked (number (worker j)) es ns) ≡ filter (is_of j) es
+  job-picked : (number : ℕ → ℕ) (j : List ℕ) (es : List E) (ns : List ℕ) → Bear number es ns → filter (is_of j) (those (number (worker j)) ns es) ≡ filter (is_of j) es
   job-picked number j [] [] h = refl
   job-picked number j [] (n ∷ ns) h = absurd h
   job-picked number j (e ∷ es) [] h = absurd h
@@ -108,20 +108,20 @@ module _ {I A E : Type 0} (make : I → A → List E) (job : I → List ℕ) (jo
   -- each entry bears the number of its job's worker, where each number is a worker's and what bears it is of the
   -- worker's jobs
   all-bear : (count : ℕ) (number : ℕ → ℕ) (es : List E) (ns : List ℕ) → length es ≡ length ns → AllByRecursion (Signs count number) ns
-      → ((i : ℕ) → i < count → AllByRecursion (IsOfWorker i) (picked (number i) es ns)) → Bear number es ns
+      → ((i : ℕ) → i < count → AllByRecursion (IsOfWorker i) (those (number i) ns es)) → Bear number es ns
   all-bear count number [] [] same signs own = tt
   all-bear count number [] (n ∷ ns) same signs own = absurd (omega (arith, same))
   all-bear count number (e ∷ es) [] same signs own = absurd (omega (arith, same))
   all-bear count number (e ∷ es) (n ∷ ns) same signs own =
       let i = signs.0.0 in
       let hit : (n == number i) ≡ true = eq-eqb n (number i) signs.0.2 in
-      let mine : AllByRecursion (IsOfWorker i) (e ∷ picked (number i) es ns) = rw hit at (own i signs.0.1) in
+      let mine : AllByRecursion (IsOfWorker i) (e ∷ those (number i) ns es) = rw hit at (own i signs.0.1) in
       (signs.0.2 ∙ ap number (sym mine.0), all-bear count number es ns (omega (arith, same)) signs.1 (λ k less. tail-own k (own k less)))
     where
-      tail-own : (k : ℕ) → AllByRecursion (IsOfWorker k) (picked (number k) (e ∷ es) (n ∷ ns)) → AllByRecursion (IsOfWorker k) (picked (number k) es ns)
+      tail-own : (k : ℕ) → AllByRecursion (IsOfWorker k) (those (number k) (n ∷ ns) (e ∷ es)) → AllByRecursion (IsOfWorker k) (those (number k) ns es)
       tail-own k h = elim (cases_Bool (n == number k)) [
-        | inl is ↦ let both : AllByRecursion (IsOfWorker k) (e ∷ picked (number k) es ns) = rw is at h in both.1
-        | inr not ↦ let one : AllByRecursion (IsOfWorker k) (picked (number k) es ns) = rw not at h in one
+        | inl is ↦ let both : AllByRecursion (IsOfWorker k) (e ∷ those (number k) ns es) = rw is at h in both.1
+        | inr not ↦ let one : AllByRecursion (IsOfWorker k) (those (number k) ns es) = rw not at h in one
       ]
 
   -- Both.
@@ -130,7 +130,7 @@ module _ {I A E : Type 0} (make : I → A → List E) (job : I → List ℕ) (jo
     -- each job are those of its items in their order
     pub jobs-in-order : (count : ℕ) (number : ℕ → ℕ) (items : List I) (answers : List A) (es : List E) (ns : List ℕ) → length answers ≡ length items → length es ≡ length ns
         → ((j : List ℕ) → worker j < count) → AllByRecursion (Signs count number) ns
-        → ((i : ℕ) → i < count → picked (number i) es ns ≡ made_of make (those i (plan_of items) answers) (those i (plan_of items) items))
+        → ((i : ℕ) → i < count → those (number i) ns es ≡ made_of make (those i (plan_of items) answers) (those i (plan_of items) items))
         → (j : List ℕ) → filter (is_of j) es ≡ filter (is_of j) (made_of make answers items)
     jobs-in-order count number items answers es ns each signed below signs own j =
         let bear = all-bear count number es ns signed signs (λ i less. subst (AllByRecursion (IsOfWorker i)) (sym (own i less)) (of-worker jobs i items answers)) in

@@ -1,17 +1,12 @@
 -- Items that are shared out among workers, and the entries that their answers make.
 use Rattle.std.specs.Prelude.{ℕ, ◌==◌, ◌+◌, List, [], ◌∷◌, ◌++◌, if◌then◌else◌}
 
--- those of a list that the plan gives to this worker
+-- those of a list beside which this number stands: the items that the plan gives to a worker, or the entries that bear
+-- its number
 abbrev pub those : {A : Type 0} → ℕ → List ℕ → List A → List A
 those k [] xs = []
 those k (p ∷ ps) [] = []
 those k (p ∷ ps) (x ∷ xs) = if p == k then x ∷ those k ps xs else those k ps xs
-
--- the entries that bear this number
-abbrev pub picked : {E : Type 0} → ℕ → List E → List ℕ → List E
-picked k [] ns = []
-picked k (e ∷ es) [] = []
-picked k (e ∷ es) (n ∷ ns) = if n == k then e ∷ picked k es ns else picked k es ns
 
 -- the entries that answers to items make, in their order
 abbrev pub made_of : {I A E : Type 0} → (I → A → List E) → List A → List I → List E

@@ -13,7 +13,7 @@ use Rattle.desk_signing.specs.declared.event.Event.TheVariants.{Began, Made}
 use Rattle.sms_construct.specs.declared.entry.Entry.{Entry}
 use Rattle.desk_law.specs.State.{Opening}
 use Rattle.desk_signing.specs.Signing.{events, made, sign, signed, signed_last}
-use Rattle.desk_plan.specs.Sharing.{picked}
+use Rattle.desk_plan.specs.Sharing.{those}
 use Rattle.desk_workers.specs.Inner.Closed.{HasClosed, Signs}
 
 same-made : (a b : Entry) (xs ys : List (Signed Event)) → made None a ∷ xs ≡ made None b ∷ ys → (a ≡ b) × (xs ≡ ys)
@@ -35,8 +35,9 @@ unsigned-made : (k : ℕ) (js : List Entry) → made_by k (sign (length js) js [
 unsigned-made k [] = refl
 unsigned-made k (j ∷ js) = unsigned-made k js
 
-signed-made : (k : ℕ) (es : List Entry) (ns : List ℕ) → length es ≡ length ns → made_by k (sign zero es ns) ≡ events (picked k es ns)
-signed-made k [] ns same = refl
+signed-made : (k : ℕ) (es : List Entry) (ns : List ℕ) → length es ≡ length ns → made_by k (sign zero es ns) ≡ events (those k ns es)
+signed-made k [] [] same = refl
+signed-made k [] (n ∷ ns) same = refl
 signed-made k (e ∷ es) [] same = absurd (omega (arith, same))
 signed-made k (e ∷ es) (n ∷ ns) same =
     let rest = signed-made k es ns (omega (arith, same)) in
@@ -101,7 +102,7 @@ has-closed numbers owned o mark o' mark' js js' ns few starts by own =
       signs = all-signs numbers t.0 ns counted theirs;
       own = λ i less.
           let k = get_or numbers i 0 in
-          let made_is : made_by k (sign b js' ns) ≡ events (picked k t.0 ns) =
+          let made_is : made_by k (sign b js' ns) ≡ events (those k ns t.0) =
           ap (made_by k) whole ∙ made_more k (sign (length js) js []) (sign zero t.0 ns) ∙ ap (λ xs. xs ++ made_by k (sign zero t.0 ns)) (unsigned-made k js) ∙ signed-made k t.0 ns counted in
-          events-same (picked k t.0 ns) (owned i) (sym made_is ∙ own i less);
+          events-same (those k ns t.0) (owned i) (sym made_is ∙ own i less);
     }

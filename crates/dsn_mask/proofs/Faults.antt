@@ -77,7 +77,7 @@ before_bad_first some (bad_later i_some less bad) = (omega arith, λ same. absur
 pub bad_first_is : (s n : ℕ) (q : List ℕ) → 0 < length q → is_initial (get_or q 0 0) ≡ false → (is_qualifier q ≡ false) × IsFirstIn s n q (BadByte s)
 bad_first_is s n q some bad = with_fault s n q _ (record { place = s; is = record { met = bad_first some bad; first = λ other fault. before_bad_first some fault } })
 
-initial_is_good : (b : ℕ) → is_initial b ≡ true → is_qualifier_byte b ≡ true
+pub initial_is_good : (b : ℕ) → is_initial b ≡ true → is_qualifier_byte b ≡ true
 initial_is_good b e = rw e refl
 
 pub order_of : (i k : ℕ) → (i ≤ k) ⊎ (k < i)

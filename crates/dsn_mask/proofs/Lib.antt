@@ -5,12 +5,14 @@ pub mod Filtering
 pub mod Fitting
 pub mod Greedy
 pub mod Halving
+pub mod InForm
 pub mod MaskFaults
 pub mod MaskPlaces
 pub mod MaskTexts
 pub mod Parsing
 pub mod Pushed
 pub mod QualifierTurns
+pub mod SameLemmas
 pub mod ShortBytes
 pub mod Split
 pub mod StarRuns

@@ -56,7 +56,7 @@ cut-order (suc n) (x ∷ xs) (y ∷ ys) some more =
     ap (ordering_then (nat_cmp x y)) (cut-order n xs ys (omega (arith, some)) (omega (arith, more)))
     ∙ sym (then-assoc (nat_cmp x y) (slice_cmp nat_cmp (take n xs) (take n ys)) (slice_cmp nat_cmp (drop n xs) (drop n ys)))
 
-byte-same : (x : ℕ) → nat_cmp x x ≡ Equal
+pub byte-same : (x : ℕ) → nat_cmp x x ≡ Equal
 byte-same x = sym (nat_cmp_is x x Equal refl)
 
 pub text-same : (xs : List ℕ) → slice_cmp nat_cmp xs xs ≡ Equal

@@ -20,7 +20,7 @@ pub fn is_initial(byte: u8) -> bool
 pub fn is_name_byte(byte: u8) -> bool
     ensures { result ≡ is_name_byte byte }
 {
-    is_initial(byte) || is_digit(byte)
+    byte.is_ascii_uppercase() || byte.is_ascii_digit() || matches!(byte, b'#' | b'$' | b'@')
 }
 
 pub fn is_short_byte(byte: u8) -> bool

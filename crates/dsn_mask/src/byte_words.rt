@@ -1,9 +1,10 @@
 //! Bytes that are compared eight at a time.
-ghost use Rattle.std.specs.Prelude.{◌≡◌, ◌<◌, ◌≤◌, ◌+◌, ℕ, drop, length, slice_index, take};
+ghost use Rattle.std.specs.Prelude.{◌≡◌, ◌<◌, ◌≤◌, ◌+◌, ℕ, bytes_eq, drop, length, slice_index, take};
 ghost use Rattle.std.specs.Cmp.Lexicographic.{slice_cmp};
 ghost use Rattle.std.specs.Ordering.{nat_cmp};
 ghost use Rattle.dsn_mask.specs.Inner.Words.{number_of};
 
+use desk_common::are_same;
 use std::cmp::Ordering;
 
 /// The order of two texts of one length, known beforehand, by their bytes.
@@ -20,10 +21,26 @@ pub fn order<const N: usize>(a: &[u8; N], b: &[u8; N]) -> Ordering
         }
         place += 8;
     }
-    if place == N {
+    if are_same(&one[place..], &other[place..]) {
         return Ordering::Equal;
     }
     one[place..].cmp(&other[place..])
+}
+
+/// Whether two texts of one length, known beforehand, are the same.
+#[inline(always)]
+pub fn are_equal<const N: usize>(a: &[u8; N], b: &[u8; N]) -> bool
+    ensures { result ≡ bytes_eq a.now b.now }
+{
+    let (one, other) = (&a[..], &b[..]);
+    let mut place = 0;
+    while N - place >= 8 {
+        if word_at(one, place) != word_at(other, place) {
+            return false;
+        }
+        place += 8;
+    }
+    are_same(&one[place..], &other[place..])
 }
 
 // The number that eight bytes from a place on write, the first the greatest digit.

@@ -46,7 +46,7 @@ impl PartialEq for Dsn {
     ghost laws = { Prim.search (comparing, rules) };
 
     fn eq(&self, other: &Dsn) -> bool {
-        self.bytes() == other.bytes()
+        self.text.equals(&other.text)
     }
 }
 
@@ -126,6 +126,7 @@ impl Dsn {
         }
     }
 
+    /// The bytes of the name, 1 to 44.
     pub fn bytes(&self) -> &[u8]
         ensures bytes { result.now ≡ self.now }
         ensures form { IsDataSetName self.now }

@@ -81,6 +81,7 @@ impl Model for FilterIndex {
 }
 
 impl FilterIndex {
+    /// The lists with the places of their quoted entries put in order, or want of memory.
     pub fn build(alloc: Global, include: &[Entry], exclude: &[Entry]) -> Result<Self, AllocError>
         ensures { IfOk result (λ index. (index.include ≡ include.now) × (index.exclude ≡ exclude.now)) }
     {

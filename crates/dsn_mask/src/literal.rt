@@ -7,7 +7,7 @@ use crate::text::Text;
 use desk_common::MAX_LITERAL;
 use std::marker::Model;
 
-/// A literal: at most 110 printed bytes with no quote.
+/// A literal: at most 110 printed bytes or blanks, none a quote.
 #[derive(Clone, Copy)]
 pub struct Lit {
     text: Text<MAX_LITERAL>,
@@ -63,6 +63,7 @@ impl Lit {
         })
     }
 
+    /// The bytes between the quotes, 0 to 110.
     pub fn bytes(&self) -> &[u8]
         ensures bytes { result.now ≡ self.now }
         ensures form { IsLiteral self.now }

@@ -65,12 +65,14 @@ impl Names {
         }
     }
 
+    /// How many names there are, 0 to 15.
     pub fn len(&self) -> usize
         ensures { result ≡ length self.now }
     {
         self.count
     }
 
+    /// There are no names.
     pub fn is_empty(&self) -> bool
         ensures { IsTrue result ↔ (self.now ≡ []) }
     {
@@ -84,6 +86,7 @@ impl Names {
         self.count == MAX_GROUPS_SET
     }
 
+    /// The names in the order in which they were added.
     pub fn as_slice(&self) -> &[Name]
         ensures names { result.now ≡ self.now }
         ensures form { AreFewAndOnce self.now }
@@ -91,6 +94,7 @@ impl Names {
         &self.items[..self.count]
     }
 
+    /// Whether the name is one of them.
     pub fn contains(&self, name: &Name) -> bool
         ensures { IsTrue result ↔ Contains self.now name.now }
     {

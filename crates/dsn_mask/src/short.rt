@@ -37,7 +37,7 @@ impl PartialEq for Short {
     ghost laws = { Prim.search (comparing, rules) };
 
     fn eq(&self, other: &Short) -> bool {
-        self.bytes() == other.bytes()
+        self.text.equals(&other.text)
     }
 }
 
@@ -71,6 +71,7 @@ impl Short {
         })
     }
 
+    /// The bytes of the value, 0 to 44.
     pub fn bytes(&self) -> &[u8]
         ensures bytes { result.now ≡ self.now }
         ensures form { IsShort self.now }

@@ -71,6 +71,7 @@ impl Simple {
         }
     }
 
+    /// The bytes of the mask, 1 to 64.
     pub fn bytes(&self) -> &[u8]
         ensures bytes { result.now ≡ self.now }
         ensures form { IsSimple self.now }

@@ -24,6 +24,7 @@ impl<L: Ledger> Model for Steps<L> {
 }
 
 impl<L: Ledger> Steps<L> {
+    /// A count that begins at 0, over a blank of its own.
     pub fn new(blank: Blank) -> Self
         requires name { blank.name ≡ L.name }
         requires parts { blank.parts ≡ L.parts }
@@ -34,6 +35,7 @@ impl<L: Ledger> Steps<L> {
         Steps { book, share }
     }
 
+    /// Counts one more step, for contracts alone.
     pub fn tick(&mut self)
         ensures { self.new ≡ self.old + 1 }
     {

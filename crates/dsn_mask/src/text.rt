@@ -1,9 +1,9 @@
 //! Bytes in an array of a fixed size.
-ghost use Rattle.std.specs.Prelude.{◌≡◌, ◌≤◌, length};
+ghost use Rattle.std.specs.Prelude.{◌≡◌, ◌≤◌, bytes_eq, length};
 ghost use Rattle.std.specs.Cmp.Lexicographic.{slice_cmp};
 ghost use Rattle.std.specs.Ordering.{nat_cmp};
 
-use crate::byte_words::order;
+use crate::byte_words::{are_equal, order};
 use std::cmp::Ordering;
 use std::marker::Model;
 
@@ -33,6 +33,7 @@ impl<const N: usize> Model for Text<N> {
 }
 
 impl<const N: usize> Text<N> {
+    /// These bytes, copied into the array.
     pub fn new(bytes: &[u8]) -> Self
         requires fits { length bytes.now ≤ N }
         requires small { length bytes.now ≤ 255 }
@@ -46,10 +47,19 @@ impl<const N: usize> Text<N> {
         }
     }
 
+    /// The bytes that were put in.
     pub fn bytes(&self) -> &[u8]
         ensures { result.now ≡ self.now }
     {
         &self.buffer[..self.count as usize]
+    }
+
+    /// Whether two texts are the same bytes.
+    #[inline(always)]
+    pub fn equals(&self, other: &Self) -> bool
+        ensures { result ≡ bytes_eq self.now other.now }
+    {
+        self.count == other.count && are_equal(&self.buffer, &other.buffer)
     }
 
     /// The order of two texts by their bytes.

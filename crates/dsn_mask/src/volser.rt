@@ -39,7 +39,7 @@ impl PartialEq for Volser {
     ghost laws = { Prim.search (comparing, rules) };
 
     fn eq(&self, other: &Volser) -> bool {
-        self.bytes() == other.bytes()
+        self.text.equals(&other.text)
     }
 }
 
@@ -114,6 +114,7 @@ impl Volser {
         })
     }
 
+    /// The bytes of the serial, 1 to 6.
     pub fn bytes(&self) -> &[u8]
         ensures bytes { result.now ≡ self.now }
         ensures form { IsVolser self.now }

@@ -124,7 +124,7 @@ unfolding IsStrictlySortedBy
 before-head total k [] f ys sorted past = tt
 before-head {K} {V} {R} total k (x ∷ xs) f ys sorted past = (not-less_at total k x.0 f.0 _ refl past (all-mid (λ (y : K). R x.0 y ≡ Less) xs f ys sorted.0), before-head total k xs f ys sorted.1 past)
 
-behind-rows : {K V : Type 0} {R : K → K → Ordering} (total : IsTotalOrder R) (k x : K) (ys : List (K × V)) → R k x ≡ Less → AllByRecursion (λ (y : K). R x y ≡ Less) (keys_of ys) → AreBehind R k ys
+pub behind-rows : {K V : Type 0} {R : K → K → Ordering} (total : IsTotalOrder R) (k x : K) (ys : List (K × V)) → R k x ≡ Less → AllByRecursion (λ (y : K). R x y ≡ Less) (keys_of ys) → AreBehind R k ys
 behind-rows total k x [] less all = tt
 behind-rows total k x (y ∷ ys) less all = (total.trans k x y.0 less all.0, behind-rows total k x ys less all.1)
 
@@ -147,7 +147,7 @@ module _ {K V : Type 0} {R : K → K → Ordering} (total : IsTotalOrder R) (k :
   behind-first [] ys some sorted starts = absurd (omega (arith, some))
   behind-first (e ∷ es) ys some sorted starts = behind-head total k e (es ++ ys) sorted (lt-is (R k e.0) starts)
 
-  behind-from : (cs : List (Vec (K × V) Global)) (j : ℕ) → AreFilled cs → AreRows R (rows_of cs) → ((d : Vec (K × V) Global) → j < length cs → starts_by R k (get_or cs j d).items ≡ false) → AreBehind R k (rows_of (drop j cs))
+  pub behind-from : (cs : List (Vec (K × V) Global)) (j : ℕ) → AreFilled cs → AreRows R (rows_of cs) → ((d : Vec (K × V) Global) → j < length cs → starts_by R k (get_or cs j d).items ≡ false) → AreBehind R k (rows_of (drop j cs))
   behind-from [] zero filled sorted starts = tt
   behind-from [] (suc j) filled sorted starts = tt
   behind-from (c ∷ cs) zero filled sorted starts = behind-first c.items (rows_of cs) (filled zero c (omega arith)) sorted (starts c (omega arith))

@@ -5,4 +5,5 @@ mod FirstLemmas
 mod PartLemmas
 mod RowLemmas
 mod SortedLemmas
+mod SpotLemmas
 pub mod LookupLemmas

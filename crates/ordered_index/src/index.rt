@@ -12,19 +12,24 @@ ghost use Rattle.ordered_index.specs.Index.{next_row};
 
 use crate::chunks::{add_among, chunk_of, first_from, put_among, take_among, value_among};
 use crate::moving::{ROOM, add_in_full, insert_chunk, join_around, put_in_full};
-use crate::rows::{first_after, take_from};
+use crate::rows::{first_after, place_of, take_from};
+use crate::spot::{Spot, spot_near};
 use std::alloc::{AllocError, Global};
+use std::cell::Cell;
 use std::marker::Model;
 
 /// Rows of keys and values in the order of the keys, in chunks of at most 64 rows that are searched by halving.
 /// Room is taken ahead, and then a row is put without memory. A removal takes none either, and joins the chunk with
-/// its neighbours where they have few rows together, so that memory falls with the rows.
+/// its neighbours where they have few rows together, so that memory falls with the rows. A row that is put or
+/// taken behind a `get` of its key is found without another search.
 #[derive(Drop)]
 pub struct OrderedIndex<K: Ord, V> {
     alloc: Global,
     chunks: Vec<Vec<(K, V)>>,
     // empty chunks, each for the row that finds its chunk full
     spares: Vec<Vec<(K, V)>>,
+    // where the last look for a key ended; a wrong spot costs a search
+    last: Cell<Spot>,
 }
 
 impl<K: Ord, V> Model for OrderedIndex<K, V> {
@@ -47,6 +52,7 @@ impl<K: Ord + Drop, V: Drop> OrderedIndex<K, V> {
             alloc,
             chunks: Vec::new(alloc),
             spares: Vec::new(alloc),
+            last: Cell::new(Spot { chunk: 0, row: 0 }),
         }
     }
 
@@ -54,7 +60,7 @@ impl<K: Ord + Drop, V: Drop> OrderedIndex<K, V> {
     pub fn get(&self, key: &K) -> Option<&V>
         ensures { option_copied result ≡ lookup (is_at (K.cmp key.now)) self.now.rows }
     {
-        value_among(&self.chunks, key)
+        value_among(&self.chunks, key, &self.last)
     }
 
     /// The first row of all.
@@ -96,11 +102,17 @@ impl<K: Ord + Drop, V: Drop> OrderedIndex<K, V> {
         ensures value { result ≡ lookup (is_at (K.cmp key)) self.old.rows }
         ensures room { self.old.room ≤ self.new.room + 1 }
     {
-        put_row(&mut self.chunks, &mut self.spares, key, value)
+        put_row(
+            &mut self.chunks,
+            &mut self.spares,
+            self.last.get(),
+            key,
+            value,
+        )
     }
 
-    /// Adds the row where none has its key, and tells whether it did: by one search, and by a second one where the
-    /// chunk of a key that none has is full. It takes no memory.
+    /// Adds the row where none has its key, and tells whether it did: by one search at most, and by a second one where
+    /// the chunk of a key that none has is full. It takes no memory.
     pub fn put_new(&mut self, key: K, value: V) -> bool
         requires { 0 < self.old.room }
         ensures rows { self.new.rows ≡ add_entry K.cmp self.old.rows key value }
@@ -110,7 +122,13 @@ impl<K: Ord + Drop, V: Drop> OrderedIndex<K, V> {
         ensures added { result ≡ is_free K.cmp key self.old.rows }
         ensures room { self.old.room ≤ self.new.room + (if result then 1 else 0) }
     {
-        add_row(&mut self.chunks, &mut self.spares, key, value)
+        add_row(
+            &mut self.chunks,
+            &mut self.spares,
+            self.last.get(),
+            key,
+            value,
+        )
     }
 
     /// Takes the row of the key, and gives its value. It takes no memory.
@@ -121,7 +139,7 @@ impl<K: Ord + Drop, V: Drop> OrderedIndex<K, V> {
         ensures value { result ≡ lookup (is_at (K.cmp key.now)) self.old.rows }
         ensures room { self.new.room ≡ self.old.room }
     {
-        take_row(&mut self.chunks, &self.spares, key)
+        take_row(&mut self.chunks, &self.spares, self.last.get(), key)
     }
 }
 
@@ -129,6 +147,7 @@ impl<K: Ord + Drop, V: Drop> OrderedIndex<K, V> {
 fn put_row<K: Ord + Drop, V: Drop>(
     chunks: &mut Vec<Vec<(K, V)>>,
     spares: &mut Vec<Vec<(K, V)>>,
+    near: Spot,
     key: K,
     value: V,
 ) -> Option<V>
@@ -143,11 +162,11 @@ fn put_row<K: Ord + Drop, V: Drop>(
         put_first(chunks, spares, key, value);
         return None;
     }
-    let place = chunk_of(chunks, &key);
-    if chunks[place].len() < ROOM {
-        put_among(chunks, place, key, value)
+    let spot = spot_near(chunks, near, &key);
+    if chunks[spot.chunk].len() < ROOM {
+        put_among(chunks, spot, key, value)
     } else {
-        put_in_full(chunks, spares, place, key, value)
+        put_in_full(chunks, spares, spot.chunk, key, value)
     }
 }
 
@@ -155,6 +174,7 @@ fn put_row<K: Ord + Drop, V: Drop>(
 fn add_row<K: Ord + Drop, V: Drop>(
     chunks: &mut Vec<Vec<(K, V)>>,
     spares: &mut Vec<Vec<(K, V)>>,
+    near: Spot,
     key: K,
     value: V,
 ) -> bool
@@ -169,11 +189,11 @@ fn add_row<K: Ord + Drop, V: Drop>(
         put_first(chunks, spares, key, value);
         return true;
     }
-    let place = chunk_of(chunks, &key);
-    if chunks[place].len() < ROOM {
-        add_among(chunks, place, key, value)
+    let spot = spot_near(chunks, near, &key);
+    if chunks[spot.chunk].len() < ROOM {
+        add_among(chunks, spot, key, value)
     } else {
-        add_in_full(chunks, spares, place, key, value)
+        add_in_full(chunks, spares, spot, key, value)
     }
 }
 
@@ -200,6 +220,7 @@ fn put_first<K: Ord + Drop, V: Drop>(
 fn take_row<K: Ord + Drop, V: Drop>(
     chunks: &mut Vec<Vec<(K, V)>>,
     spares: &Vec<Vec<(K, V)>>,
+    near: Spot,
     key: &K,
 ) -> Option<V>
     requires index { IsIndex K.cmp chunks.old spares.now }
@@ -210,14 +231,14 @@ fn take_row<K: Ord + Drop, V: Drop>(
     if chunks.is_empty() {
         return None;
     }
-    let place = chunk_of(chunks, key);
-    if chunks[place].len() < 2 {
-        let value = take_only(chunks, place, key);
-        join_around(chunks, place);
+    let spot = spot_near(chunks, near, key);
+    if chunks[spot.chunk].len() < 2 {
+        let value = take_only(chunks, spot.chunk, key);
+        join_around(chunks, spot.chunk);
         return value;
     }
-    let value = take_among(chunks, place, key);
-    join_around(chunks, place);
+    let value = take_among(chunks, spot, key);
+    join_around(chunks, spot.chunk);
     value
 }
 
@@ -239,7 +260,8 @@ fn take_only<K: Ord + Drop, V: Drop>(
     ensures capacity { vec_capacity chunks.new ≡ vec_capacity chunks.old }
 {
     let mut chunk = chunks.remove(place);
-    let value = take_from(&mut chunk, key);
+    let row = place_of(&chunk, key);
+    let value = take_from(&mut chunk, row, key);
     if !chunk.is_empty() {
         insert_chunk(chunks, place, chunk);
     }

@@ -5,5 +5,6 @@ mod chunks;
 mod index;
 mod moving;
 mod rows;
+mod spot;
 
 pub use index::OrderedIndex;

@@ -6,11 +6,12 @@ ghost use Rattle.std.specs.declared.alloc.Global.{Global};
 ghost use Rattle.std.specs.BTreeMap.{insert_entry, is_at};
 ghost use Rattle.std.specs.Map.{lookup};
 ghost use Rattle.ordered_index.specs.Rows.{AreRows, add_entry, is_free};
-ghost use Rattle.ordered_index.specs.Chunks.{AreFilled, IsChunkOf, rows_of};
+ghost use Rattle.ordered_index.specs.Chunks.{AreFilled, IsChunkOf, IsSpotOf, rows_of};
 ghost use Rattle.ordered_index.specs.Room.{AreRoomy, IsIndex, IsSpare, chunk_room, half_room};
 
 use crate::chunks::{is_free_among, starts};
-use crate::rows::put_in;
+use crate::rows::{place_of, put_in};
+use crate::spot::Spot;
 
 /// How many rows a chunk has room for.
 pub const ROOM: usize = 64;
@@ -55,9 +56,11 @@ pub fn put_in_either<K: Ord + Drop, V: Drop>(
         (length behind.new.items ≤ length behind.old.items + 1) × (vec_capacity behind.new ≡ vec_capacity behind.old) }
 {
     if starts(behind, &key) {
-        put_in(behind, key, value)
+        let place = place_of(behind, &key);
+        put_in(behind, place, key, value)
     } else {
-        put_in(front, key, value)
+        let place = place_of(front, &key);
+        put_in(front, place, key, value)
     }
 }
 
@@ -88,21 +91,22 @@ pub fn put_in_full<K: Ord + Drop, V: Drop>(
 pub fn add_in_full<K: Ord + Drop, V: Drop>(
     chunks: &mut Vec<Vec<(K, V)>>,
     spares: &mut Vec<Vec<(K, V)>>,
-    place: usize,
+    spot: Spot,
     key: K,
     value: V,
 ) -> bool
-    requires is { IsChunkOf K.cmp key chunks.old.items place }
+    requires is { IsSpotOf K.cmp key chunks.old.items spot }
     requires index { IsIndex K.cmp chunks.old spares.old }
-    requires full { (d : Vec (K × V) Global) → length (slice_index_or chunks.old.items place d).items ≡ chunk_room }
+    requires full { (d : Vec (K × V) Global) →
+        length (slice_index_or chunks.old.items spot.chunk d).items ≡ chunk_room }
     requires some { 0 < length spares.old.items }
     ensures index { IsIndex K.cmp chunks.new spares.new }
     ensures spares { length spares.old.items ≤ length spares.new.items + (if result then 1 else 0) }
     ensures rows { rows_of chunks.new.items ≡ add_entry K.cmp (rows_of chunks.old.items) key value }
     ensures added { result ≡ is_free K.cmp key (rows_of chunks.old.items) }
 {
-    if is_free_among(chunks, place, &key) {
-        put_in_full(chunks, spares, place, key, value);
+    if is_free_among(chunks, spot, &key) {
+        put_in_full(chunks, spares, spot.chunk, key, value);
         true
     } else {
         false

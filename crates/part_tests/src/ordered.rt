@@ -6,12 +6,14 @@ use std::test::Fail;
 /// A prime number: its multiples of another number, by this modulus, are all numbers below it.
 const COUNT: u64 = 10_007;
 
-// An index of all numbers below COUNT, put in no order; the value of each is twice its key.
+// An index of all numbers below COUNT, put in no order, each behind a look for it or for one of the next two; the
+// value of each is twice its key.
 fn filled(alloc: Global) -> Result<OrderedIndex<u64, u64>, AllocError> {
     let mut index = OrderedIndex::new(alloc);
     for turn in 0..COUNT {
         let key = turn * 7919 % COUNT;
         index.reserve()?;
+        index.get(&(key + turn % 3));
         index.put(key, key * 2);
     }
     Ok(index)

@@ -15,7 +15,7 @@ use Rattle.desk_signing.specs.Signing.{events, signed, signed_last}
 use Rattle.desk_signing.proofs.SignLemmas.{signed_entries}
 use Rattle.sms_desk.specs.declared.job_seat.JobSeat.{JobSeat}
 use Rattle.sms_desk.specs.Seats.{AreNumberedDown, IsNewJob, StandsJob, job_number, job_numbers, job_seen}
-use Rattle.desk_plan.specs.Sharing.{picked}
+use Rattle.desk_plan.specs.Sharing.{those}
 use Rattle.desk_workers.specs.Inner.Closed.{HasClosed, Signs}
 use Rattle.desk_workers.proofs.ClosedLemmas.{has-closed}
 use Rattle.http_talk.specs.declared.talk.Talk.{Talk}
@@ -44,7 +44,7 @@ same-test count n k seat small below is = elim (cases_Bool (n == seat)) [
 
 -- what a worker made is what bears the number of its seat
 made-picked : (count k seat : ℕ) (es : List Entry) (ns : List ℕ) → AllByRecursion (λ n. n < count) ns → k < count → seat + suc k ≡ count
-    → made_by k (map (λ n. count - suc n) ns) es ≡ picked seat es ns
+    → made_by k (map (λ n. count - suc n) ns) es ≡ those seat ns es
 made-picked count k seat [] [] small below is = refl
 made-picked count k seat [] (n ∷ ns) small below is = refl
 made-picked count k seat (e ∷ es) [] small below is = refl

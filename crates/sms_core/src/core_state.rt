@@ -29,6 +29,7 @@ use sms_deck::Config;
 use sms_keeper::{Keeper, RequestLog, Rows};
 use std::alloc::{AllocError, Global};
 use std::marker::Model;
+use std::mem::forget;
 use std::snapshot::Snapshot;
 
 /// The desk's core over a keeper of its records.
@@ -260,6 +261,23 @@ impl<P: Keeper> Core<P> {
         } = self;
         let Records { keeper, .. } = records;
         (keeper, Items::from_vec(journal))
+    }
+
+    /// The keeper, where the program ends behind this: nothing else that the core holds is freed, piece by piece.
+    pub fn into_keeper(self) -> P
+        ensures { result ≡ self.keeper }
+    {
+        let Core {
+            journal,
+            running,
+            records,
+            ..
+        } = self;
+        let Records { log, keeper } = records;
+        forget(journal);
+        forget(running);
+        forget(log);
+        keeper
     }
 }
 

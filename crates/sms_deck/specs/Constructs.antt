@@ -13,9 +13,10 @@ use Rattle.sms_construct.specs.declared.storage_class.StorClass.{StorClass}
 use Rattle.sms_construct.specs.declared.storage_group.StorGroup.{StorGroup}
 use Rattle.sms_construct.specs.declared.unit.Unit.TheVariants.{Cyl}
 use Rattle.sms_construct.specs.declared.volume.VolumeDef.{VolumeDef}
+use Rattle.sms_construct.specs.Eattr.{eattrs}
 use Rattle.sms_construct.specs.Quantities.{tracks_in, most_breakpoint}
 use Rattle.sms_deck.specs.Layout.{table_at}
-use Rattle.sms_deck.specs.Values.{devices, group_statuses, volume_statuses, yes_or_no, eattrs, word_in, integer_in}
+use Rattle.sms_deck.specs.Values.{devices, group_statuses, volume_statuses, yes_or_no, word_in, integer_in}
 use Rattle.sms_deck.specs.Values.{cylinders_in, space_in}
 use Rattle.sms_deck.specs.Tables.{high_of}
 

@@ -4,8 +4,7 @@ use Rattle.std.specs.Prelude.{codes, is_some, nat_le, pos, if◌then◌else◌}
 use Rattle.std.specs.Option.{option_and_then}
 use Rattle.toml.specs.Data.{Data, integer, as_bool, as_str}
 use Rattle.dsn_mask.specs.Name.{name_of}
-use Rattle.sms_construct.specs.declared.eattr.Eattr.{Eattr}
-use Rattle.sms_construct.specs.declared.eattr.Eattr.TheVariants.{Opt, No}
+use Rattle.sms_construct.specs.Eattr.{eattrs}
 use Rattle.sms_construct.specs.declared.status.Status.{Status}
 use Rattle.sms_construct.specs.declared.status.Status.TheVariants.{Enable, NotCon, DisAll, DisNew, QuiAll, QuiNew}
 use Rattle.sms_construct.specs.Quantities.{Quantities}
@@ -43,10 +42,6 @@ devices = (codes "3390-3", 50085) ∷ (codes "3390-9", 150255) ∷ []
 -- yes and no
 abbrev pub yes_or_no : Words Bool
 yes_or_no = (codes "YES", true) ∷ (codes "NO", false) ∷ []
-
--- whether data sets may lie on cylinder-managed space
-abbrev pub eattrs : Words Eattr
-eattrs = (codes "OPT", Opt) ∷ (codes "NO", No) ∷ []
 
 -- the one type of a storage group
 abbrev pub pool : Words Bool

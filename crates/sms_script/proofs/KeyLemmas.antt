@@ -1,11 +1,6 @@
 -- A key cut behind a name.
-use Rattle.std.proofs.Common.{◌≡◌, ℕ, Bool, true, false, List, [], ◌∷◌, ◌++◌, length, take, drop, refl, arith}
-use Rattle.std.proofs.lemmas.List.{take_all}
+use Rattle.std.proofs.Common.{◌≡◌, ℕ, Bool, true, false, List, [], ◌∷◌, ◌++◌, length, take, drop, refl}
 use Rattle.std.specs.Prelude.{◌==◌, ◌&&◌, bytes_eq}
-
--- what stands at the front of a text no longer than it is the text
-pub front_is : (word text : List ℕ) → length text ≡ length word → bytes_eq (take (length word) text) word ≡ bytes_eq text word
-front_is word text same = rw (take_all (length word) text (omega (arith, same))) refl
 
 grouped : (first : Bool) (second third : Bool) → (first && (second && third)) ≡ ((first && second) && third)
 grouped true second third = refl

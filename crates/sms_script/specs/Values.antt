@@ -9,7 +9,7 @@ use Rattle.desk_common.specs.Limits.{most_account_fields, most_value_bytes, most
 use Rattle.dsn_mask.specs.Name.{is_digit, is_short, is_volser, name_of, short_of}
 use Rattle.sms_construct.specs.Numbers.{small_number_of}
 use Rattle.sms_construct.specs.declared.eattr.Eattr.{Eattr}
-use Rattle.sms_construct.specs.declared.eattr.Eattr.TheVariants.{Opt, No}
+use Rattle.sms_construct.specs.Eattr.{eattrs}
 use Rattle.sms_construct.specs.Quantities.{volume_count_of}
 use Rattle.sms_script.specs.Parts.{listed}
 
@@ -63,10 +63,6 @@ account_of value = if are_fields (listed value) then Some (listed value) else No
 abbrev pub count_of : List ℕ → Option ℕ
 count_of value = option_and_then volume_count_of (small_number_of value)
 
--- the words that say whether the data set may lie on cylinder-managed space
-abbrev pub eattrs : List (List ℕ × Eattr)
-eattrs = (codes "OPT", Opt) ∷ (codes "NO", No) ∷ []
-
--- what such a word says
+-- what a word says of whether the data set may lie on cylinder-managed space, if it is such a word
 abbrev pub eattr_of : List ℕ → Option Eattr
 eattr_of value = lookup (bytes_eq value) eattrs

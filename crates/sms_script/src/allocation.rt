@@ -21,6 +21,7 @@ use sms_construct::{Alloc, Space, behind_front, read_space};
 use std::alloc::{AllocError, Global};
 
 /// What the data set's name and the operands behind it ask for, if all are in form; or want of memory.
+#[inline(always)]
 pub fn read_allocation(alloc: Global, words: &[&[u8]]) -> Result<Option<Shared<Alloc>>, AllocError>
     ensures { IfOk result (λ read. read ≡ alloc_in (map (λ word. word.now) words.now)) }
 {
@@ -34,6 +35,7 @@ pub fn read_allocation(alloc: Global, words: &[&[u8]]) -> Result<Option<Shared<A
 }
 
 // What the operands ask for, if all are in form. Where there is a space alone, no other key is looked for.
+#[inline(always)]
 fn read_operands(
     alloc: Global,
     dsn: Dsn,
@@ -45,6 +47,19 @@ fn read_operands(
     if let Some(value) = only_space(operands) {
         return read_plain(alloc, dsn, value);
     }
+    read_listed(alloc, dsn, operands)
+}
+
+// The same of any operands. It stands apart, so that what they give takes no room where there is a space alone.
+#[inline(never)]
+fn read_listed(
+    alloc: Global,
+    dsn: Dsn,
+    operands: &[&[u8]],
+) -> Result<Option<Shared<Alloc>>, AllocError>
+    ensures { IfOk result (λ read. read ≡ (if are_operands (map (λ word. word.now) operands.now)
+        then request_in dsn (map (λ word. word.now) operands.now) else None)) }
+{
     if !are_operands(operands) {
         return Ok(None);
     }
@@ -62,6 +77,7 @@ fn only_space<'a>(operands: &[&'a [u8]]) -> Option<&'a [u8]>
 }
 
 // What the text of a space asks for, if it is in form, and nothing else is asked for.
+#[inline(always)]
 fn read_plain(alloc: Global, dsn: Dsn, space: &[u8]) -> Result<Option<Shared<Alloc>>, AllocError>
     ensures { IfOk result (λ read. read ≡ option_map (plain_alloc dsn) (space_text space.now)) }
 {

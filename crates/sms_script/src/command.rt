@@ -1,6 +1,9 @@
 //! The commands that the lines of a script write.
-ghost use Rattle.std.specs.Prelude.{◌≡◌, ◌&&◌, None, Some, bytes_eq, codes, map, option_map, IfOk, OnOk, if◌then◌else◌};
+ghost use Rattle.std.specs.Prelude.{◌≡◌, ◌&&◌, ◌∷◌, [], None, Some, bytes_eq, codes, map, option_map, IfOk, OnOk};
+ghost use Rattle.std.specs.Prelude.{if◌then◌else◌};
 ghost use Rattle.std.specs.Char.{to_ascii_uppercase};
+ghost use Rattle.desk_common.specs.Bytes.{space_byte};
+ghost use Rattle.desk_common.specs.Words.{words_of};
 ghost use Rattle.sms_script.specs.Ops.{number_in};
 ghost use Rattle.sms_script.specs.Commands.{admin, command_in, command_of, is_activate, is_admin, request_of};
 
@@ -24,7 +27,6 @@ pub enum Command {
 }
 
 /// The command that the line writes, if any. The buffer is for its letters in upper case.
-#[tactic(auto, using(crate::proofs::FewLemmas::no_command))]
 pub fn read_command(
     alloc: Global,
     buffer: &mut Vec<u8>,
@@ -39,7 +41,17 @@ pub fn read_command(
     if let Some(words) = line_words::<FEW_WORDS>(buffer) {
         return read_line(alloc, &words);
     }
-    match line_words::<MOST_WORDS>(buffer) {
+    read_long_line(alloc, buffer)
+}
+
+// The command of a line of any number of words. It stands apart, so that its many words take no room where others
+// are read.
+#[inline(never)]
+#[tactic(auto, using(crate::proofs::FewLemmas::no_command))]
+fn read_long_line(alloc: Global, line: &[u8]) -> Result<Option<Command>, AllocError>
+    ensures { IfOk result (λ command. command ≡ command_in (words_of (space_byte ∷ []) line.now)) }
+{
+    match line_words::<MOST_WORDS>(line) {
         Some(words) => read_line(alloc, &words),
         None => Ok(None),
     }
@@ -65,6 +77,7 @@ pub fn admin() -> Name
     name
 }
 
+#[inline(always)]
 fn read_line(alloc: Global, words: &[&[u8]]) -> Result<Option<Command>, AllocError>
     ensures { IfOk result (λ command. command ≡ command_in (map (λ word. word.now) words.now)) }
 {
@@ -85,6 +98,7 @@ fn read_sync(word: &[u8]) -> Option<Command>
     }
 }
 
+#[inline(always)]
 fn read_numbered(
     alloc: Global,
     job: &[u8],
@@ -102,6 +116,7 @@ fn read_numbered(
     }
 }
 
+#[inline(always)]
 fn read_request(
     alloc: Global,
     job: &[u8],

@@ -1,9 +1,12 @@
 //! The lines behind the first one of an answer.
-ghost use Rattle.std.specs.Prelude.{◌≡◌, ◌++◌, map, IfOk, OnOk};
+ghost use Rattle.std.specs.Prelude.{◌≡◌, ◌≤◌, ◌+◌, ◌++◌, drop, map, IfOk, OnOk};
 ghost use Rattle.sms_script.specs.AnswerText.{further_lines, granted_lines, shown_lines, used_text, view_lines};
 ghost use Rattle.sms_script.specs.NameText.{class_text, extent_text};
+ghost use Rattle.sms_script.specs.Inner.Rooms.{class_room, extent_room, line_room};
 
-use crate::pushing::{name_bytes, push_number_and_blank, push_word_and_blank};
+use crate::pushing::{
+    ROOM, name_bytes, write_number, write_number_and_blank, write_word, write_word_and_blank,
+};
 use crate::text_lines::{TextLines, empty_line, push_line};
 use crate::trace_text::push_trace;
 use desk_common::push_number;
@@ -96,15 +99,27 @@ fn class_text(alloc: Global, set: &DataSet) -> Result<Vec<u8>, AllocError>
     Ok(text)
 }
 
-/// Puts the classes of a data set and its storage group behind a text.
-pub fn push_class(text: &mut Vec<u8>, set: &DataSet) -> Result<(), AllocError>
+// Puts the classes of a data set and its storage group behind a text.
+fn push_class(text: &mut Vec<u8>, set: &DataSet) -> Result<(), AllocError>
     ensures { OnOk result (text.new.items ≡ text.old.items ++ class_text set.now) }
 {
-    text.extend_from_slice(b"CLASS ")?;
-    push_word_and_blank(text, name_bytes(&set.dataclas))?;
-    push_word_and_blank(text, set.storclas.bytes())?;
-    push_word_and_blank(text, name_bytes(&set.mgmtclas))?;
-    text.extend_from_slice(set.group.bytes())
+    let mut room = [0u8; ROOM];
+    let start = write_class(set, &mut room, ROOM);
+    text.extend_from_slice(&room[start..])
+}
+
+/// Writes the classes of a data set and its storage group so that they end at this place; tells where they start. Any
+/// bytes may stand before that afterwards.
+pub fn write_class(set: &DataSet, room: &mut [u8; ROOM], end: usize) -> usize
+    requires { (class_room ≤ end) × (end ≤ line_room) }
+    ensures start { (end ≤ result + class_room) × (result ≤ end) }
+    ensures written { drop result room.new ≡ class_text set.now ++ drop end room.old }
+{
+    let group = write_word(set.group.bytes(), room, end);
+    let mgmtclas = write_word_and_blank(name_bytes(&set.mgmtclas), room, group);
+    let storclas = write_word_and_blank(set.storclas.bytes(), room, mgmtclas);
+    let dataclas = write_word_and_blank(name_bytes(&set.dataclas), room, storclas);
+    write_word(b"CLASS ", room, dataclas)
 }
 
 fn push_extents(alloc: Global, lines: &mut TextLines, extents: &[Extent]) -> Result<(), AllocError>
@@ -124,12 +139,23 @@ fn extent_text(alloc: Global, extent: &Extent) -> Result<Vec<u8>, AllocError>
     Ok(text)
 }
 
-/// Puts the tracks of an extent behind a text.
-pub fn push_extent(text: &mut Vec<u8>, extent: &Extent) -> Result<(), AllocError>
+// Puts the tracks of an extent behind a text.
+fn push_extent(text: &mut Vec<u8>, extent: &Extent) -> Result<(), AllocError>
     ensures { OnOk result (text.new.items ≡ text.old.items ++ extent_text extent.now) }
 {
-    text.extend_from_slice(b"EXTENT ")?;
-    push_word_and_blank(text, extent.volser.bytes())?;
-    push_number_and_blank(text, u64::from(extent.start))?;
-    push_number(text, u64::from(extent.length))
+    let mut room = [0u8; ROOM];
+    let start = write_extent(extent, &mut room, ROOM);
+    text.extend_from_slice(&room[start..])
+}
+
+/// Writes the tracks of an extent in the same way.
+pub fn write_extent(extent: &Extent, room: &mut [u8; ROOM], end: usize) -> usize
+    requires { (extent_room ≤ end) × (end ≤ line_room) }
+    ensures start { (end ≤ result + extent_room) × (result ≤ end) }
+    ensures written { drop result room.new ≡ extent_text extent.now ++ drop end room.old }
+{
+    let length = write_number(u64::from(extent.length), room, end);
+    let start = write_number_and_blank(u64::from(extent.start), room, length);
+    let volser = write_word_and_blank(extent.volser.bytes(), room, start);
+    write_word(b"EXTENT ", room, volser)
 }

@@ -4,8 +4,9 @@ ghost use Rattle.sms_script.specs.AnswerText.{granted_lines, indented};
 ghost use Rattle.sms_script.specs.NameText.{class_text, extent_text};
 ghost use Rattle.sms_script.specs.TraceText.{trace_lines};
 
-use crate::further_text::{push_class, push_extent};
+use crate::further_text::{write_class, write_extent};
 use crate::indenting::push_indented;
+use crate::pushing::{ROOM, write_word};
 use crate::trace_text::push_trace;
 use desk_common::Items;
 use sms_construct::{DataSet, Extent, Trace};
@@ -30,9 +31,11 @@ pub fn push_granted_text(
 fn push_class_line(text: &mut Vec<u8>, set: &DataSet) -> Result<(), AllocError>
     ensures { OnOk result (text.new.items ≡ text.old.items ++ indented (class_text set.now)) }
 {
-    text.extend_from_slice(b"  ")?;
-    push_class(text, set)?;
-    text.extend_from_slice(b"\n")
+    let mut room = [0u8; ROOM];
+    room[ROOM - 1] = b'\n';
+    let classes = write_class(set, &mut room, ROOM - 1);
+    let start = write_word(b"  ", &mut room, classes);
+    text.extend_from_slice(&room[start..])
 }
 
 fn push_extent_lines(text: &mut Vec<u8>, extents: &[Extent]) -> Result<(), AllocError>
@@ -47,9 +50,11 @@ fn push_extent_lines(text: &mut Vec<u8>, extents: &[Extent]) -> Result<(), Alloc
 fn push_extent_line(text: &mut Vec<u8>, extent: &Extent) -> Result<(), AllocError>
     ensures { OnOk result (text.new.items ≡ text.old.items ++ indented (extent_text extent.now)) }
 {
-    text.extend_from_slice(b"  ")?;
-    push_extent(text, extent)?;
-    text.extend_from_slice(b"\n")
+    let mut room = [0u8; ROOM];
+    room[ROOM - 1] = b'\n';
+    let tracks = write_extent(extent, &mut room, ROOM - 1);
+    let start = write_word(b"  ", &mut room, tracks);
+    text.extend_from_slice(&room[start..])
 }
 
 fn push_trace_lines(alloc: Global, text: &mut Vec<u8>, trace: &Trace) -> Result<(), AllocError>

@@ -13,6 +13,7 @@ pub const MOST_WORDS: usize = 33;
 pub const FEW_WORDS: usize = 8;
 
 /// The words of the line, if they are no more than so many.
+#[inline(always)]
 pub fn line_words<const MOST: usize>(line: &[u8]) -> Option<ArrayVec<&[u8], MOST>>
     ensures { MatchOption result (MOST < length (words_of (space_byte ∷ []) line.entry.now))
         (λ words. map (λ word. word.now) words.items ≡ words_of (space_byte ∷ []) line.entry.now) }

@@ -33,6 +33,7 @@ pub fn read_op(alloc: Global, line: &mut [u8], admin: bool) -> Result<Option<Op>
 }
 
 /// The op that the words behind a request number write, if any; or want of memory.
+#[inline(always)]
 pub fn read_words(alloc: Global, words: &[&[u8]], admin: bool) -> Result<Option<Op>, AllocError>
     ensures op { IfOk result (λ op. op ≡ op_in admin (map (λ word. word.now) words.now)) }
     ensures memory { OnErr result (AskAlloc (map (λ word. word.now) words.now)) }
@@ -46,6 +47,7 @@ pub fn read_words(alloc: Global, words: &[&[u8]], admin: bool) -> Result<Option<
     }
 }
 
+#[inline(always)]
 fn read_form(alloc: Global, verb: Verb, operands: &[&[u8]]) -> Result<Option<Op>, AllocError>
     ensures op { IfOk result (λ op. op ≡ op_with verb (map (λ word. word.now) operands.now)) }
     ensures memory { OnErr result (verb ≡ Verb.Alloc) }
@@ -68,6 +70,7 @@ fn read_dsn(operands: &[&[u8]]) -> Option<Dsn>
     Dsn::parse(only_word(operands)?).ok()
 }
 
+#[inline(never)]
 fn read_used(operands: &[&[u8]]) -> Option<Op>
     ensures { result ≡ used_in (map (λ word. word.now) operands.now) }
 {
@@ -77,18 +80,21 @@ fn read_used(operands: &[&[u8]]) -> Option<Op>
     Some(Op::Used { dsn, tracks })
 }
 
+#[inline(never)]
 fn read_display(operands: &[&[u8]]) -> Option<Op>
     ensures { result ≡ op_with Verb.Display (map (λ word. word.now) operands.now) }
 {
     Some(Op::Display(read_target(only_word(operands)?)?))
 }
 
+#[inline(never)]
 fn read_vary_op(operands: &[&[u8]]) -> Option<Op>
     ensures { result ≡ op_with Verb.Vary (map (λ word. word.now) operands.now) }
 {
     read_vary(only_word(operands)?)
 }
 
+#[inline(never)]
 fn read_purge(operands: &[&[u8]]) -> Option<Op>
     ensures { result ≡ purge_in (map (λ word. word.now) operands.now) }
 {

@@ -6,16 +6,16 @@ ghost use Rattle.desk_common.specs.Bytes.{comma};
 ghost use Rattle.desk_common.specs.Words.{pieces_of};
 ghost use Rattle.sms_script.specs.Parts.{before_end, in_call, pieces_behind};
 
+use desk_common::are_same;
 use memchr::memchr;
 use sms_construct::{behind_front, in_parentheses};
 
-/// Whether the text is this word. A word whose length is known where this is called costs a compare or two.
+/// Whether the text is this word. A word whose length is known where this is called costs one compare a byte.
 #[inline(always)]
-#[tactic(auto, using(crate::proofs::KeyLemmas::front_is))]
 pub fn is_word(text: &[u8], word: &[u8]) -> bool
     ensures { result ≡ bytes_eq text.now word.now }
 {
-    text.len() == word.len() && text.strip_prefix(word).is_some()
+    are_same(text, word)
 }
 
 /// What is before this end, if it stands there.

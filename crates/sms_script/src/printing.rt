@@ -1,5 +1,5 @@
 //! Answers as text.
-ghost use Rattle.std.specs.Prelude.{◌≡◌, ◌++◌, ◌∷◌, [], flat_map, length, IfOk, OnOk, decimal};
+ghost use Rattle.std.specs.Prelude.{◌≡◌, ◌≤◌, ◌++◌, ◌∷◌, [], flat_map, length, IfOk, OnOk, decimal};
 ghost use Rattle.desk_common.specs.Bytes.{space_byte};
 ghost use Rattle.sms_script.specs.Script.{items_of};
 ghost use Rattle.sms_script.specs.AnswerText.{answer_lines, end_text, further_lines, head_text, indented, item_text};
@@ -10,16 +10,13 @@ use crate::granted_text::push_granted_text;
 use crate::indenting::push_indented;
 use crate::item::{Item, Phase, Script};
 use crate::pushing::{
-    MOST_BYTES, push_number_and_blank, push_word_and_blank, write_number_and_blank,
+    ROOM, push_number_and_blank, write_number_and_blank, write_word, write_word_and_blank,
 };
 use crate::reply_text::{push_reply, push_view};
 use crate::text_lines::{TextLines, empty_line, push_line};
 use desk_common::{Items, push_number};
 use sms_construct::{Answer, Reply, View};
 use std::alloc::{AllocError, Global};
-
-// The most bytes of three numbers, a blank behind each.
-const THREE_NUMBERS: usize = 3 * MOST_BYTES;
 
 /// The lines of an answer: its reply, and what stands behind that (docs/script.md, "Answers").
 pub fn answer_lines(alloc: Global, answer: &Answer) -> Result<TextLines, AllocError>
@@ -112,7 +109,6 @@ fn push_item(
     ensures { OnOk result (text.new.items ≡ text.old.items ++ item_text item.now answer.now) }
 {
     push_head(text, item, answer)?;
-    text.extend_from_slice(b"\n")?;
     push_further_text(alloc, text, &answer.reply)
 }
 
@@ -134,24 +130,40 @@ fn further_of(alloc: Global, reply: &Reply) -> Result<TextLines, AllocError>
     Ok(lines)
 }
 
+// The first line. That of a data set that was allocated has no figures of its own, and is written at once.
 fn push_head(text: &mut Vec<u8>, item: &Item, answer: &Answer) -> Result<(), AllocError>
-    ensures { OnOk result (text.new.items ≡ text.old.items ++ head_text item.now answer.now) }
+    ensures { OnOk result (text.new.items ≡ text.old.items ++ head_text item.now answer.now ++ 10 ∷ []) }
 {
-    push_places(text, item.line, answer)?;
-    push_word_and_blank(text, item.request.job.bytes())?;
-    push_number_and_blank(text, u64::from(item.request.number.get()))?;
-    push_reply(text, &answer.reply)
+    match &answer.reply {
+        Reply::Granted { .. } => push_places(text, item, answer, b"A00 GRANTED\n"),
+        reply => {
+            push_places(text, item, answer, b"")?;
+            push_reply(text, reply)?;
+            text.extend_from_slice(b"\n")
+        }
+    }
 }
 
-// The line of an item, and the places of its entry and of the first reply.
-fn push_places(text: &mut Vec<u8>, line: u32, answer: &Answer) -> Result<(), AllocError>
+// The line of an item, the places of its entry and of the first reply, the request, and what stands behind them.
+fn push_places(
+    text: &mut Vec<u8>,
+    item: &Item,
+    answer: &Answer,
+    behind: &[u8],
+) -> Result<(), AllocError>
+    requires { length behind.now ≤ 12 }
     ensures { OnOk result (text.new.items ≡ text.old.items ++
-        (decimal line ++ space_byte ∷ (decimal answer.now.place ++ space_byte ∷
-        (decimal answer.now.first ++ space_byte ∷ [])))) }
+        (decimal item.now.line ++ space_byte ∷ (decimal answer.now.place ++ space_byte ∷
+        (decimal answer.now.first ++ space_byte ∷ (item.now.request.job ++ space_byte ∷
+        (decimal item.now.request.number ++ space_byte ∷ behind.now)))))) }
 {
-    let mut room = [0u8; THREE_NUMBERS];
-    let first = write_number_and_blank(answer.first, &mut room, THREE_NUMBERS);
+    let mut room = [0u8; ROOM];
+    let behind = write_word(behind, &mut room, ROOM);
+    let number = u64::from(item.request.number.get());
+    let number = write_number_and_blank(number, &mut room, behind);
+    let job = write_word_and_blank(item.request.job.bytes(), &mut room, number);
+    let first = write_number_and_blank(answer.first, &mut room, job);
     let place = write_number_and_blank(answer.place, &mut room, first);
-    let start = write_number_and_blank(u64::from(line), &mut room, place);
+    let start = write_number_and_blank(u64::from(item.line), &mut room, place);
     text.extend_from_slice(&room[start..])
 }

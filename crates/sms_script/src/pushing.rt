@@ -1,7 +1,9 @@
 //! Words, numbers and names put behind a text.
-ghost use Rattle.std.specs.Prelude.{◌≡◌, ◌+◌, ◌≤◌, ◌++◌, ◌∷◌, [], OnOk, decimal, drop, length};
+ghost use Rattle.std.specs.Prelude.{◌≡◌, ◌+◌, ◌≤◌, ◌<◌, ◌++◌, ◌∷◌, [], OnOk, decimal, drop, length};
 ghost use Rattle.desk_common.specs.Bytes.{space_byte};
+ghost use Rattle.desk_common.specs.Limits.{most_name_bytes};
 ghost use Rattle.sms_script.specs.NameText.{name_text, status_text, target_text, value_text};
+ghost use Rattle.sms_script.specs.Inner.Rooms.{line_room, number_room};
 
 use desk_common::push_number;
 use dsn_mask::{Name, Short};
@@ -32,12 +34,48 @@ pub fn push_number_and_blank(text: &mut Vec<u8>, number: u64) -> Result<(), Allo
 /// Writes a number and a blank so that they end at this place; tells where they start. Any bytes may stand before that
 /// afterwards.
 pub fn write_number_and_blank(number: u64, room: &mut [u8], end: usize) -> usize
-    requires { (21 ≤ end) × (end ≤ length room.old) }
-    ensures start { (end ≤ result + 21) × (result ≤ end) }
+    requires { (number_room ≤ end) × (end ≤ length room.old) }
+    ensures start { (end ≤ result + number_room) × (result ≤ end) }
     ensures written { drop result room.new ≡ decimal number ++ space_byte ∷ drop end room.old }
 {
     room[end - 1] = b' ';
     write_digits(number, room, end - 1)
+}
+
+/// The bytes of a room in which a line is written from its end to its front. No line that is written so has more.
+pub const ROOM: usize = 112;
+
+/// Writes a word so that it ends at this place; tells where it starts. Any bytes may stand before that afterwards.
+#[inline(always)]
+pub fn write_word(word: &[u8], room: &mut [u8; ROOM], end: usize) -> usize
+    requires { (length word.now ≤ end) × (end ≤ line_room) }
+    ensures start { result + length word.now ≡ end }
+    ensures written { drop result room.new ≡ word.now ++ drop end room.old }
+{
+    let start = end - word.len();
+    room[start..end].copy_from_slice(word);
+    start
+}
+
+/// Writes a word and a blank in the same way.
+#[inline(always)]
+pub fn write_word_and_blank(word: &[u8], room: &mut [u8; ROOM], end: usize) -> usize
+    requires { (length word.now < end) × (end ≤ line_room) }
+    ensures start { result + length word.now + 1 ≡ end }
+    ensures written { drop result room.new ≡ word.now ++ space_byte ∷ drop end room.old }
+{
+    room[end - 1] = b' ';
+    write_word(word, room, end - 1)
+}
+
+/// Writes a number in the same way.
+#[inline(always)]
+pub fn write_number(number: u64, room: &mut [u8], end: usize) -> usize
+    requires { (20 ≤ end) × (end ≤ length room.old) }
+    ensures start { (end ≤ result + 20) × (result ≤ end) }
+    ensures written { drop result room.new ≡ decimal number ++ drop end room.old }
+{
+    write_digits(number, room, end)
 }
 
 /// A word and a number behind it.
@@ -50,7 +88,8 @@ pub fn push_counted(text: &mut Vec<u8>, words: &[u8], number: u64) -> Result<(),
 
 /// A name, or a hyphen for none.
 pub fn name_bytes(name: &Option<Name>) -> &[u8]
-    ensures { result.now ≡ name_text name.now }
+    ensures text { result.now ≡ name_text name.now }
+    ensures short { length result.now ≤ most_name_bytes }
 {
     match name {
         Some(name) => name.bytes(),

@@ -1,9 +1,8 @@
 -- What a classification comes to, as text (docs/tool.md, "Simulating a script").
 use Rattle.std.specs.Prelude.{ℕ, List, [], ◌∷◌, ◌++◌, codes, decimal, flat_map}
-use Rattle.std.specs.List.{join_with_byte}
 use Rattle.acs_tree.specs.Variables.{name_of}
+use Rattle.acs_tree.specs.Writing.{listed}
 use Rattle.acs_tree.specs.declared.values.Values.{Values}
-use Rattle.desk_common.specs.Bytes.{comma}
 use Rattle.sms_construct.specs.declared.trace.Trace.{Trace}
 use Rattle.sms_script.specs.NameText.{spaced, value_text}
 use Rattle.sms_script.specs.TraceText.{trace_lines}
@@ -11,15 +10,11 @@ use Rattle.desk_law.specs.Classification.{Classes, trace_of}
 use Rattle.sms_construct.specs.declared.stop.Stop.{Stop}
 use Rattle.sms_construct.specs.declared.stop.Stop.TheVariants as stops
 
--- the names of storage groups, with commas between
-abbrev pub groups_text : List (List ℕ) → List ℕ
-groups_text groups = join_with_byte comma groups
-
 -- the classes and the storage groups
 abbrev pub classes_text : Values → List ℕ
 classes_text values =
     spaced (codes "CLASSES" ∷ value_text values.dataclas ∷ value_text values.storclas
-    ∷ value_text values.mgmtclas ∷ groups_text values.groups ∷ [])
+    ∷ value_text values.mgmtclas ∷ listed values.groups ∷ [])
 
 -- how a classification ends
 abbrev pub outcome_text : Stop → Values → List ℕ

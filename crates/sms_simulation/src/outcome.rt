@@ -1,8 +1,9 @@
 //! What a classification comes to, as text.
 ghost use Rattle.std.specs.Prelude.{◌≡◌, ◌++◌, ◌∷◌, [], OnOk, flat_map};
 ghost use Rattle.desk_common.specs.Bytes.{comma};
+ghost use Rattle.acs_tree.specs.Writing.{listed};
 ghost use Rattle.sms_script.specs.TraceText.{trace_lines};
-ghost use Rattle.sms_simulation.specs.OutcomeText.{behind, classes_text, classified_text, groups_text, outcome_line};
+ghost use Rattle.sms_simulation.specs.OutcomeText.{behind, classes_text, classified_text, outcome_line};
 ghost use Rattle.sms_simulation.specs.OutcomeText.{outcome_text};
 
 use acs_tree::Values;
@@ -78,7 +79,7 @@ fn push_classes(text: &mut Vec<u8>, values: &Values) -> Result<(), AllocError>
 }
 
 fn push_groups(text: &mut Vec<u8>, groups: &[Name]) -> Result<(), AllocError>
-    ensures { OnOk result (text.new.items ≡ text.old.items ++ groups_text groups.now) }
+    ensures { OnOk result (text.new.items ≡ text.old.items ++ listed groups.now) }
 {
     match groups {
         [] => Ok(()),
@@ -89,7 +90,7 @@ fn push_groups(text: &mut Vec<u8>, groups: &[Name]) -> Result<(), AllocError>
 // The names with commas between.
 #[tactic(auto, using(crate::proofs::GroupLemmas::groups_parts))]
 fn push_names(text: &mut Vec<u8>, first: &Name, others: &[Name]) -> Result<(), AllocError>
-    ensures { OnOk result (text.new.items ≡ text.old.items ++ groups_text (first.now ∷ others.now)) }
+    ensures { OnOk result (text.new.items ≡ text.old.items ++ listed (first.now ∷ others.now)) }
 {
     text.extend_from_slice(first.bytes())?;
     push_others(text, others)?;

@@ -15,8 +15,6 @@ use Rattle.sqlite_trees.specs.View.{doubt}
 use Rattle.sqlite_value.proofs.OrderLemmas.{value_cmp-Int, value_cmp-Text}
 use Rattle.sqlite_value.specs.Order.{column, value_cmp}
 use Rattle.sms_construct.specs.declared.data_set.DataSet.{DataSet}
-use Rattle.sms_construct.specs.declared.target.Target.{Target}
-use Rattle.sms_construct.specs.declared.target.Target.TheVariants as targets
 use Rattle.sms_keeper.proofs.SortLemmas.{count_known, count_total, job_known, job_total, name_known, name_total}
 use Rattle.sms_keeper.proofs.SortLemmas.{request_known, request_total, status_total, target_known}
 use Rattle.sms_keeper.specs.Loading.{AreLoaded, SameDamage, StaysDamaged, by_count, by_job, by_name, by_request}
@@ -34,7 +32,6 @@ use Rattle.keeper_statements.proofs.OrderLemmas.{order_found, order_sorted}
 use Rattle.keeper_statements.specs.Order.{by_first, by_two, in_order, put_in}
 use Rattle.keeper_statements.specs.Presence.{none_there, present_in}
 use Rattle.keeper_statements.specs.Tables.{Serves, Tables, tables_in}
-use Rattle.sms_sqlite.specs.Inner.Columns.{kind_column, name_column}
 use Rattle.sms_sqlite.specs.Damage.{damage_in, first_unread, ordered, unread_in}
 use Rattle.sms_sqlite.specs.Reading.{IsMadeReady, NamesFault, ReadsAll}
 use Rattle.sms_sqlite.specs.Told.{IsReadable, damage_of, damage_seen, can_tell, is_shown, is_whole, tables_of, told_of}
@@ -95,23 +92,13 @@ replies_agree r s x y p q =
 decks_agree : (r s : Row) (x y : DeckRow) → deck_in r ≡ Some x → deck_in s ≡ Some y → by_first r s ≡ by_count x y
 decks_agree r s x y p q = numbers_at r s 0 x.count y.count (deck_numbered r x p) (deck_numbered s y q)
 
-rank_is : (t : Target) → kind_column t ≡ target_rank t
-rank_is (targets.Group group) = refl
-rank_is (targets.Volume volser) = refl
-rank_is (targets.Set dsn) = refl
-
-name_is : (t : Target) → name_column t ≡ target_name t
-name_is (targets.Group group) = refl
-name_is (targets.Volume volser) = refl
-name_is (targets.Set dsn) = refl
-
 statuses_agree : (r s : Row) (x y : StatusRow) → status_in r ≡ Some x → status_in s ≡ Some y → by_two r s ≡ by_target x y
 statuses_agree r s x y p q =
     let a = status_keyed r x p in
     let b = status_keyed s y q in
-    let kinds = numbers_at r s 0 (kind_column x.target) (kind_column y.target) a.0 b.0 in
-    let names = texts_at r s 1 (name_column x.target) (name_column y.target) a.1 b.1 in
-    (λ i. ordering_then (kinds i) (names i)) ∙ (λ i. ordering_then (nat_cmp (rank_is x.target i) (rank_is y.target i)) (text_cmp (name_is x.target i) (name_is y.target i)))
+    let kinds = numbers_at r s 0 (target_rank x.target) (target_rank y.target) a.0 b.0 in
+    let names = texts_at r s 1 (target_name x.target) (target_name y.target) a.1 b.1 in
+    λ i. ordering_then (kinds i) (names i)
 
 floors_agree : (r s : Row) (x y : Floor) → floor_in r ≡ Some x → floor_in s ≡ Some y → by_first r s ≡ by_job x y
 floors_agree r s x y p q = texts_at r s 0 x.job y.job (floor_named r x p).0 (floor_named s y q).0

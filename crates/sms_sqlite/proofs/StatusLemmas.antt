@@ -15,10 +15,10 @@ use Rattle.sms_construct.specs.declared.status.Status.{Status}
 use Rattle.sms_construct.specs.declared.status.Status.TheVariants as statuses
 use Rattle.sms_construct.specs.declared.target.Target.{Target}
 use Rattle.sms_construct.specs.declared.target.Target.TheVariants as targets
+use Rattle.sms_keeper.specs.Loading.{target_name, target_rank}
 use Rattle.sms_keeper.specs.Tables.{is_status_of, same_target, row_with}
 use Rattle.sms_keeper.specs.declared.status_row.StatusRow.{StatusRow}
-use Rattle.sms_sqlite.specs.Inner.Columns.{kind_column, name_column, status_column, row_of_status, with_statuses}
-use Rattle.sms_sqlite.specs.Inner.Columns.{AreReadable}
+use Rattle.sms_sqlite.specs.Inner.Columns.{AreReadable, status_column, row_of_status, with_statuses}
 use Rattle.sms_sqlite.specs.Values.{each_in, status_in, target_of, all_statuses}
 
 -- the test holds of the same targets alone
@@ -46,7 +46,7 @@ status_again statuses.DisNew = refl
 status_again statuses.QuiAll = refl
 status_again statuses.QuiNew = refl
 
-pub status_reads : (row : StatusRow) → target_of (kind_column row.target) (name_column row.target) ≡ Some row.target → status_in (row_of_status row) ≡ Some row
+pub status_reads : (row : StatusRow) → target_of (target_rank row.target) (target_name row.target) ≡ Some row.target → status_in (row_of_status row) ≡ Some row
 unfolding status_in
 status_reads row again = rw (again, status_again row.status) refl
 
@@ -151,23 +151,23 @@ module _ (target : Target) (status : Status) where
 pub none_added : (db : Database) → IsReady db → Makes (with_statuses []) db db
 none_added db ready = record { ready = ready; rest = rest_itself db; tables = ap (λ (l : List Row). let t : Tables = record (tables_in db) { statuses = l } in t) (sym (append-nil (tables_in db).statuses)) }
 
-readable_push : (rows : List StatusRow) (row : StatusRow) → AreReadable rows → target_of (kind_column row.target) (name_column row.target) ≡ Some row.target → AreReadable (rows ++ row ∷ [])
+readable_push : (rows : List StatusRow) (row : StatusRow) → AreReadable rows → target_of (target_rank row.target) (target_name row.target) ≡ Some row.target → AreReadable (rows ++ row ∷ [])
 readable_push [] row all one = (one, tt)
 readable_push (r ∷ rows) row all one = (all.0, readable_push rows row all.1 one)
 
 next_rows : (rows : List StatusRow) (i : ℕ) (row : StatusRow) → i < length rows → row ≡ get_or rows i row → take (i + 1) rows ≡ take i rows ++ row ∷ []
 next_rows rows i row low is = (take_at_read rows i row low).1 ∙ ap (λ (r : StatusRow). take i rows ++ r ∷ []) (sym is)
 
-pub one_readable : (rows : List StatusRow) (i : ℕ) (row : StatusRow) → i < length rows → row ≡ get_or rows i row → AreReadable (take i rows) → target_of (kind_column row.target) (name_column row.target) ≡ Some row.target
+pub one_readable : (rows : List StatusRow) (i : ℕ) (row : StatusRow) → i < length rows → row ≡ get_or rows i row → AreReadable (take i rows) → target_of (target_rank row.target) (target_name row.target) ≡ Some row.target
     → AreReadable (take (i + 1) rows)
 one_readable rows i row low is all one = subst AreReadable (sym (next_rows rows i row low is)) (readable_push (take i rows) row all one)
 
 pub one_added : (rows : List StatusRow) (i : ℕ) (row : StatusRow) (a b c : Database) → i < length rows → row ≡ get_or rows i row → Makes (with_statuses (take i rows)) a b
-    → Makes (with_status (pos (kind_column row.target)) (name_column row.target) (pos (status_column row.status))) b c → Makes (with_statuses (take (i + 1) rows)) a c
+    → Makes (with_status (pos (target_rank row.target)) (target_name row.target) (pos (status_column row.status))) b c → Makes (with_statuses (take (i + 1) rows)) a c
 one_added rows i row a b c low is one two = record {
   ready = two.ready;
   rest = rest_then a b c one.rest two.rest;
-  tables = two.tables ∙ ap (with_status (pos (kind_column row.target)) (name_column row.target) (pos (status_column row.status))) one.tables
+  tables = two.tables ∙ ap (with_status (pos (target_rank row.target)) (target_name row.target) (pos (status_column row.status))) one.tables
       ∙ ap (λ (l : List Row). let t : Tables = record (tables_in a) { statuses = l } in t)
       (append_assoc (tables_in a).statuses (map row_of_status (take i rows)) (row_of_status row ∷ [])
       ∙ ap (λ (l : List Row). (tables_in a).statuses ++ l) (sym (map-append row_of_status (take i rows) (row ∷ [])) ∙ ap (map row_of_status) (sym (next_rows rows i row low is))));

@@ -18,6 +18,7 @@ use Rattle.sms_construct.specs.declared.data_set.DataSet.{DataSet}
 use Rattle.sms_construct.specs.declared.request.Request.{Request}
 use Rattle.sms_construct.specs.declared.target.Target.{Target}
 use Rattle.sms_construct.specs.declared.target.Target.TheVariants as targets
+use Rattle.sms_keeper.specs.Loading.{target_name, target_rank}
 use Rattle.sms_keeper.specs.Tables.{is_named, is_reply_below, is_floor_of, is_below_floor, is_status_of, same_target}
 use Rattle.sms_keeper.specs.declared.deck_row.DeckRow.{DeckRow}
 use Rattle.sms_keeper.specs.declared.floor.Floor.{Floor}
@@ -29,7 +30,6 @@ use Rattle.sms_records.specs.Replies.{reply_form}
 use Rattle.sms_records.specs.Requests.{request_form}
 use Rattle.sms_records.specs.Sets.{data_set_form}
 use Rattle.keeper_statements.specs.Tests.{is_equal, is_less, is_greater, is_of, is_status, is_below, is_above}
-use Rattle.sms_sqlite.specs.Inner.Columns.{kind_column, name_column}
 use Rattle.sms_sqlite.specs.Values.{text_in, bytes_in, number_in, set_in, reply_in, deck_in, status_in, floor_in}
 use Rattle.sms_sqlite.specs.Values.{target_of, all_statuses}
 
@@ -151,13 +151,13 @@ option_is : {A B : Type 0} (f : A → B) (o : Option A) (y : B) → option_map f
 option_is f (Some x) y e = (x, refl, some_is (f x) y e)
 option_is f None y e = absurd cc
 
-target_is : (kind : ℕ) (name : List ℕ) (target : Target) → target_of kind name ≡ Some target → (kind ≡ kind_column target) × (name ≡ name_column target)
+target_is : (kind : ℕ) (name : List ℕ) (target : Target) → target_of kind name ≡ Some target → (kind ≡ target_rank target) × (name ≡ target_name target)
 target_is zero name target e =
     let o = option_is targets.Group (name_of name) target e in
-    (ap kind_column o.2, name_is name o.0 o.1 ∙ ap name_column o.2)
+    (ap target_rank o.2, name_is name o.0 o.1 ∙ ap target_name o.2)
 target_is (suc zero) name target e =
     let o = option_is targets.Volume (volser_of name) target e in
-    (ap kind_column o.2, volser_is name o.0 o.1 ∙ ap name_column o.2)
+    (ap target_rank o.2, volser_is name o.0 o.1 ∙ ap target_name o.2)
 target_is (suc (suc kind)) name target e = absurd cc
 
 -- the steps by which a status is read
@@ -179,7 +179,7 @@ status_key row target x e =
     let f = bind_some (slice_get all_statuses d.0) (λ status. Some (record { target = target; status = status })) x d.2 in
     ap (λ (r : StatusRow). r.target) (some_is (record { target = target; status = f.0 }) x f.2)
 
-pub status_keyed : (row : Row) (x : StatusRow) → status_in row ≡ Some x → (column row 0 ≡ Int (pos (kind_column x.target))) × (column row 1 ≡ Text (name_column x.target))
+pub status_keyed : (row : Row) (x : StatusRow) → status_in row ≡ Some x → (column row 0 ≡ Int (pos (target_rank x.target))) × (column row 1 ≡ Text (target_name x.target))
 unfolding status_in
 status_keyed row x e =
     let a = bind_some (number_in (column row 0)) (status_1 row) x e in
@@ -187,8 +187,8 @@ status_keyed row x e =
     let c = bind_some (target_of a.0 b.0) (status_3 row) x b.2 in
     let is = status_key row c.0 x c.2 in
     let key = target_is a.0 b.0 c.0 c.1 in (
-      number_is (column row 0) a.0 a.1 ∙ ap (λ n. Int (pos n)) (key.0 ∙ ap kind_column is),
-      text_is (column row 1) b.0 b.1 ∙ ap Text (key.1 ∙ ap name_column is),
+      number_is (column row 0) a.0 a.1 ∙ ap (λ n. Int (pos n)) (key.0 ∙ ap target_rank is),
+      text_is (column row 1) b.0 b.1 ∙ ap Text (key.1 ∙ ap target_name is),
     )
 
 pub floor_named : (row : Row) (x : Floor) → floor_in row ≡ Some x → (column row 0 ≡ Text x.job) × (column row 1 ≡ Int (pos x.floor))
@@ -221,7 +221,7 @@ above_alike job number row x e =
     let at = floor_named row x e in
     ap₂ (λ a b. is_equal a (Text job) && is_greater b (Int (pos number))) at.0 at.1 ∙ ap₂ (λ a b. a && b) (equal-Text x.job job) (greater-Int x.floor number)
 
-keys_same : (a b : Target) → (nat_eq (kind_column a) (kind_column b) && bytes_eq (name_column a) (name_column b)) ≡ same_target a b
+keys_same : (a b : Target) → (nat_eq (target_rank a) (target_rank b) && bytes_eq (target_name a) (target_name b)) ≡ same_target a b
 keys_same (targets.Group a) (targets.Group b) = refl
 keys_same (targets.Group a) (targets.Volume b) = refl
 keys_same (targets.Group a) (targets.Set b) = refl
@@ -232,11 +232,11 @@ keys_same (targets.Set a) (targets.Group b) = refl
 keys_same (targets.Set a) (targets.Volume b) = refl
 keys_same (targets.Set a) (targets.Set b) = refl
 
-pub status_alike : (target : Target) (row : Row) (x : StatusRow) → status_in row ≡ Some x → is_status (pos (kind_column target)) (name_column target) row ≡ is_status_of target x
+pub status_alike : (target : Target) (row : Row) (x : StatusRow) → status_in row ≡ Some x → is_status (pos (target_rank target)) (target_name target) row ≡ is_status_of target x
 status_alike target row x e =
     let at = status_keyed row x e in
-    ap₂ (λ a b. is_equal a (Int (pos (kind_column target))) && is_equal b (Text (name_column target))) at.0 at.1
-    ∙ ap₂ (λ a b. a && b) (equal-Int (kind_column x.target) (kind_column target)) (equal-Text (name_column x.target) (name_column target))
+    ap₂ (λ a b. is_equal a (Int (pos (target_rank target))) && is_equal b (Text (target_name target))) at.0 at.1
+    ∙ ap₂ (λ a b. a && b) (equal-Int (target_rank x.target) (target_rank target)) (equal-Text (target_name x.target) (target_name target))
     ∙ keys_same x.target target
 
 pub int_tie : (a b : ℕ) → is_eq (value_cmp (Int (pos a)) (Int (pos b))) ≡ nat_eq a b

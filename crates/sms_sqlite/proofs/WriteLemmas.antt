@@ -12,6 +12,7 @@ use Rattle.sms_construct.specs.Quantities.{IsRequestNumber, request_number_of}
 use Rattle.sms_construct.specs.declared.data_set.DataSet.{DataSet}
 use Rattle.sms_construct.specs.declared.status.Status.{Status}
 use Rattle.sms_construct.specs.declared.target.Target.{Target}
+use Rattle.sms_keeper.specs.Loading.{target_name, target_rank}
 use Rattle.sms_keeper.specs.Tables.{is_named, is_floor_of, is_reply_below, put_set, put_floor, without_set, row_with}
 use Rattle.sms_keeper.specs.Tables.{is_status_of, row_of}
 use Rattle.sms_keeper.specs.declared.change.Change.{Change}
@@ -28,7 +29,7 @@ use Rattle.keeper_statements.specs.Changes as tables
 use Rattle.keeper_statements.specs.Tables.{Tables}
 use Rattle.keeper_statements.specs.Tests.{set_row, reply_row, deck_row, floor_row, is_of, is_status, is_below, without}
 use Rattle.keeper_statements.specs.Tests.{HasFound}
-use Rattle.sms_sqlite.specs.Inner.Columns.{kind_column, name_column, status_column, with_statuses, AreReadable}
+use Rattle.sms_sqlite.specs.Inner.Columns.{status_column, with_statuses, AreReadable}
 use Rattle.sms_sqlite.specs.Values.{each_in, set_in, reply_in, status_in, floor_in, target_of}
 use Rattle.sms_sqlite.proofs.DeckLemmas.{deck_put}
 use Rattle.sms_sqlite.proofs.ReadLemmas.{each_push, each_filter, joins}
@@ -165,10 +166,10 @@ pub replaces_statuses : (new : List StatusRow) → AreReadable new → (t : Tabl
 replaces_statuses new again t rows read = exactly _ _ (record { sets = read.sets; replies = read.replies; decks = read.decks; statuses = statuses_read new again; floors = read.floors })
 
 -- no status is the target's: dropping changes nothing
-none_set_at : (target : Target) (status : Status) (t : Tables) (rows : Rows) → HasFound (is_status (pos (kind_column target)) (name_column target)) t.statuses 0 → AreRead t rows
-    → AreLike (tables.without_status (pos (kind_column target)) (name_column target) t) (record rows { statuses = map (row_with target status) rows.statuses })
+none_set_at : (target : Target) (status : Status) (t : Tables) (rows : Rows) → HasFound (is_status (pos (target_rank target)) (target_name target)) t.statuses 0 → AreRead t rows
+    → AreLike (tables.without_status (pos (target_rank target)) (target_name target) t) (record rows { statuses = map (row_with target status) rows.statuses })
 none_set_at target status t rows found read =
-    let test = is_status (pos (kind_column target)) (name_column target) in
+    let test = is_status (pos (target_rank target)) (target_name target) in
     let none : filter (is_status_of target) rows.statuses ≡ [] =
     none_read (filter test t.statuses) (filter (is_status_of target) rows.statuses) (found.none refl) (each_filter status_in test (is_status_of target) (status_alike target) t.statuses rows.statuses read.statuses) in
     record {
@@ -203,12 +204,12 @@ none_set_at target status t rows found read =
             rw is (ap (λ (l : List StatusRow). x ∷ l) (rest less))
 
 -- one status is the target's: it is dropped, and the new one added
-one_set_at : (target : Target) (status : Status) (t : Tables) (rows : Rows) → HasFound (is_status (pos (kind_column target)) (name_column target)) t.statuses 1
-    → target_of (kind_column target) (name_column target) ≡ Some target → AreRead t rows
-    → AreLike (tables.with_status (pos (kind_column target)) (name_column target) (pos (status_column status)) (tables.without_status (pos (kind_column target)) (name_column target) t))
+one_set_at : (target : Target) (status : Status) (t : Tables) (rows : Rows) → HasFound (is_status (pos (target_rank target)) (target_name target)) t.statuses 1
+    → target_of (target_rank target) (target_name target) ≡ Some target → AreRead t rows
+    → AreLike (tables.with_status (pos (target_rank target)) (target_name target) (pos (status_column status)) (tables.without_status (pos (target_rank target)) (target_name target) t))
     (record rows { statuses = map (row_with target status) rows.statuses })
 one_set_at target status t rows found again read =
-    let test = is_status (pos (kind_column target)) (name_column target) in
+    let test = is_status (pos (target_rank target)) (target_name target) in
     let new : StatusRow = record { target = target; status = status } in
     let one = found.one refl in
     let p = joins (status_in one.0) (Some []) (filter (is_status_of target) rows.statuses)
@@ -233,22 +234,22 @@ one_set_at target status t rows found again read =
       };
     }
 
-pub sets_none : (target : Target) (status : Status) (kind : ℤ) (name : List ℕ) (count : ℕ) → kind ≡ pos (kind_column target) → name ≡ name_column target → count ≡ 0 → (t : Tables) (rows : Rows)
+pub sets_none : (target : Target) (status : Status) (kind : ℤ) (name : List ℕ) (count : ℕ) → kind ≡ pos (target_rank target) → name ≡ target_name target → count ≡ 0 → (t : Tables) (rows : Rows)
     → HasFound (is_status kind name) t.statuses count → AreRead t rows
     → AreLike (tables.without_status kind name t) (record rows { statuses = map (row_with target status) rows.statuses })
 sets_none target status kind name count p q r t rows found read =
     let after = record rows { statuses = map (row_with target status) rows.statuses } in
-    subst (λ k. AreLike (tables.without_status k name t) after) (sym p) (subst (λ n. AreLike (tables.without_status (pos (kind_column target)) n t) after) (sym q)
+    subst (λ k. AreLike (tables.without_status k name t) after) (sym p) (subst (λ n. AreLike (tables.without_status (pos (target_rank target)) n t) after) (sym q)
     (none_set_at target status t rows
-    (subst (λ k. HasFound (is_status k (name_column target)) t.statuses 0) p (subst (λ n. HasFound (is_status kind n) t.statuses 0) q (subst (HasFound (is_status kind name) t.statuses) r found))) read))
+    (subst (λ k. HasFound (is_status k (target_name target)) t.statuses 0) p (subst (λ n. HasFound (is_status kind n) t.statuses 0) q (subst (HasFound (is_status kind name) t.statuses) r found))) read))
 
-pub sets_one : (target : Target) (status : Status) (kind : ℤ) (name : List ℕ) (count : ℕ) → kind ≡ pos (kind_column target) → name ≡ name_column target → count ≡ 1 → (t : Tables) (rows : Rows)
-    → HasFound (is_status kind name) t.statuses count → target_of (kind_column target) (name_column target) ≡ Some target → AreRead t rows
-    → AreLike (tables.with_status (pos (kind_column target)) (name_column target) (pos (status_column status)) (tables.without_status kind name t))
+pub sets_one : (target : Target) (status : Status) (kind : ℤ) (name : List ℕ) (count : ℕ) → kind ≡ pos (target_rank target) → name ≡ target_name target → count ≡ 1 → (t : Tables) (rows : Rows)
+    → HasFound (is_status kind name) t.statuses count → target_of (target_rank target) (target_name target) ≡ Some target → AreRead t rows
+    → AreLike (tables.with_status (pos (target_rank target)) (target_name target) (pos (status_column status)) (tables.without_status kind name t))
     (record rows { statuses = map (row_with target status) rows.statuses })
 sets_one target status kind name count p q r t rows found again read =
     let after = record rows { statuses = map (row_with target status) rows.statuses } in
-    let new = tables.with_status (pos (kind_column target)) (name_column target) (pos (status_column status)) in
-    subst (λ k. AreLike (new (tables.without_status k name t)) after) (sym p) (subst (λ n. AreLike (new (tables.without_status (pos (kind_column target)) n t)) after) (sym q)
+    let new = tables.with_status (pos (target_rank target)) (target_name target) (pos (status_column status)) in
+    subst (λ k. AreLike (new (tables.without_status k name t)) after) (sym p) (subst (λ n. AreLike (new (tables.without_status (pos (target_rank target)) n t)) after) (sym q)
     (one_set_at target status t rows
-    (subst (λ k. HasFound (is_status k (name_column target)) t.statuses 1) p (subst (λ n. HasFound (is_status kind n) t.statuses 1) q (subst (HasFound (is_status kind name) t.statuses) r found))) again read))
+    (subst (λ k. HasFound (is_status k (target_name target)) t.statuses 1) p (subst (λ n. HasFound (is_status kind n) t.statuses 1) q (subst (HasFound (is_status kind name) t.statuses) r found))) again read))

@@ -3,11 +3,12 @@ ghost use Rattle.std.specs.Prelude.{◌≡◌, OnOk, Some, map, pos, true};
 ghost use Rattle.std.specs.List.{list_all};
 ghost use Rattle.sqlite.specs.Held.{state};
 ghost use Rattle.sqlite.specs.State.{Survives};
+ghost use Rattle.sms_keeper.specs.Loading.{target_name, target_rank};
 ghost use Rattle.sms_keeper.specs.Suits.{has_status};
 ghost use Rattle.sms_keeper.specs.Tables.{row_with};
 ghost use Rattle.keeper_statements.specs.Changes.{with_status};
 ghost use Rattle.keeper_statements.specs.Steps.{MayMake, MayStay};
-ghost use Rattle.sms_sqlite.specs.Inner.Columns.{AreReadable, kind_column, name_column, status_column, with_statuses};
+ghost use Rattle.sms_sqlite.specs.Inner.Columns.{AreReadable, status_column, with_statuses};
 ghost use Rattle.sms_sqlite.specs.Values.{target_of};
 ghost use Rattle.sms_sqlite.specs.Writing.{MayLead};
 
@@ -20,9 +21,9 @@ use sqlite::{Alter, Error, Transaction};
 #[tactic(auto, using(crate::proofs::WriteLemmas::group_again, crate::proofs::WriteLemmas::volume_again))]
 fn key_of(target: &Target) -> (i64, &[u8])
     requires { has_status target.now ≡ true }
-    ensures kind { result.0 ≡ pos (kind_column target.now) }
-    ensures name { result.1.now ≡ name_column target.now }
-    ensures read { target_of (kind_column target.now) (name_column target.now) ≡ Some target.now }
+    ensures kind { result.0 ≡ pos (target_rank target.now) }
+    ensures name { result.1.now ≡ target_name target.now }
+    ensures read { target_of (target_rank target.now) (target_name target.now) ≡ Some target.now }
 {
     match target {
         Target::Group(group) => (0, group.bytes()),
@@ -53,9 +54,9 @@ fn put_status<S: Alter>(
 ) -> Result<(), Error>
     requires { has_status target.now ≡ true }
     ensures same_reference { tx.new.conn.ghost_name ≡ tx.old.conn.ghost_name }
-    ensures made { MayMake (with_status (pos (kind_column target.now)) (name_column target.now)
+    ensures made { MayMake (with_status (pos (target_rank target.now)) (target_name target.now)
         (pos (status_column status))) (state S.Store tx.old.conn.now) (state S.Store tx.new.conn.now) result }
-    ensures read { target_of (kind_column target.now) (name_column target.now) ≡ Some target.now }
+    ensures read { target_of (target_rank target.now) (target_name target.now) ≡ Some target.now }
     ensures stays { MayStay (state S.Store tx.old.conn.now) (state S.Store tx.new.conn.now) result }
     ensures survives { Survives (state S.Store tx.old.conn.now) (state S.Store tx.new.conn.now) (λ _. ⊥) }
 {

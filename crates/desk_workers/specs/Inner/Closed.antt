@@ -3,7 +3,7 @@ use Rattle.std.specs.Prelude.{ℕ, ◌≡◌, ◌<◌, List, ◌++◌, length}
 use Rattle.std.specs.List.{AllByRecursion}
 use Rattle.sms_construct.specs.declared.entry.Entry.{Entry}
 use Rattle.desk_law.specs.State.{Opening}
-use Rattle.desk_plan.specs.Sharing.{picked}
+use Rattle.desk_plan.specs.Sharing.{those}
 
 -- a number that one of so many workers has
 abbrev pub Signs : ℕ → (ℕ → ℕ) → ℕ → Type 0
@@ -19,4 +19,4 @@ pub record HasClosed (count : ℕ) (number : ℕ → ℕ) (owned : ℕ → List 
   pub grown : js' ≡ js ++ added
   pub counted : length added ≡ length ns
   pub signs : AllByRecursion (Signs count number) ns
-  pub own : (i : ℕ) → i < count → picked (number i) added ns ≡ owned i
+  pub own : (i : ℕ) → i < count → those (number i) ns added ≡ owned i

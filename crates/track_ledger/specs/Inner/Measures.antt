@@ -1,6 +1,6 @@
 -- The gaps of a part of a volume by the unit in which they are granted, and which of them are the longest.
 use Rattle.std.specs.Prelude.{ℕ, ◌≡◌, ◌^◌, max, Bool, List, [], ◌∷◌, map, if◌then◌else◌}
-use Rattle.desk_common.specs.Limits.{border}
+use Rattle.desk_common.specs.Limits.{border, tracks_in_cylinder}
 use Rattle.sms_construct.specs.Quantities.{tracks_in_managed}
 use Rattle.track_ledger.specs.declared.measure.Longest.{Longest}
 use Rattle.track_ledger.specs.declared.measure.Measure.{Measure}
@@ -11,7 +11,7 @@ use Rattle.track_ledger.specs.Gaps.{clip, unit_gaps, whole_units}
 -- the tracks of a unit
 abbrev pub unit_by : Measure → ℕ
 unit_by Tracks = 1
-unit_by Cylinders = 15
+unit_by Cylinders = tracks_in_cylinder
 unit_by Managed = tracks_in_managed
 
 -- the first track of the part

@@ -1,4 +1,4 @@
-use Rattle.std.proofs.Common.{◌≤◌, ◌<◌, ◌++◌, ◌∷◌, ◌∙◌, [], suc, length, take, drop, vec_capacity, sym, ap}
+use Rattle.std.proofs.Common.{◌≡◌, ◌≤◌, ◌<◌, ◌++◌, ◌∷◌, ◌∙◌, [], suc, length, take, drop, vec_capacity, sym, ap}
 use Rattle.std.proofs.Common.{subst, rules, arith}
 use Rattle.std.proofs.lemmas.List.Elements.{All-same}
 use Rattle.std.proofs.lemmas.Bool.Decides.{nat_tests}
@@ -14,9 +14,15 @@ use Rattle.ordered_index.proofs.PartLemmas.{take-parts}
 use Rattle.ordered_index.proofs.SortedLemmas.{take-fewer}
 use Rattle.ordered_index.proofs.index.take_only.Goals as goal
 
-pub take_from-value-requires : goal.take_from-value-requires
-take_from-value-requires g c =
-    record { sorted = subst (λ v. AreRows g.K.Ord.cmp v.items) (sym c.remove-chunk.ensures.value) (chunk-sorted g.K.Ord.cmp c.args.chunks.now.items c.args.place c.remove-chunk.result c.requires.is.at c.requires.sorted) }
+pub place_of-row-requires : goal.place_of-row-requires
+place_of-row-requires g c =
+    let sorted = subst (λ v. AreRows g.K.Ord.cmp v.items) (sym c.remove-chunk.ensures.value) (chunk-sorted g.K.Ord.cmp c.args.chunks.now.items c.args.place c.remove-chunk.result c.requires.is.at c.requires.sorted) in
+    let items : c.remove-chunk.result.items ≡ c.deref.result.now = search rules in
+    subst (λ l. AreRows g.K.Ord.cmp l) items sorted
+
+pub take_from-value-requires-clause-sorted : goal.take_from-value-requires-clause-sorted
+take_from-value-requires-clause-sorted g c =
+    subst (λ v. AreRows g.K.Ord.cmp v.items) (sym c.remove-chunk.ensures.value) (chunk-sorted g.K.Ord.cmp c.args.chunks.now.items c.args.place c.remove-chunk.result c.requires.is.at c.requires.sorted)
 
 pub returns-then-not-is_empty-clause-value : goal.returns-then-not-is_empty-clause-value
 returns-then-not-is_empty-clause-value g c =

@@ -1,9 +1,20 @@
-use Rattle.std.proofs.Common.{◌≡◌, ◌+◌, ◌++◌, ◌∙◌, length, true, false, sym, ap, rules, arith}
+use Rattle.std.proofs.Common.{◌≡◌, ◌+◌, ◌++◌, ◌∙◌, length, true, false, sym, ap, subst, rules, arith}
 use Rattle.ordered_index.specs.Chunks.{starts_by}
+use Rattle.ordered_index.specs.Rows.{AreRows}
 use Rattle.ordered_index.proofs.ChunkLemmas.{put-past, put-short, sorted-left, sorted-right, value-past, value-short}
 use Rattle.ordered_index.proofs.EitherLemmas.{front-before, back-behind}
 use Rattle.ordered_index.proofs.SortedLemmas.{put-more, put-one-more}
 use Rattle.ordered_index.proofs.moving.put_in_either.Goals as goal
+
+pub place_of-place-requires : goal.place_of-place-requires
+place_of-place-requires g c =
+    let items : c.args.behind.now.items ≡ c.deref-then-starts.result.now = search rules in
+    subst (λ l. AreRows g.K.Ord.cmp l) items (sorted-right g.K.Ord.cmp c.args.front.now.items c.args.behind.now.items c.requires.sorted)
+
+pub place_of-place-requires-else-starts : goal.place_of-place-requires-else-starts
+place_of-place-requires-else-starts g c =
+    let items : c.args.front.now.items ≡ c.deref-else-starts.result.now = search rules in
+    subst (λ l. AreRows g.K.Ord.cmp l) items (sorted-left g.K.Ord.cmp c.args.front.now.items c.args.behind.now.items c.requires.sorted)
 
 pub put_in-requires-clause-sorted : goal.put_in-requires-clause-sorted
 put_in-requires-clause-sorted g c = sorted-right g.K.Ord.cmp c.args.front.now.items c.args.behind.now.items c.requires.sorted
