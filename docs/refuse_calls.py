@@ -436,7 +436,7 @@ def try_serve(program, name, messages):
                     # a message may be refused before it was read whole, and the system then breaks the link
                     good = (status, text) == wanted[:2] and are_heard(heard, wanted[2])
                 else:
-                    good = status in (0, 4, 7, 8, 9) and are_heard(heard, wanted[2])
+                    good = status in (0, 4, 7, 8, 9) and (status != 7 or text == b"") and are_heard(heard, wanted[2])
                 check(good, f"{name}: {refusal}: status {status}, {text!r}, {heard!r}")
             count += refusal.was_made()
         print(f"{name}: {kind}, {how}: {count} runs", flush=True)

@@ -92,7 +92,8 @@ impl RepliesSeen {
     }
 }
 
-// Whether the front of such a reply stands anywhere in the text. Each has the letter K, which most texts don't have.
+// Whether the front of such a reply stands anywhere in the text. Each has the letter K;
+// where the text has none, neither is looked for.
 fn has_either(text: &[u8]) -> bool {
     memchr(b'K', text).is_some()
         && (memmem::find(text, REFUSAL).is_some() || memmem::find(text, FAULT).is_some())

@@ -1,15 +1,9 @@
 //! The bytes that names and texts are made of.
 ghost use Rattle.std.specs.Prelude.{◌≡◌, true};
 ghost use Rattle.std.specs.List.{AllPass, list_all};
-ghost use Rattle.dsn_mask.specs.Name.{is_digit, is_initial, is_name_byte, is_short_byte, is_literal_byte};
+ghost use Rattle.dsn_mask.specs.Name.{is_initial, is_name_byte, is_short_byte, is_literal_byte};
 ghost use Rattle.dsn_mask.specs.DataSetName.{is_qualifier_byte};
 ghost use Rattle.dsn_mask.specs.MaskText.{is_mask_byte};
-
-pub fn is_digit(byte: u8) -> bool
-    ensures { result ≡ is_digit byte }
-{
-    byte.is_ascii_digit()
-}
 
 pub fn is_initial(byte: u8) -> bool
     ensures { result ≡ is_initial byte }

@@ -21,6 +21,7 @@ pub fn order<const N: usize>(a: &[u8; N], b: &[u8; N]) -> Ordering
         }
         place += 8;
     }
+    // Behind the whole words most texts are filled up alike.
     if are_same(&one[place..], &other[place..]) {
         return Ordering::Equal;
     }

@@ -92,7 +92,7 @@ fn are_in_form(bytes: &[u8]) -> bool
     }
 }
 
-/// The first fault of the qualifiers. Most names have none, and aren't walked over twice.
+/// The first fault of the qualifiers, if there is one. A name in form is walked over once.
 pub fn first_fault(bytes: &[u8]) -> Option<NameErr>
     requires { length bytes.now ≤ most_value_bytes }
     ensures { MatchOption result (list_all is_qualifier (qualifiers_of bytes.now) ≡ true)

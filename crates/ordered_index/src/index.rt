@@ -21,7 +21,7 @@ use std::marker::Model;
 /// Rows of keys and values in the order of the keys, in chunks of at most 64 rows that are searched by halving.
 /// Room is taken ahead, and then a row is put without memory. A removal takes none either, and joins the chunk with
 /// its neighbours where they have few rows together, so that memory falls with the rows. A row that is put or
-/// taken behind a `get` of its key is found without another search.
+/// taken straight behind a `get` of its key is found without another search, unless it is the first of a chunk.
 #[derive(Drop)]
 pub struct OrderedIndex<K: Ord, V> {
     alloc: Global,

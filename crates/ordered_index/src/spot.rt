@@ -42,7 +42,7 @@ pub fn spot_near<K: Ord, V>(chunks: &[Vec<(K, V)>], near: Spot, key: &K) -> Spot
     }
 }
 
-// Whether the key belongs at the spot by the row before it and the one behind.
+// Whether the rows beside the spot show that the key belongs there. At the front of a chunk they never do.
 fn is_spot<K: Ord, V>(chunks: &[Vec<(K, V)>], spot: Spot, key: &K) -> bool
     requires filled { AreFilled chunks.now }
     requires sorted { AreRows K.cmp (rows_of chunks.now) }
@@ -54,7 +54,8 @@ fn is_spot<K: Ord, V>(chunks: &[Vec<(K, V)>], spot: Spot, key: &K) -> bool
     is_before_rest(chunks, spot, key)
 }
 
-// Whether the row at the spot, or where its chunk ends there the next chunk, doesn't stand before the key.
+// Whether the row at the spot doesn't stand before the key, or, where its chunk ends there, the next one starts
+// behind the key.
 fn is_before_rest<K: Ord, V>(chunks: &[Vec<(K, V)>], spot: Spot, key: &K) -> bool
     requires inside { spot.chunk < length chunks.now }
     requires filled { AreFilled chunks.now }

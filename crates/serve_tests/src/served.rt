@@ -48,6 +48,15 @@ static ACTIVATED_AND_GRANTED: &[u8] = b"HTTP/1.1 200 OK\r\nContent-Type: applica
     Connection: keep-alive\r\n\r\n\
     {\"code\":\"A00\",\"first\":2,\"lines\":[\"A00 GRANTED\",\"CLASS - SC1 - SG1\",\"EXTENT VOL001 0 10\"],\"place\":2}";
 
+/// The heads of four activations whose decks have 250,000 bytes.
+#[rattlefmt::skip]
+static LONG_DECKS: [&[u8]; 4] = [
+    b"POST /admin/1/activate HTTP/1.1\r\nContent-Length: 250000\r\n\r\n",
+    b"POST /admin/2/activate HTTP/1.1\r\nContent-Length: 250000\r\n\r\n",
+    b"POST /admin/3/activate HTTP/1.1\r\nContent-Length: 250000\r\n\r\n",
+    b"POST /admin/4/activate HTTP/1.1\r\nContent-Length: 250000\r\n\r\n",
+];
+
 /// Words, and whether they ask to serve the desk.
 #[rattlefmt::skip]
 static WORDS: [(&[&str], bool); 21] = [
@@ -255,6 +264,20 @@ fn each_end_of_a_connection_has_its_line(rt: HostRuntime) -> Result<(), Fail> {
     assert!(rt; ends_so(&rt, alloc, read, b"CONN 1 1 READ FAULT\nEND 1 1\n")?);
     let unwritten = link(alloc, CUT_BEHIND, 4096, &[], &[1])?;
     assert!(rt; ends_so(&rt, alloc, unwritten, b"CONN 1 1 WRITE FAULT\nEND 1 1\n")?);
+    Ok(())
+}
+
+#[test]
+fn a_connection_may_bring_a_million_pieces(rt: HostRuntime) -> Result<(), Fail> {
+    let alloc = rt.alloc();
+    let deck = vec![in alloc; b' '; 250_000]?;
+    let mut bytes = Vec::new(alloc);
+    for head in &LONG_DECKS {
+        bytes.extend_from_slice(head)?;
+        bytes.extend_from_slice(&deck)?;
+    }
+    let slow = link(alloc, &bytes, 1, &[], &[])?;
+    assert!(rt; ends_so(&rt, alloc, slow, b"CONN 1 1 TURNS\nEND 3 1\n")?);
     Ok(())
 }
 

@@ -263,7 +263,7 @@ impl<P: Keeper> Core<P> {
         (keeper, Items::from_vec(journal))
     }
 
-    /// The keeper, where the program ends behind this: nothing else that the core holds is freed, piece by piece.
+    /// The keeper, for a program that ends behind this: the journal, the running state and the log aren't freed.
     pub fn into_keeper(self) -> P
         ensures { result ≡ self.keeper }
     {

@@ -158,9 +158,8 @@ fn push_places(
         (decimal item.now.request.number ++ space_byte ∷ behind.now)))))) }
 {
     let mut room = [0u8; ROOM];
-    let behind = write_word(behind, &mut room, ROOM);
-    let number = u64::from(item.request.number.get());
-    let number = write_number_and_blank(number, &mut room, behind);
+    let end = write_word(behind, &mut room, ROOM);
+    let number = write_number_and_blank(u64::from(item.request.number.get()), &mut room, end);
     let job = write_word_and_blank(item.request.job.bytes(), &mut room, number);
     let first = write_number_and_blank(answer.first, &mut room, job);
     let place = write_number_and_blank(answer.place, &mut room, first);

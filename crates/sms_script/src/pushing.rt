@@ -1,4 +1,4 @@
-//! Words, numbers and names put behind a text.
+//! Words, numbers and names put behind a text, or written from the end of a room to its front.
 ghost use Rattle.std.specs.Prelude.{◌≡◌, ◌+◌, ◌≤◌, ◌<◌, ◌++◌, ◌∷◌, [], OnOk, decimal, drop, length};
 ghost use Rattle.desk_common.specs.Bytes.{space_byte};
 ghost use Rattle.desk_common.specs.Limits.{most_name_bytes};
@@ -19,8 +19,8 @@ pub fn push_word_and_blank(text: &mut Vec<u8>, word: &[u8]) -> Result<(), AllocE
     text.extend_from_slice(b" ")
 }
 
-/// The most bytes of a number and a blank.
-pub const MOST_BYTES: usize = 21;
+// The most bytes of a number and a blank.
+const MOST_BYTES: usize = 21;
 
 /// A number and a blank.
 pub fn push_number_and_blank(text: &mut Vec<u8>, number: u64) -> Result<(), AllocError>

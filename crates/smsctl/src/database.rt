@@ -31,6 +31,9 @@ pub fn run(rt: &HostRuntime, file: &str, words: &[String]) -> ExitCode {
             let _ = connection.close();
             end(rt, status, &note)
         }
+        Err(Error::SqliteFailure(ErrorCode::OutOfMemory)) => {
+            end(rt, DbStatus::Ran(RunStatus::NoMemory), UNOPENED)
+        }
         Err(error) => refuse(rt, file, error),
     }
 }
@@ -52,19 +55,14 @@ fn answer<S: Alter + Drop>(
 }
 
 // Says why the file can't be opened, and ends the program.
-fn refuse(rt: &HostRuntime, file: &str, error: Error) -> ExitCode {
-    match error {
-        Error::SqliteFailure(ErrorCode::OutOfMemory) => {
-            end(rt, DbStatus::Ran(RunStatus::NoMemory), UNOPENED)
-        }
-        _ => {
-            let _ = eprintln!(rt; "smsctl: status {NOT_OPENED}");
-            if let Ok(name) = shown(rt.alloc(), file.as_bytes()) {
-                let _ = eprintln!(rt; "smsctl: '{name}': {error}; nothing was answered");
-            }
-            ExitCode::from(NOT_OPENED)
-        }
+fn refuse(rt: &HostRuntime, file: &str, error: Error) -> ExitCode
+    ensures { exit_status result ≡ 9 }
+{
+    let _ = eprintln!(rt; "smsctl: status {NOT_OPENED}");
+    if let Ok(name) = shown(rt.alloc(), file.as_bytes()) {
+        let _ = eprintln!(rt; "smsctl: '{name}': {error}; nothing was answered");
     }
+    ExitCode::from(NOT_OPENED)
 }
 
 // Says a status other than 0 on standard error, with what it means, and ends the program with it.

@@ -13,6 +13,6 @@ line_room = 112
 abbrev pub class_room : ℕ
 class_room = 41
 
--- the most bytes of a line of an extent
+-- bytes that are enough for a line of an extent
 abbrev pub extent_room : ℕ
 extent_room = 55
