@@ -1,4 +1,4 @@
-use Rattle.std.proofs.Common.{◌≡◌, ◌+◌, ◌<◌, ◌++◌, [], All, length, take, drop, arith, sym, ap, subst, ◌∙◌}
+use Rattle.std.proofs.Common.{◌≡◌, ◌<◌, ◌++◌, [], All, length, take, drop, arith, sym, ap, subst, ◌∙◌}
 use Rattle.desk_signing.specs.Signing.{signed}
 use Rattle.desk_plan.specs.Plan.{plan_of}
 use Rattle.desk_workers.specs.Inner.Shared.{IsIdle}

@@ -1,4 +1,4 @@
-use Rattle.std.proofs.Common.{◌≡◌, ◌<◌, ◌+◌, ◌∷◌, ◌++◌, [], true, false, suc, ◌==◌, length, take, get_or}
+use Rattle.std.proofs.Common.{◌≡◌, ◌<◌, ◌∷◌, ◌++◌, [], true, false, suc, ◌==◌, length, take, get_or}
 use Rattle.std.proofs.Common.{add-one, arith, sym, ◌∙◌, rules}
 use Rattle.desk_plan.proofs.FrontLemmas.{any-default, take-length, take-more, times-less}
 use Rattle.desk_workers.specs.Inner.Worked.{HasAnswered}
