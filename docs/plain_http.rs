@@ -7,7 +7,7 @@ use std::net::{TcpListener, TcpStream};
 use std::rc::Rc;
 
 struct Reply {
-    code: &'static str,
+    words: &'static str,
     classes: String,
     extent: String,
 }
@@ -48,18 +48,18 @@ impl Desk {
     fn grant(&mut self, job: &str, name: &str, primary: u32, secondary: u32) -> Reply {
         let gap = self.gaps.iter_mut().find(|gap| gap.1 >= primary);
         let (Some(gap), false) = (gap, self.catalog.contains_key(name)) else {
-            return Reply { code: "R", classes: String::new(), extent: String::new() };
+            return Reply { words: "R00 REFUSED", classes: String::new(), extent: String::new() };
         };
         let start = gap.0;
         *gap = (start + primary, gap.1 - primary);
         let extents = vec![("V00001".to_string(), start, primary)];
         self.catalog.insert(name.to_string(), DataSet { owner: job.to_string(), extents, secondary });
-        Reply { code: "A00", classes: "CLASS - SC1 - SG1".to_string(), extent: format!("EXTENT V00001 {start} {primary}") }
+        Reply { words: "A00 GRANTED", classes: "CLASS - SC1 - SG1".to_string(), extent: format!("EXTENT V00001 {start} {primary}") }
     }
 
     // The bytes that it holds, so that nothing of it is left out as unused.
     fn size(&self) -> usize {
-        let entry = |e: &Entry| e.job.len() + e.number as usize + e.line.len() + e.reply.code.len();
+        let entry = |e: &Entry| e.job.len() + e.number as usize + e.line.len() + e.reply.words.len();
         let set = |s: &DataSet| s.owner.len() + s.extents.len() + s.secondary as usize;
         self.journal.iter().map(entry).sum::<usize>() + self.catalog.values().map(set).sum::<usize>()
     }
@@ -91,8 +91,9 @@ fn answer(desk: &mut Desk, path: &str, body: &str) -> Option<String> {
     }
     let (primary, secondary) = amounts(body)?;
     let (reply, place) = desk.alloc(&job, number, &name, primary, secondary);
-    let Reply { code, classes, extent } = &*reply;
-    Some(format!("{{\"code\":\"{code}\",\"first\":{place},\"lines\":[\"{code} GRANTED\",\"{classes}\",\"{extent}\"],\"place\":{place}}}"))
+    let Reply { words, classes, extent } = &*reply;
+    let code = &words[..3];
+    Some(format!("{{\"code\":\"{code}\",\"first\":{place},\"lines\":[\"{words}\",\"{classes}\",\"{extent}\"],\"place\":{place}}}"))
 }
 
 // Answers the message at the front of the bytes, and says how many bytes it has; nothing where it isn't there whole.
