@@ -3,7 +3,7 @@ use Rattle.std.specs.Prelude.{option_copied}
 use Rattle.dsn_mask.specs.Qualifiers.{qualifiers_of, qualifiers_left}
 use Rattle.dsn_mask.proofs.QualifierTurns.{QualifierWalk}
 use Rattle.dsn_mask.proofs.Turns.{cost}
-use Rattle.dsn_mask.proofs.mask_walk.mask_fits.Given as goal
+use Rattle.dsn_mask.proofs.mask_walk.walk.Given as goal
 
 abbrev pub invariant-walk : goal.invariant-walk
 invariant-walk l =

@@ -9,7 +9,7 @@ use Rattle.acs_code.specs.declared.compiled_list.CompiledList.{CompiledList}
 use Rattle.acs_code.specs.declared.right.Right.{Right}
 use Rattle.acs_code.specs.Machine.{filter_comparand, right_comparand}
 use Rattle.acs_code.specs.Stands.{IsThere}
-use Rattle.acs_code.specs.Inner.Compiled.{compiled_comparand, filters_in, filters_of}
+use Rattle.acs_code.specs.Compiled.{compiled_comparand, filters_in, filters_of}
 
 -- it is that comparand, and its filter list is there
 pub record IsRight (filters : List FilterLists) (comparand : Comparand) (right : Right) : Type 0 where

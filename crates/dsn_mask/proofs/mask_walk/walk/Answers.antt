@@ -1,5 +1,5 @@
 use Rattle.dsn_mask.proofs.QualifierTurns.{stars_step, pair_step, stars_smaller}
-use Rattle.dsn_mask.proofs.mask_walk.mask_fits.Goals as goal
+use Rattle.dsn_mask.proofs.mask_walk.walk.Goals as goal
 
 pub walk-smaller-in-Stars : goal.walk-smaller-in-Stars
 walk-smaller-in-Stars c = stars_smaller c.walk.invariant c.in-Stars.ensures
