@@ -47,3 +47,4 @@ pub mod TraceExamples
 pub mod PurgeExamples
 pub mod RoutineExamples
 pub mod KeptRowExamples
+pub mod GrantedExamples
