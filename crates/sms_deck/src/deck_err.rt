@@ -13,7 +13,7 @@ pub enum DeckErr {
 }
 
 impl fmt::Debug for DeckErr {
-    fn fmt(&self, f: &mut fmt::Formatter<'_>) -> fmt::Result {
+    fn fmt<W: fmt::Write>(&self, f: &mut fmt::Formatter<W>) -> fmt::Result {
         write!(f, "{self}")
     }
 }
