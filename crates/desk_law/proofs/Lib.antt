@@ -48,3 +48,4 @@ pub mod PurgeExamples
 pub mod RoutineExamples
 pub mod KeptRowExamples
 pub mod GrantedExamples
+pub mod ExtentExamples
