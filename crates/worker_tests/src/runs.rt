@@ -20,25 +20,6 @@ JOB1 1 ALLOC A.B SPACE=(TRK,10)
 JOB2 1 ALLOC A.C SPACE=(TRK,10)
 ";
 
-// Two jobs that are given two storage classes, behind a phase in which both look at the volume.
-const TWO_CLASSES: &str = "SMSADMIN 1 ACTIVATE
-version = 1
-[storclass.SC1]
-[storclass.SC2]
-[storgroup.SG1.volume.VOL001]
-tracks = 100
-[routine]
-storclass = \"PROC STORCLAS IF &JOB = 'JOB1' THEN SET &STORCLAS = 'SC1' ELSE SET &STORCLAS = 'SC2' END\"
-storgroup = \"PROC STORGRP SET &STORGRP = 'SG1' END\"
-./END
-SYNC
-JOB1 1 DISPLAY SMS,VOLUME(VOL001)
-JOB2 1 DISPLAY SMS,VOLUME(VOL001)
-SYNC
-JOB1 2 ALLOC A.B SPACE=(TRK,10)
-JOB2 2 ALLOC A.C SPACE=(TRK,10)
-";
-
 // The same, and then one job allocates while another deck is activated.
 const LIVE: &str = "SMSADMIN 1 ACTIVATE
 version = 1
@@ -62,6 +43,25 @@ tracks = 100
 storclass = \"PROC STORCLAS SET &STORCLAS = 'SC2' END\"
 storgroup = \"PROC STORGRP SET &STORGRP = 'SG1' END\"
 ./END
+";
+
+// Two jobs that are given two storage classes, behind a phase in which both look at the volume.
+const TWO_CLASSES: &str = "SMSADMIN 1 ACTIVATE
+version = 1
+[storclass.SC1]
+[storclass.SC2]
+[storgroup.SG1.volume.VOL001]
+tracks = 100
+[routine]
+storclass = \"PROC STORCLAS IF &JOB = 'JOB1' THEN SET &STORCLAS = 'SC1' ELSE SET &STORCLAS = 'SC2' END\"
+storgroup = \"PROC STORGRP SET &STORGRP = 'SG1' END\"
+./END
+SYNC
+JOB1 1 DISPLAY SMS,VOLUME(VOL001)
+JOB2 1 DISPLAY SMS,VOLUME(VOL001)
+SYNC
+JOB1 2 ALLOC A.B SPACE=(TRK,10)
+JOB2 2 ALLOC A.C SPACE=(TRK,10)
 ";
 
 #[test]
