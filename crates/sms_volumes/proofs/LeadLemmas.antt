@@ -52,8 +52,11 @@ among-none candidates v is = rw is refl
 -- Lists of which one part stands before the other or behind it.
 
 there-behind : {X : Type 0} (xs ys : List X) (k : ℕ) (x : X) → slice_get ys k ≡ Some x → slice_get (xs ++ ys) (length xs + k) ≡ Some x
-there-behind [] ys k x there = there
-there-behind (y ∷ xs) ys k x there = there-behind xs ys k x there
+there-behind [] ys k x there =
+    let same : k ≡ 0 + k = omega arith in subst (λ (n : ℕ). slice_get ys n ≡ Some x) same there
+there-behind (y ∷ xs) ys k x there =
+    let step : suc (length xs + k) ≡ length (y ∷ xs) + k = omega arith in
+    subst (λ (n : ℕ). slice_get (y ∷ (xs ++ ys)) n ≡ Some x) step (there-behind xs ys k x there)
 
 -- the place of something in a list
 record IsIn {X : Type 0} (xs : List X) (x : X) : Type 0 where
@@ -105,6 +108,32 @@ take-take zero to xs le = front-none (take to xs) ∙ sym (front-none xs)
 take-take (suc place) zero xs le = absurd (omega (arith, le))
 take-take (suc place) (suc to) [] le = refl
 take-take (suc place) (suc to) (x ∷ xs) le = ap (λ l. x ∷ l) (take-take place to xs (omega (arith, le)))
+
+-- the part of a list from a place up to itself is empty
+pub part-none : {X : Type 0} (from : ℕ) (xs : List X) → drop from (take from xs) ≡ []
+part-none zero [] = refl
+part-none zero (x ∷ xs) = refl
+part-none (suc from) [] = refl
+part-none (suc from) (x ∷ xs) = part-none from xs
+
+-- what stands at a place of a list
+pub record IsAt {X : Type 0} (xs : List X) (place : ℕ) : Type 0 where
+  pub value : X
+  pub there : slice_get xs place ≡ Some value
+
+pub at-place : {X : Type 0} (xs : List X) (place : ℕ) → place < length xs → IsAt xs place
+at-place [] place less = absurd (omega (arith, less))
+at-place (x ∷ xs) zero less = record { value = x; there = refl }
+at-place (x ∷ xs) (suc place) less =
+    let rest = at-place xs place (omega (arith, less)) in record { value = rest.value; there = rest.there }
+
+-- what stands before a place and what is behind it
+pub turned-whole : {X : Type 0} (start : ℕ) (xs : List X) → drop 0 (take start xs) ++ drop start xs ≡ xs
+turned-whole start xs = ap (λ l. l ++ drop start xs) (drop-none (take start xs)) ∙ take-append-drop start xs
+  where
+    drop-none : {X : Type 0} (xs : List X) → drop 0 xs ≡ xs
+    drop-none [] = refl
+    drop-none (x ∷ xs) = refl
 
 -- the part of a list from one place up to another grows by the next
 pub part-more : (volumes : List ActiveVolume) (from place : ℕ) (v : ActiveVolume) → from ≤ place → place < length volumes → slice_get volumes place ≡ Some v

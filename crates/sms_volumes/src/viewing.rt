@@ -150,7 +150,12 @@ impl ActiveVolumes {
     }
 
     // A candidate that may be chosen, where those from a place on are looked at before the others.
-    fn pick_from(&self, start: usize, candidates: &Candidates<'_>, asked: &Asked<'_>) -> Option<Pick>
+    fn pick_from(
+        &self,
+        start: usize,
+        candidates: &Candidates<'_>,
+        asked: &Asked<'_>,
+    ) -> Option<Pick>
         requires start { start ≤ length self.now.volumes.items }
         requires asked { IsAsked asked.now }
         requires stand { StandForSome self.now }

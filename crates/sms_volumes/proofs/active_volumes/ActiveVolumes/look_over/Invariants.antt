@@ -1,4 +1,4 @@
-use Rattle.std.proofs.Common.{◌≤◌, ◌×◌, ◌++◌, List, drop, take}
+use Rattle.std.proofs.Common.{◌++◌, List, drop, take}
 use Rattle.desk_law.specs.State.{DeskState}
 use Rattle.desk_law.specs.Lawful.{IsLawful}
 use Rattle.sms_volumes.specs.Holding.{AreVolumesOf}
