@@ -1,4 +1,4 @@
-use Rattle.std.proofs.Common.{◌≡◌, ◌++◌, [], ℕ, List, drop, length, subst, take, ap, ◌∙◌, arith}
+use Rattle.std.proofs.Common.{◌≡◌, ◌++◌, [], List, drop, subst, take, ap, arith}
 use Rattle.std.proofs.lemmas.List.{take_all}
 use Rattle.sms_volumes.specs.Inner.Leading.{Leads, candidates_among}
 use Rattle.sms_volumes.specs.declared.active_volume.ActiveVolume.{ActiveVolume}
