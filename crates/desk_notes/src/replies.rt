@@ -14,7 +14,7 @@ const REFUSAL_SENTENCE: &str =
 
 const FAULT_SENTENCE: &str =
     "the records couldn't be written, as on a full disk: ask again, with the same numbers, for what was answered \
-    F30, and each acts once; over a file the first of it may have been done all the same; what else was done is kept\n";
+    F30, and each acts once; over a file one of them may have been done all the same; what else was done is kept\n";
 
 /// What the next byte of the text is. Of an answer's first line the reply stands behind five words.
 #[derive(Clone, Copy)]

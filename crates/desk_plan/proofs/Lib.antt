@@ -1,4 +1,3 @@
 pub mod SharingLemmas
 pub mod FrontLemmas
 pub mod NumberingLemmas
-pub mod RankLemmas

@@ -1,4 +1,3 @@
 pub mod Plan
 pub mod Numbering
 pub mod Sharing
-pub mod Inner

@@ -1,2 +1,0 @@
--- What private clauses, invariants of types and proofs alone cite.
-pub mod Ranks
