@@ -83,6 +83,8 @@ def handed_out(crate):
     for path in glob.glob(f'crates/{crate}/src/lib.rt'):
         for head, many in re.findall(r'(?s)pub use\s+([\w:]+)(?:::\{([^}]*)\})?;', read(path)):
             for item in many.split(',') if many else [head]: names.add(item.split(' as ')[-1].strip().split('::')[-1])
+        for module in re.findall(r'(?m)^pub mod (\w+);', read(path)):
+            names |= set(re.findall(r'(?m)^pub (?:fn|struct|enum|trait|const) (\w+)', read(f'crates/{crate}/src/{module}.rt')))
     return names
 
 def without_generics(text):

@@ -12,8 +12,8 @@
 enum { ROOM = 1 << 16 };
 
 // The body of an ALLOC's answer.
-static const char body[] = "{\"code\":\"A00\",\"first\":20002,\"lines\":[\"A00 GRANTED\",\"CLASS - SC1 - SG1\","
-                           "\"EXTENT V00001 20000 1\"],\"place\":20002}";
+static const char body[] = "{\"code\":\"A00\",\"first\":20002,\"lines\":[\"A00 GRANTED\",\"  CLASS - SC1 - SG1\","
+                           "\"  EXTENT V00001 20000 1\"],\"place\":20002}";
 
 static char answer[256], asked[ROOM], answers[ROOM * 4];
 static size_t size;

@@ -26,7 +26,7 @@ use Rattle.std.specs.List.{list_all}
 use Rattle.std.specs.Prelude.{not}
 use Rattle.acs_code.specs.declared.instr.Instr.{Instr}
 use Rattle.acs_code.specs.declared.instr.Instr.TheVariants.{Jump}
-use Rattle.acs_code.specs.Inner.Compiled.{filters_of}
+use Rattle.acs_code.specs.Compiled.{filters_of}
 use Rattle.acs_code.specs.Inner.Upward.{Branches}
 use Rattle.acs_code.proofs.Pieces.{branch_jump, branch_both, branch_either}
 

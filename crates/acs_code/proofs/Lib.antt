@@ -1,3 +1,4 @@
+pub mod FieldLemmas
 pub mod GroupLemmas
 pub mod ListLemmas
 pub mod Pieces

@@ -9,8 +9,8 @@ use Rattle.acs_tree.specs.declared.routine.Stmt.{Stmt}
 use Rattle.acs_tree.specs.Comparands.{Comparand, Filter, Nothing, filter_of, list_comparand}
 use Rattle.acs_tree.specs.FilterLists.{FilterList, list_named, lists_in}
 use Rattle.acs_code.specs.Machine.{filter_comparand}
-use Rattle.acs_code.specs.Inner.Rights.{IsFilterOf, IsNoneAmong, IsPlaceAmong, filter_place}
-use Rattle.acs_code.specs.Inner.Compiled.{compiled, compiled_comparand, compiled_in, filters_in}
+use Rattle.acs_code.specs.Rights.{IsFilterOf, IsNoneAmong, IsPlaceAmong, filter_place}
+use Rattle.acs_code.specs.Compiled.{compiled, compiled_comparand, compiled_in, filters_in}
 
 pub two_each : (lists : List CompiledList) → length (filters_in lists) ≡ 2 * length lists
 two_each [] = refl

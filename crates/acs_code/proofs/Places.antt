@@ -20,7 +20,7 @@ use Rattle.acs_code.specs.declared.instr.Instr.TheVariants.{Test, Jump, SetClass
 use Rattle.acs_code.specs.Machine.{CodeParts, ComesTo, RunsTo, exit, jump, part_class, past_end, probe_holds, set_class}
 use Rattle.acs_code.specs.Machine.{set_groups, test, write}
 use Rattle.acs_code.specs.Stands.{Goes, GoesForward, StandsFor}
-use Rattle.acs_code.specs.Inner.Compiled.{filters_of}
+use Rattle.acs_code.specs.Compiled.{filters_of}
 use Rattle.acs_code.specs.Inner.Steps.{act}
 use Rattle.acs_code.specs.Inner.Upward.{leap, placed, AreBelow, Below, Does}
 use Rattle.acs_code.proofs.RunLemmas.{comes_to_one}

@@ -27,7 +27,7 @@ use Rattle.acs_code.specs.declared.instr.Instr.{Instr}
 use Rattle.acs_code.specs.declared.part.Part.{Part}
 use Rattle.acs_code.specs.Inner.Arms.{arm_of, form_meaning}
 use Rattle.acs_code.specs.Machine.{part_text, parts_text}
-use Rattle.acs_code.specs.Inner.Compiled.{filters_of}
+use Rattle.acs_code.specs.Compiled.{filters_of}
 use Rattle.acs_code.specs.Inner.Upward.{Branches, Does, Over}
 use Rattle.acs_code.proofs.Pieces.{does_choice, does_then}
 

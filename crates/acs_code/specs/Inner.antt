@@ -1,6 +1,4 @@
 -- What private clauses, invariants of types and proofs alone cite.
 pub mod Steps
 pub mod Upward
-pub mod Compiled
 pub mod Arms
-pub mod Rights

@@ -1,3 +1,6 @@
-pub mod Machine
-pub mod Stands
+pub mod Compiled
+pub mod Fields
 pub mod Inner
+pub mod Machine
+pub mod Rights
+pub mod Stands

@@ -5,7 +5,7 @@ ghost use Rattle.acs_tree.specs.Conditions.{holds};
 ghost use Rattle.acs_tree.specs.Meaning.{choice, first_of, in_turn, meaning, perhaps};
 ghost use Rattle.acs_tree.specs.Outcome.{Action};
 ghost use Rattle.acs_code.specs.Inner.Arms.{arm_of};
-ghost use Rattle.acs_code.specs.Inner.Compiled.{filters_of};
+ghost use Rattle.acs_code.specs.Compiled.{filters_of};
 ghost use Rattle.acs_code.specs.Inner.Upward.{Does};
 ghost use Rattle.acs_code.specs.declared.instr.Instr.{Instr};
 

@@ -1,8 +1,11 @@
 //! The code of a routine.
-ghost use Rattle.std.specs.Prelude.{◌≡◌};
+ghost use Rattle.std.specs.Prelude.{◌≡◌, map};
+ghost use Rattle.acs_code.specs.Fields.{left_of};
 ghost use Rattle.acs_code.specs.Stands.{GoesForward};
 
+use crate::field::Field;
 use crate::instr::{Filters, Instr, Instrs};
+use crate::lefts::Lefts;
 use acs_tree::Kind;
 use dsn_mask::FilterIndex;
 use std::marker::Model;
@@ -13,6 +16,7 @@ pub struct Code {
     kind: Kind,
     instrs: Instrs,
     filters: Filters,
+    lefts: Lefts,
 }
 
 impl Model for Code {
@@ -20,6 +24,8 @@ impl Model for Code {
     ghost use Rattle.acs_code.specs.Stands.{GoesForward};
     ghost use Rattle.acs_code.specs.contracts.instr.Instr as instr;
     ghost use Rattle.dsn_mask.specs.contracts.entry.Entry as entry;
+    ghost use Rattle.acs_code.specs.Fields.{left_of};
+    ghost use Rattle.std.specs.Prelude.{◌≡◌, map};
     ghost use Rattle.std.specs.Coded.{codes};
 
     ghost Value = { CodeParts };
@@ -28,18 +34,21 @@ impl Model for Code {
 
     ghost view = { λ s. record { kind = s.kind; instrs = s.instrs; filters = s.filters } };
 
-    ghost invariant = { λ s. GoesForward (record { kind = s.kind; instrs = s.instrs; filters = s.filters }) };
+    ghost invariant = { λ s. (s.lefts ≡ map left_of s.instrs) ×
+        GoesForward (record { kind = s.kind; instrs = s.instrs; filters = s.filters }) };
 }
 
 impl Code {
-    pub(crate) fn seal(kind: Kind, instrs: Instrs, filters: Filters) -> Self
-        requires { GoesForward (record { kind = kind; instrs = instrs; filters = filters }) }
+    pub(crate) fn seal(kind: Kind, instrs: Instrs, filters: Filters, lefts: Lefts) -> Self
+        requires forward { GoesForward (record { kind = kind; instrs = instrs; filters = filters }) }
+        requires lefts { lefts ≡ map left_of instrs }
         ensures { result ≡ record { kind = kind; instrs = instrs; filters = filters } }
     {
         Code {
             kind,
             instrs,
             filters,
+            lefts,
         }
     }
 
@@ -63,5 +72,12 @@ impl Code {
         ensures { result.now ≡ self.now.filters }
     {
         self.filters.as_slice()
+    }
+
+    /// What the left sides of the tests read, by the places of the instructions.
+    pub fn lefts(&self) -> &[Field]
+        ensures { result.now ≡ map left_of self.now.instrs }
+    {
+        self.lefts.as_slice()
     }
 }

@@ -4,6 +4,7 @@ ghost use Rattle.acs_code.specs.Stands.{GoesForward, StandsFor};
 
 use crate::blocks::block;
 use crate::code::Code;
+use crate::lefts::lefts;
 use crate::lists::Lists;
 use crate::upward::Upward;
 use acs_tree::{Checked, Stmt};
@@ -32,5 +33,6 @@ pub fn compile(alloc: Global, checked: &Checked) -> Result<Code, AllocError>
     block(alloc, &mut code, kind, &lists, body)?;
     let instrs = code.finish();
     let filters = lists.filters(alloc)?;
-    Ok(Code::seal(kind, instrs, filters))
+    let lefts = lefts(alloc, instrs.as_slice())?;
+    Ok(Code::seal(kind, instrs, filters, lefts))
 }

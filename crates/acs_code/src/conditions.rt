@@ -2,7 +2,7 @@
 ghost use Rattle.std.specs.Prelude.{◌≤◌, ◌≡◌, false, length, if◌then◌else◌, OnOk};
 ghost use Rattle.acs_tree.specs.Compares.{texts_compare};
 ghost use Rattle.acs_tree.specs.Conditions.{comparison, equals_any, holds, when_holds};
-ghost use Rattle.acs_code.specs.Inner.Compiled.{filters_of};
+ghost use Rattle.acs_code.specs.Compiled.{filters_of};
 ghost use Rattle.acs_code.specs.Inner.Upward.{Branches};
 
 use crate::fork::Fork;

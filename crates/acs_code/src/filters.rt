@@ -4,7 +4,7 @@ ghost use Rattle.std.specs.List.{cons_option};
 ghost use Rattle.std.specs.Option.{option_map};
 ghost use Rattle.dsn_mask.specs.MaskText.{mask_of, simple_of};
 ghost use Rattle.dsn_mask.specs.declared.entry.Entry.TheVariants.{Dots, Plain};
-ghost use Rattle.acs_code.specs.Inner.Compiled.{compiled, compiled_in};
+ghost use Rattle.acs_code.specs.Compiled.{compiled, compiled_in};
 ghost use Rattle.acs_tree.specs.Comparands.{entries_of, entry_of};
 ghost use Rattle.acs_tree.specs.FilterLists.{list_of};
 

@@ -1,9 +1,9 @@
-// The filter lists of a routine.
+//! The filter lists of a routine.
 ghost use Rattle.std.specs.Prelude.{◌≡◌, ◌<◌, ◌^◌, IfOk, MatchOption};
 ghost use Rattle.acs_tree.specs.Comparands.{Nothing, list_comparand};
 ghost use Rattle.acs_tree.specs.FilterLists.{list_named};
-ghost use Rattle.acs_code.specs.Inner.Compiled.{filters_in, filters_of};
-ghost use Rattle.acs_code.specs.Inner.Rights.{IsFilterOf, IsNoneAmong, IsPlaceAmong, filter_place};
+ghost use Rattle.acs_code.specs.Compiled.{filters_in, filters_of};
+ghost use Rattle.acs_code.specs.Rights.{IsFilterOf, IsNoneAmong, IsPlaceAmong, filter_place};
 
 use crate::compiled_list::CompiledList;
 use crate::filters::compiled;
@@ -25,7 +25,7 @@ impl<'a> Model for Lists<'a> {
     ghost use Rattle.acs_tree.specs.declared.routine.Stmt.{Stmt};
     ghost use Rattle.acs_tree.specs.contracts.routine.Form as form;
     ghost use Rattle.std.specs.Coded.{codes};
-    ghost use Rattle.acs_code.specs.Inner.Compiled.{compiled_in};
+    ghost use Rattle.acs_code.specs.Compiled.{compiled_in};
 
     ghost Value = { List Stmt };
 

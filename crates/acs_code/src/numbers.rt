@@ -1,4 +1,4 @@
-// Words that are indexes or codes.
+//! Words that are indexes or codes.
 ghost use Rattle.std.specs.Prelude.{◌≡◌};
 ghost use Rattle.acs_tree.specs.Meaning.{code_from};
 ghost use Rattle.acs_tree.specs.Variables.{index_of};

@@ -1,4 +1,4 @@
-// Variables and parts of lines.
+//! Variables and parts of lines.
 ghost use Rattle.std.specs.Prelude.{◌≡◌, []};
 ghost use Rattle.acs_tree.specs.Setting.{class_from};
 ghost use Rattle.acs_tree.specs.Writing.{written};

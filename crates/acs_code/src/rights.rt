@@ -1,4 +1,4 @@
-// The right side of a comparison.
+//! The right side of a comparison.
 ghost use Rattle.std.specs.Prelude.{List};
 ghost use Rattle.dsn_mask.specs.MaskText.{mask_of, simple_of};
 ghost use Rattle.dsn_mask.specs.Filter.{FilterLists};
@@ -7,8 +7,8 @@ ghost use Rattle.acs_tree.specs.Comparands.{mask_comparand, name_comparand, word
 ghost use Rattle.acs_tree.specs.References.{is_whole_name};
 ghost use Rattle.acs_tree.specs.Variables.{variable_of};
 ghost use Rattle.acs_tree.specs.FilterLists.{list_named};
-ghost use Rattle.acs_code.specs.Inner.Compiled.{filters_of};
-ghost use Rattle.acs_code.specs.Inner.Rights.{IsRightIfAny};
+ghost use Rattle.acs_code.specs.Compiled.{filters_of};
+ghost use Rattle.acs_code.specs.Rights.{IsRightIfAny};
 
 use crate::lists::Lists;
 use crate::parts::slot;

@@ -1,4 +1,4 @@
-// SET.
+//! SET.
 ghost use Rattle.std.specs.Prelude.{◌≡◌, ◌<◌, [], true, false, List, length, Contains, MatchOption, OnOk};
 ghost use Rattle.desk_common.specs.Limits.{most_groups_set};
 ghost use Rattle.dsn_mask.specs.Filter.{FilterLists};
@@ -16,7 +16,7 @@ use dsn_mask::{Lit, Name, Names};
 use std::alloc::AllocError;
 
 /// SET in a routine of that kind; another variable than the kind's is not set.
-pub fn set(
+pub(crate) fn set(
     code: &mut Upward,
     kind: Kind,
     target: &Ref,

@@ -4,3 +4,4 @@ pub mod CutLemmas
 pub mod LineLemmas
 pub mod StepLemmas
 pub mod KeptLemmas
+pub mod MemoLemmas

@@ -1,5 +1,5 @@
 -- One instruction after another.
-use Rattle.std.proofs.Common.{◌≡◌, ◌<◌, ◌+◌, ℕ, suc, Bool, true, false, List, [], ◌∷◌, length, get_or, Some, sym, ap}
+use Rattle.std.proofs.Common.{◌≡◌, ◌<◌, ◌+◌, ℕ, zero, suc, map, Bool, true, false, List, [], ◌∷◌, length, get_or, Some, sym, ap}
 use Rattle.std.proofs.Common.{◌∙◌, subst, arith}
 use Rattle.std.specs.Prelude.{slice_get, if◌then◌else◌}
 use Rattle.std.proofs.lemmas.Option.{slice_get-get_or}
@@ -9,10 +9,12 @@ use Rattle.acs_tree.specs.declared.values.Values.{Values}
 use Rattle.acs_tree.specs.Setting.{with_class}
 use Rattle.acs_tree.specs.Outcome.{Outcome, behind}
 use Rattle.acs_tree.specs.Slates.{SlateLines, with_line}
+use Rattle.acs_code.specs.declared.field.Field.{Field}
 use Rattle.acs_code.specs.declared.instr.Instr.{Instr}
 use Rattle.acs_code.specs.declared.instr.Instr.TheVariants.{Test, Jump, SetClass, SetGroups, Write, Exit}
 use Rattle.acs_code.specs.declared.part.Part.{Part}
 use Rattle.acs_code.specs.declared.probe.Probe.{Probe}
+use Rattle.acs_code.specs.Fields.{left_of}
 use Rattle.acs_code.specs.Machine.{CodeParts, part_class, parts_line, probe_holds}
 use Rattle.acs_code.specs.Stands.{Goes, GoesForward}
 use Rattle.acs_run.specs.declared.machine.Next.TheVariants.{On, Exited}
@@ -67,3 +69,12 @@ module _ (code : CodeParts) (input : Input) (place : ℕ) (i : Instr) (values : 
   leads_exit n k =
       let r = here (Exit n) k in
       (ap (λ o. o.values) (sym r), ap (λ o. o.ending) (sym r), ap (λ o. with_lines code.kind slate o.lines) (sym r))
+
+mapped_at : (instrs : List Instr) (place : ℕ) (i : Instr) (other : Field) → place < length instrs → i ≡ get_or instrs place i → get_or (map left_of instrs) place other ≡ left_of i
+mapped_at [] place i other within at = absurd (omega (arith, within))
+mapped_at (first ∷ instrs) zero i other within at = ap left_of (sym at)
+mapped_at (first ∷ instrs) (suc place) i other within at = mapped_at instrs place i other (omega (arith, within)) at
+
+-- what the left side of an instruction reads stands at its place
+pub left_at : (instrs : List Instr) (lefts : List Field) (place : ℕ) (i : Instr) (other : Field) → place < length instrs → i ≡ get_or instrs place i → lefts ≡ map left_of instrs → get_or lefts place other ≡ left_of i
+left_at instrs lefts place i other within at e = ap (λ (l : List Field). get_or l place other) e ∙ mapped_at instrs place i other within at

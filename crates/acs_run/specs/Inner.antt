@@ -2,3 +2,4 @@
 pub mod Seen
 pub mod Lines
 pub mod Steps
+pub mod Memos

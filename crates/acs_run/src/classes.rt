@@ -1,4 +1,4 @@
-// What SET sets.
+//! What SET sets.
 ghost use Rattle.std.specs.Prelude.{◌≡◌};
 ghost use Rattle.acs_code.specs.Machine.{part_class};
 ghost use Rattle.acs_tree.specs.Setting.{as_class, text_of, with_class};
@@ -7,7 +7,7 @@ ghost use Rattle.acs_tree.specs.declared.values.Values.{Values};
 ghost use Rattle.acs_run.specs.Inner.Seen.{seen};
 
 use crate::value::Value;
-use crate::values::value;
+use crate::values::named_value;
 use acs_code::Part;
 use acs_tree::{Kind, Seen, Values};
 use dsn_mask::{Lit, Short};
@@ -18,7 +18,7 @@ pub fn class(part: &Part, input: &Seen<'_>, values: &Values) -> Short
 {
     match part {
         Part::Literal(text) => as_class(text),
-        Part::Var(slot) => text_of(&value(slot, input, values)),
+        Part::Var(slot) => text_of(&named_value(slot, input, values)),
     }
 }
 

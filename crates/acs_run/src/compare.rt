@@ -1,29 +1,196 @@
-// One comparison.
-ghost use Rattle.std.specs.Prelude.{◌≡◌, ◌<◌, ◌&&◌, List, not};
-ghost use Rattle.std.specs.List.{list_any, list_all, slice_get};
-ghost use Rattle.dsn_mask.specs.Filter.{FilterLists, passes_filter};
+//! One comparison.
+ghost use Rattle.std.specs.Prelude.{◌≡◌, ◌&&◌, List, not};
+ghost use Rattle.std.specs.List.{list_any, list_all};
+ghost use Rattle.dsn_mask.specs.Filter.{FilterLists};
 ghost use Rattle.dsn_mask.specs.MaskTest.{is_empty};
 ghost use Rattle.acs_tree.specs.declared.input.Input.{Input};
 ghost use Rattle.acs_tree.specs.declared.values.Values.{Values};
 ghost use Rattle.acs_tree.specs.Compares.{compares, counted, groups_or_null, is_that_text, number_beside};
 ghost use Rattle.acs_tree.specs.Compares.{number_compares, numbers_compare, text_equals, texts_compare};
-ghost use Rattle.acs_code.specs.Machine.{probe_holds, right_comparand};
-ghost use Rattle.acs_run.specs.Inner.Seen.{passes_if_any, seen};
+ghost use Rattle.acs_code.specs.Machine.{probe_holds, right_comparand, slot_value};
+ghost use Rattle.acs_code.specs.declared.field.Field.TheVariants.{Dsn, Hlq, Llq};
+ghost use Rattle.acs_code.specs.Fields.{field_of};
+ghost use Rattle.acs_run.specs.Inner.Memos.{Knows};
+ghost use Rattle.acs_run.specs.Inner.Seen.{seen};
 
+use crate::memo::Memo;
+use crate::passing::passes;
 use crate::short::{of_name, of_volser};
 use crate::value::Value;
-use crate::values::value;
-use acs_code::{Probe, Right};
+use crate::values::{named_value, number, text, value};
+use acs_code::{Field, Probe, Right, Slot};
 use acs_tree::{Compare, Seen, Values};
-use dsn_mask::{FilterIndex, Short, Steps, Volser};
-use std::marker::Brand;
-use std::sync::ledger::{Blank, Ledger};
+use dsn_mask::{FilterIndex, Short, Volser};
 
-/// Whether the probe holds.
-pub fn holds(filters: &[FilterIndex], probe: &Probe, input: &Seen<'_>, values: &Values) -> bool
+/// Whether a comparison holds. Nothing is remembered of it, so it may be asked for outside a run.
+pub fn probe_holds(
+    filters: &[FilterIndex],
+    probe: &Probe,
+    input: &Seen<'_>,
+    values: &Values,
+) -> bool
     ensures { result ≡ probe_holds filters.now probe.now input.now values.now }
 {
-    let left = value(&probe.left, input, values);
+    value_holds(
+        filters,
+        Field::named(&probe.left.name),
+        probe,
+        input,
+        values,
+    )
+}
+
+/// Whether the probe holds, whose left side reads the field.
+pub(crate) fn holds(
+    filters: &[FilterIndex],
+    left: Field,
+    probe: &Probe,
+    input: &Seen<'_>,
+    values: &Values,
+    memo: &mut Memo,
+) -> bool
+    requires left { left ≡ field_of probe.now.left.name }
+    requires knows { Knows filters.now input.now.dsn memo.old }
+    ensures holds { result ≡ probe_holds filters.now probe.now input.now values.now }
+    ensures knows { Knows filters.now input.now.dsn memo.new }
+{
+    match left {
+        Field::Text(field) => {
+            let text = text(field, probe.left.index, input, values);
+            texts_compare(probe.op, equals(filters, &probe.right, input, values, text))
+        }
+        Field::Number(field) => number_holds(number(field, input), probe, input, values),
+        Field::Size => number_holds(input.amounts().size, probe, input, values),
+        Field::MaxSize => number_holds(input.amounts().maxsize, probe, input, values),
+        Field::Dsn => name_holds(filters, probe, input, values, memo),
+        Field::Hlq => first_holds(filters, probe, input, values, memo),
+        Field::Llq => last_holds(filters, probe, input, values, memo),
+        _ => value_holds(filters, left, probe, input, values),
+    }
+}
+
+// A number on the left.
+fn number_holds(left: u64, probe: &Probe, input: &Seen<'_>, values: &Values) -> bool
+    ensures { (filters : List FilterLists) → result ≡
+        number_compares probe.now.op left (number_beside input.now values.now (right_comparand filters probe.now.right)) }
+{
+    number_compares(probe.op, left, number_beside(&probe.right, input, values))
+}
+
+// The name of the data set, or a qualifier of it, on the left.
+fn name_holds(
+    filters: &[FilterIndex],
+    probe: &Probe,
+    input: &Seen<'_>,
+    values: &Values,
+    memo: &mut Memo,
+) -> bool
+    requires name { field_of probe.now.left.name ≡ Dsn }
+    requires knows { Knows filters.now input.now.dsn memo.old }
+    ensures holds { result ≡ probe_holds filters.now probe.now input.now values.now }
+    ensures knows { Knows filters.now input.now.dsn memo.new }
+{
+    match (&probe.right, probe.left.index) {
+        (Right::Filter(place), 0) => {
+            texts_compare(probe.op, memo.name_passes(filters, *place, input.dsn()))
+        }
+        (_, 0) => whole_holds(filters, probe, input, values, memo),
+        _ => value_holds(filters, Field::Dsn, probe, input, values),
+    }
+}
+
+fn whole_holds(
+    filters: &[FilterIndex],
+    probe: &Probe,
+    input: &Seen<'_>,
+    values: &Values,
+    memo: &mut Memo,
+) -> bool
+    requires name { field_of probe.now.left.name ≡ Dsn }
+    requires whole { probe.now.left.index ≡ 0 }
+    requires knows { Knows filters.now input.now.dsn memo.old }
+    ensures holds { result ≡ probe_holds filters.now probe.now input.now values.now }
+    ensures knows { Knows filters.now input.now.dsn memo.new }
+{
+    memo.learn_whole(input.dsn());
+    match &memo.whole {
+        Some(text) => texts_compare(probe.op, equals(filters, &probe.right, input, values, text)),
+        None => value_holds(filters, Field::Dsn, probe, input, values),
+    }
+}
+
+// The first qualifier on the left.
+fn first_holds(
+    filters: &[FilterIndex],
+    probe: &Probe,
+    input: &Seen<'_>,
+    values: &Values,
+    memo: &mut Memo,
+) -> bool
+    requires name { field_of probe.now.left.name ≡ Hlq }
+    requires knows { Knows filters.now input.now.dsn memo.old }
+    ensures holds { result ≡ probe_holds filters.now probe.now input.now values.now }
+    ensures knows { Knows filters.now input.now.dsn memo.new }
+{
+    match &probe.right {
+        Right::Filter(place) => {
+            texts_compare(probe.op, memo.first_passes(filters, *place, input.dsn()))
+        }
+        _ => first_text_holds(filters, probe, input, values, memo),
+    }
+}
+
+fn first_text_holds(
+    filters: &[FilterIndex],
+    probe: &Probe,
+    input: &Seen<'_>,
+    values: &Values,
+    memo: &mut Memo,
+) -> bool
+    requires name { field_of probe.now.left.name ≡ Hlq }
+    requires knows { Knows filters.now input.now.dsn memo.old }
+    ensures holds { result ≡ probe_holds filters.now probe.now input.now values.now }
+    ensures knows { Knows filters.now input.now.dsn memo.new }
+{
+    memo.learn_first(input.dsn());
+    match &memo.first {
+        Some(text) => texts_compare(probe.op, equals(filters, &probe.right, input, values, text)),
+        None => value_holds(filters, Field::Hlq, probe, input, values),
+    }
+}
+
+// The last qualifier on the left.
+fn last_holds(
+    filters: &[FilterIndex],
+    probe: &Probe,
+    input: &Seen<'_>,
+    values: &Values,
+    memo: &mut Memo,
+) -> bool
+    requires name { field_of probe.now.left.name ≡ Llq }
+    requires knows { Knows filters.now input.now.dsn memo.old }
+    ensures holds { result ≡ probe_holds filters.now probe.now input.now values.now }
+    ensures knows { Knows filters.now input.now.dsn memo.new }
+{
+    memo.learn_last(input.dsn());
+    match &memo.last {
+        Some(text) => texts_compare(probe.op, equals(filters, &probe.right, input, values, text)),
+        None => value_holds(filters, Field::Llq, probe, input, values),
+    }
+}
+
+// By the value on the left.
+fn value_holds(
+    filters: &[FilterIndex],
+    left: Field,
+    probe: &Probe,
+    input: &Seen<'_>,
+    values: &Values,
+) -> bool
+    requires { left ≡ field_of probe.now.left.name }
+    ensures { result ≡ probe_holds filters.now probe.now input.now values.now }
+{
+    let left = value(left, probe.left.index, input, values);
     compares(filters, probe.op, &left, &probe.right, input, values)
 }
 
@@ -66,9 +233,16 @@ fn equals(
         Right::Dots(mask) => mask.matches(text),
         Right::Plain(simple) => simple.matches(text),
         Right::Filter(place) => passes(filters, *place, text),
-        Right::Var(slot) => is_that_text(text, &value(slot, input, values)),
+        Right::Var(slot) => is_named_text(text, slot, input, values),
         Right::Number(_) => false,
     }
+}
+
+// The text is that of the variable.
+fn is_named_text(text: &Short, slot: &Slot, input: &Seen<'_>, values: &Values) -> bool
+    ensures { result ≡ is_that_text text.now (slot_value slot.now input.now values.now) }
+{
+    is_that_text(text, &named_value(slot, input, values))
 }
 
 fn is_that_text(text: &Short, other: &Value) -> bool
@@ -78,25 +252,6 @@ fn is_that_text(text: &Short, other: &Value) -> bool
         Value::Text(other) => text.bytes() == other.bytes(),
         _ => false,
     }
-}
-
-fn passes(filters: &[FilterIndex], place: u64, text: &Short) -> bool
-    ensures { result ≡ passes_if_any text.now (slice_get filters.now place) }
-{
-    match filters.get(place as usize) {
-        None => false,
-        Some(filter) => has::<Brand>(filter, text, Blank::new(1)),
-    }
-}
-
-fn has<L: Ledger>(filter: &FilterIndex, text: &Short, blank: Blank) -> bool
-    requires name { blank.name ≡ L.name }
-    requires parts { blank.parts ≡ L.parts }
-    requires some { 0 < blank.parts }
-    ensures { result ≡ passes_filter text.now filter.now.include filter.now.exclude }
-{
-    let mut steps = Steps::<L>::new(blank);
-    filter.has(text, &mut steps)
 }
 
 fn any_volume(filters: &[FilterIndex], right: &Right, input: &Seen<'_>, values: &Values) -> bool
@@ -157,9 +312,16 @@ fn number_beside(right: &Right, input: &Seen<'_>, values: &Values) -> Option<u64
 {
     match right {
         Right::Number(number) => Some(*number),
-        Right::Var(slot) => counted(&value(slot, input, values)),
+        Right::Var(slot) => named_number(slot, input, values),
         _ => None,
     }
+}
+
+// The number of the variable, if it is one.
+fn named_number(slot: &Slot, input: &Seen<'_>, values: &Values) -> Option<u64>
+    ensures { result ≡ counted (slot_value slot.now input.now values.now) }
+{
+    counted(&named_value(slot, input, values))
 }
 
 fn counted(value: &Value) -> Option<u64>

@@ -1,11 +1,14 @@
 //! The machine that runs the code of a routine (docs/acs-language.md, Code).
 #![tactic(auto)]
 
-mod classes;
-mod compare;
+mod answers;
+pub mod classes;
+pub mod compare;
 mod draft;
-mod line;
+pub mod line;
 mod machine;
+mod memo;
+mod passing;
 mod short;
 mod value;
 mod values;

@@ -1,4 +1,4 @@
-// What WRITE writes.
+//! What WRITE writes.
 ghost use Rattle.std.specs.Prelude.{◌≡◌, ◌≤◌, ◌++◌, ◌∷◌, [], codes, decimal, length, take};
 ghost use Rattle.desk_common.specs.Bytes.{comma};
 ghost use Rattle.desk_common.specs.Limits.{most_literal_bytes};
@@ -9,7 +9,7 @@ ghost use Rattle.acs_run.specs.Inner.Seen.{seen};
 
 use crate::draft::Draft;
 use crate::value::Value;
-use crate::values::value;
+use crate::values::named_value;
 use acs_code::Part;
 use acs_tree::{Seen, Values};
 use dsn_mask::{Lit, Name, Short, Volser};
@@ -32,7 +32,7 @@ fn put_part(draft: &mut Draft, part: &Part, input: &Seen<'_>, values: &Values)
 {
     match part {
         Part::Literal(text) => draft.put(text.bytes()),
-        Part::Var(slot) => put_value(draft, &value(slot, input, values), input, values),
+        Part::Var(slot) => put_value(draft, &named_value(slot, input, values), input, values),
     }
 }
 

@@ -3,6 +3,7 @@ ghost use Rattle.std.specs.Prelude.{◌≡◌};
 ghost use Rattle.dsn_mask.specs.Name.{IsShort};
 ghost use Rattle.dsn_mask.specs.Qualifiers.{qualifiers_of};
 ghost use Rattle.acs_tree.specs.Value.{text_at};
+ghost use Rattle.acs_tree.specs.Variables.{last_qualifier};
 
 use dsn_mask::{Dsn, Name, Short, Volser};
 
@@ -35,4 +36,11 @@ pub fn qualifier(dsn: &Dsn, number: usize) -> Short
         None => Short::null(),
         Some(bytes) => short(bytes),
     }
+}
+
+/// The last qualifier.
+pub fn last_qualifier(dsn: &Dsn) -> Short
+    ensures { result ≡ last_qualifier dsn.now }
+{
+    qualifier(dsn, dsn.count())
 }

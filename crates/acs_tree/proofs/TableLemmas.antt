@@ -24,7 +24,7 @@ one_row row kept rows name true e h = ap (λ found. if bytes_eq name row.0 then 
 one_row row kept rows name false e h = h ∙ ap (λ b. if b then Some row.1 else look_up rows name) (sym (apart name row.0 (bytes_eq name row.0) refl e))
 
 -- a name is looked for among those of its length
-among_its_length : {A : Type 0} (rows : List (List ℕ × A)) (name : List ℕ) → look_up (filter (λ (row : List ℕ × A). length row.0 == length name) rows) name ≡ look_up rows name
+pub among_its_length : {A : Type 0} (rows : List (List ℕ × A)) (name : List ℕ) → look_up (filter (λ (row : List ℕ × A). length row.0 == length name) rows) name ≡ look_up rows name
 among_its_length [] name = refl
 among_its_length {A} (row ∷ rows) name = one_row row (filter (λ (row : List ℕ × A). length row.0 == length name) rows) rows name (length row.0 == length name) refl (among_its_length rows name)
 

@@ -55,6 +55,7 @@ pub use routine::{
     Whens,
 };
 pub use seen::Seen;
+pub use seen_texts::SeenTexts;
 pub use slate::{Slate, same_kind};
 pub use values::Values;
 pub use variable::{Indexing, Variable, VariableKind};

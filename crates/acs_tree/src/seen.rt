@@ -138,4 +138,16 @@ impl<'a> Seen<'a> {
     {
         self.volumes
     }
+
+    /// The texts, each of which can be read alone.
+    pub fn texts(&self) -> &SeenTexts<'a>
+        ensures { result.now ≡ record {
+          origin = self.now.origin;
+          attributes = self.now.attributes;
+          environment = self.now.environment;
+          defaults = self.now.defaults;
+        } }
+    {
+        &self.texts
+    }
 }

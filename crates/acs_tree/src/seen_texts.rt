@@ -1,5 +1,5 @@
 // The texts that routines see.
-ghost use Rattle.std.specs.Prelude.{◌≡◌, option_copied, unwrap_or};
+ghost use Rattle.std.specs.Prelude.{◌≡◌, [], option_copied, unwrap_or};
 ghost use Rattle.acs_tree.specs.Inputs.{no_texts};
 
 use crate::attributes::Attributes;
@@ -22,10 +22,12 @@ pub struct SeenTexts<'a> {
     job: Short,
     sysname: Short,
     sysplex: Short,
+    // What stands for a text that is not given.
+    null: Short,
 }
 
 impl<'a> Model for SeenTexts<'a> {
-    ghost use Rattle.std.specs.Prelude.{option_copied, unwrap_or};
+    ghost use Rattle.std.specs.Prelude.{◌≡◌, [], option_copied, unwrap_or};
     ghost use Rattle.acs_tree.specs.declared.given_texts.GivenTexts.{GivenTexts};
     ghost use Rattle.acs_tree.specs.Inputs.{no_texts};
 
@@ -38,6 +40,8 @@ impl<'a> Model for SeenTexts<'a> {
           { sysname = s.sysname; sysplex = s.sysplex };
       defaults = unwrap_or (option_copied s.defaults) no_texts.defaults;
     } };
+
+    ghost invariant = { λ s. s.null ≡ [] };
 }
 
 impl<'a> SeenTexts<'a> {
@@ -58,6 +62,7 @@ impl<'a> SeenTexts<'a> {
             job: input.origin.job,
             sysname: input.environment.sysname,
             sysplex: input.environment.sysplex,
+            null: Short::null(),
         }
     }
 
@@ -78,6 +83,7 @@ impl<'a> SeenTexts<'a> {
             job,
             sysname,
             sysplex,
+            null: Short::null(),
         };
         if let Some(texts) = texts {
             seen.origin = Some(&texts.origin);
@@ -127,5 +133,182 @@ impl<'a> SeenTexts<'a> {
             Some(defaults) => *defaults,
             None => Defaults::new(),
         }
+    }
+
+    pub fn job(&self) -> &Short
+        ensures { result.now ≡ self.now.origin.job }
+    {
+        &self.job
+    }
+
+    pub fn sysname(&self) -> &Short
+        ensures { result.now ≡ self.now.environment.sysname }
+    {
+        &self.sysname
+    }
+
+    pub fn sysplex(&self) -> &Short
+        ensures { result.now ≡ self.now.environment.sysplex }
+    {
+        &self.sysplex
+    }
+
+    pub fn user(&self) -> &Short
+        ensures { result.now ≡ self.now.origin.user }
+    {
+        match self.origin {
+            Some(origin) => &origin.user,
+            None => &self.null,
+        }
+    }
+
+    pub fn group(&self) -> &Short
+        ensures { result.now ≡ self.now.origin.group }
+    {
+        match self.origin {
+            Some(origin) => &origin.group,
+            None => &self.null,
+        }
+    }
+
+    pub fn pgm(&self) -> &Short
+        ensures { result.now ≡ self.now.origin.pgm }
+    {
+        match self.origin {
+            Some(origin) => &origin.pgm,
+            None => &self.null,
+        }
+    }
+
+    pub fn dd(&self) -> &Short
+        ensures { result.now ≡ self.now.origin.dd }
+    {
+        match self.origin {
+            Some(origin) => &origin.dd,
+            None => &self.null,
+        }
+    }
+
+    pub fn applic(&self) -> &Short
+        ensures { result.now ≡ self.now.origin.applic }
+    {
+        match self.origin {
+            Some(origin) => &origin.applic,
+            None => &self.null,
+        }
+    }
+
+    pub fn unit(&self) -> &Short
+        ensures { result.now ≡ self.now.attributes.unit }
+    {
+        match self.attributes {
+            Some(attributes) => &attributes.unit,
+            None => &self.null,
+        }
+    }
+
+    pub fn dsorg(&self) -> &Short
+        ensures { result.now ≡ self.now.attributes.dsorg }
+    {
+        match self.attributes {
+            Some(attributes) => &attributes.dsorg,
+            None => &self.null,
+        }
+    }
+
+    pub fn recorg(&self) -> &Short
+        ensures { result.now ≡ self.now.attributes.recorg }
+    {
+        match self.attributes {
+            Some(attributes) => &attributes.recorg,
+            None => &self.null,
+        }
+    }
+
+    pub fn dsntype(&self) -> &Short
+        ensures { result.now ≡ self.now.attributes.dsntype }
+    {
+        match self.attributes {
+            Some(attributes) => &attributes.dsntype,
+            None => &self.null,
+        }
+    }
+
+    pub fn dstype(&self) -> Short
+        ensures { result ≡ self.now.attributes.dstype }
+    {
+        match self.attributes {
+            Some(attributes) => attributes.dstype,
+            None => Short::new(b"PERM").unwrap(),
+        }
+    }
+
+    pub fn dsowner(&self) -> &Short
+        ensures { result.now ≡ self.now.attributes.dsowner }
+    {
+        match self.attributes {
+            Some(attributes) => &attributes.dsowner,
+            None => &self.null,
+        }
+    }
+
+    pub fn expdt(&self) -> &Short
+        ensures { result.now ≡ self.now.attributes.expdt }
+    {
+        match self.attributes {
+            Some(attributes) => &attributes.expdt,
+            None => &self.null,
+        }
+    }
+
+    pub fn acsenvir(&self) -> Short
+        ensures { result ≡ self.now.environment.acsenvir }
+    {
+        match self.environment {
+            Some(environment) => environment.acsenvir,
+            None => Short::new(b"ALLOC").unwrap(),
+        }
+    }
+
+    pub fn xmode(&self) -> Short
+        ensures { result ≡ self.now.environment.xmode }
+    {
+        match self.environment {
+            Some(environment) => environment.xmode,
+            None => Short::new(b"BATCH").unwrap(),
+        }
+    }
+
+    pub fn dataclas(&self) -> &Short
+        ensures { result.now ≡ self.now.defaults.dataclas }
+    {
+        match self.defaults {
+            Some(defaults) => &defaults.dataclas,
+            None => &self.null,
+        }
+    }
+
+    pub fn storclas(&self) -> &Short
+        ensures { result.now ≡ self.now.defaults.storclas }
+    {
+        match self.defaults {
+            Some(defaults) => &defaults.storclas,
+            None => &self.null,
+        }
+    }
+
+    pub fn mgmtclas(&self) -> &Short
+        ensures { result.now ≡ self.now.defaults.mgmtclas }
+    {
+        match self.defaults {
+            Some(defaults) => &defaults.mgmtclas,
+            None => &self.null,
+        }
+    }
+
+    pub fn null(&self) -> &Short
+        ensures { result.now ≡ [] }
+    {
+        &self.null
     }
 }

@@ -47,3 +47,5 @@ pub mod TraceExamples
 pub mod PurgeExamples
 pub mod RoutineExamples
 pub mod KeptRowExamples
+pub mod GrantedExamples
+pub mod ExtentExamples

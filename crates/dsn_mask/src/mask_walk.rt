@@ -64,9 +64,29 @@ fn front<'a>(mask: Option<&'a [u8]>, value: Option<&'a [u8]>) -> QualifierFront<
     }
 }
 
-/// Whether the mask fits the value, qualifier by qualifier. Only the last `**` is gone back to.
-#[tactic(auto, using(crate::proofs::QualifierTurns::qualifier_steps))]
+// Whether the first bytes let the mask fit: one that begins with another byte than the value never does.
+fn may_begin(mask: &[u8], value: &[u8]) -> bool
+    ensures { result ≡ false → mask_fits mask.now value.now ≡ false }
+{
+    match mask.split_first() {
+        None => true,
+        Some((symbol, _)) => match value.split_first() {
+            None => true,
+            Some((byte, _)) => *symbol == *byte || *symbol == b'*' || *symbol == b'%',
+        },
+    }
+}
+
+/// Whether the mask fits the value.
 pub fn mask_fits(mask: &[u8], value: &[u8]) -> bool
+    ensures { result ≡ mask_fits mask.now value.now }
+{
+    may_begin(mask, value) && walk(mask, value)
+}
+
+// The same, qualifier by qualifier. Only the last `**` is gone back to.
+#[tactic(auto, using(crate::proofs::QualifierTurns::qualifier_steps))]
+fn walk(mask: &[u8], value: &[u8]) -> bool
     ensures { result ≡ mask_fits mask.now value.now }
 {
     let mut pieces = Some(mask);

@@ -8,7 +8,6 @@ use sms_base::{Accept, Failed, MemAccept, MemLink};
 pub struct FailingDoor {
     pub door: MemAccept,
     pub left: u32,
-    pub ended: bool,
     pub faults: u64,
 }
 
@@ -17,7 +16,7 @@ impl Accept for FailingDoor {
 
     ghost given = { λ d. d.door.given };
 
-    ghost ended = { λ d. d.ended };
+    ghost ended = { λ d. d.door.ended };
 
     ghost door_faults = { λ d. d.faults };
 
@@ -31,14 +30,11 @@ impl Accept for FailingDoor {
         // A fact for the proof; nothing changes.
         let _back = self.door.back();
         if self.left == 0 {
-            self.ended = false;
             self.faults = self.faults.saturating_add(1);
             return Err(Failed);
         }
         self.left -= 1;
-        let given = self.door.accept()?;
-        self.ended = given.is_none();
-        Ok(given)
+        self.door.accept()
     }
 
     fn done(&mut self, link: MemLink) {

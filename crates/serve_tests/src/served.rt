@@ -44,9 +44,9 @@ static ACTIVATE_AND_ALLOC: &[u8] = b"POST /admin/1/activate HTTP/1.1\r\nHost: 12
 static ACTIVATED_AND_GRANTED: &[u8] = b"HTTP/1.1 200 OK\r\nContent-Type: application/json\r\nContent-Length: 62\r\n\
     Connection: keep-alive\r\n\r\n\
     {\"code\":\"A04\",\"first\":1,\"lines\":[\"A04 ACTIVATED 1\"],\"place\":1}\
-    HTTP/1.1 200 OK\r\nContent-Type: application/json\r\nContent-Length: 99\r\n\
+    HTTP/1.1 200 OK\r\nContent-Type: application/json\r\nContent-Length: 103\r\n\
     Connection: keep-alive\r\n\r\n\
-    {\"code\":\"A00\",\"first\":2,\"lines\":[\"A00 GRANTED\",\"CLASS - SC1 - SG1\",\"EXTENT VOL001 0 10\"],\"place\":2}";
+    {\"code\":\"A00\",\"first\":2,\"lines\":[\"A00 GRANTED\",\"  CLASS - SC1 - SG1\",\"  EXTENT VOL001 0 10\"],\"place\":2}";
 
 /// The heads of four activations whose decks have 250,000 bytes.
 #[rattlefmt::skip]
@@ -82,6 +82,9 @@ static WORDS: [(&[&str], bool); 21] = [
     (&["serve", "8080", "1", "--workers", "17"], false),
     (&["serve", "8080", "1", "--workers", "1", "x"], false),
 ];
+
+/// The text where two links of a door ask a request each, and a third one none.
+static THREE_LINKS: &[u8] = b"CONN 1 1 CUT\nCONN 1 2 CUT\nCONN 1 3 CLOSED\nEND 2 3\n";
 
 /// How many links a door gives before it fails, and the text that is written then.
 #[rattlefmt::skip]
@@ -282,19 +285,20 @@ fn a_connection_may_bring_a_million_pieces(rt: HostRuntime) -> Result<(), Fail> 
 }
 
 #[test]
-fn two_links_of_a_door_share_the_desk(rt: HostRuntime) -> Result<(), Fail> {
+fn three_links_of_a_door_share_the_desk(rt: HostRuntime) -> Result<(), Fail> {
     let alloc = rt.alloc();
     let first = link(alloc, CUT_BEHIND, 4096, &[], &[])?;
     let second = link(alloc, CUT_BEHIND, 4096, &[], &[])?;
-    let door = MemAccept::new(alloc, vec![in alloc; first, second]?)?;
-    let (served, door) = serve(&rt, alloc, "2", door, &[])?;
+    let third = link(alloc, b"", 4096, &[], &[])?;
+    let door = MemAccept::new(alloc, vec![in alloc; first, second, third]?)?;
+    let (served, door) = serve(&rt, alloc, "3", door, &[])?;
     assert!(rt; served.status == ServeStatus::Done);
-    assert!(rt; served.text.as_slice() == b"CONN 1 1 CUT\nCONN 1 2 CUT\nEND 2 2\n".as_slice());
-    let [first, second] = door.back() else {
+    assert!(rt; served.text.as_slice() == THREE_LINKS);
+    let [first, second, third] = door.back() else {
         return Err(Fail::from("links"));
     };
-    assert!(rt; first.taken() == ANSWERED);
-    assert!(rt; second.taken().ends_with(b"\"place\":2}"));
+    assert!(rt; first.taken() == ANSWERED && second.taken().ends_with(b"\"place\":2}"));
+    assert!(rt; third.taken().is_empty());
     Ok(())
 }
 
@@ -317,7 +321,6 @@ fn a_door_that_fails_stops_its_worker(rt: HostRuntime) -> Result<(), Fail> {
         let door = FailingDoor {
             door: door_of(alloc, link(alloc, CUT_BEHIND, 4096, &[], &[])?)?,
             left: *left,
-            ended: false,
             faults: 0,
         };
         let (served, door) = serve(&rt, alloc, "3", door, &[])?;
@@ -335,7 +338,6 @@ fn a_failing_sink_comes_before_a_failing_door(rt: HostRuntime) -> Result<(), Fai
     let door = FailingDoor {
         door: door_of(alloc, link(alloc, CUT_BEHIND, 4096, &[], &[])?)?,
         left: 1,
-        ended: false,
         faults: 0,
     };
     let (served, _door) = serve(&rt, alloc, "3", door, &[2])?;
@@ -399,7 +401,6 @@ fn a_door_that_fails_stops_no_other_worker(rt: HostRuntime) -> Result<(), Fail> 
         let door = FailingDoor {
             door: door_of(alloc, link(alloc, CUT_BEHIND, 4096, &[], &[])?)?,
             left,
-            ended: false,
             faults: 0,
         };
         if doors.push(door).is_err() {

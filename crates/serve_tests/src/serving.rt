@@ -28,12 +28,20 @@ static ALLOC: &str = "POST /job/JOB1/1/alloc/PAY.MASTER HTTP/1.1\r\nContent-Leng
 static ANSWERS: &[u8] = b"HTTP/1.1 200 OK\r\nContent-Type: application/json\r\nContent-Length: 62\r\n\
     Connection: keep-alive\r\n\r\n\
     {\"code\":\"A04\",\"first\":1,\"lines\":[\"A04 ACTIVATED 1\"],\"place\":1}\
-    HTTP/1.1 200 OK\r\nContent-Type: application/json\r\nContent-Length: 99\r\n\
+    HTTP/1.1 200 OK\r\nContent-Type: application/json\r\nContent-Length: 103\r\n\
     Connection: keep-alive\r\n\r\n\
-    {\"code\":\"A00\",\"first\":2,\"lines\":[\"A00 GRANTED\",\"CLASS - SC1 - SG1\",\"EXTENT VOL001 0 10\"],\"place\":2}\
-    HTTP/1.1 200 OK\r\nContent-Type: application/json\r\nContent-Length: 99\r\n\
+    {\"code\":\"A00\",\"first\":2,\"lines\":[\"A00 GRANTED\",\"  CLASS - SC1 - SG1\",\"  EXTENT VOL001 0 10\"],\"place\":2}\
+    HTTP/1.1 200 OK\r\nContent-Type: application/json\r\nContent-Length: 103\r\n\
     Connection: keep-alive\r\n\r\n\
-    {\"code\":\"A00\",\"first\":2,\"lines\":[\"A00 GRANTED\",\"CLASS - SC1 - SG1\",\"EXTENT VOL001 0 10\"],\"place\":3}";
+    {\"code\":\"A00\",\"first\":2,\"lines\":[\"A00 GRANTED\",\"  CLASS - SC1 - SG1\",\"  EXTENT VOL001 0 10\"],\"place\":3}";
+
+/// A message to a desk without data sets, and its answer.
+static EXTEND: &[u8] = b"POST /job/A/1/extend/A HTTP/1.1\r\n\r\n";
+
+#[rattlefmt::skip]
+static NOT_FOUND: &[u8] = b"HTTP/1.1 200 OK\r\nContent-Type: application/json\r\nContent-Length: 60\r\n\
+    Connection: keep-alive\r\n\r\n\
+    {\"code\":\"R19\",\"first\":1,\"lines\":[\"R19 NOT FOUND\"],\"place\":1}";
 
 /// How a conversation ended, what was sent, and how many requests the clerk answered and the desk entered.
 #[derive(Drop)]
@@ -98,6 +106,13 @@ fn a_desk_answers_in_pieces_of_any_size(rt: HostRuntime) -> Result<(), Fail> {
     for piece in &[1, 7, 100, 4096] {
         assert!(rt; is_served(rt.alloc(), *piece)?, "{piece}");
     }
+    Ok(())
+}
+
+#[test]
+fn an_empty_desk_finds_no_data_set(rt: HostRuntime) -> Result<(), Fail> {
+    let served = serve(rt.alloc(), EXTEND, 4096, 10)?;
+    assert!(rt; served.sent.as_slice() == NOT_FOUND && served.entered == 1);
     Ok(())
 }
 

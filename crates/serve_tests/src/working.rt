@@ -61,11 +61,14 @@ static ROWS: [Row; 16] = [
     ("<1>J 1 ALLOC A.B SPACE=(TRK,1)\n<1>", 1, 3, 1, "A04 ACTIVATED 1"),
 ];
 
-const FIRST: &str = "A00 GRANTED; CLASS - SC1 - SG1; EXTENT VOL001 0 1; WRITE STORCLAS DECK 1";
+const FIRST: &str =
+    "A00 GRANTED;   CLASS - SC1 - SG1;   EXTENT VOL001 0 1;   WRITE STORCLAS DECK 1";
 
-const SECOND: &str = "A00 GRANTED; CLASS - SC2 - SG1; EXTENT VOL001 0 1; WRITE STORCLAS DECK 2";
+const SECOND: &str =
+    "A00 GRANTED;   CLASS - SC2 - SG1;   EXTENT VOL001 0 1;   WRITE STORCLAS DECK 2";
 
-const BEHIND: &str = "A00 GRANTED; CLASS - SC1 - SG1; EXTENT VOL001 1 1; WRITE STORCLAS DECK 1";
+const BEHIND: &str =
+    "A00 GRANTED;   CLASS - SC1 - SG1;   EXTENT VOL001 1 1;   WRITE STORCLAS DECK 1";
 
 /// Commands; which commit fails; how many of them come before the work for the last one is done; and that one's place,
 /// first place and answer.

@@ -4,7 +4,7 @@ ghost use Rattle.std.specs.declared.option.Option.{Option};
 ghost use Rattle.std.specs.Io.{ReadsAtMost};
 ghost use Rattle.std.specs.Io.KnownBytes.{ReadConsumes};
 ghost use Rattle.desk_common.specs.Causes.{HasCause};
-ghost use Rattle.sms_base.specs.Beside.{Beside, no_half};
+ghost use Rattle.sms_base.specs.Beside.{Beside, ReadMoment, no_half, one_moment_more};
 ghost use Rattle.sms_base.specs.Counts.{one_call_more};
 
 use thiserror::Error;
@@ -36,6 +36,9 @@ pub trait Source {
     /// How many reads were made, where they are told.
     ghost reads: { Self → Option ℕ } = { λ _. None };
 
+    /// The link at each read that was made, where that is told.
+    ghost moments: { Self → Option (List ReadMoment) } = { λ _. None };
+
     /// The other half of a link, which a read never changes.
     ghost beside_reading: { Self → Beside } = { λ _. no_half };
 
@@ -45,6 +48,8 @@ pub trait Source {
         ensures bound { ReadsAtMost result buf.new }
         ensures bytes { ReadConsumes (left self.old) (left self.new) result buf.new }
         ensures reads { reads self.new ≡ one_call_more (reads self.old) }
+        ensures moments { moments self.new ≡ one_moment_more (moments self.old)
+            (record { left = left self.old; taken = (beside_reading self.old).bytes }) }
         ensures beside { beside_reading self.new ≡ beside_reading self.old }
         ensures cause { HasCause (read_faults self.old) (read_faults self.new) result };
 }

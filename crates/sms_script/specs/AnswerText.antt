@@ -70,58 +70,70 @@ reply_text Memory = codes "M31 MEMORY"
 abbrev pub used_text : ℕ → List ℕ
 used_text used = codes "USED " ++ decimal used
 
--- the lines of a data set that is shown
-abbrev pub shown_lines : DataSet → List (List ℕ)
-shown_lines set = class_text set ∷ used_text set.used ∷ map extent_text set.extents
+-- what is said of a data set that is shown
+abbrev pub shown_texts : DataSet → List (List ℕ)
+shown_texts set = class_text set ∷ used_text set.used ∷ map extent_text set.extents
 
--- the lines behind the first one of a view
-abbrev pub view_lines : View → List (List ℕ)
-view_lines (Group name status volumes capacity free) = []
-view_lines (Volume row) = []
-view_lines (Set set) = shown_lines set
+-- what is said behind the first line of a view
+abbrev pub view_texts : View → List (List ℕ)
+view_texts (Group name status volumes capacity free) = []
+view_texts (Volume row) = []
+view_texts (Set set) = shown_texts set
 
--- the lines of a data set that was allocated, and what its routines wrote
-abbrev pub granted_lines : DataSet → Trace → List (List ℕ)
-granted_lines set trace = class_text set ∷ (map extent_text set.extents ++ trace_lines trace)
+-- what is said of a data set that was allocated, and what its routines wrote
+abbrev pub granted_texts : DataSet → Trace → List (List ℕ)
+granted_texts set trace = class_text set ∷ (map extent_text set.extents ++ trace_lines trace)
+
+-- what is said behind the first line of a reply
+abbrev pub further_texts : Reply → List (List ℕ)
+further_texts (Granted set trace) = granted_texts set trace
+further_texts (NotManaged trace) = trace_lines trace
+further_texts (Extended added) = map extent_text added
+further_texts (Deleted tracks) = []
+further_texts (Activated count) = []
+further_texts (Varied target status) = []
+further_texts (Shown view) = view_texts view
+further_texts (Purged job floor) = []
+further_texts Noted = []
+further_texts (Released tracks) = []
+further_texts (Reused first) = []
+further_texts (Below floor) = []
+further_texts NoConfig = []
+further_texts NameInUse = []
+further_texts (Exit kind code trace) = trace_lines trace
+further_texts (UnknownClass kind name trace) = trace_lines trace
+further_texts (NoQuantity trace) = trace_lines trace
+further_texts (NoGroup trace) = trace_lines trace
+further_texts (NoVolume trace) = trace_lines trace
+further_texts NotFound = []
+further_texts (NoExtend why) = []
+further_texts (Deck fault) = []
+further_texts (VolumeInUse volser) = []
+further_texts UnknownName = []
+further_texts JournalFull = []
+further_texts (PastGrant granted) = []
+further_texts KeeperFault = []
+further_texts Memory = []
+
+-- a further line: two spaces, and what is said
+abbrev pub indented : List ℕ → List ℕ
+indented text = codes "  " ++ text
 
 -- the lines behind the first one of a reply
 abbrev pub further_lines : Reply → List (List ℕ)
-further_lines (Granted set trace) = granted_lines set trace
-further_lines (NotManaged trace) = trace_lines trace
-further_lines (Extended added) = map extent_text added
-further_lines (Deleted tracks) = []
-further_lines (Activated count) = []
-further_lines (Varied target status) = []
-further_lines (Shown view) = view_lines view
-further_lines (Purged job floor) = []
-further_lines Noted = []
-further_lines (Released tracks) = []
-further_lines (Reused first) = []
-further_lines (Below floor) = []
-further_lines NoConfig = []
-further_lines NameInUse = []
-further_lines (Exit kind code trace) = trace_lines trace
-further_lines (UnknownClass kind name trace) = trace_lines trace
-further_lines (NoQuantity trace) = trace_lines trace
-further_lines (NoGroup trace) = trace_lines trace
-further_lines (NoVolume trace) = trace_lines trace
-further_lines NotFound = []
-further_lines (NoExtend why) = []
-further_lines (Deck fault) = []
-further_lines (VolumeInUse volser) = []
-further_lines UnknownName = []
-further_lines JournalFull = []
-further_lines (PastGrant granted) = []
-further_lines KeeperFault = []
-further_lines Memory = []
+further_lines reply = map indented (further_texts reply)
+
+-- the lines of a view
+abbrev pub view_lines : View → List (List ℕ)
+view_lines view = view_text view ∷ map indented (view_texts view)
 
 -- the lines of an answer: its reply, and what stands behind that
 abbrev pub answer_lines : Answer → List (List ℕ)
 answer_lines answer = reply_text answer.reply ∷ further_lines answer.reply
 
--- a further line: two spaces before it, and LF behind it
-abbrev pub indented : List ℕ → List ℕ
-indented line = codes "  " ++ line ++ 10 ∷ []
+-- a line and its end
+abbrev pub ended : List ℕ → List ℕ
+ended line = line ++ 10 ∷ []
 
 -- the first line of an item: its line in the script, the place of its entry, the place of the first reply, and the
 -- request
@@ -130,9 +142,9 @@ head_text item answer =
     spaced (decimal item.line ∷ decimal answer.place ∷ decimal answer.first ∷ item.request.job
     ∷ decimal item.request.number ∷ reply_text answer.reply ∷ [])
 
--- all lines of an item
+-- all lines of an item: the first of its answer behind the places and the request, the others as they are
 abbrev pub item_text : Item → Answer → List ℕ
-item_text item answer = head_text item answer ++ 10 ∷ [] ++ flat_map indented (further_lines answer.reply)
+item_text item answer = ended (head_text item answer) ++ flat_map ended (further_lines answer.reply)
 
 -- the lines of all items, each with its answer
 abbrev pub items_text : List Item → List Answer → List ℕ

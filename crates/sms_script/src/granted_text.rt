@@ -1,35 +1,35 @@
 //! The lines behind the first one of an answer to an ALLOC, straight behind a text.
 ghost use Rattle.std.specs.Prelude.{◌≡◌, ◌++◌, flat_map, map, OnOk};
-ghost use Rattle.sms_script.specs.AnswerText.{granted_lines, indented};
+ghost use Rattle.sms_script.specs.AnswerText.{ended, granted_texts, indented};
 ghost use Rattle.sms_script.specs.NameText.{class_text, extent_text};
 ghost use Rattle.sms_script.specs.TraceText.{trace_lines};
 
-use crate::further_text::{write_class, write_extent};
-use crate::indenting::push_indented;
+use crate::further_text::{push_trace_lines, write_class, write_extent};
+use crate::indenting::push_ended;
 use crate::pushing::{ROOM, write_word};
-use crate::trace_text::push_trace;
 use desk_common::Items;
 use sms_construct::{DataSet, Extent, Trace};
 use std::alloc::{AllocError, Global};
 
-/// The lines of a data set that was allocated and of what its routines wrote, each with two spaces before it and LF
-/// behind it, put behind a text.
-#[tactic(auto, using(crate::proofs::IndentLemmas::granted_indented))]
+/// Puts the lines of a data set that was allocated and of what its routines wrote behind a text, each with LF behind
+/// it.
+#[tactic(auto, using(crate::proofs::IndentLemmas::granted_text))]
 pub fn push_granted_text(
     alloc: Global,
     text: &mut Vec<u8>,
     set: &DataSet,
     trace: &Trace,
 ) -> Result<(), AllocError>
-    ensures { OnOk result (text.new.items ≡ text.old.items ++ flat_map indented (granted_lines set.now trace.now)) }
+    ensures { OnOk result (text.new.items ≡ text.old.items
+        ++ flat_map ended (map indented (granted_texts set.now trace.now))) }
 {
     push_class_line(text, set)?;
     push_extent_lines(text, set.extents.as_slice())?;
-    push_trace_lines(alloc, text, trace)
+    push_trace_text(alloc, text, trace)
 }
 
 fn push_class_line(text: &mut Vec<u8>, set: &DataSet) -> Result<(), AllocError>
-    ensures { OnOk result (text.new.items ≡ text.old.items ++ indented (class_text set.now)) }
+    ensures { OnOk result (text.new.items ≡ text.old.items ++ ended (indented (class_text set.now))) }
 {
     let mut room = [0u8; ROOM];
     room[ROOM - 1] = b'\n';
@@ -39,7 +39,8 @@ fn push_class_line(text: &mut Vec<u8>, set: &DataSet) -> Result<(), AllocError>
 }
 
 fn push_extent_lines(text: &mut Vec<u8>, extents: &[Extent]) -> Result<(), AllocError>
-    ensures { OnOk result (text.new.items ≡ text.old.items ++ flat_map indented (map extent_text extents.now)) }
+    ensures { OnOk result (text.new.items ≡ text.old.items
+        ++ flat_map ended (map indented (map extent_text extents.now))) }
 {
     for extent in extents {
         push_extent_line(text, extent)?;
@@ -48,7 +49,7 @@ fn push_extent_lines(text: &mut Vec<u8>, extents: &[Extent]) -> Result<(), Alloc
 }
 
 fn push_extent_line(text: &mut Vec<u8>, extent: &Extent) -> Result<(), AllocError>
-    ensures { OnOk result (text.new.items ≡ text.old.items ++ indented (extent_text extent.now)) }
+    ensures { OnOk result (text.new.items ≡ text.old.items ++ ended (indented (extent_text extent.now))) }
 {
     let mut room = [0u8; ROOM];
     room[ROOM - 1] = b'\n';
@@ -57,10 +58,10 @@ fn push_extent_line(text: &mut Vec<u8>, extent: &Extent) -> Result<(), AllocErro
     text.extend_from_slice(&room[start..])
 }
 
-fn push_trace_lines(alloc: Global, text: &mut Vec<u8>, trace: &Trace) -> Result<(), AllocError>
-    ensures { OnOk result (text.new.items ≡ text.old.items ++ flat_map indented (trace_lines trace.now)) }
+fn push_trace_text(alloc: Global, text: &mut Vec<u8>, trace: &Trace) -> Result<(), AllocError>
+    ensures { OnOk result (text.new.items ≡ text.old.items ++ flat_map ended (map indented (trace_lines trace.now))) }
 {
     let mut lines = Items::new(alloc);
-    push_trace(alloc, &mut lines, trace)?;
-    push_indented(text, lines.as_slice())
+    push_trace_lines(alloc, &mut lines, trace)?;
+    push_ended(text, lines.as_slice())
 }

@@ -2,12 +2,12 @@
 ghost use Rattle.std.specs.Prelude.{◌≡◌, ◌≤◌, ◌++◌, ◌∷◌, [], flat_map, length, IfOk, OnOk, decimal};
 ghost use Rattle.desk_common.specs.Bytes.{space_byte};
 ghost use Rattle.sms_script.specs.Script.{items_of};
-ghost use Rattle.sms_script.specs.AnswerText.{answer_lines, end_text, further_lines, head_text, indented, item_text};
-ghost use Rattle.sms_script.specs.AnswerText.{items_text, text_of, view_lines, view_text};
+ghost use Rattle.sms_script.specs.AnswerText.{answer_lines, end_text, ended, further_lines, head_text, item_text};
+ghost use Rattle.sms_script.specs.AnswerText.{items_text, text_of, view_lines};
 
 use crate::further_text::{push_further, push_view_lines};
 use crate::granted_text::push_granted_text;
-use crate::indenting::push_indented;
+use crate::indenting::push_ended;
 use crate::item::{Item, Phase, Script};
 use crate::pushing::{
     ROOM, push_number_and_blank, write_number_and_blank, write_word, write_word_and_blank,
@@ -18,7 +18,7 @@ use desk_common::{Items, push_number};
 use sms_construct::{Answer, Reply, View};
 use std::alloc::{AllocError, Global};
 
-/// The lines of an answer: its reply, and what stands behind that (docs/script.md, "Answers").
+/// The lines of an answer: its reply, and the others, each with two leading spaces (docs/script.md, "Answers").
 pub fn answer_lines(alloc: Global, answer: &Answer) -> Result<TextLines, AllocError>
     ensures { IfOk result (λ lines. lines ≡ answer_lines answer.now) }
 {
@@ -32,7 +32,7 @@ pub fn answer_lines(alloc: Global, answer: &Answer) -> Result<TextLines, AllocEr
 
 /// The lines of a view, as an answer shows it without its code.
 pub fn view_lines(alloc: Global, view: &View) -> Result<TextLines, AllocError>
-    ensures { IfOk result (λ lines. lines ≡ view_text view.now ∷ view_lines view.now) }
+    ensures { IfOk result (λ lines. lines ≡ view_lines view.now) }
 {
     let mut first = empty_line(alloc)?;
     push_view(&mut first, view)?;
@@ -112,13 +112,13 @@ fn push_item(
     push_further_text(alloc, text, &answer.reply)
 }
 
-// The lines behind the first one of a reply, indented.
+// The lines behind the first one of a reply.
 fn push_further_text(alloc: Global, text: &mut Vec<u8>, reply: &Reply) -> Result<(), AllocError>
-    ensures { OnOk result (text.new.items ≡ text.old.items ++ flat_map indented (further_lines reply.now)) }
+    ensures { OnOk result (text.new.items ≡ text.old.items ++ flat_map ended (further_lines reply.now)) }
 {
     match reply {
         Reply::Granted { set, trace } => push_granted_text(alloc, text, set.get(), trace.get()),
-        _ => push_indented(text, further_of(alloc, reply)?.as_slice()),
+        _ => push_ended(text, further_of(alloc, reply)?.as_slice()),
     }
 }
 
@@ -132,7 +132,7 @@ fn further_of(alloc: Global, reply: &Reply) -> Result<TextLines, AllocError>
 
 // The first line. That of a data set that was allocated has no figures of its own, and is written at once.
 fn push_head(text: &mut Vec<u8>, item: &Item, answer: &Answer) -> Result<(), AllocError>
-    ensures { OnOk result (text.new.items ≡ text.old.items ++ head_text item.now answer.now ++ 10 ∷ []) }
+    ensures { OnOk result (text.new.items ≡ text.old.items ++ ended (head_text item.now answer.now)) }
 {
     match &answer.reply {
         Reply::Granted { .. } => push_places(text, item, answer, b"A00 GRANTED\n"),

@@ -262,6 +262,19 @@ fn each_reply_has_its_lines(rt: HostRuntime) -> Result<(), Fail> {
     compare_named(&rt, alloc, volser)
 }
 
+/// Whether each line behind the first one has two leading spaces, and no third.
+fn are_indented(lines: &[Items<u8>]) -> bool {
+    let [_, others @ ..] = lines else {
+        return false;
+    };
+    for line in others {
+        if !line.as_slice().starts_with(b"  ") || line.as_slice().starts_with(b"   ") {
+            return false;
+        }
+    }
+    true
+}
+
 #[test]
 fn the_lines_of_an_answer_are_its_reply_and_what_stands_behind(
     rt: HostRuntime,
@@ -276,13 +289,13 @@ fn the_lines_of_an_answer_are_its_reply_and_what_stands_behind(
             reply,
         },
     )?;
-    assert!(rt; lines.len() == 3);
+    assert!(rt; lines.len() == 3 && are_indented(lines.as_slice()));
     let lines = view_lines(alloc, &View::Set(data_set(alloc, None)?))?;
     let Some(first) = lines.get(0) else {
         return Err(Fail::from("lines"));
     };
     assert!(rt; first.as_slice() == b"SET PAY.MASTER".as_slice());
-    assert!(rt; lines.len() == 5);
+    assert!(rt; lines.len() == 5 && are_indented(lines.as_slice()));
     Ok(())
 }
 

@@ -39,6 +39,9 @@ static HEADS: [(usize, u16); 4] = [(8191, 200), (8192, 200), (8193, 431), (20_00
 
 static COUNTS: [(usize, u16); 2] = [(32, 200), (33, 431)];
 
+/// How many good headers stand before a line that is none, and the status.
+static SPOILED: [(usize, u16); 3] = [(31, 400), (32, 431), (33, 431)];
+
 /// Paths, and the most bytes of a body.
 static LIMITS: [(&str, usize); 3] = [
     ("/job/A/1/alloc/A", 4096),
@@ -330,6 +333,22 @@ fn has_headers(alloc: Global, count: usize, status: u16) -> Result<bool, Fail> {
     is_answered(alloc, "POST /job/A/1/extend/A HTTP/1.1", &headers, status)
 }
 
+/// Whether so many headers and a line that is none are answered with this status, in one piece and byte by byte.
+fn is_spoiled(alloc: Global, count: usize, status: u16) -> Result<bool, Fail> {
+    let headers = "A: b\r\n".repeat(alloc, count)?;
+    let text = format!(in alloc; "POST /job/A/1/extend/A HTTP/1.1\r\n{headers}no header\r\n")?;
+    let got = talk(alloc, text.as_bytes(), 1, 1000, &[], &[])?;
+    Ok(got.end == End::Refused(status) && status_of(alloc, text.as_bytes())? == status)
+}
+
+/// Whether a message with a body of so many bytes, read in pieces of 16,384 bytes, is heard in one turn.
+fn is_heard_at_once(alloc: Global, size: usize) -> Result<bool, Fail> {
+    let body = " ".repeat(alloc, size)?;
+    let text = message(alloc, "/admin/1/activate", &body)?;
+    let got = talk(alloc, text.as_bytes(), 16_384, 1, &[], &[])?;
+    Ok(got.end == End::Turns && got.talks.len() == 1)
+}
+
 /// Whether an empty object with so many bytes is answered with this status.
 fn is_body(alloc: Global, path: &str, size: usize, status: u16) -> Result<bool, Fail> {
     let filling = " ".repeat(alloc, size.saturating_sub(2))?;
@@ -353,6 +372,11 @@ fn heads_and_bodies_have_their_limits(rt: HostRuntime) -> Result<(), Fail> {
     for (count, status) in &COUNTS {
         assert!(rt; has_headers(alloc, *count, *status)?, "{count}");
     }
+    for (count, status) in &SPOILED {
+        assert!(rt; is_spoiled(alloc, *count, *status)?, "{count}");
+    }
+    // the head has 58 bytes
+    assert!(rt; is_heard_at_once(alloc, 16_326)? && !is_heard_at_once(alloc, 16_327)?);
     for (path, most) in &LIMITS {
         let more = most.saturating_add(1);
         let holds = is_body(alloc, path, *most, 200)? && is_body(alloc, path, more, 413)?;

@@ -2,6 +2,10 @@
 #![tactic(auto)]
 
 #[cfg(test)]
+mod adapters;
+#[cfg(test)]
+mod asking;
+#[cfg(test)]
 mod conversations;
 #[cfg(test)]
 mod record_forms;

@@ -3,7 +3,7 @@ ghost use Rattle.std.specs.Prelude.{◌≡◌, ◌≤◌, ◌<◌, ◌++◌, ◌
 ghost use Rattle.http_talk.specs.declared.talk.Talk.{Talk as TalkOf};
 
 use http_talk::{Clerk, End, Talk, serve_connection};
-use sms_base::MemLink;
+use sms_base::{Link, MemLink};
 use sms_construct::{Answer, Reply, Request};
 use std::alloc::{AllocError, Global};
 use std::test::Fail;
@@ -86,13 +86,20 @@ pub fn talk(
         reads.to_vec(alloc)?,
         writes.to_vec(alloc)?,
     );
+    let (end, talks) = talk_over(alloc, &mut link, turns);
+    let sent = link.taken().to_vec(alloc)?;
+    Ok(Outcome { end, sent, talks })
+}
+
+/// How a conversation over a link ends, and what was asked and answered.
+pub fn talk_over<L: Link>(alloc: Global, link: &mut L, turns: u64) -> (End, Vec<Talk>)
+    requires { 1 ≤ turns }
+{
     let mut clerk = Refuser {
         talks: Vec::new(alloc),
     };
-    let end = serve_connection(alloc, &mut clerk, &mut link, turns);
-    let sent = link.taken().to_vec(alloc)?;
-    let talks = clerk.talks;
-    Ok(Outcome { end, sent, talks })
+    let end = serve_connection(alloc, &mut clerk, link, turns);
+    (end, clerk.talks)
 }
 
 /// The same in pieces of 4,096 bytes, without a fault and with turns enough.

@@ -10,11 +10,13 @@ use std::sync::atomic::{AtomicU64, Ordering};
 // How often a worker looks before it goes on alone.
 const LOOKS: u32 = 10_000_000;
 
-// Holds each classification of round 1 until there were two, and counts those that went on alone.
+// Holds each classification of round 1 until there were two, counts those that went on alone, and adds up the last
+// letters of the storage classes that it was shown.
 #[derive(Drop)]
 pub struct Meeting {
     here: AtomicU64,
     alone: AtomicU64,
+    shown: AtomicU64,
 }
 
 impl Meeting {
@@ -22,14 +24,16 @@ impl Meeting {
         Meeting {
             here: AtomicU64::new(0),
             alone: AtomicU64::new(0),
+            shown: AtomicU64::new(0),
         }
     }
 
-    // How many came, and how many of them went on alone.
-    pub fn counts(&self) -> [u64; 2] {
+    // How many came, how many of them went on alone, and the sum of what was shown.
+    pub fn counts(&self) -> [u64; 3] {
         [
             self.here.load(Ordering::SeqCst),
             self.alone.load(Ordering::SeqCst),
+            self.shown.load(Ordering::SeqCst),
         ]
     }
 
@@ -51,10 +55,12 @@ impl Gate for Meeting {
         _rt: &R,
         _request: &Request,
         _config: &Config,
-        _made: &Classified,
+        made: &Classified,
         round: u8,
     ) {
         if round == 1 {
+            let class = made.values.storclas.bytes().last().copied().unwrap_or(0);
+            self.shown.fetch_add(u64::from(class), Ordering::SeqCst);
             self.meet();
         }
     }

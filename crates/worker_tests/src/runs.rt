@@ -45,6 +45,25 @@ storgroup = \"PROC STORGRP SET &STORGRP = 'SG1' END\"
 ./END
 ";
 
+// Two jobs that are given two storage classes, behind a phase in which both look at the volume.
+const TWO_CLASSES: &str = "SMSADMIN 1 ACTIVATE
+version = 1
+[storclass.SC1]
+[storclass.SC2]
+[storgroup.SG1.volume.VOL001]
+tracks = 100
+[routine]
+storclass = \"PROC STORCLAS IF &JOB = 'JOB1' THEN SET &STORCLAS = 'SC1' ELSE SET &STORCLAS = 'SC2' END\"
+storgroup = \"PROC STORGRP SET &STORGRP = 'SG1' END\"
+./END
+SYNC
+JOB1 1 DISPLAY SMS,VOLUME(VOL001)
+JOB2 1 DISPLAY SMS,VOLUME(VOL001)
+SYNC
+JOB1 2 ALLOC A.B SPACE=(TRK,10)
+JOB2 2 ALLOC A.C SPACE=(TRK,10)
+";
+
 #[test]
 fn an_activation_comes_between_a_classification_and_its_turn(rt: HostRuntime) -> Result<(), Fail> {
     let gate = Holding::new();
@@ -63,12 +82,13 @@ fn an_activation_comes_between_a_classification_and_its_turn(rt: HostRuntime) ->
 #[test]
 fn two_jobs_are_classified_at_once(rt: HostRuntime) -> Result<(), Fail> {
     let gate = Meeting::new();
-    let answers = run(rt.alloc(), &rt, TWO_JOBS, 3, &gate)?;
-    let [_, first, second] = answers.as_slice() else {
-        return Err(Fail::from("other than three answers"));
+    let answers = run(rt.alloc(), &rt, TWO_CLASSES, 3, &gate)?;
+    let [_, _, _, first, second] = answers.as_slice() else {
+        return Err(Fail::from("other than five answers"));
     };
-    assert!(rt; class_of(&first.reply) == b'1' && class_of(&second.reply) == b'1');
-    assert!(rt; gate.counts() == [2, 0]);
+    assert!(rt; class_of(&first.reply) == b'1' && class_of(&second.reply) == b'2');
+    // Both classes were shown before either job had its answer.
+    assert!(rt; gate.counts() == [2, 0, u64::from(b'1') + u64::from(b'2')]);
     Ok(())
 }
 

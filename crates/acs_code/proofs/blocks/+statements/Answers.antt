@@ -3,7 +3,7 @@ use Rattle.std.proofs.lemmas.Result.{on_ok_weaker}
 use Rattle.acs_tree.specs.declared.routine.Form.TheVariants.{If}
 use Rattle.acs_tree.specs.Meaning.{first_of}
 use Rattle.acs_code.specs.Inner.Arms.{arm_of}
-use Rattle.acs_code.specs.Inner.Compiled.{filters_of}
+use Rattle.acs_code.specs.Compiled.{filters_of}
 use Rattle.acs_code.specs.Inner.Upward.{Does}
 use Rattle.acs_code.proofs.StatementLemmas.{block_turn, when_clause_turn, when_clauses_turn, conditional_turn}
 use Rattle.acs_code.proofs.StatementLemmas.{exit_turn, if_turn, pick_turn, put_turn, written_turn}

@@ -2,7 +2,7 @@ use Rattle.std.proofs.Common.{◌≡◌, ◌≤◌, List, length, map, drop}
 use Rattle.acs_tree.specs.Meaning.{first_of, in_turn, meaning}
 use Rattle.acs_tree.specs.Outcome.{Action}
 use Rattle.acs_code.specs.Inner.Arms.{arm_of}
-use Rattle.acs_code.specs.Inner.Compiled.{filters_of}
+use Rattle.acs_code.specs.Compiled.{filters_of}
 use Rattle.acs_code.specs.Inner.Upward.{Does}
 use Rattle.acs_code.specs.declared.instr.Instr.{Instr}
 use Rattle.acs_code.proofs.blocks.+statements.Given as goal

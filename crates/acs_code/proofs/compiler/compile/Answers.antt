@@ -3,8 +3,8 @@ use Rattle.acs_tree.specs.declared.routine.Routine.{Routine}
 use Rattle.acs_code.proofs.Places.{forward_all, same_parts, stands_all}
 use Rattle.acs_code.proofs.compiler.compile.Goals as goal
 
-pub seal-requires : goal.seal-requires
-seal-requires c =
+pub seal-requires-clause-forward : goal.seal-requires-clause-forward
+seal-requires-clause-forward c =
     let parts = same_parts c.kind-kind.result c.finish-instrs.ensures c.in_ok-filters.ensures in
     forward_all c.args.checked.now c.block.new.code c.kind-kind.result c.in_ok-lists.lists c.as_slice-body.result.now _ c.in_ok-code.code parts c.in_ok-code.ensures c.in_ok-block.ensures
 

@@ -1,6 +1,6 @@
 use Rattle.std.proofs.Common.{◌≤◌, length, drop}
 use Rattle.acs_tree.specs.Conditions.{equals_any}
-use Rattle.acs_code.specs.Inner.Compiled.{filters_of}
+use Rattle.acs_code.specs.Compiled.{filters_of}
 use Rattle.acs_code.specs.Inner.Upward.{Branches}
 use Rattle.acs_code.proofs.conditions.items.Given as goal
 

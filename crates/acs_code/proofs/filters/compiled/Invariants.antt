@@ -1,5 +1,5 @@
 use Rattle.std.proofs.Common.{◌≡◌, ◌++◌, drop}
-use Rattle.acs_code.specs.Inner.Compiled.{compiled_in}
+use Rattle.acs_code.specs.Compiled.{compiled_in}
 use Rattle.acs_code.proofs.filters.compiled.Given as goal
 
 abbrev pub invariant-loop-stmt : goal.invariant-loop-stmt

@@ -1,5 +1,5 @@
 use Rattle.std.proofs.Common.{◌≡◌, ◌++◌}
-use Rattle.acs_code.specs.Inner.Compiled.{filters_in}
+use Rattle.acs_code.specs.Compiled.{filters_in}
 use Rattle.acs_code.proofs.lists.filters.Given as goal
 
 abbrev pub invariant-loop-list : goal.invariant-loop-list

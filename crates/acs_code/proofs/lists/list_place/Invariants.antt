@@ -1,6 +1,6 @@
 use Rattle.std.proofs.Common.{◌≡◌, drop}
 use Rattle.std.specs.Prelude.{Bool}
-use Rattle.acs_code.specs.Inner.Compiled.{compiled_comparand}
+use Rattle.acs_code.specs.Compiled.{compiled_comparand}
 use Rattle.acs_code.proofs.lists.list_place.Given as goal
 
 abbrev pub invariant-loop-place : goal.invariant-loop-place

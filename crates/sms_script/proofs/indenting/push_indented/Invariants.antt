@@ -1,8 +1,7 @@
-use Rattle.std.proofs.Common.{◌≡◌, ◌++◌, take}
-use Rattle.std.specs.Prelude.{flat_map}
+use Rattle.std.proofs.Common.{◌≡◌, ◌++◌, take, map}
 use Rattle.sms_script.specs.AnswerText.{indented}
 use Rattle.sms_script.proofs.indenting.push_indented.Given as goal
 
 -- the lines so far
-abbrev pub invariant-loop-line : goal.invariant-loop-line
-invariant-loop-line l = l.text.items ≡ l.initial.text.items ++ flat_map indented (take l.line-index l.lines)
+abbrev pub invariant-loop-text : goal.invariant-loop-text
+invariant-loop-text l = l.lines ≡ l.initial.lines ++ map indented (take l.text-index l.texts)

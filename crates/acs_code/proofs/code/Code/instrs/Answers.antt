@@ -4,4 +4,4 @@ use Rattle.acs_code.specs.Stands.{GoesForward}
 use Rattle.acs_code.proofs.code.Code.instrs.Goals as goal
 
 pub returns-clause-forward : goal.returns-clause-forward
-returns-clause-forward c = subst (λ (code : CodeParts). GoesForward code) c.self.view_is c.self.invariant
+returns-clause-forward c = subst (λ (code : CodeParts). GoesForward code) c.self.view_is c.self.invariant.1

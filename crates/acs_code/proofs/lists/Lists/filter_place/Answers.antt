@@ -1,5 +1,5 @@
 use Rattle.std.proofs.Common.{◌∙◌, ap}
-use Rattle.acs_code.specs.Inner.Compiled.{compiled_in}
+use Rattle.acs_code.specs.Compiled.{compiled_in}
 use Rattle.acs_code.proofs.ListLemmas.{filter_of_list, no_list}
 use Rattle.acs_code.proofs.lists.Lists.filter_place.Goals as goal
 

@@ -1,4 +1,0 @@
-use Rattle.acs_run.proofs.compare.passes.Given as goal
-
-abbrev pub ghosts-has : goal.ghosts-has
-ghosts-has a = record { name = a.blank.name; parts = a.blank.parts }
