@@ -3,22 +3,27 @@ ghost use Rattle.std.specs.Prelude.{[], ◌≡◌, ◌<◌, ◌≤◌};
 ghost use Rattle.desk_plan.specs.Plan.{worker_in};
 
 use dsn_mask::Name;
+use ordered_index::OrderedIndex;
 use std::alloc::Global;
-use std::collections::HashMap;
 use std::marker::Model;
 
-/// The numbers of jobs, from 0 on in the order in which they were put in.
+/// The numbers of jobs, from 0 on in the order in which they were put in. They are found by halving, so that no choice
+/// of names makes a look-up long.
 #[derive(Drop)]
 pub struct JobNumbers {
-    pub(crate) numbers: HashMap<Name, usize>,
+    pub(crate) numbers: OrderedIndex<Name, usize>,
+    // how many there are
+    pub(crate) count: usize,
 }
 
 impl Model for JobNumbers {
-    ghost use Rattle.std.specs.Prelude.{ℕ, List};
+    ghost use Rattle.std.specs.Prelude.{ℕ, List, length, ◌≡◌};
 
     ghost Value = { List (List ℕ × ℕ) };
 
-    ghost view = { λ j. j.numbers.entries };
+    ghost view = { λ j. j.numbers.rows };
+
+    ghost invariant = { λ j. j.count ≡ length j.numbers.rows };
 }
 
 impl JobNumbers {
@@ -27,7 +32,8 @@ impl JobNumbers {
         ensures { result ≡ [] }
     {
         JobNumbers {
-            numbers: HashMap::new(alloc),
+            numbers: OrderedIndex::new(alloc),
+            count: 0,
         }
     }
 

@@ -1,6 +1,7 @@
 //! How jobs are numbered.
-ghost use Rattle.std.specs.Prelude.{IfOk, OnOk};
+ghost use Rattle.std.specs.Prelude.{◌≡◌, IfOk, OnOk, is_some};
 ghost use Rattle.sms_script.specs.Script.{items_of};
+ghost use Rattle.desk_plan.specs.Plan.{number_in};
 ghost use Rattle.desk_plan.specs.Numbering.{AreNumbersOf, Renumbers, numbered_jobs, with_job, with_jobs};
 
 use crate::job_numbers::JobNumbers;
@@ -37,12 +38,20 @@ impl JobNumbers {
     fn add(&mut self, job: &Name) -> Result<(), AllocError>
         ensures added { OnOk result (Renumbers (λ jobs. with_job jobs job.now) self.old self.new) }
     {
-        if job.bytes() == ADMIN || self.numbers.contains_key(job) {
+        if job.bytes() == ADMIN || self.has(job) {
             return Ok(());
         }
-        let number = self.numbers.len();
-        self.numbers.reserve(1)?;
-        let _ = self.numbers.insert(*job, number);
+        let next = self.count.checked_add(1).ok_or(AllocError)?;
+        self.numbers.reserve()?;
+        self.numbers.put(*job, self.count);
+        self.count = next;
         Ok(())
+    }
+
+    // Whether a job has a number.
+    fn has(&self, job: &Name) -> bool
+        ensures { result ≡ is_some (number_in self.now job.now) }
+    {
+        self.numbers.get(job).is_some()
     }
 }

@@ -15,11 +15,11 @@ use Rattle.keeper_statements.specs.Presence.{present_in}
 use Rattle.keeper_statements.specs.Steps.{LeavesRest}
 use Rattle.sms_sqlite.specs.Reading.{IsMadeReady}
 use Rattle.sms_sqlite.specs.Told.{tables_of}
-use Rattle.sms_sqlite.specs.Values.{rows_in, rows_of}
+use Rattle.sms_sqlite.specs.Values.{rows_of}
 use Rattle.sms_sqlite.specs.Writing.{Holds, HoldsLike, AreAlike, HasRows, IsAsBefore, IsChangeLeft, IsCommitted}
 use Rattle.sms_sqlite.specs.Writing.{IsMadeLeft, IsSettled, with_effect, with_row, with_trees}
 use Rattle.sms_sqlite.proofs.TablesLemmas.{alike_self, alike_then}
-use Rattle.sms_sqlite.proofs.ToldLemmas.{alike_same, reads_of, same_self_rows}
+use Rattle.sms_sqlite.proofs.ToldLemmas.{alike_same, reads_of, same_self_rows, tables_of_holds}
 
 -- the last state of the transaction is the committed one
 pub commit_made : (old : Database) (last end : State) (rows : Rows) (done : Result (Unit {0}) Error) → HoldsLike old last.now rows
@@ -61,7 +61,7 @@ refused_by old new (Err e) now committed = record { now = now; committed = commi
 last_rows : (old : Database) (last : State) (rows : Rows) (db : Trees) → HoldsLike old last.now rows → db ≡ last.now.trees → HasRows old (with_trees old db) rows
 last_rows old last rows db holds is = record {
   found = holds.found;
-  read = (λ i. rows_in (record { schema = sym holds.rest.schema i; trees = is i })) ∙ holds.holds.read;
+  read = (λ i. tables_of (record { schema = sym holds.rest.schema i; trees = is i })) ∙ tables_of_holds last.now holds.found holds.holds;
   same = alike_same holds.found rows holds.alike;
   sound = λ sound. subst IsDatabase (λ i. let db : Database = record { schema = holds.rest.schema i; trees = sym is i } in db) (holds.rest.sound sound);
 }
@@ -108,7 +108,8 @@ ready_left old new db made is = record {
   sound = λ whole sound. subst (λ (t : Trees). IsDatabase (with_trees new t)) (sym is) (all_sound (present_in old.schema.tables) old new made whole sound);
   rows = λ rows told.
       let it = reads_of old rows told in
-      record { found = rows; read = ap (λ (t : Trees). rows_in (with_trees new t)) is ∙ ap rows_of (made_same old new it.serves made) ∙ it.read; same = same_self_rows rows; sound = λ sound. subst (λ (t : Trees). IsDatabase (with_trees new t)) (sym is) (made_sound old new it.serves made sound) };
+      let holds : Holds new rows = record { ready = made_ready old new it.serves made; read = ap rows_of (made_same old new it.serves made) ∙ it.read } in
+      record { found = rows; read = ap (λ (t : Trees). tables_of (with_trees new t)) is ∙ tables_of_holds new rows holds; same = same_self_rows rows; sound = λ sound. subst (λ (t : Trees). IsDatabase (with_trees new t)) (sym is) (made_sound old new it.serves made sound) };
 }
 
 pub survives_weaker : (old new : State) (P Q : Trees → Type 0) → ((db : Trees) → P db → Q db) → Survives old new P → Survives old new Q

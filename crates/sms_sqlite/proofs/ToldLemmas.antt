@@ -234,7 +234,7 @@ module _ (base : Database) (old new : State) (readable : IsReadable base old) (c
         tables_of_holds new.now found done.holds.holds,
         λ db left. record {
           found = found;
-          read = ap (λ (t : Trees). rows_in (with_trees new.now t)) (settled was.2 db left ∙ ap (λ (d : Database). d.trees) done.committed) ∙ done.holds.holds.read;
+          read = ap (λ (t : Trees). tables_of (with_trees new.now t)) (settled was.2 db left ∙ ap (λ (d : Database). d.trees) done.committed) ∙ tables_of_holds new.now found done.holds.holds;
           same = same_self_rows found;
           sound = subst (λ (t : Trees). IsDatabase new.now → IsDatabase (with_trees new.now t)) (sym (settled was.2 db left ∙ ap (λ (d : Database). d.trees) done.committed)) (λ is. is);
         },

@@ -37,11 +37,11 @@ pub record HoldsLike (old db : Database) (rows : Rows) : Type 0 where
   pub holds : Holds db found
   pub alike : AreAlike found rows
 
--- the database has these rows, in any order of the keys; and its trees list its schema and obey it, where those of the
--- old one did
+-- a keeper over the database tells these rows, in any order of the keys; and its trees list its schema and obey it,
+-- where those of the old one did
 pub record HasRows (old db : Database) (rows : Rows) : Type 0 where
   pub found : Rows
-  pub read : rows_in db ≡ Some found
+  pub read : tables_of db ≡ Some found
   pub same : AreSame found rows
   pub sound : IsDatabase old → IsDatabase db
 
