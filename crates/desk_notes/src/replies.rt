@@ -13,8 +13,8 @@ const REFUSAL_SENTENCE: &str =
     "an answer refuses a deck (R21): smsc validate, with the deck alone as input, says what is wrong in it\n";
 
 const FAULT_SENTENCE: &str =
-    "the records couldn't be written, as on a full disk: what was answered F30 wasn't done, and its numbers \
-    are still fresh; what else was done is kept\n";
+    "the records couldn't be written, as on a full disk: ask again, with the same numbers, for what was answered \
+    F30, and each acts once; over a file the first of it may have been done all the same; what else was done is kept\n";
 
 /// What the next byte of the text is. Of an answer's first line the reply stands behind five words.
 #[derive(Clone, Copy)]

@@ -1,6 +1,6 @@
 //! A keeper over a database.
-ghost use Rattle.std.specs.Prelude.{◌≡◌, ◌≤◌, IfErr, IfOk, IfSome, IsErrOf, IsTrue, None, OnErr, OnOk, Some, false};
-ghost use Rattle.std.specs.Prelude.{true};
+ghost use Rattle.std.specs.Prelude.{◌≡◌, ◌≤◌, ◌↔◌, IfErr, IfOk, IfSome, IsErrOf, IsTrue, None, OnErr, OnOk, Some};
+ghost use Rattle.std.specs.Prelude.{false, true};
 ghost use Rattle.desk_common.specs.Causes.{Rose, counted};
 ghost use Rattle.sqlite.specs.Held.{state};
 ghost use Rattle.sqlite.specs.State.{HasCleanDisk, Survives};
@@ -143,6 +143,7 @@ impl<S: Alter + Drop> SqlKeeper<S> {
     fn refuse(&mut self, error: Error) -> KeeperErr
         ensures connection { self.new.connection ≡ self.old.connection }
         ensures base { self.new.base ≡ self.old.base }
+        ensures named { result ≡ KeeperErr.NoMemory ↔ (error ≡ Error.SqliteFailure ErrorCode.OutOfMemory) }
         ensures memory { result ≡ KeeperErr.NoMemory → self.new.faults ≡ self.old.faults }
         ensures failed { result ≡ KeeperErr.Failed → self.new.faults ≡ counted self.old.faults }
         ensures rises { self.old.faults ≤ self.new.faults }
