@@ -51,7 +51,10 @@ pub fn share_phase<P: Keeper + Send, R: Threads + Wait + Sync, G: Gate + Sync>(
 }
 
 // The worker of each item of a phase, and how many there are: those alone that have an item.
-fn plan_phase<R, G>(crew: &Crew<'_, R, G>, items: &[Item]) -> Result<(Vec<usize>, usize), AllocError>
+fn plan_phase<R, G>(
+    crew: &Crew<'_, R, G>,
+    items: &[Item],
+) -> Result<(Vec<usize>, usize), AllocError>
     requires workers { (2 ≤ crew.now.workers) × (crew.now.workers ≤ most_workers) }
     ensures { IfOk result (λ r. IsPlanned items.now r.0.items r.1) }
 {
