@@ -1,12 +1,17 @@
 -- Jobs that get numbers, one after another.
 use Rattle.std.proofs.Common.{◌≡◌, inl, inr, ℕ, ◌+◌, ◌≤◌, Bool, true, false, List, [], ◌∷◌, ◌++◌, length, length-append}
 use Rattle.std.proofs.Common.{drop, get_or, if◌then◌else◌, refl, sym, ap, subst, ◌∙◌, arith, Decides, bytes_eq}
-use Rattle.std.proofs.Common.{position}
+use Rattle.std.proofs.Common.{position, Option, Ordering, Less, Equal, Greater}
 use Rattle.std.proofs.lemmas.Bool.{cases_Bool}
 use Rattle.std.proofs.lemmas.Slice.Eq.{bytes_eq-Decides}
 use Rattle.std.proofs.lemmas.Iterator.Adapters.{position_from-zero}
-use Rattle.std.specs.Prelude.{Some, None, is_some, Result, Ok, Err, IsOk, OnOk}
+use Rattle.std.specs.Prelude.{Some, None, is_some}
 use Rattle.std.specs.List.{list_any, list_all, position_from, AllByRecursion}
+use Rattle.std.specs.BTreeMap.{insert_entry, is_at}
+use Rattle.std.specs.Cmp.Lexicographic.{slice_cmp}
+use Rattle.std.specs.Map.{lookup}
+use Rattle.std.specs.Ordering.{nat_cmp}
+use Rattle.ordered_index.proofs.LookupLemmas.{lookup-text}
 use Rattle.sms_script.specs.Commands.{is_admin}
 use Rattle.sms_script.specs.declared.item.Item.{Item}
 use Rattle.desk_plan.specs.Plan.{number_in}
@@ -75,14 +80,24 @@ one-more jobs before after job are other new put grown =
         ∙ ap (λ o. if bytes_eq job q then Some (length jobs) else o) (are.0 q ∙ position_from-zero (bytes_eq q) jobs)
         ∙ ap (λ n. if bytes_eq job q then Some n else position_from (bytes_eq q) 0 jobs) (omega arith) ∙ sym (place-new q job 0 jobs fresh) ∙ sym (position_from-zero (bytes_eq q) (jobs ++ job ∷ []))
 
--- what succeeds has a value
-pub value-of : {T E : Type 0} (r : Result T E) → IsOk r → (value : T) × (r ≡ Ok value)
-value-of (Ok value) ok = (value, refl)
-value-of (Err e) ok = absurd cc
+-- a text that has no row gets one more
+length-new : (k : List ℕ) (v : ℕ) (rows : List (List ℕ × ℕ)) → lookup (is_at (slice_cmp nat_cmp k)) rows ≡ None → length (insert_entry (slice_cmp nat_cmp) rows k v) ≡ length rows + 1
+length-new k v [] none = refl
+length-new k v (e ∷ rows) none = by (slice_cmp nat_cmp k e.0) refl
+  where
+    by : (o : Ordering) → slice_cmp nat_cmp k e.0 ≡ o → length (insert_entry (slice_cmp nat_cmp) (e ∷ rows) k v) ≡ length (e ∷ rows) + 1
+    by Less is = rw is (omega arith)
+    by Equal is = let some : Some e.1 ≡ None = rw is at none in absurd cc
+    by Greater is =
+        let rest : lookup (is_at (slice_cmp nat_cmp k)) rows ≡ None = rw is at none in
+        rw is (omega (arith, length-new k v rows rest))
 
-pub of-ok : {T E : Type 0} {P : Type 0} (r : Result T E) → IsOk r → OnOk r P → P
-of-ok (Ok value) ok holds = holds
-of-ok (Err e) ok holds = absurd cc
+no-value : {V : Type 0} (o : Option V) → is_some o ≡ false → o ≡ None
+no-value None none = refl
+no-value (Some v) none = absurd cc
+
+pub length-put : (k : List ℕ) (v : ℕ) (rows : List (List ℕ × ℕ)) → is_some (number_in rows k) ≡ false → length (insert_entry (slice_cmp nat_cmp) rows k v) ≡ length rows + 1
+length-put k v rows new = length-new k v rows (lookup-text k rows ∙ no-value (number_in rows k) new)
 
 -- the items behind the first are of its job where all are of one
 of-first : (job : List ℕ) (items : List Item) → list_all (λ (item : Item). bytes_eq item.request.job job) items ≡ true → AllByRecursion (λ (item : Item). item.request.job ≡ job) items
