@@ -80,17 +80,19 @@ one-more jobs before after job are other new put grown =
         ∙ ap (λ o. if bytes_eq job q then Some (length jobs) else o) (are.0 q ∙ position_from-zero (bytes_eq q) jobs)
         ∙ ap (λ n. if bytes_eq job q then Some n else position_from (bytes_eq q) 0 jobs) (omega arith) ∙ sym (place-new q job 0 jobs fresh) ∙ sym (position_from-zero (bytes_eq q) (jobs ++ job ∷ []))
 
+new-at : (k : List ℕ) (v : ℕ) (e : List ℕ × ℕ) (rows : List (List ℕ × ℕ)) → lookup (is_at (slice_cmp nat_cmp k)) (e ∷ rows) ≡ None → (o : Ordering) → slice_cmp nat_cmp k e.0 ≡ o
+    → (lookup (is_at (slice_cmp nat_cmp k)) rows ≡ None → length (insert_entry (slice_cmp nat_cmp) rows k v) ≡ length rows + 1)
+    → length (insert_entry (slice_cmp nat_cmp) (e ∷ rows) k v) ≡ length (e ∷ rows) + 1
+new-at k v e rows none Less is more = rw is (omega arith)
+new-at k v e rows none Equal is more = let some : Some e.1 ≡ None = rw is at none in absurd cc
+new-at k v e rows none Greater is more =
+    let rest : lookup (is_at (slice_cmp nat_cmp k)) rows ≡ None = rw is at none in
+    rw is (omega (arith, more rest))
+
 -- a text that has no row gets one more
 length-new : (k : List ℕ) (v : ℕ) (rows : List (List ℕ × ℕ)) → lookup (is_at (slice_cmp nat_cmp k)) rows ≡ None → length (insert_entry (slice_cmp nat_cmp) rows k v) ≡ length rows + 1
 length-new k v [] none = refl
-length-new k v (e ∷ rows) none = by (slice_cmp nat_cmp k e.0) refl
-  where
-    by : (o : Ordering) → slice_cmp nat_cmp k e.0 ≡ o → length (insert_entry (slice_cmp nat_cmp) (e ∷ rows) k v) ≡ length (e ∷ rows) + 1
-    by Less is = rw is (omega arith)
-    by Equal is = let some : Some e.1 ≡ None = rw is at none in absurd cc
-    by Greater is =
-        let rest : lookup (is_at (slice_cmp nat_cmp k)) rows ≡ None = rw is at none in
-        rw is (omega (arith, length-new k v rows rest))
+length-new k v (e ∷ rows) none = new-at k v e rows none (slice_cmp nat_cmp k e.0) refl (λ rest. length-new k v rows rest)
 
 no-value : {V : Type 0} (o : Option V) → is_some o ≡ false → o ≡ None
 no-value None none = refl

@@ -1,11 +1,15 @@
 -- Workers that have an item.
 use Rattle.std.proofs.Common.{inl, inr, ◌≡◌, ℕ, zero, suc, ◌+◌, ◌<◌, ◌≤◌, ◌==◌, Bool, true, false, List, [], ◌∷◌, ◌++◌}
-use Rattle.std.proofs.Common.{length, length-append, map, get_or, max, nat_lt, ltb-true, refl, sym, ap, ◌∙◌, arith, All}
-use Rattle.std.proofs.Common.{if◌then◌else◌, ◌-◌}
+use Rattle.std.proofs.Common.{length, length-append, map, get_or, max, nat_lt, ltb-true, ltb-false, refl, sym, ap, ◌∙◌, arith, All}
+use Rattle.std.proofs.Common.{if◌then◌else◌}
 use Rattle.std.specs.List.{list_any}
 use Rattle.std.proofs.lemmas.Bool.{cases_Bool}
 use Rattle.desk_plan.specs.Plan.{at_work, rank_in}
 use Rattle.desk_plan.specs.Inner.Ranks.{first_ranks}
+
+pub one-at-most : (b : Bool) → (if b then 1 else 0) ≤ 1
+one-at-most true = omega arith
+one-at-most false = omega arith
 
 -- no more are at work than there are
 pub work-few : (plan : List ℕ) (k : ℕ) → at_work plan k ≤ k
@@ -15,19 +19,31 @@ work-few plan (suc k) = elim (cases_Bool (list_any (λ worker. worker == k) plan
   | inr not ↦ rw not (omega (arith, work-few plan k))
 ]
 
+work-step : (plan : List ℕ) (n : ℕ) → at_work plan n ≤ at_work plan (suc n)
+work-step plan n = elim (cases_Bool (list_any (λ worker. worker == n) plan)) [
+  | inl is ↦ rw is (omega arith)
+  | inr not ↦ rw not (omega arith)
+]
+
+grows-at : (plan : List ℕ) (k n : ℕ) → k ≤ suc n → (b : Bool) → nat_lt k (suc n) ≡ b → (k ≤ n → at_work plan k ≤ at_work plan n) → at_work plan k ≤ at_work plan (suc n)
+grows-at plan k n less true is rest =
+    let below : k < suc n = ltb-true k (suc n) is in
+    omega (arith, rest (omega (arith, below)), work-step plan n)
+grows-at plan k n less false is rest =
+    let same : k ≡ suc n = omega (arith, less, ltb-false k (suc n) is) in
+    omega (arith, ap (at_work plan) same)
+
 -- of more workers no fewer are
-work-grows : (plan : List ℕ) (k m : ℕ) → at_work plan k ≤ at_work plan (m + k)
-work-grows plan k zero = omega arith
-work-grows plan k (suc m) = omega (arith, work-grows plan k m)
+work-grows : (plan : List ℕ) (k n : ℕ) → k ≤ n → at_work plan k ≤ at_work plan n
+work-grows plan k zero less = let same : k ≡ zero = omega (arith, less) in omega (arith, ap (at_work plan) same)
+work-grows plan k (suc n) less = grows-at plan k n less (nat_lt k (suc n)) refl (λ below. work-grows plan k n below)
 
 -- a rank is one of so many
 pub rank-below : (plan : List ℕ) (k workers : ℕ) → k < workers → rank_in plan k < max 1 (at_work plan workers)
 rank-below plan k workers less = elim (cases_Bool (list_any (λ other. other == k) plan)) [
   | inl is ↦
-      let grows = work-grows plan (suc k) (workers - suc k) in
-      let same : (workers - suc k) + suc k ≡ workers = omega (arith, less) in
       let step : at_work plan (suc k) ≡ at_work plan k + 1 = rw is refl in
-      rw is (omega (arith, step, rw same at grows))
+      rw is (omega (arith, step, work-grows plan (suc k) workers (omega (arith, less))))
   | inr not ↦ rw not (omega arith)
 ]
 
@@ -53,16 +69,20 @@ pub ranks-long : (plan : List ℕ) (n : ℕ) → length (first_ranks plan n) ≡
 ranks-long plan zero = refl
 ranks-long plan (suc n) = length-append (first_ranks plan n) (rank_in plan n ∷ []) ∙ omega (arith, ranks-long plan n)
 
+rank-at-place : (plan : List ℕ) (n k d : ℕ) → k < suc n → (b : Bool) → nat_lt k n ≡ b → (k < n → get_or (first_ranks plan n) k d ≡ rank_in plan k) → get_or (first_ranks plan (suc n)) k d ≡ rank_in plan k
+rank-at-place plan n k d less true is rest =
+    let below : k < n = ltb-true k n is in
+    front-at (first_ranks plan n) (rank_in plan n ∷ []) k d (omega (arith, below, ranks-long plan n)) ∙ rest below
+rank-at-place plan n k d less false is rest =
+    let same : k ≡ n = omega (arith, less, ltb-false k n is) in
+    let long : k ≡ length (first_ranks plan n) = same ∙ sym (ranks-long plan n) in
+    ap (λ i. get_or (first_ranks plan (suc n)) i d) long ∙ last-at (first_ranks plan n) (rank_in plan n) d ∙ ap (rank_in plan) (sym same)
+
 -- each at its place
 pub ranks-at : (plan : List ℕ) (n k d : ℕ) → k < n → get_or (first_ranks plan n) k d ≡ rank_in plan k
 ranks-at plan zero k d less = absurd (omega (arith, less))
-ranks-at plan (suc n) k d less = by (nat_lt k n) refl
-  where
-    by : (b : Bool) → nat_lt k n ≡ b → get_or (first_ranks plan (suc n)) k d ≡ rank_in plan k
-    by true is =
-        let below : k < n = ltb-true k n is in
-        front-at (first_ranks plan n) (rank_in plan n ∷ []) k d (omega (arith, below, ranks-long plan n)) ∙ ranks-at plan n k d below
-    by false is =
-        let same : k ≡ n = omega (arith, less, ltb-false k n is) in
-        let long : k ≡ length (first_ranks plan n) = same ∙ sym (ranks-long plan n) in
-        ap (λ i. get_or (first_ranks plan (suc n)) i d) long ∙ last-at (first_ranks plan n) (rank_in plan n) d ∙ ap (rank_in plan) (sym same)
+ranks-at plan (suc n) k d less = rank-at-place plan n k d less (nat_lt k n) refl (λ below. ranks-at plan n k d below)
+
+-- all ranks by the table
+pub ranks-mapped : (plan xs : List ℕ) (workers : ℕ) → All (λ worker. worker < workers) xs → map (λ worker. get_or (first_ranks plan workers) worker 0) xs ≡ map (rank_in plan) xs
+ranks-mapped plan xs workers below = mapped-alike (λ worker. get_or (first_ranks plan workers) worker 0) (rank_in plan) (λ worker. worker < workers) xs (λ worker less. ranks-at plan workers worker 0 less) below

@@ -41,10 +41,12 @@ impl JobNumbers {
         if job.bytes() == ADMIN || self.has(job) {
             return Ok(());
         }
-        let next = self.count.checked_add(1).ok_or(AllocError)?;
+        if self.count == usize::MAX {
+            return Err(AllocError);
+        }
         self.numbers.reserve()?;
         self.numbers.put(*job, self.count);
-        self.count = next;
+        self.count += 1;
         Ok(())
     }
 
@@ -52,6 +54,6 @@ impl JobNumbers {
     fn has(&self, job: &Name) -> bool
         ensures { result ≡ is_some (number_in self.now job.now) }
     {
-        self.numbers.get(job).is_some()
+        self.numbers.get(job).copied().is_some()
     }
 }

@@ -1,5 +1,5 @@
 //! The workers that have an item of a phase.
-ghost use Rattle.std.specs.Prelude.{◌≡◌, ◌<◌, ◌==◌, All, IfOk, length, map, max, slice_index_or};
+ghost use Rattle.std.specs.Prelude.{◌≡◌, ◌<◌, ◌==◌, All, IfOk, length, map, max, slice_index_or, if◌then◌else◌};
 ghost use Rattle.std.specs.List.{list_any};
 ghost use Rattle.desk_plan.specs.Plan.{at_work, rank_in};
 ghost use Rattle.desk_plan.specs.Inner.Ranks.{first_ranks};
@@ -33,14 +33,18 @@ fn ranks_of(
     let mut ranks = Vec::with_capacity(alloc, workers)?;
     let mut count = 0usize;
     for worker in 0..workers {
-        if has_item(plan, worker) {
-            ranks.push_reserved(count);
-            count += 1;
-        } else {
-            ranks.push_reserved(0);
-        }
+        let is_at_work = has_item(plan, worker);
+        ranks.push_reserved(rank_of(is_at_work, count));
+        count += usize::from(is_at_work);
     }
     Ok((ranks, count))
+}
+
+// The rank of a worker before whom so many have an item.
+fn rank_of(is_at_work: bool, before: usize) -> usize
+    ensures { result ≡ (if is_at_work then before else 0) }
+{
+    if is_at_work { before } else { 0 }
 }
 
 // Whether the worker has an item.
@@ -50,6 +54,14 @@ fn has_item(plan: &[usize], worker: usize) -> bool
     plan.iter().any(|other| *other == worker)
 }
 
+// The rank of a worker.
+fn rank_at(ranks: &[usize], worker: usize) -> usize
+    requires { worker < length ranks.now }
+    ensures { result ≡ slice_index_or ranks.now worker 0 }
+{
+    ranks[worker]
+}
+
 // The rank of each item's worker.
 fn by_ranks(alloc: Global, plan: &[usize], ranks: &[usize]) -> Result<Vec<usize>, AllocError>
     requires { All (λ worker. worker < length ranks.now) plan.now }
@@ -57,7 +69,7 @@ fn by_ranks(alloc: Global, plan: &[usize], ranks: &[usize]) -> Result<Vec<usize>
 {
     let mut ranked = Vec::with_capacity(alloc, plan.len())?;
     for worker in plan {
-        ranked.push_reserved(ranks[*worker]);
+        ranked.push_reserved(rank_at(ranks, *worker));
     }
     Ok(ranked)
 }

@@ -2,7 +2,7 @@
 use Rattle.std.proofs.Common.{inl, inr, ◌≡◌, ℕ, zero, suc, ◌-◌, ◌<◌, ◌≤◌, true, false, List, [], ◌∷◌, ◌++◌}
 use Rattle.std.proofs.Common.{length, map, max, take, get_or, All, append-nil, refl, sym, ap, subst, ◌∙◌, arith}
 use Rattle.std.proofs.lemmas.Bool.{cases_Bool}
-use Rattle.std.specs.Prelude.{Result, Ok, Err, OnOk, OnErr, filter, is_err}
+use Rattle.std.specs.Prelude.{Result, Ok, Err, IfOk, OnOk, OnErr, filter, is_err}
 use Rattle.std.specs.List.{AllByRecursion}
 use Rattle.desk_common.specs.Limits.{most_workers}
 use Rattle.atomic_table.specs.Seated.{TableId}
@@ -104,6 +104,12 @@ planned-ranks numbers workers items plan ranked count two few planned is counted
   below = λ job. rw counted (rank-below plan (worker_in numbers workers job) workers (worker-below workers (number_in numbers job) two));
   few = omega (arith, counted, work-few plan workers, two, few);
 }
+
+-- so is one that was made so
+pub planned-by : {X E : Type 0} (r : Result X E) (plan_in : X → List ℕ) (count_in : X → ℕ) (numbers : List (List ℕ × ℕ)) (workers : ℕ) (items : List Item) (plan : List ℕ) → 2 ≤ workers → workers ≤ most_workers
+    → plan ≡ plan_of numbers workers items → IfOk r (λ x. plan_in x ≡ map (rank_in plan) plan) → IfOk r (λ x. count_in x ≡ max 1 (at_work plan workers)) → IfOk r (λ x. IsPlanned items (plan_in x) (count_in x))
+planned-by (Ok x) plan_in count_in numbers workers items plan two few planned is counted = planned-ranks numbers workers items plan (plan_in x) (count_in x) two few planned is counted
+planned-by (Err e) plan_in count_in numbers workers items plan two few planned is counted = tt
 
 -- the phase is answered, or nothing has changed; opening and mark stand in both
 pub record IsEither {V E : Type 0} (result : Result V E) (items : List Item) (before after : List Answer) (o : Opening) (mark : ℕ) (o' : Opening) (mark' : ℕ) (js js' : List Entry) : Type 0 where

@@ -2,7 +2,7 @@
 use Rattle.std.proofs.Common.{inl, inr, ◌≡◌, ◌⊎◌, ℕ, ◌+◌, ◌&&◌, ◌||◌, not, Bool, true, false, List, [], ◌∷◌, ◌++◌}
 use Rattle.std.proofs.Common.{length, map, Option, None, Some, refl, sym, ap, subst, ◌∙◌, arith, append-nil}
 use Rattle.std.proofs.Common.{append_assoc, length-append}
-use Rattle.std.specs.Prelude.{bytes_eq, MatchOption}
+use Rattle.std.specs.Prelude.{bytes_eq, MatchOption, OnErr, Result, Ok, Err}
 use Rattle.std.specs.List.{list_all, list_any}
 use Rattle.std.proofs.lemmas.Bool.{cases_Bool}
 use Rattle.sms_construct.specs.Configuration.{Configuration, are_ascending}
@@ -284,6 +284,11 @@ whole-begun o day old new acts was before reaches = elim (was before reaches) [
       })
   | inr idle ↦ subst (λ found. MatchOption found (new ≡ old) (λ c. IsDayBegun day c before old new)) (sym idle.inactive) idle.same
 ]
+
+-- what follows where there was an error
+pub err-then : {T E P Q : Type 0} (r : Result T E) → (P → Q) → OnErr r P → OnErr r Q
+err-then (Ok x) f p = tt
+err-then (Err e) f p = f p
 
 -- the same of the configuration that is active
 pub begun-under : (o : Opening) (day : ℕ) (config : Configuration) (old new : List Entry) → ((before : DeskState) → Reaches o old before → before.active ≡ Some config)

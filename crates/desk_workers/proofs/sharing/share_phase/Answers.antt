@@ -11,6 +11,10 @@ answer_all-done-requires-clause-below g c κs within =
     let count : length c.deref_mut.result.now ≡ c.in-Ok.workers = ap length c.deref_mut.ensures.value ∙ c.in-Ok-new.ensures.count in
     subst (All (λ k. k < length c.deref_mut.result.now)) (sym (c.deref.ensures.value ∙ planned.plan_is)) (plan-below planned.worker c.in-Ok.workers (length c.deref_mut.result.now) c.args.items.now planned.below count)
 
+-- there is a seat, and not too many
+pub new-requires : goal.new-requires
+new-requires g c = let planned = c.in-Ok.ensures in (omega (arith, planned.below []), planned.few)
+
 -- the seats are new
 pub answer_all-done-requires-clause-idle : goal.answer_all-done-requires-clause-idle
 answer_all-done-requires-clause-idle g c κs within =

@@ -1,5 +1,5 @@
 use Rattle.std.proofs.Common.{◌≡◌, sym, ap, ◌∙◌, false, ℕ, ◌+◌, List, length, bytes_eq, cond, if◌then◌else◌}
-use Rattle.std.specs.Prelude.{Option, Some, is_some}
+use Rattle.std.specs.Prelude.{Some, is_some}
 use Rattle.ordered_index.proofs.LookupLemmas.{found-text}
 use Rattle.sms_script.specs.Commands.{is_admin}
 use Rattle.desk_plan.specs.Plan.{number_in}
@@ -30,3 +30,13 @@ returns c =
     ∙ ap (λ n. cond (bytes_eq job q) (Some n) (number_in rows q)) number
     ∙ ap (λ n. cond (bytes_eq job q) (Some (length c.args.self.now)) (number_in n q)) same in
     record { added = λ jobs are. one-more jobs c.args.self.now c.put.new.self.rows job are other new put longer }
+
+-- there is one more
+pub invariant_of-self-2 : goal.invariant_of-self-2
+invariant_of-self-2 c =
+    let job = c.args.job.now in
+    let rows = c.reserve.new.self.rows in
+    let new : is_some (number_in c.args.self.now job) ≡ false = sym c.has.ensures ∙ c.if-has.false in
+    let same : rows ≡ c.args.self.now = c.reserve.ensures.rows ∙ c.self.view_is in
+    ap (λ n. n + 1) (c.self.invariant ∙ ap length (sym c.reserve.ensures.rows))
+    ∙ sym (ap length c.put.ensures.rows ∙ length-put job c.self.inside.count rows (ap (λ n. is_some (number_in n job)) same ∙ new))
