@@ -34,17 +34,17 @@ fn ranks_of(
     let mut count = 0usize;
     for worker in 0..workers {
         let is_at_work = has_item(plan, worker);
-        ranks.push_reserved(rank_of(is_at_work, count));
-        count += usize::from(is_at_work);
+        ranks.push_reserved(number_if(is_at_work, count));
+        count += number_if(is_at_work, 1);
     }
     Ok((ranks, count))
 }
 
-// The rank of a worker before whom so many have an item.
-fn rank_of(is_at_work: bool, before: usize) -> usize
-    ensures { result ≡ (if is_at_work then before else 0) }
+// The number where the worker has an item, and else 0.
+fn number_if(is_at_work: bool, number: usize) -> usize
+    ensures { result ≡ (if is_at_work then number else 0) }
 {
-    if is_at_work { before } else { 0 }
+    if is_at_work { number } else { 0 }
 }
 
 // Whether the worker has an item.
