@@ -14,6 +14,7 @@ ghost use Rattle.desk_state.specs.Deeds.{Fits, IsPossible, config_of, effect_of}
 ghost use Rattle.desk_state.specs.Answering.{IsOldFloor};
 ghost use Rattle.desk_state.specs.Standing.{IsRunning, IsSomeState};
 ghost use Rattle.desk_state.specs.Working.{IsWorkNow};
+ghost use Rattle.sms_core.specs.Core.{WasTold};
 ghost use Rattle.sms_core.specs.Inner.Standing.{HasEntered, HasLogRoom, IsMadeFor, IsUnmade};
 
 use acs_tree::Slate;
@@ -59,6 +60,7 @@ pub fn prepare<P: Keeper>(
         (P.told records.old.keeper) (P.told records.new.keeper) (P.count records.old.keeper)
         (P.count records.new.keeper)) }
     ensures idle { (IsUnknown records.old.log request.now → ⊥) → records.new.keeper ≡ records.old.keeper }
+    ensures told { WasTold (P.told records.old.keeper) (P.told records.new.keeper) }
     ensures rises { P.count records.old.keeper ≤ P.count records.new.keeper }
 {
     match recall(&records.log, request, place)? {
@@ -108,6 +110,7 @@ fn prepare_fresh<P: Keeper>(
     ensures unmade { OnErr result (IsUnmade running.old running.new records.old.log records.new.log
         (P.told records.old.keeper) (P.told records.new.keeper) (P.count records.old.keeper)
         (P.count records.new.keeper)) }
+    ensures told { WasTold (P.told records.old.keeper) (P.told records.new.keeper) }
     ensures rises { P.count records.old.keeper ≤ P.count records.new.keeper }
 {
     let old = old_floor(&records.log, &request.op);
@@ -162,6 +165,7 @@ fn carry_out<P: Keeper>(
     ensures unmade { OnErr result (IsUnmade running.old running.new records.old.log records.new.log
         (P.told records.old.keeper) (P.told records.new.keeper) (P.count records.old.keeper)
         (P.count records.new.keeper)) }
+    ensures told { WasTold (P.told records.old.keeper) (P.told records.new.keeper) }
     ensures rises { P.count records.old.keeper ≤ P.count records.new.keeper }
 {
     let Decision { reply, deed } = decision;

@@ -3,6 +3,7 @@ use Rattle.desk_records.specs.Logged.{IsDone, IsUntouched}
 use Rattle.desk_records.proofs.TiedLemmas.{tied-lawful}
 use Rattle.sms_core.proofs.CoreLemmas.{on-err, same-answer, unmade-self}
 use Rattle.sms_core.proofs.FreshLemmas.{failed-entered, made-entered}
+use Rattle.sms_core.proofs.ToldLemmas.{told_applies, told_self, told_stays}
 use Rattle.sms_core.proofs.preparing.carry_out.Goals as goal
 
 pub returns-then-branch-clause-enters : goal.returns-then-branch-clause-enters
@@ -44,3 +45,34 @@ returns-in_err-committed-clause-unmade g c = on-err _ c.from_residual-in_err-com
 
 pub returns-in_err-effect-clause-unmade : goal.returns-in_err-effect-clause-unmade
 returns-in_err-effect-clause-unmade g c = on-err _ c.from_residual-in_err-effect.result (unmade-self c.args.running.now c.args.records.now.log (g.P.Keeper.told c.args.records.now.keeper) (g.P.Keeper.count c.args.records.now.keeper))
+
+pub returns-then-branch-clause-told : goal.returns-then-branch-clause-told
+returns-then-branch-clause-told g c =
+    let done : IsDone (record { place = c.args.place; request = c.in_ok-committed.committed; reply = c.args.decision.reply; effect = c.in_ok-effect.effect })
+    (g.P.Keeper.told c.args.records.now.keeper) (g.P.Keeper.told c.commit.new.self.keeper) c.args.records.now.log c.commit.new.self.log
+    = rw c.if-branch.true at c.in_ok-commit.ensures.done in
+    told_applies _ _ _ done.applies
+
+pub returns-clause-told : goal.returns-clause-told
+returns-clause-told g c =
+    let same : IsUntouched (g.P.Keeper.told c.args.records.now.keeper) (g.P.Keeper.told c.commit.new.self.keeper) c.args.records.now.log c.commit.new.self.log
+    = rw c.if-branch.false at c.in_ok-commit.ensures.done in
+    told_stays _ _ same.stays
+
+pub returns-in_err-entered-clause-told : goal.returns-in_err-entered-clause-told
+returns-in_err-entered-clause-told g c = told_self (g.P.Keeper.told c.args.records.now.keeper)
+
+pub returns-in_err-kept-clause-told : goal.returns-in_err-kept-clause-told
+returns-in_err-kept-clause-told g c = told_self (g.P.Keeper.told c.args.records.now.keeper)
+
+pub returns-in_err-answered-clause-told : goal.returns-in_err-answered-clause-told
+returns-in_err-answered-clause-told g c = told_self (g.P.Keeper.told c.args.records.now.keeper)
+
+pub returns-in_err-committed-clause-told : goal.returns-in_err-committed-clause-told
+returns-in_err-committed-clause-told g c = told_self (g.P.Keeper.told c.args.records.now.keeper)
+
+pub returns-in_err-effect-clause-told : goal.returns-in_err-effect-clause-told
+returns-in_err-effect-clause-told g c = told_self (g.P.Keeper.told c.args.records.now.keeper)
+
+pub returns-in_err-commit-clause-told : goal.returns-in_err-commit-clause-told
+returns-in_err-commit-clause-told g c = told_stays _ _ c.in_err-commit.ensures.err.stays
