@@ -154,13 +154,6 @@ pub if-ok : {T E : Type 0} (P Q : T → Type 0) (r : Result T E) → IfOk r P �
 if-ok P Q (Ok x) is give = give x is
 if-ok P Q (Err e) is give = tt
 
-abbrev answer_at : ℕ → Reply → Answer
-answer_at place reply = record { place = place; first = place; reply = reply }
-
--- answers of one place with one reply are one
-pub same-answer : (place : ℕ) (one two : Reply) → one ≡ two → answer_at place one ≡ answer_at place two
-same-answer place one two is = ap (answer_at place) is
-
 -- what hasn't changed stands as it was
 pub unmade-self : (running : Running) (log : LogView) (told : Option Rows) (count : ℕ) → IsUnmade running running log log told told count count
 unmade-self running log told count = record { running_is = λ s stands. stands; records_are = record { stays = stays-self told; log_is = refl }; spared = refl }
