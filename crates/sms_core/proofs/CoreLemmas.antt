@@ -5,7 +5,6 @@ use Rattle.std.specs.Prelude.{count_by, IfOk, IfSome, OnErr, Result, Ok, Err}
 use Rattle.desk_common.specs.Causes.{Rose}
 use Rattle.sms_construct.specs.declared.entry.Answer.{Answer}
 use Rattle.sms_construct.specs.declared.entry.Entry.{Entry}
-use Rattle.sms_construct.specs.declared.reply.Reply.{Reply}
 use Rattle.sms_construct.specs.declared.reply.Reply.TheVariants as replies
 use Rattle.sms_construct.specs.declared.request.Op.{Op}
 use Rattle.sms_construct.specs.declared.request.Request.{Request}

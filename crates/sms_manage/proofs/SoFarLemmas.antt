@@ -285,6 +285,11 @@ whole-begun o day old new acts was before reaches = elim (was before reaches) [
   | inr idle ↦ subst (λ found. MatchOption found (new ≡ old) (λ c. IsDayBegun day c before old new)) (sym idle.inactive) idle.same
 ]
 
+-- what holds anyway holds after an error
+pub on-err : {T E : Type 0} (r : Result T E) (P : Type 0) → P → OnErr r P
+on-err (Ok x) P p = tt
+on-err (Err e) P p = p
+
 -- what follows where there was an error
 pub err-then : {T E P Q : Type 0} (r : Result T E) → (P → Q) → OnErr r P → OnErr r Q
 err-then (Ok x) f p = tt
