@@ -1,0 +1,5 @@
+pub mod ExchangeLaws
+pub mod BoundLaws
+pub mod NextLaws
+pub mod FrontLaws
+pub mod FlowLaws

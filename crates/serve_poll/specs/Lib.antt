@@ -1,0 +1,2 @@
+pub mod Visitors
+pub mod Halls
