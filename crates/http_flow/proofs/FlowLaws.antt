@@ -142,7 +142,7 @@ module _ {S : Type 0} (terms : Terms) (shows : S → List Talk → PageAsk → P
   pub goes_on_short : (a : ClerkMoment S) (old new : FlowView) (piece : List ℕ) → old.phase ≡ phases.Waits → new ≡ record old { rest = old.rest ++ piece } → length (old.rest ++ piece) < old.need → old.need ≤ most_message → GoesOn terms shows a a old new piece
   goes_on_short a old new piece phase is short few =
       let rest : new.rest ≡ old.rest ++ piece = ap (λ (v : FlowView). v.rest) is in
-            still a old new piece (λ came taken xs h. rw (append-nil xs) (short_flow old new piece came taken xs phase is short h))
+      still a old new piece (λ came taken xs h. rw (append-nil xs) (short_flow old new piece came taken xs phase is short h))
       (λ waits. omega (arith, ap length rest, short, few)) (ap (λ (v : FlowView). v.due) is) (omega (arith, ap length rest, length-append old.rest piece))
 
   -- memory for the piece was wanting

@@ -3,3 +3,4 @@ pub mod BoundLaws
 pub mod NextLaws
 pub mod FrontLaws
 pub mod FlowLaws
+pub mod PageLaws

@@ -242,7 +242,7 @@ module _ {C : Type 0} (house : House) (seen : C → WireSeen) where
         seat_still all count h.place v.number None other (seen_visitor seen u) (apart_keys h.place u.number v.number other key s.placed h.placed (λ same. none_some u (sym h.free ∙ ap (get mid) (sym same) ∙ there))) s;
     left = All-push (HasLeft house seen first told all count (with_place h.place v.number None)) h.gone (record { visitor = v; why = why })
         (All-weaker (HasLeft house seen first told all count h.place) (HasLeft house seen first told all count (with_place h.place v.number None))
-            (λ x s. left_still first told all count h.place v.number None x (apart_gone h.place x.visitor.number v.number key s.placed h.placed) s) h.gone h.left)
+        (λ x s. left_still first told all count h.place v.number None x (apart_gone h.place x.visitor.number v.number key s.placed h.placed) s) h.gone h.left)
         (record { given = h.given; placed = place_own h.place v.number None; served = left_so first told all (seen_visitor seen v) why h.on cause });
     full = full_push mid.capacity h.gone (record { visitor = v; why = why }) h.full (λ is. absurd (not_away first told (seen v.conn) v.conversation why cause is));
     none_lost = omega (arith, h.none_lost, length-append h.gone (record { visitor = v; why = why } ∷ []));
@@ -341,7 +341,7 @@ module _ {C : Type 0} (house : House) (seen : C → WireSeen) where
     };
     left = All-push (HasLeft house seen first told all (count + 1) (with_place h.place count None)) h.gone x
         (All-weaker (HasLeft house seen first told all count h.place) (HasLeft house seen first told all (count + 1) (with_place h.place count None))
-            (λ y s. record { given = omega (arith, s.given); placed = place_other h.place count y.visitor.number None (above count y.visitor.number s.given) ∙ s.placed; served = s.served }) h.gone h.left)
+        (λ y s. record { given = omega (arith, s.given); placed = place_other h.place count y.visitor.number None (above count y.visitor.number s.given) ∙ s.placed; served = s.served }) h.gone h.left)
         (record { given = omega (arith, is); placed = ap (with_place h.place count None) is ∙ place_own h.place count None; served = (ap (λ n. asked_by n all) is ∙ none_asked count all h.few, was) });
     full = full_push seats.capacity h.gone x h.full (λ why. omega (arith, is, full, h.none_lost));
     none_lost = omega (arith, h.none_lost, length-append h.gone (x ∷ []));
