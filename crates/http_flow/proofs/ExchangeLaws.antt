@@ -76,22 +76,22 @@ module _ {S : Type 0} (shows : S → List Talk → PageAsk → Page → Type 0) 
   AreShown-append start talks (x ∷ xs) ys h k = (h.0, AreShown-append start (talks ++ talks_of x) xs ys h.1 (rw (append_assoc talks (talks_of x) (talks_in xs)) k))
 
   pub Heard-nil : (a : ClerkMoment S) → Heard shows a a []
-  Heard-nil a = record { grown = sym (append-nil a.talks); start = refl; shown = tt }
+  Heard-nil a = record { grown = sym (append-nil a.talks); start = refl; pages = tt }
 
   pub Heard-still : (a b : ClerkMoment S) → b.talks ≡ a.talks → b.start ≡ a.start → Heard shows a b []
-  Heard-still a b talks start = record { grown = talks ∙ sym (append-nil a.talks); start = start; shown = tt }
+  Heard-still a b talks start = record { grown = talks ∙ sym (append-nil a.talks); start = start; pages = tt }
 
   pub Heard-join : (a b c : ClerkMoment S) (xs ys : List Exchange) → Heard shows a b xs → Heard shows b c ys → Heard shows a c (xs ++ ys)
   Heard-join a b c xs ys h k = record {
     grown = k.grown ∙ ap (λ l. l ++ talks_in ys) h.grown ∙ append_assoc a.talks (talks_in xs) (talks_in ys) ∙ ap (λ l. a.talks ++ l) (sym (talks-append xs ys));
     start = k.start ∙ h.start;
-    shown = AreShown-append a.start a.talks xs ys h.shown (rw (h.start, h.grown) at k.shown);
+    pages = AreShown-append a.start a.talks xs ys h.pages (rw (h.start, h.grown) at k.pages);
   }
 
   -- one request was heard
   pub Heard-talked : (a b : ClerkMoment S) (talk : Talk) (closes : Bool) → b.talks ≡ a.talks ++ talk ∷ [] → b.start ≡ a.start → Heard shows a b (talked talk closes ∷ [])
-  Heard-talked a b talk closes grown start = record { grown = grown; start = start; shown = (tt, tt) }
+  Heard-talked a b talk closes grown start = record { grown = grown; start = start; pages = (tt, tt) }
 
   -- one page was shown
   pub Heard-shown : (a : ClerkMoment S) (ask : PageAsk) (page : Page) (closes : Bool) → shows a.start a.talks ask page → Heard shows a a (shown ask page closes ∷ [])
-  Heard-shown a ask page closes is = record { grown = sym (append-nil a.talks); start = refl; shown = (is, tt) }
+  Heard-shown a ask page closes is = record { grown = sym (append-nil a.talks); start = refl; pages = (is, tt) }

@@ -106,4 +106,4 @@ module _ {S : Type 0} (shows : S → List Talk → PageAsk → Page → Type 0) 
   pub record Heard (old new : ClerkMoment S) (xs : List Exchange) : Type 0 where
     pub grown : new.talks ≡ old.talks ++ talks_in xs
     pub start : new.start ≡ old.start
-    pub shown : AreShown old.start old.talks xs
+    pub pages : AreShown old.start old.talks xs

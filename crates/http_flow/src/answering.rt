@@ -10,7 +10,7 @@ use crate::pages::Pages;
 use http_answer::push_answer;
 use http_head::Routes;
 use http_message::{Next, read_message};
-use http_page::{Look, Site, look};
+use http_page::{Look, Site, read_look};
 use sms_construct::Request;
 use std::alloc::{AllocError, Global};
 
@@ -34,7 +34,7 @@ pub enum Front {
 
 /// What the first question of a buffer came to.
 #[derive(Clone, Copy, Debug, PartialEq, Eq)]
-enum Answered {
+pub enum Answered {
     /// It has so many bytes; more may follow.
     On { len: usize },
     /// It closes the connection.
@@ -86,7 +86,7 @@ fn answer_next<C: Pages>(
         (record { talks = C.talks clerk.new; start = C.start clerk.new })
         buf.now out.old.items out.new.items result }
 {
-    match look(routes, site, buf) {
+    match read_look(routes, site, buf) {
         Look::Elsewhere => refuse(alloc, clerk, ELSEWHERE, out),
         Look::Page {
             posts,

@@ -4,5 +4,5 @@
 mod look;
 mod site;
 
-pub use look::{Look, look};
+pub use look::{Look, read_look};
 pub use site::Site;

@@ -33,7 +33,7 @@ pub enum Look {
 }
 
 /// What the head at the front of the buffer shows beside the desk's messages (docs/smsd.md, "Pages").
-pub fn look(routes: &Routes, site: &Site, buf: &[u8]) -> Look
+pub fn read_look(routes: &Routes, site: &Site, buf: &[u8]) -> Look
     ensures { IsLook site.now buf.now result }
 {
     let mut headers = [EMPTY_HEADER_SPAN; MAX_HEADERS];

@@ -65,7 +65,7 @@ impl Site {
         ensures { result ≡ list_all (is_own self.now) (map (header_bytes buf.now) headers.now) }
     {
         let mut rest = headers;
-        while let [header, others @ ..] = rest {
+        while let Some((header, others)) = rest.split_first() {
             if !self.is_own(header.name.of(buf), header.value.of(buf)) {
                 return false;
             }

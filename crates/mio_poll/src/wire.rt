@@ -1,5 +1,5 @@
 //! A stream whose calls never wait.
-ghost use Rattle.std.specs.Prelude.{None};
+ghost use Rattle.std.specs.Prelude.{◌≡◌, None};
 
 use mio::net::TcpStream;
 use ready_wires::Wire;
