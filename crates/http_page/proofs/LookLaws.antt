@@ -1,5 +1,6 @@
 -- What the head at the front of a buffer shows, and that it is one alone.
-use Rattle.std.proofs.Common.{◌≡◌, ◌≤◌, ◌<◌, ℕ, Bool, true, false, List, [], ◌++◌, length, drop, take, map, None, Some, refl, ap, sym, ◌∙◌, arith, append-nil, length-append}
+use Rattle.std.proofs.Common.{◌≡◌, ◌≤◌, ◌<◌, ℕ, Bool, true, false, List, [], ◌∷◌, ◌++◌, length, drop, take, map, None, Some, refl, ap, sym, ◌∙◌, arith, append-nil, length-append}
+use Rattle.std.specs.List.{list_all}
 use Rattle.std.specs.Prelude.{Option, option_map, if◌then◌else◌}
 use Rattle.httparse.specs.Grammar.{RequestHead, print_request}
 use Rattle.httparse.specs.Spans.{header_bytes, span_bytes}
@@ -9,7 +10,7 @@ use Rattle.httparse.proofs.GrammarLemmas.{ReadsRequest-append, request_prefix_fr
 use Rattle.desk_common.specs.Limits.{most_deck_bytes}
 use Rattle.http_head.specs.Heads.{IsHeadAt, WholeHead, HasNoWholeHead}
 use Rattle.http_head.specs.Headers.{headers_of}
-use Rattle.http_page.specs.Sites.{is_asked_here}
+use Rattle.http_page.specs.Sites.{is_own, is_asked_here}
 use Rattle.http_page.specs.Pages.{PageHead, asks_page, page_size, page_in, page_of, IsFromElsewhere, IsFromHere, HasNoPage, HasPageHead, IsPageAt}
 
 -- a front is one head at most
@@ -27,6 +28,12 @@ none_here port buf none head rest whole = absurd (none head rest whole)
 
 pub none_page : (buf : List ℕ) → HasNoWholeHead buf → HasNoPage buf
 none_page buf none head rest whole = absurd (none head rest whole)
+
+-- the first header names no other site, so the others decide
+pub own_rest : (port : ℕ) (buf : List ℕ) (rest headers : List HeaderSpan) (x : HeaderSpan) (others : List HeaderSpan) → rest ≡ x ∷ others → is_own port (header_bytes buf x) ≡ true → list_all (is_own port) (map (header_bytes buf) rest) ≡ list_all (is_own port) (map (header_bytes buf) headers) → list_all (is_own port) (map (header_bytes buf) others) ≡ list_all (is_own port) (map (header_bytes buf) headers)
+own_rest port buf rest headers x others is own same =
+    let first : list_all (is_own port) (map (header_bytes buf) (x ∷ others)) ≡ list_all (is_own port) (map (header_bytes buf) headers) = rw is at same in
+    grind (arith, own, first)
 
 -- no length is stated
 unstated : (asks : Bool) {o : Option ℕ} (make : ℕ → PageHead) → o ≡ None → (if asks then option_map make o else None) ≡ None
