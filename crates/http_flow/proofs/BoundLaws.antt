@@ -1,6 +1,6 @@
 -- What waits is shorter than a message.
 use Rattle.std.proofs.Common.{◌≡◌, ◌≤◌, ◌<◌, ◌+◌, ◌-◌, ◌⊎◌, ℕ, Bool, true, false, List, [], ◌∷◌, ◌++◌, length, take, drop, None, Some, Ok, Err, refl, ap, sym, ◌∙◌, arith, inl, inr, nat_lt, nat_le}
-use Rattle.std.specs.Prelude.{Option, Result, option_map, if◌then◌else◌, bytes_eq, codes, not, ◌&&◌, replicate, ⊥}
+use Rattle.std.specs.Prelude.{Option, Result, option_map, if◌then◌else◌, bytes_eq, codes, not, ◌&&◌, replicate}
 use Rattle.std.proofs.lemmas.List.{length-append, length-replicate}
 use Rattle.httparse.specs.Grammar.{RequestHead, print_request}
 use Rattle.desk_common.specs.Limits.{most_deck_bytes, most_line_bytes}

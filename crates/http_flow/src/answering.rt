@@ -55,8 +55,8 @@ pub fn answer_front<C: Pages>(
     out: &mut Vec<u8>,
 ) -> Front
     ensures { IsFront (record { port = site.now; refusal = C.refusal }) C.shows
-        (record { talks = C.talks clerk.old; start = C.start clerk.old })
-        (record { talks = C.talks clerk.new; start = C.start clerk.new })
+        (record { talks = C.talks clerk.old; start = C.begun clerk.old })
+        (record { talks = C.talks clerk.new; start = C.begun clerk.new })
         buffer.now out.old.items out.new.items result }
 {
     let mut at = 0;
@@ -82,8 +82,8 @@ fn answer_next<C: Pages>(
     out: &mut Vec<u8>,
 ) -> Answered
     ensures { IsNext (record { port = site.now; refusal = C.refusal }) C.shows
-        (record { talks = C.talks clerk.old; start = C.start clerk.old })
-        (record { talks = C.talks clerk.new; start = C.start clerk.new })
+        (record { talks = C.talks clerk.old; start = C.begun clerk.old })
+        (record { talks = C.talks clerk.new; start = C.begun clerk.new })
         buf.now out.old.items out.new.items result }
 {
     match read_look(routes, site, buf) {
@@ -121,8 +121,8 @@ fn answer_desk<C: Pages>(
 ) -> Answered
     ensures { (port : ℕ) → IsFromHere port buf.now → HasNoPage buf.now
         → IsNext (record { port = port; refusal = C.refusal }) C.shows
-        (record { talks = C.talks clerk.old; start = C.start clerk.old })
-        (record { talks = C.talks clerk.new; start = C.start clerk.new })
+        (record { talks = C.talks clerk.old; start = C.begun clerk.old })
+        (record { talks = C.talks clerk.new; start = C.begun clerk.new })
         buf.now out.old.items out.new.items result }
 {
     let Ok(next) = read_message(alloc, routes, buf) else {
@@ -169,7 +169,7 @@ fn show<C: Pages>(
     out: &mut Vec<u8>,
 ) -> Result<(), AllocError>
     ensures ok { OnOk result ((page : PageOf)
-        × C.shows (C.start clerk.now) (C.talks clerk.now)
+        × C.shows (C.begun clerk.now) (C.talks clerk.now)
         (record { posts = posts; path = path.now; body = body.now }) page
         × (out.new.items ≡ out.old.items ++ page_text page closes)) }
     ensures err { OnErr result (out.new.items ≡ out.old.items) }
@@ -187,8 +187,8 @@ fn answer_one<C: Pages>(
     out: &mut Vec<u8>,
 ) -> Result<(), AllocError>
     ensures { IsOne
-        (record { talks = C.talks clerk.old; start = C.start clerk.old })
-        (record { talks = C.talks clerk.new; start = C.start clerk.new })
+        (record { talks = C.talks clerk.old; start = C.begun clerk.old })
+        (record { talks = C.talks clerk.new; start = C.begun clerk.new })
         request.now closes out.old.items out.new.items result }
 {
     let Ok(answer) = clerk.handle(request) else {

@@ -88,8 +88,8 @@ impl Conversation {
     )
         requires { self.old.phase ≡ Phase.Waits }
         ensures { GoesOn (record { port = site.now; refusal = C.refusal }) C.shows
-            (record { talks = C.talks clerk.old; start = C.start clerk.old })
-            (record { talks = C.talks clerk.new; start = C.start clerk.new })
+            (record { talks = C.talks clerk.old; start = C.begun clerk.old })
+            (record { talks = C.talks clerk.new; start = C.begun clerk.new })
             self.old self.new piece.now }
     {
         if self.buffer.extend_from_slice(piece).is_err() {
@@ -106,8 +106,8 @@ impl Conversation {
     pub fn resume<C: Pages>(&mut self, alloc: Global, routes: &Routes, site: &Site, clerk: &mut C)
         requires { self.old.phase ≡ Phase.Full }
         ensures { GoesOn (record { port = site.now; refusal = C.refusal }) C.shows
-            (record { talks = C.talks clerk.old; start = C.start clerk.old })
-            (record { talks = C.talks clerk.new; start = C.start clerk.new })
+            (record { talks = C.talks clerk.old; start = C.begun clerk.old })
+            (record { talks = C.talks clerk.new; start = C.begun clerk.new })
             self.old self.new [] }
     {
         self.answer(alloc, routes, site, clerk);
@@ -116,8 +116,8 @@ impl Conversation {
     // Answers the whole questions of the buffer.
     fn answer<C: Pages>(&mut self, alloc: Global, routes: &Routes, site: &Site, clerk: &mut C)
         ensures { HasTurned (record { port = site.now; refusal = C.refusal }) C.shows
-            (record { talks = C.talks clerk.old; start = C.start clerk.old })
-            (record { talks = C.talks clerk.new; start = C.start clerk.new })
+            (record { talks = C.talks clerk.old; start = C.begun clerk.old })
+            (record { talks = C.talks clerk.new; start = C.begun clerk.new })
             self.old self.new }
     {
         match answer_front(alloc, routes, site, clerk, &self.buffer, &mut self.out) {

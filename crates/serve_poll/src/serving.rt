@@ -44,8 +44,8 @@ pub fn serve_from_empty<P: Readiness, K: Pages>(
     ensures served { IfOk result (λ served. WereServed
         (record { terms = record { port = site.now; refusal = K.refusal }; away = away.now })
         P.Conn.seen K.shows
-        (record { talks = K.talks clerk.old; start = K.start clerk.old })
-        (record { talks = K.talks clerk.new; start = K.start clerk.new })
+        (record { talks = K.talks clerk.old; start = K.begun clerk.old })
+        (record { talks = K.talks clerk.new; start = K.begun clerk.new })
         (P.seen poller.old) (P.seen poller.new) (P.back poller.old) (P.back poller.new) served.1) }
     ensures watched { IfOk result (λ served.
         AreWatched P.Conn.seen (P.seen poller.new).awaited served.1.seats) }
@@ -72,8 +72,8 @@ pub fn serve_events<P: Readiness, K: Pages>(
     ensures stands { KeepsStanding
         (record { terms = record { port = site.now; refusal = K.refusal }; away = away.now })
         P.Conn.seen K.shows
-        (record { talks = K.talks clerk.old; start = K.start clerk.old })
-        (record { talks = K.talks clerk.new; start = K.start clerk.new })
+        (record { talks = K.talks clerk.old; start = K.begun clerk.old })
+        (record { talks = K.talks clerk.new; start = K.begun clerk.new })
         (P.seen poller.old) (P.seen poller.new) (P.back poller.old) (P.back poller.new) hall.old hall.new }
     ensures watched { AreWatched P.Conn.seen (P.seen poller.old).awaited hall.old.seats
         → AreWatched P.Conn.seen (P.seen poller.new).awaited hall.new.seats }
@@ -146,8 +146,8 @@ fn serve_ready<P: Readiness, K: Pages>(
     ensures stands { (away : List ℕ) → KeepsStanding
         (record { terms = record { port = site.now; refusal = K.refusal }; away = away })
         P.Conn.seen K.shows
-        (record { talks = K.talks clerk.old; start = K.start clerk.old })
-        (record { talks = K.talks clerk.new; start = K.start clerk.new })
+        (record { talks = K.talks clerk.old; start = K.begun clerk.old })
+        (record { talks = K.talks clerk.new; start = K.begun clerk.new })
         (P.seen poller.old) (P.seen poller.new) (P.back poller.old) (P.back poller.new) hall.old hall.new }
     ensures watched { AreWatchedBut P.Conn.seen key (P.seen poller.old).awaited hall.old.seats
         → AreWatched P.Conn.seen (P.seen poller.new).awaited hall.new.seats }

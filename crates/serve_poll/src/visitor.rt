@@ -34,8 +34,8 @@ pub fn advance<C: Wire, K: Pages>(
     visitor: &mut Visitor<C>,
 ) -> Step
     ensures advances { Advances (record { port = site.now; refusal = K.refusal }) K.shows
-        (record { talks = K.talks clerk.old; start = K.start clerk.old })
-        (record { talks = K.talks clerk.new; start = K.start clerk.new })
+        (record { talks = K.talks clerk.old; start = K.begun clerk.old })
+        (record { talks = K.talks clerk.new; start = K.begun clerk.new })
         (record {
           number = visitor.old.number;
           wire = C.seen visitor.old.conn;
@@ -66,8 +66,8 @@ fn take_step<C: Wire, K: Pages>(
     visitor: &mut Visitor<C>,
 ) -> Step
     ensures advances { Advances (record { port = site.now; refusal = K.refusal }) K.shows
-        (record { talks = K.talks clerk.old; start = K.start clerk.old })
-        (record { talks = K.talks clerk.new; start = K.start clerk.new })
+        (record { talks = K.talks clerk.old; start = K.begun clerk.old })
+        (record { talks = K.talks clerk.new; start = K.begun clerk.new })
         (record {
           number = visitor.old.number;
           wire = C.seen visitor.old.conn;
@@ -129,8 +129,8 @@ fn hear<C: Wire, K: Pages>(
     requires waits { conversation.old.phase ≡ Phase.Waits }
     requires sent { conversation.old.due ≡ [] }
     ensures hears { Hears (record { port = site.now; refusal = K.refusal }) K.shows
-        (record { talks = K.talks clerk.old; start = K.start clerk.old })
-        (record { talks = K.talks clerk.new; start = K.start clerk.new })
+        (record { talks = K.talks clerk.old; start = K.begun clerk.old })
+        (record { talks = K.talks clerk.new; start = K.begun clerk.new })
         (C.seen conn.old) (C.seen conn.new) conversation.old conversation.new }
     ensures step { IsStep (C.seen conn.new) conversation.new result }
 {

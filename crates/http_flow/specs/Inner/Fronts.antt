@@ -1,6 +1,5 @@
 -- What answering the questions at the front of a buffer does.
 use Rattle.std.specs.Prelude.{◌≡◌, ◌⊎◌, ℕ, ◌≤◌, ◌<◌, Bool, true, false, List, [], ◌∷◌, ◌++◌, length, drop, Result, Ok, Err}
-use Rattle.std.specs.Prelude.{⊥}
 use Rattle.http_answer.specs.AnswerText.{answer_text}
 use Rattle.http_page.specs.Pages.{PageAsk}
 use Rattle.http_talk.specs.Hearing.{ClerkMoment}
