@@ -23,17 +23,18 @@ use Rattle.http_flow.specs.Flow.{most_message}
 whole_length : (bytes : List ℕ) (head : RequestHead) (rest : List ℕ) → WholeHead bytes head rest → length bytes ≤ 8192 + length rest
 whole_length bytes head rest h = omega (arith, ap length h.reads.1, length-append (print_request head) rest, h.length_fits)
 
+-- a body that isn't past its limit, and a path whose segments are as asked
+long_body : {A T : Type 0} (size most : ℕ) (big : Bool) → nat_lt most size ≡ big → (asked : Option A) (make : A → T) (t : T) → (refuse_if 413 big ⊳ λ _. found_or 400 asked ⊳ λ a. Ok (make a)) ≡ Ok t → (a : A) × (t ≡ make a) × (size ≤ most)
+long_body size most true is asked make t h = absurd (cc h)
+long_body size most false is None make t h = absurd (cc h)
+long_body size most false is (Some a) make t h = (a, cc h, grind (arith, is))
+
 -- what the steps of a head found, where no refusal ended them
 module _ {R A T : Type 0} where
-  long_body : (size most : ℕ) (big : Bool) → nat_lt most size ≡ big → (asked : Option A) (make : A → T) (t : T) → (refuse_if 413 big ⊳ λ _. found_or 400 asked ⊳ λ a. Ok (make a)) ≡ Ok t → (a : A) × (t ≡ make a) × (size ≤ most)
-  long_body size most true is asked make t h = absurd (cc h)
-  long_body size most false is None make t h = absurd (cc h)
-  long_body size most false is (Some a) make t h = (a, cc h, grind (arith, is))
-
   stated_body : (route : R) (deckless : Bool) (stated : Option ℕ) (most : ℕ) (asked : Option A) (make : ℕ → A → T) (t : T) → (refuse_if 411 deckless ⊳ λ _. found_or 400 stated ⊳ λ size. refuse_if 413 (nat_lt most size) ⊳ λ _. found_or 400 asked ⊳ λ a. Ok (make size a)) ≡ Ok t → (size : ℕ) × (a : A) × (t ≡ make size a) × (size ≤ most)
   stated_body route true stated most asked make t h = absurd (cc h)
   stated_body route false None most asked make t h = absurd (cc h)
-  stated_body route false (Some size) most asked make t h = (size, long_body size most (nat_lt most size) refl asked (make size) t h)
+  stated_body route false (Some size) most asked make t h = let k = long_body size most (nat_lt most size) refl asked (make size) t h in (size, k.0, k.1, k.2)
 
   abbrev steps : Bool → Option R → Bool → Bool → (R → Bool) → Option ℕ → (R → ℕ) → (R → Option A) → (R → ℕ → A → T) → Result T ℕ
   steps pathless route other coded deckless stated most asked make =
@@ -44,7 +45,7 @@ module _ {R A T : Type 0} where
   whole_steps false None other coded deckless stated most asked make t h = absurd (cc h)
   whole_steps false (Some r) true coded deckless stated most asked make t h = absurd (cc h)
   whole_steps false (Some r) false true deckless stated most asked make t h = absurd (cc h)
-  whole_steps false (Some r) false false deckless stated most asked make t h = (r, stated_body r (deckless r) stated (most r) (asked r) (make r) t h)
+  whole_steps false (Some r) false false deckless stated most asked make t h = let k = stated_body r (deckless r) stated (most r) (asked r) (make r) t h in (r, k.0, k.1, k.2, k.3)
 
 small_most : (b : Bool) → (if b then most_deck_bytes else most_line_bytes) ≤ most_deck_bytes
 small_most true = omega arith
@@ -105,7 +106,7 @@ coming_short port bytes c = omega (arith, c.short, page_short c.head.head c.page
 -- what waits is shorter than a message
 pub pends_short : (port : ℕ) (bytes : List ℕ) → Pends port bytes → length bytes < most_message
 pends_short port bytes (inl (inl none)) = omega (arith, ap length none)
-pends_short port bytes (inl (inr (inl unfinished))) = unfinished_short bytes unfinished
+pends_short port bytes (inl (inr (inl body))) = unfinished_short bytes body
 pends_short port bytes (inl (inr (inr front))) = omega (arith, front.short)
 pends_short port bytes (inr coming) = coming_short port bytes coming
 
