@@ -1,7 +1,7 @@
 -- The first question of a buffer.
 use Rattle.std.proofs.Common.{◌≡◌, ◌≤◌, ◌<◌, ◌+◌, ◌-◌, ℕ, Bool, true, false, List, [], ◌∷◌, ◌++◌, length, take, drop, inl, inr, refl, ap, sym, ◌∙◌, arith}
 use Rattle.std.proofs.Common.{append-nil, append_assoc, Ok, Err}
-use Rattle.std.specs.Prelude.{Result, is_err}
+use Rattle.std.specs.Prelude.{Result, OnOk, is_err}
 use Rattle.std.proofs.lemmas.List.{drop-drop, length-append, length-drop}
 use Rattle.http_answer.specs.AnswerText.{answer_text}
 use Rattle.http_message.specs.Message.{Message}
@@ -113,12 +113,24 @@ module _ {S : Type 0} (terms : Terms) (shows : S → List Talk → PageAsk → P
     after_is = sym (drop-drop page.size start buf);
   }
 
-  pub page_on : (page : PageHead) (start : ℕ) (body : List ℕ) (shown_page : Page) → IsPageAt terms.port buf page start → page.size ≤ length buf - start → body ≡ take page.size (drop start buf) → b ≡ a → shows a.start a.talks (record { posts = page.posts; path = page.path; body = body }) shown_page → page.closes ≡ false → out' ≡ out ++ page_text shown_page page.closes → IsNext terms shows a b buf out out' (answered.On (start + page.size))
+  page_on : (page : PageHead) (start : ℕ) (body : List ℕ) (shown_page : Page) → IsPageAt terms.port buf page start → page.size ≤ length buf - start → body ≡ take page.size (drop start buf) → b ≡ a → shows a.start a.talks (record { posts = page.posts; path = page.path; body = body }) shown_page → page.closes ≡ false → out' ≡ out ++ page_text shown_page page.closes → IsNext terms shows a b buf out out' (answered.On (start + page.size))
   page_on page start body shown_page at long is same shows_it goes written =
       next_on (shown (record { posts = page.posts; path = page.path; body = body }) shown_page page.closes) (drop (start + page.size) buf) (start + page.size) (asks_page_at page start body at long is) refl (omega (arith, at.some)) (omega (arith, at.within, long)) goes written
       (rw same (Heard-shown shows a (record { posts = page.posts; path = page.path; body = body }) shown_page page.closes shows_it))
 
-  pub page_last : (page : PageHead) (start : ℕ) (body : List ℕ) (shown_page : Page) → IsPageAt terms.port buf page start → page.size ≤ length buf - start → body ≡ take page.size (drop start buf) → b ≡ a → shows a.start a.talks (record { posts = page.posts; path = page.path; body = body }) shown_page → page.closes ≡ true → out' ≡ out ++ page_text shown_page page.closes → IsNext terms shows a b buf out out' answered.Last
+  page_last : (page : PageHead) (start : ℕ) (body : List ℕ) (shown_page : Page) → IsPageAt terms.port buf page start → page.size ≤ length buf - start → body ≡ take page.size (drop start buf) → b ≡ a → shows a.start a.talks (record { posts = page.posts; path = page.path; body = body }) shown_page → page.closes ≡ true → out' ≡ out ++ page_text shown_page page.closes → IsNext terms shows a b buf out out' answered.Last
   page_last page start body shown_page at long is same shows_it last written =
       next_last (shown (record { posts = page.posts; path = page.path; body = body }) shown_page page.closes) (drop (start + page.size) buf) (asks_page_at page start body at long is) last written
       (rw same (Heard-shown shows a (record { posts = page.posts; path = page.path; body = body }) shown_page page.closes shows_it))
+
+  -- what was shown
+  abbrev WasShown : PageHead → List ℕ → Type 0
+  WasShown page body = (shown_page : Page) × shows a.start a.talks (record { posts = page.posts; path = page.path; body = body }) shown_page × (out' ≡ out ++ page_text shown_page page.closes)
+
+  pub shown_on : {T E : Type 0} (r : Result T E) (page : PageHead) (start : ℕ) (body : List ℕ) → IsPageAt terms.port buf page start → page.size ≤ length buf - start → body ≡ take page.size (drop start buf) → b ≡ a → OnOk r (WasShown page body) → is_err r ≡ false → page.closes ≡ false → IsNext terms shows a b buf out out' (answered.On (start + page.size))
+  shown_on (Err e) page start body at long is same h ok goes = absurd (cc ok)
+  shown_on (Ok t) page start body at long is same h ok goes = page_on page start body h.0 at long is same h.1 goes h.2
+
+  pub shown_last : {T E : Type 0} (r : Result T E) (page : PageHead) (start : ℕ) (body : List ℕ) → IsPageAt terms.port buf page start → page.size ≤ length buf - start → body ≡ take page.size (drop start buf) → b ≡ a → OnOk r (WasShown page body) → is_err r ≡ false → page.closes ≡ true → IsNext terms shows a b buf out out' answered.Last
+  shown_last (Err e) page start body at long is same h ok last = absurd (cc ok)
+  shown_last (Ok t) page start body at long is same h ok last = page_last page start body h.0 at long is same h.1 last h.2

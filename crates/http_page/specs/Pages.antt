@@ -2,7 +2,7 @@
 use Rattle.std.specs.Prelude.{◌≡◌, ◌≤◌, ◌<◌, ℕ, Bool, true, false, ◌&&◌, ◌||◌, not, List, length, take, drop, codes}
 use Rattle.std.specs.Prelude.{bytes_eq, nat_le, Option, None, Some, is_some, option_map, if◌then◌else◌}
 use Rattle.httparse.specs.Grammar.{RequestHead}
-use Rattle.httparse.specs.Spans.{span_bytes}
+use Rattle.httparse.specs.Spans.{IsWithin, span_bytes}
 use Rattle.httparse.specs.declared.spans.Span.{Span}
 use Rattle.desk_common.specs.Limits.{most_deck_bytes}
 use Rattle.http_head.specs.Heads.{WholeHead}
@@ -122,3 +122,4 @@ IsLook port buf looks.Elsewhere = IsFromElsewhere port buf
 IsLook port buf (looks.Page posts path start size closes) =
     IsPageAt port buf
     (record { posts = posts; path = span_bytes buf path; size = size; closes = closes }) start
+    × IsWithin (length buf) path
