@@ -111,7 +111,7 @@ pub record IsLater (told told' : ReadySeen) : Type 0 where
 pub rose_later : (a b c : ℕ) → Rose a b → b ≤ c → Rose a c
 rose_later a b c h l = omega (arith, h, l)
 
-left_later : (first told told' : ReadySeen) (wire : WireSeen) (flow : FlowView) (why : Left) → IsLater told told' → IsLeft first told wire flow why → IsLeft first told' wire flow why
+pub left_later : (first told told' : ReadySeen) (wire : WireSeen) (flow : FlowView) (why : Left) → IsLater told told' → IsLeft first told wire flow why → IsLeft first told' wire flow why
 left_later first told told' wire flow lefts.Answered l h = h
 left_later first told told' wire flow lefts.InputEnded l h = h
 left_later first told told' wire flow lefts.Failed l h = h

@@ -3,7 +3,7 @@ use Rattle.std.proofs.Common.{◌≡◌, ◌≢◌, ◌⊎◌, ◌<◌, ◌≤�
 use Rattle.std.specs.Prelude.{Option, None, Some, All, slice_index_or}
 use Rattle.std.proofs.lemmas.Bool.{cases_eq}
 use Rattle.std.proofs.lemmas.List.{map-append}
-use Rattle.std.proofs.lemmas.List.Elements.{All-nil}
+use Rattle.std.proofs.lemmas.List.Elements.{All-nil, Contains-append_left, Contains-push}
 use Rattle.desk_common.specs.Causes.{Rose, counted}
 use Rattle.slab.specs.Slab.{Slab, get, slab_len, Updates}
 use Rattle.ready_wires.specs.Wires.{WireSeen, IsTold}
@@ -17,12 +17,14 @@ use Rattle.http_flow.specs.declared.page.Page.{Page}
 use Rattle.http_flow.specs.declared.phase.Phase.TheVariants as phases
 use Rattle.http_flow.proofs.ExchangeLaws.{Heard-nil, Heard-join}
 use Rattle.serve_poll.specs.Visitors.{IsOn, IsBounded, IsLeft, IsLastStep, IsStep, IsWaiting, WasTold, VisitorSeen, Advances}
-use Rattle.serve_poll.specs.Halls.{Asked, House, seen_visitor, HasLeft, AreSeated, Stands, AreWatched, AreWatchedBut, KeepsStanding, StaysStanding}
+use Rattle.serve_poll.specs.Halls.{Asked, House, IsLoopEnd, seen_visitor, HasLeft, AreSeated, Stands, AreWatched, AreWatchedBut, KeepsStanding, StaysStanding}
 use Rattle.serve_poll.specs.declared.step.Left.{Left}
 use Rattle.serve_poll.specs.declared.step.Left.TheVariants as lefts
 use Rattle.serve_poll.specs.declared.step.Step.{Step}
 use Rattle.serve_poll.specs.declared.step.Step.TheVariants as steps
 use Rattle.serve_poll.specs.declared.hall.Hall.{Hall}
+use Rattle.serve_poll.specs.declared.serving.LoopEnd.{LoopEnd}
+use Rattle.serve_poll.specs.declared.serving.LoopEnd.TheVariants as ends
 use Rattle.serve_poll.specs.declared.visitor.Visitor.{Visitor}
 use Rattle.serve_poll.proofs.HallLaws.{none_some, signed, exchanges_signed, tells_none, IsLater, AreOut, seated_later, take_out, put_back, leave, heard_out, same_out, enter, turned}
 
@@ -64,7 +66,7 @@ among_more (Some keys) idle' more key h k = elim h [
 pub among_last : (idle idle' : Option (List ℕ)) (key : ℕ) → Tells idle idle' (key ∷ []) → IsAmong idle' key
 among_last None idle' key h = rw h tt
 among_last (Some keys) idle' key h = elim h [
-  | inl told ↦ rw told (Contains-append_right keys (key ∷ []) key (Contains-head_self))
+  | inl told ↦ rw told (Contains-push keys key)
   | inr none ↦ rw none tt
 ]
 
@@ -190,6 +192,12 @@ module _ {C : Type 0} (house : House) (seen : C → WireSeen) where
       stands = λ xs first before s. rw (sym (append_assoc xs h.more k.more)) (k.stands (xs ++ h.more) first before (h.stands xs first before s));
     }
 
+    -- an event was told before
+    pub keeps_event : (a b : ClerkMoment S) (t u v : ReadySeen) (one two three : Option (List C)) (hall hall' : Hall C) → IsLater t u → two ≡ one → KeepsStanding house seen shows a b u v two three hall hall' → KeepsStanding house seen shows a b t v one three hall hall'
+    keeps_event a b t u v one two three hall hall' later same k =
+        let k' : KeepsStanding house seen shows a b u v one three hall hall' = rw same at k in
+        keeps_join a a b t u v one one three hall hall hall' (keeps_later a t u one hall later) k'
+
     -- a connection was taken out of its seat and served
     pub ready : (a b : ClerkMoment S) (told told' : ReadySeen) (back back' : Option (List C)) (hall hall' : Hall C) (mid : Slab (Visitor C)) (key : ℕ) (u v w : Visitor C) → IsLater told told' → get hall.seats key ≡ Some u → Updates hall.seats mid key None → slab_len mid + 1 ≡ slab_len hall.seats → mid.capacity ≡ hall.seats.capacity → Advances house.terms shows a b (seen_visitor seen u) (seen_visitor seen v) → w.number ≡ v.number → w.conversation ≡ v.conversation → seen w.conn ≡ record (seen v.conn) { watched = (seen w.conn).watched }
         → ((all : List Asked) (first : ReadySeen) (before : Option (List C)) → AreOut house seen first told' all before back hall.count mid key w → first.faults ≤ told.faults → (seen u.conn).watched ≡ Some key → AreSeated house seen first told' all before back' hall'.count hall'.seats) → KeepsStanding house seen shows a b told told' back back' hall hall'
@@ -220,3 +228,16 @@ last_left first told' wire wire' flow lefts.Idle same h = absurd h
 pub cause_of : (first told told' : ReadySeen) (wire wire' : WireSeen) (flow : FlowView) (step : Step) (left : Left) → first.faults ≤ told.faults → wire' ≡ record wire { watched = wire'.watched } → IsStep wire flow step → (step ≡ steps.Over left) ⊎ ((left ≡ lefts.Unwatched) × Rose told.faults told'.faults) → IsLeft first told' wire' flow left
 cause_of first told told' wire wire' flow step left since same h (inl is) = let k : IsStep wire flow (steps.Over left) = rw is at h in last_left first told' wire wire' flow left same k
 cause_of first told told' wire wire' flow step left since same h (inr is) = rw is.0 (rose_since first.faults told.faults told'.faults since is.1)
+
+-- the slab without a key that had nothing is the slab
+pub hall_same : {C : Type 0} (hall : Hall C) (seats : Slab (Visitor C)) → seats ≡ hall.seats → record hall { seats = seats } ≡ hall
+hall_same hall seats same = ap (λ (s : Slab (Visitor C)). record hall { seats = s }) same
+
+-- nobody had this seat
+pub stays_none : {C : Type 0} (house : House) (seen : C → WireSeen) (told : ReadySeen) (back : Option (List C)) (hall : Hall C) (seats : Slab (Visitor C)) → seats ≡ hall.seats → StaysStanding house seen told told back back hall (record hall { seats = seats })
+stays_none house seen told back hall seats same all first before s = rw same s
+
+-- why no further event is awaited
+pub loop_end : (turns made count : ℕ) (told mid told' : ReadySeen) (end : LoopEnd) → told.faults ≤ mid.faults → ((end ≡ ends.Ended) × (told'.ended ≡ true)) ⊎ ((end ≡ ends.Failed) × Rose mid.faults told'.faults) → IsLoopEnd turns made told told' count end
+loop_end turns made count told mid told' end since (inl h) = rw h.0 h.1
+loop_end turns made count told mid told' end since (inr h) = rw h.0 (rose_since told.faults mid.faults told'.faults since h.1)

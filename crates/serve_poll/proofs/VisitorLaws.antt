@@ -1,5 +1,6 @@
 -- Steps of a connection.
-use Rattle.std.proofs.Common.{◌≡◌, ◌<◌, ◌≤◌, ◌+◌, ℕ, List, [], ◌∷◌, ◌++◌, length, take, drop, refl, ap, sym, ◌∙◌, append_assoc, append-nil, take-append-drop, arith, inl, inr}
+use Rattle.std.proofs.Common.{◌≡◌, ◌<◌, ◌≤◌, ◌+◌, ◌-◌, ◌⊎◌, ℕ, List, [], ◌∷◌, ◌++◌, length, take, drop, refl, ap, sym, ◌∙◌, append_assoc, append-nil, take-append-drop, take-add, drop-drop, arith, inl, inr, true}
+use Rattle.std.proofs.lemmas.List.{drop_all, length-drop, take_rest}
 use Rattle.std.specs.Prelude.{Option, None, Some}
 use Rattle.ready_wires.specs.Wires.{WireSeen, IsTold, Grows}
 use Rattle.http_page.specs.Pages.{PageAsk}
@@ -134,3 +135,50 @@ module _ {S : Type 0} (terms : Terms) (shows : S → List Talk → PageAsk → P
       watched = two.hears.watched ∙ one.hears.watched;
     };
   }
+
+-- a text of which a front was taken
+pub record IsTelling (wire : WireSeen) (text : List ℕ) (done : ℕ) : Type 0 where
+  pub within : done ≤ length text
+  pub came : IsTold wire.came []
+  pub taken : IsTold wire.taken (take done text)
+
+pub telling_none : (wire : WireSeen) (text : List ℕ) → IsTold wire.came [] → IsTold wire.taken [] → IsTelling wire text 0
+telling_none wire text came taken = record { within = omega arith; came = came; taken = taken }
+
+-- a further front of it was taken
+pub telling_more : (wire wire' : WireSeen) (text : List ℕ) (done count : ℕ) → IsTelling wire text done → wire'.came ≡ wire.came → Grows wire.taken wire'.taken (take count (take (length text - done) (drop done text))) → count ≤ length (take (length text - done) (drop done text)) → IsTelling wire' text (done + count)
+telling_more wire wire' text done count h same grows fits =
+    let grows' : Grows wire.taken wire'.taken (take count (drop done text)) = rw (take_rest text done) at grows in
+    let fits' : count ≤ length (drop done text) = rw (take_rest text done) at fits in
+    record {
+      within = omega (arith, h.within, fits', length-drop done text);
+      came = rw same h.came;
+      taken = rw (take-add done count text) (told_more wire.taken wire'.taken (take done text) (take count (drop done text)) h.taken grows');
+    }
+
+told_front : (wire : WireSeen) (text : List ℕ) (done : ℕ) → IsTelling wire text done → (drop done text ≡ []) ⊎ ((wire.write_waits ≡ true) ⊎ (0 < wire.faults)) → WasTold wire text
+told_front wire text done h why = record {
+  came = h.came;
+  front = take done text;
+  rest = drop done text;
+  whole = sym (take-append-drop done text);
+  taken = h.taken;
+  why = why;
+}
+
+telling_still : (wire wire' : WireSeen) (text : List ℕ) (done : ℕ) → IsTelling wire text done → wire'.came ≡ wire.came → Grows wire.taken wire'.taken [] → IsTelling wire' text done
+telling_still wire wire' text done h same grows = record {
+  within = h.within;
+  came = rw same h.came;
+  taken = told_still wire.taken wire'.taken (take done text) h.taken grows;
+}
+
+-- all of it was taken, or it would have waited, or failed
+pub told_all : (wire : WireSeen) (text : List ℕ) (done : ℕ) → IsTelling wire text done → length text ≤ done → WasTold wire text
+told_all wire text done h le = told_front wire text done h (inl (drop_all done text le))
+
+pub told_waits : (wire wire' : WireSeen) (text : List ℕ) (done : ℕ) → IsTelling wire text done → wire'.came ≡ wire.came → Grows wire.taken wire'.taken [] → wire'.write_waits ≡ true → WasTold wire' text
+told_waits wire wire' text done h same grows waits = told_front wire' text done (telling_still wire wire' text done h same grows) (inr (inl waits))
+
+pub told_failed : (wire wire' : WireSeen) (text : List ℕ) (done : ℕ) → IsTelling wire text done → wire'.came ≡ wire.came → Grows wire.taken wire'.taken [] → 0 < wire'.faults → WasTold wire' text
+told_failed wire wire' text done h same grows fault = told_front wire' text done (telling_still wire wire' text done h same grows) (inr (inr fault))

@@ -1,6 +1,7 @@
 //! Many connections and their events.
-ghost use Rattle.std.specs.Prelude.{◌≡◌, ◌≤◌, ◌<◌, ◌^◌, ◌-◌, ◌⊎◌, [], IfNone, IfOk, IfSome, List, OnErr, Some, ℕ};
+ghost use Rattle.std.specs.Prelude.{◌≡◌, ◌≤◌, ◌<◌, ◌^◌, ◌-◌, ◌⊎◌, [], IfNone, IfOk, IfSome, List, OnErr, Some, ℕ, true};
 ghost use Rattle.desk_common.specs.Causes.{Rose};
+ghost use Rattle.sms_base.specs.Counts.{one_call_more};
 ghost use Rattle.ready_wires.specs.Wires.{IsTold};
 ghost use Rattle.ready_wires.specs.Events.{IsAmong, IsAwaited};
 ghost use Rattle.http_flow.specs.Exchange.{Terms};
@@ -85,16 +86,55 @@ pub fn serve_events<P: Readiness, K: Pages>(
             return LoopEnd::Numbers;
         }
         made += 1;
-        match poller.next() {
-            Ok(Event::Came(conn)) => admit(alloc, poller, hall, conn, away),
-            Ok(Event::Ready(key)) => serve_ready(alloc, routes, site, clerk, poller, hall, key),
-            Ok(Event::Idle(key)) => dismiss(poller, hall, key),
-            Ok(Event::Quiet) => (),
-            Ok(Event::Ended) => return LoopEnd::Ended,
-            Err(_) => return LoopEnd::Failed,
+        if let Some(end) = meet(alloc, routes, site, clerk, poller, hall, away) {
+            return end;
         }
     }
     LoopEnd::Turns
+}
+
+// Waits for one event, and does what it asks; or says why no further one is awaited.
+fn meet<P: Readiness, K: Pages>(
+    alloc: Global,
+    routes: &Routes,
+    site: &Site,
+    clerk: &mut K,
+    poller: &mut P,
+    hall: &mut Hall<P::Conn>,
+    away: &[u8],
+) -> Option<LoopEnd>
+    requires { hall.old.count < 2 ^ 64 - 1 }
+    ensures stands { KeepsStanding
+        (record { terms = record { port = site.now; refusal = K.refusal }; away = away.now })
+        P.Conn.seen K.shows
+        (record { talks = K.talks clerk.old; start = K.begun clerk.old })
+        (record { talks = K.talks clerk.new; start = K.begun clerk.new })
+        (P.seen poller.old) (P.seen poller.new) (P.back poller.old) (P.back poller.new) hall.old hall.new }
+    ensures watched { AreWatched P.Conn.seen (P.seen poller.old).awaited hall.old.seats
+        → AreWatched P.Conn.seen (P.seen poller.new).awaited hall.new.seats }
+    ensures calls { (P.seen poller.new).calls ≡ one_call_more (P.seen poller.old).calls }
+    ensures faults { (P.seen poller.old).faults ≤ (P.seen poller.new).faults }
+    ensures why { IfSome result (λ end.
+        ((end ≡ LoopEnd.Ended) × ((P.seen poller.new).ended ≡ true))
+        ⊎ ((end ≡ LoopEnd.Failed) × Rose (P.seen poller.old).faults (P.seen poller.new).faults)) }
+{
+    match poller.next() {
+        Ok(Event::Came(conn)) => {
+            admit(alloc, poller, hall, conn, away);
+            None
+        }
+        Ok(Event::Ready(key)) => {
+            serve_ready(alloc, routes, site, clerk, poller, hall, key);
+            None
+        }
+        Ok(Event::Idle(key)) => {
+            dismiss(poller, hall, key);
+            None
+        }
+        Ok(Event::Quiet) => None,
+        Ok(Event::Ended) => Some(LoopEnd::Ended),
+        Err(_) => Some(LoopEnd::Failed),
+    }
 }
 
 // Seats a connection that came, or hands it back where no seat is free.
