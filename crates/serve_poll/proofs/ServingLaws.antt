@@ -1,5 +1,5 @@
 -- What events do to all connections.
-use Rattle.std.proofs.Common.{◌≡◌, ◌≢◌, ◌⊎◌, ◌<◌, ◌≤◌, ◌+◌, ℕ, Bool, length, List, [], ◌∷◌, ◌++◌, map, refl, ap, sym, ◌∙◌, append_assoc, append-nil, arith, inl, inr}
+use Rattle.std.proofs.Common.{◌≡◌, ◌≢◌, ◌⊎◌, ◌<◌, ◌≤◌, ◌+◌, ℕ, Bool, true, length, List, [], ◌∷◌, ◌++◌, map, refl, ap, sym, ◌∙◌, append_assoc, append-nil, arith, inl, inr}
 use Rattle.std.specs.Prelude.{Option, None, Some, All, slice_index_or}
 use Rattle.std.proofs.lemmas.Bool.{cases_eq}
 use Rattle.std.proofs.lemmas.List.{map-append}
@@ -229,10 +229,6 @@ pub cause_of : (first told told' : ReadySeen) (wire wire' : WireSeen) (flow : Fl
 cause_of first told told' wire wire' flow step left since same h (inl is) = let k : IsStep wire flow (steps.Over left) = rw is at h in last_left first told' wire wire' flow left same k
 cause_of first told told' wire wire' flow step left since same h (inr is) = rw is.0 (rose_since first.faults told.faults told'.faults since is.1)
 
--- the slab without a key that had nothing is the slab
-pub hall_same : {C : Type 0} (hall : Hall C) (seats : Slab (Visitor C)) → seats ≡ hall.seats → record hall { seats = seats } ≡ hall
-hall_same hall seats same = ap (λ (s : Slab (Visitor C)). record hall { seats = s }) same
-
 -- nobody had this seat
 pub stays_none : {C : Type 0} (house : House) (seen : C → WireSeen) (told : ReadySeen) (back : Option (List C)) (hall : Hall C) (seats : Slab (Visitor C)) → seats ≡ hall.seats → StaysStanding house seen told told back back hall (record hall { seats = seats })
 stays_none house seen told back hall seats same all first before s = rw same s
@@ -241,3 +237,8 @@ stays_none house seen told back hall seats same all first before s = rw same s
 pub loop_end : (turns made count : ℕ) (told mid told' : ReadySeen) (end : LoopEnd) → told.faults ≤ mid.faults → ((end ≡ ends.Ended) × (told'.ended ≡ true)) ⊎ ((end ≡ ends.Failed) × Rose mid.faults told'.faults) → IsLoopEnd turns made told told' count end
 loop_end turns made count told mid told' end since (inl h) = rw h.0 h.1
 loop_end turns made count told mid told' end since (inr h) = rw h.0 (rose_since told.faults mid.faults told'.faults since h.1)
+
+-- it waits, or is still to be told of
+pub waits_or : (awaited : Option (List ℕ)) (key : ℕ) (wire wire' : WireSeen) (flow : FlowView) (step : Step) → wire' ≡ record wire { watched = wire'.watched } → IsStep wire flow step → (step ≡ steps.Waits) ⊎ IsAwaited awaited key → IsWaiting wire' flow ⊎ IsAwaited awaited key
+waits_or awaited key wire wire' flow step same h (inl is) = let k : IsStep wire flow steps.Waits = rw is at h in inl (still_waits wire wire' flow same k)
+waits_or awaited key wire wire' flow step same h (inr told) = inr told

@@ -54,7 +54,7 @@ module _ {C : Type 0} (seen : C → WireSeen) where
   AreWatchedBut key awaited seats = (other : ℕ) (v : Visitor C) → other ≢ key → get seats other ≡ Some v
       → IsWaiting (seen v.conn) v.conversation ⊎ IsAwaited awaited other
 
-module _ {C : Type 0} (house : House) (seen : C → WireSeen) where
+module _ (house : House) where
   -- its number is one that was given, it is at this place and watched under it, what is kept for it is bounded, and its
   -- conversation has just the exchanges that bear its number
   pub record IsSeated (all : List Asked) (count : ℕ) (place : ℕ → Option ℕ) (key : ℕ) (v : VisitorSeen) : Type 0 where
@@ -79,18 +79,19 @@ module _ {C : Type 0} (house : House) (seen : C → WireSeen) where
   WasServed told told' all v lefts.Idle =
       IsOn house.terms v.wire v.flow (asked_by v.number all) × IsLeft told told' v.wire v.flow lefts.Idle
 
+-- of connections that left, of which the first left when so many had left or were seats, each that was turned away
+-- came when all seats were taken: as many connections had come before it as had left and as there are seats
+abbrev pub WereFull : {C : Type 0} → ℕ → List (Gone C) → Type 0
+WereFull n [] = ⊤
+WereFull n (x ∷ xs) = (x.why ≡ lefts.TurnedAway → x.visitor.number ≡ n) × WereFull (n + 1) xs
+
+module _ {C : Type 0} (house : House) (seen : C → WireSeen) where
   -- a connection that was handed back
   pub record HasLeft (told told' : ReadySeen) (all : List Asked) (count : ℕ) (place : ℕ → Option ℕ) (x : Gone C)
       : Type 0 where
     pub given : x.visitor.number < count
     pub placed : place x.visitor.number ≡ None
-    pub served : WasServed told told' all (seen_visitor seen x.visitor) x.why
-
-  -- of connections that left, of which the first left when so many had left or were seats, each that was turned away
-  -- came when all seats were taken: as many connections had come before it as had left and as there are seats
-  abbrev pub WereFull : ℕ → List (Gone C) → Type 0
-  WereFull n [] = ⊤
-  WereFull n (x ∷ xs) = (x.why ≡ lefts.TurnedAway → x.visitor.number ≡ n) × WereFull (n + 1) xs
+    pub served : WasServed house told told' all (seen_visitor seen x.visitor) x.why
 
   -- each exchange is of one connection, and each connection, whether it is served or was handed back, has just its own:
   -- what came of it asked for them, and what it took is their answers; none is lost
@@ -100,7 +101,7 @@ module _ {C : Type 0} (house : House) (seen : C → WireSeen) where
     pub gone : List (Gone C)
     pub few : All (λ h. h.by < count) all
     pub seated : (key : ℕ) (v : Visitor C) → get seats key ≡ Some v
-        → IsSeated all count place key (seen_visitor seen v)
+        → IsSeated house all count place key (seen_visitor seen v)
     pub left : All (HasLeft told told' all count place) gone
     pub full : WereFull seats.capacity gone
     pub none_lost : count ≡ slab_len seats + length gone

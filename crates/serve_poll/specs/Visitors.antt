@@ -1,5 +1,5 @@
 -- A connection that is being served (docs/smsd.md, "The served desk").
-use Rattle.std.specs.Prelude.{ℕ, ◌≡◌, ◌≢◌, ◌<◌, ◌≤◌, ◌⊎◌, true, List, [], ◌++◌, length, Option, Some, ⊤}
+use Rattle.std.specs.Prelude.{ℕ, ◌≡◌, ◌≢◌, ◌<◌, ◌≤◌, ◌+◌, ◌⊎◌, true, List, [], ◌++◌, length, Option, Some, ⊤}
 use Rattle.desk_common.specs.Causes.{Rose}
 use Rattle.ready_wires.specs.Wires.{WireSeen, IsTold}
 use Rattle.ready_wires.specs.Events.{ReadySeen, IsAmong}

@@ -4,8 +4,8 @@ use Rattle.sms_base.specs.Counts.{after_calls}
 use Rattle.serve_poll.specs.Halls.{AreWatched, KeepsStanding}
 use Rattle.serve_poll.proofs.serving.serve_events.Given as goal
 
-abbrev pub invariant-loop-alloc : goal.invariant-loop-alloc
-invariant-loop-alloc g l = record {
+abbrev pub invariant-loop-made : goal.invariant-loop-made
+invariant-loop-made g l = record {
   stands : KeepsStanding
       (record { terms = record { port = l.site; refusal = g.K.Pages.refusal }; away = l.away })
       g.P.Conn.Wire.seen g.K.Pages.shows
@@ -20,5 +20,5 @@ invariant-loop-alloc g l = record {
   faults : (g.P.Readiness.seen l.initial.poller).faults ≤ (g.P.Readiness.seen l.poller).faults;
 }
 
-abbrev pub decreases-loop-alloc : goal.decreases-loop-alloc
-decreases-loop-alloc g l = l.turns - l.made
+abbrev pub decreases-loop-made : goal.decreases-loop-made
+decreases-loop-made g l = l.turns - l.made

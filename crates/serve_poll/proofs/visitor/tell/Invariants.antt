@@ -3,8 +3,8 @@ use Rattle.std.proofs.Common.{◌-◌, length}
 use Rattle.serve_poll.proofs.VisitorLaws.{IsTelling}
 use Rattle.serve_poll.proofs.visitor.tell.Given as goal
 
-abbrev pub invariant-loop-conn : goal.invariant-loop-conn
-invariant-loop-conn g l = IsTelling (g.C.Wire.seen l.conn) l.text l.done
+abbrev pub invariant-loop-done : goal.invariant-loop-done
+invariant-loop-done g l = IsTelling (g.C.Wire.seen l.conn) l.text l.done
 
-abbrev pub decreases-loop-conn : goal.decreases-loop-conn
-decreases-loop-conn g l = length l.text - l.done
+abbrev pub decreases-loop-done : goal.decreases-loop-done
+decreases-loop-done g l = length l.text - l.done
