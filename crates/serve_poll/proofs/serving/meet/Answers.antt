@@ -43,19 +43,19 @@ returns-in-Err-clause-stands g c = keeps_event _ _ _ _ _ _ _ _ _ _ _ _ _
     (keeps_still _ _ _ _ _ _ _)
 
 pub returns-in-Ok-Came-clause-watched : goal.returns-in-Ok-Came-clause-watched
-returns-in-Ok-Came-clause-watched g c = λ h. c.admit.ensures.watched (watched_more _ _ _ _ (rw c.in-Ok-Came.field-0-is at c.in-Ok-Came.ensures.awaited) h)
+returns-in-Ok-Came-clause-watched g c = λ h. c.admit.ensures.watched (watched_more g.P.Conn.Wire.seen _ _ c.args.hall.now.seats (rw c.in-Ok-Came.field-0-is at c.in-Ok-Came.ensures.awaited) h)
 
 pub returns-in-Ok-Ready-clause-watched : goal.returns-in-Ok-Ready-clause-watched
-returns-in-Ok-Ready-clause-watched g c = λ h. c.serve_ready.ensures.watched (watched_but _ _ _ _ _ (rw c.in-Ok-Ready.field-0-is at c.in-Ok-Ready.ensures.awaited) h)
+returns-in-Ok-Ready-clause-watched g c = λ h. c.serve_ready.ensures.watched (watched_but g.P.Conn.Wire.seen c.in-Ok-Ready.key _ _ c.args.hall.now.seats (rw c.in-Ok-Ready.field-0-is at c.in-Ok-Ready.ensures.awaited) h)
 
 pub returns-in-Ok-Idle-clause-watched : goal.returns-in-Ok-Idle-clause-watched
-returns-in-Ok-Idle-clause-watched g c = λ h. c.dismiss.ensures.watched (watched_more _ _ _ _ (rw c.in-Ok-Idle.field-0-is at c.in-Ok-Idle.ensures.awaited) h)
+returns-in-Ok-Idle-clause-watched g c = λ h. c.dismiss.ensures.watched (watched_more g.P.Conn.Wire.seen _ _ c.args.hall.now.seats (rw c.in-Ok-Idle.field-0-is at c.in-Ok-Idle.ensures.awaited) h)
 
 pub returns-in-Ok-Quiet-clause-watched : goal.returns-in-Ok-Quiet-clause-watched
-returns-in-Ok-Quiet-clause-watched g c = λ h. watched_more _ _ _ _ (rw c.in-Ok-Quiet.field-0-is at c.in-Ok-Quiet.ensures.awaited) h
+returns-in-Ok-Quiet-clause-watched g c = λ h. watched_more g.P.Conn.Wire.seen _ _ c.args.hall.now.seats (rw c.in-Ok-Quiet.field-0-is at c.in-Ok-Quiet.ensures.awaited) h
 
 pub returns-in-Ok-Ended-clause-watched : goal.returns-in-Ok-Ended-clause-watched
-returns-in-Ok-Ended-clause-watched g c = λ h. watched_more _ _ _ _ (rw c.in-Ok-Ended.field-0-is at c.in-Ok-Ended.ensures.awaited) h
+returns-in-Ok-Ended-clause-watched g c = λ h. watched_more g.P.Conn.Wire.seen _ _ c.args.hall.now.seats (rw c.in-Ok-Ended.field-0-is at c.in-Ok-Ended.ensures.awaited) h
 
 pub returns-in-Err-clause-watched : goal.returns-in-Err-clause-watched
-returns-in-Err-clause-watched g c = λ h. watched_more _ _ _ _ c.in-Err.ensures.awaited h
+returns-in-Err-clause-watched g c = λ h. watched_more g.P.Conn.Wire.seen _ _ c.args.hall.now.seats c.in-Err.ensures.awaited h
