@@ -1,0 +1,10 @@
+use denote.Text.{Utf8}
+use denote.Shadow.{shadow}
+use Rattle.worked_cases.proofs.filling.behind_all.Given as goal
+
+-- the rest is text
+abbrev pub invariant-loop-piece : goal.invariant-loop-piece
+invariant-loop-piece l =
+    (goal.iterator-loop-piece).can_next l.piece-iterator ×
+    (goal.iterator-loop-piece).is_finite l.piece-iterator ×
+    shadow (Utf8 l.rest)
