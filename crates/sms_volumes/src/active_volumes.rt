@@ -13,6 +13,8 @@ use std::alloc::Global;
 pub struct ActiveVolumes {
     pub groups: Vec<ActiveGroup>,
     pub volumes: Vec<ActiveVolume>,
+    // For each storage group the place of the volume that was chosen last where it was listed first.
+    pub(crate) latest: Vec<Option<usize>>,
 }
 
 impl ActiveVolumes {
@@ -23,6 +25,7 @@ impl ActiveVolumes {
         ActiveVolumes {
             groups: Vec::new(alloc),
             volumes: Vec::new(alloc),
+            latest: Vec::new(alloc),
         }
     }
 }

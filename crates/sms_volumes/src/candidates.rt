@@ -28,6 +28,14 @@ impl Candidates<'_> {
             }
         }
     }
+
+    /// The storage group that is listed first.
+    pub(crate) fn first_group(&self) -> Option<&Name> {
+        match self {
+            Candidates::Listed(groups) => groups.first(),
+            Candidates::Beside { group, .. } => Some(group),
+        }
+    }
 }
 
 fn is_listed(groups: &[Name], name: &[u8]) -> bool

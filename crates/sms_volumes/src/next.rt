@@ -139,6 +139,17 @@ impl ActiveVolumes {
         Ok(next)
     }
 
+    // For each of so many storage groups no place.
+    fn no_places(alloc: Global, count: usize) -> Result<Vec<Option<usize>>, AllocError> {
+        let mut places = Vec::with_capacity(alloc, count)?;
+        for _ in 0..count {
+            if places.push(None).is_err() {
+                return Err(AllocError);
+            }
+        }
+        Ok(places)
+    }
+
     /// The storage groups and volumes of a configuration that is to become active after these, all their tracks
     /// free, or want of memory: each keeps its present status, and what isn't active has that of its deck
     /// (docs/rules.md, "ACTIVATE").
@@ -152,6 +163,7 @@ impl ActiveVolumes {
         Ok(ActiveVolumes {
             groups: self.next_groups(alloc, config.groups(), config.volumes())?,
             volumes: self.next_volumes(alloc, config.groups(), config.volumes())?,
+            latest: ActiveVolumes::no_places(alloc, config.groups().len())?,
         })
     }
 }

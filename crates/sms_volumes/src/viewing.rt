@@ -1,6 +1,6 @@
 //! The choice of a volume.
-ghost use Rattle.std.specs.Prelude.{◌≡◌, ◌≤◌, ◌<◌, ◌+◌, length, slice_get, take, IfSome, MatchOption, None, Some};
-ghost use Rattle.std.specs.Prelude.{option_map};
+ghost use Rattle.std.specs.Prelude.{◌≡◌, ◌≤◌, ◌<◌, ◌++◌, ◌∷◌, [], List, drop, length, slice_get, take, IfSome, None};
+ghost use Rattle.std.specs.Prelude.{MatchOption, Some, option_map};
 ghost use Rattle.desk_common.specs.Limits.{most_extents, most_groups_set, most_pieces};
 ghost use Rattle.desk_law.specs.State.{DeskState};
 ghost use Rattle.desk_law.specs.Candidates.{grant_on, tier_among, want_of};
@@ -99,22 +99,99 @@ impl ActiveVolumes {
     }
 
     /// A candidate that may be chosen for what is asked (docs/rules.md, "The lists") and what the gap rule grants on
-    /// it, or `None` where all are rejected. Room is looked for only where a volume would come before those seen.
-    /// Takes no memory.
-    pub fn choose(&self, candidates: &Candidates<'_>, asked: &Asked<'_>) -> Option<Pick>
+    /// it, or `None` where all are rejected. Equally good volumes are taken in turn, which no clause says. Takes no
+    /// memory.
+    pub fn choose(&mut self, candidates: &Candidates<'_>, asked: &Asked<'_>) -> Option<Pick>
+        requires asked { IsAsked asked.now }
+        requires stand { StandForSome self.old }
+        ensures same { (s : DeskState) → AreVolumesOf s self.old → AreVolumesOf s self.new }
+        ensures volumes { self.new.volumes.items ≡ self.old.volumes.items }
+        ensures pick { (s : DeskState) → IsLawful s → AreVolumesOf s self.old →
+            IsPick s self.new candidates.now asked.now result }
+    {
+        let group = self.first_group(candidates);
+        let pick = self.pick_from(self.place_behind_latest(group), candidates, asked);
+        if let Some(pick) = &pick {
+            self.note_latest(group, pick.place);
+        }
+        pick
+    }
+
+    // The place of the storage group that is listed first, or past the last where there is none.
+    fn first_group(&self, candidates: &Candidates<'_>) -> usize {
+        if let Some(name) = candidates.first_group() {
+            for place in 0..self.groups.len() {
+                if self.groups[place].group.name == *name {
+                    return place;
+                }
+            }
+        }
+        self.groups.len()
+    }
+
+    // The place behind the volume that was chosen last where this storage group was listed first.
+    fn place_behind_latest(&self, group: usize) -> usize
+        ensures { result ≤ length self.now.volumes.items }
+    {
+        match self.latest.get(group) {
+            Some(Some(latest)) if *latest < self.volumes.len() => *latest + 1,
+            _ => 0,
+        }
+    }
+
+    // The volume at the place is the one that was chosen last where this storage group was listed first.
+    fn note_latest(&mut self, group: usize, place: usize)
+        ensures groups { self.new.groups ≡ self.old.groups }
+        ensures volumes { self.new.volumes ≡ self.old.volumes }
+    {
+        if let Some(latest) = self.latest.get_mut(group) {
+            *latest = Some(place);
+        }
+    }
+
+    // A candidate that may be chosen, where those from a place on are looked at before the others.
+    fn pick_from(
+        &self,
+        start: usize,
+        candidates: &Candidates<'_>,
+        asked: &Asked<'_>,
+    ) -> Option<Pick>
+        requires start { start ≤ length self.now.volumes.items }
         requires asked { IsAsked asked.now }
         requires stand { StandForSome self.now }
         ensures { (s : DeskState) → IsLawful s → AreVolumesOf s self.now →
             IsPick s self.now candidates.now asked.now result }
     {
         let mut lead = Lead::none();
-        for place in 0..self.volumes.len() {
-            self.look_at(place, candidates, asked, &mut lead);
-            if lead.is_first() {
-                return lead.pick;
-            }
-        }
+        self.look_over(start, self.volumes.len(), candidates, asked, &mut lead);
+        self.look_over(0, start, candidates, asked, &mut lead);
         lead.pick
+    }
+
+    // Looks at the volumes from one place up to another, as long as one may come before the lead.
+    fn look_over(
+        &self,
+        from: usize,
+        to: usize,
+        candidates: &Candidates<'_>,
+        asked: &Asked<'_>,
+        lead: &mut Lead,
+    )
+        requires from { from ≤ to }
+        requires to { to ≤ length self.now.volumes.items }
+        requires asked { IsAsked asked.now }
+        requires stand { StandForSome self.now }
+        ensures { (s : DeskState) (seen : List Running) → IsLawful s → AreVolumesOf s self.now →
+            Leads s self.now (candidates_among candidates.now seen) asked.now lead.old →
+            Leads s self.now (candidates_among candidates.now (seen ++ drop from (take to self.now.volumes.items)))
+            asked.now lead.new }
+    {
+        for place in from..to {
+            if lead.is_first() {
+                return;
+            }
+            self.look_at(place, candidates, asked, lead);
+        }
     }
 
     // The volume at the place takes the lead where it is a candidate, comes before the one that leads, and has room.
@@ -122,10 +199,10 @@ impl ActiveVolumes {
         requires place { place < length self.now.volumes.items }
         requires asked { IsAsked asked.now }
         requires stand { StandForSome self.now }
-        ensures { (s : DeskState) → IsLawful s → AreVolumesOf s self.now →
-            Leads s self.now (candidates_among candidates.now (take place self.now.volumes.items)) asked.now lead.old →
-            Leads s self.now (candidates_among candidates.now (take (place + 1) self.now.volumes.items)) asked.now
-            lead.new }
+        ensures { (s : DeskState) (seen : List Running) (volume : Running) → IsLawful s → AreVolumesOf s self.now →
+            slice_get self.now.volumes.items place ≡ Some volume →
+            Leads s self.now (candidates_among candidates.now seen) asked.now lead.old →
+            Leads s self.now (candidates_among candidates.now (seen ++ volume ∷ [])) asked.now lead.new }
     {
         let volume = &self.volumes[place];
         if !candidates.has(&volume.volume) {

@@ -19,7 +19,7 @@ returns-in-Group c = λ s lawful are.
     let R : ActiveGroup → ActiveGroup → Type 0 = λ x y. y ≡ f x in
     let each : AllZip R groups.items c.vary_groups.new.groups = subst (λ (l : List ActiveGroup). AllZip R l c.vary_groups.new.groups) c.deref_mut.ensures.value c.vary_groups.ensures in
     let all = mapped-over f groups.items _ (written-back R groups.items c.vary_groups.new.groups groups.len (sym groups.ok.0) each) in
-    let after : ActiveVolumes = record { groups = with_items groups c.vary_groups.new.groups; volumes = c.args.self.now.volumes } in
+    let after : ActiveVolumes = record { groups = with_items groups c.vary_groups.new.groups; volumes = c.args.self.now.volumes; latest = c.args.self.now.latest } in
     subst (λ (t : Target). AreVolumesOf (with_status s t c.args.status) after) (sym c.in-Group.is) (all-group-varied s c.in-Group.name c.args.status c.args.self.now after lawful are all refl)
 
 pub returns-in-Volume : goal.returns-in-Volume
@@ -29,7 +29,7 @@ returns-in-Volume c = λ s lawful are.
     let R : ActiveVolume → ActiveVolume → Type 0 = λ x y. y ≡ f x in
     let each : AllZip R volumes.items c.vary_volumes.new.volumes = subst (λ (l : List ActiveVolume). AllZip R l c.vary_volumes.new.volumes) c.deref_mut-in-Volume.ensures.value c.vary_volumes.ensures in
     let all = mapped-over f volumes.items _ (written-back R volumes.items c.vary_volumes.new.volumes volumes.len (sym volumes.ok.0) each) in
-    let after : ActiveVolumes = record { groups = c.args.self.now.groups; volumes = with_items volumes c.vary_volumes.new.volumes } in
+    let after : ActiveVolumes = record { groups = c.args.self.now.groups; volumes = with_items volumes c.vary_volumes.new.volumes; latest = c.args.self.now.latest } in
     subst (λ (t : Target). AreVolumesOf (with_status s t c.args.status) after) (sym c.in-Volume.is) (all-volume-varied s c.in-Volume.volser c.args.status c.args.self.now after lawful are refl all)
 
 pub returns-in-Set : goal.returns-in-Set
