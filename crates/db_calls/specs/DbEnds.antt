@@ -1,9 +1,11 @@
 -- How a run over a stored keeper ends: each status and its cause.
-use Rattle.std.specs.Prelude.{◌≡◌, ◌⊎◌, ℕ, Bool, true, false, Option, None}
+use Rattle.std.specs.Prelude.{◌≡◌, ◌⊎◌, ℕ, Bool, true, false, Option, None, Some, IfSome}
 use Rattle.desk_common.specs.Causes.{Rose}
 use Rattle.sms_base.specs.Observed.{Observed}
+use Rattle.sms_keeper.specs.Tables.{AreSame}
 use Rattle.sms_keeper.specs.Told.{Stays}
 use Rattle.sms_keeper.specs.declared.keeper.Keeper.{Ghosts}
+use Rattle.sms_keeper.specs.declared.rows.Rows.{Rows}
 use Rattle.sms_keeper.specs.declared.table.Table.{Table}
 use Rattle.desk_law.specs.State.{Opening}
 use Rattle.sms_open.specs.Reopening.{IsOpened}
@@ -45,6 +47,9 @@ module _ {P : Type 0} (told_by : Ghosts P) (damage : P → Option (Table × ℕ)
     pub tables : Stays (told_by.told before) (told_by.told mid)
     pub count : told_by.count mid ≡ told_by.count before
     pub ends : RunEnds opening false 1 old new (keeping_of told_by mid) (keeping_of told_by after) status
+    -- where tables are told in the end they were told before, and are what the desk begins with
+    pub begun : IfSome (told_by.told after) (λ _. (rows : Rows) × (told_by.told before ≡ Some rows) ×
+        AreSame opening.rows rows)
     -- where nothing was run, the keeper is as the desk found it
     pub unrun : leaves_keeper status ≡ true → after ≡ mid
 

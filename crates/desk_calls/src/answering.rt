@@ -2,6 +2,7 @@
 ghost use Rattle.std.specs.Prelude.{◌≡◌, ◌<◌, ◌≤◌, ◌^◌, List, ℕ, [], length, Ok, IfErr, IfOk};
 ghost use Rattle.sms_script.specs.Script.{IsRefusal, script_of};
 ghost use Rattle.desk_common.specs.Limits.{most_workers};
+ghost use Rattle.sms_core.specs.Core.{WasTold};
 ghost use Rattle.desk_calls.specs.Headline.{IsAnswered, IsLeft, seen_keeper};
 
 use crate::run_text::run_text;
@@ -33,6 +34,7 @@ pub fn answer_text<P: Keeper>(
     ensures unrun { IfErr result.0 (λ fault. (fault ≡ ScriptErr.NoMemory → ⊥) → result.1 ≡ core.keeper) }
     ensures left { IfErr result.0 (λ _. IsLeft core.opening 1
         (seen_keeper P.told P.count core.keeper) (seen_keeper P.told P.count result.1) bytes.now) }
+    ensures told { WasTold (P.told core.keeper) (P.told result.1) }
 {
     match read_script(alloc, bytes) {
         Ok(script) => {
@@ -86,6 +88,7 @@ fn answer_alone<P: Keeper>(
     ensures wanting { IfErr result.0 (λ fault. fault ≡ ScriptErr.NoMemory) }
     ensures left { IfErr result.0 (λ _. (bytes : List ℕ) → script_of bytes ≡ Ok script.now →
         IsLeft core.opening 1 (seen_keeper P.told P.count core.keeper) (seen_keeper P.told P.count result.1) bytes) }
+    ensures told { WasTold (P.told core.keeper) (P.told result.1) }
 {
     let (answers, core) = run_alone(alloc, script, core);
     let Ok(answers) = answers else {

@@ -7,6 +7,7 @@ ghost use Rattle.desk_words.specs.Words.{task_in};
 ghost use Rattle.desk_words.specs.declared.task.Task.{Task as Asked};
 ghost use Rattle.desk_words.specs.declared.task.Task.TheVariants.{Generate};
 ghost use Rattle.desk_calls.specs.RunFault.{Ends, LoadEnds, RunEnds, leaves_keeper, leaves_sink};
+ghost use Rattle.sms_core.specs.Core.{WasTold};
 ghost use Rattle.sms_base.specs.Observed.{seen_streams};
 ghost use Rattle.desk_calls.specs.Headline.{seen_keeper};
 
@@ -77,6 +78,7 @@ pub fn run_source<S: Source, K: Sink, P: Keeper>(
     ensures words { result.0 ≡ RunStatus.BadWords → ⊥ }
     ensures unwritten { leaves_sink result.0 ≡ true → out.new ≡ out.old }
     ensures unrun { leaves_keeper result.0 ≡ true → result.1 ≡ core.keeper }
+    ensures told { WasTold (P.told core.keeper) (P.told result.1) }
     ensures ends { RunEnds core.opening volumes 1
         (seen_streams S.left S.reads S.read_faults K.taken K.write_faults src.old out.old)
         (seen_streams S.left S.reads S.read_faults K.taken K.write_faults src.new out.new)

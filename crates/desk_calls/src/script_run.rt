@@ -3,7 +3,7 @@ ghost use Rattle.std.specs.Prelude.{◌≡◌, ◌≤◌, ◌+◌, ◌-◌, ◌^
 ghost use Rattle.std.specs.Prelude.{vec_len};
 ghost use Rattle.desk_law.specs.History.{IsLegal};
 ghost use Rattle.desk_records.specs.Tied.{faults_in};
-ghost use Rattle.sms_core.specs.Core.{HasTables};
+ghost use Rattle.sms_core.specs.Core.{HasTables, WasTold};
 ghost use Rattle.sms_script.specs.Script.{items_of};
 ghost use Rattle.desk_common.specs.Limits.{most_workers};
 ghost use Rattle.desk_workers.specs.Phases.{IsFrontAnswered};
@@ -38,6 +38,7 @@ pub fn run_script<P: Keeper>(
     ensures legal { IsLegal result.1.opening result.1.journal }
     ensures counted { min (result.1.mark + faults_in result.1.journal) (2 ^ 64 - 1) ≤ P.count result.1.keeper }
     ensures tables { HasTables result.1.opening result.1.journal (P.told result.1.keeper) }
+    ensures told { WasTold (P.told core.keeper) (P.told result.1.keeper) }
 {
     let room = take_room(alloc, script.as_slice());
     let Ok((mut answers, mut slate)) = room else {
@@ -66,6 +67,7 @@ pub fn run_alone<P: Keeper>(
         script.now answers result.1.journal) }
     ensures unrun { OnErr result.0 (result.1 ≡ core) }
     ensures opening { result.1.opening ≡ core.opening }
+    ensures told { WasTold (P.told core.keeper) (P.told result.1.keeper) }
 {
     // Facts for the proof; nothing changes.
     legal_is_lawful();
@@ -143,6 +145,7 @@ fn answer_phases<P: Keeper>(
     ensures answered { AnswersInOrder (items_of phases.now) answers.new.items core.old.journal core.new.journal }
     ensures opening { core.new.opening ≡ core.old.opening }
     ensures mark { core.new.mark ≡ core.old.mark }
+    ensures told { WasTold (P.told core.old.keeper) (P.told core.new.keeper) }
 {
     for phase in phases {
         answer_items(phase.as_slice(), core, slate, answers);
@@ -162,6 +165,7 @@ fn answer_items<P: Keeper>(
     ensures capacity { vec_capacity answers.new ≡ vec_capacity answers.old }
     ensures opening { core.new.opening ≡ core.old.opening }
     ensures mark { core.new.mark ≡ core.old.mark }
+    ensures told { WasTold (P.told core.old.keeper) (P.told core.new.keeper) }
 {
     for item in items {
         let answer = core.step(&item.request, Work::Nothing, slate);

@@ -1,3 +1,4 @@
 pub mod SharingLemmas
 pub mod FrontLemmas
 pub mod NumberingLemmas
+pub mod RankLemmas

@@ -1,3 +1,4 @@
 pub mod Plan
 pub mod Numbering
 pub mod Sharing
+pub mod Inner

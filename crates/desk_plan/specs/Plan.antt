@@ -1,5 +1,7 @@
 -- Which worker gets which item (docs/workers.md, "Phases").
-use Rattle.std.specs.Prelude.{ℕ, ◌+◌, ◌-◌, ◌%◌, List, bytes_eq, map, Option, None, Some}
+use Rattle.std.specs.Prelude.{ℕ, zero, suc, ◌+◌, ◌-◌, ◌%◌, ◌==◌, List, bytes_eq, map, Option, None, Some}
+use Rattle.std.specs.Prelude.{if◌then◌else◌}
+use Rattle.std.specs.List.{list_any}
 use Rattle.std.specs.Map.{lookup}
 use Rattle.sms_script.specs.declared.item.Item.{Item}
 
@@ -15,6 +17,15 @@ worker_at workers (Some number) = 1 + number % (workers - 1)
 -- the worker of a job
 abbrev pub worker_in : List (List ℕ × ℕ) → ℕ → List ℕ → ℕ
 worker_in numbers workers job = worker_at workers (number_in numbers job)
+
+-- how many of the first so many workers have an item
+abbrev pub at_work : List ℕ → ℕ → ℕ
+at_work plan zero = 0
+at_work plan (suc k) = at_work plan k + (if list_any (λ worker. worker == k) plan then 1 else 0)
+
+-- the number of a worker among those that have an item; 0 for one without
+abbrev pub rank_in : List ℕ → ℕ → ℕ
+rank_in plan worker = if list_any (λ other. other == worker) plan then at_work plan worker else 0
 
 -- the worker of each item: that of its job
 abbrev pub plan_of : List (List ℕ × ℕ) → ℕ → List Item → List ℕ

@@ -4,6 +4,8 @@
 mod job_numbers;
 mod numbering;
 mod planning;
+mod ranking;
 
 pub use job_numbers::JobNumbers;
 pub use planning::{has_one_job, plan};
+pub use ranking::rank;

@@ -1,9 +1,10 @@
 -- A phase on a desk that workers share.
 use Rattle.std.proofs.Common.{inl, inr, ◌≡◌, ℕ, zero, suc, ◌-◌, ◌<◌, ◌≤◌, true, false, List, [], ◌∷◌, ◌++◌}
-use Rattle.std.proofs.Common.{length, take, get_or, All, append-nil, refl, sym, ap, subst, ◌∙◌, arith}
+use Rattle.std.proofs.Common.{length, map, max, take, get_or, All, append-nil, refl, sym, ap, subst, ◌∙◌, arith}
 use Rattle.std.proofs.lemmas.Bool.{cases_Bool}
-use Rattle.std.specs.Prelude.{Result, Ok, Err, OnOk, OnErr, filter, is_err}
+use Rattle.std.specs.Prelude.{Result, Ok, Err, IfOk, OnOk, OnErr, filter, is_err}
 use Rattle.std.specs.List.{AllByRecursion}
+use Rattle.desk_common.specs.Limits.{most_workers}
 use Rattle.atomic_table.specs.Seated.{TableId}
 use Rattle.sms_construct.specs.declared.entry.Answer.{Answer}
 use Rattle.sms_construct.specs.declared.entry.Entry.{Entry}
@@ -19,13 +20,15 @@ use Rattle.desk_signing.proofs.SignLemmas.{signed_entries}
 use Rattle.sms_desk.specs.declared.job_seat.JobSeat.{JobSeat}
 use Rattle.sms_desk.specs.Seats.{HasNoAnswers, IsJobOf, IsNewJob, StandsJob, job_number, job_numbers}
 use Rattle.sms_desk.specs.Seats.{job_seen, mine_of, number_at, seen_at}
-use Rattle.desk_plan.specs.Plan.{number_in, plan_of, worker_in}
+use Rattle.desk_plan.specs.Plan.{at_work, number_in, plan_of, rank_in, worker_in}
 use Rattle.desk_plan.specs.Sharing.{those}
 use Rattle.desk_plan.proofs.FrontLemmas.{worker-below}
+use Rattle.desk_plan.proofs.RankLemmas.{rank-below, work-few}
 use Rattle.desk_plan.proofs.SharingLemmas.{all-answers, jobs-in-order, none-at-all}
 use Rattle.desk_workers.specs.Phases.{HasPhase, IsDueIn, entries_for, entry_for, is_of}
 use Rattle.desk_workers.specs.Inner.Worked.{HasWorked}
 use Rattle.desk_workers.specs.Inner.Merged.{AreQueues, HasMerged}
+use Rattle.desk_workers.specs.Inner.Planned.{IsPlanned, by_jobs}
 use Rattle.desk_workers.specs.Inner.Rooms.{AreKept}
 use Rattle.desk_workers.specs.Inner.Shared.{HasShared, IsIdle}
 use Rattle.desk_workers.proofs.ClosedLemmas.{has-closed}
@@ -75,18 +78,38 @@ was-err (Ok value) A is a = absurd cc
 was-err (Err fault) A is a = a
 
 -- the plan names a worker for each item
-pub plan-length : (numbers : List (List ℕ × ℕ)) (workers : ℕ) (items : List Item) → length (plan_of numbers workers items) ≡ length items
-plan-length numbers workers [] = refl
-plan-length numbers workers (item ∷ items) = ap suc (plan-length numbers workers items)
+pub plan-length : (worker : List ℕ → ℕ) (items : List Item) → length (by_jobs worker items) ≡ length items
+plan-length worker [] = refl
+plan-length worker (item ∷ items) = ap suc (plan-length worker items)
 
-plan-at : (numbers : List (List ℕ × ℕ)) (workers : ℕ) (items : List Item) (i d : ℕ) → 2 ≤ workers → i < length (plan_of numbers workers items) → get_or (plan_of numbers workers items) i d < workers
-plan-at numbers workers [] i d two less = absurd (omega (arith, less))
-plan-at numbers workers (item ∷ items) zero d two less = worker-below workers (number_in numbers item.request.job) two
-plan-at numbers workers (item ∷ items) (suc i) d two less = plan-at numbers workers items i d two (omega (arith, less))
+plan-at : (worker : List ℕ → ℕ) (count : ℕ) (items : List Item) (i d : ℕ) → ((job : List ℕ) → worker job < count) → i < length (by_jobs worker items) → get_or (by_jobs worker items) i d < count
+plan-at worker count [] i d below less = absurd (omega (arith, less))
+plan-at worker count (item ∷ items) zero d below less = below item.request.job
+plan-at worker count (item ∷ items) (suc i) d below less = plan-at worker count items i d below (omega (arith, less))
 
 -- and each is one of so many
-pub plan-below : (numbers : List (List ℕ × ℕ)) (workers count : ℕ) (items : List Item) → 2 ≤ workers → count ≡ workers → All (λ k. k < count) (plan_of numbers workers items)
-plan-below numbers workers count items two same i d less = omega (arith, same, plan-at numbers workers items i d two less)
+pub plan-below : (worker : List ℕ → ℕ) (workers count : ℕ) (items : List Item) → ((job : List ℕ) → worker job < workers) → count ≡ workers → All (λ k. k < count) (by_jobs worker items)
+plan-below worker workers count items below same i d less = omega (arith, same, plan-at worker workers items i d below less)
+
+ranked-by : (rank : ℕ → ℕ) (worker : List ℕ → ℕ) (items : List Item) → map rank (by_jobs worker items) ≡ by_jobs (λ job. rank (worker job)) items
+ranked-by rank worker [] = refl
+ranked-by rank worker (item ∷ items) = ap (λ ks. rank (worker item.request.job) ∷ ks) (ranked-by rank worker items)
+
+-- a plan by ranks is one
+pub planned-ranks : (numbers : List (List ℕ × ℕ)) (workers : ℕ) (items : List Item) (plan ranked : List ℕ) (count : ℕ) → 2 ≤ workers → workers ≤ most_workers → plan ≡ plan_of numbers workers items
+    → ranked ≡ map (rank_in plan) plan → count ≡ max 1 (at_work plan workers) → IsPlanned items ranked count
+planned-ranks numbers workers items plan ranked count two few planned is counted = record {
+  worker = λ job. rank_in plan (worker_in numbers workers job);
+  plan_is = is ∙ ap (map (rank_in plan)) planned ∙ ranked-by (rank_in plan) (worker_in numbers workers) items;
+  below = λ job. rw counted (rank-below plan (worker_in numbers workers job) workers (worker-below workers (number_in numbers job) two));
+  few = omega (arith, counted, work-few plan workers, two, few);
+}
+
+-- so is one that was made so
+pub planned-by : {X E : Type 0} (r : Result X E) (plan_in : X → List ℕ) (count_in : X → ℕ) (numbers : List (List ℕ × ℕ)) (workers : ℕ) (items : List Item) (plan : List ℕ) → 2 ≤ workers → workers ≤ most_workers
+    → plan ≡ plan_of numbers workers items → IfOk r (λ x. plan_in x ≡ map (rank_in plan) plan) → IfOk r (λ x. count_in x ≡ max 1 (at_work plan workers)) → IfOk r (λ x. IsPlanned items (plan_in x) (count_in x))
+planned-by (Ok x) plan_in count_in numbers workers items plan two few planned is counted = planned-ranks numbers workers items plan (plan_in x) (count_in x) two few planned is counted
+planned-by (Err e) plan_in count_in numbers workers items plan two few planned is counted = tt
 
 -- the phase is answered, or nothing has changed; opening and mark stand in both
 pub record IsEither {V E : Type 0} (result : Result V E) (items : List Item) (before after : List Answer) (o : Opening) (mark : ℕ) (o' : Opening) (mark' : ℕ) (js js' : List Entry) : Type 0 where
@@ -160,21 +183,21 @@ module _ {P : Type 0} {keeper : Ghosts P} where
   }
 
   -- and once the desk is closed the phase is answered
-  pub shared-closed : (lock : TableId) (numbers : List (List ℕ × ℕ)) (workers : ℕ) (items : List Item) (old new : List (JobSeat P keeper)) (before after : List Answer) (o : Opening) (mark : ℕ) (o' : Opening) (mark' : ℕ) (js js' : List Entry) (ns : List ℕ) → 2 ≤ workers
-      → length old ≡ workers → All (IsNewJob lock (signed o mark (length js) js [])) old → HasShared lock (plan_of numbers workers items) items old new before after → All (StandsJob (signed_last o' mark' js' ns)) new
+  pub shared-closed : (lock : TableId) (worker : List ℕ → ℕ) (workers : ℕ) (items : List Item) (old new : List (JobSeat P keeper)) (before after : List Answer) (o : Opening) (mark : ℕ) (o' : Opening) (mark' : ℕ) (js js' : List Entry) (ns : List ℕ) → ((job : List ℕ) → worker job < workers)
+      → length old ≡ workers → All (IsNewJob lock (signed o mark (length js) js [])) old → HasShared lock (by_jobs worker items) items old new before after → All (StandsJob (signed_last o' mark' js' ns)) new
       → All (IsBy (job_numbers new)) (signed_last o' mark' js' ns) → length ns ≤ length js' → (o' ≡ o) × (mark' ≡ mark) × HasPhase items before after js js'
-  shared-closed lock numbers workers items [] new before after o mark o' mark' js js' ns two long fresh shared stands by few = absurd (omega (arith, two, long))
-  shared-closed lock numbers workers items (d ∷ old) new before after o mark o' mark' js js' ns two long fresh shared stands by few =
+  shared-closed lock worker workers items [] new before after o mark o' mark' js js' ns under long fresh shared stands by few = absurd (omega (arith, under [], long))
+  shared-closed lock worker workers items (d ∷ old) new before after o mark o' mark' js js' ns under long fresh shared stands by few =
       let list = signed_last o' mark' js' ns in
-      let plan = plan_of numbers workers items in
+      let plan = by_jobs worker items in
       let some : 0 < length (d ∷ old) = omega arith in
       let count : length new ≡ workers = shared.count ∙ long in
       let first = shared.made 0 d some in
       let seen = job_seen (get_or new 0 d) in
       let seen_more : StartsWith seen (signed o mark (length js) js []) = subst (StartsWith seen) (fresh 0 d some).seen_is first.seen_more in
-      let starts : StartsWith list (signed o mark (length js) js []) = starts-on list seen (signed o mark (length js) js []) (stands 0 d (omega (arith, count, two))).0 seen_more in
+      let starts : StartsWith list (signed o mark (length js) js []) = starts-on list seen (signed o mark (length js) js []) (stands 0 d (omega (arith, count, under []))).0 seen_more in
       let each : length (job_numbers new) ≡ workers = numbers-length new ∙ count in
-      let below : (job : List ℕ) → worker_in numbers workers job < length (job_numbers new) = λ job. omega (arith, each, worker-below workers (number_in numbers job) two) in
+      let below : (job : List ℕ) → worker job < length (job_numbers new) = λ job. omega (arith, each, under job) in
       let closed =
       has-closed (job_numbers new) (λ i. entries_for (those i plan shared.answers) (those i plan items)) o mark o' mark' js js' ns few starts by (λ i less.
       let inside : i < length new = omega (arith, less, numbers-length new) in
@@ -188,8 +211,8 @@ module _ {P : Type 0} {keeper : Ghosts P} where
             each = shared.each;
             added = closed.added;
             grown = closed.grown;
-            jobs = jobs-in-order entry_for (λ (i : Item). i.request.job) (λ (e : Entry). e.request.job) (worker_in numbers workers) job-of-item (length (job_numbers new)) (λ i. get_or (job_numbers new) i 0) items shared.answers closed.added ns shared.each closed.counted below closed.signs closed.own;
-            due = all-answers entry_for (λ (i : Item). i.request.job) (λ (e : Entry). e.request.job) (worker_in numbers workers) (λ answer item. IsDueIn js' item.request answer) (length (job_numbers new)) items shared.answers shared.each below (λ k less.
+            jobs = jobs-in-order entry_for (λ (i : Item). i.request.job) (λ (e : Entry). e.request.job) worker job-of-item (length (job_numbers new)) (λ i. get_or (job_numbers new) i 0) items shared.answers closed.added ns shared.each closed.counted below closed.signs closed.own;
+            due = all-answers entry_for (λ (i : Item). i.request.job) (λ (e : Entry). e.request.job) worker (λ answer item. IsDueIn js' item.request answer) (length (job_numbers new)) items shared.answers shared.each below (λ k less.
                 let inside : k < length new = omega (arith, less, numbers-length new) in
                 let made = shared.made k d (omega (arith, inside, shared.count)) in
                 rw (signed_entries o' mark' (length js' - length ns) js' ns) at (all-due-starts list (job_seen (get_or new k d)) (those k plan shared.answers) (those k plan items) (stands k d inside).0 made.due));
@@ -198,20 +221,20 @@ module _ {P : Type 0} {keeper : Ghosts P} where
       )
 
   -- the same where the phase may not have begun
-  pub closed-either : {V E : Type 0} (result : Result V E) (lock : TableId) (numbers : List (List ℕ × ℕ)) (workers : ℕ) (items : List Item) (old new : List (JobSeat P keeper)) (before after : List Answer) (o : Opening) (mark : ℕ) (o' : Opening) (mark' : ℕ) (js js' : List Entry) (ns : List ℕ) → 2 ≤ workers
-      → length old ≡ workers → All (IsNewJob lock (signed o mark (length js) js [])) old → OnOk result (HasShared lock (plan_of numbers workers items) items old new before after) → OnErr result (HasShared lock [] [] old new before after) → All (StandsJob (signed_last o' mark' js' ns)) new
+  pub closed-either : {V E : Type 0} (result : Result V E) (lock : TableId) (worker : List ℕ → ℕ) (workers : ℕ) (items : List Item) (old new : List (JobSeat P keeper)) (before after : List Answer) (o : Opening) (mark : ℕ) (o' : Opening) (mark' : ℕ) (js js' : List Entry) (ns : List ℕ) → ((job : List ℕ) → worker job < workers)
+      → length old ≡ workers → All (IsNewJob lock (signed o mark (length js) js [])) old → OnOk result (HasShared lock (by_jobs worker items) items old new before after) → OnErr result (HasShared lock [] [] old new before after) → All (StandsJob (signed_last o' mark' js' ns)) new
       → All (IsBy (job_numbers new)) (signed_last o' mark' js' ns) → length ns ≤ length js' → IsEither result items before after o mark o' mark' js js'
-  closed-either (Ok value) lock numbers workers items old new before after o mark o' mark' js js' ns two long fresh ok err stands by few =
-      let done = shared-closed lock numbers workers items old new before after o mark o' mark' js js' ns two long fresh ok stands by few in
+  closed-either (Ok value) lock worker workers items old new before after o mark o' mark' js js' ns under long fresh ok err stands by few =
+      let done = shared-closed lock worker workers items old new before after o mark o' mark' js js' ns under long fresh ok stands by few in
       record { opening = done.0; mark_is = done.1; answered = done.2; wanting = tt }
-  closed-either (Err fault) lock numbers workers items old new before after o mark o' mark' js js' ns two long fresh ok err stands by few =
-      let done = shared-closed lock numbers workers [] old new before after o mark o' mark' js js' ns two long fresh err stands by few in
+  closed-either (Err fault) lock worker workers items old new before after o mark o' mark' js js' ns under long fresh ok err stands by few =
+      let done = shared-closed lock worker workers [] old new before after o mark o' mark' js js' ns under long fresh err stands by few in
       record { opening = done.0; mark_is = done.1; answered = tt; wanting = phase-none before after js js' done.2 }
 
   -- the same of seats that came back from the vector that lent them, and of a plan as it was made
-  pub closed-desk : {V E : Type 0} (result : Result V E) (lock : TableId) (numbers : List (List ℕ × ℕ)) (workers : ℕ) (items : List Item) (plan : List ℕ) (jobs old new back : List (JobSeat P keeper)) (before after : List Answer) (o : Opening) (mark : ℕ) (o' : Opening) (mark' : ℕ) (js js' : List Entry) (ns : List ℕ)
-      → 2 ≤ workers → plan ≡ plan_of numbers workers items → old ≡ jobs → back ≡ new → length jobs ≡ workers → All (IsNewJob lock (signed o mark (length js) js [])) jobs → OnOk result (HasShared lock plan items old new before after) → OnErr result (HasShared lock [] [] old new before after)
+  pub closed-desk : {V E : Type 0} (result : Result V E) (lock : TableId) (worker : List ℕ → ℕ) (workers : ℕ) (items : List Item) (plan : List ℕ) (jobs old new back : List (JobSeat P keeper)) (before after : List Answer) (o : Opening) (mark : ℕ) (o' : Opening) (mark' : ℕ) (js js' : List Entry) (ns : List ℕ)
+      → ((job : List ℕ) → worker job < workers) → plan ≡ by_jobs worker items → old ≡ jobs → back ≡ new → length jobs ≡ workers → All (IsNewJob lock (signed o mark (length js) js [])) jobs → OnOk result (HasShared lock plan items old new before after) → OnErr result (HasShared lock [] [] old new before after)
       → All (StandsJob (signed_last o' mark' js' ns)) back → All (IsBy (job_numbers back)) (signed_last o' mark' js' ns) → length ns ≤ length js' → IsEither result items before after o mark o' mark' js js'
-  closed-desk result lock numbers workers items plan jobs old new back before after o mark o' mark' js js' ns two planned lent given long fresh ok err stands by few =
-      closed-either result lock numbers workers items old new before after o mark o' mark' js js' ns two (ap length lent ∙ long) (subst (All (IsNewJob lock (signed o mark (length js) js []))) (sym lent) fresh)
+  closed-desk result lock worker workers items plan jobs old new back before after o mark o' mark' js js' ns under planned lent given long fresh ok err stands by few =
+      closed-either result lock worker workers items old new before after o mark o' mark' js js' ns under (ap length lent ∙ long) (subst (All (IsNewJob lock (signed o mark (length js) js []))) (sym lent) fresh)
       (subst (λ p. OnOk result (HasShared lock p items old new before after)) planned ok) err (subst (All (StandsJob (signed_last o' mark' js' ns))) given stands) (subst (λ (seats : List (JobSeat P keeper)). All (IsBy (job_numbers seats)) (signed_last o' mark' js' ns)) given by) few

@@ -4,3 +4,4 @@ pub mod Merged
 pub mod Rooms
 pub mod Shared
 pub mod Closed
+pub mod Planned

@@ -14,7 +14,7 @@ use Rattle.sms_script.specs.declared.item.Item.{Item}
 use Rattle.desk_calls.specs.Headline.{IsLawfulHistory, IsRecorded, Keeping}
 use Rattle.desk_calls.specs.Run.{AnswersInOrder}
 use Rattle.desk_calls.proofs.OrderLemmas.{in_order_answered}
-use Rattle.sms_manage.specs.Managed.{IsAsking, IsUnused}
+use Rattle.sms_manage.specs.Managed.{IsAsking, IsUnused, WasDayBegun}
 use Rattle.manage_calls.specs.ManagedRun.{WasAnsweredAlone, WasManageBegun}
 use Rattle.manage_calls.specs.Reserved.{are_free, managed_script_of}
 use Rattle.manage_calls.proofs.UnusedLemmas.{run-unused}
@@ -39,14 +39,16 @@ module _ (phases : List (List Item)) (answers : List Answer) (o : Opening) (star
   answered-alone lawful = record { once = in_order_answered phases answers [] h in-order; in_order = in-order; lawful = lawful h here }
 
   -- and only space management may have asked behind it
-  pub begun : AreLawful → (bytes : List ℕ) → managed_script_of bytes ≡ Ok phases → (whole : List Entry) → IsAsking h whole → (before after : Keeping) → IsRecorded empty_opening before after whole → WasManageBegun before after bytes
-  begun lawful bytes script whole asking before after recorded = record {
+  pub begun : AreLawful → (bytes : List ℕ) → managed_script_of bytes ≡ Ok phases → (whole : List Entry) → IsAsking h whole → (day : ℕ) → WasDayBegun empty_opening day h whole → (before after : Keeping) → IsRecorded empty_opening before after whole
+      → WasManageBegun day before after bytes
+  begun lawful bytes script whole asking day first before after recorded = record {
     phases = phases;
     answers = answers;
     history = h;
     whole = whole;
     script = script;
     run = answered-alone lawful;
+    begun = first;
     asking = asking;
     recorded = recorded;
   }

@@ -19,15 +19,15 @@ pub record IsRefused (old new : Observed) (err : ScriptErr) : Type 0 where
   pub unwritten : IsUnwritten old new
 
 -- the script that was read was answered, and the day may have been begun
-pub record WasReadAndManaged (old new : Observed) (before after : Keeping) : Type 0 where
+pub record WasReadAndManaged (day : ℕ) (old new : Observed) (before after : Keeping) : Type 0 where
   pub bytes : List ℕ
   pub read : WasRead most_input_bytes old new bytes
-  pub begun : WasManageBegun before after bytes
+  pub begun : WasManageBegun day before after bytes
 
 -- memory was wanting; the keeper is as it was, or the script was answered
-pub record IsManageWanting (old new : Observed) (before after : Keeping) : Type 0 where
+pub record IsManageWanting (day : ℕ) (old new : Observed) (before after : Keeping) : Type 0 where
   pub wanting : IsOutOfMemory most_input_bytes old new
-  pub kept : (after ≡ before) ⊎ WasReadAndManaged old new before after
+  pub kept : (after ≡ before) ⊎ WasReadAndManaged day old new before after
 
 -- what each status says of what was observed before and after, and of the keeper, where the words name a day
 abbrev pub ManageEnds : ℕ → Observed → Observed → Keeping → Keeping → RunStatus → Type 0
@@ -38,4 +38,4 @@ ManageEnds day old new before after WriteFault =
     HasWriteFault most_input_bytes (IsAnsweredAndManaged day before after) old new
 ManageEnds day old new before after (Script err) = IsRefused old new err
 ManageEnds day old new before after TooLong = IsTooLong most_input_bytes old new
-ManageEnds day old new before after NoMemory = IsManageWanting old new before after
+ManageEnds day old new before after NoMemory = IsManageWanting day old new before after

@@ -9,7 +9,7 @@ use Rattle.desk_law.specs.Records.{empty_opening}
 use Rattle.desk_workers.specs.Phases.{AreAnswered}
 use Rattle.desk_calls.specs.Headline.{IsLawfulHistory, IsRecorded, Keeping}
 use Rattle.desk_calls.specs.Run.{AnswersInOrder}
-use Rattle.sms_manage.specs.Managed.{IsAsking, WasManaged}
+use Rattle.sms_manage.specs.Managed.{IsAsking, WasDayBegun, WasManaged}
 use Rattle.sms_manage.specs.ManageText.{managed_text}
 use Rattle.sms_manage.specs.declared.act.Act.{Act}
 use Rattle.manage_calls.specs.Reserved.{managed_script_of}
@@ -47,17 +47,18 @@ pub record IsAnsweredAndManaged (day : ℕ) (before after : Keeping) (bytes text
   pub printed : text ≡ text_of phases answers (length history) ++ managed_text acts
   pub run : WasRunAndManaged day before after phases answers history acts
 
--- the script in these bytes was answered, and behind its history stand only requests of space management
-pub record WasManageBegun (before after : Keeping) (bytes : List ℕ) : Type 0 where
+-- the script in these bytes was answered, and behind its history some first acts of the day may have been done
+pub record WasManageBegun (day : ℕ) (before after : Keeping) (bytes : List ℕ) : Type 0 where
   pub phases : List (List Item)
   pub answers : List Answer
   pub history : List Entry
   pub whole : List Entry
   pub script : managed_script_of bytes ≡ Ok phases
   pub run : WasAnsweredAlone phases answers history
+  pub begun : WasDayBegun empty_opening day history whole
   pub asking : IsAsking history whole
   pub recorded : IsRecorded empty_opening before after whole
 
 -- where memory was wanting, the keeper is as it was, or the script was answered
-abbrev pub IsManageLeft : Keeping → Keeping → List ℕ → Type 0
-IsManageLeft before after bytes = (after ≡ before) ⊎ WasManageBegun before after bytes
+abbrev pub IsManageLeft : ℕ → Keeping → Keeping → List ℕ → Type 0
+IsManageLeft day before after bytes = (after ≡ before) ⊎ WasManageBegun day before after bytes

@@ -1,7 +1,7 @@
 // From the bytes of a script to the text of its answers and of the acts behind them.
-ghost use Rattle.std.specs.Prelude.{◌≡◌, ◌<◌, ◌^◌, ◌++◌, List, ℕ, true, length, Ok, IfErr, IfOk, IfSome};
+ghost use Rattle.std.specs.Prelude.{◌≡◌, ◌<◌, ◌^◌, ◌++◌, List, ℕ, true, length, Ok, IfErr, IfOk, IfSome, OnErr};
 ghost use Rattle.sms_keeper.specs.Tables.{AreSame, no_rows};
-ghost use Rattle.sms_manage.specs.Managed.{IsAsking, IsUnused, WasManaged};
+ghost use Rattle.sms_manage.specs.Managed.{IsAsking, IsUnused, WasDayBegun, WasManaged};
 ghost use Rattle.sms_manage.specs.ManageText.{managed_text};
 ghost use Rattle.sms_script.specs.AnswerText.{text_of};
 ghost use Rattle.sms_script.specs.Script.{IsRefusal, items_of};
@@ -34,7 +34,7 @@ pub fn manage_text<P: Keeper>(
         (seen_keeper P.told P.count keeper) (seen_keeper P.told P.count result.1) bytes.now text.items) }
     ensures refused { IfErr result.0 (IsRefusal (managed_script_of bytes.now)) }
     ensures unrun { IfErr result.0 (λ fault. (fault ≡ ScriptErr.NoMemory → ⊥) → result.1 ≡ keeper) }
-    ensures left { IfErr result.0 (λ _. IsManageLeft
+    ensures left { IfErr result.0 (λ _. IsManageLeft day
         (seen_keeper P.told P.count keeper) (seen_keeper P.told P.count result.1) bytes.now) }
 {
     match read_managed(alloc, bytes) {
@@ -57,7 +57,7 @@ fn manage_script<P: Keeper>(
         (seen_keeper P.told P.count keeper) (seen_keeper P.told P.count result.1) bytes text.items) }
     ensures wanting { IfErr result.0 (λ fault. fault ≡ ScriptErr.NoMemory) }
     ensures left { IfErr result.0 (λ _. (bytes : List ℕ) → managed_script_of bytes ≡ Ok script.now →
-        IsManageLeft (seen_keeper P.told P.count keeper) (seen_keeper P.told P.count result.1) bytes) }
+        IsManageLeft day (seen_keeper P.told P.count keeper) (seen_keeper P.told P.count result.1) bytes) }
 {
     // A fact for the proof; nothing runs.
     new_is_lawful();
@@ -82,6 +82,7 @@ fn manage_script<P: Keeper>(
 fn manage_day<P: Keeper>(alloc: Global, core: &mut Core<P>, day: u32) -> Result<Acts, AllocError>
     requires { IsUnused core.old.opening core.old.journal }
     ensures managed { IfOk result (λ acts. WasManaged core.old.opening day core.old.journal core.new.journal acts) }
+    ensures begun { OnErr result (WasDayBegun core.old.opening day core.old.journal core.new.journal) }
     ensures asking { IsAsking core.old.journal core.new.journal }
     ensures opening { core.new.opening ≡ core.old.opening }
     ensures mark { core.new.mark ≡ core.old.mark }

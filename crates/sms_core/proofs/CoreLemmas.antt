@@ -5,7 +5,6 @@ use Rattle.std.specs.Prelude.{count_by, IfOk, IfSome, OnErr, Result, Ok, Err}
 use Rattle.desk_common.specs.Causes.{Rose}
 use Rattle.sms_construct.specs.declared.entry.Answer.{Answer}
 use Rattle.sms_construct.specs.declared.entry.Entry.{Entry}
-use Rattle.sms_construct.specs.declared.reply.Reply.{Reply}
 use Rattle.sms_construct.specs.declared.reply.Reply.TheVariants as replies
 use Rattle.sms_construct.specs.declared.request.Op.{Op}
 use Rattle.sms_construct.specs.declared.request.Request.{Request}
@@ -153,13 +152,6 @@ idle-known o h running log told mark count request held not_full idle unknown =
 pub if-ok : {T E : Type 0} (P Q : T → Type 0) (r : Result T E) → IfOk r P → ((x : T) → P x → Q x) → IfOk r Q
 if-ok P Q (Ok x) is give = give x is
 if-ok P Q (Err e) is give = tt
-
-abbrev answer_at : ℕ → Reply → Answer
-answer_at place reply = record { place = place; first = place; reply = reply }
-
--- answers of one place with one reply are one
-pub same-answer : (place : ℕ) (one two : Reply) → one ≡ two → answer_at place one ≡ answer_at place two
-same-answer place one two is = ap (answer_at place) is
 
 -- what hasn't changed stands as it was
 pub unmade-self : (running : Running) (log : LogView) (told : Option Rows) (count : ℕ) → IsUnmade running running log log told told count count

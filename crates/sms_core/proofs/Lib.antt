@@ -1,4 +1,5 @@
 mod CoreLemmas
 mod DeedLemmas
 mod FreshLemmas
+pub mod ToldLemmas
 mod WorkLemmas

@@ -55,6 +55,10 @@ pub record Enters (o : Opening) (old new : List Entry) (told told' : Option Rows
   pub stands : (answer.reply ≡ replies.KeeperFault → ⊥) → count' ≡ count
   pub rises : count ≤ count'
 
+-- tables that are told after were told before
+abbrev pub WasTold : Option Rows → Option Rows → Type 0
+WasTold told told' = IfSome told' (λ _. is_some told ≡ true)
+
 -- tables that are told are those of the history
 abbrev pub HasTables : Opening → List Entry → Option Rows → Type 0
 HasTables o h told = IfSome told (λ rows. (s : DeskState) → Reaches o h s → IsTables o h s rows)

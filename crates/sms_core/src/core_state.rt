@@ -14,7 +14,7 @@ ghost use Rattle.desk_restoring.specs.Opened.{opening_of};
 ghost use Rattle.desk_state.specs.Following.{IsNextSet};
 ghost use Rattle.desk_state.specs.Standing.{IsRunning};
 ghost use Rattle.desk_state.specs.Working.{IsWork};
-ghost use Rattle.sms_core.specs.Core.{Enters, HasTables, needs_no_commit};
+ghost use Rattle.sms_core.specs.Core.{Enters, HasTables, WasTold, needs_no_commit};
 
 use crate::preparing::{Prepared, prepare};
 use crate::room::take_room;
@@ -153,6 +153,7 @@ impl<P: Keeper> Core<P> {
         ensures mark { self.new.mark ≡ self.old.mark }
         ensures enters { Enters self.old.opening self.old.journal self.new.journal (P.told self.old.keeper)
             (P.told self.new.keeper) (P.count self.old.keeper) (P.count self.new.keeper) request.now result }
+        ensures told { WasTold (P.told self.old.keeper) (P.told self.new.keeper) }
         ensures idle { needs_no_commit self.old.opening self.old.journal request.now ≡ true →
             self.new.keeper ≡ self.old.keeper }
     {

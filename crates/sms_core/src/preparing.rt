@@ -14,14 +14,15 @@ ghost use Rattle.desk_state.specs.Deeds.{Fits, IsPossible, config_of, effect_of}
 ghost use Rattle.desk_state.specs.Answering.{IsOldFloor};
 ghost use Rattle.desk_state.specs.Standing.{IsRunning, IsSomeState};
 ghost use Rattle.desk_state.specs.Working.{IsWorkNow};
+ghost use Rattle.sms_core.specs.Core.{WasTold};
 ghost use Rattle.sms_core.specs.Inner.Standing.{HasEntered, HasLogRoom, IsMadeFor, IsUnmade};
 
 use acs_tree::Slate;
 use desk_records::{Records, recall};
-use desk_state::{Decision, Running, Work};
+use desk_state::{Decision, Deed, Running, Work};
 use sms_construct::{Answer, Entry, Op, Reply, Request};
 use sms_keeper::{Change, Keeper, RequestLog};
-use std::alloc::AllocError;
+use std::alloc::{AllocError, Global};
 
 /// An entry, and its answer to hand out.
 #[derive(Drop)]
@@ -59,6 +60,7 @@ pub fn prepare<P: Keeper>(
         (P.told records.old.keeper) (P.told records.new.keeper) (P.count records.old.keeper)
         (P.count records.new.keeper)) }
     ensures idle { (IsUnknown records.old.log request.now → ⊥) → records.new.keeper ≡ records.old.keeper }
+    ensures told { WasTold (P.told records.old.keeper) (P.told records.new.keeper) }
     ensures rises { P.count records.old.keeper ≤ P.count records.new.keeper }
 {
     match recall(&records.log, request, place)? {
@@ -108,6 +110,7 @@ fn prepare_fresh<P: Keeper>(
     ensures unmade { OnErr result (IsUnmade running.old running.new records.old.log records.new.log
         (P.told records.old.keeper) (P.told records.new.keeper) (P.count records.old.keeper)
         (P.count records.new.keeper)) }
+    ensures told { WasTold (P.told records.old.keeper) (P.told records.new.keeper) }
     ensures rises { P.count records.old.keeper ≤ P.count records.new.keeper }
 {
     let old = old_floor(&records.log, &request.op);
@@ -162,25 +165,64 @@ fn carry_out<P: Keeper>(
     ensures unmade { OnErr result (IsUnmade running.old running.new records.old.log records.new.log
         (P.told records.old.keeper) (P.told records.new.keeper) (P.count records.old.keeper)
         (P.count records.new.keeper)) }
+    ensures told { WasTold (P.told records.old.keeper) (P.told records.new.keeper) }
     ensures rises { P.count records.old.keeper ≤ P.count records.new.keeper }
 {
     let Decision { reply, deed } = decision;
-    let entered = request.copy()?;
-    let kept = reply.copy()?;
-    let answered = reply.copy()?;
-    let committed = request.copy()?;
-    let effect = deed.effect(running.alloc)?;
-    let change = Change {
-        place,
-        request: committed,
-        reply,
-        effect,
-    };
+    let made = entry_for(place, request, &reply)?;
+    let change = change_for(place, request, reply, &deed, running.alloc)?;
     if records.commit(change)? {
         running.apply(deed);
-        return Ok(fresh(place, entered, kept, answered));
+        return Ok(made);
     }
-    Ok(fresh(place, entered, Reply::KeeperFault, Reply::KeeperFault))
+    Ok(failed(place, made))
+}
+
+// The entry of a fresh request with this reply at its place, and its answer.
+fn entry_for(place: u64, request: &Request, reply: &Reply) -> Result<Prepared, AllocError>
+    ensures entry { IfOk result (λ made. made.entry ≡ record {
+      request = request.now;
+      answer = record { place = place; first = place; reply = reply.now };
+    }) }
+    ensures answer { IfOk result (λ made. made.answer ≡ made.entry.answer) }
+{
+    Ok(fresh(place, request.copy()?, reply.copy()?, reply.copy()?))
+}
+
+// What is committed for it.
+fn change_for(
+    place: u64,
+    request: &Request,
+    reply: Reply,
+    deed: &Deed,
+    alloc: Global,
+) -> Result<Change, AllocError>
+    ensures { IfOk result (λ change. change ≡ record {
+      place = place;
+      request = request.now;
+      reply = reply;
+      effect = effect_of deed.now;
+    }) }
+{
+    Ok(Change {
+        place,
+        request: request.copy()?,
+        reply,
+        effect: deed.effect(alloc)?,
+    })
+}
+
+// The same entry where the keeper failed.
+fn failed(place: u64, made: Prepared) -> Prepared
+    ensures entry { result.entry ≡ record {
+      request = made.entry.request;
+      answer = record { place = place; first = place; reply = KeeperFault };
+    } }
+    ensures answer { result.answer ≡ result.entry.answer }
+{
+    let Prepared { entry, .. } = made;
+    let Entry { request, .. } = entry;
+    fresh(place, request, Reply::KeeperFault, Reply::KeeperFault)
 }
 
 // The entry of a fresh request at its place.

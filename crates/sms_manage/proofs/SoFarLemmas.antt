@@ -2,7 +2,7 @@
 use Rattle.std.proofs.Common.{inl, inr, ◌≡◌, ◌⊎◌, ℕ, ◌+◌, ◌&&◌, ◌||◌, not, Bool, true, false, List, [], ◌∷◌, ◌++◌}
 use Rattle.std.proofs.Common.{length, map, Option, None, Some, refl, sym, ap, subst, ◌∙◌, arith, append-nil}
 use Rattle.std.proofs.Common.{append_assoc, length-append}
-use Rattle.std.specs.Prelude.{bytes_eq}
+use Rattle.std.specs.Prelude.{bytes_eq, MatchOption, OnErr, Result, Ok, Err}
 use Rattle.std.specs.List.{list_all, list_any}
 use Rattle.std.proofs.lemmas.Bool.{cases_Bool}
 use Rattle.sms_construct.specs.Configuration.{Configuration, are_ascending}
@@ -17,7 +17,8 @@ use Rattle.sms_manage.specs.declared.act.Act.{Act}
 use Rattle.sms_manage.specs.declared.wanted.Due.{Due}
 use Rattle.sms_manage.specs.declared.wanted.Due.TheVariants.{Nothing, Delete, Release}
 use Rattle.sms_manage.specs.Due.{due_of, is_due, is_due_if}
-use Rattle.sms_manage.specs.Managed.{AreAnswersBehind, IsAnswerBehind, IsManaged, IsUnused, are_counted, entries_of}
+use Rattle.sms_manage.specs.Managed.{AreAnswersBehind, IsAnswerBehind, IsDayBegun, IsManaged, IsUnused, WasDayBegun}
+use Rattle.sms_manage.specs.Managed.{WasManaged, are_counted, entries_of}
 use Rattle.sms_manage.specs.Managed.{entry_for, op_for, op_if, is_hindered}
 use Rattle.sms_manage.specs.Inner.Walk.{Asks, IsDueNext, IsNextDue}
 use Rattle.sms_manage.proofs.ActLemmas.{HasActed, IsUnusedFrom, step-acted, unused-all}
@@ -218,6 +219,87 @@ day-ends o day config before old h last acts far active none = record {
     | inr isnt ↦ far.settled all dsn isnt
   ];
 }
+
+-- Where memory was wanting.
+
+all-behind : (acts : List Act) (dsn : List ℕ) → AllBefore (map (λ (a : Act). a.dsn) acts) dsn → list_all (λ (a : Act). is_behind (Some a.dsn) dsn) acts ≡ true
+all-behind [] dsn before = refl
+all-behind (act ∷ acts) dsn before = rw before.0 (all-behind acts dsn before.1)
+
+-- what is due where the search ended
+due-then : (past due asked : Bool) → asked ≡ (not past && due) → asked ≡ true → due ≡ true
+due-then true due asked is found = let bad : false ≡ true = sym is ∙ found in absurd cc
+due-then false due asked is found = sym is ∙ found
+
+past-then : (past due asked : Bool) → asked ≡ (not past && due) → due ≡ true → asked ≡ false → past ≡ true
+past-then true due asked is found none = refl
+past-then false due asked is found none = let bad : true ≡ false = sym found ∙ sym is ∙ none in absurd cc
+
+-- the acts up to a name are first ones
+pub day-begun : (o : Opening) (day : ℕ) (config : Configuration) (before : DeskState) (old h : List Entry) (last : Option (List ℕ)) (acts : List Act) → IsDaySoFar o day config before old h last acts
+    → IsDayBegun day config before old h
+day-begun o day config before old h last acts far = record {
+  acts = acts;
+  acts_are = record {
+    due = λ dsn asked. due-then (is_behind last dsn) (is_due_if config day (set_named dsn before.sets)) _ (far.each dsn) asked;
+    front = λ dsn due none. all-behind acts dsn (far.names dsn (past-then (is_behind last dsn) (is_due_if config day (set_named dsn before.sets)) _ (far.each dsn) due none));
+    order = far.order;
+    counted = far.counted;
+  };
+  journal = far.journal;
+  answers = far.answers;
+}
+
+-- nothing was asked for
+pub begun-none : (o : Opening) (day : ℕ) (old : List Entry) → WasDayBegun o day old old
+begun-none o day old before reaches = at before.active
+  where
+    at : (active : Option Configuration) → MatchOption active (old ≡ old) (λ config. IsDayBegun day config before old old)
+    at None = refl
+    at (Some config) = record {
+      acts = [];
+      acts_are = record { due = λ dsn asked. absurd cc; front = λ dsn due none. refl; order = refl; counted = refl };
+      journal = sym (append-nil old);
+      answers = tt;
+    }
+
+all-asked : (asked due : Bool) → asked ≡ due → due ≡ true → asked ≡ false → ⊥
+all-asked asked due is found none = let bad : true ≡ false = sym found ∙ sym is ∙ none in absurd cc
+
+-- a whole day was begun
+pub whole-begun : (o : Opening) (day : ℕ) (old new : List Entry) (acts : List Act) → WasManaged o day old new acts → WasDayBegun o day old new
+whole-begun o day old new acts was before reaches = elim (was before reaches) [
+  | inl did ↦
+      let managed = did.2 in
+      subst (λ found. MatchOption found (new ≡ old) (λ c. IsDayBegun day c before old new)) (sym managed.active) (record {
+        acts = acts;
+        acts_are = record {
+          due = λ dsn asked. sym (managed.acts_are.each dsn) ∙ asked;
+          front = λ dsn due none. absurd (all-asked _ _ (managed.acts_are.each dsn) due none);
+          order = managed.acts_are.order;
+          counted = managed.acts_are.counted;
+        };
+        journal = managed.journal;
+        answers = managed.answers;
+      })
+  | inr idle ↦ subst (λ found. MatchOption found (new ≡ old) (λ c. IsDayBegun day c before old new)) (sym idle.inactive) idle.same
+]
+
+-- what holds anyway holds after an error
+pub on-err : {T E : Type 0} (r : Result T E) (P : Type 0) → P → OnErr r P
+on-err (Ok x) P p = tt
+on-err (Err e) P p = p
+
+-- what follows where there was an error
+pub err-then : {T E P Q : Type 0} (r : Result T E) → (P → Q) → OnErr r P → OnErr r Q
+err-then (Ok x) f p = tt
+err-then (Err e) f p = f p
+
+-- the same of the configuration that is active
+pub begun-under : (o : Opening) (day : ℕ) (config : Configuration) (old new : List Entry) → ((before : DeskState) → Reaches o old before → before.active ≡ Some config)
+    → ((before : DeskState) → Reaches o old before → before.active ≡ Some config → IsDayBegun day config before old new) → WasDayBegun o day old new
+begun-under o day config old new active begun before reaches =
+    subst (λ found. MatchOption found (new ≡ old) (λ c. IsDayBegun day c before old new)) (sym (active before reaches)) (begun before reaches (active before reaches))
 
 -- The next data set, as the catalog is gone through.
 

@@ -1,6 +1,6 @@
 -- A day of space management: which requests are made, and what they come to.
 use Rattle.std.specs.Prelude.{ℕ, ◌≡◌, ◌↔◌, ◌+◌, ◌==◌, ◌&&◌, ◌⊎◌, Bool, true, false, not, List, [], ◌∷◌, ◌++◌, map}
-use Rattle.std.specs.Prelude.{codes, bytes_eq, Option, None, Some, IfSome}
+use Rattle.std.specs.Prelude.{codes, bytes_eq, Option, None, Some, IfSome, MatchOption}
 use Rattle.std.specs.List.{list_all, list_any}
 use Rattle.sms_construct.specs.Configuration.{Configuration, are_ascending}
 use Rattle.sms_construct.specs.declared.data_set.DataSet.{DataSet}
@@ -13,6 +13,7 @@ use Rattle.desk_law.specs.State.{DeskState, Opening, set_named}
 use Rattle.desk_law.specs.History.{Reaches}
 use Rattle.desk_law.specs.Kept.{floor_of, is_entered, kept_for}
 use Rattle.desk_records.specs.Full.{is_full_for}
+use Rattle.desk_state.specs.Following.{is_behind}
 use Rattle.sms_core.specs.Core.{entry_of}
 use Rattle.sms_construct.specs.declared.entry.Answer.{Answer}
 use Rattle.sms_manage.specs.declared.act.Act.{Act}
@@ -62,6 +63,16 @@ pub record AreActs (config : Configuration) (day : ℕ) (sets : List DataSet) (a
   pub order : are_ascending (map (λ act. act.dsn) acts) ≡ true
   pub counted : are_counted 1 acts ≡ true
 
+-- the acts are just one for each of some first data sets of which something is due, in byte order of the names, and are
+-- counted from 1: what is due and wasn't asked for stands behind all that was
+pub record AreFirstActs (config : Configuration) (day : ℕ) (sets : List DataSet) (acts : List Act) : Type 0 where
+  pub due : (dsn : List ℕ) → list_any (λ act. bytes_eq act.dsn dsn) acts ≡ true →
+      is_due_if config day (set_named dsn sets) ≡ true
+  pub front : (dsn : List ℕ) → is_due_if config day (set_named dsn sets) ≡ true →
+      list_any (λ act. bytes_eq act.dsn dsn) acts ≡ false → list_all (λ act. is_behind (Some act.dsn) dsn) acts ≡ true
+  pub order : are_ascending (map (λ act. act.dsn) acts) ≡ true
+  pub counted : are_counted 1 acts ≡ true
+
 -- nothing was done: the keeper failed, or the journal's room or memory was wanting
 abbrev pub is_hindered : Reply → Bool
 is_hindered replies.KeeperFault = true
@@ -96,6 +107,19 @@ pub record IsManaged (o : Opening) (day : ℕ) (config : Configuration) (before 
   -- where nothing hindered them nothing is due any more
   pub settled : list_all (λ act. not (is_hindered act.answer.reply)) acts ≡ true → (dsn : List ℕ) →
       is_due_if config day (set_named dsn after.sets) ≡ false
+
+-- from the state before, in which this configuration was active, some first acts of the day were done
+pub record IsDayBegun (day : ℕ) (config : Configuration) (before : DeskState) (old new : List Entry) : Type 0 where
+  pub acts : List Act
+  pub acts_are : AreFirstActs config day before.sets acts
+  pub journal : new ≡ old ++ entries_of config day before.sets acts
+  pub answers : AreAnswersBehind config day before.sets old acts
+
+-- some first acts of a day were done behind these entries; none where nothing is active
+abbrev pub WasDayBegun : Opening → ℕ → List Entry → List Entry → Type 0
+WasDayBegun o day old new =
+    (before : DeskState) → Reaches o old before
+    → MatchOption before.active (new ≡ old) (λ config. IsDayBegun day config before old new)
 
 -- behind these entries stand only some that the job asked for
 pub record IsAsking (old new : List Entry) : Type 0 where

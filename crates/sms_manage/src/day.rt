@@ -2,7 +2,7 @@
 ghost use Rattle.std.specs.Prelude.{◌≡◌, ◌+◌, IfOk, IfSome, OnErr, OnOk, Some};
 ghost use Rattle.desk_law.specs.State.{DeskState};
 ghost use Rattle.desk_law.specs.History.{Reaches};
-ghost use Rattle.sms_manage.specs.Managed.{IsAsking, IsManaged, IsUnused, WasManaged, op_for};
+ghost use Rattle.sms_manage.specs.Managed.{IsAsking, IsDayBegun, IsManaged, IsUnused, WasDayBegun, WasManaged, op_for};
 ghost use Rattle.sms_manage.specs.Inner.Walk.{Asks, IsNextDue};
 
 use crate::act::{Act, Acts};
@@ -25,7 +25,7 @@ pub const MANAGER: &[u8] = b"SMSMGMT";
 
 /// Asks for all that is due on a day, one request for each data set, in byte order of their names, numbered from 1 on
 /// (docs/rules.md, "Space management"). Each is answered whatever the earlier ones were. Where memory is wanting, some
-/// of the first were asked.
+/// of the first were asked, and of the others none.
 pub fn run_day<P: Keeper>(
     alloc: Global,
     core: &mut Core<P>,
@@ -34,6 +34,7 @@ pub fn run_day<P: Keeper>(
 ) -> Result<Acts, AllocError>
     requires { IsUnused core.old.opening core.old.journal }
     ensures managed { IfOk result (λ acts. WasManaged core.old.opening day core.old.journal core.new.journal acts) }
+    ensures begun { OnErr result (WasDayBegun core.old.opening day core.old.journal core.new.journal) }
     ensures asking { IsAsking core.old.journal core.new.journal }
     ensures opening { core.new.opening ≡ core.old.opening }
     ensures mark { core.new.mark ≡ core.old.mark }
@@ -57,6 +58,8 @@ fn act_all<P: Keeper>(
         before.active ≡ Some config.now →
         (after : DeskState) × IsManaged core.old.opening day config.now before after core.old.journal core.new.journal
         acts) }
+    ensures begun { OnErr result ((before : DeskState) → Reaches core.old.opening core.old.journal before →
+        before.active ≡ Some config.now → IsDayBegun day config.now before core.old.journal core.new.journal) }
     ensures asking { IsAsking core.old.journal core.new.journal }
     ensures opening { core.new.opening ≡ core.old.opening }
     ensures mark { core.new.mark ≡ core.old.mark }

@@ -1,17 +1,19 @@
 //! A run with the records in a file.
-ghost use Rattle.std.specs.Prelude.{◌≡◌};
+ghost use Rattle.std.specs.Prelude.{◌≡◌, ◌⊎◌};
 ghost use Rattle.std.specs.Process.{exit_status};
 ghost use Rattle.db_calls.specs.DbEnds.{db_status_of};
+ghost use Rattle.db_calls.specs.declared.status.DbStatus.{DbStatus as Ending};
 
 use crate::explaining::note_database;
 use crate::kept_source::KeptSource;
 use crate::noted_sink::NotedSink;
-use db_calls::{DbStatus, db_main};
+use db_calls::DbStatus;
 use desk_calls::RunStatus;
 use fault_notes::shown;
+use file_calls::answer_file;
 use sms_base::{StdSink, StdSource};
-use sms_sqlite::SqlKeeper;
-use sqlite::{Alter, Connection, Error, ErrorCode};
+use sqlite::{Error, ErrorCode};
+use sqlite_std_file::Unknown;
 use std::io::{self, Write};
 use std::process::ExitCode;
 
@@ -22,11 +24,16 @@ const NOT_OPENED: u8 = 9;
 const UNOPENED: &str = "memory is wanting; nothing was read\n";
 
 /// Answers the script on standard input with the records in the file, and ends the program.
-pub fn run(rt: &HostRuntime, file: &str, words: &[String]) -> ExitCode {
-    match Connection::open(rt, file) {
-        Ok(connection) => {
+pub fn run(rt: &HostRuntime, file: &str, words: &[String]) -> ExitCode
+    ensures { (exit_status result ≡ 9) ⊎ ((status : Ending) × (exit_status result ≡ db_status_of status)) }
+{
+    let mut src = KeptSource::new(rt.alloc(), StdSource::new(rt.reader()));
+    let mut out = NotedSink::new(StdSink::new(io::writer(rt)));
+    match answer_file(rt, words, file, &mut src, &mut out, Unknown) {
+        Ok((status, connection)) => {
             let mut note = String::new(rt.alloc());
-            let (status, connection) = answer(rt, words, connection, &mut note);
+            note_database(rt.alloc(), &mut note, words, status, src.given());
+            out.seen().note(&mut note);
             // What was committed stands in the log, so nothing is lost where it can't be copied into the file.
             let _ = connection.close();
             end(rt, status, &note)
@@ -36,22 +43,6 @@ pub fn run(rt: &HostRuntime, file: &str, words: &[String]) -> ExitCode {
         }
         Err(error) => refuse(rt, file, error),
     }
-}
-
-// Answers the script on standard input with the records in the database.
-fn answer<S: Alter + Drop>(
-    rt: &HostRuntime,
-    words: &[String],
-    connection: Connection<S>,
-    note: &mut String,
-) -> (DbStatus, Connection<S>) {
-    let mut src = KeptSource::new(rt.alloc(), StdSource::new(rt.reader()));
-    let mut out = NotedSink::new(StdSink::new(io::writer(rt)));
-    let keeper = SqlKeeper::new(rt.alloc(), connection);
-    let (status, keeper) = db_main(rt.alloc(), words, &mut src, &mut out, keeper);
-    note_database(rt.alloc(), note, words, status, src.given());
-    out.seen().note(note);
-    (status, keeper.into_connection())
 }
 
 // Says why the file can't be opened, and ends the program.

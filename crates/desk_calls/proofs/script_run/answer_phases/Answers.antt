@@ -1,11 +1,12 @@
 use Rattle.std.proofs.Common.{◌≡◌, ◌<◌, length, take, add-one, arith, refl, ap, ◌∙◌}
 use Rattle.sms_script.specs.Script.{items_of}
+use Rattle.sms_core.proofs.ToldLemmas.{told_self, told_then}
 use Rattle.desk_calls.specs.Run.{AnswersFront}
 use Rattle.desk_calls.proofs.RunLemmas.{items_up_to, order-none, phase-answered, phase-room}
 use Rattle.desk_calls.proofs.script_run.answer_phases.Goals as goal
 
 pub loop-phase-init : goal.loop-phase-init
-loop-phase-init g c = (rw c.requires.none (order-none c.args.core.now.journal), (refl, (refl, refl)))
+loop-phase-init g c = (rw c.requires.none (order-none c.args.core.now.journal), (refl, (refl, (refl, told_self (g.P.Keeper.told c.args.core.now.keeper)))))
 
 -- there is room for the answers of the next phase
 pub answer_items-requires : goal.answer_items-requires
@@ -28,5 +29,5 @@ loop-phase-preserved g c =
     let more : AnswersFront phase (length phase) c.loop-phase.answers.items c.answer_items.new.answers.items c.loop-phase.core.journal c.answer_items.new.core.journal = rw c.as_slice.ensures at c.answer_items.ensures.answered in (
       rw (add-one, items_up_to phases i phase less c.phase-item.is)
           (phase-answered (items_of (take i phases)) phase c.loop-phase.answers.items c.answer_items.new.answers.items c.args.core.now.journal c.loop-phase.core.journal c.answer_items.new.core.journal before.0 more),
-      (c.answer_items.ensures.capacity ∙ before.1.0, (c.answer_items.ensures.opening ∙ before.1.1.0, c.answer_items.ensures.mark ∙ before.1.1.1)),
+      (c.answer_items.ensures.capacity ∙ before.1.0, (c.answer_items.ensures.opening ∙ before.1.1.0, (c.answer_items.ensures.mark ∙ before.1.1.1.0, told_then _ _ _ before.1.1.1.1 c.answer_items.ensures.told))),
     )

@@ -1,4 +1,6 @@
 use Rattle.std.proofs.Common.{inr, ◌∙◌}
+use Rattle.desk_law.specs.Records.{empty_opening}
+use Rattle.sms_manage.proofs.SoFarLemmas.{whole-begun}
 use Rattle.manage_calls.proofs.ManagedLemmas.{answered-alone, begun, recorded-whole, unused-behind}
 use Rattle.manage_calls.proofs.managing.manage_script.Goals as goal
 
@@ -15,7 +17,7 @@ returns-in_default-acts-clause-left g c = λ bytes script.
     let managed = c.manage_day-acts.ensures in
     let closed = c.into_parts-keeper-2.ensures in
     let opening = ran.opening ∙ c.new.ensures.opening in
-    inr (begun c.args.script.now c.in-Ok.answers _ _ _ opening c.new.ensures.journal (rw c.in-Ok.is at ran.answered) ran.legal c.new_is_lawful.ensures bytes script c.manage_day-acts.new.core.journal managed.asking _ _
+    inr (begun c.args.script.now c.in-Ok.answers _ _ _ opening c.new.ensures.journal (rw c.in-Ok.is at ran.answered) ran.legal c.new_is_lawful.ensures bytes script c.manage_day-acts.new.core.journal managed.asking c.args.day (rw (c.in_default-acts.is, opening) at managed.begun) _ _
     (rw closed.keeper (recorded-whole _ _ _ _ _ _ (managed.opening ∙ opening) (managed.mark ∙ ran.mark ∙ c.new.ensures.mark) closed.legal closed.counted closed.tables c.new_is_lawful.ensures)))
 
 pub returns-clause-left : goal.returns-clause-left
@@ -24,7 +26,7 @@ returns-clause-left g c = λ bytes script.
     let managed = c.manage_day-acts.ensures in
     let closed = c.into_parts-keeper-2.ensures in
     let opening = ran.opening ∙ c.new.ensures.opening in
-    inr (begun c.args.script.now c.in-Ok.answers _ _ _ opening c.new.ensures.journal (rw c.in-Ok.is at ran.answered) ran.legal c.new_is_lawful.ensures bytes script c.manage_day-acts.new.core.journal managed.asking _ _
+    inr (begun c.args.script.now c.in-Ok.answers _ _ _ opening c.new.ensures.journal (rw c.in-Ok.is at ran.answered) ran.legal c.new_is_lawful.ensures bytes script c.manage_day-acts.new.core.journal managed.asking c.args.day (whole-begun empty_opening c.args.day _ _ _ (rw (c.in-Ok-acts.is, opening) at managed.managed)) _ _
     (rw closed.keeper (recorded-whole _ _ _ _ _ _ (managed.opening ∙ opening) (managed.mark ∙ ran.mark ∙ c.new.ensures.mark) closed.legal closed.counted closed.tables c.new_is_lawful.ensures)))
 
 -- the script was answered, and all that was due was asked for

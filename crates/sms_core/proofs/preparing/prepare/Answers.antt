@@ -6,6 +6,7 @@ use Rattle.desk_records.specs.Recall.{Recalls}
 use Rattle.desk_records.proofs.StepLemmas.{quiet-step}
 use Rattle.sms_core.proofs.CoreLemmas.{if-ok}
 use Rattle.sms_core.proofs.FreshLemmas.{recalled-entered}
+use Rattle.sms_core.proofs.ToldLemmas.{told_self}
 use Rattle.sms_core.proofs.preparing.prepare.Goals as goal
 
 pub returns-in-Some-clause-enters : goal.returns-in-Some-clause-enters
@@ -26,3 +27,9 @@ returns-in-Some-clause-cause g c =
     let told : answer.reply ≡ KeeperFault = ap (λ (e : Entry). e.answer.reply) (sym is) ∙ fault in
     let no : true ≡ false = ap is_fault (sym told) ∙ quiet.no_fault in
     absurd cc)
+
+pub returns-in-Some-clause-told : goal.returns-in-Some-clause-told
+returns-in-Some-clause-told g c = told_self (g.P.Keeper.told c.args.records.now.keeper)
+
+pub returns-in_err-answer-clause-told : goal.returns-in_err-answer-clause-told
+returns-in_err-answer-clause-told g c = told_self (g.P.Keeper.told c.args.records.now.keeper)

@@ -5,6 +5,7 @@ use Rattle.desk_records.proofs.EffectLemmas.{kept-no_fault}
 use Rattle.desk_records.proofs.TiedLemmas.{tied-lawful}
 use Rattle.sms_core.proofs.CoreLemmas.{if-ok, unmade-behind}
 use Rattle.sms_core.proofs.DeedLemmas.{fits-same, possible-same}
+use Rattle.sms_core.proofs.ToldLemmas.{told_self}
 use Rattle.sms_core.proofs.preparing.prepare_fresh.Goals as goal
 
 pub carry_out-requires-clause-suits : goal.carry_out-requires-clause-suits
@@ -31,3 +32,9 @@ returns-clause-cause g c =
 
 pub returns-clause-unmade : goal.returns-clause-unmade
 returns-clause-unmade g c = unmade-behind c.args.running.now c.reserve.new.self _ _ _ _ _ _ _ c.carry_out.result (λ s stands. c.reserve.ensures.same s (c.decide.ensures.same s stands)) c.carry_out.ensures.unmade
+
+pub returns-in_err-decision-clause-told : goal.returns-in_err-decision-clause-told
+returns-in_err-decision-clause-told g c = told_self (g.P.Keeper.told c.args.records.now.keeper)
+
+pub returns-in_err-reserve-clause-told : goal.returns-in_err-reserve-clause-told
+returns-in_err-reserve-clause-told g c = told_self (g.P.Keeper.told c.args.records.now.keeper)

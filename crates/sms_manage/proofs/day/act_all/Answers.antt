@@ -1,7 +1,7 @@
 -- One data set after the other.
 use Rattle.std.proofs.Common.{◌∙◌, ap, sym}
 use Rattle.sms_manage.proofs.AskingLemmas.{asking-more, asks-asking}
-use Rattle.sms_manage.proofs.SoFarLemmas.{day-acts, day-over, day-passes}
+use Rattle.sms_manage.proofs.SoFarLemmas.{day-acts, day-begun, day-over, day-passes, on-err}
 use Rattle.sms_manage.proofs.day.act_all.Goals.{in-Some-op_for+in_ok-act_on, in_default-op_for}
 use Rattle.sms_manage.proofs.day.act_all.Goals as goal
 
@@ -26,3 +26,10 @@ loop-preserved g c = elim c.match-op_for.branch [
         (day-passes _ _ _ _ before _ _ _ _ c.next_set.result c.loop.invariant.opening (c.loop.invariant.far before reaches) c.next_set.ensures _ c.in-Some.is (sym c.op_for.ensures ∙ w.in_default-op_for.is));
   }
 ]
+
+pub returns-in_err-act_on-clause-begun : goal.returns-in_err-act_on-clause-begun
+returns-in_err-act_on-clause-begun g c = on-err c.from_residual.result _ (λ before reaches active.
+    rw c.in_err-act_on.ensures.unasked (day-begun _ _ _ before _ _ _ _ (c.loop.invariant.far before reaches)))
+
+pub returns-clause-begun : goal.returns-clause-begun
+returns-clause-begun g c = λ before reaches active. day-begun _ _ _ before _ _ _ _ (c.loop.invariant.far before reaches)

@@ -8,6 +8,7 @@ use Rattle.sms_core.specs.Inner.Standing.{IsHeld}
 use Rattle.sms_core.proofs.CoreLemmas.{core-entered, enters-made, held-counted, held-room, held-some, held-untouched}
 use Rattle.sms_core.proofs.CoreLemmas.{idle-known}
 use Rattle.sms_core.proofs.WorkLemmas.{held-work}
+use Rattle.sms_core.proofs.ToldLemmas.{told_self}
 use Rattle.sms_core.proofs.core_state.Core.step.Goals as goal
 
 pub invariant_of-self : goal.invariant_of-self
@@ -94,3 +95,15 @@ returns-in_default-clause-idle g c =
     let not_full : is_full_for c.self.inside.journal.items c.args.request.now.op ≡ false = rw (← c.deref.ensures.value) (sym c.is_full.ensures ∙ c.if-is_full.false) in
     let still : is_full_for c.take_room.new.journal.items c.args.request.now.op ≡ false = rw c.take_room.ensures.entries not_full in
     rw (← c.self.view_is, ← keeper, ← c.take_room.ensures.entries) (λ idle. c.prepare-made.ensures.idle (idle-known _ _ _ _ _ _ _ c.args.request.now held still idle))
+
+pub returns-then-is_full-clause-told : goal.returns-then-is_full-clause-told
+returns-then-is_full-clause-told g c = rw (← c.self.view_is) (told_self (g.P.Keeper.told c.self.inside.records.keeper))
+
+pub returns-then-is_err-clause-told : goal.returns-then-is_err-clause-told
+returns-then-is_err-clause-told g c = rw (← c.self.view_is, c.take_room.ensures.keeper) (told_self (g.P.Keeper.told c.self.inside.records.keeper))
+
+pub returns-clause-told : goal.returns-clause-told
+returns-clause-told g c = let keeper = c.take_room.ensures.keeper in rw (← c.self.view_is, ← keeper) c.prepare-made.ensures.told
+
+pub returns-in_default-clause-told : goal.returns-in_default-clause-told
+returns-in_default-clause-told g c = let keeper = c.take_room.ensures.keeper in rw (← c.self.view_is, ← keeper) c.prepare-made.ensures.told
