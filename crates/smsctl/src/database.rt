@@ -9,6 +9,7 @@ use crate::kept_source::KeptSource;
 use crate::noted_sink::NotedSink;
 use db_calls::DbStatus;
 use desk_calls::RunStatus;
+use desk_notes::note_replies;
 use fault_notes::shown;
 use file_calls::answer_file;
 use sms_base::{StdSink, StdSource};
@@ -33,7 +34,7 @@ pub fn run(rt: &HostRuntime, file: &str, words: &[String]) -> ExitCode
         Ok((status, connection)) => {
             let mut note = String::new(rt.alloc());
             note_database(rt.alloc(), &mut note, words, status, src.given());
-            out.seen().note(&mut note);
+            note_replies(rt.alloc(), &mut note, out.seen(), src.given());
             // What was committed stands in the log, so nothing is lost where it can't be copied into the file.
             let _ = connection.close();
             end(rt, status, &note)
