@@ -8,6 +8,7 @@ mod replies;
 mod reply_counts;
 mod running;
 mod word_faults;
+mod word_hints;
 
 pub use refused_decks::note_replies;
 pub use replies::RepliesSeen;

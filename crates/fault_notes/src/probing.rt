@@ -13,43 +13,120 @@ struct Sample {
     told: &'static str,
 }
 
-const fn sample(token: &'static [u8], told: &'static str) -> Sample {
-    Sample { token, told }
-}
-
 // Where a word may stand each of the words further down may.
-const WORD: Sample = sample(b"X", "a word");
+const WORD: Sample = Sample {
+    token: b"X",
+    told: "a word",
+};
 
 const OTHERS: [Sample; 9] = [
-    sample(b"&X", "a variable"),
-    sample(b"'X'", "a text in quotes"),
-    sample(b"=", "="),
-    sample(b">", "another comparison"),
-    sample(b"(", "("),
-    sample(b")", ")"),
-    sample(b",", "a comma"),
-    sample(b"&&", "AND"),
-    sample(b"|", "OR"),
+    Sample {
+        token: b"&X",
+        told: "a variable",
+    },
+    Sample {
+        token: b"'X'",
+        told: "a text in quotes",
+    },
+    Sample {
+        token: b"=",
+        told: "=",
+    },
+    Sample {
+        token: b">",
+        told: "another comparison",
+    },
+    Sample {
+        token: b"(",
+        told: "(",
+    },
+    Sample {
+        token: b")",
+        told: ")",
+    },
+    Sample {
+        token: b",",
+        told: "a comma",
+    },
+    Sample {
+        token: b"&&",
+        told: "AND",
+    },
+    Sample {
+        token: b"|",
+        told: "OR",
+    },
 ];
 
 const WORDS: [Sample; 17] = [
-    sample(b"1", "a number"),
-    sample(b"PROC", "PROC"),
-    sample(b"FILTLIST", "FILTLIST"),
-    sample(b"INCLUDE", "INCLUDE"),
-    sample(b"EXCLUDE", "EXCLUDE"),
-    sample(b"SET", "SET"),
-    sample(b"IF", "IF"),
-    sample(b"THEN", "THEN"),
-    sample(b"ELSE", "ELSE"),
-    sample(b"SELECT", "SELECT"),
-    sample(b"WHEN", "WHEN"),
-    sample(b"OTHERWISE", "OTHERWISE"),
-    sample(b"DO", "DO"),
-    sample(b"WRITE", "WRITE"),
-    sample(b"EXIT", "EXIT"),
-    sample(b"CODE", "CODE"),
-    sample(b"END", "END"),
+    Sample {
+        token: b"1",
+        told: "a number",
+    },
+    Sample {
+        token: b"PROC",
+        told: "PROC",
+    },
+    Sample {
+        token: b"FILTLIST",
+        told: "FILTLIST",
+    },
+    Sample {
+        token: b"INCLUDE",
+        told: "INCLUDE",
+    },
+    Sample {
+        token: b"EXCLUDE",
+        told: "EXCLUDE",
+    },
+    Sample {
+        token: b"SET",
+        told: "SET",
+    },
+    Sample {
+        token: b"IF",
+        told: "IF",
+    },
+    Sample {
+        token: b"THEN",
+        told: "THEN",
+    },
+    Sample {
+        token: b"ELSE",
+        told: "ELSE",
+    },
+    Sample {
+        token: b"SELECT",
+        told: "SELECT",
+    },
+    Sample {
+        token: b"WHEN",
+        told: "WHEN",
+    },
+    Sample {
+        token: b"OTHERWISE",
+        told: "OTHERWISE",
+    },
+    Sample {
+        token: b"DO",
+        told: "DO",
+    },
+    Sample {
+        token: b"WRITE",
+        told: "WRITE",
+    },
+    Sample {
+        token: b"EXIT",
+        told: "EXIT",
+    },
+    Sample {
+        token: b"CODE",
+        told: "CODE",
+    },
+    Sample {
+        token: b"END",
+        told: "END",
+    },
 ];
 
 /// What may stand behind the front of a routine that has so many tokens, as a list for a person.

@@ -4,7 +4,7 @@ ghost use Rattle.std.specs.Process.{exit_status};
 ghost use Rattle.db_calls.specs.DbEnds.{db_status_of};
 ghost use Rattle.db_calls.specs.declared.status.DbStatus.{DbStatus as Ending};
 
-use crate::explaining::note_database;
+use crate::explaining::{cause_of, note_database};
 use crate::kept_source::KeptSource;
 use crate::noted_sink::NotedSink;
 use db_calls::DbStatus;
@@ -52,7 +52,8 @@ fn refuse(rt: &HostRuntime, file: &str, error: Error) -> ExitCode
 {
     let _ = eprintln!(rt; "smsctl: status {NOT_OPENED}");
     if let Ok(name) = shown(rt.alloc(), file.as_bytes()) {
-        let _ = eprintln!(rt; "smsctl: '{name}': {error}; nothing was answered");
+        let cause = cause_of(error);
+        let _ = eprintln!(rt; "smsctl: '{name}': {error}{cause}; nothing was answered");
     }
     ExitCode::from(NOT_OPENED)
 }
