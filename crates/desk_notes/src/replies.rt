@@ -7,6 +7,7 @@ use std::alloc::Global;
 
 // So many words stand before the reply in the first line of an answer, and in a line of space management.
 const WORDS_BEFORE: u8 = 5;
+
 const WORDS_BEFORE_MANAGED: u8 = 3;
 
 /// What the next byte of the text is.

@@ -17,7 +17,9 @@ pub fn words_note(alloc: Global, words: &[String]) -> Result<String, AllocError>
         Some(form) => {
             let fault = fault_in(alloc, form, words)?;
             let hint = hint_of(alloc, words)?;
-            format!(in alloc; "{fault}{hint}; the nearest list of words is smsctl {form}, and {HELP}\n")
+            format!(in alloc;
+                "{fault}{hint}; the nearest list of words is smsctl {form}, and {HELP}\n"
+            )
         }
         None => {
             let fault = first_fault(alloc, words)?;

@@ -38,7 +38,12 @@ pub fn layout_note(alloc: Global, text: &[u8], line: u32) -> Result<String, Allo
 
 // Whether the line is the one behind the deck's ./END.
 fn is_behind(deck: ComparedDeck<'_>, line: u32) -> bool {
-    let lines = deck.deck.bytes.iter().filter(|byte| **byte == b'\n').count();
+    let lines = deck
+        .deck
+        .bytes
+        .iter()
+        .filter(|byte| **byte == b'\n')
+        .count();
     let end = deck.deck.lines_before.saturating_add(lines);
     line as usize == end.saturating_add(2)
 }
@@ -51,7 +56,9 @@ fn end_sentence(alloc: Global, side: &str, deck: ComparedDeck<'_>) -> Result<Str
     } else {
         ""
     };
-    format!(in alloc; "the ./END of the deck of {side} that begins in line {first} is missing{hint}")
+    format!(in alloc;
+        "the ./END of the deck of {side} that begins in line {first} is missing{hint}"
+    )
 }
 
 /// What is said of the case past the most that a table may have.
@@ -63,13 +70,19 @@ pub fn many_cases_note(alloc: Global, text: &[u8], number: u32) -> Result<String
 /// What it means that the record with this number has another number of fields than the header.
 pub fn fields_note(alloc: Global, text: &[u8], number: u32) -> Result<String, AllocError> {
     let table = Compared::new(text).table;
-    let (header, record) = (record_at(alloc, table, 1)?, record_at(alloc, table, number)?);
+    let (header, record) = (
+        record_at(alloc, table, 1)?,
+        record_at(alloc, table, number)?,
+    );
     let (Some(header), Some(record)) = (header, record) else {
-        return plain(alloc, number, "has another number of fields than the header");
+        return plain(
+            alloc,
+            number,
+            "has another number of fields than the header",
+        );
     };
     let (count, wanted) = (record.len(), header.len());
-    let sentence = format!(
-        in alloc;
+    let sentence = format!(in alloc;
         "record {number} of the table has {count} fields and the header {wanted}; a field with a comma stands in quotes"
     )?;
     told_in(alloc, table, &record, 0, &sentence)
@@ -78,7 +91,10 @@ pub fn fields_note(alloc: Global, text: &[u8], number: u32) -> Result<String, Al
 /// What it means that the record with this number is no case: the first field that is out of form.
 pub fn case_note(alloc: Global, text: &[u8], number: u32) -> Result<String, AllocError> {
     let table = Compared::new(text).table;
-    let (header, record) = (record_at(alloc, table, 1)?, record_at(alloc, table, number)?);
+    let (header, record) = (
+        record_at(alloc, table, 1)?,
+        record_at(alloc, table, number)?,
+    );
     let (Some(header), Some(record)) = (header, record) else {
         return plain(alloc, number, "is no case");
     };
@@ -87,8 +103,7 @@ pub fn case_note(alloc: Global, text: &[u8], number: u32) -> Result<String, Allo
         let field = record.get(at).unwrap_or(&[]);
         if let Some(wanted) = wanted_in(alloc, &column, field)? {
             let column = shown(alloc, &column)?;
-            let sentence = format!(
-                in alloc;
+            let sentence = format!(in alloc;
                 "record {number} of the table is no case; wanted under {column} is {wanted}"
             )?;
             return told_in(alloc, table, &record, at, &sentence);
@@ -118,13 +133,19 @@ fn column_sentence(alloc: Global, header: &ByteRecord, at: usize) -> Result<Stri
     let column = column_at(alloc, header, at)?;
     let name = shown(alloc, &column)?;
     if is_column(&column) {
-        return format!(in alloc; "column {number} of the header: {name} stands before this place; {KNOWN}");
+        return format!(in alloc;
+            "column {number} of the header: {name} stands before this place; {KNOWN}"
+        );
     }
     match nearest(alloc, &name, &KEYS)? {
         Some(near) => {
-            format!(in alloc; "column {number} of the header is none that a table has; near to it is {near}")
+            format!(in alloc;
+                "column {number} of the header is none that a table has; near to it is {near}"
+            )
         }
-        None => format!(in alloc; "column {number} of the header is none that a table has; {KNOWN}"),
+        None => format!(in alloc;
+            "column {number} of the header is none that a table has; {KNOWN}"
+        ),
     }
 }
 
@@ -180,7 +201,12 @@ fn told_in(
     field: usize,
     sentence: &str,
 ) -> Result<String, AllocError> {
-    told(alloc, table.lines, &field_place(table, record, field), sentence)
+    told(
+        alloc,
+        table.lines,
+        &field_place(table, record, field),
+        sentence,
+    )
 }
 
 // What is said of a record alone.

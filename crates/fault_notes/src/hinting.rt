@@ -10,7 +10,8 @@ use dsn_mask::{Mask, Simple};
 use sms_construct::{Stage, TextFault};
 use std::alloc::{AllocError, Global};
 
-const QUOTE_HINT: &str = "; a quote can't stand in a literal, and the one before this ends at its second quote";
+const QUOTE_HINT: &str =
+    "; a quote can't stand in a literal, and the one before this ends at its second quote";
 
 const NAME_HINT: &str =
     "; a name is 1 to 8 capitals, digits, #, @ and $, the first no digit, and '' stands alone";
@@ -103,11 +104,7 @@ fn is_number(bytes: &[u8]) -> bool {
 }
 
 // What suits an operand's place by what it stands beside, or the index that a variable takes.
-fn kind_hint(
-    alloc: Global,
-    routine: &RoutineText<'_>,
-    at: usize,
-) -> Result<String, AllocError> {
+fn kind_hint(alloc: Global, routine: &RoutineText<'_>, at: usize) -> Result<String, AllocError> {
     if let Some(hint) = index_hint(alloc, routine, at)? {
         return Ok(hint);
     }
@@ -118,7 +115,12 @@ fn kind_hint(
         return Ok(String::new(alloc));
     };
     match routine.variable(left) {
-        Some(variable) => around(alloc, "; beside ", routine.bytes(left), beside(variable.kind)),
+        Some(variable) => around(
+            alloc,
+            "; beside ",
+            routine.bytes(left),
+            beside(variable.kind),
+        ),
         None => Ok(String::new(alloc)),
     }
 }
@@ -164,7 +166,12 @@ fn value_hint(
     target: usize,
 ) -> Result<String, AllocError> {
     if routine.has_form(at, TokenForm::Word) {
-        return around(alloc, "; a name stands in quotes there, as '", routine.bytes(at), "'");
+        return around(
+            alloc,
+            "; a name stands in quotes there, as '",
+            routine.bytes(at),
+            "'",
+        );
     }
     let after = match routine.variable(target) {
         Some(variable) if variable.kind == VariableKind::Groups => " may be set to names in quotes",
@@ -174,16 +181,15 @@ fn value_hint(
 }
 
 // The range of an index, or the form of a name.
-fn range_hint(
-    alloc: Global,
-    routine: &RoutineText<'_>,
-    at: usize,
-) -> Result<String, AllocError> {
+fn range_hint(alloc: Global, routine: &RoutineText<'_>, at: usize) -> Result<String, AllocError> {
     if set_target(routine, at).is_some() {
         return String::from_str(alloc, NAME_HINT);
     }
     let indexed = at.saturating_sub(2);
-    match (routine.bytes(at.saturating_sub(1)), routine.variable(indexed)) {
+    match (
+        routine.bytes(at.saturating_sub(1)),
+        routine.variable(indexed),
+    ) {
         (b"(", Some(variable)) => match variable.indexing {
             Indexing::Maybe(most) | Indexing::Always(most) => {
                 let after = format!(in alloc; " takes an index from 1 to {most}")?;
@@ -196,18 +202,17 @@ fn range_hint(
 }
 
 // Why a word is no mask.
-fn mask_hint(
-    alloc: Global,
-    routine: &RoutineText<'_>,
-    at: usize,
-) -> Result<String, AllocError> {
+fn mask_hint(alloc: Global, routine: &RoutineText<'_>, at: usize) -> Result<String, AllocError> {
     let mut word = Vec::from_slice(alloc, routine.bytes(at))?;
     word.make_ascii_uppercase();
     if let Err(fault) = Mask::parse(&word) {
         return format!(in alloc; "; {fault}, counted from 0");
     }
     match Simple::parse(&word) {
-        Err(_) => String::from_str(alloc, "; beside a variable other than &DSN a mask has no **"),
+        Err(_) => String::from_str(
+            alloc,
+            "; beside a variable other than &DSN a mask has no **",
+        ),
         Ok(_) => Ok(String::new(alloc)),
     }
 }

@@ -11,7 +11,11 @@ pub fn set_target(routine: &RoutineText<'_>, number: usize) -> Option<usize> {
         at -= 1;
         if is_equals(routine, at) {
             let target = at.checked_sub(1)?;
-            return if is_target(routine, target) { Some(target) } else { None };
+            return if is_target(routine, target) {
+                Some(target)
+            } else {
+                None
+            };
         }
         if !is_value(routine, at) {
             return None;
@@ -27,7 +31,9 @@ fn is_equals(routine: &RoutineText<'_>, at: usize) -> bool {
 // Whether the token is a variable behind SET.
 fn is_target(routine: &RoutineText<'_>, at: usize) -> bool {
     routine.has_form(at, TokenForm::Variable)
-        && at.checked_sub(1).is_some_and(|set| routine.is_word(set, b"SET"))
+        && at
+            .checked_sub(1)
+            .is_some_and(|set| routine.is_word(set, b"SET"))
 }
 
 // Whether the token may stand before another value of a SET.

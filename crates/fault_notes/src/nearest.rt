@@ -24,7 +24,11 @@ pub fn nearest(
 }
 
 /// The words of a list with commas between, and this one before the last.
-pub fn listed(alloc: Global, list: &[&'static str], before_last: &str) -> Result<String, AllocError> {
+pub fn listed(
+    alloc: Global,
+    list: &[&'static str],
+    before_last: &str,
+) -> Result<String, AllocError> {
     let mut text = String::new(alloc);
     for (at, word) in list.iter().enumerate() {
         if at > 0 {
