@@ -51,7 +51,7 @@ fn is_behind(deck: ComparedDeck<'_>, line: u32) -> bool {
 // The ./END of a deck that is missing, and where it may be glued to another line.
 fn end_sentence(alloc: Global, side: &str, deck: ComparedDeck<'_>) -> Result<String, AllocError> {
     let first = deck.deck.lines_before.saturating_add(1);
-    let hint = if deck.deck.bytes.trim_ascii_end().ends_with(b"./END") {
+    let hint = if has_glued_end(deck.deck.bytes) {
         "; it stands in a line of its own, so the deck's last line needs a line end"
     } else {
         ""
@@ -59,6 +59,12 @@ fn end_sentence(alloc: Global, side: &str, deck: ComparedDeck<'_>) -> Result<Str
     format!(in alloc;
         "the ./END of the deck of {side} that begins in line {first} is missing{hint}"
     )
+}
+
+// Whether a line ends with what should stand in a line of its own.
+fn has_glued_end(deck: &[u8]) -> bool {
+    deck.split(|byte| *byte == b'\n')
+        .any(|line| line.trim_ascii_end().ends_with(b"./END"))
 }
 
 /// What is said of the case past the most that a table may have.
@@ -119,12 +125,13 @@ pub fn header_note(alloc: Global, text: &[u8], column: u32) -> Result<String, Al
         return format!(in alloc; "the table has no header; {KNOWN}\n");
     };
     let at = (column as usize).saturating_sub(1);
-    let sentence = if at < header.len() {
-        column_sentence(alloc, &header, at)?
+    if at < header.len() {
+        let sentence = column_sentence(alloc, &header, at)?;
+        told_in(alloc, table, &header, at, &sentence)
     } else {
-        missing_sentence(alloc, &header)?
-    };
-    told_in(alloc, table, &header, at, &sentence)
+        let sentence = missing_sentence(alloc, &header)?;
+        told_in(alloc, table, &header, 0, &sentence)
+    }
 }
 
 // What is wrong with a column that is there.

@@ -1,6 +1,6 @@
 //! What each fault of a deck means that is told by a path or a name.
 use crate::deck_table::{DeckTable, last_key};
-use crate::deck_values::value_allowed;
+use crate::deck_values::{is_size, value_allowed};
 use crate::nearest::{listed, nearest};
 use crate::showing::shown;
 use dsn_mask::{Name, Volser};
@@ -78,29 +78,23 @@ fn missing_sentence(alloc: Global, path: &[u8]) -> Result<String, AllocError> {
     around(alloc, "the key ", path, rest)
 }
 
-// A wrong value: what may stand there, and what does.
+// A wrong value: what may stand there, and what does; or a second size of a volume.
 fn value_sentence(
     alloc: Global,
     path: &[u8],
     written: Option<&[u8]>,
 ) -> Result<String, AllocError> {
-    let second = if is_later_size(path) {
-        ", or is a second size of its volume"
-    } else {
-        ""
-    };
+    if written.is_some_and(|bytes| is_size(last_key(path), bytes)) {
+        let rest = " is a second size of its volume, which has one of device, cylinders and tracks";
+        return around(alloc, "the value of ", path, rest);
+    }
     let allowed = value_allowed(path);
     let found = match written {
         Some(bytes) => around(alloc, ", not ", bytes, "")?,
         None => String::new(alloc),
     };
-    let rest = format!(in alloc; " is wrong{second}; it may be {allowed}{found}")?;
+    let rest = format!(in alloc; " is wrong; it may be {allowed}{found}")?;
     around(alloc, "the value of ", path, &rest)
-}
-
-// Whether the key tells the size of a volume, and another one may stand before it.
-fn is_later_size(path: &[u8]) -> bool {
-    path.ends_with(b".tracks") || path.ends_with(b".cylinders")
 }
 
 // A key that is no name of its kind, and the form of such names.

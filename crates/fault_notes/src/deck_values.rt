@@ -1,5 +1,6 @@
 //! What the values of a deck's keys may be.
 use crate::deck_table::{DeckTable, last_key};
+use sms_construct::read_number;
 
 const NAME: &str =
     "a construct name in quotes: 1 to 8 capitals, digits, #, @ and $, the first no digit";
@@ -67,5 +68,20 @@ fn volume_value(key: &[u8]) -> &'static str {
         b"cylinders" => "a number, 1 to 65520, or a multiple of 21 from 65541 to 1182006",
         b"tracks" => "a number, 1 to 982800",
         _ => "\"ENABLE\", \"DISALL\", \"DISNEW\", \"QUIALL\" or \"QUINEW\"",
+    }
+}
+
+/// Whether the bytes are a value that this key of a volume, cylinders or tracks, may have.
+pub fn is_size(key: &[u8], bytes: &[u8]) -> bool {
+    let Some(number) = read_number(bytes) else {
+        return false;
+    };
+    match key {
+        b"cylinders" => {
+            (1..=65_520).contains(&number)
+                || ((65_541..=1_182_006).contains(&number) && number % 21 == 0)
+        }
+        b"tracks" => (1..=982_800).contains(&number),
+        _ => false,
     }
 }
