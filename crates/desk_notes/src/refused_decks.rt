@@ -13,10 +13,11 @@ const MOST_DECKS: usize = 3;
 /// Notes what a person is told of the replies that were seen; where one refuses a deck, and the script is known, also
 /// what the fault of the deck means and in which line of the script it stands.
 pub fn note_replies(alloc: Global, note: &mut String, seen: RepliesSeen, script: Option<&[u8]>) {
-    seen.note(alloc, note);
+    seen.note(note);
     if let (true, Some(text)) = (seen.has_refused_deck(), script) {
         note_refused_decks(alloc, note, text);
     }
+    seen.note_sum(alloc, note);
 }
 
 // Notes the faults of the first decks of this script that have one.

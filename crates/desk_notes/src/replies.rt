@@ -67,9 +67,14 @@ impl RepliesSeen {
         self.counts.has_refused_deck()
     }
 
-    /// Notes what a person is told of them.
-    pub fn note(self, alloc: Global, note: &mut String) {
-        self.counts.note(alloc, note);
+    /// Notes what they mean that a person should know.
+    pub fn note(self, note: &mut String) {
+        self.counts.note(note);
+    }
+
+    /// Notes how many answers refused something, by their codes.
+    pub fn note_sum(self, alloc: Global, note: &mut String) {
+        self.counts.note_sum(alloc, note);
     }
 }
 

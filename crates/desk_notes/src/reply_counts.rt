@@ -62,8 +62,8 @@ impl ReplyCounts {
         }
     }
 
-    /// Notes what a person is told of them; where memory for a sentence is wanting, it is left out.
-    pub fn note(self, alloc: Global, note: &mut String) {
+    /// Notes what they mean that a person should know.
+    pub fn note(self, note: &mut String) {
         if self.has_fault {
             let _ = note.push_str(FAULT_SENTENCE);
         }
@@ -73,6 +73,10 @@ impl ReplyCounts {
         if self.count(FULL_JOURNAL) > 0 {
             let _ = note.push_str(FULL_SENTENCE);
         }
+    }
+
+    /// Notes how many answers refused something, by their codes.
+    pub fn note_sum(self, alloc: Global, note: &mut String) {
         if let Ok(sum) = self.sum(alloc) {
             let _ = note.push_str(&sum);
         }
