@@ -9,6 +9,7 @@ usage: docs/stored_runs.py PATH/smsctl
 
 Standard input is a file, as from a shell. The last line says how many runs were as stored.
 """
+import contextlib
 import os
 import sqlite3
 import subprocess
@@ -94,7 +95,7 @@ def found(folder):
 
 
 def rows(path):
-    with sqlite3.connect(path) as connection:
+    with contextlib.closing(sqlite3.connect(path)) as connection:
         return tuple(connection.execute(f"SELECT count(*) FROM {table}").fetchone()[0] for table in TABLES)
 
 
