@@ -1,5 +1,5 @@
 use Rattle.std.proofs.Common.{length}
-use Rattle.desk_notes.proofs.replies.RepliesSeen.behind_all.Given as goal
+use Rattle.desk_notes.proofs.replies.RepliesSeen.behind.Given as goal
 
 abbrev pub decreases-loop-rest : goal.decreases-loop-rest
 decreases-loop-rest l = length l.rest
