@@ -1,5 +1,5 @@
 //! A link that tells how it stood at its reads.
-ghost use Rattle.std.specs.Prelude.{◌≡◌, ◌++◌, ◌∷◌, [], None, Some, length, map, min, refl, take};
+ghost use Rattle.std.specs.Prelude.{◌≡◌, ◌≤◌, ◌++◌, ◌∷◌, [], None, Some, drop, length, map, min, refl, take};
 ghost use Rattle.sms_base.specs.Beside.{ReadMoment};
 
 use crate::talking::talk_over;
@@ -23,25 +23,26 @@ struct Moment {
     taken: Vec<u8>,
 }
 
-/// Gives a piece at each read, whatever it was sent, and keeps how it stood then. Where memory is wanting it ends the
+/// Gives a message at each read, whatever it was sent, and keeps how it stood then. Where memory is wanting it ends the
 /// test.
 #[derive(Drop)]
 struct TellingLink<'a, R: Abort> {
     rt: &'a R,
     alloc: Global,
-    unread: Vec<u8>,
-    piece: usize,
+    bytes: Vec<u8>,
+    at: usize,
     written: Vec<u8>,
     moments: Vec<Moment>,
+    ghost in_range: { at ≤ length bytes.items },
 }
 
 impl<'a, R: Abort> TellingLink<'a, R> {
-    fn new(rt: &'a R, alloc: Global, bytes: &[u8], piece: usize) -> Self {
+    fn new(rt: &'a R, alloc: Global, bytes: &[u8]) -> Self {
         TellingLink {
             rt,
             alloc,
-            unread: copied(rt, alloc, bytes),
-            piece,
+            bytes: copied(rt, alloc, bytes),
+            at: 0,
             written: Vec::new(alloc),
             moments: Vec::new(alloc),
         }
@@ -67,18 +68,18 @@ fn keep<R: Abort>(rt: &R, moments: &mut Vec<Moment>, moment: Moment)
     }
 }
 
-// Copies as many bytes as there are, there is room for, and `most` allows.
-fn copy_front(from: &[u8], to: &mut [u8], most: usize) -> usize
-    ensures count { result ≡ min (min (length from.now) (length to.new)) most }
+// Copies as many bytes as there are, there is room for, and one message has.
+fn copy_front(from: &[u8], to: &mut [u8]) -> usize
+    ensures count { result ≡ min (min (length from.now) (length to.new)) 35 }
     ensures bytes { take result to.new ≡ take result from.now }
 {
-    let count = from.len().min(to.len()).min(most);
+    let count = from.len().min(to.len()).min(SIZE);
     to[..count].copy_from_slice(&from[..count]);
     count
 }
 
 impl<'a, R: Abort> Source for TellingLink<'a, R> {
-    ghost left = { λ l. Some l.unread.items };
+    ghost left = { λ l. Some (drop l.at l.bytes.items) };
 
     ghost read_faults = { λ _. 0 };
 
@@ -94,12 +95,12 @@ impl<'a, R: Abort> Source for TellingLink<'a, R> {
 
     fn read(&mut self, buf: &mut [u8]) -> Result<usize, Failed> {
         let moment = Moment {
-            left: copied(self.rt, self.alloc, &self.unread),
+            left: copied(self.rt, self.alloc, &self.bytes[self.at..]),
             taken: copied(self.rt, self.alloc, &self.written),
         };
         keep(self.rt, &mut self.moments, moment);
-        let count = copy_front(&self.unread, buf, self.piece);
-        self.unread.drain(..count);
+        let count = copy_front(&self.bytes[self.at..], buf);
+        self.at += count;
         Ok(count)
     }
 }
@@ -110,7 +111,7 @@ impl<'a, R: Abort> Sink for TellingLink<'a, R> {
     ghost write_faults = { λ _. 0 };
 
     ghost beside_writing = { λ l. record {
-      bytes = Some l.unread.items;
+      bytes = Some (drop l.at l.bytes.items);
       reads = None;
       moments = Some (map (λ m. record { left = Some m.left.items; taken = Some m.taken.items }) l.moments.items);
       faults = 0;
@@ -145,7 +146,7 @@ fn are_prompt(moments: &[Moment]) -> bool {
 
 #[test]
 fn what_is_due_is_sent_at_each_read(rt: HostRuntime) -> Result<(), Fail> {
-    let mut link = TellingLink::new(&rt, rt.alloc(), ASKED, SIZE);
+    let mut link = TellingLink::new(&rt, rt.alloc(), ASKED);
     let (end, talks) = talk_over(rt.alloc(), &mut link, 10);
     assert!(rt; end == End::Closed { cut: false } && talks.len() == 2 && are_prompt(&link.moments));
     Ok(())

@@ -1,6 +1,6 @@
 // Classifications by a seat, without a turn.
-ghost use Rattle.std.specs.Prelude.{◌<◌, length};
-ghost use Rattle.sms_desk.specs.Seats.{AreAllJobs};
+ghost use Rattle.std.specs.Prelude.{◌≡◌, ◌<◌, length};
+ghost use Rattle.sms_desk.specs.Seats.{AreAllJobs, IsJobOf};
 
 use crate::submitting::submit;
 use sms_classes::Classified;
@@ -24,7 +24,22 @@ storgroup = \"PROC STORGRP WRITE 'GROUP 1' SET &STORGRP = 'SG1' END\"
 JOB1 1 ALLOC A.A SPACE=(TRK,1)
 ";
 
-// The classes of an ALLOC by one of the seats, if it holds a configuration.
+// The classes of an ALLOC by a seat, if it holds a configuration.
+fn classify_by(
+    desk: &Desk<MemKeeper>,
+    seat: &mut JobSeat<MemKeeper>,
+    request: &Request,
+) -> Option<Classified>
+    requires seat { IsJobOf desk.now.lock.table.shared.table_id seat.old }
+    ensures seat { IsJobOf desk.now.lock.table.shared.table_id seat.new }
+{
+    match &request.op {
+        Op::Alloc(_) => desk.classify(seat, request),
+        _ => None,
+    }
+}
+
+// The same by one of the seats.
 fn classify(
     desk: &Desk<MemKeeper>,
     jobs: &mut [JobSeat<MemKeeper>],
@@ -34,11 +49,9 @@ fn classify(
     requires who { who < length jobs.old }
     requires jobs { AreAllJobs desk.now.lock.table.shared.table_id desk.now.lock.table.shared.key.seats jobs.old }
     ensures jobs { AreAllJobs desk.now.lock.table.shared.table_id desk.now.lock.table.shared.key.seats jobs.new }
+    ensures count { length jobs.new ≡ length jobs.old }
 {
-    match &request.op {
-        Op::Alloc(_) => desk.classify(&mut jobs[who], request),
-        _ => None,
-    }
+    classify_by(desk, &mut jobs[who], request)
 }
 
 // Whether the ALLOC behind the activation is classified by the seat that activated, with what the routines wrote and
