@@ -1,0 +1,8 @@
+-- Where memory for the file is wanting, that is the status.
+use Rattle.std.proofs.Common.{inr}
+use Rattle.db_calls.specs.declared.status.DbStatus.TheVariants.{Ran}
+use Rattle.desk_calls.specs.declared.status.RunStatus.TheVariants.{NoMemory}
+use Rattle.smsctl.proofs.database.run.Goals as goal
+
+pub returns-in-Err-SqliteFailure-OutOfMemory : goal.returns-in-Err-SqliteFailure-OutOfMemory
+returns-in-Err-SqliteFailure-OutOfMemory c = inr (Ran NoMemory, c.end-in-Err-SqliteFailure-OutOfMemory.ensures)
