@@ -1,12 +1,11 @@
 //! The top call of the desk over a database file.
-ghost use Rattle.std.specs.Prelude.{◌≡◌, IfErr, IfOk, IsTrue, Some, List, ℕ, map, string_bytes};
+ghost use Rattle.std.specs.Prelude.{◌≡◌, IfErr, IfOk, IsTrue, map, string_bytes};
 ghost use Rattle.sqlite.specs.Files.{IsOpened, file_state, over_files};
 ghost use Rattle.sqlite.specs.Opening.{is_open_error};
 ghost use Rattle.sqlite.specs.Start.{FindsIn};
 ghost use Rattle.sqlite.specs.State.{HasCleanDisk};
 ghost use Rattle.sqlite_wal.specs.Files.{image_at};
 ghost use Rattle.sms_base.specs.Observed.{seen_streams};
-ghost use Rattle.db_calls.specs.DbWords.{database_in};
 ghost use Rattle.file_calls.specs.FileEnds.{WasRunOver};
 
 use db_calls::{DbStatus, db_main};
@@ -17,8 +16,9 @@ use sqlite_std_file::{FileFrom, Start};
 use std::alloc::Global;
 
 /// Answers the script of the source with the records in the file at a path, which it opens or makes, as `db_main` does
-/// over its connection, and hands that back. What the file held, `start` stands for: whatever that was, where the disk
-/// has returned what was written the desk goes on from what is found there (docs/records.md, "The database").
+/// over a new keeper of its connection, and hands that keeper back. What the file held, `start` stands for: whatever
+/// that was, where the disk has returned what was written the desk goes on from what is found there (docs/records.md,
+/// "The database"). Where the file can't be opened, nothing is read or written.
 pub fn answer_file<S: Source, K: Sink, T: Start>(
     rt: &HostRuntime,
     words: &[String],
@@ -26,13 +26,13 @@ pub fn answer_file<S: Source, K: Sink, T: Start>(
     src: &mut S,
     out: &mut K,
     start: T,
-) -> Result<(DbStatus, Connection<FileStore<FileFrom<T>>>), Error>
+) -> Result<(DbStatus, SqlKeeper<FileStore<FileFrom<T>>>), Error>
     ensures named { IfErr result (λ e. IsTrue (is_open_error e)) }
     ensures unread { IfErr result (λ _. src.new ≡ src.old) }
     ensures unwritten { IfErr result (λ _. out.new ≡ out.old) }
-    ensures ran { (name : List ℕ) → database_in (map string_bytes words.now) ≡ Some name → IfOk result (λ r.
+    ensures ran { IfOk result (λ r.
         (found : _) × (HasCleanDisk (file_state found) → IsOpened found × FindsIn (image_at T.Start) (file_state found))
-        × WasRunOver over_files
+        × WasRunOver over_files (map string_bytes words.now) src.old src.new out.old out.new
         (seen_streams S.left S.reads S.read_faults K.taken K.write_faults src.old out.old)
         (seen_streams S.left S.reads S.read_faults K.taken K.write_faults src.new out.new) found r.1 r.0) }
 {
@@ -49,13 +49,12 @@ pub fn answer_over<S: Source, K: Sink, D: Alter + Drop>(
     src: &mut S,
     out: &mut K,
     connection: Connection<D>,
-) -> (DbStatus, Connection<D>)
-    ensures ran { (name : List ℕ) → database_in (map string_bytes words.now) ≡ Some name → WasRunOver D.Store
+) -> (DbStatus, SqlKeeper<D>)
+    ensures { WasRunOver D.Store (map string_bytes words.now) src.old src.new out.old out.new
         (seen_streams S.left S.reads S.read_faults K.taken K.write_faults src.old out.old)
         (seen_streams S.left S.reads S.read_faults K.taken K.write_faults src.new out.new)
         connection result.1 result.0 }
 {
     let keeper = SqlKeeper::new(alloc, connection);
-    let (status, keeper) = db_main(alloc, words, src, out, keeper);
-    (status, keeper.into_connection())
+    db_main(alloc, words, src, out, keeper)
 }

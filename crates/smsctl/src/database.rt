@@ -31,12 +31,12 @@ pub fn run(rt: &HostRuntime, file: &str, words: &[String]) -> ExitCode
     let mut src = KeptSource::new(rt.alloc(), StdSource::new(rt.reader()));
     let mut out = NotedSink::new(StdSink::new(io::writer(rt)));
     match answer_file(rt, words, file, &mut src, &mut out, Unknown) {
-        Ok((status, connection)) => {
+        Ok((status, keeper)) => {
             let mut note = String::new(rt.alloc());
             note_database(rt.alloc(), &mut note, words, status, src.given());
             note_replies(rt.alloc(), &mut note, out.seen(), src.given());
             // What was committed stands in the log, so nothing is lost where it can't be copied into the file.
-            let _ = connection.close();
+            let _ = keeper.into_connection().close();
             end(rt, status, &note)
         }
         Err(Error::SqliteFailure(ErrorCode::OutOfMemory)) => {

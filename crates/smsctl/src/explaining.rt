@@ -78,7 +78,7 @@ pub fn cause_of(error: Error) -> &'static str {
         Error::SqliteFailure(ErrorCode::CannotOpen) => UNOPENED,
         Error::SqliteFailure(ErrorCode::DatabaseBusy) => ", for another run or program has it open",
         Error::SqliteFailure(ErrorCode::NotADatabase | ErrorCode::DatabaseCorrupt) => {
-            ", so no run of the desk has left it so"
+            ", so it isn't as a run of the desk leaves it on a disk that keeps what is written"
         }
         _ => "",
     }

@@ -2,10 +2,17 @@
 use Rattle.file_calls.proofs.file.answer_over.Goals as goal
 
 pub returns : goal.returns
-returns g c = record {
-  ran = λ name named. record {
-    after = c.db_main-status.result.1;
-    ends = rw c.new-keeper.ensures at (c.db_main-status.ensures.ends name named);
-    left_is = c.into_connection.ensures;
-  };
-}
+returns g c =
+    let ran = c.db_main.ensures in
+    let new = c.new-keeper.ensures in
+    record {
+      ends = rw new at ran.ends;
+      words_are = ran.words;
+      unasked = ran.unasked;
+      unrun = rw new at ran.unrun;
+      unread = ran.unread;
+      unopened = ran.unopened;
+      refused = ran.refused;
+      damage = rw new at ran.damage;
+      unwritten = ran.unwritten;
+    }
