@@ -17,5 +17,3 @@ mod records;
 mod streams;
 #[cfg(test)]
 mod talking;
-#[cfg(test)]
-mod telling;
