@@ -23,7 +23,7 @@ kind_rule names = record (new_rule (codes "kind")) { required = true; parser = S
 -- the command with these names: one subcommand is wanted, there is no `help` among them, and there is a version
 abbrev pub tool_app : Names → App
 tool_app names =
-    with_subcommand (with_subcommand (with_subcommand (with_subcommand
+    with_subcommand (with_subcommand (with_subcommand (with_subcommand (with_subcommand
     (record (new_app (codes "smsc")) {
       top = record (new_shape (codes "smsc")) {
         no_binary_name = true;
@@ -35,7 +35,8 @@ tool_app names =
     (with_rule (new_app (codes "translate")) (kind_rule names)).top)
     (new_shape (codes "validate")))
     (new_shape (codes "simulate")))
-    (new_shape (codes "compare"))
+    (new_shape (codes "compare")))
+    (new_shape (codes "explain"))
 
 -- the texts behind the names
 abbrev pub texts_of : Names → List Text
@@ -58,9 +59,11 @@ abbrev pub tool : App
 tool = tool_app (names_with kind_words)
 
 -- the words that ask for a translation are `translate` and the name of the kind; those that ask for a validation are
--- `validate`, those that ask for a simulation `simulate`, and those that ask for a comparison `compare`
+-- `validate`, those that ask for a simulation `simulate`, those that ask for a comparison `compare`, and those that ask
+-- for an explanation `explain`
 abbrev pub words_of : Task → List Text
 words_of (tasks.Translate kind) = codes "translate" ∷ name_of kind ∷ []
 words_of tasks.Validate = codes "validate" ∷ []
 words_of tasks.Simulate = codes "simulate" ∷ []
 words_of tasks.Compare = codes "compare" ∷ []
+words_of tasks.Explain = codes "explain" ∷ []

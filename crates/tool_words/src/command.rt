@@ -19,6 +19,7 @@ pub fn tool_command<'a>(alloc: Global) -> Result<Command<'a>, AllocError>
     let validate = Command::new(alloc, "validate");
     let simulate = Command::new(alloc, "simulate");
     let compare = Command::new(alloc, "compare");
+    let explain = Command::new(alloc, "explain");
     let tool = Command::new(alloc, "smsc")
         .version("0.1.0")
         .no_binary_name(true)
@@ -27,5 +28,6 @@ pub fn tool_command<'a>(alloc: Global) -> Result<Command<'a>, AllocError>
     tool.subcommand(translate)?
         .subcommand(validate)?
         .subcommand(simulate)?
-        .subcommand(compare)
+        .subcommand(compare)?
+        .subcommand(explain)
 }

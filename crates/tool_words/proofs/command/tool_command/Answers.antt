@@ -22,9 +22,11 @@ returns c =
     ∙ ap₂ with_subcommand one (ap (λ (a : App). a.top) c.new-validate.ensures.app) in
     let three = c.in_ok-subcommand-3.ensures.shape (search rules)
     ∙ ap₂ with_subcommand two (ap (λ (a : App). a.top) c.new-simulate.ensures.app) in
-    IfOk-weaker c.subcommand-4.result _ _ (λ r h. (
+    let four = c.in_ok-subcommand-4.ensures.shape (search rules)
+    ∙ ap₂ with_subcommand three (ap (λ (a : App). a.top) c.new-compare.ensures.app) in
+    IfOk-weaker c.subcommand-5.result _ _ (λ r h. (
       names,
       kinds,
       h.shape (search rules)
-          ∙ ap₂ with_subcommand three (ap (λ (a : App). a.top) c.new-compare.ensures.app),
-    )) c.subcommand-4.ensures
+          ∙ ap₂ with_subcommand four (ap (λ (a : App). a.top) c.new-explain.ensures.app),
+    )) c.subcommand-5.ensures

@@ -1,0 +1,23 @@
+-- What an explanation comes to, from its parts.
+use Rattle.std.proofs.Common.{◌≡◌, ℕ, List, ◌∷◌, refl, ap, ◌∙◌, inr}
+use Rattle.std.specs.Prelude.{Option, None, Some}
+use Rattle.sms_keeper.specs.Suits.{deck_of}
+use Rattle.sms_script.specs.declared.item.Item.{Item}
+use Rattle.sms_simulation.specs.Simulation.{AreAsked, first_misplaced, first_other, misplaced_from}
+use Rattle.sms_simulation.specs.declared.simulated.Simulated.{Simulated}
+use Rattle.sms_simulation.specs.declared.simulated.Simulated.TheVariants as simulations
+use Rattle.sms_explain.specs.Explanation.{IsExplainedUnder, IsExplanation}
+
+asked : (first : Item) (others : List Item) (deck : List ℕ) → deck_of first.request.op ≡ Some deck → first_other others ≡ None → AreAsked (first ∷ others) deck others
+asked first others deck activates allocates = record { first = first; items_are = refl; activates = activates; allocates = allocates }
+
+pub explained_under : (first : Item) (others : List Item) (deck : List ℕ) (made : Simulated) → deck_of first.request.op ≡ Some deck → first_other others ≡ None
+    → IsExplainedUnder deck others made → IsExplanation (first ∷ others) made
+explained_under first others deck (simulations.Shown text) activates allocates tells =
+    inr (record { deck = deck; others = others; asked = asked first others deck activates allocates; tells = tells })
+explained_under first others deck (simulations.Refused fault) activates allocates found =
+    record { deck = deck; others = others; asked = asked first others deck activates allocates; found = found }
+explained_under first others deck (simulations.Misplaced line) activates allocates never = absurd never
+
+pub misplaced_behind : (first : Item) (others : List Item) (deck : List ℕ) (line : ℕ) → deck_of first.request.op ≡ Some deck → first_other others ≡ Some line → first_misplaced (first ∷ others) ≡ Some line
+misplaced_behind first others deck line activates other = ap (λ (d : Option (List ℕ)). misplaced_from d first others) activates ∙ other
