@@ -3,7 +3,7 @@ ghost use Rattle.std.specs.Prelude.{◌≡◌, ◌++◌, OnOk};
 ghost use Rattle.acs_tree.specs.declared.kind.Kind.TheVariants.{StorGrp};
 ghost use Rattle.sms_story.specs.Runs.{from_data_class, from_management_class, from_storage_class, runs_of_kind};
 
-use crate::routine::{is_stopped_by, run_routine};
+use crate::routine::{is_null, is_stopped_by, run_routine};
 use crate::run::Runs;
 use acs_tree::{Kind, Seen, Values};
 use sms_deck::Config;
@@ -35,7 +35,7 @@ fn from_storage_class(
     ensures { OnOk result (runs.new ≡ runs.old ++ from_storage_class config.now input.now values.old) }
 {
     let stops = is_stopped_by(alloc, config, Kind::StorClas, input, values, runs)?;
-    if stops || values.storclas.bytes().is_empty() {
+    if stops || is_null(&values.storclas) {
         return Ok(());
     }
     from_management_class(alloc, config, input, values, runs)

@@ -1,12 +1,14 @@
-// The run of one routine, and what stops the classification behind it.
-ghost use Rattle.std.specs.Prelude.{◌≡◌, ◌++◌, IfOk, is_some};
+// The run of one routine, and whether it stops the classification.
+ghost use Rattle.std.specs.Prelude.{◌≡◌, ◌++◌, ◌||◌, IfOk, Some, is_some};
 ghost use Rattle.acs_tree.specs.declared.kind.Kind.{Kind as KindOf};
-ghost use Rattle.desk_law.specs.Classification.{class_of, class_stop, exit_stop};
-ghost use Rattle.sms_story.specs.Runs.{comes_to, has_stop, runs_of_kind, stop_behind};
+ghost use Rattle.desk_law.specs.Classification.{class_of, class_stop, exit_stop, is_null};
+ghost use Rattle.sms_construct.specs.Configuration.{routine_of};
+ghost use Rattle.sms_story.specs.Inner.Steps.{RunsAs};
+ghost use Rattle.sms_story.specs.Runs.{comes_to, has_stop, runs_of_kind};
 
 use crate::run::{Run, Runs};
 use acs_trace::follow;
-use acs_tree::{Ending, Kind, Seen, Values};
+use acs_tree::{Checked, Ending, Kind, Seen, Values};
 use dsn_mask::Short;
 use sms_deck::Config;
 use std::alloc::{AllocError, Global};
@@ -26,7 +28,7 @@ pub fn is_stopped_by(
     ensures runs { IfOk result (λ stops. runs.new ≡ runs.old ++ runs_of_kind config.now input.now kind values.old) }
 {
     let ending = run_routine(alloc, config, kind, input, values, runs)?;
-    Ok(is_exit(ending) || is_unknown(config, kind, values))
+    Ok(is_stop(config, kind, ending, values))
 }
 
 /// Runs the routine of that kind, where there is one, and tells what happens.
@@ -38,26 +40,46 @@ pub fn run_routine(
     values: &mut Values,
     runs: &mut Runs,
 ) -> Result<Ending, AllocError>
-    ensures values { IfOk result (λ ending. values.new ≡ (comes_to config.now input.now kind values.old).values) }
-    ensures ending { IfOk result (λ ending. ending ≡ (comes_to config.now input.now kind values.old).ending) }
-    ensures runs { IfOk result (λ ending. runs.new ≡ runs.old ++ runs_of_kind config.now input.now kind values.old) }
+    ensures { IfOk result (RunsAs (routine_of kind config.now.routines) kind input.now values.old values.new
+        runs.old runs.new) }
 {
     // Facts for the proof; nothing changes.
     let _deck = config.deck();
-    let Some(checked) = config.source(kind) else {
-        return Ok(Ending::Falls);
-    };
+    match config.source(kind) {
+        None => Ok(Ending::Falls),
+        Some(checked) => run_checked(alloc, checked, input, values, runs),
+    }
+}
+
+fn run_checked(
+    alloc: Global,
+    checked: &Checked,
+    input: &Seen<'_>,
+    values: &mut Values,
+    runs: &mut Runs,
+) -> Result<Ending, AllocError>
+    ensures { IfOk result (RunsAs (Some checked.now) checked.now.kind input.now values.old values.new
+        runs.old runs.new) }
+{
     let begins = *values;
     let trace = follow(alloc, checked, input, values)?;
     let ending = trace.ending;
     runs.push(Run {
-        kind,
+        kind: checked.kind(),
         begins,
         events: trace.events,
         ends: *values,
         ending,
     })?;
     Ok(ending)
+}
+
+// Whether a routine of a class that ended so stops the classification.
+fn is_stop(config: &Config, kind: Kind, ending: Ending, values: &Values) -> bool
+    ensures { result ≡ (is_some (exit_stop kind ending) ||
+        is_some (class_stop config.now kind (class_of kind values.now))) }
+{
+    is_exit(ending) || is_unknown(config, kind, values)
 }
 
 // Whether a routine ended with another code than 0.
@@ -85,5 +107,12 @@ fn is_unknown(config: &Config, kind: Kind, values: &Values) -> bool
 fn is_unknown_class(config: &Config, kind: Kind, class: &Short) -> bool
     ensures { result ≡ is_some (class_stop config.now kind class.now) }
 {
-    !class.bytes().is_empty() && !config.has(kind, class)
+    !is_null(class) && !config.has(kind, class)
+}
+
+/// Whether the class is the null value.
+pub fn is_null(class: &Short) -> bool
+    ensures { result ≡ is_null class.now }
+{
+    class.bytes().is_empty()
 }

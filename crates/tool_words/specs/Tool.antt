@@ -20,19 +20,27 @@ Names = Bor (List (Bor Text))
 abbrev pub kind_rule : Names → Rule
 kind_rule names = record (new_rule (codes "kind")) { required = true; parser = Some (vp.Names names) }
 
--- the command with these names: one subcommand is wanted, there is no `help` among them, and there is a version
+-- the subcommand `translate` with these names
+abbrev pub translate_app : Names → App
+translate_app names = with_rule (new_app (codes "translate")) (kind_rule names)
+
+-- the command without its subcommands: one is wanted, there is no `help` among them, and there is a version
+abbrev pub bare_app : App
+bare_app = record (new_app (codes "smsc")) {
+  top = record (new_shape (codes "smsc")) {
+    no_binary_name = true;
+    disable_help_subcommand = true;
+    subcommand_required = true;
+    has_version = true;
+  };
+}
+
+-- the command with these names
 abbrev pub tool_app : Names → App
 tool_app names =
     with_subcommand (with_subcommand (with_subcommand (with_subcommand (with_subcommand
-    (record (new_app (codes "smsc")) {
-      top = record (new_shape (codes "smsc")) {
-        no_binary_name = true;
-        disable_help_subcommand = true;
-        subcommand_required = true;
-        has_version = true;
-      };
-    })
-    (with_rule (new_app (codes "translate")) (kind_rule names)).top)
+    bare_app
+    (translate_app names).top)
     (new_shape (codes "validate")))
     (new_shape (codes "simulate")))
     (new_shape (codes "compare")))
@@ -41,6 +49,10 @@ tool_app names =
 -- the texts behind the names
 abbrev pub texts_of : Names → List Text
 texts_of names = map (λ n. n.now) names.now
+
+-- the subcommand `translate` with the names of the four kinds, wherever they lie
+abbrev pub IsTranslate : App → Type 0
+IsTranslate a = (names : Names) × (texts_of names ≡ kind_words) × (a ≡ translate_app names)
 
 -- the command with the names of the four kinds, wherever they lie
 abbrev pub IsTool : App → Type 0
