@@ -2,13 +2,14 @@
 -- "Explaining a script").
 use Rattle.std.specs.Prelude.{◌≡◌, ◌⊎◌, ◌++◌, ℕ, List, [], ◌∷◌, Option, None, Some, codes, decimal, flat_map}
 use Rattle.desk_law.specs.Classification.{classes_of}
+use Rattle.acs_tree.specs.declared.values.Values.{Values}
 use Rattle.sms_construct.specs.Configuration.{Configuration}
 use Rattle.sms_construct.specs.declared.alloc.Alloc.{Alloc}
 use Rattle.sms_construct.specs.declared.fault.Fault.{Fault}
+use Rattle.sms_construct.specs.declared.stop.Stop.{Stop}
 use Rattle.sms_deck.specs.Reading.{Configures, HasFirstFault}
-use Rattle.sms_script.specs.NameText.{spaced}
 use Rattle.sms_script.specs.declared.item.Item.{Item}
-use Rattle.sms_simulation.specs.OutcomeText.{text_of_classes}
+use Rattle.sms_simulation.specs.OutcomeText.{outcome_line, text_of_classes}
 use Rattle.sms_simulation.specs.Simulation.{AreAsked, RefusesDeck, ShowsNothing, alloc_of, first_misplaced}
 use Rattle.sms_simulation.specs.declared.simulated.Simulated.{Simulated}
 use Rattle.sms_simulation.specs.declared.simulated.Simulated.TheVariants as simulations
@@ -17,11 +18,18 @@ use Rattle.sms_explain.specs.DeckTexts.{AreSources}
 use Rattle.sms_explain.specs.RunText.{run_text}
 use Rattle.sms_explain.specs.declared.deck_sources.DeckSources.{DeckSources}
 
--- the line before the runs of an item: its line in the script, its job and number, and the name of the data set
+-- the line of an item in the script, its job and its number, with a blank behind each
+abbrev pub front_text : Item → List ℕ
+front_text item = decimal item.line ++ codes " " ++ item.request.job ++ codes " " ++ decimal item.request.number ++ codes " "
+
+-- the line before the runs of an item, with the name of the data set
 abbrev pub head_text : Item → Alloc → List ℕ
-head_text item alloc =
-    spaced (decimal item.line ∷ item.request.job ∷ decimal item.request.number ∷ codes "ALLOC" ∷ alloc.input.dsn ∷ [])
-    ++ codes "\n"
+head_text item alloc = front_text item ++ codes "ALLOC " ++ alloc.input.dsn ++ codes "\n"
+
+-- the line behind them, as a simulation prints it: how the classification ends
+abbrev pub end_text : Item → Stop → Values → List ℕ
+end_text item stop values =
+    outcome_line item.line item.request.job item.request.number stop values ++ codes "\n"
 
 -- what is told of the ALLOC of an item: each run, and then what the classification comes to, as a simulation prints it
 abbrev pub told_text : Configuration → DeckSources → Item → Alloc → List ℕ

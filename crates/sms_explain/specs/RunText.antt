@@ -1,8 +1,8 @@
 -- The runs of a classification as text (docs/tool.md, "Explaining a script").
-use Rattle.std.specs.Prelude.{◌++◌, ℕ, List, [], ◌∷◌, codes, decimal}
+use Rattle.std.specs.Prelude.{◌++◌, ℕ, List, [], ◌∷◌, codes, decimal, flat_map}
+use Rattle.desk_common.specs.Bytes.{space_byte}
 use Rattle.acs_telling.specs.Telling.{events_text}
 use Rattle.acs_tree.specs.Variables.{name_of}
-use Rattle.acs_tree.specs.Writing.{listed}
 use Rattle.acs_tree.specs.declared.ending.Ending.{Ending}
 use Rattle.acs_tree.specs.declared.ending.Ending.TheVariants.{Falls, Exit}
 use Rattle.acs_tree.specs.declared.values.Values.{Values}
@@ -11,16 +11,15 @@ use Rattle.sms_story.specs.declared.run.Run.{Run}
 use Rattle.sms_explain.specs.DeckTexts.{source_in}
 use Rattle.sms_explain.specs.declared.deck_sources.DeckSources.{DeckSources}
 
--- storage groups with commas between, or a hyphen for none
+-- storage groups with a blank before each
 abbrev pub groups_text : List (List ℕ) → List ℕ
-groups_text [] = codes "-"
-groups_text (group ∷ groups) = listed (group ∷ groups)
+groups_text groups = flat_map (λ group. space_byte ∷ group) groups
 
--- what the read-write variables hold
+-- what the read-write variables hold: the three classes, and the storage groups behind them
 abbrev pub values_text : Values → List ℕ
 values_text values =
-    spaced (value_text values.dataclas ∷ value_text values.storclas ∷ value_text values.mgmtclas
-    ∷ groups_text values.groups ∷ [])
+    spaced (value_text values.dataclas ∷ value_text values.storclas ∷ value_text values.mgmtclas ∷ [])
+    ++ groups_text values.groups
 
 -- how a run ended
 abbrev pub ending_text : Ending → List ℕ

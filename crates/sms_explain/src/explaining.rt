@@ -2,16 +2,19 @@
 ghost use Rattle.std.specs.Prelude.{◌≡◌, ◌++◌, ◌∷◌, flat_map, map, IfOk, OnOk};
 ghost use Rattle.sms_script.specs.Script.{items_of};
 ghost use Rattle.desk_law.specs.Classification.{classes_of};
-ghost use Rattle.sms_explain.specs.Explanation.{IsExplainedUnder, IsExplanation, head_text, told_of, told_text};
+ghost use Rattle.sms_explain.specs.Explanation.{IsExplainedUnder, IsExplanation, end_text, front_text, head_text, told_of};
+ghost use Rattle.sms_explain.specs.Explanation.{told_text};
 
 use crate::deck_sources::DeckSources;
+use crate::items::{all_items, first_other};
 use crate::run_text::push_runs;
 use acs_tree::Slate;
 use desk_common::Items;
+use sms_classes::Classified;
 use sms_construct::{Alloc, DeckText, Op};
 use sms_deck::{Config, DeckErr, read_deck};
 use sms_script::{Item, Script, push_number_and_blank, push_word_and_blank};
-use sms_simulation::{Simulated, all_items, first_other, push_classified};
+use sms_simulation::{Simulated, push_outcome, push_written};
 use sms_story::tell;
 use std::alloc::{AllocError, Global};
 
@@ -114,23 +117,33 @@ fn push_alloc(
     let story = tell(alloc, config, &item.request.job, allocation, slate)?;
     push_head(text, item, allocation)?;
     push_runs(text, sources, story.runs.as_slice())?;
-    push_classified(
-        alloc,
-        text,
-        item.line,
-        &item.request,
-        &story.classified,
-        &story.trace,
-    )
+    push_end(text, item, &story.classified)?;
+    push_written(alloc, text, b"  ", &story.trace)
 }
 
 fn push_head(text: &mut Vec<u8>, item: &Item, allocation: &Alloc) -> Result<(), AllocError>
     ensures { OnOk result (text.new.items ≡ text.old.items ++ head_text item.now allocation.now) }
 {
-    push_number_and_blank(text, u64::from(item.line))?;
-    push_word_and_blank(text, item.request.job.bytes())?;
-    push_number_and_blank(text, u64::from(item.request.number.get()))?;
+    push_front(text, item)?;
     push_word_and_blank(text, b"ALLOC")?;
     text.extend_from_slice(allocation.input.dsn().bytes())?;
     text.extend_from_slice(b"\n")
+}
+
+fn push_end(text: &mut Vec<u8>, item: &Item, classified: &Classified) -> Result<(), AllocError>
+    ensures { OnOk result (text.new.items ≡ text.old.items ++
+        end_text item.now classified.now.stop classified.now.values) }
+{
+    push_front(text, item)?;
+    push_outcome(text, classified.stop, &classified.values)?;
+    text.extend_from_slice(b"\n")
+}
+
+// The line of an item in its script, its job and its number.
+fn push_front(text: &mut Vec<u8>, item: &Item) -> Result<(), AllocError>
+    ensures { OnOk result (text.new.items ≡ text.old.items ++ front_text item.now) }
+{
+    push_number_and_blank(text, u64::from(item.line))?;
+    push_word_and_blank(text, item.request.job.bytes())?;
+    push_number_and_blank(text, u64::from(item.request.number.get()))
 }

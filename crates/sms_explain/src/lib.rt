@@ -3,6 +3,7 @@
 
 mod deck_sources;
 mod explaining;
+mod items;
 mod run_text;
 
 pub use deck_sources::DeckSources;

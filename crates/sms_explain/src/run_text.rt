@@ -8,7 +8,6 @@ use acs_tree::{Ending, Values};
 use desk_common::push_number;
 use dsn_mask::Name;
 use sms_script::{push_word_and_blank, value_bytes};
-use sms_simulation::push_groups;
 use sms_story::Run;
 use std::alloc::AllocError;
 
@@ -70,15 +69,17 @@ fn push_values(text: &mut Vec<u8>, values: &Values) -> Result<(), AllocError>
 {
     push_word_and_blank(text, value_bytes(&values.dataclas))?;
     push_word_and_blank(text, value_bytes(&values.storclas))?;
-    push_word_and_blank(text, value_bytes(&values.mgmtclas))?;
-    push_groups_or_none(text, values.groups.as_slice())
+    text.extend_from_slice(value_bytes(&values.mgmtclas))?;
+    push_groups(text, values.groups.as_slice())
 }
 
-fn push_groups_or_none(text: &mut Vec<u8>, groups: &[Name]) -> Result<(), AllocError>
+// The storage groups, with a blank before each.
+fn push_groups(text: &mut Vec<u8>, groups: &[Name]) -> Result<(), AllocError>
     ensures { OnOk result (text.new.items ≡ text.old.items ++ groups_text groups.now) }
 {
-    match groups {
-        [] => text.extend_from_slice(b"-"),
-        [_, ..] => push_groups(text, groups),
+    for group in groups {
+        text.extend_from_slice(b" ")?;
+        text.extend_from_slice(group.bytes())?;
     }
+    Ok(())
 }

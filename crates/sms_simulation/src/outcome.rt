@@ -78,8 +78,7 @@ fn push_classes(text: &mut Vec<u8>, values: &Values) -> Result<(), AllocError>
     push_groups(text, values.groups.as_slice())
 }
 
-/// Puts storage groups with commas between behind a text.
-pub fn push_groups(text: &mut Vec<u8>, groups: &[Name]) -> Result<(), AllocError>
+fn push_groups(text: &mut Vec<u8>, groups: &[Name]) -> Result<(), AllocError>
     ensures { OnOk result (text.new.items ≡ text.old.items ++ listed groups.now) }
 {
     match groups {

@@ -80,3 +80,8 @@ from_data_class config input values =
 abbrev pub runs_of : Configuration → List ℕ → Alloc → List Run
 runs_of config job alloc =
     from_data_class config (input_under alloc.input job config.system config.sysplex) (begin alloc).values
+
+-- what the variables hold behind runs that began with these values
+abbrev pub values_behind : Values → List Run → Values
+values_behind values [] = values
+values_behind values (run ∷ runs) = values_behind run.ends runs

@@ -1,12 +1,13 @@
 //! The story of a classification.
 ghost use Rattle.std.specs.Prelude.{◌≡◌, [], IfOk};
-ghost use Rattle.desk_law.specs.Classification.{classes_of, trace_of};
-ghost use Rattle.sms_story.specs.Runs.{runs_of};
+ghost use Rattle.desk_law.specs.Classification.{begin, classes_of, trace_of};
+ghost use Rattle.sms_story.specs.Runs.{runs_of, values_behind};
 
 use crate::begin::named_classes;
 use crate::case_story::CaseStory;
 use crate::onward::from_data_class;
 use crate::run::Runs;
+use acs_trace::tells_the_truth;
 use acs_tree::Slate;
 use desk_common::Items;
 use dsn_mask::Name;
@@ -25,7 +26,9 @@ pub fn tell(
     slate: &mut Slate,
 ) -> Result<CaseStory, AllocError>
     ensures runs { IfOk result (λ story. story.runs ≡ runs_of config.now job.now allocation.now) }
-    // It comes to what the classification does.
+    // It comes to what the classification does, and so do the runs.
+    ensures ends { IfOk result (λ story. values_behind (begin allocation.now).values story.runs ≡
+        (classes_of config.now job.now allocation.now).values) }
     ensures values { IfOk result (λ story.
         story.classified.values ≡ (classes_of config.now job.now allocation.now).values) }
     ensures stop { IfOk result (λ story.
@@ -33,6 +36,8 @@ pub fn tell(
     ensures trace { IfOk result (λ story.
         story.trace ≡ trace_of (classes_of config.now job.now allocation.now)) }
 {
+    // A fact for the proof; nothing changes.
+    tells_the_truth();
     let runs = runs_of(alloc, config, job, allocation)?;
     let classified = classify(config, job, allocation, slate);
     let trace = Trace::of(alloc, slate)?;

@@ -1,9 +1,11 @@
 -- The command line of the tool: the command that its words are read by (docs/tool.md, "Words").
-use Rattle.std.specs.Prelude.{◌≡◌, List, [], ◌∷◌, Some, true, codes, map}
+use Rattle.std.specs.Prelude.{◌≡◌, List, [], ◌∷◌, Some, true, false, codes, map}
 use Rattle.std.specs.Borrow.{Bor}
 use Rattle.acs_tree.specs.Variables.{name_of}
 use Rattle.clap.specs.Simple.{App, new_app, new_rule, new_shape, with_rule, with_subcommand}
 use Rattle.clap.specs.Walk.{Rule, Text}
+use Rattle.clap.specs.declared.builder.command.Command.{Command}
+use Rattle.clap.specs.declared.builder.command.Command.TheViews.{out-Command}
 use Rattle.clap.specs.declared.builder.value_parser.ValueParser.TheVariants as vp
 use Rattle.tool_words.specs.declared.task.Task.{Task}
 use Rattle.tool_words.specs.declared.task.Task.TheVariants as tasks
@@ -53,6 +55,10 @@ texts_of names = map (λ n. n.now) names.now
 -- the subcommand `translate` with the names of the four kinds, wherever they lie
 abbrev pub IsTranslate : App → Type 0
 IsTranslate a = (names : Names) × (texts_of names ≡ kind_words) × (a ≡ translate_app names)
+
+-- no argument of the command is one of its subcommands too
+abbrev pub KeepsItsOwn : Command → Type 0
+KeepsItsOwn command = (out-Command command).has_globals ≡ false
 
 -- the command with the names of the four kinds, wherever they lie
 abbrev pub IsTool : App → Type 0

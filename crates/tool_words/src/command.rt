@@ -1,7 +1,7 @@
 // The command that reads the words.
-ghost use Rattle.std.specs.Prelude.{◌≡◌, IfOk, false};
-ghost use Rattle.clap.specs.Words.{app_of, fields_of};
-ghost use Rattle.tool_words.specs.Tool.{IsTool, IsTranslate, bare_app};
+ghost use Rattle.std.specs.Prelude.{◌≡◌, IfOk};
+ghost use Rattle.clap.specs.Words.{app_of};
+ghost use Rattle.tool_words.specs.Tool.{IsTool, IsTranslate, KeepsItsOwn, bare_app};
 
 use clap::{Arg, Command};
 use std::alloc::{AllocError, Global};
@@ -28,7 +28,7 @@ pub fn tool_command<'a>(alloc: Global) -> Result<Command<'a>, AllocError>
 // The subcommand `translate`, which wants the name of a kind.
 fn translating<'a>(alloc: Global) -> Result<Command<'a>, AllocError>
     ensures app { IfOk result (λ command. IsTranslate (app_of command)) }
-    ensures own { IfOk result (λ command. (fields_of command).has_globals ≡ false) }
+    ensures own { IfOk result (KeepsItsOwn) }
 {
     let kind = Arg::new(alloc, "kind")
         .required(true)
