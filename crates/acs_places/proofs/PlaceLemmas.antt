@@ -14,6 +14,7 @@ behind_parts place (byte ∷ one) two = behind_parts (behind_byte place byte) on
 abbrev pick : Bool → Place → Place
 pick true place = record { line = place.line + 1; column = 1 }
 pick false place = record { line = place.line; column = place.column + 1 }
+
 pick_line : (b : Bool) (place : Place) → (pick b place).line ≤ place.line + 1
 pick_line true place = omega arith
 pick_line false place = omega arith

@@ -1,5 +1,6 @@
 -- What happens in a run, as text (docs/tool.md, "Explaining a script").
-use Rattle.std.specs.Prelude.{◌+◌, ◌++◌, ℕ, Bool, true, false, List, [], bytes_eq, codes, decimal, flat_map, if◌then◌else◌}
+use Rattle.std.specs.Prelude.{◌+◌, ◌++◌, ℕ, Bool, true, false, List, [], bytes_eq, codes, decimal, flat_map}
+use Rattle.std.specs.Prelude.{if◌then◌else◌}
 use Rattle.acs_places.specs.declared.place.Place.{Place}
 use Rattle.acs_trace.specs.declared.event.Event.{Event}
 use Rattle.acs_trace.specs.declared.event.Event.TheVariants.{Ran, Compared, Taken, Set, Wrote, Exited}

@@ -59,11 +59,7 @@ impl Source {
         ensures { result.now ≡ word_at self.now number }
     {
         let token = self.spot_at(number).token;
-        part(
-            self.text.as_slice(),
-            token.from as usize,
-            token.to as usize,
-        )
+        part(self.text.as_slice(), token.from as usize, token.to as usize)
     }
 }
 

@@ -20,7 +20,8 @@ use Rattle.sms_explain.specs.declared.deck_sources.DeckSources.{DeckSources}
 
 -- the line of an item in the script, its job and its number, with a blank behind each
 abbrev pub front_text : Item → List ℕ
-front_text item = decimal item.line ++ codes " " ++ item.request.job ++ codes " " ++ decimal item.request.number ++ codes " "
+front_text item =
+    decimal item.line ++ codes " " ++ item.request.job ++ codes " " ++ decimal item.request.number ++ codes " "
 
 -- the line before the runs of an item, with the name of the data set
 abbrev pub head_text : Item → Alloc → List ℕ

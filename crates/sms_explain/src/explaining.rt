@@ -2,8 +2,8 @@
 ghost use Rattle.std.specs.Prelude.{◌≡◌, ◌++◌, ◌∷◌, flat_map, map, IfOk, OnOk};
 ghost use Rattle.sms_script.specs.Script.{items_of};
 ghost use Rattle.desk_law.specs.Classification.{classes_of};
-ghost use Rattle.sms_explain.specs.Explanation.{IsExplainedUnder, IsExplanation, end_text, front_text, head_text, told_of};
-ghost use Rattle.sms_explain.specs.Explanation.{told_text};
+ghost use Rattle.sms_explain.specs.Explanation.{IsExplainedUnder, IsExplanation, end_text, front_text};
+ghost use Rattle.sms_explain.specs.Explanation.{head_text, told_of, told_text};
 
 use crate::deck_sources::DeckSources;
 use crate::items::{all_items, first_other};

@@ -12,11 +12,7 @@ use sms_story::Run;
 use std::alloc::AllocError;
 
 /// Puts what happened in these runs behind a text.
-pub fn push_runs(
-    text: &mut Vec<u8>,
-    sources: &DeckSources,
-    runs: &[Run],
-) -> Result<(), AllocError>
+pub fn push_runs(text: &mut Vec<u8>, sources: &DeckSources, runs: &[Run]) -> Result<(), AllocError>
     ensures { OnOk result (text.new.items ≡ text.old.items ++ flat_map (run_text sources.now) runs.now) }
 {
     for run in runs {

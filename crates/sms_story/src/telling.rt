@@ -56,7 +56,9 @@ fn runs_of(
 ) -> Result<Runs, AllocError>
     ensures { IfOk result (λ runs. runs ≡ runs_of config.now job.now allocation.now) }
 {
-    let input = allocation.input.under(job, config.system(), config.sysplex());
+    let input = allocation
+        .input
+        .under(job, config.system(), config.sysplex());
     let mut values = named_classes(allocation);
     let mut runs = Items::new(alloc);
     from_data_class(alloc, config, &input, &mut values, &mut runs)?;
