@@ -1,12 +1,24 @@
 -- What an explanation comes to, from its parts.
-use Rattle.std.proofs.Common.{◌≡◌, ℕ, List, ◌∷◌, refl, ap, ◌∙◌, inr}
-use Rattle.std.specs.Prelude.{Option, None, Some}
+use Rattle.std.proofs.Common.{◌≡◌, ◌++◌, ℕ, List, ◌∷◌, codes, refl, ap, ◌∙◌, inr, append_assoc}
+use Rattle.std.specs.Prelude.{Option, None, Some, flat_map}
+use Rattle.acs_tree.specs.declared.values.Values.{Values}
+use Rattle.desk_law.specs.Classification.{Classes, classes_of, trace_of}
+use Rattle.sms_construct.specs.Configuration.{Configuration}
+use Rattle.sms_construct.specs.declared.alloc.Alloc.{Alloc}
+use Rattle.sms_construct.specs.declared.stop.Stop.{Stop}
+use Rattle.sms_construct.specs.declared.trace.Trace.{Trace}
 use Rattle.sms_keeper.specs.Suits.{deck_of}
+use Rattle.sms_script.specs.TraceText.{trace_lines}
 use Rattle.sms_script.specs.declared.item.Item.{Item}
+use Rattle.sms_simulation.specs.OutcomeText.{behind}
 use Rattle.sms_simulation.specs.Simulation.{AreAsked, first_misplaced, first_other, misplaced_from}
 use Rattle.sms_simulation.specs.declared.simulated.Simulated.{Simulated}
 use Rattle.sms_simulation.specs.declared.simulated.Simulated.TheVariants as simulations
-use Rattle.sms_explain.specs.Explanation.{IsExplainedUnder, IsExplanation}
+use Rattle.sms_story.specs.Runs.{runs_of}
+use Rattle.sms_story.specs.declared.run.Run.{Run}
+use Rattle.sms_explain.specs.Explanation.{IsExplainedUnder, IsExplanation, end_text, head_text, told_text}
+use Rattle.sms_explain.specs.RunText.{run_text}
+use Rattle.sms_explain.specs.declared.deck_sources.DeckSources.{DeckSources}
 
 asked : (first : Item) (others : List Item) (deck : List ℕ) → deck_of first.request.op ≡ Some deck → first_other others ≡ None → AreAsked (first ∷ others) deck others
 asked first others deck activates allocates = record { first = first; items_are = refl; activates = activates; allocates = allocates }
@@ -21,3 +33,27 @@ explained_under first others deck (simulations.Misplaced line) activates allocat
 
 pub misplaced_behind : (first : Item) (others : List Item) (deck : List ℕ) (line : ℕ) → deck_of first.request.op ≡ Some deck → first_other others ≡ Some line → first_misplaced (first ∷ others) ≡ Some line
 misplaced_behind first others deck line activates other = ap (λ (d : Option (List ℕ)). misplaced_from d first others) activates ∙ other
+
+joined : (before head runs line feed lines : List ℕ) → (((before ++ head) ++ runs) ++ (line ++ feed)) ++ lines ≡ before ++ (head ++ (runs ++ (line ++ (feed ++ lines))))
+joined before head runs line feed lines = simp append_assoc
+
+-- the parts of what is told of an ALLOC, one behind the other
+pub told_parts : (config : Configuration) (sources : DeckSources) (item : Item) (alloc : Alloc) (before one two three now : List ℕ) (runs : List Run) (values : Values) (stop : Stop) (trace : Trace)
+    → one ≡ before ++ head_text item alloc → two ≡ one ++ flat_map (run_text sources) runs → three ≡ two ++ end_text item stop values
+    → now ≡ three ++ flat_map (behind (codes "  ")) (trace_lines trace)
+    → runs ≡ runs_of config item.request.job alloc → values ≡ (classes_of config item.request.job alloc).values → stop ≡ (classes_of config item.request.job alloc).stop
+    → trace ≡ trace_of (classes_of config item.request.job alloc)
+    → now ≡ before ++ told_text config sources item alloc
+told_parts config sources item alloc before one two three now runs values stop trace head told ends written runs_are values_are stop_is trace_is =
+    let classes : Classes = classes_of config item.request.job alloc in
+    let all_runs : List Run = runs_of config item.request.job alloc in
+    let lines : Trace → List ℕ = λ (t : Trace). flat_map (behind (codes "  ")) (trace_lines t) in
+    let text : List Run → Stop → Values → Trace → List ℕ =
+    λ (r : List Run) (s : Stop) (v : Values) (t : Trace). (((before ++ head_text item alloc) ++ flat_map (run_text sources) r) ++ end_text item s v) ++ lines t in
+    written
+    ∙ ap (λ (x : List ℕ). x ++ lines trace) (ends ∙ ap (λ (x : List ℕ). x ++ end_text item stop values) (told ∙ ap (λ (x : List ℕ). x ++ flat_map (run_text sources) runs) head))
+    ∙ ap (λ (r : List Run). text r stop values trace) runs_are
+    ∙ ap (λ (s : Stop). text all_runs s values trace) stop_is
+    ∙ ap (λ (v : Values). text all_runs classes.stop v trace) values_are
+    ∙ ap (λ (t : Trace). text all_runs classes.stop classes.values t) trace_is
+    ∙ joined before (head_text item alloc) (flat_map (run_text sources) all_runs) _ (codes "\n") (lines (trace_of classes))

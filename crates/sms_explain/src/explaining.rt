@@ -118,7 +118,8 @@ fn push_alloc(
     push_head(text, item, allocation)?;
     push_runs(text, sources, story.runs.as_slice())?;
     push_end(text, item, &story.classified)?;
-    push_written(alloc, text, b"  ", &story.trace)
+    push_written(alloc, text, b"  ", &story.trace)?;
+    Ok(())
 }
 
 fn push_head(text: &mut Vec<u8>, item: &Item, allocation: &Alloc) -> Result<(), AllocError>
