@@ -1,5 +1,5 @@
 -- What an explanation comes to, from its parts.
-use Rattle.std.proofs.Common.{◌≡◌, ◌++◌, ℕ, List, ◌∷◌, codes, refl, ap, ◌∙◌, inr, append_assoc}
+use Rattle.std.proofs.Common.{◌≡◌, ◌++◌, ℕ, List, [], ◌∷◌, codes, decimal, refl, ap, ◌∙◌, inr, append_assoc}
 use Rattle.std.specs.Prelude.{Option, None, Some, flat_map}
 use Rattle.acs_tree.specs.declared.values.Values.{Values}
 use Rattle.desk_law.specs.Classification.{Classes, classes_of, trace_of}
@@ -10,13 +10,14 @@ use Rattle.sms_construct.specs.declared.trace.Trace.{Trace}
 use Rattle.sms_keeper.specs.Suits.{deck_of}
 use Rattle.sms_script.specs.TraceText.{trace_lines}
 use Rattle.sms_script.specs.declared.item.Item.{Item}
-use Rattle.sms_simulation.specs.OutcomeText.{behind}
+use Rattle.sms_script.specs.NameText.{spaced}
+use Rattle.sms_simulation.specs.OutcomeText.{behind, outcome_text}
 use Rattle.sms_simulation.specs.Simulation.{AreAsked, first_misplaced, first_other, misplaced_from}
 use Rattle.sms_simulation.specs.declared.simulated.Simulated.{Simulated}
 use Rattle.sms_simulation.specs.declared.simulated.Simulated.TheVariants as simulations
 use Rattle.sms_story.specs.Runs.{runs_of}
 use Rattle.sms_story.specs.declared.run.Run.{Run}
-use Rattle.sms_explain.specs.Explanation.{IsExplainedUnder, IsExplanation, end_text, head_text, told_text}
+use Rattle.sms_explain.specs.Explanation.{IsExplainedUnder, IsExplanation, end_text, front_text, head_text, told_text}
 use Rattle.sms_explain.specs.RunText.{run_text}
 use Rattle.sms_explain.specs.declared.deck_sources.DeckSources.{DeckSources}
 
@@ -34,8 +35,17 @@ explained_under first others deck (simulations.Misplaced line) activates allocat
 pub misplaced_behind : (first : Item) (others : List Item) (deck : List ℕ) (line : ℕ) → deck_of first.request.op ≡ Some deck → first_other others ≡ Some line → first_misplaced (first ∷ others) ≡ Some line
 misplaced_behind first others deck line activates other = ap (λ (d : Option (List ℕ)). misplaced_from d first others) activates ∙ other
 
-joined : (before head runs line feed lines : List ℕ) → (((before ++ head) ++ runs) ++ (line ++ feed)) ++ lines ≡ before ++ (head ++ (runs ++ (line ++ (feed ++ lines))))
-joined before head runs line feed lines = simp append_assoc
+-- parts of a text, one behind the other
+pub in_three : (before one two three first second now : List ℕ) → first ≡ before ++ one → second ≡ first ++ two → now ≡ second ++ three → now ≡ before ++ (one ++ (two ++ three))
+in_three before one two three first second now e f g =
+    g ∙ ap (λ (x : List ℕ). x ++ three) (f ∙ ap (λ (x : List ℕ). x ++ two) e) ∙ simp append_assoc
+
+joined : (before head runs front end feed lines : List ℕ) → (((before ++ head) ++ runs) ++ (front ++ (end ++ feed))) ++ lines ≡ before ++ (head ++ (runs ++ (front ++ (end ++ (feed ++ lines)))))
+joined before head runs front end feed lines = simp append_assoc
+
+-- a line of three words and what stands behind them
+worded : (line job number end rest : List ℕ) → (line ++ (codes " " ++ (job ++ (codes " " ++ (number ++ codes " "))))) ++ (end ++ rest) ≡ spaced (line ∷ job ∷ number ∷ end ∷ []) ++ rest
+worded line job number end rest = simp append_assoc
 
 -- the parts of what is told of an ALLOC, one behind the other
 pub told_parts : (config : Configuration) (sources : DeckSources) (item : Item) (alloc : Alloc) (before one two three now : List ℕ) (runs : List Run) (values : Values) (stop : Stop) (trace : Trace)
@@ -56,4 +66,6 @@ told_parts config sources item alloc before one two three now runs values stop t
     ∙ ap (λ (s : Stop). text all_runs s values trace) stop_is
     ∙ ap (λ (v : Values). text all_runs classes.stop v trace) values_are
     ∙ ap (λ (t : Trace). text all_runs classes.stop classes.values t) trace_is
-    ∙ joined before (head_text item alloc) (flat_map (run_text sources) all_runs) _ (codes "\n") (lines (trace_of classes))
+    ∙ joined before (head_text item alloc) (flat_map (run_text sources) all_runs) (front_text item) (outcome_text classes.stop classes.values) (codes "\n") (lines (trace_of classes))
+    ∙ ap (λ (x : List ℕ). before ++ (head_text item alloc ++ (flat_map (run_text sources) all_runs ++ x)))
+    (worded (decimal item.line) item.request.job (decimal item.request.number) (outcome_text classes.stop classes.values) (codes "\n" ++ lines (trace_of classes)))

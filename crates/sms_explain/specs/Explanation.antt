@@ -9,7 +9,7 @@ use Rattle.sms_construct.specs.declared.fault.Fault.{Fault}
 use Rattle.sms_construct.specs.declared.stop.Stop.{Stop}
 use Rattle.sms_deck.specs.Reading.{Configures, HasFirstFault}
 use Rattle.sms_script.specs.declared.item.Item.{Item}
-use Rattle.sms_simulation.specs.OutcomeText.{outcome_line, text_of_classes}
+use Rattle.sms_simulation.specs.OutcomeText.{outcome_text, text_of_classes}
 use Rattle.sms_simulation.specs.Simulation.{AreAsked, RefusesDeck, ShowsNothing, alloc_of, first_misplaced}
 use Rattle.sms_simulation.specs.declared.simulated.Simulated.{Simulated}
 use Rattle.sms_simulation.specs.declared.simulated.Simulated.TheVariants as simulations
@@ -27,10 +27,9 @@ front_text item =
 abbrev pub head_text : Item → Alloc → List ℕ
 head_text item alloc = front_text item ++ codes "ALLOC " ++ alloc.input.dsn ++ codes "\n"
 
--- the line behind them, as a simulation prints it: how the classification ends
+-- the line behind them: how the classification ends
 abbrev pub end_text : Item → Stop → Values → List ℕ
-end_text item stop values =
-    outcome_line item.line item.request.job item.request.number stop values ++ codes "\n"
+end_text item stop values = front_text item ++ outcome_text stop values ++ codes "\n"
 
 -- what is told of the ALLOC of an item: each run, and then what the classification comes to, as a simulation prints it
 abbrev pub told_text : Configuration → DeckSources → Item → Alloc → List ℕ

@@ -128,7 +128,8 @@ fn push_head(text: &mut Vec<u8>, item: &Item, allocation: &Alloc) -> Result<(), 
     push_front(text, item)?;
     push_word_and_blank(text, b"ALLOC")?;
     text.extend_from_slice(allocation.input.dsn().bytes())?;
-    text.extend_from_slice(b"\n")
+    text.extend_from_slice(b"\n")?;
+    Ok(())
 }
 
 fn push_end(text: &mut Vec<u8>, item: &Item, classified: &Classified) -> Result<(), AllocError>
@@ -137,7 +138,8 @@ fn push_end(text: &mut Vec<u8>, item: &Item, classified: &Classified) -> Result<
 {
     push_front(text, item)?;
     push_outcome(text, classified.stop, &classified.values)?;
-    text.extend_from_slice(b"\n")
+    text.extend_from_slice(b"\n")?;
+    Ok(())
 }
 
 // The line of an item in its script, its job and its number.
