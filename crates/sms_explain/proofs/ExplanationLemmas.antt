@@ -17,7 +17,7 @@ use Rattle.sms_simulation.specs.declared.simulated.Simulated.{Simulated}
 use Rattle.sms_simulation.specs.declared.simulated.Simulated.TheVariants as simulations
 use Rattle.sms_story.specs.Runs.{runs_of}
 use Rattle.sms_story.specs.declared.run.Run.{Run}
-use Rattle.sms_explain.specs.Explanation.{IsExplainedUnder, IsExplanation, end_text, front_text, head_text, told_text}
+use Rattle.sms_explain.specs.Explanation.{IsExplainedUnder, IsExplanation, end_text, head_text, told_text}
 use Rattle.sms_explain.specs.RunText.{run_text}
 use Rattle.sms_explain.specs.declared.deck_sources.DeckSources.{DeckSources}
 
@@ -36,16 +36,19 @@ pub misplaced_behind : (first : Item) (others : List Item) (deck : List ℕ) (li
 misplaced_behind first others deck line activates other = ap (λ (d : Option (List ℕ)). misplaced_from d first others) activates ∙ other
 
 -- parts of a text, one behind the other
-pub in_three : (before one two three first second now : List ℕ) → first ≡ before ++ one → second ≡ first ++ two → now ≡ second ++ three → now ≡ before ++ (one ++ (two ++ three))
+pub in_three : (before one two three first second now : List ℕ) → first ≡ before ++ one → second ≡ first ++ two → now ≡ second ++ three → now ≡ before ++ (one ++ two ++ three)
 in_three before one two three first second now e f g =
     g ∙ ap (λ (x : List ℕ). x ++ three) (f ∙ ap (λ (x : List ℕ). x ++ two) e) ∙ simp append_assoc
 
-joined : (before head runs front end feed lines : List ℕ) → (((before ++ head) ++ runs) ++ (front ++ (end ++ feed))) ++ lines ≡ before ++ (head ++ (runs ++ (front ++ (end ++ (feed ++ lines)))))
-joined before head runs front end feed lines = simp append_assoc
+pub in_four : (before one two three four first second third now : List ℕ) → first ≡ before ++ one → second ≡ first ++ two → third ≡ second ++ three → now ≡ third ++ four
+    → now ≡ before ++ (one ++ two ++ three ++ four)
+in_four before one two three four first second third now e f g h =
+    h ∙ ap (λ (x : List ℕ). x ++ four) (in_three before one two three first second third e f g) ∙ simp append_assoc
 
--- a line of three words and what stands behind them
-worded : (line job number end rest : List ℕ) → (line ++ (codes " " ++ (job ++ (codes " " ++ (number ++ codes " "))))) ++ (end ++ rest) ≡ spaced (line ∷ job ∷ number ∷ end ∷ []) ++ rest
-worded line job number end rest = simp append_assoc
+joined : (line job number before head runs end lines : List ℕ)
+    → (((before ++ head) ++ runs) ++ ((line ++ codes " " ++ job ++ codes " " ++ number ++ codes " ") ++ end ++ codes "\n")) ++ lines
+    ≡ before ++ (head ++ runs ++ (spaced (line ∷ job ∷ number ∷ end ∷ []) ++ 10 ∷ [] ++ lines))
+joined line job number before head runs end lines = simp append_assoc
 
 -- the parts of what is told of an ALLOC, one behind the other
 pub told_parts : (config : Configuration) (sources : DeckSources) (item : Item) (alloc : Alloc) (before one two three now : List ℕ) (runs : List Run) (values : Values) (stop : Stop) (trace : Trace)
@@ -66,6 +69,4 @@ told_parts config sources item alloc before one two three now runs values stop t
     ∙ ap (λ (s : Stop). text all_runs s values trace) stop_is
     ∙ ap (λ (v : Values). text all_runs classes.stop v trace) values_are
     ∙ ap (λ (t : Trace). text all_runs classes.stop classes.values t) trace_is
-    ∙ joined before (head_text item alloc) (flat_map (run_text sources) all_runs) (front_text item) (outcome_text classes.stop classes.values) (codes "\n") (lines (trace_of classes))
-    ∙ ap (λ (x : List ℕ). before ++ (head_text item alloc ++ (flat_map (run_text sources) all_runs ++ x)))
-    (worded (decimal item.line) item.request.job (decimal item.request.number) (outcome_text classes.stop classes.values) (codes "\n" ++ lines (trace_of classes)))
+    ∙ joined (decimal item.line) item.request.job (decimal item.request.number) before (head_text item alloc) (flat_map (run_text sources) all_runs) (outcome_text classes.stop classes.values) (lines (trace_of classes))

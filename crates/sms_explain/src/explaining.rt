@@ -2,6 +2,7 @@
 ghost use Rattle.std.specs.Prelude.{◌≡◌, ◌++◌, ◌∷◌, flat_map, map, IfOk, OnOk};
 ghost use Rattle.sms_script.specs.Script.{items_of};
 ghost use Rattle.desk_law.specs.Classification.{classes_of};
+ghost use Rattle.sms_explain.specs.DeckTexts.{AreSources};
 ghost use Rattle.sms_explain.specs.Explanation.{IsExplainedUnder, IsExplanation, end_text, front_text};
 ghost use Rattle.sms_explain.specs.Explanation.{head_text, told_of, told_text};
 
@@ -56,13 +57,20 @@ fn explain_under(alloc: Global, deck: &DeckText, others: &[&Item]) -> Result<Sim
 {
     match read_deck(alloc, deck) {
         Ok(config) => {
-            let sources = DeckSources::of(alloc, deck.get().as_slice())?;
+            let sources = sources_of(alloc, deck)?;
             let text = text_of(alloc, &config, &sources, others)?;
             Ok(Simulated::Shown(Items::from_vec(text)))
         }
         Err(DeckErr::Fault(fault)) => Ok(Simulated::Refused(fault)),
         Err(DeckErr::NoMemory) => Err(AllocError),
     }
+}
+
+fn sources_of(alloc: Global, deck: &DeckText) -> Result<DeckSources, AllocError>
+    ensures { IfOk result (AreSources deck.now) }
+{
+    let sources = DeckSources::of(alloc, deck.get().as_slice())?;
+    Ok(sources)
 }
 
 // What is told of the items.
@@ -126,7 +134,7 @@ fn push_head(text: &mut Vec<u8>, item: &Item, allocation: &Alloc) -> Result<(), 
     ensures { OnOk result (text.new.items ≡ text.old.items ++ head_text item.now allocation.now) }
 {
     push_front(text, item)?;
-    push_word_and_blank(text, b"ALLOC")?;
+    text.extend_from_slice(b"ALLOC ")?;
     text.extend_from_slice(allocation.input.dsn().bytes())?;
     text.extend_from_slice(b"\n")?;
     Ok(())
