@@ -1,6 +1,7 @@
 //! A listener and the streams that came through it.
 ghost use Rattle.std.specs.Prelude.{◌≡◌, false, IfSome, None};
 ghost use Rattle.desk_common.specs.Causes.{HasCause};
+ghost use Rattle.ready_wires.specs.Wires.{no_marks, no_watch};
 
 use crate::wire::TcpWire;
 use mio::net::TcpListener;
@@ -72,7 +73,8 @@ impl<'a, R: Net + Clock> PollDoor<'a, R> {
     // The next connection that waits at the listener. Where asking fails, as for want of descriptors, it is asked again
     // when a connection leaves or the wait is over.
     fn accept(&mut self) -> Option<TcpWire>
-        ensures fresh { IfSome result (λ wire. wire.faults ≡ 0) }
+        ensures marks { IfSome result (λ wire. wire.marks ≡ no_marks) }
+        ensures watch { IfSome result (λ wire. wire.watch ≡ no_watch) }
         ensures faults { self.new.faults ≡ self.old.faults }
     {
         match self.listener.accept() {
@@ -142,6 +144,7 @@ impl<'a, R: Net + Clock> Readiness for PollDoor<'a, R> {
 
     ghost seen = { λ d. record {
       calls = None;
+      came = None;
       idle = None;
       awaited = None;
       ended = false;
@@ -179,21 +182,29 @@ impl<'a, R: Net + Clock> Readiness for PollDoor<'a, R> {
     fn watch(&mut self, conn: &mut TcpWire, key: usize) -> Result<(), Failed> {
         let both = Interest::READABLE | Interest::WRITABLE;
         let registry = self.poll.registry();
-        let watched = match conn.key {
+        let watched = match conn.watch.key {
             Some(_) => registry.reregister(&mut conn.stream, Token(key), both),
             None => registry.register(&mut conn.stream, Token(key), both),
         };
         if watched.is_err() {
             self.faults = self.faults.saturating_add(1);
+            conn.watch.failed = true;
             return Err(Failed);
         }
-        conn.key = Some(key);
+        conn.watch.begin(key, None, conn.marks.tried);
+        conn.marks.tried = false;
         self.touch(key);
         Ok(())
     }
 
+    // The system tells each change of a stream that it watches.
+    fn rest(&mut self, conn: &mut TcpWire, _key: usize) {
+        conn.watch.rest(conn.marks.tried);
+        conn.marks.tried = false;
+    }
+
     fn done(&mut self, conn: TcpWire) {
-        if let Some(key) = conn.key {
+        if let Some(key) = conn.watch.key {
             if key < self.active.len() {
                 self.active[key] = None;
             }

@@ -1,8 +1,9 @@
 //! A stream whose calls never wait.
-ghost use Rattle.std.specs.Prelude.{◌≡◌, None};
+ghost use Rattle.std.specs.Prelude.{◌≡◌, IfOk, None, Some};
+ghost use Rattle.ready_wires.specs.Wires.{TakesSome, no_marks, no_watch};
 
 use mio::net::TcpStream;
-use ready_wires::Wire;
+use ready_wires::{Marks, Watch, Wire};
 use sms_base::Failed;
 use std::io;
 use std::io::{Read, Write};
@@ -11,82 +12,63 @@ use std::io::{Read, Write};
 #[derive(Drop)]
 pub struct TcpWire {
     pub(crate) stream: TcpStream,
-    /// The key under which it is watched.
-    pub(crate) key: Option<usize>,
-    pub(crate) ended: bool,
-    pub(crate) faults: u64,
-    pub(crate) read_waits: bool,
-    pub(crate) write_waits: bool,
+    pub(crate) marks: Marks,
+    pub(crate) watch: Watch,
 }
 
 impl TcpWire {
     // A stream that came just now.
     pub(crate) fn new(stream: TcpStream) -> Self
-        ensures { result.faults ≡ 0 }
+        ensures marks { result.marks ≡ no_marks }
+        ensures watch { result.watch ≡ no_watch }
     {
         TcpWire {
             stream,
-            key: None,
-            ended: false,
-            faults: 0,
-            read_waits: false,
-            write_waits: false,
+            marks: Marks::new(),
+            watch: Watch::new(),
         }
     }
 }
 
 impl Wire for TcpWire {
-    ghost seen = { λ w. record {
-      came = None;
-      taken = None;
-      ended = w.ended;
-      faults = w.faults;
-      watched = w.key;
-      read_waits = w.read_waits;
-      write_waits = w.write_waits;
-    } };
+    ghost seen = { λ w. record { came = None; taken = None; marks = w.marks; watch = w.watch } };
 
     fn read(&mut self, buf: &mut [u8]) -> Result<Option<usize>, Failed> {
-        self.read_waits = false;
-        match self.stream.read(buf) {
-            Ok(count) => {
-                self.ended = count == 0;
-                Ok(Some(count))
-            }
-            Err(error) => {
-                if would_wait(&error) {
-                    self.read_waits = true;
-                    return Ok(None);
-                }
-                self.faults = self.faults.saturating_add(1);
-                Err(Failed)
-            }
-        }
+        let result = match self.stream.read(buf) {
+            Ok(count) => Ok(Some(count)),
+            Err(error) => waited_or_failed(&error),
+        };
+        self.marks.read(buf.len(), result);
+        result
     }
 
     fn write(&mut self, piece: &[u8]) -> Result<Option<usize>, Failed> {
-        self.write_waits = false;
-        match self.stream.write(piece) {
-            Ok(count) => {
-                if count == 0 && !piece.is_empty() {
-                    self.faults = self.faults.saturating_add(1);
-                    return Err(Failed);
-                }
-                Ok(Some(count))
-            }
-            Err(error) => {
-                if would_wait(&error) {
-                    self.write_waits = true;
-                    return Ok(None);
-                }
-                self.faults = self.faults.saturating_add(1);
-                Err(Failed)
-            }
-        }
+        let result = match self.stream.write(piece) {
+            Ok(count) => some_or_failed(count, piece),
+            Err(error) => waited_or_failed(&error),
+        };
+        self.marks.wrote(result);
+        result
     }
 }
 
-// Whether the call would have waited.
-pub(crate) fn would_wait(error: &io::Error) -> bool {
-    error.kind() == io::ErrorKind::WouldBlock
+// So many bytes of the piece were taken; that none was of one that has some is a failure.
+fn some_or_failed(count: usize, piece: &[u8]) -> Result<Option<usize>, Failed>
+    ensures some { TakesSome result piece.now }
+    ensures count { IfOk result (λ taken. taken ≡ Some count) }
+{
+    if count == 0 && !piece.is_empty() {
+        return Err(Failed);
+    }
+    Ok(Some(count))
+}
+
+// The call would have waited, or it failed.
+fn waited_or_failed(error: &io::Error) -> Result<Option<usize>, Failed>
+    ensures { IfOk result (λ count. count ≡ None) }
+{
+    if error.kind() == io::ErrorKind::WouldBlock {
+        return Ok(None);
+    }
+    Err(Failed)
 }

@@ -1,14 +1,17 @@
 -- What contracts see of who tells when connections are ready.
 use Rattle.std.specs.Prelude.{ℕ, Bool, true, ◌≡◌, ◌≢◌, ◌⊎◌, List, [], ◌∷◌, ◌++◌, Option, None, Some, Result, Ok, Err}
-use Rattle.std.specs.Prelude.{⊤, MatchOption, Contains}
-use Rattle.ready_wires.specs.Wires.{WireSeen, IsTold}
+use Rattle.std.specs.Prelude.{⊤, MatchOption, Contains, ◌≤◌, option_map, length, drop}
+use Rattle.sms_base.specs.Counts.{one_call_more}
+use Rattle.ready_wires.specs.Wires.{WireSeen, IsTold, no_marks, no_watch}
 use Rattle.ready_wires.specs.declared.readiness.Event.{Event}
 use Rattle.ready_wires.specs.declared.readiness.Event.TheVariants as events
 
--- how often an event was asked for, where that is told; the keys that were told of as idle, and those that are still to
--- be told of as ready, where they are told; whether nothing more happens; and how often a call failed
+-- how often an event was asked for and how many connections came, where that is told; the keys that were told of as
+-- idle, and those that are still to be told of as ready, where they are told; whether nothing more happens; and how
+-- often a call failed
 pub record ReadySeen : Type 0 where
   pub calls : Option ℕ
+  pub came : Option ℕ
   pub idle : Option (List ℕ)
   pub awaited : Option (List ℕ)
   pub ended : Bool
@@ -27,16 +30,40 @@ IsAmong told key = MatchOption told ⊤ (λ keys. Contains keys key)
 abbrev pub IsAwaited : Option (List ℕ) → ℕ → Type 0
 IsAwaited told key = IsAmong told key
 
+-- where it is told, so many keys were told of
+abbrev pub count_told : Option (List ℕ) → Option ℕ
+count_told told = option_map (λ keys. length keys) told
+
+-- where keys are told, this is one of those behind the first ones, of which there were so many
+abbrev pub WasToldSince : Option ℕ → Option (List ℕ) → ℕ → Type 0
+WasToldSince since told key = MatchOption since ⊤ (λ count. IsAmong (option_map (λ keys. drop count keys) told) key)
+
+-- where keys are told, this is none of those behind the first ones, of which there were so many
+abbrev pub IsQuietSince : Option ℕ → Option (List ℕ) → ℕ → Type 0
+IsQuietSince since told key =
+    MatchOption since ⊤ (λ count. MatchOption told ⊤
+    (λ keys. (count ≤ length keys) × (Contains (drop count keys) key → ⊥)))
+
 module _ {C E : Type 0} where
-  -- it came with no bytes read and none taken, and no call of it failed
+  -- it came with no bytes read and none taken, and no call was made of it
   abbrev pub IsFresh : (C → WireSeen) → Result (Event C) E → Type 0
   IsFresh seen (Ok (events.Came conn)) =
-      IsTold (seen conn).came [] × IsTold (seen conn).taken [] × ((seen conn).faults ≡ 0)
+      IsTold (seen conn).came [] × IsTold (seen conn).taken [] × ((seen conn).marks ≡ no_marks)
+      × ((seen conn).watch ≡ no_watch)
   IsFresh seen (Ok (events.Ready key)) = ⊤
   IsFresh seen (Ok (events.Idle key)) = ⊤
   IsFresh seen (Ok events.Quiet) = ⊤
   IsFresh seen (Ok events.Ended) = ⊤
   IsFresh seen (Err e) = ⊤
+
+  -- how many connections came, with this event's
+  abbrev pub came_after : Option ℕ → Result (Event C) E → Option ℕ
+  came_after came (Ok (events.Came conn)) = one_call_more came
+  came_after came (Ok (events.Ready key)) = came
+  came_after came (Ok (events.Idle key)) = came
+  came_after came (Ok events.Quiet) = came
+  came_after came (Ok events.Ended) = came
+  came_after came (Err e) = came
 
   -- the keys that were told of as idle, with this event's
   abbrev pub TellsIdle : Option (List ℕ) → Option (List ℕ) → Result (Event C) E → Type 0

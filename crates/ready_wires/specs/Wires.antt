@@ -1,17 +1,24 @@
 -- What contracts see of a connection whose calls never wait.
-use Rattle.std.specs.Prelude.{ℕ, Bool, true, false, ◌<◌, zero, suc, ◌≡◌, ◌≤◌, List, [], ◌++◌, take, length, Option}
-use Rattle.std.specs.Prelude.{None, Some, Result, Ok, Err, ⊤, MatchOption}
+use Rattle.std.specs.Prelude.{ℕ, Bool, true, false, ◌<◌, ◌||◌, ◌&&◌, zero, suc, not, ◌≡◌, ◌≤◌, List, [], ◌++◌, take}
+use Rattle.std.specs.Prelude.{length, Option, None, Some, is_some, Result, Ok, Err, ⊤, MatchOption, if◌then◌else◌}
+use Rattle.ready_wires.specs.declared.marks.Marks.{Marks}
+use Rattle.ready_wires.specs.declared.watch.Watch.{Watch}
 
--- all bytes that were read of it and all that it took, where they are told; whether its input has ended; how often a
--- call failed; the key under which it is watched; and whether the last read and the last write would have waited
+-- all bytes that were read of it and all that it took, where they are told; what its calls came to; and how it is
+-- watched
 pub record WireSeen : Type 0 where
   pub came : Option (List ℕ)
   pub taken : Option (List ℕ)
-  pub ended : Bool
-  pub faults : ℕ
-  pub watched : Option ℕ
-  pub read_waits : Bool
-  pub write_waits : Bool
+  pub marks : Marks
+  pub watch : Watch
+
+-- no call was made of it
+abbrev pub no_marks : Marks
+no_marks = record { ended = false; failed = false; read_waits = false; write_waits = false; tried = false }
+
+-- it was never watched
+abbrev pub no_watch : Watch
+no_watch = record { key = None; since = None; rests = false; vain = false; failed = false }
 
 -- where bytes are told, they are these
 abbrev pub IsTold : Option (List ℕ) → List ℕ → Type 0
@@ -39,15 +46,60 @@ TakesSome (Ok (Some count)) piece = 0 < length piece → 0 < count
 TakesSome (Ok None) piece = ⊤
 TakesSome (Err e) piece = ⊤
 
--- a read of nothing into a buffer that has room is the end of the input
-abbrev pub EndsAt : {E : Type 0} → Bool → Result (Option ℕ) E → List ℕ → Type 0
-EndsAt ended (Ok (Some zero)) buf = 0 < length buf → ended ≡ true
-EndsAt ended (Ok (Some (suc count))) buf = ⊤
-EndsAt ended (Ok None) buf = ⊤
-EndsAt ended (Err e) buf = ⊤
+-- a read gave nothing: into a buffer of so many bytes, of which there are some, that is the end of the input
+abbrev pub ends_at : Bool → ℕ → Bool
+ends_at ended zero = ended
+ends_at ended (suc room) = true
 
--- the call would have waited
-abbrev pub would_wait : {E : Type 0} → Result (Option ℕ) E → Bool
-would_wait (Ok (Some count)) = false
-would_wait (Ok None) = true
-would_wait (Err e) = false
+-- what a read into so many bytes makes of the marks
+abbrev pub after_read : {E : Type 0} → Marks → ℕ → Result (Option ℕ) E → Marks
+after_read marks room (Ok (Some zero)) = record marks { ended = ends_at marks.ended room; read_waits = false }
+after_read marks room (Ok (Some (suc count))) = record marks { ended = false; read_waits = false; tried = true }
+after_read marks room (Ok None) = record marks { read_waits = true; tried = true }
+after_read marks room (Err e) = record marks { failed = true; read_waits = false }
+
+-- what a write makes of them
+abbrev pub after_write : {E : Type 0} → Marks → Result (Option ℕ) E → Marks
+after_write marks (Ok (Some zero)) = record marks { write_waits = false }
+after_write marks (Ok (Some (suc count))) = record marks { write_waits = false; tried = true }
+after_write marks (Ok None) = record marks { write_waits = true; tried = true }
+after_write marks (Err e) = record marks { failed = true; write_waits = false }
+
+-- how many keys had been told of as idle when it was watched first
+abbrev pub since_first : Watch → Option ℕ → Option ℕ
+since_first watch told = if is_some watch.key then watch.since else told
+
+-- watching it again is vain where no call since gave or took bytes or would have waited
+abbrev pub vain_again : Watch → Bool → Bool
+vain_again watch tried = watch.vain || (is_some watch.key && not tried)
+
+-- a connection that is watched under this key, when so many keys had been told of as idle
+abbrev pub watched_under : ℕ → Option ℕ → WireSeen → WireSeen
+watched_under key told wire =
+    record wire {
+      marks = record wire.marks { tried = false };
+      watch = record {
+        key = Some key;
+        since = since_first wire.watch told;
+        rests = false;
+        vain = vain_again wire.watch wire.marks.tried;
+        failed = false;
+      };
+    }
+
+-- a connection that couldn't be watched
+abbrev pub not_watched : WireSeen → WireSeen
+not_watched wire = record wire { watch = record wire.watch { failed = true } }
+
+-- what watching it makes of a connection
+abbrev pub after_watch : {T E : Type 0} → ℕ → Option ℕ → WireSeen → Result T E → WireSeen
+after_watch key told wire (Ok unit) = watched_under key told wire
+after_watch key told wire (Err e) = not_watched wire
+
+-- what laying it to rest makes of it, which is vain where no call gave or took bytes or would have waited since
+abbrev pub after_rest : WireSeen → WireSeen
+after_rest wire =
+    record wire {
+      marks = record wire.marks { tried = false };
+      watch = record wire.watch { rests = true; vain = vain_again wire.watch wire.marks.tried };
+    }

@@ -29,9 +29,12 @@ pub enum Happening {
 pub struct MemReadiness {
     script: VecDeque<Happening>,
     awaited: Vec<usize>,
+    // Whether memory for a key that is still to be told of was wanting.
+    forgot: bool,
     idle: Option<Vec<usize>>,
     back: Option<Vec<MemWire>>,
     calls: u64,
+    came: u64,
     ended: bool,
     faults: u64,
     watches: u64,
@@ -39,7 +42,7 @@ pub struct MemReadiness {
 }
 
 impl Model for MemReadiness {
-    ghost use Rattle.std.specs.Prelude.{Some, option_map};
+    ghost use Rattle.std.specs.Prelude.{Some, None, option_map, if◌then◌else◌};
     ghost use Rattle.ready_wires.specs.Memory.{ReadinessInMemory};
     ghost use Rattle.ready_wires.specs.Memory.{WireInMemory};
     ghost use Rattle.ready_wires.specs.declared.mem_readiness.Happening.{Happening as HappeningOf};
@@ -49,8 +52,9 @@ impl Model for MemReadiness {
     ghost view = { λ r. record {
       seen = record {
         calls = Some r.calls;
+        came = Some r.came;
         idle = option_map (λ v. v.items) r.idle;
-        awaited = Some r.awaited.items;
+        awaited = if r.forgot then None else Some r.awaited.items;
         ended = r.ended;
         faults = r.faults;
       };
@@ -68,14 +72,17 @@ impl MemReadiness {
         ensures fails { result.fails ≡ fails.items }
         ensures back { result.back ≡ Some [] }
         ensures calls { result.seen.calls ≡ Some 0 }
+        ensures came { result.seen.came ≡ Some 0 }
         ensures faults { result.seen.faults ≡ 0 }
     {
         MemReadiness {
             script: VecDeque::from(script),
             awaited: Vec::new(alloc),
+            forgot: false,
             idle: Some(Vec::new(alloc)),
             back: Some(Vec::new(alloc)),
             calls: 0,
+            came: 0,
             ended: false,
             faults: 0,
             watches: 0,
@@ -104,7 +111,10 @@ impl Readiness for MemReadiness {
     fn next(&mut self) -> Result<Event<MemWire>, Failed> {
         self.calls = self.calls.saturating_add(1);
         match self.script.pop_front() {
-            Some(Happening::Came(wire)) => Ok(Event::Came(wire.afresh())),
+            Some(Happening::Came(wire)) => {
+                self.came = self.came.saturating_add(1);
+                Ok(Event::Came(wire.afresh()))
+            }
             Some(Happening::Ready(key)) => Ok(Event::Ready(key)),
             Some(Happening::Idle(key)) => {
                 self.idle = pushed(self.idle.take(), key);
@@ -129,10 +139,18 @@ impl Readiness for MemReadiness {
         self.watches = self.watches.saturating_add(1);
         if self.fails.contains(&self.watches) || self.awaited.push(key).is_err() {
             self.faults = self.faults.saturating_add(1);
+            conn.not_watched();
             return Err(Failed);
         }
-        conn.watch(key);
+        conn.watch(key, self.idle.as_ref().map(|keys| keys.len()));
         Ok(())
+    }
+
+    fn rest(&mut self, conn: &mut MemWire, key: usize) {
+        if self.awaited.push(key).is_err() {
+            self.forgot = true;
+        }
+        conn.rest();
     }
 
     fn done(&mut self, conn: MemWire) {

@@ -1,8 +1,11 @@
 //! A connection in memory.
-ghost use Rattle.std.specs.Prelude.{◌≡◌, ◌≤◌, ◌<◌, ◌+◌, ◌-◌, ◌++◌, [], Some, None, true, false, length, take, min, max};
-ghost use Rattle.std.specs.Prelude.{vec_len};
+ghost use Rattle.std.specs.Prelude.{◌≡◌, ◌≤◌, ◌+◌, ◌-◌, ◌++◌, [], Some, length, take, min, vec_len};
 ghost use Rattle.ready_wires.specs.Memory.{WireInMemory};
+ghost use Rattle.ready_wires.specs.Wires.{Grows, IsWithin, TakesSome, after_rest, front_of, no_marks, no_watch, not_watched};
+ghost use Rattle.ready_wires.specs.Wires.{watched_under};
 
+use crate::marks::Marks;
+use crate::watch::Watch;
 use crate::wire::Wire;
 use sms_base::Failed;
 use std::collections::VecDeque;
@@ -29,11 +32,8 @@ pub struct MemWire {
     buffer: Vec<u8>,
     written: usize,
     writes: VecDeque<Turn>,
-    ended: bool,
-    faults: u64,
-    watched: Option<usize>,
-    read_waits: bool,
-    write_waits: bool,
+    marks: Marks,
+    watch: Watch,
 }
 
 impl Model for MemWire {
@@ -46,11 +46,8 @@ impl Model for MemWire {
       seen = record {
         came = Some (take w.read w.bytes.items);
         taken = Some (take w.written w.buffer.items);
-        ended = w.ended;
-        faults = w.faults;
-        watched = w.watched;
-        read_waits = w.read_waits;
-        write_waits = w.write_waits;
+        marks = w.marks;
+        watch = w.watch;
       };
       unread = drop w.read w.bytes.items;
       room = vec_len w.buffer - w.written;
@@ -70,7 +67,8 @@ impl MemWire {
         ensures writes { result.writes ≡ writes.items }
         ensures came { result.seen.came ≡ Some [] }
         ensures taken { result.seen.taken ≡ Some [] }
-        ensures faults { result.seen.faults ≡ 0 }
+        ensures marks { result.seen.marks ≡ no_marks }
+        ensures watch { result.seen.watch ≡ no_watch }
     {
         MemWire {
             bytes,
@@ -79,11 +77,8 @@ impl MemWire {
             buffer,
             written: 0,
             writes: VecDeque::from(writes),
-            ended: false,
-            faults: 0,
-            watched: None,
-            read_waits: false,
-            write_waits: false,
+            marks: Marks::new(),
+            watch: Watch::new(),
         }
     }
 
@@ -96,29 +91,74 @@ impl MemWire {
 
     /// The key under which it is watched.
     pub fn watched(&self) -> Option<usize>
-        ensures { result ≡ self.now.seen.watched }
+        ensures { result ≡ self.now.seen.watch.key }
     {
-        self.watched
+        self.watch.key
     }
 
     // The same connection at its beginning.
     pub(crate) fn afresh(self) -> Self
         ensures came { result.seen.came ≡ Some [] }
         ensures taken { result.seen.taken ≡ Some [] }
-        ensures faults { result.seen.faults ≡ 0 }
+        ensures marks { result.seen.marks ≡ no_marks }
+        ensures watch { result.seen.watch ≡ no_watch }
     {
         let mut wire = self;
         wire.read = 0;
         wire.written = 0;
-        wire.faults = 0;
+        wire.marks = Marks::new();
+        wire.watch = Watch::new();
         wire
     }
 
-    // It is watched under this key.
-    pub(crate) fn watch(&mut self, key: usize)
-        ensures { self.new ≡ record self.old { seen = record self.old.seen { watched = Some key } } }
+    // It is watched under this key; so many keys had been told of as idle.
+    pub(crate) fn watch(&mut self, key: usize, told: Option<usize>)
+        ensures { self.new ≡ record self.old { seen = watched_under key told self.old.seen } }
     {
-        self.watched = Some(key);
+        self.watch.begin(key, told, self.marks.tried);
+        self.marks.tried = false;
+    }
+
+    // It couldn't be watched.
+    pub(crate) fn not_watched(&mut self)
+        ensures { self.new ≡ record self.old { seen = not_watched self.old.seen } }
+    {
+        self.watch.failed = true;
+    }
+
+    // It is laid to rest.
+    pub(crate) fn rest(&mut self)
+        ensures { self.new ≡ record self.old { seen = after_rest self.old.seen } }
+    {
+        self.watch.rest(self.marks.tried);
+        self.marks.tried = false;
+    }
+
+    // Gives its next bytes into the front of the buffer, at most so many, and answers how many.
+    fn give(&mut self, buf: &mut [u8], most: usize) -> usize
+        ensures within { result ≤ length buf.new }
+        ensures came { Grows self.old.seen.came self.new.seen.came (take result buf.new) }
+        ensures rest { self.new.seen ≡ record self.old.seen { came = self.new.seen.came } }
+    {
+        let count = copy_front(&self.bytes[self.read..], buf, most);
+        self.read += count;
+        count
+    }
+
+    // Takes bytes from the front of the piece, at most so many; fails where no room is left.
+    fn keep(&mut self, piece: &[u8], most: usize) -> Result<Option<usize>, Failed>
+        requires { 1 ≤ most }
+        ensures within { IsWithin result piece.now }
+        ensures some { TakesSome result piece.now }
+        ensures taken { Grows self.old.seen.taken self.new.seen.taken (front_of result piece.now) }
+        ensures rest { self.new.seen ≡ record self.old.seen { taken = self.new.seen.taken } }
+    {
+        if self.written == self.buffer.len() && !piece.is_empty() {
+            return Err(Failed);
+        }
+        let count = put_at(&mut self.buffer, self.written, piece, most);
+        self.written += count;
+        Ok(Some(count))
     }
 }
 
@@ -126,46 +166,25 @@ impl Wire for MemWire {
     ghost seen = { λ w. w.seen };
 
     fn read(&mut self, buf: &mut [u8]) -> Result<Option<usize>, Failed> {
-        self.read_waits = false;
-        let most = match self.reads.pop_front() {
-            Some(Turn::Waits) => {
-                self.read_waits = true;
-                return Ok(None);
-            }
-            Some(Turn::Fails) => {
-                self.faults = self.faults.saturating_add(1);
-                return Err(Failed);
-            }
-            Some(Turn::Takes(most)) => most.max(1),
-            None => usize::MAX,
+        let result = match self.reads.pop_front() {
+            Some(Turn::Waits) => Ok(None),
+            Some(Turn::Fails) => Err(Failed),
+            Some(Turn::Takes(most)) => Ok(Some(self.give(buf, most.max(1)))),
+            None => Ok(Some(self.give(buf, usize::MAX))),
         };
-        self.ended = self.read == self.bytes.len();
-        let count = copy_front(&self.bytes[self.read..], buf, most);
-        self.read += count;
-        Ok(Some(count))
+        self.marks.read(buf.len(), result);
+        result
     }
 
     fn write(&mut self, piece: &[u8]) -> Result<Option<usize>, Failed> {
-        self.write_waits = false;
-        let most = match self.writes.pop_front() {
-            Some(Turn::Waits) => {
-                self.write_waits = true;
-                return Ok(None);
-            }
-            Some(Turn::Fails) => {
-                self.faults = self.faults.saturating_add(1);
-                return Err(Failed);
-            }
-            Some(Turn::Takes(most)) => most.max(1),
-            None => usize::MAX,
+        let result = match self.writes.pop_front() {
+            Some(Turn::Waits) => Ok(None),
+            Some(Turn::Fails) => Err(Failed),
+            Some(Turn::Takes(most)) => self.keep(piece, most.max(1)),
+            None => self.keep(piece, usize::MAX),
         };
-        if self.written == self.buffer.len() && !piece.is_empty() {
-            self.faults = self.faults.saturating_add(1);
-            return Err(Failed);
-        }
-        let count = put_at(&mut self.buffer, self.written, piece, most);
-        self.written += count;
-        Ok(Some(count))
+        self.marks.wrote(result);
+        result
     }
 }
 

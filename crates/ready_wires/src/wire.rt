@@ -1,7 +1,6 @@
 //! Connections whose calls never wait.
-ghost use Rattle.std.specs.Prelude.{◌≡◌};
-ghost use Rattle.desk_common.specs.Causes.{HasCause};
-ghost use Rattle.ready_wires.specs.Wires.{EndsAt, Grows, IsWithin, TakesSome, WireSeen, front_of, would_wait};
+ghost use Rattle.std.specs.Prelude.{◌≡◌, length};
+ghost use Rattle.ready_wires.specs.Wires.{Grows, IsWithin, TakesSome, WireSeen, after_read, after_write, front_of};
 
 use sms_base::Failed;
 
@@ -16,10 +15,8 @@ pub trait Wire {
         ensures bound { IsWithin result buf.new }
         ensures came { Grows (seen self.old).came (seen self.new).came (front_of result buf.new) }
         ensures taken { (seen self.new).taken ≡ (seen self.old).taken }
-        ensures end { EndsAt (seen self.new).ended result buf.new }
-        ensures waits { (seen self.new).read_waits ≡ would_wait result }
-        ensures watched { (seen self.new).watched ≡ (seen self.old).watched }
-        ensures cause { HasCause (seen self.old).faults (seen self.new).faults result };
+        ensures marks { (seen self.new).marks ≡ after_read (seen self.old).marks (length buf.new) result }
+        ensures watch { (seen self.new).watch ≡ (seen self.old).watch };
 
     /// Takes bytes from the front of the piece, and answers how many, at least one of a piece that has some; `None`
     /// where it would wait.
@@ -28,7 +25,6 @@ pub trait Wire {
         ensures some { TakesSome result piece.now }
         ensures taken { Grows (seen self.old).taken (seen self.new).taken (front_of result piece.now) }
         ensures came { (seen self.new).came ≡ (seen self.old).came }
-        ensures waits { (seen self.new).write_waits ≡ would_wait result }
-        ensures watched { (seen self.new).watched ≡ (seen self.old).watched }
-        ensures cause { HasCause (seen self.old).faults (seen self.new).faults result };
+        ensures marks { (seen self.new).marks ≡ after_write (seen self.old).marks result }
+        ensures watch { (seen self.new).watch ≡ (seen self.old).watch };
 }
