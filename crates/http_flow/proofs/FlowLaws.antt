@@ -1,5 +1,5 @@
 -- Pieces of a conversation, one after the other.
-use Rattle.std.proofs.Common.{◌≡◌, ◌≤◌, ◌<◌, ◌+◌, ℕ, false, List, [], ◌∷◌, ◌++◌, length, take, drop, refl, ap, sym, ◌∙◌, arith}
+use Rattle.std.proofs.Common.{◌≡◌, ◌≢◌, ◌⊎◌, ◌≤◌, ◌<◌, ◌+◌, ℕ, false, List, [], ◌∷◌, ◌++◌, length, take, drop, refl, ap, sym, ◌∙◌, arith}
 use Rattle.std.proofs.Common.{append-nil, append_assoc, take-append-drop, length-append, inl, inr}
 use lib.Seq.{drop-append-le}
 use Rattle.std.proofs.lemmas.List.{length-drop}
@@ -7,7 +7,7 @@ use Rattle.http_page.specs.Pages.{PageAsk}
 use Rattle.http_talk.specs.Hearing.{ClerkMoment}
 use Rattle.http_talk.specs.declared.talk.Talk.{Talk}
 use Rattle.http_flow.specs.Exchange.{Terms, Exchange, Reads, is_closed, due_for, FewBefore, PendsFor, Heard, most_due}
-use Rattle.http_flow.specs.Flow.{FlowView, StandsSo, IsFlow, IsKept, IsRefusedEarly, IsOneText, OwesFew, GoesOn, HasTurned, most_message}
+use Rattle.http_flow.specs.Flow.{FlowView, StandsSo, IsFlow, IsKept, IsFullOfSome, IsRefusedEarly, IsOneText, OwesFew, GoesOn, HasTurned, most_message}
 use Rattle.http_flow.specs.Inner.Fronts.{IsFront}
 use Rattle.http_flow.specs.declared.answering.Front.{Front}
 use Rattle.http_flow.specs.declared.answering.Front.TheVariants as fronts
@@ -104,6 +104,9 @@ kept_not v p is not waits = absurd (not (sym is ∙ waits))
 early_not : (before : List ℕ) (xs : List Exchange) (v : FlowView) (p : Phase) → v.phase ≡ p → ((status : ℕ) → p ≡ phases.Refused status → ⊥) → IsRefusedEarly before xs v
 early_not before xs v p is not status refused = absurd (not status (sym is ∙ refused))
 
+full_not : (v : FlowView) (p : Phase) → v.phase ≡ p → (p ≡ phases.Full → ⊥) → IsFullOfSome v
+full_not v p is not full = absurd (not (sym is ∙ full))
+
 module _ {S : Type 0} (terms : Terms) (shows : S → List Talk → PageAsk → Page → Type 0) where
   flows_on : (a b : ClerkMoment S) (old mid new : FlowView) (piece came taken : List ℕ) (xs : List Exchange) → mid.rest ≡ old.rest ++ piece → mid.due ≡ old.due → (h : HasTurned terms shows a b mid new) → IsOpen terms came taken xs old → IsFlow terms (came ++ piece) taken (xs ++ h.more) new
   flows_on a b old mid new piece came taken xs rest due h o = record {
@@ -119,14 +122,15 @@ module _ {S : Type 0} (terms : Terms) (shows : S → List Talk → PageAsk → P
     heard = h.heard;
     few = rw due at h.few;
     owes = rw due at (owes_so terms mid.due h.more h.rest new.due new.rest new.need new.phase h.few h.early h.stands);
+    full = h.full;
     kept = h.kept;
     shorter = omega (arith, h.shorter, ap length rest, length-append old.rest piece);
     flows = λ came taken xs f. flows_on a b old mid new piece came taken xs rest due h (opens came taken xs f);
   }
 
   -- nothing was heard
-  still : (a : ClerkMoment S) (old new : FlowView) (piece : List ℕ) → ((came taken : List ℕ) (xs : List Exchange) → IsFlow terms came taken xs old → IsFlow terms (came ++ piece) taken (xs ++ []) new) → IsKept new → new.due ≡ old.due → length new.rest ≤ length old.rest + length piece → GoesOn terms shows a a old new piece
-  still a old new piece h kept same shorter = record { more = []; heard = Heard-nil shows a; few = inl refl; owes = ([], inl (append-nil new.due ∙ same)); kept = kept; shorter = shorter; flows = h }
+  still : (a : ClerkMoment S) (old new : FlowView) (piece : List ℕ) → ((came taken : List ℕ) (xs : List Exchange) → IsFlow terms came taken xs old → IsFlow terms (came ++ piece) taken (xs ++ []) new) → IsFullOfSome new → IsKept new → new.due ≡ old.due → length new.rest ≤ length old.rest + length piece → GoesOn terms shows a a old new piece
+  still a old new piece h full kept same shorter = record { more = []; heard = Heard-nil shows a; few = inl refl; owes = ([], inl (append-nil new.due ∙ same)); full = full; kept = kept; shorter = shorter; flows = h }
 
   -- too few bytes came for more to be said
   short_flow : (old new : FlowView) (piece came taken : List ℕ) (xs : List Exchange) → old.phase ≡ phases.Waits → new ≡ record old { rest = old.rest ++ piece } → length (old.rest ++ piece) < old.need → IsFlow terms came taken xs old → IsFlow terms (came ++ piece) taken xs new
@@ -143,7 +147,7 @@ module _ {S : Type 0} (terms : Terms) (shows : S → List Talk → PageAsk → P
   goes_on_short a old new piece phase is short few =
       let rest : new.rest ≡ old.rest ++ piece = ap (λ (v : FlowView). v.rest) is in
       still a old new piece (λ came taken xs h. rw (append-nil xs) (short_flow old new piece came taken xs phase is short h))
-      (λ waits. omega (arith, ap length rest, short, few)) (ap (λ (v : FlowView). v.due) is) (omega (arith, ap length rest, length-append old.rest piece))
+      (full_not new phases.Waits (ap (λ (v : FlowView). v.phase) is ∙ phase) (λ e. cc e)) (λ waits. omega (arith, ap length rest, short, few)) (ap (λ (v : FlowView). v.due) is) (omega (arith, ap length rest, length-append old.rest piece))
 
   -- memory for the piece was wanting
   wanting_flow : (old new : FlowView) (piece came taken : List ℕ) (xs : List Exchange) → new.due ≡ old.due → new.phase ≡ phases.NoMemory → IsOpen terms came taken xs old → IsFlow terms (came ++ piece) taken xs new
@@ -154,17 +158,18 @@ module _ {S : Type 0} (terms : Terms) (shows : S → List Talk → PageAsk → P
 
   pub goes_on_wanting : (a : ClerkMoment S) (old new : FlowView) (piece : List ℕ) → old.phase ≡ phases.Waits → new.due ≡ old.due → new.phase ≡ phases.NoMemory → length new.rest ≤ length old.rest + length piece → GoesOn terms shows a a old new piece
   goes_on_wanting a old new piece before due phase shorter = still a old new piece (λ came taken xs h. rw (append-nil xs) (wanting_flow old new piece came taken xs due phase (open_waits terms came taken xs old before h)))
-      (kept_not new phases.NoMemory phase (λ e. cc e)) due shorter
+      (full_not new phases.NoMemory phase (λ e. cc e)) (kept_not new phases.NoMemory phase (λ e. cc e)) due shorter
 
   module _ (a b : ClerkMoment S) (old : FlowView) (buf before out : List ℕ) (sent : ℕ) (le : sent ≤ length before) (held : old.rest ≡ buf) (due : old.due ≡ drop sent before) where
-    turned_so : (new : FlowView) (f : Front) (h : IsFront terms shows a b buf before out f) → IsRefusedEarly (drop sent before) h.xs new → IsKept new → length new.rest ≤ length buf → StandsSo terms (drop sent before) h.xs h.rest new.due new.rest new.need new.phase → HasTurned terms shows a b old new
-    turned_so new f h early kept shorter stands = record {
+    turned_so : (new : FlowView) (f : Front) (h : IsFront terms shows a b buf before out f) → IsRefusedEarly (drop sent before) h.xs new → IsFullOfSome new → IsKept new → length new.rest ≤ length buf → StandsSo terms (drop sent before) h.xs h.rest new.due new.rest new.need new.phase → HasTurned terms shows a b old new
+    turned_so new f h early full kept shorter stands = record {
       more = h.xs;
       rest = h.rest;
       reads = rw held h.reads;
       heard = h.heard;
       few = rw due (few_after h.xs sent before h.few);
       early = rw due early;
+      full = full;
       kept = kept;
       shorter = rw held shorter;
       stands = rw due stands;
@@ -174,31 +179,35 @@ module _ {S : Type 0} (terms : Terms) (shows : S → List Talk → PageAsk → P
     turned_waits new at need h is =
         let v : FlowView = record { rest = drop at buf; need = need; due = drop sent out; phase = phases.Waits } in
         let pends : PendsFor terms.port (drop at buf) need = rw h.is_end.0 at h.is_end.3 in
-        rw is (turned_so v (fronts.Waits at need) h (early_not (drop sent before) h.xs v phases.Waits refl (λ status e. cc e)) (λ waits. pends_short terms.port (drop at buf) pends.now) (omega (arith, length-drop at buf))
+        rw is (turned_so v (fronts.Waits at need) h (early_not (drop sent before) h.xs v phases.Waits refl (λ status e. cc e)) (full_not v phases.Waits refl (λ e. cc e)) (λ waits. pends_short terms.port (drop at buf) pends.now) (omega (arith, length-drop at buf))
         (h.is_end.1, due_after sent before out (due_for h.xs) le h.is_end.2, sym h.is_end.0, h.is_end.3))
 
-    pub turned_full : (new : FlowView) (at need : ℕ) → IsFront terms shows a b buf before out (fronts.Full at) → new ≡ record { rest = drop at buf; need = need; due = drop sent out; phase = phases.Full } → HasTurned terms shows a b old new
-    turned_full new at need h is =
+    some_left : (xs : List Exchange) → (sent ≡ 0) ⊎ (sent < length before) → out ≡ before ++ due_for xs → most_due ≤ length out → drop sent out ≢ []
+    some_left xs (inl none) is full left = omega (arith, none, full, ap length left, length-drop sent out)
+    some_left xs (inr part) is full left = omega (arith, part, ap length is, length-append before (due_for xs), ap length left, length-drop sent out)
+
+    pub turned_full : (new : FlowView) (at need : ℕ) → (sent ≡ 0) ⊎ (sent < length before) → IsFront terms shows a b buf before out (fronts.Full at) → new ≡ record { rest = drop at buf; need = need; due = drop sent out; phase = phases.Full } → HasTurned terms shows a b old new
+    turned_full new at need part h is =
         let v : FlowView = record { rest = drop at buf; need = need; due = drop sent out; phase = phases.Full } in
-        rw is (turned_so v (fronts.Full at) h (early_not (drop sent before) h.xs v phases.Full refl (λ status e. cc e)) (kept_not v phases.Full refl (λ e. cc e)) (omega (arith, length-drop at buf))
+        rw is (turned_so v (fronts.Full at) h (early_not (drop sent before) h.xs v phases.Full refl (λ status e. cc e)) (λ e. some_left h.xs part h.is_end.2 h.is_end.3) (kept_not v phases.Full refl (λ e. cc e)) (omega (arith, length-drop at buf))
         (h.is_end.1, due_after sent before out (due_for h.xs) le h.is_end.2, sym h.is_end.0))
 
     pub turned_closed : (new : FlowView) (need : ℕ) → IsFront terms shows a b buf before out fronts.Closed → new ≡ record { rest = buf; need = need; due = drop sent out; phase = phases.Closed } → HasTurned terms shows a b old new
     turned_closed new need h is =
         let v : FlowView = record { rest = buf; need = need; due = drop sent out; phase = phases.Closed } in
-        rw is (turned_so v fronts.Closed h (early_not (drop sent before) h.xs v phases.Closed refl (λ status e. cc e)) (kept_not v phases.Closed refl (λ e. cc e)) (omega arith)
+        rw is (turned_so v fronts.Closed h (early_not (drop sent before) h.xs v phases.Closed refl (λ status e. cc e)) (full_not v phases.Closed refl (λ e. cc e)) (kept_not v phases.Closed refl (λ e. cc e)) (omega arith)
         (h.is_end.0, due_after sent before out (due_for h.xs) le h.is_end.1))
 
     pub turned_refused : (new : FlowView) (need status : ℕ) → IsFront terms shows a b buf before out (fronts.Refused status) → new ≡ record { rest = buf; need = need; due = drop sent out; phase = phases.Refused status } → HasTurned terms shows a b old new
     turned_refused new need status h is =
         let v : FlowView = record { rest = buf; need = need; due = drop sent out; phase = phases.Refused status } in
-        rw is (turned_so v (fronts.Refused status) h (λ told e. few_sent sent before (due_for h.xs) h.is_end.3) (kept_not v (phases.Refused status) refl (λ e. cc e)) (omega arith)
+        rw is (turned_so v (fronts.Refused status) h (λ told e. few_sent sent before (due_for h.xs) h.is_end.3) (full_not v (phases.Refused status) refl (λ e. cc e)) (kept_not v (phases.Refused status) refl (λ e. cc e)) (omega arith)
         (h.is_end.0, due_after sent before out (due_for h.xs ++ terms.refusal status) le h.is_end.1, h.is_end.2))
 
     pub turned_memory : (new : FlowView) (need : ℕ) → IsFront terms shows a b buf before out fronts.NoMemory → new ≡ record { rest = buf; need = need; due = drop sent out; phase = phases.NoMemory } → HasTurned terms shows a b old new
     turned_memory new need h is =
         let v : FlowView = record { rest = buf; need = need; due = drop sent out; phase = phases.NoMemory } in
-        rw is (turned_so v fronts.NoMemory h (early_not (drop sent before) h.xs v phases.NoMemory refl (λ status e. cc e)) (kept_not v phases.NoMemory refl (λ e. cc e)) (omega arith)
+        rw is (turned_so v fronts.NoMemory h (early_not (drop sent before) h.xs v phases.NoMemory refl (λ status e. cc e)) (full_not v phases.NoMemory refl (λ e. cc e)) (kept_not v phases.NoMemory refl (λ e. cc e)) (omega arith)
         (h.is_end.0, h.is_end.1, due_after sent before out h.is_end.0 le h.is_end.2, h.is_end.3))
 
   -- the buffer never falls behind what was sent

@@ -106,13 +106,13 @@ module _ {S : Type 0} (terms : Terms) (shows : S → List Talk → PageAsk → P
     }
 
   -- enough is due
-  pub front_full : (old new : ClerkMoment S) (buf before out : List ℕ) (at : ℕ) → HasAnswered terms shows old new buf at before out → IsFront terms shows old new buf before out (fronts.Full at)
-  front_full old new buf before out at h = record {
+  pub front_full : (old new : ClerkMoment S) (buf before out : List ℕ) (at : ℕ) → HasAnswered terms shows old new buf at before out → most_due ≤ length out → IsFront terms shows old new buf before out (fronts.Full at)
+  front_full old new buf before out at h full = record {
     xs = h.xs;
     rest = drop at buf;
     place = h.within;
     reads = h.reads;
     heard = h.heard;
     few = h.few;
-    is_end = (refl, h.goes_on, h.out_is);
+    is_end = (refl, h.goes_on, h.out_is, full);
   }

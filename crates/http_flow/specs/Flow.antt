@@ -1,5 +1,5 @@
 -- What is known of a connection while others are served between its pieces (docs/smsd.md, "The served desk").
-use Rattle.std.specs.Prelude.{◌≡◌, ◌<◌, ◌≤◌, ◌+◌, ◌⊎◌, ℕ, true, false, List, [], ◌++◌, length}
+use Rattle.std.specs.Prelude.{◌≡◌, ◌≢◌, ◌<◌, ◌≤◌, ◌+◌, ◌⊎◌, ℕ, true, false, List, [], ◌++◌, length}
 use Rattle.http_page.specs.Pages.{PageAsk}
 use Rattle.http_talk.specs.Hearing.{ClerkMoment}
 use Rattle.http_talk.specs.declared.talk.Talk.{Talk}
@@ -59,6 +59,10 @@ OwesFew terms before all = (missing : List ℕ) × ((all ++ missing ≡ before)
 abbrev pub IsRefusedEarly : List ℕ → List Exchange → FlowView → Type 0
 IsRefusedEarly before xs v = (status : ℕ) → v.phase ≡ phases.Refused status → length (before ++ due_for xs) < most_due
 
+-- where as many bytes are due as may be, some are
+abbrev pub IsFullOfSome : FlowView → Type 0
+IsFullOfSome v = v.phase ≡ phases.Full → v.due ≢ []
+
 module _ {S : Type 0} (terms : Terms) (shows : S → List Talk → PageAsk → Page → Type 0) where
   -- a piece came, and nothing but what it asked was heard: whatever came and was handed over before, it goes on so
   pub record GoesOn (clerk clerk' : ClerkMoment S) (old new : FlowView) (piece : List ℕ) : Type 0 where
@@ -66,6 +70,7 @@ module _ {S : Type 0} (terms : Terms) (shows : S → List Talk → PageAsk → P
     pub heard : Heard shows clerk clerk' more
     pub few : FewBefore old.due more
     pub owes : OwesFew terms old.due new.due
+    pub full : IsFullOfSome new
     pub kept : IsKept new
     pub shorter : length new.rest ≤ length old.rest + length piece
     pub flows : (came taken : List ℕ) (xs : List Exchange) → IsFlow terms came taken xs old
@@ -79,6 +84,7 @@ module _ {S : Type 0} (terms : Terms) (shows : S → List Talk → PageAsk → P
     pub heard : Heard shows clerk clerk' more
     pub few : FewBefore old.due more
     pub early : IsRefusedEarly old.due more new
+    pub full : IsFullOfSome new
     pub kept : IsKept new
     pub shorter : length new.rest ≤ length old.rest
     pub stands : StandsSo terms old.due more rest new.due new.rest new.need new.phase

@@ -1,5 +1,5 @@
 //! Conversations.
-ghost use Rattle.std.specs.Prelude.{◌≡◌, ◌≤◌, [], drop, length};
+ghost use Rattle.std.specs.Prelude.{◌≡◌, ◌≤◌, ◌<◌, ◌⊎◌, [], drop, length};
 ghost use Rattle.http_flow.specs.Flow.{GoesOn, HasTurned};
 
 use crate::answering::{Front, answer_front};
@@ -71,10 +71,6 @@ impl Conversation {
         ensures { self.new ≡ record self.old { due = drop count self.old.due } }
     {
         self.sent += count;
-        if self.sent == self.out.len() {
-            self.out.clear();
-            self.sent = 0;
-        }
     }
 
     /// A piece came: what it asks whole is answered by the clerk, as long as few bytes are due.
@@ -120,6 +116,7 @@ impl Conversation {
             (record { talks = C.talks clerk.new; start = C.begun clerk.new })
             self.old self.new }
     {
+        self.sent = forget_sent(&mut self.out, self.sent);
         match answer_front(alloc, routes, site, clerk, &self.buffer, &mut self.out) {
             Front::Waits { at, need } => {
                 drop_front(&mut self.buffer, at);
@@ -136,6 +133,20 @@ impl Conversation {
             Front::NoMemory => self.phase = Phase::NoMemory,
         }
     }
+}
+
+// Drops what was sent, where that is all. Says how many of the bytes that are left were sent.
+fn forget_sent(out: &mut Vec<u8>, sent: usize) -> usize
+    requires { sent ≤ length out.old.items }
+    ensures due { drop result out.new.items ≡ drop sent out.old.items }
+    ensures within { result ≤ length out.new.items }
+    ensures part { (result ≡ 0) ⊎ (result < length out.new.items) }
+{
+    if sent == out.len() {
+        out.clear();
+        return 0;
+    }
+    sent
 }
 
 // Drops the bytes before `at`, which moves the rest once, if there is one.

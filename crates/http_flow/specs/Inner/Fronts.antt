@@ -49,7 +49,7 @@ abbrev pub IsFrontEnd : Terms → List ℕ → List Exchange → List ℕ → Li
 IsFrontEnd terms buf xs rest before out (fronts.Waits at need) =
     (rest ≡ drop at buf) × (is_closed xs ≡ false) × (out ≡ before ++ due_for xs) × PendsFor terms.port rest need
 IsFrontEnd terms buf xs rest before out (fronts.Full at) =
-    (rest ≡ drop at buf) × (is_closed xs ≡ false) × (out ≡ before ++ due_for xs)
+    (rest ≡ drop at buf) × (is_closed xs ≡ false) × (out ≡ before ++ due_for xs) × (most_due ≤ length out)
 IsFrontEnd terms buf xs rest before out fronts.Closed = (is_closed xs ≡ true) × (out ≡ before ++ due_for xs)
 IsFrontEnd terms buf xs rest before out (fronts.Refused status) =
     (is_closed xs ≡ false) × (out ≡ before ++ (due_for xs ++ terms.refusal status)) × IsRefused terms.port rest status
