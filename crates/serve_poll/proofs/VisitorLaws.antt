@@ -1,8 +1,9 @@
 -- Steps of a connection.
 use Rattle.std.proofs.Common.{◌≡◌, ◌<◌, ◌≤◌, ◌+◌, ◌-◌, ◌⊎◌, ℕ, List, [], ◌∷◌, ◌++◌, length, take, drop, refl, ap, sym, ◌∙◌, append_assoc, append-nil, take-append-drop, take-add, drop-drop, arith, inl, inr, true}
 use Rattle.std.proofs.lemmas.List.{drop_all, length-drop, take_rest}
-use Rattle.std.specs.Prelude.{Option, None, Some}
-use Rattle.ready_wires.specs.Wires.{WireSeen, IsTold, Grows}
+use Rattle.std.specs.Prelude.{Option, None, Some, Ok, zero, suc}
+use Rattle.ready_wires.specs.Wires.{WireSeen, IsTold, Grows, after_read, after_write}
+use Rattle.ready_wires.specs.declared.marks.Marks.{Marks}
 use Rattle.http_page.specs.Pages.{PageAsk}
 use Rattle.http_talk.specs.Hearing.{ClerkMoment}
 use Rattle.http_talk.specs.declared.talk.Talk.{Talk}
@@ -13,6 +14,19 @@ use Rattle.http_flow.specs.declared.phase.Phase.TheVariants as phases
 use Rattle.http_flow.proofs.ExchangeLaws.{Heard-nil, Heard-join}
 use Rattle.http_flow.proofs.FlowLaws.{flow_sent}
 use Rattle.serve_poll.specs.Visitors.{IsOn, IsFew, IsBounded, Sends, Hears, VisitorSeen, Advances, most_piece, WasTold}
+
+-- a call that gave or took bytes
+pub read_tried : {E : Type 0} (marks : Marks) (room count : ℕ) → (count ≡ 0 → ⊥) → (after_read {E} marks room (Ok (Some count))).tried ≡ true
+read_tried marks room zero some = absurd (some refl)
+read_tried marks room (suc count) some = refl
+
+pub wrote_tried : {E : Type 0} (marks : Marks) (count : ℕ) → 0 < count → (after_write {E} marks (Ok (Some count))).tried ≡ true
+wrote_tried marks zero some = absurd (omega (arith, some))
+wrote_tried marks (suc count) some = refl
+
+pub read_ended : {E : Type 0} (marks : Marks) (room : ℕ) → 0 < room → (after_read {E} marks room (Ok (Some 0))).ended ≡ true
+read_ended marks zero some = absurd (omega (arith, some))
+read_ended marks (suc room) some = refl
 
 pub told_more : (old new : Option (List ℕ)) (bytes more : List ℕ) → IsTold old bytes → Grows old new more → IsTold new (bytes ++ more)
 told_more None new bytes more told grows = rw grows tt
@@ -33,7 +47,7 @@ few_owes terms all h = elim h.1 [
 ]
 
 -- a front of what was due was sent
-pub sends_some : (terms : Terms) (wire wire' : WireSeen) (flow flow' : FlowView) (count : ℕ) → wire'.came ≡ wire.came → Grows wire.taken wire'.taken (take count flow.due) → wire'.watched ≡ wire.watched → flow' ≡ record flow { due = drop count flow.due } → Sends terms wire wire' flow flow'
+pub sends_some : (terms : Terms) (wire wire' : WireSeen) (flow flow' : FlowView) (count : ℕ) → wire'.came ≡ wire.came → Grows wire.taken wire'.taken (take count flow.due) → wire'.watch ≡ wire.watch → flow' ≡ record flow { due = drop count flow.due } → Sends terms wire wire' flow flow'
 sends_some terms wire wire' flow flow' count same grows watched is = record {
   on = λ xs on. record {
     came = on.came;
@@ -45,11 +59,11 @@ sends_some terms wire wire' flow flow' count same grows watched is = record {
   bounded = λ b.
       let after : IsBounded terms (record flow { due = drop count flow.due }) = record { rest = b.rest; waiting = b.waiting; due = few_drop terms flow.due count b.due } in
       rw is after;
-  watched = watched;
+  watch = watched;
 }
 
 -- nothing was sent
-pub sends_none : (terms : Terms) (wire wire' : WireSeen) (flow : FlowView) → wire'.came ≡ wire.came → Grows wire.taken wire'.taken [] → wire'.watched ≡ wire.watched → Sends terms wire wire' flow flow
+pub sends_none : (terms : Terms) (wire wire' : WireSeen) (flow : FlowView) → wire'.came ≡ wire.came → Grows wire.taken wire'.taken [] → wire'.watch ≡ wire.watch → Sends terms wire wire' flow flow
 sends_none terms wire wire' flow same grows watched = record {
   on = λ xs on. record {
     came = on.came;
@@ -59,12 +73,12 @@ sends_none terms wire wire' flow same grows watched = record {
     is_flow = on.is_flow;
   };
   bounded = λ b. b;
-  watched = watched;
+  watch = watched;
 }
 
 module _ {S : Type 0} (terms : Terms) (shows : S → List Talk → PageAsk → Page → Type 0) where
   -- a piece came
-  pub hears_some : (a b : ClerkMoment S) (wire wire' : WireSeen) (flow flow' : FlowView) (piece : List ℕ) → wire'.taken ≡ wire.taken → Grows wire.came wire'.came piece → wire'.watched ≡ wire.watched → flow.due ≡ [] → (IsBounded terms flow → length flow.rest + length piece < most_message + most_piece) → GoesOn terms shows a b flow flow' piece → Hears terms shows a b wire wire' flow flow'
+  pub hears_some : (a b : ClerkMoment S) (wire wire' : WireSeen) (flow flow' : FlowView) (piece : List ℕ) → wire'.taken ≡ wire.taken → Grows wire.came wire'.came piece → wire'.watch ≡ wire.watch → flow.due ≡ [] → (IsBounded terms flow → length flow.rest + length piece < most_message + most_piece) → GoesOn terms shows a b flow flow' piece → Hears terms shows a b wire wire' flow flow'
   hears_some a b wire wire' flow flow' piece same grows watched sent fits on = record {
     more = on.more;
     heard = on.heard;
@@ -76,7 +90,7 @@ module _ {S : Type 0} (terms : Terms) (shows : S → List Talk → PageAsk → P
       is_flow = on.flows is.came is.taken xs is.is_flow;
     };
     bounded = λ b. record { rest = omega (arith, on.shorter, fits b); waiting = on.kept; due = few_owes terms flow'.due (rw sent at on.owes) };
-    watched = watched;
+    watch = watched;
   }
 
   -- nothing was heard
@@ -86,10 +100,10 @@ module _ {S : Type 0} (terms : Terms) (shows : S → List Talk → PageAsk → P
     heard = Heard-nil shows a;
     on = λ xs is. rw (append-nil xs) (sends.on xs is);
     bounded = sends.bounded;
-    watched = sends.watched;
+    watch = sends.watch;
   }
 
-  pub hears_none : (a : ClerkMoment S) (wire wire' : WireSeen) (flow : FlowView) → wire'.taken ≡ wire.taken → Grows wire.came wire'.came [] → wire'.watched ≡ wire.watched → Hears terms shows a a wire wire' flow flow
+  pub hears_none : (a : ClerkMoment S) (wire wire' : WireSeen) (flow : FlowView) → wire'.taken ≡ wire.taken → Grows wire.came wire'.came [] → wire'.watch ≡ wire.watch → Hears terms shows a a wire wire' flow flow
   hears_none a wire wire' flow same grows watched = hears_sent a wire wire' flow flow (record {
     on = λ xs on. record {
       came = on.came;
@@ -99,7 +113,7 @@ module _ {S : Type 0} (terms : Terms) (shows : S → List Talk → PageAsk → P
       is_flow = on.is_flow;
     };
     bounded = λ b. b;
-    watched = watched;
+    watch = watched;
   })
 
   -- what came before went on
@@ -115,11 +129,11 @@ module _ {S : Type 0} (terms : Terms) (shows : S → List Talk → PageAsk → P
       is_flow = rw (append-nil is.came) at (on.flows is.came is.taken xs is.is_flow);
     };
     bounded = λ b. record { rest = omega (arith, on.shorter, b.rest); waiting = on.kept; due = few_owes terms flow'.due (rw sent at on.owes) };
-    watched = refl;
+    watch = refl;
   }
 
   pub hears_still : (a : ClerkMoment S) (wire : WireSeen) (flow : FlowView) → Hears terms shows a a wire wire flow flow
-  hears_still a wire flow = hears_sent a wire wire flow flow (record { on = λ xs on. on; bounded = λ b. b; watched = refl })
+  hears_still a wire flow = hears_sent a wire wire flow flow (record { on = λ xs on. on; bounded = λ b. b; watch = refl })
 
   pub advances_still : (a : ClerkMoment S) (v : VisitorSeen) → Advances terms shows a a v v
   advances_still a v = record { number = refl; hears = hears_still a v.wire v.flow }
@@ -132,7 +146,7 @@ module _ {S : Type 0} (terms : Terms) (shows : S → List Talk → PageAsk → P
       heard = Heard-join shows a b c one.hears.more two.hears.more one.hears.heard two.hears.heard;
       on = λ xs is. rw (sym (append_assoc xs one.hears.more two.hears.more)) (two.hears.on (xs ++ one.hears.more) (one.hears.on xs is));
       bounded = λ k. two.hears.bounded (one.hears.bounded k);
-      watched = two.hears.watched ∙ one.hears.watched;
+      watch = two.hears.watch ∙ one.hears.watch;
     };
   }
 
@@ -156,7 +170,7 @@ telling_more wire wire' text done count h same grows fits =
       taken = rw (take-add done count text) (told_more wire.taken wire'.taken (take done text) (take count (drop done text)) h.taken grows');
     }
 
-told_front : (wire : WireSeen) (text : List ℕ) (done : ℕ) → IsTelling wire text done → (drop done text ≡ []) ⊎ ((wire.write_waits ≡ true) ⊎ (0 < wire.faults)) → WasTold wire text
+told_front : (wire : WireSeen) (text : List ℕ) (done : ℕ) → IsTelling wire text done → (drop done text ≡ []) ⊎ ((wire.marks.write_waits ≡ true) ⊎ (wire.marks.failed ≡ true)) → WasTold wire text
 told_front wire text done h why = record {
   came = h.came;
   front = take done text;
@@ -177,8 +191,8 @@ telling_still wire wire' text done h same grows = record {
 pub told_all : (wire : WireSeen) (text : List ℕ) (done : ℕ) → IsTelling wire text done → length text ≤ done → WasTold wire text
 told_all wire text done h le = told_front wire text done h (inl (drop_all done text le))
 
-pub told_waits : (wire wire' : WireSeen) (text : List ℕ) (done : ℕ) → IsTelling wire text done → wire'.came ≡ wire.came → Grows wire.taken wire'.taken [] → wire'.write_waits ≡ true → WasTold wire' text
+pub told_waits : (wire wire' : WireSeen) (text : List ℕ) (done : ℕ) → IsTelling wire text done → wire'.came ≡ wire.came → Grows wire.taken wire'.taken [] → wire'.marks.write_waits ≡ true → WasTold wire' text
 told_waits wire wire' text done h same grows waits = told_front wire' text done (telling_still wire wire' text done h same grows) (inr (inl waits))
 
-pub told_failed : (wire wire' : WireSeen) (text : List ℕ) (done : ℕ) → IsTelling wire text done → wire'.came ≡ wire.came → Grows wire.taken wire'.taken [] → 0 < wire'.faults → WasTold wire' text
+pub told_failed : (wire wire' : WireSeen) (text : List ℕ) (done : ℕ) → IsTelling wire text done → wire'.came ≡ wire.came → Grows wire.taken wire'.taken [] → wire'.marks.failed ≡ true → WasTold wire' text
 told_failed wire wire' text done h same grows fault = told_front wire' text done (telling_still wire wire' text done h same grows) (inr (inr fault))

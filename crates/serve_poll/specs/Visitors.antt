@@ -1,8 +1,7 @@
 -- A connection that is being served (docs/smsd.md, "The served desk").
 use Rattle.std.specs.Prelude.{ℕ, ◌≡◌, ◌≢◌, ◌<◌, ◌≤◌, ◌+◌, ◌⊎◌, true, List, [], ◌++◌, length, Option, Some, ⊤}
-use Rattle.desk_common.specs.Causes.{Rose}
 use Rattle.ready_wires.specs.Wires.{WireSeen, IsTold}
-use Rattle.ready_wires.specs.Events.{ReadySeen, IsAmong}
+use Rattle.ready_wires.specs.Events.{WasToldSince}
 use Rattle.http_page.specs.Pages.{PageAsk}
 use Rattle.http_talk.specs.Hearing.{ClerkMoment}
 use Rattle.http_talk.specs.declared.talk.Talk.{Talk}
@@ -44,7 +43,7 @@ pub record IsBounded (terms : Terms) (flow : FlowView) : Type 0 where
 pub record Sends (terms : Terms) (wire wire' : WireSeen) (flow flow' : FlowView) : Type 0 where
   pub on : (xs : List Exchange) → IsOn terms wire flow xs → IsOn terms wire' flow' xs
   pub bounded : IsBounded terms flow → IsBounded terms flow'
-  pub watched : wire'.watched ≡ wire.watched
+  pub watch : wire'.watch ≡ wire.watch
 
 -- a connection at one moment
 pub record VisitorSeen : Type 0 where
@@ -59,7 +58,7 @@ module _ {S : Type 0} (terms : Terms) (shows : S → List Talk → PageAsk → P
     pub heard : Heard shows a b more
     pub on : (xs : List Exchange) → IsOn terms wire flow xs → IsOn terms wire' flow' (xs ++ more)
     pub bounded : IsBounded terms flow → IsBounded terms flow'
-    pub watched : wire'.watched ≡ wire.watched
+    pub watch : wire'.watch ≡ wire.watch
 
   -- the connection was served a while: the clerk heard what it asked, and nothing else
   pub record Advances (a b : ClerkMoment S) (old new : VisitorSeen) : Type 0 where
@@ -77,22 +76,22 @@ IsDone phases.NoMemory = ⊤
 -- it waits to be read, where nothing is due, or to take what is due
 abbrev pub IsWaiting : WireSeen → FlowView → Type 0
 IsWaiting wire flow =
-    ((flow.due ≡ []) × (flow.phase ≡ phases.Waits) × (wire.read_waits ≡ true))
-    ⊎ ((flow.due ≢ []) × (wire.write_waits ≡ true))
+    ((flow.due ≡ []) × (flow.phase ≡ phases.Waits) × (wire.marks.read_waits ≡ true))
+    ⊎ ((flow.due ≢ []) × (wire.marks.write_waits ≡ true))
 
 -- why a step is the last of a connection
 abbrev pub IsLastStep : WireSeen → FlowView → Left → Type 0
 IsLastStep wire flow lefts.Answered = (flow.due ≡ []) × IsDone flow.phase
-IsLastStep wire flow lefts.InputEnded = (flow.due ≡ []) × (flow.phase ≡ phases.Waits) × (wire.ended ≡ true)
-IsLastStep wire flow lefts.Failed = 0 < wire.faults
+IsLastStep wire flow lefts.InputEnded = (flow.due ≡ []) × (flow.phase ≡ phases.Waits) × (wire.marks.ended ≡ true)
+IsLastStep wire flow lefts.Failed = wire.marks.failed ≡ true
 IsLastStep wire flow lefts.TurnedAway = ⊥
 IsLastStep wire flow lefts.Unwatched = ⊥
 IsLastStep wire flow lefts.Idle = ⊥
 
--- a step that waits or is the last has its cause
+-- a step that waits or is the last has its cause; behind each other a call gave or took bytes
 abbrev pub IsStep : WireSeen → FlowView → Step → Type 0
-IsStep wire flow steps.Again = ⊤
-IsStep wire flow steps.Waits = IsWaiting wire flow
+IsStep wire flow steps.Again = wire.marks.tried ≡ true
+IsStep wire flow steps.Waits = IsWaiting wire flow × (wire.marks.tried ≡ true)
 IsStep wire flow (steps.Over left) = IsLastStep wire flow left
 
 -- nothing was read of it, and it took these bytes, or a front of them where it would have waited or failed
@@ -102,13 +101,14 @@ pub record WasTold (wire : WireSeen) (text : List ℕ) : Type 0 where
   pub rest : List ℕ
   pub whole : text ≡ front ++ rest
   pub taken : IsTold wire.taken front
-  pub why : (rest ≡ []) ⊎ ((wire.write_waits ≡ true) ⊎ (0 < wire.faults))
+  pub why : (rest ≡ []) ⊎ ((wire.marks.write_waits ≡ true) ⊎ (wire.marks.failed ≡ true))
 
--- why a connection left, where that is seen of it and of what was told of readiness since
-abbrev pub IsLeft : ReadySeen → ReadySeen → WireSeen → FlowView → Left → Type 0
-IsLeft told told' wire flow lefts.Answered = IsLastStep wire flow lefts.Answered
-IsLeft told told' wire flow lefts.InputEnded = IsLastStep wire flow lefts.InputEnded
-IsLeft told told' wire flow lefts.Failed = IsLastStep wire flow lefts.Failed
-IsLeft told told' wire flow lefts.TurnedAway = ⊥
-IsLeft told told' wire flow lefts.Unwatched = Rose told.faults told'.faults
-IsLeft told told' wire flow lefts.Idle = (key : ℕ) × (wire.watched ≡ Some key) × IsAmong told'.idle key
+-- why a connection left, where that is seen of it and of the keys that were told of as idle
+abbrev pub IsLeft : Option (List ℕ) → WireSeen → FlowView → Left → Type 0
+IsLeft idle wire flow lefts.Answered = IsLastStep wire flow lefts.Answered
+IsLeft idle wire flow lefts.InputEnded = IsLastStep wire flow lefts.InputEnded
+IsLeft idle wire flow lefts.Failed = IsLastStep wire flow lefts.Failed
+IsLeft idle wire flow lefts.TurnedAway = ⊥
+IsLeft idle wire flow lefts.Unwatched = wire.watch.failed ≡ true
+IsLeft idle wire flow lefts.Idle =
+    (key : ℕ) × (wire.watch.key ≡ Some key) × WasToldSince wire.watch.since idle key

@@ -2,11 +2,14 @@
 ghost use Rattle.std.specs.Prelude.{◌≡◌, ◌≤◌, ◌<◌, ◌^◌, ◌-◌, ◌⊎◌, [], IfNone, IfOk, IfSome, List, OnErr, Some, ℕ, true};
 ghost use Rattle.desk_common.specs.Causes.{Rose};
 ghost use Rattle.sms_base.specs.Counts.{one_call_more};
-ghost use Rattle.ready_wires.specs.Wires.{IsTold};
-ghost use Rattle.ready_wires.specs.Events.{IsAmong, IsAwaited};
+ghost use Rattle.ready_wires.specs.Wires.{IsTold, no_watch};
+ghost use Rattle.ready_wires.specs.Events.{IsAwaited, ReadySeen};
 ghost use Rattle.http_flow.specs.Exchange.{Terms};
-ghost use Rattle.serve_poll.specs.Halls.{AreWatched, AreWatchedBut, House, KeepsStanding, StaysStanding, WasAsked};
-ghost use Rattle.serve_poll.specs.Halls.{WereServed};
+ghost use Rattle.http_flow.specs.Flow.{FlowView};
+ghost use Rattle.serve_poll.specs.Visitors.{IsLeft, IsStep};
+ghost use Rattle.serve_poll.specs.Halls.{AreWatched, AreWatchedBut, HasArrived, House, IsInTurn, KeepsStanding};
+ghost use Rattle.serve_poll.specs.Halls.{StaysStanding, WasAsked, WasIdle, WereServed};
+ghost use Rattle.serve_poll.specs.Inner.Watches.{IsSameWatch};
 
 use crate::hall::Hall;
 use crate::step::{Left, Step};
@@ -52,6 +55,7 @@ pub fn serve_from_empty<P: Readiness, K: Pages>(
         AreWatched P.Conn.seen (P.seen poller.new).awaited served.1.seats) }
     ensures asked { IfOk result (λ served.
         WasAsked turns (P.seen poller.old) (P.seen poller.new) served.1.count served.0) }
+    ensures most { IfOk result (λ served. served.1.most ≡ most) }
     ensures unserved { OnErr result ((clerk.new ≡ clerk.old) × (poller.new ≡ poller.old)) }
 {
     let mut hall = Hall::with_room(alloc, most)?;
@@ -79,6 +83,7 @@ pub fn serve_events<P: Readiness, K: Pages>(
     ensures watched { AreWatched P.Conn.seen (P.seen poller.old).awaited hall.old.seats
         → AreWatched P.Conn.seen (P.seen poller.new).awaited hall.new.seats }
     ensures asked { WasAsked turns (P.seen poller.old) (P.seen poller.new) hall.new.count result }
+    ensures most { hall.new.most ≡ hall.old.most }
 {
     let mut made = 0;
     while made < turns {
@@ -114,6 +119,7 @@ fn meet<P: Readiness, K: Pages>(
         → AreWatched P.Conn.seen (P.seen poller.new).awaited hall.new.seats }
     ensures calls { (P.seen poller.new).calls ≡ one_call_more (P.seen poller.old).calls }
     ensures faults { (P.seen poller.old).faults ≤ (P.seen poller.new).faults }
+    ensures most { hall.new.most ≡ hall.old.most }
     ensures why { IfSome result (λ end.
         ((end ≡ LoopEnd.Ended) × ((P.seen poller.new).ended ≡ true))
         ⊎ ((end ≡ LoopEnd.Failed) × Rose (P.seen poller.old).faults (P.seen poller.new).faults)) }
@@ -137,7 +143,7 @@ fn meet<P: Readiness, K: Pages>(
     }
 }
 
-// Seats a connection that came, or hands it back where no seat is free.
+// Seats a connection that came, or hands it back where as many are served as may be.
 fn admit<P: Readiness>(
     alloc: Global,
     poller: &mut P,
@@ -148,11 +154,14 @@ fn admit<P: Readiness>(
     requires room { hall.old.count < 2 ^ 64 - 1 }
     requires came { IsTold (P.Conn.seen conn).came [] }
     requires taken { IsTold (P.Conn.seen conn).taken [] }
-    ensures stands { (terms : Terms) → StaysStanding (record { terms = terms; away = away.now }) P.Conn.seen
-        (P.seen poller.old) (P.seen poller.new) (P.back poller.old) (P.back poller.new) hall.old hall.new }
+    requires watch { (P.Conn.seen conn).watch ≡ no_watch }
+    ensures stands { (terms : Terms) (before : ReadySeen) → HasArrived before (P.seen poller.old)
+        → StaysStanding (record { terms = terms; away = away.now }) P.Conn.seen
+        before (P.seen poller.new) (P.back poller.old) (P.back poller.new) hall.old hall.new }
     ensures watched { AreWatched P.Conn.seen (P.seen poller.old).awaited hall.old.seats
         → AreWatched P.Conn.seen (P.seen poller.new).awaited hall.new.seats }
     ensures calls { (P.seen poller.new).calls ≡ (P.seen poller.old).calls }
+    ensures most { hall.new.most ≡ hall.old.most }
     ensures faults { (P.seen poller.old).faults ≤ (P.seen poller.new).faults }
 {
     let mut visitor = Visitor {
@@ -161,7 +170,7 @@ fn admit<P: Readiness>(
         conversation: Conversation::new(alloc),
     };
     hall.count += 1;
-    if hall.seats.len() == hall.seats.capacity() {
+    if hall.seats.len() >= hall.most || hall.seats.len() == hall.seats.capacity() {
         tell(&mut visitor.conn, away);
         return poller.done(visitor.conn);
     }
@@ -192,6 +201,7 @@ fn serve_ready<P: Readiness, K: Pages>(
     ensures watched { AreWatchedBut P.Conn.seen key (P.seen poller.old).awaited hall.old.seats
         → AreWatched P.Conn.seen (P.seen poller.new).awaited hall.new.seats }
     ensures calls { (P.seen poller.new).calls ≡ (P.seen poller.old).calls }
+    ensures most { hall.new.most ≡ hall.old.most }
     ensures faults { (P.seen poller.old).faults ≤ (P.seen poller.new).faults }
 {
     let Some(mut visitor) = hall.seats.try_remove(key) else {
@@ -206,44 +216,54 @@ fn serve_ready<P: Readiness, K: Pages>(
     }
 }
 
-// Why a connection is served no further behind such a step, if so. One that may go on is told of again.
+// Why a connection is served no further behind such a step, if so. One that may go on is watched again, and one that
+// waits is laid to rest.
 fn last_step<P: Readiness>(
     poller: &mut P,
     conn: &mut P::Conn,
     step: Step,
     key: usize,
 ) -> Option<Left>
-    ensures conn { P.Conn.seen conn.new ≡ record (P.Conn.seen conn.old) { watched = (P.Conn.seen conn.new).watched } }
-    ensures key { IfNone result (((P.Conn.seen conn.old).watched ≡ Some key)
-        → (P.Conn.seen conn.new).watched ≡ Some key) }
-    ensures goes { IfNone result ((step ≡ Step.Waits) ⊎ IsAwaited (P.seen poller.new).awaited key) }
+    ensures conn { P.Conn.seen conn.new
+        ≡ record (P.Conn.seen conn.old) { marks = (P.Conn.seen conn.new).marks; watch = (P.Conn.seen conn.new).watch } }
+    ensures key { IfNone result (((P.Conn.seen conn.old).watch.key ≡ Some key)
+        → IsSameWatch (P.Conn.seen conn.old).watch (P.Conn.seen conn.new).watch) }
+    ensures vain { (flow : FlowView) → IsStep (P.Conn.seen conn.old) flow step
+        → (P.Conn.seen conn.new).watch.vain ≡ (P.Conn.seen conn.old).watch.vain }
+    ensures turn { IfNone result ((flow : FlowView) → IsStep (P.Conn.seen conn.old) flow step
+        → IsInTurn (P.seen poller.new).awaited key (P.Conn.seen conn.new) flow) }
+    ensures why { IfSome result (λ left. (flow : FlowView) → IsStep (P.Conn.seen conn.old) flow step
+        → IsLeft (P.seen poller.new).idle (P.Conn.seen conn.new) flow left) }
     ensures awaited { (other : ℕ) → IsAwaited (P.seen poller.old).awaited other
         → IsAwaited (P.seen poller.new).awaited other }
     ensures back { P.back poller.new ≡ P.back poller.old }
     ensures idle { (P.seen poller.new).idle ≡ (P.seen poller.old).idle }
+    ensures came { (P.seen poller.new).came ≡ (P.seen poller.old).came }
     ensures calls { (P.seen poller.new).calls ≡ (P.seen poller.old).calls }
     ensures faults { (P.seen poller.old).faults ≤ (P.seen poller.new).faults }
-    ensures why { IfSome result (λ left. (step ≡ Step.Over left)
-        ⊎ ((left ≡ Left.Unwatched) × Rose (P.seen poller.old).faults (P.seen poller.new).faults)) }
 {
     match step {
         Step::Again => match poller.watch(conn, key) {
             Ok(()) => None,
             Err(_) => Some(Left::Unwatched),
         },
-        Step::Waits => None,
+        Step::Waits => {
+            poller.rest(conn, key);
+            None
+        }
         Step::Over(left) => Some(left),
     }
 }
 
 // Hands the connection at this key back, if there is one; nothing happened at it for too long.
 fn dismiss<P: Readiness>(poller: &mut P, hall: &mut Hall<P::Conn>, key: usize)
-    requires { IsAmong (P.seen poller.old).idle key }
-    ensures stands { (house : House) → StaysStanding house P.Conn.seen
-        (P.seen poller.old) (P.seen poller.new) (P.back poller.old) (P.back poller.new) hall.old hall.new }
+    ensures stands { (house : House) (before : ReadySeen) → WasIdle key before (P.seen poller.old)
+        → StaysStanding house P.Conn.seen
+        before (P.seen poller.new) (P.back poller.old) (P.back poller.new) hall.old hall.new }
     ensures watched { AreWatched P.Conn.seen (P.seen poller.old).awaited hall.old.seats
         → AreWatched P.Conn.seen (P.seen poller.new).awaited hall.new.seats }
     ensures calls { (P.seen poller.new).calls ≡ (P.seen poller.old).calls }
+    ensures most { hall.new.most ≡ hall.old.most }
     ensures faults { (P.seen poller.new).faults ≡ (P.seen poller.old).faults }
 {
     if let Some(visitor) = hall.seats.try_remove(key) {

@@ -1,6 +1,6 @@
 //! A connection that is being served.
 ghost use Rattle.std.specs.Prelude.{◌≡◌, ◌≢◌, []};
-ghost use Rattle.ready_wires.specs.Wires.{IsTold};
+ghost use Rattle.ready_wires.specs.Wires.{IsTold, WireSeen};
 ghost use Rattle.http_flow.specs.Exchange.{Terms};
 ghost use Rattle.serve_poll.specs.Visitors.{Advances, Hears, IsStep, Sends, WasTold};
 
@@ -48,16 +48,16 @@ pub fn advance<C: Wire, K: Pages>(
         }) }
     ensures step { IsStep (C.seen visitor.new.conn) visitor.new.conversation result }
 {
-    for _ in 0..MOST_STEPS {
+    for _ in 1..MOST_STEPS {
         let step = take_step(alloc, routes, site, clerk, visitor);
         if step != Step::Again {
             return step;
         }
     }
-    Step::Again
+    take_step(alloc, routes, site, clerk, visitor)
 }
 
-// Sends what is due; where nothing is, goes on with what came, and reads only behind that.
+// One call of the connection, or its end.
 fn take_step<C: Wire, K: Pages>(
     alloc: Global,
     routes: &Routes,
@@ -80,14 +80,57 @@ fn take_step<C: Wire, K: Pages>(
         }) }
     ensures step { IsStep (C.seen visitor.new.conn) visitor.new.conversation result }
 {
+    go_on(alloc, routes, site, clerk, &mut visitor.conversation);
+    call(alloc, routes, site, clerk, visitor)
+}
+
+// Goes on with what came, where nothing is due.
+fn go_on<K: Pages>(
+    alloc: Global,
+    routes: &Routes,
+    site: &Site,
+    clerk: &mut K,
+    conversation: &mut Conversation,
+)
+    ensures hears { (wire : WireSeen) → Hears (record { port = site.now; refusal = K.refusal }) K.shows
+        (record { talks = K.talks clerk.old; start = K.begun clerk.old })
+        (record { talks = K.talks clerk.new; start = K.begun clerk.new })
+        wire wire conversation.old conversation.new }
+    ensures gone { conversation.new.due ≡ [] → conversation.new.phase ≢ Phase.Full }
+{
+    if conversation.due().is_empty() && conversation.phase() == Phase::Full {
+        conversation.resume(alloc, routes, site, clerk);
+    }
+}
+
+// Sends what is due; where nothing is, reads.
+fn call<C: Wire, K: Pages>(
+    alloc: Global,
+    routes: &Routes,
+    site: &Site,
+    clerk: &mut K,
+    visitor: &mut Visitor<C>,
+) -> Step
+    requires { visitor.old.conversation.due ≡ [] → visitor.old.conversation.phase ≢ Phase.Full }
+    ensures advances { Advances (record { port = site.now; refusal = K.refusal }) K.shows
+        (record { talks = K.talks clerk.old; start = K.begun clerk.old })
+        (record { talks = K.talks clerk.new; start = K.begun clerk.new })
+        (record {
+          number = visitor.old.number;
+          wire = C.seen visitor.old.conn;
+          flow = visitor.old.conversation;
+        })
+        (record {
+          number = visitor.new.number;
+          wire = C.seen visitor.new.conn;
+          flow = visitor.new.conversation;
+        }) }
+    ensures step { IsStep (C.seen visitor.new.conn) visitor.new.conversation result }
+{
     if !visitor.conversation.due().is_empty() {
         return send(&mut visitor.conn, &mut visitor.conversation);
     }
     match visitor.conversation.phase() {
-        Phase::Full => {
-            visitor.conversation.resume(alloc, routes, site, clerk);
-            Step::Again
-        }
         Phase::Waits => hear(
             alloc,
             routes,
@@ -96,6 +139,7 @@ fn take_step<C: Wire, K: Pages>(
             &mut visitor.conn,
             &mut visitor.conversation,
         ),
+        Phase::Full => unreachable!(),
         Phase::Closed | Phase::Refused(_) | Phase::NoMemory => Step::Over(Left::Answered),
     }
 }
@@ -152,7 +196,8 @@ fn hear<C: Wire, K: Pages>(
 pub fn tell<C: Wire>(conn: &mut C, text: &[u8])
     requires came { IsTold (C.seen conn.old).came [] }
     requires taken { IsTold (C.seen conn.old).taken [] }
-    ensures { WasTold (C.seen conn.new) text.now }
+    ensures told { WasTold (C.seen conn.new) text.now }
+    ensures watch { (C.seen conn.new).watch ≡ (C.seen conn.old).watch }
 {
     let mut done = 0;
     while done < text.len() {

@@ -1,6 +1,5 @@
 -- What one event does.
-use Rattle.std.proofs.Common.{arith, ◌∷◌, []}
-use Rattle.serve_poll.proofs.ServingLaws.{among_last, later_same, later_idle, watched_more, watched_but, stays_keeps, keeps_still, keeps_event}
+use Rattle.serve_poll.proofs.ServingLaws.{watched_more, watched_but, keeps_still, keeps_event, keeps_told}
 use Rattle.serve_poll.proofs.serving.meet.Goals as goal
 
 pub admit-requires-clause-came : goal.admit-requires-clause-came
@@ -9,37 +8,35 @@ admit-requires-clause-came g c = (rw c.in-Ok-Came.field-0-is at c.in-Ok-Came.ens
 pub admit-requires-clause-taken : goal.admit-requires-clause-taken
 admit-requires-clause-taken g c = (rw c.in-Ok-Came.field-0-is at c.in-Ok-Came.ensures.fresh).1
 
-pub dismiss-requires : goal.dismiss-requires
-dismiss-requires g c = among_last _ _ c.in-Ok-Idle.key (rw c.in-Ok-Idle.field-0-is at c.in-Ok-Idle.ensures.idle)
+pub admit-requires-clause-watch : goal.admit-requires-clause-watch
+admit-requires-clause-watch g c = (rw c.in-Ok-Came.field-0-is at c.in-Ok-Came.ensures.fresh).3
 
 pub returns-in-Ok-Came-clause-stands : goal.returns-in-Ok-Came-clause-stands
-returns-in-Ok-Came-clause-stands g c = keeps_event _ _ _ _ _ _ _ _ _ _ _ _ _
-    (later_same _ _ c.in-Ok-Came.ensures.cause.later (rw c.in-Ok-Came.field-0-is at c.in-Ok-Came.ensures.idle)) c.in-Ok-Came.ensures.back
-    (stays_keeps _ _ _ _ _ _ _ _ _ _ (c.admit.ensures.stands _))
+returns-in-Ok-Came-clause-stands g c = keeps_told _ _ _ _ _ _ _ _ _ _ _ c.in-Ok-Came.ensures.back
+    (c.admit.ensures.stands _ _ (record { came = rw c.in-Ok-Came.field-0-is at c.in-Ok-Came.ensures.came; idle = rw c.in-Ok-Came.field-0-is at c.in-Ok-Came.ensures.idle }))
 
 pub returns-in-Ok-Ready-clause-stands : goal.returns-in-Ok-Ready-clause-stands
 returns-in-Ok-Ready-clause-stands g c = keeps_event _ _ _ _ _ _ _ _ _ _ _ _ _
-    (later_same _ _ c.in-Ok-Ready.ensures.cause.later (rw c.in-Ok-Ready.field-0-is at c.in-Ok-Ready.ensures.idle)) c.in-Ok-Ready.ensures.back
+    (record { came = rw c.in-Ok-Ready.field-0-is at c.in-Ok-Ready.ensures.came; idle = rw c.in-Ok-Ready.field-0-is at c.in-Ok-Ready.ensures.idle }) c.in-Ok-Ready.ensures.back
     (c.serve_ready.ensures.stands _)
 
 pub returns-in-Ok-Idle-clause-stands : goal.returns-in-Ok-Idle-clause-stands
-returns-in-Ok-Idle-clause-stands g c = keeps_event _ _ _ _ _ _ _ _ _ _ _ _ _
-    (later_idle _ _ (c.in-Ok-Idle.key ∷ []) c.in-Ok-Idle.ensures.cause.later (rw c.in-Ok-Idle.field-0-is at c.in-Ok-Idle.ensures.idle)) c.in-Ok-Idle.ensures.back
-    (stays_keeps _ _ _ _ _ _ _ _ _ _ (c.dismiss.ensures.stands _))
+returns-in-Ok-Idle-clause-stands g c = keeps_told _ _ _ _ _ _ _ _ _ _ _ c.in-Ok-Idle.ensures.back
+    (c.dismiss.ensures.stands _ _ (record { came = rw c.in-Ok-Idle.field-0-is at c.in-Ok-Idle.ensures.came; idle = rw c.in-Ok-Idle.field-0-is at c.in-Ok-Idle.ensures.idle }))
 
 pub returns-in-Ok-Quiet-clause-stands : goal.returns-in-Ok-Quiet-clause-stands
 returns-in-Ok-Quiet-clause-stands g c = keeps_event _ _ _ _ _ _ _ _ _ _ _ _ _
-    (later_same _ _ c.in-Ok-Quiet.ensures.cause.later (rw c.in-Ok-Quiet.field-0-is at c.in-Ok-Quiet.ensures.idle)) c.in-Ok-Quiet.ensures.back
+    (record { came = rw c.in-Ok-Quiet.field-0-is at c.in-Ok-Quiet.ensures.came; idle = rw c.in-Ok-Quiet.field-0-is at c.in-Ok-Quiet.ensures.idle }) c.in-Ok-Quiet.ensures.back
     (keeps_still _ _ _ _ _ _ _)
 
 pub returns-in-Ok-Ended-clause-stands : goal.returns-in-Ok-Ended-clause-stands
 returns-in-Ok-Ended-clause-stands g c = keeps_event _ _ _ _ _ _ _ _ _ _ _ _ _
-    (later_same _ _ c.in-Ok-Ended.ensures.cause.later (rw c.in-Ok-Ended.field-0-is at c.in-Ok-Ended.ensures.idle)) c.in-Ok-Ended.ensures.back
+    (record { came = rw c.in-Ok-Ended.field-0-is at c.in-Ok-Ended.ensures.came; idle = rw c.in-Ok-Ended.field-0-is at c.in-Ok-Ended.ensures.idle }) c.in-Ok-Ended.ensures.back
     (keeps_still _ _ _ _ _ _ _)
 
 pub returns-in-Err-clause-stands : goal.returns-in-Err-clause-stands
 returns-in-Err-clause-stands g c = keeps_event _ _ _ _ _ _ _ _ _ _ _ _ _
-    (later_same _ _ c.in-Err.ensures.cause.later c.in-Err.ensures.idle) c.in-Err.ensures.back
+    (record { came = c.in-Err.ensures.came; idle = c.in-Err.ensures.idle }) c.in-Err.ensures.back
     (keeps_still _ _ _ _ _ _ _)
 
 pub returns-in-Ok-Came-clause-watched : goal.returns-in-Ok-Came-clause-watched

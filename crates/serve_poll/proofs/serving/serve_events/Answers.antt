@@ -5,7 +5,7 @@ use Rattle.serve_poll.proofs.ServingLaws.{keeps_still, keeps_join, loop_end}
 use Rattle.serve_poll.proofs.serving.serve_events.Goals as goal
 
 pub loop-made-init : goal.loop-made-init
-loop-made-init g c = record { stands = keeps_still _ _ _ _ _ _ _; watched = λ h. h; calls = refl; within = omega arith; faults = omega arith }
+loop-made-init g c = record { stands = keeps_still _ _ _ _ _ _ _; watched = λ h. h; calls = refl; within = omega arith; most = refl; faults = omega arith }
 
 pub loop-made-preserved : goal.loop-made-preserved
 loop-made-preserved g c = record {
@@ -13,6 +13,7 @@ loop-made-preserved g c = record {
   watched = λ h. c.meet.ensures.watched (c.loop-made.invariant.watched h);
   calls = rw add-one (c.meet.ensures.calls ∙ ap one_call_more c.loop-made.invariant.calls);
   within = omega arith;
+  most = c.meet.ensures.most ∙ c.loop-made.invariant.most;
   faults = omega arith;
 }
 

@@ -17,6 +17,7 @@ invariant-loop-made g l = record {
       → AreWatched g.P.Conn.Wire.seen (g.P.Readiness.seen l.poller).awaited l.hall.seats;
   calls : (g.P.Readiness.seen l.poller).calls ≡ after_calls (g.P.Readiness.seen l.initial.poller).calls l.made;
   within : l.made ≤ l.turns;
+  most : l.hall.most ≡ l.initial.hall.most;
   faults : (g.P.Readiness.seen l.initial.poller).faults ≤ (g.P.Readiness.seen l.poller).faults;
 }
 

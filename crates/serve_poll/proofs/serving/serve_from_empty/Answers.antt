@@ -1,5 +1,5 @@
 -- From an empty hall on.
-use Rattle.std.proofs.Common.{[]}
+use Rattle.std.proofs.Common.{[], ◌∙◌, arith}
 use Rattle.serve_poll.proofs.ServingLaws.{stands_first}
 use Rattle.serve_poll.proofs.serving.serve_from_empty.Goals as goal
 
@@ -8,4 +8,5 @@ returns-clause-served g c =
     let told = g.P.Readiness.seen c.args.poller.now in
     let back = g.P.Readiness.back c.args.poller.now in
     let end = c.serve_events-end.ensures.stands in
-    record { xs = end.more; heard = end.heard; stands = end.stands [] told back (stands_first _ _ told back c.in_ok-hall.hall c.in_ok-hall.ensures.empty c.in_ok-hall.ensures.count) }
+    let hall = c.in_ok-hall.ensures in
+    record { xs = end.more; heard = end.heard; stands = end.stands [] told back (stands_first _ _ told back c.in_ok-hall.hall hall.empty hall.count (omega (arith, hall.most, hall.room))) }

@@ -1,8 +1,8 @@
 -- A connection that is ready.
-use Rattle.std.proofs.Common.{◌∙◌, sym, refl, arith}
+use Rattle.std.proofs.Common.{◌∙◌, sym, refl, ap}
 use Rattle.serve_poll.specs.declared.visitor.Visitor.{Visitor}
-use Rattle.serve_poll.proofs.HallLaws.{put_back, leave, left_later}
-use Rattle.serve_poll.proofs.ServingLaws.{later_same, stays_keeps, stays_none, watched_out, ready, cause_of}
+use Rattle.serve_poll.proofs.HallLaws.{put_back, leave}
+use Rattle.serve_poll.proofs.ServingLaws.{stays_keeps, stays_none, watched_out, ready}
 use Rattle.serve_poll.proofs.serving.serve_ready.Goals as goal
 
 pub returns-in_default-clause-stands : goal.returns-in_default-clause-stands
@@ -15,16 +15,13 @@ returns-in_default-clause-watched g c = λ h.
 
 pub returns-in-Some-last_step-clause-stands : goal.returns-in-Some-last_step-clause-stands
 returns-in-Some-last_step-clause-stands g c = λ away.
-    let told = g.P.Readiness.seen in
-    let seen = g.P.Conn.Wire.seen in
     let v = c.advance-step.new.visitor in
     let left = c.in-Some-last_step.field-0 in
     let w : Visitor g.row.P-Conn.Denot = record { number = v.number; conn = c.last_step.new.conn; conversation = v.conversation } in
     ready _ _ _ _ _ _ _ _ _ c.args.hall.now _ _ c.args.key c.in-Some.visitor v w
-    (later_same _ _ (omega (arith, c.last_step.ensures.faults, c.done.ensures.faults)) (c.done.ensures.idle ∙ c.last_step.ensures.idle)) (sym c.try_remove.ensures.value ∙ c.in-Some.is) c.try_remove.ensures.updates c.in-Some.ensures.len c.try_remove.ensures.capacity c.advance-step.ensures.advances refl refl c.last_step.ensures.conn
-    (λ all first before out since watched. leave _ _ first _ all before _ _ _ _ c.args.key w left out
-    (left_later first (told c.last_step.new.poller) (told c.done.new.self) (seen c.last_step.new.conn) v.conversation left (later_same _ _ (omega (arith, c.done.ensures.faults)) c.done.ensures.idle)
-    (cause_of first (told c.args.poller.now) (told c.last_step.new.poller) (seen v.conn) (seen c.last_step.new.conn) v.conversation c.advance-step.result left since c.last_step.ensures.conn c.advance-step.ensures.step c.in-Some-last_step.ensures.why))
+    (record { came = c.done.ensures.came ∙ c.last_step.ensures.came; idle = c.done.ensures.idle ∙ c.last_step.ensures.idle }) (sym c.try_remove.ensures.value ∙ c.in-Some.is) c.try_remove.ensures.updates c.in-Some.ensures.len c.try_remove.ensures.capacity c.advance-step.ensures.advances refl refl c.last_step.ensures.conn (c.last_step.ensures.vain v.conversation c.advance-step.ensures.step)
+    (λ all first before out watched quiet. leave _ _ first _ all before _ _ _ _ _ c.args.key w left out
+    (rw c.done.ensures.idle (c.in-Some-last_step.ensures.why v.conversation c.advance-step.ensures.step))
     (rw c.last_step.ensures.back at c.done.ensures.back))
 
 pub returns-in-None-clause-stands : goal.returns-in-None-clause-stands
@@ -32,5 +29,7 @@ returns-in-None-clause-stands g c = λ away.
     let v = c.advance-step.new.visitor in
     let w : Visitor g.row.P-Conn.Denot = record { number = v.number; conn = c.last_step.new.conn; conversation = v.conversation } in
     ready _ _ _ _ _ _ _ _ _ c.args.hall.now _ _ c.args.key c.in-Some.visitor v w
-    (later_same _ _ c.last_step.ensures.faults c.last_step.ensures.idle) (sym c.try_remove.ensures.value ∙ c.in-Some.is) c.try_remove.ensures.updates c.in-Some.ensures.len c.try_remove.ensures.capacity c.advance-step.ensures.advances refl refl c.last_step.ensures.conn
-    (λ all first before out since watched. rw c.last_step.ensures.back (put_back _ _ first _ all before _ _ _ _ c.args.key w out (c.in-None.ensures.key (c.advance-step.ensures.advances.hears.watched ∙ watched)) (rw (c.insert_reserved.ensures.key ∙ c.in-Some.ensures.key_is_next) at c.insert_reserved.ensures.updates) c.insert_reserved.ensures.len c.insert_reserved.ensures.capacity))
+    (record { came = c.last_step.ensures.came; idle = c.last_step.ensures.idle }) (sym c.try_remove.ensures.value ∙ c.in-Some.is) c.try_remove.ensures.updates c.in-Some.ensures.len c.try_remove.ensures.capacity c.advance-step.ensures.advances refl refl c.last_step.ensures.conn (c.last_step.ensures.vain v.conversation c.advance-step.ensures.step)
+    (λ all first before out watched quiet.
+    let same = c.in-None.ensures.key watched in
+    rw c.last_step.ensures.back (put_back _ _ first _ all before _ _ _ _ _ c.args.key w out (same.key ∙ watched) (rw same.since quiet) (rw (c.insert_reserved.ensures.key ∙ c.in-Some.ensures.key_is_next) at c.insert_reserved.ensures.updates) c.insert_reserved.ensures.len c.insert_reserved.ensures.capacity))
