@@ -1,6 +1,6 @@
 -- What events do to all connections.
 use Rattle.std.proofs.Common.{◌≡◌, ◌≢◌, ◌⊎◌, ◌<◌, ◌≤◌, ◌+◌, ℕ, Bool, true, false, length, List, [], ◌∷◌, ◌++◌, map, refl, ap, sym, ◌∙◌, append_assoc, append-nil, arith, inl, inr}
-use Rattle.std.specs.Prelude.{Option, None, Some, All, slice_index_or}
+use Rattle.std.specs.Prelude.{Option, None, Some, All, slice_index_or, ◌&&◌, ◌||◌, not, is_some}
 use Rattle.std.proofs.lemmas.Bool.{cases_eq}
 use Rattle.std.proofs.lemmas.List.{map-append}
 use Rattle.std.proofs.lemmas.List.Elements.{All-nil}
@@ -114,8 +114,17 @@ pub turn_rest : (awaited : Option (List ℕ)) (key : ℕ) (wire wire' : WireSeen
 turn_rest awaited key wire wire' flow is there waits =
     let own : IsInTurn awaited key (after_rest wire) flow = record { awaited = there; untried = refl; waits = λ _. rest_waits wire flow waits } in rw is own
 
+and_no : (b : Bool) → (b && false) ≡ false
+and_no true = refl
+and_no false = refl
+
+or_no : (b : Bool) → (b || false) ≡ b
+or_no true = refl
+or_no false = refl
+
 pub not_vain : (watch : Watch) (tried : Bool) → tried ≡ true → vain_again watch tried ≡ watch.vain
-not_vain watch tried is = grind (arith, is)
+not_vain watch tried is =
+    ap (λ t. watch.vain || (is_some watch.key && not t)) is ∙ ap (λ b. watch.vain || b) (and_no (is_some watch.key)) ∙ or_no watch.vain
 
 -- what watching it, laying it to rest and not being able to watch it leave of a connection
 pub under_same : (key : ℕ) (told : Option ℕ) (wire wire' : WireSeen) → wire' ≡ watched_under key told wire → wire' ≡ record wire { marks = wire'.marks; watch = wire'.watch }
