@@ -1,5 +1,5 @@
 -- What pages of a desk show (docs/smsd.md, "What pages show").
-use Rattle.std.specs.Prelude.{ℕ, ◌≡◌, List, Option, None, Some, codes, length, map, IsTrue, Bool, true, false, cond}
+use Rattle.std.specs.Prelude.{ℕ, ◌≡◌, List, Option, None, Some, codes, length, map, Bool, true, false, option_map}
 use Rattle.http_flow.specs.declared.page.Page.{Page}
 use Rattle.http_flow.specs.declared.page.PageStatus.{PageStatus}
 use Rattle.http_flow.specs.declared.page.PageStatus.TheVariants as statuses
@@ -42,7 +42,8 @@ no_set_page = record { status = statuses.Missing; body = error_body (codes "no d
 
 -- the desk: its activations, its entries and its active volumes
 abbrev pub desk_page : DeskState → ℕ → Page
-desk_page s entries = showing (desk_body s.activations entries (length (volumes_in s.active)))
+desk_page s entries =
+    showing (desk_body (option_map (λ config. s.activations) s.active) entries (length (volumes_in s.active)))
 
 -- all volumes
 abbrev pub volumes_page : DeskState → Page

@@ -16,6 +16,7 @@ const MOST_SHOWN: usize = 200;
 const MOST_LOOKED: usize = 20_000;
 
 /// Data sets of a page, and the name behind which the next page begins, where one follows.
+#[derive(Drop)]
 pub struct Listing<'a> {
     pub sets: Vec<&'a DataSet>,
     pub after: Option<Dsn>,

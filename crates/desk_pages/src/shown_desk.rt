@@ -1,5 +1,5 @@
 //! Desks that can be shown.
-ghost use Rattle.std.specs.Prelude.{◌≡◌, IfOk, map, ℕ};
+ghost use Rattle.std.specs.Prelude.{◌≡◌, IfOk, map, option_map, ℕ};
 ghost use Rattle.std.specs.Option.{option_copied};
 ghost use Rattle.desk_law.specs.Display.{shown_volume};
 ghost use Rattle.desk_law.specs.State.{DeskState, set_named};
@@ -22,9 +22,9 @@ pub trait ShownDesk {
     fn entries(&self) -> u64
         ensures { result ≡ entries self.now };
 
-    /// How many activations there were.
-    fn activations(&self) -> u64
-        ensures { (s : DeskState) → stands self.now s → result ≡ s.activations };
+    /// How many activations there were, where something is active.
+    fn activations(&self) -> Option<u64>
+        ensures { (s : DeskState) → stands self.now s → result ≡ option_map (λ config. s.activations) s.active };
 
     /// All volumes of the active configuration as reports show them, or want of memory.
     fn volumes(&self) -> Result<VolRows, AllocError>

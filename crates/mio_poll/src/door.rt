@@ -191,8 +191,8 @@ impl<'a, R: Net + Clock> Readiness for PollDoor<'a, R> {
             conn.watch.failed = true;
             return Err(Failed);
         }
-        conn.watch.begin(key, None, conn.marks.tried);
-        conn.marks.tried = false;
+        conn.watch.begin(key, None, conn.marks.moved);
+        conn.marks.forget();
         self.touch(key);
         Ok(())
     }
@@ -200,7 +200,7 @@ impl<'a, R: Net + Clock> Readiness for PollDoor<'a, R> {
     // The system tells each change of a stream that it watches.
     fn rest(&mut self, conn: &mut TcpWire, _key: usize) {
         conn.watch.rest(conn.marks.tried);
-        conn.marks.tried = false;
+        conn.marks.forget();
     }
 
     fn done(&mut self, conn: TcpWire) {

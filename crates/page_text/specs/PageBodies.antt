@@ -111,13 +111,13 @@ sets_body sets after =
     compact_text
     (object (member (codes "sets") (array (set_values sets)) (member (codes "after") (name_if after) no_members)))
 
--- the page of the desk: how many activations there were, how many entries its journal has, and how many volumes are
--- active
-abbrev pub desk_body : ℕ → ℕ → ℕ → List ℕ
+-- the page of the desk: how many activations there were, or null where nothing is active, how many entries its journal
+-- has, and how many volumes are active
+abbrev pub desk_body : Option ℕ → ℕ → ℕ → List ℕ
 desk_body activations entries volumes =
     compact_text
     (object
-    (member (codes "activations") (count activations)
+    (member (codes "activations") (count_if activations)
     (member (codes "entries") (count entries)
     (member (codes "volumes") (count volumes) no_members))))
 

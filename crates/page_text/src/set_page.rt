@@ -4,10 +4,11 @@ ghost use Rattle.std.specs.Option.{option_copied};
 ghost use Rattle.serde_json.specs.Written.{compact_text, items_text};
 ghost use Rattle.page_text.specs.PageBodies.{eattr_text, extent_values, name_if, set_body, set_values, sets_body};
 ghost use Rattle.page_text.specs.PageBodies.{unit_text};
-ghost use Rattle.page_text.specs.Inner.Pieces.{extent_piece, set_days, set_extents, set_names, set_space};
+ghost use Rattle.page_text.specs.Inner.Pieces.{extent_piece, set_days, set_extents, set_front, set_group, set_names};
+ghost use Rattle.page_text.specs.Inner.Pieces.{set_rest, set_space, set_use, sets_text};
 
-use crate::pieces::{push_count_if, push_name_if};
-use desk_common::{Items, push_number};
+use crate::pieces::{push_count, push_count_if, push_name, push_text};
+use desk_common::Items;
 use dsn_mask::Dsn;
 use json_text::push_quoted;
 use sms_construct::{DataSet, Eattr, Extent, Unit};
@@ -31,12 +32,20 @@ pub fn sets_body(
     ensures { IfOk result (λ body. body ≡ sets_body (map (λ set. set.now) sets.now) (option_copied after.entry)) }
 {
     let mut text = Vec::new(alloc);
-    text.extend_from_slice(b"{\"sets\":[")?;
-    push_sets(&mut text, sets)?;
-    text.extend_from_slice(b",\"after\":")?;
-    push_dsn_if(&mut text, after)?;
-    text.push(b'}')?;
+    push_page(&mut text, sets, after)?;
     Ok(Items::from_vec(text))
+}
+
+fn push_page(text: &mut Vec<u8>, sets: &[&DataSet], after: Option<&Dsn>) -> Result<(), AllocError>
+    ensures { OnOk result (text.new.items
+        ≡ text.old.items ++ sets_text (map (λ set. set.now) sets.now) (option_copied after.entry)) }
+{
+    text.extend_from_slice(b"{\"sets\":[")?;
+    push_sets(text, sets)?;
+    text.extend_from_slice(b",\"after\":")?;
+    push_dsn_if(text, after)?;
+    text.push(b'}')?;
+    Ok(())
 }
 
 // Puts data sets behind a text, with commas between them, and the closing bracket.
@@ -73,54 +82,71 @@ fn push_dsn_if(text: &mut Vec<u8>, dsn: Option<&Dsn>) -> Result<(), AllocError>
 fn push_set(text: &mut Vec<u8>, set: &DataSet) -> Result<(), AllocError>
     ensures { OnOk result (text.new.items ≡ text.old.items ++ set_body set.now) }
 {
-    push_names(text, set)?;
-    push_days(text, set)?;
-    push_space(text, set)?;
-    push_set_extents(text, set)
+    push_front(text, set)?;
+    push_rest(text, set)?;
+    Ok(())
 }
 
-// Puts its name and its classes behind a text.
+// Puts what stands before its space behind a text.
+fn push_front(text: &mut Vec<u8>, set: &DataSet) -> Result<(), AllocError>
+    ensures { OnOk result (text.new.items ≡ text.old.items ++ set_front set.now) }
+{
+    push_names(text, set)?;
+    push_group(text, set)?;
+    push_days(text, set)?;
+    Ok(())
+}
+
+// Puts its space behind a text.
+fn push_rest(text: &mut Vec<u8>, set: &DataSet) -> Result<(), AllocError>
+    ensures { OnOk result (text.new.items ≡ text.old.items ++ set_rest set.now) }
+{
+    push_space(text, set)?;
+    push_use(text, set)?;
+    push_set_extents(text, set)?;
+    Ok(())
+}
+
 fn push_names(text: &mut Vec<u8>, set: &DataSet) -> Result<(), AllocError>
     ensures { OnOk result (text.new.items ≡ text.old.items ++ set_names set.now) }
 {
-    text.extend_from_slice(b"{\"dsn\":")?;
-    push_quoted(text, set.dsn.bytes())?;
-    text.extend_from_slice(b",\"dataclas\":")?;
-    push_name_if(text, &set.dataclas)?;
-    text.extend_from_slice(b",\"storclas\":")?;
-    push_quoted(text, set.storclas.bytes())?;
-    text.extend_from_slice(b",\"mgmtclas\":")?;
-    push_name_if(text, &set.mgmtclas)?;
-    text.extend_from_slice(b",\"group\":")?;
-    push_quoted(text, set.group.bytes())?;
+    push_text(text, b"{\"dsn\":", set.dsn.bytes())?;
+    push_name(text, b",\"dataclas\":", &set.dataclas)?;
+    push_text(text, b",\"storclas\":", set.storclas.bytes())?;
     Ok(())
 }
 
-// Puts its days behind a text.
+fn push_group(text: &mut Vec<u8>, set: &DataSet) -> Result<(), AllocError>
+    ensures { OnOk result (text.new.items ≡ text.old.items ++ set_group set.now) }
+{
+    push_name(text, b",\"mgmtclas\":", &set.mgmtclas)?;
+    push_text(text, b",\"group\":", set.group.bytes())?;
+    Ok(())
+}
+
 fn push_days(text: &mut Vec<u8>, set: &DataSet) -> Result<(), AllocError>
     ensures { OnOk result (text.new.items ≡ text.old.items ++ set_days set.now) }
 {
-    text.extend_from_slice(b",\"day\":")?;
-    push_number(text, u64::from(set.day))?;
+    push_count(text, b",\"day\":", u64::from(set.day))?;
     text.extend_from_slice(b",\"retpd\":")?;
-    push_count_if(text, set.retpd)?;
+    push_count_if(text, wide(set.retpd))?;
     Ok(())
 }
 
-// Puts its space behind a text, up to its extents.
 fn push_space(text: &mut Vec<u8>, set: &DataSet) -> Result<(), AllocError>
     ensures { OnOk result (text.new.items ≡ text.old.items ++ set_space set.now) }
 {
-    text.extend_from_slice(b",\"unit\":")?;
-    push_quoted(text, unit_bytes(set.unit))?;
-    text.extend_from_slice(b",\"secondary\":")?;
-    push_number(text, u64::from(set.secondary))?;
-    text.extend_from_slice(b",\"volumes\":")?;
-    push_number(text, u64::from(set.volumes.get()))?;
-    text.extend_from_slice(b",\"eattr\":")?;
-    push_quoted(text, eattr_bytes(set.eattr))?;
-    text.extend_from_slice(b",\"used\":")?;
-    push_number(text, u64::from(set.used))?;
+    push_text(text, b",\"unit\":", unit_bytes(set.unit))?;
+    push_count(text, b",\"secondary\":", u64::from(set.secondary))?;
+    push_count(text, b",\"volumes\":", u64::from(set.volumes.get()))?;
+    Ok(())
+}
+
+fn push_use(text: &mut Vec<u8>, set: &DataSet) -> Result<(), AllocError>
+    ensures { OnOk result (text.new.items ≡ text.old.items ++ set_use set.now) }
+{
+    push_text(text, b",\"eattr\":", eattr_bytes(set.eattr))?;
+    push_count(text, b",\"used\":", u64::from(set.used))?;
     Ok(())
 }
 
@@ -156,14 +182,20 @@ fn push_extents(text: &mut Vec<u8>, extents: &[Extent]) -> Result<(), AllocError
 fn push_extent(text: &mut Vec<u8>, extent: &Extent) -> Result<(), AllocError>
     ensures { OnOk result (text.new.items ≡ text.old.items ++ extent_piece extent.now) }
 {
-    text.extend_from_slice(b"{\"volser\":")?;
-    push_quoted(text, extent.volser.bytes())?;
-    text.extend_from_slice(b",\"start\":")?;
-    push_number(text, u64::from(extent.start))?;
-    text.extend_from_slice(b",\"tracks\":")?;
-    push_number(text, u64::from(extent.length))?;
+    push_text(text, b"{\"volser\":", extent.volser.bytes())?;
+    push_count(text, b",\"start\":", u64::from(extent.start))?;
+    push_count(text, b",\"tracks\":", u64::from(extent.length))?;
     text.push(b'}')?;
     Ok(())
+}
+
+fn wide(count: Option<u32>) -> Option<u64>
+    ensures { result ≡ count }
+{
+    match count {
+        Some(count) => Some(u64::from(count)),
+        None => None,
+    }
 }
 
 fn unit_bytes(unit: Unit) -> &'static [u8]

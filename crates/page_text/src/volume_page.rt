@@ -2,10 +2,10 @@
 ghost use Rattle.std.specs.Prelude.{◌≡◌, ◌++◌, IfOk, OnOk, false};
 ghost use Rattle.serde_json.specs.Written.{items_text};
 ghost use Rattle.page_text.specs.PageBodies.{volume_body, volume_values, volumes_body};
-ghost use Rattle.page_text.specs.Inner.Pieces.{volume_front, volume_rest};
+ghost use Rattle.page_text.specs.Inner.Pieces.{volume_front, volume_rest, volumes_text};
 
-use desk_common::{Items, push_number};
-use json_text::push_quoted;
+use crate::pieces::{push_count, push_text};
+use desk_common::Items;
 use sms_construct::VolRow;
 use sms_script::status_bytes;
 use std::alloc::{AllocError, Global};
@@ -24,10 +24,17 @@ pub fn volumes_body(alloc: Global, rows: &[VolRow]) -> Result<Items<u8>, AllocEr
     ensures { IfOk result (λ body. body ≡ volumes_body rows.now) }
 {
     let mut text = Vec::new(alloc);
-    text.extend_from_slice(b"{\"volumes\":[")?;
-    push_volumes(&mut text, rows)?;
-    text.push(b'}')?;
+    push_page(&mut text, rows)?;
     Ok(Items::from_vec(text))
+}
+
+fn push_page(text: &mut Vec<u8>, rows: &[VolRow]) -> Result<(), AllocError>
+    ensures { OnOk result (text.new.items ≡ text.old.items ++ volumes_text rows.now) }
+{
+    text.extend_from_slice(b"{\"volumes\":[")?;
+    push_volumes(text, rows)?;
+    text.push(b'}')?;
+    Ok(())
 }
 
 // Puts volumes behind a text, with commas between them, and the closing bracket.
@@ -53,19 +60,17 @@ fn push_volume(text: &mut Vec<u8>, row: &VolRow) -> Result<(), AllocError>
     ensures { OnOk result (text.new.items ≡ text.old.items ++ volume_body row.now) }
 {
     push_front(text, row)?;
-    push_rest(text, row)
+    push_rest(text, row)?;
+    Ok(())
 }
 
 // Puts its names and its status behind a text.
 fn push_front(text: &mut Vec<u8>, row: &VolRow) -> Result<(), AllocError>
     ensures { OnOk result (text.new.items ≡ text.old.items ++ volume_front row.now) }
 {
-    text.extend_from_slice(b"{\"volser\":")?;
-    push_quoted(text, row.volser.bytes())?;
-    text.extend_from_slice(b",\"group\":")?;
-    push_quoted(text, row.group.bytes())?;
-    text.extend_from_slice(b",\"status\":")?;
-    push_quoted(text, status_bytes(row.status))?;
+    push_text(text, b"{\"volser\":", row.volser.bytes())?;
+    push_text(text, b",\"group\":", row.group.bytes())?;
+    push_text(text, b",\"status\":", status_bytes(row.status))?;
     Ok(())
 }
 
@@ -73,12 +78,9 @@ fn push_front(text: &mut Vec<u8>, row: &VolRow) -> Result<(), AllocError>
 fn push_rest(text: &mut Vec<u8>, row: &VolRow) -> Result<(), AllocError>
     ensures { OnOk result (text.new.items ≡ text.old.items ++ volume_rest row.now) }
 {
-    text.extend_from_slice(b",\"capacity\":")?;
-    push_number(text, u64::from(row.capacity))?;
-    text.extend_from_slice(b",\"free\":")?;
-    push_number(text, u64::from(row.free))?;
-    text.extend_from_slice(b",\"extents\":")?;
-    push_number(text, u64::from(row.extents))?;
+    push_count(text, b",\"capacity\":", u64::from(row.capacity))?;
+    push_count(text, b",\"free\":", u64::from(row.free))?;
+    push_count(text, b",\"extents\":", u64::from(row.extents))?;
     text.push(b'}')?;
     Ok(())
 }

@@ -14,7 +14,8 @@ pub record WireSeen : Type 0 where
 
 -- no call was made of it
 abbrev pub no_marks : Marks
-no_marks = record { ended = false; failed = false; read_waits = false; write_waits = false; tried = false }
+no_marks =
+    record { ended = false; failed = false; read_waits = false; write_waits = false; moved = false; tried = false }
 
 -- it was never watched
 abbrev pub no_watch : Watch
@@ -54,14 +55,15 @@ ends_at ended (suc room) = true
 -- what a read into so many bytes makes of the marks
 abbrev pub after_read : {E : Type 0} → Marks → ℕ → Result (Option ℕ) E → Marks
 after_read marks room (Ok (Some zero)) = record marks { ended = ends_at marks.ended room; read_waits = false }
-after_read marks room (Ok (Some (suc count))) = record marks { ended = false; read_waits = false; tried = true }
+after_read marks room (Ok (Some (suc count))) =
+    record marks { ended = false; read_waits = false; moved = true; tried = true }
 after_read marks room (Ok None) = record marks { read_waits = true; tried = true }
 after_read marks room (Err e) = record marks { failed = true; read_waits = false }
 
 -- what a write makes of them
 abbrev pub after_write : {E : Type 0} → Marks → Result (Option ℕ) E → Marks
 after_write marks (Ok (Some zero)) = record marks { write_waits = false }
-after_write marks (Ok (Some (suc count))) = record marks { write_waits = false; tried = true }
+after_write marks (Ok (Some (suc count))) = record marks { write_waits = false; moved = true; tried = true }
 after_write marks (Ok None) = record marks { write_waits = true; tried = true }
 after_write marks (Err e) = record marks { failed = true; write_waits = false }
 
@@ -69,20 +71,25 @@ after_write marks (Err e) = record marks { failed = true; write_waits = false }
 abbrev pub since_first : Watch → Option ℕ → Option ℕ
 since_first watch told = if is_some watch.key then watch.since else told
 
--- watching it again is vain where no call since gave or took bytes or would have waited
+-- watching it again, or laying it to rest, is vain where nothing came of it since
 abbrev pub vain_again : Watch → Bool → Bool
-vain_again watch tried = watch.vain || (is_some watch.key && not tried)
+vain_again watch some = watch.vain || (is_some watch.key && not some)
 
--- a connection that is watched under this key, when so many keys had been told of as idle
+-- the marks of one that was watched or laid to rest just now
+abbrev pub untried : Marks → Marks
+untried marks = record marks { moved = false; tried = false }
+
+-- a connection that is watched under this key, when so many keys had been told of as idle; where it was before, that is
+-- vain unless a call gave or took bytes since
 abbrev pub watched_under : ℕ → Option ℕ → WireSeen → WireSeen
 watched_under key told wire =
     record wire {
-      marks = record wire.marks { tried = false };
+      marks = untried wire.marks;
       watch = record {
         key = Some key;
         since = since_first wire.watch told;
         rests = false;
-        vain = vain_again wire.watch wire.marks.tried;
+        vain = vain_again wire.watch wire.marks.moved;
         failed = false;
       };
     }
@@ -96,10 +103,10 @@ abbrev pub after_watch : {T E : Type 0} → ℕ → Option ℕ → WireSeen → 
 after_watch key told wire (Ok unit) = watched_under key told wire
 after_watch key told wire (Err e) = not_watched wire
 
--- what laying it to rest makes of it, which is vain where no call gave or took bytes or would have waited since
+-- what laying it to rest makes of it, which is vain unless a call gave or took bytes or would have waited since
 abbrev pub after_rest : WireSeen → WireSeen
 after_rest wire =
     record wire {
-      marks = record wire.marks { tried = false };
+      marks = untried wire.marks;
       watch = record wire.watch { rests = true; vain = vain_again wire.watch wire.marks.tried };
     }

@@ -1,6 +1,6 @@
 //! What the calls of a connection came to.
 ghost use Rattle.std.specs.Prelude.{◌≡◌};
-ghost use Rattle.ready_wires.specs.Wires.{after_read, after_write, no_marks};
+ghost use Rattle.ready_wires.specs.Wires.{after_read, after_write, no_marks, untried};
 
 use sms_base::Failed;
 
@@ -15,7 +15,9 @@ pub struct Marks {
     pub read_waits: bool,
     /// The last write would have waited.
     pub write_waits: bool,
-    /// A call gave or took bytes, or would have waited, since the connection was watched or laid to rest last.
+    /// A call gave or took bytes since the connection was watched or laid to rest last.
+    pub moved: bool,
+    /// A call did, or would have waited.
     pub tried: bool,
 }
 
@@ -29,8 +31,17 @@ impl Marks {
             failed: false,
             read_waits: false,
             write_waits: false,
+            moved: false,
             tried: false,
         }
+    }
+
+    /// The connection is watched or laid to rest.
+    pub fn forget(&mut self)
+        ensures { self.new ≡ untried self.old }
+    {
+        self.moved = false;
+        self.tried = false;
     }
 
     /// A read into so many bytes came to this.
@@ -42,6 +53,7 @@ impl Marks {
             Ok(Some(0)) => self.ended = self.ended || room != 0,
             Ok(Some(_)) => {
                 self.ended = false;
+                self.moved = true;
                 self.tried = true;
             }
             Ok(None) => {
@@ -59,7 +71,10 @@ impl Marks {
         self.write_waits = false;
         match answer {
             Ok(Some(0)) => {}
-            Ok(Some(_)) => self.tried = true,
+            Ok(Some(_)) => {
+                self.moved = true;
+                self.tried = true;
+            }
             Ok(None) => {
                 self.write_waits = true;
                 self.tried = true;

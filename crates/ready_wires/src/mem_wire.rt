@@ -115,8 +115,8 @@ impl MemWire {
     pub(crate) fn watch(&mut self, key: usize, told: Option<usize>)
         ensures { self.new ≡ record self.old { seen = watched_under key told self.old.seen } }
     {
-        self.watch.begin(key, told, self.marks.tried);
-        self.marks.tried = false;
+        self.watch.begin(key, told, self.marks.moved);
+        self.marks.forget();
     }
 
     // It couldn't be watched.
@@ -131,7 +131,7 @@ impl MemWire {
         ensures { self.new ≡ record self.old { seen = after_rest self.old.seen } }
     {
         self.watch.rest(self.marks.tried);
-        self.marks.tried = false;
+        self.marks.forget();
     }
 
     // Gives its next bytes into the front of the buffer, at most so many, and answers how many.

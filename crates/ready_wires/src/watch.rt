@@ -11,7 +11,8 @@ pub struct Watch {
     pub since: Option<usize>,
     /// It was laid to rest behind the last time it was watched.
     pub rests: bool,
-    /// It was watched again or laid to rest though no call had given or taken bytes or would have waited.
+    /// It was watched again though no call had given or taken bytes since, or laid to rest though none would have waited
+    /// either.
     pub vain: bool,
     /// It couldn't be watched when that was tried last.
     pub failed: bool,
@@ -31,19 +32,20 @@ impl Watch {
         }
     }
 
-    /// The connection is watched under this key; so many keys had been told of as idle.
-    pub fn begin(&mut self, key: usize, told: Option<usize>, tried: bool)
+    /// The connection is watched under this key; so many keys had been told of as idle, and a call had given or taken
+    /// bytes since it was last, or none had.
+    pub fn begin(&mut self, key: usize, told: Option<usize>, moved: bool)
         ensures { self.new ≡ record {
           key = Some key;
           since = since_first self.old told;
           rests = false;
-          vain = vain_again self.old tried;
+          vain = vain_again self.old moved;
           failed = false;
         } }
     {
         if self.key.is_none() {
             self.since = told;
-        } else if !tried {
+        } else if !moved {
             self.vain = true;
         }
         self.key = Some(key);
@@ -51,7 +53,8 @@ impl Watch {
         self.failed = false;
     }
 
-    /// The connection is laid to rest.
+    /// The connection is laid to rest; a call had given or taken bytes or would have waited since it was watched last, or
+    /// none had.
     pub fn rest(&mut self, tried: bool)
         ensures { self.new ≡ record self.old { rests = true; vain = vain_again self.old tried } }
     {

@@ -199,7 +199,7 @@ module _ {C : Type 0} (house : House) (seen : C → WireSeen) where
   served_told idle idle' more all v lefts.Failed l h = h
   served_told idle idle' more all v lefts.TurnedAway l h = h
   served_told idle idle' more all v lefts.Unwatched l h = h
-  served_told idle idle' more all v lefts.Idle l h = (h.0, h.1.0, h.1.1, told_more v.wire.watch.since idle idle' more h.1.0 l h.1.2)
+  served_told idle idle' more all v lefts.Idle l h = (h.0, (h.1.0, h.1.1, told_more v.wire.watch.since idle idle' more h.1.0 l h.1.2))
 
   left_so : (idle : Option (List ℕ)) (all : List Asked) (v : VisitorSeen) (why : Left) → IsOn house.terms v.wire v.flow (asked_by v.number all) → IsLeft idle v.wire v.flow why → WasServed house idle all v why
   left_so idle all v lefts.Answered on h = (on, h)

@@ -122,8 +122,8 @@ or_no : (b : Bool) → (b || false) ≡ b
 or_no true = refl
 or_no false = refl
 
-pub not_vain : (watch : Watch) (tried : Bool) → tried ≡ true → vain_again watch tried ≡ watch.vain
-not_vain watch tried is =
+pub not_vain : (watch : Watch) (some : Bool) → some ≡ true → vain_again watch some ≡ watch.vain
+not_vain watch some is =
     ap (λ t. watch.vain || (is_some watch.key && not t)) is ∙ ap (λ b. watch.vain || b) (and_no (is_some watch.key)) ∙ or_no watch.vain
 
 -- what watching it, laying it to rest and not being able to watch it leave of a connection
@@ -136,15 +136,15 @@ rest_same wire wire' is = rw is refl
 pub not_same : (wire wire' : WireSeen) → wire' ≡ not_watched wire → wire' ≡ record wire { marks = wire'.marks; watch = wire'.watch }
 not_same wire wire' is = rw is refl
 
-pub under_vain : (key : ℕ) (told : Option ℕ) (wire wire' : WireSeen) → wire.marks.tried ≡ true → wire' ≡ watched_under key told wire → wire'.watch.vain ≡ wire.watch.vain
-under_vain key told wire wire' tried is = ap (λ (w : WireSeen). w.watch.vain) is ∙ not_vain wire.watch wire.marks.tried tried
+pub under_vain : (key : ℕ) (told : Option ℕ) (wire wire' : WireSeen) → wire.marks.moved ≡ true → wire' ≡ watched_under key told wire → wire'.watch.vain ≡ wire.watch.vain
+under_vain key told wire wire' moved is = ap (λ (w : WireSeen). w.watch.vain) is ∙ not_vain wire.watch wire.marks.moved moved
 
 pub rest_vain : (wire wire' : WireSeen) → wire.marks.tried ≡ true → wire' ≡ after_rest wire → wire'.watch.vain ≡ wire.watch.vain
 rest_vain wire wire' tried is = ap (λ (w : WireSeen). w.watch.vain) is ∙ not_vain wire.watch wire.marks.tried tried
 
 -- a connection that is watched for the first time
 pub first_vain : (key : ℕ) (told : Option ℕ) (wire wire' : WireSeen) → wire.watch ≡ no_watch → wire' ≡ watched_under key told wire → wire'.watch.vain ≡ false
-first_vain key told wire wire' fresh is = ap (λ (w : WireSeen). w.watch.vain) is ∙ ap (λ (w : Watch). vain_again w wire.marks.tried) fresh
+first_vain key told wire wire' fresh is = ap (λ (w : WireSeen). w.watch.vain) is ∙ ap (λ (w : Watch). vain_again w wire.marks.moved) fresh
 
 pub first_quiet : (key : ℕ) (idle : Option (List ℕ)) (wire wire' : WireSeen) → wire.watch ≡ no_watch → wire' ≡ watched_under key (count_told idle) wire → IsQuietSince wire'.watch.since idle key
 first_quiet key idle wire wire' fresh is = rw (ap (λ (w : WireSeen). w.watch.since) is ∙ ap (λ (w : Watch). since_first w (count_told idle)) fresh) (quiet_now idle key)

@@ -1,5 +1,5 @@
 -- Steps of a connection.
-use Rattle.std.proofs.Common.{◌≡◌, ◌<◌, ◌≤◌, ◌+◌, ◌-◌, ◌⊎◌, ℕ, List, [], ◌∷◌, ◌++◌, length, take, drop, refl, ap, sym, ◌∙◌, append_assoc, append-nil, take-append-drop, take-add, drop-drop, arith, inl, inr, true}
+use Rattle.std.proofs.Common.{◌≡◌, ◌≢◌, ◌<◌, ◌≤◌, ◌+◌, ◌-◌, ◌⊎◌, ℕ, List, [], ◌∷◌, ◌++◌, length, take, drop, refl, ap, sym, ◌∙◌, append_assoc, append-nil, take-append-drop, take-add, drop-drop, arith, inl, inr, true}
 use Rattle.std.proofs.lemmas.List.{drop_all, length-drop, take_rest}
 use Rattle.std.specs.Prelude.{Option, None, Some, Ok, zero, suc}
 use Rattle.ready_wires.specs.Wires.{WireSeen, IsTold, Grows, after_read, after_write}
@@ -16,17 +16,21 @@ use Rattle.http_flow.proofs.FlowLaws.{flow_sent}
 use Rattle.serve_poll.specs.Visitors.{IsOn, IsFew, IsBounded, Sends, Hears, VisitorSeen, Advances, most_piece, WasTold}
 
 -- a call that gave or took bytes
-pub read_tried : {E : Type 0} (marks : Marks) (room count : ℕ) → (count ≡ 0 → ⊥) → (after_read {E} marks room (Ok (Some count))).tried ≡ true
-read_tried marks room zero some = absurd (some refl)
-read_tried marks room (suc count) some = refl
+pub read_moved : {E : Type 0} (marks : Marks) (room count : ℕ) → (count ≡ 0 → ⊥) → (after_read {E = E} marks room (Ok (Some count))).moved ≡ true
+read_moved marks room zero some = absurd (some refl)
+read_moved marks room (suc count) some = refl
 
-pub wrote_tried : {E : Type 0} (marks : Marks) (count : ℕ) → 0 < count → (after_write {E} marks (Ok (Some count))).tried ≡ true
-wrote_tried marks zero some = absurd (omega (arith, some))
-wrote_tried marks (suc count) some = refl
+pub wrote_moved : {E : Type 0} (marks : Marks) (count : ℕ) → 0 < count → (after_write {E = E} marks (Ok (Some count))).moved ≡ true
+wrote_moved marks zero some = absurd (omega (arith, some))
+wrote_moved marks (suc count) some = refl
 
-pub read_ended : {E : Type 0} (marks : Marks) (room : ℕ) → 0 < room → (after_read {E} marks room (Ok (Some 0))).ended ≡ true
+pub read_ended : {E : Type 0} (marks : Marks) (room : ℕ) → 0 < room → (after_read {E = E} marks room (Ok (Some 0))).ended ≡ true
 read_ended marks zero some = absurd (omega (arith, some))
 read_ended marks (suc room) some = refl
+
+pub some_bytes : (bytes : List ℕ) → bytes ≢ [] → 0 < length bytes
+some_bytes [] some = absurd (some refl)
+some_bytes (x ∷ xs) some = omega arith
 
 pub told_more : (old new : Option (List ℕ)) (bytes more : List ℕ) → IsTold old bytes → Grows old new more → IsTold new (bytes ++ more)
 told_more None new bytes more told grows = rw grows tt

@@ -90,7 +90,7 @@ IsLastStep wire flow lefts.Idle = ⊥
 
 -- a step that waits or is the last has its cause; behind each other a call gave or took bytes
 abbrev pub IsStep : WireSeen → FlowView → Step → Type 0
-IsStep wire flow steps.Again = wire.marks.tried ≡ true
+IsStep wire flow steps.Again = wire.marks.moved ≡ true
 IsStep wire flow steps.Waits = IsWaiting wire flow × (wire.marks.tried ≡ true)
 IsStep wire flow (steps.Over left) = IsLastStep wire flow left
 

@@ -1,5 +1,7 @@
 //! Many connections and their events.
-ghost use Rattle.std.specs.Prelude.{◌≡◌, ◌≤◌, ◌<◌, ◌^◌, ◌-◌, ◌⊎◌, [], IfNone, IfOk, IfSome, List, OnErr, Some, ℕ, true};
+ghost use Rattle.std.specs.Prelude.{◌≡◌, ◌≤◌, ◌<◌, ◌^◌, ◌-◌, ◌⊎◌, [], IfNone, IfOk, IfSome, IsTrue, List, OnErr, Some, ℕ};
+ghost use Rattle.std.specs.Prelude.{false, true};
+ghost use Rattle.slab.specs.Slab.{HasRoomFor, slab_len};
 ghost use Rattle.desk_common.specs.Causes.{Rose};
 ghost use Rattle.sms_base.specs.Counts.{one_call_more};
 ghost use Rattle.ready_wires.specs.Wires.{IsTold, no_watch};
@@ -170,7 +172,7 @@ fn admit<P: Readiness>(
         conversation: Conversation::new(alloc),
     };
     hall.count += 1;
-    if hall.seats.len() >= hall.most || hall.seats.len() == hall.seats.capacity() {
+    if !has_room(hall) {
         tell(&mut visitor.conn, away);
         return poller.done(visitor.conn);
     }
@@ -180,6 +182,18 @@ fn admit<P: Readiness>(
         }
         Err(_) => poller.done(visitor.conn),
     }
+}
+
+// Whether one more connection may be served.
+fn has_room<C>(hall: &Hall<C>) -> bool
+    ensures some { IsTrue result → (slab_len hall.now.seats < hall.now.most) × HasRoomFor hall.now.seats 1 }
+    ensures none { result ≡ false → (hall.now.most ≤ slab_len hall.now.seats)
+        ⊎ (slab_len hall.now.seats ≡ hall.now.seats.capacity) }
+{
+    if hall.seats.len() >= hall.most {
+        return false;
+    }
+    hall.seats.len() != hall.seats.capacity()
 }
 
 // Serves the connection at this key, if there is one.

@@ -98,8 +98,12 @@ fn go_on<K: Pages>(
         wire wire conversation.old conversation.new }
     ensures gone { conversation.new.due ≡ [] → conversation.new.phase ≢ Phase.Full }
 {
-    if conversation.due().is_empty() && conversation.phase() == Phase::Full {
-        conversation.resume(alloc, routes, site, clerk);
+    if !conversation.due().is_empty() {
+        return;
+    }
+    match conversation.phase() {
+        Phase::Full => conversation.resume(alloc, routes, site, clerk),
+        Phase::Waits | Phase::Closed | Phase::Refused(_) | Phase::NoMemory => {}
     }
 }
 

@@ -16,4 +16,4 @@ returns-in-NoMemory g c =
     front_memory _ _ _ _ _ _ _ _ _ _ c.loop-alloc.invariant (omega arith) (rest_next _ _ _ _ c.args.buffer.now _ _ c.loop-alloc.at _ c.in-NoMemory.ensures)
 
 pub returns : goal.returns
-returns g c = front_full _ _ _ _ _ _ _ _ _ c.loop-alloc.invariant (omega arith)
+returns g c = front_full _ _ _ _ _ _ _ _ c.loop-alloc.invariant (omega arith)

@@ -20,7 +20,7 @@ pub returns-in-Full : goal.returns-in-Full
 returns-in-Full g c =
     let v : List ℕ → FlowView = λ l. record { rest = l; need = 0; due = drop c.forget_sent.result c.answer_front.new.out.items; phase = phases.Full } in
     turned_full _ _ _ _ c.args.self.now c.self.inside.buffer.items c.forget_sent.new.out.items c.answer_front.new.out.items c.forget_sent.result c.forget_sent.ensures.within
-    (sym (ap (λ (v : FlowView). v.rest) c.self.view_is)) (sym (ap (λ (v : FlowView). v.due) c.self.view_is) ∙ sym c.forget_sent.ensures.due) _ c.in-Full.at 0 c.forget_sent.ensures.part (rw c.deref.ensures.value at c.in-Full.ensures) (ap v c.drop_front.ensures)
+    (sym (ap (λ (v : FlowView). v.rest) c.self.view_is)) (sym (ap (λ (v : FlowView). v.due) c.self.view_is) ∙ sym c.forget_sent.ensures.due) _ c.in-Full.at 0 c.forget_sent.ensures.part (rw c.deref.ensures.value at c.in-Full.ensures) (ap v c.drop_front-in-Full.ensures)
 
 pub returns-in-Closed : goal.returns-in-Closed
 returns-in-Closed g c =
