@@ -2,8 +2,8 @@
 #![tactic(auto)]
 
 mod listing;
-mod shown_desk;
 mod showing;
+mod shown_desk;
 
-pub use shown_desk::ShownDesk;
 pub use showing::show_page;
+pub use shown_desk::ShownDesk;

@@ -13,7 +13,9 @@ use desk_common::Items;
 use dsn_mask::{Dsn, Mask, Volser};
 use http_flow::{Page, PageStatus};
 use page_paths::{PagePath, read_page_path};
-use page_text::{desk_body, error_body, health_body, set_body, sets_body, volume_body, volumes_body};
+use page_text::{
+    desk_body, error_body, health_body, set_body, sets_body, volume_body, volumes_body,
+};
 use sms_construct::VolRow;
 use std::alloc::{AllocError, Global};
 
@@ -46,11 +48,7 @@ fn posted(alloc: Global, asked: &PagePath) -> Result<Page, AllocError>
         | PagePath::Volumes
         | PagePath::Volume(_)
         | PagePath::Sets { .. }
-        | PagePath::Set(_) => refused(
-            alloc,
-            PageStatus::NotAllowed,
-            b"this page is read by GET",
-        ),
+        | PagePath::Set(_) => refused(alloc, PageStatus::NotAllowed, b"this page is read by GET"),
     }
 }
 
@@ -179,11 +177,7 @@ fn bad(alloc: Global) -> Result<Page, AllocError>
 fn missing(alloc: Global) -> Result<Page, AllocError>
     ensures { IfOk result (λ page. page ≡ missing_page) }
 {
-    refused(
-        alloc,
-        PageStatus::Missing,
-        b"there is no page at this path",
-    )
+    refused(alloc, PageStatus::Missing, b"there is no page at this path")
 }
 
 // A page that says what is wrong.

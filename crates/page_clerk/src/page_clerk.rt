@@ -152,7 +152,13 @@ impl<P: Keeper> Pages for PageClerk<P> {
 
     ghost begun_stays = { λ a b same. Prim.grind same };
 
-    fn show(&self, alloc: Global, posts: bool, path: &[u8], body: &[u8]) -> Result<Page, AllocError> {
+    fn show(
+        &self,
+        alloc: Global,
+        posts: bool,
+        path: &[u8],
+        body: &[u8],
+    ) -> Result<Page, AllocError> {
         let _body = body;
         show_page(alloc, self, posts, path)
     }

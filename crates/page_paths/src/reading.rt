@@ -55,12 +55,7 @@ fn page_of_some(alloc: Global, path: &[u8], word: &[u8]) -> Result<PagePath, All
 }
 
 // The page, where the path has no segment of this number.
-fn alone(
-    alloc: Global,
-    number: usize,
-    path: &[u8],
-    page: PagePath,
-) -> Result<PagePath, AllocError>
+fn alone(alloc: Global, number: usize, path: &[u8], page: PagePath) -> Result<PagePath, AllocError>
     ensures { IfOk result (λ found. found ≡ alone number path.now page) }
 {
     match segment(alloc, number, path)? {

@@ -191,7 +191,7 @@ module _ {C : Type 0} (house : House) (seen : C → WireSeen) where
   -- a connection came, and was turned away
   pub turned_away : (before told told' : ReadySeen) (back back' : Option (List C)) (hall : Hall C) (v : Visitor C) → HasArrived before told → IsStill told told' → v.number ≡ hall.count → (hall.most ≤ slab_len hall.seats) ⊎ (slab_len hall.seats ≡ hall.seats.capacity) → (seen v.conn).watch ≡ no_watch → WasTold (seen v.conn) house.away → Tells back back' (v.conn ∷ []) → StaysStanding house seen before told' back back' hall (record hall { count = hall.count + 1 })
   turned_away before told told' back back' hall v arrived still number full watch was tells all first old s =
-      let over : hall.most ≤ slab_len hall.seats = elim full [ | inl more ↦ more | inr all_room ↦ omega (arith, all_room, s.room) ] in
+      let over : hall.most ≤ slab_len hall.seats = elim full [ inl more ↦ more | inr all_room ↦ omega (arith, all_room, s.room) ] in
       let s' = turned house seen first before told all old back back' hall.count hall.most hall.seats v arrived s number over (ap (λ (w : Watch). w.vain) watch) was tells in
       seated_still house seen first told told' all old back' (hall.count + 1) hall.most hall.seats still s'
 
