@@ -3,9 +3,13 @@
 #![tactic(auto)]
 
 mod forms;
+mod refused_decks;
 mod replies;
+mod reply_counts;
 mod running;
 mod word_faults;
+mod word_hints;
 
+pub use refused_decks::note_replies;
 pub use replies::RepliesSeen;
 pub use running::{note_run, sentence_of};

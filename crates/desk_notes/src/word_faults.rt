@@ -1,5 +1,6 @@
 //! What is wrong with words that the program doesn't know.
 use crate::forms::{fits, limits_of, nearest_form, part_of};
+use crate::word_hints::hint_of;
 use fault_notes::shown;
 use std::alloc::{AllocError, Global};
 
@@ -15,11 +16,15 @@ pub fn words_note(alloc: Global, words: &[String]) -> Result<String, AllocError>
     match nearest_form(words) {
         Some(form) => {
             let fault = fault_in(alloc, form, words)?;
-            format!(in alloc; "{fault}; the nearest list of words is smsctl {form}, and {HELP}\n")
+            let hint = hint_of(alloc, words)?;
+            format!(in alloc;
+                "{fault}{hint}; the nearest list of words is smsctl {form}, and {HELP}\n"
+            )
         }
         None => {
             let fault = first_fault(alloc, words)?;
-            format!(in alloc; "{fault}; {FIRST}, and {HELP}\n")
+            let hint = hint_of(alloc, words)?;
+            format!(in alloc; "{fault}{hint}; {FIRST}, and {HELP}\n")
         }
     }
 }

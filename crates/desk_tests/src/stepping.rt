@@ -4,7 +4,7 @@ use crate::short_scripts::script;
 use acs_tree::Slate;
 use desk_calls::run_script;
 use desk_common::{Items, Shared};
-use dsn_mask::Name;
+use dsn_mask::{Dsn, Name};
 use sms_construct::{Op, Reply, Request, RequestNumber};
 use sms_core::{Core, Work};
 use sms_keeper::{FaultKeeper, Keeper, MemKeeper};
@@ -68,6 +68,14 @@ SMSADMIN 2 VARY SMS,VOLUME(VOL001),DISABLE
 J 5 DELETE A.B
 ";
 
+/// Three data sets, of which one is deleted.
+const CATALOGUED: &str = "J 1 ALLOC A.B SPACE=(TRK,10)
+J 2 ALLOC A.C SPACE=(TRK,1)
+J 3 USED A.B 3
+J 4 DELETE A.C
+J 5 ALLOC A.D SPACE=(TRK,1)
+";
+
 /// Compares a run of seven commands in which the commit of this number fails.
 fn compare_failing(
     rt: &impl Abort,
@@ -114,6 +122,29 @@ fn a_floor_refuses_lower_numbers_and_never_falls(rt: HostRuntime) -> Result<(), 
     assert!(rt; matches!(&last.reply, Reply::Purged { floor: 3, .. }));
     assert!(rt; core.active().is_none());
     assert!(rt; core.vol_rows()?.len() == 0);
+    Ok(())
+}
+
+/// The tracks that the data set uses and those of its first extent, where it is catalogued.
+fn used_of(core: &Core<MemKeeper>, dsn: &[u8]) -> Option<(u32, u32)> {
+    let set = core.set(&Dsn::parse(dsn).ok()?)?;
+    let extent = set.extents.as_slice().first()?;
+    Some((set.used, extent.length))
+}
+
+#[test]
+fn a_core_shows_a_catalogued_data_set(rt: HostRuntime) -> Result<(), Fail> {
+    let alloc = rt.alloc();
+    let text = script_on(alloc, 100, CATALOGUED)?;
+    let script = script(alloc, text.as_bytes())?;
+    let core = Core::new(alloc, MemKeeper::new(alloc));
+    let (_answers, core) = run_script(alloc, &script, core);
+    let shown = (
+        used_of(&core, b"A.B"),
+        used_of(&core, b"A.C"),
+        used_of(&core, b"A.D"),
+    );
+    assert!(rt; shown == (Some((3, 10)), None, Some((0, 1))));
     Ok(())
 }
 

@@ -1,12 +1,15 @@
 //! The notes on faults of decks.
 use crate::assigned::assigned_spot;
 use crate::deck_part::DeckPart;
+use crate::deck_sentence::{around, deck_sentence};
 use crate::finding::{find_path, find_second};
+use crate::marking::marked;
 use crate::place::place_at;
 use crate::routine::sentence;
 use crate::showing::{shown, told};
 use crate::source::{find_source, source_of};
 use crate::spot::{Spot, spot_of};
+use crate::value_text::value_text;
 use acs_tree::Kind;
 use dsn_mask::Name;
 use sms_construct::{Fault, TextFault};
@@ -24,16 +27,13 @@ pub fn deck_note(alloc: Global, deck: DeckPart<'_>, fault: &Fault) -> Result<Str
 
 // What a fault that is told by a path or a name means, and the line of the key at that path.
 fn key_note(alloc: Global, deck: DeckPart<'_>, fault: &Fault) -> Result<String, AllocError> {
-    let sentence = deck_sentence(alloc, fault)?;
-    match found_line(alloc, deck.bytes, fault)? {
-        Some(at) => told(
-            alloc,
-            deck.lines_before,
-            &place_at(deck.bytes, at),
-            &sentence,
-        ),
-        None => format!(in alloc; "{sentence}\n"),
-    }
+    let Some(at) = found_line(alloc, deck.bytes, fault)? else {
+        let sentence = deck_sentence(alloc, fault, None)?;
+        return format!(in alloc; "{sentence}\n");
+    };
+    let place = place_at(deck.bytes, at);
+    let sentence = deck_sentence(alloc, fault, written_value(fault, place.text))?;
+    told(alloc, deck.lines_before, &place, &sentence)
 }
 
 // The offset of the line that the fault is about.
@@ -51,77 +51,12 @@ fn found_line(alloc: Global, deck: &[u8], fault: &Fault) -> Result<Option<usize>
     }
 }
 
-// A required key that is missing; of a volume its size, which three keys may give.
-fn missing_sentence(alloc: Global, path: &[u8]) -> Result<String, AllocError> {
-    let rest = if path.ends_with(b".device") {
-        " is missing, or tracks or cylinders in its place"
-    } else {
-        " is missing"
-    };
-    around(alloc, "the key ", path, rest)
-}
-
-fn deck_sentence(alloc: Global, fault: &Fault) -> Result<String, AllocError> {
+// The wrong value as it is written in this line.
+fn written_value<'a>(fault: &Fault, line: &'a [u8]) -> Option<&'a [u8]> {
     match fault {
-        Fault::NotBuilt(path) => around(alloc, "what ", path.bytes(), " asks for isn't built"),
-        Fault::UnknownKey(path) => around(alloc, "a deck has no key ", path.bytes(), ""),
-        Fault::Missing(path) => missing_sentence(alloc, path.bytes()),
-        Fault::BadValue(path) => value_sentence(alloc, path.bytes()),
-        Fault::BadName(path) => around(
-            alloc,
-            "in ",
-            path.bytes(),
-            ", the last key is no name of its kind",
-        ),
-        Fault::TooMany(path) => limit_sentence(alloc, path.bytes()),
-        Fault::TwoGroups(volser) => {
-            around(
-                alloc,
-                "the volume ",
-                volser.bytes(),
-                " stands in two storage groups",
-            )
-        }
-        Fault::NotToml | Fault::Routine(..) | Fault::Unassigned(..) => Ok(String::new(alloc)),
+        Fault::BadValue(path) => value_text(line, path.bytes()),
+        _ => None,
     }
-}
-
-fn value_sentence(alloc: Global, path: &[u8]) -> Result<String, AllocError> {
-    if is_later_size(path) {
-        around(
-            alloc,
-            "the value of ",
-            path,
-            " is wrong, or is a second size of its volume",
-        )
-    } else {
-        around(alloc, "the value of ", path, " is wrong")
-    }
-}
-
-// Whether the key tells the size of a volume, and another one may stand before it.
-fn is_later_size(path: &[u8]) -> bool {
-    path.ends_with(b".tracks") || path.ends_with(b".cylinders")
-}
-
-fn limit_sentence(alloc: Global, path: &[u8]) -> Result<String, AllocError> {
-    match path {
-        b"deck" => String::from_str(alloc, "the deck has more than 262144 bytes"),
-        b"volume" => String::from_str(alloc, "the deck has more than 1024 volumes"),
-        b"storgroup" => String::from_str(alloc, "the deck has more than 64 storage groups"),
-        b"dataclass" | b"storclass" | b"mgmtclass" => {
-            around(alloc, "in ", path, " there are more than 256 classes")
-        }
-        _ if path.ends_with(b".volume") => {
-            around(alloc, "in ", path, " there are more than 256 volumes")
-        }
-        _ => around(alloc, "the text of ", path, " has more than 65536 bytes"),
-    }
-}
-
-fn around(alloc: Global, before: &str, bytes: &[u8], after: &str) -> Result<String, AllocError> {
-    let word = shown(alloc, bytes)?;
-    format!(in alloc; "{before}{word}{after}")
 }
 
 // What makes the deck no TOML document.
@@ -154,9 +89,27 @@ fn source_note(
         return Err(AllocError);
     };
     let text = source_of(&top, kind).as_bytes();
-    let spot = spot_of(alloc, text, fault)?;
-    let words = sentence(alloc, text, spot, fault)?;
+    let fault = marked(alloc, text, fault)?;
+    let spot = spot_of(alloc, text, &fault)?;
+    let lines_before = lines_before_source(alloc, deck, kind, text)?;
+    let words = sentence(alloc, text, spot, &fault, lines_before)?;
     told_of_source(alloc, deck, kind, text, spot, &words)
+}
+
+// How many lines of the input stand before the routine's text, where the deck has that in the same bytes; else none.
+fn lines_before_source(
+    alloc: Global,
+    deck: DeckPart<'_>,
+    kind: Kind,
+    text: &[u8],
+) -> Result<usize, AllocError> {
+    Ok(match find_source(alloc, deck.bytes, kind, text)? {
+        Some(at) => {
+            let first = place_at(deck.bytes, at).line.saturating_sub(1);
+            deck.lines_before.saturating_add(first)
+        }
+        None => 0,
+    })
 }
 
 // What it means that a routine of the deck sets a name that the deck doesn't define, and where it does so.

@@ -2,25 +2,39 @@
 #![tactic(auto)]
 
 mod assigned;
+mod case_fields;
+mod case_table;
 mod cases;
 mod command;
 mod command_line;
+mod compared;
 mod deck;
 mod deck_part;
+mod deck_sentence;
+mod deck_table;
+mod deck_values;
 mod finding;
+mod hinting;
 mod keys;
+mod left_side;
+mod marking;
 mod misfit;
+mod nearest;
+mod open_parts;
 mod operand_values;
 mod place;
+mod probing;
 mod routine;
+mod routine_text;
 mod script;
 mod showing;
 mod slot;
 mod source;
 mod spot;
+mod value_text;
 mod wording;
 
-pub use cases::{compared_deck, header_note, layout_note, record_note};
+pub use cases::{case_note, compared_deck, fields_note, header_note, layout_note, many_cases_note};
 pub use deck::deck_note;
 pub use deck_part::DeckPart;
 pub use routine::routine_note;

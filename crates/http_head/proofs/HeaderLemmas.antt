@@ -1,10 +1,10 @@
 -- A parse that finds a head with as many headers as one may have.
-use Rattle.std.proofs.Common.{◌≡◌, ◌↔◌, ◌==◌, ◌&&◌, ◌+◌, ◌≤◌, ◌<◌, ℕ, Bool, true, false, IsTrue, List, [], ◌∷◌, ◌++◌}
-use Rattle.std.proofs.Common.{length, drop, take, map, min, slice_index_or, replicate, inl, inr, refl, ap, sym, ◌∙◌, arith}
+use Rattle.std.proofs.Common.{◌≡◌, ◌↔◌, ◌==◌, ◌&&◌, ◌+◌, ◌≤◌, ◌<◌, ℕ, Bool, false, IsTrue, List, [], ◌∷◌, ◌++◌}
+use Rattle.std.proofs.Common.{length, drop, take, min, slice_index_or, replicate, inl, inr, refl, ap, sym, ◌∙◌, arith}
 use Rattle.std.proofs.Common.{length-append, append-nil}
 use Rattle.std.proofs.Math.Seq.{take-append-add}
-use Rattle.std.proofs.lemmas.List.{drop_all, drop_at, drop_more, get_or-replicate, length-map, length-replicate}
-use Rattle.std.proofs.lemmas.List.{length-take, take-append-drop, take_at}
+use Rattle.std.proofs.lemmas.List.{drop_all, drop_more, get_or-replicate, length-map, length-replicate}
+use Rattle.std.proofs.lemmas.List.{length-take, take-append-drop}
 use Rattle.std.specs.Prelude.{Result, Ok, Err}
 use Rattle.httparse.specs.Ascii.{line_feed}
 use Rattle.httparse.specs.Grammar.{RequestHead, ReadsRequest, NeverHasRequest, print_request, Field}
@@ -79,16 +79,6 @@ has_at buf n inside within feed all = record {
   within = omega (arith, within, length-take n buf);
   all = all;
 }
-
--- and nowhere where they end at none
-pub has_none : (buf : List ℕ) (end : ℕ) → end ≡ min (length buf) 8192 → ((n : ℕ) → n < end → slice_index_or buf n 0 ≡ 10 → AreAllHeaders (take n buf) → ⊥) → HasAllHeaders buf → ⊥
-has_none buf end is none h =
-    let long : length buf ≡ length h.lines + length (line_feed ∷ h.rest) = ap length h.begins ∙ length-append h.lines (line_feed ∷ h.rest) in
-    let behind : drop (length h.lines) buf ≡ line_feed ∷ h.rest = ap (λ l. drop (length h.lines) l) h.begins ∙ drop_at h.lines (line_feed ∷ h.rest) (length h.lines) refl in
-    let read : slice_index_or buf (length h.lines) 0 ∷ drop (length h.lines + 1) buf ≡ line_feed ∷ h.rest = sym (drop_more buf (length h.lines) 0 (omega (arith, long))) ∙ behind in
-    let feed : slice_index_or buf (length h.lines) 0 ≡ 10 = cc in
-    let front : take (length h.lines) buf ≡ h.lines = ap (λ l. take (length h.lines) l) h.begins ∙ take_at h.lines (line_feed ∷ h.rest) (length h.lines) refl in
-    none (length h.lines) (omega (arith, is, long, h.within)) feed (rw front h.all)
 
 -- two line feeds at any place of a list of them
 two_feeds : (m n : ℕ) → n + 2 ≤ m → take {A = ℕ} 2 (drop n (replicate m 10)) ≡ 10 ∷ 10 ∷ []

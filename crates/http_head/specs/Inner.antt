@@ -1,3 +1,4 @@
 -- What private clauses, invariants of types and proofs alone cite.
-pub mod Pieces
+pub mod Feeds
 pub mod Full
+pub mod Pieces

@@ -1,6 +1,7 @@
 //! Whether a buffer begins with as many headers as a head may have.
-ghost use Rattle.std.specs.Prelude.{◌≡◌, ◌<◌, ◌↔◌, length, IsTrue};
+ghost use Rattle.std.specs.Prelude.{◌≡◌, ◌<◌, ◌≤◌, ◌↔◌, drop, length, IfSome, IsTrue, None};
 ghost use Rattle.http_head.specs.Heads.{AreAllHeaders, HasAllHeaders, line_feeds};
+ghost use Rattle.http_head.specs.Inner.Feeds.{behind_empty, IsFeedBehind};
 ghost use Rattle.http_head.specs.Inner.Full.{is_full};
 ghost use Rattle.http_head.specs.Limits.{most_head_bytes};
 
@@ -17,12 +18,41 @@ pub const MAX_HEAD: usize = 8_192;
 pub fn has_all_headers(buf: &[u8]) -> bool
     ensures { IsTrue result ↔ HasAllHeaders buf.now }
 {
-    for at in 0..buf.len().min(MAX_HEAD) {
-        if buf[at] == b'\n' && are_all_headers(&buf[..at]) {
-            return true;
+    let empty = size_of_empty_lines(buf);
+    let Some(at) = nth_line_feed(&buf[empty..], MAX_HEADERS) else {
+        return false;
+    };
+    empty + at < MAX_HEAD && are_all_headers(&buf[..empty + at])
+}
+
+// The size of the empty lines that a head may have before its first line.
+fn size_of_empty_lines(buf: &[u8]) -> usize
+    ensures fits { result ≤ length buf.now }
+    ensures behind { drop result buf.now ≡ behind_empty buf.now }
+{
+    for at in 0..buf.len() {
+        if !matches!(buf[at], b'\r' | b'\n') {
+            return at;
         }
     }
-    false
+    buf.len()
+}
+
+// The place of the line feed that has so many before it.
+fn nth_line_feed(text: &[u8], count: usize) -> Option<usize>
+    ensures some { IfSome result (IsFeedBehind text.now count) }
+    ensures none { result ≡ None → line_feeds text.now ≤ count }
+{
+    let mut before = 0;
+    for at in 0..text.len() {
+        if text[at] == b'\n' {
+            if before == count {
+                return Some(at);
+            }
+            before += 1;
+        }
+    }
+    None
 }
 
 // Whether these lines, their end and an empty line are a head with as many headers as one may have.

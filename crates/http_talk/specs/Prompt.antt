@@ -1,4 +1,4 @@
--- What had been sent whenever a read was made (docs/http.md, "Answers").
+-- What had been sent whenever a read was made (docs/http.md, "How a connection ends").
 use Rattle.std.specs.Prelude.{◌≡◌, ℕ, List, ◌++◌, All, Option, None, Some, MatchOption}
 use Rattle.std.specs.Io.KnownBytes.{Consumes, Appends}
 use Rattle.sms_base.specs.Beside.{ReadMoment}
@@ -9,8 +9,8 @@ use Rattle.http_talk.specs.Talking.{Reads}
 use Rattle.http_talk.specs.Conversation.{IsPause}
 use Rattle.http_talk.specs.declared.talk.Talk.{Talk}
 
--- a moment of the conversation at which what had come was answered: the talks of its messages are the first of all, what
--- is due for them had been sent, and no whole message was left
+-- a moment of the conversation at which what had come was answered: the talks of its messages are the first of all,
+-- what is due for them had been sent, and no whole message was left
 pub record IsPauseAt (old : Observed) (talks : List Talk) (moment : ReadMoment) : Type 0 where
   pub came : List ℕ
   pub messages : List Message

@@ -1,10 +1,10 @@
-//! A door at which two workers meet.
+//! A door at which workers meet.
 ghost use Rattle.std.specs.Prelude.{Some};
 
 use crate::meeting::Meeting;
 use sms_base::{Accept, Failed, MemAccept, MemLink};
 
-/// A door that gives the links of another, each once a second door of its meeting was asked too.
+/// A door that gives the links of another, each once the other doors of its meeting were asked too.
 #[derive(Drop)]
 pub struct MeetingDoor<'a> {
     pub door: MemAccept,

@@ -413,12 +413,20 @@ fn a_door_that_fails_stops_no_other_worker(rt: HostRuntime) -> Result<(), Fail> 
     Ok(())
 }
 
-#[test]
-fn two_doors_are_served_at_once(rt: HostRuntime) -> Result<(), Fail> {
-    let alloc = rt.alloc();
-    let meeting = Meeting::new();
+/// How many doors meet, in words too, and the end of the text.
+static MEETINGS: [(u64, &str, &[u8]); 2] = [(2, "2", b"END 2 2\n"), (16, "16", b"END 16 16\n")];
+
+/// Whether so many doors are served at once, each by a worker: each was asked while all others were too.
+fn meet<R: Threads + Wait + Sync>(
+    rt: &R,
+    alloc: Global,
+    count: u64,
+    workers: &str,
+    end: &[u8],
+) -> Result<bool, Fail> {
+    let meeting = Meeting::new(count);
     let mut doors = Vec::new(alloc);
-    for _ in 0..2 {
+    for _ in 0..count {
         let door = MeetingDoor {
             door: door_of(alloc, link(alloc, CUT_BEHIND, 4096, &[], &[])?)?,
             meeting: &meeting,
@@ -427,8 +435,15 @@ fn two_doors_are_served_at_once(rt: HostRuntime) -> Result<(), Fail> {
             return Err(Fail::from("room"));
         }
     }
-    let (served, _doors) = serve_all(&rt, alloc, "1", "2", doors, &[])?;
-    assert!(rt; served.status == ServeStatus::Done);
-    assert!(rt; meeting.counts() == [2, 0]);
+    let (served, _doors) = serve_all(rt, alloc, "1", workers, doors, &[])?;
+    let met = meeting.counts() == [count, 0];
+    Ok(met && served.status == ServeStatus::Done && served.text.ends_with(end))
+}
+
+#[test]
+fn all_doors_are_served_at_once(rt: HostRuntime) -> Result<(), Fail> {
+    for (count, workers, end) in &MEETINGS {
+        assert!(rt; meet(&rt, rt.alloc(), *count, workers, end)?);
+    }
     Ok(())
 }

@@ -4,11 +4,12 @@ ghost use Rattle.std.specs.Process.{exit_status};
 ghost use Rattle.db_calls.specs.DbEnds.{db_status_of};
 ghost use Rattle.db_calls.specs.declared.status.DbStatus.{DbStatus as Ending};
 
-use crate::explaining::note_database;
+use crate::explaining::{cause_of, note_database};
 use crate::kept_source::KeptSource;
 use crate::noted_sink::NotedSink;
 use db_calls::DbStatus;
 use desk_calls::RunStatus;
+use desk_notes::note_replies;
 use fault_notes::shown;
 use file_calls::answer_file;
 use sms_base::{StdSink, StdSource};
@@ -33,7 +34,7 @@ pub fn run(rt: &HostRuntime, file: &str, words: &[String]) -> ExitCode
         Ok((status, connection)) => {
             let mut note = String::new(rt.alloc());
             note_database(rt.alloc(), &mut note, words, status, src.given());
-            out.seen().note(&mut note);
+            note_replies(rt.alloc(), &mut note, out.seen(), src.given());
             // What was committed stands in the log, so nothing is lost where it can't be copied into the file.
             let _ = connection.close();
             end(rt, status, &note)
@@ -51,7 +52,8 @@ fn refuse(rt: &HostRuntime, file: &str, error: Error) -> ExitCode
 {
     let _ = eprintln!(rt; "smsctl: status {NOT_OPENED}");
     if let Ok(name) = shown(rt.alloc(), file.as_bytes()) {
-        let _ = eprintln!(rt; "smsctl: '{name}': {error}; nothing was answered");
+        let cause = cause_of(error);
+        let _ = eprintln!(rt; "smsctl: '{name}': {error}{cause}; nothing was answered");
     }
     ExitCode::from(NOT_OPENED)
 }

@@ -6,6 +6,7 @@ use desk_notes::note_run;
 use serve_calls::ServeStatus;
 use sms_keeper::Table;
 use sms_open::OpenErr;
+use sqlite::{Error, ErrorCode};
 use std::alloc::Global;
 
 /// What failed in a run with the records in a database, and what stands.
@@ -71,6 +72,18 @@ fn sentence_of_test(number: u8) -> &'static str {
     }
 }
 
+/// What may be wrong with a file that can't be opened, as a part of a sentence; empty where the error says it.
+pub fn cause_of(error: Error) -> &'static str {
+    match error {
+        Error::SqliteFailure(ErrorCode::CannotOpen) => UNOPENED,
+        Error::SqliteFailure(ErrorCode::DatabaseBusy) => ", for another run or program has it open",
+        Error::SqliteFailure(ErrorCode::NotADatabase | ErrorCode::DatabaseCorrupt) => {
+            ", so no run of the desk has left it so"
+        }
+        _ => "",
+    }
+}
+
 /// What failed while the desk was served, and what stands; none where all went well.
 pub fn sentence_of_serving(status: ServeStatus) -> Option<&'static str> {
     match status {
@@ -81,6 +94,10 @@ pub fn sentence_of_serving(status: ServeStatus) -> Option<&'static str> {
         ServeStatus::AcceptFault => Some(SERVE_PORT),
     }
 }
+
+const UNOPENED: &str =
+    ", as where its folder isn't there or can't be written, its name is too long, it has a second hard link or is a \
+    symbolic link to nothing, or its name with -journal behind it is the name of a file too";
 
 const STORE_FAULT: &str =
     "the tables can't be made in the file, or not be read: it can't be written, has one of them in another form, \

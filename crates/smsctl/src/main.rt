@@ -16,7 +16,7 @@ use crate::kept_source::KeptSource;
 use crate::noted_sink::NotedSink;
 use db_calls::database_asked;
 use desk_calls::{RunStatus, desk_main};
-use desk_notes::{note_run, sentence_of};
+use desk_notes::{note_replies, note_run, sentence_of};
 use desk_words::{managed_day, serve_words};
 use manage_calls::manage_main;
 use sms_base::{Sink, Source, StdSink, StdSource, Words, read_words};
@@ -81,7 +81,7 @@ fn answer<T: Threads + Wait + Sync>(
     let mut out = NotedSink::new(StdSink::new(io::writer(rt)));
     let status = answer_over(rt.alloc(), threads, words, &mut src, &mut out);
     note_run(rt.alloc(), note, words, status, src.given());
-    out.seen().note(note);
+    note_replies(rt.alloc(), note, out.seen(), src.given());
     status
 }
 

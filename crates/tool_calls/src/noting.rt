@@ -3,8 +3,8 @@
 use acs_test::{CasesErr, Side};
 use acs_translate::{RoutineFault, TranslateErr};
 use fault_notes::{
-    DeckPart, compared_deck, deck_note, header_note, layout_note, misplaced_note, record_note,
-    routine_note, script_note,
+    DeckPart, case_note, compared_deck, deck_note, fields_note, header_note, layout_note,
+    many_cases_note, misplaced_note, routine_note, script_note,
 };
 use sms_construct::{Fault, Op, Stage, TextFault};
 use sms_script::{Item, Script, ScriptErr};
@@ -61,13 +61,10 @@ pub fn note_cases(alloc: Global, note: &mut String, text: &[u8], err: &CasesErr)
             let deck = compared_deck(text, is_new(*side));
             keep(note, deck_note(alloc, deck, fault));
         }
-        CasesErr::Fields(number) => {
-            let sentence = "has another number of fields than the header";
-            keep(note, record_note(alloc, *number, sentence));
-        }
-        CasesErr::Header(column) => keep(note, header_note(alloc, *column)),
-        CasesErr::BadCase(number) => keep(note, record_note(alloc, *number, "is no case")),
-        CasesErr::TooMany => keep(note, record_note(alloc, 10_002, "is the 10001st case")),
+        CasesErr::Fields(number) => keep(note, fields_note(alloc, text, *number)),
+        CasesErr::Header(column) => keep(note, header_note(alloc, text, *column)),
+        CasesErr::BadCase(number) => keep(note, case_note(alloc, text, *number)),
+        CasesErr::TooMany => keep(note, many_cases_note(alloc, text, 10_002)),
         CasesErr::NoMemory => (),
     }
 }

@@ -17,3 +17,5 @@ mod records;
 mod streams;
 #[cfg(test)]
 mod talking;
+#[cfg(test)]
+mod telling;

@@ -13,7 +13,7 @@ const ACTIVATIONS: u32 = 200;
 const ALLOCATIONS: u32 = 50;
 
 // The numbers of workers, and the number of scripts for each.
-const WORKERS: [usize; 4] = [2, 3, 5, 16];
+pub const WORKERS: [usize; 4] = [2, 3, 5, 16];
 
 const SCRIPTS: u32 = 250;
 
@@ -56,7 +56,7 @@ fn a_keeper_that_fails_is_told_by_one_history(rt: HostRuntime) -> Result<(), Fai
 }
 
 // A new core over a keeper in memory.
-fn in_memory(alloc: Global) -> Core<MemKeeper> {
+pub fn in_memory(alloc: Global) -> Core<MemKeeper> {
     Core::new(alloc, MemKeeper::new(alloc))
 }
 

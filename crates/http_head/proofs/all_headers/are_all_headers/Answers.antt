@@ -1,5 +1,5 @@
 -- What the parser finds in the lines and an empty one.
-use Rattle.std.proofs.Common.{refl, arith}
+use Rattle.std.proofs.Common.{arith}
 use Rattle.std.proofs.lemmas.Grind.{common_steps}
 use Rattle.http_head.proofs.HeaderLemmas.{full_is_all, text_is}
 use Rattle.http_head.proofs.all_headers.are_all_headers.Goals as goal

@@ -1,16 +1,20 @@
--- The lines before a line feed are tested, at each of them.
-use Rattle.std.proofs.Common.{arith, refl}
-use Rattle.http_head.proofs.HeaderLemmas.{has_at, has_none}
+-- The lines are tested at the one line feed that can end them.
+use Rattle.std.proofs.Common.{arith, rules}
+use Rattle.http_head.proofs.LastFeed.{at_last, no_last, past_last}
 use Rattle.http_head.proofs.all_headers.has_all_headers.Goals as goal
 
-pub returns-then-are_all_headers : goal.returns-then-are_all_headers
-returns-then-are_all_headers c = (
-  (λ t. has_at c.args.buf.now c.loop-at.at (omega (arith, c.loop-at-test.true, c.min-at-end.ensures)) (omega (arith, c.loop-at-test.true, c.min-at-end.ensures)) c.if-buf-at-eq10.true ((rw c.if-are_all_headers.true at c.are_all_headers.ensures).0 refl)),
-  (λ h. refl),
-)
+pub returns-in_default : goal.returns-in_default
+returns-in_default c =
+    let empty = c.size_of_empty_lines-empty in
+    (λ t. absurd (cc t), λ h. absurd (no_last c.args.buf.now empty.result empty.ensures.behind (search rules) h))
 
-pub returns : goal.returns
-returns c = (
-  (λ t. absurd (cc t)),
-  (λ h. absurd (has_none c.args.buf.now c.loop-at.at (omega (arith, c.loop-at-test.false, c.loop-at.auto.at-end, c.min-at-end.ensures)) c.loop-at.invariant h)),
-)
+pub returns-then-empty-at-lt-MAX_HEAD : goal.returns-then-empty-at-lt-MAX_HEAD
+returns-then-empty-at-lt-MAX_HEAD c =
+    let empty = c.size_of_empty_lines-empty in
+    at_last c.args.buf.now empty.result c.in-Some.at c.are_all_headers.result empty.ensures.fits empty.ensures.behind (search rules) c.if-empty-at-lt-MAX_HEAD.true c.are_all_headers.ensures
+
+pub returns-else-empty-at-lt-MAX_HEAD : goal.returns-else-empty-at-lt-MAX_HEAD
+returns-else-empty-at-lt-MAX_HEAD c =
+    let empty = c.size_of_empty_lines-empty in
+    let past = c.if-empty-at-lt-MAX_HEAD.false in
+    (λ t. absurd (grind (arith, past)), λ h. absurd (past_last c.args.buf.now empty.result c.in-Some.at empty.ensures.fits empty.ensures.behind (search rules) past h))
