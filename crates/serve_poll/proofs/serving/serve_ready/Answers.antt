@@ -2,7 +2,7 @@
 use Rattle.std.proofs.Common.{◌∙◌, sym, refl, ap}
 use Rattle.serve_poll.specs.declared.visitor.Visitor.{Visitor}
 use Rattle.serve_poll.proofs.HallLaws.{put_back, leave}
-use Rattle.serve_poll.proofs.ServingLaws.{stays_keeps, stays_none, watched_out, ready}
+use Rattle.serve_poll.proofs.ServingLaws.{stays_keeps, stays_none, watched_out, watched_back, ready}
 use Rattle.serve_poll.proofs.serving.serve_ready.Goals as goal
 
 pub returns-in_default-clause-stands : goal.returns-in_default-clause-stands
@@ -33,3 +33,15 @@ returns-in-None-clause-stands g c = λ away.
     (λ all first before out watched quiet.
     let same = c.in-None.ensures.key watched in
     rw c.last_step.ensures.back (put_back _ _ first _ all before _ _ _ _ _ c.args.key w out (same.key ∙ watched) (rw same.since quiet) (rw (c.insert_reserved.ensures.key ∙ c.in-Some.ensures.key_is_next) at c.insert_reserved.ensures.updates) c.insert_reserved.ensures.len c.insert_reserved.ensures.capacity))
+
+pub returns-in-Some-last_step-clause-watched : goal.returns-in-Some-last_step-clause-watched
+returns-in-Some-last_step-clause-watched g c = λ h.
+    watched_out g.P.Conn.Wire.seen _ _ c.args.hall.now.seats _ c.args.key (λ other told. c.done.ensures.awaited other (c.last_step.ensures.awaited other told)) h c.try_remove.ensures.updates
+
+pub returns-in-None-clause-watched : goal.returns-in-None-clause-watched
+returns-in-None-clause-watched g c = λ h.
+    let v = c.advance-step.new.visitor in
+    let w : Visitor g.row.P-Conn.Denot = record { number = v.number; conn = c.last_step.new.conn; conversation = v.conversation } in
+    watched_back g.P.Conn.Wire.seen _ _ c.args.hall.now.seats _ _ c.args.key w c.last_step.ensures.awaited h c.try_remove.ensures.updates
+    (rw (c.insert_reserved.ensures.key ∙ c.in-Some.ensures.key_is_next) at c.insert_reserved.ensures.updates)
+    (c.in-None.ensures.turn v.conversation c.advance-step.ensures.step)
