@@ -59,7 +59,7 @@ fn push_sets(text: &mut Vec<u8>, sets: &[&DataSet]) -> Result<(), AllocError>
         if later {
             text.push(b',')?;
         }
-        push_set(text, set)?;
+        push_set(text, *set)?;
         later = true;
         rest = others;
     }

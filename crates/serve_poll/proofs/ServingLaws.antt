@@ -156,6 +156,12 @@ not_vain_first wire wire' fresh is = ap (λ (w : WireSeen). w.watch.vain) is ∙
 pub same_watch : (key : ℕ) (told : Option ℕ) (wire : WireSeen) → wire.watch.key ≡ Some key → IsSameWatch wire.watch (watched_under key told wire).watch
 same_watch key told wire is = record { key = sym is; since = rw is refl }
 
+pub under_keeps : (key : ℕ) (told : Option ℕ) (wire wire' : WireSeen) → wire' ≡ watched_under key told wire → wire.watch.key ≡ Some key → IsSameWatch wire.watch wire'.watch
+under_keeps key told wire wire' is own = rw is (same_watch key told wire own)
+
+pub rest_keeps : (wire wire' : WireSeen) → wire' ≡ after_rest wire → IsSameWatch wire.watch wire'.watch
+rest_keeps wire wire' is = record { key = ap (λ (w : WireSeen). w.watch.key) is; since = ap (λ (w : WireSeen). w.watch.since) is }
+
 module _ {C : Type 0} (house : House) (seen : C → WireSeen) where
   -- nothing stood before
   pub stands_first : (told : ReadySeen) (back : Option (List C)) (hall : Hall C) → hall.seats.slots ≡ [] → hall.count ≡ 0 → hall.most ≤ hall.seats.capacity → Stands house seen told told [] back back hall
