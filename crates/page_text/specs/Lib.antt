@@ -1,2 +1,0 @@
-pub mod PageBodies
-pub mod Inner
