@@ -1,8 +1,8 @@
 //! A connection in memory.
 ghost use Rattle.std.specs.Prelude.{◌≡◌, ◌≤◌, ◌+◌, ◌-◌, ◌++◌, [], Some, length, take, min, vec_len};
 ghost use Rattle.ready_wires.specs.Memory.{WireInMemory};
-ghost use Rattle.ready_wires.specs.Wires.{Grows, IsWithin, TakesSome, after_rest, front_of, no_marks, no_watch, not_watched};
-ghost use Rattle.ready_wires.specs.Wires.{watched_under};
+ghost use Rattle.ready_wires.specs.Wires.{Grows, IsWithin, TakesSome, after_rest, front_of, no_marks, no_watch};
+ghost use Rattle.ready_wires.specs.Wires.{not_watched, watched_under};
 
 use crate::marks::Marks;
 use crate::watch::Watch;

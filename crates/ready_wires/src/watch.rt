@@ -11,8 +11,8 @@ pub struct Watch {
     pub since: Option<usize>,
     /// It was laid to rest behind the last time it was watched.
     pub rests: bool,
-    /// It was watched again though no call had given or taken bytes since, or laid to rest though none would have waited
-    /// either.
+    /// It was watched again though no call had given or taken bytes since, or laid to rest though none would have
+    /// waited either.
     pub vain: bool,
     /// It couldn't be watched when that was tried last.
     pub failed: bool,
@@ -53,8 +53,8 @@ impl Watch {
         self.failed = false;
     }
 
-    /// The connection is laid to rest; a call had given or taken bytes or would have waited since it was watched last, or
-    /// none had.
+    /// The connection is laid to rest; a call had given or taken bytes or would have waited since it was watched
+    /// last, or none had.
     pub fn rest(&mut self, tried: bool)
         ensures { self.new ≡ record self.old { rests = true; vain = vain_again self.old tried } }
     {

@@ -1,5 +1,6 @@
 -- What answering the questions at the front of a buffer does.
-use Rattle.std.specs.Prelude.{◌≡◌, ◌⊎◌, ℕ, ◌≤◌, ◌<◌, Bool, true, false, List, [], ◌∷◌, ◌++◌, length, drop, Result, Ok, Err}
+use Rattle.std.specs.Prelude.{◌≡◌, ◌⊎◌, ℕ, ◌≤◌, ◌<◌, Bool, true, false, List, [], ◌∷◌, ◌++◌, length, drop}
+use Rattle.std.specs.Prelude.{Result, Ok, Err}
 use Rattle.http_answer.specs.AnswerText.{answer_text}
 use Rattle.http_page.specs.Pages.{PageAsk}
 use Rattle.http_talk.specs.Hearing.{ClerkMoment}
