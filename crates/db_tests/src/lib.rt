@@ -16,8 +16,6 @@ mod flaky;
 #[cfg(test)]
 mod keeping;
 #[cfg(test)]
-mod limits;
-#[cfg(test)]
 mod reopened;
 #[cfg(test)]
 mod running;

@@ -9,7 +9,6 @@ use sqlite::{Alter, Connection};
 use std::alloc::Global;
 use std::test::Fail;
 
-/// The most bytes that a run may write beside four for each byte of its script.
 const ROOM: usize = 20_000;
 
 /// The words that name a database.
@@ -36,15 +35,14 @@ fn source(alloc: Global, script: &str) -> Result<MemSource, Fail> {
     Ok(MemSource::new(bytes, 16, Vec::new(alloc)))
 }
 
-fn sink(alloc: Global, script: &str) -> Result<MemSink, Fail> {
-    let room = script.len().saturating_mul(4).saturating_add(ROOM);
-    let buffer = vec![in alloc; 0; room]?;
+fn sink(alloc: Global) -> Result<MemSink, Fail> {
+    let buffer = vec![in alloc; 0; ROOM]?;
     Ok(MemSink::new(buffer, 7, Vec::new(alloc)))
 }
 
 fn prepare(alloc: Global, list: &[&str], script: &str) -> Result<Run, Fail> {
     let words = words(alloc, list)?;
-    let (src, out) = (source(alloc, script)?, sink(alloc, script)?);
+    let (src, out) = (source(alloc, script)?, sink(alloc)?);
     Ok(Run { words, src, out })
 }
 
