@@ -2,8 +2,6 @@
 #![tactic(auto)]
 
 #[cfg(test)]
-mod classifying;
-#[cfg(test)]
 mod counting;
 #[cfg(test)]
 mod holding;
