@@ -2,7 +2,7 @@
 ghost use Rattle.std.specs.Prelude.{◌≡◌};
 ghost use Rattle.acs_check.specs.Inner.CheckNumber.{number_of};
 
-/// The thirteen checks (docs/acs-language.md, Checks).
+/// The thirteen checks (docs/manual/acs-language.md, Checks).
 #[derive(Clone, Copy)]
 pub enum CheckName {
     /// The head is not the name of the kind's variable.

@@ -1,4 +1,4 @@
-//! The checks of an ACS routine (docs/acs-language.md, Checks).
+//! The checks of an ACS routine (docs/manual/acs-language.md, Checks).
 #![tactic(auto)]
 
 mod check_name;

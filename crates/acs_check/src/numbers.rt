@@ -1,4 +1,4 @@
-// Words that are numbers or sizes (docs/acs-language.md, Kinds that suit).
+// Words that are numbers or sizes (docs/manual/acs-language.md, Kinds that suit).
 ghost use Rattle.std.specs.Prelude.{◌≡◌};
 ghost use Rattle.acs_tree.specs.Numbers.{is_between, is_past_greatest, number_of, size_of};
 

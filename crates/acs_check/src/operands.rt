@@ -1,4 +1,4 @@
-// What the checks ask of an operand (docs/acs-language.md, Kinds that suit).
+// What the checks ask of an operand (docs/manual/acs-language.md, Kinds that suit).
 ghost use Rattle.std.specs.Prelude.{◌≡◌, ◌&&◌, ◌||◌, ◌==◌, not, is_some, is_none, true, length, if◌then◌else◌};
 ghost use Rattle.std.specs.Str.{bytes_eq};
 ghost use Rattle.desk_common.specs.Limits.{most_exit_code, most_groups_set};

@@ -1,4 +1,4 @@
-// What the checks ask of a variable by its row of the table, if it has one (docs/acs-language.md, Variables).
+// What the checks ask of a variable by its row of the table, if it has one (docs/manual/acs-language.md, Variables).
 ghost use Rattle.std.specs.Prelude.{◌≡◌, not};
 ghost use Rattle.acs_tree.specs.References.{passes, is_text_kind, is_number_kind, is_size_kind, is_counted_kind};
 ghost use Rattle.acs_tree.specs.References.{is_group_list, is_misindexed_by, is_outside, is_out_of_range_by, is_later};

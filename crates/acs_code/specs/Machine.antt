@@ -1,4 +1,4 @@
--- What running a code does (docs/acs-language.md, Code).
+-- What running a code does (docs/manual/acs-language.md, Code).
 use Rattle.std.specs.Prelude.{◌≡◌, ℕ, suc, Bool, List, [], ◌∷◌, ◌++◌, Option, Some, None, take, if◌then◌else◌}
 use Rattle.std.specs.List.{slice_get}
 use Rattle.desk_common.specs.Limits.{most_literal_bytes}

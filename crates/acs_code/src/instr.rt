@@ -4,7 +4,7 @@ use crate::probe::Probe;
 use desk_common::Items;
 use dsn_mask::{FilterIndex, Names};
 
-/// One instruction (docs/acs-language.md, Code). A test and a jump name the places where they go on.
+/// One instruction (docs/manual/acs-language.md, Code). A test and a jump name the places where they go on.
 #[derive(Drop)]
 pub enum Instr {
     Test { probe: Probe, yes: u64, no: u64 },

@@ -1,4 +1,4 @@
-//! The code of a routine, and the compiler that makes it (docs/acs-language.md, Code).
+//! The code of a routine, and the compiler that makes it (docs/manual/acs-language.md, Code).
 #![tactic(auto)]
 
 mod blocks;

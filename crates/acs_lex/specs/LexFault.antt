@@ -1,4 +1,4 @@
--- The first fault of a text that has no cut (docs/acs-language.md).
+-- The first fault of a text that has no cut (docs/manual/acs-language.md).
 use Rattle.std.specs.Prelude.{◌≡◌, ◌<◌, ℕ, Bool, true, false, List, [], ◌∷◌, length, codes}
 use Rattle.acs_lex.specs.declared.token.TokenForm.{TokenForm}
 use Rattle.acs_lex.specs.declared.token.Token.{Token}

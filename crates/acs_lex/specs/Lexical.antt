@@ -1,4 +1,4 @@
--- The bytes of ACS text, and the texts of its blanks, comments and tokens (docs/acs-language.md).
+-- The bytes of ACS text, and the texts of its blanks, comments and tokens (docs/manual/acs-language.md).
 use Rattle.std.specs.Prelude.{◌≡◌, ◌-◌, ◌==◌, ℕ, Bool, true, false, not, ◌&&◌, ◌||◌, nat_le, List, [], ◌∷◌, codes}
 use Rattle.std.specs.List.{list_any}
 use Rattle.std.specs.Char.{is_ascii_alphanumeric}

@@ -1,4 +1,4 @@
--- The cut of a text into tokens (docs/acs-language.md).
+-- The cut of a text into tokens (docs/manual/acs-language.md).
 use Rattle.std.specs.Prelude.{◌≤◌, ◌<◌, ◌-◌, ℕ, List, [], ◌∷◌, length, slice_range}
 use Rattle.std.specs.Str.{str_to_ascii_uppercase}
 use Rattle.acs_lex.specs.declared.token.TokenForm.{TokenForm}

@@ -1,4 +1,4 @@
-// What each byte is good for (docs/acs-language.md, Bytes and Tokens).
+// What each byte is good for (docs/manual/acs-language.md, Bytes and Tokens).
 ghost use Rattle.std.specs.Prelude.{◌≡◌};
 ghost use Rattle.acs_lex.specs.Lexical.{is_blank, is_line_end, is_name_byte, is_word_byte, is_quotable, is_single_sign};
 ghost use Rattle.acs_lex.specs.Lexical.{is_double_sign};

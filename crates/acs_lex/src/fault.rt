@@ -2,7 +2,7 @@
 
 use thiserror::Error;
 
-/// Why a text was refused, with the place of the byte that shows it (docs/acs-language.md, Faults).
+/// Why a text was refused, with the place of the byte that shows it (docs/manual/acs-language.md, Faults).
 #[derive(Clone, Copy, Debug, PartialEq, Eq, Error)]
 pub enum LexErr {
     #[error("the comment at byte {0} has no end")]

@@ -25,7 +25,7 @@ fn room_for(alloc: Global, text: &[u8]) -> Result<Tokens, LexErr>
 }
 
 /// The tokens of the text in their order, or the fault that is met first from the left
-/// (docs/acs-language.md).
+/// (docs/manual/acs-language.md).
 #[tactic(auto, using(crate::proofs::CutLemmas::want_is_exact))]
 pub fn scan(alloc: Global, text: &[u8]) -> Result<Tokens, LexErr>
     requires { length text.now < 2 ^ 32 }

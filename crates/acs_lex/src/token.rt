@@ -5,7 +5,7 @@ use desk_common::Items;
 /// The bytes of the longest sign.
 pub const MAX_SIGN: usize = 2;
 
-/// What a token is: a word, a variable, a text between quotes or a sign (docs/acs-language.md, Tokens).
+/// What a token is: a word, a variable, a text between quotes or a sign (docs/manual/acs-language.md, Tokens).
 #[derive(Clone, Copy, Debug, PartialEq, Eq)]
 pub enum TokenForm {
     Word,

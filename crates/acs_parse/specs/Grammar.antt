@@ -1,7 +1,7 @@
--- The grammar of routines (docs/acs-language.md, Grammar): relations between the tokens, the tree
+-- The grammar of routines (docs/manual/acs-language.md, Grammar): relations between the tokens, the tree
 -- that they mean, and the tokens left behind it. `total` is the number of all tokens, so that a
 -- place follows from what is left. `may n` says whether one more may open where n are open
--- (docs/acs-language.md, Nesting); each n is how many are open.
+-- (docs/manual/acs-language.md, Nesting); each n is how many are open.
 use Rattle.std.specs.Prelude.{◌≡◌, ◌-◌, ◌||◌, ℕ, suc, zero, Bool, true, false, List, [], ◌∷◌, length, nat_lt, Option}
 use Rattle.std.specs.Prelude.{Some, None}
 use Rattle.desk_common.specs.Limits.{most_nestings}

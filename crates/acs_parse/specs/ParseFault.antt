@@ -1,4 +1,4 @@
--- Why the tokens of a text are refused (docs/acs-language.md, Places of faults).
+-- Why the tokens of a text are refused (docs/manual/acs-language.md, Places of faults).
 use Rattle.std.specs.Prelude.{ℕ, List}
 use Rattle.acs_symbol.specs.declared.symbol.Symbol.{Symbol}
 use Rattle.acs_parse.specs.declared.fault.ParseErr.{ParseErr}

@@ -1,5 +1,5 @@
 -- Where tokens stop being the front of a routine, over all that could follow them
--- (docs/acs-language.md, Places of faults).
+-- (docs/manual/acs-language.md, Places of faults).
 use Rattle.std.specs.Prelude.{ℕ, ◌<◌, ◌+◌, Bool, List, ◌++◌, length, take}
 use Rattle.acs_tree.specs.declared.routine.Routine.{Routine}
 use Rattle.acs_symbol.specs.declared.symbol.Symbol.{Symbol}

@@ -1,4 +1,4 @@
--- The tokens that the grammar names (docs/acs-language.md, Grammar).
+-- The tokens that the grammar names (docs/manual/acs-language.md, Grammar).
 use Rattle.std.specs.Prelude.{Bool, true, false}
 use Rattle.acs_tree.specs.declared.routine.Compare.TheVariants.{Eq}
 use Rattle.acs_symbol.specs.declared.symbol.WordKind.TheVariants as word

@@ -6,7 +6,7 @@ use std::alloc::{AllocError, AllocFailed};
 use thiserror::Error;
 
 /// Why a list of tokens has no tree: the place of the token that shows it, counted from 0, or that
-/// the tokens end too early (docs/acs-language.md, Places of faults).
+/// the tokens end too early (docs/manual/acs-language.md, Places of faults).
 #[derive(Clone, Copy, Debug, PartialEq, Eq, Error)]
 pub enum ParseErr {
     #[error("token {0} can't follow the tokens before it")]

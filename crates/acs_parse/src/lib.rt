@@ -1,5 +1,5 @@
 //! The parser of ACS routines: the one tree of a list of tokens, or the place of the first token
-//! after which no routine can follow (docs/acs-language.md, Grammar).
+//! after which no routine can follow (docs/manual/acs-language.md, Grammar).
 //!
 //! Readers that call themselves hold little on the stack: they give boxes, and statements are made of their parts in
 //! functions apart (building.rt). A variable `_seen` that nothing reads names types that the check has to see where a

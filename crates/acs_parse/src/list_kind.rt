@@ -5,7 +5,7 @@ ghost use Rattle.acs_parse.specs.Grammar.{takes_words, takes_variables, joins, m
 use acs_symbol::Symbol;
 
 /// A list: the values of SET, the items of a WHEN, the parts of a WRITE, or the entries of a filter
-/// list (docs/acs-language.md, Grammar).
+/// list (docs/manual/acs-language.md, Grammar).
 #[derive(Clone, Copy)]
 pub enum ListKind {
     Values,

@@ -17,7 +17,7 @@ use acs_tree::Routine;
 use std::alloc::Global;
 
 /// The tree of the routine that the text's tokens are. The places of the tree and of a refusal are
-/// those of tokens, counted from 0 (docs/acs-language.md, Grammar, Nesting and Places of faults).
+/// those of tokens, counted from 0 (docs/manual/acs-language.md, Grammar, Nesting and Places of faults).
 #[tactic(auto, using(crate::proofs::RoutineLemmas::parse_steps))]
 pub fn parse(alloc: Global, text: &[u8], tokens: &Tokens) -> Result<Routine, ParseErr>
     requires { IsCut text.now tokens.now }

@@ -16,7 +16,7 @@ use crate::want::Want;
 use acs_symbol::{Rest, Symbol, WordKind};
 use acs_tree::{Compare, Ident};
 
-/// The most constructs that may be open at once (docs/acs-language.md, Nesting).
+/// The most constructs that may be open at once (docs/manual/acs-language.md, Nesting).
 pub const MAX_NESTING: u32 = 200;
 
 /// The place of the first of these tokens, of so many in all.

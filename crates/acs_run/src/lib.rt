@@ -1,4 +1,4 @@
-//! The machine that runs the code of a routine (docs/acs-language.md, Code).
+//! The machine that runs the code of a routine (docs/manual/acs-language.md, Code).
 #![tactic(auto)]
 
 mod answers;

@@ -1,4 +1,4 @@
--- The tokens of a text as the grammar reads them (docs/acs-language.md, Grammar).
+-- The tokens of a text as the grammar reads them (docs/manual/acs-language.md, Grammar).
 use Rattle.std.specs.Prelude.{◌-◌, ℕ, List, [], ◌∷◌, length, map, codes, slice_range, if◌then◌else◌}
 use Rattle.std.specs.List.{list_all}
 use Rattle.std.specs.Str.{bytes_eq}

@@ -1,5 +1,5 @@
 //! The tokens of a routine as its grammar reads them: each with its text, and with what a word can
-//! be besides a name (docs/acs-language.md, Grammar).
+//! be besides a name (docs/manual/acs-language.md, Grammar).
 #![tactic(auto)]
 
 mod keyword;

@@ -1,4 +1,4 @@
--- The line of an ALLOC that a record of a table writes (docs/tool.md, "Comparing two decks").
+-- The line of an ALLOC that a record of a table writes (docs/manual/tool.md, "Comparing two decks").
 use Rattle.std.specs.Prelude.{ℕ, ◌==◌, ◌&&◌, Bool, List, [], ◌∷◌, ◌++◌, bytes_eq, codes, length, nat_lt, position}
 use Rattle.std.specs.Prelude.{slice_get, Option, if◌then◌else◌}
 use Rattle.std.specs.List.{list_any}

@@ -1,4 +1,4 @@
--- The header of a table of cases (docs/tool.md, "Comparing two decks").
+-- The header of a table of cases (docs/manual/tool.md, "Comparing two decks").
 use Rattle.std.specs.Prelude.{ℕ, ◌+◌, ◌&&◌, ◌||◌, Bool, not, List, [], ◌∷◌, ◌++◌, bytes_eq, codes, length, map, Option}
 use Rattle.std.specs.Prelude.{None, Some, if◌then◌else◌}
 use Rattle.std.specs.Char.{to_ascii_uppercase}

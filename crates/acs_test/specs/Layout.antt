@@ -1,4 +1,4 @@
--- The layout of a comparison: two decks and a table of cases (docs/tool.md, "Comparing two decks").
+-- The layout of a comparison: two decks and a table of cases (docs/manual/tool.md, "Comparing two decks").
 use Rattle.std.specs.Prelude.{ℕ, ◌+◌, List, [], ◌∷◌, ◌++◌, bytes_eq, codes, Result, Ok, Err, if◌then◌else◌}
 use Rattle.sms_script.specs.Lines.{is_block_end, lines_of, text_of_line}
 

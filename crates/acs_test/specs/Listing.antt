@@ -1,4 +1,4 @@
--- How cases come out under two configurations (docs/tool.md, "Comparing two decks").
+-- How cases come out under two configurations (docs/manual/tool.md, "Comparing two decks").
 use Rattle.std.specs.Prelude.{ℕ, ◌≡◌, ◌↔◌, ◌+◌, Bool, true, false, List, [], ◌∷◌, ◌++◌, codes, decimal, flat_map}
 use Rattle.std.specs.Prelude.{length}
 use Rattle.acs_tree.specs.Slates.{SlateLines}

@@ -1,4 +1,4 @@
--- What an input for a comparison gives, and its first fault (docs/tool.md, "Comparing two decks").
+-- What an input for a comparison gives, and its first fault (docs/manual/tool.md, "Comparing two decks").
 use Rattle.std.specs.Prelude.{ℕ, ◌≡◌, List, Ok, Err}
 use Rattle.sms_construct.specs.Configuration.{Configuration}
 use Rattle.sms_construct.specs.declared.fault.Fault.{Fault}

@@ -1,4 +1,4 @@
--- The cases that the records of a table write (docs/tool.md, "Comparing two decks").
+-- The cases that the records of a table write (docs/manual/tool.md, "Comparing two decks").
 use Rattle.std.specs.Prelude.{ℕ, ◌≡◌, ◌+◌, ◌==◌, false, not, List, [], ◌∷◌, codes, length, nat_le, Option, None, Some}
 use Rattle.std.specs.Prelude.{Result, Ok, Err, if◌then◌else◌}
 use Rattle.std.specs.List.{list_any}

@@ -1,4 +1,4 @@
--- The records of a table (docs/tool.md, "Comparing two decks").
+-- The records of a table (docs/manual/tool.md, "Comparing two decks").
 use Rattle.std.specs.Prelude.{ℕ, List}
 use Rattle.csv.specs.Reading.{AreRecords, default_config, strip_bom}
 use Rattle.csv.specs.declared.parser.State.TheVariants.{StartRecord}

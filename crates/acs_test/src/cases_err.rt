@@ -10,7 +10,7 @@ pub enum Side {
     New,
 }
 
-/// Why an input can't be compared: its first fault, or want of memory (docs/tool.md, "Comparing two decks").
+/// Why an input can't be compared: its first fault, or want of memory (docs/manual/tool.md, "Comparing two decks").
 #[derive(Clone, Copy, Error)]
 pub enum CasesErr {
     /// The line with this number, from 1, is the first that isn't as the layout asks; where the input ends too

@@ -26,7 +26,7 @@ fn upper_case(alloc: Global, field: &[u8]) -> Result<Items<u8>, AllocError>
     Ok(Items::from_vec(column))
 }
 
-/// The number of the first column at fault, from 1 (docs/tool.md, "Comparing two decks").
+/// The number of the first column at fault, from 1 (docs/manual/tool.md, "Comparing two decks").
 pub fn header_fault(columns: &[Items<u8>]) -> Option<usize>
     ensures fault { result ≡ header_fault columns.now }
     ensures near { IfSome result (λ number. number ≤ length columns.now + 1) }

@@ -28,8 +28,8 @@ pub struct DeckPart<'a> {
     pub behind: Left<'a>,
 }
 
-/// The parts of an input, or the number of the first line that isn't as the layout asks (docs/tool.md, "Comparing
-/// two decks"). One walk over the text.
+/// The parts of an input, or the number of the first line that isn't as the layout asks (docs/manual/tool.md,
+/// "Comparing two decks"). One walk over the text.
 pub fn parts_of(bytes: &[u8]) -> Result<InputParts<'_>, u32>
     requires { length bytes.now < 2 ^ 32 }
     ensures parts { MatchResult result (λ parts. parts_of bytes.entry.now ≡ Ok (parts_seen parts))

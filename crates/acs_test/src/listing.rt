@@ -13,7 +13,7 @@ use sms_deck::Config;
 use sms_script::{push_number_and_blank, push_word_and_blank};
 use std::alloc::{AllocError, Global};
 
-/// What each case comes to under both configurations, and which differ (docs/tool.md, "Comparing two decks").
+/// What each case comes to under both configurations, and which differ (docs/manual/tool.md, "Comparing two decks").
 /// Nothing is allocated on a desk.
 pub fn compare(alloc: Global, cases: &Cases) -> Result<Vec<u8>, AllocError>
     ensures { IfOk result (λ text. IsListing cases.now.before cases.now.after cases.now.list text.items) }

@@ -14,7 +14,7 @@ use sms_construct::DeckText;
 use sms_deck::{Config, DeckErr, read_deck};
 use std::alloc::{AllocError, Global};
 
-/// The configurations of both decks and the cases of the table, or the first fault of the input (docs/tool.md,
+/// The configurations of both decks and the cases of the table, or the first fault of the input (docs/manual/tool.md,
 /// "Comparing two decks").
 pub fn read_cases(alloc: Global, bytes: &[u8]) -> Result<Cases, CasesErr>
     requires { length bytes.now < 2 ^ 32 }

@@ -22,7 +22,7 @@ use std::alloc::{AllocError, Global};
 /// The most cases of a table.
 const MAX_CASES: u32 = 10_000;
 
-/// The case of a record behind the header and so many cases, or its fault (docs/tool.md, "Comparing two decks").
+/// The case of a record behind the header and so many cases, or its fault (docs/manual/tool.md, "Comparing two decks").
 /// The buffer is for the line of its ALLOC.
 pub fn read_record(
     alloc: Global,

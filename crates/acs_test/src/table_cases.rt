@@ -15,7 +15,7 @@ use csv::ByteRecord;
 use desk_common::Items;
 use std::alloc::{AllocError, Global};
 
-/// The cases of a table, or its first fault (docs/tool.md, "Comparing two decks").
+/// The cases of a table, or its first fault (docs/manual/tool.md, "Comparing two decks").
 pub fn read_table(alloc: Global, table: &[u8]) -> Result<Items<Case>, CasesErr>
     requires { length table.now + 2 < 2 ^ 32 }
     ensures ok { IfOk result (λ list. TableGives table.now (Ok list)) }

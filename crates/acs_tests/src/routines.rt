@@ -58,7 +58,7 @@ PROC STORGRP
 END
 ";
 
-/// The example of docs/acs-language.md.
+/// The example of docs/manual/acs-language.md.
 const EXAMPLE: &str = "
 PROC STORCLAS
   FILTLIST OLD INCLUDE(PAY.OLD.**, TEST.**)

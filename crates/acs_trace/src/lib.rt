@@ -1,4 +1,4 @@
-//! What happens in a run of an ACS routine, statement by statement (docs/acs-language.md, Meaning).
+//! What happens in a run of an ACS routine, statement by statement (docs/manual/acs-language.md, Meaning).
 #![tactic(auto)]
 
 mod conditions;

@@ -1,4 +1,4 @@
--- What translating a text says (docs/acs-language.md).
+-- What translating a text says (docs/manual/acs-language.md).
 use Rattle.std.specs.Prelude.{◌≡◌, ◌⊎◌, ℕ, List, length, Result, Ok, Err}
 use Rattle.acs_lex.specs.declared.token.Token.{Token}
 use Rattle.acs_lex.specs.declared.fault.LexErr.{LexErr}

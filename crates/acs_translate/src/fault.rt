@@ -11,7 +11,7 @@ pub enum Stage {
 
 /// A fault of a routine's text, as L1 to L4, P1 to P3 or C1 to C13 with its place: a byte of the
 /// text for the scanner, otherwise a token, both counted from 0. For an end too early it is the
-/// number of tokens (docs/acs-language.md, Faults, Places of faults and Checks).
+/// number of tokens (docs/manual/acs-language.md, Faults, Places of faults and Checks).
 #[derive(Clone, Copy, Debug, PartialEq, Eq)]
 pub struct RoutineFault {
     pub stage: Stage,

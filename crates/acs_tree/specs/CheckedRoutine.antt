@@ -1,4 +1,4 @@
--- What a checked routine is (docs/acs-language.md, Checks).
+-- What a checked routine is (docs/manual/acs-language.md, Checks).
 use Rattle.std.specs.Prelude.{◌≡◌}
 use Rattle.acs_tree.specs.declared.kind.Kind.{Kind}
 use Rattle.acs_tree.specs.declared.routine.Routine.{Routine}

@@ -1,4 +1,4 @@
--- What stands on the right of a comparison (docs/acs-language.md, Meaning).
+-- What stands on the right of a comparison (docs/manual/acs-language.md, Meaning).
 use Rattle.std.specs.Prelude.{ℕ, Bool, List, Option, Some, None, filter_map, if◌then◌else◌}
 use Rattle.std.specs.Option.{option_map}
 use Rattle.dsn_mask.specs.Filter.{FilterLists}

@@ -1,4 +1,4 @@
--- When a comparison holds (docs/acs-language.md, Meaning).
+-- When a comparison holds (docs/manual/acs-language.md, Meaning).
 use Rattle.std.specs.Prelude.{◌==◌, ◌&&◌, ℕ, Bool, false, not, List, [], ◌∷◌, Option, Some, None, nat_le, nat_lt}
 use Rattle.std.specs.List.{list_all, list_any}
 use Rattle.std.specs.Str.{bytes_eq}

@@ -1,4 +1,4 @@
--- When a condition holds (docs/acs-language.md, Meaning).
+-- When a condition holds (docs/manual/acs-language.md, Meaning).
 use Rattle.std.specs.Prelude.{◌&&◌, ◌||◌, Bool, false, List, Option, Some, None}
 use Rattle.std.specs.List.{list_any}
 use Rattle.acs_tree.specs.declared.input.Input.{Input}

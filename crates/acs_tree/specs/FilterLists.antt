@@ -1,4 +1,4 @@
--- Filter lists by their names, and their words (docs/acs-language.md, Filter lists, Checks).
+-- Filter lists by their names, and their words (docs/manual/acs-language.md, Filter lists, Checks).
 use Rattle.std.specs.Prelude.{◌&&◌, ℕ, Bool, true, not, List, Option, Some, None, filter_map, find, is_some, is_none}
 use Rattle.std.specs.List.{list_all}
 use Rattle.std.specs.Str.{bytes_eq}

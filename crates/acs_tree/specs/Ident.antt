@@ -1,4 +1,4 @@
--- Names of variables and words (docs/acs-language.md, Tree).
+-- Names of variables and words (docs/manual/acs-language.md, Tree).
 use Rattle.std.specs.Prelude.{◌≤◌, ◌&&◌, ℕ, Bool, List, length, nat_le, not}
 use Rattle.std.specs.List.{AllPass}
 use Rattle.desk_common.specs.Limits.{most_word_bytes}

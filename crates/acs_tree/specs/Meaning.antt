@@ -1,4 +1,4 @@
--- What a routine means: by recursion on its tree (docs/acs-language.md, Meaning).
+-- What a routine means: by recursion on its tree (docs/manual/acs-language.md, Meaning).
 use Rattle.std.specs.Prelude.{ℕ, List, [], ◌∷◌, map, Option, Some, None, if◌then◌else◌}
 use Rattle.std.specs.Option.{unwrap_or}
 use Rattle.desk_common.specs.Limits.{most_exit_code}

@@ -1,4 +1,4 @@
--- The nodes of a routine: what the checks look at, one by one (docs/acs-language.md, Checks).
+-- The nodes of a routine: what the checks look at, one by one (docs/manual/acs-language.md, Checks).
 use Rattle.std.specs.Prelude.{ℕ, suc, List, [], ◌∷◌, ◌++◌, map, Option, Some, None}
 use Rattle.acs_tree.specs.declared.routine.Compare.{Compare}
 use Rattle.acs_tree.specs.declared.routine.Cond.{Cond, fold-Cond}

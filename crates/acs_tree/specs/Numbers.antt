@@ -1,4 +1,4 @@
--- Words that are numbers or sizes (docs/acs-language.md, Kinds that suit).
+-- Words that are numbers or sizes (docs/manual/acs-language.md, Kinds that suit).
 use Rattle.std.specs.Prelude.{◌+◌, ◌-◌, ◌*◌, ◌&&◌, ℕ, Bool, false, List, [], ◌∷◌, length, take, drop, nat_le, nat_lt}
 use Rattle.std.specs.Prelude.{codes, Option, Some, None, is_some, if◌then◌else◌}
 use Rattle.std.specs.List.{list_all}

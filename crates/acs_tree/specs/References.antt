@@ -1,4 +1,4 @@
--- What the checks ask of a variable where it stands in a routine (docs/acs-language.md, Variables).
+-- What the checks ask of a variable where it stands in a routine (docs/manual/acs-language.md, Variables).
 use Rattle.std.specs.Prelude.{◌&&◌, ◌||◌, ℕ, Bool, true, false, not, List, nat_lt, codes, Option, Some, None, is_some}
 use Rattle.std.specs.Prelude.{is_none}
 use Rattle.std.specs.Str.{bytes_eq}

@@ -1,4 +1,4 @@
--- What SET sets (docs/acs-language.md, Meaning).
+-- What SET sets (docs/manual/acs-language.md, Meaning).
 use Rattle.std.specs.Prelude.{◌&&◌, ◌++◌, ℕ, Bool, List, [], ◌∷◌, length, nat_lt, not, if◌then◌else◌}
 use Rattle.std.specs.List.{list_any}
 use Rattle.std.specs.Str.{bytes_eq}

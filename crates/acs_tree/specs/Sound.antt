@@ -1,4 +1,4 @@
--- When a routine is sound (docs/acs-language.md, Checks).
+-- When a routine is sound (docs/manual/acs-language.md, Checks).
 use Rattle.std.specs.Prelude.{◌≡◌, ◌==◌, ◌&&◌, ◌||◌, ℕ, true, not, List, [], ◌∷◌, ◌++◌, length, Option, Some, None}
 use Rattle.std.specs.Prelude.{is_some, if◌then◌else◌}
 use Rattle.std.specs.Str.{bytes_eq}

@@ -1,4 +1,4 @@
--- What the checks ask of operands (docs/acs-language.md, Kinds that suit).
+-- What the checks ask of operands (docs/manual/acs-language.md, Kinds that suit).
 use Rattle.std.specs.Prelude.{◌&&◌, ◌||◌, ℕ, Bool, true, false, not, List, [], ◌∷◌, Option, Some, None, is_none}
 use Rattle.std.specs.Prelude.{is_some, if◌then◌else◌}
 use Rattle.std.specs.List.{list_any}

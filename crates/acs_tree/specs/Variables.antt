@@ -1,4 +1,4 @@
--- The table of variables (docs/acs-language.md, Variables).
+-- The table of variables (docs/manual/acs-language.md, Variables).
 use Rattle.std.specs.Prelude.{◌==◌, ◌+◌, ℕ, List, [], ◌∷◌, length, Option, Some, None, codes, if◌then◌else◌}
 use Rattle.std.specs.Option.{option_map, unwrap_or}
 use Rattle.std.specs.Str.{bytes_eq}

@@ -1,4 +1,4 @@
--- What WRITE writes (docs/acs-language.md, Meaning).
+-- What WRITE writes (docs/manual/acs-language.md, Meaning).
 use Rattle.std.specs.Prelude.{◌++◌, ℕ, List, [], ◌∷◌, take, codes, decimal}
 use Rattle.std.specs.List.{join_with_byte}
 use Rattle.desk_common.specs.Limits.{most_literal_bytes}

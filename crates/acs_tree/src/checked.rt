@@ -6,7 +6,7 @@ use crate::kind::Kind;
 use crate::routine::Routine;
 use std::marker::Model;
 
-/// A routine that breaks no check, with its kind (docs/acs-language.md, Checks).
+/// A routine that breaks no check, with its kind (docs/manual/acs-language.md, Checks).
 #[derive(Drop)]
 pub struct Checked {
     tree: Routine,

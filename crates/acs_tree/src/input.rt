@@ -16,7 +16,7 @@ const TRACK_BYTES: u64 = 56_664;
 
 const KILOBYTE: u64 = 1024;
 
-/// What the read-only variables hold in a run (docs/acs-language.md, Variables). A text that is not
+/// What the read-only variables hold in a run (docs/manual/acs-language.md, Variables). A text that is not
 /// given is empty and a number 0. `&HLQ` and `&LLQ` are parts of the name, `&NQUAL` and `&NVOL` count its
 /// qualifiers and the volumes, and `&ANYVOL` and `&ALLVOL` are the volumes.
 #[derive(Clone, Copy)]

@@ -1,4 +1,4 @@
-//! The tree of an ACS routine (docs/acs-language.md, Tree).
+//! The tree of an ACS routine (docs/manual/acs-language.md, Tree).
 #![tactic(auto)]
 
 mod account;

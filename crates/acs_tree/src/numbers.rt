@@ -1,4 +1,4 @@
-// Words that are numbers or sizes (docs/acs-language.md, Kinds that suit).
+// Words that are numbers or sizes (docs/manual/acs-language.md, Kinds that suit).
 ghost use Rattle.std.specs.Prelude.{◌≡◌, ◌≤◌, ◌<◌, IfSome, Some, is_some};
 ghost use Rattle.std.specs.List.{list_all};
 ghost use Rattle.dsn_mask.specs.Name.{is_digit};

@@ -1,5 +1,5 @@
 // The tree of a routine. Each `at` is the place of a token, counted from 0
-// (docs/acs-language.md, Tree).
+// (docs/manual/acs-language.md, Tree).
 ghost use Rattle.std.specs.Prelude.{◌≡◌};
 ghost use Rattle.acs_tree.specs.References.{is_whole_name};
 

@@ -1,4 +1,4 @@
-//! The table of variables (docs/acs-language.md, Variables).
+//! The table of variables (docs/manual/acs-language.md, Variables).
 ghost use Rattle.std.specs.Prelude.{◌≡◌, ◌==◌, List, ℕ, filter, length, map};
 ghost use Rattle.acs_tree.specs.declared.variable.Variable.{Variable as VariableOf};
 ghost use Rattle.acs_tree.specs.Variables.{Row, look_up, variable_of, variables};

@@ -1,4 +1,4 @@
--- The words that ask for a run over a database (docs/script.md, "The program").
+-- The words that ask for a run over a database (docs/manual/script.md, "The program").
 use Rattle.std.specs.Prelude.{ℕ, ◌&&◌, List, [], ◌∷◌, Option, None, Some, bytes_eq, codes, if◌then◌else◌}
 
 -- the file: `run`, `--db` and its path; no other words name one

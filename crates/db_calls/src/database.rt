@@ -18,7 +18,7 @@ use std::alloc::Global;
 
 /// Answers the script of the source on a desk that goes on from the keeper's tables, which are made ready first, and
 /// writes the text of the answers to the sink; it hands the keeper back. The words name a file, which this call
-/// doesn't open: the keeper stands on it (docs/script.md, "The program").
+/// doesn't open: the keeper stands on it (docs/manual/script.md, "The program").
 pub fn db_main<S: Source, K: Sink, P: Stored>(
     alloc: Global,
     words: &[String],

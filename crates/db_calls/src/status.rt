@@ -5,7 +5,7 @@ ghost use Rattle.db_calls.specs.DbEnds.{db_status_of};
 use desk_calls::RunStatus;
 use sms_open::OpenErr;
 
-/// How a run over a stored keeper ends; docs/script.md has the cause of each.
+/// How a run over a stored keeper ends; docs/manual/script.md has the cause of each.
 #[derive(Clone, Copy, Debug, PartialEq, Eq)]
 pub enum DbStatus {
     /// As a run ends.

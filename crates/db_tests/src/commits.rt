@@ -100,7 +100,7 @@ fn refused(alloc: Global) -> Result<bool, Fail> {
     Ok(good && is_left(keeper, REFUSED, 4)?)
 }
 
-// The columns and the records as docs/records.md writes them.
+// The columns and the records as docs/manual/records.md writes them.
 static COLUMNS: &[(&str, i64)] = &[
     (
         "SELECT count(*) FROM replies WHERE job = 'JOB1' AND number = 7 AND place = 1",

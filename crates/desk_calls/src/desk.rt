@@ -28,8 +28,8 @@ use std::thread::Threads;
 /// Does what the words of the command line ask, on an empty desk over a keeper of empty tables, which it hands back:
 /// reads a script from the source to its end, answers it by as many workers as are asked for and writes the text of
 /// the answers to the sink, with the table of volumes behind it where that is asked for; or answers a generated script,
-/// with the source untouched, and writes the summary of the answers (docs/script.md, "The program"; docs/generator.md).
-/// The gate is called by several workers alone (docs/workers.md, "Submitting").
+/// with the source untouched, and writes the summary of the answers (docs/manual/script.md, "The program";
+/// docs/manual/generator.md). The gate is called by several workers alone (docs/manual/workers.md, "Submitting").
 pub fn desk_main<S: Source, K: Sink, P: Keeper + Send, R: Threads + Wait + Sync, G: Gate + Sync>(
     alloc: Global,
     rt: &R,

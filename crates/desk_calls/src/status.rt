@@ -4,7 +4,7 @@ ghost use Rattle.desk_calls.specs.ExitStatus.{exit_status_of};
 
 use sms_script::ScriptErr;
 
-/// How a run of the desk ends; docs/script.md has the cause of each.
+/// How a run of the desk ends; docs/manual/script.md has the cause of each.
 #[derive(Clone, Copy, Debug, PartialEq, Eq)]
 pub enum RunStatus {
     /// The script was read to its end, and the whole text of its answers was written.

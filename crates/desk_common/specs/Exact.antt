@@ -1,4 +1,4 @@
--- The thing, or its first fault (docs/HOUSE.md, "Answers: the thing, or its first fault").
+-- The thing, or its first fault (docs/developers/HOUSE.md, "Answers: the thing, or its first fault").
 use Rattle.std.specs.Prelude.{◌≡◌, ◌≤◌, ◌⊎◌, ℕ, Option, Some, Result, Ok, Err, IsErrAnd}
 
 -- where a fault is met, and its rank among those that are met there

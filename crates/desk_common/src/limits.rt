@@ -48,7 +48,7 @@ pub const MAX_PIECES: usize = 5;
 /// The tracks of a cylinder.
 pub const TRACKS_IN_CYLINDER: u32 = 15;
 
-/// The first track of the cylinder-managed part of a volume (docs/rules.md, "The tracks of a volume").
+/// The first track of the cylinder-managed part of a volume (docs/manual/rules.md, "The tracks of a volume").
 pub const BORDER: u32 = 982_800;
 
 /// The cylinders of a volume before its border.

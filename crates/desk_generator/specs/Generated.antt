@@ -1,4 +1,4 @@
--- The generated script (docs/generator.md).
+-- The generated script (docs/manual/generator.md).
 use Rattle.std.specs.Prelude.{ℕ, zero, suc, ◌+◌, ◌*◌, ◌/◌, ◌%◌, ◌==◌, ◌&&◌, not, Bool, List, [], ◌∷◌, ◌++◌, codes}
 use Rattle.std.specs.Prelude.{decimal, flat_map, if◌then◌else◌}
 use Rattle.sms_construct.specs.Quantities.{Quantities}

@@ -1,4 +1,4 @@
--- The summary of a generated run (docs/generator.md).
+-- The summary of a generated run (docs/manual/generator.md).
 use Rattle.std.specs.Prelude.{ℕ, ◌-◌, ◌==◌, List, [], ◌∷◌, ◌++◌, bytes_eq, codes, count_by, decimal, flat_map, length}
 use Rattle.std.specs.Prelude.{sum_by, take, if◌then◌else◌}
 use Rattle.sms_construct.specs.declared.entry.Answer.{Answer}

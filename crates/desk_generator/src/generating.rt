@@ -11,7 +11,7 @@ use sms_script::{Item, Phase, Script};
 use std::alloc::{AllocError, Global};
 
 /// The generated script: the activation of its deck and behind it so many items, 1 to 40,000, which the seed
-/// determines (docs/generator.md).
+/// determines (docs/manual/generator.md).
 pub fn generate(alloc: Global, seed: u32, count: u32) -> Result<Script, AllocError>
     requires { count ≤ most_items }
     ensures { IfOk result (λ script. script ≡ generated seed count) }

@@ -11,7 +11,7 @@ use sms_construct::{Answer, VolRow};
 use std::alloc::{AllocError, Global};
 
 /// The summary of a generated run: each code that was answered with its number, the granted and the free tracks
-/// of the active volumes, and the numbers of entries and items (docs/generator.md).
+/// of the active volumes, and the numbers of entries and items (docs/manual/generator.md).
 pub fn summary(
     alloc: Global,
     seed: u32,

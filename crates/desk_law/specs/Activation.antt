@@ -1,4 +1,4 @@
--- ACTIVATE (docs/rules.md, "ACTIVATE").
+-- ACTIVATE (docs/manual/rules.md, "ACTIVATE").
 use Rattle.std.specs.Prelude.{ℕ, ◌+◌, ◌&&◌, ◌⊎◌, nat_lt, List, ◌++◌, find, map, Option, Some, MatchOption}
 use Rattle.sms_construct.specs.Configuration.{Configuration}
 use Rattle.sms_construct.specs.declared.fault.Fault.{Fault}

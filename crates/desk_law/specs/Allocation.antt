@@ -1,4 +1,4 @@
--- ALLOC (docs/rules.md, "ALLOC").
+-- ALLOC (docs/manual/rules.md, "ALLOC").
 use Rattle.std.specs.Prelude.{ℕ, ◌≡◌, Bool, false, List, [], bytes_eq, filter, find, Option, Some, None, is_some}
 use Rattle.std.specs.Prelude.{option_and_then, option_map, unwrap_or, Result, Ok, MatchResult, if◌then◌else◌}
 use Rattle.std.specs.List.{list_any}

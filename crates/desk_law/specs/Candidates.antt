@@ -1,5 +1,5 @@
--- What is asked of volumes, which of them a data set gets, and what it grants (docs/rules.md, "The lists", "The gap
--- rule").
+-- What is asked of volumes, which of them a data set gets, and what it grants (docs/manual/rules.md, "The lists", "The
+-- gap rule").
 use Rattle.std.specs.Prelude.{ℕ, ◌+◌, ◌%◌, ◌<◌, ◌≡◌, ◌⊎◌, Bool, false, List, [], ◌∷◌, bytes_eq, length, map, slice_get}
 use Rattle.std.specs.Prelude.{Option, None, Some, is_some, if◌then◌else◌}
 use Rattle.sms_construct.specs.Quantities.{tracks_in}

@@ -1,4 +1,4 @@
--- What the routines of a configuration give a new data set (docs/rules.md, "Classification").
+-- What the routines of a configuration give a new data set (docs/manual/rules.md, "Classification").
 use Rattle.std.specs.Prelude.{ℕ, ◌==◌, Bool, true, false, List, [], ◌∷◌, Option, None, Some, option_map, unwrap_or}
 use Rattle.std.specs.Prelude.{Result, Ok, Err, if◌then◌else◌}
 use Rattle.std.specs.Option.{option_or}

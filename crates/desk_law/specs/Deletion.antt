@@ -1,4 +1,4 @@
--- DELETE (docs/rules.md, "DELETE").
+-- DELETE (docs/manual/rules.md, "DELETE").
 use Rattle.std.specs.Prelude.{ℕ, List, MatchResult}
 use Rattle.sms_construct.specs.declared.reply.Reply.{Reply}
 use Rattle.sms_construct.specs.declared.reply.Reply.TheVariants as replies

@@ -1,4 +1,4 @@
--- DISPLAY (docs/rules.md, "DISPLAY").
+-- DISPLAY (docs/manual/rules.md, "DISPLAY").
 use Rattle.std.specs.Prelude.{length, sum_by, Option, option_map, MatchResult}
 use Rattle.sms_construct.specs.declared.reply.Reply.{Reply}
 use Rattle.sms_construct.specs.declared.reply.Reply.TheVariants as replies

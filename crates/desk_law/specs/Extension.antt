@@ -1,4 +1,4 @@
--- EXTEND (docs/rules.md, "EXTEND").
+-- EXTEND (docs/manual/rules.md, "EXTEND").
 use Rattle.std.specs.Prelude.{ℕ, ◌≡◌, ◌==◌, ◌||◌, nat_lt, not, Bool, List, [], ◌∷◌, ◌++◌, length, filter, Option, None}
 use Rattle.std.specs.Prelude.{Some, option_map, Result, Ok, MatchResult, MatchOption, MatchBool, if◌then◌else◌}
 use Rattle.desk_common.specs.Steps.{◌⊳◌}

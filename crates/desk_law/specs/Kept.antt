@@ -1,4 +1,4 @@
--- What a history keeps: replies and floors (docs/records.md, "Kept replies").
+-- What a history keeps: replies and floors (docs/manual/records.md, "Kept replies").
 use Rattle.std.specs.Prelude.{ℕ, Bool, true, false, max, List, [], ◌∷◌, ◌++◌, find, Option, if◌then◌else◌}
 use Rattle.sms_construct.specs.Fate.{fate_of}
 use Rattle.sms_construct.specs.declared.entry.Entry.{Entry}

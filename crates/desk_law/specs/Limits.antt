@@ -1,4 +1,4 @@
--- The limits of a journal (docs/limits.md).
+-- The limits of a journal (docs/manual/limits.md).
 use Rattle.std.specs.Prelude.{ℕ}
 
 -- the entries of a journal

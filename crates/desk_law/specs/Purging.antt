@@ -1,4 +1,4 @@
--- PURGE (docs/rules.md, "PURGE").
+-- PURGE (docs/manual/rules.md, "PURGE").
 use Rattle.std.specs.Prelude.{ℕ, List, max}
 use Rattle.sms_construct.specs.declared.reply.Reply.{Reply}
 use Rattle.sms_construct.specs.declared.reply.Reply.TheVariants as replies

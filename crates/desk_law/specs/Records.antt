@@ -1,4 +1,4 @@
--- The tables of a history (docs/records.md).
+-- The tables of a history (docs/manual/records.md).
 use Rattle.std.specs.Prelude.{ℕ, ◌≡◌, ◌==◌, nat_lt, Bool, List, [], ◌∷◌, ◌++◌, filter, find, Option, None, Some}
 use Rattle.std.specs.Prelude.{if◌then◌else◌}
 use Rattle.sms_construct.specs.declared.entry.Entry.{Entry}

@@ -1,4 +1,4 @@
--- RELEASE (docs/rules.md, "RELEASE").
+-- RELEASE (docs/manual/rules.md, "RELEASE").
 use Rattle.std.specs.Prelude.{ℕ, ◌-◌, List, max, MatchResult}
 use Rattle.sms_construct.specs.Quantities.{rounded_up, tracks_in}
 use Rattle.sms_construct.specs.declared.data_set.DataSet.{DataSet}

@@ -1,5 +1,5 @@
--- One event of the desk: what an entry may be after the entries before it, and what it does (docs/rules.md, "Order of
--- answers").
+-- One event of the desk: what an entry may be after the entries before it, and what it does (docs/manual/rules.md,
+-- "Order of answers").
 use Rattle.std.specs.Prelude.{ℕ, Bool, true, false, ◌≡◌, ◌+◌, ◌<◌, ◌⊎◌, nat_lt, List, length, count_by, MatchOption}
 use Rattle.std.specs.Prelude.{MatchBool}
 use Rattle.sms_construct.specs.Quantities.{IsRequestNumber}

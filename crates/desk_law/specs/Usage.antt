@@ -1,4 +1,4 @@
--- USED (docs/rules.md, "USED").
+-- USED (docs/manual/rules.md, "USED").
 use Rattle.std.specs.Prelude.{ℕ, List, nat_lt, Result, Ok, MatchResult}
 use Rattle.desk_common.specs.Steps.{◌⊳◌}
 use Rattle.sms_construct.specs.declared.data_set.DataSet.{DataSet}

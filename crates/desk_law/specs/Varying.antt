@@ -1,4 +1,4 @@
--- VARY (docs/rules.md, "VARY").
+-- VARY (docs/manual/rules.md, "VARY").
 use Rattle.std.specs.Prelude.{◌==◌, MatchResult}
 use Rattle.sms_construct.specs.Status.{status_of_action}
 use Rattle.sms_construct.specs.declared.action.Action.{Action}

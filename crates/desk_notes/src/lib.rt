@@ -1,5 +1,5 @@
 //! What is said of a run of the desk that didn't end well, in plain words for the person at the terminal
-//! (docs/script.md, "What is said of a fault"). Where memory for it is wanting, nothing is said.
+//! (docs/manual/script.md, "What is said of a fault"). Where memory for it is wanting, nothing is said.
 #![tactic(auto)]
 
 mod forms;

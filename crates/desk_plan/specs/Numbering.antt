@@ -1,4 +1,4 @@
--- How the jobs of a script are numbered (docs/workers.md, "Phases").
+-- How the jobs of a script are numbered (docs/manual/workers.md, "Phases").
 use Rattle.std.specs.Prelude.{ℕ, ◌≡◌, List, [], ◌∷◌, ◌++◌, ◌||◌, bytes_eq, fold, length, position, if◌then◌else◌}
 use Rattle.std.specs.List.{AllByRecursion, list_any}
 use Rattle.sms_script.specs.Commands.{is_admin}

@@ -1,4 +1,4 @@
--- Which worker gets which item (docs/workers.md, "Phases").
+-- Which worker gets which item (docs/manual/workers.md, "Phases").
 use Rattle.std.specs.Prelude.{ℕ, zero, suc, ◌+◌, ◌-◌, ◌%◌, ◌==◌, List, bytes_eq, map, Option, None, Some}
 use Rattle.std.specs.Prelude.{if◌then◌else◌}
 use Rattle.std.specs.List.{list_any}

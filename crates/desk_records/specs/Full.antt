@@ -1,4 +1,4 @@
--- Whether a journal has a place for one more entry (docs/limits.md).
+-- Whether a journal has a place for one more entry (docs/manual/limits.md).
 use Rattle.std.specs.Prelude.{Bool, ◌&&◌, ◌||◌, nat_le, List, length, count_by}
 use Rattle.sms_construct.specs.declared.entry.Entry.{Entry}
 use Rattle.sms_construct.specs.declared.request.Op.{Op}

@@ -1,4 +1,4 @@
--- The answer to a number that is below its floor, or that came before (docs/records.md, "Kept replies").
+-- The answer to a number that is below its floor, or that came before (docs/manual/records.md, "Kept replies").
 use Rattle.std.specs.Prelude.{ℕ, ◌≡◌, ◌⊎◌, true, false, None}
 use Rattle.sms_construct.specs.declared.entry.Answer.{Answer}
 use Rattle.sms_construct.specs.declared.reply.Reply.TheVariants as replies

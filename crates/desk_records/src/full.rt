@@ -10,7 +10,7 @@ const MOST_ENTRIES: usize = 50_000;
 const MOST_ACTIVATIONS: usize = 200;
 
 /// Whether the journal, of whose entries so many ask for an activation, has no place for this op
-/// (docs/limits.md). No entry is read.
+/// (docs/manual/limits.md). No entry is read.
 pub fn is_full(journal: &[Entry], activations: usize, op: &Op) -> bool
     requires counted { activations ≡ count_by activates journal.now }
     ensures { result ≡ is_full_for journal.now op.now }

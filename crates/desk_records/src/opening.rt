@@ -10,7 +10,7 @@ use std::marker::Model;
 use std::snapshot::Snapshot;
 
 /// What a desk begins with: recorded rows, the configuration of the last deck, and the place before the first
-/// entry (docs/records.md).
+/// entry (docs/manual/records.md).
 #[derive(Drop)]
 pub struct Opening {
     pub rows: Rows,

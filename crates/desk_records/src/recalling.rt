@@ -7,7 +7,7 @@ use sms_keeper::{Kept, RequestLog};
 use std::alloc::AllocError;
 
 /// The answer, at this place of the journal, to a request whose number is below its floor or came before, and
-/// `None` where the number is fresh (docs/records.md, "Kept replies"); or want of memory.
+/// `None` where the number is fresh (docs/manual/records.md, "Kept replies"); or want of memory.
 pub fn recall(log: &RequestLog, request: &Request, place: u64) -> Result<Option<Answer>, AllocError>
     ensures known { IfOk result (λ recalled. MatchOption recalled (IsUnknown log.now request.now)
         (λ answer. Recalls log.now request.now answer)) }

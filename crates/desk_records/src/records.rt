@@ -9,7 +9,7 @@ use sms_construct::{Reply, Request};
 use sms_keeper::{Change, Effect, Keeper, KeeperErr, RequestLog};
 use std::alloc::AllocError;
 
-/// The log of kept replies and the keeper, which get each change together (docs/records.md).
+/// The log of kept replies and the keeper, which get each change together (docs/manual/records.md).
 #[derive(Drop)]
 pub struct Records<P: Keeper> {
     pub log: RequestLog,

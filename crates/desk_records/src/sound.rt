@@ -5,7 +5,7 @@ ghost use Rattle.desk_law.specs.Rule.{IsSound, IsSoundAlloc};
 
 use sms_construct::{Alloc, Op, Request, Space, VolumeCount};
 
-/// The number of a request and the quantities of its op are in their ranges (docs/limits.md): a fact for proofs,
+/// The number of a request and the quantities of its op are in their ranges (docs/manual/limits.md): a fact for proofs,
 /// which every request has.
 pub fn request_is_sound(request: &Request)
     ensures number { IsRequestNumber request.now.number }

@@ -1,4 +1,4 @@
--- What a desk begins with that goes on from recorded rows (docs/records.md).
+-- What a desk begins with that goes on from recorded rows (docs/manual/records.md).
 use Rattle.std.specs.Prelude.{ℕ, max, List, [], ◌∷◌, Option}
 use Rattle.sms_construct.specs.Configuration.{Configuration}
 use Rattle.sms_keeper.specs.declared.kept_row.KeptRow.{KeptRow}

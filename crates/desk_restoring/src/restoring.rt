@@ -20,7 +20,7 @@ use sms_volumes::ActiveVolumes;
 use std::alloc::{AllocError, Global};
 
 /// What a desk goes on with behind this opening, or want of memory: the running state after its last entry, and the
-/// log of its floors and replies (docs/records.md). No data set and no reply is copied.
+/// log of its floors and replies (docs/manual/records.md). No data set and no reply is copied.
 pub fn restore(alloc: Global, opening: Opening) -> Result<Restored, AllocError>
     requires { IsLawfulOpening opening }
     ensures running { IfOk result (λ restored. IsRunning (start_of opening) restored.running) }

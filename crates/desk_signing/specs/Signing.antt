@@ -1,4 +1,4 @@
--- The signed list of a desk (docs/workers.md, "The desk").
+-- The signed list of a desk (docs/manual/workers.md, "The desk").
 use Rattle.std.specs.Prelude.{ℕ, zero, suc, ◌-◌, List, [], ◌∷◌, ◌++◌, Option, Some, None, length}
 use Rattle.sms_construct.specs.declared.entry.Entry.{Entry}
 use Rattle.turn_lock.specs.declared.signed.Signed.{Signed}

@@ -21,7 +21,7 @@ use sms_deck::{Config, DeckErr};
 use std::alloc::AllocError;
 
 impl Running {
-    /// What ACTIVATE is answered (docs/rules.md, "ACTIVATE"). A deck that was read before isn't read again.
+    /// What ACTIVATE is answered (docs/manual/rules.md, "ACTIVATE"). A deck that was read before isn't read again.
     pub(crate) fn decide_activate(
         &self,
         deck: &DeckText,

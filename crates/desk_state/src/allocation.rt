@@ -31,7 +31,7 @@ use sms_volumes::Candidates;
 use std::alloc::{AllocError, Global};
 
 impl Running {
-    /// What ALLOC is answered (docs/rules.md, "ALLOC"). What it was classified as before, under the active
+    /// What ALLOC is answered (docs/manual/rules.md, "ALLOC"). What it was classified as before, under the active
     /// configuration, is used. What was on the slate may be gone.
     pub(crate) fn decide_alloc(
         &mut self,

@@ -33,7 +33,7 @@ impl Running {
         self.catalog.get(dsn)
     }
 
-    /// What USED is answered (docs/rules.md, "USED"); `tracks` are those that the data set uses.
+    /// What USED is answered (docs/manual/rules.md, "USED"); `tracks` are those that the data set uses.
     pub(crate) fn decide_used(&self, dsn: &Dsn, tracks: u32) -> Result<Decision, AllocError>
         requires { IsSomeState self.now }
         ensures answers { IfOk result (λ made. (s : DeskState) → IsLawful s → IsRunning s self.now →
@@ -56,7 +56,7 @@ impl Running {
         })
     }
 
-    /// What DELETE is answered (docs/rules.md, "DELETE").
+    /// What DELETE is answered (docs/manual/rules.md, "DELETE").
     pub(crate) fn decide_delete(&self, dsn: &Dsn) -> Decision
         requires { IsSomeState self.now }
         ensures answers { (s : DeskState) → IsLawful s → IsRunning s self.now →
@@ -74,7 +74,7 @@ impl Running {
         }
     }
 
-    /// What RELEASE is answered (docs/rules.md, "RELEASE").
+    /// What RELEASE is answered (docs/manual/rules.md, "RELEASE").
     pub(crate) fn decide_release(&self, dsn: &Dsn) -> Result<Decision, AllocError>
         requires { IsSomeState self.now }
         ensures answers { IfOk result (λ made. (s : DeskState) → IsLawful s → IsRunning s self.now →
@@ -95,7 +95,7 @@ impl Running {
     }
 }
 
-/// Whether RELEASE would free a track of the data set (docs/rules.md, "RELEASE"). It takes no memory.
+/// Whether RELEASE would free a track of the data set (docs/manual/rules.md, "RELEASE"). It takes no memory.
 pub fn has_unused(set: &DataSet) -> bool
     ensures { result ≡ nat_lt (tracks_of_set (kept_of set.now)) (tracks_of_set set.now) }
 {

@@ -53,7 +53,7 @@ impl Running {
         }
     }
 
-    /// What a fresh request is answered, and what is done with it (docs/rules.md); `old` is the floor of the job
+    /// What a fresh request is answered, and what is done with it (docs/manual/rules.md); `old` is the floor of the job
     /// that a PURGE names. Work that suits is used. The running state stands for the same state as before; only room
     /// is taken.
     pub fn decide(

@@ -31,7 +31,7 @@ use sms_volumes::{Asked, Candidates};
 use std::alloc::{AllocError, Global};
 
 impl Running {
-    /// What EXTEND is answered (docs/rules.md, "EXTEND").
+    /// What EXTEND is answered (docs/manual/rules.md, "EXTEND").
     pub(crate) fn decide_extend(&mut self, dsn: &Dsn) -> Result<Decision, AllocError>
         requires { IsSomeState self.old }
         ensures same { (s : DeskState) → IsRunning s self.old → IsRunning s self.new }

@@ -27,7 +27,7 @@ pub struct Grant {
 
 impl Running {
     /// What the gap rule grants on the volume at a place to a data set that holds so many extents there, if anything
-    /// (docs/rules.md, "The gap rule").
+    /// (docs/manual/rules.md, "The gap rule").
     pub(crate) fn grant_at(
         &mut self,
         place: usize,
@@ -54,7 +54,7 @@ impl Running {
     }
 
     /// What a candidate that may be chosen grants to a data set that has no extent there, or `None` where all are
-    /// rejected (docs/rules.md, "The lists").
+    /// rejected (docs/manual/rules.md, "The lists").
     pub(crate) fn grant_among(
         &mut self,
         candidates: &Candidates<'_>,

@@ -19,7 +19,7 @@ use sms_construct::{Action, Reply, Target, View};
 use std::alloc::AllocError;
 
 impl Running {
-    /// What VARY is answered (docs/rules.md, "VARY").
+    /// What VARY is answered (docs/manual/rules.md, "VARY").
     pub(crate) fn decide_vary(&self, target: &Target, action: Action) -> Decision
         ensures answers { (s : DeskState) → IsLawful s → IsRunning s self.now →
             Answers s self.now (VaryRule s target.now action) result }
@@ -57,7 +57,7 @@ impl Running {
         }
     }
 
-    /// What DISPLAY is answered (docs/rules.md, "DISPLAY").
+    /// What DISPLAY is answered (docs/manual/rules.md, "DISPLAY").
     pub(crate) fn decide_display(&self, target: &Target) -> Result<Decision, AllocError>
         requires { IsSomeState self.now }
         ensures answers { IfOk result (λ made. (s : DeskState) → IsLawful s → IsRunning s self.now →
@@ -81,7 +81,7 @@ fn reply_for_none(target: &Target) -> Reply
     }
 }
 
-/// What PURGE is answered, where the floor of the job was `old` (docs/rules.md, "PURGE").
+/// What PURGE is answered, where the floor of the job was `old` (docs/manual/rules.md, "PURGE").
 pub(crate) fn decide_purge(job: &Name, floor: u32, old: u32) -> Decision
     ensures answers { (s : DeskState) (running : Standing) → Answers s running (PurgeRule s old job.now floor) result }
     ensures possible { (running : Standing) → IsPossible running result.deed }

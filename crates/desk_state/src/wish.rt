@@ -57,7 +57,7 @@ impl<'a> Model for Wish<'a> {
 
 impl<'a> Wish<'a> {
     /// What the request is to get where the classification came to these values and its routines wrote this, and
-    /// where the request or its data class names this space (docs/rules.md, "ALLOC").
+    /// where the request or its data class names this space (docs/manual/rules.md, "ALLOC").
     pub fn of(
         request: &Alloc,
         config: &'a Config,

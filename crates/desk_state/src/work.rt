@@ -3,7 +3,7 @@ use desk_common::Shared;
 use sms_classes::Classified;
 use sms_deck::{Config, DeckErr};
 
-/// What was done for a request before its step (docs/rules.md, "Work before a step").
+/// What was done for a request before its step (docs/manual/rules.md, "Work before a step").
 #[derive(Drop)]
 pub enum Work {
     /// Nothing.

@@ -1,4 +1,4 @@
--- What the words of the desk's command line ask of space management (docs/management.md).
+-- What the words of the desk's command line ask of space management (docs/manual/management.md).
 use Rattle.std.specs.Prelude.{ℕ, ◌&&◌, List, [], ◌∷◌, nat_le, Option, None, Some, bytes_eq, codes, if◌then◌else◌}
 use Rattle.desk_common.specs.Limits.{last_day}
 use Rattle.sms_construct.specs.Numbers.{small_number_of}

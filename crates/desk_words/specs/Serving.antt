@@ -1,4 +1,4 @@
--- What the words of the desk's command line ask to be served (docs/http.md, "The program").
+-- What the words of the desk's command line ask to be served (docs/manual/http.md, "The program").
 use Rattle.std.specs.Prelude.{ℕ, ◌≤◌, ◌&&◌, List, [], ◌∷◌, Bool, nat_le, Option, None, Some, bytes_eq, codes}
 use Rattle.std.specs.Prelude.{if◌then◌else◌}
 use Rattle.sms_construct.specs.Numbers.{small_number_of}

@@ -1,4 +1,4 @@
--- What the words of the desk's command line ask for (docs/script.md, "The program").
+-- What the words of the desk's command line ask for (docs/manual/script.md, "The program").
 use Rattle.std.specs.Prelude.{ℕ, Bool, ◌&&◌, true, false, List, [], ◌∷◌, nat_le, Option, None, Some, bytes_eq, codes}
 use Rattle.std.specs.Prelude.{if◌then◌else◌}
 use Rattle.desk_common.specs.Limits.{most_items, most_workers}

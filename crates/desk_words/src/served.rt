@@ -1,6 +1,6 @@
 //! What the words of the desk's command line ask to be served.
 
-/// A desk that is to be served (docs/http.md, "The program").
+/// A desk that is to be served (docs/manual/http.md, "The program").
 #[derive(Clone, Copy, Debug, PartialEq, Eq)]
 pub struct ServeWords {
     /// The port on 127.0.0.1, 1 to 65,535.

@@ -1,6 +1,6 @@
 //! What the words of the desk's command line ask for.
 
-/// What the words of the desk's command line ask for (docs/script.md, "The program").
+/// What the words of the desk's command line ask for (docs/manual/script.md, "The program").
 #[derive(Clone, Copy, Debug, PartialEq, Eq)]
 pub enum Task {
     /// Answer the script on standard input by so many workers, 1 to 16; with `volumes` the table of volumes stands

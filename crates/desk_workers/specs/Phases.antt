@@ -1,4 +1,4 @@
--- A script answered by several workers: one history, and each job in order (docs/workers.md, "Phases").
+-- A script answered by several workers: one history, and each job in order (docs/manual/workers.md, "Phases").
 use Rattle.std.specs.Prelude.{ℕ, ◌≡◌, ◌↔◌, Bool, true, false, bytes_eq, filter, List, [], ◌∷◌, ◌++◌, length, take}
 use Rattle.std.specs.List.{AllZip}
 use Rattle.sms_construct.specs.declared.entry.Answer.{Answer}

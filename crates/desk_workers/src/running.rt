@@ -20,8 +20,8 @@ use std::sync::Wait;
 use std::thread::Threads;
 
 /// Answers each item of the script by so many workers: the phases one after the other, and in each the items of one
-/// job one after the other (docs/workers.md, "Phases"). All room of a phase is taken before its first step: where
-/// memory for it is wanting, the phases before it were answered whole, and nothing of it.
+/// job one after the other (docs/manual/workers.md, "Phases"). All room of a phase is taken before its first step:
+/// where memory for it is wanting, the phases before it were answered whole, and nothing of it.
 pub fn run_workers<P: Keeper + Send, R: Threads + Wait + Sync, G: Gate + Sync>(
     alloc: Global,
     rt: &R,

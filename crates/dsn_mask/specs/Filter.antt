@@ -1,4 +1,4 @@
--- Filter lists (docs/acs-language.md, "Filter lists").
+-- Filter lists (docs/manual/acs-language.md, "Filter lists").
 use Rattle.std.specs.Prelude.{◌≡◌, ◌⊎◌, ◌&&◌, ◌||◌, ℕ, Bool, not, List, [], Any, bytes_eq}
 use Rattle.std.specs.List.{list_any}
 use Rattle.dsn_mask.specs.Mask.{MaskFits, SimpleFits}

@@ -1,4 +1,4 @@
--- What a mask fits (docs/acs-language.md, "Masks").
+-- What a mask fits (docs/manual/acs-language.md, "Masks").
 use Rattle.std.specs.Prelude.{◌≢◌, ℕ, List, [], ◌∷◌}
 use Rattle.desk_common.specs.Bytes.{star}
 use Rattle.dsn_mask.specs.Qualifiers.{qualifiers_of}

@@ -1,4 +1,4 @@
--- Why a text is no mask (docs/acs-language.md, "Masks").
+-- Why a text is no mask (docs/manual/acs-language.md, "Masks").
 use Rattle.std.specs.Prelude.{◌≡◌, ◌<◌, ◌+◌, ◌-◌, ◌==◌, ◌&&◌, ◌||◌, ℕ, zero, suc, Bool, true, false, not, List, []}
 use Rattle.std.specs.Prelude.{length, nat_le, nat_lt, slice_index, Option, None, Some, is_none, if◌then◌else◌}
 use Rattle.desk_common.specs.Exact.{Place, IsFirst}

@@ -1,4 +1,4 @@
--- The texts of masks (docs/acs-language.md, "Masks").
+-- The texts of masks (docs/manual/acs-language.md, "Masks").
 use Rattle.std.specs.Prelude.{◌≡◌, ◌==◌, ◌&&◌, ◌||◌, ℕ, Bool, true, not, List, [], ◌∷◌, Option, None, Some, length}
 use Rattle.std.specs.Prelude.{nat_le, if◌then◌else◌}
 use Rattle.std.specs.List.{list_all}

@@ -1,4 +1,4 @@
--- The quoted entries of a list, and what finding a text among them takes (docs/acs-language.md, "Filter lists").
+-- The quoted entries of a list, and what finding a text among them takes (docs/manual/acs-language.md, "Filter lists").
 use Rattle.std.specs.Prelude.{◌≤◌, ◌+◌, ◌*◌, ◌^◌, ℕ, Bool, true, false, List, [], ◌∷◌, length, map, slice_get, Option}
 use Rattle.std.specs.Prelude.{Some, IsPermutation, IsSorted}
 use Rattle.std.specs.Ordering.{nat_cmp}

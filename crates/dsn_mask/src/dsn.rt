@@ -16,7 +16,7 @@ use std::hash::{Hash, Hasher};
 use std::marker::Model;
 
 /// A data set name: at most 44 bytes, qualifiers of one to eight bytes between full stops
-/// (docs/names.md, "Data set names").
+/// (docs/manual/names.md, "Data set names").
 #[derive(Clone, Copy)]
 pub struct Dsn {
     text: Text<MAX_VALUE>,

@@ -4,7 +4,7 @@ ghost use Rattle.dsn_mask.specs.Quoted.{fits_as_mask, is_quoted};
 
 use crate::{Lit, Mask, Short, Simple};
 
-/// An entry of a filter list (docs/acs-language.md, "Filter lists").
+/// An entry of a filter list (docs/manual/acs-language.md, "Filter lists").
 #[derive(Clone, Copy)]
 pub enum Entry {
     /// A literal, which fits its equal text.

@@ -65,7 +65,7 @@ impl Searchable {
     }
 }
 
-/// The entries of INCLUDE and of EXCLUDE (docs/acs-language.md, "Filter lists").
+/// The entries of INCLUDE and of EXCLUDE (docs/manual/acs-language.md, "Filter lists").
 #[derive(Drop)]
 pub struct FilterIndex {
     include: Searchable,

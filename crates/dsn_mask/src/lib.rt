@@ -1,5 +1,5 @@
-//! Names, volume serials, data set names, short texts, masks and filter lists; docs/names.md and
-//! docs/acs-language.md have their rules.
+//! Names, volume serials, data set names, short texts, masks and filter lists; docs/manual/names.md and
+//! docs/manual/acs-language.md have their rules.
 #![tactic(auto)]
 
 mod byte_class;

@@ -14,7 +14,7 @@ use desk_common::MAX_WORD;
 use std::marker::Model;
 
 /// A mask of data set names: qualifiers between full stops, of which `**` stands for zero or more
-/// (docs/acs-language.md, "Masks").
+/// (docs/manual/acs-language.md, "Masks").
 #[derive(Clone, Copy)]
 pub struct Mask {
     text: Text<MAX_WORD>,

@@ -1,7 +1,7 @@
 //! Why a text is no mask.
 use thiserror::Error;
 
-/// The first fault of a text, from the left. Places count from 0 (docs/acs-language.md, "Masks").
+/// The first fault of a text, from the left. Places count from 0 (docs/manual/acs-language.md, "Masks").
 #[derive(Clone, Copy, Debug, PartialEq, Eq, Error)]
 pub enum MaskErr {
     /// The text has no byte.

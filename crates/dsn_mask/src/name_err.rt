@@ -2,7 +2,7 @@
 use thiserror::Error;
 
 /// The first fault of a text, from the left. Places count from 0, qualifiers from 1
-/// (docs/names.md, "Data set names").
+/// (docs/manual/names.md, "Data set names").
 #[derive(Clone, Copy, Debug, PartialEq, Eq, Error)]
 pub enum NameErr {
     /// The text has no byte.

@@ -14,7 +14,7 @@ use desk_common::MAX_WORD;
 use std::marker::Model;
 
 /// A simple mask: one piece over a whole value, in which a full stop stands for itself
-/// (docs/acs-language.md, "Masks").
+/// (docs/manual/acs-language.md, "Masks").
 #[derive(Clone, Copy)]
 pub struct Simple {
     text: Text<MAX_WORD>,

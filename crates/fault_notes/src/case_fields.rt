@@ -18,7 +18,7 @@ pub const KEYS: [&str; 32] = [
 ];
 
 /// What is wanted in the field of a case under this column, in capitals, where the field is out of form; `None` where
-/// it is in form by itself (docs/tool.md, "Comparing two decks").
+/// it is in form by itself (docs/manual/tool.md, "Comparing two decks").
 pub fn wanted_in(
     alloc: Global,
     column: &[u8],

@@ -18,8 +18,8 @@ pub fn compared_deck(text: &[u8], new: bool) -> DeckPart<'_> {
     if new { parts.new.deck } else { parts.old.deck }
 }
 
-/// What it means that this line isn't as the layout of a comparison asks, with the line (docs/tool.md, "What a fault
-/// means").
+/// What it means that this line isn't as the layout of a comparison asks, with the line (docs/manual/tool.md, "What a
+/// fault means").
 pub fn layout_note(alloc: Global, text: &[u8], line: u32) -> Result<String, AllocError> {
     let parts = Compared::new(text);
     let sentence = if line == 1 {

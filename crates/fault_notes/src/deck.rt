@@ -15,7 +15,7 @@ use dsn_mask::Name;
 use sms_construct::{Fault, TextFault};
 use std::alloc::{AllocError, Global};
 
-/// What the fault of this deck means, and where it stands (docs/tool.md, "What a fault means").
+/// What the fault of this deck means, and where it stands (docs/manual/tool.md, "What a fault means").
 pub fn deck_note(alloc: Global, deck: DeckPart<'_>, fault: &Fault) -> Result<String, AllocError> {
     match fault {
         Fault::NotToml => no_toml_note(alloc, deck),

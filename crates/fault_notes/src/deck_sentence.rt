@@ -12,7 +12,7 @@ const NAME_FORM: &str = "a name has 1 to 8 capitals, digits, #, @ and $, the fir
 const SERIAL_FORM: &str = "a volume serial has 1 to 6 capitals, digits, #, @ and $";
 
 /// The sentence of a fault that is told by a path or a name; `written` is the value that the deck gives there, as far
-/// as it is known (docs/tool.md, "What a fault means").
+/// as it is known (docs/manual/tool.md, "What a fault means").
 pub fn deck_sentence(
     alloc: Global,
     fault: &Fault,

@@ -37,7 +37,7 @@ impl DeckTable {
         }
     }
 
-    /// The keys that may stand in it, where a deck doesn't name them itself (docs/deck.md, "Keys").
+    /// The keys that may stand in it, where a deck doesn't name them itself (docs/manual/deck.md, "Keys").
     pub fn keys(self) -> &'static [&'static str] {
         match self {
             DeckTable::Top => &[

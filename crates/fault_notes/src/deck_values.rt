@@ -12,7 +12,7 @@ const YES_OR_NO: &str = "\"YES\" or \"NO\"";
 
 const TABLE: &str = "a table";
 
-/// What the value of this path's last key may be, for a person (docs/deck.md, "Keys").
+/// What the value of this path's last key may be, for a person (docs/manual/deck.md, "Keys").
 pub fn value_allowed(path: &[u8]) -> &'static str {
     let key = last_key(path);
     match DeckTable::of(path) {

@@ -1,6 +1,6 @@
 //! What the values of operands may be.
 
-/// What is wanted behind this key of an ALLOC, for a person (docs/script.md, "Operands").
+/// What is wanted behind this key of an ALLOC, for a person (docs/manual/script.md, "Operands").
 pub fn value_wanted(key: &[u8]) -> &'static str {
     match key {
         b"SPACE" => {

@@ -8,7 +8,7 @@ use crate::wording::{Wording, wording_of};
 use sms_construct::TextFault;
 use std::alloc::{AllocError, Global};
 
-/// What the fault of this routine's text means, and where it stands (docs/tool.md, "What a fault means").
+/// What the fault of this routine's text means, and where it stands (docs/manual/tool.md, "What a fault means").
 pub fn routine_note(alloc: Global, text: &[u8], fault: &TextFault) -> Result<String, AllocError> {
     let fault = marked(alloc, text, fault)?;
     let spot = spot_of(alloc, text, &fault)?;

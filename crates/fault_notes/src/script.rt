@@ -6,7 +6,7 @@ use crate::showing::told;
 use sms_script::ScriptErr;
 use std::alloc::{AllocError, Global};
 
-/// What the fault of this script means, with its line (docs/tool.md, "What a fault means").
+/// What the fault of this script means, with its line (docs/manual/tool.md, "What a fault means").
 pub fn script_note(alloc: Global, text: &[u8], fault: ScriptErr) -> Result<String, AllocError> {
     match fault {
         ScriptErr::BadLine(line) => command_note(alloc, text, line),

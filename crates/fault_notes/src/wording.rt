@@ -8,7 +8,7 @@ pub enum Wording {
     Around(&'static str, &'static str),
 }
 
-/// The sentence of a fault of a routine (docs/acs-language.md, Faults, Places of faults and Checks).
+/// The sentence of a fault of a routine (docs/manual/acs-language.md, Faults, Places of faults and Checks).
 pub fn wording_of(fault: &TextFault) -> Wording {
     match fault.stage {
         Stage::Scanner => scanner_wording(fault.number),

@@ -17,8 +17,8 @@ use std::alloc::Global;
 
 /// Answers the script of the source with the records in the file at a path, which it opens or makes, as `db_main` does
 /// over a new keeper of its connection, and hands that keeper back. What the file held, `start` stands for: whatever
-/// that was, where the disk has returned what was written the desk goes on from what is found there (docs/records.md,
-/// "The database"). Where the file can't be opened, nothing is read or written.
+/// that was, where the disk has returned what was written the desk goes on from what is found there
+/// (docs/manual/records.md, "The database"). Where the file can't be opened, nothing is read or written.
 pub fn answer_file<S: Source, K: Sink, T: Start>(
     rt: &HostRuntime,
     words: &[String],

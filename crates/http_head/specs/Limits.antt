@@ -1,4 +1,4 @@
--- The limits of a message over HTTP (docs/http.md, "Limits" and "Refusals").
+-- The limits of a message over HTTP (docs/manual/http.md, "Limits" and "Refusals").
 use Rattle.std.specs.Prelude.{ℕ}
 
 -- the most bytes of a head

@@ -1,4 +1,4 @@
--- What had been sent whenever a read was made (docs/http.md, "How a connection ends").
+-- What had been sent whenever a read was made (docs/manual/http.md, "How a connection ends").
 use Rattle.std.specs.Prelude.{◌≡◌, ℕ, List, ◌++◌, All, Option, None, Some, MatchOption}
 use Rattle.std.specs.Io.KnownBytes.{Consumes, Appends}
 use Rattle.sms_base.specs.Beside.{ReadMoment}

@@ -1,4 +1,4 @@
--- The forms of the five tables of the records, as their texts define them (docs/records.md, "The database").
+-- The forms of the five tables of the records, as their texts define them (docs/manual/records.md, "The database").
 use Rattle.std.specs.Prelude.{true, false, ℕ, List, [], ◌∷◌, Option, Some, None, codes, map}
 use Rattle.sqlite.specs.Collation.TheVariants.{Binary}
 use Rattle.sqlite.specs.declared.types.Value.TheVariants.{Null}

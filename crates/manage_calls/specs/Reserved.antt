@@ -1,4 +1,4 @@
--- The lines that a run with a day of space management doesn't take (docs/management.md).
+-- The lines that a run with a day of space management doesn't take (docs/manual/management.md).
 use Rattle.std.specs.Prelude.{ℕ, ◌+◌, ◌||◌, Bool, true, false, not, List, [], ◌∷◌, nat_le, Option, None, Some, Result}
 use Rattle.std.specs.Prelude.{Ok, Err, bytes_eq, if◌then◌else◌}
 use Rattle.std.specs.List.{list_all}

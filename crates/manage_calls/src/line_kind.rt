@@ -1,6 +1,6 @@
 //! What a line outside the deck blocks is to a run with a day of space management.
 
-/// What a line outside the deck blocks is to a run with a day of space management (docs/management.md).
+/// What a line outside the deck blocks is to a run with a day of space management (docs/manual/management.md).
 #[derive(Clone, Copy)]
 pub enum LineKind {
     /// The job of space management asks, or is purged.

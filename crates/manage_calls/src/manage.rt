@@ -18,7 +18,7 @@ use std::alloc::Global;
 
 /// Answers the script of the source by one worker on an empty desk over a keeper of empty tables, then asks for all
 /// that is due on the day that the words name, and writes the text of the answers and of the acts to the sink; it hands
-/// the keeper back (docs/management.md).
+/// the keeper back (docs/manual/management.md).
 pub fn manage_main<S: Source, K: Sink, P: Keeper>(
     alloc: Global,
     words: &[String],

@@ -8,7 +8,7 @@ use sms_script::{Script, ScriptErr, read_script};
 use std::alloc::Global;
 
 /// The script that the bytes write, in which the job of space management neither asks nor is purged, or its first
-/// fault (docs/management.md).
+/// fault (docs/manual/management.md).
 pub fn read_managed(alloc: Global, bytes: &[u8]) -> Result<Script, ScriptErr>
     requires { length bytes.now < 2 ^ 32 }
     ensures script { IfOk result (λ phases. managed_script_of bytes.now ≡ Ok phases) }

@@ -9,7 +9,7 @@ use sms_deck::Config;
 use std::alloc::Global;
 use std::test::Fail;
 
-/// The ordinary deck of docs/deck.md.
+/// The ordinary deck of docs/manual/deck.md.
 pub const ORDINARY: &str = "version = 1
 system = \"SYSA\"
 sysplex = \"PLEX1\"

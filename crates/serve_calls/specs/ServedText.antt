@@ -1,4 +1,4 @@
--- What is written of the connections that were served (docs/http.md, "The program").
+-- What is written of the connections that were served (docs/manual/http.md, "The program").
 use Rattle.std.specs.Prelude.{ℕ, ◌+◌, true, false, List, [], ◌∷◌, ◌++◌, length, flat_map, decimal, codes}
 use Rattle.http_talk.specs.declared.end.End.{End}
 use Rattle.http_talk.specs.declared.end.End.TheVariants as ends

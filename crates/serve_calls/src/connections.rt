@@ -10,7 +10,7 @@ use sms_script::push_number_and_blank;
 use std::alloc::{AllocError, Global};
 
 /// A line for each connection, by worker and in their order, and the last line with the number of entries of the desk
-/// and that of the connections (docs/http.md, "The program").
+/// and that of the connections (docs/manual/http.md, "The program").
 pub fn served_text(alloc: Global, workers: &[Visits], entries: u64) -> Result<Vec<u8>, AllocError>
     ensures { IfOk result (λ text. text.items ≡ served_text workers.now entries) }
 {

@@ -33,7 +33,7 @@ use std::thread::Threads;
 /// Does what the words of the command line ask: serves a new desk over a keeper of empty tables to the links of the
 /// doors, one door a worker, and writes a line for each connection to the sink. It hands back the desk's core, the
 /// doors and their visits; where no door was asked for a link there are none. It waits where a door, a link or the gate
-/// waits, and where several workers wait for each other's turns (docs/http.md, "The program").
+/// waits, and where several workers wait for each other's turns (docs/manual/http.md, "The program").
 pub fn serve_main<
     A: Accept + Drop + Send,
     K: Sink,

@@ -2,7 +2,7 @@
 ghost use Rattle.std.specs.Prelude.{◌≡◌};
 ghost use Rattle.serve_calls.specs.ServeStatuses.{serve_status_of};
 
-/// How serving the desk ends; docs/http.md has the cause of each.
+/// How serving the desk ends; docs/manual/http.md has the cause of each.
 #[derive(Clone, Copy, Debug, PartialEq, Eq)]
 pub enum ServeStatus {
     /// Each door was served to its end or as often as was asked, and the whole text was written.

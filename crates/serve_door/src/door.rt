@@ -15,7 +15,7 @@ const MAX_TURNS: u64 = 1_000_000;
 
 /// Serves at most `most` links of the door, one after the other, each by a clerk of the bench, and hands each back to
 /// the door. Room for a visit is taken before its link is asked for. It waits where the door, a link or a clerk waits
-/// (docs/http.md, "The program").
+/// (docs/manual/http.md, "The program").
 pub fn serve_door<A: Accept, B: Bench>(
     alloc: Global,
     routes: &Routes,

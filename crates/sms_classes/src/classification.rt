@@ -12,7 +12,7 @@ use dsn_mask::{Name, Names, Short};
 use sms_construct::{Alloc, Stop};
 use sms_deck::Config;
 
-/// What the routines of a configuration give the new data set of an ALLOC of this job (docs/rules.md,
+/// What the routines of a configuration give the new data set of an ALLOC of this job (docs/manual/rules.md,
 /// "Classification"). It takes no memory. What was on the slate is gone; what the routines wrote is on it
 /// afterwards.
 pub fn classify(config: &Config, job: &Name, alloc: &Alloc, slate: &mut Slate) -> Classified

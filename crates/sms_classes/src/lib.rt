@@ -1,4 +1,4 @@
-//! What the routines of a configuration give a new data set (docs/rules.md, "Classification").
+//! What the routines of a configuration give a new data set (docs/manual/rules.md, "Classification").
 #![tactic(auto)]
 
 mod classification;

@@ -25,7 +25,7 @@ fn storage_class_of<'a>(config: &'a Config, class: &Short) -> Option<&'a StorCla
 }
 
 /// Whether the order counts in which storage groups are listed for a data set of this storage class
-/// (docs/rules.md, "The lists").
+/// (docs/manual/rules.md, "The lists").
 pub fn has_tiers(config: &Config, class: &Short) -> bool
     ensures { result ≡ has_tiers (storage_class_of config.now class.now) }
 {

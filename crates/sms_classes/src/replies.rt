@@ -6,7 +6,7 @@ use desk_common::Shared;
 use sms_construct::{Reply, Stop, Trace};
 
 /// The reply where a classification stops, with what the routines wrote; where it is done, that is handed back
-/// (docs/rules.md, "Classification").
+/// (docs/manual/rules.md, "Classification").
 pub fn stop_reply(stop: Stop, trace: Shared<Trace>) -> Result<Shared<Trace>, Reply>
     ensures { (classes : Classes) → trace_of classes ≡ trace →
         MatchResult (answer_of stop classes) (λ done. result ≡ Ok trace) (λ reply. result ≡ Err reply) }

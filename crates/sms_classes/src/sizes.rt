@@ -4,14 +4,14 @@ ghost use Rattle.desk_law.specs.Allocation.{eattr_of, space_of, volume_count_of}
 
 use sms_construct::{Alloc, DataClass, Eattr, Space, VolumeCount};
 
-/// The space that the request names, else the one of its data class (docs/rules.md, "ALLOC").
+/// The space that the request names, else the one of its data class (docs/manual/rules.md, "ALLOC").
 pub fn space_of(alloc: &Alloc, class: Option<&DataClass>) -> Option<Space>
     ensures { result ≡ space_of alloc.now (option_copied class.entry) }
 {
     alloc.space.or(class_space(class))
 }
 
-/// The number of volumes that the request names, else the one of its data class, else 1 (docs/rules.md,
+/// The number of volumes that the request names, else the one of its data class, else 1 (docs/manual/rules.md,
 /// "ALLOC").
 pub fn volume_count_of(alloc: &Alloc, class: Option<&DataClass>) -> VolumeCount
     ensures { result ≡ volume_count_of alloc.now (option_copied class.entry) }
@@ -23,7 +23,7 @@ pub fn volume_count_of(alloc: &Alloc, class: Option<&DataClass>) -> VolumeCount
 }
 
 /// Whether the data set may lie on cylinder-managed space: as the request says, else as its data class does, else
-/// not (docs/rules.md, "ALLOC").
+/// not (docs/manual/rules.md, "ALLOC").
 pub fn eattr_of(alloc: &Alloc, class: Option<&DataClass>) -> Eattr
     ensures { result ≡ eattr_of alloc.now (option_copied class.entry) }
 {

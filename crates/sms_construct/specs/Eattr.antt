@@ -1,4 +1,4 @@
--- The words of EATTR (docs/script.md, "Operands"; docs/deck.md, "Keys").
+-- The words of EATTR (docs/manual/script.md, "Operands"; docs/manual/deck.md, "Keys").
 use Rattle.std.specs.Prelude.{ℕ, List, [], ◌∷◌, codes}
 use Rattle.sms_construct.specs.declared.eattr.Eattr.{Eattr}
 use Rattle.sms_construct.specs.declared.eattr.Eattr.TheVariants.{Opt, No}

@@ -1,4 +1,4 @@
--- The keys of a deck that name the kinds (docs/deck.md).
+-- The keys of a deck that name the kinds (docs/manual/deck.md).
 use Rattle.std.specs.Prelude.{ℕ, List, codes}
 use Rattle.acs_tree.specs.declared.kind.Kind.{Kind}
 use Rattle.acs_tree.specs.declared.kind.Kind.TheVariants.{DataClas, StorClas, MgmtClas, StorGrp}

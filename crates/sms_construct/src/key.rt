@@ -4,7 +4,7 @@ ghost use Rattle.sms_construct.specs.Keys.{key_of};
 
 use acs_tree::Kind;
 
-/// The key in a deck of the constructs of a kind, and of the routine of that kind (docs/deck.md).
+/// The key in a deck of the constructs of a kind, and of the routine of that kind (docs/manual/deck.md).
 pub fn key_of(kind: Kind) -> &'static str
     ensures { result.now ≡ key_of kind }
 {

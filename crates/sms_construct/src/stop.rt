@@ -2,7 +2,7 @@
 use acs_tree::Kind;
 use dsn_mask::Short;
 
-/// How the classification of a new data set ends (docs/rules.md, "Classification").
+/// How the classification of a new data set ends (docs/manual/rules.md, "Classification").
 #[derive(Clone, Copy)]
 pub enum Stop {
     /// The data set has a storage class and storage groups.

@@ -8,7 +8,7 @@ use sms_classes::Classified;
 use sms_construct::{Op, Request};
 use sms_deck::Config;
 
-/// What the routines of a configuration give the new data set of a request whose op is an ALLOC (docs/rules.md,
+/// What the routines of a configuration give the new data set of a request whose op is an ALLOC (docs/manual/rules.md,
 /// "Classification"). It takes no memory. What was on the slate is gone; what the routines wrote is on it
 /// afterwards.
 pub fn classify(config: &Config, request: &Request, slate: &mut Slate) -> Classified

@@ -86,7 +86,7 @@ impl<P: Keeper> Core<P> {
     }
 
     /// A desk that goes on from recorded rows, whose last deck gave this configuration, over the keeper of these rows
-    /// (docs/records.md); or want of memory, with the keeper. No data set and no reply is copied.
+    /// (docs/manual/records.md); or want of memory, with the keeper. No data set and no reply is copied.
     pub fn resume(
         alloc: Global,
         keeper: P,
@@ -143,9 +143,9 @@ impl<P: Keeper> Core<P> {
         }
     }
 
-    /// Answers one request and enters it in the journal (docs/rules.md, "Order of answers"). Work that was done for
-    /// it before is used where it suits, and makes no difference to the answer ("Work before a step"); where its deck
-    /// was read with want of memory, so is the answer to a fresh number. Where the journal is full or memory is
+    /// Answers one request and enters it in the journal (docs/manual/rules.md, "Order of answers"). Work that was done
+    /// for it before is used where it suits, and makes no difference to the answer ("Work before a step"); where its
+    /// deck was read with want of memory, so is the answer to a fresh number. Where the journal is full or memory is
     /// wanting, nothing changes and nothing is entered. What was on the slate may be gone.
     pub fn step(&mut self, request: &Request, work: Work, slate: &mut Slate) -> Answer
         requires work { IsWork self.old.opening self.old.journal request.now slate.old work }
@@ -195,7 +195,7 @@ impl<P: Keeper> Core<P> {
     }
 
     /// The active configuration, with the number of activations that there were. Who shares it can classify under it
-    /// before a step (docs/rules.md, "Work before a step").
+    /// before a step (docs/manual/rules.md, "Work before a step").
     pub fn active(&self) -> Option<(u64, &Shared<Config>)>
         ensures was { IfSome result (λ active. WasActive self.now.opening self.now.journal active.0 active.1.now) }
         ensures now { (s : DeskState) → Reaches self.now.opening self.now.journal s →

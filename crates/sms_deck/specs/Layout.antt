@@ -1,4 +1,4 @@
--- How the tables of a deck are laid out, and the first fault of a table (docs/deck.md, "Order of faults").
+-- How the tables of a deck are laid out, and the first fault of a table (docs/manual/deck.md, "Order of faults").
 use Rattle.std.specs.Prelude.{ℕ, ◌+◌, List, [], ◌∷◌, Bool, false, Option, None, Some, is_some, bytes_eq, nat_le, map}
 use Rattle.std.specs.Prelude.{Result, Ok, Err, if◌then◌else◌}
 use Rattle.std.specs.List.{list_any}

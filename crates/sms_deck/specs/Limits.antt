@@ -1,4 +1,4 @@
--- The limits of a deck (docs/deck.md, "Limits").
+-- The limits of a deck (docs/manual/deck.md, "Limits").
 use Rattle.std.specs.Prelude.{ℕ}
 
 -- the bytes of a routine's text

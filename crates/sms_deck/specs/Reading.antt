@@ -1,4 +1,4 @@
--- What a deck configures, and its first fault (docs/deck.md, "Order of faults").
+-- What a deck configures, and its first fault (docs/manual/deck.md, "Order of faults").
 use Rattle.std.specs.Prelude.{ℕ, ◌≡◌, ◌≤◌, ◌<◌, ◌⊎◌, List, [], ◌∷◌, Option, None, Some, length, codes, IsUtf8}
 use Rattle.std.specs.Option.{option_or}
 use Rattle.toml.specs.Data.{Members}

@@ -1,4 +1,5 @@
--- The tables of a deck and their keys (docs/deck.md, "Keys"): a row is a key with the values that are right there.
+-- The tables of a deck and their keys (docs/manual/deck.md, "Keys"): a row is a key with the values that are right
+-- there.
 use Rattle.std.specs.Prelude.{ℕ, List, [], ◌∷◌, true, ◌&&◌, ◌||◌, not, Option, is_some, codes, if◌then◌else◌}
 use Rattle.std.specs.Option.{option_and_then, unwrap_or}
 use Rattle.toml.specs.Data.{Members, get_member}

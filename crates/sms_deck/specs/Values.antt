@@ -1,4 +1,4 @@
--- What single values of a deck mean (docs/deck.md, "Keys").
+-- What single values of a deck mean (docs/manual/deck.md, "Keys").
 use Rattle.std.specs.Prelude.{ℕ, ◌%◌, ◌==◌, ◌&&◌, ◌||◌, List, [], ◌∷◌, Bool, true, false, Option, None, Some, bytes_eq}
 use Rattle.std.specs.Prelude.{codes, is_some, nat_le, pos, if◌then◌else◌}
 use Rattle.std.specs.Option.{option_and_then}

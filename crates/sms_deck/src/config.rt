@@ -17,7 +17,7 @@ use sms_construct::{DataClass, DeckText, MgmtClass, StorClass, StorGroup, Volume
 use std::marker::Model;
 
 /// The classes, storage groups, volumes and routines of a deck, and the bytes of the deck, which it shares
-/// (docs/deck.md). Contracts see a `Configuration`; the code of each routine stands for the routine.
+/// (docs/manual/deck.md). Contracts see a `Configuration`; the code of each routine stands for the routine.
 /// No reading takes memory.
 #[derive(Drop)]
 pub struct Config {

@@ -1,4 +1,4 @@
-//! Decks: from the bytes to a configuration, or its first fault (docs/deck.md).
+//! Decks: from the bytes to a configuration, or its first fault (docs/manual/deck.md).
 #![tactic(auto)]
 
 mod assigned;

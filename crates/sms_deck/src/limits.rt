@@ -1,4 +1,4 @@
-//! The limits of a deck (docs/deck.md, "Limits").
+//! The limits of a deck (docs/manual/deck.md, "Limits").
 
 /// The most bytes of a routine's text.
 pub const MAX_ROUTINE: usize = 65_536;

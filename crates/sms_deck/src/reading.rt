@@ -132,7 +132,7 @@ fn read(alloc: Global, deck: &DeckText) -> Result<Config, DeckErr>
     }
 }
 
-/// The configuration of a deck, or its first fault (docs/deck.md, "Order of faults"). The configuration shares
+/// The configuration of a deck, or its first fault (docs/manual/deck.md, "Order of faults"). The configuration shares
 /// the deck's bytes.
 #[tactic(auto, using(crate::proofs::ReadingLemmas::exact))]
 pub fn read_deck(alloc: Global, deck: &DeckText) -> Result<Config, DeckErr>

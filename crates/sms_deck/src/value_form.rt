@@ -9,7 +9,7 @@ use crate::values::{
 };
 use toml::Value;
 
-/// The form that a key's value must have (docs/deck.md, "Keys").
+/// The form that a key's value must have (docs/manual/deck.md, "Keys").
 #[derive(Clone, Copy)]
 pub enum ValueForm {
     /// An integer from the first to the second number.

@@ -1,5 +1,5 @@
--- What a seat holds: a configuration, with the number of activations under which it was active (docs/workers.md, "What
--- a seat holds").
+-- What a seat holds: a configuration, with the number of activations under which it was active (docs/manual/workers.md,
+-- "What a seat holds").
 use Rattle.std.specs.Prelude.{ℕ, ◌≡◌, ◌==◌, Bool, true, false, List, ◌++◌, Option, None, Some, IfSome, MatchOption}
 use Rattle.std.specs.Prelude.{if◌then◌else◌}
 use Rattle.sms_construct.specs.Configuration.{Configuration}

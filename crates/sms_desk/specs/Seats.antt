@@ -1,4 +1,4 @@
--- What a worker's seat has seen, made and held (docs/workers.md, "The desk").
+-- What a worker's seat has seen, made and held (docs/manual/workers.md, "The desk").
 use Rattle.std.specs.Prelude.{◌≡◌, ◌⊎◌, ℕ, suc, ◌+◌, ◌<◌, true, false, List, [], ◌++◌, Option, Some, None, IfSome}
 use Rattle.std.specs.Prelude.{IsSome, MatchOption, length, map, All, slice_index_or}
 use Rattle.atomic_table.specs.Seated.{TableId}

@@ -1,4 +1,4 @@
--- What a step adds to the signed list (docs/workers.md, "The desk").
+-- What a step adds to the signed list (docs/manual/workers.md, "The desk").
 use Rattle.std.specs.Prelude.{ℕ, ◌≡◌, ◌⊎◌, true, false, List, ◌++◌}
 use Rattle.sms_construct.specs.declared.entry.Answer.{Answer}
 use Rattle.sms_construct.specs.declared.reply.Reply.TheVariants as replies

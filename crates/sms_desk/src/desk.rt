@@ -5,7 +5,7 @@ use sms_keeper::Keeper;
 use std::alloc::Global;
 use turn_lock::TurnLock;
 
-/// A desk that many workers share (docs/workers.md, "The desk").
+/// A desk that many workers share (docs/manual/workers.md, "The desk").
 #[derive(Drop)]
 pub struct Desk<P: Keeper> {
     pub(crate) alloc: Global,

@@ -16,9 +16,9 @@ use sms_keeper::Keeper;
 use std::sync::Wait;
 
 impl<P: Keeper> Desk<P> {
-    /// Answers a request in a turn of the seat (docs/workers.md, "Submitting"). An ALLOC is classified before it under
-    /// the configuration that the seat holds, and the deck of an ACTIVATE is read before it. The gate is shown each
-    /// classification, and told when there is an answer.
+    /// Answers a request in a turn of the seat (docs/manual/workers.md, "Submitting"). An ALLOC is classified before it
+    /// under the configuration that the seat holds, and the deck of an ACTIVATE is read before it. The gate is shown
+    /// each classification, and told when there is an answer.
     pub fn submit<R: Wait, G: Gate>(
         &self,
         rt: &R,

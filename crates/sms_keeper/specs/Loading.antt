@@ -1,4 +1,4 @@
--- What a keeper that loads its tables answers (docs/records.md, "Loading").
+-- What a keeper that loads its tables answers (docs/manual/records.md, "Loading").
 use Rattle.std.specs.Prelude.{◌≡◌, ℕ, List, Option, Some, None, IfSome, IsSorted}
 use Rattle.std.specs.Cmp.Lexicographic.{slice_cmp}
 use Rattle.std.specs.declared.cmp.Ordering.{Ordering}

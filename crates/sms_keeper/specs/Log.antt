@@ -1,4 +1,4 @@
--- The log of the replies that are kept, and what it answers (docs/records.md, "Kept replies").
+-- The log of the replies that are kept, and what it answers (docs/manual/records.md, "Kept replies").
 use Rattle.std.specs.Prelude.{◌≡◌, ℕ, Bool, true, false, not, ◌&&◌, ◌==◌, nat_lt, max, List, bytes_eq, Option, Some}
 use Rattle.std.specs.Prelude.{None, is_none, unwrap_or, if◌then◌else◌}
 use Rattle.std.specs.Map.{lookup}

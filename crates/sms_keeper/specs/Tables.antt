@@ -1,4 +1,4 @@
--- The tables of a desk, and a change of them (docs/records.md).
+-- The tables of a desk, and a change of them (docs/manual/records.md).
 use Rattle.std.specs.Prelude.{ℕ, Bool, false, ◌≡◌, ◌==◌, ◌&&◌, not, nat_lt, bytes_eq, fold, List, [], ◌∷◌, ◌++◌, filter}
 use Rattle.std.specs.Prelude.{map, Option, Some, None, if◌then◌else◌}
 use Rattle.std.specs.List.{list_any}

@@ -9,7 +9,7 @@ use dsn_mask::{Dsn, Name};
 use sms_construct::{DataSet, Op, Status, Target};
 use std::alloc::{AllocError, Global};
 
-/// What a change does to the tables beside the row of its reply (docs/records.md, "Effects").
+/// What a change does to the tables beside the row of its reply (docs/manual/records.md, "Effects").
 #[derive(Drop)]
 pub enum Effect {
     /// Nothing more.

@@ -9,7 +9,7 @@ use sms_construct::DataSet;
 /// The catalogued data sets.
 pub type SetRows = Items<Shared<DataSet>>;
 
-/// All that is recorded of a desk (docs/records.md).
+/// All that is recorded of a desk (docs/manual/records.md).
 #[derive(Drop)]
 pub struct Rows {
     pub sets: SetRows,

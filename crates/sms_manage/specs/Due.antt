@@ -1,4 +1,4 @@
--- What is due of a data set on a day (docs/rules.md, "Space management").
+-- What is due of a data set on a day (docs/manual/rules.md, "Space management").
 use Rattle.std.specs.Prelude.{ℕ, ◌+◌, ◌&&◌, Bool, true, false, List, bytes_eq, find, nat_le, nat_lt, Option, None, Some}
 use Rattle.std.specs.Prelude.{option_and_then, if◌then◌else◌}
 use Rattle.std.specs.Option.{option_or}

@@ -24,8 +24,8 @@ const MOST_SETS: u64 = 4_294_967_296;
 pub const MANAGER: &[u8] = b"SMSMGMT";
 
 /// Asks for all that is due on a day, one request for each data set, in byte order of their names, numbered from 1 on
-/// (docs/rules.md, "Space management"). Each is answered whatever the earlier ones were. Where memory is wanting, some
-/// of the first were asked, and of the others none.
+/// (docs/manual/rules.md, "Space management"). Each is answered whatever the earlier ones were. Where memory is
+/// wanting, some of the first were asked, and of the others none.
 pub fn run_day<P: Keeper>(
     alloc: Global,
     core: &mut Core<P>,

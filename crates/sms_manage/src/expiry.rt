@@ -8,7 +8,8 @@ use desk_state::has_unused;
 use sms_construct::{DataSet, MgmtClass};
 use sms_deck::Config;
 
-/// What is due of a data set on a day under a configuration (docs/rules.md, "Space management"). It takes no memory.
+/// What is due of a data set on a day under a configuration (docs/manual/rules.md, "Space management"). It takes no
+/// memory.
 pub fn due(set: &DataSet, config: &Config, day: u32) -> Due
     ensures { result ≡ due_of config.now day set.now }
 {

@@ -1,4 +1,4 @@
--- What rows that were found must pass, test by test in their order (docs/records.md, "Found rows").
+-- What rows that were found must pass, test by test in their order (docs/manual/records.md, "Found rows").
 use Rattle.std.specs.Prelude.{ℕ, true, ◌≡◌, ◌≤◌, ◌+◌, List, [], ◌∷◌, Option, if◌then◌else◌}
 use Rattle.std.specs.List.{AllByRecursion}
 use Rattle.sms_construct.specs.Configuration.{Configuration}

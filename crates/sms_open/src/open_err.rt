@@ -2,7 +2,7 @@
 use sms_keeper::Table;
 use thiserror::Error;
 
-/// Why no desk goes on from what a keeper has (docs/records.md, "Going on").
+/// Why no desk goes on from what a keeper has (docs/manual/records.md, "Going on").
 #[derive(Debug, Error, PartialEq, Eq, Clone, Copy)]
 pub enum OpenErr {
     /// The outside of the keeper failed.

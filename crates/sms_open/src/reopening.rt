@@ -14,7 +14,8 @@ use sms_keeper::{LoadErr, Rows, Stored};
 use std::alloc::Global;
 
 /// A desk that goes on from the tables of the keeper, which was made ready; or why there is none, with the keeper. The
-/// tables stay as they are (docs/records.md, "Going on"). Tables that a desk left are never refused for what they hold.
+/// tables stay as they are (docs/manual/records.md, "Going on"). Tables that a desk left are never refused for what
+/// they hold.
 pub fn reopen<P: Stored>(alloc: Global, mut keeper: P) -> Result<Core<P>, (P, OpenErr)>
     ensures opened { IfOk result (λ core. IsOpened (P.Keeper.told core.keeper) core.opening) }
     ensures undamaged { IfOk result (λ core. P.damage core.keeper ≡ None) }

@@ -55,8 +55,8 @@ fn judge(alloc: Global, rows: &Rows) -> Result<Option<Config>, RowsErr>
 }
 
 /// The configuration of the last deck, none without a deck, where the rows pass all six tests; and else the number of
-/// the first that they don't pass (docs/records.md, "Found rows"). Want of memory alone may come in place of either.
-/// Rows that pass are an opening from which a desk may go on, its base at their greatest place.
+/// the first that they don't pass (docs/manual/records.md, "Found rows"). Want of memory alone may come in place of
+/// either. Rows that pass are an opening from which a desk may go on, its base at their greatest place.
 pub fn test_rows(alloc: Global, rows: &Rows) -> Result<Option<Config>, RowsErr>
     ensures verdict { IsVerdict rows.now result ⊎ IsErrOf result RowsErr.NoMemory }
     ensures exactly { (verdict : Result (Option Configuration) RowsErrOf) → IsVerdict rows.now verdict →

@@ -1,4 +1,4 @@
--- The record form of what an ALLOC asks for (docs/records.md, "The record form").
+-- The record form of what an ALLOC asks for (docs/manual/records.md, "The record form").
 use Rattle.std.specs.Prelude.{ℕ, List, Option, Some, None, if◌then◌else◌}
 use Rattle.std.specs.Str.{bytes_eq}
 use Rattle.acs_tree.specs.declared.input.Input.{Input}

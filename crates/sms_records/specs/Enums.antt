@@ -1,4 +1,4 @@
--- The record forms of enums without fields: one byte, the position of the variant, from 0 (docs/records.md, "The
+-- The record forms of enums without fields: one byte, the position of the variant, from 0 (docs/manual/records.md, "The
 -- record form").
 use Rattle.std.specs.Prelude.{◌∷◌, [], ℕ, List, Option}
 use Rattle.acs_tree.specs.declared.kind.Kind.TheVariants as kinds

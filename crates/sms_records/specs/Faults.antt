@@ -1,4 +1,4 @@
--- The record forms of the faults of decks (docs/records.md, "The record form").
+-- The record forms of the faults of decks (docs/manual/records.md, "The record form").
 use Rattle.std.specs.Prelude.{◌++◌, ◌∷◌, [], ℕ, List, Option}
 use Rattle.sms_construct.specs.declared.fault.Fault.TheVariants as faults
 use Rattle.sms_construct.specs.declared.fault.Fault.{Fault}

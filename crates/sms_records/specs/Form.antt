@@ -1,4 +1,4 @@
--- How values are written as bytes, one behind the other, and read off the front of bytes (docs/records.md, "The
+-- How values are written as bytes, one behind the other, and read off the front of bytes (docs/manual/records.md, "The
 -- record form").
 use Rattle.std.specs.Prelude.{◌≡◌, ◌==◌, ℕ, zero, suc, ◌++◌, ◌<◌, List, [], ◌∷◌, length, take, drop, Option, Some, None}
 use Rattle.std.specs.Prelude.{nat_lt, get_or, slice_get, if◌then◌else◌}

@@ -1,5 +1,5 @@
 -- The record form of what routines see of a request: a field for each read-only variable that isn't always null or 0,
--- in the order of the table of variables (docs/records.md, "The record form").
+-- in the order of the table of variables (docs/manual/records.md, "The record form").
 use Rattle.std.specs.Prelude.{◌==◌, ◌&&◌, ℕ, Bool, List, length, Option, Some, None, if◌then◌else◌}
 use Rattle.std.specs.Str.{bytes_eq}
 use Rattle.acs_tree.specs.declared.attributes.Attributes.{Attributes}

@@ -1,5 +1,5 @@
--- The record forms of bounded lists, paths and spaces: each is read where it is in its range (docs/records.md, "The
--- record form").
+-- The record forms of bounded lists, paths and spaces: each is read where it is in its range (docs/manual/records.md,
+-- "The record form").
 use Rattle.std.specs.Prelude.{◌==◌, ℕ, List, length, ◌&&◌, Option, Some, None, nat_le, if◌then◌else◌}
 use Rattle.std.specs.List.{list_all}
 use Rattle.desk_common.specs.Limits.{most_account_fields, most_path_bytes, most_volume_count}

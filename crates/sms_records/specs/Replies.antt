@@ -1,4 +1,4 @@
--- The record form of replies (docs/records.md, "The record form").
+-- The record form of replies (docs/manual/records.md, "The record form").
 use Rattle.std.specs.Prelude.{◌++◌, ◌∷◌, [], ℕ, List, Option}
 use Rattle.sms_construct.specs.declared.reply.Reply.TheVariants as replies
 use Rattle.sms_construct.specs.declared.reply.Reply.{Reply}

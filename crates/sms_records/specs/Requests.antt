@@ -1,4 +1,4 @@
--- The record forms of requests (docs/records.md, "The record form").
+-- The record forms of requests (docs/manual/records.md, "The record form").
 use Rattle.std.specs.Prelude.{◌++◌, ◌∷◌, [], ℕ, List, Option}
 use Rattle.sms_construct.specs.declared.request.Op.TheVariants as ops
 use Rattle.sms_construct.specs.declared.request.Op.{Op}

@@ -1,4 +1,4 @@
--- The record forms of data sets and their extents (docs/records.md, "The record form").
+-- The record forms of data sets and their extents (docs/manual/records.md, "The record form").
 use Rattle.std.specs.Prelude.{ℕ, List, Option}
 use Rattle.sms_construct.specs.declared.data_set.DataSet.{DataSet}
 use Rattle.sms_construct.specs.declared.eattr.Eattr.{Eattr}

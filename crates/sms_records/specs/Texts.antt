@@ -1,4 +1,4 @@
--- The records of texts and numbers: each is read where its bytes are one (docs/records.md, "The record form").
+-- The records of texts and numbers: each is read where its bytes are one (docs/manual/records.md, "The record form").
 use Rattle.std.specs.Prelude.{ℕ, List}
 use Rattle.dsn_mask.specs.Name.{name_of, volser_of, short_of, literal_of}
 use Rattle.dsn_mask.specs.DataSetName.{dsn_of}

@@ -1,4 +1,4 @@
--- The record forms of what routines wrote (docs/records.md, "The record form").
+-- The record forms of what routines wrote (docs/manual/records.md, "The record form").
 use Rattle.std.specs.Prelude.{ℕ, List}
 use Rattle.acs_tree.specs.declared.kind.Kind.{Kind}
 use Rattle.acs_tree.specs.declared.line.Line.{Line}

@@ -1,4 +1,4 @@
--- The record forms of what is named and what is shown (docs/records.md, "The record form").
+-- The record forms of what is named and what is shown (docs/manual/records.md, "The record form").
 use Rattle.std.specs.Prelude.{◌∷◌, [], ℕ, List, Option}
 use Rattle.sms_construct.specs.declared.status.Status.{Status}
 use Rattle.sms_construct.specs.declared.target.Target.TheVariants as targets

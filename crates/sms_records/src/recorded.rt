@@ -9,7 +9,7 @@ use std::alloc::{AllocError, Global};
 // The bytes for which there is room at once: the record of an ordinary request has fewer.
 const ROOM: usize = 512;
 
-/// A value that is written as bytes and read again (docs/records.md, "The record form").
+/// A value that is written as bytes and read again (docs/manual/records.md, "The record form").
 pub trait Recorded: Sized + Drop {
     /// How it is written, and read again.
     ghost form: { Form Self };

@@ -15,8 +15,8 @@ use crate::recorded::{read_whole, record_of};
 use sms_construct::{DataSet, Reply, Request};
 use std::alloc::{AllocError, Global};
 
-/// The record of a request (docs/records.md, "The record form"), or want of memory. The record is readable: whatever
-/// stands behind it, reading gives the value again.
+/// The record of a request (docs/manual/records.md, "The record form"), or want of memory. The record is readable:
+/// whatever stands behind it, reading gives the value again.
 pub fn request_record(alloc: Global, request: &Request) -> Result<Vec<u8>, AllocError>
     ensures written { IfOk result (λ bytes. bytes.items ≡ request_form.write request.now) }
     ensures readable { IfOk result (λ bytes. IsReadable request_form request.now) }
@@ -35,8 +35,8 @@ pub fn read_request(alloc: Global, bytes: &[u8]) -> Result<Request, RecordErr>
     read_whole(alloc, bytes)
 }
 
-/// The record of a reply (docs/records.md, "The record form"), or want of memory. The record is readable: whatever
-/// stands behind it, reading gives the value again.
+/// The record of a reply (docs/manual/records.md, "The record form"), or want of memory. The record is readable:
+/// whatever stands behind it, reading gives the value again.
 pub fn reply_record(alloc: Global, reply: &Reply) -> Result<Vec<u8>, AllocError>
     ensures written { IfOk result (λ bytes. bytes.items ≡ reply_form.write reply.now) }
     ensures readable { IfOk result (λ bytes. IsReadable reply_form reply.now) }
@@ -55,8 +55,8 @@ pub fn read_reply(alloc: Global, bytes: &[u8]) -> Result<Reply, RecordErr>
     read_whole(alloc, bytes)
 }
 
-/// The record of a data set (docs/records.md, "The record form"), or want of memory. The record is readable: whatever
-/// stands behind it, reading gives the value again.
+/// The record of a data set (docs/manual/records.md, "The record form"), or want of memory. The record is readable:
+/// whatever stands behind it, reading gives the value again.
 pub fn set_record(alloc: Global, set: &DataSet) -> Result<Vec<u8>, AllocError>
     ensures written { IfOk result (λ bytes. bytes.items ≡ data_set_form.write set.now) }
     ensures readable { IfOk result (λ bytes. IsReadable data_set_form set.now) }

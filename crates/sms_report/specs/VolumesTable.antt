@@ -1,4 +1,4 @@
--- The table of volumes as comma-separated values (docs/script.md, "The table of volumes").
+-- The table of volumes as comma-separated values (docs/manual/script.md, "The table of volumes").
 use Rattle.std.specs.Prelude.{ℕ, List, [], ◌∷◌, ◌++◌, codes, decimal, flat_map}
 use Rattle.csv.specs.Writing.{default_writer, row_text}
 use Rattle.sms_construct.specs.declared.vol_row.VolRow.{VolRow}

@@ -18,7 +18,7 @@ const HEADER: [&[u8]; 6] = [
     b"extents",
 ];
 
-/// The table of the volumes as comma-separated values (docs/script.md, "The table of volumes").
+/// The table of the volumes as comma-separated values (docs/manual/script.md, "The table of volumes").
 pub fn volumes_csv(alloc: Global, rows: &VolRows) -> Result<Vec<u8>, AllocError>
     ensures { IfOk result (λ text. text.items ≡ table_text rows.now) }
 {

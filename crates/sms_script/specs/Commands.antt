@@ -1,4 +1,4 @@
--- The commands that the lines of a script write (docs/script.md, "Commands").
+-- The commands that the lines of a script write (docs/manual/script.md, "Commands").
 use Rattle.std.specs.Prelude.{ℕ, ◌&&◌, Bool, false, List, [], ◌∷◌, length, nat_le, Option, None, Some, bytes_eq, codes}
 use Rattle.std.specs.Prelude.{option_map, if◌then◌else◌}
 use Rattle.desk_common.specs.Limits.{most_line_bytes}

@@ -1,4 +1,4 @@
--- The operands of ALLOC (docs/script.md, "Operands"): which stand in a line, and what each gives.
+-- The operands of ALLOC (docs/manual/script.md, "Operands"): which stand in a line, and what each gives.
 use Rattle.std.specs.Prelude.{ℕ, Bool, true, false, not, ◌&&◌, List, [], ◌∷◌, ◌++◌, Option, None, Some, bytes_eq}
 use Rattle.std.specs.Prelude.{is_some, codes, option_map, unwrap_or}
 use Rattle.std.specs.List.{filter_map, list_all, list_any}

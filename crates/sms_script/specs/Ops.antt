@@ -1,4 +1,4 @@
--- The ops that words write (docs/script.md, "Commands").
+-- The ops that words write (docs/manual/script.md, "Commands").
 use Rattle.std.specs.Prelude.{ℕ, ◌≡◌, ◌+◌, ◌==◌, Bool, true, not, List, [], ◌∷◌, map, take, drop, position, Option}
 use Rattle.std.specs.Prelude.{None, Some, bytes_eq, codes, option_map, unwrap_or, if◌then◌else◌}
 use Rattle.std.specs.Map.{lookup}

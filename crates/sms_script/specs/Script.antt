@@ -1,4 +1,4 @@
--- A script: the requests that its lines write, phase by phase (docs/script.md).
+-- A script: the requests that its lines write, phase by phase (docs/manual/script.md).
 use Rattle.std.specs.Prelude.{ℕ, ◌+◌, ◌≡◌, List, [], ◌∷◌, ◌++◌, Bool, true, false, not, nat_lt, flat_map, Option, None}
 use Rattle.std.specs.Prelude.{Some, Result, Ok, Err, option_map, if◌then◌else◌}
 use Rattle.desk_common.specs.Limits.{most_commands}

@@ -1,4 +1,4 @@
--- The values of operands (docs/script.md, "Operands").
+-- The values of operands (docs/manual/script.md, "Operands").
 use Rattle.std.specs.Prelude.{ℕ, ◌==◌, ◌&&◌, Bool, true, List, [], ◌∷◌, length, nat_le, not, Option, None, Some}
 use Rattle.std.specs.Prelude.{bytes_eq, codes, if◌then◌else◌}
 use Rattle.std.specs.List.{list_all, list_any}

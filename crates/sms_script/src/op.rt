@@ -14,8 +14,8 @@ use sms_construct::{Op, RequestNumber, read_number};
 use std::alloc::{AllocError, Global};
 
 /// The op that the part of a command line behind the request number writes, if any: of the administrator, or of
-/// another job (docs/script.md, "Commands"); or want of memory for an ALLOC. ACTIVATE is none, since its deck stands in
-/// other lines. The letters of the line become upper case, as they are read.
+/// another job (docs/manual/script.md, "Commands"); or want of memory for an ALLOC. ACTIVATE is none, since its deck
+/// stands in other lines. The letters of the line become upper case, as they are read.
 #[tactic(auto, using(crate::proofs::FewLemmas::no_op))]
 pub fn read_op(alloc: Global, line: &mut [u8], admin: bool) -> Result<Option<Op>, AllocError>
     ensures op { IfOk result (λ op. op ≡ op_of admin line.old) }

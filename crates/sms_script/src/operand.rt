@@ -20,7 +20,7 @@ use desk_common::MAX_NAME;
 use dsn_mask::{Name, Short};
 use sms_construct::{Eattr, Space, VolumeCount, read_space};
 
-/// The keys of the operands of ALLOC (docs/script.md, "Operands").
+/// The keys of the operands of ALLOC (docs/manual/script.md, "Operands").
 pub const KEYS: [&[u8]; 29] = [
     b"SPACE=",
     b"DATACLAS=",

@@ -18,7 +18,7 @@ use desk_common::{Items, push_number};
 use sms_construct::{Answer, Reply, View};
 use std::alloc::{AllocError, Global};
 
-/// The lines of an answer: its reply, and the others, each with two leading spaces (docs/script.md, "Answers").
+/// The lines of an answer: its reply, and the others, each with two leading spaces (docs/manual/script.md, "Answers").
 pub fn answer_lines(alloc: Global, answer: &Answer) -> Result<TextLines, AllocError>
     ensures { IfOk result (λ lines. lines ≡ answer_lines answer.now) }
 {

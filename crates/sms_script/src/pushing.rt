@@ -97,7 +97,7 @@ pub fn name_bytes(name: &Option<Name>) -> &[u8]
     }
 }
 
-/// A value, or a hyphen for null (docs/script.md, "Answers").
+/// A value, or a hyphen for null (docs/manual/script.md, "Answers").
 pub fn value_bytes(value: &Short) -> &[u8]
     ensures { result.now ≡ value_text value.now }
 {
@@ -107,7 +107,7 @@ pub fn value_bytes(value: &Short) -> &[u8]
     }
 }
 
-/// The word of a status (docs/script.md, "Answers").
+/// The word of a status (docs/manual/script.md, "Answers").
 pub fn status_bytes(status: Status) -> &'static [u8]
     ensures { result.now ≡ status_text status }
 {

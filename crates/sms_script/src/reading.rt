@@ -15,7 +15,7 @@ use desk_common::{Items, MAX_COMMANDS, Shared};
 use sms_construct::{DeckText, Op, Request, RequestNumber};
 use std::alloc::{AllocError, Global};
 
-/// The script that the bytes write, or its first fault (docs/script.md). It walks once over the text,
+/// The script that the bytes write, or its first fault (docs/manual/script.md). It walks once over the text,
 /// and copies the decks, and each command line into one buffer.
 pub fn read_script(alloc: Global, bytes: &[u8]) -> Result<Script, ScriptErr>
     requires { length bytes.now < 2 ^ 32 }

@@ -1,7 +1,7 @@
 //! Why a text is no script.
 use thiserror::Error;
 
-/// The first fault of a script (docs/script.md). Lines count from 1, over all lines of the text.
+/// The first fault of a script (docs/manual/script.md). Lines count from 1, over all lines of the text.
 #[derive(Clone, Copy, Debug, PartialEq, Eq, Error)]
 pub enum ScriptErr {
     /// This line is no command.

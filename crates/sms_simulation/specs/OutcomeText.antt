@@ -1,4 +1,4 @@
--- What a classification comes to, as text (docs/tool.md, "Simulating a script").
+-- What a classification comes to, as text (docs/manual/tool.md, "Simulating a script").
 use Rattle.std.specs.Prelude.{ℕ, List, [], ◌∷◌, ◌++◌, codes, decimal, flat_map}
 use Rattle.acs_tree.specs.Variables.{name_of}
 use Rattle.acs_tree.specs.Writing.{listed}

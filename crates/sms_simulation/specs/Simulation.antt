@@ -1,5 +1,5 @@
--- The simulation of a script: what the routines of its deck give each of its allocations (docs/tool.md, "Simulating a
--- script").
+-- The simulation of a script: what the routines of its deck give each of its allocations (docs/manual/tool.md,
+-- "Simulating a script").
 use Rattle.std.specs.Prelude.{ℕ, ◌≡◌, ◌⊎◌, Bool, List, [], ◌∷◌, find, flat_map, Option, None, Some, is_none, option_map}
 use Rattle.sms_construct.specs.Configuration.{Configuration}
 use Rattle.sms_construct.specs.declared.alloc.Alloc.{Alloc}

@@ -47,7 +47,7 @@ fn push_line(
 }
 
 /// Puts the outcome behind a text: how a classification ends, and where it is done its classes and storage groups
-/// (docs/tool.md, "Simulating a script").
+/// (docs/manual/tool.md, "Simulating a script").
 pub fn push_outcome(text: &mut Vec<u8>, stop: Stop, values: &Values) -> Result<(), AllocError>
     ensures { OnOk result (text.new.items ≡ text.old.items ++ outcome_text stop values.now) }
 {

@@ -2,7 +2,7 @@
 use desk_common::Items;
 use sms_construct::Fault;
 
-/// What a simulation comes to (docs/tool.md, "Simulating a script").
+/// What a simulation comes to (docs/manual/tool.md, "Simulating a script").
 #[derive(Drop)]
 pub enum Simulated {
     /// The text of all allocations.

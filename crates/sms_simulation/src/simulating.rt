@@ -17,7 +17,7 @@ use sms_script::{Item, Script};
 use std::alloc::{AllocError, Global};
 
 /// What the routines of the deck that the script's first item activates give each of the allocations behind it
-/// (docs/tool.md, "Simulating a script"). Nothing is allocated.
+/// (docs/manual/tool.md, "Simulating a script"). Nothing is allocated.
 pub fn simulate(alloc: Global, script: &Script) -> Result<Simulated, AllocError>
     ensures { IfOk result (IsSimulation (items_of script.now)) }
 {

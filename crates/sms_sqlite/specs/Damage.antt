@@ -1,4 +1,4 @@
--- Rows that stand for nothing, and the first of them (docs/records.md, "Loading").
+-- Rows that stand for nothing, and the first of them (docs/manual/records.md, "Loading").
 use Rattle.std.specs.Prelude.{ℕ, suc, List, [], ◌∷◌, Option, Some, None, is_some, option_map, if◌then◌else◌}
 use Rattle.std.specs.Option.{option_or}
 use Rattle.sqlite.specs.Order.{Row}

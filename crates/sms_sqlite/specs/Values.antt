@@ -1,4 +1,4 @@
--- What the rows of the database stand for (docs/records.md, "The database").
+-- What the rows of the database stand for (docs/manual/records.md, "The database").
 use Rattle.std.specs.Prelude.{ℕ, pos, negsuc, zero, suc, List, [], ◌∷◌, bytes_eq, Option, Some, None, option_map}
 use Rattle.std.specs.Prelude.{slice_get, if◌then◌else◌}
 use Rattle.desk_common.specs.Limits.{most_number, up_to}

@@ -28,8 +28,8 @@ use std::alloc::Global;
 use std::marker::Model;
 use std::snapshot::Snapshot;
 
-/// Keeps the records in a database (docs/records.md, "The database"), which may hold other tables too. It tells its
-/// tables where each of the five was in its form or missing as the database was handed in, nothing else had one of
+/// Keeps the records in a database (docs/manual/records.md, "The database"), which may hold other tables too. It tells
+/// its tables where each of the five was in its form or missing as the database was handed in, nothing else had one of
 /// their names, no foreign key referred to them and no further UNIQUE bound them, and their rows all stood for
 /// something; so far as the connection is open and the disk has returned what was written.
 #[derive(Drop)]

@@ -2,7 +2,7 @@
 use sms_construct::{Status, StorGroup};
 
 /// A storage group of the active configuration with its present SMS status, and how many volumes it has
-/// (docs/rules.md, "Statuses").
+/// (docs/manual/rules.md, "Statuses").
 #[derive(Clone, Copy)]
 pub struct ActiveGroup {
     pub group: StorGroup,

@@ -44,7 +44,7 @@ fn first_barred<'a>(volumes: &'a [ActiveVolume], others: &[VolumeDef]) -> Option
 
 impl ActiveVolumes {
     /// The first volume, in byte order, that holds an extent and that the configuration doesn't have, or with
-    /// fewer tracks (docs/rules.md, "ACTIVATE").
+    /// fewer tracks (docs/manual/rules.md, "ACTIVATE").
     pub fn barred(&self, config: &Config) -> Option<Volser>
         ensures { (s : DeskState) → AreVolumesOf s self.now →
             result ≡ option_map (λ (volume : Defined). volume.volser) (first_barred s config.now) }

@@ -7,7 +7,7 @@ ghost use Rattle.sms_volumes.specs.Viewing.{is_candidate};
 use dsn_mask::{Name, Volser};
 use sms_construct::{Extent, VolumeDef};
 
-/// The volumes from which one is to be chosen (docs/rules.md, "The lists").
+/// The volumes from which one is to be chosen (docs/manual/rules.md, "The lists").
 #[derive(Clone, Copy)]
 pub enum Candidates<'a> {
     /// The volumes of these storage groups.

@@ -52,7 +52,7 @@ fn take_each(volumes: &mut [ActiveVolume], old: &mut ActiveVolumes)
 
 impl ActiveVolumes {
     /// The volumes of a configuration that becomes active take over from the old ones the tracks that data sets
-    /// hold (docs/rules.md, "ACTIVATE"). It takes no memory.
+    /// hold (docs/manual/rules.md, "ACTIVATE"). It takes no memory.
     pub fn take_over(&mut self, old: &mut ActiveVolumes)
         ensures { (s : DeskState) (config : Configuration) → IsLawful s → AreVolumesOf s old.old →
             AreNext s.statuses config self.old → first_barred s config ≡ None → IsConfiguration config →

@@ -152,7 +152,7 @@ impl ActiveVolumes {
 
     /// The storage groups and volumes of a configuration that is to become active after these, all their tracks
     /// free, or want of memory: each keeps its present status, and what isn't active has that of its deck
-    /// (docs/rules.md, "ACTIVATE").
+    /// (docs/manual/rules.md, "ACTIVATE").
     pub fn under(&self, alloc: Global, config: &Config) -> Result<ActiveVolumes, AllocError>
         ensures next { IfOk result (λ next. (s : DeskState) → IsLawful s → AreVolumesOf s self.now →
             AreNext s.statuses config.now next) }

@@ -122,7 +122,7 @@ impl ActiveVolumes {
         self.groups.iter().find(|group| group.group.name == *name)
     }
 
-    /// What DISPLAY shows of the storage group of this name (docs/rules.md, "DISPLAY").
+    /// What DISPLAY shows of the storage group of this name (docs/manual/rules.md, "DISPLAY").
     pub fn group(&self, name: &Name) -> Option<View>
         requires few { length self.now.volumes.items < 2 ^ 32 }
         ensures { (s : DeskState) → AreVolumesOf s self.now →

@@ -24,7 +24,7 @@ fn push_row(rows: &mut Vec<StatusRow>, target: Target, status: Status) -> Result
 
 impl ActiveVolumes {
     /// The present status of each storage group and then of each volume, in their orders, or want of memory
-    /// (docs/records.md).
+    /// (docs/manual/records.md).
     pub fn status_rows(&self, alloc: Global) -> Result<Statuses, AllocError>
         ensures present { IfOk result (λ rows. rows ≡ running_statuses self.now) }
         ensures next { IfOk result (λ rows. (present : List Row) (config : Configuration) →

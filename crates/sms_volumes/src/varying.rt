@@ -54,7 +54,7 @@ fn vary_volumes(volumes: &mut [ActiveVolume], volser: &Volser, status: Status)
 }
 
 impl ActiveVolumes {
-    /// The storage group or the volume gets this status (docs/rules.md, "VARY"). It takes no memory.
+    /// The storage group or the volume gets this status (docs/manual/rules.md, "VARY"). It takes no memory.
     pub fn vary(&mut self, target: &Target, status: Status)
         ensures { (s : DeskState) → IsLawful s → AreVolumesOf s self.old →
             AreVolumesOf (with_status s target.now status) self.new }

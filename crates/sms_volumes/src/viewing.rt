@@ -98,9 +98,9 @@ impl ActiveVolumes {
         None
     }
 
-    /// A candidate that may be chosen for what is asked (docs/rules.md, "The lists") and what the gap rule grants on
-    /// it, or `None` where all are rejected. Equally good volumes are taken in turn, which no clause says. Takes no
-    /// memory.
+    /// A candidate that may be chosen for what is asked (docs/manual/rules.md, "The lists") and what the gap rule
+    /// grants on it, or `None` where all are rejected. Equally good volumes are taken in turn, which no clause says.
+    /// Takes no memory.
     pub fn choose(&mut self, candidates: &Candidates<'_>, asked: &Asked<'_>) -> Option<Pick>
         requires asked { IsAsked asked.now }
         requires stand { StandForSome self.old }
@@ -227,7 +227,7 @@ impl ActiveVolumes {
     }
 
     /// What the gap rule grants on the volume at a place to a data set that holds so many extents there, or `None`
-    /// where it grants nothing (docs/rules.md, "The gap rule"). Takes no memory.
+    /// where it grants nothing (docs/manual/rules.md, "The gap rule"). Takes no memory.
     pub fn plan(&self, place: usize, asked: &Asked<'_>, held: u8) -> Option<Grant>
         requires place { place < length self.now.volumes.items }
         requires asked { IsAsked asked.now }

@@ -1,4 +1,5 @@
-//! What is said of a call that didn't end well, for the person at the terminal (docs/tool.md, "What a fault means").
+//! What is said of a call that didn't end well, for the person at the terminal (docs/manual/tool.md, "What a fault
+//! means").
 use tool_calls::ToolStatus;
 
 /// What a status alone tells: what failed, and what stands. Empty where all was written.

@@ -1,5 +1,5 @@
 //! What is said of a run over a database and of a served desk that didn't end well, for the person at the terminal
-//! (docs/script.md, "What is said of a fault"). Where memory for it is wanting, nothing is said.
+//! (docs/manual/script.md, "What is said of a fault"). Where memory for it is wanting, nothing is said.
 use db_calls::DbStatus;
 use desk_calls::RunStatus;
 use desk_notes::note_run;
@@ -54,7 +54,7 @@ fn name_of_table(table: Table) -> &'static str {
     }
 }
 
-// What a test of found rows asks (docs/records.md, "Found rows").
+// What a test of found rows asks (docs/manual/records.md, "Found rows").
 fn sentence_of_test(number: u8) -> &'static str {
     match number {
         1 => "test 1: two rows of the file have one key; nothing was answered\n",

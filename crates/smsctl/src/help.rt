@@ -31,9 +31,9 @@ For example:
     smsctl serve 8080 100
     smsctl serve 8080 100 --workers 4
 
-docs/script.md has the script's lines, the answers and the exit statuses,
-docs/records.md the records in a file, docs/management.md a day of space
-management, docs/generator.md the generated script, docs/http.md the desk over
+docs/manual/script.md has the script's lines, the answers and the exit statuses,
+docs/manual/records.md the records in a file, docs/manual/management.md a day of space
+management, docs/manual/generator.md the generated script, docs/manual/http.md the desk over
 HTTP.
 ";
 

@@ -38,7 +38,7 @@ static COMMANDS: [Row; 9] = [
     ("JOB1 2 D SET(A.B)", "1 JOB1 2 DISPLAY SET A.B;"),
 ];
 
-/// The scripts that the manual page shows (docs/script.md).
+/// The scripts that the manual page shows (docs/manual/script.md).
 #[rattlefmt::skip]
 static EXAMPLES: [Row; 4] = [
     ("SMSADMIN 2 VARY SMS,VOLUME(VOL001,ALL),QUIESCE,NEW\nSMSADMIN 3 D SMS,STORGRP(SG1)\n\

@@ -1,4 +1,4 @@
--- The refusals of a comparison as text (docs/tool.md, "Comparing two decks").
+-- The refusals of a comparison as text (docs/manual/tool.md, "Comparing two decks").
 use Rattle.std.specs.Prelude.{◌≡◌, ℕ, List, [], ◌++◌, decimal, codes}
 use Rattle.sms_script.specs.FaultText.{fault_text}
 use Rattle.acs_test.specs.declared.cases_err.CasesErr.{CasesErr}

@@ -1,4 +1,4 @@
--- How long an input may be (docs/tool.md).
+-- How long an input may be (docs/manual/tool.md).
 use Rattle.std.specs.Prelude.{ℕ}
 use Rattle.desk_common.specs.Limits.{most_input_bytes}
 use Rattle.sms_deck.specs.Limits.{most_routine_bytes}

@@ -1,4 +1,4 @@
--- How a call of the translator ends: each status and its cause (docs/tool.md).
+-- How a call of the translator ends: each status and its cause (docs/manual/tool.md).
 use Rattle.std.specs.Prelude.{◌≡◌, ◌⊎◌, Bool, true, false, List, ℕ}
 use Rattle.desk_common.specs.Causes.{Rose}
 use Rattle.sms_base.specs.Observed.{Observed, IsUnwritten, WasRead, WasAnswered, HasReadFault, HasWriteFault, IsTooLong}

@@ -1,4 +1,4 @@
--- What the translator prints (docs/tool.md).
+-- What the translator prints (docs/manual/tool.md).
 use Rattle.std.specs.Prelude.{◌≡◌, ◌⊎◌, ℕ, List, ◌++◌, Some, Ok, Err, decimal, codes, length}
 use Rattle.acs_tree.specs.declared.kind.Kind.{Kind}
 use Rattle.acs_tree.specs.declared.routine.Routine.{Routine}

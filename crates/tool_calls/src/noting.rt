@@ -1,5 +1,5 @@
-//! What is said of a fault beside the answer, for the person at the terminal (docs/tool.md, "What a fault means").
-//! Where memory for it is wanting, nothing is said.
+//! What is said of a fault beside the answer, for the person at the terminal (docs/manual/tool.md, "What a fault
+//! means"). Where memory for it is wanting, nothing is said.
 use acs_test::{CasesErr, Side};
 use acs_translate::{RoutineFault, TranslateErr};
 use fault_notes::{

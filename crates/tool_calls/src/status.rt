@@ -4,7 +4,7 @@ ghost use Rattle.tool_calls.specs.ExitStatus.{exit_status_of};
 
 use sms_script::ScriptErr;
 
-/// How a call of the translator ends; docs/tool.md has the cause of each.
+/// How a call of the translator ends; docs/manual/tool.md has the cause of each.
 #[derive(Clone, Copy, Debug, PartialEq, Eq)]
 pub enum ToolStatus {
     /// The input was read to its end, and the whole text of the answer was written.

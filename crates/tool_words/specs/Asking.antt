@@ -1,4 +1,4 @@
--- What words ask for, by the command that reads them (docs/tool.md, "Words").
+-- What words ask for, by the command that reads them (docs/manual/tool.md, "Words").
 use Rattle.std.specs.Prelude.{◌≡◌, ◌⊎◌, Bool, true, false, not, ◌&&◌, List, [], ◌∷◌, Option, Some, codes}
 use Rattle.std.specs.List.{list_all}
 use Rattle.acs_tree.specs.Variables.{name_of}

@@ -1,4 +1,4 @@
--- The command line of the tool: the command that its words are read by (docs/tool.md, "Words").
+-- The command line of the tool: the command that its words are read by (docs/manual/tool.md, "Words").
 use Rattle.std.specs.Prelude.{◌≡◌, List, [], ◌∷◌, Some, true, codes, map}
 use Rattle.std.specs.Borrow.{Bor}
 use Rattle.acs_tree.specs.Variables.{name_of}

@@ -30,7 +30,7 @@ smsc compare         say which data sets a new deck treats otherwise: the old
 ";
 
 const DOCUMENT: &str = "
-docs/tool.md has what each reads and prints, and the exit statuses.
+docs/manual/tool.md has what each reads and prints, and the exit statuses.
 ";
 
 /// What the command that this word names does, or what each does where it names none.

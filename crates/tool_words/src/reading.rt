@@ -29,7 +29,7 @@ fn read_matches<'a>(alloc: Global, words: &'a [String]) -> Result<ArgMatches<'a>
     tool.try_get_matches_from(words)
 }
 
-/// What the words ask for, or why they ask for nothing (docs/tool.md, "Words").
+/// What the words ask for, or why they ask for nothing (docs/manual/tool.md, "Words").
 pub fn task_asked(alloc: Global, words: &[String]) -> Result<Task, WordsErr>
     ensures asked { IfOk result (AskFor (map string_bytes words.now)) }
     ensures hindered { IfErr result (MayRefuse (Hinders (map string_bytes words.now)) (Some WordsErr.NoMemory)) }

@@ -1,6 +1,6 @@
 //! Why words ask for nothing.
 
-/// Why the words of the command line ask for no task (docs/tool.md, "Words").
+/// Why the words of the command line ask for no task (docs/manual/tool.md, "Words").
 #[derive(Clone, Copy, Debug, PartialEq, Eq)]
 pub enum WordsErr {
     /// They are refused.

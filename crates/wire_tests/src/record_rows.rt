@@ -1,4 +1,4 @@
-//! Records of each variant, and bytes that are no record, by the form of docs/records.md.
+//! Records of each variant, and bytes that are no record, by the form of docs/manual/records.md.
 
 /// Replies of each variant, with the least and the greatest values.
 #[rattlefmt::skip]

@@ -46,7 +46,7 @@ fn is_record_of(alloc: Global, reply: &Reply, bytes: &[u8]) -> Result<bool, Fail
     Ok(record.as_slice() == bytes && again.as_slice() == bytes)
 }
 
-// The two records that docs/records.md shows.
+// The two records that docs/manual/records.md shows.
 static COUNT_1: &[u8] = b"\x04\0\0\0\0\0\0\0\x01";
 
 static EXTEND: &[u8] = b"\0\0\0\0\0\0\0\x04JOB1\0\0\0\0\0\0\0\x07\x01\0\0\0\0\0\0\0\x03A.B";
@@ -70,7 +70,7 @@ static ALL: &str =
     DSORG=PS RECORG=KS DSNTYPE=LIBRARY DSTYPE=TEMP ACSENVIR=RECALL XMODE=TSO APPLIC=A OWNER=O \
     ACCT=(A,B) STEPACCT=(C,D,E) RETPD=9999 EXPDT=2026365 BLKSIZE=2147483647 DAY=2026150 EATTR=OPT";
 
-// Its record, in the order of docs/records.md.
+// Its record, in the order of docs/manual/records.md.
 #[rattlefmt::skip]
 static ALL_BYTES: &[u8] = b"\0\0\0\0\0\0\0\x04JOB1\0\0\0\0\0\0\0\x07\0\
     \0\0\0\0\0\0\0\x0cPAY.A.MASTER\

@@ -1,4 +1,4 @@
--- The numbers of the checks (docs/acs-language.md, Checks).
+-- The numbers of the checks (docs/manual/acs-language.md, Checks).
 use Rattle.std.specs.Prelude.{ℕ}
 use Rattle.acs_check.specs.declared.check_name.CheckName.{CheckName}
 use Rattle.acs_check.specs.declared.check_name.CheckName.TheVariants.{WrongHead, UnknownVariable, NotSettable}

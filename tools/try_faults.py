@@ -1,8 +1,8 @@
 #!/usr/bin/env python3
-"""Tries the programs smsctl and smsc where things fail outside them, and says where they don't do what docs/script.md and
-docs/tool.md promise.
+"""Tries the programs smsctl and smsc where things fail outside them, and says where they don't do what docs/manual/script.md and
+docs/manual/tool.md promise.
 
-usage: docs/try_faults.py PATH/smsctl PATH/smsc [LARGE_SCRIPT]
+usage: tools/try_faults.py PATH/smsctl PATH/smsc [LARGE_SCRIPT]
 
 - Memory limits from 3 MB up: each run ends with status 7 and writes nothing, or with 0 and writes the whole text; a text
   with M31 in it, where requests were answered so, isn't compared.
@@ -11,7 +11,7 @@ usage: docs/try_faults.py PATH/smsctl PATH/smsc [LARGE_SCRIPT]
   nothing written; 0 of the commands that don't read it.
 - A limit on the size of files, by 4 KB from none up, in place of a full disk, for `run --db`: status 9 or 10 and nothing
   written, or 0 with the whole text, or with requests answered F30, of which standard error tells.
-- The script cut after each of its bytes: each cut ends as docs/script.md says.
+- The script cut after each of its bytes: each cut ends as docs/manual/script.md says.
 - Each list of words of both programs one word too long, too short, with one of its words left out, with each letter
   changed, with a control character, and with each number at its limits and past them: status 2 with a sentence on standard
   error, which has no control character, or another status where it is a list. Of serve no list is tried that would open a

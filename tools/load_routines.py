@@ -1,6 +1,6 @@
 #!/usr/bin/env python3
 """Writes loads of routines into a folder, the same at each call.
-usage: docs/load_routines.py FOLDER
+usage: tools/load_routines.py FOLDER
   routine   a storage class routine of 59,884 bytes with 40 filter lists            smsc translate STORCLAS < routine
   deck      16 storage groups, 1,024 volumes, and two such routines                 smsc validate < deck
   sim       that deck activated, and 3,000 ALLOCs of every kind of name             smsc simulate < sim

@@ -1,6 +1,6 @@
 #!/usr/bin/env python3
 """Writes a script for runs by several workers: an activation, and behind a SYNC the allocations of many jobs.
-usage: docs/load_workers.py heavy|light ALLOCATIONS > SCRIPT     heavy: a routine of 60 KB whose statements all run; light: the least routines
+usage: tools/load_workers.py heavy|light ALLOCATIONS > SCRIPT     heavy: a routine of 60 KB whose statements all run; light: the least routines
 Then: time smsctl run --workers N < SCRIPT > ANSWERS, for N from 1 on."""
 import sys
 

@@ -1,6 +1,6 @@
 #!/usr/bin/env python3
-"""Tells which definitions the public clauses rest on, and whether docs/DEFINITIONS.md lists them.
-usage, at the top of the repository: docs/definitions.py
+"""Tells which definitions the public clauses rest on, and whether docs/developers/DEFINITIONS.md lists them.
+usage, at the top of the repository: tools/definitions.py
 
 It looks at words and proves nothing: a word of a clause is that of the import, or of the file's own, of that name.
 Public are the clauses of what a crate's lib.rt hands out and of main.rt, what contracts see of a type (Value and
@@ -138,7 +138,7 @@ def public_tokens(path, public):
     return found
 
 def rows_of(text):
-    """The words of docs/DEFINITIONS.md with the files in which they are said to stand."""
+    """The words of docs/developers/DEFINITIONS.md with the files in which they are said to stand."""
     homes, section = {'The law of the desk': 'desk_law', 'Decks': 'sms_deck'}, None
     for line in text.split('\n'):
         if line.startswith('## '): section = homes.get(line[3:])
@@ -183,7 +183,7 @@ def tell_words(known, shown, reached):
 
 def tell_counted(known, shown, reached):
     """Where the page has other numbers."""
-    page = read('docs/DEFINITIONS.md').partition('\n## ')[0]
+    page = read('docs/developers/DEFINITIONS.md').partition('\n## ')[0]
     hidden = set(known.files) - shown
     words = sum(map(len, unreached_words(known, shown, reached).values()))
     for text in (f'{len(shown)} files of definitions with {lines_of(known, shown):,} lines',
@@ -199,7 +199,7 @@ def homes_of(known, word, files):
     return homes
 
 def tell_listed(known, shown, reached):
-    public, _, private = read('docs/DEFINITIONS.md').partition('## Words of private clauses')
+    public, _, private = read('docs/developers/DEFINITIONS.md').partition('## Words of private clauses')
     listed = set()
     for word, files in rows_of(public):
         listed |= set(files)

@@ -1,8 +1,8 @@
 #!/usr/bin/env python3
-"""Refuses the calls of smsctl on the system one by one, and says where the program doesn't do what docs/script.md and
-docs/http.md promise. It needs gcc and glibc: a library that is loaded first counts the calls and refuses one of them.
+"""Refuses the calls of smsctl on the system one by one, and says where the program doesn't do what docs/manual/script.md and
+docs/manual/http.md promise. It needs gcc and glibc: a library that is loaded first counts the calls and refuses one of them.
 
-usage: docs/refuse_calls.py PATH/smsctl FOLDER [PART ..]
+usage: tools/refuse_calls.py PATH/smsctl FOLDER [PART ..]
 
 FOLDER is a folder for the library and for files of records; it should be empty. The parts, all of them where none is named:
 - run: `run` over the first path, an activation and an allocation;

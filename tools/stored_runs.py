@@ -1,7 +1,7 @@
 #!/usr/bin/env python3
 """Runs the built smsctl as an administrator does, in a folder of its own, and says where it doesn't write or leave what is stored here.
 
-usage: docs/stored_runs.py PATH/smsctl
+usage: tools/stored_runs.py PATH/smsctl
 
 - `run --manage DAY`: the text of the run and, behind it, that of the day; no file is made.
 - `run --db FILE`: the file that is named holds the records, and no other is made; a second run goes on from it, another file
