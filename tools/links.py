@@ -5,7 +5,8 @@ usage, at the top of the repository: tools/links.py
 It looks at README.md and docs: each link to a file and to a heading; each path in backquotes that begins with crates/,
 docs/ or tools/; and each row of a table of docs/developers/ways.md and docs/developers/crates whose first cell is a
 crate: the files of its second cell are to stand in src, specs or data of that crate (or to be a page's path), and the
-words of its third cell, by name, in one of those files."""
+words of its third cell, by name, in one of those files. A block of Rust is to stand, line by line, in the last file of
+crates/ that was named before it."""
 import glob, os, re, sys
 
 PAGES = ['README.md'] + sorted(glob.glob('docs/**/*.md', recursive=True))
@@ -35,9 +36,17 @@ def check_row(page, crate, files, words):
         name = word.split('::')[-1]
         if not any(re.search(rf'\b{name}\b', text) for text in texts): tell(page, f'{crate}: no {word} in {files}')
 
+def check_quotes(page, text):
+    for part in re.finditer(r'```rust\n(.*?)```', text, re.S):
+        path = re.findall(r'`(crates/[\w/]+\.rt)`', text[:part.start()])[-1]
+        lines = {line.strip() for line in read(path).split('\n')}
+        for line in filter(None, map(str.strip, part.group(1).split('\n'))):
+            if line not in lines: tell(page, f'{path} has no line {line}')
+
 for page in PAGES:
     text = read(page)
     check_links(page, text)
+    if '/crates/' in page: check_quotes(page, text)
     if page == 'docs/developers/ways.md' or '/crates/' in page:
         for line in text.split('\n'):
             cells = [c.strip() for c in line.strip('|').split('|')] if line.startswith('|') else []
