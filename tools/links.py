@@ -50,7 +50,7 @@ for page in PAGES:
     if page == 'docs/developers/ways.md' or '/crates/' in page:
         for line in text.split('\n'):
             cells = [c.strip() for c in line.strip('|').split('|')] if line.startswith('|') else []
-            cells = cells[1:] if cells and re.fullmatch(r'\d+', cells[0]) else cells
+            cells = cells[1:] if cells and re.fullmatch(r'\d+[a-z]?', cells[0]) else cells
             if len(cells) > 2 and os.path.isdir(f'crates/{cells[0]}'): check_row(page, *cells[:3])
 print('\n'.join(faults) or f'{len(PAGES)} pages: all is there')
 sys.exit(bool(faults))
