@@ -4,9 +4,8 @@ usage, at the top of the repository: tools/links.py
 
 It looks at README.md and docs: each link to a file and to a heading; each path in backquotes that begins with crates/,
 docs/ or tools/; and each row of a table of docs/developers/ways.md and docs/developers/crates whose first cell is a
-crate: the files of its second cell are to stand in src, specs or data of that crate (or to be a page's path), and the
-words of its third cell, by name, in one of those files. A block of Rust is to stand, line by line, in the last file of
-crates/ that was named before it."""
+crate: the files of its second cell are to stand in that crate or its src, and the words of its third cell, by name, in
+one of those files. A block of Rust is to stand, line by line, in the last file of crates/ that was named before it."""
 import glob, os, re, sys
 
 PAGES = ['README.md'] + sorted(glob.glob('docs/**/*.md', recursive=True))
@@ -29,9 +28,11 @@ def check_links(page, text):
             tell(page, f'no {path}')
 
 def check_row(page, crate, files, words):
-    found = [p for f in re.findall(r'`([\w./-]+)`', files)
-             for p in glob.glob(f'crates/{crate}/{f}') + glob.glob(f'crates/{crate}/src/{f}') or [tell(page, f'{crate} has no {f}')] if p]
-    texts = [read(p) for p in found if os.path.isfile(p)]
+    texts = []
+    for file in re.findall(r'`([\w./-]+)`', files):
+        found = [p for p in (f'crates/{crate}/{file}', f'crates/{crate}/src/{file}') if os.path.isfile(p)]
+        if not found: tell(page, f'{crate} has no {file}')
+        texts += map(read, found)
     for word in re.findall(r'`([\w:]+)`', words):
         name = word.split('::')[-1]
         if not any(re.search(rf'\b{name}\b', text) for text in texts): tell(page, f'{crate}: no {word} in {files}')
