@@ -5,7 +5,7 @@ usage, at the top of the repository: tools/links.py
 It looks at README.md and docs: each link to a file and to a heading; each path in backquotes that begins with crates/,
 docs/ or tools/; and each row of a table of docs/developers/ways.md and docs/developers/crates whose first cell is a
 crate: the files of its second cell are to stand in that crate or its src, and the words of its third cell, by name, in
-one of those files. A block of Rust is to stand, line by line, in the last file of crates/ that was named before it."""
+one of those files. A block of Rust is to stand, line by line, in the last file of crates/ that was named before it. Each crate is to have its line in MAP, and those of code in README and ways.md too."""
 import glob, os, re, sys
 
 PAGES = ['README.md'] + sorted(glob.glob('docs/**/*.md', recursive=True))
@@ -53,5 +53,15 @@ for page in PAGES:
             cells = [c.strip() for c in line.strip('|').split('|')] if line.startswith('|') else []
             cells = cells[1:] if cells and re.fullmatch(r'\d+[a-z]?', cells[0]) else cells
             if len(cells) > 2 and os.path.isdir(f'crates/{cells[0]}'): check_row(page, *cells[:3])
+def check_crates():
+    """Each crate has its row on the map, and each but those of tests in README and in the picture of the layers."""
+    crates = sorted(c for c in os.listdir('crates') if os.path.isdir(f'crates/{c}/src'))
+    for page, left_out in (('docs/developers/MAP.md', r'$^'), ('README.md', '_tests$'),
+                           ('docs/developers/ways.md', '_tests$|^worked_cases$')):
+        text = read(page)
+        for crate in crates:
+            if not re.search(left_out, crate) and not re.search(rf'\b{crate}\b', text): tell(page, f'no line for {crate}')
+
+check_crates()
 print('\n'.join(faults) or f'{len(PAGES)} pages: all is there')
 sys.exit(bool(faults))
