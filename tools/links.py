@@ -5,7 +5,8 @@ usage, at the top of the repository: tools/links.py
 It looks at README.md and docs: each link to a file and to a heading; each path in backquotes that begins with crates/,
 docs/ or tools/; and each row of a table of docs/developers/ways.md and docs/developers/crates whose first cell is a
 crate: the files of its second cell are to stand in that crate or its src, and the words of its third cell, by name, in
-one of those files. A block of Rust is to stand, line by line, in the last file of crates/ that was named before it. Each crate is to have its line in MAP, and those of code in README and ways.md too."""
+one of those files. A block of Rust is to stand, line by line, in the last file of crates/ that was named before it.
+Each crate is to have its line in MAP, and those of code in README and ways.md too."""
 import glob, os, re, sys
 
 PAGES = ['README.md'] + sorted(glob.glob('docs/**/*.md', recursive=True))
