@@ -9,7 +9,7 @@ ghost use Rattle.acs_symbol.specs.Inner.Keywords.{kind_among};
 
 use crate::symbol::{Symbol, WordKind};
 use acs_tree::{Compare, are_digits};
-use desk_common::MAX_WORD;
+use desk_common::{MAX_WORD, are_same};
 
 /// What the word can be besides a name, its letters in either case. Most words have no small letter, and
 /// are read where they stand.
@@ -105,17 +105,17 @@ fn of_three(text: &[u8]) -> WordKind
 fn of_four(text: &[u8]) -> WordKind
     ensures { result ≡ kind_among 4 text.now }
 {
-    if text == b"PROC".as_slice() {
+    if are_same(text, b"PROC") {
         WordKind::Proc
-    } else if text == b"EXIT".as_slice() {
+    } else if are_same(text, b"EXIT") {
         WordKind::Exit
-    } else if text == b"THEN".as_slice() {
+    } else if are_same(text, b"THEN") {
         WordKind::Then
-    } else if text == b"ELSE".as_slice() {
+    } else if are_same(text, b"ELSE") {
         WordKind::Else
-    } else if text == b"WHEN".as_slice() {
+    } else if are_same(text, b"WHEN") {
         WordKind::When
-    } else if text == b"CODE".as_slice() {
+    } else if are_same(text, b"CODE") {
         WordKind::Code
     } else {
         number_kind(text)
@@ -126,7 +126,7 @@ fn of_four(text: &[u8]) -> WordKind
 fn of_five(text: &[u8]) -> WordKind
     ensures { result ≡ kind_among 5 text.now }
 {
-    if text == b"WRITE".as_slice() {
+    if are_same(text, b"WRITE") {
         WordKind::Write
     } else {
         number_kind(text)
@@ -137,7 +137,7 @@ fn of_five(text: &[u8]) -> WordKind
 fn of_six(text: &[u8]) -> WordKind
     ensures { result ≡ kind_among 6 text.now }
 {
-    if text == b"SELECT".as_slice() {
+    if are_same(text, b"SELECT") {
         WordKind::Select
     } else {
         number_kind(text)
@@ -148,9 +148,9 @@ fn of_six(text: &[u8]) -> WordKind
 fn of_seven(text: &[u8]) -> WordKind
     ensures { result ≡ kind_among 7 text.now }
 {
-    if text == b"INCLUDE".as_slice() {
+    if are_same(text, b"INCLUDE") {
         WordKind::Include
-    } else if text == b"EXCLUDE".as_slice() {
+    } else if are_same(text, b"EXCLUDE") {
         WordKind::Exclude
     } else {
         number_kind(text)
@@ -161,7 +161,7 @@ fn of_seven(text: &[u8]) -> WordKind
 fn of_eight(text: &[u8]) -> WordKind
     ensures { result ≡ kind_among 8 text.now }
 {
-    if text == b"FILTLIST".as_slice() {
+    if are_same(text, b"FILTLIST") {
         WordKind::FiltList
     } else {
         number_kind(text)
@@ -172,7 +172,7 @@ fn of_eight(text: &[u8]) -> WordKind
 fn of_nine(text: &[u8]) -> WordKind
     ensures { result ≡ kind_among 9 text.now }
 {
-    if text == b"OTHERWISE".as_slice() {
+    if are_same(text, b"OTHERWISE") {
         WordKind::Otherwise
     } else {
         number_kind(text)
