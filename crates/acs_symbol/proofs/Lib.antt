@@ -1,4 +1,3 @@
 pub mod LiteralLemmas
 pub mod CountLemmas
 pub mod UpperLemmas
-pub mod KeywordLemmas

@@ -49,7 +49,7 @@ impl PartialEq for Ident {
     ghost laws = { Prim.search (comparing, rules) };
 
     fn eq(&self, other: &Ident) -> bool {
-        self.text.equals(&other.text)
+        self.bytes() == other.bytes()
     }
 }
 

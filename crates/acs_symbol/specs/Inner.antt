@@ -1,2 +1,0 @@
--- What private clauses and proofs alone cite.
-pub mod Keywords
