@@ -1,0 +1,10 @@
+//! What the routines of a deck do with allocations that nobody makes, statement by statement.
+#![tactic(auto)]
+
+mod deck_sources;
+mod explaining;
+mod items;
+mod run_text;
+
+pub use deck_sources::DeckSources;
+pub use explaining::explain;
