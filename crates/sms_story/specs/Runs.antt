@@ -1,5 +1,5 @@
--- Which routines of a configuration run while a new data set is classified, and what happens in each (docs/manual/tool.md,
--- "Explaining a script"; docs/manual/rules.md, "Classification").
+-- Which routines of a configuration run while a new data set is classified, and what happens in each
+-- (docs/manual/tool.md, "Explaining a script"; docs/manual/rules.md, "Classification").
 use Rattle.std.specs.Prelude.{◌≡◌, ◌++◌, Bool, true, false, ◌||◌, ℕ, List, [], ◌∷◌, Option, None, Some, is_some}
 use Rattle.std.specs.Prelude.{if◌then◌else◌}
 use Rattle.acs_trace.specs.Story.{Told, story_of}

@@ -1,5 +1,5 @@
-//! What happens in the routines of a configuration while a new data set is classified (docs/manual/tool.md, "Explaining a
-//! script").
+//! What happens in the routines of a configuration while a new data set is classified (docs/manual/tool.md,
+//! "Explaining a script").
 #![tactic(auto)]
 
 mod begin;
