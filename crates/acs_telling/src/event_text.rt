@@ -59,8 +59,8 @@ fn push_line(text: &mut Vec<u8>, source: &Source, event: &Event) -> Result<(), A
     }
 }
 
-// A token at its place.
-fn push_begun(text: &mut Vec<u8>, source: &Source, at: u32) -> Result<(), AllocError>
+/// Puts the token with this number, at its place, behind a text.
+pub fn push_begun(text: &mut Vec<u8>, source: &Source, at: u32) -> Result<(), AllocError>
     ensures { OnOk result (text.new.items ≡ text.old.items ++ event_line source.now (Event.Ran at)) }
 {
     push_front(text, source, at)?;
@@ -81,7 +81,8 @@ fn push_set(
     push_quoted(text, value)
 }
 
-fn push_comparison(
+/// Puts the comparison of what begins at two tokens behind a text.
+pub fn push_comparison(
     text: &mut Vec<u8>,
     source: &Source,
     left: u32,

@@ -5,5 +5,6 @@ mod event_text;
 mod source;
 mod words;
 
-pub use event_text::push_events;
+pub use event_text::{push_begun, push_comparison, push_events};
 pub use source::Source;
+pub use words::push_front;

@@ -8,7 +8,7 @@ ghost use Rattle.sms_explain.specs.DeckTexts.{AreSources, IsSourceOf, source_in}
 
 use acs_telling::Source;
 use acs_tree::Kind;
-use sms_construct::key_of;
+use sms_construct::{DeckText, key_of};
 use sms_deck::MAX_ROUTINE;
 use std::alloc::{AllocError, Global};
 use toml::{Table, Value};
@@ -49,6 +49,14 @@ impl DeckSources {
             Kind::StorGrp => &self.storgrp,
         }
     }
+}
+
+/// The texts of the routines of a deck, as a script holds it, that has no fault.
+pub fn sources_of(alloc: Global, deck: &DeckText) -> Result<DeckSources, AllocError>
+    ensures { IfOk result (AreSources deck.now) }
+{
+    let sources = DeckSources::of(alloc, deck.get().as_slice())?;
+    Ok(sources)
 }
 
 fn source(alloc: Global, top: &Table, kind: Kind) -> Result<Source, AllocError>

@@ -2,11 +2,10 @@
 ghost use Rattle.std.specs.Prelude.{◌≡◌, ◌++◌, ◌∷◌, flat_map, map, IfOk, OnOk};
 ghost use Rattle.sms_script.specs.Script.{items_of};
 ghost use Rattle.desk_law.specs.Classification.{classes_of};
-ghost use Rattle.sms_explain.specs.DeckTexts.{AreSources};
 ghost use Rattle.sms_explain.specs.Explanation.{IsExplainedUnder, IsExplanation, end_text, front_text};
 ghost use Rattle.sms_explain.specs.Explanation.{head_text, told_of, told_text};
 
-use crate::deck_sources::DeckSources;
+use crate::deck_sources::{DeckSources, sources_of};
 use crate::items::{all_items, first_other};
 use crate::run_text::push_runs;
 use acs_tree::Slate;
@@ -64,13 +63,6 @@ fn explain_under(alloc: Global, deck: &DeckText, others: &[&Item]) -> Result<Sim
         Err(DeckErr::Fault(fault)) => Ok(Simulated::Refused(fault)),
         Err(DeckErr::NoMemory) => Err(AllocError),
     }
-}
-
-fn sources_of(alloc: Global, deck: &DeckText) -> Result<DeckSources, AllocError>
-    ensures { IfOk result (AreSources deck.now) }
-{
-    let sources = DeckSources::of(alloc, deck.get().as_slice())?;
-    Ok(sources)
 }
 
 // What is told of the items.

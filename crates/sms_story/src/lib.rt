@@ -11,4 +11,4 @@ mod telling;
 
 pub use case_story::CaseStory;
 pub use run::{Run, Runs};
-pub use telling::tell;
+pub use telling::{runs_of, tell};

@@ -48,7 +48,8 @@ pub fn tell(
     })
 }
 
-fn runs_of(
+/// The runs of that classification.
+pub fn runs_of(
     alloc: Global,
     config: &Config,
     job: &Name,
