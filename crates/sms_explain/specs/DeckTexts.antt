@@ -5,8 +5,8 @@ use Rattle.acs_telling.specs.Sources.{IsSource}
 use Rattle.acs_telling.specs.declared.source.Source.{Source}
 use Rattle.acs_tree.specs.declared.kind.Kind.{Kind}
 use Rattle.acs_tree.specs.declared.kind.Kind.TheVariants.{DataClas, StorClas, MgmtClas, StorGrp}
-use Rattle.sms_deck.specs.Outcomes.{source_of}
-use Rattle.sms_deck.specs.Reading.{MeansTable}
+use Rattle.deck_meaning.specs.Outcomes.{source_of}
+use Rattle.deck_meaning.specs.Reading.{MeansTable}
 use Rattle.sms_explain.specs.declared.deck_sources.DeckSources.{DeckSources}
 
 -- the source of the routine of a kind

@@ -7,7 +7,7 @@ use Rattle.sms_construct.specs.Configuration.{Configuration}
 use Rattle.sms_construct.specs.declared.alloc.Alloc.{Alloc}
 use Rattle.sms_construct.specs.declared.fault.Fault.{Fault}
 use Rattle.sms_construct.specs.declared.stop.Stop.{Stop}
-use Rattle.sms_deck.specs.Reading.{Configures, HasFirstFault}
+use Rattle.deck_meaning.specs.Reading.{Configures, HasFirstFault}
 use Rattle.sms_script.specs.declared.item.Item.{Item}
 use Rattle.sms_simulation.specs.OutcomeText.{outcome_text, text_of_classes}
 use Rattle.sms_simulation.specs.Simulation.{AreAsked, RefusesDeck, ShowsNothing, alloc_of, first_misplaced}

@@ -3,13 +3,13 @@ ghost use Rattle.std.specs.Prelude.{◌≡◌, IfOk, option_map};
 ghost use Rattle.std.specs.Option.{option_and_then};
 ghost use Rattle.toml.specs.Data.{as_table, get_member};
 ghost use Rattle.toml.specs.View.{table_view, view};
-ghost use Rattle.sms_deck.specs.Outcomes.{source_of};
+ghost use Rattle.deck_meaning.specs.Outcomes.{source_of};
 ghost use Rattle.sms_explain.specs.DeckTexts.{AreSources, IsSourceOf, source_in};
 
 use acs_telling::Source;
 use acs_tree::Kind;
 use sms_construct::{DeckText, key_of};
-use sms_deck::MAX_ROUTINE;
+use deck_meaning::MAX_ROUTINE;
 use std::alloc::{AllocError, Global};
 use toml::{Table, Value};
 

@@ -6,7 +6,7 @@ ghost use Rattle.sms_story.specs.Runs.{from_data_class, from_management_class, f
 use crate::routine::{is_null, is_stopped_by, run_routine};
 use crate::run::Runs;
 use acs_tree::{Kind, Seen, Values};
-use sms_deck::Config;
+use deck_meaning::Config;
 use std::alloc::{AllocError, Global};
 
 /// Runs the four routines in their order until something stops the classification, and tells what happens.

@@ -10,7 +10,7 @@ use crate::run::{Run, Runs};
 use acs_trace::follow;
 use acs_tree::{Checked, Ending, Kind, Seen, Values};
 use dsn_mask::Short;
-use sms_deck::Config;
+use deck_meaning::Config;
 use std::alloc::{AllocError, Global};
 
 /// Runs the routine of a class, and tells whether that stops the classification.

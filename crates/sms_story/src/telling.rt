@@ -13,7 +13,7 @@ use desk_common::Items;
 use dsn_mask::Name;
 use sms_classes::classify;
 use sms_construct::{Alloc, Trace};
-use sms_deck::Config;
+use deck_meaning::Config;
 use std::alloc::{AllocError, Global};
 
 /// What happens in the routines of a configuration while the new data set of an ALLOC of this job is classified, and
