@@ -8,8 +8,8 @@ ghost use Rattle.sms_explain.specs.DeckTexts.{AreSources, IsSourceOf, source_in}
 
 use acs_telling::Source;
 use acs_tree::Kind;
-use sms_construct::{DeckText, key_of};
 use deck_meaning::MAX_ROUTINE;
+use sms_construct::{DeckText, key_of};
 use std::alloc::{AllocError, Global};
 use toml::{Table, Value};
 

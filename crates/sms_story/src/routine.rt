@@ -9,8 +9,8 @@ ghost use Rattle.sms_story.specs.Runs.{comes_to, has_stop, runs_of_kind};
 use crate::run::{Run, Runs};
 use acs_trace::follow;
 use acs_tree::{Checked, Ending, Kind, Seen, Values};
-use dsn_mask::Short;
 use deck_meaning::Config;
+use dsn_mask::Short;
 use std::alloc::{AllocError, Global};
 
 /// Runs the routine of a class, and tells whether that stops the classification.

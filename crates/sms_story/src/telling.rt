@@ -9,11 +9,11 @@ use crate::onward::from_data_class;
 use crate::run::Runs;
 use acs_trace::tells_the_truth;
 use acs_tree::Slate;
+use deck_meaning::Config;
 use desk_common::Items;
 use dsn_mask::Name;
 use sms_classes::classify;
 use sms_construct::{Alloc, Trace};
-use deck_meaning::Config;
 use std::alloc::{AllocError, Global};
 
 /// What happens in the routines of a configuration while the new data set of an ALLOC of this job is classified, and
