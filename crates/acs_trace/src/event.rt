@@ -1,4 +1,5 @@
 // What happens in a run.
+use acs_tree::Compare;
 use desk_common::Items;
 use dsn_mask::Lit;
 
@@ -10,6 +11,7 @@ pub enum Event {
     /// The variable at one token, which held this, is compared with the operand at another.
     Compared {
         left: u32,
+        op: Compare,
         right: u32,
         value: Lit,
         holds: bool,

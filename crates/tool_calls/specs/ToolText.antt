@@ -20,6 +20,7 @@ use Rattle.sms_script.specs.declared.script_err.ScriptErr.TheVariants as scripts
 use Rattle.sms_simulation.specs.Simulation.{IsSimulation, first_misplaced}
 use Rattle.sms_simulation.specs.declared.simulated.Simulated.{Simulated}
 use Rattle.sms_simulation.specs.declared.simulated.Simulated.TheVariants as simulations
+use Rattle.sms_explain.specs.Explanation.{IsExplanation}
 use Rattle.acs_test.specs.Listing.{IsListing}
 use Rattle.acs_test.specs.Reading.{IsReading, IsRefusal}
 use Rattle.acs_test.specs.declared.cases.Cases.{Cases}
@@ -30,7 +31,7 @@ use Rattle.tool_calls.specs.declared.no_answer.NoAnswer.TheVariants as hindrance
 use Rattle.tool_calls.specs.declared.status.ToolStatus.{ToolStatus}
 use Rattle.tool_calls.specs.declared.status.ToolStatus.TheVariants.{Done, FaultFound}
 use Rattle.tool_words.specs.declared.task.Task.{Task}
-use Rattle.tool_words.specs.declared.task.Task.TheVariants.{Translate, Validate, Simulate, Compare}
+use Rattle.tool_words.specs.declared.task.Task.TheVariants.{Translate, Validate, Simulate, Compare, Explain}
 
 -- L, P or C
 abbrev pub letter_of : Stage → List ℕ
@@ -73,18 +74,34 @@ pub data IsAnswer (bytes : List ℕ) : Task → ToolStatus → List ℕ → Type
   compared : (cases : Cases) (text : List ℕ) → IsReading bytes cases →
       IsListing cases.before cases.after cases.list text → IsAnswer bytes Compare Done text
   uncompared : (err : CasesErr) → IsRefusal bytes err → IsAnswer bytes Compare FaultFound (cases_fault_text err)
+  explained : (phases : List (List Item)) (text : List ℕ) → script_of bytes ≡ Ok phases →
+      IsExplanation (items_of phases) (simulations.Shown text) → IsAnswer bytes Explain Done text
+  unexplained : (phases : List (List Item)) (fault : DeckFault) → script_of bytes ≡ Ok phases →
+      IsExplanation (items_of phases) (simulations.Refused fault) →
+      IsAnswer bytes Explain FaultFound (refused_text fault)
 
 -- the input is no script that can be simulated: it has this fault as a script, or is one with an item that isn't the
 -- one asked there
-pub data IsScriptFault (bytes : List ℕ) : Task → ScriptErr → Type 0 where
-  unread : (err : ScriptErr) → script_of bytes ≡ Err err → IsScriptFault bytes Simulate err
+pub data HasScriptFault (bytes : List ℕ) : ScriptErr → Type 0 where
+  unread : (err : ScriptErr) → script_of bytes ≡ Err err → HasScriptFault bytes err
   misplaced : (phases : List (List Item)) (line : ℕ) → script_of bytes ≡ Ok phases →
-      first_misplaced (items_of phases) ≡ Some line → IsScriptFault bytes Simulate (scripts.BadLine line)
+      first_misplaced (items_of phases) ≡ Some line → HasScriptFault bytes (scripts.BadLine line)
+
+-- the input of a simulation or of an explanation is no script that can be simulated
+abbrev pub IsScriptFault : List ℕ → Task → ScriptErr → Type 0
+IsScriptFault bytes Simulate err = HasScriptFault bytes err
+IsScriptFault bytes Explain err = HasScriptFault bytes err
+IsScriptFault bytes _ err = ⊥
 
 -- why an input has no answer; want of memory says nothing of it
 abbrev pub Hinders : List ℕ → Task → NoAnswer → Type 0
 Hinders bytes task (hindrances.Script err) = IsScriptFault bytes task err
 Hinders bytes task hindrances.NoMemory = Unit {0}
+
+-- why an input has no answer as a script; want of memory says nothing of it
+abbrev pub HindersScript : List ℕ → NoAnswer → Type 0
+HindersScript bytes (hindrances.Script err) = HasScriptFault bytes err
+HindersScript bytes hindrances.NoMemory = Unit {0}
 
 -- why an input with this fault as a script has no answer
 abbrev pub hindrance_of : ScriptErr → NoAnswer

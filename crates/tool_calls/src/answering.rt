@@ -1,8 +1,10 @@
 //! From the bytes of the input to the text of the answer.
-ghost use Rattle.std.specs.Prelude.{◌≡◌, ◌<◌, ◌^◌, length, IfOk, IfErr};
+ghost use Rattle.std.specs.Prelude.{◌≡◌, ◌<◌, ◌^◌, length, IfOk, IfErr, Ok};
+ghost use Rattle.sms_script.specs.Script.{script_of};
 ghost use Rattle.tool_calls.specs.ToolText.{letter_of, translated_text, fault_text, refused_text, valid_text, IsAnswer};
-ghost use Rattle.tool_calls.specs.ToolText.{Hinders, hindrance_of, TellsFault, TellsSimulation, HindersSimulation};
-ghost use Rattle.tool_words.specs.declared.task.Task.TheVariants.{Translate, Validate, Simulate};
+ghost use Rattle.tool_calls.specs.ToolText.{Hinders, HindersScript, hindrance_of, TellsFault, TellsSimulation};
+ghost use Rattle.tool_calls.specs.ToolText.{HindersSimulation};
+ghost use Rattle.tool_words.specs.declared.task.Task.TheVariants.{Translate, Validate, Simulate, Explain};
 
 use crate::comparing::compared;
 use crate::no_answer::NoAnswer;
@@ -14,7 +16,8 @@ use deck_meaning::DeckErr;
 use desk_common::{Items, Shared, push_number};
 use sms_construct::Fault;
 use sms_deck::read_deck;
-use sms_script::{ScriptErr, push_fault, read_script};
+use sms_explain::explain;
+use sms_script::{Script, ScriptErr, push_fault, read_script};
 use sms_simulation::{Simulated, simulate};
 use std::alloc::{AllocError, Global};
 use tool_words::Task;
@@ -37,6 +40,7 @@ pub fn answer(
         Task::Validate => validated(alloc, bytes, note).map_err(|_| NoAnswer::NoMemory),
         Task::Simulate => simulated(alloc, &bytes, note),
         Task::Compare => compared(alloc, &bytes, note).map_err(|_| NoAnswer::NoMemory),
+        Task::Explain => explained(alloc, &bytes, note),
     }
 }
 
@@ -50,12 +54,9 @@ fn simulated(
     ensures answer { IfOk result (λ found. IsAnswer bytes.now Simulate found.0 found.1) }
     ensures hindered { IfErr result (Hinders bytes.now Simulate) }
 {
-    let script = match read_script(alloc, bytes) {
+    let script = match script_in(alloc, bytes, note) {
         Ok(script) => script,
-        Err(fault) => {
-            note_script(alloc, note, bytes, fault);
-            return Err(hindrance(fault));
-        }
+        Err(why) => return Err(why),
     };
     match simulate(alloc, &script) {
         Ok(made) => {
@@ -63,6 +64,44 @@ fn simulated(
             simulation(alloc, made)
         }
         Err(_) => Err(NoAnswer::NoMemory),
+    }
+}
+
+// The explanation of a script.
+fn explained(
+    alloc: Global,
+    bytes: &[u8],
+    note: &mut String,
+) -> Result<(ToolStatus, Items<u8>), NoAnswer>
+    requires { length bytes.now < 2 ^ 32 }
+    ensures answer { IfOk result (λ found. IsAnswer bytes.now Explain found.0 found.1) }
+    ensures hindered { IfErr result (Hinders bytes.now Explain) }
+{
+    let script = match script_in(alloc, bytes, note) {
+        Ok(script) => script,
+        Err(why) => return Err(why),
+    };
+    match explain(alloc, &script) {
+        Ok(made) => {
+            note_simulation(alloc, note, bytes, &script, &made);
+            simulation(alloc, made)
+        }
+        Err(_) => Err(NoAnswer::NoMemory),
+    }
+}
+
+// The script in these bytes. What its fault means is noted.
+fn script_in(alloc: Global, bytes: &[u8], note: &mut String) -> Result<Script, NoAnswer>
+    requires { length bytes.now < 2 ^ 32 }
+    ensures script { IfOk result (λ script. script_of bytes.now ≡ Ok script) }
+    ensures hindered { IfErr result (HindersScript bytes.now) }
+{
+    match read_script(alloc, bytes) {
+        Ok(script) => Ok(script),
+        Err(fault) => {
+            note_script(alloc, note, bytes, fault);
+            Err(hindrance(fault))
+        }
     }
 }
 

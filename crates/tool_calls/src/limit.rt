@@ -12,6 +12,6 @@ pub fn most_bytes(task: Task) -> usize
 {
     match task {
         Task::Translate(_) => MAX_ROUTINE,
-        Task::Validate | Task::Simulate | Task::Compare => MAX_INPUT,
+        Task::Validate | Task::Simulate | Task::Compare | Task::Explain => MAX_INPUT,
     }
 }

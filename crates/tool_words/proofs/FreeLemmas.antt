@@ -88,7 +88,10 @@ stop_asks (Some p) has e = elim (cases_Bool (answers_to p.0 (codes "translate", 
       | inl c ↦ (tasks.Simulate, rw (a, b, c) (rows_after alone [] p.1, refl))
       | inr c ↦ elim (cases_Bool (answers_to p.0 (codes "compare", []))) [
         | inl d ↦ (tasks.Compare, rw (a, b, c, d) (rows_after alone [] p.1, refl))
-        | inr d ↦ absurd (cc (rw (a, b, c, d) at has))
+        | inr d ↦ elim (cases_Bool (answers_to p.0 (codes "explain", []))) [
+          | inl f ↦ (tasks.Explain, rw (a, b, c, d, f) (rows_after alone [] p.1, refl))
+          | inr f ↦ absurd (cc (rw (a, b, c, d, f) at has))
+        ]
       ]
     ]
   ]

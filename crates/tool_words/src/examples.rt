@@ -29,6 +29,13 @@ smsc compare         say which data sets a new deck treats otherwise: the old
     smsc compare < change.txt
 ";
 
+const EXPLAIN: &str = "
+smsc explain         tell what each routine does with the allocations of such
+                     a script, statement by statement
+
+    smsc explain < morning.txt
+";
+
 const DOCUMENT: &str = "
 docs/manual/tool.md has what each reads and prints, and the exit statuses.
 ";
@@ -40,6 +47,7 @@ pub fn examples_of(alloc: Global, word: &str) -> Result<String, AllocError> {
         "validate" => format!(in alloc; "{VALIDATE}{DOCUMENT}"),
         "simulate" => format!(in alloc; "{SIMULATE}{DOCUMENT}"),
         "compare" => format!(in alloc; "{COMPARE}{DOCUMENT}"),
-        _ => format!(in alloc; "{TRANSLATE}{VALIDATE}{SIMULATE}{COMPARE}{DOCUMENT}"),
+        "explain" => format!(in alloc; "{EXPLAIN}{DOCUMENT}"),
+        _ => format!(in alloc; "{TRANSLATE}{VALIDATE}{SIMULATE}{COMPARE}{EXPLAIN}{DOCUMENT}"),
     }
 }

@@ -65,6 +65,9 @@ fn task_in(matches: &ArgMatches<'_>) -> Result<Task, WordsErr>
     if name == "compare" {
         return Ok(Task::Compare);
     }
+    if name == "explain" {
+        return Ok(Task::Explain);
+    }
     Err(WordsErr::NoMemory)
 }
 

@@ -12,4 +12,6 @@ pub enum Task {
     Simulate,
     /// It has two decks and a table of cases, under which the decks are to be compared.
     Compare,
+    /// It is a script, of which it is to be told what the routines do with each allocation.
+    Explain,
 }

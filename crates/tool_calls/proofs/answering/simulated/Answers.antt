@@ -1,9 +1,9 @@
 use Rattle.std.proofs.lemmas.Result.{IfOk-weaker, IfErr-weaker}
-use Rattle.tool_calls.proofs.AnswerLemmas.{no_script, simulation_told, simulation_hindered}
+use Rattle.tool_calls.proofs.AnswerLemmas.{simulation_told, simulation_hindered, unread_simulation}
 use Rattle.tool_calls.proofs.answering.simulated.Goals as goal
 
 pub returns-in-Err-clause-hindered : goal.returns-in-Err-clause-hindered
-returns-in-Err-clause-hindered c = no_script c.args.bytes.now c.in-Err.fault c.hindrance.result c.in-Err.ensures.refused c.hindrance.ensures
+returns-in-Err-clause-hindered c = unread_simulation c.args.bytes.now c.in-Err.why c.in-Err.ensures.hindered
 
 pub returns-in-Ok-simulate-clause-answer : goal.returns-in-Ok-simulate-clause-answer
 returns-in-Ok-simulate-clause-answer c =

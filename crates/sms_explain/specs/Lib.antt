@@ -1,0 +1,3 @@
+pub mod DeckTexts
+pub mod RunText
+pub mod Explanation

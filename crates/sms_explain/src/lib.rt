@@ -1,0 +1,11 @@
+//! What the routines of a deck do with allocations that nobody makes, statement by statement.
+#![tactic(auto)]
+
+mod deck_sources;
+mod explaining;
+mod items;
+mod run_text;
+
+pub use deck_sources::{DeckSources, sources_of};
+pub use explaining::explain;
+pub use items::{all_items, first_other};
