@@ -1,17 +1,7 @@
-//! Tests of the desk over HTTP, and of work that is done before a step.
+//! Tests of work that is done before a step, and of the lines of connections that want memory.
 #![tactic(auto)]
 
 #[cfg(test)]
 mod ends;
-#[cfg(test)]
-mod failing_door;
-#[cfg(test)]
-mod meeting;
-#[cfg(test)]
-mod meeting_door;
-#[cfg(test)]
-mod served;
-#[cfg(test)]
-mod serving;
 #[cfg(test)]
 mod working;
