@@ -7,7 +7,7 @@ use acs_tree::{Kind, Line, Slate, Values};
 use dsn_mask::Short;
 use sms_classes::{Classified, classify};
 use sms_construct::{Stop, Trace};
-use sms_deck::Config;
+use deck_meaning::Config;
 use sms_simulation::{push_outcome, push_written};
 use std::alloc::{AllocError, Global};
 

@@ -14,7 +14,7 @@ use crate::restored::Restored;
 use desk_common::Shared;
 use desk_records::Opening;
 use desk_state::{BlankTrace, Running};
-use sms_deck::Config;
+use deck_meaning::Config;
 use sms_keeper::Rows;
 use sms_volumes::ActiveVolumes;
 use std::alloc::{AllocError, Global};

@@ -26,7 +26,7 @@ use desk_common::Shared;
 use dsn_mask::Name;
 use sms_classes::{Classified, classes_are_known, classify, data_class_of, space_of, stop_reply};
 use sms_construct::{Alloc, Reply, Stop, Trace};
-use sms_deck::Config;
+use deck_meaning::Config;
 use sms_volumes::Candidates;
 use std::alloc::{AllocError, Global};
 

@@ -19,7 +19,7 @@ use crate::running::Running;
 use desk_common::Shared;
 use dsn_mask::Dsn;
 use sms_construct::{DataSet, Status, Target};
-use sms_deck::Config;
+use deck_meaning::Config;
 use sms_volumes::ActiveVolumes;
 use track_ledger::Piece;
 

@@ -5,7 +5,7 @@ ghost use Rattle.desk_state.specs.Deeds.{effect_of};
 use desk_common::{Items, Shared};
 use dsn_mask::{Dsn, Name};
 use sms_construct::{DataSet, Status, Target};
-use sms_deck::Config;
+use deck_meaning::Config;
 use sms_keeper::{Effect, Statuses};
 use sms_volumes::ActiveVolumes;
 use std::alloc::{AllocError, Global};

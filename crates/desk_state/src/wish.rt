@@ -14,7 +14,7 @@ use desk_common::Shared;
 use dsn_mask::{Name, Names};
 use sms_classes::{class_name, data_class_of, eattr_of, has_tiers, volume_count_of};
 use sms_construct::{Alloc, DataSet, Eattr, Space, Trace, VolumeCount, VolumeDef};
-use sms_deck::Config;
+use deck_meaning::Config;
 use sms_volumes::Asked;
 use std::alloc::{AllocError, Global};
 use std::marker::Model;

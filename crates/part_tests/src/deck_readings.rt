@@ -5,7 +5,7 @@ use Unit::{Cyl, Trk};
 use acs_tree::Kind::{self, DataClas, MgmtClas, StorClas, StorGrp};
 use dsn_mask::{Name, Short};
 use sms_construct::{DataClass, MgmtClass, Space, Status, StorGroup, Unit, VolumeDef};
-use sms_deck::Config;
+use deck_meaning::Config;
 use std::alloc::Global;
 use std::test::Fail;
 

@@ -10,7 +10,7 @@ use crate::onward::from_data_class;
 use acs_tree::{Slate, Values};
 use dsn_mask::{Name, Names, Short};
 use sms_construct::{Alloc, Stop};
-use sms_deck::Config;
+use deck_meaning::Config;
 
 /// What the routines of a configuration give the new data set of an ALLOC of this job (docs/manual/rules.md,
 /// "Classification"). It takes no memory. What was on the slate is gone; what the routines wrote is on it

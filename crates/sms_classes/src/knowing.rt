@@ -6,7 +6,7 @@ ghost use Rattle.sms_classes.specs.Known.{AreKnown};
 
 use crate::leaving::leave_others;
 use sms_construct::Stop;
-use sms_deck::Config;
+use deck_meaning::Config;
 
 /// Tells a proof that the classes of a classification that is done are ones that the configuration has.
 pub fn classes_are_known(config: &Config)

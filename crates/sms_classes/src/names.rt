@@ -9,7 +9,7 @@ use crate::stops::is_null;
 use acs_tree::Kind;
 use dsn_mask::{Name, Short};
 use sms_construct::{DataClass, MgmtClass, StorClass, StorGroup};
-use sms_deck::Config;
+use deck_meaning::Config;
 
 /// The data class of this name.
 pub fn data_class_of<'a>(config: &'a Config, class: &Short) -> Option<&'a DataClass>

@@ -9,7 +9,7 @@ use crate::stops::{class_stop, exit_stop};
 use acs_run::run;
 use acs_tree::{Ending, Kind, Seen, Slate, Values};
 use sms_construct::Stop;
-use sms_deck::Config;
+use deck_meaning::Config;
 
 /// Runs the routine of that kind, where there is one.
 pub fn run_routine(

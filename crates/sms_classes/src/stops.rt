@@ -6,7 +6,7 @@ ghost use Rattle.sms_classes.specs.Inner.Onward.{groups_stop};
 use acs_tree::{Ending, Kind};
 use dsn_mask::{Names, Short};
 use sms_construct::Stop;
-use sms_deck::Config;
+use deck_meaning::Config;
 
 /// The stop where a routine ended with another code than 0.
 pub fn exit_stop(kind: Kind, ending: Ending) -> Option<Stop>

@@ -6,7 +6,7 @@ ghost use Rattle.desk_law.specs.Classification.{classes_of};
 use acs_tree::Slate;
 use sms_classes::Classified;
 use sms_construct::{Op, Request};
-use sms_deck::Config;
+use deck_meaning::Config;
 
 /// What the routines of a configuration give the new data set of a request whose op is an ALLOC (docs/manual/rules.md,
 /// "Classification"). It takes no memory. What was on the slate is gone; what the routines wrote is on it

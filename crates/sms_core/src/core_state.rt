@@ -25,7 +25,7 @@ use desk_restoring::{Restored, greatest_place, restore};
 use desk_state::{Running, Work};
 use dsn_mask::Dsn;
 use sms_construct::{Answer, DataSet, Entry, Journal, Op, Reply, Request, VolRows};
-use sms_deck::Config;
+use deck_meaning::Config;
 use sms_keeper::{Keeper, RequestLog, Rows};
 use std::alloc::{AllocError, Global};
 use std::marker::Model;

@@ -4,7 +4,7 @@ ghost use Rattle.sms_desk.specs.Showing.{IsShown};
 use dsn_mask::Name;
 use sms_classes::Classified;
 use sms_construct::Request;
-use sms_deck::Config;
+use deck_meaning::Config;
 use std::sync::Wait;
 
 /// What is shown each classification that is made before a turn, and told each answer.

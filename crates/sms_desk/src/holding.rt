@@ -10,7 +10,7 @@ ghost use Rattle.sms_desk.specs.Holding.{renewed as renewed_as};
 use crate::held::Held;
 use desk_common::Shared;
 use sms_core::Core;
-use sms_deck::Config;
+use deck_meaning::Config;
 use sms_keeper::Keeper;
 use std::alloc::AllocError;
 

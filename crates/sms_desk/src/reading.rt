@@ -5,7 +5,8 @@ ghost use Rattle.sms_desk.specs.Holding.{IsOwnOf};
 
 use desk_common::Shared;
 use sms_construct::DeckText;
-use sms_deck::{Config, DeckErr, one_reading, read_deck};
+use deck_meaning::{Config, DeckErr, one_reading};
+use sms_deck::read_deck;
 use std::alloc::{AllocError, Global};
 
 /// What was read of a deck, for its step, and for the seat the configuration, if it has one.

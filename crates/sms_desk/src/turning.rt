@@ -18,7 +18,7 @@ use desk_common::Shared;
 use desk_signing::Event;
 use sms_construct::{Answer, Request};
 use sms_core::Work;
-use sms_deck::Config;
+use deck_meaning::Config;
 use sms_keeper::Keeper;
 use std::sync::Wait;
 use turn_lock::{Seat, Turn};

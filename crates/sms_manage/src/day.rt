@@ -13,7 +13,7 @@ use desk_common::{Items, Shared};
 use dsn_mask::{Dsn, Name};
 use sms_construct::{Op, Request, RequestNumber};
 use sms_core::{Core, Work};
-use sms_deck::Config;
+use deck_meaning::Config;
 use sms_keeper::Keeper;
 use std::alloc::{AllocError, Global};
 

@@ -6,7 +6,7 @@ ghost use Rattle.sms_manage.specs.Due.{class_of, due_of, has_passed, is_releasin
 use crate::wanted::Due;
 use desk_state::has_unused;
 use sms_construct::{DataSet, MgmtClass};
-use sms_deck::Config;
+use deck_meaning::Config;
 
 /// What is due of a data set on a day under a configuration (docs/manual/rules.md, "Space management"). It takes no
 /// memory.

@@ -15,7 +15,7 @@ use crate::meeting::are_once;
 use crate::numbers::Numbers;
 use desk_common::{BORDER, MAX_EXTENTS, Shared, TRACKS_IN_CYLINDER};
 use sms_construct::{DataSet, Extent, TRACKS_IN_MANAGED, Unit, VolumeDef};
-use sms_deck::Config;
+use deck_meaning::Config;
 use std::alloc::{AllocError, Global};
 
 fn is_managed(extent: &Extent) -> bool

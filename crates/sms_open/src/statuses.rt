@@ -13,7 +13,7 @@ ghost use Rattle.sms_open.specs.Verdicts.{Tells};
 use crate::apart::are_as_often;
 use dsn_mask::{Name, Volser};
 use sms_construct::{Status, StorGroup, Target, VolumeDef};
-use sms_deck::Config;
+use deck_meaning::Config;
 use sms_keeper::StatusRow;
 use std::alloc::{AllocError, Global};
 

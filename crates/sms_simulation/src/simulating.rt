@@ -12,7 +12,8 @@ use acs_tree::Slate;
 use desk_common::Items;
 use sms_classes::classify;
 use sms_construct::{Alloc, DeckText, Op, Trace};
-use sms_deck::{Config, DeckErr, read_deck};
+use deck_meaning::{Config, DeckErr};
+use sms_deck::read_deck;
 use sms_script::{Item, Script};
 use std::alloc::{AllocError, Global};
 

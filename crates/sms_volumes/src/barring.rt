@@ -12,7 +12,7 @@ use crate::active_volume::ActiveVolume;
 use crate::active_volumes::ActiveVolumes;
 use dsn_mask::Volser;
 use sms_construct::VolumeDef;
-use sms_deck::Config;
+use deck_meaning::Config;
 
 // The tracks of a volume, 0 where there is none such.
 fn tracks_of(volumes: &[VolumeDef], volser: &Volser) -> u32

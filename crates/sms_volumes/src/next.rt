@@ -17,7 +17,7 @@ use crate::active_volume::ActiveVolume;
 use crate::active_volumes::ActiveVolumes;
 use dsn_mask::Name;
 use sms_construct::{Status, StorGroup, VolumeDef};
-use sms_deck::Config;
+use deck_meaning::Config;
 use std::alloc::{AllocError, Global};
 use track_ledger::Ledger;
 

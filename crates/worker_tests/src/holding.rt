@@ -2,7 +2,7 @@
 use dsn_mask::Name;
 use sms_classes::Classified;
 use sms_construct::Request;
-use sms_deck::Config;
+use deck_meaning::Config;
 use sms_desk::Gate;
 use std::sync::Wait;
 use std::sync::atomic::{AtomicU64, Ordering};
