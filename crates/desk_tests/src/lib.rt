@@ -1,19 +1,5 @@
-//! Tests of the desk as a whole.
+//! Tests of the desk as a whole where no text of a case can say it.
 #![tactic(auto)]
 
 #[cfg(test)]
-mod cases;
-#[cfg(test)]
-mod found_rows;
-#[cfg(test)]
-mod repeats;
-#[cfg(test)]
-mod running;
-#[cfg(test)]
-mod runs;
-#[cfg(test)]
-mod short_scripts;
-#[cfg(test)]
-mod spoils;
-#[cfg(test)]
-mod stepping;
+mod showing;
