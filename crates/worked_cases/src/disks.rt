@@ -10,17 +10,22 @@ pub type Disks = Files<Flaky<Memory>>;
 /// The store of a connection over them.
 pub type DiskStore = FileStore<Flaky<Memory>>;
 
-/// What a fault of a disk is written with, before the number of calls that pass.
-static FAULTS: [&str; 4] = [
-    "log stops behind ",
-    "log fails behind ",
-    "file stops behind ",
-    "file fails behind ",
-];
+/// Whether the line is a fault of a disk.
+pub fn is_disk_fault(line: &str) -> bool {
+    line.starts_with("log stops behind ")
+        || line.starts_with("log fails behind ")
+        || line.starts_with("file stops behind ")
+        || line.starts_with("file fails behind ")
+}
 
-/// Whether the text begins as a fault of a disk.
-pub fn is_disk_fault(text: &str) -> bool {
-    FAULTS.iter().any(|front| text.starts_with(*front))
+/// Whether one of the lines is.
+pub fn has_disk_fault(lines: &str) -> bool {
+    for line in lines.lines() {
+        if is_disk_fault(line) {
+            return true;
+        }
+    }
+    false
 }
 
 /// New disks, which don't fail.

@@ -1,6 +1,5 @@
 //! A run as a case writes it, and where what it comes to differs from that.
 use crate::database::Database;
-use crate::disks::is_disk_fault;
 use crate::ended::Asked;
 use crate::filling::{fill, is_filled_by};
 use crate::outcome::{Faults, Outcome, outcome_of};
@@ -50,11 +49,6 @@ impl Run {
             output: String::new(alloc),
             empty_lines: 0,
         }
-    }
-
-    /// Whether it is over disks that fail.
-    pub fn has_disk_fault(&self) -> bool {
-        self.orders.lines().any(|order| is_disk_fault(order))
     }
 
     /// Makes the run, over the database if its words name one, and compares it; None where there is no such program.

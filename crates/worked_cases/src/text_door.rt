@@ -55,7 +55,9 @@ impl<'a> TextDoor<'a> {
 // What stands behind each `<link `.
 fn links_in(alloc: Global, text: &str) -> Result<Vec<String>, AllocError> {
     let mut links = Vec::new(alloc);
-    for link in text.split("<link ").skip(1) {
+    let mut parts = text.split("<link ");
+    let _front = parts.next();
+    for link in parts {
         links.push(String::from_str(alloc, link)?)?;
     }
     Ok(links)
