@@ -1,9 +1,7 @@
 //! Changes that are made on a keeper over a database.
 use desk_common::{Items, Shared};
 use dsn_mask::{Dsn, Name};
-use sms_construct::{
-    DataSet, Eattr, Op, Reply, Request, RequestNumber, Unit, VolumeCount,
-};
+use sms_construct::{DataSet, Eattr, Op, Reply, Request, RequestNumber, Unit, VolumeCount};
 use sms_keeper::{Change, Effect, Keeper, KeeperErr};
 use std::alloc::Global;
 use std::test::Fail;

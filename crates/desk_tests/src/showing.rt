@@ -48,7 +48,11 @@ fn used_of(core: &Core<MemKeeper>, dsn: &[u8]) -> Option<(u32, u32)> {
 
 fn is_shown(alloc: Global) -> Result<bool, Fail> {
     let core = core(alloc)?;
-    let used = (used_of(&core, b"A.B"), used_of(&core, b"A.C"), used_of(&core, b"A.D"));
+    let used = (
+        used_of(&core, b"A.B"),
+        used_of(&core, b"A.C"),
+        used_of(&core, b"A.D"),
+    );
     Ok(used == (Some((3, 10)), None, Some((0, 1))))
 }
 

@@ -10,10 +10,10 @@ ghost use Rattle.desk_law.specs.State.{Opening};
 ghost use Rattle.desk_state.specs.Working.{IsWork};
 
 use acs_tree::Slate;
+use deck_meaning::{Config, DeckErr};
 use desk_common::Shared;
 use sms_construct::{Answer, DeckText, Op, Request};
 use sms_core::{Core, Work, classify, work_stays};
-use deck_meaning::{Config, DeckErr};
 use sms_deck::read_deck;
 use sms_keeper::FaultKeeper;
 use sms_script::{Item, Script, answer_lines, read_script};

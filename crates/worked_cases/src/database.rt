@@ -1,13 +1,11 @@
 //! Runs over a database in memory.
-use crate::disks::{DiskStore, Disks, crashed, disks_of, fail_as, is_disk_fault, new_disks, opened};
+use crate::disks::{
+    DiskStore, Disks, crashed, disks_of, fail_as, is_disk_fault, new_disks, opened,
+};
 use crate::ended::{Asked, Ended, Streams};
-use crate::outcome::said_of;
-use crate::queries::{carry_out, number_of, push_found};
-use db_calls::{DbStatus, db_main};
-use desk_calls::RunStatus;
-use sms_keeper::{Keeper, Stored};
-use sms_sqlite::SqlKeeper;
-use sqlite::{Alter, Connection, MemStore};
+use crate::queries::number_of;
+use crate::stored::answered;
+use sqlite::{Connection, MemStore};
 use std::alloc::{AllocError, Global};
 
 /// The exit status where a database can't be opened.
@@ -132,54 +130,8 @@ fn acknowledged(ended: &Ended, output: &[u8]) -> u64 {
     }
     let text = std::str::from_utf8(output).unwrap_or("").trim();
     let (_, count) = text.rsplit_once(" ").unwrap_or(("", ""));
-    count.parse::<u64>().unwrap_or(0).saturating_sub(ended.counted)
-}
-
-// Answers the run over the connection, and what is asked of the database before and behind it.
-fn answered<S: Alter + Drop>(
-    alloc: Global,
-    words: &[String],
-    asked: &Asked<'_>,
-    streams: &mut Streams,
-    mut connection: Connection<S>,
-) -> Result<(Ended, Connection<S>), AllocError> {
-    let mut behind = String::new(alloc);
-    carry_out(&mut connection, asked.orders, &mut behind)?;
-    let (status, keeper) = answer(alloc, words, streams, SqlKeeper::new(alloc, connection));
-    let counted = keeper.faults();
-    let mut connection = keeper.into_connection();
-    push_found(alloc, &mut connection, asked.orders, &mut behind)?;
-    let says = told_of(alloc, words, status, asked.input, streams.out.taken())?;
-    let ended = Ended {
-        status: status.code(),
-        says,
-        counted,
-        behind,
-    };
-    Ok((ended, connection))
-}
-
-fn answer<P: Stored>(
-    alloc: Global,
-    words: &[String],
-    streams: &mut Streams,
-    keeper: P,
-) -> (DbStatus, P) {
-    db_main(alloc, words, &mut streams.src, &mut streams.out, keeper)
-}
-
-// What is said of the run; where no desk goes on from the tables, why.
-fn told_of(
-    alloc: Global,
-    words: &[String],
-    status: DbStatus,
-    input: &str,
-    output: &[u8],
-) -> Result<String, AllocError> {
-    match status {
-        DbStatus::Ran(RunStatus::NoMemory) => String::from_str(alloc, "no memory\n"),
-        DbStatus::Ran(status) => said_of(alloc, words, status, input, output),
-        DbStatus::StoreFault => String::from_str(alloc, "the keeper failed\n"),
-        DbStatus::Store(err) => format!(in alloc; "{err}\n"),
-    }
+    count
+        .parse::<u64>()
+        .unwrap_or(0)
+        .saturating_sub(ended.counted)
 }

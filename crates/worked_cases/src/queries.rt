@@ -36,8 +36,8 @@ fn is_carried_out<S: Alter>(connection: &mut Connection<S>, sql: &str) -> bool {
     connection.execute_batch(sql).is_ok()
 }
 
-/// Adds a line `FOUND N` for each order `asks QUERY`, and for the order `counts` a line `ROWS` with the counts of the five
-/// tables.
+/// Adds a line `FOUND N` for each order `asks QUERY`, and for the order `counts` a line `ROWS` with the counts of the
+/// five tables.
 pub fn push_found<S: Alter>(
     alloc: Global,
     connection: &mut Connection<S>,

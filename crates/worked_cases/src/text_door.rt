@@ -68,7 +68,12 @@ fn link_of(alloc: Global, text: &str, room: usize) -> Result<MemLink, AllocError
     ensures { IfOk result IsUntouched }
 {
     let (words, bytes) = text.split_once(">").unwrap_or((text, ""));
-    let piece = words.split(' ').next().unwrap_or("").parse::<usize>().unwrap_or(1);
+    let piece = words
+        .split(' ')
+        .next()
+        .unwrap_or("")
+        .parse::<usize>()
+        .unwrap_or(1);
     Ok(MemLink::new(
         bytes.as_bytes().to_vec(alloc)?,
         vec![in alloc; 0; room]?,
