@@ -1,4 +1,4 @@
-//! Tests of the keeper over a database where no text of a case can say it: real files, and commits that no desk asks for.
+//! Tests of the keeper over a database: real files, and commits that no desk asks for.
 #![tactic(auto)]
 
 #[cfg(test)]

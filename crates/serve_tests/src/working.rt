@@ -245,8 +245,8 @@ fn wanting() -> Work
     Work::Deck(Err(DeckErr::NoMemory))
 }
 
-// Whether the last of the commands is answered so, where these commits fail, with the work that was done for it behind so
-// many others.
+// Whether the last of the commands is answered so, where these commits fail, with the work that was done for it behind
+// so many others.
 fn holds(
     alloc: Global,
     (commands, made_at, place, first, wanted): &Row,

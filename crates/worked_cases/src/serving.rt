@@ -14,8 +14,8 @@ use std::alloc::{AllocError, Global};
 use std::sync::Wait;
 use std::thread::Threads;
 
-/// Serves a new desk to the links that the input writes; None where the words ask for nothing, or for fewer workers than
-/// there are doors.
+/// Serves a new desk to the links that the input writes; None where the words ask for nothing, or for fewer workers
+/// than there are doors.
 pub fn served<R: AllocGlobal + Threads + Wait + Sync>(
     rt: &R,
     words: &[String],
