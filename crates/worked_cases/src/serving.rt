@@ -40,7 +40,7 @@ pub fn served<R: AllocGlobal + Threads + Wait + Sync>(
         new_keeper(rt.alloc()),
         &FreeGate,
     );
-    ended(rt.alloc(), status.code(), &doors, meeting.alone())
+    ending_of(rt.alloc(), status.code(), &doors, meeting.alone())
 }
 
 // A keeper that has recorded nothing.
@@ -51,7 +51,7 @@ fn new_keeper(alloc: Global) -> MemKeeper
 }
 
 // How serving ended, with what the links of each door were sent.
-fn ended(
+fn ending_of(
     alloc: Global,
     status: u8,
     doors: &[TextDoor<'_>],
