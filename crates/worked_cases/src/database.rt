@@ -110,12 +110,12 @@ fn over_opened(
 
 // What is said of the greatest place that was found, where so many requests were acknowledged; and how many are kept.
 fn word_of(kept: u64, found: Option<i64>) -> (&'static str, u64) {
-    let Some(found) = found else {
-        return ("UNREAD\n", kept);
+    let found = match found {
+        Some(found) => u64::try_from(found).unwrap_or(0),
+        None => 0,
     };
-    let found = u64::try_from(found).unwrap_or(0);
     if found < kept {
-        ("LOST\n", found)
+        ("LOST\n", kept)
     } else if found > kept.saturating_add(1) {
         ("MORE\n", found)
     } else {

@@ -62,12 +62,12 @@ fn ending_of(
         behind.push_str(door.sent())?;
     }
     let says = match alone {
-        0 => String::new(alloc),
-        _ => String::from_str(alloc, "a door went on alone\n")?,
+        0 => "\n",
+        _ => "a door went on alone\n",
     };
     Ok(Some(Ended {
         status,
-        says,
+        says: String::from_str(alloc, says)?,
         counted: 0,
         behind,
     }))
