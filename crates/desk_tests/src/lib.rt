@@ -1,5 +1,7 @@
-//! Tests of the desk as a whole where no text of a case can say it.
+//! Tests of the desk's core: what it shows of its catalog, and work that is done before a step.
 #![tactic(auto)]
 
 #[cfg(test)]
 mod showing;
+#[cfg(test)]
+mod working;

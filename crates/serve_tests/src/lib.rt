@@ -1,7 +1,5 @@
-//! Tests of work that is done before a step, and of the lines of connections that want memory.
+//! Tests of the lines of connections that were served.
 #![tactic(auto)]
 
 #[cfg(test)]
 mod ends;
-#[cfg(test)]
-mod working;

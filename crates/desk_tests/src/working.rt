@@ -101,8 +101,8 @@ fn activation(alloc: Global, number: u64) -> Result<String, AllocError> {
     format!(in alloc; "SMSADMIN {number} ACTIVATE\n{deck}")
 }
 
-// The items of the commands.
-fn script_of(alloc: Global, commands: &str) -> Result<Script, Fail> {
+/// The items of the commands.
+pub fn script_of(alloc: Global, commands: &str) -> Result<Script, Fail> {
     let text = commands.replace(alloc, "<1>", &activation(alloc, 1)?)?;
     let text = text.replace(alloc, "<2>", &activation(alloc, 2)?)?;
     let text = text.replace(alloc, "<no>", "SMSADMIN 3 ACTIVATE\nversion\n./END\n")?;
@@ -114,8 +114,8 @@ fn script_of(alloc: Global, commands: &str) -> Result<Script, Fail> {
     Ok(read_script(alloc, text.as_bytes()).ok().ok_or("script")?)
 }
 
-// The items of a script of one phase.
-fn items_of(script: &Script) -> Result<&[Item], Fail> {
+/// The items of a script of one phase.
+pub fn items_of(script: &Script) -> Result<&[Item], Fail> {
     match script.as_slice() {
         [phase] => Ok(phase.as_slice()),
         _ => Err(Fail::from("phases")),
@@ -182,8 +182,8 @@ fn classes_for(core: &Core<FaultKeeper>, request: &Request, slate: &mut Slate) -
     }
 }
 
-// Answers the items without work.
-fn answer_all(core: &mut Core<FaultKeeper>, items: &[Item], slate: &mut Slate)
+/// Answers the items without work.
+pub fn answer_all(core: &mut Core<FaultKeeper>, items: &[Item], slate: &mut Slate)
     ensures opening { core.new.opening ≡ core.old.opening }
     ensures journal { (more : List Entered) × (core.new.journal ≡ core.old.journal ++ more) }
 {
