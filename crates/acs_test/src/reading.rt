@@ -9,9 +9,9 @@ use crate::cases::Cases;
 use crate::cases_err::{CasesErr, Side};
 use crate::layout::{InputParts, parts_of};
 use crate::table_cases::read_table;
+use deck_meaning::{Config, DeckErr};
 use desk_common::{Items, Shared};
 use sms_construct::DeckText;
-use deck_meaning::{Config, DeckErr};
 use sms_deck::read_deck;
 use std::alloc::{AllocError, Global};
 

@@ -15,9 +15,9 @@ use crate::deed::Deed;
 use crate::running::Running;
 use crate::using::configuration;
 use crate::work::Work;
+use deck_meaning::{Config, DeckErr};
 use desk_common::Shared;
 use sms_construct::{DeckText, Reply};
-use deck_meaning::{Config, DeckErr};
 use std::alloc::AllocError;
 
 impl Running {

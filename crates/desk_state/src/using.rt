@@ -8,10 +8,10 @@ ghost use Rattle.sms_classes.specs.declared.classified.Classified.{Classified as
 ghost use Rattle.desk_state.specs.Working.{IsReadAs};
 
 use crate::work::Work;
+use deck_meaning::{Config, DeckErr};
 use desk_common::Shared;
 use sms_classes::Classified;
 use sms_construct::DeckText;
-use deck_meaning::{Config, DeckErr};
 use sms_deck::read_deck;
 use std::alloc::{AllocError, Global};
 

@@ -3,9 +3,9 @@ ghost use Rattle.std.specs.Prelude.{◌≡◌, Ok, Some, IfOk};
 ghost use Rattle.desk_state.specs.Working.{IsReadAs};
 ghost use Rattle.sms_desk.specs.Holding.{IsOwnOf};
 
+use deck_meaning::{Config, DeckErr, one_reading};
 use desk_common::Shared;
 use sms_construct::DeckText;
-use deck_meaning::{Config, DeckErr, one_reading};
 use sms_deck::read_deck;
 use std::alloc::{AllocError, Global};
 
