@@ -1,1 +1,2 @@
 mod CommitExamples
+mod WorkingLemmas

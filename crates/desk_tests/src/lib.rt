@@ -1,19 +1,7 @@
-//! Tests of the desk as a whole.
+//! Tests of the desk's core: what it shows of its catalog, and work that is done before a step.
 #![tactic(auto)]
 
 #[cfg(test)]
-mod cases;
+mod showing;
 #[cfg(test)]
-mod found_rows;
-#[cfg(test)]
-mod repeats;
-#[cfg(test)]
-mod running;
-#[cfg(test)]
-mod runs;
-#[cfg(test)]
-mod short_scripts;
-#[cfg(test)]
-mod spoils;
-#[cfg(test)]
-mod stepping;
+mod working;

@@ -83,14 +83,16 @@ static PARTS: [Part; 6] = [
 
 #[test]
 fn ops_are_equal_where_all_their_fields_are(rt: HostRuntime) -> Result<(), Fail> {
+    let mut good = true;
     let plain = allocation(rt.alloc(), Part::None)?;
-    assert!(rt; plain.equals(&allocation(rt.alloc(), Part::None)?));
+    good &= plain.equals(&allocation(rt.alloc(), Part::None)?);
     for part in &PARTS {
-        assert!(rt; is_another(rt.alloc(), &plain, *part)?);
+        good &= is_another(rt.alloc(), &plain, *part)?;
     }
     let one = deck(rt.alloc(), b"version = 1")?;
-    assert!(rt; is_other(&plain, &one)?);
-    assert!(rt; is_other(&one, &deck(rt.alloc(), b"version = 2")?)?);
+    good &= is_other(&plain, &one)?;
+    good &= is_other(&one, &deck(rt.alloc(), b"version = 2")?)?;
+    assert!(rt; good);
     Ok(())
 }
 
@@ -122,14 +124,16 @@ fn vary_set(dsn: Dsn, action: Action) -> Op {
 
 #[test]
 fn each_op_is_equal_to_its_copy_and_to_no_other(rt: HostRuntime) -> Result<(), Fail> {
+    let mut good = true;
     let dsn = Dsn::parse(b"A.B").ok().ok_or("dsn")?;
     let job = Name::new(b"PAYROLL").ok_or("job")?;
     let one = RequestNumber::new(1).ok_or("number")?;
     let two = RequestNumber::new(2).ok_or("number")?;
     for at in 0..9 {
         let (op, other) = two_ops(dsn, job, one, two, at);
-        assert!(rt; is_other(&op, &other)?, "{at}");
+        good &= is_other(&op, &other)?;
     }
+    assert!(rt; good);
     Ok(())
 }
 
@@ -149,14 +153,16 @@ static SIZES: [(Unit, u32, u32, u64, u64); 3] = [
 
 #[test]
 fn tracks_are_rounded_up_to_kilobytes(rt: HostRuntime) -> Result<(), Fail> {
+    let mut good = true;
     for (tracks, kilobytes) in &KILOBYTES {
-        assert!(rt; kilobytes_of(*tracks) == *kilobytes, "{tracks}");
+        good &= kilobytes_of(*tracks) == *kilobytes;
     }
     for (unit, primary, secondary, size, most) in &SIZES {
         let space = Space::new(*unit, *primary, *secondary).ok_or("space")?;
         let holds = space.kilobytes() == *size && space.most_kilobytes() == *most;
-        assert!(rt; holds, "{size}");
+        good &= holds;
     }
+    assert!(rt; good);
     Ok(())
 }
 
@@ -239,13 +245,15 @@ fn a_path_is_cut_to_eighty_bytes(rt: HostRuntime) {
 
 #[test]
 fn the_input_of_a_run_has_the_job_and_the_system(rt: HostRuntime) -> Result<(), Fail> {
+    let mut good = true;
     let input = Input::new(Dsn::parse(b"A.B").ok().ok_or("dsn")?);
     let job = Name::new(b"PAYROLL").ok_or("job")?;
     let given = Given::of(rt.alloc(), &input)?;
     let under = given.under(&job, Name::new(b"SYSA"), None);
-    assert!(rt; under.origin().job.bytes() == b"PAYROLL".as_slice());
-    assert!(rt; under.environment().sysname.bytes() == b"SYSA".as_slice());
-    assert!(rt; under.environment().sysplex.bytes().is_empty());
-    assert!(rt; *under.dsn() == input.dsn && under.attributes() == input.attributes);
+    good &= under.origin().job.bytes() == b"PAYROLL".as_slice();
+    good &= under.environment().sysname.bytes() == b"SYSA".as_slice();
+    good &= under.environment().sysplex.bytes().is_empty();
+    good &= *under.dsn() == input.dsn && under.attributes() == input.attributes;
+    assert!(rt; good);
     Ok(())
 }

@@ -182,15 +182,17 @@ static SETS: [(Step, &str); 11] = [
 
 #[test]
 fn a_data_set_is_put_replaced_and_dropped(rt: HostRuntime) -> Result<(), Fail> {
+    let mut good = true;
     let alloc = rt.alloc();
     let mut keeper = MemKeeper::new(alloc);
     let mut number = 0u32;
     for (step, wanted) in &SETS {
         number = number.wrapping_add(1);
-        assert!(rt; make(alloc, &mut keeper, number, *step)?, "change {number}");
+        good &= make(alloc, &mut keeper, number, *step)?;
         let holds = used(alloc, &keeper.rows()?)?.as_str() == *wanted;
-        assert!(rt; holds, "change {number}");
+        good &= holds;
     }
+    assert!(rt; good);
     Ok(())
 }
 
@@ -211,15 +213,17 @@ static ACTIVATIONS: [(Step, &str); 10] = [
 
 #[test]
 fn an_activation_leaves_its_deck_and_its_statuses(rt: HostRuntime) -> Result<(), Fail> {
+    let mut good = true;
     let alloc = rt.alloc();
     let mut keeper = MemKeeper::new(alloc);
     let mut number = 0u32;
     for (step, wanted) in &ACTIVATIONS {
         number = number.wrapping_add(1);
-        assert!(rt; make(alloc, &mut keeper, number, *step)?, "change {number}");
+        good &= make(alloc, &mut keeper, number, *step)?;
         let holds = statuses(alloc, &keeper.rows()?)?.as_str() == *wanted;
-        assert!(rt; holds, "change {number}");
+        good &= holds;
     }
+    assert!(rt; good);
     Ok(())
 }
 
@@ -240,18 +244,20 @@ static FLOORS: [(u32, Step, &str, &str); 10] = [
 
 #[test]
 fn a_floor_drops_the_replies_of_its_job_below_it(rt: HostRuntime) -> Result<(), Fail> {
+    let mut good = true;
     let alloc = rt.alloc();
     let mut keeper = MemKeeper::new(alloc);
     for (number, step, kept, floored) in &FLOORS {
         let holds = make(alloc, &mut keeper, *number, *step)?;
-        assert!(rt; holds, "request {number}");
+        good &= holds;
         let rows = keeper.rows()?;
         let holds = replies(alloc, &rows)?.as_str() == *kept;
-        assert!(rt; holds, "request {number}");
+        good &= holds;
         let holds = floors(alloc, &rows)?.as_str() == *floored;
-        assert!(rt; holds, "request {number}");
+        good &= holds;
     }
-    assert!(rt; keeper.faults() == 0);
+    good &= keeper.faults() == 0;
+    assert!(rt; good);
     Ok(())
 }
 
@@ -291,11 +297,13 @@ fn a_faulty_keeper_fails_the_listed_commits(rt: HostRuntime) -> Result<(), Fail>
 
 #[test]
 fn a_zero_in_the_list_fails_the_making_ready_alone(rt: HostRuntime) -> Result<(), Fail> {
+    let mut good = true;
     let alloc = rt.alloc();
     let mut keeper = FaultKeeper::new(alloc, &[0])?;
-    assert!(rt; keeper.ready() == Err(KeeperErr::Failed) && keeper.faults() == 1);
-    assert!(rt; make(alloc, &mut keeper, 1, Keep)?);
-    assert!(rt; keeper.ready() == Err(KeeperErr::Failed) && keeper.faults() == 2);
-    assert!(rt; replies(alloc, &keeper.rows()?)?.as_str() == " 1");
+    good &= keeper.ready() == Err(KeeperErr::Failed) && keeper.faults() == 1;
+    good &= make(alloc, &mut keeper, 1, Keep)?;
+    good &= keeper.ready() == Err(KeeperErr::Failed) && keeper.faults() == 2;
+    good &= replies(alloc, &keeper.rows()?)?.as_str() == " 1";
+    assert!(rt; good);
     Ok(())
 }

@@ -159,10 +159,12 @@ static CHOICES: [(u8, &[&str]); 4] = [
 
 #[test]
 fn a_volume_of_the_first_list_that_is_not_empty_is_chosen(rt: HostRuntime) -> Result<(), Fail> {
+    let mut good = true;
     for (wanted, several) in &CHOICES {
         for letters in *several {
-            assert!(rt; chosen(rt.alloc(), letters)? == Some(*wanted), "{letters}");
+            good &= chosen(rt.alloc(), letters)? == Some(*wanted);
         }
     }
+    assert!(rt; good);
     Ok(())
 }

@@ -1,17 +1,5 @@
-//! Tests of the desk over HTTP, and of work that is done before a step.
+//! Tests of the lines of connections that were served.
 #![tactic(auto)]
 
 #[cfg(test)]
 mod ends;
-#[cfg(test)]
-mod failing_door;
-#[cfg(test)]
-mod meeting;
-#[cfg(test)]
-mod meeting_door;
-#[cfg(test)]
-mod served;
-#[cfg(test)]
-mod serving;
-#[cfg(test)]
-mod working;

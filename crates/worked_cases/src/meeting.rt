@@ -1,4 +1,4 @@
-//! A gate at which workers meet.
+//! Where workers meet.
 use deck_meaning::Config;
 use dsn_mask::Name;
 use sms_classes::Classified;
@@ -10,7 +10,8 @@ use std::sync::atomic::{AtomicU64, Ordering};
 /// How often a worker looks before it goes on alone.
 const LOOKS: u32 = 10_000_000;
 
-/// Holds each classification of round 1 until there were so many, and counts those that went on alone.
+/// Holds who comes until so many did, and counts those that went on alone; as a gate it holds each classification of
+/// round 1.
 #[derive(Drop)]
 pub struct Meeting {
     wanted: u64,
@@ -32,7 +33,8 @@ impl Meeting {
         self.alone.load(Ordering::SeqCst)
     }
 
-    fn meet(&self) {
+    /// Waits until all are here.
+    pub fn meet(&self) {
         self.here.fetch_add(1, Ordering::SeqCst);
         for _ in 0..LOOKS {
             if self.here.load(Ordering::SeqCst) >= self.wanted {

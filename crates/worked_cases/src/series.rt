@@ -1,5 +1,6 @@
 //! Runs of a case of which each meets another fault, or has another front of its input.
 use crate::cut::Cut;
+use crate::ended::Asked;
 use crate::outcome::{Faults, Outcome, outcome_of};
 use std::alloc::AllocError;
 use std::sync::Wait;
@@ -118,7 +119,9 @@ impl Series<'_> {
     ) -> Result<bool, AllocError> {
         let bytes = self.input.as_bytes();
         let front = std::str::from_utf8(bytes.get(..length).unwrap_or(bytes)).unwrap_or("");
-        let Some(found) = outcome_of(rt, self.words, front, &Faults::none(rt.alloc()))? else {
+        let faults = Faults::none(rt.alloc());
+        let asked = Asked::plain(self.words, front, &faults);
+        let Some(found) = outcome_of(rt, &asked, &mut None)? else {
             return Ok(false);
         };
         Ok(match found.status {
@@ -136,7 +139,8 @@ impl Series<'_> {
         status: u8,
         output: &[u8],
     ) -> Result<bool, AllocError> {
-        match outcome_of(rt, self.words, self.input, faults)? {
+        let asked = Asked::plain(self.words, self.input, faults);
+        match outcome_of(rt, &asked, &mut None)? {
             Some(found) => Ok(found.status == status && found.output.as_bytes() == output),
             None => Ok(false),
         }

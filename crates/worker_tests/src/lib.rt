@@ -2,6 +2,8 @@
 #![tactic(auto)]
 
 #[cfg(test)]
+mod classifying;
+#[cfg(test)]
 mod counting;
 #[cfg(test)]
 mod holding;
@@ -9,8 +11,6 @@ mod holding;
 mod loads;
 #[cfg(test)]
 mod meeting;
-#[cfg(test)]
-mod operations;
 #[cfg(test)]
 mod replaying;
 #[cfg(test)]

@@ -49,12 +49,3 @@ pub fn class_of(reply: &Reply) -> u8 {
         _ => 0,
     }
 }
-
-// Where the first extent of a granted data set starts, and its length, in tracks.
-pub fn first_extent(reply: &Reply) -> Option<(u32, u32)> {
-    let Reply::Granted { set, .. } = reply else {
-        return None;
-    };
-    let extent = set.get().extents.as_slice().first()?;
-    Some((extent.start, extent.length))
-}

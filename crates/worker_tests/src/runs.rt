@@ -1,26 +1,10 @@
 // Scripts answered by several workers.
 use crate::holding::Holding;
 use crate::meeting::Meeting;
-use crate::running::{class_of, first_extent, run};
-use sms_desk::FreeGate;
+use crate::running::{class_of, run};
 use std::test::Fail;
 
-// A deck with one volume of 100 tracks is activated, and then two jobs allocate.
-const TWO_JOBS: &str = "SMSADMIN 1 ACTIVATE
-version = 1
-[storclass.SC1]
-[storgroup.SG1.volume.VOL001]
-tracks = 100
-[routine]
-storclass = \"PROC STORCLAS SET &STORCLAS = 'SC1' END\"
-storgroup = \"PROC STORGRP SET &STORGRP = 'SG1' END\"
-./END
-SYNC
-JOB1 1 ALLOC A.B SPACE=(TRK,10)
-JOB2 1 ALLOC A.C SPACE=(TRK,10)
-";
-
-// The same, and then one job allocates while another deck is activated.
+// A deck is activated, and then one job allocates while another deck is activated.
 const LIVE: &str = "SMSADMIN 1 ACTIVATE
 version = 1
 [storclass.SC1]
@@ -89,39 +73,5 @@ fn two_jobs_are_classified_at_once(rt: HostRuntime) -> Result<(), Fail> {
     assert!(rt; class_of(&first.reply) == b'1' && class_of(&second.reply) == b'2');
     // Both classes were shown before either job had its answer.
     assert!(rt; gate.counts() == [2, 0, u64::from(b'1') + u64::from(b'2')]);
-    Ok(())
-}
-
-#[test]
-fn two_workers_share_one_volume(rt: HostRuntime) -> Result<(), Fail> {
-    let answers = run(rt.alloc(), &rt, TWO_JOBS, 3, &FreeGate)?;
-    let [first, second, third] = answers.as_slice() else {
-        return Err(Fail::from("other than three answers"));
-    };
-    assert_eq!(rt; first.place, 1);
-    // Whoever came first has the volume's first tracks.
-    let (early, late) = if second.place < third.place {
-        (second, third)
-    } else {
-        (third, second)
-    };
-    assert!(rt; early.place == 2 && late.place == 3);
-    assert!(rt; first_extent(&early.reply) == Some((0, 10)));
-    assert!(rt; first_extent(&late.reply) == Some((10, 10)));
-    Ok(())
-}
-
-#[test]
-fn sixteen_workers_and_empty_phases(rt: HostRuntime) -> Result<(), Fail> {
-    let answers = run(
-        rt.alloc(),
-        &rt,
-        "SYNC\nSMSADMIN 1 PURGE JOB1 1\nSYNC\nSYNC\n",
-        16,
-        &FreeGate,
-    )?;
-    assert_eq!(rt; answers.len(), 1);
-    let none = run(rt.alloc(), &rt, "SYNC\nSYNC\n", 2, &FreeGate)?;
-    assert!(rt; none.is_empty());
     Ok(())
 }

@@ -17,20 +17,21 @@ ghost use Rattle.sqlite_disk.specs.Disk.{CountsFault};
 ghost use Rattle.sqlite_disk.specs.Refusal.{finds_no_room};
 
 impl<D: Disk> Flaky<D> {
-    pub fn new(inner: D, passes: u64, fails: u64) -> Flaky<D> {
+    /// A disk that doesn't fail.
+    pub fn new(inner: D) -> Flaky<D> {
         Flaky {
             inner,
-            passes,
-            fails,
+            passes: 0,
+            fails: 0,
             refused: 0,
             sync_refused: false,
         }
     }
 
-    /// Lets so many calls pass, and fail all behind them.
-    pub fn stop_behind(&mut self, passes: u64) {
+    /// Lets so many calls pass, and fail so many behind them.
+    pub fn fail_behind(&mut self, passes: u64, fails: u64) {
         self.passes = passes;
-        self.fails = u64::MAX;
+        self.fails = fails;
     }
 }
 

@@ -1,5 +1,5 @@
 -- A deck that was read without memory may be handed in with any request.
-use Rattle.serve_tests.proofs.working.answer_wanting.Goals as goal
+use Rattle.desk_tests.proofs.working.answer_wanting.Goals as goal
 
 pub step-requires : goal.step-requires
 step-requires c = record {

@@ -1,7 +1,7 @@
 -- The opening stays, and the journal grew.
 use Rattle.std.proofs.Common.{◌≡◌, ◌++◌, List}
 use Rattle.sms_construct.specs.declared.entry.Entry.{Entry}
-use Rattle.serve_tests.proofs.working.answer_all.Given as goal
+use Rattle.desk_tests.proofs.working.answer_all.Given as goal
 
 abbrev pub invariant-loop-item : goal.invariant-loop-item
 invariant-loop-item l = record {

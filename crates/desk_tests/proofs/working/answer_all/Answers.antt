@@ -1,7 +1,7 @@
 -- Each step adds its entry, or none.
 use Rattle.std.proofs.Common.{[], ◌∙◌, append-nil, refl, sym}
-use Rattle.serve_tests.proofs.WorkingLemmas.{grown}
-use Rattle.serve_tests.proofs.working.answer_all.Goals as goal
+use Rattle.desk_tests.proofs.WorkingLemmas.{grown}
+use Rattle.desk_tests.proofs.working.answer_all.Goals as goal
 
 pub loop-item-init : goal.loop-item-init
 loop-item-init c = record { opening = refl; journal = ([], sym (append-nil c.args.core.now.journal)) }
