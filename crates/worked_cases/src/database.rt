@@ -108,7 +108,8 @@ fn over_opened(
     Ok((ended, left))
 }
 
-// What is said of the greatest place that was found, where so many requests were acknowledged; and how many are kept.
+// What is said of the greatest place that was found, where so many requests were acknowledged; and how many are kept,
+// of which no more are taken for kept than may be.
 fn word_of(kept: u64, found: Option<i64>) -> (&'static str, u64) {
     let found = match found {
         Some(found) => u64::try_from(found).unwrap_or(0),
@@ -117,7 +118,7 @@ fn word_of(kept: u64, found: Option<i64>) -> (&'static str, u64) {
     if found < kept {
         ("LOST\n", kept)
     } else if found > kept.saturating_add(1) {
-        ("MORE\n", found)
+        ("MORE\n", kept)
     } else {
         ("KEPT\n", found)
     }
