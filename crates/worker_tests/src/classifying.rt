@@ -1,15 +1,14 @@
 // A classification by a seat, without a turn.
-ghost use Rattle.std.specs.Prelude.{◌<◌, length};
+ghost use Rattle.std.specs.Prelude.{◌≡◌, ◌<◌, length};
 ghost use Rattle.sms_desk.specs.Seats.{AreAllJobs};
 
-use crate::loads::in_memory;
 use crate::running::read;
 use crate::submitting::submit;
 use sms_classes::Classified;
 use sms_construct::{Op, Request};
+use sms_core::Core;
 use sms_desk::{Desk, FreeGate, JobSeat, JobSeats};
 use sms_keeper::MemKeeper;
-use std::alloc::Global;
 use std::sync::Wait;
 use std::test::Fail;
 
@@ -62,7 +61,23 @@ fn has_written(seat: &JobSeat<MemKeeper>) -> bool {
 }
 
 // Whether the ALLOC behind the activation is classified by the seat that activated.
-fn classifies<R: Wait>(rt: &R, alloc: Global) -> Result<bool, Fail> {
+fn classifies<R: Wait>(
+    rt: &R,
+    desk: &Desk<MemKeeper>,
+    jobs: &mut [JobSeat<MemKeeper>],
+    activation: &Request,
+    allocation: &Request,
+) -> bool
+    requires two { length jobs.old ≡ 2 }
+    requires jobs { AreAllJobs desk.now.lock.table.shared.table_id desk.now.lock.table.shared.key.seats jobs.old }
+{
+    let _answer = submit(rt, desk, jobs, 0, activation, &FreeGate);
+    is_classified(desk, jobs, 0, allocation)
+}
+
+#[test]
+fn a_seat_classifies_without_a_turn(rt: HostRuntime) -> Result<(), Fail> {
+    let alloc = rt.alloc();
     let script = read(alloc, SCRIPT.as_bytes())?;
     let [phase] = script.as_slice() else {
         return Err(Fail::from("phases"));
@@ -70,14 +85,13 @@ fn classifies<R: Wait>(rt: &R, alloc: Global) -> Result<bool, Fail> {
     let [activation, allocation] = phase.as_slice() else {
         return Err(Fail::from("items"));
     };
-    let (desk, seats) = Desk::new(alloc, in_memory(alloc), 2).ok().ok_or("desk")?;
+    let core = Core::new(alloc, MemKeeper::new(alloc));
+    let Ok((desk, seats)) = Desk::new(alloc, core, 2) else {
+        return Err(Fail::from("desk"));
+    };
     let JobSeats { mut jobs, room: _ } = seats;
-    let _answer = submit(rt, &desk, &mut jobs, 0, &activation.request, &FreeGate);
-    Ok(is_classified(&desk, &mut jobs, 0, &allocation.request))
-}
-
-#[test]
-fn a_seat_classifies_without_a_turn(rt: HostRuntime) -> Result<(), Fail> {
-    assert!(rt; classifies(&rt, rt.alloc())?);
+    let requests = (&activation.request, &allocation.request);
+    let holds = classifies(&rt, &desk, &mut jobs, requests.0, requests.1);
+    assert!(rt; holds);
     Ok(())
 }
