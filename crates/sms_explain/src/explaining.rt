@@ -1,7 +1,7 @@
 //! The explanation of a script.
 ghost use Rattle.std.specs.Prelude.{◌≡◌, ◌++◌, ◌∷◌, flat_map, map, IfOk, OnOk};
 ghost use Rattle.sms_script.specs.Script.{items_of};
-ghost use Rattle.desk_law.specs.Classification.{classes_of};
+ghost use Rattle.deck_meaning.specs.Reading.{Configures};
 ghost use Rattle.sms_explain.specs.Explanation.{IsExplainedUnder, IsExplanation, end_text, front_text};
 ghost use Rattle.sms_explain.specs.Explanation.{head_text, told_of, told_text};
 
@@ -56,14 +56,25 @@ fn explain_under(alloc: Global, deck: &DeckText, others: &[&Item]) -> Result<Sim
     ensures { IfOk result (IsExplainedUnder deck.now (map (λ item. item.now) others.now)) }
 {
     match read_deck(alloc, deck) {
-        Ok(config) => {
-            let sources = sources_of(alloc, deck)?;
-            let text = text_of(alloc, &config, &sources, others)?;
-            Ok(Simulated::Shown(Items::from_vec(text)))
-        }
+        Ok(config) => explain_by(alloc, deck, &config, others),
         Err(DeckErr::Fault(fault)) => Ok(Simulated::Refused(fault)),
         Err(DeckErr::NoMemory) => Err(AllocError),
     }
+}
+
+// The same, by what the deck configures.
+fn explain_by(
+    alloc: Global,
+    deck: &DeckText,
+    config: &Config,
+    others: &[&Item],
+) -> Result<Simulated, AllocError>
+    ensures { IfOk result (λ made. Configures deck.now config.now →
+        IsExplainedUnder deck.now (map (λ item. item.now) others.now) made) }
+{
+    let sources = sources_of(alloc, deck)?;
+    let text = text_of(alloc, config, &sources, others)?;
+    Ok(Simulated::Shown(Items::from_vec(text)))
 }
 
 // What is told of the items.

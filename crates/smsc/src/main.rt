@@ -1,5 +1,5 @@
-//! The translator as a program: it translates the routine, validates the deck, simulates or explains the script or
-//! compares the two decks on standard input.
+//! The translator as a program: it translates the routine, validates the deck, simulates or explains the script, tells
+//! what it reaches of the routines, or compares the two decks on standard input.
 #![tactic(auto)]
 
 ghost use Rattle.std.specs.Prelude.{◌≡◌};

@@ -21,6 +21,7 @@ use Rattle.sms_script.specs.declared.script_err.ScriptErr.TheVariants as scripts
 use Rattle.sms_simulation.specs.Simulation.{IsSimulation}
 use Rattle.sms_simulation.specs.declared.simulated.Simulated.{Simulated}
 use Rattle.sms_simulation.specs.declared.simulated.Simulated.TheVariants as simulations
+use Rattle.sms_coverage.specs.Coverage.{IsCoverage}
 use Rattle.sms_explain.specs.Explanation.{IsExplanation}
 use Rattle.acs_test.specs.Listing.{IsListing}
 use Rattle.acs_test.specs.Reading.{IsReading, IsRefusal as IsCasesRefusal}
@@ -32,13 +33,13 @@ use Rattle.tool_calls.specs.CasesText.{TellsCases, cases_fault_text}
 use Rattle.tool_calls.specs.declared.no_answer.NoAnswer.{NoAnswer}
 use Rattle.tool_calls.specs.declared.no_answer.NoAnswer.TheVariants as hindrances
 use Rattle.tool_calls.specs.ToolText.{translated_text, valid_text, refused_text, IsAnswer, translated, faulty, valid}
-use Rattle.tool_calls.specs.ToolText.{refused, simulated, unsimulated, compared, uncompared, explained, unexplained, unread, misplaced, Hinders, HindersScript}
+use Rattle.tool_calls.specs.ToolText.{refused, simulated, unsimulated, compared, uncompared, explained, unexplained, covered, uncovered, unread, misplaced, Hinders, HindersScript}
 use Rattle.tool_calls.specs.ToolText.{hindrance_of, TellsFault, TellsSimulation, HindersSimulation}
 use Rattle.tool_calls.specs.ToolEnds.{Ends, HasAnswer, leaves_sink}
 use Rattle.tool_calls.specs.declared.status.ToolStatus.{ToolStatus}
 use Rattle.tool_calls.specs.declared.status.ToolStatus.TheVariants.{Done, FaultFound, BadWords}
 use Rattle.tool_words.specs.declared.task.Task.{Task}
-use Rattle.tool_words.specs.declared.task.Task.TheVariants.{Translate, Validate, Simulate, Compare, Explain}
+use Rattle.tool_words.specs.declared.task.Task.TheVariants.{Translate, Validate, Simulate, Compare, Explain, Coverage}
 
 pub done : {bytes text : List ℕ} {kind : Kind} {tree : Routine} {count : ℕ} → IsTranslated bytes kind tree count → text ≡ translated_text kind count → IsAnswer bytes (Translate kind) Done text
 done {bytes} {text} {kind} {tree} {count} d e = subst (λ x. IsAnswer bytes (Translate kind) Done x) (sym e) (translated kind tree count d)
@@ -88,7 +89,23 @@ explanation_hindered bytes phases (simulations.Misplaced line) why script is e =
   | inr memory ↦ no_memory bytes Explain why memory
 ]
 
--- what hinders the reading of a script hinders its simulation and its explanation
+-- what a coverage comes to is the answer to its script
+pub coverage_told : {bytes text : List ℕ} {status : ToolStatus} (phases : List (List Item)) (made : Simulated) → script_of bytes ≡ Ok phases → IsCoverage (items_of phases) made → TellsSimulation made status text → IsAnswer bytes Coverage status text
+coverage_told {bytes} {text} {status} phases (simulations.Shown shown) script is e =
+    subst (λ x. IsAnswer bytes Coverage x text) (sym e.0) (subst (λ x. IsAnswer bytes Coverage Done x) (sym e.1) (covered phases shown script is))
+coverage_told {bytes} {text} {status} phases (simulations.Refused fault) script is e =
+    subst (λ x. IsAnswer bytes Coverage x text) (sym e.0) (subst (λ x. IsAnswer bytes Coverage FaultFound x) (sym e.1) (uncovered phases fault script is))
+coverage_told phases (simulations.Misplaced line) script is e = absurd e
+
+pub coverage_hindered : (bytes : List ℕ) (phases : List (List Item)) (made : Simulated) (why : NoAnswer) → script_of bytes ≡ Ok phases → IsCoverage (items_of phases) made → HindersSimulation made why → Hinders bytes Coverage why
+coverage_hindered bytes phases (simulations.Shown shown) why script is e = no_memory bytes Coverage why e
+coverage_hindered bytes phases (simulations.Refused fault) why script is e = no_memory bytes Coverage why e
+coverage_hindered bytes phases (simulations.Misplaced line) why script is e = elim e [
+  | inl other ↦ subst (λ x. Hinders bytes Coverage x) (sym other) (misplaced phases line script is)
+  | inr memory ↦ no_memory bytes Coverage why memory
+]
+
+-- what hinders the reading of a script hinders its simulation, its explanation and its coverage
 pub unread_simulation : (bytes : List ℕ) (why : NoAnswer) → HindersScript bytes why → Hinders bytes Simulate why
 unread_simulation bytes (hindrances.Script err) is = is
 unread_simulation bytes hindrances.NoMemory is = tt
@@ -96,6 +113,10 @@ unread_simulation bytes hindrances.NoMemory is = tt
 pub unread_explanation : (bytes : List ℕ) (why : NoAnswer) → HindersScript bytes why → Hinders bytes Explain why
 unread_explanation bytes (hindrances.Script err) is = is
 unread_explanation bytes hindrances.NoMemory is = tt
+
+pub unread_coverage : (bytes : List ℕ) (why : NoAnswer) → HindersScript bytes why → Hinders bytes Coverage why
+unread_coverage bytes (hindrances.Script err) is = is
+unread_coverage bytes hindrances.NoMemory is = tt
 
 refusal_hinders : (bytes : List ℕ) (err : ScriptErr) → IsRefusal (script_of bytes) err → HindersScript bytes (hindrance_of err)
 refusal_hinders bytes (scripts.BadLine line) is = unread (scripts.BadLine line) is
@@ -145,6 +166,8 @@ answered {bytes = bytes} old new (compared cases text reading listing) r w f = r
 answered {bytes = bytes} old new (uncompared err is) r w f = record { bytes = bytes; text = _; read = r; answer = uncompared err is; written = w; write_faults = f }
 answered {bytes = bytes} old new (explained phases text script is) r w f = record { bytes = bytes; text = _; read = r; answer = explained phases text script is; written = w; write_faults = f }
 answered {bytes = bytes} old new (unexplained phases fault script is) r w f = record { bytes = bytes; text = _; read = r; answer = unexplained phases fault script is; written = w; write_faults = f }
+answered {bytes = bytes} old new (covered phases text script is) r w f = record { bytes = bytes; text = _; read = r; answer = covered phases text script is; written = w; write_faults = f }
+answered {bytes = bytes} old new (uncovered phases fault script is) r w f = record { bytes = bytes; text = _; read = r; answer = uncovered phases fault script is; written = w; write_faults = f }
 
 pub never_bad_words : {bytes text : List ℕ} {task : Task} {status : ToolStatus} → IsAnswer bytes task status text → status ≡ BadWords → ⊥
 never_bad_words (translated kind tree count d) e = cc
@@ -157,6 +180,8 @@ never_bad_words (compared cases text reading listing) e = cc
 never_bad_words (uncompared err is) e = cc
 never_bad_words (explained phases text script is) e = cc
 never_bad_words (unexplained phases fault script is) e = cc
+never_bad_words (covered phases text script is) e = cc
+never_bad_words (uncovered phases fault script is) e = cc
 
 pub never_silent : {bytes text : List ℕ} {task : Task} {status : ToolStatus} → IsAnswer bytes task status text → leaves_sink status ≡ true → ⊥
 never_silent (translated kind tree count d) e = cc
@@ -169,6 +194,8 @@ never_silent (compared cases text reading listing) e = cc
 never_silent (uncompared err is) e = cc
 never_silent (explained phases text script is) e = cc
 never_silent (unexplained phases fault script is) e = cc
+never_silent (covered phases text script is) e = cc
+never_silent (uncovered phases fault script is) e = cc
 
 pub cut_off : {bytes text : List ℕ} {task : Task} {status : ToolStatus} (old new : Observed) → IsAnswer bytes task status text → WasRead (most_bytes task) old new bytes
     → ((front : List ℕ) × IsProperPrefix front text × Appends old.taken new.taken front) → Rose old.write_faults new.write_faults → HasWriteFault (most_bytes task) (HasAnswer task) old new

@@ -3,7 +3,7 @@ use Rattle.std.specs.Prelude.{ℕ}
 use Rattle.desk_common.specs.Limits.{most_input_bytes}
 use Rattle.deck_meaning.specs.Limits.{most_routine_bytes}
 use Rattle.tool_words.specs.declared.task.Task.{Task}
-use Rattle.tool_words.specs.declared.task.Task.TheVariants.{Translate, Validate, Simulate, Compare, Explain}
+use Rattle.tool_words.specs.declared.task.Task.TheVariants.{Translate, Validate, Simulate, Compare, Explain, Coverage}
 
 -- the most bytes of the input
 abbrev pub most_bytes : Task → ℕ
@@ -12,3 +12,4 @@ most_bytes Validate = most_input_bytes
 most_bytes Simulate = most_input_bytes
 most_bytes Compare = most_input_bytes
 most_bytes Explain = most_input_bytes
+most_bytes Coverage = most_input_bytes

@@ -20,6 +20,7 @@ use Rattle.sms_script.specs.declared.script_err.ScriptErr.TheVariants as scripts
 use Rattle.sms_simulation.specs.Simulation.{IsSimulation, first_misplaced}
 use Rattle.sms_simulation.specs.declared.simulated.Simulated.{Simulated}
 use Rattle.sms_simulation.specs.declared.simulated.Simulated.TheVariants as simulations
+use Rattle.sms_coverage.specs.Coverage.{IsCoverage}
 use Rattle.sms_explain.specs.Explanation.{IsExplanation}
 use Rattle.acs_test.specs.Listing.{IsListing}
 use Rattle.acs_test.specs.Reading.{IsReading, IsRefusal}
@@ -31,7 +32,7 @@ use Rattle.tool_calls.specs.declared.no_answer.NoAnswer.TheVariants as hindrance
 use Rattle.tool_calls.specs.declared.status.ToolStatus.{ToolStatus}
 use Rattle.tool_calls.specs.declared.status.ToolStatus.TheVariants.{Done, FaultFound}
 use Rattle.tool_words.specs.declared.task.Task.{Task}
-use Rattle.tool_words.specs.declared.task.Task.TheVariants.{Translate, Validate, Simulate, Compare, Explain}
+use Rattle.tool_words.specs.declared.task.Task.TheVariants.{Translate, Validate, Simulate, Compare, Explain, Coverage}
 
 -- L, P or C
 abbrev pub letter_of : Stage → List ℕ
@@ -79,6 +80,11 @@ pub data IsAnswer (bytes : List ℕ) : Task → ToolStatus → List ℕ → Type
   unexplained : (phases : List (List Item)) (fault : DeckFault) → script_of bytes ≡ Ok phases →
       IsExplanation (items_of phases) (simulations.Refused fault) →
       IsAnswer bytes Explain FaultFound (refused_text fault)
+  covered : (phases : List (List Item)) (text : List ℕ) → script_of bytes ≡ Ok phases →
+      IsCoverage (items_of phases) (simulations.Shown text) → IsAnswer bytes Coverage Done text
+  uncovered : (phases : List (List Item)) (fault : DeckFault) → script_of bytes ≡ Ok phases →
+      IsCoverage (items_of phases) (simulations.Refused fault) →
+      IsAnswer bytes Coverage FaultFound (refused_text fault)
 
 -- the input is no script that can be simulated: it has this fault as a script, or is one with an item that isn't the
 -- one asked there
@@ -87,10 +93,11 @@ pub data HasScriptFault (bytes : List ℕ) : ScriptErr → Type 0 where
   misplaced : (phases : List (List Item)) (line : ℕ) → script_of bytes ≡ Ok phases →
       first_misplaced (items_of phases) ≡ Some line → HasScriptFault bytes (scripts.BadLine line)
 
--- the input of a simulation or of an explanation is no script that can be simulated
+-- the input of a simulation, an explanation or a coverage is no script that can be simulated
 abbrev pub IsScriptFault : List ℕ → Task → ScriptErr → Type 0
 IsScriptFault bytes Simulate err = HasScriptFault bytes err
 IsScriptFault bytes Explain err = HasScriptFault bytes err
+IsScriptFault bytes Coverage err = HasScriptFault bytes err
 IsScriptFault bytes _ err = ⊥
 
 -- why an input has no answer; want of memory says nothing of it

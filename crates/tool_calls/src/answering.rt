@@ -4,7 +4,7 @@ ghost use Rattle.sms_script.specs.Script.{script_of};
 ghost use Rattle.tool_calls.specs.ToolText.{letter_of, translated_text, fault_text, refused_text, valid_text, IsAnswer};
 ghost use Rattle.tool_calls.specs.ToolText.{Hinders, HindersScript, hindrance_of, TellsFault, TellsSimulation};
 ghost use Rattle.tool_calls.specs.ToolText.{HindersSimulation};
-ghost use Rattle.tool_words.specs.declared.task.Task.TheVariants.{Translate, Validate, Simulate, Explain};
+ghost use Rattle.tool_words.specs.declared.task.Task.TheVariants.{Translate, Validate, Simulate, Explain, Coverage};
 
 use crate::comparing::compared;
 use crate::no_answer::NoAnswer;
@@ -15,6 +15,7 @@ use acs_tree::Kind;
 use deck_meaning::DeckErr;
 use desk_common::{Items, Shared, push_number};
 use sms_construct::Fault;
+use sms_coverage::cover;
 use sms_deck::read_deck;
 use sms_explain::explain;
 use sms_script::{Script, ScriptErr, push_fault, read_script};
@@ -41,6 +42,7 @@ pub fn answer(
         Task::Simulate => simulated(alloc, &bytes, note),
         Task::Compare => compared(alloc, &bytes, note).map_err(|_| NoAnswer::NoMemory),
         Task::Explain => explained(alloc, &bytes, note),
+        Task::Coverage => covered(alloc, &bytes, note),
     }
 }
 
@@ -82,6 +84,29 @@ fn explained(
         Err(why) => return Err(why),
     };
     match explain(alloc, &script) {
+        Ok(made) => {
+            note_simulation(alloc, note, bytes, &script, &made);
+            simulation(alloc, made)
+        }
+        Err(_) => Err(NoAnswer::NoMemory),
+    }
+}
+
+// What a script reaches of the routines of its deck.
+fn covered(
+    alloc: Global,
+    bytes: &[u8],
+    note: &mut String,
+) -> Result<(ToolStatus, Items<u8>), NoAnswer>
+    requires { length bytes.now < 2 ^ 32 }
+    ensures answer { IfOk result (λ found. IsAnswer bytes.now Coverage found.0 found.1) }
+    ensures hindered { IfErr result (Hinders bytes.now Coverage) }
+{
+    let script = match script_in(alloc, bytes, note) {
+        Ok(script) => script,
+        Err(why) => return Err(why),
+    };
+    match cover(alloc, &script) {
         Ok(made) => {
             note_simulation(alloc, note, bytes, &script, &made);
             simulation(alloc, made)

@@ -12,6 +12,7 @@ pub fn most_bytes(task: Task) -> usize
 {
     match task {
         Task::Translate(_) => MAX_ROUTINE,
-        Task::Validate | Task::Simulate | Task::Compare | Task::Explain => MAX_INPUT,
+        Task::Validate | Task::Simulate | Task::Compare | Task::Explain | Task::Coverage =>
+            MAX_INPUT,
     }
 }

@@ -17,10 +17,10 @@ use std::alloc::Global;
 use tool_words::{Task, WordsErr, shown_text, task_asked};
 
 /// Does what the words of the command line ask: reads a routine, a deck, a script, or two decks and a table of cases
-/// from the source to its end, translates, validates, simulates, compares or explains, and writes the answer to the
-/// sink. Where the words ask for help or the version it writes that text, and nothing is told of the sink; that is the
-/// one exception (docs/manual/tool.md, "Words"). What a fault means, and why words are refused, is noted in plain
-/// words, of which nothing is told (docs/manual/tool.md, "What a fault means").
+/// from the source to its end, translates, validates, simulates, compares, explains or tells what is reached, and
+/// writes the answer to the sink. Where the words ask for help or the version it writes that text, and nothing is told
+/// of the sink; that is the one exception (docs/manual/tool.md, "Words"). What a fault means, and why words are
+/// refused, is noted in plain words, of which nothing is told (docs/manual/tool.md, "What a fault means").
 #[tactic(auto, using(crate::proofs::WordsLemmas::task_not_refused, crate::proofs::WordsLemmas::task_not_shown, crate::proofs::WordsLemmas::never_bad))]
 pub fn smsc_main<S: Source, K: Sink>(
     alloc: Global,

@@ -147,6 +147,7 @@ translation_found found inner tasks.Validate e asks = absurd asks
 translation_found found inner tasks.Simulate e asks = absurd asks
 translation_found found inner tasks.Compare e asks = absurd asks
 translation_found found inner tasks.Explain e asks = absurd asks
+translation_found found inner tasks.Coverage e asks = absurd asks
 
 -- the subcommand of each task's words
 abbrev name_in : Task → Text
@@ -155,6 +156,7 @@ name_in tasks.Validate = codes "validate"
 name_in tasks.Simulate = codes "simulate"
 name_in tasks.Compare = codes "compare"
 name_in tasks.Explain = codes "explain"
+name_in tasks.Coverage = codes "coverage"
 
 abbrev values_in : Task → Option Text
 values_in (tasks.Translate kind) = Some (name_of kind)
@@ -162,6 +164,7 @@ values_in tasks.Validate = None
 values_in tasks.Simulate = None
 values_in tasks.Compare = None
 values_in tasks.Explain = None
+values_in tasks.Coverage = None
 
 -- the name of what is found, and the text of its word KIND
 abbrev name_found : Option (Text × List Row) → Text
@@ -182,6 +185,7 @@ names_found tasks.Validate = refl
 names_found tasks.Simulate = refl
 names_found tasks.Compare = refl
 names_found tasks.Explain = refl
+names_found tasks.Coverage = refl
 
 kinds_found : (kind : Kind) → kind_found (subcommand_of tool (words_of (tasks.Translate kind))) ≡ Some (name_of kind)
 unfolding clap_on_literals
@@ -194,6 +198,10 @@ kinds_found StorGrp = refl
 abbrev first : List ℕ → ℕ
 first [] = 0
 first (byte ∷ bytes) = byte
+
+abbrev third : List ℕ → ℕ
+third (one ∷ two ∷ byte ∷ bytes) = byte
+third _ = 0
 
 abbrev text_or_none : Option Text → Text
 text_or_none None = []
@@ -223,6 +231,7 @@ found_names found tasks.Validate finds = ap name_found finds.1
 found_names found tasks.Simulate finds = ap name_found finds.1
 found_names found tasks.Compare finds = ap name_found finds.1
 found_names found tasks.Explain finds = ap name_found finds.1
+found_names found tasks.Coverage finds = ap name_found finds.1
 
 found_kinds : (found : Option (Text × List Row)) (kind : Kind) → Finds found (tasks.Translate kind) → kind_found found ≡ Some (name_of kind)
 found_kinds found kind finds = ap kind_found finds.1 ∙ finds.2
@@ -235,26 +244,37 @@ one_task (tasks.Translate one) tasks.Validate found a b e = absurd (omega (arith
 one_task (tasks.Translate one) tasks.Simulate found a b e = absurd (omega (arith, ap first e))
 one_task (tasks.Translate one) tasks.Compare found a b e = absurd (omega (arith, ap first e))
 one_task (tasks.Translate one) tasks.Explain found a b e = absurd (omega (arith, ap first e))
+one_task (tasks.Translate one) tasks.Coverage found a b e = absurd (omega (arith, ap first e))
 one_task tasks.Validate (tasks.Translate two) found a b e = absurd (omega (arith, ap first e))
 one_task tasks.Validate tasks.Validate found a b e = refl
 one_task tasks.Validate tasks.Simulate found a b e = absurd (omega (arith, ap first e))
 one_task tasks.Validate tasks.Compare found a b e = absurd (omega (arith, ap first e))
 one_task tasks.Validate tasks.Explain found a b e = absurd (omega (arith, ap first e))
+one_task tasks.Validate tasks.Coverage found a b e = absurd (omega (arith, ap first e))
 one_task tasks.Simulate (tasks.Translate two) found a b e = absurd (omega (arith, ap first e))
 one_task tasks.Simulate tasks.Validate found a b e = absurd (omega (arith, ap first e))
 one_task tasks.Simulate tasks.Simulate found a b e = refl
 one_task tasks.Simulate tasks.Compare found a b e = absurd (omega (arith, ap first e))
 one_task tasks.Simulate tasks.Explain found a b e = absurd (omega (arith, ap first e))
+one_task tasks.Simulate tasks.Coverage found a b e = absurd (omega (arith, ap first e))
 one_task tasks.Compare (tasks.Translate two) found a b e = absurd (omega (arith, ap first e))
 one_task tasks.Compare tasks.Validate found a b e = absurd (omega (arith, ap first e))
 one_task tasks.Compare tasks.Simulate found a b e = absurd (omega (arith, ap first e))
 one_task tasks.Compare tasks.Compare found a b e = refl
 one_task tasks.Compare tasks.Explain found a b e = absurd (omega (arith, ap first e))
+one_task tasks.Compare tasks.Coverage found a b e = absurd (omega (arith, ap third e))
 one_task tasks.Explain (tasks.Translate two) found a b e = absurd (omega (arith, ap first e))
 one_task tasks.Explain tasks.Validate found a b e = absurd (omega (arith, ap first e))
 one_task tasks.Explain tasks.Simulate found a b e = absurd (omega (arith, ap first e))
 one_task tasks.Explain tasks.Compare found a b e = absurd (omega (arith, ap first e))
 one_task tasks.Explain tasks.Explain found a b e = refl
+one_task tasks.Explain tasks.Coverage found a b e = absurd (omega (arith, ap first e))
+one_task tasks.Coverage (tasks.Translate two) found a b e = absurd (omega (arith, ap first e))
+one_task tasks.Coverage tasks.Validate found a b e = absurd (omega (arith, ap first e))
+one_task tasks.Coverage tasks.Simulate found a b e = absurd (omega (arith, ap first e))
+one_task tasks.Coverage tasks.Compare found a b e = absurd (omega (arith, ap third e))
+one_task tasks.Coverage tasks.Explain found a b e = absurd (omega (arith, ap first e))
+one_task tasks.Coverage tasks.Coverage found a b e = refl
 
 -- words ask for one task at most
 pub one_asked : (words : List Text) (one two : Task) → AskFor words one → AskFor words two → one ≡ two
@@ -291,26 +311,37 @@ of_words (tasks.Translate one) tasks.Validate finds e = absurd (omega (arith, ap
 of_words (tasks.Translate one) tasks.Simulate finds e = absurd (omega (arith, ap first e))
 of_words (tasks.Translate one) tasks.Compare finds e = absurd (omega (arith, ap first e))
 of_words (tasks.Translate one) tasks.Explain finds e = absurd (omega (arith, ap first e))
+of_words (tasks.Translate one) tasks.Coverage finds e = absurd (omega (arith, ap first e))
 of_words tasks.Validate (tasks.Translate two) finds e = absurd (omega (arith, ap first e))
 of_words tasks.Validate tasks.Validate finds e = refl
 of_words tasks.Validate tasks.Simulate finds e = absurd (omega (arith, ap first e))
 of_words tasks.Validate tasks.Compare finds e = absurd (omega (arith, ap first e))
 of_words tasks.Validate tasks.Explain finds e = absurd (omega (arith, ap first e))
+of_words tasks.Validate tasks.Coverage finds e = absurd (omega (arith, ap first e))
 of_words tasks.Simulate (tasks.Translate two) finds e = absurd (omega (arith, ap first e))
 of_words tasks.Simulate tasks.Validate finds e = absurd (omega (arith, ap first e))
 of_words tasks.Simulate tasks.Simulate finds e = refl
 of_words tasks.Simulate tasks.Compare finds e = absurd (omega (arith, ap first e))
 of_words tasks.Simulate tasks.Explain finds e = absurd (omega (arith, ap first e))
+of_words tasks.Simulate tasks.Coverage finds e = absurd (omega (arith, ap first e))
 of_words tasks.Compare (tasks.Translate two) finds e = absurd (omega (arith, ap first e))
 of_words tasks.Compare tasks.Validate finds e = absurd (omega (arith, ap first e))
 of_words tasks.Compare tasks.Simulate finds e = absurd (omega (arith, ap first e))
 of_words tasks.Compare tasks.Compare finds e = refl
 of_words tasks.Compare tasks.Explain finds e = absurd (omega (arith, ap first e))
+of_words tasks.Compare tasks.Coverage finds e = absurd (omega (arith, ap third e))
 of_words tasks.Explain (tasks.Translate two) finds e = absurd (omega (arith, ap first e))
 of_words tasks.Explain tasks.Validate finds e = absurd (omega (arith, ap first e))
 of_words tasks.Explain tasks.Simulate finds e = absurd (omega (arith, ap first e))
 of_words tasks.Explain tasks.Compare finds e = absurd (omega (arith, ap first e))
 of_words tasks.Explain tasks.Explain finds e = refl
+of_words tasks.Explain tasks.Coverage finds e = absurd (omega (arith, ap first e))
+of_words tasks.Coverage (tasks.Translate two) finds e = absurd (omega (arith, ap first e))
+of_words tasks.Coverage tasks.Validate finds e = absurd (omega (arith, ap first e))
+of_words tasks.Coverage tasks.Simulate finds e = absurd (omega (arith, ap first e))
+of_words tasks.Coverage tasks.Compare finds e = absurd (omega (arith, ap third e))
+of_words tasks.Coverage tasks.Explain finds e = absurd (omega (arith, ap first e))
+of_words tasks.Coverage tasks.Coverage finds e = refl
 
 -- the words of a task ask for no other
 task_found : (words : List Text) (task found : Task) → words ≡ words_of task → AskFor words found → found ≡ task

@@ -90,7 +90,10 @@ stop_asks (Some p) has e = elim (cases_Bool (answers_to p.0 (codes "translate", 
         | inl d ↦ (tasks.Compare, rw (a, b, c, d) (rows_after alone [] p.1, refl))
         | inr d ↦ elim (cases_Bool (answers_to p.0 (codes "explain", []))) [
           | inl f ↦ (tasks.Explain, rw (a, b, c, d, f) (rows_after alone [] p.1, refl))
-          | inr f ↦ absurd (cc (rw (a, b, c, d, f) at has))
+          | inr f ↦ elim (cases_Bool (answers_to p.0 (codes "coverage", []))) [
+            | inl g ↦ (tasks.Coverage, rw (a, b, c, d, f, g) (rows_after alone [] p.1, refl))
+            | inr g ↦ absurd (cc (rw (a, b, c, d, f, g) at has))
+          ]
         ]
       ]
     ]

@@ -69,7 +69,7 @@ abbrev pub alone : List Rule
 alone = with_index 1 (filled help_rule) ∷ []
 
 abbrev pub the_app : App
-the_app = record { top = (built tool).top; subs = translate ∷ leaf (codes "validate") alone ∷ leaf (codes "simulate") alone ∷ leaf (codes "compare") alone ∷ leaf (codes "explain") alone ∷ [] }
+the_app = record { top = (built tool).top; subs = translate ∷ leaf (codes "validate") alone ∷ leaf (codes "simulate") alone ∷ leaf (codes "compare") alone ∷ leaf (codes "explain") alone ∷ leaf (codes "coverage") alone ∷ [] }
 
 pub is_built : built tool ≡ the_app
 unfolding clap_on_literals

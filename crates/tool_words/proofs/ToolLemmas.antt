@@ -51,6 +51,10 @@ takes_explain : (names : Names) → takes (tool_app names) (codes "explain" ∷ 
 unfolding clap_on_literals
 takes_explain names = refl
 
+takes_coverage : (names : Names) → takes (tool_app names) (codes "coverage" ∷ []) ≡ true
+unfolding clap_on_literals
+takes_coverage names = refl
+
 accepted : (names : Names) (k : Text) → map (λ n. n.now) names.now ≡ kind_words → list_any (λ t. same_text false t k) kind_words ≡ true → list_any (λ name. same_text false name.now k) names.now ≡ true
 accepted names k h e = any_map names.now k ∙ ap (λ ws. list_any (λ t. same_text false t k) ws) h ∙ e
 
@@ -79,6 +83,7 @@ takes_words names tasks.Validate h = takes_validate names
 takes_words names tasks.Simulate h = takes_simulate names
 takes_words names tasks.Compare h = takes_compare names
 takes_words names tasks.Explain h = takes_explain names
+takes_words names tasks.Coverage h = takes_coverage names
 
 pub tool_takes : (a : App) (words : List Text) (task : Task) → IsTool a → words ≡ words_of task → takes a words ≡ true
 tool_takes a words task tool w = let (names, kinds, e) = tool in ap (λ (x : App). takes x words) e ∙ ap (λ (x : List Text). takes (tool_app names) x) w ∙ takes_words names task kinds

@@ -39,6 +39,7 @@ Finds found tasks.Validate = (rows : List Row) × (found ≡ Some (codes "valida
 Finds found tasks.Simulate = (rows : List Row) × (found ≡ Some (codes "simulate", rows))
 Finds found tasks.Compare = (rows : List Row) × (found ≡ Some (codes "compare", rows))
 Finds found tasks.Explain = (rows : List Row) × (found ≡ Some (codes "explain", rows))
+Finds found tasks.Coverage = (rows : List Row) × (found ≡ Some (codes "coverage", rows))
 
 -- by the tool's command the words are free of faults and ask for this task
 pub record AskFor (words : List Text) (task : Task) : Type 0 where

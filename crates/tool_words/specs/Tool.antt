@@ -40,13 +40,14 @@ bare_app = record (new_app (codes "smsc")) {
 -- the command with these names
 abbrev pub tool_app : Names → App
 tool_app names =
-    with_subcommand (with_subcommand (with_subcommand (with_subcommand (with_subcommand
+    with_subcommand (with_subcommand (with_subcommand (with_subcommand (with_subcommand (with_subcommand
     bare_app
     (translate_app names).top)
     (new_shape (codes "validate")))
     (new_shape (codes "simulate")))
     (new_shape (codes "compare")))
-    (new_shape (codes "explain"))
+    (new_shape (codes "explain")))
+    (new_shape (codes "coverage"))
 
 -- the texts behind the names
 abbrev pub texts_of : Names → List Text
@@ -77,11 +78,12 @@ abbrev pub tool : App
 tool = tool_app (names_with kind_words)
 
 -- the words that ask for a translation are `translate` and the name of the kind; those that ask for a validation are
--- `validate`, those that ask for a simulation `simulate`, those that ask for a comparison `compare`, and those that ask
--- for an explanation `explain`
+-- `validate`, those that ask for a simulation `simulate`, those that ask for a comparison `compare`, those that ask for
+-- an explanation `explain`, and those that ask for the coverage `coverage`
 abbrev pub words_of : Task → List Text
 words_of (tasks.Translate kind) = codes "translate" ∷ name_of kind ∷ []
 words_of tasks.Validate = codes "validate" ∷ []
 words_of tasks.Simulate = codes "simulate" ∷ []
 words_of tasks.Compare = codes "compare" ∷ []
 words_of tasks.Explain = codes "explain" ∷ []
+words_of tasks.Coverage = codes "coverage" ∷ []

@@ -17,12 +17,14 @@ pub fn tool_command<'a>(alloc: Global) -> Result<Command<'a>, AllocError>
     let simulate = Command::new(alloc, "simulate");
     let compare = Command::new(alloc, "compare");
     let explain = Command::new(alloc, "explain");
+    let coverage = Command::new(alloc, "coverage");
     bare_tool(alloc)
         .subcommand(translate)?
         .subcommand(validate)?
         .subcommand(simulate)?
         .subcommand(compare)?
-        .subcommand(explain)
+        .subcommand(explain)?
+        .subcommand(coverage)
 }
 
 // The subcommand `translate`, which wants the name of a kind.

@@ -36,6 +36,13 @@ smsc explain         tell what each routine does with the allocations of such
     smsc explain < morning.txt
 ";
 
+const COVERAGE: &str = "
+smsc coverage        tell what the allocations of such a script reach of the
+                     routines, and what they don't
+
+    smsc coverage < cases.txt
+";
+
 const DOCUMENT: &str = "
 docs/manual/tool.md has what each reads and prints, and the exit statuses.
 ";
@@ -48,6 +55,11 @@ pub fn examples_of(alloc: Global, word: &str) -> Result<String, AllocError> {
         "simulate" => format!(in alloc; "{SIMULATE}{DOCUMENT}"),
         "compare" => format!(in alloc; "{COMPARE}{DOCUMENT}"),
         "explain" => format!(in alloc; "{EXPLAIN}{DOCUMENT}"),
-        _ => format!(in alloc; "{TRANSLATE}{VALIDATE}{SIMULATE}{COMPARE}{EXPLAIN}{DOCUMENT}"),
+        "coverage" => format!(in alloc; "{COVERAGE}{DOCUMENT}"),
+        _ => {
+            format!(in alloc;
+                "{TRANSLATE}{VALIDATE}{SIMULATE}{COMPARE}{EXPLAIN}{COVERAGE}{DOCUMENT}"
+            )
+        }
     }
 }

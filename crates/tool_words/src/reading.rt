@@ -68,6 +68,9 @@ fn task_in(matches: &ArgMatches<'_>) -> Result<Task, WordsErr>
     if name == "explain" {
         return Ok(Task::Explain);
     }
+    if name == "coverage" {
+        return Ok(Task::Coverage);
+    }
     Err(WordsErr::NoMemory)
 }
 

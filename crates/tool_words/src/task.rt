@@ -14,4 +14,6 @@ pub enum Task {
     Compare,
     /// It is a script, of which it is to be told what the routines do with each allocation.
     Explain,
+    /// It is a script, of which it is to be told what its allocations reach of the routines.
+    Coverage,
 }

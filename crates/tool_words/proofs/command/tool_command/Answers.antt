@@ -14,9 +14,11 @@ returns c =
     ∙ ap₂ with_subcommand two (ap (λ (a : App). a.top) c.new-simulate.ensures.app) in
     let four = c.in_ok-subcommand-4.ensures.shape (search rules)
     ∙ ap₂ with_subcommand three (ap (λ (a : App). a.top) c.new-compare.ensures.app) in
-    IfOk-weaker c.subcommand-5.result _ _ (λ r h. (
+    let five = c.in_ok-subcommand-5.ensures.shape (search rules)
+    ∙ ap₂ with_subcommand four (ap (λ (a : App). a.top) c.new-explain.ensures.app) in
+    IfOk-weaker c.subcommand-6.result _ _ (λ r h. (
       names,
       kinds,
       h.shape (search rules)
-          ∙ ap₂ with_subcommand four (ap (λ (a : App). a.top) c.new-explain.ensures.app),
-    )) c.subcommand-5.ensures
+          ∙ ap₂ with_subcommand five (ap (λ (a : App). a.top) c.new-coverage.ensures.app),
+    )) c.subcommand-6.ensures

@@ -1,0 +1,9 @@
+use Rattle.std.proofs.Common.{◌≡◌, ◌++◌, take}
+use Rattle.std.specs.Prelude.{flat_map}
+use Rattle.acs_coverage.specs.Counts.{tally_at}
+use Rattle.acs_coverage.specs.CoverageText.{point_text}
+use Rattle.acs_coverage.proofs.coverage_text.push_points.Given as goal
+
+-- the points that were gone over
+abbrev pub invariant-loop-point : goal.invariant-loop-point
+invariant-loop-point l = l.text.items ≡ l.initial.text.items ++ flat_map (point_text l.source (tally_at l.tallies)) (take l.point-index l.points)

@@ -1,0 +1,3 @@
+-- What private clauses and proofs alone cite.
+pub mod Counting
+pub mod Parts

@@ -1,0 +1,4 @@
+pub mod Points
+pub mod Counts
+pub mod CoverageText
+pub mod Inner
