@@ -29,7 +29,7 @@ impl Tally {
     }
 
     /// The same with one event more.
-    pub fn with(self, event: &Event) -> Self
+    pub(crate) fn with(self, event: &Event) -> Self
         ensures { result ≡ tally_with self event.now }
     {
         let mut tally = self;
