@@ -1,0 +1,169 @@
+//! A clerk over a core that shows pages of it.
+ghost use Rattle.std.specs.Prelude.{◌≡◌, ◌<◌, ◌++◌, ◌∷◌, [], List, OnErr, OnOk, length, ℕ};
+ghost use Rattle.http_answer.specs.AnswerText.{refusal_text};
+ghost use Rattle.http_talk.specs.declared.talk.Talk.{Talk as TalkOf};
+ghost use Rattle.sms_core.specs.Core.{CoreView};
+ghost use Rattle.desk_law.specs.History.{Reaches};
+ghost use Rattle.desk_http.specs.Entered.{ClerkView, HasEntered};
+ghost use Rattle.page_clerk.specs.Shows.{Begun, ShowsPage};
+
+use acs_tree::Slate;
+use desk_common::Items;
+use desk_pages::{ShownDesk, show_page};
+use dsn_mask::Dsn;
+use http_answer::push_refusal;
+use http_flow::{Page, Pages};
+use http_talk::{Clerk, Talk, Talks};
+use sms_construct::{Answer, DataSet, Request, VolRows};
+use sms_core::{Core, Work};
+use sms_keeper::Keeper;
+use std::alloc::{AllocError, Global};
+use std::marker::Model;
+use std::snapshot::Snapshot;
+
+/// Answers requests by the core, one step each, and shows pages of it as it stands.
+#[derive(Drop)]
+pub struct PageClerk<P: Keeper> {
+    start: Snapshot<Core<P>>,
+    core: Core<P>,
+    slate: Slate,
+    talks: Vec<Talk>,
+}
+
+impl<P: Keeper> Model for PageClerk<P> {
+    ghost use Rattle.acs_tree.specs.contracts.routine.Form as form;
+    ghost use Rattle.std.specs.Coded.{codes};
+    ghost use Rattle.desk_http.specs.Entered.{ClerkView, HasEntered};
+
+    ghost Value = { ClerkView P };
+
+    ghost coded = { Prim.hlevel (codes, form.the_row.coded, P.code) };
+
+    ghost view = { λ c. record { start = c.start.value; core = c.core; talks = c.talks.items } };
+
+    ghost invariant = { λ c. HasEntered c.start.value c.core c.talks.items };
+}
+
+impl<P: Keeper> PageClerk<P> {
+    /// A clerk that works on the core, with no requests so far. It takes no memory.
+    pub fn new(alloc: Global, core: Core<P>, slate: Slate) -> Self
+        ensures start { result.start ≡ core }
+        ensures core { result.core ≡ core }
+        ensures talks { result.talks ≡ [] }
+    {
+        PageClerk {
+            start: Snapshot::of(&core),
+            core,
+            slate,
+            talks: Vec::new(alloc),
+        }
+    }
+
+    /// The core, the slate and the requests with their answers.
+    pub fn into_parts(self) -> (Core<P>, Slate, Talks)
+        ensures core { result.0 ≡ self.core }
+        ensures talks { result.2 ≡ self.talks }
+        ensures entered { HasEntered self.start result.0 result.2 }
+    {
+        let PageClerk {
+            core,
+            slate,
+            talks,
+            ..
+        } = self;
+        (core, slate, Items::from_vec(talks))
+    }
+}
+
+impl<P: Keeper> Clerk for PageClerk<P> {
+    ghost Start = { CoreView P };
+
+    ghost talks = { λ c. c.talks };
+
+    ghost start = { λ c. c.start };
+
+    fn handle(&mut self, request: &Request) -> Result<&Answer, AllocError> {
+        match hear(self, request) {
+            Ok(()) => Ok(last(self)),
+            Err(error) => Err(error),
+        }
+    }
+}
+
+// The answer that was stored last.
+fn last<P: Keeper>(clerk: &PageClerk<P>) -> &Answer
+    requires { 0 < length clerk.now.talks }
+    ensures { (one : TalkOf) (before : List TalkOf) → clerk.now.talks ≡ before ++ one ∷ [] → result.now ≡ one.answer }
+{
+    &clerk.talks[clerk.talks.len() - 1].answer
+}
+
+// Answers the request, and stores it with its answer.
+fn hear<P: Keeper>(clerk: &mut PageClerk<P>, request: &Request) -> Result<(), AllocError>
+    ensures ok { OnOk result ((one : TalkOf) × (clerk.new.talks ≡ clerk.old.talks ++ one ∷ []) ×
+        (one.request ≡ request.now)) }
+    ensures err { OnErr result (clerk.new.talks ≡ clerk.old.talks) }
+    ensures start { clerk.new.start ≡ clerk.old.start }
+{
+    let request = request.copy()?;
+    clerk.talks.reserve(1)?;
+    let answer = clerk.core.step(&request, Work::Nothing, &mut clerk.slate);
+    clerk.talks.push_reserved(Talk { request, answer });
+    Ok(())
+}
+
+impl<P: Keeper> ShownDesk for PageClerk<P> {
+    ghost stands = { λ c s. Reaches c.core.opening c.core.journal s };
+
+    ghost entries = { λ c. length c.core.journal };
+
+    fn entries(&self) -> u64 {
+        self.core.journal().len() as u64
+    }
+
+    fn activations(&self) -> Option<u64> {
+        match self.core.active() {
+            Some((count, _)) => Some(count),
+            None => None,
+        }
+    }
+
+    fn volumes(&self) -> Result<VolRows, AllocError> {
+        self.core.vol_rows()
+    }
+
+    fn set(&self, dsn: &Dsn) -> Option<&DataSet> {
+        self.core.set(dsn)
+    }
+
+    fn set_after(&self, dsn: Option<&Dsn>) -> Option<&DataSet> {
+        self.core.set_after(dsn)
+    }
+}
+
+impl<P: Keeper> Pages for PageClerk<P> {
+    ghost Begun = { Begun };
+
+    ghost begun = { λ c. record { opening = c.start.opening; journal = c.start.journal } };
+
+    ghost shows = { ShowsPage };
+
+    ghost refusal = { refusal_text };
+
+    ghost begun_stays = { λ a b same. Prim.grind same };
+
+    fn show(
+        &self,
+        alloc: Global,
+        posts: bool,
+        path: &[u8],
+        body: &[u8],
+    ) -> Result<Page, AllocError> {
+        let _body = body;
+        show_page(alloc, self, posts, path)
+    }
+
+    fn refuse(&self, alloc: Global, text: &mut Vec<u8>, status: u16) -> Result<(), AllocError> {
+        push_refusal(alloc, text, status)
+    }
+}

@@ -1,0 +1,38 @@
+-- The parts of pages are their JSON.
+use Rattle.std.proofs.Common.{◌≡◌, ◌++◌, ℕ, List, refl, ap, append_assoc, ◌∙◌}
+use Rattle.std.specs.Prelude.{Option, None, Some}
+use Rattle.json.specs.Print.{escape_byte}
+use Rattle.serde_json.specs.Written.{compact_text}
+use Rattle.sms_construct.specs.declared.extent.Extent.{Extent}
+use Rattle.sms_construct.specs.declared.data_set.DataSet.{DataSet}
+use Rattle.sms_construct.specs.declared.vol_row.VolRow.{VolRow}
+use Rattle.page_text.specs.PageBodies.{extent_value, volume_body, volumes_body, set_body, sets_body, desk_body, error_body}
+use Rattle.page_text.specs.Inner.Pieces.{extent_piece, volume_front, volume_rest, volumes_text, set_front, set_rest, sets_text, desk_text, error_text}
+
+pub extent_is : (extent : Extent) → extent_piece extent ≡ compact_text (extent_value extent)
+unfolding escape_byte
+extent_is extent = refl
+
+pub volume_is : (row : VolRow) → volume_front row ++ volume_rest row ≡ volume_body row
+unfolding escape_byte
+volume_is row = simp append_assoc refl
+
+pub volumes_is : (rows : List VolRow) → volumes_text rows ≡ volumes_body rows
+unfolding escape_byte
+volumes_is rows = refl
+
+pub set_is : (set : DataSet) → set_front set ++ set_rest set ≡ set_body set
+unfolding escape_byte
+set_is set = simp append_assoc refl
+
+pub sets_is : (sets : List DataSet) (after : Option (List ℕ)) → sets_text sets after ≡ sets_body sets after
+unfolding escape_byte
+sets_is sets after = refl
+
+pub desk_is : (activations : Option ℕ) (entries volumes : ℕ) → desk_text activations entries volumes ≡ desk_body activations entries volumes
+unfolding escape_byte
+desk_is activations entries volumes = refl
+
+pub error_is : (sentence : List ℕ) → error_text sentence ≡ error_body sentence
+unfolding escape_byte
+error_is sentence = refl

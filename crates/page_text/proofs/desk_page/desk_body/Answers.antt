@@ -1,0 +1,7 @@
+-- The text is the page.
+use Rattle.std.proofs.Common.{◌∙◌}
+use Rattle.page_text.proofs.PieceLemmas.{desk_is}
+use Rattle.page_text.proofs.desk_page.desk_body.Goals as goal
+
+pub returns : goal.returns
+returns c = c.in_ok-push_desk.ensures ∙ desk_is _ _ _

@@ -1,0 +1,2 @@
+pub mod PageBodies
+pub mod Inner

@@ -1,0 +1,11 @@
+//! Pages of the desk as JSON.
+#![tactic(auto)]
+
+mod desk_page;
+mod pieces;
+mod set_page;
+mod volume_page;
+
+pub use desk_page::{desk_body, error_body, health_body};
+pub use set_page::{set_body, sets_body};
+pub use volume_page::{volume_body, volumes_body};

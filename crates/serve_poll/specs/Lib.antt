@@ -1,0 +1,4 @@
+pub mod Visitors
+pub mod Halls
+pub mod AwayText
+pub mod Inner
