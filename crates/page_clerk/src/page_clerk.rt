@@ -1,6 +1,6 @@
 //! A clerk over a core that shows pages of it.
 ghost use Rattle.std.specs.Prelude.{◌≡◌, ◌<◌, ◌++◌, ◌∷◌, [], List, OnErr, OnOk, length, ℕ};
-ghost use Rattle.http_answer.specs.AnswerText.{refusal_text};
+ghost use Rattle.page_text.specs.RefusalText.{said_refusal};
 ghost use Rattle.http_talk.specs.declared.talk.Talk.{Talk as TalkOf};
 ghost use Rattle.sms_core.specs.Core.{CoreView};
 ghost use Rattle.desk_law.specs.History.{Reaches};
@@ -11,9 +11,9 @@ use acs_tree::Slate;
 use desk_common::Items;
 use desk_pages::{ShownDesk, show_page};
 use dsn_mask::Dsn;
-use http_answer::push_refusal;
 use http_flow::{Page, Pages};
 use http_talk::{Clerk, Talk, Talks};
+use page_text::push_said_refusal;
 use sms_construct::{Answer, DataSet, Request, VolRows};
 use sms_core::{Core, Work};
 use sms_keeper::Keeper;
@@ -148,7 +148,7 @@ impl<P: Keeper> Pages for PageClerk<P> {
 
     ghost shows = { ShowsPage };
 
-    ghost refusal = { refusal_text };
+    ghost refusal = { said_refusal };
 
     ghost begun_stays = { λ a b same. Prim.grind same };
 
@@ -164,6 +164,6 @@ impl<P: Keeper> Pages for PageClerk<P> {
     }
 
     fn refuse(&self, alloc: Global, text: &mut Vec<u8>, status: u16) -> Result<(), AllocError> {
-        push_refusal(alloc, text, status)
+        push_said_refusal(alloc, text, status)
     }
 }

@@ -7,7 +7,8 @@ use Rattle.sms_construct.specs.declared.extent.Extent.{Extent}
 use Rattle.sms_construct.specs.declared.data_set.DataSet.{DataSet}
 use Rattle.sms_construct.specs.declared.vol_row.VolRow.{VolRow}
 use Rattle.page_text.specs.PageBodies.{extent_value, volume_body, volumes_body, set_body, sets_body, desk_body, error_body}
-use Rattle.page_text.specs.Inner.Pieces.{extent_piece, volume_front, volume_rest, volumes_text, set_front, set_rest, sets_text, desk_text, error_text}
+use Rattle.page_text.specs.Inner.Pieces.{extent_piece, volume_front, volume_rest, volumes_text, set_front, set_rest, sets_text, desk_text, error_text, refusal_line, refusal_rest}
+use Rattle.page_text.specs.RefusalText.{refusal_with}
 
 pub extent_is : (extent : Extent) → extent_piece extent ≡ compact_text (extent_value extent)
 unfolding escape_byte
@@ -36,3 +37,6 @@ desk_is activations entries volumes = refl
 pub error_is : (sentence : List ℕ) → error_text sentence ≡ error_body sentence
 unfolding escape_byte
 error_is sentence = refl
+
+pub refusal_is : (status : ℕ) (body : List ℕ) → refusal_line status ++ refusal_rest body ≡ refusal_with status body
+refusal_is status body = simp append_assoc refl

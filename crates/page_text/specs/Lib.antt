@@ -1,2 +1,3 @@
 pub mod PageBodies
+pub mod RefusalText
 pub mod Inner

@@ -1,5 +1,6 @@
 -- The parts of pages as they are written.
-use Rattle.std.specs.Prelude.{ℕ, List, [], ◌∷◌, ◌++◌, Option, None, Some, codes, decimal, false}
+use Rattle.std.specs.Prelude.{ℕ, List, [], ◌∷◌, ◌++◌, Option, None, Some, codes, decimal, false, length, unwrap_or}
+use Rattle.http.specs.StatusCode.{reason_phrase}
 use Rattle.json.specs.Print.{quoted}
 use Rattle.serde_json.specs.Written.{compact_text, items_text}
 use Rattle.sms_construct.specs.declared.data_set.DataSet.{DataSet}
@@ -84,3 +85,13 @@ abbrev pub sets_text : List DataSet → Option (List ℕ) → List ℕ
 sets_text sets after =
     codes "{\"sets\":[" ++ (items_text false (set_values sets) ++ (codes ",\"after\":"
     ++ (compact_text (name_if after) ++ codes "}")))
+
+-- the first line of a refusal, without its end
+abbrev pub refusal_line : ℕ → List ℕ
+refusal_line status = codes "HTTP/1.1 " ++ (decimal status ++ (codes " " ++ unwrap_or (reason_phrase status) []))
+
+-- what stands behind that
+abbrev pub refusal_rest : List ℕ → List ℕ
+refusal_rest body =
+    codes "\r\nContent-Type: application/json\r\nContent-Length: " ++ (decimal (length body)
+    ++ (codes "\r\nConnection: close\r\n\r\n" ++ body))
