@@ -10,7 +10,8 @@ use ready_wires::{Event, Readiness};
 use sms_base::Failed;
 use std::alloc::Global;
 use std::io;
-use std::net::{Net, SocketAddr};
+use std::io::Read;
+use std::net::{Net, Shutdown, SocketAddr};
 use std::rt::Clock;
 use std::time::{Duration, Instant};
 
@@ -19,6 +20,10 @@ const LISTENER: Token = Token(usize::MAX);
 
 // So many events are taken from the system at once.
 const BATCH: usize = 256;
+
+// So many bytes are read at once of a connection that is closed, and so often.
+const PIECE: usize = 4_096;
+const LAST_PIECES: u32 = 16;
 
 // So long the system is waited for at once.
 const WAIT_SECONDS: u64 = 1;
@@ -139,6 +144,23 @@ fn is_past(last: Option<Instant>, now: Instant, patience: Duration) -> bool {
     }
 }
 
+// Says that nothing more is sent, and reads what came unread, at most so much: what is closed with unread bytes is reset,
+// and what was sent last may be lost by that.
+fn close(conn: TcpWire) {
+    let mut stream = conn.stream;
+    if stream.shutdown(Shutdown::Write).is_err() {
+        return;
+    }
+    let mut piece = [0; PIECE];
+    for _ in 0..LAST_PIECES {
+        match stream.read(&mut piece) {
+            Ok(0) => return,
+            Ok(_) => {}
+            Err(_) => return,
+        }
+    }
+}
+
 impl<'a, R: Net + Clock> Readiness for PollDoor<'a, R> {
     type Conn = TcpWire;
 
@@ -209,6 +231,7 @@ impl<'a, R: Net + Clock> Readiness for PollDoor<'a, R> {
                 self.active[key] = None;
             }
         }
+        close(conn);
         self.accepting = true;
     }
 }

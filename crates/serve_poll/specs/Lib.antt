@@ -1,4 +1,3 @@
 pub mod Visitors
 pub mod Halls
-pub mod AwayText
 pub mod Inner

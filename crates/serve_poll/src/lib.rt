@@ -1,13 +1,11 @@
 //! Many connections that one clerk serves as they become ready.
 #![tactic(auto)]
 
-mod away;
 mod hall;
 mod serving;
 mod step;
 mod visitor;
 
-pub use away::push_away;
 pub use hall::Hall;
 pub use serving::{LoopEnd, serve_events, serve_from_empty};
 pub use step::{Left, Step};
