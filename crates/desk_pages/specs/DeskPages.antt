@@ -7,12 +7,14 @@ use Rattle.http_page.specs.Pages.{PageAsk}
 use Rattle.page_paths.specs.Paths.{page_path_of}
 use Rattle.page_paths.specs.declared.page_path.PagePath.{PagePath}
 use Rattle.page_paths.specs.declared.page_path.PagePath.TheVariants as paths
-use Rattle.page_text.specs.PageBodies.{desk_body, error_body, health_body, set_body, sets_body, volume_body, volumes_body}
+use Rattle.page_text.specs.PageBodies.{desk_body, error_body, groups_body, health_body, set_body, sets_body, volume_body}
+use Rattle.page_text.specs.PageBodies.{volumes_body}
 use Rattle.sms_construct.specs.declared.data_set.DataSet.{DataSet}
 use Rattle.sms_construct.specs.declared.volume.VolumeDef.{VolumeDef}
 use Rattle.desk_law.specs.Display.{shown_volume}
 use Rattle.desk_law.specs.State.{DeskState, set_named}
-use Rattle.desk_law.specs.Volumes.{volume_named, volumes_in}
+use Rattle.desk_law.specs.Volumes.{groups_in, volume_named, volumes_in}
+use Rattle.desk_pages.specs.Groups.{group_row}
 use Rattle.desk_pages.specs.Listing.{IsListing}
 
 -- a page that shows something
@@ -45,6 +47,11 @@ abbrev pub desk_page : DeskState → ℕ → Page
 desk_page s entries =
     showing (desk_body (option_map (λ config. s.activations) s.active) entries (length (volumes_in s.active)))
 
+-- all storage groups
+abbrev pub groups_page : DeskState → Page
+groups_page s =
+    showing (groups_body (map (group_row (map (shown_volume s) (volumes_in s.active))) (groups_in s.active)))
+
 -- all volumes
 abbrev pub volumes_page : DeskState → Page
 volumes_page s = showing (volumes_body (map (shown_volume s) (volumes_in s.active)))
@@ -70,6 +77,7 @@ pub record IsSetsPage (s : DeskState) (mask from : Option (List ℕ)) (page : Pa
 abbrev pub IsGotten : DeskState → ℕ → PagePath → Page → Type 0
 IsGotten s entries paths.Desk page = page ≡ desk_page s entries
 IsGotten s entries paths.Health page = page ≡ showing health_body
+IsGotten s entries paths.Groups page = page ≡ groups_page s
 IsGotten s entries paths.Volumes page = page ≡ volumes_page s
 IsGotten s entries (paths.Volume volser) page = page ≡ volume_page s (volume_named s volser)
 IsGotten s entries (paths.Sets mask after) page = IsSetsPage s mask after page
@@ -81,6 +89,7 @@ IsGotten s entries paths.Missing page = page ≡ missing_page
 abbrev pub posted_page : PagePath → Page
 posted_page paths.Desk = not_allowed_page
 posted_page paths.Health = not_allowed_page
+posted_page paths.Groups = not_allowed_page
 posted_page paths.Volumes = not_allowed_page
 posted_page (paths.Volume volser) = not_allowed_page
 posted_page (paths.Sets mask after) = not_allowed_page

@@ -1,6 +1,7 @@
 //! The pages of a desk.
 #![tactic(auto)]
 
+mod grouping;
 mod listing;
 mod showing;
 mod shown_desk;

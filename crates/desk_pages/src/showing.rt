@@ -4,9 +4,10 @@ ghost use Rattle.std.specs.Option.{option_copied};
 ghost use Rattle.desk_law.specs.State.{DeskState, set_named};
 ghost use Rattle.desk_law.specs.Volumes.{volume_named};
 ghost use Rattle.page_text.specs.PageBodies.{error_body, health_body};
-ghost use Rattle.desk_pages.specs.DeskPages.{IsGotten, IsPage, IsSetsPage, bad_page, desk_page, missing_page};
+ghost use Rattle.desk_pages.specs.DeskPages.{IsGotten, IsPage, IsSetsPage, bad_page, desk_page, groups_page, missing_page};
 ghost use Rattle.desk_pages.specs.DeskPages.{not_allowed_page, posted_page, set_page, showing, volume_page, volumes_page};
 
+use crate::grouping::group_rows;
 use crate::listing::list_sets;
 use crate::shown_desk::ShownDesk;
 use desk_common::Items;
@@ -14,7 +15,7 @@ use dsn_mask::{Dsn, Mask, Volser};
 use http_flow::{Page, PageStatus};
 use page_paths::{PagePath, read_page_path};
 use page_text::{
-    desk_body, error_body, health_body, set_body, sets_body, volume_body, volumes_body,
+    desk_body, error_body, groups_body, health_body, set_body, sets_body, volume_body, volumes_body,
 };
 use sms_construct::VolRow;
 use std::alloc::{AllocError, Global};
@@ -45,6 +46,7 @@ fn posted(alloc: Global, asked: &PagePath) -> Result<Page, AllocError>
         PagePath::Bad => bad(alloc),
         PagePath::Desk
         | PagePath::Health
+        | PagePath::Groups
         | PagePath::Volumes
         | PagePath::Volume(_)
         | PagePath::Sets { .. }
@@ -60,6 +62,7 @@ fn gotten<D: ShownDesk>(alloc: Global, desk: &D, asked: PagePath) -> Result<Page
     match asked {
         PagePath::Desk => whole(alloc, desk),
         PagePath::Health => health(alloc),
+        PagePath::Groups => groups(alloc, desk),
         PagePath::Volumes => volumes(alloc, desk),
         PagePath::Volume(volser) => volume(alloc, desk, &volser),
         PagePath::Sets { mask, after } => sets(alloc, desk, &mask, after),
@@ -85,6 +88,16 @@ fn health(alloc: Global) -> Result<Page, AllocError>
     ensures { IfOk result (λ page. page ≡ showing health_body) }
 {
     let body = health_body(alloc)?;
+    Ok(shown(body))
+}
+
+// All storage groups.
+fn groups<D: ShownDesk>(alloc: Global, desk: &D) -> Result<Page, AllocError>
+    ensures { IfOk result (λ page. (s : DeskState) → D.stands desk.now s → page ≡ groups_page s) }
+{
+    let volumes = desk.volumes()?;
+    let rows = group_rows(alloc, desk.groups(), volumes.as_slice())?;
+    let body = groups_body(alloc, &rows)?;
     Ok(shown(body))
 }
 

@@ -1,13 +1,13 @@
 //! Desks that can be shown.
-ghost use Rattle.std.specs.Prelude.{◌≡◌, IfOk, map, option_map, ℕ};
+ghost use Rattle.std.specs.Prelude.{◌≡◌, ◌<◌, ◌^◌, IfOk, length, map, option_map, ℕ};
 ghost use Rattle.std.specs.Option.{option_copied};
 ghost use Rattle.desk_law.specs.Display.{shown_volume};
 ghost use Rattle.desk_law.specs.State.{DeskState, set_named};
-ghost use Rattle.desk_law.specs.Volumes.{volumes_in};
+ghost use Rattle.desk_law.specs.Volumes.{groups_in, volumes_in};
 ghost use Rattle.desk_state.specs.Following.{IsNextSet};
 
 use dsn_mask::Dsn;
-use sms_construct::{DataSet, VolRows};
+use sms_construct::{DataSet, StorGroup, VolRows};
 use std::alloc::AllocError;
 
 /// A desk whose state can be shown.
@@ -26,10 +26,15 @@ pub trait ShownDesk {
     fn activations(&self) -> Option<u64>
         ensures { (s : DeskState) → stands self.now s → result ≡ option_map (λ config. s.activations) s.active };
 
+    /// The storage groups of the active configuration, in byte order of their names.
+    fn groups(&self) -> &[StorGroup]
+        ensures { (s : DeskState) → stands self.now s → result.now ≡ groups_in s.active };
+
     /// All volumes of the active configuration as reports show them, or want of memory.
     fn volumes(&self) -> Result<VolRows, AllocError>
-        ensures { IfOk result (λ rows. (s : DeskState) → stands self.now s →
-            rows ≡ map (shown_volume s) (volumes_in s.active)) };
+        ensures rows { IfOk result (λ rows. (s : DeskState) → stands self.now s →
+            rows ≡ map (shown_volume s) (volumes_in s.active)) }
+        ensures few { IfOk result (λ rows. length rows < 2 ^ 32) };
 
     /// The catalogued data set of this name.
     fn set(&self, dsn: &Dsn) -> Option<&DataSet>

@@ -14,7 +14,7 @@ use dsn_mask::Dsn;
 use http_flow::{Page, Pages};
 use http_talk::{Clerk, Talk, Talks};
 use page_text::push_said_refusal;
-use sms_construct::{Answer, DataSet, Request, VolRows};
+use sms_construct::{Answer, DataSet, Request, StorGroup, VolRows};
 use sms_core::{Core, Work};
 use sms_keeper::Keeper;
 use std::alloc::{AllocError, Global};
@@ -125,6 +125,13 @@ impl<P: Keeper> ShownDesk for PageClerk<P> {
         match self.core.active() {
             Some((count, _)) => Some(count),
             None => None,
+        }
+    }
+
+    fn groups(&self) -> &[StorGroup] {
+        match self.core.active() {
+            Some((_, config)) => config.groups(),
+            None => &[],
         }
     }
 

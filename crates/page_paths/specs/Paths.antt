@@ -61,6 +61,7 @@ page_by path None = pages.Missing
 page_by path (Some word) =
     if bytes_eq word (codes "DESK") then alone 2 path pages.Desk else
     if bytes_eq word (codes "HEALTH") then alone 2 path pages.Health else
+    if bytes_eq word (codes "GROUPS") then alone 2 path pages.Groups else
     if bytes_eq word (codes "VOLUMES") then alone 2 path pages.Volumes else page_of_some path word
 
 -- what a path asks to be shown

@@ -9,6 +9,8 @@ pub enum PagePath {
     Desk,
     /// Whether the desk is there.
     Health,
+    /// All storage groups.
+    Groups,
     /// All volumes.
     Volumes,
     /// The volume of this serial.

@@ -32,6 +32,9 @@ fn page_by(alloc: Global, path: &[u8], word: &[u8]) -> Result<PagePath, AllocErr
     if word == b"HEALTH".as_slice() {
         return alone(alloc, 2, path, PagePath::Health);
     }
+    if word == b"GROUPS".as_slice() {
+        return alone(alloc, 2, path, PagePath::Groups);
+    }
     if word == b"VOLUMES".as_slice() {
         return alone(alloc, 2, path, PagePath::Volumes);
     }

@@ -6,8 +6,9 @@ use Rattle.serde_json.specs.Written.{compact_text}
 use Rattle.sms_construct.specs.declared.extent.Extent.{Extent}
 use Rattle.sms_construct.specs.declared.data_set.DataSet.{DataSet}
 use Rattle.sms_construct.specs.declared.vol_row.VolRow.{VolRow}
-use Rattle.page_text.specs.PageBodies.{extent_value, volume_body, volumes_body, set_body, sets_body, desk_body, error_body}
-use Rattle.page_text.specs.Inner.Pieces.{extent_piece, volume_front, volume_rest, volumes_text, set_front, set_rest, sets_text, desk_text, error_text, refusal_line, refusal_rest}
+use Rattle.page_text.specs.declared.group_row.GroupRow.{GroupRow}
+use Rattle.page_text.specs.PageBodies.{group_body, groups_body, extent_value, volume_body, volumes_body, set_body, sets_body, desk_body, error_body}
+use Rattle.page_text.specs.Inner.Pieces.{group_piece, groups_text, extent_piece, volume_front, volume_rest, volumes_text, set_front, set_rest, sets_text, desk_text, error_text, refusal_line, refusal_rest}
 use Rattle.page_text.specs.RefusalText.{refusal_with}
 
 pub extent_is : (extent : Extent) → extent_piece extent ≡ compact_text (extent_value extent)
@@ -40,3 +41,11 @@ error_is sentence = refl
 
 pub refusal_is : (status : ℕ) (body : List ℕ) → refusal_line status ++ refusal_rest body ≡ refusal_with status body
 refusal_is status body = simp append_assoc refl
+
+pub group_is : (row : GroupRow) → group_piece row ≡ group_body row
+unfolding escape_byte
+group_is row = refl
+
+pub groups_is : (rows : List GroupRow) → groups_text rows ≡ groups_body rows
+unfolding escape_byte
+groups_is rows = refl

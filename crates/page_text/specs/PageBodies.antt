@@ -11,6 +11,7 @@ use Rattle.sms_construct.specs.declared.unit.Unit.{Unit as UnitOf}
 use Rattle.sms_construct.specs.declared.unit.Unit.TheVariants as units
 use Rattle.sms_construct.specs.declared.vol_row.VolRow.{VolRow}
 use Rattle.sms_script.specs.NameText.{status_text}
+use Rattle.page_text.specs.declared.group_row.GroupRow.{GroupRow}
 
 -- a count
 abbrev pub count : ℕ → Data
@@ -41,6 +42,20 @@ volume_value row =
 abbrev pub volume_values : List VolRow → Items
 volume_values [] = no_items
 volume_values (row ∷ rows) = item (volume_value row) (volume_values rows)
+
+-- a storage group: its name, how many volumes it has, and their tracks together, all and the free ones
+abbrev pub group_value : GroupRow → Data
+group_value row =
+    object
+    (member (codes "group") (string row.group)
+    (member (codes "volumes") (count row.volumes)
+    (member (codes "capacity") (count row.capacity)
+    (member (codes "free") (count row.free) no_members))))
+
+-- storage groups, in their order
+abbrev pub group_values : List GroupRow → Items
+group_values [] = no_items
+group_values (row ∷ rows) = item (group_value row) (group_values rows)
 
 -- an extent: its volume, its first track, and how many tracks it has
 abbrev pub extent_value : Extent → Data
@@ -100,6 +115,14 @@ volume_body row = compact_text (volume_value row)
 -- the page of all volumes
 abbrev pub volumes_body : List VolRow → List ℕ
 volumes_body rows = compact_text (object (member (codes "volumes") (array (volume_values rows)) no_members))
+
+-- a storage group as its page has it
+abbrev pub group_body : GroupRow → List ℕ
+group_body row = compact_text (group_value row)
+
+-- the page of all storage groups
+abbrev pub groups_body : List GroupRow → List ℕ
+groups_body rows = compact_text (object (member (codes "groups") (array (group_values rows)) no_members))
 
 -- the page of a data set
 abbrev pub set_body : DataSet → List ℕ

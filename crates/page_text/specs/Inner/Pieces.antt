@@ -7,7 +7,8 @@ use Rattle.sms_construct.specs.declared.data_set.DataSet.{DataSet}
 use Rattle.sms_construct.specs.declared.extent.Extent.{Extent}
 use Rattle.sms_construct.specs.declared.vol_row.VolRow.{VolRow}
 use Rattle.sms_script.specs.NameText.{status_text}
-use Rattle.page_text.specs.PageBodies.{name_if, count_if, extent_values, set_values, volume_values, unit_text, eattr_text}
+use Rattle.page_text.specs.declared.group_row.GroupRow.{GroupRow}
+use Rattle.page_text.specs.PageBodies.{name_if, count_if, extent_values, group_values, set_values, volume_values, unit_text, eattr_text}
 
 -- the names and the status of a volume
 abbrev pub volume_front : VolRow → List ℕ
@@ -95,3 +96,13 @@ abbrev pub refusal_rest : List ℕ → List ℕ
 refusal_rest body =
     codes "\r\nContent-Type: application/json\r\nContent-Length: " ++ (decimal (length body)
     ++ (codes "\r\nConnection: close\r\n\r\n" ++ body))
+
+-- a storage group
+abbrev pub group_piece : GroupRow → List ℕ
+group_piece row =
+    codes "{\"group\":" ++ (quoted row.group ++ (codes ",\"volumes\":" ++ (decimal row.volumes
+    ++ (codes ",\"capacity\":" ++ (decimal row.capacity ++ (codes ",\"free\":" ++ (decimal row.free ++ codes "}")))))))
+
+-- all storage groups
+abbrev pub groups_text : List GroupRow → List ℕ
+groups_text rows = codes "{\"groups\":[" ++ (items_text false (group_values rows) ++ codes "}")
