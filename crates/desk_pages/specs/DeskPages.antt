@@ -7,8 +7,8 @@ use Rattle.http_page.specs.Pages.{PageAsk}
 use Rattle.page_paths.specs.Paths.{page_path_of}
 use Rattle.page_paths.specs.declared.page_path.PagePath.{PagePath}
 use Rattle.page_paths.specs.declared.page_path.PagePath.TheVariants as paths
-use Rattle.page_text.specs.PageBodies.{desk_body, error_body, groups_body, health_body, set_body, sets_body, volume_body}
-use Rattle.page_text.specs.PageBodies.{volumes_body}
+use Rattle.page_text.specs.PageBodies.{desk_body, error_body, groups_body, health_body, set_body, sets_body}
+use Rattle.page_text.specs.PageBodies.{volume_body, volumes_body}
 use Rattle.sms_construct.specs.declared.data_set.DataSet.{DataSet}
 use Rattle.sms_construct.specs.declared.volume.VolumeDef.{VolumeDef}
 use Rattle.desk_law.specs.Display.{shown_volume}
@@ -27,7 +27,8 @@ missing_page = record { status = statuses.Missing; body = error_body (codes "the
 
 -- a segment of the path isn't as the page asks
 abbrev pub bad_page : Page
-bad_page = record { status = statuses.Bad; body = error_body (codes "a segment of this path is no name, serial or mask") }
+bad_page =
+    record { status = statuses.Bad; body = error_body (codes "a segment of this path is no name, serial or mask") }
 
 -- the page isn't there for POST
 abbrev pub not_allowed_page : Page

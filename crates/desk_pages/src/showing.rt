@@ -4,8 +4,9 @@ ghost use Rattle.std.specs.Option.{option_copied};
 ghost use Rattle.desk_law.specs.State.{DeskState, set_named};
 ghost use Rattle.desk_law.specs.Volumes.{volume_named};
 ghost use Rattle.page_text.specs.PageBodies.{error_body, health_body};
-ghost use Rattle.desk_pages.specs.DeskPages.{IsGotten, IsPage, IsSetsPage, bad_page, desk_page, groups_page, missing_page};
-ghost use Rattle.desk_pages.specs.DeskPages.{not_allowed_page, posted_page, set_page, showing, volume_page, volumes_page};
+ghost use Rattle.desk_pages.specs.DeskPages.{IsGotten, IsPage, IsSetsPage, bad_page, desk_page, groups_page};
+ghost use Rattle.desk_pages.specs.DeskPages.{missing_page, not_allowed_page, posted_page, set_page, showing};
+ghost use Rattle.desk_pages.specs.DeskPages.{volume_page, volumes_page};
 
 use crate::grouping::group_rows;
 use crate::listing::list_sets;

@@ -26,7 +26,8 @@ pub struct Page {
     pub body: Items<u8>,
 }
 
-/// Puts the bytes of a page behind others, or leaves those as they are where memory is wanting (docs/manual/smsd.md, "Pages").
+/// Puts the bytes of a page behind others, or leaves those as they are where memory is wanting
+/// (docs/manual/smsd.md, "Pages").
 pub fn push_page(
     alloc: Global,
     text: &mut Vec<u8>,

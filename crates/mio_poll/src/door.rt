@@ -23,6 +23,7 @@ const BATCH: usize = 256;
 
 // So many bytes are read at once of a connection that is closed, and so often.
 const PIECE: usize = 4_096;
+
 const LAST_PIECES: u32 = 16;
 
 // So long the system is waited for at once.
@@ -144,8 +145,8 @@ fn is_past(last: Option<Instant>, now: Instant, patience: Duration) -> bool {
     }
 }
 
-// Says that nothing more is sent, and reads what came unread, at most so much: what is closed with unread bytes is reset,
-// and what was sent last may be lost by that.
+// Says that nothing more is sent, and reads what came unread, at most so much: a stream that is closed with unread
+// bytes is reset, and what was sent last may be lost by that.
 fn close(conn: TcpWire) {
     let mut stream = conn.stream;
     if stream.shutdown(Shutdown::Write).is_err() {

@@ -23,7 +23,8 @@ pub fn set_body(alloc: Global, set: &DataSet) -> Result<Items<u8>, AllocError>
     Ok(Items::from_vec(text))
 }
 
-/// A page of data sets; the next one begins behind `after`, where there is one (docs/manual/smsd.md, "What pages show").
+/// A page of data sets; the next one begins behind `after`, where there is one (docs/manual/smsd.md, "What pages
+/// show").
 pub fn sets_body(
     alloc: Global,
     sets: &[&DataSet],

@@ -1,6 +1,6 @@
 //! Many connections and their events.
-ghost use Rattle.std.specs.Prelude.{◌≡◌, ◌≤◌, ◌<◌, ◌^◌, ◌-◌, ◌⊎◌, [], IfNone, IfOk, IfSome, IsTrue, List, OnErr, Some, ℕ};
-ghost use Rattle.std.specs.Prelude.{false, true};
+ghost use Rattle.std.specs.Prelude.{◌≡◌, ◌≤◌, ◌<◌, ◌^◌, ◌-◌, ◌⊎◌, [], false, true, List, Some, ℕ};
+ghost use Rattle.std.specs.Prelude.{IfNone, IfOk, IfSome, IsTrue, OnErr};
 ghost use Rattle.slab.specs.Slab.{HasRoomFor, slab_len};
 ghost use Rattle.desk_common.specs.Causes.{Rose};
 ghost use Rattle.sms_base.specs.Counts.{one_call_more};
@@ -36,7 +36,8 @@ pub enum LoopEnd {
 }
 
 /// Serves connections as they become ready, at most so many at once, until so many events came; one that comes when as
-/// many are served is told `away`. Where memory to begin is wanting nothing happens (docs/manual/smsd.md, "The served desk").
+/// many are served is told `away`. Where memory to begin is wanting nothing happens (docs/manual/smsd.md, "The served
+/// desk").
 pub fn serve_from_empty<P: Readiness, K: Pages>(
     alloc: Global,
     routes: &Routes,

@@ -142,7 +142,9 @@ fn serve_core<P: Stored, R: Readiness>(
         away,
     } = room;
     let mut clerk = PageClerk::new(alloc, core, slate);
-    let served = serve_from_empty(alloc, &routes, &site, &mut clerk, poller, &away, most, turns);
+    let served = serve_from_empty(
+        alloc, &routes, &site, &mut clerk, poller, &away, most, turns,
+    );
     let (core, _, talks) = clerk.into_parts();
     // A fact for the proof; nothing changes.
     let _journal = core.journal();

@@ -8,7 +8,8 @@ use Rattle.sms_construct.specs.declared.extent.Extent.{Extent}
 use Rattle.sms_construct.specs.declared.vol_row.VolRow.{VolRow}
 use Rattle.sms_script.specs.NameText.{status_text}
 use Rattle.page_text.specs.declared.group_row.GroupRow.{GroupRow}
-use Rattle.page_text.specs.PageBodies.{name_if, count_if, extent_values, group_values, set_values, volume_values, unit_text, eattr_text}
+use Rattle.page_text.specs.PageBodies.{name_if, count_if, extent_values, group_values, set_values, volume_values}
+use Rattle.page_text.specs.PageBodies.{unit_text, eattr_text}
 
 -- the names and the status of a volume
 abbrev pub volume_front : VolRow → List ℕ
