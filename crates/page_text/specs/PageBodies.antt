@@ -124,6 +124,10 @@ group_body row = compact_text (group_value row)
 abbrev pub groups_body : List GroupRow → List ℕ
 groups_body rows = compact_text (object (member (codes "groups") (array (group_values rows)) no_members))
 
+-- an extent as pages have it
+abbrev pub extent_body : Extent → List ℕ
+extent_body extent = compact_text (extent_value extent)
+
 -- the page of a data set
 abbrev pub set_body : DataSet → List ℕ
 set_body set = compact_text (set_value set)

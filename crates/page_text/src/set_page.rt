@@ -2,8 +2,8 @@
 ghost use Rattle.std.specs.Prelude.{◌≡◌, ◌++◌, IfOk, OnOk, false, map};
 ghost use Rattle.std.specs.Option.{option_copied};
 ghost use Rattle.serde_json.specs.Written.{compact_text, items_text};
-ghost use Rattle.page_text.specs.PageBodies.{eattr_text, extent_values, name_if, set_body, set_values, sets_body};
-ghost use Rattle.page_text.specs.PageBodies.{unit_text};
+ghost use Rattle.page_text.specs.PageBodies.{eattr_text, extent_body, extent_values, name_if, set_body, set_values};
+ghost use Rattle.page_text.specs.PageBodies.{sets_body, unit_text};
 ghost use Rattle.page_text.specs.Inner.Pieces.{extent_piece, set_days, set_extents, set_front, set_group, set_names};
 ghost use Rattle.page_text.specs.Inner.Pieces.{set_rest, set_space, set_use, sets_text};
 
@@ -181,6 +181,13 @@ fn push_extents(text: &mut Vec<u8>, extents: &[Extent]) -> Result<(), AllocError
 
 // Puts an extent behind a text.
 fn push_extent(text: &mut Vec<u8>, extent: &Extent) -> Result<(), AllocError>
+    ensures { OnOk result (text.new.items ≡ text.old.items ++ extent_body extent.now) }
+{
+    push_place(text, extent)?;
+    Ok(())
+}
+
+fn push_place(text: &mut Vec<u8>, extent: &Extent) -> Result<(), AllocError>
     ensures { OnOk result (text.new.items ≡ text.old.items ++ extent_piece extent.now) }
 {
     push_text(text, b"{\"volser\":", extent.volser.bytes())?;
