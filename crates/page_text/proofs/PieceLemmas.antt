@@ -1,12 +1,12 @@
 -- The parts of pages are their JSON.
 use Rattle.std.proofs.Common.{◌≡◌, ◌++◌, ℕ, List, refl, ap, append_assoc, ◌∙◌}
-use Rattle.std.specs.Prelude.{Option, None, Some}
+use Rattle.std.specs.Prelude.{codes, Option, None, Some}
 use Rattle.json.specs.Print.{escape_byte}
 use Rattle.sms_construct.specs.declared.extent.Extent.{Extent}
 use Rattle.sms_construct.specs.declared.data_set.DataSet.{DataSet}
 use Rattle.sms_construct.specs.declared.vol_row.VolRow.{VolRow}
 use Rattle.page_text.specs.declared.group_row.GroupRow.{GroupRow}
-use Rattle.page_text.specs.PageBodies.{group_body, groups_body, extent_body, volume_body, volumes_body, set_body, sets_body, desk_body, error_body}
+use Rattle.page_text.specs.PageBodies.{health_body, group_body, groups_body, extent_body, volume_body, volumes_body, set_body, sets_body, desk_body, error_body}
 use Rattle.page_text.specs.Inner.Pieces.{group_piece, groups_text, extent_piece, volume_front, volume_rest, volumes_text, set_front, set_rest, sets_text, desk_text, error_text, refusal_line, refusal_rest}
 use Rattle.page_text.specs.RefusalText.{refusal_with}
 
@@ -48,3 +48,7 @@ group_is row = refl
 pub groups_is : (rows : List GroupRow) → groups_text rows ≡ groups_body rows
 unfolding escape_byte
 groups_is rows = refl
+
+pub health_is : codes "{\"health\":\"ok\"}" ≡ health_body
+unfolding escape_byte
+health_is = refl

@@ -1,5 +1,5 @@
 //! Refusals that say in a sentence what is wrong.
-ghost use Rattle.std.specs.Prelude.{◌≡◌, ◌≤◌, ◌<◌, ◌++◌, IfOk, OnErr, OnOk, unwrap_or};
+ghost use Rattle.std.specs.Prelude.{◌≡◌, ◌≤◌, ◌<◌, ◌++◌, [], IfOk, OnErr, OnOk, unwrap_or};
 ghost use Rattle.http.specs.StatusCode.{reason_phrase};
 ghost use Rattle.page_text.specs.RefusalText.{said_refusal, sentence_of};
 ghost use Rattle.page_text.specs.Inner.Pieces.{refusal_line, refusal_rest};

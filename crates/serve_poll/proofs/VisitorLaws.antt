@@ -3,6 +3,7 @@ use Rattle.std.proofs.Common.{◌≡◌, ◌≢◌, ◌<◌, ◌≤◌, ◌+◌,
 use Rattle.std.proofs.lemmas.List.{drop_all, length-drop, take_rest}
 use Rattle.std.specs.Prelude.{Option, None, Some, Ok, zero, suc}
 use Rattle.ready_wires.specs.Wires.{WireSeen, IsTold, Grows, after_read, after_write}
+use Rattle.sms_base.specs.declared.source.Failed.{Failed}
 use Rattle.ready_wires.specs.declared.marks.Marks.{Marks}
 use Rattle.http_page.specs.Pages.{PageAsk}
 use Rattle.http_talk.specs.Hearing.{ClerkMoment}
@@ -16,17 +17,21 @@ use Rattle.http_flow.proofs.FlowLaws.{flow_sent}
 use Rattle.serve_poll.specs.Visitors.{IsOn, IsFew, IsBounded, Sends, Hears, VisitorSeen, Advances, most_piece, WasTold}
 
 -- a call that gave or took bytes
-pub read_moved : {E : Type 0} (marks : Marks) (room count : ℕ) → (count ≡ 0 → ⊥) → (after_read {E = E} marks room (Ok (Some count))).moved ≡ true
-read_moved marks room zero some = absurd (some refl)
-read_moved marks room (suc count) some = refl
+pub read_moved : (marks marks' : Marks) (room : ℕ) (o : Option ℕ) (count : ℕ) → o ≡ Some count → marks' ≡ after_read {E = Failed} marks room (Ok o) → (count ≡ 0 → ⊥) → marks'.moved ≡ true
+read_moved marks marks' room o zero is same some = absurd (some refl)
+read_moved marks marks' room o (suc count) is same some =
+    let e : marks' ≡ after_read {E = Failed} marks room (Ok (Some (suc count))) = rw is at same in ap (λ (m : Marks). m.moved) e
 
-pub wrote_moved : {E : Type 0} (marks : Marks) (count : ℕ) → 0 < count → (after_write {E = E} marks (Ok (Some count))).moved ≡ true
-wrote_moved marks zero some = absurd (omega (arith, some))
-wrote_moved marks (suc count) some = refl
+pub wrote_moved : (marks marks' : Marks) (o : Option ℕ) (count : ℕ) → o ≡ Some count → marks' ≡ after_write {E = Failed} marks (Ok o) → 0 < count → marks'.moved ≡ true
+wrote_moved marks marks' o zero is same some = absurd (omega (arith, some))
+wrote_moved marks marks' o (suc count) is same some =
+    let e : marks' ≡ after_write {E = Failed} marks (Ok (Some (suc count))) = rw is at same in ap (λ (m : Marks). m.moved) e
 
-pub read_ended : {E : Type 0} (marks : Marks) (room : ℕ) → 0 < room → (after_read {E = E} marks room (Ok (Some 0))).ended ≡ true
-read_ended marks zero some = absurd (omega (arith, some))
-read_ended marks (suc room) some = refl
+-- a read of nothing into a buffer with room
+pub read_ended : (marks marks' : Marks) (room : ℕ) (o : Option ℕ) (count : ℕ) → o ≡ Some count → marks' ≡ after_read {E = Failed} marks room (Ok o) → count ≡ 0 → 0 < room → marks'.ended ≡ true
+read_ended marks marks' zero o count is same none some = absurd (omega (arith, some))
+read_ended marks marks' (suc room) o count is same none some =
+    let e : marks' ≡ after_read {E = Failed} marks (suc room) (Ok (Some 0)) = rw none at (rw is at same) in ap (λ (m : Marks). m.ended) e
 
 pub some_bytes : (bytes : List ℕ) → bytes ≢ [] → 0 < length bytes
 some_bytes [] some = absurd (some refl)

@@ -42,8 +42,8 @@ pub record House : Type 0 where
 
 -- a connection is in turn: it is still to be told of as ready, nothing was done with it since that was asked for, and
 -- where it rests it waits to be read or to take what is due
-pub record IsInTurn (awaited : Option (List ℕ)) (key : ℕ) (wire : WireSeen) (flow : FlowView) : Type 0 where
-  pub awaited : IsAwaited awaited key
+pub record IsInTurn (told : Option (List ℕ)) (key : ℕ) (wire : WireSeen) (flow : FlowView) : Type 0 where
+  pub awaited : IsAwaited told key
   pub untried : wire.marks.tried ≡ false
   pub waits : wire.watch.rests ≡ true → IsWaiting wire flow
 

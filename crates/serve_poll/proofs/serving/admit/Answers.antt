@@ -3,7 +3,7 @@ use Rattle.std.proofs.Common.{◌∙◌, sym, refl, ap}
 use Rattle.serve_poll.specs.declared.step.Left.TheVariants as lefts
 use Rattle.serve_poll.specs.declared.visitor.Visitor.{Visitor}
 use Rattle.serve_poll.proofs.HallLaws.{put_back, leave}
-use Rattle.serve_poll.proofs.ServingLaws.{new_flow, turned_away, entered, under_same, not_same, first_vain, first_quiet, not_vain_first, turn_again, watched_in}
+use Rattle.serve_poll.proofs.ServingLaws.{new_flow, turned_away, entered, under_same, not_same, first_vain, first_quiet, not_vain_first, turn_again, watched_in, watched_more}
 use Rattle.serve_poll.proofs.serving.admit.Goals as goal
 
 pub returns-then-not-has_room-clause-stands : goal.returns-then-not-has_room-clause-stands
@@ -42,3 +42,9 @@ returns-in-Err-clause-stands g c = λ terms before arrived.
     (record { came = c.done-in-Err.ensures.came ∙ c.watch.ensures.came; idle = c.done-in-Err.ensures.idle ∙ c.watch.ensures.idle }) (c.has_room.ensures.some c.if-not-has_room.false).0 c.vacant_key.ensures.vacant refl c.new.ensures c.requires.watch c.requires.came c.requires.taken refl refl
     (not_same (seen c.args.conn) (seen c.watch.new.conn) told) (not_vain_first (seen c.args.conn) (seen c.watch.new.conn) c.requires.watch told)
     (λ all first old out. leave _ _ first _ all old _ _ _ _ _ key v lefts.Unwatched out (ap (λ w. w.watch.failed) told) (rw c.watch.ensures.back at c.done-in-Err.ensures.back))
+
+pub returns-then-not-has_room-clause-watched : goal.returns-then-not-has_room-clause-watched
+returns-then-not-has_room-clause-watched g c = λ h. watched_more g.P.Conn.Wire.seen _ _ c.args.hall.now.seats c.done.ensures.awaited h
+
+pub returns-in-Err-clause-watched : goal.returns-in-Err-clause-watched
+returns-in-Err-clause-watched g c = λ h. watched_more g.P.Conn.Wire.seen _ _ c.args.hall.now.seats (λ other told. c.done-in-Err.ensures.awaited other (c.watch.ensures.awaited other told)) h

@@ -10,3 +10,11 @@ returns-in-Some-clause-stands g c = λ house before idle.
 pub returns-in-Some-clause-watched : goal.returns-in-Some-clause-watched
 returns-in-Some-clause-watched g c = λ h.
     watched_out g.P.Conn.Wire.seen _ _ c.args.hall.now.seats _ c.args.key c.done.ensures.awaited (λ other v apart at. h other v at) c.try_remove.ensures.updates
+
+pub returns-in_default-clause-stands : goal.returns-in_default-clause-stands
+returns-in_default-clause-stands g c = λ house before idle.
+    idle_none house _ c.args.key before _ _ c.args.hall.now _ idle (sym c.try_remove.ensures.value ∙ c.in_default.is) (rw c.in_default.is at c.try_remove.ensures.absent)
+
+pub returns-in_default-clause-watched : goal.returns-in_default-clause-watched
+returns-in_default-clause-watched g c = λ h.
+    watched_out g.P.Conn.Wire.seen (g.P.Readiness.seen c.args.poller.now).awaited (g.P.Readiness.seen c.args.poller.now).awaited c.args.hall.now.seats _ c.args.key (λ other told. told) (λ other v apart at. h other v at) c.try_remove.ensures.updates

@@ -27,3 +27,6 @@ returns-in-Some-clause-asked g c = record {
   calls = rw add-one (c.meet.ensures.calls ∙ ap one_call_more c.loop-made.invariant.calls);
   why = loop_end c.args.turns (c.loop-made.made + 1) _ (g.P.Readiness.seen c.args.poller.now) (g.P.Readiness.seen c.loop-made.poller) (g.P.Readiness.seen c.meet.new.poller) c.in-Some.end c.loop-made.invariant.faults c.in-Some.ensures.why;
 }
+
+pub returns-in-Some-clause-watched : goal.returns-in-Some-clause-watched
+returns-in-Some-clause-watched g c = λ h. c.meet.ensures.watched (c.loop-made.invariant.watched h)

@@ -10,3 +10,6 @@ returns-then-ne-clause-advances g c = advances_join _ _ _ _ _ _ _ _ c.loop.invar
 
 pub loop-preserved : goal.loop-preserved
 loop-preserved g c = advances_join _ _ _ _ _ _ _ _ c.loop.invariant c.take_step-step.ensures.advances
+
+pub returns-clause-advances : goal.returns-clause-advances
+returns-clause-advances g c = advances_join _ _ _ _ _ _ _ _ c.loop.invariant c.take_step.ensures.advances

@@ -1,5 +1,5 @@
 -- What was heard.
-use Rattle.std.proofs.Common.{◌∙◌, ap, inl, refl, arith, length, length-take}
+use Rattle.std.proofs.Common.{ap, inl, arith, length, length-take}
 use Rattle.ready_wires.specs.declared.marks.Marks.{Marks}
 use Rattle.serve_poll.proofs.VisitorLaws.{hears_some, hears_none, read_moved, read_ended}
 use Rattle.serve_poll.proofs.visitor.hear.Goals as goal
@@ -18,13 +18,10 @@ returns-in-Err-clause-hears g c = hears_none _ _ _ _ _ c.args.conversation.now c
 
 pub returns-then-count-eq0-clause-step : goal.returns-then-count-eq0-clause-step
 returns-then-count-eq0-clause-step g c =
-    let marks = rw c.if-count-eq0.true at (rw c.in-Ok-Some.field-0-is at c.in-Ok-Some.ensures.marks) in
-    (c.requires.sent, c.requires.waits, ap (λ (m : Marks). m.ended) marks ∙ read_ended _ (length c.read.new.buf) (omega arith))
+    (c.requires.sent, c.requires.waits, read_ended (g.C.Wire.seen c.args.conn.now).marks _ (length c.read.new.buf) _ c.in-Ok-Some.count c.in-Ok-Some.field-0-is c.in-Ok-Some.ensures.marks c.if-count-eq0.true (omega arith))
 
 pub returns-else-count-eq0-clause-step : goal.returns-else-count-eq0-clause-step
-returns-else-count-eq0-clause-step g c =
-    let marks = rw c.in-Ok-Some.field-0-is at c.in-Ok-Some.ensures.marks in
-    ap (λ (m : Marks). m.moved) marks ∙ read_moved _ (length c.read.new.buf) c.in-Ok-Some.count c.if-count-eq0.false
+returns-else-count-eq0-clause-step g c = read_moved (g.C.Wire.seen c.args.conn.now).marks _ (length c.read.new.buf) _ c.in-Ok-Some.count c.in-Ok-Some.field-0-is c.in-Ok-Some.ensures.marks c.if-count-eq0.false
 
 pub returns-in-Ok-None-clause-step : goal.returns-in-Ok-None-clause-step
 returns-in-Ok-None-clause-step g c =

@@ -1,5 +1,5 @@
 -- What was sent.
-use Rattle.std.proofs.Common.{◌∙◌, ap, inr}
+use Rattle.std.proofs.Common.{ap, inr}
 use Rattle.ready_wires.specs.declared.marks.Marks.{Marks}
 use Rattle.serve_poll.proofs.VisitorLaws.{sends_some, wrote_moved, some_bytes}
 use Rattle.serve_poll.proofs.visitor.send.Goals as goal
@@ -9,9 +9,8 @@ returns-in-Ok-Some-clause-sends g c terms = sends_some terms _ _ c.args.conversa
 
 pub returns-in-Ok-Some-clause-step : goal.returns-in-Ok-Some-clause-step
 returns-in-Ok-Some-clause-step g c =
-    let marks = rw c.in-Ok-Some.field-0-is at c.in-Ok-Some.ensures.marks in
     let some = rw c.due.ensures at (rw c.in-Ok-Some.field-0-is at c.in-Ok-Some.ensures.some) in
-    ap (λ (m : Marks). m.moved) marks ∙ wrote_moved _ c.in-Ok-Some.count (some (some_bytes c.args.conversation.now.due c.requires))
+    wrote_moved (g.C.Wire.seen c.args.conn.now).marks _ _ c.in-Ok-Some.count c.in-Ok-Some.field-0-is c.in-Ok-Some.ensures.marks (some (some_bytes c.args.conversation.now.due c.requires))
 
 pub returns-in-Ok-None-clause-step : goal.returns-in-Ok-None-clause-step
 returns-in-Ok-None-clause-step g c =
