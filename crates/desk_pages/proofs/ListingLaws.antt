@@ -1,5 +1,6 @@
 -- Data sets, one after the other.
-use Rattle.std.proofs.Common.{◌≡◌, ◌⊎◌, ◌<◌, ◌≤◌, ◌+◌, ℕ, Bool, true, false, List, [], ◌∷◌, ◌++◌, length, refl, ap, sym, ◌∙◌, arith, inl, inr, append-nil, length-append}
+use Rattle.std.proofs.Common.{◌≡◌, ◌⊎◌, ◌<◌, ◌≤◌, ◌+◌, ℕ, Bool, true, false, List, [], ◌∷◌, ◌++◌, length, refl, ap, sym, ◌∙◌, arith, inl, inr, append-nil, length-append, map}
+use Rattle.std.proofs.lemmas.List.{length-map, map-append}
 use Rattle.std.specs.Prelude.{Option, None, Some, filter}
 use Rattle.sms_construct.specs.declared.data_set.DataSet.{DataSet}
 use Rattle.desk_state.specs.Following.{IsFirstBehind, IsLastName}
@@ -59,6 +60,12 @@ module _ (sets : List DataSet) (mask from at : Option (List ℕ)) (shown : List 
   -- none is behind the last
   pub ends_last : IsLastName at sets → IsListing sets mask from shown None
   ends_last last = record { walked = h.walked; walks = h.walks; shown_are = h.shown_are; few = h.few; end = rw h.at_is last }
+
+-- one more was put on the page
+pub so_far_push : {X : Type 0} (f : X → DataSet) (sets : List DataSet) (mask from at : Option (List ℕ)) (xs ys : List X) (x : X) (looked : ℕ) → ys ≡ xs ++ x ∷ [] → IsSoFar sets mask from at (map f xs) looked → IsFirstBehind at sets (f x) → fits mask (f x).dsn ≡ true → (length xs ≡ most_shown → ⊥) → IsSoFar sets mask from (Some (f x).dsn) (map f ys) (looked + 1)
+so_far_push f sets mask from at xs ys x looked is h first fit apart =
+    let few : length (map f xs) < most_shown = omega (arith, h.few, apart, length-map xs f) in
+    rw (ap (λ l. map f l) is ∙ map-append f xs (x ∷ [])) (so_far_fit sets mask from at (map f xs) looked h (f x) first fit few)
 
 none_some : {X : Type 0} (x : X) → Some x ≡ None → ⊥
 none_some x e = absurd (cc e)
