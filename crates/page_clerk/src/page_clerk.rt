@@ -1,11 +1,12 @@
 //! A clerk over a core that shows pages of it.
+ghost use Rattle.std.proofs.Common.{ap};
 ghost use Rattle.std.specs.Prelude.{◌≡◌, ◌<◌, ◌++◌, ◌∷◌, [], List, OnErr, OnOk, length, ℕ};
 ghost use Rattle.page_text.specs.RefusalText.{said_refusal};
 ghost use Rattle.http_talk.specs.declared.talk.Talk.{Talk as TalkOf};
 ghost use Rattle.sms_core.specs.Core.{CoreView};
 ghost use Rattle.desk_law.specs.History.{Reaches};
 ghost use Rattle.desk_http.specs.Entered.{ClerkView, HasEntered};
-ghost use Rattle.page_clerk.specs.Shows.{Begun, ShowsPage};
+ghost use Rattle.page_clerk.specs.Shows.{Begun, ShowsPage, begun_with};
 
 use acs_tree::Slate;
 use desk_common::Items;
@@ -112,6 +113,13 @@ fn hear<P: Keeper>(clerk: &mut PageClerk<P>, request: &Request) -> Result<(), Al
     Ok(())
 }
 
+// What was answered is entered.
+fn entered<P: Keeper>(clerk: &PageClerk<P>)
+    ensures { HasEntered clerk.now.start clerk.now.core clerk.now.talks }
+{
+    let _talks = clerk.talks.len();
+}
+
 impl<P: Keeper> ShownDesk for PageClerk<P> {
     ghost stands = { λ c s. Reaches c.core.opening c.core.journal s };
 
@@ -130,7 +138,7 @@ impl<P: Keeper> ShownDesk for PageClerk<P> {
 
     fn groups(&self) -> &[StorGroup] {
         match self.core.active() {
-            Some((_, config)) => config.groups(),
+            Some((_, config)) => config.get().groups(),
             None => &[],
         }
     }
@@ -151,13 +159,13 @@ impl<P: Keeper> ShownDesk for PageClerk<P> {
 impl<P: Keeper> Pages for PageClerk<P> {
     ghost Begun = { Begun };
 
-    ghost begun = { λ c. record { opening = c.start.opening; journal = c.start.journal } };
+    ghost begun = { λ c. begun_with c.start };
 
     ghost shows = { ShowsPage };
 
     ghost refusal = { said_refusal };
 
-    ghost begun_stays = { λ a b same. Prim.grind same };
+    ghost begun_stays = { λ a b same. ap begun_with same };
 
     fn show(
         &self,
@@ -167,6 +175,8 @@ impl<P: Keeper> Pages for PageClerk<P> {
         body: &[u8],
     ) -> Result<Page, AllocError> {
         let _body = body;
+        // A fact for the proof; nothing changes.
+        entered(self);
         show_page(alloc, self, posts, path)
     }
 

@@ -1,5 +1,5 @@
 -- Tables that stay, call by call.
-use Rattle.std.proofs.Common.{◌≡◌, ◌≤◌, ◌∙◌, ap, sym, None, Some, []}
+use Rattle.std.proofs.Common.{◌≡◌, ◌∙◌, refl, None, Some}
 use Rattle.std.specs.Prelude.{ℕ, IfSome, List, Option}
 use Rattle.ready_wires.specs.Wires.{WireSeen}
 use Rattle.ready_wires.specs.Events.{ReadySeen}
@@ -38,3 +38,11 @@ served_behind told count seen port keeper ready core one two back back' talks ha
   mark = h.mark;
   served = h.served;
 }
+
+-- tables stay where nothing happened
+same_self : (a : Rows) → AreSame a a
+same_self a = record { sets = λ dsn. refl; replies = λ job number. refl; decks = λ count. refl; statuses = λ target. refl; floors = λ job. refl }
+
+pub stays_self : (a : Option Rows) → Stays a a
+stays_self None = tt
+stays_self (Some rows) = (rows, refl, same_self rows)

@@ -12,7 +12,7 @@ use Rattle.sms_core.specs.Core.{CoreView, HasTables}
 use Rattle.sms_open.specs.Reopening.{IsOpened}
 use Rattle.desk_http.specs.Entered.{HasEntered}
 use Rattle.page_text.specs.RefusalText.{said_refusal}
-use Rattle.page_clerk.specs.Shows.{Begun, ShowsPage}
+use Rattle.page_clerk.specs.Shows.{Begun, ShowsPage, begun_with}
 use Rattle.serve_poll.specs.Halls.{House, WereServed}
 use Rattle.serve_poll.specs.declared.hall.Hall.{Hall}
 
@@ -22,7 +22,7 @@ house_at port = record { terms = record { port = port; refusal = said_refusal };
 
 -- what pages rest on beside the talks, and these talks
 abbrev pub moment_of : {P : Type 0} → CoreView P → List Talk → ClerkMoment Begun
-moment_of start talks = record { talks = talks; start = record { opening = start.opening; journal = start.journal } }
+moment_of start talks = record { talks = talks; start = begun_with start }
 
 -- a desk that was this core was served: each request that was heard is in its journal once, in the order of the talks,
 -- and the journal is legal behind the opening; the tables are those of the journal, and its faults were counted by the
