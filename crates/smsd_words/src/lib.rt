@@ -1,0 +1,15 @@
+//! The words of the command line of the lasting desk.
+#![tactic(auto)]
+
+mod command;
+mod examples;
+mod listing;
+mod printed;
+mod reading;
+mod task;
+mod words_err;
+
+pub use listing::Listing;
+pub use reading::{shown_text, task_asked};
+pub use task::{Asked, Task};
+pub use words_err::WordsErr;

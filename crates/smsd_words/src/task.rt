@@ -1,0 +1,23 @@
+//! What the words of the command line ask for.
+use crate::listing::Listing;
+
+/// What is asked for, and of which store.
+#[derive(Clone, Copy, Debug, PartialEq, Eq)]
+pub struct Asked<'a> {
+    /// The path of the store's file.
+    pub store: &'a str,
+    pub task: Task<'a>,
+}
+
+/// What is done with the store (docs/manual/smsd.md).
+#[derive(Clone, Copy, Debug, PartialEq, Eq)]
+pub enum Task<'a> {
+    /// A script is answered on it: that of the file at this path, or without one that on standard input; with `volumes`
+    /// the table of volumes stands behind the answers.
+    Run {
+        script: Option<&'a str>,
+        volumes: bool,
+    },
+    /// This is listed of it.
+    List(Listing),
+}

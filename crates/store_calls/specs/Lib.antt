@@ -1,0 +1,4 @@
+pub mod Statuses
+pub mod Opened
+pub mod Ran
+pub mod Listed
