@@ -4,9 +4,9 @@ use Rattle.std.specs.Prelude.{◌==◌, Option, None, Bool, true, false, length,
 use Rattle.desk_common.specs.Exact.{IsExact, IsWant, MayRefuse}
 use Rattle.sms_construct.specs.Configuration.{Configuration}
 use Rattle.sms_construct.specs.declared.fault.Fault.{Fault}
-use Rattle.sms_deck.specs.Reading.{Configures, HasFirstFault, TellsFirstFault}
-use Rattle.sms_deck.specs.declared.deck_err.DeckErr.{DeckErr}
-use Rattle.sms_deck.specs.declared.deck_err.DeckErr.TheVariants as decks
+use Rattle.deck_meaning.specs.Reading.{Configures, HasFirstFault, TellsFirstFault}
+use Rattle.deck_meaning.specs.declared.deck_err.DeckErr.{DeckErr}
+use Rattle.deck_meaning.specs.declared.deck_err.DeckErr.TheVariants as decks
 use Rattle.acs_test.specs.Columns.{columns_of, header_fault}
 use Rattle.acs_test.specs.Layout.{Parts, parts_of}
 use Rattle.acs_test.specs.Reading.{DeckFault, Gives, HasFault, IsReading, IsRefusal, Refuses, TableFault, TellsDeck}

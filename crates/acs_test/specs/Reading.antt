@@ -2,7 +2,7 @@
 use Rattle.std.specs.Prelude.{ℕ, ◌≡◌, List, Ok, Err}
 use Rattle.sms_construct.specs.Configuration.{Configuration}
 use Rattle.sms_construct.specs.declared.fault.Fault.{Fault}
-use Rattle.sms_deck.specs.Reading.{Configures, HasFirstFault}
+use Rattle.deck_meaning.specs.Reading.{Configures, HasFirstFault}
 use Rattle.acs_test.specs.Layout.{Parts, parts_of}
 use Rattle.acs_test.specs.Records.{TableGives}
 use Rattle.acs_test.specs.declared.cases.Cases.{Cases}

@@ -1,7 +1,7 @@
 //! The cases of a table.
 use crate::case::Case;
+use deck_meaning::Config;
 use desk_common::Items;
-use sms_deck::Config;
 
 /// Cases, and the two configurations under which they are compared.
 #[derive(Drop)]

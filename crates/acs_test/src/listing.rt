@@ -7,9 +7,9 @@ use crate::case::Case;
 use crate::cases::Cases;
 use crate::outcome::{are_same, classified, push_outcome_lines};
 use acs_tree::Slate;
+use deck_meaning::Config;
 use desk_common::push_number;
 use sms_classes::Classified;
-use sms_deck::Config;
 use sms_script::{push_number_and_blank, push_word_and_blank};
 use std::alloc::{AllocError, Global};
 

@@ -4,10 +4,10 @@ ghost use Rattle.acs_test.specs.Listing.{classes_for, classes_made, outcome_line
 
 use crate::case::Case;
 use acs_tree::{Kind, Line, Slate, Values};
+use deck_meaning::Config;
 use dsn_mask::Short;
 use sms_classes::{Classified, classify};
 use sms_construct::{Stop, Trace};
-use sms_deck::Config;
 use sms_simulation::{push_outcome, push_written};
 use std::alloc::{AllocError, Global};
 

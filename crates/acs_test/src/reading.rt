@@ -1,7 +1,7 @@
 //! Reading the input of a comparison.
 ghost use Rattle.std.specs.Prelude.{◌≡◌, ◌<◌, ◌+◌, ◌^◌, Ok, Some, length, IfOk, IfErr};
 ghost use Rattle.desk_common.specs.Exact.{IsExact, MayRefuse};
-ghost use Rattle.sms_deck.specs.Reading.{Configures};
+ghost use Rattle.deck_meaning.specs.Reading.{Configures};
 ghost use Rattle.acs_test.specs.Inner.Parts.{parts_seen};
 ghost use Rattle.acs_test.specs.Reading.{Gives, IsReading, IsRefusal, Refuses, TellsDeck};
 
@@ -9,9 +9,10 @@ use crate::cases::Cases;
 use crate::cases_err::{CasesErr, Side};
 use crate::layout::{InputParts, parts_of};
 use crate::table_cases::read_table;
+use deck_meaning::{Config, DeckErr};
 use desk_common::{Items, Shared};
 use sms_construct::DeckText;
-use sms_deck::{Config, DeckErr, read_deck};
+use sms_deck::read_deck;
 use std::alloc::{AllocError, Global};
 
 /// The configurations of both decks and the cases of the table, or the first fault of the input (docs/manual/tool.md,

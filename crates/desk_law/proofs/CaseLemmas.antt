@@ -12,7 +12,7 @@ use Rattle.sms_construct.specs.declared.reply.Reply.TheVariants as replies
 use Rattle.sms_construct.specs.declared.request.Op.{Op}
 use Rattle.sms_construct.specs.declared.request.Op.TheVariants as ops
 use Rattle.sms_construct.specs.declared.target.Target.{Target}
-use Rattle.sms_deck.specs.Reading.{Configures}
+use Rattle.deck_meaning.specs.Reading.{Configures}
 use Rattle.desk_law.specs.State.{DeskState, set_named, with_set, with_status, without_name}
 use Rattle.desk_law.specs.Extents.{tracks_of_set, volumes_of, with_extents}
 use Rattle.desk_law.specs.Volumes.{times_target}

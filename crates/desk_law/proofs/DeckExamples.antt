@@ -11,8 +11,8 @@ use Rattle.toml.proofs.OnLiterals.{toml_on_literals}
 use Rattle.sms_construct.specs.Configuration.{Configuration}
 use Rattle.sms_construct.specs.declared.fault.Fault.TheVariants.{Missing}
 use Rattle.sms_construct.specs.declared.reply.Reply.TheVariants as replies
-use Rattle.sms_deck.specs.Outcomes.{Outcome, Outcomes}
-use Rattle.sms_deck.specs.Reading.{Configures}
+use Rattle.deck_meaning.specs.Outcomes.{Outcome, Outcomes}
+use Rattle.deck_meaning.specs.Reading.{Configures}
 use Rattle.sms_keeper.specs.declared.deck_row.DeckRow.{DeckRow}
 use Rattle.desk_law.specs.Activation.{ActivateRule}
 use Rattle.desk_law.specs.Decked.{IsDecked}

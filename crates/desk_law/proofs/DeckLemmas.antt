@@ -1,9 +1,9 @@
 -- What the law needs of decks.
 use Rattle.std.proofs.Common.{◌≡◌, ℕ, List}
 use Rattle.sms_construct.specs.Configuration.{Configuration, IsConfiguration}
-use Rattle.sms_deck.specs.Reading.{Configures}
-use Rattle.sms_deck.proofs.ConfigurationLemmas.{configured}
-use Rattle.sms_deck.proofs.ReadingLemmas.{one_configuration}
+use Rattle.deck_meaning.specs.Reading.{Configures}
+use Rattle.deck_meaning.proofs.ConfigurationLemmas.{configured}
+use Rattle.deck_meaning.proofs.ReadingLemmas.{one_configuration}
 
 pub configures-is : (deck : List ℕ) (config : Configuration) → Configures deck config → IsConfiguration config
 configures-is deck config configures = configured configures

@@ -7,7 +7,7 @@ use Rattle.sms_construct.specs.declared.reply.Reply.{Reply}
 use Rattle.sms_construct.specs.declared.reply.Reply.TheVariants as replies
 use Rattle.sms_construct.specs.declared.request.Op.{Op}
 use Rattle.sms_construct.specs.declared.request.Op.TheVariants as ops
-use Rattle.sms_deck.specs.Reading.{Configures}
+use Rattle.deck_meaning.specs.Reading.{Configures}
 use Rattle.desk_law.specs.State.{DeskState, set_named, with_set, with_status, without_name}
 use Rattle.desk_law.specs.Extents.{with_extents}
 use Rattle.desk_law.specs.Extension.{extended}

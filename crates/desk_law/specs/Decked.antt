@@ -1,7 +1,7 @@
 -- The decks that were activated, and what is active.
 use Rattle.std.specs.Prelude.{ℕ, ◌≡◌, ◌+◌, List, [], ◌∷◌, length, Option, None, Some}
 use Rattle.sms_construct.specs.Configuration.{Configuration}
-use Rattle.sms_deck.specs.Reading.{Configures}
+use Rattle.deck_meaning.specs.Reading.{Configures}
 use Rattle.sms_keeper.specs.declared.deck_row.DeckRow.{DeckRow}
 use Rattle.desk_law.specs.State.{DeskState}
 

@@ -1,9 +1,10 @@
 //! Why decks of a script are refused.
 use crate::replies::RepliesSeen;
+use deck_meaning::DeckErr;
 use desk_common::MAX_INPUT;
 use fault_notes::{DeckPart, deck_note};
 use sms_construct::Op;
-use sms_deck::{DeckErr, read_deck};
+use sms_deck::read_deck;
 use sms_script::{Item, read_script};
 use std::alloc::{AllocError, Global};
 

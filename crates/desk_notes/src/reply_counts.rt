@@ -12,7 +12,8 @@ const REFUSAL_SENTENCE: &str =
     "an answer refuses a deck (R21): smsc validate, with the deck alone as input, says what is wrong in it\n";
 
 const FULL_SENTENCE: &str =
-    "the journal is full (R24): what was answered so was not done, and a further run may ask for it\n";
+    "what was answered R24 was not done, since a run has 50000 entries and 200 activations at most; over a file a \
+    further run may ask for it\n";
 
 const FAULT_SENTENCE: &str =
     "the records couldn't be written, as on a full disk: ask again, with the same numbers, for what was answered \

@@ -2,8 +2,8 @@
 ghost use Rattle.std.specs.Prelude.{◌≡◌};
 ghost use Rattle.desk_law.specs.Records.{empty_opening};
 
+use deck_meaning::Config;
 use desk_common::Items;
-use sms_deck::Config;
 use sms_keeper::Rows;
 use std::alloc::Global;
 use std::marker::Model;

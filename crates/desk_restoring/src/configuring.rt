@@ -9,7 +9,7 @@ ghost use Rattle.desk_law.specs.Records.{empty_opening};
 ghost use Rattle.desk_restoring.specs.Inner.Replaying.{IsAllowed, fresh_state, statuses_varied, with_statuses};
 ghost use Rattle.sms_volumes.specs.Holding.{AreVolumesOf};
 
-use sms_deck::Config;
+use deck_meaning::Config;
 use sms_keeper::StatusRow;
 use sms_volumes::ActiveVolumes;
 use std::alloc::{AllocError, Global};

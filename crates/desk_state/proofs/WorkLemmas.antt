@@ -11,9 +11,9 @@ use Rattle.sms_construct.specs.declared.fault.Fault.{Fault}
 use Rattle.sms_construct.specs.declared.request.Op.TheVariants as ops
 use Rattle.sms_construct.specs.declared.request.Request.{Request}
 use Rattle.sms_construct.specs.declared.stop.Stop.TheVariants.{Done}
-use Rattle.sms_deck.specs.declared.deck_err.DeckErr.{DeckErr}
-use Rattle.sms_deck.specs.declared.deck_err.DeckErr.TheVariants.{Fault as Faulted, NoMemory}
-use Rattle.sms_deck.specs.Reading.{Configures, HasFirstFault, TellsFirstFault}
+use Rattle.deck_meaning.specs.declared.deck_err.DeckErr.{DeckErr}
+use Rattle.deck_meaning.specs.declared.deck_err.DeckErr.TheVariants.{Fault as Faulted, NoMemory}
+use Rattle.deck_meaning.specs.Reading.{Configures, HasFirstFault, TellsFirstFault}
 use Rattle.sms_classes.specs.Known.{AreKnown}
 use Rattle.sms_classes.specs.declared.classified.Classified.{Classified}
 use Rattle.desk_law.specs.State.{Opening}

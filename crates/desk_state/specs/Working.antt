@@ -7,9 +7,9 @@ use Rattle.sms_construct.specs.declared.alloc.Alloc.{Alloc}
 use Rattle.sms_construct.specs.declared.entry.Entry.{Entry}
 use Rattle.sms_construct.specs.declared.request.Op.TheVariants as ops
 use Rattle.sms_construct.specs.declared.request.Request.{Request}
-use Rattle.sms_deck.specs.declared.deck_err.DeckErr.{DeckErr}
-use Rattle.sms_deck.specs.declared.deck_err.DeckErr.TheVariants.{NoMemory}
-use Rattle.sms_deck.specs.Reading.{Configures, TellsFirstFault}
+use Rattle.deck_meaning.specs.declared.deck_err.DeckErr.{DeckErr}
+use Rattle.deck_meaning.specs.declared.deck_err.DeckErr.TheVariants.{NoMemory}
+use Rattle.deck_meaning.specs.Reading.{Configures, TellsFirstFault}
 use Rattle.sms_classes.specs.declared.classified.Classified.{Classified}
 use Rattle.desk_law.specs.State.{Opening}
 use Rattle.desk_law.specs.History.{WasActive}

@@ -1,7 +1,7 @@
 //! ACTIVATE.
 ghost use Rattle.std.specs.Prelude.{◌≡◌, ◌<◌, ◌+◌, ◌^◌, IfOk, None, Result};
 ghost use Rattle.sms_construct.specs.Configuration.{Configuration, IsConfiguration};
-ghost use Rattle.sms_deck.specs.declared.deck_err.DeckErr.{DeckErr as DeckError};
+ghost use Rattle.deck_meaning.specs.declared.deck_err.DeckErr.{DeckErr as DeckError};
 ghost use Rattle.desk_law.specs.State.{DeskState};
 ghost use Rattle.desk_law.specs.Activation.{ActivateRule, ConfigurationRule, first_barred};
 ghost use Rattle.desk_law.specs.Lawful.{IsLawful};
@@ -15,9 +15,9 @@ use crate::deed::Deed;
 use crate::running::Running;
 use crate::using::configuration;
 use crate::work::Work;
+use deck_meaning::{Config, DeckErr};
 use desk_common::Shared;
 use sms_construct::{DeckText, Reply};
-use sms_deck::{Config, DeckErr};
 use std::alloc::AllocError;
 
 impl Running {

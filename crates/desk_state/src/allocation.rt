@@ -22,11 +22,11 @@ use crate::grant::Grant;
 use crate::running::Running;
 use crate::wish::Wish;
 use acs_tree::{Kind, Slate};
+use deck_meaning::Config;
 use desk_common::Shared;
 use dsn_mask::Name;
 use sms_classes::{Classified, classes_are_known, classify, data_class_of, space_of, stop_reply};
 use sms_construct::{Alloc, Reply, Stop, Trace};
-use sms_deck::Config;
 use sms_volumes::Candidates;
 use std::alloc::{AllocError, Global};
 

@@ -16,10 +16,10 @@ ghost use Rattle.desk_state.specs.Standing.{IsRunning, IsSomeState};
 
 use crate::deed::Deed;
 use crate::running::Running;
+use deck_meaning::Config;
 use desk_common::Shared;
 use dsn_mask::Dsn;
 use sms_construct::{DataSet, Status, Target};
-use sms_deck::Config;
 use sms_volumes::ActiveVolumes;
 use track_ledger::Piece;
 

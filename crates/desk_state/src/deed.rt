@@ -2,10 +2,10 @@
 ghost use Rattle.std.specs.Prelude.{◌≡◌, IfOk};
 ghost use Rattle.desk_state.specs.Deeds.{effect_of};
 
+use deck_meaning::Config;
 use desk_common::{Items, Shared};
 use dsn_mask::{Dsn, Name};
 use sms_construct::{DataSet, Status, Target};
-use sms_deck::Config;
 use sms_keeper::{Effect, Statuses};
 use sms_volumes::ActiveVolumes;
 use std::alloc::{AllocError, Global};

@@ -7,8 +7,8 @@ ghost use Rattle.desk_state.specs.Standing.{IsRunning};
 
 use crate::blank_trace::BlankTrace;
 use crate::catalog::Catalog;
+use deck_meaning::Config;
 use desk_common::Shared;
-use sms_deck::Config;
 use sms_volumes::ActiveVolumes;
 use std::alloc::{AllocError, Global};
 

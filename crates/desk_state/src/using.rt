@@ -2,16 +2,17 @@
 ghost use Rattle.std.specs.Prelude.{◌≡◌, List, ℕ, Result, IfOk, IfSome};
 ghost use Rattle.std.specs.Option.{option_copied};
 ghost use Rattle.sms_construct.specs.Configuration.{Configuration};
-ghost use Rattle.sms_deck.specs.declared.deck_err.DeckErr.{DeckErr as DeckError};
-ghost use Rattle.sms_deck.specs.Reading.{Configures};
+ghost use Rattle.deck_meaning.specs.declared.deck_err.DeckErr.{DeckErr as DeckError};
+ghost use Rattle.deck_meaning.specs.Reading.{Configures};
 ghost use Rattle.sms_classes.specs.declared.classified.Classified.{Classified as Came};
 ghost use Rattle.desk_state.specs.Working.{IsReadAs};
 
 use crate::work::Work;
+use deck_meaning::{Config, DeckErr};
 use desk_common::Shared;
 use sms_classes::Classified;
 use sms_construct::DeckText;
-use sms_deck::{Config, DeckErr, read_deck};
+use sms_deck::read_deck;
 use std::alloc::{AllocError, Global};
 
 /// What was classified under so many activations, if anything was.

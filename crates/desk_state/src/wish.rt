@@ -10,11 +10,11 @@ ghost use Rattle.desk_state.specs.Inner.Wishing.{classes_with};
 
 use crate::extents::extents_at;
 use acs_tree::{Kind, Values};
+use deck_meaning::Config;
 use desk_common::Shared;
 use dsn_mask::{Name, Names};
 use sms_classes::{class_name, data_class_of, eattr_of, has_tiers, volume_count_of};
 use sms_construct::{Alloc, DataSet, Eattr, Space, Trace, VolumeCount, VolumeDef};
-use sms_deck::Config;
 use sms_volumes::Asked;
 use std::alloc::{AllocError, Global};
 use std::marker::Model;

@@ -1,7 +1,7 @@
 //! What was done for a request before its step.
+use deck_meaning::{Config, DeckErr};
 use desk_common::Shared;
 use sms_classes::Classified;
-use sms_deck::{Config, DeckErr};
 
 /// What was done for a request before its step (docs/manual/rules.md, "Work before a step").
 #[derive(Drop)]

@@ -22,9 +22,9 @@ use Rattle.desk_common.proofs.Boxed.TheSendSync as boxed
 use Rattle.desk_common.proofs.Items.TheSendSync as items
 use Rattle.std.proofs.option.Option.TheSendSync as option
 use Rattle.acs_code.proofs.code.Code.TheSendSync as code
-use Rattle.sms_deck.specs.contracts.compiled.Compiled as compiled
-use Rattle.sms_deck.specs.contracts.config.Config as config
-use Rattle.sms_deck.specs.contracts.config.Config.TheInside as config_inside
+use Rattle.deck_meaning.specs.contracts.compiled.Compiled as compiled
+use Rattle.deck_meaning.specs.contracts.config.Config as config
+use Rattle.deck_meaning.specs.contracts.config.Config.TheInside as config_inside
 use Rattle.dsn_mask.specs.contracts.name.Name as names
 use Rattle.dsn_mask.proofs.name.Name.TheSendSync as name
 use Rattle.desk_common.specs.contracts.shared.Shared as shares

@@ -8,7 +8,7 @@ use mir.Syntax.{w32}
 use denote.Struct.Declared as declared_struct
 use Rattle.std.proofs.Crossing.{crosses}
 use Rattle.std.proofs.option.Option.TheSendSync as option
-use Rattle.sms_deck.specs.contracts.config.Config as config
+use Rattle.deck_meaning.specs.contracts.config.Config as config
 use Rattle.desk_common.specs.contracts.shared.Shared as shares
 use Rattle.desk_common.proofs.shared.Shared.TheSendSync as shared
 use Rattle.sms_volumes.proofs.SendLemmas.{volumes-send}

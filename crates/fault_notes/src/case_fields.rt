@@ -10,7 +10,7 @@ const JOB: &str =
     "the name of a job other than SMSADMIN: 1 to 8 capitals, digits, #, @ and $, the first no digit";
 
 /// The keys that may stand in a header beside CASE, JOB and DSN.
-pub const KEYS: [&str; 32] = [
+pub static KEYS: [&str; 32] = [
     "CASE", "JOB", "DSN", "SPACE", "DATACLAS", "STORCLAS", "MGMTCLAS", "DEFDC", "DEFSC", "DEFMC",
     "VOL", "VOLCNT", "USER", "GROUP", "PGM", "DD", "UNIT", "DSORG", "RECORG", "DSNTYPE", "DSTYPE",
     "ACSENVIR", "XMODE", "APPLIC", "OWNER", "ACCT", "STEPACCT", "RETPD", "EXPDT", "BLKSIZE", "DAY",

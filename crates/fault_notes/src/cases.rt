@@ -1,4 +1,5 @@
 //! The notes on the refusals of a comparison.
+use crate::block_end::end_hint;
 use crate::case_fields::{KEYS, wanted_in};
 use crate::case_table::{field_place, record_at};
 use crate::compared::{Compared, ComparedDeck, Rest};
@@ -51,20 +52,10 @@ fn is_behind(deck: ComparedDeck<'_>, line: u32) -> bool {
 // The ./END of a deck that is missing, and where it may be glued to another line.
 fn end_sentence(alloc: Global, side: &str, deck: ComparedDeck<'_>) -> Result<String, AllocError> {
     let first = deck.deck.lines_before.saturating_add(1);
-    let hint = if has_glued_end(deck.deck.bytes) {
-        "; it stands in a line of its own, so the deck's last line needs a line end"
-    } else {
-        ""
-    };
+    let hint = end_hint(deck.deck.bytes);
     format!(in alloc;
         "the ./END of the deck of {side} that begins in line {first} is missing{hint}"
     )
-}
-
-// Whether a line ends with what should stand in a line of its own.
-fn has_glued_end(deck: &[u8]) -> bool {
-    deck.split(|byte| *byte == b'\n')
-        .any(|line| line.trim_ascii_end().ends_with(b"./END"))
 }
 
 /// What is said of the case past the most that a table may have.

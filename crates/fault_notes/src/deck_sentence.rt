@@ -113,11 +113,18 @@ fn name_hint(alloc: Global, path: &[u8]) -> Result<String, AllocError> {
     } else {
         Name::new(&key).is_some()
     };
-    if fits {
+    if fits && !holds_full_stop(path, is_serial) {
         around(alloc, "in capitals, ", &key, ", it is one")
     } else {
         String::from_str(alloc, if is_serial { SERIAL_FORM } else { NAME_FORM })
     }
+}
+
+// Whether a key of the path has a full stop in itself: one stands behind the table's name, and before a volume's serial
+// three.
+fn holds_full_stop(path: &[u8], is_serial: bool) -> bool {
+    let count = path.iter().filter(|byte| **byte == b'.').count();
+    count > if is_serial { 3 } else { 1 }
 }
 
 fn limit_sentence(alloc: Global, path: &[u8]) -> Result<String, AllocError> {

@@ -6,7 +6,7 @@ use crate::probing::wanted_behind;
 use crate::routine_text::RoutineText;
 use acs_lex::TokenForm;
 use acs_tree::{Indexing, VariableKind};
-use dsn_mask::{Mask, Simple};
+use dsn_mask::{Mask, Name, Simple};
 use sms_construct::{Stage, TextFault};
 use std::alloc::{AllocError, Global};
 
@@ -128,14 +128,14 @@ fn kind_hint(alloc: Global, routine: &RoutineText<'_>, at: usize) -> Result<Stri
 // What stands beside a variable of this kind.
 fn beside(kind: VariableKind) -> &'static str {
     match kind {
-        VariableKind::Text => " stand a text in quotes, a mask, a filter list and a text variable",
+        VariableKind::Text | VariableKind::Groups => {
+            " stand a text in quotes, a mask, a filter list and a text variable"
+        }
         VariableKind::Number => " stand a number, digits alone, and a number variable",
         VariableKind::Size => {
             " stand a size, digits and KB, MB or GB as in 100MB, and a size variable"
         }
-        VariableKind::Volumes | VariableKind::Groups => {
-            " stand a text in quotes, a mask and a filter list"
-        }
+        VariableKind::Volumes => " stand a text in quotes, a mask and a filter list",
     }
 }
 
@@ -165,7 +165,7 @@ fn value_hint(
     at: usize,
     target: usize,
 ) -> Result<String, AllocError> {
-    if routine.has_form(at, TokenForm::Word) {
+    if is_name(alloc, routine, at)? {
         return around(
             alloc,
             "; a name stands in quotes there, as '",
@@ -178,6 +178,13 @@ fn value_hint(
         _ => " may be set to a name in quotes, or to a text variable",
     };
     around(alloc, "; ", routine.bytes(target), after)
+}
+
+// Whether the token is a word that is a name, in either case.
+fn is_name(alloc: Global, routine: &RoutineText<'_>, at: usize) -> Result<bool, AllocError> {
+    let mut word = Vec::from_slice(alloc, routine.bytes(at))?;
+    word.make_ascii_uppercase();
+    Ok(routine.has_form(at, TokenForm::Word) && Name::new(&word).is_some())
 }
 
 // The range of an index, or the form of a name.
@@ -211,7 +218,7 @@ fn mask_hint(alloc: Global, routine: &RoutineText<'_>, at: usize) -> Result<Stri
     match Simple::parse(&word) {
         Err(_) => String::from_str(
             alloc,
-            "; beside a variable other than &DSN a mask has no **",
+            "; beside a variable other than &DSN without an index a mask has no **",
         ),
         Ok(_) => Ok(String::new(alloc)),
     }

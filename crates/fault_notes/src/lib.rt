@@ -2,6 +2,7 @@
 #![tactic(auto)]
 
 mod assigned;
+mod block_end;
 mod case_fields;
 mod case_table;
 mod cases;

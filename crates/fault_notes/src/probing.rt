@@ -19,7 +19,7 @@ const WORD: Sample = Sample {
     told: "a word",
 };
 
-const OTHERS: [Sample; 9] = [
+static OTHERS: [Sample; 9] = [
     Sample {
         token: b"&X",
         told: "a variable",
@@ -58,7 +58,7 @@ const OTHERS: [Sample; 9] = [
     },
 ];
 
-const WORDS: [Sample; 17] = [
+static WORDS: [Sample; 17] = [
     Sample {
         token: b"1",
         told: "a number",

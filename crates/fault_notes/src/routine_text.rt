@@ -83,4 +83,4 @@ impl<'a> RoutineText<'a> {
     }
 }
 
-const COMPARISONS: [&[u8]; 8] = [b"EQ", b"NE", b"GT", b"LT", b"GE", b"LE", b"NG", b"NL"];
+static COMPARISONS: [&[u8]; 8] = [b"EQ", b"NE", b"GT", b"LT", b"GE", b"LE", b"NG", b"NL"];

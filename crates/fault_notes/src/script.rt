@@ -1,4 +1,5 @@
 //! The notes on faults of scripts.
+use crate::block_end::end_hint;
 use crate::command::misfit_of;
 use crate::command_line::CommandLine;
 use crate::place::{Place, line_bytes};
@@ -11,8 +12,9 @@ pub fn script_note(alloc: Global, text: &[u8], fault: ScriptErr) -> Result<Strin
     match fault {
         ScriptErr::BadLine(line) => command_note(alloc, text, line),
         ScriptErr::OpenBlock(line) => {
-            let sentence = "no ./END ends the deck behind this line";
-            word_note(alloc, text, line, 2, sentence)
+            let hint = end_hint(behind(text, line));
+            let sentence = format!(in alloc; "no ./END ends the deck behind this line{hint}")?;
+            word_note(alloc, text, line, 2, &sentence)
         }
         ScriptErr::TooManyLines(line) => {
             let sentence = "this is the 100001st command, and a script has at most 100000";
@@ -35,6 +37,18 @@ pub fn reserved_note(alloc: Global, text: &[u8], line: u32) -> Result<String, Al
     let number = if is_asker { 0 } else { 3 };
     let sentence = "with --manage the job SMSMGMT is the day's own, and no line may name it";
     word_note(alloc, text, line, number, sentence)
+}
+
+// The text behind a line.
+fn behind(text: &[u8], line: u32) -> &[u8] {
+    let mut rest = text;
+    for _ in 0..line {
+        rest = match rest.iter().position(|byte| *byte == b'\n') {
+            Some(at) => rest.get(at.saturating_add(1)..).unwrap_or(&[]),
+            None => &[],
+        };
+    }
+    rest
 }
 
 // Where a line stops being a command, and what is wanted there.

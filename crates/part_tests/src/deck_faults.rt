@@ -1,6 +1,7 @@
 //! Decks and what is told of them: how many groups and volumes they have, or their first fault.
+use deck_meaning::{Config, DeckErr};
 use desk_common::{Items, Shared, push_number};
-use sms_deck::{Config, DeckErr, read_deck};
+use sms_deck::read_deck;
 use sms_script::push_fault;
 use std::alloc::{AllocError, Global};
 use std::test::Fail;

@@ -3,9 +3,9 @@ use crate::deck_faults::{is_told, read};
 use Status::{DisAll, DisNew, Enable, NotCon, QuiAll, QuiNew};
 use Unit::{Cyl, Trk};
 use acs_tree::Kind::{self, DataClas, MgmtClas, StorClas, StorGrp};
+use deck_meaning::Config;
 use dsn_mask::{Name, Short};
 use sms_construct::{DataClass, MgmtClass, Space, Status, StorGroup, Unit, VolumeDef};
-use sms_deck::Config;
 use std::alloc::Global;
 use std::test::Fail;
 

@@ -1,7 +1,7 @@
 //! Work that is done before a step and handed in with its request.
 ghost use Rattle.std.specs.Prelude.{◌≡◌, ◌++◌, List, IfErr, IfOk, Some};
 ghost use Rattle.desk_common.specs.Exact.{MayRefuse};
-ghost use Rattle.sms_deck.specs.Reading.{Configures, TellsFirstFault};
+ghost use Rattle.deck_meaning.specs.Reading.{Configures, TellsFirstFault};
 ghost use Rattle.acs_tree.specs.Slates.{SlateLines};
 ghost use Rattle.sms_construct.specs.declared.alloc.Alloc.{Alloc as Allocation};
 ghost use Rattle.sms_construct.specs.declared.entry.Entry.{Entry as Entered};
@@ -10,10 +10,11 @@ ghost use Rattle.desk_law.specs.State.{Opening};
 ghost use Rattle.desk_state.specs.Working.{IsWork};
 
 use acs_tree::Slate;
+use deck_meaning::{Config, DeckErr};
 use desk_common::Shared;
 use sms_construct::{Answer, DeckText, Op, Request};
 use sms_core::{Core, Work, classify, work_stays};
-use sms_deck::{Config, DeckErr, read_deck};
+use sms_deck::read_deck;
 use sms_keeper::FaultKeeper;
 use sms_script::{Item, Script, answer_lines, read_script};
 use std::alloc::{AllocError, Global};

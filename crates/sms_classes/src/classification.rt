@@ -8,9 +8,9 @@ use crate::classified::Classified;
 use crate::knowing::classes_are_known;
 use crate::onward::from_data_class;
 use acs_tree::{Slate, Values};
+use deck_meaning::Config;
 use dsn_mask::{Name, Names, Short};
 use sms_construct::{Alloc, Stop};
-use sms_deck::Config;
 
 /// What the routines of a configuration give the new data set of an ALLOC of this job (docs/manual/rules.md,
 /// "Classification"). It takes no memory. What was on the slate is gone; what the routines wrote is on it

@@ -5,8 +5,8 @@ ghost use Rattle.desk_law.specs.Classification.{classes_of};
 ghost use Rattle.sms_classes.specs.Known.{AreKnown};
 
 use crate::leaving::leave_others;
+use deck_meaning::Config;
 use sms_construct::Stop;
-use sms_deck::Config;
 
 /// Tells a proof that the classes of a classification that is done are ones that the configuration has.
 pub fn classes_are_known(config: &Config)

@@ -3,7 +3,7 @@ ghost use Rattle.desk_law.specs.Classification.{meanings_of};
 ghost use Rattle.sms_classes.specs.Known.{LeavesOthers};
 
 use acs_tree::Kind;
-use sms_deck::Config;
+use deck_meaning::Config;
 
 /// Tells a proof that the last three routines leave the classes of the other kinds.
 pub fn leave_others(config: &Config)

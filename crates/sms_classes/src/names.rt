@@ -7,9 +7,9 @@ ghost use Rattle.sms_classes.specs.Known.{known_class};
 
 use crate::stops::is_null;
 use acs_tree::Kind;
+use deck_meaning::Config;
 use dsn_mask::{Name, Short};
 use sms_construct::{DataClass, MgmtClass, StorClass, StorGroup};
-use sms_deck::Config;
 
 /// The data class of this name.
 pub fn data_class_of<'a>(config: &'a Config, class: &Short) -> Option<&'a DataClass>

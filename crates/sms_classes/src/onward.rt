@@ -7,8 +7,8 @@ ghost use Rattle.sms_classes.specs.Inner.Onward.{from_management_class, from_sto
 use crate::routine::{run_class, run_routine};
 use crate::stops::{exit_stop, groups_stop, is_null};
 use acs_tree::{Kind, Seen, Slate, Values};
+use deck_meaning::Config;
 use sms_construct::Stop;
-use sms_deck::Config;
 
 /// Runs the four routines in their order until something stops the classification, and tells how it ends.
 pub fn from_data_class(

@@ -8,8 +8,8 @@ ghost use Rattle.sms_classes.specs.Inner.Onward.{NoneFrom, progress, run_on};
 use crate::stops::{class_stop, exit_stop};
 use acs_run::run;
 use acs_tree::{Ending, Kind, Seen, Slate, Values};
+use deck_meaning::Config;
 use sms_construct::Stop;
-use sms_deck::Config;
 
 /// Runs the routine of that kind, where there is one.
 pub fn run_routine(

@@ -4,9 +4,9 @@ ghost use Rattle.desk_law.specs.Classification.{class_stop, exit_stop, is_null};
 ghost use Rattle.sms_classes.specs.Inner.Onward.{groups_stop};
 
 use acs_tree::{Ending, Kind};
+use deck_meaning::Config;
 use dsn_mask::{Names, Short};
 use sms_construct::Stop;
-use sms_deck::Config;
 
 /// The stop where a routine ended with another code than 0.
 pub fn exit_stop(kind: Kind, ending: Ending) -> Option<Stop>

@@ -4,9 +4,9 @@ ghost use Rattle.sms_construct.specs.declared.alloc.Alloc.{Alloc as Allocation};
 ghost use Rattle.desk_law.specs.Classification.{classes_of};
 
 use acs_tree::Slate;
+use deck_meaning::Config;
 use sms_classes::Classified;
 use sms_construct::{Op, Request};
-use sms_deck::Config;
 
 /// What the routines of a configuration give the new data set of a request whose op is an ALLOC (docs/manual/rules.md,
 /// "Classification"). It takes no memory. What was on the slate is gone; what the routines wrote is on it

@@ -19,13 +19,13 @@ ghost use Rattle.sms_core.specs.Core.{Enters, HasTables, WasTold, needs_no_commi
 use crate::preparing::{Prepared, prepare};
 use crate::room::take_room;
 use acs_tree::Slate;
+use deck_meaning::Config;
 use desk_common::{Items, Shared};
 use desk_records::{Opening, Records, is_full, request_is_sound};
 use desk_restoring::{Restored, greatest_place, restore};
 use desk_state::{Running, Work};
 use dsn_mask::Dsn;
 use sms_construct::{Answer, DataSet, Entry, Journal, Op, Reply, Request, VolRows};
-use sms_deck::Config;
 use sms_keeper::{Keeper, RequestLog, Rows};
 use std::alloc::{AllocError, Global};
 use std::marker::Model;

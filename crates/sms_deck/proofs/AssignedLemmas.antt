@@ -16,10 +16,10 @@ use Rattle.acs_tree.specs.declared.routine.Form.TheVariants.{rolls-Exit}
 use Rattle.acs_tree.specs.declared.routine.Operand.{Operand}
 use Rattle.acs_tree.specs.declared.routine.Ref.{Ref}
 use Rattle.acs_tree.specs.declared.routine.When.{When, out-When}
-use Rattle.sms_deck.specs.Layout.{has}
-use Rattle.sms_deck.specs.Assigned.{literal_names, joined, form_step, stmt_step, when_step, assigned_in, assigned_by}
-use Rattle.sms_deck.specs.Assigned.{assigned_in_form, assigned_in_when, assigned_in_whens, assigned_in_other}
-use Rattle.sms_deck.specs.Assigned.{first_unknown}
+use Rattle.deck_meaning.specs.Layout.{has}
+use Rattle.deck_meaning.specs.Assigned.{literal_names, joined, form_step, stmt_step, when_step, assigned_in, assigned_by}
+use Rattle.deck_meaning.specs.Assigned.{assigned_in_form, assigned_in_when, assigned_in_whens, assigned_in_other}
+use Rattle.deck_meaning.specs.Assigned.{first_unknown}
 
 pub of_form : (s : Stmt) → assigned_in s ≡ assigned_in_form s.form
 of_form s = fold_out-Stmt (List (List ℕ)) (List (List ℕ)) (List (List ℕ)) form_step stmt_step when_step s

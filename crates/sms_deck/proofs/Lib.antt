@@ -1,13 +1,5 @@
 pub mod AssignedLemmas
-pub mod ConfigurationLemmas
-pub mod EitherLemmas
-pub mod LookupLemmas
 pub mod NameLemmas
-pub mod OrderLemmas
-pub mod OutcomeLemmas
 pub mod PlaceLemmas
-pub mod ReadingLemmas
-pub mod SortedLemmas
 pub mod TableLemmas
-pub mod VersionLemmas
 pub mod WordLemmas

@@ -5,9 +5,9 @@ use Rattle.std.specs.Option.{option_and_then}
 use Rattle.toml.specs.Data.{Members, get_member, as_table}
 use Rattle.dsn_mask.specs.Name.{volser_of}
 use Rattle.sms_construct.specs.declared.volume.VolumeDef.{VolumeDef}
-use Rattle.sms_deck.specs.Layout.{or_empty}
-use Rattle.sms_deck.specs.Constructs.{group_volumes, named, volume_of}
-use Rattle.sms_deck.specs.Places.{Places, put_volume, put_volumes}
+use Rattle.deck_meaning.specs.Layout.{or_empty}
+use Rattle.deck_meaning.specs.Constructs.{group_volumes, named, volume_of}
+use Rattle.deck_meaning.specs.Places.{Places, put_volume, put_volumes}
 
 pub put_append : (places : Places) (xs ys : List VolumeDef) → put_volumes places (xs ++ ys) ≡ put_volumes (put_volumes places xs) ys
 put_append places [] ys = refl

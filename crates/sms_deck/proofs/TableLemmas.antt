@@ -2,7 +2,7 @@
 use Rattle.std.proofs.Common.{◌≡◌, List, [], ◌∷◌, length, refl, arith}
 use Rattle.toml.specs.View.{members_view}
 use Rattle.toml.proofs.Views.{Entry}
-use Rattle.sms_deck.specs.Layout.{key_count}
+use Rattle.deck_meaning.specs.Layout.{key_count}
 
 -- a table has as many keys as its map has entries
 pub key_count-view : (es : List Entry) → length es ≡ key_count (members_view es)

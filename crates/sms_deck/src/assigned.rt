@@ -1,9 +1,9 @@
 // The constructs that a routine sets by name.
 ghost use Rattle.std.specs.Prelude.{◌≡◌};
 ghost use Rattle.toml.specs.View.{table_view};
-ghost use Rattle.sms_deck.specs.Layout.{has};
-ghost use Rattle.sms_deck.specs.Assigned.{assigned_by, assigned_in, assigned_in_whens, assigned_in_other};
-ghost use Rattle.sms_deck.specs.Assigned.{first_unknown, literal_name, literal_names};
+ghost use Rattle.deck_meaning.specs.Layout.{has};
+ghost use Rattle.deck_meaning.specs.Assigned.{assigned_by, assigned_in, assigned_in_whens, assigned_in_other};
+ghost use Rattle.deck_meaning.specs.Assigned.{first_unknown, literal_name, literal_names};
 
 use crate::rows::has_key;
 use acs_tree::{Form, Operand, OperandForm, Stmt, When};

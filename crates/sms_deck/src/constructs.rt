@@ -5,20 +5,20 @@ ghost use Rattle.toml.specs.Data.{as_bool};
 ghost use Rattle.toml.specs.View.{table_view};
 ghost use Rattle.dsn_mask.specs.Name.{name_of};
 ghost use Rattle.sms_construct.specs.Eattr.{eattrs};
-ghost use Rattle.sms_deck.specs.Limits.{most_cylinders};
-ghost use Rattle.sms_deck.specs.Values.{cylinders_in, devices, group_statuses, integer_in, name_in, space_in};
-ghost use Rattle.sms_deck.specs.Values.{volume_statuses, word_in, yes_or_no};
-ghost use Rattle.sms_deck.specs.Tables.{high_of};
-ghost use Rattle.sms_deck.specs.Constructs.{data_class_of, group_of, management_class_of, named, read_at};
-ghost use Rattle.sms_deck.specs.Constructs.{storage_class_of, tracks_of, volume_of};
+ghost use Rattle.deck_meaning.specs.Limits.{most_cylinders};
+ghost use Rattle.deck_meaning.specs.Values.{cylinders_in, devices, group_statuses, integer_in, name_in, space_in};
+ghost use Rattle.deck_meaning.specs.Values.{volume_statuses, word_in, yes_or_no};
+ghost use Rattle.deck_meaning.specs.Tables.{high_of};
+ghost use Rattle.deck_meaning.specs.Constructs.{data_class_of, group_of, management_class_of, named, read_at};
+ghost use Rattle.deck_meaning.specs.Constructs.{storage_class_of, tracks_of, volume_of};
 
 use crate::construct_tables::high_of;
-use crate::limits::{MAX_BREAKPOINT, MAX_TRACKS};
 use crate::rows::value_at;
 use crate::values::{
     cylinders_in, device_in, eattr_in, group_status_in, integer_in, name_in, space_in,
     volume_status_in, yes_or_no_in,
 };
+use deck_meaning::{MAX_BREAKPOINT, MAX_TRACKS};
 use desk_common::{Items, MAX_DAYS, MAX_VOLUMES, TRACKS_IN_CYLINDER};
 use dsn_mask::{Name, Volser};
 use sms_construct::{

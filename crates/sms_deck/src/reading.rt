@@ -4,20 +4,17 @@ ghost use Rattle.toml.specs.Data.{no_members};
 ghost use Rattle.toml.specs.View.{table_view};
 ghost use Rattle.desk_common.specs.Exact.{IsExact, MayRefuse};
 ghost use Rattle.sms_construct.specs.Configuration.{IsConfiguration};
-ghost use Rattle.sms_deck.specs.Places.{places_of};
-ghost use Rattle.sms_deck.specs.Reading.{Configures, IsRead, MeansTable, TellsFirstFault, TellsForm, TellsTable};
-ghost use Rattle.sms_deck.specs.Reading.{configuration_of, form_fault};
+ghost use Rattle.deck_meaning.specs.Places.{places_of};
+ghost use Rattle.deck_meaning.specs.Reading.{Configures, IsRead, MeansTable, TellsFirstFault, TellsForm, TellsTable};
+ghost use Rattle.deck_meaning.specs.Reading.{configuration_of, form_fault};
 
-use crate::compiled::Compiled;
-use crate::config::Config;
 use crate::constructs::{data_classes, groups, management_classes, name_at, storage_classes};
-use crate::deck_err::DeckErr;
-use crate::place::Place;
 use crate::places::{check_total, first_twice, places_of, volumes_in};
 use crate::rows::table_or;
 use crate::sources::{Sources, check_all_assigned, read_sources};
 use crate::top_table::check_tables;
 use acs_tree::Checked;
+use deck_meaning::{Compiled, Config, ConfigParts, DeckErr, Place};
 use desk_common::MAX_DECK;
 use dsn_mask::Volser;
 use sms_construct::{DeckText, Fault, Path};
@@ -76,7 +73,7 @@ fn build(
         mgmtclas,
         storgrp,
     } = sources;
-    Ok(Config {
+    Ok(Config::new(ConfigParts {
         deck: deck.share()?,
         system: name_at(top, "system"),
         sysplex: name_at(top, "sysplex"),
@@ -89,7 +86,7 @@ fn build(
         storclas: compile_source(alloc, storclas)?,
         mgmtclas: compile_source(alloc, mgmtclas)?,
         storgrp: compile_source(alloc, storgrp)?,
-    })
+    }))
 }
 
 // The configuration of the deck with this table, or the table's first fault.

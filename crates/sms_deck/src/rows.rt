@@ -6,10 +6,11 @@ ghost use Rattle.toml.specs.Data.{get_member, as_table, no_members};
 ghost use Rattle.toml.specs.View.{table_view, view};
 ghost use Rattle.sms_construct.specs.Path.{below};
 ghost use Rattle.sms_construct.specs.declared.fault.Fault.TheVariants.{BadValue};
-ghost use Rattle.sms_deck.specs.Values.{has_form};
-ghost use Rattle.sms_deck.specs.Layout.{fault_told, has, key_count, plain, row_fault, table_at, unknown_fault};
+ghost use Rattle.deck_meaning.specs.Values.{has_form};
+ghost use Rattle.deck_meaning.specs.Layout.{fault_told, has, key_count, plain, row_fault, table_at, unknown_fault};
 
-use crate::value_form::ValueForm;
+use crate::forms::fits;
+use deck_meaning::ValueForm;
 use sms_construct::{Fault, Path};
 use toml::{Table, Value};
 
@@ -106,7 +107,7 @@ pub fn check_row(keys: &Table, key: &str, form: ValueForm, path: &Path) -> Resul
         (get_member key.now (table_view keys.now)) }
 {
     match value_at(keys, key) {
-        Some(value) => judge(form.fits(value), key, path),
+        Some(value) => judge(fits(form, value), key, path),
         None => Ok(()),
     }
 }
@@ -124,7 +125,7 @@ pub fn check_size(
         (get_member key.now (table_view keys.now)) }
 {
     match value_at(keys, key) {
-        Some(value) => judge(!is_second && form.fits(value), key, path),
+        Some(value) => judge(!is_second && fits(form, value), key, path),
         None => Ok(()),
     }
 }

@@ -2,17 +2,16 @@
 ghost use Rattle.std.specs.Prelude.{◌≡◌, IfErr, IfOk, codes, option_map};
 ghost use Rattle.toml.specs.Data.{no_members};
 ghost use Rattle.toml.specs.View.{table_view};
-ghost use Rattle.sms_deck.specs.Layout.{fault_told};
-ghost use Rattle.sms_deck.specs.Outcomes.{AreOutcomes, IsOutcomeOf, TellsSource, assigned_fault, outcome_from};
-ghost use Rattle.sms_deck.specs.Outcomes.{outcomes_from, source_of, stage_of, text_fault_of, told_as};
-ghost use Rattle.sms_deck.specs.Reading.{TellsSources, assigned_faults};
+ghost use Rattle.deck_meaning.specs.Layout.{fault_told};
+ghost use Rattle.deck_meaning.specs.Outcomes.{AreOutcomes, IsOutcomeOf, TellsSource, assigned_fault, outcome_from};
+ghost use Rattle.deck_meaning.specs.Outcomes.{outcomes_from, source_of, stage_of, text_fault_of, told_as};
+ghost use Rattle.deck_meaning.specs.Reading.{TellsSources, assigned_faults};
 
 use crate::assigned::unknown_in_body;
-use crate::deck_err::DeckErr;
-use crate::limits::MAX_ROUTINE;
 use crate::rows::{find_table, table_or, value_at};
 use acs_translate::{RoutineFault, TranslateErr, translate};
 use acs_tree::{Checked, Kind};
+use deck_meaning::{DeckErr, MAX_ROUTINE};
 use sms_construct::{Fault, Path, Stage, TextFault, key_of};
 use std::alloc::Global;
 use std::marker::Model;

@@ -2,15 +2,14 @@
 ghost use Rattle.std.specs.Prelude.{◌≡◌, codes};
 ghost use Rattle.toml.specs.Data.{get_member};
 ghost use Rattle.toml.specs.View.{table_view};
-ghost use Rattle.sms_deck.specs.Layout.{fault_told, inner, row_fault};
-ghost use Rattle.sms_deck.specs.Tables.{routine_walk, tables_fault, top_walk, version_of, version_row};
+ghost use Rattle.deck_meaning.specs.Layout.{fault_told, inner, row_fault};
+ghost use Rattle.deck_meaning.specs.Tables.{routine_walk, tables_fault, top_walk, version_of, version_row};
 
 use crate::construct_tables::check_constructs;
 use crate::rows::{check_keys, check_row, value_at};
-use crate::value_form::ValueForm;
 use crate::values::integer_in;
-use crate::version::Version;
 use acs_tree::Kind;
+use deck_meaning::{ValueForm, Version};
 use sms_construct::{Fault, Path};
 use toml::Table;
 

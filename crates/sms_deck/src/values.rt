@@ -2,10 +2,10 @@
 ghost use Rattle.std.specs.Prelude.{◌≡◌, is_some};
 ghost use Rattle.toml.specs.View.{view};
 ghost use Rattle.sms_construct.specs.Eattr.{eattrs};
-ghost use Rattle.sms_deck.specs.Values.{are_whole, cylinders_in, devices, group_statuses, integer_in};
-ghost use Rattle.sms_deck.specs.Values.{meaning_in, name_in, pool, space_in, volume_statuses, word_in, yes_or_no};
+ghost use Rattle.deck_meaning.specs.Values.{are_whole, cylinders_in, devices, group_statuses, integer_in};
+ghost use Rattle.deck_meaning.specs.Values.{meaning_in, name_in, pool, space_in, volume_statuses, word_in, yes_or_no};
 
-use crate::limits::{MANAGED_CYLINDERS, MAX_CYLINDERS};
+use deck_meaning::{MANAGED_CYLINDERS, MAX_CYLINDERS};
 use desk_common::MAX_TRACK_MANAGED;
 use dsn_mask::Name;
 use sms_construct::{Eattr, Space, Status, read_space};

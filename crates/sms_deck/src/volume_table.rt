@@ -3,13 +3,12 @@ ghost use Rattle.std.specs.Prelude.{◌≡◌, codes};
 ghost use Rattle.toml.specs.Data.{get_member};
 ghost use Rattle.toml.specs.View.{table_view, view};
 ghost use Rattle.dsn_mask.specs.Name.{is_volser};
-ghost use Rattle.sms_deck.specs.Layout.{fault_told, inner, name_fault, names, row_fault};
-ghost use Rattle.sms_deck.specs.Limits.{most_group_volumes};
-ghost use Rattle.sms_deck.specs.Tables.{device_row, volume_walk};
+ghost use Rattle.deck_meaning.specs.Layout.{fault_told, inner, name_fault, names, row_fault};
+ghost use Rattle.deck_meaning.specs.Limits.{most_group_volumes};
+ghost use Rattle.deck_meaning.specs.Tables.{device_row, volume_walk};
 
-use crate::limits::{MAX_GROUP_VOLUMES, MAX_TRACKS};
 use crate::rows::{check_keys, check_row, check_size, count_keys, has_either, has_key, value_at};
-use crate::value_form::ValueForm;
+use deck_meaning::{MAX_GROUP_VOLUMES, MAX_TRACKS, ValueForm};
 use dsn_mask::Volser;
 use sms_construct::{Fault, Path};
 use toml::{Table, Value};

@@ -7,7 +7,7 @@ use Rattle.sms_construct.specs.declared.entry.Answer.{Answer}
 use Rattle.sms_construct.specs.declared.entry.Entry.{Entry}
 use Rattle.sms_construct.specs.declared.request.Op.TheVariants as ops
 use Rattle.sms_construct.specs.declared.request.Request.{Request}
-use Rattle.sms_deck.specs.Reading.{Configures}
+use Rattle.deck_meaning.specs.Reading.{Configures}
 use Rattle.desk_law.specs.State.{DeskState, Opening}
 use Rattle.desk_law.specs.History.{Reaches, WasActive}
 use Rattle.desk_law.specs.Kept.{is_entered}

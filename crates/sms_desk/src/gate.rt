@@ -1,10 +1,10 @@
 //! Gates.
 ghost use Rattle.sms_desk.specs.Showing.{IsShown};
 
+use deck_meaning::Config;
 use dsn_mask::Name;
 use sms_classes::Classified;
 use sms_construct::Request;
-use sms_deck::Config;
 use std::sync::Wait;
 
 /// What is shown each classification that is made before a turn, and told each answer.

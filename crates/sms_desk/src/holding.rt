@@ -8,9 +8,9 @@ ghost use Rattle.sms_desk.specs.Holding.{GoesOn, IsCurrent, IsHolding, IsOwn, he
 ghost use Rattle.sms_desk.specs.Holding.{renewed as renewed_as};
 
 use crate::held::Held;
+use deck_meaning::Config;
 use desk_common::Shared;
 use sms_core::Core;
-use sms_deck::Config;
 use sms_keeper::Keeper;
 use std::alloc::AllocError;
 

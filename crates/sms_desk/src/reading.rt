@@ -3,9 +3,10 @@ ghost use Rattle.std.specs.Prelude.{◌≡◌, Ok, Some, IfOk};
 ghost use Rattle.desk_state.specs.Working.{IsReadAs};
 ghost use Rattle.sms_desk.specs.Holding.{IsOwnOf};
 
+use deck_meaning::{Config, DeckErr, one_reading};
 use desk_common::Shared;
 use sms_construct::DeckText;
-use sms_deck::{Config, DeckErr, one_reading, read_deck};
+use sms_deck::read_deck;
 use std::alloc::{AllocError, Global};
 
 /// What was read of a deck, for its step, and for the seat the configuration, if it has one.

@@ -9,11 +9,11 @@ use crate::act::{Act, Acts};
 use crate::expiry::due;
 use crate::wanted::Due;
 use acs_tree::Slate;
+use deck_meaning::Config;
 use desk_common::{Items, Shared};
 use dsn_mask::{Dsn, Name};
 use sms_construct::{Op, Request, RequestNumber};
 use sms_core::{Core, Work};
-use sms_deck::Config;
 use sms_keeper::Keeper;
 use std::alloc::{AllocError, Global};
 

@@ -4,9 +4,9 @@ ghost use Rattle.std.specs.Option.{option_copied, option_or};
 ghost use Rattle.sms_manage.specs.Due.{class_of, due_of, has_passed, is_releasing};
 
 use crate::wanted::Due;
+use deck_meaning::Config;
 use desk_state::has_unused;
 use sms_construct::{DataSet, MgmtClass};
-use sms_deck::Config;
 
 /// What is due of a data set on a day under a configuration (docs/manual/rules.md, "Space management"). It takes no
 /// memory.

@@ -3,7 +3,7 @@ use Rattle.std.proofs.Common.{◌≡◌, ◌<◌, ◌+◌, ◌-◌, ℕ, zero, s
 use Rattle.std.proofs.Common.{refl, sym, ap, subst, arith}
 use Rattle.sms_construct.specs.Configuration.{Configuration}
 use Rattle.sms_construct.specs.declared.fault.Fault.{Fault}
-use Rattle.sms_deck.specs.Reading.{Configures, HasFirstFault}
+use Rattle.deck_meaning.specs.Reading.{Configures, HasFirstFault}
 use Rattle.sms_keeper.specs.declared.deck_row.DeckRow.{DeckRow}
 use Rattle.desk_law.specs.Decked.{AreNumbered, IsLastActive}
 use Rattle.sms_open.specs.Tests.{HasLastFault}

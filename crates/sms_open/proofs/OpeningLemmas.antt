@@ -9,7 +9,7 @@ use Rattle.sms_construct.specs.Fate.{fate_of}
 use Rattle.sms_construct.specs.declared.fate.Fate.TheVariants.{Kept}
 use Rattle.sms_construct.specs.declared.reply.Reply.{Reply}
 use Rattle.sms_construct.specs.declared.reply.Reply.TheVariants as replies
-use Rattle.sms_deck.proofs.ConfigurationLemmas.{configured}
+use Rattle.deck_meaning.proofs.ConfigurationLemmas.{configured}
 use Rattle.sms_keeper.specs.declared.deck_row.DeckRow.{DeckRow}
 use Rattle.sms_keeper.specs.declared.floor.Floor.{Floor}
 use Rattle.sms_keeper.specs.declared.kept_row.KeptRow.{KeptRow}

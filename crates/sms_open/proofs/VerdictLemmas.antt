@@ -3,7 +3,7 @@ use Rattle.std.proofs.Common.{◌≡◌, ℕ, Bool, true, false, List, [], ◌�
 use Rattle.std.proofs.Common.{◌∙◌, subst, inl, inr}
 use Rattle.std.specs.Prelude.{◌⊎◌, IfOk}
 use Rattle.sms_construct.specs.Configuration.{Configuration}
-use Rattle.sms_deck.proofs.ReadingLemmas.{never_both, one_configuration}
+use Rattle.deck_meaning.proofs.ReadingLemmas.{never_both, one_configuration}
 use Rattle.sms_keeper.specs.declared.deck_row.DeckRow.{DeckRow}
 use Rattle.sms_keeper.specs.declared.rows.Rows.{Rows}
 use Rattle.desk_law.specs.Decked.{IsLastActive}

@@ -5,7 +5,7 @@ use Rattle.sms_construct.specs.Configuration.{Configuration}
 use Rattle.sms_construct.specs.declared.data_set.DataSet.{DataSet}
 use Rattle.sms_construct.specs.declared.fault.Fault.{Fault}
 use Rattle.sms_construct.specs.declared.target.Target.{Target}
-use Rattle.sms_deck.specs.Reading.{HasFirstFault}
+use Rattle.deck_meaning.specs.Reading.{HasFirstFault}
 use Rattle.sms_keeper.specs.declared.deck_row.DeckRow.{DeckRow}
 use Rattle.sms_keeper.specs.declared.floor.Floor.{Floor}
 use Rattle.sms_keeper.specs.declared.kept_row.KeptRow.{KeptRow}

@@ -5,7 +5,8 @@ ghost use Rattle.sms_open.specs.Tests.{AreCounted};
 ghost use Rattle.sms_open.specs.Verdicts.{RefusesDeck, Tells};
 
 use crate::rows_err::RowsErr;
-use sms_deck::{Config, DeckErr, read_deck};
+use deck_meaning::{Config, DeckErr};
+use sms_deck::read_deck;
 use sms_keeper::{DeckRow, Rows};
 use std::alloc::Global;
 

@@ -13,9 +13,9 @@ ghost use Rattle.sms_open.specs.Verdicts.{Tells};
 
 use crate::meeting::are_once;
 use crate::numbers::Numbers;
+use deck_meaning::Config;
 use desk_common::{BORDER, MAX_EXTENTS, Shared, TRACKS_IN_CYLINDER};
 use sms_construct::{DataSet, Extent, TRACKS_IN_MANAGED, Unit, VolumeDef};
-use sms_deck::Config;
 use std::alloc::{AllocError, Global};
 
 fn is_managed(extent: &Extent) -> bool

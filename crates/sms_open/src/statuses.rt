@@ -11,9 +11,9 @@ ghost use Rattle.sms_open.specs.Tests.{AreStatusesOf};
 ghost use Rattle.sms_open.specs.Verdicts.{Tells};
 
 use crate::apart::are_as_often;
+use deck_meaning::Config;
 use dsn_mask::{Name, Volser};
 use sms_construct::{Status, StorGroup, Target, VolumeDef};
-use sms_deck::Config;
 use sms_keeper::StatusRow;
 use std::alloc::{AllocError, Global};
 

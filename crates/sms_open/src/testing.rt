@@ -14,7 +14,7 @@ use crate::replies::are_sound_replies;
 use crate::rows_err::RowsErr;
 use crate::sets::are_placed;
 use crate::statuses::are_statuses_of;
-use sms_deck::Config;
+use deck_meaning::Config;
 use sms_keeper::Rows;
 use std::alloc::{AllocError, Global};
 

@@ -6,7 +6,7 @@ use Rattle.sms_construct.specs.declared.alloc.Alloc.{Alloc}
 use Rattle.sms_construct.specs.declared.fault.Fault.{Fault}
 use Rattle.sms_construct.specs.declared.request.Op.{Op}
 use Rattle.sms_construct.specs.declared.request.Op.TheVariants as ops
-use Rattle.sms_deck.specs.Reading.{Configures, HasFirstFault}
+use Rattle.deck_meaning.specs.Reading.{Configures, HasFirstFault}
 use Rattle.sms_keeper.specs.Suits.{deck_of}
 use Rattle.sms_script.specs.declared.item.Item.{Item}
 use Rattle.desk_law.specs.Classification.{classes_of}

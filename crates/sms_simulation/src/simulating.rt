@@ -9,10 +9,11 @@ use crate::items::{all_items, first_other};
 use crate::outcome::push_classified;
 use crate::simulated::Simulated;
 use acs_tree::Slate;
+use deck_meaning::{Config, DeckErr};
 use desk_common::Items;
 use sms_classes::classify;
 use sms_construct::{Alloc, DeckText, Op, Trace};
-use sms_deck::{Config, DeckErr, read_deck};
+use sms_deck::read_deck;
 use sms_script::{Item, Script};
 use std::alloc::{AllocError, Global};
 

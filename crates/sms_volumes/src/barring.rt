@@ -10,9 +10,9 @@ ghost use Rattle.sms_volumes.specs.Holding.{AreVolumesOf};
 
 use crate::active_volume::ActiveVolume;
 use crate::active_volumes::ActiveVolumes;
+use deck_meaning::Config;
 use dsn_mask::Volser;
 use sms_construct::VolumeDef;
-use sms_deck::Config;
 
 // The tracks of a volume, 0 where there is none such.
 fn tracks_of(volumes: &[VolumeDef], volser: &Volser) -> u32

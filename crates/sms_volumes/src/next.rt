@@ -15,9 +15,9 @@ ghost use Rattle.sms_volumes.specs.declared.active_volume.ActiveVolume.{ActiveVo
 use crate::active_group::ActiveGroup;
 use crate::active_volume::ActiveVolume;
 use crate::active_volumes::ActiveVolumes;
+use deck_meaning::Config;
 use dsn_mask::Name;
 use sms_construct::{Status, StorGroup, VolumeDef};
-use sms_deck::Config;
 use std::alloc::{AllocError, Global};
 use track_ledger::Ledger;
 

@@ -12,7 +12,7 @@ use Rattle.desk_common.specs.Fronts.{IsProperPrefix}
 use Rattle.sms_base.specs.Observed.{Observed, WasRead, HasWriteFault}
 use Rattle.sms_construct.specs.Configuration.{Configuration}
 use Rattle.sms_construct.specs.declared.fault.Fault.{Fault as DeckFault}
-use Rattle.sms_deck.specs.Reading.{Configures, HasFirstFault}
+use Rattle.deck_meaning.specs.Reading.{Configures, HasFirstFault}
 use Rattle.tool_calls.specs.Limits.{most_bytes}
 use Rattle.sms_script.specs.Script.{IsRefusal, items_of, script_of}
 use Rattle.sms_script.specs.declared.item.Item.{Item}

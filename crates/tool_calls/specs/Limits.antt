@@ -1,7 +1,7 @@
 -- How long an input may be (docs/manual/tool.md).
 use Rattle.std.specs.Prelude.{ℕ}
 use Rattle.desk_common.specs.Limits.{most_input_bytes}
-use Rattle.sms_deck.specs.Limits.{most_routine_bytes}
+use Rattle.deck_meaning.specs.Limits.{most_routine_bytes}
 use Rattle.tool_words.specs.declared.task.Task.{Task}
 use Rattle.tool_words.specs.declared.task.Task.TheVariants.{Translate, Validate, Simulate, Compare}
 

@@ -11,7 +11,7 @@ use Rattle.acs_translate.specs.declared.fault.TranslateErr.TheVariants.{Fault, N
 use Rattle.acs_translate.specs.Translation.{IsTranslated, IsRoutineFault}
 use Rattle.sms_construct.specs.Configuration.{Configuration}
 use Rattle.sms_construct.specs.declared.fault.Fault.{Fault as DeckFault}
-use Rattle.sms_deck.specs.Reading.{Configures, HasFirstFault}
+use Rattle.deck_meaning.specs.Reading.{Configures, HasFirstFault}
 use Rattle.sms_script.specs.FaultText.{fault_text as deck_fault_text}
 use Rattle.sms_script.specs.Script.{items_of, script_of}
 use Rattle.sms_script.specs.declared.item.Item.{Item}

@@ -2,8 +2,8 @@
 ghost use Rattle.std.specs.Prelude.{◌≡◌};
 ghost use Rattle.tool_calls.specs.Limits.{most_bytes};
 
+use deck_meaning::MAX_ROUTINE;
 use desk_common::MAX_INPUT;
-use sms_deck::MAX_ROUTINE;
 use tool_words::Task;
 
 /// The most bytes of the input of a task.

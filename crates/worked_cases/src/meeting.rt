@@ -1,8 +1,8 @@
 //! A gate at which workers meet.
+use deck_meaning::Config;
 use dsn_mask::Name;
 use sms_classes::Classified;
 use sms_construct::Request;
-use sms_deck::Config;
 use sms_desk::Gate;
 use std::sync::Wait;
 use std::sync::atomic::{AtomicU64, Ordering};

@@ -1,6 +1,6 @@
 use Rattle.std.proofs.Common.{List, ℕ, Ok, Err, subst}
-use Rattle.sms_deck.specs.declared.deck_err.DeckErr.{DeckErr}
-use Rattle.sms_deck.specs.declared.deck_err.DeckErr.TheVariants as decks
+use Rattle.deck_meaning.specs.declared.deck_err.DeckErr.{DeckErr}
+use Rattle.deck_meaning.specs.declared.deck_err.DeckErr.TheVariants as decks
 use Rattle.acs_test.proofs.ReadingLemmas.{IsDeckRead, side_configures, side_faulty}
 use Rattle.acs_test.proofs.reading.read_side.Goals as goal
 

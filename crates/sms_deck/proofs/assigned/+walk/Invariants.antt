@@ -1,6 +1,6 @@
 use Rattle.std.proofs.Common.{◌≡◌, drop}
 use Rattle.toml.specs.View.{table_view}
-use Rattle.sms_deck.specs.Assigned.{assigned_by, assigned_in_whens, first_unknown}
+use Rattle.deck_meaning.specs.Assigned.{assigned_by, assigned_in_whens, first_unknown}
 use Rattle.sms_deck.proofs.assigned.+walk.Given as goal
 
 abbrev pub invariant-unknown_in_body-statements : goal.invariant-unknown_in_body-statements

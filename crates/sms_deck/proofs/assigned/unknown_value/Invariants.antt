@@ -1,6 +1,6 @@
 use Rattle.std.proofs.Common.{◌≡◌, drop}
 use Rattle.toml.specs.View.{table_view}
-use Rattle.sms_deck.specs.Assigned.{first_unknown, literal_names}
+use Rattle.deck_meaning.specs.Assigned.{first_unknown, literal_names}
 use Rattle.sms_deck.proofs.assigned.unknown_value.Given as goal
 
 abbrev pub invariant-loop-value : goal.invariant-loop-value

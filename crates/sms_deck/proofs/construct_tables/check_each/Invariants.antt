@@ -1,8 +1,8 @@
 use Rattle.std.proofs.Common.{◌≡◌}
 use Rattle.toml.specs.View.{table_view, members_view}
 use Rattle.dsn_mask.specs.Name.{is_name}
-use Rattle.sms_deck.specs.Layout.{each_fault}
-use Rattle.sms_deck.specs.Tables.{construct_walk}
+use Rattle.deck_meaning.specs.Layout.{each_fault}
+use Rattle.deck_meaning.specs.Tables.{construct_walk}
 use Rattle.sms_deck.proofs.construct_tables.check_each.Given as goal
 
 abbrev pub invariant-loop-name : goal.invariant-loop-name

@@ -1,7 +1,7 @@
 use Rattle.std.proofs.Common.{◌≡◌, ◌++◌}
 use Rattle.toml.specs.View.{table_view, members_view}
 use Rattle.dsn_mask.specs.Name.{name_of}
-use Rattle.sms_deck.specs.Constructs.{storage_class_of, named}
+use Rattle.deck_meaning.specs.Constructs.{storage_class_of, named}
 use Rattle.sms_deck.proofs.constructs.storage_classes.Given as goal
 
 abbrev pub invariant-loop-name : goal.invariant-loop-name

@@ -1,5 +1,5 @@
 use Rattle.std.proofs.Common.{◌≡◌}
-use Rattle.sms_deck.specs.Places.{first_twice}
+use Rattle.deck_meaning.specs.Places.{first_twice}
 use Rattle.sms_deck.proofs.places.first_twice.Given as goal
 
 abbrev pub invariant-loop-volser : goal.invariant-loop-volser

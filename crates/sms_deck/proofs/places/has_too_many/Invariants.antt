@@ -1,6 +1,6 @@
 use Rattle.std.proofs.Common.{◌≡◌, ◌≤◌, ◌+◌}
 use Rattle.toml.specs.View.{table_view, members_view}
-use Rattle.sms_deck.specs.Places.{volume_total}
+use Rattle.deck_meaning.specs.Places.{volume_total}
 use Rattle.sms_deck.proofs.places.has_too_many.Given as goal
 
 abbrev pub invariant-loop-group : goal.invariant-loop-group

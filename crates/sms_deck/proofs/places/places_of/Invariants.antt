@@ -1,7 +1,7 @@
 use Rattle.std.proofs.Common.{◌≡◌, []}
 use Rattle.toml.specs.View.{table_view, members_view}
-use Rattle.sms_deck.specs.Constructs.{all_volumes}
-use Rattle.sms_deck.specs.Places.{put_volumes}
+use Rattle.deck_meaning.specs.Constructs.{all_volumes}
+use Rattle.deck_meaning.specs.Places.{put_volumes}
 use Rattle.sms_deck.proofs.places.places_of.Given as goal
 
 abbrev pub invariant-loop-name : goal.invariant-loop-name

@@ -1,8 +1,8 @@
 use Rattle.std.proofs.Common.{◌≡◌}
 use Rattle.toml.specs.View.{table_view, members_view}
 use Rattle.dsn_mask.specs.Name.{volser_of}
-use Rattle.sms_deck.specs.Constructs.{named, volume_of}
-use Rattle.sms_deck.specs.Places.{put_volumes}
+use Rattle.deck_meaning.specs.Constructs.{named, volume_of}
+use Rattle.deck_meaning.specs.Places.{put_volumes}
 use Rattle.sms_deck.proofs.places.put_group.Given as goal
 
 abbrev pub invariant-loop-volser : goal.invariant-loop-volser

@@ -1,5 +1,5 @@
 use Rattle.std.proofs.Common.{◌≡◌, ◌++◌}
-use Rattle.sms_deck.specs.Places.{volumes_in}
+use Rattle.deck_meaning.specs.Places.{volumes_in}
 use Rattle.sms_deck.proofs.places.volumes_in.Given as goal
 
 abbrev pub invariant-loop-place : goal.invariant-loop-place

@@ -1,7 +1,7 @@
 use Rattle.std.proofs.Common.{sym}
 use Rattle.toml.specs.View.{table_view}
-use Rattle.sms_deck.proofs.ConfigurationLemmas.{lawful}
-use Rattle.sms_deck.proofs.ReadingLemmas.{tells_form, is_read}
+use Rattle.deck_meaning.proofs.ConfigurationLemmas.{lawful}
+use Rattle.deck_meaning.proofs.ReadingLemmas.{tells_form, is_read}
 use Rattle.sms_deck.proofs.reading.read_table.Goals as goal
 
 pub returns-in-Err-clause-err : goal.returns-in-Err-clause-err

@@ -1,6 +1,6 @@
 use Rattle.std.proofs.Common.{◌≡◌, map}
 use Rattle.toml.specs.View.{table_view, members_view}
-use Rattle.sms_deck.specs.Layout.{unknown_fault}
+use Rattle.deck_meaning.specs.Layout.{unknown_fault}
 use Rattle.sms_deck.proofs.rows.check_keys.Given as goal
 
 abbrev pub invariant-loop-key : goal.invariant-loop-key

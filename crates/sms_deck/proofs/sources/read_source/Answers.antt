@@ -1,7 +1,7 @@
 use Rattle.std.proofs.Common.{rules, subst}
 use Rattle.acs_translate.specs.Translation.{MayRefuse}
-use Rattle.sms_deck.specs.Outcomes.{Long}
-use Rattle.sms_deck.proofs.OutcomeLemmas.{comes_long, tells_refusal}
+use Rattle.deck_meaning.specs.Outcomes.{Long}
+use Rattle.deck_meaning.proofs.OutcomeLemmas.{comes_long, tells_refusal}
 use Rattle.sms_deck.proofs.sources.read_source.Goals as goal
 
 pub returns-then-text-gt-MAX_ROUTINE-clause-err : goal.returns-then-text-gt-MAX_ROUTINE-clause-err

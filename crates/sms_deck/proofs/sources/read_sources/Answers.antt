@@ -1,6 +1,6 @@
 use Rattle.std.proofs.lemmas.Result.{err_from_is_err_and}
 use Rattle.toml.specs.View.{table_view}
-use Rattle.sms_deck.proofs.OutcomeLemmas.{tells_dataclas, tells_storclas, tells_mgmtclas, tells_storgrp}
+use Rattle.deck_meaning.proofs.OutcomeLemmas.{tells_dataclas, tells_storclas, tells_mgmtclas, tells_storgrp}
 use Rattle.sms_deck.proofs.sources.read_sources.Goals as goal
 
 pub returns-in_err-dataclas-clause-err : goal.returns-in_err-dataclas-clause-err

@@ -1,8 +1,8 @@
 use Rattle.std.proofs.Common.{◌≡◌}
 use Rattle.toml.specs.View.{table_view, members_view}
 use Rattle.dsn_mask.specs.Name.{is_volser}
-use Rattle.sms_deck.specs.Layout.{each_fault}
-use Rattle.sms_deck.specs.Tables.{volume_walk}
+use Rattle.deck_meaning.specs.Layout.{each_fault}
+use Rattle.deck_meaning.specs.Tables.{volume_walk}
 use Rattle.sms_deck.proofs.volume_table.check_each.Given as goal
 
 abbrev pub invariant-loop-name : goal.invariant-loop-name

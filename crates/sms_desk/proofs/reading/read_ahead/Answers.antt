@@ -1,8 +1,8 @@
 use Rattle.std.proofs.Common.{inl, inr, subst}
 use Rattle.std.specs.Prelude.{List, ℕ, Some}
 use Rattle.sms_construct.specs.declared.fault.Fault.{Fault}
-use Rattle.sms_deck.specs.declared.deck_err.DeckErr.TheVariants.{Fault as Faulted, NoMemory}
-use Rattle.sms_deck.specs.Reading.{HasFirstFault, TellsFirstFault}
+use Rattle.deck_meaning.specs.declared.deck_err.DeckErr.TheVariants.{Fault as Faulted, NoMemory}
+use Rattle.deck_meaning.specs.Reading.{HasFirstFault, TellsFirstFault}
 use Rattle.desk_common.specs.Exact.{MayRefuse}
 use Rattle.sms_desk.proofs.reading.read_ahead.Goals as goal
 

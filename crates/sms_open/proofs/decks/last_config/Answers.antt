@@ -1,5 +1,5 @@
 use Rattle.std.proofs.Common.{◌≡◌, ◌-◌, refl, length, Some, slice_get, rules}
-use Rattle.sms_deck.specs.Reading.{HasFirstFault}
+use Rattle.deck_meaning.specs.Reading.{HasFirstFault}
 use Rattle.sms_open.proofs.DeckLemmas.{last-active, last-fault}
 use Rattle.sms_open.proofs.decks.last_config.Goals as goal
 

@@ -1,7 +1,7 @@
 use Rattle.std.proofs.Common.{ap, inl, refl, subst, sym, ◌∙◌}
 use Rattle.std.specs.Prelude.{Err}
 use Rattle.sms_construct.specs.declared.reply.Reply.TheVariants as replies
-use Rattle.sms_deck.specs.Reading.{HasFirstFault}
+use Rattle.deck_meaning.specs.Reading.{HasFirstFault}
 use Rattle.desk_law.specs.Activation.{ActivateRule}
 use Rattle.desk_state.specs.Answering.{Answers}
 use Rattle.desk_state.proofs.AnswerLemmas.{quiet-answers}

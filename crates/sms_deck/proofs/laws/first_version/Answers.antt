@@ -1,5 +1,0 @@
-use Rattle.sms_deck.proofs.VersionLemmas.{no_tiers}
-use Rattle.sms_deck.proofs.laws.first_version.Goals as goal
-
-pub returns : goal.returns
-returns c = λ bytes config a e. no_tiers a e

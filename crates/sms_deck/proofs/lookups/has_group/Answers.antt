@@ -1,6 +1,0 @@
-use Rattle.std.proofs.Common.{◌∙◌, sym}
-use Rattle.sms_deck.proofs.LookupLemmas.{any_named}
-use Rattle.sms_deck.proofs.lookups.has_group.Goals as goal
-
-pub returns : goal.returns
-returns c = c.any_group.ensures ∙ sym (any_named (λ item. item.name) c.args.name.now c.args.groups.now)
