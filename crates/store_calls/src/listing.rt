@@ -11,7 +11,7 @@ use crate::status::StoreStatus;
 use desk_calls::RunStatus;
 use sms_base::{Sink, write_all};
 use sms_core::Core;
-use sms_deck::Config;
+use deck_meaning::Config;
 use sms_keeper::{Keeper, LoadErr, Rows, Stored};
 use sms_open::{OpenErr, RowsErr, reopen, test_rows};
 use sms_report::volumes_csv;
