@@ -8,10 +8,10 @@ ghost use Rattle.store_calls.specs.Statuses.{store_status_of};
 mod explaining;
 mod store;
 
-use crate::explaining::{BAD_WORDS, TEXT_FAULT, TEXT_MEMORY, WORDS_FAULT, WORDS_MEMORY, sentence_of};
+use crate::explaining::{BAD_WORDS, TEXT_FAULT, WORDS_FAULT, WORDS_MEMORY, sentence_of};
 use crate::store::{close, open};
 use fault_notes::shown;
-use sms_base::{Sink, Source, StdSink, StdSource, Words, read_words};
+use sms_base::{Source, StdSink, StdSource, Words, read_words};
 use smsd_words::{Asked, Listing, Task, WordsErr, shown_text, task_asked};
 use std::fs;
 use std::io::{self, Write};
@@ -91,7 +91,7 @@ fn answer_words(rt: &HostRuntime, words: &[String], err: WordsErr) -> ExitCode {
         WordsErr::NoMemory => end(rt, 7, WORDS_MEMORY),
         WordsErr::Shown => show(rt, &text),
         WordsErr::Bad if text.is_empty() => end(rt, 2, BAD_WORDS),
-        WordsErr::Bad => end(rt, 2, &text),
+        WordsErr::Bad => end(rt, 2, text.trim_end()),
     }
 }
 

@@ -105,7 +105,7 @@ fn load_store<P: Stored>(alloc: Global, mut keeper: P) -> Result<(P, Rows), (P, 
 {
     match keeper.load() {
         Ok(rows) => match test_rows(alloc, &rows) {
-            Ok(_) => Ok((keeper, rows)),
+            Ok(_config) => Ok((keeper, rows)),
             Err(err) => Err((keeper, refusal_of_rows(err))),
         },
         Err(err) => Err((keeper, refusal_of_load(err))),

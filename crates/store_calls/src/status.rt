@@ -23,7 +23,8 @@ impl StoreStatus {
             StoreStatus::Ran(status) => status.code(),
             StoreStatus::Unopened(OpenErr::NoMemory) => 7,
             StoreStatus::Unopened(OpenErr::Failed) => 10,
-            StoreStatus::Unopened(OpenErr::Damaged(_, _) | OpenErr::Unsound(_)) => 11,
+            StoreStatus::Unopened(OpenErr::Damaged(_, _)) => 11,
+            StoreStatus::Unopened(OpenErr::Unsound(_)) => 11,
         }
     }
 }
