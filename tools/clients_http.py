@@ -1,6 +1,6 @@
 #!/usr/bin/env python3
 """Asks a served desk for allocations by several clients at once, each a process with a connection of its own, and prints how many were answered a second.
-usage: clients_http.py PORT CLIENTS COUNT heavy|light
+usage: tools/clients_http.py PORT CLIENTS COUNT heavy|light
 with `smsctl serve PORT C --workers N` running, C one more than CLIENTS; COUNT requests a client, 16 in one write, together at most 40,000
 By several workers the server waits for N times C connections: end it by a signal.
 heavy: a storage class routine of 60 KB whose statements all run for each request; light: the least routines"""

@@ -139,7 +139,7 @@ def public_tokens(path, public):
 
 def rows_of(text):
     """The words of docs/developers/DEFINITIONS.md with the files in which they are said to stand."""
-    homes, section = {'The law of the desk': 'desk_law', 'Decks': 'sms_deck'}, None
+    homes, section = {'The law of the desk': 'desk_law', 'Decks': 'deck_meaning'}, None
     for line in text.split('\n'):
         if line.startswith('## '): section = homes.get(line[3:])
         row = re.match(r'\| (`[^|]*`[^|]*) \| ([^|]+) \|', line)

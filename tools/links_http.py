@@ -1,6 +1,6 @@
 #!/usr/bin/env python3
 """Opens many connections to a served desk, one after the other, and prints how many were answered a second.
-usage: links_http.py PORT COUNT [slow]    with `smsctl serve PORT COUNT` running; at most 1,000 connections, for at most 60 seconds
+usage: tools/links_http.py PORT COUNT [slow]    with `smsctl serve PORT COUNT` running; at most 1,000 connections, for at most 60 seconds
 With `slow` each byte of a message is sent by itself, a thousandth of a second behind the one before."""
 import socket, sys, time
 port, count = int(sys.argv[1]), min(int(sys.argv[2]), 1_000)

@@ -1,5 +1,5 @@
 #!/usr/bin/env python3
-"""Writes the scripts by which the desk's speed is measured. usage: load.py alloc N | groups N VOLUMES GROUPS LISTED | mixed N VOLUMES | manage N VOLUMES"""
+"""Writes the scripts by which the desk's speed is measured. usage: tools/load.py alloc N | groups N VOLUMES GROUPS LISTED | mixed N VOLUMES | manage N VOLUMES"""
 import sys, random
 def deck(volumes, tracks, groups=1, listed=1):
     """A deck whose volumes are dealt out to so many groups, the last of which the routine lists."""

@@ -1,6 +1,6 @@
 #!/usr/bin/env python3
 """Writes two decks, with routines of 100 statements, and a table of cases, by which a comparison's speed is measured.
-usage: load_compare.py COUNT    at most 10,000 cases, one in fifty of which differs"""
+usage: tools/load_compare.py COUNT    at most 10,000 cases, one in fifty of which differs"""
 import sys
 
 count = min(int(sys.argv[1]), 10_000)

@@ -1,6 +1,6 @@
 #!/usr/bin/env python3
 """Compares a run over a database with the same statements in the same transactions by Debian's sqlite3.
-usage: load_db.py SMSCTL N [FOLDER]     N allocations; FOLDER lies on the disk that is measured (default: here)
+usage: tools/load_db.py SMSCTL N [FOLDER]     N allocations; FOLDER lies on the disk that is measured (default: here)
 It runs SMSCTL over a file, writes down the statements that its commits come to, runs these by sqlite3 with a log and a sync
 a commit as the desk has them, and compares both files row by row. It says the seconds of each, how many of them are a processor's,
 and what a sync costs alone. A disk's syncs vary much, so run it more than once."""

@@ -1,6 +1,6 @@
 #!/usr/bin/env python3
 """Asks a served desk for many allocations over one connection, and prints how many were answered a second.
-usage: load_http.py PORT COUNT [PIPELINED]    with `smsctl serve PORT 1` running; at most 40,000 requests, for at most 60 seconds"""
+usage: tools/load_http.py PORT COUNT [PIPELINED]    with `smsctl serve PORT 1` running; at most 40,000 requests, for at most 60 seconds"""
 import socket, sys, time
 port, count = int(sys.argv[1]), min(int(sys.argv[2]), 40_000)
 at_once = int(sys.argv[3]) if len(sys.argv) > 3 else 1

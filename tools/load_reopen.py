@@ -1,6 +1,6 @@
 #!/usr/bin/env python3
 """Times a run that does nothing but go on from a file of records.
-usage: load_reopen.py SMSCTL SETS REPLIES [FOLDER]     FOLDER lies on the disk that is measured (default: here)
+usage: tools/load_reopen.py SMSCTL SETS REPLIES [FOLDER]     FOLDER lies on the disk that is measured (default: here)
 A first run makes a file with SETS data sets of one track and REPLIES kept replies (at most 50,000, as a journal has no more
 entries); then the program answers an empty script over it, five times. It says the seconds of each, and how many of them are
 a processor's."""

@@ -1,6 +1,6 @@
 // The piece at the front of what is left of a text: a function for each kind of token, for
 // comments and for blanks. Each is passed the size of the whole text, from which places follow.
-ghost use Rattle.std.specs.Prelude.{◌≡◌, ◌≤◌, ◌-◌, length, not, position, MatchOption, None, Some};
+ghost use Rattle.std.specs.Prelude.{◌≡◌, ◌≤◌, ◌-◌, length, MatchOption, None, Some};
 ghost use Rattle.acs_lex.specs.Lexical.{is_name_byte, is_word_byte, is_quotable, counted_bytes, most_bytes};
 ghost use Rattle.acs_lex.specs.Inner.Scanning.{after, after_comment, token_front, bad_front, comment_front};
 ghost use Rattle.acs_lex.specs.Inner.Scanning.{slash_front, literal_front, single_front, sign_front, ampersand_front};
@@ -161,49 +161,46 @@ fn place(total: u32, text: &[u8]) -> u32
     total - text.len() as u32
 }
 
-#[tactic(auto, using(crate::proofs::RunLemmas::after_end, crate::proofs::RunLemmas::end_within))]
 fn after_word(text: &[u8]) -> &[u8]
     ensures rest { result.now ≡ after is_word_byte text.now }
     ensures within { length result.now ≤ length text.now }
 {
-    let end = word_end(text).unwrap_or(text.len());
-    &text[end..]
+    let mut rest = text;
+    'bytes: while let [byte, behind @ ..] = rest {
+        if !is_word_byte(*byte) {
+            return rest;
+        }
+        rest = behind;
+    }
+    rest
 }
 
-fn word_end(text: &[u8]) -> Option<usize>
-    ensures { result ≡ position (λ byte. not (is_word_byte byte)) text.now }
-{
-    text.iter().position(|byte| !is_word_byte(*byte))
-}
-
-#[tactic(auto, using(crate::proofs::RunLemmas::after_end, crate::proofs::RunLemmas::end_within))]
 fn after_name(text: &[u8]) -> &[u8]
     ensures rest { result.now ≡ after is_name_byte text.now }
     ensures within { length result.now ≤ length text.now }
 {
-    let end = name_end(text).unwrap_or(text.len());
-    &text[end..]
+    let mut rest = text;
+    'bytes: while let [byte, behind @ ..] = rest {
+        if !is_name_byte(*byte) {
+            return rest;
+        }
+        rest = behind;
+    }
+    rest
 }
 
-fn name_end(text: &[u8]) -> Option<usize>
-    ensures { result ≡ position (λ byte. not (is_name_byte byte)) text.now }
-{
-    text.iter().position(|byte| !is_name_byte(*byte))
-}
-
-#[tactic(auto, using(crate::proofs::RunLemmas::after_end, crate::proofs::RunLemmas::end_within))]
 fn after_quotable(text: &[u8]) -> &[u8]
     ensures rest { result.now ≡ after is_quotable text.now }
     ensures within { length result.now ≤ length text.now }
 {
-    let end = quotable_end(text).unwrap_or(text.len());
-    &text[end..]
-}
-
-fn quotable_end(text: &[u8]) -> Option<usize>
-    ensures { result ≡ position (λ byte. not (is_quotable byte)) text.now }
-{
-    text.iter().position(|byte| !is_quotable(*byte))
+    let mut rest = text;
+    'bytes: while let [byte, behind @ ..] = rest {
+        if !is_quotable(*byte) {
+            return rest;
+        }
+        rest = behind;
+    }
+    rest
 }
 
 /// What is behind the first end of a comment.

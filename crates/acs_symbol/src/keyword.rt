@@ -4,11 +4,12 @@ ghost use Rattle.std.specs.List.{list_all};
 ghost use Rattle.std.specs.Str.{str_to_ascii_uppercase};
 ghost use Rattle.desk_common.specs.Limits.{most_word_bytes};
 ghost use Rattle.acs_tree.specs.Ident.{is_upper_byte};
-ghost use Rattle.acs_symbol.specs.Symbols.{inner_words, comparisons, listed, number_kind, word_kind, sign_of};
+ghost use Rattle.acs_symbol.specs.Symbols.{comparisons, listed, number_kind, word_kind, sign_of};
+ghost use Rattle.acs_symbol.specs.Inner.Keywords.{kind_among};
 
 use crate::symbol::{Symbol, WordKind};
 use acs_tree::{Compare, are_digits};
-use desk_common::MAX_WORD;
+use desk_common::{MAX_WORD, are_same};
 
 /// What the word can be besides a name, its letters in either case. Most words have no small letter, and
 /// are read where they stand.
@@ -42,55 +43,33 @@ fn raised_kind(text: &[u8]) -> WordKind
     word_kind(upper)
 }
 
+// A word is held against the keywords of its length alone.
+#[tactic(auto, using(crate::proofs::KeywordLemmas::among_its_length))]
 fn word_kind(text: &[u8]) -> WordKind
     ensures { result ≡ word_kind text.now }
 {
-    if text == b"PROC".as_slice() {
-        WordKind::Proc
-    } else if text == b"END".as_slice() {
-        WordKind::End
-    } else if text == b"FILTLIST".as_slice() {
-        WordKind::FiltList
-    } else if text == b"SET".as_slice() {
-        WordKind::Set
-    } else if text == b"IF".as_slice() {
-        WordKind::If
-    } else if text == b"SELECT".as_slice() {
-        WordKind::Select
-    } else if text == b"DO".as_slice() {
-        WordKind::Do
-    } else if text == b"WRITE".as_slice() {
-        WordKind::Write
-    } else if text == b"EXIT".as_slice() {
-        WordKind::Exit
-    } else {
-        inner_kind(text)
+    match text.len() {
+        2 => of_two(text),
+        3 => of_three(text),
+        4 => of_four(text),
+        5 => of_five(text),
+        6 => of_six(text),
+        7 => of_seven(text),
+        8 => of_eight(text),
+        9 => of_nine(text),
+        _ => number_kind(text),
     }
 }
 
-fn inner_kind(text: &[u8]) -> WordKind
-    ensures { result ≡ listed inner_words text.now (listed comparisons text.now (number_kind text.now)) }
+#[tactic(auto, unfolding(crate::specs::Inner::Keywords::kind_among))]
+fn of_two(text: &[u8]) -> WordKind
+    ensures { result ≡ kind_among 2 text.now }
 {
-    if text == b"THEN".as_slice() {
-        WordKind::Then
-    } else if text == b"ELSE".as_slice() {
-        WordKind::Else
-    } else if text == b"WHEN".as_slice() {
-        WordKind::When
-    } else if text == b"OTHERWISE".as_slice() {
-        WordKind::Otherwise
-    } else if text == b"INCLUDE".as_slice() {
-        WordKind::Include
-    } else if text == b"EXCLUDE".as_slice() {
-        WordKind::Exclude
-    } else if text == b"CODE".as_slice() {
-        WordKind::Code
-    } else if text == b"AND".as_slice() {
-        WordKind::And
-    } else if text == b"OR".as_slice() {
-        WordKind::Or
-    } else {
-        compare_kind(text)
+    match text {
+        b"DO" => WordKind::Do,
+        b"IF" => WordKind::If,
+        b"OR" => WordKind::Or,
+        _ => compare_kind(text),
     }
 }
 
@@ -107,6 +86,96 @@ fn compare_kind(text: &[u8]) -> WordKind
         b"NG" => WordKind::Compare(Compare::Ng),
         b"NL" => WordKind::Compare(Compare::Nl),
         _ => number_kind(text),
+    }
+}
+
+#[tactic(auto, unfolding(crate::specs::Inner::Keywords::kind_among))]
+fn of_three(text: &[u8]) -> WordKind
+    ensures { result ≡ kind_among 3 text.now }
+{
+    match text {
+        b"END" => WordKind::End,
+        b"SET" => WordKind::Set,
+        b"AND" => WordKind::And,
+        _ => number_kind(text),
+    }
+}
+
+#[tactic(auto, unfolding(crate::specs::Inner::Keywords::kind_among))]
+fn of_four(text: &[u8]) -> WordKind
+    ensures { result ≡ kind_among 4 text.now }
+{
+    if are_same(text, b"PROC") {
+        WordKind::Proc
+    } else if are_same(text, b"EXIT") {
+        WordKind::Exit
+    } else if are_same(text, b"THEN") {
+        WordKind::Then
+    } else if are_same(text, b"ELSE") {
+        WordKind::Else
+    } else if are_same(text, b"WHEN") {
+        WordKind::When
+    } else if are_same(text, b"CODE") {
+        WordKind::Code
+    } else {
+        number_kind(text)
+    }
+}
+
+#[tactic(auto, unfolding(crate::specs::Inner::Keywords::kind_among))]
+fn of_five(text: &[u8]) -> WordKind
+    ensures { result ≡ kind_among 5 text.now }
+{
+    if are_same(text, b"WRITE") {
+        WordKind::Write
+    } else {
+        number_kind(text)
+    }
+}
+
+#[tactic(auto, unfolding(crate::specs::Inner::Keywords::kind_among))]
+fn of_six(text: &[u8]) -> WordKind
+    ensures { result ≡ kind_among 6 text.now }
+{
+    if are_same(text, b"SELECT") {
+        WordKind::Select
+    } else {
+        number_kind(text)
+    }
+}
+
+#[tactic(auto, unfolding(crate::specs::Inner::Keywords::kind_among))]
+fn of_seven(text: &[u8]) -> WordKind
+    ensures { result ≡ kind_among 7 text.now }
+{
+    if are_same(text, b"INCLUDE") {
+        WordKind::Include
+    } else if are_same(text, b"EXCLUDE") {
+        WordKind::Exclude
+    } else {
+        number_kind(text)
+    }
+}
+
+#[tactic(auto, unfolding(crate::specs::Inner::Keywords::kind_among))]
+fn of_eight(text: &[u8]) -> WordKind
+    ensures { result ≡ kind_among 8 text.now }
+{
+    if are_same(text, b"FILTLIST") {
+        WordKind::FiltList
+    } else {
+        number_kind(text)
+    }
+}
+
+#[tactic(auto, unfolding(crate::specs::Inner::Keywords::kind_among))]
+fn of_nine(text: &[u8]) -> WordKind
+    ensures { result ≡ kind_among 9 text.now }
+{
+    if are_same(text, b"OTHERWISE") {
+        WordKind::Otherwise
+    } else {
+        number_kind(text)
     }
 }
 

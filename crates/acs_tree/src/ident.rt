@@ -49,7 +49,7 @@ impl PartialEq for Ident {
     ghost laws = { Prim.search (comparing, rules) };
 
     fn eq(&self, other: &Ident) -> bool {
-        self.bytes() == other.bytes()
+        self.text.equals(&other.text)
     }
 }
 

@@ -6,7 +6,7 @@ ghost use Rattle.acs_tree.specs.Variables.{Row, look_up, variable_of, variables}
 use crate::ident::Ident;
 use crate::kind::Kind;
 use crate::variable::{Indexing, Variable, VariableKind};
-use desk_common::{MAX_FIELDS, MAX_QUALIFIERS};
+use desk_common::{MAX_FIELDS, MAX_QUALIFIERS, are_same};
 
 const TEXT: Variable = Variable {
     kind: VariableKind::Text,
@@ -166,7 +166,7 @@ fn look_up(mut rows: &[(&[u8], Variable)], name: &[u8]) -> Option<Variable>
     ensures { result ≡ look_up (map (λ row. (row.0.now, row.1)) rows.entry.now) name.now }
 {
     while let [row, rest @ ..] = rows {
-        if name == row.0 {
+        if are_same(name, row.0) {
             return Some(row.1);
         }
         rows = rest;

@@ -1,4 +1,5 @@
 pub mod AssignedLemmas
+pub mod ExactLemmas
 pub mod NameLemmas
 pub mod PlaceLemmas
 pub mod TableLemmas

@@ -131,7 +131,7 @@ fn read(alloc: Global, deck: &DeckText) -> Result<Config, DeckErr>
 
 /// The configuration of a deck, or its first fault (docs/manual/deck.md, "Order of faults"). The configuration shares
 /// the deck's bytes.
-#[tactic(auto, using(crate::proofs::ReadingLemmas::exact))]
+#[tactic(auto, using(crate::proofs::ExactLemmas::read_exactly))]
 pub fn read_deck(alloc: Global, deck: &DeckText) -> Result<Config, DeckErr>
     ensures ok { IfOk result (Configures deck.now) }
     ensures err { IfErr result (MayRefuse (TellsFirstFault deck.now) (Some DeckErr.NoMemory)) }
