@@ -1,4 +1,4 @@
 pub mod Statuses
 pub mod Opened
-pub mod Ran
-pub mod Listed
+pub mod StoreRun
+pub mod StoreLists

@@ -1,12 +1,11 @@
 -- A desk that goes on from a store, and why there is none.
-use Rattle.std.specs.Prelude.{◌≡◌, ℕ, Option, None, IfSome, ⊥}
+use Rattle.std.specs.Prelude.{◌≡◌, ℕ, Option, None}
 use Rattle.desk_common.specs.Causes.{Rose}
 use Rattle.desk_law.specs.State.{Opening}
 use Rattle.sms_keeper.specs.Loading.{SameDamage}
 use Rattle.sms_keeper.specs.Told.{Stays}
 use Rattle.sms_keeper.specs.declared.keeper.Keeper.{Ghosts}
 use Rattle.sms_keeper.specs.declared.table.Table.{Table}
-use Rattle.sms_open.specs.Own.{AreOwn, SparesTables}
 use Rattle.sms_open.specs.Reopening.{IsOpened, NamesRefusal}
 use Rattle.sms_open.specs.declared.open_err.OpenErr.{OpenErr}
 use Rattle.sms_open.specs.declared.open_err.OpenErr.TheVariants.{Failed}

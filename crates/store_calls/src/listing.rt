@@ -3,7 +3,7 @@ ghost use Rattle.std.specs.Prelude.{◌≡◌, [], IfErr, IfOk, true};
 ghost use Rattle.desk_law.specs.State.{Opening as Begun};
 ghost use Rattle.sms_open.specs.Reopening.{refusal_of_load, refusal_of_rows};
 ghost use Rattle.smsd_words.specs.declared.listing.Listing.{Listing as Listed};
-ghost use Rattle.store_calls.specs.Listed.{IsListed, ListEnds, StoreListEnds, seen_sink};
+ghost use Rattle.store_calls.specs.StoreLists.{IsListed, ListEnds, StoreListEnds, seen_sink};
 ghost use Rattle.store_calls.specs.Opened.{IsUnopened, WasOpened};
 ghost use Rattle.store_calls.specs.Statuses.{leaves_sink, leaves_sink_of};
 
@@ -11,7 +11,6 @@ use crate::status::StoreStatus;
 use desk_calls::RunStatus;
 use sms_base::{Sink, write_all};
 use sms_core::Core;
-use deck_meaning::Config;
 use sms_keeper::{Keeper, LoadErr, Rows, Stored};
 use sms_open::{OpenErr, RowsErr, reopen, test_rows};
 use sms_report::volumes_csv;

@@ -1,9 +1,9 @@
 //! A script on a store.
-ghost use Rattle.std.specs.Prelude.{◌≡◌, ⊥, true};
+ghost use Rattle.std.specs.Prelude.{◌≡◌, true};
 ghost use Rattle.desk_calls.specs.declared.status.RunStatus.TheVariants.{BadWords};
 ghost use Rattle.sms_base.specs.Observed.{seen_streams};
 ghost use Rattle.sms_open.specs.declared.open_err.OpenErr.{OpenErr as Refusal};
-ghost use Rattle.store_calls.specs.Ran.{StoreRunEnds};
+ghost use Rattle.store_calls.specs.StoreRun.{StoreRunEnds};
 ghost use Rattle.store_calls.specs.Statuses.{leaves_sink_of};
 
 use crate::opening::open_store;

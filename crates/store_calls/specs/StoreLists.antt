@@ -1,5 +1,5 @@
 -- How a list of a store ends: each status and its cause.
-use Rattle.std.specs.Prelude.{◌≡◌, ℕ, ⊥, List, Option, map, Result, Ok, OnErr}
+use Rattle.std.specs.Prelude.{◌≡◌, ℕ, List, Option, map}
 use Rattle.std.specs.Io.KnownBytes.{Appends}
 use Rattle.desk_common.specs.Causes.{Rose}
 use Rattle.desk_common.specs.Fronts.{IsProperPrefix}
