@@ -12,11 +12,12 @@ use crate::explaining::{BAD_WORDS, TEXT_FAULT, WORDS_FAULT, WORDS_MEMORY, senten
 use crate::store::{close, open};
 use fault_notes::shown;
 use sms_base::{Source, StdSink, StdSource, Words, read_words};
-use smsd_words::{Asked, Listing, Task, WordsErr, shown_text, task_asked};
+use smsd_words::{Asked, Task, WordsErr, shown_text, task_asked};
 use std::fs;
 use std::io::{self, Write};
 use std::process::ExitCode;
 use store_calls::{StoreStatus, store_list, store_run};
+use store_report::Listing;
 
 fn main(rt: HostRuntime) -> ExitCode {
     match read_words(&rt) {

@@ -6,8 +6,8 @@ use Rattle.clap.specs.Words.{IsAmong, Row, Text, fault_of, first_of, subcommand_
 use Rattle.clap.specs.declared.error.kind.ErrorKind.{ErrorKind}
 use Rattle.clap.specs.declared.error.kind.ErrorKind.TheVariants as kind
 use Rattle.smsd_words.specs.Command.{smsd}
-use Rattle.smsd_words.specs.declared.listing.Listing.{Listing}
-use Rattle.smsd_words.specs.declared.listing.Listing.TheVariants.{Volumes, Sets, Extents}
+use Rattle.store_report.specs.declared.listing.Listing.{Listing}
+use Rattle.store_report.specs.declared.listing.Listing.TheVariants.{Volumes, Sets, Extents}
 use Rattle.smsd_words.specs.declared.task.Asked.{Asked}
 use Rattle.smsd_words.specs.declared.task.Task.{Task}
 use Rattle.smsd_words.specs.declared.task.Task.TheVariants as tasks

@@ -3,13 +3,11 @@
 
 mod command;
 mod examples;
-mod listing;
 mod printed;
 mod reading;
 mod task;
 mod words_err;
 
-pub use listing::Listing;
 pub use reading::{shown_text, task_asked};
 pub use task::{Asked, Task};
 pub use words_err::WordsErr;

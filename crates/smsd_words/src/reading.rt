@@ -2,20 +2,20 @@
 ghost use Rattle.std.specs.Prelude.{◌≡◌, ◌⊎◌, [], MatchOption, Some, IfOk, IfErr, map, option_map, string_bytes};
 ghost use Rattle.clap.specs.Words.{kind_of, first_of, found_of, fault_of, rows_of, IsAmong, subcommand_of, subcommand_rows_of};
 ghost use Rattle.desk_common.specs.Exact.{MayRefuse};
-ghost use Rattle.smsd_words.specs.Asking.{AskFor, AsksTask, Finds, Hinders, err_of, is_set, store_of};
+ghost use Rattle.smsd_words.specs.Asking.{AskFor, AsksTask, Finds, Hinders, err_of, is_set, listing_of, store_of};
 ghost use Rattle.smsd_words.specs.Command.{smsd};
 ghost use Rattle.smsd_words.specs.declared.task.Asked.{Asked as AskedOf};
 ghost use Rattle.smsd_words.specs.declared.task.Task.{Task as TaskOf};
 
 use crate::command::smsd_command;
 use crate::examples::examples_of;
-use crate::listing::Listing;
 use crate::printed::printed_words;
 use crate::task::{Asked, Task};
 use crate::words_err::WordsErr;
 use clap::error::ErrorKind;
 use clap::{ArgMatches, Error};
 use std::alloc::{AllocError, Global};
+use store_report::Listing;
 
 // The store of words that name none.
 const STORE: &str = "desk.db";
@@ -74,7 +74,23 @@ fn task_of<'a>(name: &str, matches: &ArgMatches<'a>) -> Option<Task<'a>>
     }
     if name == "list" {
         let what = value_of(matches, "what")?;
-        return Some(Task::List(Listing::named(what)?));
+        return Some(Task::List(listing_named(what)?));
+    }
+    None
+}
+
+// The listing that a word names.
+fn listing_named(word: &str) -> Option<Listing>
+    ensures { result ≡ listing_of word.now }
+{
+    if word == "volumes" {
+        return Some(Listing::Volumes);
+    }
+    if word == "sets" {
+        return Some(Listing::Sets);
+    }
+    if word == "extents" {
+        return Some(Listing::Extents);
     }
     None
 }

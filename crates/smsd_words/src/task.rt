@@ -1,5 +1,5 @@
 //! What the words of the command line ask for.
-use crate::listing::Listing;
+use store_report::Listing;
 
 /// What is asked for, and of which store.
 #[derive(Clone, Copy, Debug, PartialEq, Eq)]

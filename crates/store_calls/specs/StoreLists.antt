@@ -13,8 +13,8 @@ use Rattle.store_report.specs.Tables.{extents_table, sets_table}
 use Rattle.desk_calls.specs.declared.status.RunStatus.{RunStatus}
 use Rattle.desk_calls.specs.declared.status.RunStatus.TheVariants.{Done, BadWords, ReadFault, WriteFault, Script}
 use Rattle.desk_calls.specs.declared.status.RunStatus.TheVariants.{TooLong, NoMemory}
-use Rattle.smsd_words.specs.declared.listing.Listing.{Listing}
-use Rattle.smsd_words.specs.declared.listing.Listing.TheVariants as lists
+use Rattle.store_report.specs.declared.listing.Listing.{Listing}
+use Rattle.store_report.specs.declared.listing.Listing.TheVariants as lists
 use Rattle.store_calls.specs.Opened.{IsUnopened, WasOpened}
 use Rattle.store_calls.specs.declared.status.StoreStatus.{StoreStatus}
 use Rattle.store_calls.specs.declared.status.StoreStatus.TheVariants.{Ran, Unopened}

@@ -2,7 +2,7 @@
 ghost use Rattle.std.specs.Prelude.{◌≡◌, [], IfErr, IfOk, true};
 ghost use Rattle.desk_law.specs.State.{Opening as Begun};
 ghost use Rattle.sms_open.specs.Reopening.{refusal_of_load, refusal_of_rows};
-ghost use Rattle.smsd_words.specs.declared.listing.Listing.{Listing as Listed};
+ghost use Rattle.store_report.specs.declared.listing.Listing.{Listing as Listed};
 ghost use Rattle.store_calls.specs.StoreLists.{IsListed, ListEnds, StoreListEnds, seen_sink};
 ghost use Rattle.store_calls.specs.Opened.{IsUnopened, WasOpened};
 ghost use Rattle.store_calls.specs.Statuses.{leaves_sink, leaves_sink_of};
@@ -14,9 +14,8 @@ use sms_core::Core;
 use sms_keeper::{Keeper, LoadErr, Rows, Stored};
 use sms_open::{OpenErr, RowsErr, reopen, test_rows};
 use sms_report::volumes_csv;
-use smsd_words::Listing;
 use std::alloc::{AllocError, Global};
-use store_report::{extents_csv, sets_csv};
+use store_report::{Listing, extents_csv, sets_csv};
 
 /// Writes the list of what the store holds to the sink. Nothing of the store is written: it isn't even made ready. It
 /// hands the keeper back (docs/manual/smsd.md, "Lists").

@@ -1,10 +1,10 @@
 //! Calls over a store in memory.
 use sms_base::{MemSink, MemSource};
 use sms_keeper::Stored;
-use smsd_words::Listing;
 use std::alloc::Global;
 use std::test::Fail;
 use store_calls::{StoreStatus, store_list, store_run};
+use store_report::Listing;
 
 const ROOM: usize = 4_000;
 

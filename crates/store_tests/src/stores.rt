@@ -3,10 +3,10 @@ use crate::calls::{list, run};
 use desk_calls::RunStatus;
 use sms_keeper::{FaultKeeper, MemKeeper};
 use sms_open::OpenErr;
-use smsd_words::Listing;
 use std::alloc::Global;
 use std::test::Fail;
 use store_calls::StoreStatus;
+use store_report::Listing;
 
 const DONE: StoreStatus = StoreStatus::Ran(RunStatus::Done);
 

@@ -1,7 +1,8 @@
 //! What words of the command line ask for.
-use smsd_words::{Asked, Listing, Task, WordsErr, task_asked};
+use smsd_words::{Asked, Task, WordsErr, task_asked};
 use std::alloc::Global;
 use std::test::Fail;
+use store_report::Listing;
 
 #[rattlefmt::skip]
 static ASKED: &[(&[&str], Asked<'static>)] = &[

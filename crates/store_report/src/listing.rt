@@ -1,0 +1,12 @@
+//! What can be listed.
+
+/// What a store is asked to list (docs/manual/smsd.md, "Lists").
+#[derive(Clone, Copy, Debug, PartialEq, Eq)]
+pub enum Listing {
+    /// The volumes of the active configuration.
+    Volumes,
+    /// The catalogued data sets.
+    Sets,
+    /// Their extents.
+    Extents,
+}
