@@ -8,4 +8,19 @@ abbrev set : App → App
 set a = record a { top = record a.top { no_binary_name = true; disable_help_subcommand = true; subcommand_required = true; has_version = true } }
 
 pub returns : goal.returns
-returns c = ?
+returns c =
+    let script_is : rule_of c.new-script.result ≡ script_rule = search rules in
+    let volumes_is : rule_of c.action-volumes.result ≡ volumes_rule = search rules in
+    let run_store_is : rule_of c.long-run_store.result ≡ store_rule = search rules in
+    let what_is : rule_of c.required-what.result ≡ what_rule = search rules in
+    let list_store_is : rule_of c.long-list_store.result ≡ store_rule = search rules in
+    let run_is : app_of c.in_ok-run.run ≡ run_app =
+    c.in_ok-run.ensures.shape (search rules)
+    ∙ ap₂ with_rule (c.in_ok-arg-2.ensures.shape (search rules) ∙ ap₂ with_rule (c.in_ok-arg.ensures.shape (search rules) ∙ ap₂ with_rule c.new-3.ensures.app script_is) volumes_is) run_store_is in
+    let list_is : app_of c.in_ok-list.list ≡ list_app =
+    c.in_ok-list.ensures.shape (search rules) ∙ ap₂ with_rule (c.in_ok-arg-3.ensures.shape (search rules) ∙ ap₂ with_rule c.new-6.ensures.app what_is) list_store_is in
+    let smsd_is : app_of c.subcommand_required-smsd.result ≡ set (new_app (codes "smsd")) =
+    rw (c.subcommand_required-smsd.ensures, c.disable_help_subcommand.ensures, c.no_binary_name.ensures, c.version.ensures) (ap set c.new-7.ensures.app) in
+    let one = c.in_ok-subcommand.ensures.shape (search rules)
+    ∙ ap₂ with_subcommand smsd_is (ap (λ (a : App). a.top) run_is) in
+    IfOk-weaker c.subcommand-2.result _ _ (λ r h. h.shape (search rules) ∙ ap₂ with_subcommand one (ap (λ (a : App). a.top) list_is)) c.subcommand-2.ensures

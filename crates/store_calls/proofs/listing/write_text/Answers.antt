@@ -1,0 +1,1 @@
+use Rattle.store_calls.proofs.listing.write_text.Goals as goal
