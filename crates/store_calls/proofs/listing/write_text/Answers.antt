@@ -1,1 +1,0 @@
-use Rattle.store_calls.proofs.listing.write_text.Goals as goal
