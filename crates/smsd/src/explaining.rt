@@ -14,7 +14,8 @@ pub const BAD_WORDS: &str = "what can be listed are volumes, sets and extents";
 
 pub const TEXT_FAULT: &str = "standard output can't be written; a front of the text may be there";
 
-pub const TEXT_MEMORY: &str = "memory is wanting; nothing was written, and what was answered is kept";
+pub const TEXT_MEMORY: &str =
+    "memory is wanting; nothing was written, and what was answered is kept";
 
 pub const OPEN_MEMORY: &str = "memory is wanting; nothing was read";
 
@@ -27,11 +28,13 @@ pub fn sentence_of(alloc: Global, status: StoreStatus) -> Result<String, AllocEr
         StoreStatus::Unopened(OpenErr::Damaged(table, row)) => {
             let name = name_of_table(table);
             format!(in alloc;
-                "row {row} of the table {name} is damaged, counted from 0 in the order of its key; nothing was done")
+                "row {row} of the table {name} is damaged, counted from 0 in the order of its key; nothing was done"
+            )
         }
         StoreStatus::Unopened(OpenErr::Unsound(number)) => {
             format!(in alloc;
-                "the store fails test {number} of docs/manual/records.md, \"Found rows\"; nothing was done")
+                "the store fails test {number} of docs/manual/records.md, \"Found rows\"; nothing was done"
+            )
         }
         StoreStatus::Ran(status) => format!(in alloc; "{}", sentence_of_run(status)),
         StoreStatus::Unopened(err) => format!(in alloc; "{}", sentence_of_opening(err)),

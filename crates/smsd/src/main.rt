@@ -52,7 +52,9 @@ fn run_file(rt: &HostRuntime, store: &str, volumes: bool, path: &str) -> ExitCod
         Ok(file) => run(rt, store, volumes, &mut StdSource::new(file)),
         Err(error) => {
             if let Ok(name) = shown(rt.alloc(), path.as_bytes()) {
-                let _ = eprintln!(rt; "smsd: '{name}' can't be opened: {error}; nothing was answered");
+                let _ = eprintln!(rt;
+                    "smsd: '{name}' can't be opened: {error}; nothing was answered"
+                );
             }
             end(rt, 3, "")
         }

@@ -56,12 +56,16 @@ module _ {P : Type 0} (told_by : Ghosts P) (damage : P → Option (Table × ℕ)
       → Stays (told_by.told before) (told_by.told after) → told_by.count after ≡ told_by.count before
       → IsVerdict rows (Ok config) ⊎ IsErrOf (Ok config) NoMemory
       → (o : Opening) × (o.rows ≡ rows) × WasOpened told_by damage before after o
-  loaded_rows before after rows config loaded sound kept stands verdict = (opening_of rows config, refl, record {
-    opened = record { tables = loaded; verdict = verdict_of rows config verdict; opening = refl };
-    undamaged = sound;
-    tables = kept;
-    count = stands;
-  })
+  loaded_rows before after rows config loaded sound kept stands verdict = (
+    opening_of rows config,
+    refl,
+    record {
+      opened = record { tables = loaded; verdict = verdict_of rows config verdict; opening = refl };
+      undamaged = sound;
+      tables = kept;
+      count = stands;
+    },
+  )
 
   -- rows that were loaded and fail a test
   pub refused_rows : (before after : P) (rows : Rows) (err : RowsErr) → IfSome (told_by.told after) (λ tables. AreLoaded tables rows) → damage after ≡ None

@@ -44,10 +44,7 @@ fn list_volumes<K: Sink, P: Stored>(alloc: Global, out: &mut K, keeper: P) -> (S
     match reopen(alloc, keeper) {
         Ok(core) => {
             let text = volumes_text(alloc, &core);
-            (
-                StoreStatus::Ran(write_text(out, text)),
-                core.into_keeper(),
-            )
+            (StoreStatus::Ran(write_text(out, text)), core.into_keeper())
         }
         Err((keeper, err)) => (StoreStatus::Unopened(err), keeper),
     }

@@ -89,9 +89,11 @@ fn lists_nothing(alloc: Global) -> Result<bool, Fail> {
 fn refuses(alloc: Global) -> Result<bool, Fail> {
     let keeper = FaultKeeper::new(alloc, &[0])?;
     let (status, out, _) = run(alloc, MONDAY, keeper)?;
-    Ok(status == StoreStatus::Unopened(OpenErr::Failed)
-        && status.code() == 10
-        && out.taken().is_empty())
+    Ok(
+        status == StoreStatus::Unopened(OpenErr::Failed)
+            && status.code() == 10
+            && out.taken().is_empty(),
+    )
 }
 
 #[test]
