@@ -1,5 +1,6 @@
 -- What words ask for, and why they ask for nothing.
-use Rattle.std.proofs.Common.{◌≡◌, ap, refl, subst, sym, List, [], true, false, Option, Some, inl, inr, ◌⊎◌}
+use Rattle.std.proofs.Common.{◌≡◌, ap, refl, subst, sym, List, [], true, false, Option, Some, inl, inr, ◌⊎◌, Result, Ok, Err, IfOk, IfErr}
+use Rattle.std.specs.Prelude.{OnErr}
 use Rattle.clap.specs.Walk.{Row, Text}
 use Rattle.clap.specs.Words.{IsAmong, Kinds, fault_of, subcommand_of}
 use Rattle.clap.specs.declared.error.kind.ErrorKind.{ErrorKind}
@@ -50,3 +51,21 @@ answered words k asked asks why = elim why [
   | inl memory ↦ ap err_of memory
   | inr among ↦ absurd (subst (λ (kinds : Kinds). IsAmong k kinds) asks.free among)
 ]
+
+-- What a reading without faults comes to.
+
+module _ (words : List Text) (found : Option (Text × List Row)) (free : fault_of smsd words ≡ []) (same : found ≡ subcommand_of smsd words) where
+  finds-in : (asked : Asked) → Finds (subcommand_of smsd words) asked → Finds found asked
+  finds-in asked finds = subst (λ (x : Option (Text × List Row)). Finds x asked) (sym same) finds
+
+  pub asked_case : (r : Result Asked WordsErr) → IfOk r (Finds found) → IfOk r (AskFor words)
+  asked_case (Ok asked) finds = record { free = free; found = subst (λ (x : Option (Text × List Row)). Finds x asked) same finds }
+  asked_case (Err e) finds = tt
+
+  pub hindered_case : (r : Result Asked WordsErr) → IfErr r (λ err. err ≡ errs.Bad) → OnErr r ((asked : Asked) → Finds found asked → ⊥) → IfErr r (MayHinder words)
+  hindered_case (Ok asked) bad none = tt
+  hindered_case (Err e) bad none = subst (MayHinder words) (sym bad) (inl (inr (record { free = free; none = λ asked finds. none asked (finds-in asked finds) })))
+
+  pub answered_case : (r : Result Asked WordsErr) → OnErr r ((asked : Asked) → Finds found asked → ⊥) → (asked : Asked) → AskFor words asked → IfErr r (λ err. err ≡ errs.NoMemory)
+  answered_case (Ok other) none asked asks = tt
+  answered_case (Err e) none asked asks = absurd (none asked (finds-in asked asks.found))

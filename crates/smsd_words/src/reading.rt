@@ -1,6 +1,8 @@
 //! Reading the words.
-ghost use Rattle.std.specs.Prelude.{◌≡◌, ◌⊎◌, [], MatchOption, Some, IfOk, IfErr, map, option_map, string_bytes};
-ghost use Rattle.clap.specs.Words.{kind_of, first_of, found_of, fault_of, rows_of, IsAmong, subcommand_of, subcommand_rows_of};
+ghost use Rattle.std.specs.Prelude.{◌≡◌, ◌⊎◌, [], MatchOption, Some, IfOk, IfErr, OnErr, map, option_map};
+ghost use Rattle.std.specs.Prelude.{string_bytes};
+ghost use Rattle.clap.specs.Words.{kind_of, first_of, found_of, fault_of, rows_of, IsAmong, subcommand_of};
+ghost use Rattle.clap.specs.Words.{subcommand_rows_of};
 ghost use Rattle.desk_common.specs.Exact.{MayRefuse};
 ghost use Rattle.smsd_words.specs.Asking.{AskFor, AsksTask, Finds, Hinders, err_of, is_set, listing_of, store_of};
 ghost use Rattle.smsd_words.specs.Command.{smsd};
@@ -41,11 +43,20 @@ pub fn task_asked<'a>(alloc: Global, words: &'a [String]) -> Result<Asked<'a>, W
         IfErr result (λ err. err ≡ WordsErr.NoMemory) }
 {
     match read_matches(alloc, words) {
-        Ok(matches) => match asked_in(&matches) {
-            Some(asked) => Ok(asked),
-            None => Err(WordsErr::Bad),
-        },
+        Ok(matches) => asked_or_bad(&matches),
         Err(error) => Err(words_err(error.kind())),
+    }
+}
+
+// What the subcommand that was found asks for, or that it asks for nothing.
+fn asked_or_bad<'a>(matches: &ArgMatches<'a>) -> Result<Asked<'a>, WordsErr>
+    ensures asked { IfOk result (Finds (subcommand_rows_of matches.now)) }
+    ensures bad { IfErr result (λ err. err ≡ WordsErr.Bad) }
+    ensures none { OnErr result ((asked : AskedOf) → Finds (subcommand_rows_of matches.now) asked → ⊥) }
+{
+    match asked_in(matches) {
+        Some(asked) => Ok(asked),
+        None => Err(WordsErr::Bad),
     }
 }
 

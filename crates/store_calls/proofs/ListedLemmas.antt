@@ -1,5 +1,5 @@
 -- What is listed, and what is said of a store that isn't.
-use Rattle.std.proofs.Common.{◌≡◌, refl, None, Some, Ok, Err, Result, inl, inr, ◌⊎◌}
+use Rattle.std.proofs.Common.{◌≡◌, refl, None, Some, Ok, Err, IfOk, IfErr, Result, inl, inr, ◌⊎◌}
 use Rattle.std.specs.Prelude.{ℕ, IfSome, IsErrOf, Option}
 use Rattle.desk_common.specs.Causes.{Rose}
 use Rattle.desk_law.specs.State.{Opening}
@@ -12,8 +12,9 @@ use Rattle.sms_keeper.specs.declared.load_err.LoadErr.{LoadErr}
 use Rattle.sms_keeper.specs.declared.load_err.LoadErr.TheVariants as loads
 use Rattle.sms_keeper.specs.declared.rows.Rows.{Rows}
 use Rattle.sms_keeper.specs.declared.table.Table.{Table}
-use Rattle.sms_open.specs.Reopening.{NamesRefusal, refusal_of_load, refusal_of_rows}
+use Rattle.sms_open.specs.Reopening.{IsOpened, NamesRefusal, refusal_of_load, refusal_of_rows}
 use Rattle.sms_open.specs.Verdicts.{IsVerdict}
+use Rattle.sms_open.specs.declared.open_err.OpenErr.{OpenErr}
 use Rattle.sms_open.specs.declared.open_err.OpenErr.TheVariants.{Failed}
 use Rattle.sms_open.specs.declared.rows_err.RowsErr.{RowsErr}
 use Rattle.sms_open.specs.declared.rows_err.RowsErr.TheVariants.{Unsound, NoMemory}
@@ -21,7 +22,7 @@ use Rattle.store_calls.specs.Opened.{IsUnopened, WasOpened}
 use Rattle.store_calls.proofs.OpenedLemmas.{same_of_stays}
 
 -- rows that fail a test are told by its number
-names_rows : (told : Option Rows) (damage : Option (Table × ℕ)) (rows : Rows) (err : RowsErr) → damage ≡ None → IfSome told (λ tables. AreLoaded tables rows)
+pub names_rows : (told : Option Rows) (damage : Option (Table × ℕ)) (rows : Rows) (err : RowsErr) → damage ≡ None → IfSome told (λ tables. AreLoaded tables rows)
     → IsVerdict rows (Err err) ⊎ IsErrOf {T = Option Configuration} (Err err) NoMemory → NamesRefusal told damage (refusal_of_rows err)
 names_rows told damage rows (Unsound number) none tables (inl verdict) = (none, record { rows = rows; tables = tables; verdict = verdict })
 names_rows told damage rows (Unsound number) none tables (inr wanting) = absurd cc
@@ -32,7 +33,7 @@ names_load told damage loads.Failed names = tt
 names_load told damage (loads.Damaged table row) names = names
 names_load told damage loads.NoMemory names = tt
 
-not_failed : (err : RowsErr) → refusal_of_rows err ≡ Failed → ⊥
+pub not_failed : (err : RowsErr) → refusal_of_rows err ≡ Failed → ⊥
 not_failed (Unsound number) e = cc e
 not_failed NoMemory e = cc e
 
@@ -50,34 +51,31 @@ load_unfailed loads.Failed same stands other = absurd (other refl)
 load_unfailed (loads.Damaged table row) same stands other = stands (λ e. cc e)
 load_unfailed loads.NoMemory same stands other = stands (λ e. cc e)
 
-module _ {P : Type 0} (told_by : Ghosts P) (damage : P → Option (Table × ℕ)) where
-  -- rows that were loaded and pass all tests
-  pub loaded_rows : (before after : P) (rows : Rows) (config : Option Configuration) → IfSome (told_by.told after) (λ tables. AreLoaded tables rows) → damage after ≡ None
-      → Stays (told_by.told before) (told_by.told after) → told_by.count after ≡ told_by.count before
-      → IsVerdict rows (Ok config) ⊎ IsErrOf (Ok config) NoMemory
-      → (o : Opening) × (o.rows ≡ rows) × WasOpened told_by damage before after o
-  loaded_rows before after rows config loaded sound kept stands verdict = (
-    opening_of rows config,
-    refl,
-    record {
-      opened = record { tables = loaded; verdict = verdict_of rows config verdict; opening = refl };
-      undamaged = sound;
-      tables = kept;
-      count = stands;
-    },
-  )
+-- rows that pass all tests, as the opening that they give
+pub opened_rows : (told : Option Rows) (rows : Rows) (config : Option Configuration) → IfSome told (λ tables. AreLoaded tables rows)
+    → IsVerdict rows (Ok config) ⊎ IsErrOf (Ok config) NoMemory → (o : Opening) × (o.rows ≡ rows) × IsOpened told o
+opened_rows told rows config loaded verdict = (opening_of rows config, refl, record { tables = loaded; verdict = verdict_of rows config verdict; opening = refl })
 
-  -- rows that were loaded and fail a test
-  pub refused_rows : (before after : P) (rows : Rows) (err : RowsErr) → IfSome (told_by.told after) (λ tables. AreLoaded tables rows) → damage after ≡ None
-      → Stays (told_by.told before) (told_by.told after) → StaysDamaged (damage before) (damage after) → told_by.count after ≡ told_by.count before
-      → IsVerdict rows (Err err) ⊎ IsErrOf {T = Option Configuration} (Err err) NoMemory → IsUnopened told_by damage before after (refusal_of_rows err)
-  refused_rows before after rows err loaded sound kept damaged stands verdict = record {
+module _ {P : Type 0} (told_by : Ghosts P) (damage : P → Option (Table × ℕ)) where
+  -- rows that were loaded and tested
+  pub loaded_case : (r : Result (P × Rows) (P × OpenErr)) (before after : P) → damage after ≡ None → Stays (told_by.told before) (told_by.told after) → told_by.count after ≡ told_by.count before
+      → IfOk r (λ found. found.0 ≡ after) → IfOk r (λ found. (o : Opening) × (o.rows ≡ found.1) × IsOpened (told_by.told after) o)
+      → IfOk r (λ found. (o : Opening) × (o.rows ≡ found.1) × WasOpened told_by damage before found.0 o)
+  loaded_case (Ok found) before after sound kept stands same opened =
+      (opened.0, opened.1, rw same (record { opened = opened.2; undamaged = sound; tables = kept; count = stands }))
+  loaded_case (Err back) before after sound kept stands same opened = tt
+
+  pub tested_case : (r : Result (P × Rows) (P × OpenErr)) (before after : P) → Stays (told_by.told before) (told_by.told after) → StaysDamaged (damage before) (damage after)
+      → told_by.count after ≡ told_by.count before → IfErr r (λ back. back.0 ≡ after) → IfErr r (λ back. NamesRefusal (told_by.told after) (damage after) back.1)
+      → IfErr r (λ back. back.1 ≡ Failed → ⊥) → IfErr r (λ back. IsUnopened told_by damage before back.0 back.1)
+  tested_case (Ok found) before after kept damaged stands same names unfailed = tt
+  tested_case (Err back) before after kept damaged stands same names unfailed = rw same (record {
     tables = kept;
     damage_stays = same_of_stays (damage before) (damage after) damaged;
-    names = names_rows (told_by.told after) (damage after) rows err sound loaded verdict;
-    cause = λ failed. absurd (not_failed err failed);
+    names = names;
+    cause = λ failed. absurd (unfailed failed);
     unfailed = λ other. stands;
-  }
+  })
 
   -- tables that weren't loaded
   pub refused_load : (before after : P) (err : LoadErr) → NamesDamage (told_by.told after) (damage after) err → Stays (told_by.told before) (told_by.told after)

@@ -1,7 +1,8 @@
 //! A list of what a store holds.
-ghost use Rattle.std.specs.Prelude.{◌≡◌, [], IfErr, IfOk, true};
+ghost use Rattle.std.specs.Prelude.{◌≡◌, [], None, IfErr, IfOk, IfSome, true};
 ghost use Rattle.desk_law.specs.State.{Opening as Begun};
-ghost use Rattle.sms_open.specs.Reopening.{refusal_of_load, refusal_of_rows};
+ghost use Rattle.sms_keeper.specs.Loading.{AreLoaded};
+ghost use Rattle.sms_open.specs.Reopening.{IsOpened, NamesRefusal, refusal_of_load, refusal_of_rows};
 ghost use Rattle.store_report.specs.declared.listing.Listing.{Listing as Listed};
 ghost use Rattle.store_calls.specs.StoreLists.{IsListed, ListEnds, StoreListEnds, seen_sink};
 ghost use Rattle.store_calls.specs.Opened.{IsUnopened, WasOpened};
@@ -99,11 +100,24 @@ fn load_store<P: Stored>(alloc: Global, mut keeper: P) -> Result<(P, Rows), (P, 
     ensures refused { IfErr result (λ back. IsUnopened P.Keeper P.damage keeper back.0 back.1) }
 {
     match keeper.load() {
-        Ok(rows) => match test_rows(alloc, &rows) {
-            Ok(_config) => Ok((keeper, rows)),
-            Err(err) => Err((keeper, refusal_of_rows(err))),
-        },
+        Ok(rows) => tested(alloc, keeper, rows),
         Err(err) => Err((keeper, refusal_of_load(err))),
+    }
+}
+
+// The same keeper with these rows, which it loaded, where they pass all tests.
+fn tested<P: Stored>(alloc: Global, keeper: P, rows: Rows) -> Result<(P, Rows), (P, OpenErr)>
+    requires loaded { IfSome (P.Keeper.told keeper) (λ tables. AreLoaded tables rows) }
+    requires undamaged { P.damage keeper ≡ None }
+    ensures keeper { IfOk result (λ found. found.0 ≡ keeper) }
+    ensures opened { IfOk result (λ found. (o : Begun) × (o.rows ≡ found.1) × IsOpened (P.Keeper.told keeper) o) }
+    ensures left { IfErr result (λ back. back.0 ≡ keeper) }
+    ensures refused { IfErr result (λ back. NamesRefusal (P.Keeper.told keeper) (P.damage keeper) back.1) }
+    ensures unfailed { IfErr result (λ back. back.1 ≡ OpenErr.Failed → ⊥) }
+{
+    match test_rows(alloc, &rows) {
+        Ok(_config) => Ok((keeper, rows)),
+        Err(err) => Err((keeper, refusal_of_rows(err))),
     }
 }
 

@@ -1,22 +1,18 @@
-use Rattle.std.proofs.Common.{◌≡◌, ap, sym, subst, List, Option, ◌∙◌, inl, inr}
-use Rattle.clap.specs.Walk.{Row, Text}
+use Rattle.std.proofs.Common.{◌≡◌, ap, sym, subst, ◌∙◌}
 use Rattle.clap.specs.Words.{kind_of}
 use Rattle.clap.specs.declared.error.kind.ErrorKind.{ErrorKind}
-use Rattle.smsd_words.specs.Asking.{Finds, err_of}
-use Rattle.smsd_words.proofs.AskedLemmas.{MayHinder, answered, hindered}
+use Rattle.smsd_words.specs.Asking.{err_of}
+use Rattle.smsd_words.proofs.AskedLemmas.{MayHinder, answered, answered_case, asked_case, hindered, hindered_case}
 use Rattle.smsd_words.proofs.reading.task_asked.Goals as goal
 
-pub returns-in-Ok-in-Some-clause-asked : goal.returns-in-Ok-in-Some-clause-asked
-returns-in-Ok-in-Some-clause-asked c =
-    record { free = c.in-Ok.ensures.free; found = subst (λ (x : Option (Text × List Row)). Finds x c.in-Ok-in-Some.asked) c.in-Ok.ensures.found c.in-Ok-in-Some.ensures }
+pub returns-in-Ok-clause-asked : goal.returns-in-Ok-clause-asked
+returns-in-Ok-clause-asked c = asked_case _ _ c.in-Ok.ensures.free c.in-Ok.ensures.found c.asked_or_bad.result c.asked_or_bad.ensures.asked
 
-pub returns-in-Ok-in-None-clause-hindered : goal.returns-in-Ok-in-None-clause-hindered
-returns-in-Ok-in-None-clause-hindered c =
-    inl (inr (record { free = c.in-Ok.ensures.free; none = λ asked finds. c.in-Ok-in-None.ensures asked (subst (λ (x : Option (Text × List Row)). Finds x asked) (sym c.in-Ok.ensures.found) finds) }))
+pub returns-in-Ok-clause-hindered : goal.returns-in-Ok-clause-hindered
+returns-in-Ok-clause-hindered c = hindered_case _ _ c.in-Ok.ensures.free c.in-Ok.ensures.found c.asked_or_bad.result c.asked_or_bad.ensures.bad c.asked_or_bad.ensures.none
 
-pub returns-in-Ok-in-None-clause-answered : goal.returns-in-Ok-in-None-clause-answered
-returns-in-Ok-in-None-clause-answered c asked asks =
-    absurd (c.in-Ok-in-None.ensures asked (subst (λ (x : Option (Text × List Row)). Finds x asked) (sym c.in-Ok.ensures.found) asks.found))
+pub returns-in-Ok-clause-answered : goal.returns-in-Ok-clause-answered
+returns-in-Ok-clause-answered c asked asks = answered_case _ _ c.in-Ok.ensures.free c.in-Ok.ensures.found c.asked_or_bad.result c.asked_or_bad.ensures.none asked asks
 
 pub returns-in-Err-clause-hindered : goal.returns-in-Err-clause-hindered
 returns-in-Err-clause-hindered c =

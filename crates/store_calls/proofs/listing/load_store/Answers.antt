@@ -1,15 +1,14 @@
-use Rattle.store_calls.proofs.ListedLemmas.{loaded_rows, refused_load, refused_rows}
+use Rattle.store_calls.proofs.ListedLemmas.{loaded_case, refused_load, tested_case}
 use Rattle.store_calls.proofs.listing.load_store.Goals as goal
 
-pub returns-in-Ok-in-Ok-clause-opened : goal.returns-in-Ok-in-Ok-clause-opened
-returns-in-Ok-in-Ok-clause-opened g c =
-    loaded_rows g.P.Keeper g.P.Stored.damage _ _ c.in-Ok.rows c.in-Ok-in-Ok._config c.in-Ok.ensures.loaded c.in-Ok.ensures.sound c.in-Ok.ensures.kept (c.in-Ok.ensures.stands (λ h. cc))
-    c.in-Ok-in-Ok.ensures.verdict
+pub returns-in-Ok-clause-opened : goal.returns-in-Ok-clause-opened
+returns-in-Ok-clause-opened g c =
+    loaded_case g.P.Keeper g.P.Stored.damage c.tested.result _ _ c.in-Ok.ensures.sound c.in-Ok.ensures.kept (c.in-Ok.ensures.stands (λ h. cc)) c.tested.ensures.keeper c.tested.ensures.opened
 
-pub returns-in-Ok-in-Err-clause-refused : goal.returns-in-Ok-in-Err-clause-refused
-returns-in-Ok-in-Err-clause-refused g c =
-    rw c.refusal_of_rows.ensures (refused_rows g.P.Keeper g.P.Stored.damage _ _ c.in-Ok.rows c.in-Ok-in-Err.err c.in-Ok.ensures.loaded c.in-Ok.ensures.sound c.in-Ok.ensures.kept
-    c.in-Ok.ensures.damage_kept (c.in-Ok.ensures.stands (λ h. cc)) c.in-Ok-in-Err.ensures.verdict)
+pub returns-in-Ok-clause-refused : goal.returns-in-Ok-clause-refused
+returns-in-Ok-clause-refused g c =
+    tested_case g.P.Keeper g.P.Stored.damage c.tested.result _ _ c.in-Ok.ensures.kept c.in-Ok.ensures.damage_kept (c.in-Ok.ensures.stands (λ h. cc)) c.tested.ensures.left
+    c.tested.ensures.refused c.tested.ensures.unfailed
 
 pub returns-in-Err-clause-refused : goal.returns-in-Err-clause-refused
 returns-in-Err-clause-refused g c =
