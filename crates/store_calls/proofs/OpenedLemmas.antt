@@ -81,6 +81,6 @@ module _ {P : Type 0} (told_by : Ghosts P) (damage : P → Option (Table × ℕ)
     tables = stays_on (told_by.told before) (told_by.told ready) (told_by.told back.0) tables left;
     damage_stays = same_on_damage (damage before) (damage ready) (damage back.0) same damaged;
     names = names;
-    cause = λ failed. rw count at cause failed;
+    cause = λ failed. rw count at (cause failed);
     unfailed = λ other. unfailed other ∙ count;
   }
