@@ -103,10 +103,16 @@ fn push_extents(
     ensures { OnOk result (text.new.items ≡ text.old.items ++ flat_map extents_record sets.now) }
 {
     for set in sets {
-        let set = set.get();
-        push_extents_of(alloc, text, &set.dsn, set.extents.as_slice())?;
+        push_set_extents(alloc, text, set.get())?;
     }
     Ok(())
+}
+
+// The records of the extents of a data set.
+fn push_set_extents(alloc: Global, text: &mut Vec<u8>, set: &DataSet) -> Result<(), AllocError>
+    ensures { OnOk result (text.new.items ≡ text.old.items ++ extents_record set.now) }
+{
+    push_extents_of(alloc, text, &set.dsn, set.extents.as_slice())
 }
 
 // The records of the extents of the data set of this name.
