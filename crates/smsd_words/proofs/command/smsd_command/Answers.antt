@@ -1,7 +1,9 @@
-use Rattle.std.proofs.Common.{rules, ap, ap₂, ◌∙◌, ◌≡◌, codes, true}
+use Rattle.std.proofs.Common.{rules, ap, ap₂, ◌∙◌, ◌≡◌, codes, true, Some}
 use Rattle.std.proofs.lemmas.Result.{IfOk-weaker}
+use Rattle.clap.specs.Walk.{Rule}
+use Rattle.clap.specs.declared.builder.action.ArgAction.TheVariants.{SetTrue}
 use Rattle.clap.specs.Words.{App, app_of, rule_of, new_app, with_rule, with_subcommand}
-use Rattle.smsd_words.specs.Command.{list_app, run_app, script_rule, store_rule, volumes_rule, what_rule}
+use Rattle.smsd_words.specs.Command.{script_rule, store_rule, volumes_rule, what_rule}
 use Rattle.smsd_words.proofs.command.smsd_command.Goals as goal
 
 abbrev set : App → App
@@ -10,14 +12,17 @@ set a = record a { top = record a.top { no_binary_name = true; disable_help_subc
 pub returns : goal.returns
 returns c =
     let script_is : rule_of c.new-script.result ≡ script_rule = search rules in
-    let volumes_is : rule_of c.action-volumes.result ≡ volumes_rule = search rules in
-    let run_store_is : rule_of c.long-run_store.result ≡ store_rule = search rules in
+    let volumes_is : rule_of c.action-volumes.result ≡ volumes_rule =
+    rw (c.action-volumes.ensures, c.long.ensures) (ap (λ (r : Rule). record r { long = Some (codes "volumes"); action = Some SetTrue }) c.new.ensures.rule) in
+    let run_store_is : rule_of c.long-run_store.result ≡ store_rule =
+    rw c.long-run_store.ensures (ap (λ (r : Rule). record r { long = Some (codes "store") }) c.new-2.ensures.rule) in
     let what_is : rule_of c.required-what.result ≡ what_rule = search rules in
-    let list_store_is : rule_of c.long-list_store.result ≡ store_rule = search rules in
-    let run_is : app_of c.in_ok-run.run ≡ run_app =
+    let list_store_is : rule_of c.long-list_store.result ≡ store_rule =
+    rw c.long-list_store.ensures (ap (λ (r : Rule). record r { long = Some (codes "store") }) c.new-5.ensures.rule) in
+    let run_is =
     c.in_ok-run.ensures.shape (search rules)
     ∙ ap₂ with_rule (c.in_ok-arg-2.ensures.shape (search rules) ∙ ap₂ with_rule (c.in_ok-arg.ensures.shape (search rules) ∙ ap₂ with_rule c.new-3.ensures.app script_is) volumes_is) run_store_is in
-    let list_is : app_of c.in_ok-list.list ≡ list_app =
+    let list_is =
     c.in_ok-list.ensures.shape (search rules) ∙ ap₂ with_rule (c.in_ok-arg-3.ensures.shape (search rules) ∙ ap₂ with_rule c.new-6.ensures.app what_is) list_store_is in
     let smsd_is : app_of c.subcommand_required-smsd.result ≡ set (new_app (codes "smsd")) =
     rw (c.subcommand_required-smsd.ensures, c.disable_help_subcommand.ensures, c.no_binary_name.ensures, c.version.ensures) (ap set c.new-7.ensures.app) in

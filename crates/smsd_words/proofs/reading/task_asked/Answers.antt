@@ -1,4 +1,5 @@
-use Rattle.std.proofs.Common.{◌≡◌, ap, sym, subst, ◌∙◌}
+use Rattle.std.proofs.Common.{◌≡◌, ap, map, sym, subst, ◌∙◌}
+use Rattle.std.specs.Prelude.{string_bytes}
 use Rattle.clap.specs.Words.{kind_of}
 use Rattle.clap.specs.declared.error.kind.ErrorKind.{ErrorKind}
 use Rattle.smsd_words.specs.Asking.{err_of}
@@ -16,8 +17,9 @@ returns-in-Ok-clause-answered c asked asks = answered_case _ _ c.in-Ok.ensures.f
 
 pub returns-in-Err-clause-hindered : goal.returns-in-Err-clause-hindered
 returns-in-Err-clause-hindered c =
-    subst (MayHinder _) (sym c.words_err.ensures)
-    (subst (λ (k : ErrorKind). MayHinder _ (err_of k)) (sym c.kind.ensures) (hindered _ (kind_of c.in-Err.error) c.in-Err.ensures.err))
+    let words = map string_bytes c.args.words.now in
+    subst (MayHinder words) (sym c.words_err.ensures)
+    (subst (λ (k : ErrorKind). MayHinder words (err_of k)) (sym c.kind.ensures) (hindered words (kind_of c.in-Err.error) c.in-Err.ensures.err))
 
 pub returns-in-Err-clause-answered : goal.returns-in-Err-clause-answered
 returns-in-Err-clause-answered c asked asks =
