@@ -1,5 +1,5 @@
 -- What words ask for, and why they ask for nothing.
-use Rattle.std.proofs.Common.{◌≡◌, ap, refl, subst, sym, List, [], true, false, Option, Some, inl, inr, ◌⊎◌, Result, Ok, Err, IfOk, IfErr}
+use Rattle.std.proofs.Common.{◌≡◌, ap, refl, subst, sym, List, [], Option, Some, inl, inr, ◌⊎◌, Result, Ok, Err, IfOk, IfErr}
 use Rattle.std.specs.Prelude.{OnErr}
 use Rattle.clap.specs.Walk.{Row, Text}
 use Rattle.clap.specs.Words.{IsAmong, Kinds, fault_of, subcommand_of}

@@ -1,5 +1,5 @@
 -- What is listed, and what is said of a store that isn't.
-use Rattle.std.proofs.Common.{◌≡◌, refl, None, Some, Ok, Err, IfOk, IfErr, Result, inl, inr, ◌⊎◌}
+use Rattle.std.proofs.Common.{◌≡◌, refl, None, Ok, Err, IfOk, IfErr, Result, inl, inr, ◌⊎◌}
 use Rattle.std.specs.Prelude.{ℕ, IfSome, IsErrOf, Option}
 use Rattle.desk_common.specs.Causes.{Rose}
 use Rattle.desk_law.specs.State.{Opening}

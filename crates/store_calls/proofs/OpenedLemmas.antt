@@ -1,9 +1,8 @@
 -- What is said of the keeper as a desk found it, said of the keeper as it was handed in.
-use Rattle.std.proofs.Common.{◌≡◌, ◌∙◌, sym, None, Some, Ok, Err, IfOk, IfErr, Result, inl, inr}
+use Rattle.std.proofs.Common.{◌≡◌, ◌∙◌, sym, None, Some, Ok, Err, IfOk, IfErr, Result}
 use Rattle.std.proofs.lemmas.Option.{same_Some}
 use Rattle.std.specs.Prelude.{ℕ, IfSome, Option}
 use Rattle.desk_common.specs.Causes.{Rose}
-use Rattle.desk_law.specs.State.{Opening}
 use Rattle.sms_core.specs.Core.{CoreView, WasTold}
 use Rattle.sms_keeper.specs.Loading.{AreLoaded, SameDamage, StaysDamaged}
 use Rattle.sms_keeper.specs.Tables.{AreSame}

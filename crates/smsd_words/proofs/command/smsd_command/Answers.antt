@@ -1,4 +1,4 @@
-use Rattle.std.proofs.Common.{rules, ap, ap₂, ◌∙◌, ◌≡◌, codes, true, Some}
+use Rattle.std.proofs.Common.{rules, ap, ap₂, ◌∙◌, ◌≡◌, codes, refl, true, false, Some}
 use Rattle.std.proofs.lemmas.Result.{IfOk-weaker}
 use Rattle.clap.specs.Walk.{Rule}
 use Rattle.clap.specs.declared.builder.action.ArgAction.TheVariants.{SetTrue}
@@ -19,13 +19,18 @@ returns c =
     let what_is : rule_of c.required-what.result ≡ what_rule = search rules in
     let list_store_is : rule_of c.long-list_store.result ≡ store_rule =
     rw c.long-list_store.ensures (ap (λ (r : Rule). record r { long = Some (codes "store") }) c.new-5.ensures.rule) in
+    let volumes_local : c.action-volumes.result.global ≡ false = rw (c.action-volumes.ensures, c.long.ensures) c.new.ensures.optional.1 in
+    let run_store_local : c.long-run_store.result.global ≡ false = rw c.long-run_store.ensures c.new-2.ensures.optional.1 in
+    let what_local : c.required-what.result.global ≡ false = search rules in
+    let list_store_local : c.long-list_store.result.global ≡ false = rw c.long-list_store.ensures c.new-5.ensures.optional.1 in
     let run_is =
-    c.in_ok-run.ensures.shape (search rules)
-    ∙ ap₂ with_rule (c.in_ok-arg-2.ensures.shape (search rules) ∙ ap₂ with_rule (c.in_ok-arg.ensures.shape (search rules) ∙ ap₂ with_rule c.new-3.ensures.app script_is) volumes_is) run_store_is in
+    c.in_ok-run.ensures.shape run_store_local
+    ∙ ap₂ with_rule (c.in_ok-arg-2.ensures.shape volumes_local ∙ ap₂ with_rule (c.in_ok-arg.ensures.shape c.new-script.ensures.optional.1 ∙ ap₂ with_rule c.new-3.ensures.app script_is) volumes_is) run_store_is in
     let list_is =
-    c.in_ok-list.ensures.shape (search rules) ∙ ap₂ with_rule (c.in_ok-arg-3.ensures.shape (search rules) ∙ ap₂ with_rule c.new-6.ensures.app what_is) list_store_is in
+    c.in_ok-list.ensures.shape list_store_local ∙ ap₂ with_rule (c.in_ok-arg-3.ensures.shape what_local ∙ ap₂ with_rule c.new-6.ensures.app what_is) list_store_is in
     let smsd_is : app_of c.subcommand_required-smsd.result ≡ set (new_app (codes "smsd")) =
     rw (c.subcommand_required-smsd.ensures, c.disable_help_subcommand.ensures, c.no_binary_name.ensures, c.version.ensures) (ap set c.new-7.ensures.app) in
-    let one = c.in_ok-subcommand.ensures.shape (search rules)
+    let one = c.in_ok-subcommand.ensures.shape
+    (rw (c.in_ok-run.ensures.globals, c.in_ok-arg-2.ensures.globals, c.in_ok-arg.ensures.globals, c.new-3.ensures.local, c.new-script.ensures.optional.1, volumes_local, run_store_local) refl)
     ∙ ap₂ with_subcommand smsd_is (ap (λ (a : App). a.top) run_is) in
-    IfOk-weaker c.subcommand-2.result _ _ (λ r h. h.shape (search rules) ∙ ap₂ with_subcommand one (ap (λ (a : App). a.top) list_is)) c.subcommand-2.ensures
+    IfOk-weaker c.subcommand-2.result _ _ (λ r h. h.shape (rw (c.in_ok-list.ensures.globals, c.in_ok-arg-3.ensures.globals, c.new-6.ensures.local, what_local, list_store_local) refl) ∙ ap₂ with_subcommand one (ap (λ (a : App). a.top) list_is)) c.subcommand-2.ensures
