@@ -11,9 +11,9 @@ use deck_meaning::{Config, DeckErr};
 use desk_common::Items;
 use sms_construct::{DeckText, Op};
 use sms_deck::read_deck;
-use sms_explain::{DeckSources, all_items, first_other, sources_of};
+use sms_explain::{DeckSources, sources_of};
 use sms_script::{Item, Script};
-use sms_simulation::Simulated;
+use sms_simulation::{Simulated, all_items, first_other};
 use std::alloc::{AllocError, Global};
 
 /// What the allocations behind a script's first item reach of the routines of the deck that it activates

@@ -6,7 +6,6 @@ ghost use Rattle.sms_explain.specs.Explanation.{IsExplainedUnder, IsExplanation,
 ghost use Rattle.sms_explain.specs.Explanation.{head_text, told_of, told_text};
 
 use crate::deck_sources::{DeckSources, sources_of};
-use crate::items::{all_items, first_other};
 use crate::run_text::push_runs;
 use acs_tree::Slate;
 use deck_meaning::{Config, DeckErr};
@@ -15,7 +14,7 @@ use sms_classes::Classified;
 use sms_construct::{Alloc, DeckText, Op};
 use sms_deck::read_deck;
 use sms_script::{Item, Script, push_number_and_blank, push_word_and_blank};
-use sms_simulation::{Simulated, push_outcome, push_written};
+use sms_simulation::{Simulated, all_items, first_other, push_outcome, push_written};
 use sms_story::tell;
 use std::alloc::{AllocError, Global};
 

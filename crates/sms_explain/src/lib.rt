@@ -3,9 +3,7 @@
 
 mod deck_sources;
 mod explaining;
-mod items;
 mod run_text;
 
 pub use deck_sources::{DeckSources, sources_of};
 pub use explaining::explain;
-pub use items::{all_items, first_other};

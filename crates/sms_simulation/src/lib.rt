@@ -6,6 +6,7 @@ mod outcome;
 mod simulated;
 mod simulating;
 
+pub use items::{all_items, first_other};
 pub use outcome::{push_outcome, push_written};
 pub use simulated::Simulated;
 pub use simulating::simulate;
