@@ -1,0 +1,108 @@
+-- What pages of a desk show (docs/manual/smsd.md, "What pages show").
+use Rattle.std.specs.Prelude.{ℕ, ◌≡◌, List, Option, None, Some, codes, length, map, Bool, true, false, option_map}
+use Rattle.http_flow.specs.declared.page.Page.{Page}
+use Rattle.http_flow.specs.declared.page.PageStatus.{PageStatus}
+use Rattle.http_flow.specs.declared.page.PageStatus.TheVariants as statuses
+use Rattle.http_page.specs.Pages.{PageAsk}
+use Rattle.page_paths.specs.Paths.{page_path_of}
+use Rattle.page_paths.specs.declared.page_path.PagePath.{PagePath}
+use Rattle.page_paths.specs.declared.page_path.PagePath.TheVariants as paths
+use Rattle.page_text.specs.PageBodies.{desk_body, error_body, groups_body, health_body, set_body, sets_body}
+use Rattle.page_text.specs.PageBodies.{volume_body, volumes_body}
+use Rattle.sms_construct.specs.declared.data_set.DataSet.{DataSet}
+use Rattle.sms_construct.specs.declared.volume.VolumeDef.{VolumeDef}
+use Rattle.desk_law.specs.Display.{shown_volume}
+use Rattle.desk_law.specs.State.{DeskState, set_named}
+use Rattle.desk_law.specs.Volumes.{groups_in, volume_named, volumes_in}
+use Rattle.desk_pages.specs.Groups.{group_row}
+use Rattle.desk_pages.specs.Listing.{IsListing}
+
+-- a page that shows something
+abbrev pub showing : List ℕ → Page
+showing body = record { status = statuses.Shown; body = body }
+
+-- there is no page at the path
+abbrev pub missing_page : Page
+missing_page = record { status = statuses.Missing; body = error_body (codes "there is no page at this path") }
+
+-- a segment of the path isn't as the page asks
+abbrev pub bad_page : Page
+bad_page =
+    record { status = statuses.Bad; body = error_body (codes "a segment of this path is no name, serial or mask") }
+
+-- the page isn't there for POST
+abbrev pub not_allowed_page : Page
+not_allowed_page = record { status = statuses.NotAllowed; body = error_body (codes "this page is read by GET") }
+
+-- there is no such volume
+abbrev pub no_volume_page : Page
+no_volume_page =
+    record { status = statuses.Missing; body = error_body (codes "no active volume has this serial") }
+
+-- there is no such data set
+abbrev pub no_set_page : Page
+no_set_page = record { status = statuses.Missing; body = error_body (codes "no data set of this name is catalogued") }
+
+-- the desk: its activations, its entries and its active volumes
+abbrev pub desk_page : DeskState → ℕ → Page
+desk_page s entries =
+    showing (desk_body (option_map (λ config. s.activations) s.active) entries (length (volumes_in s.active)))
+
+-- all storage groups
+abbrev pub groups_page : DeskState → Page
+groups_page s =
+    showing (groups_body (map (group_row (map (shown_volume s) (volumes_in s.active))) (groups_in s.active)))
+
+-- all volumes
+abbrev pub volumes_page : DeskState → Page
+volumes_page s = showing (volumes_body (map (shown_volume s) (volumes_in s.active)))
+
+-- a volume, if it is there
+abbrev pub volume_page : DeskState → Option VolumeDef → Page
+volume_page s None = no_volume_page
+volume_page s (Some volume) = showing (volume_body (shown_volume s volume))
+
+-- a data set, if it is there
+abbrev pub set_page : Option DataSet → Page
+set_page None = no_set_page
+set_page (Some set) = showing (set_body set)
+
+-- data sets that fit a mask, behind a name
+pub record IsSetsPage (s : DeskState) (mask from : Option (List ℕ)) (page : Page) : Type 0 where
+  pub shown : List DataSet
+  pub after : Option (List ℕ)
+  pub listing : IsListing s.sets mask from shown after
+  pub page_is : page ≡ showing (sets_body shown after)
+
+-- the page that is read at a path
+abbrev pub IsGotten : DeskState → ℕ → PagePath → Page → Type 0
+IsGotten s entries paths.Desk page = page ≡ desk_page s entries
+IsGotten s entries paths.Health page = page ≡ showing health_body
+IsGotten s entries paths.Groups page = page ≡ groups_page s
+IsGotten s entries paths.Volumes page = page ≡ volumes_page s
+IsGotten s entries (paths.Volume volser) page = page ≡ volume_page s (volume_named s volser)
+IsGotten s entries (paths.Sets mask after) page = IsSetsPage s mask after page
+IsGotten s entries (paths.Set dsn) page = page ≡ set_page (set_named dsn s.sets)
+IsGotten s entries paths.Bad page = page ≡ bad_page
+IsGotten s entries paths.Missing page = page ≡ missing_page
+
+-- the page at a path that is asked for by POST
+abbrev pub posted_page : PagePath → Page
+posted_page paths.Desk = not_allowed_page
+posted_page paths.Health = not_allowed_page
+posted_page paths.Groups = not_allowed_page
+posted_page paths.Volumes = not_allowed_page
+posted_page (paths.Volume volser) = not_allowed_page
+posted_page (paths.Sets mask after) = not_allowed_page
+posted_page (paths.Set dsn) = not_allowed_page
+posted_page paths.Bad = bad_page
+posted_page paths.Missing = missing_page
+
+-- the page at a path, by POST or not
+abbrev pub IsPageAt : DeskState → ℕ → Bool → PagePath → Page → Type 0
+IsPageAt s entries true path page = page ≡ posted_page path
+IsPageAt s entries false path page = IsGotten s entries path page
+
+-- the page that answers what is asked, of a desk that stands so and has so many entries
+abbrev pub IsPage : DeskState → ℕ → PageAsk → Page → Type 0
+IsPage s entries ask page = IsPageAt s entries ask.posts (page_path_of ask.path) page

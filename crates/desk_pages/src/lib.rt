@@ -1,0 +1,10 @@
+//! The pages of a desk.
+#![tactic(auto)]
+
+mod grouping;
+mod listing;
+mod showing;
+mod shown_desk;
+
+pub use showing::show_page;
+pub use shown_desk::ShownDesk;

@@ -1,0 +1,4 @@
+pub mod PageText
+pub mod Exchange
+pub mod Flow
+pub mod Inner

@@ -1,0 +1,18 @@
+use Rattle.std.proofs.Common.{rules}
+use Rattle.json.specs.Print.{escape_byte}
+use Rattle.json_text.proofs.quoting.escape_of.Goals as goal
+
+-- a letter stands for the byte
+pub returns-then-letter-gt0-clause-value : goal.returns-then-letter-gt0-clause-value
+unfolding escape_byte
+returns-then-letter-gt0-clause-value c = search rules
+
+-- its number stands for the byte
+pub returns-then-byte-lt32-clause-value : goal.returns-then-byte-lt32-clause-value
+unfolding escape_byte
+returns-then-byte-lt32-clause-value c = search rules
+
+-- the byte stands for itself
+pub returns-clause-value : goal.returns-clause-value
+unfolding escape_byte
+returns-clause-value c = search rules

@@ -1,0 +1,6 @@
+//! Pieces of JSON.
+#![tactic(auto)]
+
+mod quoting;
+
+pub use quoting::push_quoted;

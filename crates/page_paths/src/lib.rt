@@ -1,0 +1,8 @@
+//! The paths of pages.
+#![tactic(auto)]
+
+mod page_path;
+mod reading;
+
+pub use page_path::PagePath;
+pub use reading::read_page_path;

@@ -1,0 +1,29 @@
+//! What a path asks to be shown.
+
+use dsn_mask::{Dsn, Mask, Volser};
+
+/// What a path asks to be shown.
+#[derive(Drop)]
+pub enum PagePath {
+    /// The desk as a whole.
+    Desk,
+    /// Whether the desk is there.
+    Health,
+    /// All storage groups.
+    Groups,
+    /// All volumes.
+    Volumes,
+    /// The volume of this serial.
+    Volume(Volser),
+    /// Data sets whose names fit the mask, or all, behind a name, or from the first.
+    Sets {
+        mask: Option<Mask>,
+        after: Option<Dsn>,
+    },
+    /// The data set of this name.
+    Set(Dsn),
+    /// A segment isn't as the page asks.
+    Bad,
+    /// There is no such page.
+    Missing,
+}

@@ -1,0 +1,6 @@
+-- The parts stand one behind the other.
+use Rattle.std.proofs.Common.{append_assoc, refl}
+use Rattle.page_text.proofs.refusal.push_line.Goals as goal
+
+pub returns : goal.returns
+returns c = rw (c.in_ok-extend_from_slice-3.ensures.items, c.in_ok-extend_from_slice-2.ensures.items, c.in_ok-push_number.ensures, c.in_ok-extend_from_slice.ensures.items, c.as_bytes.ensures.value, c.phrase_of.ensures, c.from.ensures) (simp append_assoc refl)

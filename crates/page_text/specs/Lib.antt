@@ -1,0 +1,3 @@
+pub mod PageBodies
+pub mod RefusalText
+pub mod Inner

@@ -1,0 +1,3 @@
+pub mod Visitors
+pub mod Halls
+pub mod Inner

@@ -1,0 +1,12 @@
+//! Many connections that one clerk serves as they become ready.
+#![tactic(auto)]
+
+mod hall;
+mod serving;
+mod step;
+mod visitor;
+
+pub use hall::Hall;
+pub use serving::{LoopEnd, serve_events, serve_from_empty};
+pub use step::{Left, Step};
+pub use visitor::Visitor;
