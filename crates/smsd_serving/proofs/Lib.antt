@@ -1,0 +1,3 @@
+pub mod StayLemmas
+pub mod ServedLaws
+pub mod KeepingLaws

@@ -1,0 +1,10 @@
+use Rattle.std.proofs.Common.{ap, true}
+use Rattle.clap.specs.Words.{App, app_of}
+use Rattle.smsd_words.proofs.command.bare_command.Goals as goal
+
+abbrev set : App → App
+set a = record a { top = record a.top { no_binary_name = true; disable_help_subcommand = true; subcommand_required = true; has_version = true } }
+
+pub returns : goal.returns
+returns c =
+    rw (c.subcommand_required.ensures, c.disable_help_subcommand.ensures, c.no_binary_name.ensures, c.version.ensures) (ap set c.new.ensures.app)

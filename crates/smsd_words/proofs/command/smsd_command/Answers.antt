@@ -1,0 +1,11 @@
+use Rattle.std.proofs.Common.{ap, ap₂, ◌∙◌}
+use Rattle.std.proofs.lemmas.Result.{IfOk-weaker}
+use Rattle.clap.specs.Words.{App, with_subcommand}
+use Rattle.smsd_words.proofs.command.smsd_command.Goals as goal
+
+pub returns : goal.returns
+returns c =
+    let one = c.in_ok-subcommand.ensures.shape c.in_ok-run.ensures.own ∙ ap₂ with_subcommand c.bare_command.ensures (ap (λ (a : App). a.top) c.in_ok-run.ensures.app) in
+    let two = c.in_ok-subcommand-2.ensures.shape c.in_ok-list.ensures.own ∙ ap₂ with_subcommand one (ap (λ (a : App). a.top) c.in_ok-list.ensures.app) in
+    let three = c.in_ok-subcommand-3.ensures.shape c.in_ok-serve.ensures.own ∙ ap₂ with_subcommand two (ap (λ (a : App). a.top) c.in_ok-serve.ensures.app) in
+    IfOk-weaker c.subcommand-4.result _ _ (λ r h. h.shape c.in_ok-check.ensures.own ∙ ap₂ with_subcommand three (ap (λ (a : App). a.top) c.in_ok-check.ensures.app)) c.subcommand-4.ensures

@@ -1,0 +1,68 @@
+//! What each command does, with an example.
+use std::alloc::{AllocError, Global};
+
+const RUN: &str = "
+smsd run [SCRIPT]    answer a script on the store: the one in the file SCRIPT, or
+                     the one on standard input; with --volumes the table of
+                     volumes stands behind the answers
+
+    smsd run morning.txt --store payroll.db
+";
+
+const LIST: &str = "
+smsd list WHAT       list what the store holds: WHAT is groups, volumes, sets or
+                     extents; nothing changes. --mask MASK, --group NAME and
+                     --volume VOLSER take the rows that fit; --format is csv,
+                     comma-separated values, or json
+
+    smsd list sets --mask 'PAY.**' --group SG1 --store payroll.db
+";
+
+const SERVE: &str = "
+smsd serve           serve the store over HTTP on 127.0.0.1, until it is ended:
+                     --port N, 8080 where it isn't named; --connections N at
+                     once, 1000; --idle N, the seconds after which a connection
+                     at which nothing happens is closed, 60
+
+    smsd serve --port 9000 --store payroll.db
+";
+
+const CHECK: &str = "
+smsd check DECK      say what an ACTIVATE of the deck in the file DECK would be
+                     answered on the store; nothing changes
+
+    smsd check new.toml --store payroll.db
+";
+
+const DOCUMENT: &str = "
+The store is the file after --store, or desk.db in the current folder. run and
+serve make it where it is missing. docs/manual/smsd.md has what each command does
+and prints, and the exit statuses.
+";
+
+/// What the command that this word names does, or what each does where it names none.
+pub fn examples_of(alloc: Global, word: &str) -> Result<String, AllocError> {
+    match word {
+        "run" => format!(in alloc; "{RUN}{DOCUMENT}"),
+        "list" => format!(in alloc; "{LIST}{DOCUMENT}"),
+        "serve" => format!(in alloc; "{SERVE}{DOCUMENT}"),
+        "check" => format!(in alloc; "{CHECK}{DOCUMENT}"),
+        _ => format!(in alloc; "{RUN}{LIST}{SERVE}{CHECK}{DOCUMENT}"),
+    }
+}
+
+const LIST_VALUES: &str = "WHAT is groups, volumes, sets or extents; --mask a mask of data set \
+    names, for sets and extents alone; --group the name of a storage group; --volume a serial, \
+    not for groups; --format csv or json";
+
+const SERVE_VALUES: &str = "--port is a number of 1 to 65535, --connections one of 1 to 10000, \
+    and --idle one of 1 to 86400";
+
+/// Which values the words of a command have; empty where each is one.
+pub fn values_wanted(words: &[String]) -> &'static str {
+    match words.first() {
+        Some(word) if word.as_str() == "list" => LIST_VALUES,
+        Some(word) if word.as_str() == "serve" => SERVE_VALUES,
+        _ => "",
+    }
+}

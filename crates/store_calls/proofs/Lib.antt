@@ -1,0 +1,3 @@
+mod OpenedLemmas
+mod ListedLemmas
+mod NumberLemmas

@@ -1,0 +1,173 @@
+//! A list of what a store holds.
+ghost use Rattle.std.specs.Prelude.{◌≡◌, [], IfOk, map, true};
+ghost use Rattle.desk_law.specs.History.{Reaches};
+ghost use Rattle.desk_law.specs.State.{DeskState, Opening as Begun, start_of};
+ghost use Rattle.desk_law.specs.Volumes.{groups_in};
+ghost use Rattle.store_report.specs.Texts.{groups_text, volumes_text};
+ghost use Rattle.store_report.specs.declared.query.Query.{Query as Asked};
+ghost use Rattle.store_calls.specs.StoreLists.{IsListed, ListEnds, StoreListEnds, group_rows, seen_sink, set_rows};
+ghost use Rattle.store_calls.specs.StoreLists.{volume_rows};
+ghost use Rattle.store_calls.specs.Statuses.{leaves_sink, leaves_sink_of};
+
+use crate::loading::load_store;
+use crate::status::StoreStatus;
+use desk_calls::RunStatus;
+use sms_base::{Sink, write_all};
+use sms_construct::{DataSet, StorGroup};
+use sms_core::Core;
+use sms_keeper::{Keeper, Rows, Stored};
+use sms_open::reopen;
+use std::alloc::{AllocError, Global};
+use store_report::{
+    Listing, Query, extents_text, groups_text, pick_extents, pick_groups, pick_sets, pick_volumes,
+    sets_text, volumes_text,
+};
+
+/// Writes the list that is asked for of what the store holds to the sink. Nothing of the store is written: it isn't
+/// even made ready. It hands the keeper back (docs/manual/smsd.md, "Lists").
+pub fn store_list<K: Sink, P: Stored>(
+    alloc: Global,
+    query: &Query,
+    out: &mut K,
+    keeper: P,
+) -> (StoreStatus, P)
+    ensures unwritten { leaves_sink_of result.0 ≡ true → out.new ≡ out.old }
+    ensures ends { StoreListEnds P.Keeper P.damage query.now (seen_sink K.taken K.write_faults out.old)
+        (seen_sink K.taken K.write_faults out.new) keeper result.1 result.0 }
+{
+    match query.listing {
+        Listing::Groups | Listing::Volumes => list_desk(alloc, query, out, keeper),
+        Listing::Sets | Listing::Extents => list_rows(alloc, query, out, keeper),
+    }
+}
+
+// Writes a list of storage groups or volumes: those of the desk that goes on from the store.
+fn list_desk<K: Sink, P: Stored>(
+    alloc: Global,
+    query: &Query,
+    out: &mut K,
+    keeper: P,
+) -> (StoreStatus, P)
+    ensures unwritten { leaves_sink_of result.0 ≡ true → out.new ≡ out.old }
+    ensures ends { StoreListEnds P.Keeper P.damage query.now (seen_sink K.taken K.write_faults out.old)
+        (seen_sink K.taken K.write_faults out.new) keeper result.1 result.0 }
+{
+    match reopen(alloc, keeper) {
+        Ok(core) => {
+            let text = desk_text(alloc, query, &core);
+            (StoreStatus::Ran(write_text(out, text)), core.into_keeper())
+        }
+        Err((keeper, err)) => (StoreStatus::Unopened(err), keeper),
+    }
+}
+
+// The list of a desk that was just opened; a list of data sets or extents isn't made of it.
+fn desk_text<P: Keeper>(alloc: Global, query: &Query, core: &Core<P>) -> Result<Vec<u8>, AllocError>
+    requires { core.now.journal ≡ [] }
+    ensures { IfOk result (λ text. IsListed query.now core.now.opening text.items) }
+{
+    match query.listing {
+        Listing::Groups => list_groups(alloc, query, core),
+        Listing::Volumes => list_volumes(alloc, query, core),
+        Listing::Sets | Listing::Extents => Err(AllocError),
+    }
+}
+
+// The list of the storage groups.
+fn list_groups<P: Keeper>(
+    alloc: Global,
+    query: &Query,
+    core: &Core<P>,
+) -> Result<Vec<u8>, AllocError>
+    requires { core.now.journal ≡ [] }
+    ensures { IfOk result (λ text. text.items
+        ≡ groups_text query.now.format (group_rows query.now.selection (start_of core.now.opening))) }
+{
+    let rows = core.vol_rows()?;
+    let picked = pick_groups(alloc, groups_in(core), rows.as_slice(), &query.selection)?;
+    groups_text(alloc, query.format, &picked)
+}
+
+// The storage groups of the active configuration.
+fn groups_in<P: Keeper>(core: &Core<P>) -> &[StorGroup]
+    ensures { (s : DeskState) → Reaches core.now.opening core.now.journal s → result.now ≡ groups_in s.active }
+{
+    match core.active() {
+        Some((_, config)) => config.get().groups(),
+        None => &[],
+    }
+}
+
+// The list of the volumes.
+fn list_volumes<P: Keeper>(
+    alloc: Global,
+    query: &Query,
+    core: &Core<P>,
+) -> Result<Vec<u8>, AllocError>
+    requires { core.now.journal ≡ [] }
+    ensures { IfOk result (λ text. text.items
+        ≡ volumes_text query.now.format (volume_rows query.now.selection (start_of core.now.opening))) }
+{
+    let rows = core.vol_rows()?;
+    let picked = pick_volumes(alloc, rows.as_slice(), &query.selection)?;
+    volumes_text(alloc, query.format, picked)
+}
+
+// Writes a list of data sets or extents: those of the rows, which aren't made a desk of.
+fn list_rows<K: Sink, P: Stored>(
+    alloc: Global,
+    query: &Query,
+    out: &mut K,
+    keeper: P,
+) -> (StoreStatus, P)
+    ensures unwritten { leaves_sink_of result.0 ≡ true → out.new ≡ out.old }
+    ensures ends { StoreListEnds P.Keeper P.damage query.now (seen_sink K.taken K.write_faults out.old)
+        (seen_sink K.taken K.write_faults out.new) keeper result.1 result.0 }
+{
+    match load_store(alloc, keeper) {
+        Ok((keeper, found)) => {
+            let text = rows_text(alloc, query, &found.rows);
+            (StoreStatus::Ran(write_text(out, text)), keeper)
+        }
+        Err((keeper, err)) => (StoreStatus::Unopened(err), keeper),
+    }
+}
+
+// The list of these rows.
+fn rows_text(alloc: Global, query: &Query, rows: &Rows) -> Result<Vec<u8>, AllocError>
+    ensures { IfOk result (λ text. (o : Begun) → o.rows ≡ rows.now → IsListed query.now o text.items) }
+{
+    let sets = pick_sets(alloc, rows.sets.as_slice(), &query.selection)?;
+    picked_text(alloc, query, &sets)
+}
+
+// The list of these data sets, or of their extents; a list of storage groups or volumes isn't made of them.
+fn picked_text(alloc: Global, query: &Query, sets: &[&DataSet]) -> Result<Vec<u8>, AllocError>
+    ensures { IfOk result (λ text. (o : Begun) →
+        map (λ set. set.now) sets.now ≡ set_rows query.now.selection o.rows.sets → IsListed query.now o text.items) }
+{
+    match query.listing {
+        Listing::Sets => sets_text(alloc, query.format, sets),
+        Listing::Extents => {
+            let rows = pick_extents(alloc, sets, &query.selection.volume)?;
+            extents_text(alloc, query.format, &rows)
+        }
+        Listing::Groups | Listing::Volumes => Err(AllocError),
+    }
+}
+
+// Writes a text, where there is memory for it.
+fn write_text<K: Sink>(out: &mut K, text: Result<Vec<u8>, AllocError>) -> RunStatus
+    ensures unwritten { leaves_sink result ≡ true → out.new ≡ out.old }
+    ensures ends { (query : Asked) (o : Begun) → IfOk text (λ bytes. IsListed query o bytes.items) →
+        ListEnds query o (seen_sink K.taken K.write_faults out.old)
+        (seen_sink K.taken K.write_faults out.new) result }
+{
+    let Ok(text) = text else {
+        return RunStatus::NoMemory;
+    };
+    match write_all(out, &text) {
+        Ok(()) => RunStatus::Done,
+        Err(_) => RunStatus::WriteFault,
+    }
+}

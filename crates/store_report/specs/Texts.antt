@@ -1,0 +1,36 @@
+-- The text of each list in each form (docs/manual/smsd.md, "Lists").
+use Rattle.std.specs.Prelude.{ℕ, List, [], ◌∷◌, ◌++◌, None}
+use Rattle.page_text.specs.PageBodies.{groups_body, sets_body, volumes_body}
+use Rattle.page_text.specs.declared.group_row.GroupRow.{GroupRow}
+use Rattle.sms_construct.specs.declared.data_set.DataSet.{DataSet}
+use Rattle.sms_construct.specs.declared.vol_row.VolRow.{VolRow}
+use Rattle.sms_report.specs.VolumesTable.{table_text}
+use Rattle.store_report.specs.ExtentsJson.{extents_body}
+use Rattle.store_report.specs.Tables.{extents_table, groups_table, sets_table}
+use Rattle.store_report.specs.declared.extent_row.ExtentRow.{ExtentRow}
+use Rattle.store_report.specs.declared.format.Format.{Format}
+use Rattle.store_report.specs.declared.format.Format.TheVariants.{Csv, Json}
+
+-- a value of JSON as a line
+abbrev pub line_of : List ℕ → List ℕ
+line_of body = body ++ 10 ∷ []
+
+-- storage groups
+abbrev pub groups_text : Format → List GroupRow → List ℕ
+groups_text Csv rows = groups_table rows
+groups_text Json rows = line_of (groups_body rows)
+
+-- volumes
+abbrev pub volumes_text : Format → List VolRow → List ℕ
+volumes_text Csv rows = table_text rows
+volumes_text Json rows = line_of (volumes_body rows)
+
+-- data sets
+abbrev pub sets_text : Format → List DataSet → List ℕ
+sets_text Csv sets = sets_table sets
+sets_text Json sets = line_of (sets_body sets None)
+
+-- extents
+abbrev pub extents_text : Format → List ExtentRow → List ℕ
+extents_text Csv rows = extents_table rows
+extents_text Json rows = line_of (extents_body rows)

@@ -1,0 +1,23 @@
+//! Lists of what a store holds: which rows are asked for, and their texts.
+#![tactic(auto)]
+
+mod csv_record;
+mod extent_row;
+mod extents_json;
+mod format;
+mod listing;
+mod picking;
+mod query;
+mod selection;
+mod summing;
+mod tables;
+mod texts;
+
+pub use extent_row::ExtentRow;
+pub use format::Format;
+pub use listing::Listing;
+pub use picking::{pick_extents, pick_sets, pick_volumes};
+pub use query::Query;
+pub use selection::Selection;
+pub use summing::pick_groups;
+pub use texts::{extents_text, groups_text, sets_text, volumes_text};

@@ -1,0 +1,79 @@
+//! The text of each list in each form.
+ghost use Rattle.std.specs.Prelude.{◌≡◌, IfOk, map};
+ghost use Rattle.store_report.specs.Texts.{extents_text, groups_text, line_of, sets_text, volumes_text};
+
+use crate::extent_row::ExtentRow;
+use crate::extents_json::extents_body;
+use crate::format::Format;
+use crate::tables::{extents_csv, groups_csv, sets_csv};
+use desk_common::Items;
+use page_text::{GroupRow, groups_body, sets_body, volumes_body};
+use sms_construct::{DataSet, VolRow};
+use sms_report::volumes_csv;
+use std::alloc::{AllocError, Global};
+
+/// The list of these storage groups (docs/manual/smsd.md, "Lists").
+pub fn groups_text(alloc: Global, format: Format, rows: &[GroupRow]) -> Result<Vec<u8>, AllocError>
+    ensures { IfOk result (λ text. text.items ≡ groups_text format rows.now) }
+{
+    match format {
+        Format::Csv => groups_csv(alloc, rows),
+        Format::Json => {
+            let body = groups_body(alloc, rows)?;
+            line_of(alloc, body.as_slice())
+        }
+    }
+}
+
+/// The list of these volumes (docs/manual/smsd.md, "Lists").
+pub fn volumes_text(alloc: Global, format: Format, rows: Vec<VolRow>) -> Result<Vec<u8>, AllocError>
+    ensures { IfOk result (λ text. text.items ≡ volumes_text format rows.items) }
+{
+    match format {
+        Format::Csv => volumes_csv(alloc, &Items::from_vec(rows)),
+        Format::Json => {
+            let body = volumes_body(alloc, &rows)?;
+            line_of(alloc, body.as_slice())
+        }
+    }
+}
+
+/// The list of these data sets (docs/manual/smsd.md, "Lists").
+pub fn sets_text(alloc: Global, format: Format, sets: &[&DataSet]) -> Result<Vec<u8>, AllocError>
+    ensures { IfOk result (λ text. text.items ≡ sets_text format (map (λ set. set.now) sets.now)) }
+{
+    match format {
+        Format::Csv => sets_csv(alloc, sets),
+        Format::Json => {
+            let body = sets_body(alloc, sets, None)?;
+            line_of(alloc, body.as_slice())
+        }
+    }
+}
+
+/// The list of these extents (docs/manual/smsd.md, "Lists").
+pub fn extents_text(
+    alloc: Global,
+    format: Format,
+    rows: &[ExtentRow],
+) -> Result<Vec<u8>, AllocError>
+    ensures { IfOk result (λ text. text.items ≡ extents_text format rows.now) }
+{
+    match format {
+        Format::Csv => extents_csv(alloc, rows),
+        Format::Json => {
+            let body = extents_body(alloc, rows)?;
+            line_of(alloc, &body)
+        }
+    }
+}
+
+// A value of JSON as a line.
+fn line_of(alloc: Global, body: &[u8]) -> Result<Vec<u8>, AllocError>
+    ensures { IfOk result (λ text. text.items ≡ line_of body.now) }
+{
+    let mut text = Vec::new(alloc);
+    text.extend_from_slice(body)?;
+    text.push(b'\n')?;
+    Ok(text)
+}
