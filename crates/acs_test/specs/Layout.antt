@@ -1,6 +1,7 @@
 -- The layout of a comparison: two decks and a table of cases (docs/manual/tool.md, "Comparing two decks").
 use Rattle.std.specs.Prelude.{ℕ, ◌+◌, List, [], ◌∷◌, ◌++◌, bytes_eq, codes, Result, Ok, Err, if◌then◌else◌}
 use Rattle.sms_script.specs.Lines.{is_block_end, lines_of, text_of_line}
+use Rattle.acs_test.specs.declared.layout.InputParts.{InputParts}
 
 -- lines, and the number of the first of them
 pub record Numbered : Type 0 where
@@ -41,6 +42,10 @@ pub record Parts : Type 0 where
   pub before : List ℕ
   pub after : List ℕ
   pub table : List ℕ
+
+-- the decks and the table that the code holds
+abbrev pub parts_seen : InputParts → Parts
+parts_seen parts = record { before = parts.before.now; after = parts.after.now; table = parts.table.now }
 
 -- the bytes of lines
 abbrev pub bytes_of : List (List ℕ) → List ℕ

@@ -63,21 +63,30 @@ count_differing false count = count + 1
 abbrev pub IsSame : Configuration → Configuration → Case → Bool → Type 0
 IsSame before after case same = (same ≡ true) ↔ (classes_for before case ≡ classes_for after case)
 
--- so many of the cases differ, and this is their text
-pub data IsListed (before after : Configuration) : List Case → ℕ → List ℕ → Type 0 where
-  none : IsListed before after [] 0 []
+-- the lines that are listed of a case: where only changed cases are, none of one that comes to the same
+abbrev pub listed_text : Bool → Case → Classes → Classes → Bool → List ℕ
+listed_text true case old new true = []
+listed_text changed case old new same = case_text case old new same
+
+-- so many of the cases differ, and this is their text, or with `changed` that of those that differ
+pub data IsListed (before after : Configuration) (changed : Bool) : List Case → ℕ → List ℕ → Type 0 where
+  none : IsListed before after changed [] 0 []
   one : (case : Case) (cases : List Case) (differing : ℕ) (text : List ℕ) (same : Bool)
-      → IsSame before after case same → IsListed before after cases differing text
-      → IsListed before after (case ∷ cases) (count_differing same differing)
-      (case_text case (classes_for before case) (classes_for after case) same ++ text)
+      → IsSame before after case same → IsListed before after changed cases differing text
+      → IsListed before after changed (case ∷ cases) (count_differing same differing)
+      (listed_text changed case (classes_for before case) (classes_for after case) same ++ text)
 
 -- the last line: the number of the cases, and of those that differ
 abbrev pub end_text : ℕ → ℕ → List ℕ
 end_text cases differing = spaced (codes "CASES" ∷ decimal cases ∷ codes "DIFFER" ∷ decimal differing ∷ []) ++ 10 ∷ []
 
--- the text of all cases with its last line
-pub record IsListing (before after : Configuration) (cases : List Case) (text : List ℕ) : Type 0 where
-  pub differing : ℕ
+-- the text of all cases, or with `changed` of those that differ, with its last line; so many differ
+pub record IsListingOf (before after : Configuration) (changed : Bool) (cases : List Case) (differing : ℕ)
+    (text : List ℕ) : Type 0 where
   pub lines : List ℕ
-  pub listed : IsListed before after cases differing lines
+  pub listed : IsListed before after changed cases differing lines
   pub text_is : text ≡ lines ++ end_text (length cases) differing
+
+-- the text of all cases with its last line
+abbrev pub IsListing : Configuration → Configuration → List Case → List ℕ → Type 0
+IsListing before after cases text = (differing : ℕ) × IsListingOf before after false cases differing text

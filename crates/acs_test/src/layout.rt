@@ -1,8 +1,8 @@
 //! The parts of an input.
 ghost use Rattle.std.specs.Prelude.{◌≡◌, ◌≤◌, ◌<◌, ◌+◌, ◌^◌, length, Ok, Err, IfOk, MatchResult};
 ghost use Rattle.sms_script.specs.Lines.{lines_of};
-ghost use Rattle.acs_test.specs.Layout.{behind_word, block_of, parts_of};
-ghost use Rattle.acs_test.specs.Inner.Parts.{block_seen, numbered_in, parts_seen};
+ghost use Rattle.acs_test.specs.Layout.{behind_word, block_of, parts_of, parts_seen};
+ghost use Rattle.acs_test.specs.Inner.Parts.{block_seen, numbered_in};
 
 use sms_script::{first_line, is_block_end, line_text};
 

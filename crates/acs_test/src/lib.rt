@@ -18,5 +18,6 @@ mod table_cases;
 pub use case::Case;
 pub use cases::Cases;
 pub use cases_err::{CasesErr, Side};
-pub use listing::compare;
-pub use reading::read_cases;
+pub use layout::InputParts;
+pub use listing::{Listing, compare, list_cases};
+pub use reading::{read_cases, read_parts};

@@ -2,7 +2,7 @@
 ghost use Rattle.std.specs.Prelude.{◌≡◌, ◌<◌, ◌+◌, ◌^◌, Ok, Some, length, IfOk, IfErr};
 ghost use Rattle.desk_common.specs.Exact.{IsExact, MayRefuse};
 ghost use Rattle.deck_meaning.specs.Reading.{Configures};
-ghost use Rattle.acs_test.specs.Inner.Parts.{parts_seen};
+ghost use Rattle.acs_test.specs.Layout.{parts_seen};
 ghost use Rattle.acs_test.specs.Reading.{Gives, IsReading, IsRefusal, Refuses, TellsDeck};
 
 use crate::cases::Cases;
@@ -29,8 +29,8 @@ pub fn read_cases(alloc: Global, bytes: &[u8]) -> Result<Cases, CasesErr>
     }
 }
 
-// The configurations of both decks, and the cases of the table.
-fn read_parts(alloc: Global, parts: InputParts<'_>) -> Result<Cases, CasesErr>
+/// The same of two decks and a table that are texts of their own.
+pub fn read_parts(alloc: Global, parts: InputParts<'_>) -> Result<Cases, CasesErr>
     requires { length parts.table.now + 2 < 2 ^ 32 }
     ensures ok { IfOk result (Gives (parts_seen parts.entry)) }
     ensures err { IfErr result (MayRefuse (Refuses (parts_seen parts.entry)) (Some CasesErr.NoMemory)) }

@@ -58,15 +58,19 @@ fn end_sentence(alloc: Global, side: &str, deck: ComparedDeck<'_>) -> Result<Str
     )
 }
 
+/// The table of a comparison, behind CASES.
+pub fn compared_table(text: &[u8]) -> Rest<'_> {
+    Compared::new(text).table
+}
+
 /// What is said of the case past the most that a table may have.
-pub fn many_cases_note(alloc: Global, text: &[u8], number: u32) -> Result<String, AllocError> {
+pub fn many_cases_note(alloc: Global, table: Rest<'_>, number: u32) -> Result<String, AllocError> {
     let sentence = format!(in alloc; "record {number} of the table is the 10001st case")?;
-    record_note(alloc, text, number, 0, &sentence)
+    record_note(alloc, table, number, 0, &sentence)
 }
 
 /// What it means that the record with this number has another number of fields than the header.
-pub fn fields_note(alloc: Global, text: &[u8], number: u32) -> Result<String, AllocError> {
-    let table = Compared::new(text).table;
+pub fn fields_note(alloc: Global, table: Rest<'_>, number: u32) -> Result<String, AllocError> {
     let (header, record) = (
         record_at(alloc, table, 1)?,
         record_at(alloc, table, number)?,
@@ -86,8 +90,7 @@ pub fn fields_note(alloc: Global, text: &[u8], number: u32) -> Result<String, Al
 }
 
 /// What it means that the record with this number is no case: the first field that is out of form.
-pub fn case_note(alloc: Global, text: &[u8], number: u32) -> Result<String, AllocError> {
-    let table = Compared::new(text).table;
+pub fn case_note(alloc: Global, table: Rest<'_>, number: u32) -> Result<String, AllocError> {
     let (header, record) = (
         record_at(alloc, table, 1)?,
         record_at(alloc, table, number)?,
@@ -110,8 +113,7 @@ pub fn case_note(alloc: Global, text: &[u8], number: u32) -> Result<String, Allo
 }
 
 /// What is wrong with the column of this number, from 1, of the header.
-pub fn header_note(alloc: Global, text: &[u8], column: u32) -> Result<String, AllocError> {
-    let table = Compared::new(text).table;
+pub fn header_note(alloc: Global, table: Rest<'_>, column: u32) -> Result<String, AllocError> {
     let Some(header) = record_at(alloc, table, 1)? else {
         return format!(in alloc; "the table has no header; {KNOWN}\n");
     };
@@ -180,12 +182,11 @@ fn column_at(alloc: Global, header: &ByteRecord, at: usize) -> Result<Vec<u8>, A
 // A sentence on a record where its field with this number, from 0, stands.
 fn record_note(
     alloc: Global,
-    text: &[u8],
+    table: Rest<'_>,
     number: u32,
     field: usize,
     sentence: &str,
 ) -> Result<String, AllocError> {
-    let table = Compared::new(text).table;
     match record_at(alloc, table, number)? {
         Some(record) => told_in(alloc, table, &record, field, sentence),
         None => format!(in alloc; "{sentence}\n"),

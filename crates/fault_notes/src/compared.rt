@@ -19,7 +19,7 @@ pub struct ComparedDeck<'a> {
     pub has_end: bool,
 }
 
-/// What is left of a text behind so many lines.
+/// What is left of a text behind so many lines, as the table of a comparison.
 #[derive(Clone, Copy)]
 pub struct Rest<'a> {
     pub text: &'a [u8],

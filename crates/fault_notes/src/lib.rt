@@ -35,7 +35,11 @@ mod spot;
 mod value_text;
 mod wording;
 
-pub use cases::{case_note, compared_deck, fields_note, header_note, layout_note, many_cases_note};
+pub use cases::{
+    case_note, compared_deck, compared_table, fields_note, header_note, layout_note,
+    many_cases_note,
+};
+pub use compared::Rest;
 pub use deck::deck_note;
 pub use deck_part::DeckPart;
 pub use routine::routine_note;

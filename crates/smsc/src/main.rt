@@ -1,18 +1,23 @@
 //! The translator as a program: it translates the routine, validates the deck, simulates or explains the script, tells
-//! what it reaches of the routines, or compares the two decks on standard input.
+//! what it reaches of the routines, compares two decks or lints one, from the files that the words name or from standard input.
 #![tactic(auto)]
 
 ghost use Rattle.std.specs.Prelude.{◌≡◌};
 ghost use Rattle.std.specs.Process.{exit_status};
 ghost use Rattle.tool_calls.specs.ExitStatus.{exit_status_of};
 
+mod compared_files;
 mod explaining;
+mod files;
 
+use crate::compared_files::{ComparedFiles, compare_files};
 use crate::explaining::sentence_of;
-use sms_base::{StdSink, StdSource, Words, read_words};
+use crate::files::{TOO_LONG, UNREAD, note_file, open};
+use sms_base::{Source, StdSink, StdSource, Words, read_words};
 use std::io;
 use std::process::ExitCode;
-use tool_calls::{ToolStatus, smsc_main};
+use tool_calls::{ToolStatus, note_name, smsc_main};
+use tool_words::{WordsErr, paths_asked};
 
 fn main(rt: HostRuntime) -> ExitCode {
     let mut note = String::new(rt.alloc());
@@ -24,11 +29,56 @@ fn main(rt: HostRuntime) -> ExitCode {
     end(&rt, status, &note)
 }
 
-// Answers what is on standard input.
+// Answers what the files have that the words name, or where they name none what is on standard input.
 fn answer(rt: &HostRuntime, words: &[String], note: &mut String) -> ToolStatus {
-    let mut src = StdSource::new(rt.reader());
+    let paths = match paths_asked(rt.alloc(), words) {
+        Ok(paths) => paths,
+        Err(WordsErr::NoMemory) => return ToolStatus::NoMemory,
+        Err(WordsErr::Bad | WordsErr::Shown) => return answer_input(rt, words, note),
+    };
+    if let (Some(before), Some(after)) = (paths.old, paths.new) {
+        let files = ComparedFiles {
+            before,
+            after,
+            cases: paths.cases,
+        };
+        return compare_files(rt, words, files, note);
+    }
+    match paths.file.or(paths.old) {
+        Some(path) => answer_file(rt, words, path, note),
+        None => answer_input(rt, words, note),
+    }
+}
+
+// Answers what is on standard input, or words that ask for nothing.
+fn answer_input(rt: &HostRuntime, words: &[String], note: &mut String) -> ToolStatus {
+    answer_source(rt, words, &mut StdSource::new(rt.reader()), note)
+}
+
+// Answers what is in a file; a note says of which file it is.
+fn answer_file(rt: &HostRuntime, words: &[String], path: &str, note: &mut String) -> ToolStatus {
+    let mut src = match open(rt, path, note) {
+        Ok(src) => src,
+        Err(status) => return status,
+    };
+    let status = answer_source(rt, words, &mut src, note);
+    match status {
+        ToolStatus::ReadFault => note_file(rt.alloc(), path, UNREAD, note),
+        ToolStatus::TooLong => note_file(rt.alloc(), path, TOO_LONG, note),
+        _ => note_name(rt.alloc(), note, path),
+    }
+    status
+}
+
+// Answers what a source gives.
+fn answer_source<S: Source>(
+    rt: &HostRuntime,
+    words: &[String],
+    src: &mut S,
+    note: &mut String,
+) -> ToolStatus {
     let mut out = StdSink::new(io::writer(rt));
-    smsc_main(rt.alloc(), words, &mut src, &mut out, note)
+    smsc_main(rt.alloc(), words, src, &mut out, note)
 }
 
 // Says a status other than 0 and 1 on standard error, with the script's fault, and what a fault means: in the words of

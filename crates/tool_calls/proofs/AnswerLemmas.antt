@@ -1,6 +1,7 @@
 -- What an answer says of the status and the sink.
 use Rattle.std.specs.Prelude.{Err, IfOk, Result}
-use Rattle.std.proofs.Common.{◌≡◌, true, List, ℕ, Ok, Some, length, sym, subst, inl, inr}
+use Rattle.std.proofs.Common.{◌≡◌, ◌⊎◌, ◌∙◌, ◌&&◌, Bool, nat_lt, true, List, ℕ, Ok, Some, length, refl, sym, subst, inl, inr}
+use Rattle.std.proofs.lemmas.Bool.{cases_Bool}
 use Rattle.std.specs.Io.KnownBytes.{Appends}
 use Rattle.acs_tree.specs.declared.kind.Kind.{Kind}
 use Rattle.acs_tree.specs.declared.routine.Routine.{Routine}
@@ -23,23 +24,27 @@ use Rattle.sms_simulation.specs.declared.simulated.Simulated.{Simulated}
 use Rattle.sms_simulation.specs.declared.simulated.Simulated.TheVariants as simulations
 use Rattle.sms_coverage.specs.Coverage.{IsCoverage}
 use Rattle.sms_explain.specs.Explanation.{IsExplanation}
-use Rattle.acs_test.specs.Listing.{IsListing}
+use Rattle.sms_lint.specs.Linting.{IsLintOf}
+use Rattle.sms_lint.specs.declared.linted.Lint.{Lint}
 use Rattle.acs_test.specs.Reading.{IsReading, IsRefusal as IsCasesRefusal}
 use Rattle.acs_test.specs.declared.cases.Cases.{Cases}
 use Rattle.acs_test.specs.declared.cases_err.CasesErr.{CasesErr}
 use Rattle.acs_test.specs.declared.cases_err.CasesErr.TheVariants as cases_errs
 use Rattle.desk_common.specs.Exact.{MayRefuse as MayRefuseAs}
-use Rattle.tool_calls.specs.CasesText.{TellsCases, cases_fault_text}
+use Rattle.tool_calls.specs.CasesText.{IsComparison, TellsListing, TellsCases, cases_fault_text, compared_status, is_failed, listed, unlisted}
+use Rattle.tool_calls.specs.PartsEnds.{EndsTold, SinkSeen, WasCutOff}
 use Rattle.tool_calls.specs.declared.no_answer.NoAnswer.{NoAnswer}
 use Rattle.tool_calls.specs.declared.no_answer.NoAnswer.TheVariants as hindrances
 use Rattle.tool_calls.specs.ToolText.{translated_text, valid_text, refused_text, IsAnswer, translated, faulty, valid}
-use Rattle.tool_calls.specs.ToolText.{refused, simulated, unsimulated, compared, uncompared, explained, unexplained, covered, uncovered, unread, misplaced, Hinders, HindersScript}
+use Rattle.tool_calls.specs.ToolText.{refused, simulated, unsimulated, compared, explained, unexplained, covered, uncovered, linted, unlinted, lint_status, unread, misplaced, Hinders, HindersScript}
 use Rattle.tool_calls.specs.ToolText.{hindrance_of, TellsFault, TellsSimulation, HindersSimulation}
 use Rattle.tool_calls.specs.ToolEnds.{Ends, HasAnswer, leaves_sink}
 use Rattle.tool_calls.specs.declared.status.ToolStatus.{ToolStatus}
 use Rattle.tool_calls.specs.declared.status.ToolStatus.TheVariants.{Done, FaultFound, BadWords}
+use Rattle.tool_words.specs.declared.comparison.Comparison.{Comparison}
 use Rattle.tool_words.specs.declared.task.Task.{Task}
 use Rattle.tool_words.specs.declared.task.Task.TheVariants.{Translate, Validate, Simulate, Compare, Explain, Coverage}
+use Rattle.tool_words.specs.declared.task.Task.TheVariants.{Lint as LintDeck}
 
 pub done : {bytes text : List ℕ} {kind : Kind} {tree : Routine} {count : ℕ} → IsTranslated bytes kind tree count → text ≡ translated_text kind count → IsAnswer bytes (Translate kind) Done text
 done {bytes} {text} {kind} {tree} {count} d e = subst (λ x. IsAnswer bytes (Translate kind) Done x) (sym e) (translated kind tree count d)
@@ -53,6 +58,15 @@ validated {bytes} {text} {config} c e = subst (λ x. IsAnswer bytes Validate Don
 
 pub deck_refused : {bytes text : List ℕ} {status : ToolStatus} {fault : DeckFault} → HasFirstFault bytes fault → (status ≡ FaultFound) × (text ≡ refused_text fault) → IsAnswer bytes Validate status text
 deck_refused {bytes} {text} {status} {fault} f e = subst (λ x. IsAnswer bytes Validate x text) (sym e.0) (subst (λ x. IsAnswer bytes Validate FaultFound x) (sym e.1) (refused fault f))
+
+-- what is found in a deck, or its fault, is the answer to it
+
+pub linted_told : {bytes text : List ℕ} {fail : Bool} {status : ToolStatus} {lint : Lint} → IsLintOf bytes lint → status ≡ lint_status fail (length lint.findings) → text ≡ lint.text → IsAnswer bytes (LintDeck fail) status text
+linted_told {bytes} {text} {fail} {status} {lint} is e t = subst (λ x. IsAnswer bytes (LintDeck fail) status x) (sym t) (linted fail status lint is e)
+
+pub unlinted_told : {bytes text : List ℕ} {fail : Bool} {status : ToolStatus} {fault : DeckFault} → HasFirstFault bytes fault → (status ≡ FaultFound) × (text ≡ refused_text fault) → IsAnswer bytes (LintDeck fail) status text
+unlinted_told {bytes} {text} {fail} {status} {fault} f e =
+    subst (λ x. IsAnswer bytes (LintDeck fail) x text) (sym e.0) (subst (λ x. IsAnswer bytes (LintDeck fail) FaultFound x) (sym e.1) (unlinted fail fault f))
 
 -- what a simulation comes to is the answer to its script
 pub simulation_told : {bytes text : List ℕ} {status : ToolStatus} (phases : List (List Item)) (made : Simulated) → script_of bytes ≡ Ok phases → IsSimulation (items_of phases) made → TellsSimulation made status text → IsAnswer bytes Simulate status text
@@ -128,74 +142,107 @@ refusal_hinders bytes scripts.NoMemory is = tt
 pub no_script : (bytes : List ℕ) (err : ScriptErr) (why : NoAnswer) → IsRefusal (script_of bytes) err → why ≡ hindrance_of err → HindersScript bytes why
 no_script bytes err why is e = subst (λ x. HindersScript bytes x) (sym e) (refusal_hinders bytes err is)
 
--- a listing is the answer to its input
-pub compared_told : {bytes text : List ℕ} {status : ToolStatus} (cases : Cases) → IsReading bytes cases → (status ≡ Done) × IsListing cases.before cases.after cases.list text → IsAnswer bytes Compare status text
-compared_told {bytes} {text} {status} cases reading e = subst (λ x. IsAnswer bytes Compare x text) (sym e.0) (compared cases text reading e.1)
+-- a listing, or a refusal, is what the comparison comes to
 
--- where the cases were listed, the listing is the answer
-pub listed_told : {E : Type 0} {bytes : List ℕ} (cases : Cases) (listed : Result (ToolStatus × List ℕ) E) → IsReading bytes cases
-    → IfOk listed (λ found. (found.0 ≡ Done) × IsListing cases.before cases.after cases.list found.1) → IfOk listed (λ found. IsAnswer bytes Compare found.0 found.1)
-listed_told cases (Ok found) reading e = compared_told cases reading e
-listed_told cases (Err err) reading e = tt
+module _ (reads : Cases → Type 0) (refuses : CasesErr → Type 0) (comparison : Comparison) where
+  pub listed_told : {E : Type 0} (cases : Cases) (made : Result (ToolStatus × List ℕ) E) → reads cases → IfOk made (λ found. TellsListing cases comparison found.0 found.1)
+      → IfOk made (λ found. IsComparison reads refuses comparison found.0 found.1)
+  listed_told cases (Ok found) read is = listed cases found.0 found.1 read is
+  listed_told cases (Err err) read is = tt
 
-refused_told : (bytes text : List ℕ) (err : CasesErr) → MayRefuseAs (IsCasesRefusal bytes) (Some cases_errs.NoMemory) err → text ≡ cases_fault_text err → (cases_errs.NoMemory ≡ err → ⊥) → IsAnswer bytes Compare FaultFound text
-refused_told bytes text err (inl is) e other = subst (λ x. IsAnswer bytes Compare FaultFound x) (sym e) (uncompared err is)
-refused_told bytes text err (inr want) e other = absurd (other (cc want))
+  refused_told : (text : List ℕ) (err : CasesErr) → MayRefuseAs refuses (Some cases_errs.NoMemory) err → text ≡ cases_fault_text err → (cases_errs.NoMemory ≡ err → ⊥) → IsComparison reads refuses comparison FaultFound text
+  refused_told text err (inl is) e other = subst (λ x. IsComparison reads refuses comparison FaultFound x) (sym e) (unlisted err is)
+  refused_told text err (inr want) e other = absurd (other (cc want))
 
-told_as : (bytes text : List ℕ) (err : CasesErr) → MayRefuseAs (IsCasesRefusal bytes) (Some cases_errs.NoMemory) err → TellsCases err text → IsAnswer bytes Compare FaultFound text
-told_as bytes text (cases_errs.Layout line) is tells = refused_told bytes text (cases_errs.Layout line) is tells (λ e. cc e)
-told_as bytes text (cases_errs.Deck side fault) is tells = refused_told bytes text (cases_errs.Deck side fault) is tells (λ e. cc e)
-told_as bytes text (cases_errs.Fields number) is tells = refused_told bytes text (cases_errs.Fields number) is tells (λ e. cc e)
-told_as bytes text (cases_errs.Header column) is tells = refused_told bytes text (cases_errs.Header column) is tells (λ e. cc e)
-told_as bytes text (cases_errs.BadCase number) is tells = refused_told bytes text (cases_errs.BadCase number) is tells (λ e. cc e)
-told_as bytes text cases_errs.TooMany is tells = refused_told bytes text cases_errs.TooMany is tells (λ e. cc e)
-told_as bytes text cases_errs.NoMemory is tells = absurd tells
+  told_as : (text : List ℕ) (err : CasesErr) → MayRefuseAs refuses (Some cases_errs.NoMemory) err → TellsCases err text → IsComparison reads refuses comparison FaultFound text
+  told_as text (cases_errs.Layout line) is tells = refused_told text (cases_errs.Layout line) is tells (λ e. cc e)
+  told_as text (cases_errs.Deck side fault) is tells = refused_told text (cases_errs.Deck side fault) is tells (λ e. cc e)
+  told_as text (cases_errs.Fields number) is tells = refused_told text (cases_errs.Fields number) is tells (λ e. cc e)
+  told_as text (cases_errs.Header column) is tells = refused_told text (cases_errs.Header column) is tells (λ e. cc e)
+  told_as text (cases_errs.BadCase number) is tells = refused_told text (cases_errs.BadCase number) is tells (λ e. cc e)
+  told_as text cases_errs.TooMany is tells = refused_told text cases_errs.TooMany is tells (λ e. cc e)
+  told_as text cases_errs.NoMemory is tells = absurd tells
 
--- a refusal is the answer to its input
-pub uncompared_told : {bytes text : List ℕ} {status : ToolStatus} (err : CasesErr) → MayRefuseAs (IsCasesRefusal bytes) (Some cases_errs.NoMemory) err → (status ≡ FaultFound) × TellsCases err text → IsAnswer bytes Compare status text
-uncompared_told {bytes} {text} {status} err is e = subst (λ x. IsAnswer bytes Compare x text) (sym e.0) (told_as bytes text err is e.1)
+  pub unlisted_told : {E : Type 0} (err : CasesErr) (made : Result (ToolStatus × List ℕ) E) → MayRefuseAs refuses (Some cases_errs.NoMemory) err → IfOk made (λ found. (found.0 ≡ FaultFound) × TellsCases err found.1)
+      → IfOk made (λ found. IsComparison reads refuses comparison found.0 found.1)
+  unlisted_told err (Ok found) is e = subst (λ x. IsComparison reads refuses comparison x found.1) (sym e.0) (told_as found.1 err is e.1)
+  unlisted_told err (Err want) is e = tt
+
+-- what a comparison comes to is the answer to its input
+pub comparison_told : {E : Type 0} (bytes : List ℕ) (comparison : Comparison) (made : Result (ToolStatus × List ℕ) E) → IfOk made (λ found. IsComparison (IsReading bytes) (IsCasesRefusal bytes) comparison found.0 found.1)
+    → IfOk made (λ found. IsAnswer bytes (Compare comparison) found.0 found.1)
+comparison_told bytes comparison (Ok told) is = compared comparison told.0 told.1 is
+comparison_told bytes comparison (Err want) is = tt
+
+-- ---- an answer has the status of one, or of a fault
+
+abbrev pub IsEnd : ToolStatus → Type 0
+IsEnd status = (status ≡ Done) ⊎ (status ≡ FaultFound)
+
+listed_ends : (comparison : Comparison) (differing : ℕ) (status : ToolStatus) → status ≡ compared_status comparison differing → IsEnd status
+listed_ends comparison differing status e = elim (cases_Bool (is_failed comparison differing)) [
+  | inl failed ↦ inr (e ∙ rw failed refl)
+  | inr well ↦ inl (e ∙ rw well refl)
+]
+
+pub comparison_ends : {reads : Cases → Type 0} {refuses : CasesErr → Type 0} {comparison : Comparison} {status : ToolStatus} {text : List ℕ} → IsComparison reads refuses comparison status text → IsEnd status
+comparison_ends {comparison = comparison} (listed cases status text read is) = listed_ends comparison is.differing status is.status_is
+comparison_ends (unlisted err is) = inr refl
+
+lint_ends : (fail : Bool) (findings : ℕ) (status : ToolStatus) → status ≡ lint_status fail findings → IsEnd status
+lint_ends fail findings status e = elim (cases_Bool (fail && nat_lt 0 findings)) [
+  | inl failed ↦ inr (e ∙ rw failed refl)
+  | inr well ↦ inl (e ∙ rw well refl)
+]
+
+answer_ends : {bytes text : List ℕ} {task : Task} {status : ToolStatus} → IsAnswer bytes task status text → IsEnd status
+answer_ends (translated kind tree count d) = inl refl
+answer_ends (faulty kind fault d) = inr refl
+answer_ends (valid config d) = inl refl
+answer_ends (refused fault d) = inr refl
+answer_ends (simulated phases text script is) = inl refl
+answer_ends (unsimulated phases fault script is) = inr refl
+answer_ends (compared comparison status text is) = comparison_ends is
+answer_ends (explained phases text script is) = inl refl
+answer_ends (unexplained phases fault script is) = inr refl
+answer_ends (covered phases text script is) = inl refl
+answer_ends (uncovered phases fault script is) = inr refl
+answer_ends (linted fail status lint is e) = lint_ends fail (length lint.findings) status e
+answer_ends (unlinted fail fault is) = inr refl
 
 pub answered : {bytes text : List ℕ} {task : Task} {status : ToolStatus} (old new : Observed) → IsAnswer bytes task status text → WasRead (most_bytes task) old new bytes → Appends old.taken new.taken text → new.write_faults ≡ old.write_faults → Ends task old new status
-answered {bytes = bytes} old new (translated kind tree count d) r w f = record { bytes = bytes; text = _; read = r; answer = translated kind tree count d; written = w; write_faults = f }
-answered {bytes = bytes} old new (faulty kind fault d) r w f = record { bytes = bytes; text = _; read = r; answer = faulty kind fault d; written = w; write_faults = f }
-answered {bytes = bytes} old new (valid config d) r w f = record { bytes = bytes; text = _; read = r; answer = valid config d; written = w; write_faults = f }
-answered {bytes = bytes} old new (refused fault d) r w f = record { bytes = bytes; text = _; read = r; answer = refused fault d; written = w; write_faults = f }
-answered {bytes = bytes} old new (simulated phases text script is) r w f = record { bytes = bytes; text = _; read = r; answer = simulated phases text script is; written = w; write_faults = f }
-answered {bytes = bytes} old new (unsimulated phases fault script is) r w f = record { bytes = bytes; text = _; read = r; answer = unsimulated phases fault script is; written = w; write_faults = f }
-answered {bytes = bytes} old new (compared cases text reading listing) r w f = record { bytes = bytes; text = text; read = r; answer = compared cases text reading listing; written = w; write_faults = f }
-answered {bytes = bytes} old new (uncompared err is) r w f = record { bytes = bytes; text = _; read = r; answer = uncompared err is; written = w; write_faults = f }
-answered {bytes = bytes} old new (explained phases text script is) r w f = record { bytes = bytes; text = _; read = r; answer = explained phases text script is; written = w; write_faults = f }
-answered {bytes = bytes} old new (unexplained phases fault script is) r w f = record { bytes = bytes; text = _; read = r; answer = unexplained phases fault script is; written = w; write_faults = f }
-answered {bytes = bytes} old new (covered phases text script is) r w f = record { bytes = bytes; text = _; read = r; answer = covered phases text script is; written = w; write_faults = f }
-answered {bytes = bytes} old new (uncovered phases fault script is) r w f = record { bytes = bytes; text = _; read = r; answer = uncovered phases fault script is; written = w; write_faults = f }
+answered {bytes} {text} {task} {status} old new a r w f = elim (answer_ends a) [
+  | inl done ↦ subst (λ x. Ends task old new x) (sym done) (record { bytes = bytes; text = text; read = r; answer = subst (λ x. IsAnswer bytes task x text) done a; written = w; write_faults = f })
+  | inr fault ↦ subst (λ x. Ends task old new x) (sym fault) (record { bytes = bytes; text = text; read = r; answer = subst (λ x. IsAnswer bytes task x text) fault a; written = w; write_faults = f })
+]
+
+end_is_no_refusal : {status : ToolStatus} → IsEnd status → status ≡ BadWords → ⊥
+end_is_no_refusal ends e = elim ends [
+  | inl done ↦ cc (done, e)
+  | inr fault ↦ cc (fault, e)
+]
+
+end_is_told : {status : ToolStatus} → IsEnd status → leaves_sink status ≡ true → ⊥
+end_is_told ends e = elim ends [
+  | inl done ↦ cc (rw done at e)
+  | inr fault ↦ cc (rw fault at e)
+]
 
 pub never_bad_words : {bytes text : List ℕ} {task : Task} {status : ToolStatus} → IsAnswer bytes task status text → status ≡ BadWords → ⊥
-never_bad_words (translated kind tree count d) e = cc
-never_bad_words (faulty kind fault d) e = cc
-never_bad_words (valid config d) e = cc
-never_bad_words (refused fault d) e = cc
-never_bad_words (simulated phases text script is) e = cc
-never_bad_words (unsimulated phases fault script is) e = cc
-never_bad_words (compared cases text reading listing) e = cc
-never_bad_words (uncompared err is) e = cc
-never_bad_words (explained phases text script is) e = cc
-never_bad_words (unexplained phases fault script is) e = cc
-never_bad_words (covered phases text script is) e = cc
-never_bad_words (uncovered phases fault script is) e = cc
+never_bad_words a e = end_is_no_refusal (answer_ends a) e
 
 pub never_silent : {bytes text : List ℕ} {task : Task} {status : ToolStatus} → IsAnswer bytes task status text → leaves_sink status ≡ true → ⊥
-never_silent (translated kind tree count d) e = cc
-never_silent (faulty kind fault d) e = cc
-never_silent (valid config d) e = cc
-never_silent (refused fault d) e = cc
-never_silent (simulated phases text script is) e = cc
-never_silent (unsimulated phases fault script is) e = cc
-never_silent (compared cases text reading listing) e = cc
-never_silent (uncompared err is) e = cc
-never_silent (explained phases text script is) e = cc
-never_silent (unexplained phases fault script is) e = cc
-never_silent (covered phases text script is) e = cc
-never_silent (uncovered phases fault script is) e = cc
+never_silent a e = end_is_told (answer_ends a) e
+
+-- a comparison was told so, or cut off
+pub parts_told : (answers : ToolStatus → List ℕ → Type 0) {text : List ℕ} {status : ToolStatus} (old new : SinkSeen) → answers status text → IsEnd status → Appends old.taken new.taken text → new.faults ≡ old.faults → EndsTold answers old new status
+parts_told answers {text} {status} old new a ends w f = elim ends [
+  | inl well ↦ subst (λ x. EndsTold answers old new x) (sym well) (record { text = text; answer = subst (λ x. answers x text) well a; written = w; faults = f })
+  | inr fault ↦ subst (λ x. EndsTold answers old new x) (sym fault) (record { text = text; answer = subst (λ x. answers x text) fault a; written = w; faults = f })
+]
+
+pub parts_cut : (answers : ToolStatus → List ℕ → Type 0) {text : List ℕ} (status : ToolStatus) (old new : SinkSeen) → answers status text → ((front : List ℕ) × IsProperPrefix front text × Appends old.taken new.taken front) → Rose old.faults new.faults → WasCutOff answers old new
+parts_cut answers {text} status old new a w f = record { status = status; text = text; front = w.0; answer = a; proper = w.1; written = w.2; rose = f }
 
 pub cut_off : {bytes text : List ℕ} {task : Task} {status : ToolStatus} (old new : Observed) → IsAnswer bytes task status text → WasRead (most_bytes task) old new bytes
     → ((front : List ℕ) × IsProperPrefix front text × Appends old.taken new.taken front) → Rose old.write_faults new.write_faults → HasWriteFault (most_bytes task) (HasAnswer task) old new

@@ -1,10 +1,15 @@
--- The refusals of a comparison as text (docs/manual/tool.md, "Comparing two decks").
-use Rattle.std.specs.Prelude.{◌≡◌, ℕ, List, [], ◌++◌, decimal, codes}
+-- What a comparison comes to: its status and its text (docs/manual/tool.md, "Comparing two decks").
+use Rattle.std.specs.Prelude.{◌≡◌, ◌&&◌, ℕ, Bool, List, [], ◌++◌, decimal, codes, nat_lt, if◌then◌else◌}
 use Rattle.sms_script.specs.FaultText.{fault_text}
+use Rattle.acs_test.specs.Listing.{IsListingOf}
+use Rattle.acs_test.specs.declared.cases.Cases.{Cases}
 use Rattle.acs_test.specs.declared.cases_err.CasesErr.{CasesErr}
 use Rattle.acs_test.specs.declared.cases_err.CasesErr.TheVariants as errs
 use Rattle.acs_test.specs.declared.cases_err.Side.{Side}
 use Rattle.acs_test.specs.declared.cases_err.Side.TheVariants.{Old, New}
+use Rattle.tool_calls.specs.declared.status.ToolStatus.{ToolStatus}
+use Rattle.tool_calls.specs.declared.status.ToolStatus.TheVariants.{Done, FaultFound}
+use Rattle.tool_words.specs.declared.comparison.Comparison.{Comparison}
 
 -- a code, and a number behind it
 abbrev pub numbered : List ℕ → ℕ → List ℕ
@@ -34,3 +39,25 @@ TellsCases (errs.Header column) text = text ≡ cases_fault_text (errs.Header co
 TellsCases (errs.BadCase number) text = text ≡ cases_fault_text (errs.BadCase number)
 TellsCases errs.TooMany text = text ≡ cases_fault_text errs.TooMany
 TellsCases errs.NoMemory text = ⊥
+
+-- a case differs, and that is to be told by the status
+abbrev pub is_failed : Comparison → ℕ → Bool
+is_failed comparison differing = comparison.fail && nat_lt 0 differing
+
+-- the status of a comparison by which so many cases differ
+abbrev pub compared_status : Comparison → ℕ → ToolStatus
+compared_status comparison differing = if is_failed comparison differing then FaultFound else Done
+
+-- the listing of these cases, and its status
+pub record TellsListing (cases : Cases) (comparison : Comparison) (status : ToolStatus) (text : List ℕ) : Type 0 where
+  pub differing : ℕ
+  pub status_is : status ≡ compared_status comparison differing
+  pub listing : IsListingOf cases.before cases.after comparison.changed cases.list differing text
+
+-- what a comparison of what reads so comes to: the listing of the cases, or the line of the refusal
+pub data IsComparison (reads : Cases → Type 0) (refuses : CasesErr → Type 0) (comparison : Comparison)
+    : ToolStatus → List ℕ → Type 0 where
+  listed : (cases : Cases) (status : ToolStatus) (text : List ℕ) → reads cases →
+      TellsListing cases comparison status text → IsComparison reads refuses comparison status text
+  unlisted : (err : CasesErr) → refuses err →
+      IsComparison reads refuses comparison FaultFound (cases_fault_text err)

@@ -3,3 +3,4 @@ pub mod Limits
 pub mod CasesText
 pub mod ToolText
 pub mod ToolEnds
+pub mod PartsEnds

@@ -3,13 +3,14 @@ use Rattle.std.specs.Prelude.{ℕ}
 use Rattle.desk_common.specs.Limits.{most_input_bytes}
 use Rattle.deck_meaning.specs.Limits.{most_routine_bytes}
 use Rattle.tool_words.specs.declared.task.Task.{Task}
-use Rattle.tool_words.specs.declared.task.Task.TheVariants.{Translate, Validate, Simulate, Compare, Explain, Coverage}
+use Rattle.tool_words.specs.declared.task.Task.TheVariants.{Translate, Validate, Simulate, Compare, Explain, Coverage, Lint}
 
 -- the most bytes of the input
 abbrev pub most_bytes : Task → ℕ
 most_bytes (Translate kind) = most_routine_bytes
 most_bytes Validate = most_input_bytes
 most_bytes Simulate = most_input_bytes
-most_bytes Compare = most_input_bytes
+most_bytes (Compare comparison) = most_input_bytes
 most_bytes Explain = most_input_bytes
 most_bytes Coverage = most_input_bytes
+most_bytes (Lint fail) = most_input_bytes

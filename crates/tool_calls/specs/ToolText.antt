@@ -1,5 +1,6 @@
 -- What the translator prints (docs/manual/tool.md).
-use Rattle.std.specs.Prelude.{◌≡◌, ◌⊎◌, ℕ, List, ◌++◌, Some, Ok, Err, decimal, codes, length}
+use Rattle.std.specs.Prelude.{◌≡◌, ◌⊎◌, ◌&&◌, ℕ, Bool, List, ◌++◌, Some, Ok, Err, decimal, codes, length, nat_lt}
+use Rattle.std.specs.Prelude.{if◌then◌else◌}
 use Rattle.acs_tree.specs.declared.kind.Kind.{Kind}
 use Rattle.acs_tree.specs.declared.routine.Routine.{Routine}
 use Rattle.acs_tree.specs.Variables.{name_of}
@@ -22,17 +23,18 @@ use Rattle.sms_simulation.specs.declared.simulated.Simulated.{Simulated}
 use Rattle.sms_simulation.specs.declared.simulated.Simulated.TheVariants as simulations
 use Rattle.sms_coverage.specs.Coverage.{IsCoverage}
 use Rattle.sms_explain.specs.Explanation.{IsExplanation}
-use Rattle.acs_test.specs.Listing.{IsListing}
 use Rattle.acs_test.specs.Reading.{IsReading, IsRefusal}
-use Rattle.acs_test.specs.declared.cases.Cases.{Cases}
-use Rattle.acs_test.specs.declared.cases_err.CasesErr.{CasesErr}
-use Rattle.tool_calls.specs.CasesText.{cases_fault_text}
+use Rattle.sms_lint.specs.Linting.{IsLintOf}
+use Rattle.sms_lint.specs.declared.linted.Lint.{Lint}
+use Rattle.tool_calls.specs.CasesText.{IsComparison}
 use Rattle.tool_calls.specs.declared.no_answer.NoAnswer.{NoAnswer}
 use Rattle.tool_calls.specs.declared.no_answer.NoAnswer.TheVariants as hindrances
 use Rattle.tool_calls.specs.declared.status.ToolStatus.{ToolStatus}
 use Rattle.tool_calls.specs.declared.status.ToolStatus.TheVariants.{Done, FaultFound}
+use Rattle.tool_words.specs.declared.comparison.Comparison.{Comparison}
 use Rattle.tool_words.specs.declared.task.Task.{Task}
 use Rattle.tool_words.specs.declared.task.Task.TheVariants.{Translate, Validate, Simulate, Compare, Explain, Coverage}
+use Rattle.tool_words.specs.declared.task.Task.TheVariants.{Lint as LintDeck}
 
 -- L, P or C
 abbrev pub letter_of : Stage → List ℕ
@@ -58,6 +60,10 @@ valid_text groups volumes = codes "VALID " ++ (decimal groups ++ (codes " " ++ (
 abbrev pub refused_text : DeckFault → List ℕ
 refused_text fault = codes "FAULT " ++ (deck_fault_text fault ++ codes "\n")
 
+-- the status of a deck in which so much is found
+abbrev pub lint_status : Bool → ℕ → ToolStatus
+lint_status fail findings = if fail && nat_lt 0 findings then FaultFound else Done
+
 -- the answer to an input: its status and what is printed
 pub data IsAnswer (bytes : List ℕ) : Task → ToolStatus → List ℕ → Type 0 where
   translated : (kind : Kind) (tree : Routine) (count : ℕ) → IsTranslated bytes kind tree count →
@@ -72,9 +78,9 @@ pub data IsAnswer (bytes : List ℕ) : Task → ToolStatus → List ℕ → Type
   unsimulated : (phases : List (List Item)) (fault : DeckFault) → script_of bytes ≡ Ok phases →
       IsSimulation (items_of phases) (simulations.Refused fault) →
       IsAnswer bytes Simulate FaultFound (refused_text fault)
-  compared : (cases : Cases) (text : List ℕ) → IsReading bytes cases →
-      IsListing cases.before cases.after cases.list text → IsAnswer bytes Compare Done text
-  uncompared : (err : CasesErr) → IsRefusal bytes err → IsAnswer bytes Compare FaultFound (cases_fault_text err)
+  compared : (comparison : Comparison) (status : ToolStatus) (text : List ℕ) →
+      IsComparison (IsReading bytes) (IsRefusal bytes) comparison status text →
+      IsAnswer bytes (Compare comparison) status text
   explained : (phases : List (List Item)) (text : List ℕ) → script_of bytes ≡ Ok phases →
       IsExplanation (items_of phases) (simulations.Shown text) → IsAnswer bytes Explain Done text
   unexplained : (phases : List (List Item)) (fault : DeckFault) → script_of bytes ≡ Ok phases →
@@ -85,6 +91,10 @@ pub data IsAnswer (bytes : List ℕ) : Task → ToolStatus → List ℕ → Type
   uncovered : (phases : List (List Item)) (fault : DeckFault) → script_of bytes ≡ Ok phases →
       IsCoverage (items_of phases) (simulations.Refused fault) →
       IsAnswer bytes Coverage FaultFound (refused_text fault)
+  linted : (fail : Bool) (status : ToolStatus) (lint : Lint) → IsLintOf bytes lint →
+      status ≡ lint_status fail (length lint.findings) → IsAnswer bytes (LintDeck fail) status lint.text
+  unlinted : (fail : Bool) (fault : DeckFault) → HasFirstFault bytes fault →
+      IsAnswer bytes (LintDeck fail) FaultFound (refused_text fault)
 
 -- the input is no script that can be simulated: it has this fault as a script, or is one with an item that isn't the
 -- one asked there

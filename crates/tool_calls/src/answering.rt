@@ -7,6 +7,7 @@ ghost use Rattle.tool_calls.specs.ToolText.{HindersSimulation};
 ghost use Rattle.tool_words.specs.declared.task.Task.TheVariants.{Translate, Validate, Simulate, Explain, Coverage};
 
 use crate::comparing::compared;
+use crate::linting::linted;
 use crate::no_answer::NoAnswer;
 use crate::noting::{note_deck, note_refusal, note_script, note_simulation};
 use crate::status::ToolStatus;
@@ -40,9 +41,12 @@ pub fn answer(
         }
         Task::Validate => validated(alloc, bytes, note).map_err(|_| NoAnswer::NoMemory),
         Task::Simulate => simulated(alloc, &bytes, note),
-        Task::Compare => compared(alloc, &bytes, note).map_err(|_| NoAnswer::NoMemory),
+        Task::Compare(comparison) => {
+            compared(alloc, comparison, &bytes, note).map_err(|_| NoAnswer::NoMemory)
+        }
         Task::Explain => explained(alloc, &bytes, note),
         Task::Coverage => covered(alloc, &bytes, note),
+        Task::Lint { fail } => { linted(alloc, fail, bytes, note).map_err(|_| NoAnswer::NoMemory) }
     }
 }
 
@@ -153,8 +157,8 @@ fn simulation(alloc: Global, made: Simulated) -> Result<(ToolStatus, Items<u8>),
     }
 }
 
-// The answer that a deck has this fault.
-fn refused(alloc: Global, fault: &Fault) -> Result<(ToolStatus, Items<u8>), AllocError>
+/// The answer that a deck has this fault.
+pub fn refused(alloc: Global, fault: &Fault) -> Result<(ToolStatus, Items<u8>), AllocError>
     ensures { IfOk result (λ found. (found.0 ≡ ToolStatus.FaultFound) × (found.1 ≡ refused_text fault.now)) }
 {
     let text = refused_text(alloc, fault)?;

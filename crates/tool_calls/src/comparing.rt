@@ -1,30 +1,34 @@
-//! From the bytes of two decks and a table of cases to the text of the answer.
-ghost use Rattle.std.specs.Prelude.{◌≡◌, ◌<◌, ◌^◌, length, IfOk};
-ghost use Rattle.acs_test.specs.Listing.{IsListing};
-ghost use Rattle.tool_calls.specs.CasesText.{TellsCases, cases_fault_text, numbered, side_code};
+//! From two decks and a table of cases to the text of the answer.
+ghost use Rattle.std.specs.Prelude.{◌≡◌, ◌<◌, ◌+◌, ◌^◌, length, IfOk};
+ghost use Rattle.acs_test.specs.Layout.{parts_seen};
+ghost use Rattle.acs_test.specs.Reading.{Gives, Refuses};
+ghost use Rattle.tool_calls.specs.CasesText.{IsComparison, TellsListing, TellsCases, cases_fault_text, compared_status};
+ghost use Rattle.tool_calls.specs.CasesText.{numbered, side_code};
 ghost use Rattle.tool_calls.specs.ToolText.{IsAnswer};
 ghost use Rattle.tool_words.specs.declared.task.Task.TheVariants.{Compare};
 
-use crate::noting::note_cases;
+use crate::noting::{note_cases, note_parts};
+use crate::part_names::PartNames;
 use crate::status::ToolStatus;
-use acs_test::{Cases, CasesErr, Side, compare, read_cases};
+use acs_test::{Cases, CasesErr, InputParts, Side, list_cases, read_cases, read_parts};
 use desk_common::{Items, push_number};
 use sms_construct::Fault;
 use sms_script::push_fault;
 use std::alloc::{AllocError, Global};
+use tool_words::Comparison;
 
-/// The answer to two decks and a table of cases. What a fault means is noted.
-#[tactic(auto, using(crate::proofs::AnswerLemmas::uncompared_told))]
+/// The answer to two decks and a table of cases in one text. What a fault means is noted.
 pub fn compared(
     alloc: Global,
+    comparison: Comparison,
     bytes: &[u8],
     note: &mut String,
 ) -> Result<(ToolStatus, Items<u8>), AllocError>
     requires { length bytes.now < 2 ^ 32 }
-    ensures { IfOk result (λ found. IsAnswer bytes.now Compare found.0 found.1) }
+    ensures { IfOk result (λ found. IsAnswer bytes.now (Compare comparison) found.0 found.1) }
 {
     match read_cases(alloc, bytes) {
-        Ok(cases) => listed(alloc, &cases),
+        Ok(cases) => listed(alloc, comparison, &cases),
         Err(err) => {
             note_cases(alloc, note, bytes, &err);
             told(alloc, &err)
@@ -32,12 +36,49 @@ pub fn compared(
     }
 }
 
-fn listed(alloc: Global, cases: &Cases) -> Result<(ToolStatus, Items<u8>), AllocError>
-    ensures { IfOk result (λ found. (found.0 ≡ ToolStatus.Done) ×
-        IsListing cases.now.before cases.now.after cases.now.list found.1) }
+/// The answer to two decks and a table of cases that are texts of their own. What a fault means is noted, with the name
+/// of the part that has it.
+pub fn compared_parts(
+    alloc: Global,
+    comparison: Comparison,
+    parts: InputParts<'_>,
+    names: PartNames<'_>,
+    note: &mut String,
+) -> Result<(ToolStatus, Items<u8>), AllocError>
+    requires { length parts.table.now + 2 < 2 ^ 32 }
+    ensures { IfOk result (λ found. IsComparison (Gives (parts_seen parts.entry)) (Refuses (parts_seen parts.entry))
+        comparison found.0 found.1) }
 {
-    let text = compare(alloc, cases)?;
-    Ok((ToolStatus::Done, Items::from_vec(text)))
+    match read_parts(alloc, parts) {
+        Ok(cases) => listed(alloc, comparison, &cases),
+        Err(err) => {
+            note_parts(alloc, note, parts, names, &err);
+            told(alloc, &err)
+        }
+    }
+}
+
+fn listed(
+    alloc: Global,
+    comparison: Comparison,
+    cases: &Cases,
+) -> Result<(ToolStatus, Items<u8>), AllocError>
+    ensures { IfOk result (λ found. TellsListing cases.now comparison found.0 found.1) }
+{
+    let listing = list_cases(alloc, cases, comparison.changed)?;
+    let status = compared_status(comparison, listing.differing);
+    Ok((status, Items::from_vec(listing.text)))
+}
+
+// The status of a comparison by which so many cases differ.
+fn compared_status(comparison: Comparison, differing: u64) -> ToolStatus
+    ensures { result ≡ compared_status comparison differing }
+{
+    if comparison.fail && 0 < differing {
+        ToolStatus::FaultFound
+    } else {
+        ToolStatus::Done
+    }
 }
 
 fn told(alloc: Global, err: &CasesErr) -> Result<(ToolStatus, Items<u8>), AllocError>

@@ -12,7 +12,11 @@ pub fn most_bytes(task: Task) -> usize
 {
     match task {
         Task::Translate(_) => MAX_ROUTINE,
-        Task::Validate | Task::Simulate | Task::Compare | Task::Explain | Task::Coverage =>
-            MAX_INPUT,
+        Task::Validate
+        | Task::Simulate
+        | Task::Compare(_)
+        | Task::Explain
+        | Task::Coverage
+        | Task::Lint { .. } => MAX_INPUT,
     }
 }

@@ -1,10 +1,11 @@
 //! What is said of a fault beside the answer, for the person at the terminal (docs/manual/tool.md, "What a fault
 //! means"). Where memory for it is wanting, nothing is said.
-use acs_test::{CasesErr, Side};
+use crate::part_names::PartNames;
+use acs_test::{CasesErr, InputParts, Side};
 use acs_translate::{RoutineFault, TranslateErr};
 use fault_notes::{
-    DeckPart, case_note, compared_deck, deck_note, fields_note, header_note, layout_note,
-    many_cases_note, misplaced_note, routine_note, script_note,
+    DeckPart, Rest, case_note, compared_deck, compared_table, deck_note, fields_note, header_note,
+    layout_note, many_cases_note, misplaced_note, routine_note, script_note, shown,
 };
 use sms_construct::{Fault, Op, Stage, TextFault};
 use sms_script::{Item, Script, ScriptErr};
@@ -53,7 +54,7 @@ pub fn note_simulation(
     }
 }
 
-/// Notes why two decks and a table of cases aren't compared.
+/// Notes why two decks and a table of cases in one text aren't compared.
 pub fn note_cases(alloc: Global, note: &mut String, text: &[u8], err: &CasesErr) {
     match err {
         CasesErr::Layout(line) => keep(note, layout_note(alloc, text, *line)),
@@ -61,11 +62,57 @@ pub fn note_cases(alloc: Global, note: &mut String, text: &[u8], err: &CasesErr)
             let deck = compared_deck(text, is_new(*side));
             keep(note, deck_note(alloc, deck, fault));
         }
-        CasesErr::Fields(number) => keep(note, fields_note(alloc, text, *number)),
-        CasesErr::Header(column) => keep(note, header_note(alloc, text, *column)),
-        CasesErr::BadCase(number) => keep(note, case_note(alloc, text, *number)),
-        CasesErr::TooMany => keep(note, many_cases_note(alloc, text, 10_002)),
-        CasesErr::NoMemory => (),
+        _ => note_table(alloc, note, compared_table(text), err),
+    }
+}
+
+/// Notes why two decks and a table of cases that are texts of their own aren't compared, with the name of the part.
+pub fn note_parts(
+    alloc: Global,
+    note: &mut String,
+    parts: InputParts<'_>,
+    names: PartNames<'_>,
+    err: &CasesErr,
+) {
+    let name = match err {
+        CasesErr::Deck(Side::Old, fault) => {
+            note_deck(alloc, note, parts.before, fault);
+            names.before
+        }
+        CasesErr::Deck(Side::New, fault) => {
+            note_deck(alloc, note, parts.after, fault);
+            names.after
+        }
+        _ => {
+            let table = Rest {
+                text: parts.table,
+                lines: 0,
+            };
+            note_table(alloc, note, table, err);
+            names.table
+        }
+    };
+    note_name(alloc, note, name);
+}
+
+/// Puts the name of a file before a note on it.
+pub fn note_name(alloc: Global, note: &mut String, name: &str) {
+    if note.is_empty() {
+        return;
+    }
+    if let Ok(name) = shown(alloc, name.as_bytes()) {
+        keep(note, format!(in alloc; "{name}: {note}"));
+    }
+}
+
+// Notes the fault of a table of cases.
+fn note_table(alloc: Global, note: &mut String, table: Rest<'_>, err: &CasesErr) {
+    match err {
+        CasesErr::Fields(number) => keep(note, fields_note(alloc, table, *number)),
+        CasesErr::Header(column) => keep(note, header_note(alloc, table, *column)),
+        CasesErr::BadCase(number) => keep(note, case_note(alloc, table, *number)),
+        CasesErr::TooMany => keep(note, many_cases_note(alloc, table, 10_002)),
+        CasesErr::Layout(_) | CasesErr::Deck(..) | CasesErr::NoMemory => (),
     }
 }
 

@@ -1,24 +1,24 @@
 -- What the kinds of a refusal say, and what a subcommand asks for.
 use Rattle.std.proofs.Common.{◌≡◌, refl, ap, ◌∙◌, sym, subst, ℕ, List, [], ◌∷◌, Bool, true, false, not, ◌&&◌, Option}
 use Rattle.std.proofs.Common.{Some, None, codes, length, arith, inl, inr, ◌⊎◌}
-use Rattle.std.specs.Prelude.{Result, Ok, Err, IfOk, IfErr, MatchResult}
+use Rattle.std.specs.Prelude.{Result, Ok, Err, IfOk, IfErr, MatchOption, MatchResult, bytes_eq}
 use Rattle.std.specs.List.{list_all}
 use Rattle.std.proofs.lemmas.Bool.{cases_Bool, and_parts}
+use Rattle.std.proofs.lemmas.Slice.Eq.{bytes_eq-Decides}
 use Rattle.acs_tree.specs.Variables.{name_of}
-use Rattle.clap.proofs.WalkLemmas.{first_value-rows}
+use Rattle.acs_tree.specs.declared.kind.Kind.{Kind}
 use Rattle.clap.specs.Walk.{Row, Text}
-use Rattle.clap.specs.Words.{IsAmong, Kinds, fault_of, first_of, found_of, rows_of, subcommand_of, subcommand_rows_of}
+use Rattle.clap.specs.Words.{IsAmong, Kinds, fault_of, subcommand_of, subcommand_rows_of}
 use Rattle.clap.specs.declared.parser.matches.ArgMatches.{ArgMatches}
 use Rattle.clap.specs.declared.error.kind.ErrorKind.{ErrorKind}
 use Rattle.clap.specs.declared.error.kind.ErrorKind.TheVariants as kind
-use Rattle.acs_tree.specs.declared.kind.Kind.{Kind}
 use Rattle.acs_tree.specs.declared.kind.Kind.TheVariants.{DataClas, StorClas, MgmtClas, StorGrp}
 use Rattle.clap.proofs.OnLiterals.{clap_on_literals}
 use Rattle.desk_common.specs.Exact.{IsExact, MayRefuse}
 use Rattle.desk_common.proofs.ExactLemmas.{exact_fault, exact_thing, exact_want}
 use Rattle.std.proofs.lemmas.Option.{same_Some}
 use Rattle.tool_words.specs.Tool.{kind_words, names_with, tool, words_of}
-use Rattle.tool_words.specs.Asking.{AreRefused, AreShown, AskFor, AsksKind, Finds, Hinders, AreSorted, err_of, is_free}
+use Rattle.tool_words.specs.Asking.{AreRefused, AreShown, AskFor, Hinders, AreSorted, err_of, is_free, kind_named, task_found}
 use Rattle.tool_words.specs.Asking.{is_refused, is_shown, is_text}
 use Rattle.tool_words.specs.declared.task.Task.{Task}
 use Rattle.tool_words.specs.declared.task.Task.TheVariants as tasks
@@ -137,149 +137,33 @@ hindered words k why = elim why [
   | inr among ↦ hindered_by words k among
 ]
 
-pub asked : (words : List Text) (matches : ArgMatches) (task : Task) → ((fault_of tool words ≡ []) × (subcommand_rows_of matches ≡ subcommand_of tool words)) → Finds (subcommand_rows_of matches) task → AskFor words task
-asked words matches task read finds =
-    record { free = ap is_free read.0; found = subst (λ (x : Option (Text × List Row)). Finds x task) read.1 finds }
+pub asked : (words : List Text) (matches : ArgMatches) (task : Task) → ((fault_of tool words ≡ []) × (subcommand_rows_of matches ≡ subcommand_of tool words)) → task_found (subcommand_rows_of matches) ≡ Some task → AskFor words task
+asked words matches task read finds = record { free = ap is_free read.0; found = ap task_found (sym read.1) ∙ finds }
 
-pub translation_found : (found : Option (Text × List Row)) (inner : ArgMatches) (task : Task) → found ≡ Some (codes "translate", rows_of (found_of inner)) → AsksKind inner task → Finds found task
-translation_found found inner (tasks.Translate kind) e asks = (rows_of (found_of inner), e, sym (first_value-rows (found_of inner) (codes "kind")) ∙ asks)
-translation_found found inner tasks.Validate e asks = absurd asks
-translation_found found inner tasks.Simulate e asks = absurd asks
-translation_found found inner tasks.Compare e asks = absurd asks
-translation_found found inner tasks.Explain e asks = absurd asks
-translation_found found inner tasks.Coverage e asks = absurd asks
-
--- the subcommand of each task's words
-abbrev name_in : Task → Text
-name_in (tasks.Translate kind) = codes "translate"
-name_in tasks.Validate = codes "validate"
-name_in tasks.Simulate = codes "simulate"
-name_in tasks.Compare = codes "compare"
-name_in tasks.Explain = codes "explain"
-name_in tasks.Coverage = codes "coverage"
-
-abbrev values_in : Task → Option Text
-values_in (tasks.Translate kind) = Some (name_of kind)
-values_in tasks.Validate = None
-values_in tasks.Simulate = None
-values_in tasks.Compare = None
-values_in tasks.Explain = None
-values_in tasks.Coverage = None
-
--- the name of what is found, and the text of its word KIND
-abbrev name_found : Option (Text × List Row) → Text
-name_found None = []
-name_found (Some found) = found.0
-
-abbrev kind_found : Option (Text × List Row) → Option Text
-kind_found None = None
-kind_found (Some found) = first_of (codes "kind") found.1
-
-names_found : (task : Task) → name_found (subcommand_of tool (words_of task)) ≡ name_in task
+-- the kind of this name is the one that the word names
+pub named_as : (word : Text) (found : Option Kind) → MatchOption found ((kind : Kind) → word ≡ name_of kind → ⊥) (λ kind. word ≡ name_of kind) → found ≡ kind_named word
 unfolding clap_on_literals
-names_found (tasks.Translate DataClas) = refl
-names_found (tasks.Translate StorClas) = refl
-names_found (tasks.Translate MgmtClas) = refl
-names_found (tasks.Translate StorGrp) = refl
-names_found tasks.Validate = refl
-names_found tasks.Simulate = refl
-names_found tasks.Compare = refl
-names_found tasks.Explain = refl
-names_found tasks.Coverage = refl
-
-kinds_found : (kind : Kind) → kind_found (subcommand_of tool (words_of (tasks.Translate kind))) ≡ Some (name_of kind)
-unfolding clap_on_literals
-kinds_found DataClas = refl
-kinds_found StorClas = refl
-kinds_found MgmtClas = refl
-kinds_found StorGrp = refl
-
--- the first and the last byte of a name, and its length, tell the kinds apart
-abbrev first : List ℕ → ℕ
-first [] = 0
-first (byte ∷ bytes) = byte
-
-abbrev third : List ℕ → ℕ
-third (one ∷ two ∷ byte ∷ bytes) = byte
-third _ = 0
-
-abbrev text_or_none : Option Text → Text
-text_or_none None = []
-text_or_none (Some text) = text
-
-one_name : (one two : Kind) → name_of one ≡ name_of two → one ≡ two
-one_name DataClas DataClas e = refl
-one_name DataClas StorClas e = absurd (omega (arith, ap first e))
-one_name DataClas MgmtClas e = absurd (omega (arith, ap first e))
-one_name DataClas StorGrp e = absurd (omega (arith, ap first e))
-one_name StorClas DataClas e = absurd (omega (arith, ap first e))
-one_name StorClas StorClas e = refl
-one_name StorClas MgmtClas e = absurd (omega (arith, ap first e))
-one_name StorClas StorGrp e = absurd (omega (arith, ap length e))
-one_name MgmtClas DataClas e = absurd (omega (arith, ap first e))
-one_name MgmtClas StorClas e = absurd (omega (arith, ap first e))
-one_name MgmtClas MgmtClas e = refl
-one_name MgmtClas StorGrp e = absurd (omega (arith, ap first e))
-one_name StorGrp DataClas e = absurd (omega (arith, ap first e))
-one_name StorGrp StorClas e = absurd (omega (arith, ap length e))
-one_name StorGrp MgmtClas e = absurd (omega (arith, ap first e))
-one_name StorGrp StorGrp e = refl
-
-found_names : (found : Option (Text × List Row)) (task : Task) → Finds found task → name_found found ≡ name_in task
-found_names found (tasks.Translate kind) finds = ap name_found finds.1
-found_names found tasks.Validate finds = ap name_found finds.1
-found_names found tasks.Simulate finds = ap name_found finds.1
-found_names found tasks.Compare finds = ap name_found finds.1
-found_names found tasks.Explain finds = ap name_found finds.1
-found_names found tasks.Coverage finds = ap name_found finds.1
-
-found_kinds : (found : Option (Text × List Row)) (kind : Kind) → Finds found (tasks.Translate kind) → kind_found found ≡ Some (name_of kind)
-found_kinds found kind finds = ap kind_found finds.1 ∙ finds.2
-
--- two tasks with one subcommand and one KIND are one task
-one_task : (one two : Task) (found : Option (Text × List Row)) → Finds found one → Finds found two → name_in one ≡ name_in two → one ≡ two
-one_task (tasks.Translate one) (tasks.Translate two) found a b e =
-    ap tasks.Translate (one_name one two (ap text_or_none (sym (found_kinds found one a) ∙ found_kinds found two b)))
-one_task (tasks.Translate one) tasks.Validate found a b e = absurd (omega (arith, ap first e))
-one_task (tasks.Translate one) tasks.Simulate found a b e = absurd (omega (arith, ap first e))
-one_task (tasks.Translate one) tasks.Compare found a b e = absurd (omega (arith, ap first e))
-one_task (tasks.Translate one) tasks.Explain found a b e = absurd (omega (arith, ap first e))
-one_task (tasks.Translate one) tasks.Coverage found a b e = absurd (omega (arith, ap first e))
-one_task tasks.Validate (tasks.Translate two) found a b e = absurd (omega (arith, ap first e))
-one_task tasks.Validate tasks.Validate found a b e = refl
-one_task tasks.Validate tasks.Simulate found a b e = absurd (omega (arith, ap first e))
-one_task tasks.Validate tasks.Compare found a b e = absurd (omega (arith, ap first e))
-one_task tasks.Validate tasks.Explain found a b e = absurd (omega (arith, ap first e))
-one_task tasks.Validate tasks.Coverage found a b e = absurd (omega (arith, ap first e))
-one_task tasks.Simulate (tasks.Translate two) found a b e = absurd (omega (arith, ap first e))
-one_task tasks.Simulate tasks.Validate found a b e = absurd (omega (arith, ap first e))
-one_task tasks.Simulate tasks.Simulate found a b e = refl
-one_task tasks.Simulate tasks.Compare found a b e = absurd (omega (arith, ap first e))
-one_task tasks.Simulate tasks.Explain found a b e = absurd (omega (arith, ap first e))
-one_task tasks.Simulate tasks.Coverage found a b e = absurd (omega (arith, ap first e))
-one_task tasks.Compare (tasks.Translate two) found a b e = absurd (omega (arith, ap first e))
-one_task tasks.Compare tasks.Validate found a b e = absurd (omega (arith, ap first e))
-one_task tasks.Compare tasks.Simulate found a b e = absurd (omega (arith, ap first e))
-one_task tasks.Compare tasks.Compare found a b e = refl
-one_task tasks.Compare tasks.Explain found a b e = absurd (omega (arith, ap first e))
-one_task tasks.Compare tasks.Coverage found a b e = absurd (omega (arith, ap third e))
-one_task tasks.Explain (tasks.Translate two) found a b e = absurd (omega (arith, ap first e))
-one_task tasks.Explain tasks.Validate found a b e = absurd (omega (arith, ap first e))
-one_task tasks.Explain tasks.Simulate found a b e = absurd (omega (arith, ap first e))
-one_task tasks.Explain tasks.Compare found a b e = absurd (omega (arith, ap first e))
-one_task tasks.Explain tasks.Explain found a b e = refl
-one_task tasks.Explain tasks.Coverage found a b e = absurd (omega (arith, ap first e))
-one_task tasks.Coverage (tasks.Translate two) found a b e = absurd (omega (arith, ap first e))
-one_task tasks.Coverage tasks.Validate found a b e = absurd (omega (arith, ap first e))
-one_task tasks.Coverage tasks.Simulate found a b e = absurd (omega (arith, ap first e))
-one_task tasks.Coverage tasks.Compare found a b e = absurd (omega (arith, ap third e))
-one_task tasks.Coverage tasks.Explain found a b e = absurd (omega (arith, ap first e))
-one_task tasks.Coverage tasks.Coverage found a b e = refl
+named_as word (Some DataClas) is = rw is refl
+named_as word (Some StorClas) is = rw is refl
+named_as word (Some MgmtClas) is = rw is refl
+named_as word (Some StorGrp) is = rw is refl
+named_as word None none = elim (cases_Bool (bytes_eq word (name_of DataClas))) [
+  | inl a ↦ absurd (none DataClas ((bytes_eq-Decides word (name_of DataClas)).0 a))
+  | inr a ↦ elim (cases_Bool (bytes_eq word (name_of StorClas))) [
+    | inl b ↦ absurd (none StorClas ((bytes_eq-Decides word (name_of StorClas)).0 b))
+    | inr b ↦ elim (cases_Bool (bytes_eq word (name_of MgmtClas))) [
+      | inl d ↦ absurd (none MgmtClas ((bytes_eq-Decides word (name_of MgmtClas)).0 d))
+      | inr d ↦ elim (cases_Bool (bytes_eq word (name_of StorGrp))) [
+        | inl f ↦ absurd (none StorGrp ((bytes_eq-Decides word (name_of StorGrp)).0 f))
+        | inr f ↦ rw (a, b, d, f) refl
+      ]
+    ]
+  ]
+]
 
 -- words ask for one task at most
 pub one_asked : (words : List Text) (one two : Task) → AskFor words one → AskFor words two → one ≡ two
-one_asked words one two a b =
-    one_task one two (subcommand_of tool words) a.found b.found (sym (found_names _ one a.found) ∙ found_names _ two b.found)
+one_asked words one two a b = same_Some _ _ (sym a.found ∙ b.found)
 
 -- words that ask for a task are neither refused nor shown
 pub asked_once : (words : List Text) (task : Task) (e : WordsErr) → AskFor words task → Hinders words e → ⊥
@@ -304,52 +188,66 @@ exact_task words (Err e) asks hinders = elim hinders [
   | inr memory ↦ subst (λ (x : WordsErr). IsExact (AskFor words) (Hinders words) (Some errs.NoMemory) (Err x)) (same_Some _ _ memory) exact_want
 ]
 
-of_words : (task found : Task) → Finds (subcommand_of tool (words_of task)) found → name_in task ≡ name_in found → found ≡ task
-of_words (tasks.Translate one) (tasks.Translate two) finds e =
-    ap tasks.Translate (one_name two one (ap text_or_none (sym (found_kinds _ two finds) ∙ kinds_found one)))
-of_words (tasks.Translate one) tasks.Validate finds e = absurd (omega (arith, ap first e))
-of_words (tasks.Translate one) tasks.Simulate finds e = absurd (omega (arith, ap first e))
-of_words (tasks.Translate one) tasks.Compare finds e = absurd (omega (arith, ap first e))
-of_words (tasks.Translate one) tasks.Explain finds e = absurd (omega (arith, ap first e))
-of_words (tasks.Translate one) tasks.Coverage finds e = absurd (omega (arith, ap first e))
-of_words tasks.Validate (tasks.Translate two) finds e = absurd (omega (arith, ap first e))
-of_words tasks.Validate tasks.Validate finds e = refl
-of_words tasks.Validate tasks.Simulate finds e = absurd (omega (arith, ap first e))
-of_words tasks.Validate tasks.Compare finds e = absurd (omega (arith, ap first e))
-of_words tasks.Validate tasks.Explain finds e = absurd (omega (arith, ap first e))
-of_words tasks.Validate tasks.Coverage finds e = absurd (omega (arith, ap first e))
-of_words tasks.Simulate (tasks.Translate two) finds e = absurd (omega (arith, ap first e))
-of_words tasks.Simulate tasks.Validate finds e = absurd (omega (arith, ap first e))
-of_words tasks.Simulate tasks.Simulate finds e = refl
-of_words tasks.Simulate tasks.Compare finds e = absurd (omega (arith, ap first e))
-of_words tasks.Simulate tasks.Explain finds e = absurd (omega (arith, ap first e))
-of_words tasks.Simulate tasks.Coverage finds e = absurd (omega (arith, ap first e))
-of_words tasks.Compare (tasks.Translate two) finds e = absurd (omega (arith, ap first e))
-of_words tasks.Compare tasks.Validate finds e = absurd (omega (arith, ap first e))
-of_words tasks.Compare tasks.Simulate finds e = absurd (omega (arith, ap first e))
-of_words tasks.Compare tasks.Compare finds e = refl
-of_words tasks.Compare tasks.Explain finds e = absurd (omega (arith, ap first e))
-of_words tasks.Compare tasks.Coverage finds e = absurd (omega (arith, ap third e))
-of_words tasks.Explain (tasks.Translate two) finds e = absurd (omega (arith, ap first e))
-of_words tasks.Explain tasks.Validate finds e = absurd (omega (arith, ap first e))
-of_words tasks.Explain tasks.Simulate finds e = absurd (omega (arith, ap first e))
-of_words tasks.Explain tasks.Compare finds e = absurd (omega (arith, ap first e))
-of_words tasks.Explain tasks.Explain finds e = refl
-of_words tasks.Explain tasks.Coverage finds e = absurd (omega (arith, ap first e))
-of_words tasks.Coverage (tasks.Translate two) finds e = absurd (omega (arith, ap first e))
-of_words tasks.Coverage tasks.Validate finds e = absurd (omega (arith, ap first e))
-of_words tasks.Coverage tasks.Simulate finds e = absurd (omega (arith, ap first e))
-of_words tasks.Coverage tasks.Compare finds e = absurd (omega (arith, ap third e))
-of_words tasks.Coverage tasks.Explain finds e = absurd (omega (arith, ap first e))
-of_words tasks.Coverage tasks.Coverage finds e = refl
+-- the words of a task are free of faults, and ask for it
 
--- the words of a task ask for no other
-task_found : (words : List Text) (task found : Task) → words ≡ words_of task → AskFor words found → found ≡ task
-task_found words task found w asks =
-    let finds : Finds (subcommand_of tool (words_of task)) found = subst (λ (x : List Text). Finds (subcommand_of tool x) found) w asks.found in
-    of_words task found finds (sym (names_found task) ∙ found_names _ found finds)
+comparison_free : (changed fail : Bool) → is_free (fault_of tool (words_of (tasks.Compare (record { changed = changed; fail = fail })))) ≡ true
+unfolding clap_on_literals
+comparison_free true true = refl
+comparison_free true false = refl
+comparison_free false true = refl
+comparison_free false false = refl
 
-pub matched : (words : List Text) (task : Task) (result : Result Task WordsErr) → words ≡ words_of task → IfOk result (AskFor words) → IfErr result (λ err. err ≡ errs.NoMemory)
+comparison_found : (changed fail : Bool) → task_found (subcommand_of tool (words_of (tasks.Compare (record { changed = changed; fail = fail })))) ≡ Some (tasks.Compare (record { changed = changed; fail = fail }))
+unfolding clap_on_literals
+comparison_found true true = refl
+comparison_found true false = refl
+comparison_found false true = refl
+comparison_found false false = refl
+
+lint_free : (fail : Bool) → is_free (fault_of tool (words_of (tasks.Lint fail))) ≡ true
+unfolding clap_on_literals
+lint_free true = refl
+lint_free false = refl
+
+lint_found : (fail : Bool) → task_found (subcommand_of tool (words_of (tasks.Lint fail))) ≡ Some (tasks.Lint fail)
+unfolding clap_on_literals
+lint_found true = refl
+lint_found false = refl
+
+task_free : (task : Task) → is_free (fault_of tool (words_of task)) ≡ true
+unfolding clap_on_literals
+task_free (tasks.Translate DataClas) = refl
+task_free (tasks.Translate StorClas) = refl
+task_free (tasks.Translate MgmtClas) = refl
+task_free (tasks.Translate StorGrp) = refl
+task_free tasks.Validate = refl
+task_free tasks.Simulate = refl
+task_free (tasks.Compare comparison) = comparison_free comparison.changed comparison.fail
+task_free tasks.Explain = refl
+task_free tasks.Coverage = refl
+task_free (tasks.Lint fail) = lint_free fail
+
+task_is_found : (task : Task) → task_found (subcommand_of tool (words_of task)) ≡ Some task
+unfolding clap_on_literals
+task_is_found (tasks.Translate DataClas) = refl
+task_is_found (tasks.Translate StorClas) = refl
+task_is_found (tasks.Translate MgmtClas) = refl
+task_is_found (tasks.Translate StorGrp) = refl
+task_is_found tasks.Validate = refl
+task_is_found tasks.Simulate = refl
+task_is_found (tasks.Compare comparison) = comparison_found comparison.changed comparison.fail
+task_is_found tasks.Explain = refl
+task_is_found tasks.Coverage = refl
+task_is_found (tasks.Lint fail) = lint_found fail
+
+task_asks : (words : List Text) (task : Task) → words ≡ words_of task → AskFor words task
+task_asks words task w = subst (λ (x : List Text). AskFor x task) (sym w) (record { free = task_free task; found = task_is_found task })
+
+-- the words of a task ask for it, and for no other
+pub matched : (words : List Text) (task : Task) (result : Result Task WordsErr) → words ≡ words_of task → IfOk result (AskFor words) → IfErr result (MayHinder words)
     → MatchResult result (λ found. found ≡ task) (λ err. err ≡ errs.NoMemory)
-matched words task (Ok found) w asks memory = task_found words task found w asks
-matched words task (Err err) w asks memory = memory
+matched words task (Ok found) w asks hinders = one_asked words found task asks (task_asks words task w)
+matched words task (Err err) w asks hinders = elim hinders [
+  | inl fault ↦ absurd (asked_once words task err (task_asks words task w) fault)
+  | inr memory ↦ sym (same_Some _ _ memory)
+]

@@ -16,7 +16,7 @@ use Rattle.clap.specs.declared.builder.action.ArgAction.TheVariants.{Set}
 use Rattle.clap.specs.declared.builder.value_parser.Reading.TheVariants.{AsWritten}
 use Rattle.clap.specs.declared.parser.matches.ValueSource.TheVariants.{CommandLine}
 use Rattle.clap.specs.declared.error.kind.ErrorKind.TheVariants as kind
-use Rattle.tool_words.specs.Tool.{kind_rule, kind_words, names_with}
+use Rattle.tool_words.specs.Tool.{kind_rule, kind_words, names_with, path_rule}
 
 pub nil_left : (a b : Kinds) → or_else a b ≡ [] → a ≡ []
 nil_left [] b e = refl
@@ -26,7 +26,7 @@ pub nil_right : (a b : Kinds) → or_else a b ≡ [] → b ≡ []
 nil_right [] b e = e
 nil_right (k ∷ ks) b e = absurd (cc e)
 
--- ---- the two arguments of `translate`, as they are built
+-- ---- the arguments of `translate`, as they are built
 
 abbrev pub kind_id : Text
 kind_id = codes "kind"
@@ -37,11 +37,17 @@ parser = vp.Names (names_with kind_words)
 abbrev pub kinds : Rule
 kinds = with_index 1 (filled (kind_rule (names_with kind_words)))
 
-abbrev pub help : Rule
-help = with_index 2 (filled help_rule)
+abbrev pub file_id : Text
+file_id = codes "file"
 
-abbrev pub both : List Rule
-both = kinds ∷ help ∷ []
+abbrev pub file : Rule
+file = with_index 2 (filled (path_rule file_id))
+
+abbrev pub help : Rule
+help = with_index 3 (filled help_rule)
+
+abbrev pub those : List Rule
+those = kinds ∷ file ∷ help ∷ []
 
 -- ---- rows that hold a name of a kind
 
@@ -86,6 +92,21 @@ good_used v rows ok g =
     ((λ same. (v, refl, ok)), tt)
     (good_at kind_id (λ _. []) [] rows (λ r h. tt) tt g)
 
+abbrev pub new_file : List Text → Row
+new_file values = record { id = file_id; values = values; count = None; source = Some CommandLine; reading = AsWritten }
+
+pub file_more : (values : List Text) (r : Row) → GoodRow r → GoodRow (record r { values = r.values ++ values; source = Some (stronger r.source CommandLine) })
+file_more values r h same = let (t, first, name) = h same in (t, first_append r.values values t first, name)
+
+-- a use of the file says nothing of the kind
+pub good_file : (vs : List Text) (rows : List Row) → GoodRows rows → GoodRows (used file vs rows)
+good_file vs rows g =
+    let values = values_or_missing file vs in
+    good_at file_id (more_values CommandLine values) (new_file values ∷ []) (without file_id rows)
+    (λ r h. (file_more values r h, tt))
+    ((λ same. absurd (cc same)), tt)
+    (good_at file_id (λ _. []) [] rows (λ r h. tt) tt g)
+
 -- ---- a use without a fault
 
 pub range_one : (n : ℕ) → range_kinds 1 1 n ≡ [] → (1 == n) ≡ true
@@ -126,39 +147,42 @@ good_use again vs rows e g =
 
 -- ---- what is pending
 
-pub good_found : (again : Bool) (id : Text) (vs : List Text) (rows : List Row) → option_map_or (λ a. use_fault again a vs rows) (arg_by_id both id) [] ≡ [] → GoodRows rows → GoodRows (used_by_id (arg_by_id both id) vs rows)
+pub good_found : (again : Bool) (id : Text) (vs : List Text) (rows : List Row) → option_map_or (λ a. use_fault again a vs rows) (arg_by_id those id) [] ≡ [] → GoodRows rows → GoodRows (used_by_id (arg_by_id those id) vs rows)
 good_found again id vs rows e g = elim (cases_Bool (bytes_eq kind_id id)) [
   | inl same ↦ rw same (good_use again vs rows (rw same at e) g)
-  | inr other ↦ elim (cases_Bool (bytes_eq (codes "help") id)) [
-    | inl helps ↦ rw (other, helps) g
-    | inr neither ↦ rw (other, neither) g
+  | inr other ↦ elim (cases_Bool (bytes_eq file_id id)) [
+    | inl files ↦ rw (other, files) (good_file vs rows g)
+    | inr no_file ↦ elim (cases_Bool (bytes_eq (codes "help") id)) [
+      | inl helps ↦ rw (other, no_file, helps) g
+      | inr none ↦ rw (other, no_file, none) g
+    ]
   ]
 ]
 
-pub good_pending : (again : Bool) (p : Option (Text × List Text)) (rows : List Row) → option_map_or (λ q. option_map_or (λ a. use_fault again a q.1 rows) (arg_by_id both q.0) []) p [] ≡ [] → GoodRows rows → GoodRows (settled_rows both p rows)
+pub good_pending : (again : Bool) (p : Option (Text × List Text)) (rows : List Row) → option_map_or (λ q. option_map_or (λ a. use_fault again a q.1 rows) (arg_by_id those q.0) []) p [] ≡ [] → GoodRows rows → GoodRows (settled_rows those p rows)
 good_pending again None rows e g = g
 good_pending again (Some p) rows e g = good_found again p.0 p.1 rows e g
 
-pub good_settled : (again : Bool) (h : Held) → settle_fault both again h ≡ [] → GoodRows h.rows → GoodRows (settled both h).rows
+pub good_settled : (again : Bool) (h : Held) → settle_fault those again h ≡ [] → GoodRows h.rows → GoodRows (settled those h).rows
 good_settled again h e g = good_pending again h.pending h.rows e g
 
 -- ---- no flag is without a fault
 
-pub no_react : (again : Bool) (h : Held) → react_fault both again help [] h ≡ [] → ⊥
-no_react again h e = no_help again [] (settled both h).rows (nil_right (settle_fault both again h) (use_fault again help [] (settled both h).rows) e)
+pub no_react : (again : Bool) (h : Held) → react_fault those again help [] h ≡ [] → ⊥
+no_react again h e = no_help again [] (settled those h).rows (nil_right (settle_fault those again h) (use_fault again help [] (settled those h).rows) e)
 
-pub no_flag : (again : Bool) (v : Option Text) (h : Held) → long_fault both again (Some help) v h ≡ [] → ⊥
+pub no_flag : (again : Bool) (v : Option Text) (h : Held) → long_fault those again (Some help) v h ≡ [] → ⊥
 no_flag again None h e = no_react again h e
 no_flag again (Some v) h e = cc e
 
-pub no_long : (again : Bool) (name : Text) (v : Option Text) (h : Held) → long_fault both again (arg_by_long both name) v h ≡ [] → ⊥
+pub no_long : (again : Bool) (name : Text) (v : Option Text) (h : Held) → long_fault those again (arg_by_long those name) v h ≡ [] → ⊥
 no_long again name v h e = elim (cases_Bool (bytes_eq (codes "help") name)) [
   | inl same ↦ no_flag again v h (rw same at e)
   | inr other ↦ absurd (cc (rw other at e))
 ]
 
-pub no_short : (again : Bool) (x : ℕ) (rest : Text) (h : Held) (f : Held → Kinds) → short_fault both again (arg_by_short both x) rest h f ≡ [] → ⊥
+pub no_short : (again : Bool) (x : ℕ) (rest : Text) (h : Held) (f : Held → Kinds) → short_fault those again (arg_by_short those x) rest h f ≡ [] → ⊥
 no_short again x rest h f e = elim (cases_Bool (104 == x)) [
-  | inl same ↦ no_react again h (nil_left (react_fault both again help [] h) (f (reacted both help [] h)) (rw same at e))
+  | inl same ↦ no_react again h (nil_left (react_fault those again help [] h) (f (reacted those help [] h)) (rw same at e))
   | inr other ↦ absurd (cc (rw other at e))
 ]

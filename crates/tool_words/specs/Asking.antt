@@ -1,12 +1,17 @@
 -- What words ask for, by the command that reads them (docs/manual/tool.md, "Words").
-use Rattle.std.specs.Prelude.{◌≡◌, ◌⊎◌, Bool, true, false, not, ◌&&◌, List, [], ◌∷◌, Option, Some, codes}
+use Rattle.std.specs.Prelude.{◌≡◌, ◌⊎◌, Bool, true, false, not, ◌&&◌, List, [], ◌∷◌, Option, None, Some, codes, bytes_eq}
+use Rattle.std.specs.Prelude.{if◌then◌else◌, option_and_then, option_map}
+use Rattle.std.specs.Borrow.{Bor}
 use Rattle.std.specs.List.{list_all}
+use Rattle.std.specs.Option.{option_map_or}
 use Rattle.acs_tree.specs.Variables.{name_of}
-use Rattle.clap.specs.Words.{Kinds, Row, Text, fault_of, first_of, first_value, found_of, subcommand_of}
-use Rattle.clap.specs.declared.parser.matches.ArgMatches.{ArgMatches}
+use Rattle.acs_tree.specs.declared.kind.Kind.{Kind}
+use Rattle.acs_tree.specs.declared.kind.Kind.TheVariants.{DataClas, StorClas, MgmtClas, StorGrp}
+use Rattle.clap.specs.Words.{Kinds, Row, Text, fault_of, first_of, subcommand_of}
 use Rattle.clap.specs.declared.error.kind.ErrorKind.{ErrorKind}
 use Rattle.clap.specs.declared.error.kind.ErrorKind.TheVariants as kind
 use Rattle.tool_words.specs.Tool.{tool}
+use Rattle.tool_words.specs.declared.paths.Paths.{Paths}
 use Rattle.tool_words.specs.declared.task.Task.{Task}
 use Rattle.tool_words.specs.declared.task.Task.TheVariants as tasks
 use Rattle.tool_words.specs.declared.words_err.WordsErr.{WordsErr}
@@ -31,20 +36,57 @@ is_shown kinds = not (is_free kinds) && list_all is_text kinds
 abbrev pub is_refused : Kinds → Bool
 is_refused kinds = not (is_free kinds) && list_all (λ k. not (is_text k)) kinds
 
+-- the kind that a word names
+abbrev pub kind_named : Text → Option Kind
+kind_named word =
+    if bytes_eq word (name_of DataClas) then Some DataClas
+    else if bytes_eq word (name_of StorClas) then Some StorClas
+    else if bytes_eq word (name_of MgmtClas) then Some MgmtClas
+    else if bytes_eq word (name_of StorGrp) then Some StorGrp else None
+
+-- the flag of this name is set among these rows
+abbrev pub is_set : Text → List Row → Bool
+is_set name rows = option_map_or (λ value. bytes_eq value (codes "true")) (first_of name rows) false
+
+-- what the subcommand of this name with these rows asks for
+abbrev pub task_of : Text → List Row → Option Task
+task_of name rows =
+    if bytes_eq name (codes "translate")
+    then option_map tasks.Translate (option_and_then kind_named (first_of (codes "kind") rows))
+    else if bytes_eq name (codes "validate") then Some tasks.Validate
+    else if bytes_eq name (codes "simulate") then Some tasks.Simulate
+    else if bytes_eq name (codes "compare") then Some (tasks.Compare (record {
+      changed = is_set (codes "changed") rows;
+      fail = is_set (codes "fail") rows;
+    }))
+    else if bytes_eq name (codes "explain") then Some tasks.Explain
+    else if bytes_eq name (codes "coverage") then Some tasks.Coverage
+    else if bytes_eq name (codes "lint") then Some (tasks.Lint (is_set (codes "fail") rows)) else None
+
 -- what the subcommand that was found asks for
-abbrev pub Finds : Option (Text × List Row) → Task → Type 0
-Finds found (tasks.Translate kind) =
-    (rows : List Row) × (found ≡ Some (codes "translate", rows)) × (first_of (codes "kind") rows ≡ Some (name_of kind))
-Finds found tasks.Validate = (rows : List Row) × (found ≡ Some (codes "validate", rows))
-Finds found tasks.Simulate = (rows : List Row) × (found ≡ Some (codes "simulate", rows))
-Finds found tasks.Compare = (rows : List Row) × (found ≡ Some (codes "compare", rows))
-Finds found tasks.Explain = (rows : List Row) × (found ≡ Some (codes "explain", rows))
-Finds found tasks.Coverage = (rows : List Row) × (found ≡ Some (codes "coverage", rows))
+abbrev pub task_found : Option (Text × List Row) → Option Task
+task_found None = None
+task_found (Some found) = task_of found.0 found.1
 
 -- by the tool's command the words are free of faults and ask for this task
 pub record AskFor (words : List Text) (task : Task) : Type 0 where
   pub free : is_free (fault_of tool words) ≡ true
-  pub found : Finds (subcommand_of tool words) task
+  pub found : task_found (subcommand_of tool words) ≡ Some task
+
+-- the path of this name that the subcommand that was found has
+abbrev pub path_found : Text → Option (Text × List Row) → Option Text
+path_found name found = option_and_then (λ p. first_of name p.1) found
+
+-- a path among those that were asked is the one of this name
+abbrev pub IsPath : Option (Bor Text) → Text → Option (Text × List Row) → Type 0
+IsPath path name found = option_map (λ text. text.now) path ≡ path_found name found
+
+-- the subcommand that was found names these files
+pub record NamePaths (found : Option (Text × List Row)) (paths : Paths) : Type 0 where
+  pub file : IsPath paths.file (codes "file") found
+  pub old : IsPath paths.old (codes "old") found
+  pub new : IsPath paths.new (codes "new") found
+  pub cases : IsPath paths.cases (codes "cases") found
 
 -- the tool's command refuses the words
 abbrev pub AreRefused : List Text → Type 0
@@ -63,11 +105,6 @@ Hinders words errs.NoMemory = ⊥
 -- words ask for a task, are refused, or ask for a text
 abbrev pub AreSorted : List Text → Type 0
 AreSorted words = ((task : Task) × AskFor words task) ⊎ (AreRefused words ⊎ AreShown words)
-
--- the word KIND among these matches names a kind
-abbrev pub AsksKind : ArgMatches → Task → Type 0
-AsksKind matches (tasks.Translate kind) = first_value (found_of matches) (codes "kind") ≡ Some (name_of kind)
-AsksKind matches task = ⊥
 
 -- why words with an error of this kind ask for no task
 abbrev pub err_of : ErrorKind → WordsErr

@@ -1,9 +1,10 @@
 -- The command line of the tool: the command that its words are read by (docs/manual/tool.md, "Words").
-use Rattle.std.specs.Prelude.{◌≡◌, List, [], ◌∷◌, Some, true, false, codes, map}
+use Rattle.std.specs.Prelude.{◌≡◌, Bool, List, [], ◌∷◌, ◌++◌, Some, true, false, codes, map, if◌then◌else◌}
 use Rattle.std.specs.Borrow.{Bor}
 use Rattle.acs_tree.specs.Variables.{name_of}
 use Rattle.clap.specs.Simple.{App, new_app, new_rule, new_shape, with_rule, with_subcommand}
 use Rattle.clap.specs.Walk.{Rule, Text}
+use Rattle.clap.specs.declared.builder.action.ArgAction.TheVariants.{SetTrue}
 use Rattle.clap.specs.declared.builder.command.Command.{Command}
 use Rattle.clap.specs.declared.builder.command.Command.TheViews.{out-Command}
 use Rattle.clap.specs.declared.builder.value_parser.ValueParser.TheVariants as vp
@@ -22,9 +23,33 @@ Names = Bor (List (Bor Text))
 abbrev pub kind_rule : Names → Rule
 kind_rule names = record (new_rule (codes "kind")) { required = true; parser = Some (vp.Names names) }
 
+-- a word that is a path, which may be missing
+abbrev pub path_rule : Text → Rule
+path_rule name = new_rule name
+
+-- a flag, which takes no value
+abbrev pub flag_rule : Text → Rule
+flag_rule name = record (new_rule name) { long = Some name; action = Some SetTrue }
+
 -- the subcommand `translate` with these names
 abbrev pub translate_app : Names → App
-translate_app names = with_rule (new_app (codes "translate")) (kind_rule names)
+translate_app names =
+    with_rule (with_rule (new_app (codes "translate")) (kind_rule names)) (path_rule (codes "file"))
+
+-- the subcommand of this name, which reads one file
+abbrev pub file_app : Text → App
+file_app name = with_rule (new_app name) (path_rule (codes "file"))
+
+-- the subcommand `compare`
+abbrev pub compare_app : App
+compare_app =
+    with_rule (with_rule (with_rule (with_rule (with_rule (new_app (codes "compare"))
+    (path_rule (codes "old"))) (path_rule (codes "new"))) (path_rule (codes "cases")))
+    (flag_rule (codes "changed"))) (flag_rule (codes "fail"))
+
+-- the subcommand `lint`
+abbrev pub lint_app : App
+lint_app = with_rule (file_app (codes "lint")) (flag_rule (codes "fail"))
 
 -- the command without its subcommands: one is wanted, there is no `help` among them, and there is a version
 abbrev pub bare_app : App
@@ -40,14 +65,15 @@ bare_app = record (new_app (codes "smsc")) {
 -- the command with these names
 abbrev pub tool_app : Names → App
 tool_app names =
-    with_subcommand (with_subcommand (with_subcommand (with_subcommand (with_subcommand (with_subcommand
+    with_subcommand (with_subcommand (with_subcommand (with_subcommand (with_subcommand (with_subcommand (with_subcommand
     bare_app
     (translate_app names).top)
-    (new_shape (codes "validate")))
-    (new_shape (codes "simulate")))
-    (new_shape (codes "compare")))
-    (new_shape (codes "explain")))
-    (new_shape (codes "coverage"))
+    (file_app (codes "validate")).top)
+    (file_app (codes "simulate")).top)
+    compare_app.top)
+    (file_app (codes "explain")).top)
+    (file_app (codes "coverage")).top)
+    lint_app.top
 
 -- the texts behind the names
 abbrev pub texts_of : Names → List Text
@@ -77,13 +103,19 @@ names_with texts = lent (map lent texts)
 abbrev pub tool : App
 tool = tool_app (names_with kind_words)
 
--- the words that ask for a translation are `translate` and the name of the kind; those that ask for a validation are
--- `validate`, those that ask for a simulation `simulate`, those that ask for a comparison `compare`, those that ask for
--- an explanation `explain`, and those that ask for the coverage `coverage`
+-- the flag of this name, where it is set
+abbrev pub flag_words : Text → Bool → List Text
+flag_words name set = if set then name ∷ [] else []
+
+-- words that ask for a task and name no file: for a translation `translate` and the name of the kind, for each other
+-- task the name of its subcommand and its flags
 abbrev pub words_of : Task → List Text
 words_of (tasks.Translate kind) = codes "translate" ∷ name_of kind ∷ []
 words_of tasks.Validate = codes "validate" ∷ []
 words_of tasks.Simulate = codes "simulate" ∷ []
-words_of tasks.Compare = codes "compare" ∷ []
+words_of (tasks.Compare comparison) =
+    codes "compare" ∷ (flag_words (codes "--changed") comparison.changed
+    ++ flag_words (codes "--fail") comparison.fail)
 words_of tasks.Explain = codes "explain" ∷ []
 words_of tasks.Coverage = codes "coverage" ∷ []
+words_of (tasks.Lint fail) = codes "lint" ∷ flag_words (codes "--fail") fail

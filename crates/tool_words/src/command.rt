@@ -1,30 +1,81 @@
 // The command that reads the words.
-ghost use Rattle.std.specs.Prelude.{◌≡◌, IfOk};
-ghost use Rattle.clap.specs.Words.{app_of};
-ghost use Rattle.tool_words.specs.Tool.{IsTool, IsTranslate, KeepsItsOwn, bare_app};
+ghost use Rattle.std.specs.Prelude.{◌≡◌, false, IfOk};
+ghost use Rattle.clap.specs.Words.{app_of, rule_of};
+ghost use Rattle.clap.specs.declared.builder.command.Command.TheViews.{out-Command};
+ghost use Rattle.tool_words.specs.Tool.{IsTool, IsTranslate, KeepsItsOwn, bare_app, compare_app, file_app, flag_rule};
+ghost use Rattle.tool_words.specs.Tool.{lint_app};
 
-use clap::{Arg, Command};
+use clap::{Arg, ArgAction, Command};
 use std::alloc::{AllocError, Global};
 
 static KINDS: [&str; 4] = ["DATACLAS", "STORCLAS", "MGMTCLAS", "STORGRP"];
+
+/// What help says of a command.
+#[derive(Clone, Copy)]
+struct Said {
+    about: &'static str,
+    usage: &'static str,
+}
+
+const TRANSLATE: Said = Said {
+    about: "Translate an ACS routine",
+    usage: "smsc translate <KIND> [FILE]",
+};
+
+const VALIDATE: Said = Said {
+    about: "Validate a deck",
+    usage: "smsc validate [FILE]",
+};
+
+const SIMULATE: Said = Said {
+    about: "Say what the routines of a deck give allocations",
+    usage: "smsc simulate [FILE]",
+};
+
+const COMPARE: Said = Said {
+    about: "Say which data sets a new deck treats otherwise than the old one",
+    usage: "smsc compare [OLD [NEW [CASES]]] [--changed] [--fail]",
+};
+
+const EXPLAIN: Said = Said {
+    about: "Tell what each routine does with allocations, statement by statement",
+    usage: "smsc explain [FILE]",
+};
+
+const COVERAGE: Said = Said {
+    about: "Tell what allocations reach of the routines, and what they don't",
+    usage: "smsc coverage [FILE]",
+};
+
+const LINT: Said = Said {
+    about: "Tell what in a deck is certain and hardly meant so",
+    usage: "smsc lint [FILE] [--fail]",
+};
+
+const TOOL: Said = Said {
+    about: "The translator of ACS routines and decks",
+    usage: "smsc <COMMAND>",
+};
 
 /// The command of the tool.
 pub fn tool_command<'a>(alloc: Global) -> Result<Command<'a>, AllocError>
     ensures { IfOk result (λ command. IsTool (app_of command)) }
 {
     let translate = translating(alloc)?;
-    let validate = Command::new(alloc, "validate");
-    let simulate = Command::new(alloc, "simulate");
-    let compare = Command::new(alloc, "compare");
-    let explain = Command::new(alloc, "explain");
-    let coverage = Command::new(alloc, "coverage");
+    let validate = reading(alloc, "validate", VALIDATE)?;
+    let simulate = reading(alloc, "simulate", SIMULATE)?;
+    let compare = comparing(alloc)?;
+    let explain = reading(alloc, "explain", EXPLAIN)?;
+    let coverage = reading(alloc, "coverage", COVERAGE)?;
+    let lint = linting(alloc)?;
     bare_tool(alloc)
         .subcommand(translate)?
         .subcommand(validate)?
         .subcommand(simulate)?
         .subcommand(compare)?
         .subcommand(explain)?
-        .subcommand(coverage)
+        .subcommand(coverage)?
+        .subcommand(lint)
 }
 
 // The subcommand `translate`, which wants the name of a kind.
@@ -35,14 +86,72 @@ fn translating<'a>(alloc: Global) -> Result<Command<'a>, AllocError>
     let kind = Arg::new(alloc, "kind")
         .required(true)
         .value_parser(KINDS.as_slice());
-    Command::new(alloc, "translate").arg(kind)
+    let file = Arg::new(alloc, "file");
+    described(Command::new(alloc, "translate"), TRANSLATE)
+        .arg(kind)?
+        .arg(file)
+}
+
+// The subcommand of this name, which reads one file.
+fn reading<'a>(alloc: Global, name: &'a str, said: Said) -> Result<Command<'a>, AllocError>
+    ensures app { IfOk result (λ command. app_of command ≡ file_app name.entry.now) }
+    ensures own { IfOk result (KeepsItsOwn) }
+{
+    let file = Arg::new(alloc, "file");
+    described(Command::new(alloc, name), said).arg(file)
+}
+
+// The subcommand `compare`, which reads up to three files.
+fn comparing<'a>(alloc: Global) -> Result<Command<'a>, AllocError>
+    ensures app { IfOk result (λ command. app_of command ≡ compare_app) }
+    ensures own { IfOk result (KeepsItsOwn) }
+{
+    let old = Arg::new(alloc, "old");
+    let new = Arg::new(alloc, "new");
+    let cases = Arg::new(alloc, "cases");
+    let changed = flag(alloc, "changed");
+    let fail = flag(alloc, "fail");
+    described(Command::new(alloc, "compare"), COMPARE)
+        .arg(old)?
+        .arg(new)?
+        .arg(cases)?
+        .arg(changed)?
+        .arg(fail)
+}
+
+// The subcommand `lint`, which reads one file.
+fn linting<'a>(alloc: Global) -> Result<Command<'a>, AllocError>
+    ensures app { IfOk result (λ command. app_of command ≡ lint_app) }
+    ensures own { IfOk result (KeepsItsOwn) }
+{
+    let file = Arg::new(alloc, "file");
+    let fail = flag(alloc, "fail");
+    described(Command::new(alloc, "lint"), LINT)
+        .arg(file)?
+        .arg(fail)
+}
+
+// The command with what help says of it.
+fn described<'a>(command: Command<'a>, said: Said) -> Command<'a>
+    ensures app { app_of result ≡ app_of command.entry }
+    ensures own { (out-Command result).has_globals ≡ (out-Command command.entry).has_globals }
+{
+    command.about(said.about).override_usage(said.usage)
+}
+
+// The flag of this name.
+fn flag<'a>(alloc: Global, name: &'a str) -> Arg<'a>
+    ensures rule { rule_of result ≡ flag_rule name.entry.now }
+    ensures local { result.global ≡ false }
+{
+    Arg::new(alloc, name).long(name).action(ArgAction::SetTrue)
 }
 
 // The command of the tool without its subcommands.
 fn bare_tool<'a>(alloc: Global) -> Command<'a>
     ensures { app_of result ≡ bare_app }
 {
-    Command::new(alloc, "smsc")
+    described(Command::new(alloc, "smsc"), TOOL)
         .version("0.1.0")
         .no_binary_name(true)
         .disable_help_subcommand(true)

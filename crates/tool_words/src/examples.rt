@@ -2,49 +2,60 @@
 use std::alloc::{AllocError, Global};
 
 const TRANSLATE: &str = "
-smsc translate KIND  translate the ACS routine on standard input, which is
-                     written for KIND: DATACLAS, STORCLAS, MGMTCLAS or STORGRP
+smsc translate KIND [FILE]
+                     translate an ACS routine, which is written for KIND:
+                     DATACLAS, STORCLAS, MGMTCLAS or STORGRP
 
-    smsc translate STORCLAS < storclas.acs
+    smsc translate STORCLAS storclas.acs
 ";
 
 const VALIDATE: &str = "
-smsc validate        validate the deck on standard input
+smsc validate [FILE] validate a deck
 
-    smsc validate < deck.toml
+    smsc validate deck.toml
 ";
 
 const SIMULATE: &str = "
-smsc simulate        say what the routines of a deck give allocations: a script
-                     that begins with an ACTIVATE is on standard input
+smsc simulate [FILE] say what the routines of a deck give the allocations of
+                     a script that begins with an ACTIVATE
 
-    smsc simulate < morning.txt
+    smsc simulate morning.txt
 ";
 
 const COMPARE: &str = "
-smsc compare         say which data sets a new deck treats otherwise: the old
-                     deck, the new one and a table of cases are on standard
-                     input
+smsc compare [OLD [NEW [CASES]]] [--changed] [--fail]
+                     say which data sets a new deck treats otherwise than the
+                     old one, by a table of cases; --changed lists those alone,
+                     and with --fail the exit status is 1 where there are any
 
-    smsc compare < change.txt
+    smsc compare old.toml new.toml cases.csv --changed --fail
 ";
 
 const EXPLAIN: &str = "
-smsc explain         tell what each routine does with the allocations of such
+smsc explain [FILE]  tell what each routine does with the allocations of such
                      a script, statement by statement
 
-    smsc explain < morning.txt
+    smsc explain morning.txt
 ";
 
 const COVERAGE: &str = "
-smsc coverage        tell what the allocations of such a script reach of the
+smsc coverage [FILE] tell what the allocations of such a script reach of the
                      routines, and what they don't
 
-    smsc coverage < cases.txt
+    smsc coverage morning.txt
+";
+
+const LINT: &str = "
+smsc lint [FILE] [--fail]
+                     tell what in a deck is certain and hardly meant so; with
+                     --fail the exit status is 1 where there is a finding
+
+    smsc lint deck.toml --fail
 ";
 
 const DOCUMENT: &str = "
-docs/manual/tool.md has what each reads and prints, and the exit statuses.
+Without a file each reads standard input. docs/manual/tool.md has what each
+reads and prints, and the exit statuses.
 ";
 
 /// What the command that this word names does, or what each does where it names none.
@@ -56,9 +67,10 @@ pub fn examples_of(alloc: Global, word: &str) -> Result<String, AllocError> {
         "compare" => format!(in alloc; "{COMPARE}{DOCUMENT}"),
         "explain" => format!(in alloc; "{EXPLAIN}{DOCUMENT}"),
         "coverage" => format!(in alloc; "{COVERAGE}{DOCUMENT}"),
+        "lint" => format!(in alloc; "{LINT}{DOCUMENT}"),
         _ => {
             format!(in alloc;
-                "{TRANSLATE}{VALIDATE}{SIMULATE}{COMPARE}{EXPLAIN}{COVERAGE}{DOCUMENT}"
+                "{TRANSLATE}{VALIDATE}{SIMULATE}{COMPARE}{EXPLAIN}{COVERAGE}{LINT}{DOCUMENT}"
             )
         }
     }

@@ -2,12 +2,16 @@
 #![tactic(auto)]
 
 mod command;
+mod comparison;
 mod examples;
+mod paths;
 mod printed;
 mod reading;
 mod task;
 mod words_err;
 
-pub use reading::{shown_text, task_asked};
+pub use comparison::Comparison;
+pub use paths::Paths;
+pub use reading::{paths_asked, shown_text, task_asked};
 pub use task::Task;
 pub use words_err::WordsErr;

@@ -1,13 +1,19 @@
 //! Reading the words.
-ghost use Rattle.std.specs.Prelude.{◌≡◌, ◌⊎◌, [], Some, IfOk, IfErr, MatchResult, map, string_bytes};
-ghost use Rattle.clap.specs.Words.{kind_of, IsAmong, fault_of, subcommand_of, subcommand_rows_of};
+ghost use Rattle.std.specs.Prelude.{◌≡◌, ◌⊎◌, [], Some, IfOk, IfErr, MatchResult, codes, map, option_map, option_and_then};
+ghost use Rattle.std.specs.Prelude.{string_bytes};
+ghost use Rattle.clap.specs.Words.{kind_of, IsAmong, fault_of, first_of, found_of, rows_of, subcommand_of};
+ghost use Rattle.clap.specs.Words.{subcommand_rows_of};
 ghost use Rattle.desk_common.specs.Exact.{IsExact, MayRefuse};
-ghost use Rattle.tool_words.specs.Asking.{AskFor, AsksKind, Finds, Hinders, AreSorted, err_of};
+ghost use Rattle.tool_words.specs.Asking.{AskFor, Hinders, AreSorted, NamePaths, err_of, is_set, kind_named, task_found};
+ghost use Rattle.tool_words.specs.Asking.{task_of};
 ghost use Rattle.tool_words.specs.Tool.{tool, words_of};
 ghost use Rattle.tool_words.specs.declared.task.Task.{Task as TaskOf};
+ghost use Rattle.tool_words.specs.declared.task.Task.TheVariants.{Translate};
 
 use crate::command::tool_command;
+use crate::comparison::Comparison;
 use crate::examples::examples_of;
+use crate::paths::Paths;
 use crate::printed::printed_words;
 use crate::task::Task;
 use crate::words_err::WordsErr;
@@ -22,8 +28,6 @@ fn read_matches<'a>(alloc: Global, words: &'a [String]) -> Result<ArgMatches<'a>
         × (subcommand_rows_of m ≡ subcommand_of tool (map string_bytes words.entry.now))) }
     ensures err { IfErr result (λ e. (kind_of e ≡ ErrorKind.OutOfMemory)
         ⊎ IsAmong (kind_of e) (fault_of tool (map string_bytes words.entry.now))) }
-    ensures known { (task : TaskOf) → map string_bytes words.entry.now ≡ words_of task →
-        IfErr result (λ e. kind_of e ≡ ErrorKind.OutOfMemory) }
 {
     let tool = tool_command(alloc)?;
     tool.try_get_matches_from(words)
@@ -45,46 +49,112 @@ pub fn task_asked(alloc: Global, words: &[String]) -> Result<Task, WordsErr>
     }
 }
 
+/// The files that the words name, or why they ask for nothing.
+pub fn paths_asked<'a>(alloc: Global, words: &'a [String]) -> Result<Paths<'a>, WordsErr>
+    ensures paths { IfOk result (NamePaths (subcommand_of tool (map string_bytes words.entry.now))) }
+    ensures hindered { IfErr result
+        (MayRefuse (Hinders (map string_bytes words.entry.now)) (Some WordsErr.NoMemory)) }
+{
+    match read_matches(alloc, words) {
+        Ok(matches) => paths_in(&matches),
+        Err(error) => Err(words_err(error.kind())),
+    }
+}
+
+// The files that the subcommand that was found names.
+fn paths_in<'a>(matches: &ArgMatches<'a>) -> Result<Paths<'a>, WordsErr>
+    ensures paths { IfOk result (NamePaths (subcommand_rows_of matches.now)) }
+    ensures memory { IfErr result (λ e. e ≡ WordsErr.NoMemory) }
+{
+    let Some((_, inner)) = matches.subcommand() else {
+        return Err(WordsErr::NoMemory);
+    };
+    Ok(Paths {
+        file: value_of(inner, "file"),
+        old: value_of(inner, "old"),
+        new: value_of(inner, "new"),
+        cases: value_of(inner, "cases"),
+    })
+}
+
 // What the subcommand that was found asks for.
 fn task_in(matches: &ArgMatches<'_>) -> Result<Task, WordsErr>
-    ensures asked { IfOk result (Finds (subcommand_rows_of matches.now)) }
+    ensures asked { IfOk result (λ task. task_found (subcommand_rows_of matches.now) ≡ Some task) }
     ensures memory { IfErr result (λ e. e ≡ WordsErr.NoMemory) }
 {
     let Some((name, inner)) = matches.subcommand() else {
         return Err(WordsErr::NoMemory);
     };
+    match task_of(name, inner) {
+        Some(task) => Ok(task),
+        None => Err(WordsErr::NoMemory),
+    }
+}
+
+// What the subcommand of this name asks for.
+fn task_of(name: &str, matches: &ArgMatches<'_>) -> Option<Task>
+    ensures { result ≡ task_of name.now (rows_of (found_of matches.now)) }
+{
     if name == "translate" {
-        return translation(inner);
+        return translation(matches);
     }
     if name == "validate" {
-        return Ok(Task::Validate);
+        return Some(Task::Validate);
     }
     if name == "simulate" {
-        return Ok(Task::Simulate);
+        return Some(Task::Simulate);
     }
     if name == "compare" {
-        return Ok(Task::Compare);
+        return Some(Task::Compare(Comparison {
+            changed: is_set(matches, "changed"),
+            fail: is_set(matches, "fail"),
+        }));
     }
     if name == "explain" {
-        return Ok(Task::Explain);
+        return Some(Task::Explain);
     }
     if name == "coverage" {
-        return Ok(Task::Coverage);
+        return Some(Task::Coverage);
     }
-    Err(WordsErr::NoMemory)
+    if name == "lint" {
+        return Some(Task::Lint {
+            fail: is_set(matches, "fail"),
+        });
+    }
+    None
 }
 
 // The translation that the word KIND asks for.
-fn translation(matches: &ArgMatches<'_>) -> Result<Task, WordsErr>
-    ensures asked { IfOk result (AsksKind matches.now) }
-    ensures memory { IfErr result (λ e. e ≡ WordsErr.NoMemory) }
+fn translation(matches: &ArgMatches<'_>) -> Option<Task>
+    ensures { result ≡ option_map Translate (option_and_then kind_named
+        (first_of (codes "kind") (rows_of (found_of matches.now)))) }
 {
-    let Some(word) = matches.get_str("kind") else {
-        return Err(WordsErr::NoMemory);
-    };
-    match Kind::named(word.as_bytes()) {
-        Some(kind) => Ok(Task::Translate(kind)),
-        None => Err(WordsErr::NoMemory),
+    let word = value_of(matches, "kind")?;
+    let kind = kind_named(word)?;
+    Some(Task::Translate(kind))
+}
+
+// The kind that a word names.
+fn kind_named(word: &str) -> Option<Kind>
+    ensures { result ≡ kind_named word.now }
+{
+    Kind::named(word.as_bytes())
+}
+
+// The value of this name.
+fn value_of<'a>(matches: &ArgMatches<'a>, name: &str) -> Option<&'a str>
+    ensures { option_map (λ value. value.now) result ≡ first_of name.now (rows_of (found_of matches.now)) }
+{
+    matches.get_str(name)
+}
+
+// Whether the flag of this name is set.
+fn is_set(matches: &ArgMatches<'_>, name: &str) -> bool
+    ensures { result ≡ is_set name.now (rows_of (found_of matches.now)) }
+{
+    match value_of(matches, name) {
+        Some(value) => value == "true",
+        None => false,
     }
 }
 

@@ -1,4 +1,5 @@
 //! What the words of the command line ask for.
+use crate::comparison::Comparison;
 use acs_tree::Kind;
 
 /// What is done with the input.
@@ -10,10 +11,13 @@ pub enum Task {
     Validate,
     /// It is a script, of which the allocations are to be simulated.
     Simulate,
-    /// It has two decks and a table of cases, under which the decks are to be compared.
-    Compare,
+    /// It has two decks and a table of cases, under which the decks are to be compared so.
+    Compare(Comparison),
     /// It is a script, of which it is to be told what the routines do with each allocation.
     Explain,
     /// It is a script, of which it is to be told what its allocations reach of the routines.
     Coverage,
+    /// It is a deck, of which it is to be told what is certain and hardly meant so; with `fail` a finding is told by the
+    /// exit status.
+    Lint { fail: bool },
 }

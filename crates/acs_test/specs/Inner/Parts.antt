@@ -1,8 +1,7 @@
 -- What the code holds of the parts of an input.
 use Rattle.sms_script.specs.Lines.{lines_of}
-use Rattle.acs_test.specs.Layout.{Block, Numbered, Parts}
+use Rattle.acs_test.specs.Layout.{Block, Numbered}
 use Rattle.acs_test.specs.declared.layout.DeckPart.{DeckPart}
-use Rattle.acs_test.specs.declared.layout.InputParts.{InputParts}
 use Rattle.acs_test.specs.declared.layout.Left.{Left}
 
 -- the lines of a text that is left
@@ -12,7 +11,3 @@ numbered_in left = record { line = left.line; lines = lines_of left.text.now }
 -- a deck, and the lines behind it
 abbrev pub block_seen : DeckPart → Block
 block_seen part = record { deck = part.deck.now; behind = numbered_in part.behind }
-
--- both decks, and the table
-abbrev pub parts_seen : InputParts → Parts
-parts_seen parts = record { before = parts.before.now; after = parts.after.now; table = parts.table.now }

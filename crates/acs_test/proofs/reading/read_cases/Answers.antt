@@ -1,6 +1,6 @@
 use Rattle.std.proofs.Common.{inl}
 use Rattle.std.proofs.lemmas.Result.{IfErr-weaker, IfOk-weaker}
-use Rattle.acs_test.specs.Inner.Parts.{parts_seen}
+use Rattle.acs_test.specs.Layout.{parts_seen}
 use Rattle.acs_test.proofs.ReadingLemmas.{laid_exactly, laid_may_refuse, unlaid_exactly}
 use Rattle.acs_test.proofs.reading.read_cases.Goals as goal
 

@@ -1,4 +1,4 @@
-use Rattle.acs_test.specs.Inner.Parts.{parts_seen}
+use Rattle.acs_test.specs.Layout.{parts_seen}
 use Rattle.acs_test.proofs.ReadingLemmas.{cases_end, cases_read, cases_refused}
 use Rattle.acs_test.proofs.reading.read_list.Goals as goal
 

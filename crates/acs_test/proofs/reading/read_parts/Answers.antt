@@ -1,4 +1,4 @@
-use Rattle.acs_test.specs.Inner.Parts.{parts_seen}
+use Rattle.acs_test.specs.Layout.{parts_seen}
 use Rattle.acs_test.proofs.ReadingLemmas.{old_ends, old_refused}
 use Rattle.acs_test.proofs.reading.read_parts.Goals as goal
 

@@ -1,4 +1,4 @@
-use Rattle.std.proofs.Common.{ap, true}
+use Rattle.std.proofs.Common.{ap, true, ◌∙◌}
 use Rattle.clap.specs.Words.{App, app_of}
 use Rattle.tool_words.proofs.command.bare_tool.Goals as goal
 
@@ -7,4 +7,4 @@ set a = record a { top = record a.top { no_binary_name = true; disable_help_subc
 
 pub returns : goal.returns
 returns c =
-    rw (c.subcommand_required.ensures, c.disable_help_subcommand.ensures, c.no_binary_name.ensures, c.version.ensures) (ap set c.new.ensures.app)
+    rw (c.subcommand_required.ensures, c.disable_help_subcommand.ensures, c.no_binary_name.ensures, c.version.ensures) (ap set (c.described.ensures.app ∙ c.new.ensures.app))

@@ -1,4 +1,4 @@
-use Rattle.std.proofs.Common.{rules, ap, ap₂, ◌∙◌}
+use Rattle.std.proofs.Common.{ap, ap₂, ◌∙◌}
 use Rattle.std.proofs.lemmas.Result.{IfOk-weaker}
 use Rattle.clap.specs.Words.{App, with_subcommand}
 use Rattle.tool_words.proofs.command.tool_command.Goals as goal
@@ -8,17 +8,19 @@ returns c =
     let (names, kinds, translate_is) = c.in_ok-translate.ensures.app in
     let one = c.in_ok-subcommand.ensures.shape c.in_ok-translate.ensures.own
     ∙ ap₂ with_subcommand c.bare_tool.ensures (ap (λ (a : App). a.top) translate_is) in
-    let two = c.in_ok-subcommand-2.ensures.shape (search rules)
-    ∙ ap₂ with_subcommand one (ap (λ (a : App). a.top) c.new-validate.ensures.app) in
-    let three = c.in_ok-subcommand-3.ensures.shape (search rules)
-    ∙ ap₂ with_subcommand two (ap (λ (a : App). a.top) c.new-simulate.ensures.app) in
-    let four = c.in_ok-subcommand-4.ensures.shape (search rules)
-    ∙ ap₂ with_subcommand three (ap (λ (a : App). a.top) c.new-compare.ensures.app) in
-    let five = c.in_ok-subcommand-5.ensures.shape (search rules)
-    ∙ ap₂ with_subcommand four (ap (λ (a : App). a.top) c.new-explain.ensures.app) in
-    IfOk-weaker c.subcommand-6.result _ _ (λ r h. (
+    let two = c.in_ok-subcommand-2.ensures.shape c.in_ok-validate.ensures.own
+    ∙ ap₂ with_subcommand one (ap (λ (a : App). a.top) c.in_ok-validate.ensures.app) in
+    let three = c.in_ok-subcommand-3.ensures.shape c.in_ok-simulate.ensures.own
+    ∙ ap₂ with_subcommand two (ap (λ (a : App). a.top) c.in_ok-simulate.ensures.app) in
+    let four = c.in_ok-subcommand-4.ensures.shape c.in_ok-compare.ensures.own
+    ∙ ap₂ with_subcommand three (ap (λ (a : App). a.top) c.in_ok-compare.ensures.app) in
+    let five = c.in_ok-subcommand-5.ensures.shape c.in_ok-explain.ensures.own
+    ∙ ap₂ with_subcommand four (ap (λ (a : App). a.top) c.in_ok-explain.ensures.app) in
+    let six = c.in_ok-subcommand-6.ensures.shape c.in_ok-coverage.ensures.own
+    ∙ ap₂ with_subcommand five (ap (λ (a : App). a.top) c.in_ok-coverage.ensures.app) in
+    IfOk-weaker c.subcommand-7.result _ _ (λ r h. (
       names,
       kinds,
-      h.shape (search rules)
-          ∙ ap₂ with_subcommand five (ap (λ (a : App). a.top) c.new-coverage.ensures.app),
-    )) c.subcommand-6.ensures
+      h.shape c.in_ok-lint.ensures.own
+          ∙ ap₂ with_subcommand six (ap (λ (a : App). a.top) c.in_ok-lint.ensures.app),
+    )) c.subcommand-7.ensures

@@ -1,6 +1,6 @@
 use Rattle.std.proofs.Common.{rules, inl}
 use Rattle.std.proofs.lemmas.Result.{IfErr-weaker}
-use Rattle.tool_words.proofs.ToolLemmas.{ok_case, err_case, tool_takes}
+use Rattle.tool_words.proofs.ToolLemmas.{ok_case, err_case}
 use Rattle.tool_words.proofs.reading.read_matches.Goals as goal
 
 pub returns-in_err-tool-clause-err : goal.returns-in_err-tool-clause-err
@@ -11,6 +11,3 @@ returns-clause-ok c = ok_case c.try_get_matches_from.result _ _ c.in_ok-tool.ens
 
 pub returns-clause-err : goal.returns-clause-err
 returns-clause-err c = err_case c.try_get_matches_from.result _ _ c.in_ok-tool.ensures c.try_get_matches_from.ensures.kinds
-
-pub returns-clause-known : goal.returns-clause-known
-returns-clause-known c task words = IfErr-weaker c.try_get_matches_from.result _ _ (λ e h. h (tool_takes _ _ task c.in_ok-tool.ensures words)) c.try_get_matches_from.ensures.passes

@@ -1,4 +1,4 @@
-use Rattle.std.proofs.Common.{◌∙◌, ap, map, sym, subst}
+use Rattle.std.proofs.Common.{map, sym, subst}
 use Rattle.std.specs.Prelude.{string_bytes, Err}
 use Rattle.std.proofs.lemmas.Result.{IfErr-weaker, IfOk-weaker}
 use Rattle.clap.specs.Words.{kind_of}
@@ -45,7 +45,11 @@ returns-in-Ok-clause-known c task w =
     let words = map string_bytes c.args.words.now in
     matched words task c.task_in.result w
     (IfOk-weaker c.task_in.result _ _ (λ found finds. asked words c.in-Ok.matches found c.in-Ok.ensures.ok finds) c.task_in.ensures.asked)
-    c.task_in.ensures.memory
+    (IfErr-weaker c.task_in.result _ _ (wanted words) c.task_in.ensures.memory)
 
 pub returns-in-Err-clause-known : goal.returns-in-Err-clause-known
-returns-in-Err-clause-known c task w = c.words_err.ensures ∙ ap err_of (c.kind.ensures ∙ c.in-Err.ensures.known task w)
+returns-in-Err-clause-known c task w =
+    let words = map string_bytes c.args.words.now in
+    matched words task (Err c.words_err.result) w tt
+    (subst (MayHinder words) (sym c.words_err.ensures)
+    (subst (λ (k : ErrorKind). MayHinder words (err_of k)) (sym c.kind.ensures) (hindered words (kind_of c.in-Err.error) c.in-Err.ensures.err)))

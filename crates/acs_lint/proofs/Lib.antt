@@ -1,0 +1,16 @@
+pub mod BoolLemmas
+pub mod ListLemmas
+pub mod StatementLemmas
+pub mod ByteTurns
+pub mod EndLemmas
+pub mod QualifierTurns
+pub mod CondLemmas
+pub mod CoverLemmas
+pub mod WhenLemmas
+pub mod BlockLemmas
+pub mod EntryLemmas
+pub mod UseLemmas
+pub mod ExitFormLemmas
+pub mod SetLemmas
+pub mod UnusedLemmas
+pub mod FindingLemmas

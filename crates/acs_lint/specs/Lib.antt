@@ -1,0 +1,9 @@
+pub mod Statements
+pub mod Covering
+pub mod Whens
+pub mod Blocks
+pub mod Entries
+pub mod Uses
+pub mod Findings
+pub mod Meant
+pub mod Inner

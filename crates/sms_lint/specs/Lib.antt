@@ -1,0 +1,4 @@
+pub mod DeckFound
+pub mod DeckMeant
+pub mod LintText
+pub mod Linting
