@@ -45,7 +45,7 @@ class Definitions:
         for line in text.split('\n'):
             stripped = line.strip()
             if not stripped or stripped.startswith('--') or re.match(r'(pub )?use ', stripped): continue
-            if stripped.startswith('module _'): sections |= set(TOKEN.findall(line)); word = None; continue
+            if stripped.startswith('module _'): sections |= set(TOKEN.findall(line)); word, inside = None, -1; continue
             indent = len(line) - len(line.lstrip())
             if indent <= inside: inside = -1
             if inside < 0 and re.match(r'(abbrev|pub|record|data|unfoldable|opens|infix)\b', stripped):

@@ -110,7 +110,8 @@ def differences(smsctl, folder, run):
         yield f"status {ended.returncode} in place of {status}: {ended.stderr.strip()}"
     if ended.stdout != text:
         yield f"the output:\n{ended.stdout}"
-    if (status == 0) != (ended.stderr == ""):
+    said = [line for line in ended.stderr.splitlines() if not line.startswith("smsctl: refused: ")]
+    if (status == 0) != (not said):
         yield f"on standard error: {ended.stderr.strip()}"
     if found(folder) != set(files):
         yield f"the files {sorted(found(folder))} in place of {sorted(files)}"

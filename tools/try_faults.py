@@ -277,12 +277,29 @@ SMSCTL_LISTS = [
 SMSC_LISTS = [
     "translate DATACLAS",
     "translate STORCLAS",
-    "translate MGMTCLAS",
+    "translate MGMTCLAS FILE",
     "translate STORGRP",
     "validate",
+    "validate FILE",
     "simulate",
+    "explain FILE",
+    "coverage",
+    "lint FILE --fail",
     "compare",
+    "compare FILE FILE FILE --changed --fail",
 ]
+
+# The subcommands of smsc: how many files each takes, and which flags.
+SMSC_COMMANDS = {
+    "translate": (1, []),
+    "validate": (1, []),
+    "simulate": (1, []),
+    "explain": (1, []),
+    "coverage": (1, []),
+    "lint": (1, ["--fail"]),
+    "compare": (3, ["--changed", "--fail"]),
+}
+KINDS = ["DATACLAS", "STORCLAS", "MGMTCLAS", "STORGRP"]
 
 
 def is_as_asked(part, word):
@@ -297,6 +314,20 @@ def is_known(lists, words):
         len(parts) == len(words) and all(is_as_asked(part, word) for part, word in zip(parts, words))
         for parts in (known.split() for known in lists)
     )
+
+
+def is_known_to_smsc(words):
+    """Whether smsc knows these words: a subcommand, its kind, files, and flags, each at most once."""
+    if not words or words[0] not in SMSC_COMMANDS:
+        return False
+    most, flags = SMSC_COMMANDS[words[0]]
+    files = [word for word in words[1:] if not word.startswith("-")]
+    given = [word for word in words[1:] if word.startswith("-")]
+    if words[0] == "translate":
+        if not files or files[0] not in KINDS:
+            return False
+        files = files[1:]
+    return len(files) <= most and all(flag in flags for flag in given) and len(set(given)) == len(given)
 
 
 def samples(part, folder):
@@ -331,12 +362,14 @@ def try_words(program, lists):
     with tempfile.TemporaryDirectory() as folder:
         for known in lists:
             for words in variants(known.split(), folder):
-                if is_known(lists, words) and words[0] in ("serve", "gen"):
+                of_tool = os.path.basename(program) == "smsc"
+                is_list = is_known_to_smsc(words) if of_tool else is_known(lists, words)
+                if is_list and words[0] in ("serve", "gen"):
                     continue
                 done = subprocess.run([program, *words], input=b"", stdout=subprocess.PIPE, stderr=subprocess.PIPE)
                 counts[done.returncode] = counts.get(done.returncode, 0) + 1
-                shows_help = os.path.basename(program) == "smsc" and "--help" in words and words[0] in " ".join(lists)
-                is_refused = not is_known(lists, words) and not shows_help
+                shows_help = of_tool and "--help" in words and words[0] in SMSC_COMMANDS
+                is_refused = not is_list and not shows_help
                 check((done.returncode == 2) == is_refused, f"{words} ended with {done.returncode}")
                 check(not is_refused or is_told(done), f"{words} was refused without a sentence")
                 is_plain = all(byte == 10 or 32 <= byte < 127 for byte in done.stderr)
