@@ -1,27 +1,7 @@
-//! Tests of the desk's parts, each by its own calls.
+//! Tests of the desk's parts, each by its own calls: the seats of a turn lock on threads, and sizes of types.
 #![tactic(auto)]
 
 #[cfg(test)]
-mod book;
-#[cfg(test)]
-mod constructs;
-#[cfg(test)]
-mod deck_faults;
-#[cfg(test)]
-mod deck_readings;
-#[cfg(test)]
-mod keeping;
-#[cfg(test)]
-mod kept_replies;
-#[cfg(test)]
-mod ledger;
-#[cfg(test)]
-mod listing;
-#[cfg(test)]
-mod names;
-#[cfg(test)]
-mod ordered;
-#[cfg(test)]
-mod reports;
+mod sizes;
 #[cfg(test)]
 mod turns;

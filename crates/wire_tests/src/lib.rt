@@ -1,18 +1,10 @@
-//! Tests of what goes in and out as bytes: streams, conversations, records.
+//! Tests of what goes in and out as bytes, over real streams, and of a client that waits for its answer.
 #![tactic(auto)]
 
 #[cfg(test)]
 mod adapters;
 #[cfg(test)]
 mod asking;
-#[cfg(test)]
-mod conversations;
-#[cfg(test)]
-mod record_forms;
-#[cfg(test)]
-mod record_rows;
-#[cfg(test)]
-mod records;
 #[cfg(test)]
 mod streams;
 #[cfg(test)]
