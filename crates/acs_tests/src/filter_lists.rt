@@ -57,16 +57,11 @@ fn entries(alloc: Global, texts: &str) -> Result<Vec<Entry>, Fail> {
     Ok(list)
 }
 
-/// 254 times one entry, and another behind them.
-fn many(alloc: Global, one: &str, last: &str) -> Result<Vec<Entry>, Fail> {
-    let one = entry(one).ok_or("the entry is out of form")?;
-    let last = entry(last).ok_or("the entry is out of form")?;
-    let mut list = Vec::new(alloc);
-    for _ in 0..254u32 {
-        list.push(one)?;
-    }
-    list.push(last)?;
-    Ok(list)
+/// 254 times the entry 'A', and another behind them.
+fn many(alloc: Global, last: &str) -> Result<Vec<Entry>, Fail> {
+    let mut texts = "'A' ".repeat(alloc, 254)?;
+    texts.push_str(last)?;
+    entries(alloc, &texts)
 }
 
 fn has<L: Ledger>(index: &FilterIndex, value: &Short, blank: Blank) -> bool
@@ -114,8 +109,8 @@ fn are_passed(index: &FilterIndex) -> bool {
 
 #[test]
 fn lists_may_have_255_entries_each(rt: HostRuntime) -> Result<(), Fail> {
-    let include = many(rt.alloc(), "'A'", "'B'")?;
-    let exclude = many(rt.alloc(), "'A'", "=C*")?;
+    let include = many(rt.alloc(), "'B'")?;
+    let exclude = many(rt.alloc(), "=C*")?;
     let index = FilterIndex::build(rt.alloc(), &include, &exclude)?;
     assert!(rt; are_passed(&index));
     Ok(())
