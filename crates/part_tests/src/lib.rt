@@ -1,7 +1,15 @@
-//! Tests of the desk's parts, each by its own calls: the seats of a turn lock on threads, and sizes of types.
+//! Tests of parts by their own calls: streams of std, a client that waits for its answer, seats on threads, sizes.
 #![tactic(auto)]
 
 #[cfg(test)]
+mod adapters;
+#[cfg(test)]
+mod asking;
+#[cfg(test)]
 mod sizes;
+#[cfg(test)]
+mod streams;
+#[cfg(test)]
+mod talking;
 #[cfg(test)]
 mod turns;

@@ -191,11 +191,7 @@ fn is_code(alloc: Global, wanted: &str, status: u8) -> Result<bool, AllocError> 
     Ok(is_filled_by(wanted, &code))
 }
 
-fn status_told(
-    alloc: Global,
-    wanted: &str,
-    found: &Outcome,
-) -> Result<Option<String>, AllocError> {
+fn status_told(alloc: Global, wanted: &str, found: &Outcome) -> Result<Option<String>, AllocError> {
     let Outcome { status, output, .. } = found;
     let why = format!(in alloc; "wanted status {wanted}, came {status} {output:?}")?;
     Ok(Some(why))
