@@ -43,11 +43,10 @@ fn data_set(alloc: Global) -> Result<DataSet, Fail> {
 
 /// The change with this number of JOB1, which is its place too, that puts the data set A.B.
 pub fn change(alloc: Global, number: u32) -> Result<Change, Fail> {
-    let request = request(number)?;
     let set = Shared::new(alloc, data_set(alloc)?)?;
     Ok(Change {
         place: u64::from(number),
-        request,
+        request: request(number)?,
         reply: Reply::Noted,
         effect: Effect::PutSet(set),
     })

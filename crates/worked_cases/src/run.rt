@@ -78,7 +78,8 @@ impl Run {
         database: &mut Option<Database>,
     ) -> Result<Option<Compared>, AllocError> {
         let filled = self.filled(rt.alloc(), columns)?;
-        match outcome_of(rt, &filled.asked(&self.faults), database)? {
+        let found = outcome_of(rt, &filled.asked(&self.faults), database)?;
+        match found {
             Some(found) => self.compared(rt.alloc(), columns, filled, found),
             None => Ok(None),
         }

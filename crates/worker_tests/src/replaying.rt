@@ -24,7 +24,10 @@ pub fn is_one_history<P: Keeper + Send, R: Threads + Wait + Sync>(
     core: Core<P>,
     again: &mut Core<P>,
 ) -> bool {
-    let (answers, core) = run_workers(alloc, rt, script, core, workers.max(2).min(16), &FreeGate);
+    if workers < 2 || 16 < workers {
+        return false;
+    }
+    let (answers, core) = run_workers(alloc, rt, script, core, workers, &FreeGate);
     match answers {
         Ok(answers) => {
             are_entered(alloc, script, answers.as_slice(), core.journal())

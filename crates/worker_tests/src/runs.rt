@@ -31,11 +31,11 @@ storgroup = \"PROC STORGRP SET &STORGRP = 'SG1' END\"
 
 // The place and the storage class of each answer: the ALLOC was classified under the first deck, and is answered under
 // the second.
-static TOLD: [(u64, u8); 4] = [(1, 0), (2, 0), (4, b'2'), (3, 0)];
+static TOLD: &[(u64, u8)] = &[(1, 0), (2, 0), (4, b'2'), (3, 0)];
 
 fn are_told(answers: &[Answer]) -> bool {
     let mut good = answers.len() == TOLD.len();
-    for (answer, (place, class)) in answers.iter().zip(&TOLD) {
+    for (answer, (place, class)) in answers.iter().zip(TOLD) {
         good &= answer.place == *place && class_of(&answer.reply) == *class;
     }
     good
