@@ -132,7 +132,7 @@ function furnish(element, attributes, children) {
     else if (value === true) element.setAttribute(name, '');
     else if (value !== false && value !== null && value !== undefined) element.setAttribute(name, value);
   }
-  element.append(...children.flat().filter((child) => child !== null && child !== undefined));
+  element.append(...children.flat(Infinity).filter((child) => child !== null && child !== undefined));
   return element;
 }
 
@@ -143,7 +143,7 @@ function link(hash, text, attributes = {}) {
 // Puts new children into a place; what had the focus there has it again.
 function replace(place, ...children) {
   const key = place.contains(document.activeElement) ? document.activeElement.dataset.key : undefined;
-  place.replaceChildren(...children.flat().filter((child) => child !== null));
+  place.replaceChildren(...children.flat(Infinity).filter((child) => child !== null));
   if (key !== undefined) [...place.querySelectorAll('[data-key]')].find((it) => it.dataset.key === key)?.focus();
 }
 
@@ -164,8 +164,10 @@ function table(name, columns, rows) {
 }
 
 function cells(columns, values) {
-  return columns.map((column, at) =>
-    make('td', { 'class': column.class, 'data-title': column.title }, values[at] ?? '-'));
+  return columns.map((column, at) => make('td', {
+    'class': [column.class, values[at] ?? 'none'].filter((word) => word === column.class || word === 'none').join(' '),
+    'data-title': column.title,
+  }, values[at] ?? '-'));
 }
 
 // ---- Asking the desk
@@ -201,7 +203,8 @@ function isGood(answer) {
 
 // Whether the desk has no such page, and not merely nothing to show there.
 function isMissing(answer) {
-  return answer.status === 405 || (answer.status === 404 && !/[.]?(volume|data set)/.test(sentenceOf(answer)));
+  const error = answer.body?.error;
+  return answer.status === 405 || (answer.status === 404 && (!error || error.includes('no page')));
 }
 
 function sentenceOf(answer) {
@@ -247,10 +250,12 @@ const known = {
   desk: null, // what /desk answered last
   text: null, // its text
   gone: false,
+  lastPlace: 0, // the greatest place of an entry that was seen
   load: 0, // the number of the last load; an older one's answers are dropped
   place: { view: 'pool', parts: [] },
   numbers: new Map(), // job to the last request number given here
-  volumes: new Map(), // serial to what /volume answered
+  volumes: new Map(), // serial to what /volume answered, and the row of /volumes that it stands for
+  colors: null, // of strips, until light and dark change
   focus: new Map(), // strip to the piece that is pointed at
   deck: null, // the active deck's text, where the desk shows it
   deckOf: null, // the activation whose deck that is
@@ -266,7 +271,8 @@ function freshNumber(job) {
 
 async function activeDeck() {
   const activation = known.desk?.activations ?? null;
-  if (activation !== null && known.deckOf === activation) return known.deck;
+  if (activation === null) return null;
+  if (known.deckOf === activation) return known.deck;
   const answer = await ask('/deck');
   known.deck = isGood(answer) && typeof answer.body.deck === 'string' ? answer.body.deck : null;
   known.deckOf = activation;
@@ -277,27 +283,51 @@ async function activeDeck() {
 
 async function poll() {
   try {
-    await look();
-  } catch (error) {
-    if (!(error instanceof Gone)) throw error;
-    markGone();
+    await lookSoon();
   } finally {
     setTimeout(poll, POLL);
   }
 }
 
-// Asks what is new, and loads what is shown where anything is.
+// Asks what is new, and loads what is shown where it may differ.
 async function look() {
   const answer = await ask('/desk');
   if (!isGood(answer)) throw new Gone('/desk');
   const isNew = answer.text !== known.text || known.gone;
+  const news = isNew ? await newsSince(known.gone ? null : known.desk, answer.body) : null;
   known.desk = answer.body;
   markBack();
   if (!isNew) return;
   if (known.gone) known.deckOf = null;
-  await loadView();
+  if (news.freed) known.volumes.clear();
+  if (news.changed || VIEWS[known.place.view].showsAnswers) await loadView();
   known.gone = false;
   known.text = answer.text;
+}
+
+const CHANGING = new Set(['A00', 'A02', 'A03', 'A04', 'A05', 'A08', 'A09']);
+const FREEING = new Set(['A03', 'A04', 'A09']);
+
+// Whether the entries since the last look may have changed anything, and whether any may have freed tracks.
+async function newsSince(before, now) {
+  const last = known.lastPlace;
+  const answer = await ask('/answers');
+  const entries = isGood(answer) ? answersIn(answer) : [];
+  known.lastPlace = entries[0]?.place ?? 0;
+  const fresh = entries.filter((entry) => entry.place > last);
+  const areAll = before !== null && now.entries > before.entries && fresh.length >= now.entries - before.entries;
+  if (!areAll) return { changed: true, freed: true };
+  return { changed: fresh.some((entry) => CHANGING.has(entry.code)), freed: fresh.some((entry) => FREEING.has(entry.code)) };
+}
+
+// The same; a desk that is gone is marked.
+async function lookSoon() {
+  try {
+    await look();
+  } catch (error) {
+    if (!(error instanceof Gone)) throw error;
+    markGone();
+  }
 }
 
 function markGone() {
@@ -366,6 +396,7 @@ function goTo(hash) {
 function arrive() {
   const before = known.place.view;
   known.place = readPlace();
+  if (known.place.view !== 'set') byId('set-back').href = location.hash || '#sets';
   const { tab, section } = VIEWS[known.place.view];
   for (const place of document.querySelectorAll('main > section')) place.hidden = place.id !== section;
   for (const anchor of document.querySelectorAll('nav a')) {
@@ -398,6 +429,7 @@ async function loadVolume([volser = ''], load) {
     location.replace(hashOf('pool', answer.body.group, volser));
     return;
   }
+  await loadPool([], load);
   note('pool-note', sentenceOf(answer));
 }
 
@@ -453,12 +485,13 @@ function groupBar(row, used) {
     'role': 'img', 'aria-label': words },
   shape('rect', { class: 'bar-free', x: 0, y: 3, width: 1000, height: 14 }),
   shape('rect', { class: isPast ? 'bar-used past' : 'bar-used', x: 0, y: 3, width: share, height: 14 }),
-  Number.isFinite(row.low) ? mark('mark low', row.low) : null,
-  Number.isFinite(row.high) ? mark('mark high', row.high) : null);
+  Number.isFinite(row.low) ? mark('mark low', row.low, 11) : null,
+  Number.isFinite(row.high) ? mark('mark high', row.high, 0) : null);
 }
 
-function mark(name, at) {
-  return shape('rect', { class: name, x: Math.min(997, at * 10 - 1.5), y: 0, width: 3, height: 20 });
+function mark(name, at, top) {
+  const x = Math.min(997, Math.max(0, at * 10 - 1.5));
+  return shape('rect', { class: name, x, y: top, width: 3, height: 20 - top });
 }
 
 function statusChip(status) {
@@ -508,7 +541,8 @@ function legend() {
   const item = (name, text) => make('span', { class: 'legend' },
     make('span', { 'class': `swatch ${name}`, 'aria-hidden': 'true' }), text);
   return make('span', { class: 'legends' }, item('used', 'extents'), item('free', 'gaps'),
-    item('quiall', 'gaps where quiesced'), item('disall', 'gaps where disabled'));
+    item('quiall', 'gaps where quiesced'), item('disall', 'gaps where disabled'),
+    make('span', { class: 'legend' }, 'point at an extent, or take the arrow keys'));
 }
 
 function volumePanel(row) {
@@ -519,31 +553,37 @@ function volumePanel(row) {
     make('span', { class: 'fact' }, `${number(row.free)} of ${counted(row.capacity, 'track')} free`),
     make('span', { class: 'fact' }, counted(countOf(row.extents), 'extent')),
     make('span', { class: 'fact muted longest' }));
-  const place = make('div', { 'class': 'strips', 'data-strips': row.volser, 'data-capacity': row.capacity,
+  const place = make('div', { 'class': 'strips', 'data-strips': row.volser, 'data-row': JSON.stringify(row),
     'data-status': row.status });
-  const kept = known.volumes.get(row.volser);
-  if (kept) fillStrips(place, kept);
-  return make('section', { 'class': 'volume', 'data-volume': row.volser, 'aria-label': `Volume ${row.volser}` },
+  const panel = make('section', { 'class': 'volume', 'data-volume': row.volser, 'aria-label': `Volume ${row.volser}` },
     facts, place);
+  const kept = known.volumes.get(row.volser);
+  if (kept) fillStrips(place, kept.answer);
+  return panel;
 }
 
 function countOf(extents) {
   return Array.isArray(extents) ? extents.length : extents;
 }
 
-// Asks for the extents and gaps of the volumes that are shown, and draws them.
+// Asks for the extents and gaps of the volumes that are shown and may differ, and draws all.
 async function loadStrips(load) {
-  const places = [...document.querySelectorAll('section:not([hidden]) [data-strips]')];
-  await eachOf(places, async (place) => {
+  const places = [...document.querySelectorAll('#pool-groups [data-strips]')];
+  keepFew(known.volumes, new Set(places.map((place) => place.dataset.strips)));
+  places.forEach(drawStrips);
+  await eachOf(places.filter(isStale), async (place) => {
     if (isOld(load)) return;
-    const answer = await askVolume(place.dataset.strips);
+    const { strips, row } = place.dataset;
+    const answer = await askVolume(strips);
     if (isOld(load)) return;
-    const isSame = known.volumes.get(place.dataset.strips)?.text === answer.text;
-    known.volumes.set(place.dataset.strips, answer);
-    if (!isSame || place.childElementCount === 0) fillStrips(place, answer);
+    known.volumes.set(strips, { answer, row });
+    fillStrips(place, answer);
     drawStrips(place);
   });
-  keepFew(known.volumes, new Set(places.map((place) => place.dataset.strips)));
+}
+
+function isStale(place) {
+  return known.volumes.get(place.dataset.strips)?.row !== place.dataset.row;
 }
 
 function keepFew(map, wanted) {
@@ -684,10 +724,9 @@ function tell(strip) {
   const words = piece ? pieceWords(piece, at, strip.part.pieces.length) : '';
   strip.canvas.setAttribute('aria-valuenow', (at ?? 0) + 1);
   strip.canvas.setAttribute('aria-valuetext', words || 'nothing pointed at');
-  if (!piece) setText(strip.told, 'Point at an extent, or take the arrow keys.');
+  if (!piece) setText(strip.told, '');
   else if (piece.dsn === null) setText(strip.told, words);
   else strip.told.replaceChildren(link(hashOf('set', piece.dsn), piece.dsn), words.slice(piece.dsn.length));
-  strip.told.classList.toggle('muted', !piece);
 }
 
 function pieceWords({ dsn, start, tracks }, at, all) {
@@ -724,9 +763,11 @@ function paint(strip) {
 }
 
 function colorsNow() {
+  if (known.colors) return known.colors;
   const style = getComputedStyle(document.documentElement);
-  const color = (name) => style.getPropertyValue(`--${name}`).trim();
-  return { free: color('free'), used: color('used'), marked: color('marked'), pattern: color('pattern'), ink: color('ink') };
+  const names = ['free', 'used', 'marked', 'pattern', 'ink'];
+  known.colors = Object.fromEntries(names.map((name) => [name, style.getPropertyValue(`--${name}`).trim()]));
+  return known.colors;
 }
 
 // Which share of each column of points the pieces that count cover.
@@ -752,15 +793,26 @@ function cover(shares, from, to, width) {
   shares[last] += to - last;
 }
 
-// Fills the columns by their shares; what is there at all is seen.
+const SHADES = 6;
+
+// Fills the columns by their shares, in a few shades; what is there at all is seen.
 function paintCoverage(brush, shares, height, color) {
   brush.fillStyle = color;
-  for (let at = 0; at < shares.length - 1; at += 1) {
-    if (shares[at] <= 0) continue;
-    brush.globalAlpha = Math.min(1, Math.max(0.35, shares[at]));
-    brush.fillRect(at, 0, 1, height);
+  let from = 0;
+  for (let at = 1; at < shares.length; at += 1) {
+    const shade = shadeOf(shares[from]);
+    if (at < shares.length - 1 && shadeOf(shares[at]) === shade) continue;
+    if (shade > 0) {
+      brush.globalAlpha = Math.max(0.35, shade / SHADES);
+      brush.fillRect(from, 0, at - from, height);
+    }
+    from = at;
   }
   brush.globalAlpha = 1;
+}
+
+function shadeOf(share) {
+  return share <= 0 ? 0 : Math.min(SHADES, Math.max(1, Math.round(share * SHADES)));
 }
 
 // A thin line at the end of each extent that is wide enough to be told from its neighbour.
@@ -924,7 +976,7 @@ function factList(facts) {
 function historyOf(dsn, answer) {
   const title = make('h3', {}, 'Answers');
   if (!isGood(answer)) return [title, empty(answersSentence(answer))];
-  const shown = answersIn(answer).filter((entry) => entry.dsn === dsn);
+  const shown = answersIn(answer).filter((entry) => OF_DATA_SETS.has(entry.asked) && entry.name === dsn);
   const none = 'None of the last 200 entries of the journal is of this data set.';
   return [title, shown.length > 0 ? answersTable(shown) : empty(none)];
 }
@@ -1041,6 +1093,7 @@ async function allocate() {
     field.value = '';
     return replyPanel(answer.body, dsn);
   });
+  await lookSoon();
 }
 
 function replyPanel(body, dsn) {
@@ -1077,11 +1130,21 @@ function stories(lines) {
   for (const line of lines) {
     const [kind, word, ...values] = line.trim().split(' ');
     const last = told[told.length - 1];
-    if (kind in KINDS && word === 'BEGIN') told.push({ kind, begin: values.join(' '), end: '', events: [] });
-    else if (last && kind === last.kind && last.end === '') last.end = [word, ...values].join(' ');
+    if (kind in KINDS && word === 'BEGIN') told.push({ kind, begin: valuesWords(values), end: '', events: [] });
+    else if (last && kind === last.kind && last.end === '') last.end = endWords(word, values);
     else if (last && last.end === '') last.events.push(eventOf(line.trim()));
   }
   return told;
+}
+
+function endWords(word, values) {
+  return word === 'EXIT' ? `by EXIT with code ${values[0]}: ${valuesWords(values.slice(1))}` : valuesWords(values);
+}
+
+function valuesWords([dataclas, storclas, mgmtclas, ...groups]) {
+  const value = (text) => (text === '-' || text === undefined ? 'none' : text);
+  return `data class ${value(dataclas)}, storage class ${value(storclas)}, management class ${value(mgmtclas)}, `
+    + `storage groups ${value(groups.join(', ') || '-')}`;
 }
 
 function eventOf(text) {
@@ -1093,7 +1156,7 @@ function storyPanel(story, deck) {
   const source = deck?.entries.get(`routine.${KINDS[story.kind]}`)?.value;
   const body = typeof source === 'string' ? markedSource(source, story.events) : plainEvents(story.events);
   return make('section', { 'class': 'panel story', 'data-story': story.kind }, make('h4', {}, story.kind),
-    make('p', { class: 'muted' }, `begins with ${story.begin}`), body, make('p', { class: 'muted' }, `ends: ${story.end}`));
+    make('p', { class: 'muted' }, `Begins: ${story.begin}`), body, make('p', { class: 'muted' }, `Ends: ${story.end}`));
 }
 
 function plainEvents(events) {
@@ -1105,7 +1168,7 @@ function plainEvents(events) {
 // The text of a routine, with the statements that ran marked and what was compared and set beside them.
 function markedSource(source, events) {
   const happened = placed(events);
-  const rows = source.split(LINE_END).map((text, at) => {
+  const rows = source.trimEnd().split(LINE_END).map((text, at) => {
     const here = happened.get(at + 1) ?? [];
     const notes = here.filter((event) => event.text.includes(' ')).map((event) => event.text);
     return make('li', { class: here.length > 0 ? 'ran' : 'not' },
@@ -1173,13 +1236,13 @@ async function check() {
 }
 
 function firstLine(body) {
-  return list(body.lines)[0] ?? body.reply ?? body.code ?? '';
+  return list(body.lines)[0] ?? String(body.code);
 }
 
 // What the check answered, and where the deck's fault lies.
 function checkParts(body, text) {
   const line = firstLine(body);
-  const code = line.slice(0, 3);
+  const code = body.code;
   const fault = code === 'R21' ? faultOf(line, body, text) : null;
   numberLines(fault?.line ?? null);
   if (fault?.line) showLine(fault.line, text);
@@ -1244,6 +1307,7 @@ async function activate() {
     if (!isGood(answer)) return refusal(answer, sentenceOf(answer));
     return activated(answer.body, text);
   });
+  await lookSoon();
 }
 
 function activated(body, text) {
@@ -1557,6 +1621,7 @@ class DeckReader {
 
 async function difference(text) {
   const title = make('h3', {}, 'Difference to the active deck');
+  await look();
   if (known.desk?.activations === null) return [title, empty('Nothing is active: all of it would be new.')];
   const deck = readDeck(text);
   if (deck.stop) return [title, empty(`The deck can be read up to line ${number(deck.stop.line)}: nothing is compared.`)];
@@ -1665,18 +1730,14 @@ const ANSWER_COLUMNS = [
   { title: 'Place', class: 'figure' }, { title: 'Job' }, { title: 'Number', class: 'figure' },
   { title: 'Asked' }, { title: 'Answer', class: 'answer' }, { title: 'First at', class: 'figure' },
 ];
+const OF_DATA_SETS = new Set(['ALLOC', 'EXTEND', 'DELETE', 'USED', 'RELEASE']);
 
 function answersSentence(answer) {
   return isMissing(answer) ? 'This desk does not show its answers.' : sentenceOf(answer);
 }
 
 function answersIn(answer) {
-  return list(answer.body.answers).map(entryOf).sort((one, other) => other.place - one.place);
-}
-
-function entryOf(entry) {
-  const lines = list(entry.lines);
-  return { ...entry, lines, dsn: entry.dsn ?? entry.name ?? null, asked: entry.asked ?? entry.op ?? '' };
+  return list(answer.body.answers).sort((one, other) => other.place - one.place);
 }
 
 async function loadAnswers(parts, load) {
@@ -1701,15 +1762,12 @@ function answersTable(entries) {
     make('tr', { class: entry.code.startsWith('A') ? 'fine' : 'refused' }, cells(ANSWER_COLUMNS, answerValues(entry)))));
 }
 
-function answerValues(entry) {
-  const dsn = entry.dsn;
-  const asked = [entry.asked, dsn ? ' ' : null, dsn ? link(hashOf('set', dsn), dsn) : null];
-  const text = make('span', { title: MEANINGS[entry.code] }, entry.lines[0] ?? entry.code);
-  const more = entry.lines.slice(1).map((line) => line.trim()).join(LINE_END);
+function answerValues({ place, first, job, number: given, code, asked, name }) {
+  const of = name !== null && OF_DATA_SETS.has(asked) ? link(hashOf('set', name), name) : name;
   return [
-    number(entry.place), entry.job, String(entry.number), make('span', {}, asked),
-    make('span', {}, text, more === '' ? null : make('pre', { class: 'lines' }, more)),
-    entry.first === entry.place ? 'here' : number(entry.first),
+    number(place), job, String(given), make('span', {}, asked, of === null ? null : ' ', of),
+    make('span', {}, make('b', {}, code), ` ${MEANINGS[code] ?? ''}`),
+    first === place ? null : number(first),
   ];
 }
 
@@ -1734,7 +1792,7 @@ function isTyping(target) {
 
 function onKey(event) {
   if (event.ctrlKey || event.metaKey || event.altKey || document.querySelector('dialog[open]')) return;
-  if (event.key === 'Escape' && known.place.view === 'set') history.back();
+  if (event.key === 'Escape' && known.place.view === 'set') goTo(byId('set-back').hash);
   if (isTyping(event.target)) return;
   const tabs = ['#pool', '#sets', '#try', '#deck', '#answers'];
   const tab = tabs[Number(event.key) - 1];
@@ -1756,10 +1814,10 @@ const VIEWS = {
   pool: { tab: 'pool', section: 'view-pool', load: loadPool },
   volume: { tab: 'pool', section: 'view-pool', load: loadVolume },
   sets: { tab: 'sets', section: 'view-sets', load: loadSets },
-  set: { tab: 'sets', section: 'view-set', load: loadSet },
+  set: { tab: 'sets', section: 'view-set', load: loadSet, showsAnswers: true },
   try: { tab: 'try', section: 'view-try', load: loadTry },
   deck: { tab: 'deck', section: 'view-deck', load: loadDeck },
-  answers: { tab: 'answers', section: 'view-answers', load: loadAnswers },
+  answers: { tab: 'answers', section: 'view-answers', load: loadAnswers, showsAnswers: true },
 };
 
 function onSubmit(id, act) {
@@ -1803,7 +1861,10 @@ function begin() {
   addEventListener('hashchange', arrive);
   addEventListener('keydown', onKey);
   addEventListener('resize', paintAll);
-  matchMedia('(prefers-color-scheme: dark)').addEventListener('change', paintAll);
+  matchMedia('(prefers-color-scheme: dark)').addEventListener('change', () => {
+    known.colors = null;
+    paintAll();
+  });
   arrive();
   poll();
 }
