@@ -188,17 +188,17 @@ class Desk:
                  for made in self.sets.values() for it in made["extents"] if it["volser"] == volser]
         return sorted(found, key=lambda it: it["start"])
 
-    def gaps(self, volser, extents):
+    def gaps(self, volser, extents, start=0):
         capacity = self.deck.volumes[volser]["capacity"]
         ends = [(it["start"], it["start"] + it["tracks"]) for it in extents] + [(capacity, capacity)]
-        found, at = [], 0
-        for start, end in ends:
-            border = [BORDER] if at < BORDER < start else []
-            for edge in [*border, start]:
+        found, at = [], start
+        for first, end in ends:
+            border = [BORDER] if at < BORDER < first else []
+            for edge in [*border, first]:
                 if edge > at:
                     found.append({"start": at, "tracks": edge - at})
                 at = max(at, edge)
-            at = end
+            at = max(at, end)
         return found
 
     def verdict(self, text):
@@ -305,9 +305,9 @@ class Desk:
             return row
         extents = [it for it in self.lying(volser) if it["start"] + it["tracks"] > start]
         shown = extents[:PIECES_SHOWN]
-        end = shown[-1]["start"] + shown[-1]["tracks"] if shown and len(extents) > len(shown) else None
-        gaps = [it for it in self.gaps(volser, self.lying(volser)) if it["start"] >= start and (end is None or it["start"] < end)]
-        return {**row, "extents": shown, "gaps": gaps, "next": end}
+        behind = extents[PIECES_SHOWN]["start"] if len(extents) > PIECES_SHOWN else None
+        gaps = [it for it in self.gaps(volser, extents, start) if behind is None or it["start"] < behind]
+        return {**row, "extents": shown, "gaps": gaps, "next": behind}
 
     def named(self, mask, after):
         pattern = re.escape(mask).replace(r"\*\*", "\0").replace(r"\*", "[^.]*").replace("%", "[^.]")
