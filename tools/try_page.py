@@ -55,14 +55,14 @@ tracks = 500
 [storgroup.SGPROD.volume.PRD002]
 tracks = 500
 [storgroup.SGPROD.volume.PRD003]
-device = "3390-3"
+tracks = 800
 [storgroup.SGLARGE]
 [storgroup.SGLARGE.volume.LRG001]
 cylinders = 65583
 [storgroup.SGSPILL]
 overflow = true
 [storgroup.SGSPILL.volume.SPL001]
-device = "3390-9"
+tracks = 900
 status = "QUIALL"
 [routine]
 dataclass = '''
@@ -436,7 +436,9 @@ def fill(desk):
         hlq, size = ("TEST" if at % 4 == 0 else "PAY"), 3 + (at * 7) % 17
         desk.ask("POST", f"/job/FILL/{at}/alloc/{hlq}.D{at:04}.{'JCL' if at % 3 == 0 else 'DATA'}", json.dumps({"SPACE": f"(TRK,({size},5))", "DAY": at}))
     for at in range(1, 5):
-        desk.ask("POST", f"/job/FILL/{100 + at}/alloc/BIG.LOG{at}", json.dumps({"SPACE": f"(CYL,{12 + 9000 * (at % 2)})", "EATTR": "OPT", "RETPD": 30}))
+        desk.ask("POST", f"/job/FILL/{100 + at}/alloc/BIG.LOG{at}", json.dumps({"SPACE": f"(CYL,{12 + 40 * (at % 2)})", "EATTR": "OPT", "RETPD": 30}))
+        desk.ask("POST", f"/job/FILL/{110 + at}/alloc/BIG.BASE{at}", json.dumps({"SPACE": f"(CYL,{8000 * at})"}))
+    desk.ask("POST", "/job/FILL/120/delete/BIG.BASE1")
     for at in range(1, 60, 6):
         desk.ask("POST", f"/job/FILL/{200 + at}/delete/PAY.D{at:04}.DATA")
     desk.ask("POST", "/admin/11/vary/volume/PRD002/disable-new")
@@ -451,7 +453,7 @@ def step_pool(browser, desk):
     browser.key("Enter")
     browser.wait("document.querySelector('[data-volume=PRD002] canvas')", "the volumes of an opened storage group have strips")
     check(browser.run("document.activeElement.dataset.key") == "group SGPROD", "the opened storage group keeps the focus")
-    browser.sees("[data-volume=PRD002] .status", "DISNEW disabled for new data sets")
+    browser.sees("[data-volume=PRD002] .status", "DISNEW: disabled for new data sets")
     browser.wait("document.querySelector('[data-volume=PRD001] canvas').width > 100", "the strip is drawn")
     browser.run("document.querySelector('[data-volume=PRD001] canvas').focus()")
     browser.sees("[data-volume=PRD001] .told", "tracks 0 to")
@@ -564,10 +566,32 @@ def step_answers(browser, desk):
     browser.click("#answers-find button[type=reset]")
 
 
+def step_held(browser, desk):
+    """What is pointed at and what is typed stays where the view is drawn anew."""
+    go(browser, "#pool/SGPROD", "[data-volume=PRD001] canvas")
+    browser.run("document.querySelector('[data-volume=PRD001] canvas').focus()")
+    for _ in range(3):
+        browser.key("ArrowRight")
+    told = browser.text("[data-volume=PRD001] .told")
+    held = browser.run("document.querySelector('[data-volume=PRD001] canvas').isHeld = true")
+    desk.ask("POST", "/job/LIVE/3/delete/PAY.MASTER" if held else "/")
+    browser.wait("!document.querySelector('[data-volume=PRD001] canvas').isHeld", "the strips are drawn anew behind a DELETE")
+    browser.sees("[data-volume=PRD001] .told", "(4 of ")
+    check(told != "" and browser.run("document.activeElement.dataset.key") == "strip PRD001 track-managed", "the strip keeps the focus")
+    browser.put("[data-key=filter]", "prd")
+    desk.ask("POST", "/job/LIVE/4/alloc/PAY.MASTER", json.dumps({"SPACE": "(TRK,(40,10))"}))
+    entries = json.loads(desk.ask("GET", "/desk")[1])["entries"]
+    browser.sees("#standing", f"{entries} entries")
+    time.sleep(0.5)
+    check(browser.run("document.querySelector('[data-key=filter]').value") == "prd", "what is typed stays")
+    go(browser, "#sets/LIVE.**", "#sets-list a")
+
+
 def step_current(browser, desk):
     go(browser, "#sets/LIVE.**", "#sets-list .empty")
     desk.ask("POST", "/job/LIVE/1/alloc/LIVE.ONE", json.dumps({"SPACE": "(TRK,1)"}))
     browser.sees("#sets-list", "LIVE.ONE", 5)
+    step_held(browser, desk)
     browser.run("window.asked = 0; { const real = fetch; window.fetch = (...words) => { window.asked += 1; return real(...words); }; }")
     time.sleep(6.5)
     check(2 <= browser.run("window.asked") <= 4, f"a desk at rest is asked every two seconds, not {browser.run('window.asked')} times in 6.5")
@@ -656,6 +680,20 @@ LOADED = (("the storage groups", "#pool", "document.querySelectorAll('.group').l
           ("the answers", "#answers", "document.querySelector('#answers-list tr')"))
 
 
+def step_large_deck(browser):
+    go(browser, "#deck", "#deck-text")
+    lines = ["version = 1", "[storclass.SC1]", *(f"# {'x' * 90}" for _ in range(1000))]
+    for group in range(4):
+        lines += [f"[storgroup.SG{group + 1}.volume.V{group}{at:04}]\ntracks = {50085 + at}" for at in range(256)]
+    text = "\n".join([*lines, "[routine]", "storclass = '''", "PROC STORCLAS", *["  SET &STORCLAS = 'SC1'"] * 2500, "END", "'''", ""])
+    browser.run(f"{{ document.querySelector('#deck-text').value = {json.dumps(text)}; window.longest = window.stall = 0; }}")
+    browser.click("#deck-check")
+    browser.sees("#deck-difference", "changed")
+    time.sleep(0.5)
+    longest, stall = browser.run("[window.longest, window.stall]")
+    print(f"loaded: a deck of {len(text):,} bytes checked and compared: {told(longest, stall)}", flush=True)
+
+
 def told(longest, stall):
     task = f"longest task {longest:.0f} ms" if longest else "no task of 50 ms"
     return f"{task}, longest time between two frames {stall:.0f} ms"
@@ -686,6 +724,7 @@ def step_load(browser, desk):
         const start = performance.now();
         for (let at = 0; at < 50; at += 1) canvas.dispatchEvent(new KeyboardEvent('keydown', { key: 'ArrowRight' }));
         return (performance.now() - start) / 50; })()""")
+    step_large_deck(browser)
     print(f"loaded: drawn anew behind an entry: {told(longest, stall)}; an arrow key over 6,667 extents {moves:.1f} ms", flush=True)
     check(max(worst, longest) < 200, f"a redraw takes {max(worst, longest):.0f} ms")
     check(moves < 50, f"an arrow key takes {moves:.0f} ms")

@@ -9,6 +9,7 @@ const VOLUMES_SHOWN = 16;
 const STRIPS_OF_A_SET = 8;
 const PIECES_JOINED = 400000; // extents and gaps of one volume that are read, at most
 const LINES_AROUND = 6;
+const LINES_BESIDE = 4;
 const LINE_END = String.fromCharCode(10);
 const BACKSLASH = String.fromCharCode(92);
 const QUOTE = String.fromCharCode(34);
@@ -19,17 +20,17 @@ const MEANINGS = {
   A02: 'the data set has more extents',
   A03: 'the data set is gone, and its tracks are free',
   A04: 'the deck is active',
-  A05: 'the storage group or the volume has this status',
+  A05: 'the status was varied',
   A06: 'what was asked is shown',
-  A07: 'request numbers below this one are refused',
+  A07: 'request numbers below the floor are refused from now on',
   A08: 'the used tracks are noted',
   A09: 'unused tracks were freed',
   R10: 'the job used this number for another request',
   R11: 'the number is below the floor of the job',
   R12: 'no configuration is active',
   R13: 'a data set of this name is catalogued',
-  R14: 'a routine ended with this code',
-  R15: 'the active configuration has no class of this name',
+  R14: 'a routine ended with another code than 0',
+  R15: 'the routines gave a class that the active configuration lacks',
   R16: 'neither the request nor its data class names a space',
   R17: 'the routine lists no storage group',
   R18: 'no volume can grant the space',
@@ -140,11 +141,16 @@ function link(hash, text, attributes = {}) {
   return make('a', { href: hash, ...attributes }, text);
 }
 
-// Puts new children into a place; what had the focus there has it again.
+// Puts new children into a place; what had the focus there has it again, with what was typed into it.
 function replace(place, ...children) {
-  const key = place.contains(document.activeElement) ? document.activeElement.dataset.key : undefined;
+  const held = place.contains(document.activeElement) ? document.activeElement : null;
+  known.isReplacing = true;
   place.replaceChildren(...children.flat(Infinity).filter((child) => child !== null));
-  if (key !== undefined) [...place.querySelectorAll('[data-key]')].find((it) => it.dataset.key === key)?.focus();
+  known.isReplacing = false;
+  const again = [...place.querySelectorAll('[data-key]')].find((it) => it.dataset.key === held?.dataset.key);
+  if (!again) return;
+  if (again.matches('input')) again.value = held.value;
+  again.focus({ preventScroll: true });
 }
 
 function note(id, sentence) {
@@ -257,6 +263,7 @@ const known = {
   volumes: new Map(), // serial to what /volume answered, and the row of /volumes that it stands for
   colors: null, // of strips, until light and dark change
   focus: new Map(), // strip to the piece that is pointed at
+  isReplacing: false, // while elements make place for new ones
   deck: null, // the active deck's text, where the desk shows it
   deckOf: null, // the activation whose deck that is
 };
@@ -299,7 +306,7 @@ async function look() {
   markBack();
   if (!isNew) return;
   if (known.gone) known.deckOf = null;
-  if (news.freed) known.volumes.clear();
+  if (news.freed) for (const kept of known.volumes.values()) kept.row = null;
   if (news.changed || VIEWS[known.place.view].showsAnswers) await loadView();
   known.gone = false;
   known.text = answer.text;
@@ -497,7 +504,7 @@ function mark(name, at, top) {
 function statusChip(status) {
   const name = status.toLowerCase();
   return make('span', { class: `chip status ${name}`, title: STATUS_WORDS[status] ?? status },
-    make('span', { 'class': 'swatch', 'aria-hidden': 'true' }), `${status} ${STATUS_WORDS[status] ?? ''}`);
+    make('span', { 'class': 'swatch', 'aria-hidden': 'true' }), status === 'ENABLE' ? status : `${status}: ${STATUS_WORDS[status] ?? ''}`);
 }
 
 // The volumes of an opened storage group that fit the filter, a page of them.
@@ -674,7 +681,7 @@ function listen(strip) {
   canvas.addEventListener('pointermove', (event) => pointAt(strip, pieceUnder(strip, event)));
   canvas.addEventListener('pointerleave', () => { if (document.activeElement !== canvas) pointAt(strip, null); });
   canvas.addEventListener('focus', () => pointAt(strip, known.focus.get(strip.key) ?? 0));
-  canvas.addEventListener('blur', () => pointAt(strip, null));
+  canvas.addEventListener('blur', () => { if (!known.isReplacing) pointAt(strip, null); });
   canvas.addEventListener('click', (event) => openPiece(strip, pieceUnder(strip, event)));
   canvas.addEventListener('keydown', (event) => {
     const at = known.focus.get(strip.key) ?? 0;
@@ -1165,18 +1172,38 @@ function plainEvents(events) {
     make('pre', { class: 'lines' }, lines.join(LINE_END))];
 }
 
-// The text of a routine, with the statements that ran marked and what was compared and set beside them.
+// The text of a routine, with the statements that ran marked and what was compared and set beside them. Of lines
+// that are far from any of these only their number is shown.
 function markedSource(source, events) {
   const happened = placed(events);
-  const rows = source.trimEnd().split(LINE_END).map((text, at) => {
-    const here = happened.get(at + 1) ?? [];
-    const notes = here.filter((event) => event.text.includes(' ')).map((event) => event.text);
-    return make('li', { class: here.length > 0 ? 'ran' : 'not' },
-      make('span', { 'class': 'sign', 'aria-label': here.length > 0 ? 'ran' : 'did not run' }, here.length > 0 ? '>' : ' '),
-      make('code', {}, text || ' '),
-      notes.length > 0 ? make('span', { class: 'happened' }, notes.map((it) => make('span', {}, it))) : null);
-  });
+  const lines = source.trimEnd().split(LINE_END);
+  const rows = [];
+  let left = 0;
+  for (let line = 1; line <= lines.length + 1; line += 1) {
+    const isNear = line <= lines.length && isBeside(happened, line);
+    if (left > 0 && (isNear || line > lines.length)) rows.push(leftOut(left));
+    left = isNear ? 0 : left + 1;
+    if (isNear) rows.push(sourceLine(lines[line - 1], line, happened.get(line) ?? []));
+  }
   return make('ol', { class: 'source' }, rows);
+}
+
+function isBeside(happened, line) {
+  for (let at = line - LINES_BESIDE; at <= line + LINES_BESIDE; at += 1) if (happened.has(at)) return true;
+  return false;
+}
+
+function leftOut(count) {
+  return make('li', { class: 'left-out' }, `${counted(count, 'line')}, of which none ran`);
+}
+
+function sourceLine(text, line, events) {
+  const notes = events.filter((event) => event.text.includes(' ')).map((event) => make('span', {}, event.text));
+  const ran = events.length > 0;
+  return make('li', { class: ran ? 'ran' : 'not', value: line },
+    make('span', { 'class': 'sign', 'aria-label': ran ? 'ran' : 'did not run' }, ran ? '>' : ' '),
+    make('code', {}, text || ' '),
+    notes.length > 0 ? make('span', { class: 'happened' }, notes) : null);
 }
 
 // Events by line; one without a place stands at the line of the one before it.
@@ -1415,11 +1442,13 @@ class DeckReader {
   constructor(text) {
     this.text = text.split(`${String.fromCharCode(13)}${LINE_END}`).join(LINE_END);
     this.at = 0;
+    this.starts = [{ start: 0 }];
+    for (let at = this.text.indexOf(LINE_END); at >= 0; at = this.text.indexOf(LINE_END, at + 1)) this.starts.push({ start: at + 1 });
   }
 
   place(at = this.at) {
-    const front = this.text.slice(0, at).split(LINE_END);
-    return { line: front.length, column: front.pop().length + 1 };
+    const line = pieceAt(this.starts, at);
+    return { line: line + 1, column: at - this.starts[line].start + 1 };
   }
 
   readInto(deck) {
@@ -1626,11 +1655,15 @@ async function difference(text) {
   const deck = readDeck(text);
   if (deck.stop) return [title, empty(`The deck can be read up to line ${number(deck.stop.line)}: nothing is compared.`)];
   const active = await activeDeck();
-  if (active !== null) return [title, differenceTable(describe(readDeck(active), true), describe(deck, true)), routineChanges(readDeck(active), deck)];
+  if (active !== null) return [title, ...wholeDifference(readDeck(active), deck)];
   const shown = await shownConfiguration();
   const hint = 'Storage groups, volumes, their tracks and classes are compared, as far as this desk shows them. '
     + 'It does not show the active deck, so the routines and other attributes are not.';
   return [title, differenceTable(shown.parts, describe(deck, false, shown.kinds)), make('p', { class: 'hint' }, hint)];
+}
+
+function wholeDifference(active, deck) {
+  return [differenceTable(describe(active, true), describe(deck, true)), routineChanges(active, deck)];
 }
 
 const DEVICES = { '3390-3': 50085, '3390-9': 150255 };
@@ -1639,16 +1672,25 @@ const CLASS_KINDS = { dataclass: 'data class', storclass: 'storage class', mgmtc
 // What a deck has, by name: volumes with their storage group and tracks, and with all attributes where they are wanted.
 function describe(deck, isWhole, kinds = null) {
   const parts = new Map();
-  for (const path of [...deck.tables.keys(), ...deck.entries.keys()]) {
-    const [kind, name, under, volser] = path.split('.');
-    if (kind === 'storgroup' && name) parts.set(`storage group ${name}`, isWhole ? attributes(deck, ['storgroup', name]) : '');
-    if (kind === 'storgroup' && under === 'volume' && volser) parts.set(`volume ${volser}`, volumeWords(deck, name, volser, isWhole));
-    if (kind in CLASS_KINDS && name && (isWhole || kinds?.has(kind))) {
-      parts.set(`${CLASS_KINDS[kind]} ${name}`, isWhole ? attributes(deck, [kind, name]) : '');
-    }
+  for (const [kind, name, under, volser] of pathsOf(deck)) {
+    if (kind === 'storgroup' && under === 'volume') parts.set(`volume ${volser}`, volumeWords(deck, name, volser, isWhole));
+    else if (kind === 'storgroup') parts.set(`storage group ${name}`, isWhole ? attributes(deck, [kind, name]) : '');
+    else if (isWhole || kinds?.has(kind)) parts.set(`${CLASS_KINDS[kind]} ${name}`, isWhole ? attributes(deck, [kind, name]) : '');
   }
   if (isWhole) for (const key of ['system', 'sysplex']) if (deck.entries.has(key)) parts.set(key, String(deck.entries.get(key).value));
   return parts;
+}
+
+// The paths of a deck's classes, storage groups and volumes, each once.
+function pathsOf(deck) {
+  const paths = new Map();
+  for (const path of [...deck.tables.keys(), ...deck.entries.keys()]) {
+    const parts = path.split('.');
+    if (parts.length < 2 || !(parts[0] === 'storgroup' || parts[0] in CLASS_KINDS)) continue;
+    paths.set(parts.slice(0, 2).join('.'), parts.slice(0, 2));
+    if (parts[0] === 'storgroup' && parts[2] === 'volume' && parts.length > 3) paths.set(parts.slice(0, 4).join('.'), parts.slice(0, 4));
+  }
+  return paths.values();
 }
 
 function attributes(deck, path) {
@@ -1718,10 +1760,16 @@ function routineChange(kind, old, fresh) {
   while (front < old.length && front < fresh.length && old[front] === fresh[front]) front += 1;
   let end = 0;
   while (end < Math.min(old.length, fresh.length) - front && old[old.length - 1 - end] === fresh[fresh.length - 1 - end]) end += 1;
-  const line = (sign, name) => (text) => make('li', { class: name }, make('code', {}, `${sign} ${text}`));
   return make('section', { class: 'panel' }, make('h4', {}, `${kind}, from line ${number(front + 1)} on`),
     make('ol', { class: 'lines-changed' },
-      old.slice(front, old.length - end).map(line('-', 'gone')), fresh.slice(front, fresh.length - end).map(line('+', 'new'))));
+      changedLines(old.slice(front, old.length - end), '-', 'gone'),
+      changedLines(fresh.slice(front, fresh.length - end), '+', 'new')));
+}
+
+function changedLines(lines, sign, name) {
+  const shown = lines.slice(0, CHANGES_SHOWN).map((text) => make('li', { class: name }, make('code', {}, `${sign} ${text}`)));
+  const more = lines.length - shown.length;
+  return more > 0 ? [shown, make('li', { class: 'left-out' }, `${counted(more, 'further line')} ${name}`)] : shown;
 }
 
 // ---- Answers
