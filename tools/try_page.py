@@ -1,14 +1,14 @@
 #!/usr/bin/env python3
 """Opens the desk's page in headless Chromium, does what docs/manual/page.md says, and says where the page differs.
 
-usage: tools/try_page.py [PATH/smsd] [--pictures FOLDER] [--port PORT]
+usage: tools/try_page.py [PATH/smsd] [--pictures FOLDER] [--manual] [--port PORT]
 
 It wants Debian's package chromium (apt-get install -y chromium), and nothing else. Without a path the page is served by
 tools/mock_desk.py, and with one by that program over a store in a folder of its own; the measure of 1,024 volumes and
 20,000 data sets is the mock desk's in both. Each step is asserted in the page's DOM; no script of another origin, no
 inline one and no inline style may be asked for (Content-Security-Policy), no exception may come, and on each view at
 1,280 and 390 pixels, in light and in dark, no text is cut, none goes over the edge, and each has a contrast of 4.5.
-With a FOLDER each view is put there as a picture. The exit status is 1 where something differs.
+With a FOLDER each view is put there as a picture, and with --manual the manual's pictures are made anew. The exit status is 1 where something differs.
 """
 import atexit
 import base64
@@ -75,7 +75,7 @@ END
 '''
 storclass = '''
 PROC STORCLAS
-  WRITE '<img src=x onerror=alert(1)> ' &DSN
+  WRITE 'STORAGE CLASS OF ' &DSN
   SELECT
     WHEN (&HLQ = 'TEST') SET &STORCLAS = 'SCSTD'
     OTHERWISE SET &STORCLAS = 'SCFAST'
@@ -96,6 +96,7 @@ PROC STORGRP
 END
 '''
 """
+HOSTILE = DECK.replace("STORAGE CLASS OF ", "<img src=x onerror=alert(1)> ")
 FAULTY = DECK.replace("high = 80", "high = 180")
 WRONG_ROUTINE = DECK.replace("SET &MGMTCLAS = 'MCPROD'", "SET &MGMTCLAS 'MCPROD'")
 SMALLER = DECK.replace("[storgroup.SGPROD.volume.PRD002]\ntracks = 500\n", "")
@@ -303,8 +304,8 @@ class Browser:
         for kind in ("dragEnter", "dragOver", "drop"):
             self.call("Input.dispatchDragEvent", type=kind, x=left + width / 2, y=top + height / 2, data=data)
 
-    def picture(self, path):
-        size = self.run("[innerWidth, Math.min(2400, Math.max(innerHeight, document.documentElement.scrollHeight))]")
+    def picture(self, path, most=2400):
+        size = self.run(f"[innerWidth, Math.min({most}, Math.max(innerHeight, document.documentElement.scrollHeight))]")
         made = self.call("Page.captureScreenshot", format="png", captureBeyondViewport=True,
                          clip={"x": 0, "y": 0, "width": size[0], "height": size[1], "scale": 1})
         with open(path, "wb") as file:
@@ -390,7 +391,7 @@ def step_open(browser, desk):
 def step_activate(browser, desk):
     browser.key("4")
     browser.wait("document.activeElement && !document.querySelector('#view-deck').hidden", "4 shows Deck")
-    browser.put("#deck-text", DECK)
+    browser.put("#deck-text", HOSTILE)
     browser.click("#deck-check")
     if desk.has("POST", "/check", DECK):
         browser.sees("#deck-result [data-code=A04]", "This deck would be active.")
@@ -432,6 +433,7 @@ def step_allocate(browser, _):
 
 def fill(desk):
     """Data sets of a shop, and statuses, so that there is something to be seen."""
+    desk.ask("POST", "/admin/10/activate", DECK)
     for at in range(1, 60):
         hlq, size = ("TEST" if at % 4 == 0 else "PAY"), 3 + (at * 7) % 17
         desk.ask("POST", f"/job/FILL/{at}/alloc/{hlq}.D{at:04}.{'JCL' if at % 3 == 0 else 'DATA'}", json.dumps({"SPACE": f"(TRK,({size},5))", "DAY": at}))
@@ -628,6 +630,14 @@ def look_at(browser, pictures, name):
     check(not found, f"{name}: {found}")
     if pictures:
         browser.picture(os.path.join(pictures, f"{name}.png"))
+    if name in MANUAL and "--manual" in sys.argv:
+        path = os.path.join(HERE, "..", "docs", "manual", "pictures", f"{name.split('-')[0]}.png")
+        os.makedirs(os.path.dirname(path), exist_ok=True)
+        browser.picture(path, 800)
+        check(os.path.getsize(path) < 150 * 1024, f"{path} has {os.path.getsize(path)} bytes")
+
+
+MANUAL = ("pool-1280-light", "deck-1280-light", "try-1280-dark", "set-390-light")
 
 
 def look_at_questions(browser, pictures, name):
@@ -661,6 +671,7 @@ def step_views(browser, pictures, folder):
                     browser.drop("#deck-text", path)
                 if name == "pool":
                     browser.run("document.querySelector('[data-volume=PRD001] canvas').focus()")
+                    browser.key("ArrowRight")
                 time.sleep(0.3)
                 browser.run("scrollTo(0, 0)")
                 look_at(browser, pictures, f"{name}-{width}-{scheme}")

@@ -170,10 +170,12 @@ function table(name, columns, rows) {
 }
 
 function cells(columns, values) {
-  return columns.map((column, at) => make('td', {
-    'class': [column.class, values[at] ?? 'none'].filter((word) => word === column.class || word === 'none').join(' '),
-    'data-title': column.title,
-  }, values[at] ?? '-'));
+  return columns.map((column, at) => cell(column, values[at] ?? null));
+}
+
+function cell(column, value) {
+  const name = value === null ? `${column.class ?? ''} none` : column.class;
+  return make('td', { 'class': name, 'data-title': column.title }, value ?? '-');
 }
 
 // ---- Asking the desk
@@ -264,6 +266,7 @@ const known = {
   colors: null, // of strips, until light and dark change
   focus: new Map(), // strip to the piece that is pointed at
   isReplacing: false, // while elements make place for new ones
+  unanswered: null, // an activation that was asked and not answered: its text and number
   deck: null, // the active deck's text, where the desk shows it
   deckOf: null, // the activation whose deck that is
 };
@@ -1048,6 +1051,13 @@ async function classify() {
   await answered('try-path', async () => pathPart(await post(`/explain/${target}`, operands())));
 }
 
+// A number that the page gave is of the request as it stood: another request gets another one.
+function forgetNumber(event) {
+  const field = byId('try-form').elements.NUMBER;
+  if (event.target !== field && field.dataset.given) field.value = '';
+  delete field.dataset.given;
+}
+
 function refusal(answer, missing) {
   const words = isMissing(answer) ? missing : `The desk refused this: ${sentenceOf(answer)}.`;
   return make('div', { class: 'panel bad' }, make('p', {}, words));
@@ -1087,7 +1097,10 @@ async function allocate() {
   const job = fieldValue('JOB');
   const dsn = fieldValue('DSN');
   const field = byId('try-form').elements.NUMBER;
-  if (field.value.trim() === '') field.value = String(freshNumber(job));
+  if (field.value.trim() === '') {
+    field.value = String(freshNumber(job));
+    field.dataset.given = 'by the page';
+  }
   const isSure = await question('Allocate this data set?', [
     make('p', {}, `${job} ${field.value} ALLOC ${dsn}`), make('pre', { class: 'lines' }, operands()),
     make('p', { class: 'hint' }, 'The desk answers this once under its number, and enters it in its journal.'),
@@ -1320,8 +1333,8 @@ function showLine(line, text) {
 async function activate() {
   const text = deckText();
   const now = known.desk?.activations ?? null;
-  const fresh = known.numbers.get('deck') ?? freshNumber('SMSADMIN');
-  known.numbers.set('deck', fresh);
+  if (known.unanswered?.text !== text) known.unanswered = { text, number: freshNumber('SMSADMIN') };
+  const fresh = known.unanswered.number;
   const isSure = await question('Activate this deck?', [
     make('p', {}, `${counted(text.length, 'character')}, ${counted(text.split(LINE_END).length, 'line')}.`),
     make('p', {}, now === null ? 'Nothing is active now.' : `It takes the place of activation ${number(now)}.`),
@@ -1330,7 +1343,7 @@ async function activate() {
   if (!isSure) return;
   await answered('deck-result', async () => {
     const answer = await ask(`/admin/${fresh}/activate`, { method: 'POST', body: text });
-    known.numbers.delete('deck');
+    known.unanswered = null;
     if (!isGood(answer)) return refusal(answer, sentenceOf(answer));
     return activated(answer.body, text);
   });
@@ -1893,6 +1906,7 @@ function begin() {
   onSubmit('pool-find', () => goTo(hashOf('volume', capitals(byId('pool-volser').value))));
   onSubmit('sets-find', () => goTo(byId('sets-mask').value.trim() === '' ? '#sets' : hashOf('sets', capitals(byId('sets-mask').value))));
   onSubmit('try-form', classify);
+  byId('try-form').addEventListener('input', forgetNumber);
   onSubmit('deck-form', check);
   onSubmit('answers-find', drawAnswers);
   byId('try-allocate').addEventListener('click', allocate);
