@@ -5,7 +5,7 @@ usage: tools/mock_desk.py PORT [--state FILE] [--load] [--without ROUTE[,ROUTE..
 
 The page's three files are read anew for each question, so who changes them sees it at once. With a FILE the state is
 kept there over an end; --load begins with 1,024 volumes and 20,000 data sets; a ROUTE, as answers, classify, check,
-classes, deck, explain or tracks (of a volume), is one that this desk doesn't have. What it answers shows the forms of
+deck, explain or tracks (of a volume), is one that this desk doesn't have. What it answers shows the forms of
 the answers, and not the rules of the desk: its routines are read line by line, and a volume grants from its first gap.
 """
 import http.server
@@ -387,8 +387,6 @@ class Clerk(http.server.BaseHTTPRequestHandler):
             self.tell(desk.named(mask, after))
         elif word == "set" and parts:
             self.tell(desk.sets.get(parts[0]), "no data set of this name is catalogued")
-        elif word == "classes" and self.has(word):
-            self.tell(desk.deck.classes if desk.deck else {})
         elif word == "answers" and self.has(word):
             names = ("place", "first", "job", "number", "code", "asked", "name")
             self.tell({"answers": [{name: entry[name] for name in names} for entry in desk.entries[:-201:-1]]})

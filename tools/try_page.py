@@ -250,7 +250,7 @@ class Browser:
     def text(self, selector):
         return self.run(f"{seen(selector)}.join('\\n')")
 
-    def wait(self, condition, what, seconds=12):
+    def wait(self, condition, what, seconds=30):
         end = time.time() + seconds
         while time.time() < end:
             if self.run(f"Boolean({condition})"):
@@ -259,7 +259,7 @@ class Browser:
         check(False, f"{what} (waited {seconds} s for {condition})")
         return False
 
-    def sees(self, selector, words, seconds=12):
+    def sees(self, selector, words, seconds=30):
         if not self.wait(f"{seen(selector)}.join(' ').includes({json.dumps(words)})", f"{selector} shows {words!r}", seconds):
             print(f"         it shows {self.text(selector)[:300]!r}; {self.faults}")
 
@@ -530,6 +530,10 @@ def step_try(browser, desk):
 def step_faulty_decks(browser, desk, folder):
     go(browser, "#deck", "#deck-text")
     faults = (("faulty.toml", FAULTY, "R21", "high = 180", "K4"), ("routine.toml", WRONG_ROUTINE, "R21", "SET &MGMTCLAS 'MCPROD'", "K7"),
+              ("broken.toml", DECK.replace('"SYSA"', '"SYSA'), "R21", 'system = "SYSA', "K1"),
+              ("lacking.toml", DECK.replace("tracks = 800", ""), "R21", "[storgroup.SGPROD.volume.PRD003]", "K3"),
+              ("twice.toml", DECK.replace("[storgroup.SGSPILL.volume.SPL001]", "[storgroup.SGSPILL.volume.PRD001]"), "R21", "[storgroup.SGSPILL.volume.PRD001]", "K6"),
+              ("unknown.toml", DECK.replace("= 'SCSTD'", "= 'SCNONE'"), "R21", "SET &STORCLAS = 'SCNONE'", "K8"),
               ("smaller.toml", SMALLER, "R22", None, None), ("html.toml", "version = 1\nx = '<img src=x>'\n", "R21", "x = '<img src=x>'", "K2"))
     if not desk.has("POST", "/check", FAULTY):
         faults = ()
@@ -809,7 +813,7 @@ def main(words):
         step_views(browser, pictures, folder)
         ends(browser, "the views")
         desk.kill()
-        bare = mock(folder, port + 1, "--without", "answers,classify,check,classes,deck,explain,tracks")
+        bare = mock(folder, port + 1, "--without", "answers,classify,check,deck,explain,tracks")
         bare.begin()
         step_without(browser, bare)
         ends(browser, "a desk without routes")
@@ -826,6 +830,7 @@ def main(words):
 
 
 if __name__ == "__main__":
+    signal.signal(signal.SIGTERM, lambda *_: sys.exit(1))
     if "--help" in sys.argv or "-h" in sys.argv:
         sys.exit(__doc__)
     sys.exit(main(sys.argv[1:]))

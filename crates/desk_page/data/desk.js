@@ -59,7 +59,6 @@ const FAULTS = {
 };
 
 const STATUS_WORDS = {
-  ENABLE: 'enabled',
   NOTCON: 'not connected',
   DISALL: 'disabled',
   DISNEW: 'disabled for new data sets',
@@ -258,6 +257,7 @@ const known = {
   desk: null, // what /desk answered last
   text: null, // its text
   gone: false,
+  answers: [], // the last entries, newest first
   lastPlace: 0, // the greatest place of an entry that was seen
   load: 0, // the number of the last load; an older one's answers are dropped
   place: { view: 'pool', parts: [] },
@@ -327,7 +327,10 @@ async function newsSince(before, now) {
   const fresh = entries.filter((entry) => entry.place > last);
   const areAll = before !== null && now.entries > before.entries && fresh.length >= now.entries - before.entries;
   if (!areAll) return { changed: true, freed: true };
-  return { changed: fresh.some((entry) => CHANGING.has(entry.code)), freed: fresh.some((entry) => FREEING.has(entry.code)) };
+  return {
+    changed: fresh.some((entry) => CHANGING.has(entry.code)),
+    freed: fresh.some((entry) => FREEING.has(entry.code)),
+  };
 }
 
 // The same; a desk that is gone is marked.
@@ -343,7 +346,8 @@ async function lookSoon() {
 function markGone() {
   known.gone = true;
   byId('gone').hidden = false;
-  setText(byId('gone'), 'The desk is gone: what is shown is what it told last. It is asked again every two seconds.');
+  setText(byId('gone'), 'The desk is gone: what is shown is what it told last. '
+    + 'It is asked again every two seconds.');
   setText(byId('standing'), 'The desk is gone');
   byId('standing').className = 'standing bad';
 }
@@ -352,7 +356,8 @@ function markBack() {
   const { activations, entries, volumes } = known.desk;
   byId('gone').hidden = true;
   const active = activations === null ? 'nothing active' : `activation ${number(activations)}`;
-  setText(byId('standing'), `Connected: ${active}, ${counted(volumes, 'volume')}, ${counted(entries, 'entry', 'entries')}`);
+  const counts = `${counted(volumes, 'volume')}, ${counted(entries, 'entry', 'entries')}`;
+  setText(byId('standing'), `Connected: ${active}, ${counts}`);
   byId('standing').className = 'standing good';
 }
 
@@ -505,9 +510,9 @@ function mark(name, at, top) {
 }
 
 function statusChip(status) {
-  const name = status.toLowerCase();
-  return make('span', { class: `chip status ${name}`, title: STATUS_WORDS[status] ?? status },
-    make('span', { 'class': 'swatch', 'aria-hidden': 'true' }), status === 'ENABLE' ? status : `${status}: ${STATUS_WORDS[status] ?? ''}`);
+  const words = status in STATUS_WORDS ? `${status}: ${STATUS_WORDS[status]}` : status;
+  return make('span', { class: `chip status ${status.toLowerCase()}` },
+    make('span', { 'class': 'swatch', 'aria-hidden': 'true' }), words);
 }
 
 // The volumes of an opened storage group that fit the filter, a page of them.
@@ -533,8 +538,9 @@ function volumesBar(group, filter, all, fitting, at, pages) {
   const count = fitting === all ? counted(all, 'volume') : `${number(fitting)} of ${counted(all, 'volume')}`;
   const from = (at - 1) * VOLUMES_SHOWN + 1;
   const to = Math.min(fitting, at * VOLUMES_SHOWN);
+  const label = make('label', {}, 'Serial begins with ', field);
   return make('div', { class: 'row' },
-    make('form', { class: 'find', submit }, make('label', {}, 'Serial begins with ', field), make('button', {}, 'Filter')),
+    make('form', { class: 'find', submit }, label, make('button', {}, 'Filter')),
     make('span', { class: 'muted' }, fitting > 0 ? `${count}, ${number(from)} to ${number(to)} shown` : count),
     pages > 1 ? pager(at, pages, (next) => hashOf('pool', group, filter, String(next))) : null,
     legend());
@@ -565,8 +571,9 @@ function volumePanel(row) {
     make('span', { class: 'fact muted longest' }));
   const place = make('div', { 'class': 'strips', 'data-strips': row.volser, 'data-row': JSON.stringify(row),
     'data-status': row.status });
-  const panel = make('section', { 'class': 'volume', 'data-volume': row.volser, 'aria-label': `Volume ${row.volser}` },
-    facts, place);
+  const panel = make('section', {
+    'class': 'volume', 'data-volume': row.volser, 'aria-label': `Volume ${row.volser}`,
+  }, facts, place);
   const kept = known.volumes.get(row.volser);
   if (kept) fillStrips(place, kept.answer);
   return panel;
@@ -673,8 +680,8 @@ function stripOf(place, volume, part, isOneOfTwo) {
   const strip = { key, canvas, told, part, volume, status: place.dataset.status, marked: place.dataset.marked };
   listen(strip);
   canvas.strip = strip;
-  const caption = isOneOfTwo
-    ? make('p', { class: 'caption' }, `${part.name}, tracks ${number(part.start)} to ${number(part.end - 1)}`) : null;
+  const words = `${part.name}, tracks ${number(part.start)} to ${number(part.end - 1)}`;
+  const caption = isOneOfTwo ? make('p', { class: 'caption' }, words) : null;
   tell(strip);
   return make('div', { class: 'strip-of-part' }, caption, canvas, told);
 }
@@ -763,10 +770,9 @@ function paint(strip) {
   brush.fillRect(0, 0, width, height);
   paintPattern(brush, strip.status, width, height, scale, colors.pattern);
   const factor = width / (part.end - part.start);
-  paintCoverage(brush, coverage(part, factor, width, (piece) => piece.dsn !== null), height, colors.used);
-  if (strip.marked) {
-    paintCoverage(brush, coverage(part, factor, width, (piece) => piece.dsn === strip.marked), height, colors.marked);
-  }
+  const fill = (counts, color) => paintCoverage(brush, coverage(part, factor, width, counts), height, color);
+  fill((piece) => piece.dsn !== null, colors.used);
+  if (strip.marked) fill((piece) => piece.dsn === strip.marked, colors.marked);
   paintEdges(brush, part, factor, height, scale, colors.free);
   const at = known.focus.get(strip.key);
   if (at !== undefined && part.pieces[at]) frame(brush, part, part.pieces[at], factor, height, scale, colors.ink);
@@ -839,8 +845,8 @@ function paintPattern(brush, status, width, height, scale, color) {
   brush.strokeStyle = color;
   brush.fillStyle = color;
   brush.lineWidth = scale;
-  if (status === 'QUIALL' || status === 'QUINEW') paintDots(brush, width, height, 6 * scale, scale);
-  if (status === 'DISALL' || status === 'DISNEW' || status === 'NOTCON') paintLines(brush, width, height, 7 * scale);
+  if (['QUIALL', 'QUINEW'].includes(status)) paintDots(brush, width, height, 6 * scale, scale);
+  if (['DISALL', 'DISNEW', 'NOTCON'].includes(status)) paintLines(brush, width, height, 7 * scale);
 }
 
 function paintDots(brush, width, height, step, scale) {
@@ -888,6 +894,10 @@ async function loadSets([mask = '', , after = ''], load) {
   replace(byId('sets-list'), isGood(answer) ? setsPage(answer.body, mask, after) : []);
 }
 
+function hashOfMask(mask) {
+  return mask === '' ? '#sets' : hashOf('sets', mask);
+}
+
 function setsPath(mask, after) {
   if (mask === '' && after === '') return '/sets';
   const front = `/sets/${segment(mask || '**')}`;
@@ -899,12 +909,13 @@ function setsPage({ sets, after }, mask, begins) {
   const where = begins === '' ? '' : ` behind ${begins}`;
   const words = rows.length > 0 ? `${counted(rows.length, 'data set')} shown${where}` : '';
   const first = make('button', { 'type': 'button', 'disabled': begins === '', 'data-key': 'first',
-    'click': () => goTo(mask === '' ? '#sets' : hashOf('sets', mask)) }, 'First');
+    'click': () => goTo(hashOfMask(mask)) }, 'First');
   const next = make('button', { 'type': 'button', 'disabled': !after, 'data-key': 'next',
     'click': () => goTo(hashOf('sets', mask, 'after', after)) }, 'Next');
   const none = after ? 'None of the data sets looked at fits; go on with Next.' : 'No data set fits.';
+  const pages = make('span', { class: 'pager' }, first, next);
   return [
-    make('div', { class: 'row' }, make('span', { class: 'muted' }, words), make('span', { class: 'pager' }, first, next)),
+    make('div', { class: 'row' }, make('span', { class: 'muted' }, words), pages),
     rows.length > 0 ? table('sets stacked', SET_COLUMNS, rows) : empty(none),
   ];
 }
@@ -951,11 +962,11 @@ function setDetail(set) {
     number(at + 1), link(hashOf('volume', extent.volser), extent.volser), number(extent.start),
     number(extent.start + extent.tracks - 1), number(extent.tracks),
   ])));
+  const some = `The first ${STRIPS_OF_A_SET} of ${counted(volumes.length, 'volume')} are drawn.`;
   return [
     make('div', { class: 'panel' }, factList(setFacts(set))),
     make('h3', {}, 'Extents'), table('extents', EXTENT_COLUMNS, rows),
-    volumes.length > STRIPS_OF_A_SET
-      ? make('p', { class: 'hint' }, `The first ${STRIPS_OF_A_SET} of ${counted(volumes.length, 'volume')} are drawn.`) : null,
+    volumes.length > STRIPS_OF_A_SET ? make('p', { class: 'hint' }, some) : null,
     volumes.slice(0, STRIPS_OF_A_SET).map((volser) => setStrips(volser, set.dsn)),
   ];
 }
@@ -999,11 +1010,15 @@ function makeFields() {
 }
 
 function fieldOf({ name, label, size, value = '', choices, wide, hint }) {
-  const field = choices
-    ? make('select', { name }, choices.map((choice) => make('option', {}, choice)))
-    : make('input', { name, value, maxlength: size, size: Math.min(size, 20), spellcheck: 'false', placeholder: hint });
+  const field = choices ? choiceOf(name, choices) : make('input', {
+    name, value, maxlength: size, size: Math.min(size, 20), spellcheck: 'false', placeholder: hint,
+  });
   const isWide = wide || size > 10;
   return make('label', { class: isWide ? 'field wide' : 'field' }, make('span', {}, label), field);
+}
+
+function choiceOf(name, choices) {
+  return make('select', { name }, choices.map((choice) => make('option', {}, choice)));
 }
 
 function fieldValue(name) {
@@ -1036,7 +1051,7 @@ async function answered(place, work) {
     if (!(error instanceof Gone)) throw error;
     markGone();
     replace(byId(place), make('div', { class: 'panel bad' }, make('p', {}, 'The desk is gone, and gave no answer. '
-      + 'Ask again when it is back: a request that it has answered already acts no second time under the same number.')));
+      + 'Ask again when it is back: what it has answered already acts no second time under the same number.')));
   }
 }
 
@@ -1089,7 +1104,11 @@ function outcomeSentence(verb, words) {
 
 function linesPart(lines) {
   if (lines.length === 0) return make('p', { class: 'muted' }, 'The routines wrote no line.');
-  return [make('h4', {}, 'Lines'), make('pre', { class: 'lines' }, lines.map((line) => line.trim()).join(LINE_END))];
+  return [make('h4', {}, 'Lines'), linesOf(lines)];
+}
+
+function linesOf(lines) {
+  return make('pre', { class: 'lines' }, lines.map((line) => line.trim()).join(LINE_END));
 }
 
 // Allocates, behind a question; the number stays until an answer has come.
@@ -1108,7 +1127,8 @@ async function allocate() {
   if (!isSure) return;
   replace(byId('try-path'));
   await answered('try-result', async () => {
-    const answer = await post(`/job/${segment(job)}/${segment(field.value.trim())}/alloc/${segment(dsn)}`, operands());
+    const asking = `/job/${segment(job)}/${segment(field.value.trim())}`;
+    const answer = await post(`${asking}/alloc/${segment(dsn)}`, operands());
     if (!isGood(answer)) return refusal(answer, sentenceOf(answer));
     field.value = '';
     return replyPanel(answer.body, dsn);
@@ -1123,7 +1143,7 @@ function replyPanel(body, dsn) {
     make('p', { class: 'code-line' }, list(body.lines)[0] ?? body.code),
     make('p', {}, `${sentence(MEANINGS[body.code] ?? 'this code is not known to the page')} `
       + `It stands at place ${number(body.place)} of the journal.`),
-    list(body.lines).length > 1 ? make('pre', { class: 'lines' }, body.lines.slice(1).map((it) => it.trim()).join(LINE_END)) : null,
+    list(body.lines).length > 1 ? linesOf(body.lines.slice(1)) : null,
     granted ? make('p', {}, link(hashOf('set', dsn), `Open ${dsn}`)) : null);
 }
 
@@ -1136,7 +1156,8 @@ function sentence(words) {
 async function pathPart(answer) {
   const title = make('h3', {}, 'Path through the routines');
   if (!isGood(answer)) {
-    const missing = 'This desk does not show the path through the routines; smsc explain tells it of a deck and a script.';
+    const missing = 'This desk does not show the path through the routines; '
+      + 'smsc explain tells it of a deck and a script.';
     return [title, empty(isMissing(answer) ? missing : sentenceOf(answer))];
   }
   const text = await activeDeck();
@@ -1175,14 +1196,15 @@ function eventOf(text) {
 function storyPanel(story, deck) {
   const source = deck?.entries.get(`routine.${KINDS[story.kind]}`)?.value;
   const body = typeof source === 'string' ? markedSource(source, story.events) : plainEvents(story.events);
+  const words = (text) => make('p', { class: 'muted' }, text);
   return make('section', { 'class': 'panel story', 'data-story': story.kind }, make('h4', {}, story.kind),
-    make('p', { class: 'muted' }, `Begins: ${story.begin}`), body, make('p', { class: 'muted' }, `Ends: ${story.end}`));
+    words(`Begins: ${story.begin}`), body, words(`Ends: ${story.end}`));
 }
 
 function plainEvents(events) {
-  const lines = events.map((event) => (event.line === null ? event.text : `${event.line}:${event.column} ${event.text}`));
+  const placeOfEvent = ({ line, column }) => (line === null ? '' : `${line}:${column} `);
   return [make('p', { class: 'hint' }, 'This desk does not show the text of the active routines.'),
-    make('pre', { class: 'lines' }, lines.join(LINE_END))];
+    linesOf(events.map((event) => `${placeOfEvent(event)}${event.text}`))];
 }
 
 // The text of a routine, with the statements that ran marked and what was compared and set beside them. Of lines
@@ -1270,8 +1292,8 @@ async function check() {
   const text = deckText();
   await answered('deck-result', async () => {
     const answer = await ask('/check', { method: 'POST', body: text });
-    const parts = isGood(answer) ? checkParts(answer.body, text) : [refusal(answer, 'This desk does not check decks.')];
-    return [...parts, await difference(text)];
+    const missing = 'This desk does not check decks.';
+    return [isGood(answer) ? checkParts(answer.body, text) : refusal(answer, missing), await difference(text)];
   });
 }
 
@@ -1283,10 +1305,11 @@ function firstLine(body) {
 function checkParts(body, text) {
   const line = firstLine(body);
   const code = body.code;
-  const fault = code === 'R21' ? faultOf(line, body, text) : null;
+  const fault = code === 'R21' ? faultOf(line, text) : null;
   numberLines(fault?.line ?? null);
   if (fault?.line) showLine(fault.line, text);
-  const words = code === 'A04' ? 'This deck would be active.' : `This deck would be refused: ${MEANINGS[code] ?? 'see the code'}.`;
+  const refused = `This deck would be refused: ${MEANINGS[code] ?? 'see the code'}.`;
+  const words = code === 'A04' ? 'This deck would be active.' : refused;
   return [make('div', { 'class': code === 'A04' ? 'panel good' : 'panel bad', 'data-code': code },
     make('p', { class: 'code-line' }, line), make('p', {}, words),
     fault ? faultPart(fault, text) : null,
@@ -1294,7 +1317,7 @@ function checkParts(body, text) {
 }
 
 function faultPart(fault, text) {
-  const where = fault.line ? `Line ${number(fault.line)}${fault.column ? `, column ${number(fault.column)}` : ''}: ` : '';
+  const where = fault.line ? `Line ${number(fault.line)}, column ${number(fault.column)}: ` : '';
   return [make('p', { class: 'fault', id: 'deck-fault' }, `${where}${fault.sentence}`),
     fault.line ? excerpt(text, fault) : null];
 }
@@ -1352,7 +1375,7 @@ async function activate() {
 
 function activated(body, text) {
   const line = firstLine(body);
-  const fault = body.code === 'R21' ? faultOf(line, body, text) : null;
+  const fault = body.code === 'R21' ? faultOf(line, text) : null;
   numberLines(fault?.line ?? null);
   return [replyPanel(body, ''), fault ? faultPart(fault, text) : null];
 }
@@ -1360,11 +1383,10 @@ function activated(body, text) {
 // ---- Where the fault of a deck lies
 
 // The fault that a reply R21 tells, with its line and column where they are found.
-function faultOf(line, body, text) {
+function faultOf(line, text) {
   const [code, ...shown] = line.replace(/^R21 DECK /, '').split(' ');
-  const told = { code, sentence: sentence(`${code}: ${FAULTS[code] ?? 'a fault'}${shown.length > 0 ? ` (${shown.join(' ')})` : ''}`) };
-  if (Number.isInteger(body.line)) return { ...told, line: body.line, column: body.column, sentence: body.sentence ?? told.sentence };
-  return { ...told, ...placeOf(code, shown, text) };
+  const place = shown.length > 0 ? ` (${shown.join(' ')})` : '';
+  return { sentence: sentence(`${code}: ${FAULTS[code] ?? 'a fault'}${place}`), ...placeOf(code, shown, text) };
 }
 
 function placeOf(code, shown, text) {
@@ -1386,13 +1408,12 @@ function keyPlace(deck, path) {
   return { line: 1, column: 1 };
 }
 
+// The second storage group in which a volume stands.
 function volumePlace(deck, volser) {
-  const places = [];
-  for (const [path, place] of [...deck.tables, ...deck.entries]) {
-    const parts = path.split('.');
-    if (parts[0] === 'storgroup' && parts[2] === 'volume' && parts[3] === volser) places.push({ group: parts[1], ...place });
-  }
-  const second = places.find((place) => place.group !== places[0].group) ?? places[0];
+  const places = [...deck.tables, ...deck.entries]
+    .map(([path, place]) => ({ parts: path.split('.'), line: place.line, column: place.column }))
+    .filter(({ parts }) => parts[0] === 'storgroup' && parts[2] === 'volume' && parts[3] === volser);
+  const second = places.find((place) => place.parts[1] !== places[0].parts[1]) ?? places[0];
   return second ? { line: second.line, column: second.column } : {};
 }
 
@@ -1416,11 +1437,14 @@ function quotedPlace(deck, [kind, name]) {
   return within(routine, Math.max(0, offset));
 }
 
+const COMMENT = '[/][*][^]*?[*][/]';
+const SIGNS = '&&|[=&^><|]=|[&^][><]|[=><|(),]';
+const TOKEN = new RegExp(`${COMMENT}|([&][A-Za-z0-9_]+|'[^']*'|[A-Za-z0-9#@$._%*-]+|${SIGNS})`, 'g');
+
 // Where the n-th token of a routine begins, counted from 0; behind the last one its end.
 function tokenStart(text, wanted) {
-  const token = /[/][*][^]*?[*][/]|(&&|[&][A-Za-z0-9_]+|'[^']*'|[A-Za-z0-9#@$._%*-]+|[=&^><|]=|[&^][><]|[=><|(),])/g;
   let at = 0;
-  for (const found of text.matchAll(token)) {
+  for (const found of text.matchAll(TOKEN)) {
     if (found[1] === undefined) continue;
     if (at === wanted) return found.index;
     at += 1;
@@ -1431,8 +1455,8 @@ function tokenStart(text, wanted) {
 // The place in the deck of a byte of a value's text.
 function within(entry, offset) {
   const front = entry.value.slice(0, offset).split(LINE_END);
-  const isFirst = front.length === 1;
-  return { line: entry.textLine + front.length - 1, column: isFirst ? entry.textColumn + offset : front.pop().length + 1 };
+  const line = entry.textLine + front.length - 1;
+  return { line, column: front.length === 1 ? entry.textColumn + offset : front.pop().length + 1 };
 }
 
 // ---- Reading a deck: its tables and keys with their places, as far as it is TOML of a deck's form
@@ -1451,12 +1475,21 @@ function readDeck(text) {
 
 class Stop extends Error {}
 
+// Where the lines of a text begin.
+function startsOf(text) {
+  const starts = [];
+  for (let end = -1, start = 0; start === 0 || end >= 0; start = end + 1) {
+    starts.push({ start });
+    end = text.indexOf(LINE_END, start);
+  }
+  return starts;
+}
+
 class DeckReader {
   constructor(text) {
     this.text = text.split(`${String.fromCharCode(13)}${LINE_END}`).join(LINE_END);
     this.at = 0;
-    this.starts = [{ start: 0 }];
-    for (let at = this.text.indexOf(LINE_END); at >= 0; at = this.text.indexOf(LINE_END, at + 1)) this.starts.push({ start: at + 1 });
+    this.starts = startsOf(this.text);
   }
 
   place(at = this.at) {
@@ -1664,74 +1697,79 @@ class DeckReader {
 async function difference(text) {
   const title = make('h3', {}, 'Difference to the active deck');
   await look();
-  if (known.desk?.activations === null) return [title, empty('Nothing is active: all of it would be new.')];
+  if (known.desk.activations === null) return [title, empty('Nothing is active: all of it would be new.')];
   const deck = readDeck(text);
-  if (deck.stop) return [title, empty(`The deck can be read up to line ${number(deck.stop.line)}: nothing is compared.`)];
+  const unread = `The deck can be read up to line ${number(deck.stop?.line)}: nothing is compared.`;
+  if (deck.stop) return [title, empty(unread)];
   const active = await activeDeck();
-  if (active !== null) return [title, ...wholeDifference(readDeck(active), deck)];
-  const shown = await shownConfiguration();
-  const hint = 'Storage groups, volumes, their tracks and classes are compared, as far as this desk shows them. '
-    + 'It does not show the active deck, so the routines and other attributes are not.';
-  return [title, differenceTable(shown.parts, describe(deck, false, shown.kinds)), make('p', { class: 'hint' }, hint)];
+  return [title, active === null ? await shownDifference(deck) : wholeDifference(readDeck(active), deck)];
 }
 
 function wholeDifference(active, deck) {
   return [differenceTable(describe(active, true), describe(deck, true)), routineChanges(active, deck)];
 }
 
-const DEVICES = { '3390-3': 50085, '3390-9': 150255 };
-const CLASS_KINDS = { dataclass: 'data class', storclass: 'storage class', mgmtclass: 'management class' };
-
-// What a deck has, by name: volumes with their storage group and tracks, and with all attributes where they are wanted.
-function describe(deck, isWhole, kinds = null) {
+// The difference to what the pages of storage groups and volumes show.
+async function shownDifference(deck) {
+  const [groups, volumes] = await Promise.all([ask('/groups'), ask('/volumes')]);
   const parts = new Map();
-  for (const [kind, name, under, volser] of pathsOf(deck)) {
-    if (kind === 'storgroup' && under === 'volume') parts.set(`volume ${volser}`, volumeWords(deck, name, volser, isWhole));
-    else if (kind === 'storgroup') parts.set(`storage group ${name}`, isWhole ? attributes(deck, [kind, name]) : '');
-    else if (isWhole || kinds?.has(kind)) parts.set(`${CLASS_KINDS[kind]} ${name}`, isWhole ? attributes(deck, [kind, name]) : '');
+  for (const { group } of list(groups.body?.groups)) parts.set(`storage group ${group}`, '');
+  for (const { volser, group, capacity } of list(volumes.body?.volumes)) {
+    parts.set(`volume ${volser}`, `${group}, ${number(capacity)} tracks`);
   }
-  if (isWhole) for (const key of ['system', 'sysplex']) if (deck.entries.has(key)) parts.set(key, String(deck.entries.get(key).value));
+  const hint = 'Storage groups and volumes with their tracks are compared. This desk does not show '
+    + 'the active deck, so its classes, its routines and other attributes are not.';
+  return [differenceTable(parts, describe(deck, false)), make('p', { class: 'hint' }, hint)];
+}
+
+const DEVICES = { '3390-3': 50085, '3390-9': 150255 };
+const KIND_WORDS = {
+  dataclass: 'data class',
+  storclass: 'storage class',
+  mgmtclass: 'management class',
+  storgroup: 'storage group',
+};
+
+// What a deck has, by name: volumes with storage group and tracks; as a whole, all else with its attributes.
+function describe(deck, isWhole) {
+  const parts = new Map();
+  for (const path of pathsOf(deck)) {
+    const [kind, name, , volser] = path;
+    if (volser) parts.set(`volume ${volser}`, volumeWords(deck, name, volser, isWhole));
+    else if (isWhole) parts.set(`${KIND_WORDS[kind]} ${name}`, attributes(deck, path));
+    else if (kind === 'storgroup') parts.set(`storage group ${name}`, '');
+  }
+  for (const key of isWhole ? ['system', 'sysplex'] : []) {
+    if (deck.entries.has(key)) parts.set(key, String(deck.entries.get(key).value));
+  }
   return parts;
 }
 
 // The paths of a deck's classes, storage groups and volumes, each once.
 function pathsOf(deck) {
   const paths = new Map();
+  const put = (parts) => paths.set(parts.join('.'), parts);
   for (const path of [...deck.tables.keys(), ...deck.entries.keys()]) {
     const parts = path.split('.');
-    if (parts.length < 2 || !(parts[0] === 'storgroup' || parts[0] in CLASS_KINDS)) continue;
-    paths.set(parts.slice(0, 2).join('.'), parts.slice(0, 2));
-    if (parts[0] === 'storgroup' && parts[2] === 'volume' && parts.length > 3) paths.set(parts.slice(0, 4).join('.'), parts.slice(0, 4));
+    if (parts.length < 2 || !(parts[0] in KIND_WORDS)) continue;
+    put(parts.slice(0, 2));
+    if (parts[0] === 'storgroup' && parts[2] === 'volume' && parts.length > 3) put(parts.slice(0, 4));
   }
   return paths.values();
 }
 
 function attributes(deck, path) {
   const front = `${path.join('.')}.`;
-  const own = [...deck.entries].filter(([name]) => name.startsWith(front) && !name.slice(front.length).includes('.'));
-  return own.map(([name, entry]) => `${name.slice(front.length)} ${entry.value}`).sort().join(', ');
+  const isOwn = ([name]) => name.startsWith(front) && !name.slice(front.length).includes('.');
+  const words = ([name, entry]) => `${name.slice(front.length)} ${entry.value}`;
+  return [...deck.entries].filter(isOwn).map(words).sort().join(', ');
 }
 
 function volumeWords(deck, group, volser, isWhole) {
-  const at = `storgroup.${group}.volume.${volser}`;
-  const value = (key) => deck.entries.get(`${at}.${key}`)?.value;
-  const tracks = value('tracks') ?? (value('cylinders') === undefined ? DEVICES[value('device')] : value('cylinders') * 15);
+  const value = (key) => deck.entries.get(`storgroup.${group}.volume.${volser}.${key}`)?.value;
+  const tracks = value('tracks') ?? DEVICES[value('device')] ?? value('cylinders') * 15;
   const status = isWhole && value('status') ? `, at first ${value('status')}` : '';
   return `${group}, ${number(tracks)} tracks${status}`;
-}
-
-async function shownConfiguration() {
-  const [groups, volumes, classes] = await Promise.all([ask('/groups'), ask('/volumes'), ask('/classes')]);
-  const parts = new Map();
-  for (const { group } of list(groups.body?.groups)) parts.set(`storage group ${group}`, '');
-  for (const row of list(volumes.body?.volumes)) parts.set(`volume ${row.volser}`, `${row.group}, ${number(row.capacity)} tracks`);
-  const kinds = new Set();
-  for (const [kind, words] of Object.entries(CLASS_KINDS)) {
-    if (!isGood(classes) || !Array.isArray(classes.body[kind])) continue;
-    kinds.add(kind);
-    for (const it of classes.body[kind]) parts.set(`${words} ${it.name ?? it}`, '');
-  }
-  return { parts, kinds };
 }
 
 const CHANGE_COLUMNS = [{ title: 'What' }, { title: 'Change' }, { title: 'Active' }, { title: 'This deck' }];
@@ -1744,11 +1782,15 @@ function differenceTable(old, fresh) {
     else if (fresh.get(name) !== words) changes.push([name, 'changed', words, fresh.get(name)]);
   }
   for (const [name, words] of fresh) if (!old.has(name)) changes.push([name, 'new', null, words]);
-  if (changes.length === 0) return make('p', { class: 'empty', id: 'deck-difference' }, 'Nothing differs of what is compared.');
-  const rows = changes.slice(0, CHANGES_SHOWN).map((change) =>
-    make('tr', { class: `change ${change[1]}` }, cells(CHANGE_COLUMNS, change.map((it) => (it === '' ? 'is there' : it)))));
-  return make('div', { id: 'deck-difference' }, make('p', { class: 'muted' }, changeCounts(changes)),
-    table('changes stacked', CHANGE_COLUMNS, rows));
+  const place = (...children) => make('div', { id: 'deck-difference' }, children);
+  if (changes.length === 0) return place(empty('Nothing differs of what is compared.'));
+  return place(make('p', { class: 'muted' }, changeCounts(changes)),
+    table('changes stacked', CHANGE_COLUMNS, changes.slice(0, CHANGES_SHOWN).map(changeRow)));
+}
+
+function changeRow(change) {
+  const values = change.map((words) => (words === '' ? 'is there' : words));
+  return make('tr', { class: `change ${change[1]}` }, cells(CHANGE_COLUMNS, values));
 }
 
 function changeCounts(changes) {
@@ -1772,7 +1814,8 @@ function routineChange(kind, old, fresh) {
   let front = 0;
   while (front < old.length && front < fresh.length && old[front] === fresh[front]) front += 1;
   let end = 0;
-  while (end < Math.min(old.length, fresh.length) - front && old[old.length - 1 - end] === fresh[fresh.length - 1 - end]) end += 1;
+  const most = Math.min(old.length, fresh.length) - front;
+  while (end < most && old[old.length - 1 - end] === fresh[fresh.length - 1 - end]) end += 1;
   return make('section', { class: 'panel' }, make('h4', {}, `${kind}, from line ${number(front + 1)} on`),
     make('ol', { class: 'lines-changed' },
       changedLines(old.slice(front, old.length - end), '-', 'gone'),
@@ -1780,7 +1823,8 @@ function routineChange(kind, old, fresh) {
 }
 
 function changedLines(lines, sign, name) {
-  const shown = lines.slice(0, CHANGES_SHOWN).map((text) => make('li', { class: name }, make('code', {}, `${sign} ${text}`)));
+  const line = (text) => make('li', { class: name }, make('code', {}, `${sign} ${text}`));
+  const shown = lines.slice(0, CHANGES_SHOWN).map(line);
   const more = lines.length - shown.length;
   return more > 0 ? [shown, make('li', { class: 'left-out' }, `${counted(more, 'further line')} ${name}`)] : shown;
 }
@@ -1813,14 +1857,19 @@ function drawAnswers() {
   const value = (name) => capitals(byId(`answers-${name}`).value);
   const fits = (entry) => entry.job.startsWith(value('job')) && entry.code.startsWith(value('code'))
     && (value('number') === '' || String(entry.number) === value('number'));
-  const shown = (known.answers ?? []).filter(fits);
-  setText(byId('answers-hint'), `Of the last ${counted((known.answers ?? []).length, 'entry', 'entries')} of the journal, newest first: ${number(shown.length)} shown.`);
+  const shown = known.answers.filter(fits);
+  const all = counted(known.answers.length, 'entry', 'entries');
+  setText(byId('answers-hint'), `Of the last ${all} of the journal, newest first: ${number(shown.length)} shown.`);
   replace(byId('answers-list'), shown.length > 0 ? answersTable(shown) : empty('No entry fits.'));
 }
 
 function answersTable(entries) {
-  return table('answers stacked', ANSWER_COLUMNS, entries.map((entry) =>
-    make('tr', { class: entry.code.startsWith('A') ? 'fine' : 'refused' }, cells(ANSWER_COLUMNS, answerValues(entry)))));
+  return table('answers stacked', ANSWER_COLUMNS, entries.map(answerRow));
+}
+
+function answerRow(entry) {
+  const name = entry.code.startsWith('A') ? 'fine' : 'refused';
+  return make('tr', { class: name }, cells(ANSWER_COLUMNS, answerValues(entry)));
 }
 
 function answerValues({ place, first, job, number: given, code, asked, name }) {
@@ -1904,7 +1953,7 @@ function takesFiles(place) {
 function begin() {
   makeFields();
   onSubmit('pool-find', () => goTo(hashOf('volume', capitals(byId('pool-volser').value))));
-  onSubmit('sets-find', () => goTo(byId('sets-mask').value.trim() === '' ? '#sets' : hashOf('sets', capitals(byId('sets-mask').value))));
+  onSubmit('sets-find', () => goTo(hashOfMask(capitals(byId('sets-mask').value))));
   onSubmit('try-form', classify);
   byId('try-form').addEventListener('input', forgetNumber);
   onSubmit('deck-form', check);
