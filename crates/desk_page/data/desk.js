@@ -1477,10 +1477,9 @@ class Stop extends Error {}
 
 // Where the lines of a text begin.
 function startsOf(text) {
-  const starts = [];
-  for (let end = -1, start = 0; start === 0 || end >= 0; start = end + 1) {
-    starts.push({ start });
-    end = text.indexOf(LINE_END, start);
+  const starts = [{ start: 0 }];
+  for (let at = 0; at < text.length; at += 1) {
+    if (text[at] === LINE_END) starts.push({ start: at + 1 });
   }
   return starts;
 }
