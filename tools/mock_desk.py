@@ -18,7 +18,7 @@ import tomllib
 from urllib.parse import unquote
 
 HERE = os.path.dirname(os.path.abspath(__file__))
-DATA = os.path.join(HERE, "..", "crates", "desk_page", "data")
+DATA = os.path.join(HERE, "page")
 FILES = {
     "/": ("desk.html", "text/html; charset=utf-8"),
     "/desk.css": ("desk.css", "text/css; charset=utf-8"),

@@ -766,7 +766,7 @@ def step_without(browser, desk):
 
 
 def step_ascii():
-    data = os.path.join(HERE, "..", "crates", "desk_page", "data")
+    data = os.path.join(HERE, "page")
     total = 0
     for name in ("desk.html", "desk.css", "desk.js"):
         with open(os.path.join(data, name), "rb") as file:
