@@ -5,7 +5,7 @@ use Rattle.http_flow.proofs.answering.answer_next.Goals as goal
 
 pub returns-then-buf-start : goal.returns-then-buf-start
 returns-then-buf-start g c =
-    next_waits _ _ _ _ _ _ _ (c.in-Page.start + c.in-Page.size) refl refl refl (pends_page c.args.site.now c.args.buf.now _ c.in-Page.start c.in-Page.ensures.0 c.if-buf-start.true)
+    next_waits _ _ _ _ _ _ _ c.requires (c.in-Page.start + c.in-Page.size) refl refl refl (pends_page c.args.site.now c.args.buf.now _ c.in-Page.start c.in-Page.ensures.0 c.if-buf-start.true)
 
 pub of-requires-clause-ordered : goal.of-requires-clause-ordered
 of-requires-clause-ordered g c = c.in-Page.ensures.1.0
@@ -15,10 +15,10 @@ of-requires-clause-in_range g c = c.in-Page.ensures.1.1
 
 pub returns-then-closes : goal.returns-then-closes
 returns-then-closes g c =
-    shown_last _ _ _ _ _ _ _ c.show.result _ c.in-Page.start (take (c.in-Page.start + c.in-Page.size - c.in-Page.start) (drop c.in-Page.start c.args.buf.now)) c.in-Page.ensures.0 c.if-buf-start.false
+    shown_last _ _ _ _ _ _ _ c.requires c.show.result _ c.in-Page.start (take (c.in-Page.start + c.in-Page.size - c.in-Page.start) (drop c.in-Page.start c.args.buf.now)) c.in-Page.ensures.0 c.if-buf-start.false
     (ap (λ n. take n (drop c.in-Page.start c.args.buf.now)) (omega arith)) refl (rw c.of.ensures at c.show.ensures.ok) (sym c.is_err.ensures.value ∙ c.if-is_err.false) c.if-closes.true
 
 pub returns-else-closes : goal.returns-else-closes
 returns-else-closes g c =
-    shown_on _ _ _ _ _ _ _ c.show.result _ c.in-Page.start (take (c.in-Page.start + c.in-Page.size - c.in-Page.start) (drop c.in-Page.start c.args.buf.now)) c.in-Page.ensures.0 c.if-buf-start.false
+    shown_on _ _ _ _ _ _ _ c.requires c.show.result _ c.in-Page.start (take (c.in-Page.start + c.in-Page.size - c.in-Page.start) (drop c.in-Page.start c.args.buf.now)) c.in-Page.ensures.0 c.if-buf-start.false
     (ap (λ n. take n (drop c.in-Page.start c.args.buf.now)) (omega arith)) refl (rw c.of.ensures at c.show.ensures.ok) (sym c.is_err.ensures.value ∙ c.if-is_err.false) c.if-closes.false

@@ -1,5 +1,5 @@
 -- The core is opened from the tables of the keeper.
-use Rattle.std.proofs.Common.{◌∙◌, ap, sym}
+use Rattle.std.proofs.Common.{◌∙◌, refl, sym}
 use Rattle.sms_core.specs.Core.{CoreView}
 use Rattle.smsd_serving.specs.Epochs.{IsOpenedBehind}
 use Rattle.smsd_serving.proofs.keeping.open_clerk.Goals as goal
@@ -9,6 +9,9 @@ returns-in-Ok-clause-start g c =
     let opened = c.in-Ok.ensures in
     let own : IsOpenedBehind g.P.Keeper.told g.P.Keeper.count c.args.keeper c.in-Ok.core = record { kept = opened.kept; stands = opened.stands; opened = opened.opened; new = opened.journal; mark = opened.mark ∙ sym opened.stands } in
     rw c.new.ensures.start own
+
+pub returns-in-Ok-clause-roomy : goal.returns-in-Ok-clause-roomy
+returns-in-Ok-clause-roomy g c = rw (c.new.ensures.start, c.in-Ok.ensures.journal, c.new.ensures.talks) refl
 
 pub returns-in-Err-clause-unopened : goal.returns-in-Err-clause-unopened
 returns-in-Err-clause-unopened g c =
