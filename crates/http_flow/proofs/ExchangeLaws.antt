@@ -10,8 +10,9 @@ use Rattle.http_page.specs.Pages.{PageAsk, PageHead, HasPageHead, AsksPage}
 use Rattle.http_page.proofs.LookLaws.{one_head}
 use Rattle.http_talk.specs.Hearing.{ClerkMoment}
 use Rattle.http_talk.specs.declared.talk.Talk.{Talk}
+use Rattle.sms_construct.specs.declared.entry.Answer.{Answer}
 use Rattle.http_flow.specs.Exchange.{Basis, Exchange, talked, shown, unsaid, unheard, closes_of, text_of, talks_of, AsksDesk, AsksFor, Reads, is_closed, due_for, talks_in, FewBefore, most_due, AreShown, Heard, room_of}
-use Rattle.http_flow.specs.PageText.{page_text, status_line}
+use Rattle.http_flow.specs.PageText.{status_line}
 use Rattle.http_flow.specs.declared.page.Page.{Page}
 use Rattle.http_flow.specs.declared.page.PageStatus.{PageStatus}
 use Rattle.http_flow.specs.declared.page.PageStatus.TheVariants as statuses
@@ -72,25 +73,34 @@ due-one x = append-nil (text_of x)
 pub talks-append : (xs ys : List Exchange) → talks_in (xs ++ ys) ≡ talks_in xs ++ talks_in ys
 talks-append xs ys = flat_map-append talks_of xs ys
 
--- where nothing is due, nothing was asked
+-- each answer and each page has some bytes
+has_none : List ℕ → Bool
+has_none [] = true
+has_none (x ∷ xs) = false
+
+answer_some : (closes : Bool) (answer : Answer) → answer_text closes answer ≡ [] → ⊥
+answer_some closes answer h = let bad : false ≡ true = ap has_none h in absurd (cc bad)
+
 status_some : (status : PageStatus) (more : List ℕ) → status_line status ++ more ≡ [] → ⊥
-status_some statuses.Shown more h = absurd (cc h)
-status_some statuses.Bad more h = absurd (cc h)
-status_some statuses.Missing more h = absurd (cc h)
-status_some statuses.NotAllowed more h = absurd (cc h)
+status_some statuses.Shown more h = let bad : false ≡ true = ap has_none h in absurd (cc bad)
+status_some statuses.Bad more h = let bad : false ≡ true = ap has_none h in absurd (cc bad)
+status_some statuses.Missing more h = let bad : false ≡ true = ap has_none h in absurd (cc bad)
+status_some statuses.NotAllowed more h = let bad : false ≡ true = ap has_none h in absurd (cc bad)
 
 pub nothing_behind : (bytes more : List ℕ) → bytes ++ more ≡ [] → (bytes ≡ []) × (more ≡ [])
 nothing_behind [] more h = (refl, h)
 nothing_behind (x ∷ bytes) more h = absurd (cc h)
 
+-- where nothing is due, nothing was asked
+due_first : (x : Exchange) (xs : List Exchange) → is_closed (x ∷ xs) ≡ false → text_of x ≡ [] → ⊥
+due_first (talked talk closes) xs goes_on h = answer_some closes talk.answer h
+due_first (shown ask page closes) xs goes_on h = status_some page.status _ h
+due_first (unsaid talk closes) xs goes_on h = absurd (cc goes_on)
+due_first unheard xs goes_on h = absurd (cc goes_on)
+
 pub due_none : (xs : List Exchange) → is_closed xs ≡ false → due_for xs ≡ [] → xs ≡ []
 due_none [] goes_on h = refl
-due_none (talked talk closes ∷ xs) goes_on h =
-    let text : answer_text closes talk.answer ≡ [] = (nothing_behind (answer_text closes talk.answer) (due_for xs) h).0 in absurd (cc text)
-due_none (shown ask page closes ∷ xs) goes_on h =
-    let text : page_text page closes ≡ [] = (nothing_behind (page_text page closes) (due_for xs) h).0 in absurd (status_some page.status _ text)
-due_none (unsaid talk closes ∷ xs) goes_on h = absurd (cc goes_on)
-due_none (unheard ∷ xs) goes_on h = absurd (cc goes_on)
+due_none (x ∷ xs) goes_on h = absurd (due_first x xs goes_on (nothing_behind (text_of x) (due_for xs) h).0)
 
 -- few bytes were due before the last one
 pub few_more : (before : List ℕ) (xs zs : List Exchange) → length (before ++ due_for xs) < most_due → length zs ≤ 1 → FewBefore before (xs ++ zs)
