@@ -89,14 +89,14 @@ status_some statuses.NotAllowed more h = let bad : false ≡ true = ap has_none 
 
 pub nothing_behind : (bytes more : List ℕ) → bytes ++ more ≡ [] → (bytes ≡ []) × (more ≡ [])
 nothing_behind [] more h = (refl, h)
-nothing_behind (x ∷ bytes) more h = absurd (cc h)
+nothing_behind (x ∷ bytes) more h = let bad : x ∷ (bytes ++ more) ≡ [] = h in absurd (cc bad)
 
 -- where nothing is due, nothing was asked
 due_first : (x : Exchange) (xs : List Exchange) → is_closed (x ∷ xs) ≡ false → text_of x ≡ [] → ⊥
 due_first (talked talk closes) xs goes_on h = answer_some closes talk.answer h
 due_first (shown ask page closes) xs goes_on h = status_some page.status _ h
-due_first (unsaid talk closes) xs goes_on h = absurd (cc goes_on)
-due_first unheard xs goes_on h = absurd (cc goes_on)
+due_first (unsaid talk closes) xs goes_on h = let bad : true ≡ false = goes_on in absurd (cc bad)
+due_first unheard xs goes_on h = let bad : true ≡ false = goes_on in absurd (cc bad)
 
 pub due_none : (xs : List Exchange) → is_closed xs ≡ false → due_for xs ≡ [] → xs ≡ []
 due_none [] goes_on h = refl

@@ -30,9 +30,6 @@ impl Draws {
     /// One of the words, or none of no words.
     pub fn one_of(&mut self, words: &[&'static str]) -> &'static str {
         let at = self.size(words.len() as u64);
-        match words.get(at) {
-            Some(word) => word,
-            None => "",
-        }
+        words.get(at).copied().unwrap_or("")
     }
 }

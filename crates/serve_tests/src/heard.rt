@@ -5,12 +5,14 @@ use page_text::push_said_refusal;
 use sms_construct::Request;
 use std::alloc::{AllocError, Global};
 
-const HEALTH: &[u8] = b"GET /health HTTP/1.1\r\nHost: 127.0.0.1:8080\r\n\r\n";
+/// Asks for the page that says that the desk is served.
+pub const HEALTH: &str = "GET /health HTTP/1.1\r\nHost: 127.0.0.1:8080\r\n\r\n";
+
+/// Asks from elsewhere.
+pub const ELSEWHERE: &str = "POST /admin/1/activate HTTP/1.1\r\nHost: desk.example\r\n\r\n";
 
 const HEALTHY: &[u8] = b"HTTP/1.1 200 OK\r\nContent-Type: application/json\r\n\
     Content-Length: 15\r\nConnection: keep-alive\r\n\r\n{\"health\":\"ok\"}";
-
-const ELSEWHERE: &[u8] = b"POST /admin/1/activate HTTP/1.1\r\nHost: desk.example\r\n\r\n";
 
 const PLACE: &[u8] = b"\"place\":";
 
@@ -32,7 +34,7 @@ pub enum Asked {
 
 /// What the front of these bytes asks.
 pub fn asked_at(alloc: Global, routes: &Routes, bytes: &[u8]) -> Result<Asked, AllocError> {
-    if bytes.starts_with(HEALTH) {
+    if bytes.starts_with(HEALTH.as_bytes()) {
         let text = Vec::from_slice(alloc, HEALTHY)?;
         return Ok(Asked::Told {
             len: HEALTH.len(),
@@ -40,7 +42,7 @@ pub fn asked_at(alloc: Global, routes: &Routes, bytes: &[u8]) -> Result<Asked, A
             closes: false,
         });
     }
-    if bytes.starts_with(ELSEWHERE) {
+    if bytes.starts_with(ELSEWHERE.as_bytes()) {
         return refused(alloc, 403);
     }
     match read_message(alloc, routes, bytes)? {
@@ -109,7 +111,7 @@ impl<'a> Heard<'a> {
 
     /// The place in the next answer that it took, if it took one to its end.
     pub fn place(&self) -> Option<u64> {
-        let at = self.taken.windows(PLACE.len()).position(|word| word == PLACE)?;
+        let at = self.taken.windows(8).position(|word| word == PLACE)?;
         number_at(self.taken.get(at..)?)
     }
 
@@ -144,7 +146,7 @@ fn number_at(bytes: &[u8]) -> Option<u64> {
     let end = digits.iter().position(|byte| *byte == b'}')?;
     let mut number: u64 = 0;
     for digit in digits.get(..end)? {
-        number = number.wrapping_mul(10).wrapping_add(u64::from(digit & 15));
+        number = number.wrapping_mul(10).wrapping_add(u64::from(*digit & 15));
     }
     Some(number)
 }

@@ -63,9 +63,13 @@ impl Desk {
         Ok(text)
     }
 
-    // The desk that goes on from the tables of this one.
-    fn renewed(self, alloc: Global) -> Result<Self, AllocError> {
-        Desk::new(alloc, self.core.into_parts().0)
+    // This desk, or one that goes on from its tables.
+    fn kept(self, alloc: Global, renewed: bool) -> Result<Self, AllocError> {
+        if !renewed {
+            return Ok(self);
+        }
+        let (keeper, _) = self.core.into_parts();
+        Desk::new(alloc, keeper)
     }
 }
 
@@ -88,15 +92,14 @@ pub fn are_answered(
         }
     }
     for place in 2..MOST {
-        if fills && place % OFTEN == 0 {
-            desk = desk.renewed(alloc)?;
-        }
+        desk = desk.kept(alloc, fills && place % OFTEN == 0)?;
         settle(alloc, &routes, &mut all)?;
         if !answer_next(alloc, &routes, &mut desk, &mut all, place)? {
             break;
         }
     }
-    Ok(all.iter().all(|heard| heard.is_done()) && all.iter().filter(|heard| heard.is_cut()).count() < 2)
+    let cut = all.iter().filter(|heard| heard.is_cut()).count();
+    Ok(cut < 2 && all.iter().all(|heard| heard.is_done()))
 }
 
 // Whether it is a front of what one is told that is turned away.
@@ -108,7 +111,7 @@ fn is_front_of_away(alloc: Global, taken: &[u8]) -> Result<bool, AllocError> {
 
 // Passes over what connections were told that is no answer of the desk.
 fn settle(alloc: Global, routes: &Routes, all: &mut [Heard<'_>]) -> Result<(), AllocError> {
-    for heard in all {
+    for heard in all.iter_mut() {
         for _ in 0..MOST {
             if !heard.settles(alloc, routes)? {
                 break;
@@ -127,19 +130,31 @@ fn answer_next(
     all: &mut [Heard<'_>],
     place: u64,
 ) -> Result<bool, AllocError> {
-    for wanted in [Some(place), None] {
-        for heard in all.iter_mut() {
-            if heard.place() == wanted {
-                if let Asked::Desk {
-                    len,
-                    request,
-                    closes,
-                } = asked_at(alloc, routes, heard.rest())?
-                {
-                    let text = desk.answer(alloc, &request, closes)?;
-                    heard.take(len, &text, closes);
-                    return Ok(true);
-                }
+    if answer_one(alloc, routes, desk, all, Some(place))? {
+        return Ok(true);
+    }
+    answer_one(alloc, routes, desk, all, None)
+}
+
+// Asks the question of the first connection whose next answer has this place, or none. Says whether there is one.
+fn answer_one(
+    alloc: Global,
+    routes: &Routes,
+    desk: &mut Desk,
+    all: &mut [Heard<'_>],
+    place: Option<u64>,
+) -> Result<bool, AllocError> {
+    for heard in all.iter_mut() {
+        if heard.place() == place {
+            if let Asked::Desk {
+                len,
+                request,
+                closes,
+            } = asked_at(alloc, routes, heard.rest())?
+            {
+                let text = desk.answer(alloc, &request, closes)?;
+                heard.take(len, &text, closes);
+                return Ok(true);
             }
         }
     }

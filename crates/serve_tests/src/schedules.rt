@@ -1,6 +1,7 @@
 //! Schedules of connections that a store in memory is served to: each takes what a desk answers that is asked in the
 //! journal's order.
 use crate::draws::Draws;
+use crate::heard::{ELSEWHERE, HEALTH};
 use crate::replay::{are_answered, begun};
 use ready_wires::{Happening, MemReadiness, MemWire, Turn};
 use smsd_serving::keep_serving;
@@ -20,8 +21,6 @@ const ACTIVATIONS: u64 = 330;
 const DESK: &str = "Host: 127.0.0.1:8080\r\nContent-Length: 0\r\n\r\n";
 const LAST: &str = "Host: 127.0.0.1:8080\r\nConnection: close\r\n\r\n";
 const SPACE: &str = "Host: 127.0.0.1:8080\r\nContent-Length: 19\r\n\r\n{\"SPACE\":\"(TRK,7)\"}";
-const HEALTH: &str = "GET /health HTTP/1.1\r\nHost: 127.0.0.1:8080\r\n\r\n";
-const ELSEWHERE: &str = "POST /admin/1/activate HTTP/1.1\r\nHost: desk.example\r\n\r\n";
 
 // What a connection asks with this number.
 fn push_asked(
@@ -33,11 +32,11 @@ fn push_asked(
 ) -> Result<(), AllocError> {
     let other = draws.below(CONNECTIONS);
     let (operation, rest) = match draws.below(24) {
-        0..8 => (format!(in alloc; "alloc/A.J{who}")?, SPACE),
-        8..12 => (format!(in alloc; "extend/A.J{other}")?, DESK),
-        12..14 => (format!(in alloc; "delete/A.J{other}")?, DESK),
-        14..19 => (format!(in alloc; "display/volume/VOL001")?, DESK),
-        19..22 => return text.push_str(HEALTH),
+        0..=7 => (format!(in alloc; "alloc/A.J{who}")?, SPACE),
+        8..=11 => (format!(in alloc; "extend/A.J{other}")?, DESK),
+        12..=13 => (format!(in alloc; "delete/A.J{other}")?, DESK),
+        14..=18 => (format!(in alloc; "display/volume/VOL001")?, DESK),
+        19..=21 => return text.push_str(HEALTH),
         22 => return text.push_str(ELSEWHERE),
         _ => (format!(in alloc; "display/set/A.J{other}")?, LAST),
     };
@@ -49,7 +48,7 @@ fn push_asked(
 // All that a connection asks, the last perhaps not whole or no message.
 fn asked_by(alloc: Global, draws: &mut Draws, who: u64) -> Result<Vec<u8>, AllocError> {
     let mut text = String::new(alloc);
-    for number in 1..2 + draws.below(6) {
+    for number in 1..draws.below(6).saturating_add(2) {
         push_asked(alloc, &mut text, draws, who, number)?;
     }
     text.push_str(draws.one_of(&["", "", "POST /job", "NONE\r\n\r\n"]))?;
@@ -100,20 +99,27 @@ fn wire(
 fn events(alloc: Global, draws: &mut Draws, seed: u64) -> Result<MemReadiness, AllocError> {
     let mut script = Vec::new(alloc);
     for who in 0..CONNECTIONS {
-        let fails = who == 7 && seed % 4 == 1;
-        let bytes = match who {
-            3 if is_rare(seed) => activations(alloc)?,
-            _ => asked_by(alloc, draws, who)?,
+        let bytes = if who == 3 && is_rare(seed) {
+            activations(alloc)?
+        } else {
+            asked_by(alloc, draws, who)?
         };
+        let fails = who == 7 && seed % 4 == 1;
         script.push(Happening::Came(wire(alloc, draws, bytes, fails)?))?;
-        for _ in 0..draws.below(4) {
-            script.push(Happening::Ready(draws.size(CONNECTIONS)))?;
-        }
+        push_ready(draws, &mut script)?;
         if who == 15 && seed % 4 == 3 {
             script.push(Happening::Idle(draws.size(CONNECTIONS)))?;
         }
     }
     Ok(MemReadiness::new(alloc, script, Vec::new(alloc)))
+}
+
+// Tells of some connections as ready, of which some may be none.
+fn push_ready(draws: &mut Draws, script: &mut Vec<Happening>) -> Result<(), AllocError> {
+    for _ in 0..draws.below(4) {
+        script.push(Happening::Ready(draws.size(CONNECTIONS)))?;
+    }
+    Ok(())
 }
 
 // Whether one of the connections asks for many activations.
@@ -122,17 +128,20 @@ fn is_rare(seed: u64) -> bool {
 }
 
 // The commits that fail: two where none asks for many activations.
-fn fails(draws: &mut Draws, seed: u64) -> [u64; 2] {
+fn failing(draws: &mut Draws, seed: u64) -> [u64; 2] {
     if is_rare(seed) {
         return [u64::MAX; 2];
     }
-    [2 + draws.below(40), 2 + draws.below(40)]
+    [
+        draws.below(40).saturating_add(2),
+        draws.below(40).saturating_add(2),
+    ]
 }
 
 // Whether each connection of a schedule takes what a desk answers.
 fn is_answered(alloc: Global, seed: u64) -> Result<bool, AllocError> {
     let mut draws = Draws::new(seed);
-    let fails = fails(&mut draws, seed);
+    let fails = failing(&mut draws, seed);
     let mut poller = events(alloc, &mut draws, seed)?;
     let most = draws.size(8).saturating_add(FEWEST);
     let keeper = begun(alloc, &fails)?;
