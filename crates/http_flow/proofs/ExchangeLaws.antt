@@ -74,7 +74,7 @@ pub talks-append : (xs ys : List Exchange) → talks_in (xs ++ ys) ≡ talks_in 
 talks-append xs ys = flat_map-append talks_of xs ys
 
 -- each answer and each page has some bytes
-has_none : List ℕ → Bool
+abbrev has_none : List ℕ → Bool
 has_none [] = true
 has_none (x ∷ xs) = false
 

@@ -139,7 +139,7 @@ module _ {B : Type 0} (terms : Terms) (shows : Basis B → List Talk → PageAsk
 
   -- nothing was heard
   still : (a : ClerkMoment (Basis B)) (old new : FlowView) (piece : List ℕ) → ((came taken : List ℕ) (xs : List Exchange) → IsFlow terms came taken xs old → IsFlow terms (came ++ piece) taken (xs ++ []) new) → IsHeld a new → IsKept new → new.due ≡ old.due → length new.rest ≤ length old.rest + length piece → GoesOn terms shows a a old new piece
-  still a old new piece h held kept same shorter = record { more = []; heard = Heard-nil shows a; few = inl (inl refl); owes = ([], inl (append-nil new.due ∙ same)); held = held; said = λ open none. refl; kept = kept; shorter = shorter; flows = h }
+  still a old new piece h held kept same shorter = record { more = []; heard = Heard-nil shows a; few = inl (inl refl); owes = ([], inl (append-nil new.due ∙ same)); held = held; said = λ goes none. refl; kept = kept; shorter = shorter; flows = h }
 
   -- too few bytes came for more to be said
   short_flow : (old new : FlowView) (piece came taken : List ℕ) (xs : List Exchange) → old.phase ≡ phases.Waits → new ≡ record old { rest = old.rest ++ piece } → length (old.rest ++ piece) < old.need → IsFlow terms came taken xs old → IsFlow terms (came ++ piece) taken xs new
@@ -203,7 +203,7 @@ module _ {B : Type 0} (terms : Terms) (shows : Basis B → List Talk → PageAsk
     turned_waits new at need h is =
         let v : FlowView = record { rest = drop at buf; need = need; due = drop sent out; phase = phases.Waits } in
         let pends : PendsFor terms.port (drop at buf) need = rw h.is_end.0 at h.is_end.3 in
-        rw is (turned_so v (fronts.Waits at need) h (early_not (drop sent before) h.xs v phases.Waits refl (λ status e. cc e)) (held_not b v phases.Waits refl (λ e. cc e)) (λ open none. said_so sent before out h.xs le h.is_end.1 h.is_end.2 none) (λ waits. pends_short terms.port (drop at buf) pends.now) (omega (arith, length-drop at buf))
+        rw is (turned_so v (fronts.Waits at need) h (early_not (drop sent before) h.xs v phases.Waits refl (λ status e. cc e)) (held_not b v phases.Waits refl (λ e. cc e)) (λ goes none. said_so sent before out h.xs le h.is_end.1 h.is_end.2 none) (λ waits. pends_short terms.port (drop at buf) pends.now) (omega (arith, length-drop at buf))
         (h.is_end.1, due_after sent before out (due_for h.xs) le h.is_end.2, sym h.is_end.0, h.is_end.3))
 
     some_left : (xs : List Exchange) → (sent ≡ 0) ⊎ (sent < length before) → out ≡ before ++ due_for xs → most_due ≤ length out → drop sent out ≢ []
@@ -217,7 +217,7 @@ module _ {B : Type 0} (terms : Terms) (shows : Basis B → List Talk → PageAsk
     pub turned_full : (new : FlowView) (at need : ℕ) → (sent ≡ 0) ⊎ (sent < length before) → IsFront terms shows a b buf before out (fronts.Full at) → new ≡ record { rest = drop at buf; need = need; due = drop sent out; phase = phases.Full } → HasTurned terms shows a b old new
     turned_full new at need part h is =
         let v : FlowView = record { rest = drop at buf; need = need; due = drop sent out; phase = phases.Full } in
-        rw is (turned_so v (fronts.Full at) h (early_not (drop sent before) h.xs v phases.Full refl (λ status e. cc e)) (λ e. held_why h.xs part h.is_end.2 (h.full at refl)) (λ open none. said_so sent before out h.xs le h.is_end.1 h.is_end.2 none) (kept_not v phases.Full refl (λ e. cc e)) (omega (arith, length-drop at buf))
+        rw is (turned_so v (fronts.Full at) h (early_not (drop sent before) h.xs v phases.Full refl (λ status e. cc e)) (λ e. held_why h.xs part h.is_end.2 (h.full at refl)) (λ goes none. said_so sent before out h.xs le h.is_end.1 h.is_end.2 none) (kept_not v phases.Full refl (λ e. cc e)) (omega (arith, length-drop at buf))
         (h.is_end.1, due_after sent before out (due_for h.xs) le h.is_end.2, sym h.is_end.0))
 
     pub turned_closed : (new : FlowView) (need : ℕ) → IsFront terms shows a b buf before out fronts.Closed → new ≡ record { rest = buf; need = need; due = drop sent out; phase = phases.Closed } → HasTurned terms shows a b old new
