@@ -11,6 +11,6 @@ pub enum Phase {
     Closed,
     /// A message was refused with this status.
     Refused(u16),
-    /// Memory was wanting, for what came or for the answer of the last request that was heard. Each other answer stands.
+    /// Memory was wanting, for what came or for the answer of the last request that was heard. All others stand.
     NoMemory,
 }

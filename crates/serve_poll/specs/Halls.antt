@@ -133,8 +133,8 @@ module _ {C : Type 0} (house : House) (seen : C → WireSeen) where
   module _ {B : Type 0} (shows : Basis B → List Talk → PageAsk → Page → Type 0) where
     -- the clerk heard further requests and showed further pages; whatever was asked before, these with them are those
     -- of the connections
-    pub record KeepsStanding (clerk clerk' : ClerkMoment (Basis B)) (told told' : ReadySeen) (back back' : Option (List C))
-        (hall hall' : Hall C) : Type 0 where
+    pub record KeepsStanding (clerk clerk' : ClerkMoment (Basis B)) (told told' : ReadySeen)
+        (back back' : Option (List C)) (hall hall' : Hall C) : Type 0 where
       pub more : List Exchange
       pub heard : Heard shows clerk clerk' more
       pub stands : (xs : List Exchange) (first : ReadySeen) (before : Option (List C))

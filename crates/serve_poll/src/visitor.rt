@@ -25,8 +25,8 @@ pub struct Visitor<C> {
     pub conversation: Conversation,
 }
 
-/// Serves the connection until it would wait or has ended, or the clerk, which has room, has none, at most so often that
-/// others get their turn.
+/// Serves the connection until it would wait or has ended, or the clerk, which has room, has none left; at most so often
+/// that others get their turn.
 pub fn advance<C: Wire, K: Pages>(
     alloc: Global,
     routes: &Routes,

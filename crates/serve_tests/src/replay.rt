@@ -121,8 +121,8 @@ fn settle(alloc: Global, routes: &Routes, all: &mut [Heard<'_>]) -> Result<(), A
     Ok(())
 }
 
-// Asks what has this place: the question of the connection that took an answer with it, or else that of one which took no
-// further answer. Says whether there is one.
+// Asks what has this place: the question of the connection that took an answer with it, or else that of one which took
+// no further answer. Says whether there is one.
 fn answer_next(
     alloc: Global,
     routes: &Routes,

@@ -65,8 +65,8 @@ module _ {P : Type 0} (told : P → Option Rows) (count : P → ℕ) where
     pub tables : HasTables core.opening core.journal (told core.keeper)
     pub counted : min (core.mark + faults_in core.journal) (2 ^ 64 - 1) ≤ count core.keeper
 
-  -- an epoch behind this keeper: whatever was asked in it was asked where the journal had room, and each page shows what
-  -- was answered before it
+  -- an epoch behind this keeper: whatever was asked in it was asked where the journal had room, and each page shows
+  -- what was answered before it
   pub record IsEpoch (keeper : P) (epoch : Epoch P) : Type 0 where
     pub opened : IsOpenedBehind keeper epoch.start
     pub left : IsLeft epoch.start epoch.core (talks_in epoch.exchanges)
@@ -87,8 +87,8 @@ module _ {P : Type 0} (told : P → Option Rows) (count : P → ℕ) where
     pub cause : err ≡ Failed → Rose (count keeper) (count last)
 
   -- why serving ended, and with which keeper: no further event was awaited, the keeper is that of the core, and behind
-  -- the last of so many events that were asked for the journal isn't nearly full; or the journal was nearly full, and no
-  -- core is opened from the tables that it left
+  -- the last of so many events that were asked for the journal has room; or the journal had none, and no core is opened
+  -- from the tables that it left
   abbrev pub EndsWith : (P → Option (Table × ℕ)) → Epoch P → P → ServingEnd → Type 0
   EndsWith damage epoch last (ends.Loop end) =
       (last ≡ epoch.core.keeper) × (end ≡ loops.Turns → HasFilled epoch → ⊥)
