@@ -1,7 +1,7 @@
 -- The first question of a buffer.
 use Rattle.std.proofs.Common.{◌≡◌, ◌≤◌, ◌<◌, ◌+◌, ◌-◌, ℕ, Bool, true, false, List, [], ◌∷◌, ◌++◌, length, take, drop, inl, inr, refl, ap, sym, ◌∙◌, arith}
 use Rattle.std.proofs.Common.{append-nil, append_assoc, Ok, Err}
-use Rattle.std.specs.Prelude.{Result, OnOk, is_err}
+use Rattle.std.specs.Prelude.{Result, OnErr, OnOk, is_err}
 use Rattle.std.proofs.lemmas.List.{drop-drop, length-append, length-drop}
 use Rattle.http_answer.specs.AnswerText.{answer_text}
 use Rattle.http_message.specs.Message.{Message}
@@ -52,6 +52,11 @@ module _ {B : Type 0} (terms : Terms) (shows : Basis B → List Talk → PageAsk
 
   pub next_memory : b.talks ≡ a.talks → b.start ≡ a.start → out' ≡ out → IsNext terms shows a b buf out out' answered.NoMemory
   next_memory talks start is = next_still talks start is
+
+  -- a page wasn't put
+  pub shown_wanting : {T E : Type 0} (r : Result T E) → b ≡ a → OnErr r (out' ≡ out) → is_err r ≡ true → IsNext terms shows a b buf out out' answered.NoMemory
+  shown_wanting (Ok t) same h err = absurd (cc err)
+  shown_wanting (Err e) same h err = next_still (ap (λ (m : ClerkMoment (Basis B)). m.talks) same) (ap (λ (m : ClerkMoment (Basis B)). m.start) same) h
 
   -- a refusal
   pub next_refused : (status : ℕ) (r : Answered) → b.talks ≡ a.talks → b.start ≡ a.start → IsRefused terms.port buf status → IsRefusal terms.refusal status out out' r → IsNext terms shows a b buf out out' r

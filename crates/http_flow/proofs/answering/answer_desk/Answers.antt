@@ -1,6 +1,6 @@
 -- What the desk's message at the front came to.
 use Rattle.std.proofs.Common.{◌∙◌, sym, refl, inr}
-use Rattle.http_flow.proofs.NextLaws.{desk_wanting, desk_last, desk_on, next_refused, next_waits, pends_desk}
+use Rattle.http_flow.proofs.NextLaws.{desk_wanting, desk_last, desk_on, next_memory, next_refused, next_waits, pends_desk}
 use Rattle.http_flow.proofs.answering.answer_desk.Goals as goal
 
 pub returns-then-is_err : goal.returns-then-is_err
@@ -23,3 +23,6 @@ returns-in-Refusal g c = λ port here page.
 pub returns-in-Wait : goal.returns-in-Wait
 returns-in-Wait g c = λ port here page.
     next_waits _ _ _ _ _ _ _ c.requires c.in-Wait.need refl refl refl (pends_desk port c.args.buf.now c.in-Wait.need (rw c.in-Wait.is at c.in-Ok.ensures))
+
+pub returns-in_default : goal.returns-in_default
+returns-in_default g c = λ port here page. next_memory _ _ _ _ _ _ _ c.requires refl refl refl
