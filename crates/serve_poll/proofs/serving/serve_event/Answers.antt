@@ -13,3 +13,6 @@ returns-in-Some-clause-asked g c = record {
 
 pub returns-in-None-clause-asked : goal.returns-in-None-clause-asked
 returns-in-None-clause-asked g c = record { made = 1; within = omega arith; calls = c.meet.ensures.calls; why = refl }
+
+pub returns-then-hall-clause-stands : goal.returns-then-hall-clause-stands
+returns-then-hall-clause-stands g c = keeps_still _ _ _ _ _ _ _
