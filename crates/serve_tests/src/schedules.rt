@@ -12,14 +12,18 @@ const PORT: u16 = 8080;
 
 // So many connections come in a schedule, of which so many are served at once at least.
 const CONNECTIONS: u64 = 20;
+
 const FEWEST: usize = 16;
 
 // In one of so many schedules a connection asks for so many activations at once.
 const RARE: u64 = 50;
+
 const ACTIVATIONS: u64 = 330;
 
 const DESK: &str = "Host: 127.0.0.1:8080\r\nContent-Length: 0\r\n\r\n";
+
 const LAST: &str = "Host: 127.0.0.1:8080\r\nConnection: close\r\n\r\n";
+
 const SPACE: &str = "Host: 127.0.0.1:8080\r\nContent-Length: 19\r\n\r\n{\"SPACE\":\"(TRK,7)\"}";
 
 // What a connection asks with this number.
