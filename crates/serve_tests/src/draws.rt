@@ -1,6 +1,7 @@
 //! Numbers that look drawn.
 
 /// Numbers that look drawn, the same for the same seed.
+#[derive(Drop)]
 pub struct Draws {
     state: u64,
 }

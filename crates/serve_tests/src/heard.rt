@@ -72,6 +72,7 @@ fn refused(alloc: Global, status: u16) -> Result<Asked, AllocError> {
 }
 
 /// What came of a connection and what it took, as far as both aren't compared yet.
+#[derive(Drop)]
 pub struct Heard<'a> {
     came: &'a [u8],
     taken: &'a [u8],

@@ -35,6 +35,7 @@ pub fn begun(alloc: Global, fails: &[u64]) -> Result<FaultKeeper, AllocError> {
 }
 
 /// A desk and its slate.
+#[derive(Drop)]
 pub struct Desk {
     core: Core<FaultKeeper>,
     slate: Slate,
