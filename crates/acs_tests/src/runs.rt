@@ -29,31 +29,32 @@ pub fn all_come(alloc: Global, rows: &[Run]) -> Result<bool, Fail> {
 
 fn comes(alloc: Global, row: &Run) -> Result<bool, Fail> {
     let (kind, body, given, held, lines, ending) = row;
-    let mut slate = Slate::new(alloc)?;
     let mut values = values_of(given);
-    let ended = ended(alloc, *kind, body, given, &mut values, &mut slate)?;
+    let (ended, slate) = ended(alloc, *kind, body, given, &mut values)?;
     Ok(ended == *ending && values == values_of(held) && is_written(&slate, *kind, lines))
 }
 
 /// Whether the run of a routine for storage groups ends so.
 pub fn ends(alloc: Global, body: &str, given: &str, ending: Ending) -> Result<bool, Fail> {
-    let mut slate = Slate::new(alloc)?;
     let mut values = values_of(given);
-    Ok(ended(alloc, Kind::StorGrp, body, given, &mut values, &mut slate)? == ending)
+    let (ended, _) = ended(alloc, Kind::StorGrp, body, given, &mut values)?;
+    Ok(ended == ending)
 }
 
+// How the run of a routine ends, and what it wrote.
 fn ended(
     alloc: Global,
     kind: Kind,
     body: &str,
     given: &str,
     values: &mut Values,
-    slate: &mut Slate,
-) -> Result<Ending, Fail> {
+) -> Result<(Ending, Slate), Fail> {
     let input = input_of(given).ok_or("input")?;
     let text = routine_of(alloc, kind, body)?;
     let code = code_of(alloc, kind, &text)?;
-    Ok(run(&code, &Seen::of(&input), values, slate))
+    let mut slate = Slate::new(alloc)?;
+    let ending = run(&code, &Seen::of(&input), values, &mut slate);
+    Ok((ending, slate))
 }
 
 fn routine_of(alloc: Global, kind: Kind, body: &str) -> Result<String, AllocError> {
