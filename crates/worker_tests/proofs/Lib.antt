@@ -1,2 +1,1 @@
 mod CommitExamples
-mod WorkingLemmas
