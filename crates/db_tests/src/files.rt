@@ -73,7 +73,10 @@ fn is_refused(rt: &HostRuntime, path: &str, cause: Option<ErrorCode>) -> bool {
 // Whether a file that is open isn't opened a second time.
 fn is_locked(rt: &HostRuntime) -> bool {
     match opened(rt, "locked.db") {
-        Ok(first) => is_refused(rt, "locked.db", None) && is_shut(first),
+        Ok(first) => {
+            let good = is_refused(rt, "locked.db", None);
+            is_shut(first) && good
+        }
         Err(_) => false,
     }
 }

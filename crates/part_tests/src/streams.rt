@@ -25,8 +25,9 @@ fn is_read(alloc: Global, text: &[u8]) -> Result<bool, Fail> {
 /// Whether reads of a reader that fails are told as failed.
 fn is_failed(alloc: Global) -> bool {
     let mut broken = StdSource::new(BrokenReader);
-    broken.read(&mut [0; 4]) == Err(Failed)
-        && read_all(alloc, &mut broken, 12).err() == Some(ReadEnd::Failed)
+    let is_told = broken.read(&mut [0; 4]) == Err(Failed);
+    let end = read_all(alloc, &mut broken, 12).err();
+    is_told && end == Some(ReadEnd::Failed)
 }
 
 #[test]
@@ -40,7 +41,9 @@ fn a_real_reader_is_read_to_its_end_or_its_error(rt: HostRuntime) -> Result<(), 
 fn is_written(alloc: Global, text: &[u8]) -> bool {
     let mut device = Vec::new(alloc);
     let mut sink = StdSink::new(&mut device);
-    write_all(&mut sink, text) == Ok(()) && device.as_slice() == text
+    let is_whole = write_all(&mut sink, text) == Ok(());
+    let is_there = device.as_slice() == text;
+    is_whole && is_there
 }
 
 /// Whether a writer with room for five bytes is told to have failed, and takes nothing more.

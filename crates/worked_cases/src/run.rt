@@ -78,11 +78,10 @@ impl Run {
         database: &mut Option<Database>,
     ) -> Result<Option<Compared>, AllocError> {
         let filled = self.filled(rt.alloc(), columns)?;
-        let found = outcome_of(rt, &filled.asked(&self.faults), database)?;
-        match found {
-            Some(found) => self.compared(rt.alloc(), columns, filled, found),
-            None => Ok(None),
-        }
+        let Some(found) = outcome_of(rt, &filled.asked(&self.faults), database)? else {
+            return Ok(None);
+        };
+        self.compared(rt.alloc(), columns, filled, found)
     }
 
     fn filled(&self, alloc: Global, columns: &[&str]) -> Result<Filled, AllocError> {
@@ -119,19 +118,36 @@ impl Run {
         columns: &[&str],
         found: &Outcome,
     ) -> Result<Option<String>, AllocError> {
-        let odd = self.odd_status(alloc, columns, found)?;
-        if odd.is_some() {
-            return Ok(odd);
+        match self.odd_status(alloc, columns, found)? {
+            Some(why) => Ok(Some(why)),
+            None => self.odd_text(alloc, columns, found),
         }
-        let odd = self.odd_output(alloc, columns, &found.output)?;
-        if odd.is_some() {
-            return Ok(odd);
+    }
+
+    // Where what was written, said or counted isn't.
+    fn odd_text(
+        &self,
+        alloc: Global,
+        columns: &[&str],
+        found: &Outcome,
+    ) -> Result<Option<String>, AllocError> {
+        match self.odd_output(alloc, columns, &found.output)? {
+            Some(why) => Ok(Some(why)),
+            None => self.odd_words(alloc, columns, found),
         }
-        let odd = self.odd_says(alloc, columns, &found.says)?;
-        if odd.is_some() {
-            return Ok(odd);
+    }
+
+    // Where what was said or counted isn't.
+    fn odd_words(
+        &self,
+        alloc: Global,
+        columns: &[&str],
+        found: &Outcome,
+    ) -> Result<Option<String>, AllocError> {
+        match self.odd_says(alloc, columns, &found.says)? {
+            Some(why) => Ok(Some(why)),
+            None => self.odd_count(alloc, found.counted),
         }
-        self.odd_count(alloc, found.counted)
     }
 
     // Where the status is another.
