@@ -76,8 +76,8 @@ impl<P: Keeper> PageClerk<P> {
         }
     }
 
-    /// Whether the journal of the core is nearly full (docs/manual/smsd.md, "A full journal").
-    pub fn is_nearly_full(&self) -> bool
+    // Whether the journal of the core is nearly full.
+    fn is_nearly_full(&self) -> bool
         ensures { result ≡ is_nearly_full self.now.core.journal self.now.talks }
     {
         self.core.journal().len() >= MANY_ENTRIES || asked_often(self)
@@ -217,6 +217,12 @@ impl<P: Keeper> Pages for PageClerk<P> {
     ghost refusal = { said_refusal };
 
     ghost begun_stays = { λ a b same. ap begun_with same };
+
+    fn has_room(&self) -> bool {
+        // A fact for the proof; nothing changes.
+        entered(self);
+        !self.is_nearly_full()
+    }
 
     fn show(
         &self,
