@@ -13,8 +13,8 @@ pub enum PagePath {
     Groups,
     /// All volumes.
     Volumes,
-    /// The volume of this serial.
-    Volume(Volser),
+    /// The volume of this serial, from a track on.
+    Volume { volser: Volser, from: u32 },
     /// Data sets whose names fit the mask, or all, behind a name, or from the first.
     Sets {
         mask: Option<Mask>,

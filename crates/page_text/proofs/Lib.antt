@@ -1,2 +1,4 @@
 pub mod PutLemmas
 pub mod PieceLemmas
+pub mod TrackLemmas
+pub mod GroupLemmas

@@ -108,7 +108,7 @@ abbrev pub set_values : List DataSet → Items
 set_values [] = no_items
 set_values (set ∷ sets) = item (set_value set) (set_values sets)
 
--- the page of a volume
+-- a volume as the page of all has it
 abbrev pub volume_body : VolRow → List ℕ
 volume_body row = compact_text (volume_value row)
 

@@ -2,16 +2,26 @@
 #![tactic(auto)]
 
 mod desk_page;
+mod gap;
 mod group_page;
 mod group_row;
 mod pieces;
 mod refusal;
+mod set_extent;
 mod set_page;
+mod shown_group;
+mod shown_groups_page;
+mod tracks_page;
 mod volume_page;
 
 pub use desk_page::{desk_body, error_body, health_body};
+pub use gap::Gap;
 pub use group_page::groups_body;
 pub use group_row::GroupRow;
 pub use refusal::push_said_refusal;
+pub use set_extent::SetExtent;
 pub use set_page::{set_body, sets_body};
-pub use volume_page::{volume_body, volumes_body};
+pub use shown_group::ShownGroup;
+pub use shown_groups_page::shown_groups_body;
+pub use tracks_page::tracks_body;
+pub use volume_page::volumes_body;
