@@ -1,2 +1,3 @@
 pub mod ListingLaws
 pub mod FindLaws
+pub mod LyingLaws

@@ -1,5 +1,6 @@
 -- What pages of a desk show (docs/manual/smsd.md, "What pages show").
 use Rattle.std.specs.Prelude.{ℕ, ◌≡◌, List, Option, None, Some, codes, length, map, Bool, true, false, option_map}
+use Rattle.std.specs.Prelude.{slice_get, take, unwrap_or}
 use Rattle.http_flow.specs.declared.page.Page.{Page}
 use Rattle.http_flow.specs.declared.page.PageStatus.{PageStatus}
 use Rattle.http_flow.specs.declared.page.PageStatus.TheVariants as statuses
@@ -7,15 +8,19 @@ use Rattle.http_page.specs.Pages.{PageAsk}
 use Rattle.page_paths.specs.Paths.{page_path_of}
 use Rattle.page_paths.specs.declared.page_path.PagePath.{PagePath}
 use Rattle.page_paths.specs.declared.page_path.PagePath.TheVariants as paths
-use Rattle.page_text.specs.PageBodies.{desk_body, error_body, groups_body, health_body, set_body, sets_body}
-use Rattle.page_text.specs.PageBodies.{volume_body, volumes_body}
+use Rattle.page_text.specs.GroupBodies.{shown_groups_body}
+use Rattle.page_text.specs.PageBodies.{desk_body, error_body, health_body, set_body, sets_body, volumes_body}
+use Rattle.page_text.specs.TrackBodies.{tracks_body}
+use Rattle.page_text.specs.declared.set_extent.SetExtent.{SetExtent}
 use Rattle.sms_construct.specs.declared.data_set.DataSet.{DataSet}
+use Rattle.sms_construct.specs.declared.vol_row.VolRow.{VolRow}
 use Rattle.sms_construct.specs.declared.volume.VolumeDef.{VolumeDef}
 use Rattle.desk_law.specs.Display.{shown_volume}
 use Rattle.desk_law.specs.State.{DeskState, set_named}
 use Rattle.desk_law.specs.Volumes.{groups_in, volume_named, volumes_in}
-use Rattle.desk_pages.specs.Groups.{group_row}
-use Rattle.desk_pages.specs.Listing.{IsListing}
+use Rattle.desk_pages.specs.Groups.{shown_group}
+use Rattle.desk_pages.specs.Listing.{IsListing, most_shown}
+use Rattle.desk_pages.specs.Lying.{AreLying, gaps_beside}
 
 -- a page that shows something
 abbrev pub showing : List ℕ → Page
@@ -51,16 +56,33 @@ desk_page s entries =
 -- all storage groups
 abbrev pub groups_page : DeskState → Page
 groups_page s =
-    showing (groups_body (map (group_row (map (shown_volume s) (volumes_in s.active))) (groups_in s.active)))
+    showing (shown_groups_body (map (shown_group (map (shown_volume s) (volumes_in s.active))) (groups_in s.active)))
 
 -- all volumes
 abbrev pub volumes_page : DeskState → Page
 volumes_page s = showing (volumes_body (map (shown_volume s) (volumes_in s.active)))
 
--- a volume, if it is there
-abbrev pub volume_page : DeskState → Option VolumeDef → Page
-volume_page s None = no_volume_page
-volume_page s (Some volume) = showing (volume_body (shown_volume s volume))
+-- where the next page of a volume begins: at the first extent that isn't shown, if there is one
+abbrev pub next_of : List SetExtent → Option ℕ
+next_of extents = option_map (λ extent. extent.start) (slice_get extents most_shown)
+
+-- the tracks of a volume from one on, with the first of the extents there, up to the next page or the volume's end
+abbrev pub tracks_page : VolRow → ℕ → List SetExtent → Page
+tracks_page row from extents =
+    showing
+    (tracks_body row (take most_shown extents)
+    (gaps_beside (unwrap_or (next_of extents) row.capacity) from (take most_shown extents)) (next_of extents))
+
+-- the page shows the tracks of a volume from one on
+pub record ShowsTracks (s : DeskState) (row : VolRow) (from : ℕ) (page : Page) : Type 0 where
+  pub extents : List SetExtent
+  pub lying : AreLying s.sets row.volser from extents
+  pub page_is : page ≡ tracks_page row from extents
+
+-- a volume from a track on, if it is there
+abbrev pub IsVolumePage : DeskState → Option VolumeDef → ℕ → Page → Type 0
+IsVolumePage s None from page = page ≡ no_volume_page
+IsVolumePage s (Some volume) from page = ShowsTracks s (shown_volume s volume) from page
 
 -- a data set, if it is there
 abbrev pub set_page : Option DataSet → Page
@@ -80,7 +102,7 @@ IsGotten s entries paths.Desk page = page ≡ desk_page s entries
 IsGotten s entries paths.Health page = page ≡ showing health_body
 IsGotten s entries paths.Groups page = page ≡ groups_page s
 IsGotten s entries paths.Volumes page = page ≡ volumes_page s
-IsGotten s entries (paths.Volume volser) page = page ≡ volume_page s (volume_named s volser)
+IsGotten s entries (paths.Volume volser from) page = IsVolumePage s (volume_named s volser) from page
 IsGotten s entries (paths.Sets mask after) page = IsSetsPage s mask after page
 IsGotten s entries (paths.Set dsn) page = page ≡ set_page (set_named dsn s.sets)
 IsGotten s entries paths.Bad page = page ≡ bad_page
@@ -92,7 +114,7 @@ posted_page paths.Desk = not_allowed_page
 posted_page paths.Health = not_allowed_page
 posted_page paths.Groups = not_allowed_page
 posted_page paths.Volumes = not_allowed_page
-posted_page (paths.Volume volser) = not_allowed_page
+posted_page (paths.Volume volser from) = not_allowed_page
 posted_page (paths.Sets mask after) = not_allowed_page
 posted_page (paths.Set dsn) = not_allowed_page
 posted_page paths.Bad = bad_page

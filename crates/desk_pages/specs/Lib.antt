@@ -1,3 +1,4 @@
 pub mod Groups
 pub mod Listing
+pub mod Lying
 pub mod DeskPages

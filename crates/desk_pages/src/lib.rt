@@ -3,6 +3,9 @@
 
 mod grouping;
 mod listing;
+mod lying;
+mod pool;
+mod said;
 mod showing;
 mod shown_desk;
 

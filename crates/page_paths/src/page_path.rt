@@ -14,7 +14,10 @@ pub enum PagePath {
     /// All volumes.
     Volumes,
     /// The volume of this serial, from a track on.
-    Volume { volser: Volser, from: u32 },
+    Volume {
+        volser: Volser,
+        from: u32,
+    },
     /// Data sets whose names fit the mask, or all, behind a name, or from the first.
     Sets {
         mask: Option<Mask>,
