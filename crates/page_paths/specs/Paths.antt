@@ -72,14 +72,20 @@ page_of_some path word =
     if bytes_eq word (codes "SETS") then sets_at path (segment 2 path) else
     if bytes_eq word (codes "SET") then set_at path (segment 2 path) else pages.Missing
 
+-- the page by the first word of its path, where it shows volumes or data sets
+abbrev pub page_of_pool : List ℕ → List ℕ → PagePath
+page_of_pool path word =
+    if bytes_eq word (codes "GROUPS") then alone 2 path pages.Groups else
+    if bytes_eq word (codes "VOLUMES") then alone 2 path pages.Volumes else page_of_some path word
+
 -- the page by the first word of its path
 abbrev pub page_by : List ℕ → Option (List ℕ) → PagePath
 page_by path None = pages.Missing
 page_by path (Some word) =
     if bytes_eq word (codes "DESK") then alone 2 path pages.Desk else
     if bytes_eq word (codes "HEALTH") then alone 2 path pages.Health else
-    if bytes_eq word (codes "GROUPS") then alone 2 path pages.Groups else
-    if bytes_eq word (codes "VOLUMES") then alone 2 path pages.Volumes else page_of_some path word
+    if bytes_eq word (codes "ANSWERS") then alone 2 path pages.Answers else
+    if bytes_eq word (codes "CHECK") then alone 2 path pages.Check else page_of_pool path word
 
 -- what a path asks to be shown
 abbrev pub page_path_of : List ℕ → PagePath

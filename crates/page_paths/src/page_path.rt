@@ -9,6 +9,10 @@ pub enum PagePath {
     Desk,
     /// Whether the desk is there.
     Health,
+    /// The last entries of the journal.
+    Answers,
+    /// What an activation of the body would be answered.
+    Check,
     /// All storage groups.
     Groups,
     /// All volumes.

@@ -5,8 +5,9 @@ ghost use Rattle.dsn_mask.specs.MaskText.{mask_of};
 ghost use Rattle.dsn_mask.specs.Name.{volser_of};
 ghost use Rattle.http_head.specs.Segments.{segment};
 ghost use Rattle.sms_construct.specs.Numbers.{small_number_of};
-ghost use Rattle.page_paths.specs.Paths.{after_at, alone, behind_mask, behind_volume, or_bad, page_by, page_of_some};
-ghost use Rattle.page_paths.specs.Paths.{page_path_of, set_at, sets_at, track_at, under_mask, under_volume, volume_at};
+ghost use Rattle.page_paths.specs.Paths.{after_at, alone, behind_mask, behind_volume, or_bad, page_by, page_of_pool};
+ghost use Rattle.page_paths.specs.Paths.{page_of_some, page_path_of, set_at, sets_at, track_at, under_mask, under_volume};
+ghost use Rattle.page_paths.specs.Paths.{volume_at};
 
 use crate::page_path::PagePath;
 use dsn_mask::{Dsn, Mask, Volser};
@@ -34,6 +35,19 @@ fn page_by(alloc: Global, path: &[u8], word: &[u8]) -> Result<PagePath, AllocErr
     if word == b"HEALTH".as_slice() {
         return alone(alloc, 2, path, PagePath::Health);
     }
+    if word == b"ANSWERS".as_slice() {
+        return alone(alloc, 2, path, PagePath::Answers);
+    }
+    if word == b"CHECK".as_slice() {
+        return alone(alloc, 2, path, PagePath::Check);
+    }
+    page_of_pool(alloc, path, word)
+}
+
+// The page by the first word of its path, where it shows volumes or data sets.
+fn page_of_pool(alloc: Global, path: &[u8], word: &[u8]) -> Result<PagePath, AllocError>
+    ensures { IfOk result (λ page. page ≡ page_of_pool path.now word.now) }
+{
     if word == b"GROUPS".as_slice() {
         return alone(alloc, 2, path, PagePath::Groups);
     }

@@ -2,3 +2,4 @@
 pub mod Pieces
 pub mod TrackPieces
 pub mod GroupPieces
+pub mod AnswerPieces

@@ -1,6 +1,9 @@
 //! Pages of the desk as JSON.
 #![tactic(auto)]
 
+mod answers_page;
+mod check_page;
+mod coding;
 mod desk_page;
 mod gap;
 mod group_page;
@@ -14,6 +17,8 @@ mod shown_groups_page;
 mod tracks_page;
 mod volume_page;
 
+pub use answers_page::answers_body;
+pub use check_page::check_body;
 pub use desk_page::{desk_body, error_body, health_body};
 pub use gap::Gap;
 pub use group_page::groups_body;
