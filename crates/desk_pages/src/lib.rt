@@ -1,9 +1,11 @@
 //! The pages of a desk.
 #![tactic(auto)]
 
+mod checking;
 mod grouping;
 mod listing;
 mod lying;
+mod newest;
 mod pool;
 mod said;
 mod showing;

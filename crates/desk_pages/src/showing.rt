@@ -1,47 +1,58 @@
 //! The page at a path.
-ghost use Rattle.std.specs.Prelude.{◌≡◌, IfOk, List, ℕ};
+ghost use Rattle.std.specs.Prelude.{◌≡◌, IfOk, length};
 ghost use Rattle.std.specs.Option.{option_copied};
 ghost use Rattle.desk_law.specs.State.{DeskState, set_named};
 ghost use Rattle.page_text.specs.PageBodies.{health_body};
-ghost use Rattle.desk_pages.specs.DeskPages.{IsGotten, IsPage, IsSetsPage, bad_page, desk_page, missing_page};
-ghost use Rattle.desk_pages.specs.DeskPages.{not_allowed_page, posted_page, set_page, showing};
+ghost use Rattle.desk_pages.specs.DeskPages.{IsGotten, IsPage, IsPosted, IsSetsPage, answers_page, bad_page};
+ghost use Rattle.desk_pages.specs.DeskPages.{desk_page, missing_page, set_page, showing};
 
+use crate::checking::check;
 use crate::listing::list_sets;
+use crate::newest::newest;
 use crate::pool::{groups, volume, volumes};
 use crate::said::{refused, shown};
 use crate::shown_desk::ShownDesk;
 use dsn_mask::{Dsn, Mask};
 use http_flow::{Page, PageStatus};
 use page_paths::{PagePath, read_page_path};
-use page_text::{desk_body, health_body, set_body, sets_body};
+use page_text::{answers_body, desk_body, health_body, set_body, sets_body};
 use std::alloc::{AllocError, Global};
 
-/// The page at this path of the desk as it stands (docs/manual/smsd.md, "What pages show").
+/// The page at this path of the desk as it stands, with this body if it is asked by POST (docs/manual/smsd.md, "What
+/// pages show").
 pub fn show_page<D: ShownDesk>(
     alloc: Global,
     desk: &D,
     posts: bool,
     path: &[u8],
+    body: &[u8],
 ) -> Result<Page, AllocError>
-    ensures { IfOk result (λ page. (s : DeskState) (body : List ℕ) → D.stands desk.now s →
-        IsPage s (D.entries desk.now) (record { posts = posts; path = path.now; body = body }) page) }
+    ensures { IfOk result (λ page. (s : DeskState) → D.stands desk.now s →
+        IsPage s (D.journal desk.now) (record { posts = posts; path = path.now; body = body.now }) page) }
 {
     let asked = read_page_path(alloc, path)?;
     if posts {
-        return posted(alloc, &asked);
+        return posted(alloc, desk, &asked, body);
     }
     gotten(alloc, desk, asked)
 }
 
 // The page at a path that is asked for by POST.
-fn posted(alloc: Global, asked: &PagePath) -> Result<Page, AllocError>
-    ensures { IfOk result (λ page. page ≡ posted_page asked.now) }
+fn posted<D: ShownDesk>(
+    alloc: Global,
+    desk: &D,
+    asked: &PagePath,
+    body: &[u8],
+) -> Result<Page, AllocError>
+    ensures { IfOk result (λ page. (s : DeskState) → D.stands desk.now s → IsPosted s body.now asked.now page) }
 {
     match asked {
+        PagePath::Check => check(alloc, desk, body),
         PagePath::Missing => missing(alloc),
         PagePath::Bad => bad(alloc),
         PagePath::Desk
         | PagePath::Health
+        | PagePath::Answers
         | PagePath::Groups
         | PagePath::Volumes
         | PagePath::Volume { .. }
@@ -53,11 +64,13 @@ fn posted(alloc: Global, asked: &PagePath) -> Result<Page, AllocError>
 // The page that is read at a path.
 fn gotten<D: ShownDesk>(alloc: Global, desk: &D, asked: PagePath) -> Result<Page, AllocError>
     ensures { IfOk result (λ page. (s : DeskState) → D.stands desk.now s →
-        IsGotten s (D.entries desk.now) asked page) }
+        IsGotten s (D.journal desk.now) asked page) }
 {
     match asked {
         PagePath::Desk => whole(alloc, desk),
         PagePath::Health => health(alloc),
+        PagePath::Answers => answers(alloc, desk),
+        PagePath::Check => refused(alloc, PageStatus::NotAllowed, b"this page is asked by POST"),
         PagePath::Groups => groups(alloc, desk),
         PagePath::Volumes => volumes(alloc, desk),
         PagePath::Volume { volser, from } => volume(alloc, desk, &volser, from),
@@ -71,11 +84,12 @@ fn gotten<D: ShownDesk>(alloc: Global, desk: &D, asked: PagePath) -> Result<Page
 // The desk as a whole.
 fn whole<D: ShownDesk>(alloc: Global, desk: &D) -> Result<Page, AllocError>
     ensures { IfOk result (λ page. (s : DeskState) → D.stands desk.now s →
-        page ≡ desk_page s (D.entries desk.now)) }
+        page ≡ desk_page s (length (D.journal desk.now))) }
 {
     let rows = desk.volumes()?;
     let volumes = rows.as_slice().len() as u64;
-    let body = desk_body(alloc, desk.activations(), desk.entries(), volumes)?;
+    let entries = desk.journal().len() as u64;
+    let body = desk_body(alloc, desk.activations(), entries, volumes)?;
     Ok(shown(body))
 }
 
@@ -84,6 +98,15 @@ fn health(alloc: Global) -> Result<Page, AllocError>
     ensures { IfOk result (λ page. page ≡ showing health_body) }
 {
     let body = health_body(alloc)?;
+    Ok(shown(body))
+}
+
+// The last entries of the journal.
+fn answers<D: ShownDesk>(alloc: Global, desk: &D) -> Result<Page, AllocError>
+    ensures { IfOk result (λ page. page ≡ answers_page (D.journal desk.now)) }
+{
+    let entries = newest(alloc, desk.journal())?;
+    let body = answers_body(alloc, &entries)?;
     Ok(shown(body))
 }
 

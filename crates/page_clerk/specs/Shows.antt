@@ -1,5 +1,5 @@
 -- What the pages of a core show (docs/manual/smsd.md, "Pages").
-use Rattle.std.specs.Prelude.{ℕ, List, ◌++◌, length}
+use Rattle.std.specs.Prelude.{ℕ, List, ◌++◌}
 use Rattle.http_flow.specs.declared.page.Page.{Page}
 use Rattle.http_page.specs.Pages.{PageAsk}
 use Rattle.http_talk.specs.declared.talk.Talk.{Talk}
@@ -25,4 +25,4 @@ begun_with core = record { opening = core.opening; journal = core.journal; mark 
 abbrev pub ShowsPage : Begun → List Talk → PageAsk → Page → Type 0
 ShowsPage begun talks ask page =
     (s : DeskState) → Reaches begun.opening (begun.journal ++ entries_of talks) s
-    → IsPage s (length (begun.journal ++ entries_of talks)) ask page
+    → IsPage s (begun.journal ++ entries_of talks) ask page

@@ -18,7 +18,7 @@ use dsn_mask::Dsn;
 use http_flow::{Page, Pages};
 use http_talk::{Clerk, Talk, Talks};
 use page_text::push_said_refusal;
-use sms_construct::{Answer, DataSet, Op, Reply, Request, StorGroup, VolRows};
+use sms_construct::{Answer, DataSet, Entry, Op, Reply, Request, StorGroup, VolRows};
 use sms_core::{Core, Work};
 use sms_keeper::Keeper;
 use std::alloc::{AllocError, Global};
@@ -174,10 +174,10 @@ fn entered<P: Keeper>(clerk: &PageClerk<P>)
 impl<P: Keeper> ShownDesk for PageClerk<P> {
     ghost stands = { λ c s. Reaches c.core.opening c.core.journal s };
 
-    ghost entries = { λ c. length c.core.journal };
+    ghost journal = { λ c. c.core.journal };
 
-    fn entries(&self) -> u64 {
-        self.core.journal().len() as u64
+    fn journal(&self) -> &[Entry] {
+        self.core.journal()
     }
 
     fn activations(&self) -> Option<u64> {
@@ -225,10 +225,9 @@ impl<P: Keeper> Pages for PageClerk<P> {
         path: &[u8],
         body: &[u8],
     ) -> Result<Page, AllocError> {
-        let _body = body;
         // A fact for the proof; nothing changes.
         entered(self);
-        show_page(alloc, self, posts, path)
+        show_page(alloc, self, posts, path, body)
     }
 
     fn refuse(&self, alloc: Global, text: &mut Vec<u8>, status: u16) -> Result<(), AllocError> {

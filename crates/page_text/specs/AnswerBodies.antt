@@ -1,10 +1,9 @@
 -- The bodies of pages of answers (docs/manual/smsd.md, "What pages show").
-use Rattle.std.specs.Prelude.{ℕ, Bool, true, false, List, [], ◌∷◌, Option, None, Some, codes, take, if◌then◌else◌}
+use Rattle.std.specs.Prelude.{ℕ, List, [], ◌∷◌, Option, None, Some, codes, take}
 use Rattle.serde_json.specs.Data.{Data, string, array, object, Items, no_items, item, Members, no_members, member}
 use Rattle.serde_json.specs.Written.{compact_text}
 use Rattle.sms_construct.specs.declared.entry.Entry.{Entry}
 use Rattle.sms_construct.specs.declared.reply.Reply.{Reply}
-use Rattle.sms_construct.specs.declared.reply.Reply.TheVariants.{Activated}
 use Rattle.sms_construct.specs.declared.request.Op.{Op}
 use Rattle.sms_construct.specs.declared.request.Op.TheVariants as ops
 use Rattle.sms_construct.specs.declared.target.Target.{Target}
@@ -75,24 +74,20 @@ entry_body entry = compact_text (entry_value entry)
 abbrev pub answers_body : List Entry → List ℕ
 answers_body entries = compact_text (object (member (codes "answers") (array (entry_values entries)) no_members))
 
--- the deck became active
-abbrev pub is_activated : Reply → Bool
-is_activated (Activated count) = true
-is_activated _ = false
-
--- the lines of a reply that says what stands in the way of a deck; none where nothing does
-abbrev pub barring_lines : Reply → List (List ℕ)
-barring_lines reply = if is_activated reply then [] else reply_text reply ∷ further_lines reply
-
 -- lines, in their order
 abbrev pub line_values : List (List ℕ) → Items
 line_values [] = no_items
 line_values (line ∷ lines) = item (string line) (line_values lines)
 
--- the page of a deck's check: the code of the reply, and what stands in the deck's way
-abbrev pub check_body : Reply → List ℕ
-check_body reply =
-    compact_text
-    (object
-    (member (codes "code") (string (code_of reply))
-    (member (codes "lines") (array (line_values (barring_lines reply))) no_members)))
+-- a code, and what stands in the way of a deck
+abbrev pub check_value : List ℕ → List (List ℕ) → Data
+check_value code lines =
+    object (member (codes "code") (string code) (member (codes "lines") (array (line_values lines)) no_members))
+
+-- the page of the check of a deck that would be active
+abbrev pub passed_body : List ℕ
+passed_body = compact_text (check_value (codes "A04") [])
+
+-- the page of the check of a deck that would get this reply instead
+abbrev pub barred_body : Reply → List ℕ
+barred_body reply = compact_text (check_value (code_of reply) (reply_text reply ∷ further_lines reply))

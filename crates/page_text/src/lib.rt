@@ -18,7 +18,7 @@ mod tracks_page;
 mod volume_page;
 
 pub use answers_page::answers_body;
-pub use check_page::check_body;
+pub use check_page::{barred_body, passed_body};
 pub use desk_page::{desk_body, error_body, health_body};
 pub use gap::Gap;
 pub use group_page::groups_body;

@@ -3,9 +3,8 @@ use Rattle.std.specs.Prelude.{ℕ, List, [], ◌∷◌, ◌++◌, codes, decimal
 use Rattle.json.specs.Print.{quoted}
 use Rattle.serde_json.specs.Written.{compact_text, items_text}
 use Rattle.sms_construct.specs.declared.entry.Entry.{Entry}
-use Rattle.sms_construct.specs.declared.reply.Reply.{Reply}
 use Rattle.page_text.specs.PageBodies.{name_if}
-use Rattle.page_text.specs.AnswerBodies.{barring_lines, code_of, entry_values, line_values, name_in, word_of}
+use Rattle.page_text.specs.AnswerBodies.{code_of, entry_values, line_values, name_in, word_of}
 
 -- the first line of some, or nothing
 abbrev pub first_of : List (List ℕ) → List ℕ
@@ -29,8 +28,7 @@ entry_rest entry =
 abbrev pub answers_text : List Entry → List ℕ
 answers_text entries = codes "{\"answers\":[" ++ (items_text false (entry_values entries) ++ codes "}")
 
--- a deck's check
-abbrev pub check_text : Reply → List ℕ
-check_text reply =
-    codes "{\"code\":" ++ (quoted (code_of reply)
-    ++ (codes ",\"lines\":[" ++ (items_text false (line_values (barring_lines reply)) ++ codes "}")))
+-- the check of a deck
+abbrev pub check_text : List ℕ → List (List ℕ) → List ℕ
+check_text code lines =
+    codes "{\"code\":" ++ (quoted code ++ (codes ",\"lines\":[" ++ (items_text false (line_values lines) ++ codes "}")))

@@ -3,4 +3,4 @@ use Rattle.std.proofs.Common.{append_assoc, refl}
 use Rattle.page_text.proofs.check_page.push_check.Goals as goal
 
 pub returns : goal.returns
-returns c = rw (c.in_ok-push.ensures.items, c.in_ok-push_lines.ensures, c.barring.ensures, c.in_ok-extend_from_slice.ensures.items, c.in_ok-push_text.ensures, c.code_of.ensures, c.as_slice-2.ensures, c.as_slice.ensures, c.in_ok-lines.ensures) (simp append_assoc refl)
+returns c = rw (c.in_ok-push.ensures.items, c.in_ok-push_lines.ensures, c.in_ok-extend_from_slice.ensures.items, c.in_ok-push_text.ensures) (simp append_assoc refl)

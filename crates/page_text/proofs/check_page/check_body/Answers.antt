@@ -1,8 +1,0 @@
--- The text is the page.
-use Rattle.std.proofs.Common.{◌∙◌}
-use Rattle.page_text.proofs.PutLemmas.{from_empty}
-use Rattle.page_text.proofs.AnswerLemmas.{check_is}
-use Rattle.page_text.proofs.check_page.check_body.Goals as goal
-
-pub returns : goal.returns
-returns c = c.from_vec.ensures ∙ from_empty _ _ _ _ c.in_ok-push_check.ensures c.new-text.ensures.items (check_is _)
