@@ -38,8 +38,10 @@ missing_page = record { status = statuses.Missing; body = error_body (codes "the
 
 -- a segment of the path isn't as the page asks
 abbrev pub bad_page : Page
-bad_page =
-    record { status = statuses.Bad; body = error_body (codes "a segment of this path is no name, serial or mask") }
+bad_page = record {
+  status = statuses.Bad;
+  body = error_body (codes "a segment of this path is no name, serial, number or mask");
+}
 
 -- the page isn't there for POST
 abbrev pub not_allowed_page : Page

@@ -148,7 +148,7 @@ fn bad(alloc: Global) -> Result<Page, AllocError>
     refused(
         alloc,
         PageStatus::Bad,
-        b"a segment of this path is no name, serial or mask",
+        b"a segment of this path is no name, serial, number or mask",
     )
 }
 
