@@ -3,7 +3,7 @@ use Rattle.desk_pages.proofs.LyingLaws.{found_none, found_more, found_all}
 use Rattle.desk_pages.proofs.lying.all_extents.Goals as goal
 
 pub loop-looked-init : goal.loop-looked-init
-loop-looked-init g c = λ s stands. found_none s.sets c.args.volser.now c.args.from
+loop-looked-init g c = λ s stands. rw c.new-extents.ensures.items (found_none s.sets c.args.volser.now c.args.from)
 
 pub loop-looked-preserved : goal.loop-looked-preserved
 loop-looked-preserved g c = λ s stands.
