@@ -3,9 +3,9 @@
 
 mod checking;
 mod grouping;
+mod latest;
 mod listing;
 mod lying;
-mod newest;
 mod pool;
 mod said;
 mod showing;
