@@ -13,6 +13,8 @@ pub enum PagePath {
     Answers,
     /// What an activation of the body would be answered.
     Check,
+    /// The text of the active deck.
+    Deck,
     /// All storage groups.
     Groups,
     /// All volumes.
