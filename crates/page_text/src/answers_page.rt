@@ -1,11 +1,10 @@
 //! Pages of answers.
 ghost use Rattle.std.specs.Prelude.{◌≡◌, ◌++◌, IfOk, OnOk, false, map};
-ghost use Rattle.json.specs.Print.{quoted};
 ghost use Rattle.serde_json.specs.Written.{compact_text, items_text};
 ghost use Rattle.page_text.specs.PageBodies.{name_if};
-ghost use Rattle.page_text.specs.AnswerBodies.{answers_body, code_of, entry_body, entry_values, name_in, target_name};
+ghost use Rattle.page_text.specs.AnswerBodies.{answers_body, entry_body, entry_values, name_in, target_name};
 ghost use Rattle.page_text.specs.AnswerBodies.{word_of};
-ghost use Rattle.page_text.specs.Inner.AnswerPieces.{answers_text, entry_front, entry_rest};
+ghost use Rattle.page_text.specs.Inner.AnswerPieces.{answers_text, asked_piece, code_piece, entry_front, entry_rest};
 
 use crate::coding::code_of;
 use crate::pieces::{push_count, push_text};
@@ -77,21 +76,28 @@ fn push_front(text: &mut Vec<u8>, entry: &Entry) -> Result<(), AllocError>
 fn push_rest(alloc: Global, text: &mut Vec<u8>, entry: &Entry) -> Result<(), AllocError>
     ensures { OnOk result (text.new.items ≡ text.old.items ++ entry_rest entry.now) }
 {
-    text.extend_from_slice(b",\"code\":")?;
     push_code(alloc, text, &entry.answer)?;
-    push_text(text, b",\"asked\":", word_of(&entry.request.op))?;
-    text.extend_from_slice(b",\"name\":")?;
-    push_name(text, &entry.request.op)?;
+    push_asked(text, &entry.request.op)?;
     text.push(b'}')?;
     Ok(())
 }
 
 // Puts the code of an answer behind a text.
 fn push_code(alloc: Global, text: &mut Vec<u8>, answer: &Answer) -> Result<(), AllocError>
-    ensures { OnOk result (text.new.items ≡ text.old.items ++ quoted (code_of answer.now.reply)) }
+    ensures { OnOk result (text.new.items ≡ text.old.items ++ code_piece answer.now.reply) }
 {
     let lines = answer_lines(alloc, answer)?;
-    push_quoted(text, code_of(lines.as_slice()))
+    push_text(text, b",\"code\":", code_of(lines.as_slice()))
+}
+
+// Puts what was asked behind a text.
+fn push_asked(text: &mut Vec<u8>, op: &Op) -> Result<(), AllocError>
+    ensures { OnOk result (text.new.items ≡ text.old.items ++ asked_piece op.now) }
+{
+    push_text(text, b",\"asked\":", word_of(op))?;
+    text.extend_from_slice(b",\"name\":")?;
+    push_name(text, op)?;
+    Ok(())
 }
 
 // The word for what is asked.

@@ -3,7 +3,8 @@ ghost use Rattle.std.specs.Prelude.{◌≡◌, ◌++◌, IfOk, OnOk, false};
 ghost use Rattle.serde_json.specs.Data.{boolean};
 ghost use Rattle.serde_json.specs.Written.{compact_text, items_text};
 ghost use Rattle.page_text.specs.GroupBodies.{shown_group_body, shown_group_values, shown_groups_body};
-ghost use Rattle.page_text.specs.Inner.GroupPieces.{group_front, group_limits, shown_groups_text};
+ghost use Rattle.page_text.specs.Inner.GroupPieces.{group_front, group_limits, group_rest, group_thresholds};
+ghost use Rattle.page_text.specs.Inner.GroupPieces.{shown_groups_text};
 
 use crate::group_row::GroupRow;
 use crate::pieces::{push_count, push_text};
@@ -72,12 +73,34 @@ fn push_sums(text: &mut Vec<u8>, row: &GroupRow) -> Result<(), AllocError>
 fn push_limits(text: &mut Vec<u8>, group: &ShownGroup) -> Result<(), AllocError>
     ensures { OnOk result (text.new.items ≡ text.old.items ++ group_limits group.now) }
 {
+    push_thresholds(text, group)?;
+    push_rest(text, group)?;
+    Ok(())
+}
+
+fn push_thresholds(text: &mut Vec<u8>, group: &ShownGroup) -> Result<(), AllocError>
+    ensures { OnOk result (text.new.items ≡ text.old.items ++ group_thresholds group.now) }
+{
     push_count(text, b",\"high\":", u64::from(group.high))?;
     push_count(text, b",\"low\":", u64::from(group.low))?;
-    text.extend_from_slice(b",\"overflow\":")?;
-    text.extend_from_slice(flag_bytes(group.overflow))?;
+    Ok(())
+}
+
+fn push_rest(text: &mut Vec<u8>, group: &ShownGroup) -> Result<(), AllocError>
+    ensures { OnOk result (text.new.items ≡ text.old.items ++ group_rest group.now) }
+{
+    push_flag(text, b",\"overflow\":", group.overflow)?;
     push_count(text, b",\"breakpoint\":", u64::from(group.breakpoint))?;
     text.push(b'}')?;
+    Ok(())
+}
+
+// Puts what stands before a truth value, and the value, behind a text.
+fn push_flag(text: &mut Vec<u8>, before: &[u8], flag: bool) -> Result<(), AllocError>
+    ensures { OnOk result (text.new.items ≡ text.old.items ++ (before.now ++ compact_text (boolean flag))) }
+{
+    text.extend_from_slice(before)?;
+    text.extend_from_slice(flag_bytes(flag))?;
     Ok(())
 }
 

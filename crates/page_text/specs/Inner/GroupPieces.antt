@@ -13,12 +13,19 @@ group_front row =
     codes "{\"group\":" ++ (quoted row.group ++ (codes ",\"volumes\":" ++ (decimal row.volumes
     ++ (codes ",\"capacity\":" ++ (decimal row.capacity ++ (codes ",\"free\":" ++ decimal row.free))))))
 
+-- its thresholds
+abbrev pub group_thresholds : ShownGroup → List ℕ
+group_thresholds group = codes ",\"high\":" ++ (decimal group.high ++ (codes ",\"low\":" ++ decimal group.low))
+
+-- whether it is an overflow group, and its breakpoint
+abbrev pub group_rest : ShownGroup → List ℕ
+group_rest group =
+    codes ",\"overflow\":" ++ (compact_text (boolean group.overflow)
+    ++ (codes ",\"breakpoint\":" ++ (decimal group.breakpoint ++ codes "}")))
+
 -- how its deck defines it
 abbrev pub group_limits : ShownGroup → List ℕ
-group_limits group =
-    codes ",\"high\":" ++ (decimal group.high ++ (codes ",\"low\":" ++ (decimal group.low
-    ++ (codes ",\"overflow\":" ++ (compact_text (boolean group.overflow)
-    ++ (codes ",\"breakpoint\":" ++ (decimal group.breakpoint ++ codes "}")))))))
+group_limits group = group_thresholds group ++ group_rest group
 
 -- all storage groups
 abbrev pub shown_groups_text : List ShownGroup → List ℕ
