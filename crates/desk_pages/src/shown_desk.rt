@@ -7,6 +7,7 @@ ghost use Rattle.desk_law.specs.State.{DeskState, set_named};
 ghost use Rattle.desk_law.specs.Volumes.{groups_in, volumes_in};
 ghost use Rattle.desk_state.specs.Following.{IsNextSet};
 
+use deck_meaning::Config;
 use dsn_mask::Dsn;
 use sms_construct::{DataSet, Entry, StorGroup, VolRows};
 use std::alloc::AllocError;
@@ -26,6 +27,10 @@ pub trait ShownDesk {
     /// How many activations there were, where something is active.
     fn activations(&self) -> Option<u64>
         ensures { (s : DeskState) → stands self.now s → result ≡ option_map (λ config. s.activations) s.active };
+
+    /// The active configuration.
+    fn config(&self) -> Option<&Config>
+        ensures { (s : DeskState) → stands self.now s → option_copied result ≡ s.active };
 
     /// The storage groups of the active configuration, in byte order of their names.
     fn groups(&self) -> &[StorGroup]

@@ -12,6 +12,7 @@ ghost use Rattle.page_clerk.specs.Filling.{AreUnfilled, activations_in, is_nearl
 ghost use Rattle.page_clerk.specs.Shows.{Begun, ShowsPage, begun_with};
 
 use acs_tree::Slate;
+use deck_meaning::Config;
 use desk_common::Items;
 use desk_pages::{ShownDesk, show_page};
 use dsn_mask::Dsn;
@@ -183,6 +184,13 @@ impl<P: Keeper> ShownDesk for PageClerk<P> {
     fn activations(&self) -> Option<u64> {
         match self.core.active() {
             Some((count, _)) => Some(count),
+            None => None,
+        }
+    }
+
+    fn config(&self) -> Option<&Config> {
+        match self.core.active() {
+            Some((_, config)) => Some(config.get()),
             None => None,
         }
     }

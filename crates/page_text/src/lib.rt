@@ -3,6 +3,7 @@
 
 mod answers_page;
 mod check_page;
+mod classified_page;
 mod coding;
 mod desk_page;
 mod gap;
@@ -19,6 +20,7 @@ mod volume_page;
 
 pub use answers_page::answers_body;
 pub use check_page::{barred_body, passed_body};
+pub use classified_page::classified_body;
 pub use desk_page::{desk_body, error_body, health_body};
 pub use gap::Gap;
 pub use group_page::groups_body;
