@@ -18,7 +18,7 @@ use http_head::Route;
 use http_message::{AskedPath, LineText, read_request};
 use page_text::classified_body;
 use sms_classes::{Classified, classify};
-use sms_construct::{Alloc, Op, RequestNumber, Trace};
+use sms_construct::{Alloc, Op, Request, RequestNumber, Trace};
 use sms_script::push_trace;
 use sms_simulation::push_outcome;
 use std::alloc::{AllocError, Global};
@@ -34,7 +34,8 @@ pub fn classification<D: ShownDesk>(
     ensures { IfOk result (λ page. (s : DeskState) → D.stands desk.now s →
         page ≡ classified_page s.active job.now (alloc_asked dsn.now body.now)) }
 {
-    match asked(alloc, job, dsn, body)? {
+    let op = asked(alloc, job, dsn, body)?;
+    match &op {
         Some(Op::Alloc(allocation)) => under(alloc, desk.config(), job, allocation.get()),
         _ => refused(alloc, PageStatus::Bad, b"the body isn't that of an ALLOC"),
     }
@@ -49,10 +50,11 @@ fn asked(alloc: Global, job: &Name, dsn: &Dsn, body: &[u8]) -> Result<Option<Op>
         number: first_number(),
         line: line_of(alloc, dsn)?,
     };
-    match read_request(alloc, Route::Alloc, asked, body)? {
-        Some(request) => Ok(Some(request.op)),
-        None => Ok(None),
-    }
+    let Some(request) = read_request(alloc, Route::Alloc, asked, body)? else {
+        return Ok(None);
+    };
+    let Request { op, .. } = request;
+    Ok(Some(op))
 }
 
 fn first_number() -> RequestNumber {
