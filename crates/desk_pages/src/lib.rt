@@ -4,9 +4,9 @@
 mod checking;
 mod classifying;
 mod grouping;
+mod latest;
 mod listing;
 mod lying;
-mod newest;
 mod pool;
 mod said;
 mod showing;

@@ -8,8 +8,8 @@ ghost use Rattle.desk_pages.specs.DeskPages.{desk_page, missing_page, set_page, 
 
 use crate::checking::check;
 use crate::classifying::classification;
+use crate::latest::newest;
 use crate::listing::list_sets;
-use crate::newest::newest;
 use crate::pool::{groups, volume, volumes};
 use crate::said::{refused, shown};
 use crate::shown_desk::ShownDesk;

@@ -18,8 +18,10 @@ storgroup = \"PROC STORGRP SET &STORGRP = 'SG1' END\"
 ./END
 ";
 
-/// So many data sets are allocated, of two tracks each.
-const COUNT: u64 = 201;
+/// The numbers of the first and the last data set, of two tracks each.
+const FIRST: u64 = 1001;
+
+const LAST: u64 = 1201;
 
 /// A path, and how its page begins and ends.
 static ROWS: &[(&str, &str, &str)] = &[
@@ -45,8 +47,9 @@ static ROWS: &[(&str, &str, &str)] = &[
 
 // A script that allocates the data sets one behind the other.
 fn script(alloc: Global) -> Result<String, AllocError> {
-    let mut text = BEGINNING.to_string(alloc)?;
-    for number in 1001..1001 + COUNT {
+    let mut text = String::new(alloc);
+    text.push_str(BEGINNING)?;
+    for number in FIRST..=LAST {
         text.push_str(&format!(in alloc; "J {number} ALLOC A.A{number} SPACE=(TRK,2)\n")?)?;
     }
     Ok(text)

@@ -1,7 +1,7 @@
 -- One entry more.
 use Rattle.std.proofs.Common.{◌∙◌, ◌∷◌, [], ap, sym, arith, rules, length, length-append}
 use Rattle.desk_pages.proofs.NewestLaws.{newest_none, newest_more, newest_full, newest_all}
-use Rattle.desk_pages.proofs.newest.newest.Goals as goal
+use Rattle.desk_pages.proofs.latest.newest.Goals as goal
 
 pub loop-left-init : goal.loop-left-init
 loop-left-init c = record { newest = rw (c.len-left.ensures, c.new-found.ensures.items) (newest_none (λ entry. entry.now) c.args.journal.now); len = search rules }

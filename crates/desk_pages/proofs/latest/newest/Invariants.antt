@@ -2,7 +2,7 @@
 use Rattle.std.proofs.Common.{◌≡◌, length}
 use Rattle.std.specs.Prelude.{vec_len}
 use Rattle.desk_pages.proofs.NewestLaws.{AreNewest}
-use Rattle.desk_pages.proofs.newest.newest.Given as goal
+use Rattle.desk_pages.proofs.latest.newest.Given as goal
 
 abbrev pub invariant-loop-left : goal.invariant-loop-left
 invariant-loop-left l = record {
