@@ -1,5 +1,5 @@
 -- What comes of a deck.
-use Rattle.std.proofs.Common.{◌≡◌, ◌∙◌, ◌+◌, ◌<◌, ap, sym, arith, refl, List, [], ◌∷◌, ℕ, length, map, inl, inr}
+use Rattle.std.proofs.Common.{◌≡◌, ◌∙◌, ◌+◌, ap, arith, refl, List, [], ◌∷◌, ℕ, length, map, inl, inr}
 use Rattle.std.specs.Prelude.{◌&&◌, find, nat_lt, option_map, Option, None, Some, MatchOption}
 use Rattle.desk_common.specs.Exact.{MayRefuse}
 use Rattle.sms_construct.specs.Configuration.{Configuration}

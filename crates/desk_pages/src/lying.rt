@@ -1,5 +1,5 @@
 //! Extents on a volume, and the gaps between them.
-ghost use Rattle.std.specs.Prelude.{◌≡◌, ◌+◌, ◌++◌, ◌<◌, ◌^◌, IfOk, OnOk};
+ghost use Rattle.std.specs.Prelude.{◌≡◌, ◌+◌, ◌++◌, IfOk, OnOk};
 ghost use Rattle.desk_law.specs.State.{DeskState};
 ghost use Rattle.desk_pages.specs.Lying.{AreFound, AreLying, gaps_beside, gaps_of, lies_behind, lying_in, run_of};
 

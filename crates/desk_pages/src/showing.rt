@@ -1,6 +1,5 @@
 //! The page at a path.
 ghost use Rattle.std.specs.Prelude.{◌≡◌, IfOk, length};
-ghost use Rattle.std.specs.Option.{option_copied};
 ghost use Rattle.desk_law.specs.State.{DeskState, set_named};
 ghost use Rattle.page_text.specs.PageBodies.{health_body};
 ghost use Rattle.desk_pages.specs.DeskPages.{IsGotten, IsPage, IsPosted, IsSetsPage, answers_page, bad_page};

@@ -1,5 +1,5 @@
 -- The parts of a page of a volume are its JSON.
-use Rattle.std.proofs.Common.{◌≡◌, ◌++◌, ℕ, List, refl, append_assoc}
+use Rattle.std.proofs.Common.{◌≡◌, ℕ, List, refl, append_assoc}
 use Rattle.std.specs.Prelude.{Option}
 use Rattle.json.specs.Print.{escape_byte}
 use Rattle.sms_construct.specs.declared.vol_row.VolRow.{VolRow}
