@@ -17,6 +17,8 @@ use Rattle.desk_law.specs.Extents.{extents_of, is_used, pieces_on}
 use Rattle.desk_law.specs.Replies.{Leaves, Makes}
 use Rattle.desk_law.specs.State.{DeskState}
 use Rattle.desk_law.specs.Volumes.{tracks_of, volumes_in}
+use Rattle.http_flow.specs.declared.page.Page.{Page}
+use Rattle.desk_pages.specs.DeskPages.{IsCheckPage, checked_page}
 use Rattle.desk_pages.specs.Checking.{Comes, IsBarred, IsPassed, bars}
 
 -- a volume is used where it holds an extent
@@ -78,3 +80,7 @@ comes_faulted s deck fault reply may is = record {
   by_rule = inl (record { fault = fault; found = told_fault deck fault may; leaves = record { reply_is = is; after_is = refl } });
   other = rw is refl;
 }
+
+-- the page of what comes of a deck
+pub page_of_check : (s : DeskState) (deck bytes : List ℕ) (found : Option Reply) (page : Page) → deck ≡ bytes → Comes (ActivateRule s deck) found → page ≡ checked_page found → IsCheckPage s bytes page
+page_of_check s deck bytes found page is comes shown = record { reply = found; comes = rw is at comes; page_is = shown }

@@ -23,7 +23,8 @@ pub fn check<D: ShownDesk>(alloc: Global, desk: &D, deck: &[u8]) -> Result<Page,
     ensures { IfOk result (λ page. (s : DeskState) → D.stands desk.now s → IsCheckPage s deck.now page) }
 {
     let deck = deck_text(alloc, deck)?;
-    match barring(alloc, desk, &deck)? {
+    let found = barring(alloc, desk, &deck)?;
+    match found {
         Some(reply) => barred(alloc, reply),
         None => passed(alloc),
     }
