@@ -10,9 +10,11 @@ use Rattle.page_paths.specs.declared.page_path.PagePath.{PagePath}
 use Rattle.page_paths.specs.declared.page_path.PagePath.TheVariants as paths
 use Rattle.page_text.specs.AnswerBodies.{answers_body, barred_body, passed_body}
 use Rattle.page_text.specs.GroupBodies.{shown_groups_body}
-use Rattle.page_text.specs.PageBodies.{desk_body, error_body, health_body, set_body, sets_body, volumes_body}
+use Rattle.page_text.specs.PageBodies.{deck_body, desk_body, error_body, health_body, no_deck_body, set_body}
+use Rattle.page_text.specs.PageBodies.{sets_body, volumes_body}
 use Rattle.page_text.specs.TrackBodies.{tracks_body}
 use Rattle.page_text.specs.declared.set_extent.SetExtent.{SetExtent}
+use Rattle.sms_construct.specs.Configuration.{Configuration}
 use Rattle.sms_construct.specs.declared.data_set.DataSet.{DataSet}
 use Rattle.sms_construct.specs.declared.entry.Entry.{Entry}
 use Rattle.sms_construct.specs.declared.reply.Reply.{Reply}
@@ -66,6 +68,11 @@ no_set_page = record { status = statuses.Missing; body = error_body (codes "no d
 abbrev pub desk_page : DeskState → ℕ → Page
 desk_page s entries =
     showing (desk_body (option_map (λ config. s.activations) s.active) entries (length (volumes_in s.active)))
+
+-- the text of the active deck
+abbrev pub deck_page : Option Configuration → Page
+deck_page None = showing no_deck_body
+deck_page (Some config) = showing (deck_body config.deck)
 
 -- all storage groups
 abbrev pub groups_page : DeskState → Page
@@ -132,6 +139,7 @@ IsGotten s journal paths.Health page = page ≡ showing health_body
 IsGotten s journal paths.Answers page = page ≡ answers_page journal
 IsGotten s journal paths.Check page = page ≡ posted_alone_page
 IsGotten s journal (paths.Classify job dsn) page = page ≡ posted_alone_page
+IsGotten s journal paths.Deck page = page ≡ deck_page s.active
 IsGotten s journal paths.Groups page = page ≡ groups_page s
 IsGotten s journal paths.Volumes page = page ≡ volumes_page s
 IsGotten s journal (paths.Volume volser from) page = IsVolumePage s (volume_named s volser) from page
@@ -147,6 +155,7 @@ IsPosted s body paths.Health page = page ≡ not_allowed_page
 IsPosted s body paths.Answers page = page ≡ not_allowed_page
 IsPosted s body paths.Check page = IsCheckPage s body page
 IsPosted s body (paths.Classify job dsn) page = page ≡ classified_page s.active job (alloc_asked dsn body)
+IsPosted s body paths.Deck page = page ≡ not_allowed_page
 IsPosted s body paths.Groups page = page ≡ not_allowed_page
 IsPosted s body paths.Volumes page = page ≡ not_allowed_page
 IsPosted s body (paths.Volume volser from) page = page ≡ not_allowed_page

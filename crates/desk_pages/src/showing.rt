@@ -3,7 +3,7 @@ ghost use Rattle.std.specs.Prelude.{◌≡◌, IfOk, length};
 ghost use Rattle.desk_law.specs.State.{DeskState, set_named};
 ghost use Rattle.page_text.specs.PageBodies.{health_body};
 ghost use Rattle.desk_pages.specs.DeskPages.{IsGotten, IsPage, IsPosted, IsSetsPage, answers_page, bad_page};
-ghost use Rattle.desk_pages.specs.DeskPages.{desk_page, missing_page, set_page, showing};
+ghost use Rattle.desk_pages.specs.DeskPages.{deck_page, desk_page, missing_page, set_page, showing};
 
 use crate::checking::check;
 use crate::classifying::classification;
@@ -15,7 +15,9 @@ use crate::shown_desk::ShownDesk;
 use dsn_mask::{Dsn, Mask};
 use http_flow::{Page, PageStatus};
 use page_paths::{PagePath, read_page_path};
-use page_text::{answers_body, desk_body, health_body, set_body, sets_body};
+use page_text::{
+    answers_body, deck_body, desk_body, health_body, no_deck_body, set_body, sets_body,
+};
 use std::alloc::{AllocError, Global};
 
 /// The page at this path of the desk as it stands, with this body if it is asked by POST (docs/manual/smsd.md, "What
@@ -54,6 +56,7 @@ fn posted<D: ShownDesk>(
         PagePath::Desk
         | PagePath::Health
         | PagePath::Answers
+        | PagePath::Deck
         | PagePath::Groups
         | PagePath::Volumes
         | PagePath::Volume { .. }
@@ -74,6 +77,7 @@ fn gotten<D: ShownDesk>(alloc: Global, desk: &D, asked: PagePath) -> Result<Page
         PagePath::Check | PagePath::Classify { .. } => {
             refused(alloc, PageStatus::NotAllowed, b"this page is asked by POST")
         }
+        PagePath::Deck => deck(alloc, desk),
         PagePath::Groups => groups(alloc, desk),
         PagePath::Volumes => volumes(alloc, desk),
         PagePath::Volume { volser, from } => volume(alloc, desk, &volser, from),
@@ -102,6 +106,22 @@ fn health(alloc: Global) -> Result<Page, AllocError>
 {
     let body = health_body(alloc)?;
     Ok(shown(body))
+}
+
+// The text of the active deck.
+fn deck<D: ShownDesk>(alloc: Global, desk: &D) -> Result<Page, AllocError>
+    ensures { IfOk result (λ page. (s : DeskState) → D.stands desk.now s → page ≡ deck_page s.active) }
+{
+    match desk.config() {
+        Some(config) => {
+            let body = deck_body(alloc, config.deck())?;
+            Ok(shown(body))
+        }
+        None => {
+            let body = no_deck_body(alloc)?;
+            Ok(shown(body))
+        }
+    }
 }
 
 // The last entries of the journal.

@@ -88,9 +88,10 @@ page_of_some path word =
     if bytes_eq word (codes "SETS") then sets_at path (segment 2 path) else
     if bytes_eq word (codes "SET") then set_at path (segment 2 path) else pages.Missing
 
--- the page by the first word of its path, where it shows volumes or data sets
+-- the page by the first word of its path, where it shows what is active, or data sets
 abbrev pub page_of_pool : List ℕ → List ℕ → PagePath
 page_of_pool path word =
+    if bytes_eq word (codes "DECK") then alone 2 path pages.Deck else
     if bytes_eq word (codes "GROUPS") then alone 2 path pages.Groups else
     if bytes_eq word (codes "VOLUMES") then alone 2 path pages.Volumes else page_of_some path word
 

@@ -18,6 +18,8 @@ pub enum PagePath {
         job: Name,
         dsn: Dsn,
     },
+    /// The text of the active deck.
+    Deck,
     /// All storage groups.
     Groups,
     /// All volumes.

@@ -44,10 +44,13 @@ fn page_by(alloc: Global, path: &[u8], word: &[u8]) -> Result<PagePath, AllocErr
     page_of_pool(alloc, path, word)
 }
 
-// The page by the first word of its path, where it shows volumes or data sets.
+// The page by the first word of its path, where it shows what is active, or data sets.
 fn page_of_pool(alloc: Global, path: &[u8], word: &[u8]) -> Result<PagePath, AllocError>
     ensures { IfOk result (λ page. page ≡ page_of_pool path.now word.now) }
 {
+    if word == b"DECK".as_slice() {
+        return alone(alloc, 2, path, PagePath::Deck);
+    }
     if word == b"GROUPS".as_slice() {
         return alone(alloc, 2, path, PagePath::Groups);
     }

@@ -38,6 +38,11 @@ static ROWS: &[(&str, &str, &str)] = &[
         ",\"gaps\":[{\"start\":402,\"tracks\":98}],\"next\":null}",
     ),
     (
+        "/deck",
+        "{\"deck\":\"version = 1\\n[storclass.SC1]\\n",
+        "storgroup = \\\"PROC STORGRP SET &STORGRP = 'SG1' END\\\"\\n\"}",
+    ),
+    (
         "/answers",
         "{\"answers\":[{\"place\":202,\"first\":202,\"job\":\"J\",\"number\":1201,\"code\":\"A00\",",
         ",{\"place\":3,\"first\":3,\"job\":\"J\",\"number\":1002,\"code\":\"A00\",\"asked\":\"ALLOC\",\

@@ -111,6 +111,7 @@ const MISSING: &str = "{\"error\":\"there is no page at this path\"}";
 static EMPTY: &[Row] = &[
     (false, "/desk", "", PageStatus::Shown, "{\"activations\":null,\"entries\":0,\"volumes\":0}"),
     (false, "/answers", "", PageStatus::Shown, "{\"answers\":[]}"),
+    (false, "/deck", "", PageStatus::Shown, "{\"deck\":null}"),
     (false, "/groups", "", PageStatus::Shown, "{\"groups\":[]}"),
     (false, "/volume/VOL001", "", PageStatus::Missing, "{\"error\":\"no active volume has this serial\"}"),
     (true, "/classify/JOB1/A.B", "", PageStatus::Missing, "{\"error\":\"no configuration is active\"}"),

@@ -148,6 +148,14 @@ desk_body activations entries volumes =
     (member (codes "entries") (count entries)
     (member (codes "volumes") (count volumes) no_members))))
 
+-- the page of the active deck, whose text this is
+abbrev pub deck_body : List ℕ → List ℕ
+deck_body deck = compact_text (object (member (codes "deck") (string deck) no_members))
+
+-- the same where none is active
+abbrev pub no_deck_body : List ℕ
+no_deck_body = compact_text (object (member (codes "deck") null no_members))
+
 -- the page that says that the desk is there
 abbrev pub health_body : List ℕ
 health_body = compact_text (object (member (codes "health") (string (codes "ok")) no_members))
