@@ -1,9 +1,103 @@
--- How a task of the program ends (docs/manual/smsd.md, "Exit statuses").
-use Rattle.std.specs.Prelude.{ℕ, ◌≡◌, ◌⊎◌}
+-- How a task of the program ends: its exit status and the cause (docs/manual/smsd.md, "Exit statuses").
+use Rattle.std.specs.Prelude.{◌≡◌, ◌⊎◌, ℕ, Bool, true, false, Option, not, ◌&&◌, if◌then◌else◌}
+use Rattle.sqlite.specs.declared.error.Error.{Error}
+use Rattle.sqlite.specs.declared.error.Error.TheVariants.{SqliteFailure}
+use Rattle.sqlite.specs.declared.error.ErrorCode.{ErrorCode}
+use Rattle.sqlite.specs.declared.error.ErrorCode.TheVariants.{OutOfMemory}
+use Rattle.sms_base.specs.Observed.{Observed}
+use Rattle.sms_keeper.specs.declared.keeper.Keeper.{Ghosts}
+use Rattle.sms_keeper.specs.declared.table.Table.{Table}
+use Rattle.desk_calls.specs.declared.status.RunStatus.{RunStatus}
+use Rattle.desk_calls.specs.declared.status.RunStatus.TheVariants.{Done}
+use Rattle.store_report.specs.declared.query.Query.{Query}
+use Rattle.store_calls.specs.Checked.{StoreCheckEnds}
 use Rattle.store_calls.specs.Statuses.{store_status_of}
+use Rattle.store_calls.specs.StoreLists.{Seen, StoreListEnds}
+use Rattle.store_calls.specs.StoreRun.{StoreRunEnds}
 use Rattle.store_calls.specs.declared.status.StoreStatus.{StoreStatus}
+use Rattle.store_calls.specs.declared.status.StoreStatus.TheVariants.{Ran, Unopened}
+use Rattle.smsd_words.specs.declared.task.Task.{Task}
+use Rattle.smsd_words.specs.declared.task.Task.TheVariants as tasks
+use Rattle.smsd.specs.Served.{IsServedEnd}
 
--- the number is that of a deck that wouldn't be active, of waiting that failed, of a file or a port that can't be had,
--- or of how a call over the store ended
-abbrev pub IsEnd : ℕ → Type 0
-IsEnd code = (code ≡ 1) ⊎ ((code ≡ 8) ⊎ ((code ≡ 9) ⊎ ((status : StoreStatus) × (code ≡ store_status_of status))))
+-- the exit status where the file of a store can't be opened: 7 where memory was wanting, else 9
+
+abbrev pub failure_status_of : ErrorCode → ℕ
+failure_status_of OutOfMemory = 7
+failure_status_of _ = 9
+
+abbrev pub unopened_status_of : Error → ℕ
+unopened_status_of (SqliteFailure code) = failure_status_of code
+unopened_status_of _ = 9
+
+-- there is no such file, or it can't be opened for some error
+abbrev pub IsUnopened : ℕ → Type 0
+IsUnopened code = (code ≡ 9) ⊎ ((error : Error) × (code ≡ unopened_status_of error))
+
+-- the number is that of how a call over a store ended
+abbrev pub IsOfCall : ℕ → Type 0
+IsOfCall code = (status : StoreStatus) × (code ≡ store_status_of status)
+
+-- the store wasn't opened, or it is that of the call over it
+abbrev pub IsStoreEnd : ℕ → Type 0
+IsStoreEnd code = IsUnopened code ⊎ IsOfCall code
+
+-- the input wasn't opened, or the task that reads it ended so
+abbrev pub IsReadEnd : (ℕ → Type 0) → ℕ → Type 0
+IsReadEnd ends code = (code ≡ 3) ⊎ ends code
+
+-- all was written
+abbrev pub is_whole : RunStatus → Bool
+is_whole Done = true
+is_whole _ = false
+
+abbrev pub is_done : StoreStatus → Bool
+is_done (Ran status) = is_whole status
+is_done (Unopened err) = false
+
+-- the answer of a check was written, and the deck wouldn't be active
+abbrev pub is_inactive : StoreStatus → Bool → Bool
+is_inactive status good = is_done status && not good
+
+-- the exit status of a check
+abbrev pub check_status_of : StoreStatus → Bool → ℕ
+check_status_of status good = if is_inactive status good then 1 else store_status_of status
+
+-- the number is that of how a check ended
+abbrev pub IsOfCheck : ℕ → Type 0
+IsOfCheck code = (status : StoreStatus) × (good : Bool) × (code ≡ check_status_of status good)
+
+-- the store wasn't opened, or it is that of the check on it
+abbrev pub IsCheckEnd : ℕ → Type 0
+IsCheckEnd code = IsUnopened code ⊎ IsOfCheck code
+
+-- the store wasn't opened, or it is that of serving it
+abbrev pub IsServeEnd : ℕ → Type 0
+IsServeEnd code = IsUnopened code ⊎ IsServedEnd code
+
+-- how each task may end
+abbrev pub IsTaskEnd : Task → ℕ → Type 0
+IsTaskEnd (tasks.Run script volumes) code = IsReadEnd IsStoreEnd code
+IsTaskEnd (tasks.List query) code = IsStoreEnd code
+IsTaskEnd (tasks.Serve serving) code = IsServeEnd code
+IsTaskEnd (tasks.Check deck) code = IsReadEnd IsCheckEnd code
+
+module _ {P : Type 0} (told_by : Ghosts P) (damage : P → Option (Table × ℕ)) where
+  -- the number is that of the status with which a script was answered on the store
+  pub record EndsRun (volumes : Bool) (old new : Observed) (before after : P) (code : ℕ) : Type 0 where
+    pub status : StoreStatus
+    pub ends : StoreRunEnds told_by damage volumes old new before after status
+    pub code_is : code ≡ store_status_of status
+
+  -- the number is that of the status with which the store was listed
+  pub record EndsList (query : Query) (old new : Seen) (before after : P) (code : ℕ) : Type 0 where
+    pub status : StoreStatus
+    pub ends : StoreListEnds told_by damage query old new before after status
+    pub code_is : code ≡ store_status_of status
+
+  -- the number is that of the status with which a deck was checked on the store, and of whether it would be active
+  pub record EndsCheck (old new : Observed) (before after : P) (code : ℕ) : Type 0 where
+    pub status : StoreStatus
+    pub good : Bool
+    pub ends : StoreCheckEnds told_by damage good old new before after status
+    pub code_is : code ≡ check_status_of status good

@@ -3,7 +3,7 @@
 #![tactic(auto)]
 
 ghost use Rattle.std.specs.Process.{exit_status};
-ghost use Rattle.smsd.specs.Ends.{IsEnd};
+ghost use Rattle.smsd.specs.Ends.{IsTaskEnd};
 
 mod checking;
 mod ending;
@@ -39,7 +39,7 @@ fn obey(rt: &HostRuntime, words: &[String]) -> ExitCode {
 
 // Does the task on the store, and ends the program.
 fn act(rt: &HostRuntime, store: &str, task: &Task<'_>) -> ExitCode
-    ensures { IsEnd (exit_status result) }
+    ensures { IsTaskEnd task.now (exit_status result) }
 {
     match task {
         Task::Run {

@@ -1,0 +1,12 @@
+use Rattle.std.proofs.Common.{inl, inr}
+use Rattle.std.specs.Process.{exit_status}
+use Rattle.smsd.specs.Ends.{IsOfCheck}
+use Rattle.smsd.proofs.EndLemmas.{opened_end}
+use Rattle.smsd.proofs.checking.check_opened.Goals as goal
+
+pub returns-in-Ok-clause-ends : goal.returns-in-Ok-clause-ends
+returns-in-Ok-clause-ends g c =
+    inr (opened_end IsOfCheck c.open_present.result (exit_status c.check_source.result) c.open_present.ensures c.check_source.ensures.unopened c.check_source.ensures.checked)
+
+pub returns-in-Err-clause-ends : goal.returns-in-Err-clause-ends
+returns-in-Err-clause-ends g c = inl c.refuse.ensures

@@ -1,0 +1,4 @@
+use Rattle.smsd.proofs.running.answer.Goals as goal
+
+pub returns : goal.returns
+returns g c = record { status = c.store_run-status.result.0; ends = c.store_run-status.ensures.ends; code_is = c.end_with.ensures }
