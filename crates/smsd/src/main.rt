@@ -1,5 +1,5 @@
-//! The lasting desk as a program: it answers a script on a store, lists what the store holds, serves it, or
-//! checks a deck there.
+//! The lasting desk as a program: it answers a script on a store, lists what the store holds, serves it, checks a deck
+//! or manages space there.
 #![tactic(auto)]
 
 ghost use Rattle.std.specs.Process.{exit_status};
@@ -10,6 +10,7 @@ mod ending;
 mod explaining;
 mod kept_source;
 mod listing;
+mod managing;
 mod noted_sink;
 mod running;
 mod serving;
@@ -53,6 +54,7 @@ fn act(rt: &HostRuntime, store: &str, task: &Task<'_>) -> ExitCode
         Task::List(query) => listing::list(rt, store, query),
         Task::Serve(serving) => serving::serve(rt, store, *serving),
         Task::Check { deck } => checking::check(rt, store, deck),
+        Task::Manage { day, dry } => managing::manage(rt, store, *day, *dry),
     }
 }
 

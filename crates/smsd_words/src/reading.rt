@@ -10,6 +10,7 @@ ghost use Rattle.smsd_words.specs.declared.task.Task.{Task as TaskOf};
 
 use crate::command::smsd_command;
 use crate::examples::examples_of;
+use crate::manage_words::day_in;
 use crate::query_words::query_in;
 use crate::serve_words::serving_in;
 use crate::task::{Asked, Task};
@@ -103,6 +104,15 @@ fn task_of<'a>(name: &str, matches: &ArgMatches<'a>) -> Option<Task<'a>>
     if name == "check" {
         return match value_of(matches, "deck") {
             Some(deck) => Some(Task::Check { deck }),
+            None => None,
+        };
+    }
+    if name == "manage" {
+        return match day_in(matches) {
+            Some(day) => Some(Task::Manage {
+                day,
+                dry: is_set(matches, "dry-run"),
+            }),
             None => None,
         };
     }

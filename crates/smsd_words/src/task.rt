@@ -27,4 +27,9 @@ pub enum Task<'a> {
     Check {
         deck: &'a str,
     },
+    /// What space management has to do on this day is done on it; with `dry` it is told and not done.
+    Manage {
+        day: u32,
+        dry: bool,
+    },
 }
