@@ -20,6 +20,17 @@ static CHECKED: &[(&[&str], &str, &str)] = &[
     (&["check", "--store", "s", "--", "-d"], "s", "-d"),
 ];
 
+// Words, the store, the day and whether it is only told.
+static MANAGED: &[(&[&str], &str, u32, bool)] = &[
+    (&["manage", "3"], "desk.db", 3, false),
+    (
+        &["manage", "--dry-run", "9999999", "--store=s"],
+        "s",
+        9999999,
+        true,
+    ),
+];
+
 // Words, and the listing, the form, the mask, the storage group and the volume.
 #[rattlefmt::skip]
 static LISTS: &[(&[&str], Listing, Format, [&str; 3])] = &[
@@ -59,6 +70,10 @@ static HINDERED: &[(&[&str], WordsErr)] = &[
     (&["serve", "--idle", "x"], WordsErr::Bad),
     (&["serve", "8080"], WordsErr::Bad),
     (&["check"], WordsErr::Bad),
+    (&["manage"], WordsErr::Bad),
+    (&["manage", "10000000"], WordsErr::Bad),
+    (&["manage", "-1"], WordsErr::Bad),
+    (&["manage", "1", "--dry-run", "--dry-run"], WordsErr::Bad),
     (&["help"], WordsErr::Bad),
     (&["--help"], WordsErr::Shown),
     (&["list", "-h"], WordsErr::Shown),
@@ -105,6 +120,26 @@ fn are_checked(alloc: Global) -> Result<bool, Fail> {
                     task: Task::Check { deck: found },
                 },
             ) => named == *store && found == *deck,
+            _ => false,
+        };
+    }
+    Ok(good)
+}
+
+fn are_managed(alloc: Global) -> Result<bool, Fail> {
+    let mut good = true;
+    for (list, store, day, dry) in MANAGED {
+        let words = words_of(alloc, list)?;
+        good &= match task_asked(alloc, &words) {
+            Ok(
+                Asked {
+                    store: named,
+                    task: Task::Manage {
+                        day: found,
+                        dry: asked,
+                    },
+                },
+            ) => named == *store && found == *day && asked == *dry,
             _ => false,
         };
     }
@@ -193,7 +228,7 @@ fn are_hindered(alloc: Global) -> Result<bool, Fail> {
 fn words_in_any_order_ask_for_a_task(rt: HostRuntime) -> Result<(), Fail> {
     let alloc = rt.alloc();
     let good = are_runs(alloc)? && are_listed(alloc)? && are_served(alloc)? && are_checked(alloc)?;
-    assert!(rt; good);
+    assert!(rt; good && are_managed(alloc)?);
     Ok(())
 }
 
