@@ -20,7 +20,7 @@ use Rattle.store_calls.specs.declared.status.StoreStatus.{StoreStatus}
 use Rattle.store_calls.specs.declared.status.StoreStatus.TheVariants.{Ran, Unopened}
 use Rattle.smsd_words.specs.declared.task.Task.{Task}
 use Rattle.smsd_words.specs.declared.task.Task.TheVariants as tasks
-use Rattle.smsd.specs.Served.{IsServedEnd}
+use Rattle.smsd.specs.Served.{IsPortEnd}
 
 -- the exit status where the file of a store can't be opened: 7 where memory was wanting, else 9
 
@@ -75,7 +75,7 @@ IsCheckEnd code = IsUnopened code ⊎ IsOfCheck code
 
 -- the store wasn't opened, or it is that of serving it
 abbrev pub IsServeEnd : ℕ → Type 0
-IsServeEnd code = IsUnopened code ⊎ IsServedEnd code
+IsServeEnd code = IsUnopened code ⊎ IsPortEnd code
 
 -- how each task may end
 abbrev pub IsTaskEnd : Task → ℕ → Type 0

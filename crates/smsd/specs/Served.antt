@@ -35,8 +35,8 @@ abbrev pub IsOfServing : ℕ → Type 0
 IsOfServing code = (end : ServingEnd) × (code ≡ serving_status_of end)
 
 -- the port wasn't had, or it is that of serving there
-abbrev pub IsServedEnd : ℕ → Type 0
-IsServedEnd code = IsUnbound code ⊎ IsOfServing code
+abbrev pub IsPortEnd : ℕ → Type 0
+IsPortEnd code = IsUnbound code ⊎ IsOfServing code
 
 module _ {P C : Type 0} (told : P → Option Rows) (count : P → ℕ) (damage : P → Option (Table × ℕ))
     (seen : C → WireSeen) where

@@ -4,7 +4,7 @@ ghost use Rattle.std.specs.Process.{exit_status};
 ghost use Rattle.store_calls.specs.Statuses.{store_status_of};
 ghost use Rattle.store_calls.specs.declared.status.StoreStatus.TheVariants.{Unopened};
 ghost use Rattle.smsd.specs.Ends.{IsServeEnd};
-ghost use Rattle.smsd.specs.Served.{EndsServe, IsOfServing, IsServedEnd, IsUnbound, loop_status_of, serving_status_of};
+ghost use Rattle.smsd.specs.Served.{EndsServe, IsOfServing, IsPortEnd, IsUnbound, loop_status_of, serving_status_of};
 
 use crate::ending::{end_refused, end_unwaited, end_wanting, end_well, end_with};
 use crate::explaining::{note_port, note_status};
@@ -37,7 +37,7 @@ fn serve_opened(
     opened: Result<FileKeeper, ExitCode>,
 ) -> ExitCode
     ensures unopened { IfErr opened (λ code. exit_status result ≡ exit_status code) }
-    ensures served { IfOk opened (λ _. IsServedEnd (exit_status result)) }
+    ensures served { IfOk opened (λ _. IsPortEnd (exit_status result)) }
 {
     match opened {
         Ok(keeper) => serve_keeper(rt, serving, keeper),
@@ -47,7 +47,7 @@ fn serve_opened(
 
 // Serves the store of the keeper, where the port is to be had.
 fn serve_keeper(rt: &HostRuntime, serving: Serving, keeper: FileKeeper) -> ExitCode
-    ensures { IsServedEnd (exit_status result) }
+    ensures { IsPortEnd (exit_status result) }
 {
     let address = SocketAddr::from((Ipv4Addr::LOCALHOST, serving.port));
     let most = usize::from(serving.connections);
