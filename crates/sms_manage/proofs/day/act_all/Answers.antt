@@ -1,9 +1,17 @@
 -- One data set after the other.
-use Rattle.std.proofs.Common.{◌∙◌, ap, sym}
-use Rattle.sms_manage.proofs.AskingLemmas.{asking-more, asks-asking}
-use Rattle.sms_manage.proofs.SoFarLemmas.{day-acts, day-begun, day-over, day-passes, on-err}
+use Rattle.std.proofs.Common.{◌∙◌, ap, refl, sym}
+use Rattle.sms_manage.proofs.AskingLemmas.{asking-more, asking-none, asks-asking}
+use Rattle.sms_manage.proofs.SoFarLemmas.{day-acts, day-begins, day-begun, day-over, day-passes, on-err}
 use Rattle.sms_manage.proofs.day.act_all.Goals.{in-Some-op_for+in_ok-act_on, in_default-op_for}
 use Rattle.sms_manage.proofs.day.act_all.Goals as goal
+
+pub loop-init : goal.loop-init
+loop-init g c = record {
+  opening = refl;
+  mark = refl;
+  asking = asking-none c.args.core.now.journal;
+  far = λ before reaches. rw c.new-acts.ensures.items (day-begins c.args.first c.args.core.now.opening c.args.day c.args.config.now before c.args.core.now.journal reaches c.requires);
+}
 
 pub returns-in_default-clause-managed : goal.returns-in_default-clause-managed
 returns-in_default-clause-managed g c = λ before reaches active.
