@@ -74,22 +74,11 @@ fn push_due(
 {
     let mut rest = sets;
     while let [shared, others @ ..] = rest {
-        push_due_of(text, config, day, shared.get())?;
+        let set = shared.get();
+        push_wanted(text, &set.dsn, due(set, config, day))?;
         rest = others;
     }
     Ok(())
-}
-
-// Puts the line of a data set behind others, where something is due of it.
-fn push_due_of(
-    text: &mut Vec<u8>,
-    config: &Config,
-    day: u32,
-    set: &DataSet,
-) -> Result<(), AllocError>
-    ensures { OnOk result (text.new.items ≡ text.old.items ++ due_line config.now day set.now) }
-{
-    push_wanted(text, &set.dsn, due(set, config, day))
 }
 
 // The line of the data set of this name, of which this is due.
