@@ -2,7 +2,6 @@
 ghost use Rattle.std.specs.Prelude.{◌≡◌, IfErr, IfOk};
 ghost use Rattle.std.specs.Process.{exit_status};
 ghost use Rattle.store_calls.specs.Statuses.{store_status_of};
-ghost use Rattle.store_calls.specs.declared.status.StoreStatus.TheVariants.{Unopened};
 ghost use Rattle.smsd.specs.Ends.{IsServeEnd};
 ghost use Rattle.smsd.specs.Served.{EndsServe, IsOfServing, IsPortEnd, IsUnbound, loop_status_of, serving_status_of};
 
@@ -112,7 +111,7 @@ fn end_serving(rt: &HostRuntime, why: ServingEnd) -> ExitCode
 
 // Says why no desk goes on from the store, and ends the program.
 fn end_unserved(rt: &HostRuntime, err: OpenErr) -> ExitCode
-    ensures { exit_status result ≡ store_status_of (Unopened err) }
+    ensures { exit_status result ≡ store_status_of (StoreStatus.Unopened err) }
 {
     let status = StoreStatus::Unopened(err);
     let mut note = String::new(rt.alloc());
