@@ -100,8 +100,8 @@ AreAnswersBehind config day sets h (act ∷ acts) =
     × AreAnswersBehind config day sets (h ++ entry_for (op_if config day (set_named act.dsn sets)) act) acts
 
 -- from the state before, in which this configuration was active, the acts lead to the state after
-pub record IsManaged (first : ℕ) (o : Opening) (day : ℕ) (config : Configuration) (before after : DeskState) (old new : List Entry)
-    (acts : List Act) : Type 0 where
+pub record IsManaged (first : ℕ) (o : Opening) (day : ℕ) (config : Configuration) (before after : DeskState)
+    (old new : List Entry) (acts : List Act) : Type 0 where
   pub active : before.active ≡ Some config
   pub acts_are : AreActs first config day before.sets acts
   pub journal : new ≡ old ++ entries_of config day before.sets acts
