@@ -2,8 +2,8 @@
 ghost use Rattle.std.specs.Prelude.{◌≡◌, IfErr, IfOk, OnErr};
 ghost use Rattle.std.specs.Process.{exit_status};
 ghost use Rattle.sms_base.specs.Observed.{seen_streams};
-ghost use Rattle.smsd.specs.Ends.{EndsCheck, IsCheckEnd, IsOfCheck, IsReadEnd, check_status_of, is_done};
-ghost use Rattle.smsd.specs.Ends.{is_inactive, is_whole};
+ghost use Rattle.smsd.specs.Ends.{IsCheckEnd, IsOfCheck, IsReadEnd, check_status_of, is_done, is_inactive, is_whole};
+ghost use Rattle.smsd.specs.Inner.Calls.{EndsCheck};
 
 use crate::ending::{end_inactive, end_with};
 use crate::explaining::{note_deck, note_status};

@@ -2,7 +2,8 @@
 ghost use Rattle.std.specs.Prelude.{◌≡◌, IfErr, IfOk};
 ghost use Rattle.std.specs.Process.{exit_status};
 ghost use Rattle.store_calls.specs.StoreLists.{seen_sink};
-ghost use Rattle.smsd.specs.Ends.{EndsManage, IsOfCall, IsStoreEnd, ManageEnds};
+ghost use Rattle.smsd.specs.Ends.{IsOfCall, IsStoreEnd};
+ghost use Rattle.smsd.specs.Inner.Calls.{EndsManage, ManageEnds};
 
 use crate::ending::end_with;
 use crate::explaining::note_status;

@@ -2,7 +2,8 @@
 ghost use Rattle.std.specs.Prelude.{◌≡◌, IfErr, IfOk, OnErr};
 ghost use Rattle.std.specs.Process.{exit_status};
 ghost use Rattle.sms_base.specs.Observed.{seen_streams};
-ghost use Rattle.smsd.specs.Ends.{EndsRun, IsOfCall, IsReadEnd, IsStoreEnd};
+ghost use Rattle.smsd.specs.Ends.{IsOfCall, IsReadEnd, IsStoreEnd};
+ghost use Rattle.smsd.specs.Inner.Calls.{EndsRun};
 
 use crate::ending::{end_unread, end_with};
 use crate::explaining::{note_status, note_unread};

@@ -3,7 +3,8 @@ ghost use Rattle.std.specs.Prelude.{◌≡◌, IfErr, IfOk};
 ghost use Rattle.std.specs.Process.{exit_status};
 ghost use Rattle.store_calls.specs.Statuses.{store_status_of};
 ghost use Rattle.smsd.specs.Ends.{IsServeEnd};
-ghost use Rattle.smsd.specs.Served.{EndsServe, IsOfServing, IsPortEnd, IsUnbound, loop_status_of, serving_status_of};
+ghost use Rattle.smsd.specs.Inner.Serving.{EndsServe};
+ghost use Rattle.smsd.specs.Served.{IsOfServing, IsPortEnd, IsUnbound, loop_status_of, serving_status_of};
 
 use crate::ending::{end_refused, end_unwaited, end_wanting, end_well, end_with};
 use crate::explaining::{note_port, note_status};
