@@ -48,21 +48,30 @@ abbrev pub is_done : StoreStatus → Bool
 is_done (Ran status) = is_whole status
 is_done (Unopened err) = false
 
--- the answer of a check was written, and the deck wouldn't be active
-abbrev pub is_inactive : StoreStatus → Bool → Bool
-is_inactive status good = is_done status && not good
+-- all was written, and what was written isn't good
+abbrev pub is_bad : StoreStatus → Bool → Bool
+is_bad status good = is_done status && not good
 
--- the exit status of a check
-abbrev pub check_status_of : StoreStatus → Bool → ℕ
-check_status_of status good = if is_inactive status good then 1 else store_status_of status
+-- the exit status where what is written is judged: 1 where it isn't good
+abbrev pub judged_status_of : StoreStatus → Bool → ℕ
+judged_status_of status good = if is_bad status good then 1 else store_status_of status
 
--- the number is that of how a check ended
-abbrev pub IsOfCheck : ℕ → Type 0
-IsOfCheck code = (status : StoreStatus) × (good : Bool) × (code ≡ check_status_of status good)
+-- the number is that of how a call ended whose text is judged
+abbrev pub IsOfJudged : ℕ → Type 0
+IsOfJudged code = (status : StoreStatus) × (good : Bool) × (code ≡ judged_status_of status good)
 
--- the store wasn't opened, or it is that of the check on it
-abbrev pub IsCheckEnd : ℕ → Type 0
-IsCheckEnd code = IsUnopened code ⊎ IsOfCheck code
+-- the store wasn't opened, or it is that of the call over it
+abbrev pub IsJudgedEnd : ℕ → Type 0
+IsJudgedEnd code = IsUnopened code ⊎ IsOfJudged code
+
+-- only a strict script is judged
+abbrev pub IsOfScript : Bool → ℕ → Type 0
+IsOfScript true code = IsOfJudged code
+IsOfScript false code = IsOfCall code
+
+-- the store wasn't opened, or it is that of the script
+abbrev pub IsScriptEnd : Bool → ℕ → Type 0
+IsScriptEnd strict code = IsUnopened code ⊎ IsOfScript strict code
 
 -- the store wasn't opened, or it is that of serving it
 abbrev pub IsServeEnd : ℕ → Type 0
@@ -70,8 +79,8 @@ IsServeEnd code = IsUnopened code ⊎ IsPortEnd code
 
 -- how each task may end
 abbrev pub IsTaskEnd : Task → ℕ → Type 0
-IsTaskEnd (tasks.Run script volumes) code = IsReadEnd IsStoreEnd code
+IsTaskEnd (tasks.Run script volumes strict) code = IsReadEnd (IsScriptEnd strict) code
 IsTaskEnd (tasks.List query) code = IsStoreEnd code
 IsTaskEnd (tasks.Serve serving) code = IsServeEnd code
-IsTaskEnd (tasks.Check deck) code = IsReadEnd IsCheckEnd code
+IsTaskEnd (tasks.Check deck) code = IsReadEnd IsJudgedEnd code
 IsTaskEnd (tasks.Manage day dry) code = IsStoreEnd code

@@ -2,15 +2,14 @@
 ghost use Rattle.std.specs.Prelude.{◌≡◌, IfErr, IfOk, OnErr};
 ghost use Rattle.std.specs.Process.{exit_status};
 ghost use Rattle.sms_base.specs.Observed.{seen_streams};
-ghost use Rattle.smsd.specs.Ends.{IsCheckEnd, IsOfCheck, IsReadEnd, check_status_of, is_done, is_inactive, is_whole};
+ghost use Rattle.smsd.specs.Ends.{IsJudgedEnd, IsOfJudged, IsReadEnd, judged_status_of};
 ghost use Rattle.smsd.specs.Inner.Calls.{EndsCheck};
 
-use crate::ending::{end_inactive, end_with};
+use crate::ending::{end_bad, end_with, is_bad};
 use crate::explaining::{note_deck, note_status};
 use crate::kept_source::KeptSource;
 use crate::running::refuse;
 use crate::store::{FileKeeper, close, open_present};
-use desk_calls::RunStatus;
 use sms_base::{Sink, Source, StdSink, StdSource};
 use sms_keeper::Stored;
 use std::io::Read;
@@ -20,7 +19,7 @@ use store_calls::{StoreStatus, store_check};
 
 /// Says what an activation of the deck in the file at the path would be answered on the store, and ends the program.
 pub fn check(rt: &HostRuntime, store: &str, path: &str) -> ExitCode
-    ensures { IsReadEnd IsCheckEnd (exit_status result) }
+    ensures { IsReadEnd IsJudgedEnd (exit_status result) }
 {
     check_opened(rt, store, path, fs::open(rt, path))
 }
@@ -33,7 +32,7 @@ fn check_opened<R: Read + Drop>(
     opened: io::Result<R>,
 ) -> ExitCode
     ensures unread { OnErr opened (exit_status result ≡ 3) }
-    ensures ends { IsReadEnd IsCheckEnd (exit_status result) }
+    ensures ends { IsReadEnd IsJudgedEnd (exit_status result) }
 {
     match opened {
         Ok(file) => check_source(rt, StdSource::new(file), open_present(rt, store)),
@@ -48,7 +47,7 @@ fn check_source<S: Source + Drop>(
     opened: Result<FileKeeper, ExitCode>,
 ) -> ExitCode
     ensures unopened { IfErr opened (λ code. exit_status result ≡ exit_status code) }
-    ensures checked { IfOk opened (λ _. IsOfCheck (exit_status result)) }
+    ensures checked { IfOk opened (λ _. IsOfJudged (exit_status result)) }
 {
     match opened {
         Ok(keeper) => {
@@ -80,35 +79,13 @@ fn check_deck<S: Source, K: Sink, P: Stored>(
 
 // Says how the check of a deck ended, where that isn't well, and ends the program.
 fn end_check(rt: &HostRuntime, status: StoreStatus, good: bool, deck: Option<&[u8]>) -> ExitCode
-    ensures { exit_status result ≡ check_status_of status good }
+    ensures { exit_status result ≡ judged_status_of status good }
 {
     let mut note = String::new(rt.alloc());
-    if is_inactive(status, good) {
+    if is_bad(status, good) {
         note_deck(rt.alloc(), &mut note, deck);
-        return end_inactive(rt, &note);
+        return end_bad(rt, &note);
     }
     note_status(rt.alloc(), &mut note, status, None);
     end_with(rt, status, &note)
-}
-
-// Whether the answer was written, and the deck wouldn't be active.
-fn is_inactive(status: StoreStatus, good: bool) -> bool
-    ensures { result ≡ is_inactive status good }
-{
-    is_done(status) && !good
-}
-
-fn is_done(status: StoreStatus) -> bool
-    ensures { result ≡ is_done status }
-{
-    match status {
-        StoreStatus::Ran(status) => is_whole(status),
-        StoreStatus::Unopened(_) => false,
-    }
-}
-
-fn is_whole(status: RunStatus) -> bool
-    ensures { result ≡ is_whole status }
-{
-    matches!(status, RunStatus::Done)
 }

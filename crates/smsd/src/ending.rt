@@ -1,6 +1,7 @@
 //! How the program ends.
 ghost use Rattle.std.specs.Prelude.{◌≡◌};
 ghost use Rattle.std.specs.Process.{exit_status};
+ghost use Rattle.smsd.specs.Ends.{is_bad, is_done, is_whole};
 ghost use Rattle.store_calls.specs.Statuses.{store_status_of};
 
 use crate::explaining::{NO_MEMORY, WAITING_FAULT};
@@ -9,8 +10,8 @@ use std::io::Write;
 use std::process::ExitCode;
 use store_calls::StoreStatus;
 
-// The exit statuses of a deck that wouldn't be active, of waiting that failed, and of a file or a port that can't be had.
-const NOT_ACTIVE: u8 = 1;
+// The exit statuses of what is judged and isn't good, of waiting that failed, and of a file or a port that can't be had.
+const NOT_GOOD: u8 = 1;
 
 const NOT_WAITED: u8 = 8;
 
@@ -58,12 +59,35 @@ pub fn end_unwaited(rt: &HostRuntime) -> ExitCode
     end(rt, NOT_WAITED, WAITING_FAULT)
 }
 
-/// Ends the program where a deck wouldn't be active, with what its note says.
-pub fn end_inactive(rt: &HostRuntime, note: &str) -> ExitCode
+/// Ends the program where a deck wouldn't be active, or a strict script has an answer that isn't good, with what its note
+/// says.
+pub fn end_bad(rt: &HostRuntime, note: &str) -> ExitCode
     ensures { exit_status result ≡ 1 }
 {
     say(rt, note);
-    ExitCode::from(NOT_ACTIVE)
+    ExitCode::from(NOT_GOOD)
+}
+
+/// Whether all was written, and what was written isn't good.
+pub fn is_bad(status: StoreStatus, good: bool) -> bool
+    ensures { result ≡ is_bad status good }
+{
+    is_done(status) && !good
+}
+
+fn is_done(status: StoreStatus) -> bool
+    ensures { result ≡ is_done status }
+{
+    match status {
+        StoreStatus::Ran(status) => is_whole(status),
+        StoreStatus::Unopened(_) => false,
+    }
+}
+
+fn is_whole(status: RunStatus) -> bool
+    ensures { result ≡ is_whole status }
+{
+    matches!(status, RunStatus::Done)
 }
 
 /// Ends the program where all went well.

@@ -46,11 +46,13 @@ fn act(rt: &HostRuntime, store: &str, task: &Task<'_>) -> ExitCode
         Task::Run {
             script: None,
             volumes,
-        } => running::run(rt, store, *volumes),
+            strict,
+        } => running::run(rt, store, *volumes, *strict),
         Task::Run {
             script: Some(path),
             volumes,
-        } => running::run_file(rt, store, *volumes, path),
+            strict,
+        } => running::run_file(rt, store, *volumes, *strict, path),
         Task::List(query) => listing::list(rt, store, query),
         Task::Serve(serving) => serving::serve(rt, store, *serving),
         Task::Check { deck } => checking::check(rt, store, deck),

@@ -136,9 +136,9 @@ day_in rows = option_and_then day_named (first_of (codes "day") rows)
 
 -- the subcommand of this name with these rows asks for this task
 abbrev pub AsksTask : Text → List Row → Task → Type 0
-AsksTask name rows (tasks.Run script volumes) =
+AsksTask name rows (tasks.Run script volumes strict) =
     (name ≡ codes "run") × (option_map (λ path. path.now) script ≡ first_of (codes "script") rows) ×
-    (volumes ≡ is_set (codes "volumes") rows)
+    (volumes ≡ is_set (codes "volumes") rows) × (strict ≡ is_set (codes "strict") rows)
 AsksTask name rows (tasks.List query) = (name ≡ codes "list") × (query_in rows ≡ Some query)
 AsksTask name rows (tasks.Serve serving) = (name ≡ codes "serve") × (serving_in rows ≡ Some serving)
 AsksTask name rows (tasks.Check deck) = (name ≡ codes "check") × (first_of (codes "deck") rows ≡ Some deck.now)

@@ -32,6 +32,7 @@ fn run_command<'a>(alloc: Global) -> Result<Command<'a>, AllocError>
     Command::new(alloc, "run")
         .arg(word(alloc, "script"))?
         .arg(flag(alloc, "volumes"))?
+        .arg(flag(alloc, "strict"))?
         .arg(option(alloc, "store"))
 }
 

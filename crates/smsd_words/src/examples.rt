@@ -4,7 +4,8 @@ use std::alloc::{AllocError, Global};
 const RUN: &str = "
 smsd run [SCRIPT]    answer a script on the store: the one in the file SCRIPT, or
                      the one on standard input; with --volumes the table of
-                     volumes stands behind the answers
+                     volumes stands behind the answers; with --strict the exit
+                     status is 1 where an answer is an R, F or M
 
     smsd run morning.txt --store payroll.db
 ";

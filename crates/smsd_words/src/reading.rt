@@ -87,6 +87,7 @@ fn task_of<'a>(name: &str, matches: &ArgMatches<'a>) -> Option<Task<'a>>
         return Some(Task::Run {
             script: value_of(matches, "script"),
             volumes: is_set(matches, "volumes"),
+            strict: is_set(matches, "strict"),
         });
     }
     if name == "list" {

@@ -5,13 +5,13 @@ use std::alloc::Global;
 use std::test::Fail;
 use store_report::{Format, Listing};
 
-// Words, and the store, the script and whether the table of volumes is asked for.
+// Words, and the store, the script, whether the table of volumes is asked for, and whether the script is strict.
 #[rattlefmt::skip]
-static RUNS: &[(&[&str], &str, Option<&str>, bool)] = &[
-    (&["run"], "desk.db", None, false),
-    (&["run", "--volumes", "a"], "desk.db", Some("a"), true),
-    (&["run", "a", "--store", "s"], "s", Some("a"), false),
-    (&["run", "--store=s", "--", "-a"], "s", Some("-a"), false),
+static RUNS: &[(&[&str], &str, Option<&str>, bool, bool)] = &[
+    (&["run"], "desk.db", None, false, false),
+    (&["run", "--volumes", "a"], "desk.db", Some("a"), true, false),
+    (&["run", "a", "--store", "s", "--strict"], "s", Some("a"), false, true),
+    (&["run", "--store=s", "--", "-a"], "s", Some("-a"), false, false),
 ];
 
 // Words, the store and the deck.
@@ -91,7 +91,7 @@ fn words_of(alloc: Global, list: &[&str]) -> Result<Vec<String>, Fail> {
 
 fn are_runs(alloc: Global) -> Result<bool, Fail> {
     let mut good = true;
-    for (list, store, script, volumes) in RUNS {
+    for (list, store, script, volumes, strict) in RUNS {
         let words = words_of(alloc, list)?;
         good &= match task_asked(alloc, &words) {
             Ok(
@@ -100,9 +100,10 @@ fn are_runs(alloc: Global) -> Result<bool, Fail> {
                     task: Task::Run {
                         script: found,
                         volumes: asked,
+                        strict: judged,
                     },
                 },
-            ) => named == *store && found == *script && asked == *volumes,
+            ) => { named == *store && found == *script && asked == *volumes && judged == *strict }
             _ => false,
         };
     }

@@ -11,14 +11,17 @@ use Rattle.store_calls.specs.StoreDue.{StoreDueEnds}
 use Rattle.store_calls.specs.StoreLists.{Seen, StoreListEnds}
 use Rattle.store_calls.specs.StoreRun.{StoreRunEnds}
 use Rattle.store_calls.specs.declared.status.StoreStatus.{StoreStatus}
-use Rattle.smsd.specs.Ends.{check_status_of}
+use Rattle.smsd.specs.Ends.{judged_status_of}
 
 module _ {P : Type 0} (told_by : Ghosts P) (damage : P → Option (Table × ℕ)) where
-  -- the number is that of the status with which a script was answered on the store
-  pub record EndsRun (volumes : Bool) (old new : Observed) (before after : P) (code : ℕ) : Type 0 where
+  -- the number is that of the status with which a script was answered on the store, and of whether its answers are good,
+  -- which all are where it isn't strict
+  pub record EndsRun (volumes strict : Bool) (old new : Observed) (before after : P) (code : ℕ) : Type 0 where
     pub status : StoreStatus
+    pub good : Bool
+    pub lenient : strict ≡ false → good ≡ true
     pub ends : StoreRunEnds told_by damage volumes old new before after status
-    pub code_is : code ≡ store_status_of status
+    pub code_is : code ≡ judged_status_of status good
 
   -- the number is that of the status with which the store was listed
   pub record EndsList (query : Query) (old new : Seen) (before after : P) (code : ℕ) : Type 0 where
@@ -42,4 +45,4 @@ module _ {P : Type 0} (told_by : Ghosts P) (damage : P → Option (Table × ℕ)
     pub status : StoreStatus
     pub good : Bool
     pub ends : StoreCheckEnds told_by damage good old new before after status
-    pub code_is : code ≡ check_status_of status good
+    pub code_is : code ≡ judged_status_of status good
