@@ -5,7 +5,7 @@ use dsn_mask::{Mask, MaskErr, Short, Simple};
 /// A text and its fault.
 type Form = (&'static [u8], Option<MaskErr>);
 
-const MASKS: [Form; 32] = [
+static MASKS: [Form; 32] = [
     (&[b'A'; 64], None),
     (b"A.**", None),
     (b"**.A", None),
@@ -40,7 +40,7 @@ const MASKS: [Form; 32] = [
     (b"**.", Some(EmptyPiece(2))),
 ];
 
-const SIMPLE_MASKS: [Form; 11] = [
+static SIMPLE_MASKS: [Form; 11] = [
     (&[b'%'; 64], None),
     (b"A..B", None),
     (b".*.", None),
@@ -54,25 +54,32 @@ const SIMPLE_MASKS: [Form; 11] = [
     (b".a", Some(BadByte(1))),
 ];
 
-#[test]
-fn masks_are_read_or_refused_with_their_first_fault(rt: HostRuntime) {
-    for (text, wanted) in MASKS {
-        assert_eq!(rt; Mask::parse(text).err(), wanted);
+fn are_masks() -> bool {
+    let mut good = true;
+    for (text, wanted) in &MASKS {
+        good &= Mask::parse(text).err() == *wanted;
     }
+    good
+}
+
+fn are_simple_masks() -> bool {
+    let mut good = true;
+    for (text, wanted) in &SIMPLE_MASKS {
+        good &= Simple::parse(text).err() == *wanted;
+    }
+    good
 }
 
 #[test]
-fn simple_masks_are_read_or_refused_with_their_first_fault(rt: HostRuntime) {
-    for (text, wanted) in SIMPLE_MASKS {
-        assert_eq!(rt; Simple::parse(text).err(), wanted);
-    }
+fn masks_are_read_or_refused_with_their_first_fault(rt: HostRuntime) {
+    assert!(rt; are_masks() && are_simple_masks());
 }
 
 /// A mask, a value, and whether the mask fits it.
 type Fit = (&'static str, &'static str, bool);
 
 #[rattlefmt::skip]
-const FITS: [Fit; 29] = [
+static FITS: [Fit; 29] = [
     ("**", "SYS1", true),
     ("**", "A.B.C", true),
     ("**", "", true),
@@ -104,7 +111,7 @@ const FITS: [Fit; 29] = [
     ("**.A.**.A.**.A.**.B", "A.A.A.A.A.A.A.A.A.A.A.A.A.A.A.A.A.A.A.A.A.A", false),
 ];
 
-const SIMPLE_FITS: [Fit; 10] = [
+static SIMPLE_FITS: [Fit; 10] = [
     ("*", "A.B.C", true),
     ("*", "", true),
     ("%", "", false),
@@ -127,16 +134,23 @@ fn simple_fits(simple: &str, value: &str) -> Option<bool> {
     Some(simple.matches(&Short::new(value.as_bytes())?))
 }
 
-#[test]
-fn masks_fit_qualifier_by_qualifier(rt: HostRuntime) {
-    for (mask, value, wanted) in FITS {
-        assert_eq!(rt; mask_fits(mask, value), Some(wanted), "{mask} {value}");
+fn are_fitted() -> bool {
+    let mut good = true;
+    for (mask, value, wanted) in &FITS {
+        good &= mask_fits(mask, value) == Some(*wanted);
     }
+    good
+}
+
+fn are_fitted_whole() -> bool {
+    let mut good = true;
+    for (simple, value, wanted) in &SIMPLE_FITS {
+        good &= simple_fits(simple, value) == Some(*wanted);
+    }
+    good
 }
 
 #[test]
-fn simple_masks_fit_over_the_whole_value(rt: HostRuntime) {
-    for (mask, value, wanted) in SIMPLE_FITS {
-        assert_eq!(rt; simple_fits(mask, value), Some(wanted), "{mask} {value}");
-    }
+fn masks_fit_by_qualifiers_and_simple_masks_over_the_whole_value(rt: HostRuntime) {
+    assert!(rt; are_fitted() && are_fitted_whole());
 }

@@ -1,9 +1,12 @@
 //! What statements do, one after another, as far as no ALLOC shows it.
-use crate::runs::{Ended, Run, compare_ending, compare_endings, compare_runs};
-use acs_tree::Ending::{Exit, Falls};
+use crate::runs::{Run, all_come, ends};
+use acs_tree::Ending::{self, Exit, Falls};
 use acs_tree::Kind::{StorClas, StorGrp};
-use std::alloc::{AllocError, Global};
+use std::alloc::Global;
 use std::test::Fail;
+
+/// What stands in a routine for storage groups, what its run is given, and how it ends.
+type Ended = (&'static str, &'static str, Ending);
 
 const FIFTEEN: &str =
     "STORGRP=A STORGRP=B STORGRP=C STORGRP=D STORGRP=E STORGRP=F STORGRP=G STORGRP=H STORGRP=I STORGRP=J STORGRP=K STORGRP=L STORGRP=M STORGRP=N STORGRP=O";
@@ -61,47 +64,16 @@ static SUBJECTS: [Ended; 7] = [
     (GROUP_ITEMS, "STORGRP=SG2", Exit(3)),
 ];
 
+fn all_end(alloc: Global) -> Result<bool, Fail> {
+    let mut good = true;
+    for (body, given, ending) in &SUBJECTS {
+        good &= ends(alloc, body, given, *ending)?;
+    }
+    Ok(good)
+}
+
 #[test]
 fn a_set_replaces_what_was_held_and_an_exit_ends_the_run(rt: HostRuntime) -> Result<(), Fail> {
-    compare_runs(&rt, rt.alloc(), &RUNS)?;
-    compare_endings(&rt, rt.alloc(), &SUBJECTS)
-}
-
-/// How many filter lists the routine has, and how often each is asked.
-const LISTS: usize = 200;
-
-const ROUNDS: usize = 25;
-
-/// What stands in a routine that asks each of its lists in turn, again and again, and ends where one holds.
-fn body(alloc: Global) -> Result<String, AllocError> {
-    let mut text = String::new(alloc);
-    for list in 0..LISTS {
-        let line = format!(in alloc; " FILTLIST F{list} INCLUDE('A{list}',B{list}%*)")?;
-        text.push_str(line.as_str())?;
-    }
-    for _ in 0..ROUNDS {
-        for list in 0..LISTS {
-            let line = format!(in alloc; " IF &HLQ = &F{list} THEN EXIT CODE({list})")?;
-            text.push_str(line.as_str())?;
-        }
-    }
-    text.push_str(" EXIT CODE(65535)")?;
-    Ok(text)
-}
-
-#[test]
-fn five_thousand_statements_ask_two_hundred_lists(rt: HostRuntime) -> Result<(), Fail> {
-    let alloc = rt.alloc();
-    let body = body(alloc)?;
-    for (given, ending) in [
-        ("DSN=A0.X", Exit(0)),
-        ("DSN=A199", Exit(199)),
-        ("DSN=B7X", Exit(7)),
-        ("DSN=B77", Exit(7)),
-        ("DSN=B7", Exit(65_535)),
-        ("DSN=C", Exit(65_535)),
-    ] {
-        compare_ending(&rt, alloc, &body, given, ending)?;
-    }
-    compare_ending(&rt, alloc, "", "DSN=A", Falls)
+    assert!(rt; all_come(rt.alloc(), &RUNS)? && all_end(rt.alloc())?);
+    Ok(())
 }

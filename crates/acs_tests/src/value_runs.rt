@@ -1,10 +1,15 @@
 //! Runs on values that no ALLOC gives: sizes of no space, storage groups before their routine, a volume twice.
-use crate::runs::{
-    Listed, LongRun, Question, Written, compare_listed, compare_long_runs, compare_questions,
-    compare_written,
-};
+use crate::runs::{Run, all_come, ends};
+use acs_tree::Ending::{Exit, Falls};
 use acs_tree::Kind::{MgmtClas, StorGrp};
+use std::alloc::Global;
 use std::test::Fail;
+
+/// A condition, what a run is given, and whether the condition holds.
+type Question = (&'static str, &'static str, bool);
+
+/// The same behind filter lists.
+type Listed = (&'static str, &'static str, &'static str, bool);
 
 #[rattlefmt::skip]
 static QUESTIONS: [Question; 99] = [
@@ -125,62 +130,64 @@ static MEMBERS: [Listed; 8] = [
     ("FILTLIST F INCLUDE('')", "&STORGRP = &F", "STORGRP=V1", false),
 ];
 
-#[test]
-fn numbers_sizes_texts_and_groups_are_compared(rt: HostRuntime) -> Result<(), Fail> {
-    compare_questions(&rt, rt.alloc(), &QUESTIONS)?;
-    compare_listed(&rt, rt.alloc(), &MEMBERS)
+fn holds(
+    alloc: Global,
+    lists: &str,
+    condition: &str,
+    given: &str,
+    wanted: bool,
+) -> Result<bool, Fail> {
+    let body = format!(in alloc; "{lists} IF {condition} THEN EXIT CODE(1)")?;
+    ends(alloc, &body, given, if wanted { Exit(1) } else { Falls })
 }
 
-const ALL: &str =
-    "JOB=A USER=B GROUP=C PGM=D DD=E UNIT=F DSORG=G RECORG=H DSNTYPE=I APPLIC=J EXPDT=K DSTYPE=L ACSENVIR=M XMODE=N DSOWNER=O DEF_DATACLAS=P DEF_STORCLAS=Q DEF_MGMTCLAS=R SYSNAME=S SYSPLEX=T DATACLAS=U STORCLAS=V MGMTCLAS=W STORGRP=X ACCT_JOB=Y ACCT_JOB=Z ACCT_STEP=1 ACCT_STEP=2";
+fn all_hold(alloc: Global) -> Result<bool, Fail> {
+    let mut good = true;
+    for (condition, given, wanted) in &QUESTIONS {
+        good &= holds(alloc, "", condition, given, *wanted)?;
+    }
+    for (lists, condition, given, wanted) in &MEMBERS {
+        good &= holds(alloc, lists, condition, given, *wanted)?;
+    }
+    Ok(good)
+}
 
-const REQUEST: &str =
-    "&JOB &USER &GROUP &PGM &DD &UNIT &DSORG &RECORG &DSNTYPE &APPLIC &EXPDT &DSTYPE &ACSENVIR &XMODE &DSOWNER";
+#[test]
+fn numbers_sizes_texts_and_groups_are_compared(rt: HostRuntime) -> Result<(), Fail> {
+    assert!(rt; all_hold(rt.alloc())?);
+    Ok(())
+}
 
-const DESK: &str = "&DEF_DATACLAS &DEF_STORCLAS &DEF_MGMTCLAS &SYSNAME &SYSPLEX";
+/// All volumes of a request that names 59 times V1, as far as a line holds them.
+const VOLUMES_59: &str =
+    "V1,V1,V1,V1,V1,V1,V1,V1,V1,V1,V1,V1,V1,V1,V1,V1,V1,V1,V1,V1,V1,V1,V1,V1,V1,V1,V1,V1,V1,V1,V1,V1,V1,V1,V1,V1,V1";
 
-const CLASSES: &str = "&DATACLAS &STORCLAS &MGMTCLAS &STORGRP";
-
-const FIELDS: &str =
-    "&ACCT_JOB(1) &ACCT_JOB(2) &ACCT_JOB(3) &ACCT_STEP(1) &ACCT_STEP(2) &ACCT_STEP(8)";
-
-const NULL: &str =
-    "&ACSENVR2 &LABEL &LIBNAME &MEMN &MEMHLQ &MEMLLQ &MSPARM &MSPDEST &MSPOLICY &MSPOOL &MSVGP";
-
+/// Values as a line has them; the last four lines end where they are full.
 #[rattlefmt::skip]
-static LINES: [Written; 17] = [
-    ("&DATACLAS ',' &STORCLAS ',' &MGMTCLAS", "DATACLAS=DC MGMTCLAS=MC", "DC,,MC"),
-    ("&RETPD &BLKSIZE", "RETPD=30 BLKSIZE=4294967295", "304294967295"),
-    ("&SIZE ' ' &MAXSIZE", "SIZE=56 MAXSIZE=886", "56KB 886KB"),
-    ("&SIZE", "SIZE=1048576", "1048576KB"),
-    ("&SIZE", "SIZE=18446744073709551615", "18446744073709551615KB"),
-    ("&ALLVOL", "VOLUME=V1 VOLUME=V1 VOLUME=V2", "V1,V1,V2"),
-    ("&STORGRP", "", ""),
-    ("&STORGRP", "STORGRP=SG1", "SG1"),
-    ("&STORGRP ' ' &STORGRP", "STORGRP=SG2 STORGRP=SG1", "SG2,SG1 SG2,SG1"),
-    (REQUEST, ALL, "ABCDEFGHIJKLMNO"),
-    (DESK, ALL, "PQRST"),
-    (CLASSES, ALL, "UVWX"),
-    (FIELDS, ALL, "YZ12"),
-    (NULL, ALL, ""),
-    ("&FILENUM &MEMNQUAL", ALL, "00"),
-    (REQUEST, "", "PERMALLOCBATCH"),
-    (CLASSES, "", ""),
-];
-
-#[rattlefmt::skip]
-static CUTS: [LongRun; 4] = [
-    (StorGrp, &[("WRITE &ANYVOL", 1)], "VOLUMES=59", 1, &[("V1,", 36), ("V1", 1)], 0),
-    (MgmtClas, &[("WRITE '", 1), ("A", 106), ("' &SIZE", 1)], "SIZE=12345", 1,
-        &[("A", 106), ("1234", 1)], 0),
-    (MgmtClas, &[("WRITE '", 1), ("A", 104), ("' &SIZE", 1)], "SIZE=12345", 1,
-        &[("A", 104), ("12345K", 1)], 0),
-    (StorGrp, &[("WRITE '", 1), ("A", 105), ("' &STORGRP", 1)], "STORGRP=SG1 STORGRP=SG2", 1,
-        &[("A", 105), ("SG1,S", 1)], 0),
+static LINES: [Run; 12] = [
+    (MgmtClas, "WRITE &DATACLAS ',' &STORCLAS ',' &MGMTCLAS", "DATACLAS=DC MGMTCLAS=MC",
+        "DATACLAS=DC MGMTCLAS=MC", &["DC,,MC"], Falls),
+    (StorGrp, "WRITE &RETPD &BLKSIZE", "RETPD=30 BLKSIZE=4294967295", "", &["304294967295"], Falls),
+    (StorGrp, "WRITE &SIZE ' ' &MAXSIZE", "SIZE=56 MAXSIZE=886", "", &["56KB 886KB"], Falls),
+    (StorGrp, "WRITE &SIZE", "SIZE=18446744073709551615", "", &["18446744073709551615KB"], Falls),
+    (StorGrp, "WRITE &ALLVOL", "VOLUME=V1 VOLUME=V1 VOLUME=V2", "", &["V1,V1,V2"], Falls),
+    (StorGrp, "WRITE &STORGRP", "", "", &[""], Falls),
+    (StorGrp, "WRITE &STORGRP ' ' &STORGRP", "STORGRP=SG2 STORGRP=SG1", "STORGRP=SG2 STORGRP=SG1",
+        &["SG2,SG1 SG2,SG1"], Falls),
+    (StorGrp, "WRITE &DATACLAS &STORCLAS &MGMTCLAS &STORGRP",
+        "DATACLAS=U STORCLAS=V MGMTCLAS=W STORGRP=X", "DATACLAS=U STORCLAS=V MGMTCLAS=W STORGRP=X",
+        &["UVWX"], Falls),
+    (StorGrp, "WRITE &ANYVOL", "VOLUMES=59", "", &[VOLUMES_59], Falls),
+    (MgmtClas, "WRITE 'AAAAAAAAAAAAAAAAAAAAAAAAAAAAAAAAAAAAAAAAAAAAAAAAAAAAAAAAAAAAAAAAAAAAAAAAAAAAAAAAAAAAAAAAAAAAAAAAAAAAAAAAAA' &SIZE", "SIZE=12345", "",
+        &["AAAAAAAAAAAAAAAAAAAAAAAAAAAAAAAAAAAAAAAAAAAAAAAAAAAAAAAAAAAAAAAAAAAAAAAAAAAAAAAAAAAAAAAAAAAAAAAAAAAAAAAAAA1234"], Falls),
+    (MgmtClas, "WRITE 'AAAAAAAAAAAAAAAAAAAAAAAAAAAAAAAAAAAAAAAAAAAAAAAAAAAAAAAAAAAAAAAAAAAAAAAAAAAAAAAAAAAAAAAAAAAAAAAAAAAAAAAA' &SIZE", "SIZE=12345", "",
+        &["AAAAAAAAAAAAAAAAAAAAAAAAAAAAAAAAAAAAAAAAAAAAAAAAAAAAAAAAAAAAAAAAAAAAAAAAAAAAAAAAAAAAAAAAAAAAAAAAAAAAAAAA12345K"], Falls),
+    (StorGrp, "WRITE 'AAAAAAAAAAAAAAAAAAAAAAAAAAAAAAAAAAAAAAAAAAAAAAAAAAAAAAAAAAAAAAAAAAAAAAAAAAAAAAAAAAAAAAAAAAAAAAAAAAAAAAAAA' &STORGRP", "STORGRP=SG1 STORGRP=SG2",
+        "STORGRP=SG1 STORGRP=SG2", &["AAAAAAAAAAAAAAAAAAAAAAAAAAAAAAAAAAAAAAAAAAAAAAAAAAAAAAAAAAAAAAAAAAAAAAAAAAAAAAAAAAAAAAAAAAAAAAAAAAAAAAAAASG1,S"], Falls),
 ];
 
 #[test]
 fn lines_hold_such_values(rt: HostRuntime) -> Result<(), Fail> {
-    compare_written(&rt, rt.alloc(), &LINES)?;
-    compare_long_runs(&rt, rt.alloc(), &CUTS)
+    assert!(rt; all_come(rt.alloc(), &LINES)?);
+    Ok(())
 }

@@ -1,8 +1,8 @@
-//! Changes that are made on a keeper over a database.
+//! Changes for a keeper over a database.
 use desk_common::{Items, Shared};
 use dsn_mask::{Dsn, Name};
 use sms_construct::{DataSet, Eattr, Op, Reply, Request, RequestNumber, Unit, VolumeCount};
-use sms_keeper::{Change, Effect, Keeper, KeeperErr};
+use sms_keeper::{Change, Effect};
 use std::alloc::Global;
 use std::test::Fail;
 
@@ -41,32 +41,13 @@ fn data_set(alloc: Global) -> Result<DataSet, Fail> {
     })
 }
 
-// The change with this place and this number of JOB1 that puts the data set A.B.
-fn change(alloc: Global, place: u64, number: u32) -> Result<Change, Fail> {
+/// The change with this number of JOB1, which is its place too, that puts the data set A.B.
+pub fn change(alloc: Global, number: u32) -> Result<Change, Fail> {
     let set = Shared::new(alloc, data_set(alloc)?)?;
     Ok(Change {
-        place,
+        place: u64::from(number),
         request: request(number)?,
         reply: Reply::Noted,
         effect: Effect::PutSet(set),
     })
-}
-
-fn answer<K: Keeper>(keeper: &mut K, made: &Change) -> Option<Result<(), KeeperErr>> {
-    if made.suits() {
-        return Some(keeper.commit(made));
-    }
-    None
-}
-
-/// Whether the keeper answers the change with this place and this number so.
-pub fn answers<K: Keeper>(
-    alloc: Global,
-    keeper: &mut K,
-    place: u64,
-    number: u32,
-    wanted: Result<(), KeeperErr>,
-) -> Result<bool, Fail> {
-    let made = change(alloc, place, number)?;
-    Ok(answer(keeper, &made) == Some(wanted))
 }

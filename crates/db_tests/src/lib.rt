@@ -1,13 +1,7 @@
-//! Tests of the keeper over a database: real files, and commits that no desk asks for.
+//! Tests of the keeper over real files.
 #![tactic(auto)]
 
 #[cfg(test)]
 mod changes;
 #[cfg(test)]
-mod commits;
-#[cfg(test)]
 mod files;
-#[cfg(test)]
-mod keeping;
-#[cfg(test)]
-mod tables;

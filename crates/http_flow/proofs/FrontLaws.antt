@@ -1,24 +1,29 @@
 -- The questions of a buffer, one after the other.
-use Rattle.std.proofs.Common.{◌≡◌, ◌≤◌, ◌<◌, ◌+◌, ◌-◌, ℕ, true, false, List, [], ◌∷◌, ◌++◌, length, take, drop, inl, refl, ap, sym, ◌∙◌, arith}
+use Rattle.std.proofs.Common.{◌≡◌, ◌≤◌, ◌<◌, ◌+◌, ◌-◌, ◌⊎◌, ℕ, true, false, List, [], ◌∷◌, ◌++◌, length, take, drop, inl, refl, ap, sym, ◌∙◌, arith}
 use Rattle.std.proofs.Common.{append-nil, append_assoc}
 use Rattle.std.proofs.lemmas.List.{drop-drop, length-drop, take_rest}
 use Rattle.http_page.specs.Pages.{PageAsk}
 use Rattle.http_talk.specs.Hearing.{ClerkMoment}
 use Rattle.http_talk.specs.declared.talk.Talk.{Talk}
-use Rattle.http_flow.specs.Exchange.{Terms, Exchange, Reads, is_closed, due_for, FewBefore, most_due, Heard}
-use Rattle.http_flow.specs.Inner.Fronts.{IsNext, HasAnswered, IsFront}
+use Rattle.http_flow.specs.Exchange.{Basis, Terms, Exchange, Reads, is_closed, due_for, FewBefore, most_due, Heard, room_of}
+use Rattle.http_flow.specs.Inner.Fronts.{IsNext, HasAnswered, IsFront, IsFullFor}
 use Rattle.http_flow.specs.declared.answering.Answered.{Answered}
 use Rattle.http_flow.specs.declared.answering.Answered.TheVariants as answered
+use Rattle.http_flow.specs.declared.answering.Front.{Front}
 use Rattle.http_flow.specs.declared.answering.Front.TheVariants as fronts
 use Rattle.http_flow.specs.declared.page.Page.{Page}
 use Rattle.http_flow.proofs.ExchangeLaws.{is_closed-append, Reads-join, due-append, few_more, Heard-nil, Heard-join}
 
-module _ {S : Type 0} (terms : Terms) (shows : S → List Talk → PageAsk → Page → Type 0) where
+-- no question is held
+full_not : {B : Type 0} (clerk : ClerkMoment (Basis B)) (out : List ℕ) (front : Front) → ((at : ℕ) → front ≡ fronts.Full at → ⊥) → IsFullFor clerk out front
+full_not clerk out front not at is = absurd (not at is)
+
+module _ {B : Type 0} (terms : Terms) (shows : Basis B → List Talk → PageAsk → Page → Type 0) where
   -- the rest of a buffer as a slice
-  pub rest_next : (a b : ClerkMoment S) (buf out out' : List ℕ) (at : ℕ) (r : Answered) → IsNext terms shows a b (take (length buf - at) (drop at buf)) out out' r → IsNext terms shows a b (drop at buf) out out' r
+  pub rest_next : (a b : ClerkMoment (Basis B)) (buf out out' : List ℕ) (at : ℕ) (r : Answered) → IsNext terms shows a b (take (length buf - at) (drop at buf)) out out' r → IsNext terms shows a b (drop at buf) out out' r
   rest_next a b buf out out' at r h = rw take_rest at h
 
-  pub answered_none : (a : ClerkMoment S) (buf out : List ℕ) → HasAnswered terms shows a a buf 0 out out
+  pub answered_none : (a : ClerkMoment (Basis B)) (buf out : List ℕ) → HasAnswered terms shows a a buf 0 out out
   answered_none a buf out = record {
     xs = [];
     within = omega arith;
@@ -26,10 +31,10 @@ module _ {S : Type 0} (terms : Terms) (shows : S → List Talk → PageAsk → P
     goes_on = refl;
     heard = Heard-nil shows a;
     out_is = sym (append-nil out);
-    few = inl refl;
+    few = inl (inl refl);
   }
 
-  module _ (old mid new : ClerkMoment S) (buf before out out' : List ℕ) (at : ℕ) (h : HasAnswered terms shows old mid buf at before out) where
+  module _ (old mid new : ClerkMoment (Basis B)) (buf before out out' : List ℕ) (at : ℕ) (h : HasAnswered terms shows old mid buf at before out) where
     joined_due : (zs : List Exchange) → out' ≡ out ++ due_for zs → out' ≡ before ++ due_for (h.xs ++ zs)
     joined_due zs is = is ∙ ap (λ l. l ++ due_for zs) h.out_is ∙ append_assoc before (due_for h.xs) (due_for zs) ∙ ap (λ l. before ++ l) (sym (due-append h.xs zs))
 
@@ -67,6 +72,7 @@ module _ {S : Type 0} (terms : Terms) (shows : S → List Talk → PageAsk → P
       heard = joined_heard n.xs n.heard;
       few = joined_few n.xs few n.one;
       is_end = (is_closed-append h.xs n.xs h.goes_on ∙ n.is_end.0, joined_due n.xs n.is_end.1);
+      full = full_not new out' fronts.Closed (λ at e. cc e);
     }
 
     -- nothing whole is left
@@ -79,6 +85,7 @@ module _ {S : Type 0} (terms : Terms) (shows : S → List Talk → PageAsk → P
       heard = still_heard n.xs n.is_end.0 n.heard;
       few = h.few;
       is_end = (refl, h.goes_on, n.is_end.2 ∙ h.out_is, n.is_end.3);
+      full = full_not new out' (fronts.Waits at need) (λ at e. cc e);
     }
 
     -- a refusal
@@ -91,6 +98,7 @@ module _ {S : Type 0} (terms : Terms) (shows : S → List Talk → PageAsk → P
       heard = still_heard n.xs n.is_end.0 n.heard;
       few = h.few;
       is_end = (h.goes_on, n.is_end.2 ∙ ap (λ l. l ++ terms.refusal status) h.out_is ∙ append_assoc before (due_for h.xs) (terms.refusal status), n.is_end.3, rw h.out_is at few);
+      full = full_not new out' (fronts.Refused status) (λ at e. cc e);
     }
 
     -- memory was wanting
@@ -102,17 +110,19 @@ module _ {S : Type 0} (terms : Terms) (shows : S → List Talk → PageAsk → P
       reads = joined_reads n.xs n.rest n.reads;
       heard = joined_heard n.xs n.heard;
       few = joined_few n.xs few n.one;
-      is_end = (due_for h.xs, due_for n.xs, n.is_end ∙ h.out_is, due-append h.xs n.xs);
+      is_end = (is_closed-append h.xs n.xs h.goes_on ∙ n.is_end.0, joined_due n.xs n.is_end.1);
+      full = full_not new out' fronts.NoMemory (λ at e. cc e);
     }
 
-  -- enough is due
-  pub front_full : (old new : ClerkMoment S) (buf before out : List ℕ) (at : ℕ) → HasAnswered terms shows old new buf at before out → most_due ≤ length out → IsFront terms shows old new buf before out (fronts.Full at)
-  front_full old new buf before out at h full = record {
+  -- enough is due, or the clerk has no room
+  pub front_full : (old new : ClerkMoment (Basis B)) (buf before out : List ℕ) (at : ℕ) → HasAnswered terms shows old new buf at before out → (most_due ≤ length out) ⊎ (room_of new ≡ false) → IsFront terms shows old new buf before out (fronts.Full at)
+  front_full old new buf before out at h why = record {
     xs = h.xs;
     rest = drop at buf;
     place = h.within;
     reads = h.reads;
     heard = h.heard;
     few = h.few;
-    is_end = (refl, h.goes_on, h.out_is, full);
+    is_end = (refl, h.goes_on, h.out_is);
+    full = λ at e. why;
   }

@@ -1,7 +1,7 @@
 -- The first question of a buffer.
 use Rattle.std.proofs.Common.{◌≡◌, ◌≤◌, ◌<◌, ◌+◌, ◌-◌, ℕ, Bool, true, false, List, [], ◌∷◌, ◌++◌, length, take, drop, inl, inr, refl, ap, sym, ◌∙◌, arith}
 use Rattle.std.proofs.Common.{append-nil, append_assoc, Ok, Err}
-use Rattle.std.specs.Prelude.{Result, OnOk, is_err}
+use Rattle.std.specs.Prelude.{Result, OnErr, OnOk, is_err}
 use Rattle.std.proofs.lemmas.List.{drop-drop, length-append, length-drop}
 use Rattle.http_answer.specs.AnswerText.{answer_text}
 use Rattle.http_message.specs.Message.{Message}
@@ -11,13 +11,13 @@ use Rattle.http_page.specs.Pages.{PageAsk, PageHead, HasPageHead, AsksPage, IsPa
 use Rattle.http_talk.specs.Hearing.{ClerkMoment}
 use Rattle.http_talk.specs.declared.talk.Talk.{Talk}
 use Rattle.sms_construct.specs.declared.request.Request.{Request}
-use Rattle.http_flow.specs.Exchange.{Terms, Exchange, talked, shown, AsksDesk, AsksFor, closes_of, is_closed, due_for, text_of, PendsFor, IsRefused, Heard}
+use Rattle.http_flow.specs.Exchange.{Basis, Terms, Exchange, talked, shown, unsaid, unheard, AsksDesk, AsksFor, closes_of, is_closed, due_for, text_of, PendsFor, IsRefused, Heard, room_of}
 use Rattle.http_flow.specs.PageText.{page_text}
 use Rattle.http_flow.specs.Inner.Fronts.{IsOne, IsRefusal, IsNext}
 use Rattle.http_flow.specs.declared.answering.Answered.{Answered}
 use Rattle.http_flow.specs.declared.answering.Answered.TheVariants as answered
 use Rattle.http_flow.specs.declared.page.Page.{Page}
-use Rattle.http_flow.proofs.ExchangeLaws.{Reads-one, closed_one, due-one, HasPageHead-append, Heard-still, Heard-nil, Heard-talked, Heard-shown}
+use Rattle.http_flow.proofs.ExchangeLaws.{Reads-one, closed_one, due-one, HasPageHead-append, Heard-still, Heard-nil, Heard-talked, Heard-shown, Heard-unsaid, Heard-unheard}
 
 -- the desk's message comes, or more of it
 pub pends_desk : (port : ℕ) (buf : List ℕ) (need : ℕ) → WaitsFor buf need → PendsFor port buf need
@@ -35,16 +35,28 @@ pends_page port buf page start h short = record {
   });
 }
 
-module _ {S : Type 0} (terms : Terms) (shows : S → List Talk → PageAsk → Page → Type 0) (a b : ClerkMoment S) (buf out out' : List ℕ) where
-  -- nothing was heard
+module _ {B : Type 0} (terms : Terms) (shows : Basis B → List Talk → PageAsk → Page → Type 0) (a b : ClerkMoment (Basis B)) (buf out out' : List ℕ) (room : room_of a ≡ true) where
+  -- nothing was heard, since memory was wanting
   next_still : b.talks ≡ a.talks → b.start ≡ a.start → out' ≡ out → IsNext terms shows a b buf out out' answered.NoMemory
-  next_still talks start is = record { xs = []; rest = buf; one = omega arith; reads = refl; heard = Heard-still shows a b talks start; is_end = is }
+  next_still talks start is = record {
+    xs = unheard ∷ [];
+    rest = buf;
+    one = omega arith;
+    reads = Reads-one terms.port buf buf unheard refl;
+    heard = Heard-unheard shows a b room talks start;
+    is_end = (refl, is ∙ sym (append-nil out));
+  }
 
   pub next_waits : (need : ℕ) → b.talks ≡ a.talks → b.start ≡ a.start → out' ≡ out → PendsFor terms.port buf need → IsNext terms shows a b buf out out' (answered.Waits need)
   next_waits need talks start is pends = record { xs = []; rest = buf; one = omega arith; reads = refl; heard = Heard-still shows a b talks start; is_end = (refl, refl, is, pends) }
 
   pub next_memory : b.talks ≡ a.talks → b.start ≡ a.start → out' ≡ out → IsNext terms shows a b buf out out' answered.NoMemory
   next_memory talks start is = next_still talks start is
+
+  -- a page wasn't put
+  pub shown_wanting : {T E : Type 0} (r : Result T E) → b ≡ a → OnErr r (out' ≡ out) → is_err r ≡ true → IsNext terms shows a b buf out out' answered.NoMemory
+  shown_wanting (Ok t) same h err = absurd (cc err)
+  shown_wanting (Err e) same h err = next_still (ap (λ (m : ClerkMoment (Basis B)). m.talks) same) (ap (λ (m : ClerkMoment (Basis B)). m.start) same) h
 
   -- a refusal
   pub next_refused : (status : ℕ) (r : Answered) → b.talks ≡ a.talks → b.start ≡ a.start → IsRefused terms.port buf status → IsRefusal terms.refusal status out out' r → IsNext terms shows a b buf out out' r
@@ -75,8 +87,16 @@ module _ {S : Type 0} (terms : Terms) (shows : S → List Talk → PageAsk → P
     is_end = (closed_one x true closes, is ∙ ap (λ l. out ++ l) (sym (due-one x)));
   }
 
-  next_wanting : (x : Exchange) (after : List ℕ) → AsksFor terms.port buf x after → out' ≡ out → Heard shows a b (x ∷ []) → IsNext terms shows a b buf out out' answered.NoMemory
-  next_wanting x after asks is heard = record { xs = x ∷ []; rest = after; one = omega arith; reads = Reads-one terms.port buf after x asks; heard = heard; is_end = is }
+  -- a request was heard, and memory for its answer was wanting
+  next_unsaid : (talk : Talk) (closes : Bool) (after : List ℕ) → AsksDesk terms.port buf (record { request = talk.request; closes = closes }) after → out' ≡ out → b.talks ≡ a.talks ++ talk ∷ [] → b.start ≡ a.start → IsNext terms shows a b buf out out' answered.NoMemory
+  next_unsaid talk closes after asks is grown start = record {
+    xs = unsaid talk closes ∷ [];
+    rest = after;
+    one = omega arith;
+    reads = Reads-one terms.port buf after (unsaid talk closes) asks;
+    heard = Heard-unsaid shows a b talk closes room grown start;
+    is_end = (refl, is ∙ sym (append-nil out));
+  }
 
   -- a message of the desk
   asks_desk : (len : ℕ) (request : Request) (closes : Bool) → IsAskedAt buf len (record { request = request; closes = closes }) → IsFromHere terms.port buf → AsksDesk terms.port buf (record { request = request; closes = closes }) (drop len buf)
@@ -86,19 +106,19 @@ module _ {S : Type 0} (terms : Terms) (shows : S → List Talk → PageAsk → P
   desk_on (Err e) len request closes at here h ok goes = absurd (cc ok)
   desk_on (Ok t) len request closes at here h ok goes =
       let talk : Talk = record { request = request; answer = h.0 } in
-      next_on (talked talk closes) (drop len buf) len (asks_desk len request closes at here) refl at.some at.within goes h.3 (Heard-talked shows a b talk closes h.1 h.2)
+      next_on (talked talk closes) (drop len buf) len (asks_desk len request closes at here) refl at.some at.within goes h.3 (Heard-talked shows a b talk closes room h.1 h.2)
 
   pub desk_last : {T E : Type 0} (r : Result T E) (len : ℕ) (request : Request) (closes : Bool) → IsAskedAt buf len (record { request = request; closes = closes }) → IsFromHere terms.port buf → IsOne a b request closes out out' r → is_err r ≡ false → closes ≡ true → IsNext terms shows a b buf out out' answered.Last
   desk_last (Err e) len request closes at here h ok last = absurd (cc ok)
   desk_last (Ok t) len request closes at here h ok last =
       let talk : Talk = record { request = request; answer = h.0 } in
-      next_last (talked talk closes) (drop len buf) (asks_desk len request closes at here) last h.3 (Heard-talked shows a b talk closes h.1 h.2)
+      next_last (talked talk closes) (drop len buf) (asks_desk len request closes at here) last h.3 (Heard-talked shows a b talk closes room h.1 h.2)
 
   pub desk_wanting : {T E : Type 0} (r : Result T E) (len : ℕ) (request : Request) (closes : Bool) → IsAskedAt buf len (record { request = request; closes = closes }) → IsFromHere terms.port buf → IsOne a b request closes out out' r → is_err r ≡ true → IsNext terms shows a b buf out out' answered.NoMemory
   desk_wanting (Ok t) len request closes at here h err = absurd (cc err)
   desk_wanting (Err e) len request closes at here h err = elim h.0 [
     | inl same ↦ next_still same h.1 h.2
-    | inr k ↦ let talk : Talk = record { request = request; answer = k.0 } in next_wanting (talked talk closes) (drop len buf) (asks_desk len request closes at here) h.2 (Heard-talked shows a b talk closes k.1 h.1)
+    | inr k ↦ let talk : Talk = record { request = request; answer = k.0 } in next_unsaid talk closes (drop len buf) (asks_desk len request closes at here) h.2 k.1 h.1
   ]
 
   -- a page
@@ -116,12 +136,12 @@ module _ {S : Type 0} (terms : Terms) (shows : S → List Talk → PageAsk → P
   page_on : (page : PageHead) (start : ℕ) (body : List ℕ) (shown_page : Page) → IsPageAt terms.port buf page start → page.size ≤ length buf - start → body ≡ take page.size (drop start buf) → b ≡ a → shows a.start a.talks (record { posts = page.posts; path = page.path; body = body }) shown_page → page.closes ≡ false → out' ≡ out ++ page_text shown_page page.closes → IsNext terms shows a b buf out out' (answered.On (start + page.size))
   page_on page start body shown_page at long is same shows_it goes written =
       next_on (shown (record { posts = page.posts; path = page.path; body = body }) shown_page page.closes) (drop (start + page.size) buf) (start + page.size) (asks_page_at page start body at long is) refl (omega (arith, at.some)) (omega (arith, at.within, long)) goes written
-      (rw same (Heard-shown shows a (record { posts = page.posts; path = page.path; body = body }) shown_page page.closes shows_it))
+      (rw same (Heard-shown shows a (record { posts = page.posts; path = page.path; body = body }) shown_page page.closes room shows_it))
 
   page_last : (page : PageHead) (start : ℕ) (body : List ℕ) (shown_page : Page) → IsPageAt terms.port buf page start → page.size ≤ length buf - start → body ≡ take page.size (drop start buf) → b ≡ a → shows a.start a.talks (record { posts = page.posts; path = page.path; body = body }) shown_page → page.closes ≡ true → out' ≡ out ++ page_text shown_page page.closes → IsNext terms shows a b buf out out' answered.Last
   page_last page start body shown_page at long is same shows_it last written =
       next_last (shown (record { posts = page.posts; path = page.path; body = body }) shown_page page.closes) (drop (start + page.size) buf) (asks_page_at page start body at long is) last written
-      (rw same (Heard-shown shows a (record { posts = page.posts; path = page.path; body = body }) shown_page page.closes shows_it))
+      (rw same (Heard-shown shows a (record { posts = page.posts; path = page.path; body = body }) shown_page page.closes room shows_it))
 
   -- what was shown
   abbrev WasShown : PageHead → List ℕ → Type 0

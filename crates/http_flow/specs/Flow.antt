@@ -4,7 +4,7 @@ use Rattle.http_page.specs.Pages.{PageAsk}
 use Rattle.http_talk.specs.Hearing.{ClerkMoment}
 use Rattle.http_talk.specs.declared.talk.Talk.{Talk}
 use Rattle.http_flow.specs.Exchange.{Terms, Exchange, Reads, is_closed, due_for, IsRefused, PendsFor, FewBefore, Heard}
-use Rattle.http_flow.specs.Exchange.{most_due, text_of}
+use Rattle.http_flow.specs.Exchange.{Basis, most_due, room_of, text_of}
 use Rattle.http_flow.specs.declared.page.Page.{Page}
 use Rattle.http_flow.specs.declared.phase.Phase.{Phase}
 use Rattle.http_flow.specs.declared.phase.Phase.TheVariants as phases
@@ -31,8 +31,7 @@ StandsSo terms before xs rest all held need phases.Full =
 StandsSo terms before xs rest all held need phases.Closed = (is_closed xs ≡ true) × (all ≡ before ++ due_for xs)
 StandsSo terms before xs rest all held need (phases.Refused status) =
     (is_closed xs ≡ false) × (all ≡ before ++ (due_for xs ++ terms.refusal status)) × IsRefused terms.port rest status
-StandsSo terms before xs rest all held need phases.NoMemory =
-    (some missing : List ℕ) × (all ≡ before ++ some) × (due_for xs ≡ some ++ missing)
+StandsSo terms before xs rest all held need phases.NoMemory = (is_closed xs ≡ true) × (all ≡ before ++ due_for xs)
 
 -- all bytes that came are what these exchanges asked and a rest; what was handed over, with what is still to be sent
 -- behind it, is their answers and perhaps a refusal, in their order
@@ -59,32 +58,38 @@ OwesFew terms before all = (missing : List ℕ) × ((all ++ missing ≡ before)
 abbrev pub IsRefusedEarly : List ℕ → List Exchange → FlowView → Type 0
 IsRefusedEarly before xs v = (status : ℕ) → v.phase ≡ phases.Refused status → length (before ++ due_for xs) < most_due
 
--- where as many bytes are due as may be, some are
-abbrev pub IsFullOfSome : FlowView → Type 0
-IsFullOfSome v = v.phase ≡ phases.Full → v.due ≢ []
+-- where further questions may be held, some bytes are due, or the clerk has no room
+abbrev pub IsHeld : {B : Type 0} → ClerkMoment (Basis B) → FlowView → Type 0
+IsHeld clerk v = v.phase ≡ phases.Full → (v.due ≢ []) ⊎ (room_of clerk ≡ false)
 
-module _ {S : Type 0} (terms : Terms) (shows : S → List Talk → PageAsk → Page → Type 0) where
+-- where nothing is due and it goes on, nothing was asked
+abbrev pub IsSaid : List Exchange → FlowView → Type 0
+IsSaid xs v = (v.phase ≡ phases.Waits) ⊎ (v.phase ≡ phases.Full) → v.due ≡ [] → xs ≡ []
+
+module _ {B : Type 0} (terms : Terms) (shows : Basis B → List Talk → PageAsk → Page → Type 0) where
   -- a piece came, and nothing but what it asked was heard: whatever came and was handed over before, it goes on so
-  pub record GoesOn (clerk clerk' : ClerkMoment S) (old new : FlowView) (piece : List ℕ) : Type 0 where
+  pub record GoesOn (clerk clerk' : ClerkMoment (Basis B)) (old new : FlowView) (piece : List ℕ) : Type 0 where
     pub more : List Exchange
     pub heard : Heard shows clerk clerk' more
     pub few : FewBefore old.due more
     pub owes : OwesFew terms old.due new.due
-    pub full : IsFullOfSome new
+    pub held : IsHeld clerk' new
+    pub said : IsSaid more new
     pub kept : IsKept new
     pub shorter : length new.rest ≤ length old.rest + length piece
     pub flows : (came taken : List ℕ) (xs : List Exchange) → IsFlow terms came taken xs old
         → IsFlow terms (came ++ piece) taken (xs ++ more) new
 
   -- whole questions of the bytes that were held were answered behind what was due
-  pub record HasTurned (clerk clerk' : ClerkMoment S) (old new : FlowView) : Type 0 where
+  pub record HasTurned (clerk clerk' : ClerkMoment (Basis B)) (old new : FlowView) : Type 0 where
     pub more : List Exchange
     pub rest : List ℕ
     pub reads : Reads terms.port old.rest more rest
     pub heard : Heard shows clerk clerk' more
     pub few : FewBefore old.due more
     pub early : IsRefusedEarly old.due more new
-    pub full : IsFullOfSome new
+    pub held : IsHeld clerk' new
+    pub said : IsSaid more new
     pub kept : IsKept new
     pub shorter : length new.rest ≤ length old.rest
     pub stands : StandsSo terms old.due more rest new.due new.rest new.need new.phase

@@ -1,5 +1,5 @@
 //! Answering what a buffer asks.
-ghost use Rattle.std.specs.Prelude.{◌≡◌, ◌≤◌, ◌<◌, ◌++◌, OnErr, OnOk, ℕ};
+ghost use Rattle.std.specs.Prelude.{◌≡◌, ◌≤◌, ◌<◌, ◌++◌, true, OnErr, OnOk, ℕ};
 ghost use Rattle.http_page.specs.Pages.{HasNoPage, IsFromHere};
 ghost use Rattle.http_flow.specs.PageText.{page_text};
 ghost use Rattle.http_flow.specs.Inner.Fronts.{IsFront, IsNext, IsOne, IsRefusal};
@@ -25,7 +25,7 @@ const ELSEWHERE: u16 = 403;
 pub enum Front {
     /// Nothing whole is left from `at` on; nothing can be before the rest has `need` bytes.
     Waits { at: usize, need: usize },
-    /// As many bytes are due as may be.
+    /// As many bytes are due as may be, or the clerk has no room; nothing is answered from `at` on.
     Full { at: usize },
     Closed,
     Refused(u16),
@@ -45,7 +45,8 @@ pub enum Answered {
     NoMemory,
 }
 
-/// Answers the whole questions at the buffer's front while few bytes are due, and puts the answers behind `out`.
+/// Answers the whole questions at the buffer's front while few bytes are due and the clerk has room, and puts the
+/// answers behind `out`.
 pub fn answer_front<C: Pages>(
     alloc: Global,
     routes: &Routes,
@@ -61,6 +62,9 @@ pub fn answer_front<C: Pages>(
 {
     let mut at = 0;
     while out.len() < MOST_DUE {
+        if !clerk.has_room() {
+            return Front::Full { at };
+        }
         match answer_next(alloc, routes, site, clerk, &buffer[at..], out) {
             Answered::On { len } => at += len,
             Answered::Last => return Front::Closed,
@@ -81,6 +85,7 @@ fn answer_next<C: Pages>(
     buf: &[u8],
     out: &mut Vec<u8>,
 ) -> Answered
+    requires { (C.begun clerk.old).has_room (C.talks clerk.old) ≡ true }
     ensures { IsNext (record { port = site.now; refusal = C.refusal }) C.shows
         (record { talks = C.talks clerk.old; start = C.begun clerk.old })
         (record { talks = C.talks clerk.new; start = C.begun clerk.new })
@@ -119,6 +124,7 @@ fn answer_desk<C: Pages>(
     buf: &[u8],
     out: &mut Vec<u8>,
 ) -> Answered
+    requires { (C.begun clerk.old).has_room (C.talks clerk.old) ≡ true }
     ensures { (port : ℕ) → IsFromHere port buf.now → HasNoPage buf.now
         → IsNext (record { port = port; refusal = C.refusal }) C.shows
         (record { talks = C.talks clerk.old; start = C.begun clerk.old })

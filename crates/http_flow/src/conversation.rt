@@ -1,5 +1,5 @@
 //! Conversations.
-ghost use Rattle.std.specs.Prelude.{◌≡◌, ◌≤◌, ◌<◌, ◌⊎◌, [], drop, length};
+ghost use Rattle.std.specs.Prelude.{◌≡◌, ◌≤◌, ◌<◌, ◌⊎◌, [], drop, length, true};
 ghost use Rattle.http_flow.specs.Flow.{GoesOn, HasTurned};
 
 use crate::answering::{Front, answer_front};
@@ -73,7 +73,7 @@ impl Conversation {
         self.sent += count;
     }
 
-    /// A piece came: what it asks whole is answered by the clerk, as long as few bytes are due.
+    /// A piece came: what it asks whole is answered by the clerk, as long as few bytes are due and it has room.
     pub fn receive<C: Pages>(
         &mut self,
         alloc: Global,
@@ -82,7 +82,8 @@ impl Conversation {
         clerk: &mut C,
         piece: &[u8],
     )
-        requires { self.old.phase ≡ Phase.Waits }
+        requires waits { self.old.phase ≡ Phase.Waits }
+        requires room { (C.begun clerk.old).has_room (C.talks clerk.old) ≡ true }
         ensures { GoesOn (record { port = site.now; refusal = C.refusal }) C.shows
             (record { talks = C.talks clerk.old; start = C.begun clerk.old })
             (record { talks = C.talks clerk.new; start = C.begun clerk.new })
@@ -98,7 +99,7 @@ impl Conversation {
         self.answer(alloc, routes, site, clerk);
     }
 
-    /// Goes on with what came, where too many bytes were due.
+    /// Goes on with what came, where too many bytes were due or the clerk had no room.
     pub fn resume<C: Pages>(&mut self, alloc: Global, routes: &Routes, site: &Site, clerk: &mut C)
         requires { self.old.phase ≡ Phase.Full }
         ensures { GoesOn (record { port = site.now; refusal = C.refusal }) C.shows

@@ -5,12 +5,12 @@
 pub enum Phase {
     /// All that was asked is answered; more bytes may come.
     Waits,
-    /// As many bytes are due as may be; further questions may have come whole.
+    /// As many bytes are due as may be, or the clerk has no room; further questions may have come whole.
     Full,
     /// The last answer closes it.
     Closed,
     /// A message was refused with this status.
     Refused(u16),
-    /// Memory was wanting; the requests that were answered stand.
+    /// Memory was wanting, for what came or for the answer of the last request that was heard. All others stand.
     NoMemory,
 }

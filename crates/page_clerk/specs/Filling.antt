@@ -1,8 +1,9 @@
 -- Journals that are nearly full (docs/manual/smsd.md, "A full journal").
-use Rattle.std.specs.Prelude.{ℕ, Bool, ◌≢◌, ◌||◌, nat_le, List, length, All, count_by}
+use Rattle.std.specs.Prelude.{ℕ, Bool, ◌≢◌, ◌||◌, not, nat_le, List, ◌++◌, length, All, count_by}
 use Rattle.sms_construct.specs.declared.entry.Entry.{Entry}
 use Rattle.sms_construct.specs.declared.reply.Reply.TheVariants as replies
 use Rattle.desk_law.specs.Step.{is_activation}
+use Rattle.desk_http.specs.Entered.{entries_of}
 use Rattle.http_talk.specs.declared.talk.Talk.{Talk}
 
 -- none of the requests was answered that the journal is full
@@ -25,3 +26,7 @@ activations_in talks = count_by (λ talk. is_activation talk.request.op) talks
 abbrev pub is_nearly_full : List Entry → List Talk → Bool
 is_nearly_full journal talks =
     nat_le many_entries (length journal) || nat_le many_activations (activations_in talks)
+
+-- a clerk whose core began with this journal has room for one more question behind these talks
+abbrev pub has_room_behind : List Entry → List Talk → Bool
+has_room_behind journal talks = not (is_nearly_full (journal ++ entries_of talks) talks)

@@ -1,2 +1,1 @@
-mod BookingLemmas
 mod SigningLemmas

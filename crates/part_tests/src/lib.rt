@@ -1,27 +1,15 @@
-//! Tests of the desk's parts, each by its own calls.
+//! Tests of parts by their own calls: streams of std, a client that waits for its answer, seats on threads, sizes.
 #![tactic(auto)]
 
 #[cfg(test)]
-mod book;
+mod adapters;
 #[cfg(test)]
-mod constructs;
+mod asking;
 #[cfg(test)]
-mod deck_faults;
+mod sizes;
 #[cfg(test)]
-mod deck_readings;
+mod streams;
 #[cfg(test)]
-mod keeping;
-#[cfg(test)]
-mod kept_replies;
-#[cfg(test)]
-mod ledger;
-#[cfg(test)]
-mod listing;
-#[cfg(test)]
-mod names;
-#[cfg(test)]
-mod ordered;
-#[cfg(test)]
-mod reports;
+mod talking;
 #[cfg(test)]
 mod turns;

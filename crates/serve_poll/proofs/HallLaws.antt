@@ -15,7 +15,7 @@ use Rattle.ready_wires.specs.declared.watch.Watch.{Watch}
 use Rattle.http_page.specs.Pages.{PageAsk}
 use Rattle.http_talk.specs.Hearing.{ClerkMoment}
 use Rattle.http_talk.specs.declared.talk.Talk.{Talk}
-use Rattle.http_flow.specs.Exchange.{Exchange}
+use Rattle.http_flow.specs.Exchange.{Basis, Exchange}
 use Rattle.http_flow.specs.Flow.{FlowView}
 use Rattle.http_flow.specs.declared.page.Page.{Page}
 use Rattle.serve_poll.specs.Visitors.{IsOn, IsBounded, IsLeft, WasTold, VisitorSeen, Advances}
@@ -365,7 +365,7 @@ module _ {C : Type 0} (house : House) (seen : C → WireSeen) where
   }
 
   -- it was served, and the clerk heard what it asked
-  pub heard_out : {S : Type 0} (shows : S → List Talk → PageAsk → Page → Type 0) (a b : ClerkMoment S) (first told : ReadySeen) (all : List Asked) (back back' : Option (List C)) (count most : ℕ) (mid : Slab (Visitor C)) (key : ℕ) (v v' : Visitor C) → (h : AreOut first told all back back' count most mid key v) → (on : Advances house.terms shows a b (seen_visitor seen v) (seen_visitor seen v')) → AreOut first told (all ++ signed v.number on.hears.more) back back' count most mid key v'
+  pub heard_out : {B : Type 0} (shows : Basis B → List Talk → PageAsk → Page → Type 0) (a b : ClerkMoment (Basis B)) (first told : ReadySeen) (all : List Asked) (back back' : Option (List C)) (count most : ℕ) (mid : Slab (Visitor C)) (key : ℕ) (v v' : Visitor C) → (h : AreOut first told all back back' count most mid key v) → (on : Advances house.terms shows a b (seen_visitor seen v) (seen_visitor seen v')) → AreOut first told (all ++ signed v.number on.hears.more) back back' count most mid key v'
   heard_out shows a b first told all back back' count most mid key v v' h on = let more = on.hears.more in record {
     place = h.place;
     gone = h.gone;

@@ -12,7 +12,7 @@ use Rattle.ready_wires.specs.declared.watch.Watch.{Watch}
 use Rattle.http_page.specs.Pages.{PageAsk}
 use Rattle.http_talk.specs.Hearing.{ClerkMoment}
 use Rattle.http_talk.specs.declared.talk.Talk.{Talk}
-use Rattle.http_flow.specs.Exchange.{Terms, Exchange}
+use Rattle.http_flow.specs.Exchange.{Basis, Terms, Exchange}
 use Rattle.http_flow.specs.Flow.{FlowView, IsFlow}
 use Rattle.http_flow.specs.declared.page.Page.{Page}
 use Rattle.http_flow.specs.declared.phase.Phase.TheVariants as phases
@@ -214,21 +214,21 @@ module _ {C : Type 0} (house : House) (seen : C → WireSeen) where
   pub idle_none : (key : ℕ) (before told : ReadySeen) (back : Option (List C)) (hall : Hall C) (seats : Slab (Visitor C)) → WasIdle key before told → get hall.seats key ≡ None → seats ≡ hall.seats → StaysStanding house seen before told back back hall (record hall { seats = seats })
   idle_none key before told back hall seats idle free same all first old s = rw same (idle_seated house seen first before told all old back hall.count hall.most hall.seats key idle free s)
 
-  module _ {S : Type 0} (shows : S → List Talk → PageAsk → Page → Type 0) where
-    pub stays_keeps : (a : ClerkMoment S) (told told' : ReadySeen) (back back' : Option (List C)) (hall hall' : Hall C) → StaysStanding house seen told told' back back' hall hall' → KeepsStanding house seen shows a a told told' back back' hall hall'
+  module _ {B : Type 0} (shows : Basis B → List Talk → PageAsk → Page → Type 0) where
+    pub stays_keeps : (a : ClerkMoment (Basis B)) (told told' : ReadySeen) (back back' : Option (List C)) (hall hall' : Hall C) → StaysStanding house seen told told' back back' hall hall' → KeepsStanding house seen shows a a told told' back back' hall hall'
     stays_keeps a told told' back back' hall hall' h = record {
       more = [];
       heard = Heard-nil shows a;
       stands = λ xs first before s. record { all = s.all; exchanges = append-nil xs ∙ s.exchanges; are_seated = h s.all first before s.are_seated };
     }
 
-    pub keeps_later : (a : ClerkMoment S) (told told' : ReadySeen) (back : Option (List C)) (hall : Hall C) → IsStill told told' → KeepsStanding house seen shows a a told told' back back hall hall
+    pub keeps_later : (a : ClerkMoment (Basis B)) (told told' : ReadySeen) (back : Option (List C)) (hall : Hall C) → IsStill told told' → KeepsStanding house seen shows a a told told' back back hall hall
     keeps_later a told told' back hall later = stays_keeps a told told' back back hall hall (λ all first before s. seated_still house seen first told told' all before back hall.count hall.most hall.seats later s)
 
-    pub keeps_still : (a : ClerkMoment S) (told : ReadySeen) (back : Option (List C)) (hall : Hall C) → KeepsStanding house seen shows a a told told back back hall hall
+    pub keeps_still : (a : ClerkMoment (Basis B)) (told : ReadySeen) (back : Option (List C)) (hall : Hall C) → KeepsStanding house seen shows a a told told back back hall hall
     keeps_still a told back hall = keeps_later a told told back hall (still_same told)
 
-    pub keeps_join : (a b c : ClerkMoment S) (t u v : ReadySeen) (one two three : Option (List C)) (hall mid last : Hall C) → KeepsStanding house seen shows a b t u one two hall mid → KeepsStanding house seen shows b c u v two three mid last → KeepsStanding house seen shows a c t v one three hall last
+    pub keeps_join : (a b c : ClerkMoment (Basis B)) (t u v : ReadySeen) (one two three : Option (List C)) (hall mid last : Hall C) → KeepsStanding house seen shows a b t u one two hall mid → KeepsStanding house seen shows b c u v two three mid last → KeepsStanding house seen shows a c t v one three hall last
     keeps_join a b c t u v one two three hall mid last h k = record {
       more = h.more ++ k.more;
       heard = Heard-join shows a b c h.more k.more h.heard k.heard;
@@ -236,19 +236,19 @@ module _ {C : Type 0} (house : House) (seen : C → WireSeen) where
     }
 
     -- an event was told before
-    pub keeps_event : (a b : ClerkMoment S) (t u v : ReadySeen) (one two three : Option (List C)) (hall hall' : Hall C) → IsStill t u → two ≡ one → KeepsStanding house seen shows a b u v two three hall hall' → KeepsStanding house seen shows a b t v one three hall hall'
+    pub keeps_event : (a b : ClerkMoment (Basis B)) (t u v : ReadySeen) (one two three : Option (List C)) (hall hall' : Hall C) → IsStill t u → two ≡ one → KeepsStanding house seen shows a b u v two three hall hall' → KeepsStanding house seen shows a b t v one three hall hall'
     keeps_event a b t u v one two three hall hall' later same k =
         let k' : KeepsStanding house seen shows a b u v one three hall hall' = rw same at k in
         keeps_join a a b t u v one one three hall hall hall' (keeps_later a t u one hall later) k'
 
     -- an event was told at which the clerk hears nothing
-    pub keeps_told : (a : ClerkMoment S) (t v : ReadySeen) (one two three : Option (List C)) (hall hall' : Hall C) → two ≡ one → StaysStanding house seen t v two three hall hall' → KeepsStanding house seen shows a a t v one three hall hall'
+    pub keeps_told : (a : ClerkMoment (Basis B)) (t v : ReadySeen) (one two three : Option (List C)) (hall hall' : Hall C) → two ≡ one → StaysStanding house seen t v two three hall hall' → KeepsStanding house seen shows a a t v one three hall hall'
     keeps_told a t v one two three hall hall' same h =
         let h' : StaysStanding house seen t v one three hall hall' = rw same at h in
         stays_keeps a t v one three hall hall' h'
 
     -- a connection was taken out of its seat and served
-    pub ready : (a b : ClerkMoment S) (told told' : ReadySeen) (back back' : Option (List C)) (hall hall' : Hall C) (mid : Slab (Visitor C)) (key : ℕ) (u v w : Visitor C) → IsStill told told' → get hall.seats key ≡ Some u → Updates hall.seats mid key None → slab_len mid + 1 ≡ slab_len hall.seats → mid.capacity ≡ hall.seats.capacity → Advances house.terms shows a b (seen_visitor seen u) (seen_visitor seen v) → w.number ≡ v.number → w.conversation ≡ v.conversation → seen w.conn ≡ record (seen v.conn) { marks = (seen w.conn).marks; watch = (seen w.conn).watch } → (seen w.conn).watch.vain ≡ (seen v.conn).watch.vain
+    pub ready : (a b : ClerkMoment (Basis B)) (told told' : ReadySeen) (back back' : Option (List C)) (hall hall' : Hall C) (mid : Slab (Visitor C)) (key : ℕ) (u v w : Visitor C) → IsStill told told' → get hall.seats key ≡ Some u → Updates hall.seats mid key None → slab_len mid + 1 ≡ slab_len hall.seats → mid.capacity ≡ hall.seats.capacity → Advances house.terms shows a b (seen_visitor seen u) (seen_visitor seen v) → w.number ≡ v.number → w.conversation ≡ v.conversation → seen w.conn ≡ record (seen v.conn) { marks = (seen w.conn).marks; watch = (seen w.conn).watch } → (seen w.conn).watch.vain ≡ (seen v.conn).watch.vain
         → ((all : List Asked) (first : ReadySeen) (before : Option (List C)) → AreOut house seen first told' all before back hall.count hall.most mid key w → (seen v.conn).watch.key ≡ Some key → IsQuietSince (seen v.conn).watch.since told'.idle key → AreSeated house seen first told' all before back' hall'.count hall'.most hall'.seats) → KeepsStanding house seen shows a b told told' back back' hall hall'
     ready a b told told' back back' hall hall' mid key u v w later at updates fewer room on number flow same vain last = record {
       more = on.hears.more;

@@ -8,7 +8,7 @@ use Rattle.ready_wires.specs.declared.marks.Marks.{Marks}
 use Rattle.http_page.specs.Pages.{PageAsk}
 use Rattle.http_talk.specs.Hearing.{ClerkMoment}
 use Rattle.http_talk.specs.declared.talk.Talk.{Talk}
-use Rattle.http_flow.specs.Exchange.{Terms, Exchange, Heard}
+use Rattle.http_flow.specs.Exchange.{Basis, Terms, Exchange, Heard, room_of, talks_in}
 use Rattle.http_flow.specs.Flow.{FlowView, IsFlow, GoesOn, OwesFew, IsOneText, most_message}
 use Rattle.http_flow.specs.declared.page.Page.{Page}
 use Rattle.http_flow.specs.declared.phase.Phase.TheVariants as phases
@@ -85,9 +85,9 @@ sends_none terms wire wire' flow same grows watched = record {
   watch = watched;
 }
 
-module _ {S : Type 0} (terms : Terms) (shows : S → List Talk → PageAsk → Page → Type 0) where
+module _ {B : Type 0} (terms : Terms) (shows : Basis B → List Talk → PageAsk → Page → Type 0) where
   -- a piece came
-  pub hears_some : (a b : ClerkMoment S) (wire wire' : WireSeen) (flow flow' : FlowView) (piece : List ℕ) → wire'.taken ≡ wire.taken → Grows wire.came wire'.came piece → wire'.watch ≡ wire.watch → flow.due ≡ [] → (IsBounded terms flow → length flow.rest + length piece < most_message + most_piece) → GoesOn terms shows a b flow flow' piece → Hears terms shows a b wire wire' flow flow'
+  pub hears_some : (a b : ClerkMoment (Basis B)) (wire wire' : WireSeen) (flow flow' : FlowView) (piece : List ℕ) → wire'.taken ≡ wire.taken → Grows wire.came wire'.came piece → wire'.watch ≡ wire.watch → flow.due ≡ [] → (IsBounded terms flow → length flow.rest + length piece < most_message + most_piece) → GoesOn terms shows a b flow flow' piece → Hears terms shows a b wire wire' flow flow'
   hears_some a b wire wire' flow flow' piece same grows watched sent fits on = record {
     more = on.more;
     heard = on.heard;
@@ -103,7 +103,7 @@ module _ {S : Type 0} (terms : Terms) (shows : S → List Talk → PageAsk → P
   }
 
   -- nothing was heard
-  pub hears_sent : (a : ClerkMoment S) (wire wire' : WireSeen) (flow flow' : FlowView) → Sends terms wire wire' flow flow' → Hears terms shows a a wire wire' flow flow'
+  pub hears_sent : (a : ClerkMoment (Basis B)) (wire wire' : WireSeen) (flow flow' : FlowView) → Sends terms wire wire' flow flow' → Hears terms shows a a wire wire' flow flow'
   hears_sent a wire wire' flow flow' sends = record {
     more = [];
     heard = Heard-nil shows a;
@@ -112,7 +112,7 @@ module _ {S : Type 0} (terms : Terms) (shows : S → List Talk → PageAsk → P
     watch = sends.watch;
   }
 
-  pub hears_none : (a : ClerkMoment S) (wire wire' : WireSeen) (flow : FlowView) → wire'.taken ≡ wire.taken → Grows wire.came wire'.came [] → wire'.watch ≡ wire.watch → Hears terms shows a a wire wire' flow flow
+  pub hears_none : (a : ClerkMoment (Basis B)) (wire wire' : WireSeen) (flow : FlowView) → wire'.taken ≡ wire.taken → Grows wire.came wire'.came [] → wire'.watch ≡ wire.watch → Hears terms shows a a wire wire' flow flow
   hears_none a wire wire' flow same grows watched = hears_sent a wire wire' flow flow (record {
     on = λ xs on. record {
       came = on.came;
@@ -126,7 +126,7 @@ module _ {S : Type 0} (terms : Terms) (shows : S → List Talk → PageAsk → P
   })
 
   -- what came before went on
-  pub hears_on : (a b : ClerkMoment S) (wire : WireSeen) (flow flow' : FlowView) → flow.due ≡ [] → GoesOn terms shows a b flow flow' [] → Hears terms shows a b wire wire flow flow'
+  pub hears_on : (a b : ClerkMoment (Basis B)) (wire : WireSeen) (flow flow' : FlowView) → flow.due ≡ [] → GoesOn terms shows a b flow flow' [] → Hears terms shows a b wire wire flow flow'
   hears_on a b wire flow flow' sent on = record {
     more = on.more;
     heard = on.heard;
@@ -141,13 +141,29 @@ module _ {S : Type 0} (terms : Terms) (shows : S → List Talk → PageAsk → P
     watch = refl;
   }
 
-  pub hears_still : (a : ClerkMoment S) (wire : WireSeen) (flow : FlowView) → Hears terms shows a a wire wire flow flow
+  -- where nothing was asked the clerk has the room that it had
+  room_still : (a b : ClerkMoment (Basis B)) (more : List Exchange) → Heard shows a b more → more ≡ [] → room_of a ≡ true → room_of b ≡ true
+  room_still a b more h none room =
+      let talks : b.talks ≡ a.talks = h.grown ∙ ap (λ l. a.talks ++ talks_in l) none ∙ append-nil a.talks in
+      let own : b.start.has_room b.talks ≡ true = rw (h.start, talks) room in
+      own
+
+  pub never_held : (a b : ClerkMoment (Basis B)) (flow flow' : FlowView) → room_of a ≡ true → GoesOn terms shows a b flow flow' [] → flow'.due ≡ [] → flow'.phase ≡ phases.Full → ⊥
+  never_held a b flow flow' room on none full = elim (on.held full) [
+    | inl some ↦ some none
+    | inr held ↦ absurd (cc (sym held ∙ room_still a b on.more on.heard (on.said (inr full) none) room))
+  ]
+
+  pub room_waits : (a b : ClerkMoment (Basis B)) (flow flow' : FlowView) → room_of a ≡ true → GoesOn terms shows a b flow flow' [] → flow'.due ≡ [] → flow'.phase ≡ phases.Waits → room_of b ≡ true
+  room_waits a b flow flow' room on none waits = room_still a b on.more on.heard (on.said (inl waits) none) room
+
+  pub hears_still : (a : ClerkMoment (Basis B)) (wire : WireSeen) (flow : FlowView) → Hears terms shows a a wire wire flow flow
   hears_still a wire flow = hears_sent a wire wire flow flow (record { on = λ xs on. on; bounded = λ b. b; watch = refl })
 
-  pub advances_still : (a : ClerkMoment S) (v : VisitorSeen) → Advances terms shows a a v v
+  pub advances_still : (a : ClerkMoment (Basis B)) (v : VisitorSeen) → Advances terms shows a a v v
   advances_still a v = record { number = refl; hears = hears_still a v.wire v.flow }
 
-  pub advances_join : (a b c : ClerkMoment S) (u v w : VisitorSeen) → Advances terms shows a b u v → Advances terms shows b c v w → Advances terms shows a c u w
+  pub advances_join : (a b c : ClerkMoment (Basis B)) (u v w : VisitorSeen) → Advances terms shows a b u v → Advances terms shows b c v w → Advances terms shows a c u w
   advances_join a b c u v w one two = record {
     number = two.number ∙ one.number;
     hears = record {

@@ -10,7 +10,7 @@ use Rattle.ready_wires.specs.Events.{ReadySeen, IsAwaited, IsQuietSince, Tells}
 use Rattle.http_page.specs.Pages.{PageAsk}
 use Rattle.http_talk.specs.Hearing.{ClerkMoment}
 use Rattle.http_talk.specs.declared.talk.Talk.{Talk}
-use Rattle.http_flow.specs.Exchange.{Terms, Exchange, Heard}
+use Rattle.http_flow.specs.Exchange.{Basis, Terms, Exchange, Heard}
 use Rattle.http_flow.specs.Flow.{FlowView}
 use Rattle.http_flow.specs.declared.page.Page.{Page}
 use Rattle.serve_poll.specs.Visitors.{IsOn, IsBounded, IsLeft, IsWaiting, WasTold, VisitorSeen}
@@ -130,22 +130,15 @@ module _ {C : Type 0} (house : House) (seen : C → WireSeen) where
     pub exchanges : xs ≡ map (λ h. h.exchange) all
     pub are_seated : AreSeated told told' all back back' hall.count hall.most hall.seats
 
-  module _ {S : Type 0} (shows : S → List Talk → PageAsk → Page → Type 0) where
+  module _ {B : Type 0} (shows : Basis B → List Talk → PageAsk → Page → Type 0) where
     -- the clerk heard further requests and showed further pages; whatever was asked before, these with them are those
     -- of the connections
-    pub record KeepsStanding (clerk clerk' : ClerkMoment S) (told told' : ReadySeen) (back back' : Option (List C))
-        (hall hall' : Hall C) : Type 0 where
+    pub record KeepsStanding (clerk clerk' : ClerkMoment (Basis B)) (told told' : ReadySeen)
+        (back back' : Option (List C)) (hall hall' : Hall C) : Type 0 where
       pub more : List Exchange
       pub heard : Heard shows clerk clerk' more
       pub stands : (xs : List Exchange) (first : ReadySeen) (before : Option (List C))
           → Stands first told xs before back hall → Stands first told' (xs ++ more) before back' hall'
-
-    -- the same from an empty hall on
-    pub record WereServed (clerk clerk' : ClerkMoment S) (told told' : ReadySeen) (back back' : Option (List C))
-        (hall : Hall C) : Type 0 where
-      pub xs : List Exchange
-      pub heard : Heard shows clerk clerk' xs
-      pub stands : Stands told told' xs back back' hall
 
   -- the same where the clerk heard nothing
   abbrev pub StaysStanding : ReadySeen → ReadySeen → Option (List C) → Option (List C) → Hall C → Hall C → Type 0

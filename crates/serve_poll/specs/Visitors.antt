@@ -5,7 +5,7 @@ use Rattle.ready_wires.specs.Events.{WasToldSince}
 use Rattle.http_page.specs.Pages.{PageAsk}
 use Rattle.http_talk.specs.Hearing.{ClerkMoment}
 use Rattle.http_talk.specs.declared.talk.Talk.{Talk}
-use Rattle.http_flow.specs.Exchange.{Terms, Exchange, Heard, most_due}
+use Rattle.http_flow.specs.Exchange.{Basis, Terms, Exchange, Heard, most_due}
 use Rattle.http_flow.specs.Flow.{FlowView, IsFlow, IsOneText, most_message}
 use Rattle.http_flow.specs.declared.page.Page.{Page}
 use Rattle.http_flow.specs.declared.phase.Phase.{Phase}
@@ -51,9 +51,9 @@ pub record VisitorSeen : Type 0 where
   pub wire : WireSeen
   pub flow : FlowView
 
-module _ {S : Type 0} (terms : Terms) (shows : S → List Talk → PageAsk → Page → Type 0) where
+module _ {B : Type 0} (terms : Terms) (shows : Basis B → List Talk → PageAsk → Page → Type 0) where
   -- a piece came, and what it asked was heard
-  pub record Hears (a b : ClerkMoment S) (wire wire' : WireSeen) (flow flow' : FlowView) : Type 0 where
+  pub record Hears (a b : ClerkMoment (Basis B)) (wire wire' : WireSeen) (flow flow' : FlowView) : Type 0 where
     pub more : List Exchange
     pub heard : Heard shows a b more
     pub on : (xs : List Exchange) → IsOn terms wire flow xs → IsOn terms wire' flow' (xs ++ more)
@@ -61,7 +61,7 @@ module _ {S : Type 0} (terms : Terms) (shows : S → List Talk → PageAsk → P
     pub watch : wire'.watch ≡ wire.watch
 
   -- the connection was served a while: the clerk heard what it asked, and nothing else
-  pub record Advances (a b : ClerkMoment S) (old new : VisitorSeen) : Type 0 where
+  pub record Advances (a b : ClerkMoment (Basis B)) (old new : VisitorSeen) : Type 0 where
     pub number : new.number ≡ old.number
     pub hears : Hears a b old.wire new.wire old.flow new.flow
 

@@ -7,6 +7,6 @@ mod step;
 mod visitor;
 
 pub use hall::Hall;
-pub use serving::{LoopEnd, serve_events, serve_from_empty};
+pub use serving::{LoopEnd, serve_event};
 pub use step::{Left, Step};
 pub use visitor::Visitor;

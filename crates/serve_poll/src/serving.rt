@@ -1,6 +1,6 @@
 //! Many connections and their events.
 ghost use Rattle.std.specs.Prelude.{◌≡◌, ◌≤◌, ◌<◌, ◌^◌, ◌-◌, ◌⊎◌, [], false, true, List, Some, ℕ};
-ghost use Rattle.std.specs.Prelude.{IfNone, IfOk, IfSome, IsTrue, OnErr};
+ghost use Rattle.std.specs.Prelude.{IfNone, IfSome, IsTrue};
 ghost use Rattle.slab.specs.Slab.{HasRoomFor, slab_len};
 ghost use Rattle.desk_common.specs.Causes.{Rose};
 ghost use Rattle.sms_base.specs.Counts.{one_call_more};
@@ -10,7 +10,7 @@ ghost use Rattle.http_flow.specs.Exchange.{Terms};
 ghost use Rattle.http_flow.specs.Flow.{FlowView};
 ghost use Rattle.serve_poll.specs.Visitors.{IsLeft, IsStep};
 ghost use Rattle.serve_poll.specs.Halls.{AreWatched, AreWatchedBut, HasArrived, House, IsInTurn, KeepsStanding};
-ghost use Rattle.serve_poll.specs.Halls.{StaysStanding, WasAsked, WasIdle, WereServed};
+ghost use Rattle.serve_poll.specs.Halls.{StaysStanding, WasAsked, WasIdle};
 ghost use Rattle.serve_poll.specs.Inner.Watches.{IsSameWatch};
 
 use crate::hall::Hall;
@@ -20,7 +20,7 @@ use http_flow::{Conversation, Pages};
 use http_head::Routes;
 use http_page::Site;
 use ready_wires::{Event, Readiness};
-use std::alloc::{AllocError, Global};
+use std::alloc::Global;
 
 /// Why no further event is awaited.
 #[derive(Clone, Copy, Debug, PartialEq, Eq)]
@@ -35,39 +35,10 @@ pub enum LoopEnd {
     Numbers,
 }
 
-/// Serves connections as they become ready, at most so many at once, until so many events came; one that comes when as
-/// many are served is told `away`. Where memory to begin is wanting nothing happens (docs/manual/smsd.md, "The served
-/// desk").
-pub fn serve_from_empty<P: Readiness, K: Pages>(
-    alloc: Global,
-    routes: &Routes,
-    site: &Site,
-    clerk: &mut K,
-    poller: &mut P,
-    away: &[u8],
-    most: usize,
-    turns: u64,
-) -> Result<(LoopEnd, Hall<P::Conn>), AllocError>
-    ensures served { IfOk result (λ served. WereServed
-        (record { terms = record { port = site.now; refusal = K.refusal }; away = away.now })
-        P.Conn.seen K.shows
-        (record { talks = K.talks clerk.old; start = K.begun clerk.old })
-        (record { talks = K.talks clerk.new; start = K.begun clerk.new })
-        (P.seen poller.old) (P.seen poller.new) (P.back poller.old) (P.back poller.new) served.1) }
-    ensures watched { IfOk result (λ served.
-        AreWatched P.Conn.seen (P.seen poller.new).awaited served.1.seats) }
-    ensures asked { IfOk result (λ served.
-        WasAsked turns (P.seen poller.old) (P.seen poller.new) served.1.count served.0) }
-    ensures most { IfOk result (λ served. served.1.most ≡ most) }
-    ensures unserved { OnErr result ((clerk.new ≡ clerk.old) × (poller.new ≡ poller.old)) }
-{
-    let mut hall = Hall::with_room(alloc, most)?;
-    let end = serve_events(alloc, routes, site, clerk, poller, &mut hall, away, turns);
-    Ok((end, hall))
-}
-
-/// Serves connections as they become ready, until so many events came. It waits where no connection is ready.
-pub fn serve_events<P: Readiness, K: Pages>(
+/// Waits for one event, and does what it asks; one that comes when as many connections are served as may be is told
+/// `away`. The clerk has room. Says `Turns` where the event came, and else why no further one is awaited
+/// (docs/manual/smsd.md, "The served desk").
+pub fn serve_event<P: Readiness, K: Pages>(
     alloc: Global,
     routes: &Routes,
     site: &Site,
@@ -75,8 +46,8 @@ pub fn serve_events<P: Readiness, K: Pages>(
     poller: &mut P,
     hall: &mut Hall<P::Conn>,
     away: &[u8],
-    turns: u64,
 ) -> LoopEnd
+    requires { (K.begun clerk.old).has_room (K.talks clerk.old) ≡ true }
     ensures stands { KeepsStanding
         (record { terms = record { port = site.now; refusal = K.refusal }; away = away.now })
         P.Conn.seen K.shows
@@ -85,21 +56,17 @@ pub fn serve_events<P: Readiness, K: Pages>(
         (P.seen poller.old) (P.seen poller.new) (P.back poller.old) (P.back poller.new) hall.old hall.new }
     ensures watched { AreWatched P.Conn.seen (P.seen poller.old).awaited hall.old.seats
         → AreWatched P.Conn.seen (P.seen poller.new).awaited hall.new.seats }
-    ensures asked { WasAsked turns (P.seen poller.old) (P.seen poller.new) hall.new.count result }
+    ensures asked { WasAsked 1 (P.seen poller.old) (P.seen poller.new) hall.new.count result }
     ensures most { hall.new.most ≡ hall.old.most }
     ensures faults { (P.seen poller.old).faults ≤ (P.seen poller.new).faults }
 {
-    let mut made = 0;
-    while made < turns {
-        if hall.count == u64::MAX {
-            return LoopEnd::Numbers;
-        }
-        made += 1;
-        if let Some(end) = meet(alloc, routes, site, clerk, poller, hall, away) {
-            return end;
-        }
+    if hall.count == u64::MAX {
+        return LoopEnd::Numbers;
     }
-    LoopEnd::Turns
+    match meet(alloc, routes, site, clerk, poller, hall, away) {
+        Some(end) => end,
+        None => LoopEnd::Turns,
+    }
 }
 
 // Waits for one event, and does what it asks; or says why no further one is awaited.
@@ -112,7 +79,8 @@ fn meet<P: Readiness, K: Pages>(
     hall: &mut Hall<P::Conn>,
     away: &[u8],
 ) -> Option<LoopEnd>
-    requires { hall.old.count < 2 ^ 64 - 1 }
+    requires count { hall.old.count < 2 ^ 64 - 1 }
+    requires room { (K.begun clerk.old).has_room (K.talks clerk.old) ≡ true }
     ensures stands { KeepsStanding
         (record { terms = record { port = site.now; refusal = K.refusal }; away = away.now })
         P.Conn.seen K.shows
@@ -198,7 +166,7 @@ fn has_room<C>(hall: &Hall<C>) -> bool
     hall.seats.len() != hall.seats.capacity()
 }
 
-// Serves the connection at this key, if there is one.
+// Serves the connection at this key, if there is one. The clerk has room.
 fn serve_ready<P: Readiness, K: Pages>(
     alloc: Global,
     routes: &Routes,
@@ -208,6 +176,7 @@ fn serve_ready<P: Readiness, K: Pages>(
     hall: &mut Hall<P::Conn>,
     key: usize,
 )
+    requires { (K.begun clerk.old).has_room (K.talks clerk.old) ≡ true }
     ensures stands { (away : List ℕ) → KeepsStanding
         (record { terms = record { port = site.now; refusal = K.refusal }; away = away })
         P.Conn.seen K.shows

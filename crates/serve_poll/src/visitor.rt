@@ -1,5 +1,5 @@
 //! A connection that is being served.
-ghost use Rattle.std.specs.Prelude.{◌≡◌, ◌≢◌, []};
+ghost use Rattle.std.specs.Prelude.{◌≡◌, ◌≢◌, [], true};
 ghost use Rattle.ready_wires.specs.Wires.{IsTold, WireSeen};
 ghost use Rattle.http_flow.specs.Exchange.{Terms};
 ghost use Rattle.serve_poll.specs.Visitors.{Advances, Hears, IsStep, Sends, WasTold};
@@ -25,7 +25,8 @@ pub struct Visitor<C> {
     pub conversation: Conversation,
 }
 
-/// Serves the connection until it would wait or has ended, at most so often that others get their turn.
+/// Serves the connection until it would wait or has ended, or the clerk, which has room, has none left; at most so often
+/// that others get their turn.
 pub fn advance<C: Wire, K: Pages>(
     alloc: Global,
     routes: &Routes,
@@ -33,6 +34,7 @@ pub fn advance<C: Wire, K: Pages>(
     clerk: &mut K,
     visitor: &mut Visitor<C>,
 ) -> Step
+    requires { (K.begun clerk.old).has_room (K.talks clerk.old) ≡ true }
     ensures advances { Advances (record { port = site.now; refusal = K.refusal }) K.shows
         (record { talks = K.talks clerk.old; start = K.begun clerk.old })
         (record { talks = K.talks clerk.new; start = K.begun clerk.new })
@@ -53,6 +55,9 @@ pub fn advance<C: Wire, K: Pages>(
         if step != Step::Again {
             return step;
         }
+        if !clerk.has_room() {
+            return step;
+        }
     }
     take_step(alloc, routes, site, clerk, visitor)
 }
@@ -65,6 +70,7 @@ fn take_step<C: Wire, K: Pages>(
     clerk: &mut K,
     visitor: &mut Visitor<C>,
 ) -> Step
+    requires { (K.begun clerk.old).has_room (K.talks clerk.old) ≡ true }
     ensures advances { Advances (record { port = site.now; refusal = K.refusal }) K.shows
         (record { talks = K.talks clerk.old; start = K.begun clerk.old })
         (record { talks = K.talks clerk.new; start = K.begun clerk.new })
@@ -92,11 +98,14 @@ fn go_on<K: Pages>(
     clerk: &mut K,
     conversation: &mut Conversation,
 )
+    requires { (K.begun clerk.old).has_room (K.talks clerk.old) ≡ true }
     ensures hears { (wire : WireSeen) → Hears (record { port = site.now; refusal = K.refusal }) K.shows
         (record { talks = K.talks clerk.old; start = K.begun clerk.old })
         (record { talks = K.talks clerk.new; start = K.begun clerk.new })
         wire wire conversation.old conversation.new }
     ensures gone { conversation.new.due ≡ [] → conversation.new.phase ≢ Phase.Full }
+    ensures room { conversation.new.due ≡ [] → conversation.new.phase ≡ Phase.Waits
+        → (K.begun clerk.new).has_room (K.talks clerk.new) ≡ true }
 {
     if !conversation.due().is_empty() {
         return;
@@ -115,7 +124,9 @@ fn call<C: Wire, K: Pages>(
     clerk: &mut K,
     visitor: &mut Visitor<C>,
 ) -> Step
-    requires { visitor.old.conversation.due ≡ [] → visitor.old.conversation.phase ≢ Phase.Full }
+    requires gone { visitor.old.conversation.due ≡ [] → visitor.old.conversation.phase ≢ Phase.Full }
+    requires room { visitor.old.conversation.due ≡ [] → visitor.old.conversation.phase ≡ Phase.Waits
+        → (K.begun clerk.old).has_room (K.talks clerk.old) ≡ true }
     ensures advances { Advances (record { port = site.now; refusal = K.refusal }) K.shows
         (record { talks = K.talks clerk.old; start = K.begun clerk.old })
         (record { talks = K.talks clerk.new; start = K.begun clerk.new })
@@ -176,6 +187,7 @@ fn hear<C: Wire, K: Pages>(
 ) -> Step
     requires waits { conversation.old.phase ≡ Phase.Waits }
     requires sent { conversation.old.due ≡ [] }
+    requires room { (K.begun clerk.old).has_room (K.talks clerk.old) ≡ true }
     ensures hears { Hears (record { port = site.now; refusal = K.refusal }) K.shows
         (record { talks = K.talks clerk.old; start = K.begun clerk.old })
         (record { talks = K.talks clerk.new; start = K.begun clerk.new })

@@ -1,5 +1,11 @@
-//! Tests of the lines of connections that were served.
+//! Tests of served desks: schedules of connections to a store.
 #![tactic(auto)]
 
 #[cfg(test)]
-mod ends;
+mod draws;
+#[cfg(test)]
+mod heard;
+#[cfg(test)]
+mod replay;
+#[cfg(test)]
+mod schedules;

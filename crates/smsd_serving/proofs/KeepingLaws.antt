@@ -1,5 +1,5 @@
 -- A desk that is served epoch by epoch.
-use Rattle.std.proofs.Common.{◌≡◌, ◌≤◌, ◌<◌, ◌+◌, ◌++◌, ◌∷◌, ◌∙◌, ap, refl, sym, ℕ, zero, suc, List, [], arith, append_assoc, append-nil, Some, None, inl, inr}
+use Rattle.std.proofs.Common.{◌≡◌, ◌≤◌, ◌<◌, ◌+◌, ◌++◌, ◌∷◌, ◌∙◌, ap, refl, sym, ℕ, zero, suc, List, [], false, arith, append_assoc, append-nil, Some, None, inl, inr}
 use Rattle.std.specs.Prelude.{◌⊎◌, All, Err, IfErr, IfOk, IfSome, Ok, OnErr, OnOk, Option, Result, true}
 use Rattle.std.proofs.lemmas.List.Concat.{flat_map-append}
 use Rattle.std.proofs.lemmas.List.Elements.{All-nil, All-push}
@@ -8,7 +8,7 @@ use Rattle.sms_base.specs.Counts.{after_calls, one_call_more}
 use Rattle.ready_wires.specs.Wires.{WireSeen}
 use Rattle.ready_wires.specs.Events.{ReadySeen}
 use Rattle.http_talk.specs.declared.talk.Talk.{Talk}
-use Rattle.http_flow.specs.Exchange.{Exchange, AreShown, talks_in}
+use Rattle.http_flow.specs.Exchange.{Basis, Exchange, AreShown, talks_in}
 use Rattle.http_flow.proofs.ExchangeLaws.{AreShown-append, talks-append}
 use Rattle.sms_keeper.specs.declared.rows.Rows.{Rows}
 use Rattle.sms_keeper.specs.declared.table.Table.{Table}
@@ -17,21 +17,31 @@ use Rattle.sms_core.specs.Core.{CoreView}
 use Rattle.sms_open.specs.Own.{AreOwn, SparesTables}
 use Rattle.sms_open.specs.declared.open_err.OpenErr.{OpenErr}
 use Rattle.sms_open.specs.declared.open_err.OpenErr.TheVariants as refusals
-use Rattle.desk_http.specs.Entered.{ClerkView}
-use Rattle.page_clerk.specs.Filling.{is_nearly_full}
-use Rattle.page_clerk.specs.Shows.{ShowsPage, begun_with}
+use Rattle.desk_http.specs.Entered.{ClerkView, HasEntered, entries_of}
+use Rattle.page_clerk.specs.Shows.{Begun, ShowsPage, begun_with}
 use Rattle.serve_poll.specs.Halls.{KeepsStanding, WasAsked}
 use Rattle.serve_poll.proofs.ServingLaws.{rose_since, stands_first}
 use Rattle.serve_poll.specs.declared.hall.Hall.{Hall}
 use Rattle.serve_poll.specs.declared.serving.LoopEnd.{LoopEnd}
 use Rattle.serve_poll.specs.declared.serving.LoopEnd.TheVariants as loops
-use Rattle.smsd_serving.specs.Served.{house_at}
-use Rattle.smsd_serving.specs.Epochs.{AreInTurn, Epoch, HasFilled, IsEpoch, IsLeft, IsOpenedBehind, IsUnopened, WasKept, WereAsked, exchanges_in}
+use Rattle.smsd_serving.specs.Epochs.{AreInTurn, Epoch, HasFilled, IsEpoch, IsLeft, IsOpenedBehind, IsUnopened, WasKept, WereAsked, exchanges_in, house_at}
 use Rattle.smsd_serving.specs.Inner.Serving.{EndsServing, GoesOnServing, IsRenewed, IsServing}
 use Rattle.smsd_serving.specs.declared.serving_end.ServingEnd.{ServingEnd}
 use Rattle.smsd_serving.specs.declared.serving_end.ServingEnd.TheVariants as ends
-use Rattle.smsd_serving.proofs.ServedLaws.{entered_by}
 use Rattle.smsd_serving.proofs.StayLemmas.{stays_on, stays_self}
+
+-- what a clerk that began alike entered
+entered_by : {P : Type 0} (start mid core : CoreView P) (talks : List Talk) → begun_with mid ≡ begun_with start → HasEntered mid core talks → HasEntered start core talks
+entered_by start mid core talks same h = record {
+  opening = h.opening ∙ ap (λ (b : Basis Begun). b.begun.opening) same;
+  mark = h.mark ∙ ap (λ (b : Basis Begun). b.begun.mark) same;
+  journal = h.journal ∙ ap (λ (b : Basis Begun). b.begun.journal ++ entries_of talks) same;
+  placed = h.placed;
+}
+
+-- and for what it has room
+room_by : {P : Type 0} (start mid : CoreView P) (talks talks' : List Talk) → begun_with mid ≡ begun_with start → talks ≡ talks' → (begun_with mid).has_room talks ≡ (begun_with start).has_room talks'
+room_by start mid talks talks' same is = ap (λ (b : Basis Begun). b.has_room talks) same ∙ ap (λ l. (begun_with start).has_room l) is
 
 -- a refusal for want of memory, or since the keeper failed, spares tables
 spares_memory : (told : Option Rows) → IfSome told (λ tables. AreOwn tables → SparesTables refusals.NoMemory)
@@ -156,7 +166,7 @@ module _ {P : Type 0} (told : P → Option Rows) (count : P → ℕ) where
       before = h.before ++ e ∷ [];
       left = clerk.core.keeper;
       in_turn = turn_more keeper h.before h.left e h.in_turn (epoch_of h.left h.start clerk h.exchanges h.opened h.same h.talks h.shown r.left);
-      filled = All-push (λ (e : Epoch P). HasFilled e) h.before e h.filled (rw h.talks at r.filled);
+      filled = All-push (λ (e : Epoch P). HasFilled e) h.before e h.filled (sym (room_by h.start clerk.start clerk.talks (talks_in h.exchanges) h.same h.talks) ∙ r.filled);
       start = next.start;
       opened = r.opened;
       same = refl;
@@ -167,7 +177,7 @@ module _ {P : Type 0} (told : P → Option Rows) (count : P → ℕ) where
     }
 
     -- no further event is awaited
-    pub ends_loop : (damage : P → Option (Table × ℕ)) (clerk clerk' : ClerkView P) (last : P) (ready ready' : ReadySeen) (back back' : Option (List C)) (hall hall' : Hall C) (end : LoopEnd) → GoesOnServing told count seen port clerk clerk' ready ready' back back' hall hall' → IsLeft told count clerk'.start clerk'.core clerk'.talks → last ≡ clerk'.core.keeper → (end ≡ loops.Turns → is_nearly_full clerk'.core.journal clerk'.talks ≡ true → ⊥) → EndsServing told count seen port damage clerk last ready ready' back back' hall hall' (ends.Loop end)
+    pub ends_loop : (damage : P → Option (Table × ℕ)) (clerk clerk' : ClerkView P) (last : P) (ready ready' : ReadySeen) (back back' : Option (List C)) (hall hall' : Hall C) (end : LoopEnd) → GoesOnServing told count seen port clerk clerk' ready ready' back back' hall hall' → IsLeft told count clerk'.start clerk'.core clerk'.talks → last ≡ clerk'.core.keeper → (end ≡ loops.Turns → (begun_with clerk'.start).has_room clerk'.talks ≡ false → ⊥) → EndsServing told count seen port damage clerk last ready ready' back back' hall hall' (ends.Loop end)
     ends_loop damage clerk clerk' last ready ready' back back' hall hall' end goes left is room keeper first old h = let s = goes keeper first old h in record {
       before = s.before;
       left = s.left;
@@ -175,12 +185,12 @@ module _ {P : Type 0} (told : P → Option Rows) (count : P → ℕ) where
       in_turn = s.in_turn;
       filled = s.filled;
       is_epoch = epoch_of s.left s.start clerk' s.exchanges s.opened s.same s.talks s.shown left;
-      ending = (is, λ turns filled. room turns (rw s.talks filled));
+      ending = (is, λ turns filled. room turns (room_by s.start clerk'.start clerk'.talks (talks_in s.exchanges) s.same s.talks ∙ filled));
       stands = s.stands;
     }
 
     -- no desk goes on from the tables that were left
-    pub ends_unopened : (damage : P → Option (Table × ℕ)) (clerk clerk' : ClerkView P) (last : P) (ready ready' : ReadySeen) (back back' : Option (List C)) (hall hall' : Hall C) (err : OpenErr) → GoesOnServing told count seen port clerk clerk' ready ready' back back' hall hall' → is_nearly_full clerk'.core.journal clerk'.talks ≡ true → IsLeft told count clerk'.start clerk'.core clerk'.talks → IsUnopened told count damage clerk'.core.keeper last err → EndsServing told count seen port damage clerk last ready ready' back back' hall hall' (ends.Unopened err)
+    pub ends_unopened : (damage : P → Option (Table × ℕ)) (clerk clerk' : ClerkView P) (last : P) (ready ready' : ReadySeen) (back back' : Option (List C)) (hall hall' : Hall C) (err : OpenErr) → GoesOnServing told count seen port clerk clerk' ready ready' back back' hall hall' → (begun_with clerk'.start).has_room clerk'.talks ≡ false → IsLeft told count clerk'.start clerk'.core clerk'.talks → IsUnopened told count damage clerk'.core.keeper last err → EndsServing told count seen port damage clerk last ready ready' back back' hall hall' (ends.Unopened err)
     ends_unopened damage clerk clerk' last ready ready' back back' hall hall' err goes filled left unopened keeper first old h = let s = goes keeper first old h in record {
       before = s.before;
       left = s.left;
@@ -188,7 +198,7 @@ module _ {P : Type 0} (told : P → Option Rows) (count : P → ℕ) where
       in_turn = s.in_turn;
       filled = s.filled;
       is_epoch = epoch_of s.left s.start clerk' s.exchanges s.opened s.same s.talks s.shown left;
-      ending = (rw s.talks at filled, unopened);
+      ending = (sym (room_by s.start clerk'.start clerk'.talks (talks_in s.exchanges) s.same s.talks) ∙ filled, unopened);
       stands = s.stands;
     }
 
@@ -198,6 +208,6 @@ module _ {P : Type 0} (told : P → Option Rows) (count : P → ℕ) where
     went_on clerk clerk' next ready ready' back back' hall hall' goes (inr r) = goes_on_join clerk clerk' next ready ready' ready' back back' back' hall hall' hall' goes (goes_on_renewed clerk' next ready' back' hall' r)
 
     -- or none
-    pub went_off : (damage : P → Option (Table × ℕ)) (r : Result (ClerkView P) (ServingEnd × P)) (clerk clerk' : ClerkView P) (ready ready' : ReadySeen) (back back' : Option (List C)) (hall hall' : Hall C) → GoesOnServing told count seen port clerk clerk' ready ready' back back' hall hall' → IfErr r (λ over. (err : OpenErr) × (over.0 ≡ ends.Unopened err) × IsUnopened told count damage clerk'.core.keeper over.1 err) → OnErr r (is_nearly_full clerk'.core.journal clerk'.talks ≡ true) → OnErr r (IsLeft told count clerk'.start clerk'.core clerk'.talks) → IfErr r (λ over. EndsServing told count seen port damage clerk over.1 ready ready' back back' hall hall' over.0)
+    pub went_off : (damage : P → Option (Table × ℕ)) (r : Result (ClerkView P) (ServingEnd × P)) (clerk clerk' : ClerkView P) (ready ready' : ReadySeen) (back back' : Option (List C)) (hall hall' : Hall C) → GoesOnServing told count seen port clerk clerk' ready ready' back back' hall hall' → IfErr r (λ over. (err : OpenErr) × (over.0 ≡ ends.Unopened err) × IsUnopened told count damage clerk'.core.keeper over.1 err) → OnErr r ((begun_with clerk'.start).has_room clerk'.talks ≡ false) → OnErr r (IsLeft told count clerk'.start clerk'.core clerk'.talks) → IfErr r (λ over. EndsServing told count seen port damage clerk over.1 ready ready' back back' hall hall' over.0)
     went_off damage (Ok next) clerk clerk' ready ready' back back' hall hall' goes h filled left = tt
     went_off damage (Err over) clerk clerk' ready ready' back back' hall hall' goes h filled left = rw h.1 (ends_unopened damage clerk clerk' over.1 ready ready' back back' hall hall' h.0 goes filled left h.2)

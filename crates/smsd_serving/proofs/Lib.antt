@@ -1,3 +1,2 @@
 pub mod StayLemmas
-pub mod ServedLaws
 pub mod KeepingLaws

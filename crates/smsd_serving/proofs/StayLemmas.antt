@@ -1,15 +1,9 @@
 -- Tables that stay, call by call.
 use Rattle.std.proofs.Common.{◌≡◌, ◌∙◌, refl, None, Some}
-use Rattle.std.specs.Prelude.{ℕ, IfSome, List, Option}
-use Rattle.ready_wires.specs.Wires.{WireSeen}
-use Rattle.ready_wires.specs.Events.{ReadySeen}
-use Rattle.http_talk.specs.declared.talk.Talk.{Talk}
+use Rattle.std.specs.Prelude.{Option}
 use Rattle.sms_keeper.specs.Tables.{AreSame}
 use Rattle.sms_keeper.specs.Told.{Stays}
 use Rattle.sms_keeper.specs.declared.rows.Rows.{Rows}
-use Rattle.sms_core.specs.Core.{CoreView}
-use Rattle.serve_poll.specs.declared.hall.Hall.{Hall}
-use Rattle.smsd_serving.specs.Served.{WasServed}
 
 -- the same tables, one after the other
 same_on : (a b c : Rows) → AreSame a b → AreSame b c → AreSame a c
@@ -27,17 +21,6 @@ stays_on a b None first second = tt
 stays_on a b (Some rows) first second =
     let at : Stays a (Some second.0) = rw second.1 at first in
     (at.0, at.1, same_on rows second.0 at.0 second.2 at.2)
-
--- the store was made ready before
-pub served_behind : {P C : Type 0} (told : P → Option Rows) (count : P → ℕ) (seen : C → WireSeen) (port : ℕ) (keeper ready : P) (core : CoreView P) (one two : ReadySeen) (back back' : Option (List C)) (talks : List Talk) (hall : Hall C) → Stays (told keeper) (told ready) → WasServed told count seen port ready core one two back back' talks hall → WasServed told count seen port keeper core one two back back' talks hall
-served_behind told count seen port keeper ready core one two back back' talks hall stays h = record {
-  start = h.start;
-  opened = h.opened;
-  kept = stays_on (told keeper) (told ready) (told h.start.keeper) stays h.kept;
-  new = h.new;
-  mark = h.mark;
-  served = h.served;
-}
 
 -- tables stay where nothing happened
 same_self : (a : Rows) → AreSame a a

@@ -1,5 +1,5 @@
 -- What is known of a store's desk that was served through several journals (docs/manual/smsd.md, "A full journal").
-use Rattle.std.specs.Prelude.{ℕ, true, ◌≡◌, ◌≤◌, ◌+◌, ◌-◌, ◌^◌, List, [], ◌∷◌, ◌++◌, All, IfSome, Option, min}
+use Rattle.std.specs.Prelude.{ℕ, false, ◌≡◌, ◌≤◌, ◌+◌, ◌-◌, ◌^◌, List, [], ◌∷◌, ◌++◌, All, IfSome, Option, min}
 use Rattle.std.specs.List.{flat_map}
 use Rattle.desk_common.specs.Causes.{Rose}
 use Rattle.sms_base.specs.Counts.{after_calls}
@@ -18,14 +18,18 @@ use Rattle.sms_open.specs.Reopening.{IsOpened, NamesRefusal}
 use Rattle.sms_open.specs.declared.open_err.OpenErr.{OpenErr}
 use Rattle.sms_open.specs.declared.open_err.OpenErr.TheVariants.{Failed}
 use Rattle.desk_http.specs.Entered.{HasEntered}
-use Rattle.page_clerk.specs.Filling.{AreUnfilled, is_nearly_full}
+use Rattle.page_text.specs.RefusalText.{said_refusal}
+use Rattle.page_clerk.specs.Filling.{AreUnfilled}
 use Rattle.page_clerk.specs.Shows.{ShowsPage, begun_with}
-use Rattle.serve_poll.specs.Halls.{Stands, WasAsked}
+use Rattle.serve_poll.specs.Halls.{House, Stands, WasAsked}
 use Rattle.serve_poll.specs.declared.hall.Hall.{Hall}
 use Rattle.serve_poll.specs.declared.serving.LoopEnd.TheVariants as loops
-use Rattle.smsd_serving.specs.Served.{house_at}
 use Rattle.smsd_serving.specs.declared.serving_end.ServingEnd.{ServingEnd}
 use Rattle.smsd_serving.specs.declared.serving_end.ServingEnd.TheVariants as ends
+
+-- how a desk is served at this port: each refusal says in a sentence what is wrong, also to one that is turned away
+abbrev pub house_at : ℕ → House
+house_at port = record { terms = record { port = port; refusal = said_refusal }; away = said_refusal 503 }
 
 -- what was served with one core: the core as it was opened, the core as it was left, and what all connections asked and
 -- were answered between, in that order
@@ -38,9 +42,9 @@ pub record Epoch (P : Type 0) : Type 0 where
 abbrev pub exchanges_in : {P : Type 0} → List (Epoch P) → List Exchange
 exchanges_in epochs = flat_map (λ epoch. epoch.exchanges) epochs
 
--- its journal came to be nearly full
+-- its journal came to have no room for one more question
 abbrev pub HasFilled : {P : Type 0} → Epoch P → Type 0
-HasFilled epoch = is_nearly_full epoch.core.journal (talks_in epoch.exchanges) ≡ true
+HasFilled epoch = (begun_with epoch.start).has_room (talks_in epoch.exchanges) ≡ false
 
 module _ {P : Type 0} (told : P → Option Rows) (count : P → ℕ) where
   -- a core is opened from the tables of this keeper, which stay, and no fault is counted for that
@@ -61,7 +65,8 @@ module _ {P : Type 0} (told : P → Option Rows) (count : P → ℕ) where
     pub tables : HasTables core.opening core.journal (told core.keeper)
     pub counted : min (core.mark + faults_in core.journal) (2 ^ 64 - 1) ≤ count core.keeper
 
-  -- an epoch behind this keeper: each page in it shows what was answered before it
+  -- an epoch behind this keeper: whatever was asked in it was asked where the journal had room, and each page shows
+  -- what was answered before it
   pub record IsEpoch (keeper : P) (epoch : Epoch P) : Type 0 where
     pub opened : IsOpenedBehind keeper epoch.start
     pub left : IsLeft epoch.start epoch.core (talks_in epoch.exchanges)
@@ -82,8 +87,8 @@ module _ {P : Type 0} (told : P → Option Rows) (count : P → ℕ) where
     pub cause : err ≡ Failed → Rose (count keeper) (count last)
 
   -- why serving ended, and with which keeper: no further event was awaited, the keeper is that of the core, and behind
-  -- the last of so many events that were asked for the journal isn't nearly full; or the journal was nearly full, and no
-  -- core is opened from the tables that it left
+  -- the last of so many events that were asked for the journal has room; or the journal had none, and no core is opened
+  -- from the tables that it left
   abbrev pub EndsWith : (P → Option (Table × ℕ)) → Epoch P → P → ServingEnd → Type 0
   EndsWith damage epoch last (ends.Loop end) =
       (last ≡ epoch.core.keeper) × (end ≡ loops.Turns → HasFilled epoch → ⊥)

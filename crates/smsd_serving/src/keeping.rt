@@ -3,7 +3,7 @@ ghost use Rattle.std.specs.Prelude.{◌≡◌, ◌≤◌, ◌⊎◌, [], false, 
 ghost use Rattle.sms_base.specs.Counts.{one_call_more};
 ghost use Rattle.page_text.specs.RefusalText.{said_refusal};
 ghost use Rattle.sms_open.specs.declared.open_err.OpenErr.{OpenErr as Refusal};
-ghost use Rattle.page_clerk.specs.Filling.{is_nearly_full};
+ghost use Rattle.page_clerk.specs.Shows.{begun_with};
 ghost use Rattle.serve_poll.specs.Halls.{AreWatched};
 ghost use Rattle.smsd_serving.specs.Epochs.{IsLeft, IsOpenedBehind, IsUnopened, WasKept, WereAsked};
 ghost use Rattle.smsd_serving.specs.Inner.Serving.{EndsServing, GoesOnServing, IsRenewed};
@@ -11,9 +11,10 @@ ghost use Rattle.smsd_serving.specs.Inner.Serving.{EndsServing, GoesOnServing, I
 use crate::room::{Room, take_room};
 use crate::serving_end::ServingEnd;
 use acs_tree::Slate;
+use http_flow::Pages;
 use page_clerk::PageClerk;
 use ready_wires::Readiness;
-use serve_poll::{Hall, LoopEnd, serve_events};
+use serve_poll::{Hall, LoopEnd, serve_event};
 use sms_keeper::{KeeperErr, Stored};
 use sms_open::{OpenErr, reopen};
 use std::alloc::Global;
@@ -26,9 +27,9 @@ pub struct Kept<C> {
 }
 
 /// Serves the desk that goes on from the tables of the keeper, which is made ready first, to the connections that come,
-/// at most `most` at once, until so many events came. Where its journal is nearly full, a desk goes on from the tables
-/// that it left, to the same connections. It hands the keeper back; or says why there is no such desk, with the keeper
-/// (docs/manual/smsd.md, "A full journal").
+/// at most `most` at once, until so many events came. Where its journal has no room for one more question, a desk goes
+/// on from the tables that it left, to the same connections. It hands the keeper back; or says why there is no such
+/// desk, with the keeper (docs/manual/smsd.md, "A full journal").
 pub fn keep_serving<P: Stored, R: Readiness>(
     alloc: Global,
     port: u16,
@@ -67,7 +68,7 @@ fn open_ready<P: Stored>(
 ) -> Result<PageClerk<P>, (P, OpenErr)>
     ensures start { IfOk result (λ clerk. IsOpenedBehind P.Keeper.told P.Keeper.count keeper clerk.start) }
     ensures talks { IfOk result (λ clerk. clerk.talks ≡ []) }
-    ensures journal { IfOk result (λ clerk. clerk.core.journal ≡ []) }
+    ensures roomy { IfOk result (λ clerk. (begun_with clerk.start).has_room clerk.talks ≡ true) }
     ensures unopened { IfErr result (λ back.
         IsUnopened P.Keeper.told P.Keeper.count P.damage keeper back.0 back.1) }
 {
@@ -87,7 +88,7 @@ fn open_clerk<P: Stored>(
 ) -> Result<PageClerk<P>, (P, OpenErr)>
     ensures start { IfOk result (λ clerk. IsOpenedBehind P.Keeper.told P.Keeper.count keeper clerk.start) }
     ensures talks { IfOk result (λ clerk. clerk.talks ≡ []) }
-    ensures journal { IfOk result (λ clerk. clerk.core.journal ≡ []) }
+    ensures roomy { IfOk result (λ clerk. (begun_with clerk.start).has_room clerk.talks ≡ true) }
     ensures unopened { IfErr result (λ back.
         IsUnopened P.Keeper.told P.Keeper.count P.damage keeper back.0 back.1) }
 {
@@ -118,7 +119,7 @@ fn serve_epochs<P: Stored, R: Readiness>(
 ) -> (Kept<R::Conn>, P)
     requires away { room.away.items ≡ said_refusal 503 }
     requires none { clerk.talks ≡ [] }
-    requires journal { clerk.core.journal ≡ [] }
+    requires roomy { (begun_with clerk.start).has_room clerk.talks ≡ true }
     requires empty { hall.seats.slots ≡ [] }
     requires first { hall.count ≡ 0 }
     requires fits { hall.most ≤ hall.seats.capacity }
@@ -134,7 +135,7 @@ fn serve_epochs<P: Stored, R: Readiness>(
     let mut made = 0;
     while made < turns {
         made += 1;
-        match serve_event(alloc, poller, clerk, &room, &mut hall) {
+        match serve_next(alloc, poller, clerk, &room, &mut hall) {
             Ok(next) => clerk = next,
             Err((end, keeper)) => return (Kept { end, hall }, keeper),
         }
@@ -145,7 +146,7 @@ fn serve_epochs<P: Stored, R: Readiness>(
 }
 
 // Does what one event asks. Says by which clerk the desk goes on; or why it doesn't, with the keeper.
-fn serve_event<P: Stored, R: Readiness>(
+fn serve_next<P: Stored, R: Readiness>(
     alloc: Global,
     poller: &mut R,
     clerk: PageClerk<P>,
@@ -153,9 +154,10 @@ fn serve_event<P: Stored, R: Readiness>(
     hall: &mut Hall<R::Conn>,
 ) -> Result<PageClerk<P>, (ServingEnd, P)>
     requires away { room.now.away.items ≡ said_refusal 503 }
+    requires roomy { (begun_with clerk.start).has_room clerk.talks ≡ true }
     ensures goes_on { IfOk result (λ next. GoesOnServing P.Keeper.told P.Keeper.count R.Conn.seen room.now.site
         clerk next (R.seen poller.old) (R.seen poller.new) (R.back poller.old) (R.back poller.new) hall.old hall.new) }
-    ensures roomy { IfOk result (λ next. is_nearly_full next.core.journal next.talks ≡ false) }
+    ensures roomy { IfOk result (λ next. (begun_with next.start).has_room next.talks ≡ true) }
     ensures ends { IfErr result (λ over. EndsServing P.Keeper.told P.Keeper.count R.Conn.seen room.now.site P.damage
         clerk over.1 (R.seen poller.old) (R.seen poller.new) (R.back poller.old) (R.back poller.new) hall.old hall.new
         over.0) }
@@ -169,7 +171,7 @@ fn serve_event<P: Stored, R: Readiness>(
     ensures most { hall.new.most ≡ hall.old.most }
 {
     let mut clerk = clerk;
-    let end = serve_events(
+    let end = serve_event(
         alloc,
         &room.routes,
         &room.site,
@@ -177,7 +179,6 @@ fn serve_event<P: Stored, R: Readiness>(
         poller,
         hall,
         &room.away,
-        1,
     );
     match end {
         LoopEnd::Turns => go_on(alloc, clerk),
@@ -195,17 +196,17 @@ fn stop<P: Stored>(clerk: PageClerk<P>, end: LoopEnd) -> (ServingEnd, P)
     (ServingEnd::Loop(end), keeper)
 }
 
-// The clerk; where its journal is nearly full, one that goes on from the tables that its core left, or why there is
-// none, with the keeper.
+// The clerk; where it has no room, one that goes on from the tables that its core left, or why there is none, with the
+// keeper.
 fn go_on<P: Stored>(alloc: Global, clerk: PageClerk<P>) -> Result<PageClerk<P>, (ServingEnd, P)>
     ensures ok { IfOk result (λ next. (next ≡ clerk) ⊎ IsRenewed P.Keeper.told P.Keeper.count clerk next) }
     ensures err { IfErr result (λ over. (err : Refusal) × (over.0 ≡ ServingEnd.Unopened err)
         × IsUnopened P.Keeper.told P.Keeper.count P.damage clerk.core.keeper over.1 err) }
-    ensures roomy { IfOk result (λ next. is_nearly_full next.core.journal next.talks ≡ false) }
-    ensures filled { OnErr result (is_nearly_full clerk.core.journal clerk.talks ≡ true) }
+    ensures roomy { IfOk result (λ next. (begun_with next.start).has_room next.talks ≡ true) }
+    ensures filled { OnErr result ((begun_with clerk.start).has_room clerk.talks ≡ false) }
     ensures left { OnErr result (IsLeft P.Keeper.told P.Keeper.count clerk.start clerk.core clerk.talks) }
 {
-    if !clerk.is_nearly_full() {
+    if clerk.has_room() {
         return Ok(clerk);
     }
     let (keeper, slate) = take_keeper(clerk);

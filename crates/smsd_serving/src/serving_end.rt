@@ -8,6 +8,6 @@ use sms_open::OpenErr;
 pub enum ServingEnd {
     /// No further event is awaited.
     Loop(LoopEnd),
-    /// Its journal was nearly full, and no desk goes on from the tables that it left.
+    /// Its journal had no room for one more question, and no desk goes on from the tables that it left.
     Unopened(OpenErr),
 }

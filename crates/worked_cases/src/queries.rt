@@ -72,9 +72,13 @@ fn push_line<S: Alter>(
 
 fn push_number(alloc: Global, number: Option<i64>, lines: &mut String) -> Result<(), AllocError> {
     match number {
-        Some(number) => lines.push_str(&format!(in alloc; " {number}")?),
+        Some(number) => lines.push_str(&number_text(alloc, number)?),
         None => lines.push_str(" NONE"),
     }
+}
+
+fn number_text(alloc: Global, number: i64) -> Result<String, AllocError> {
+    format!(in alloc; " {number}")
 }
 
 /// The number that the query answers, if it answers one.

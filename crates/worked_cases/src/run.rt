@@ -36,6 +36,25 @@ pub struct Compared {
     pub why: Option<String>,
 }
 
+/// The run's texts with their holes filled.
+#[derive(Drop)]
+struct Filled {
+    words: String,
+    input: String,
+    orders: String,
+}
+
+impl Filled {
+    fn asked<'a>(&'a self, faults: &'a Faults) -> Asked<'a> {
+        Asked {
+            words: self.words.as_str(),
+            input: self.input.as_str(),
+            faults,
+            orders: self.orders.as_str(),
+        }
+    }
+}
+
 impl Run {
     pub fn new(alloc: Global) -> Run {
         Run {
@@ -58,20 +77,32 @@ impl Run {
         columns: &[&str],
         database: &mut Option<Database>,
     ) -> Result<Option<Compared>, AllocError> {
-        let alloc = rt.alloc();
-        let words = fill(alloc, &self.words, columns)?;
-        let input = fill(alloc, &self.input, columns)?;
-        let orders = fill(alloc, &self.orders, columns)?;
-        let asked = Asked {
-            words: words.as_str(),
-            input: input.as_str(),
-            faults: &self.faults,
-            orders: orders.as_str(),
-        };
-        let Some(found) = outcome_of(rt, &asked, database)? else {
+        let filled = self.filled(rt.alloc(), columns)?;
+        let Some(found) = outcome_of(rt, &filled.asked(&self.faults), database)? else {
             return Ok(None);
         };
+        self.compared(rt.alloc(), columns, filled, found)
+    }
+
+    fn filled(&self, alloc: Global, columns: &[&str]) -> Result<Filled, AllocError> {
+        let words = fill(alloc, &self.words, columns)?;
+        let input = fill(alloc, &self.input, columns)?;
+        Ok(Filled {
+            words,
+            input,
+            orders: fill(alloc, &self.orders, columns)?,
+        })
+    }
+
+    fn compared(
+        &self,
+        alloc: Global,
+        columns: &[&str],
+        filled: Filled,
+        found: Outcome,
+    ) -> Result<Option<Compared>, AllocError> {
         let why = self.difference(alloc, columns, &found)?;
+        let Filled { words, input, .. } = filled;
         Ok(Some(Compared {
             words,
             input,
@@ -87,40 +118,103 @@ impl Run {
         columns: &[&str],
         found: &Outcome,
     ) -> Result<Option<String>, AllocError> {
+        match self.odd_status(alloc, columns, found)? {
+            Some(why) => Ok(Some(why)),
+            None => self.odd_text(alloc, columns, found),
+        }
+    }
+
+    // Where what was written, said or counted isn't.
+    fn odd_text(
+        &self,
+        alloc: Global,
+        columns: &[&str],
+        found: &Outcome,
+    ) -> Result<Option<String>, AllocError> {
+        match self.odd_output(alloc, columns, &found.output)? {
+            Some(why) => Ok(Some(why)),
+            None => self.odd_words(alloc, columns, found),
+        }
+    }
+
+    // Where what was said or counted isn't.
+    fn odd_words(
+        &self,
+        alloc: Global,
+        columns: &[&str],
+        found: &Outcome,
+    ) -> Result<Option<String>, AllocError> {
+        match self.odd_says(alloc, columns, &found.says)? {
+            Some(why) => Ok(Some(why)),
+            None => self.odd_count(alloc, found.counted),
+        }
+    }
+
+    // Where the status is another.
+    fn odd_status(
+        &self,
+        alloc: Global,
+        columns: &[&str],
+        found: &Outcome,
+    ) -> Result<Option<String>, AllocError> {
         let status = fill(alloc, &self.status, columns)?;
-        let code = format!(in alloc; "{}", found.status)?;
-        if !is_filled_by(status.trim(), &code) {
-            let status = status.trim();
-            let why = format!(in alloc; "wanted status {status}, came {code} {:?}", found.output)?;
-            return Ok(Some(why));
+        if is_code(alloc, status.trim(), found.status)? {
+            return Ok(None);
         }
+        status_told(alloc, status.trim(), found)
+    }
+
+    // Where the output is another.
+    fn odd_output(
+        &self,
+        alloc: Global,
+        columns: &[&str],
+        found: &str,
+    ) -> Result<Option<String>, AllocError> {
         let output = fill(alloc, &self.output, columns)?;
-        if !is_filled_by(&output, &found.output) {
-            let why = format!(in alloc; "wanted {output:?}, came {:?}", found.output)?;
-            return Ok(Some(why));
+        if is_filled_by(&output, found) {
+            return Ok(None);
         }
+        told(alloc, &output, found)
+    }
+
+    // Where something else is said.
+    fn odd_says(
+        &self,
+        alloc: Global,
+        columns: &[&str],
+        found: &str,
+    ) -> Result<Option<String>, AllocError> {
         let says = fill(alloc, &self.says, columns)?;
-        if !found.says.starts_with(says.as_str()) {
-            let why = format!(in alloc; "wanted to be told {says:?}, came {:?}", found.says)?;
-            return Ok(Some(why));
+        if found.starts_with(says.as_str()) {
+            return Ok(None);
         }
-        self.difference_of_count(alloc, found)
+        told(alloc, &says, found)
     }
 
     // Where the keeper counted another number of faults.
-    fn difference_of_count(
-        &self,
-        alloc: Global,
-        found: &Outcome,
-    ) -> Result<Option<String>, AllocError> {
-        let wanted = self.counted.unwrap_or(found.counted);
-        if wanted == found.counted {
+    fn odd_count(&self, alloc: Global, found: u64) -> Result<Option<String>, AllocError> {
+        let wanted = self.counted.unwrap_or(found);
+        if wanted == found {
             return Ok(None);
         }
-        let why = format!(in alloc;
-            "wanted {wanted} faults of the keeper, came {}",
-            found.counted
-        )?;
+        let why = format!(in alloc; "wanted {wanted} faults of the keeper, came {found}")?;
         Ok(Some(why))
     }
+}
+
+fn is_code(alloc: Global, wanted: &str, status: u8) -> Result<bool, AllocError> {
+    let code = format!(in alloc; "{status}")?;
+    Ok(is_filled_by(wanted, &code))
+}
+
+fn status_told(alloc: Global, wanted: &str, found: &Outcome) -> Result<Option<String>, AllocError> {
+    let Outcome { status, output, .. } = found;
+    let why = format!(in alloc; "wanted status {wanted}, came {status} {output:?}")?;
+    Ok(Some(why))
+}
+
+fn told(alloc: Global, wanted: &str, found: &str) -> Result<Option<String>, AllocError> {
+    let why = format!(in alloc; "wanted {wanted:?}, came {found:?}")?;
+    Ok(Some(why))
 }

@@ -20,16 +20,15 @@ pub fn answered<S: Alter + Drop>(
     let mut behind = String::new(alloc);
     carry_out(&mut connection, asked.orders, &mut behind)?;
     let (status, keeper) = answer(alloc, words, streams, SqlKeeper::new(alloc, connection));
-    let counted = keeper.faults();
-    let mut connection = keeper.into_connection();
-    push_found(alloc, &mut connection, asked.orders, &mut behind)?;
-    let says = told_of(alloc, words, status, asked.input, streams.out.taken())?;
-    let ended = Ended {
+    let mut ended = Ended {
         status: status.code(),
-        says,
-        counted,
+        says: String::new(alloc),
+        counted: keeper.faults(),
         behind,
     };
+    let mut connection = keeper.into_connection();
+    push_found(alloc, &mut connection, asked.orders, &mut ended.behind)?;
+    ended.says = told_of(alloc, words, status, asked.input, streams.out.taken())?;
     Ok((ended, connection))
 }
 

@@ -68,12 +68,7 @@ fn link_of(alloc: Global, text: &str, room: usize) -> Result<MemLink, AllocError
     ensures { IfOk result IsUntouched }
 {
     let (words, bytes) = text.split_once(">").unwrap_or((text, ""));
-    let piece = words
-        .split(' ')
-        .next()
-        .unwrap_or("")
-        .parse::<usize>()
-        .unwrap_or(1);
+    let piece = piece_of(words);
     Ok(MemLink::new(
         bytes.as_bytes().to_vec(alloc)?,
         vec![in alloc; 0; room]?,
@@ -81,6 +76,14 @@ fn link_of(alloc: Global, text: &str, room: usize) -> Result<MemLink, AllocError
         number_behind(alloc, words, " read ")?,
         number_behind(alloc, words, " write ")?,
     ))
+}
+
+// The first of the words as a number, or 1.
+fn piece_of(words: &str) -> usize {
+    match words.split(' ').next() {
+        Some(word) => word.parse::<usize>().unwrap_or(1),
+        None => 1,
+    }
 }
 
 // The number behind this word, if it is there.

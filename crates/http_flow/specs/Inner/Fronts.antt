@@ -8,7 +8,7 @@ use Rattle.http_talk.specs.declared.talk.Talk.{Talk}
 use Rattle.sms_construct.specs.declared.entry.Answer.{Answer}
 use Rattle.sms_construct.specs.declared.request.Request.{Request}
 use Rattle.http_flow.specs.Exchange.{Terms, Exchange, Reads, is_closed, due_for, IsRefused, PendsFor, FewBefore, Heard}
-use Rattle.http_flow.specs.Exchange.{most_due}
+use Rattle.http_flow.specs.Exchange.{Basis, most_due, room_of}
 use Rattle.http_flow.specs.declared.answering.Answered.{Answered}
 use Rattle.http_flow.specs.declared.answering.Answered.TheVariants as answered
 use Rattle.http_flow.specs.declared.answering.Front.{Front}
@@ -43,20 +43,24 @@ IsNextEnd terms buf xs rest out out' (answered.Waits need) =
     (xs ≡ []) × (rest ≡ buf) × (out' ≡ out) × PendsFor terms.port buf need
 IsNextEnd terms buf xs rest out out' (answered.Refused status) =
     (xs ≡ []) × (rest ≡ buf) × (out' ≡ out ++ terms.refusal status) × IsRefused terms.port buf status
-IsNextEnd terms buf xs rest out out' answered.NoMemory = out' ≡ out
+IsNextEnd terms buf xs rest out out' answered.NoMemory = (is_closed xs ≡ true) × (out' ≡ out ++ due_for xs)
 
 -- why it went no further
 abbrev pub IsFrontEnd : Terms → List ℕ → List Exchange → List ℕ → List ℕ → List ℕ → Front → Type 0
 IsFrontEnd terms buf xs rest before out (fronts.Waits at need) =
     (rest ≡ drop at buf) × (is_closed xs ≡ false) × (out ≡ before ++ due_for xs) × PendsFor terms.port rest need
 IsFrontEnd terms buf xs rest before out (fronts.Full at) =
-    (rest ≡ drop at buf) × (is_closed xs ≡ false) × (out ≡ before ++ due_for xs) × (most_due ≤ length out)
+    (rest ≡ drop at buf) × (is_closed xs ≡ false) × (out ≡ before ++ due_for xs)
 IsFrontEnd terms buf xs rest before out fronts.Closed = (is_closed xs ≡ true) × (out ≡ before ++ due_for xs)
 IsFrontEnd terms buf xs rest before out (fronts.Refused status) =
     (is_closed xs ≡ false) × (out ≡ before ++ (due_for xs ++ terms.refusal status)) × IsRefused terms.port rest status
     × (length (before ++ due_for xs) < most_due)
-IsFrontEnd terms buf xs rest before out fronts.NoMemory =
-    (some missing : List ℕ) × (out ≡ before ++ some) × (due_for xs ≡ some ++ missing)
+IsFrontEnd terms buf xs rest before out fronts.NoMemory = (is_closed xs ≡ true) × (out ≡ before ++ due_for xs)
+
+-- questions may be held where as many bytes are due as may be, or the clerk has no room
+abbrev pub IsFullFor : {B : Type 0} → ClerkMoment (Basis B) → List ℕ → Front → Type 0
+IsFullFor clerk out front =
+    (at : ℕ) → front ≡ fronts.Full at → (most_due ≤ length out) ⊎ (room_of clerk ≡ false)
 
 -- the place where the rest begins lies in the buffer
 abbrev pub IsPlace : List ℕ → Front → Type 0
@@ -66,9 +70,9 @@ IsPlace buf fronts.Closed = 0 ≤ length buf
 IsPlace buf (fronts.Refused status) = 0 ≤ length buf
 IsPlace buf fronts.NoMemory = 0 ≤ length buf
 
-module _ {S : Type 0} (terms : Terms) (shows : S → List Talk → PageAsk → Page → Type 0) where
+module _ {B : Type 0} (terms : Terms) (shows : Basis B → List Talk → PageAsk → Page → Type 0) where
   -- the first question of a buffer was answered, if it is whole
-  pub record IsNext (old new : ClerkMoment S) (buf out out' : List ℕ) (result : Answered) : Type 0 where
+  pub record IsNext (old new : ClerkMoment (Basis B)) (buf out out' : List ℕ) (result : Answered) : Type 0 where
     pub xs : List Exchange
     pub rest : List ℕ
     pub one : length xs ≤ 1
@@ -77,7 +81,7 @@ module _ {S : Type 0} (terms : Terms) (shows : S → List Talk → PageAsk → P
     pub is_end : IsNextEnd terms buf xs rest out out' result
 
   -- the questions up to `at` were answered behind what was due, and none of them closes the connection
-  pub record HasAnswered (old new : ClerkMoment S) (buf : List ℕ) (at : ℕ) (before out : List ℕ) : Type 0 where
+  pub record HasAnswered (old new : ClerkMoment (Basis B)) (buf : List ℕ) (at : ℕ) (before out : List ℕ) : Type 0 where
     pub xs : List Exchange
     pub within : at ≤ length buf
     pub reads : Reads terms.port buf xs (drop at buf)
@@ -87,7 +91,7 @@ module _ {S : Type 0} (terms : Terms) (shows : S → List Talk → PageAsk → P
     pub few : FewBefore before xs
 
   -- so many questions of a buffer were answered, and it went no further for this
-  pub record IsFront (old new : ClerkMoment S) (buf before out : List ℕ) (front : Front) : Type 0 where
+  pub record IsFront (old new : ClerkMoment (Basis B)) (buf before out : List ℕ) (front : Front) : Type 0 where
     pub xs : List Exchange
     pub rest : List ℕ
     pub place : IsPlace buf front
@@ -95,3 +99,4 @@ module _ {S : Type 0} (terms : Terms) (shows : S → List Talk → PageAsk → P
     pub heard : Heard shows old new xs
     pub few : FewBefore before xs
     pub is_end : IsFrontEnd terms buf xs rest before out front
+    pub full : IsFullFor new out front

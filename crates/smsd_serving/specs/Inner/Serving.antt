@@ -1,5 +1,5 @@
 -- A desk while it is served.
-use Rattle.std.specs.Prelude.{ℕ, true, ◌≡◌, List, [], ◌++◌, All, Option}
+use Rattle.std.specs.Prelude.{ℕ, false, ◌≡◌, List, [], ◌++◌, All, Option}
 use Rattle.ready_wires.specs.Wires.{WireSeen}
 use Rattle.ready_wires.specs.Events.{ReadySeen}
 use Rattle.http_flow.specs.Exchange.{Exchange, AreShown, talks_in}
@@ -7,18 +7,17 @@ use Rattle.sms_keeper.specs.declared.rows.Rows.{Rows}
 use Rattle.sms_keeper.specs.declared.table.Table.{Table}
 use Rattle.sms_core.specs.Core.{CoreView}
 use Rattle.desk_http.specs.Entered.{ClerkView}
-use Rattle.page_clerk.specs.Filling.{is_nearly_full}
 use Rattle.page_clerk.specs.Shows.{ShowsPage, begun_with}
 use Rattle.serve_poll.specs.Halls.{Stands}
 use Rattle.serve_poll.specs.declared.hall.Hall.{Hall}
-use Rattle.smsd_serving.specs.Served.{house_at}
-use Rattle.smsd_serving.specs.Epochs.{AreInTurn, Epoch, HasFilled, IsLeft, IsOpenedBehind, WasKept, exchanges_in}
+use Rattle.smsd_serving.specs.Epochs.{AreInTurn, Epoch, HasFilled, IsLeft, IsOpenedBehind, WasKept}
+use Rattle.smsd_serving.specs.Epochs.{exchanges_in, house_at}
 use Rattle.smsd_serving.specs.declared.serving_end.ServingEnd.{ServingEnd}
 
 module _ {P : Type 0} (told : P → Option Rows) (count : P → ℕ) where
-  -- the clerk's journal was nearly full, and another clerk goes on from the tables that it left
+  -- the clerk had no room for one more question, and another clerk goes on from the tables that it left
   pub record IsRenewed (clerk next : ClerkView P) : Type 0 where
-    pub filled : is_nearly_full clerk.core.journal clerk.talks ≡ true
+    pub filled : (begun_with clerk.start).has_room clerk.talks ≡ false
     pub left : IsLeft told count clerk.start clerk.core clerk.talks
     pub opened : IsOpenedBehind told count clerk.core.keeper next.start
     pub none : next.talks ≡ []

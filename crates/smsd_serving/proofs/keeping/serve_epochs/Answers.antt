@@ -9,7 +9,7 @@ use Rattle.smsd_serving.proofs.keeping.serve_epochs.Goals as goal
 pub loop-made-init : goal.loop-made-init
 loop-made-init g c = record {
   goes_on = goes_on_self _ _ _ _ c.args.clerk _ _ _;
-  room = rw (c.requires.journal, c.requires.none) refl;
+  room = c.requires.roomy;
   watched = λ key v at. absurd (none_some v (rw c.requires.empty at at));
   calls = refl;
   within = omega arith;
@@ -21,10 +21,10 @@ pub loop-made-preserved : goal.loop-made-preserved
 loop-made-preserved g c = record {
   goes_on = goes_on_join _ _ _ _ c.args.clerk c.loop-made.clerk c.in-Ok.next _ _ _ _ _ _ _ _ _ c.loop-made.invariant.goes_on c.in-Ok.ensures.goes_on;
   room = c.in-Ok.ensures.roomy;
-  watched = c.serve_event.ensures.watched c.loop-made.invariant.watched;
+  watched = c.serve_next.ensures.watched c.loop-made.invariant.watched;
   calls = rw add-one (c.in-Ok.ensures.calls ∙ ap one_call_more c.loop-made.invariant.calls);
   within = omega arith;
-  most = c.serve_event.ensures.most ∙ c.loop-made.invariant.most;
+  most = c.serve_next.ensures.most ∙ c.loop-made.invariant.most;
   faults = omega arith;
 }
 
@@ -33,7 +33,7 @@ returns-in-Err-clause-served g c = λ keeper opened.
     c.in-Err.ensures.ends keeper _ _ (c.loop-made.invariant.goes_on keeper _ _ (serving_first _ _ _ _ keeper c.args.clerk _ _ c.args.hall opened c.requires.none c.requires.empty c.requires.first c.requires.fits))
 
 pub returns-in-Err-clause-watched : goal.returns-in-Err-clause-watched
-returns-in-Err-clause-watched g c = c.serve_event.ensures.watched c.loop-made.invariant.watched
+returns-in-Err-clause-watched g c = c.serve_next.ensures.watched c.loop-made.invariant.watched
 
 pub returns-in-Err-clause-asked : goal.returns-in-Err-clause-asked
 returns-in-Err-clause-asked g c =

@@ -1,2 +1,0 @@
-mod CommitExamples
-mod WorkingLemmas
