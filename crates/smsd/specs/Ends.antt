@@ -13,12 +13,12 @@ use Rattle.smsd_words.specs.declared.task.Task.{Task}
 use Rattle.smsd_words.specs.declared.task.Task.TheVariants as tasks
 use Rattle.smsd.specs.Served.{IsPortEnd}
 
--- the exit status where the file of a store can't be opened: 7 where memory was wanting, else 9
-
+-- the exit status where SQLite can't open the file of a store: 7 where memory was wanting, else 9
 abbrev pub failure_status_of : ErrorCode → ℕ
 failure_status_of OutOfMemory = 7
 failure_status_of _ = 9
 
+-- the same for whatever error
 abbrev pub unopened_status_of : Error → ℕ
 unopened_status_of (SqliteFailure code) = failure_status_of code
 unopened_status_of _ = 9
