@@ -2,9 +2,13 @@
 #![tactic(auto)]
 
 mod counting;
+mod coverage;
 mod covering;
 mod kind_tallies;
+mod share;
 mod text;
 
+pub use coverage::{Coverage, Covered};
 pub use covering::cover;
 pub use kind_tallies::KindTallies;
+pub use share::Share;
