@@ -18,7 +18,7 @@ use Rattle.sms_script.specs.declared.item.Item.{Item}
 use Rattle.sms_simulation.specs.Simulation.{AreAsked, first_misplaced, first_other, misplaced_from}
 use Rattle.sms_story.specs.declared.run.Run.{Run}
 use Rattle.sms_coverage.specs.Coverage.{IsCoverage, IsCoveredUnder, deck_text}
-use Rattle.sms_coverage.specs.Shares.{deck_share}
+use Rattle.sms_coverage.specs.Shortfall.{deck_short}
 use Rattle.sms_coverage.specs.declared.coverage.Covered.{Covered}
 use Rattle.sms_coverage.specs.declared.coverage.Covered.TheVariants as coverages
 use Rattle.sms_coverage.specs.Events.{AreCounted, counts_of, events_in, events_of_run, runs_of_item, tallies_in}
@@ -44,9 +44,9 @@ pub same_text : (config : Configuration) (sources : DeckSources) (runs : List Ru
 same_text config sources runs tallies counts =
     ap (λ (c : Kind → ℕ → Tally). deck_text config sources c) (fun_ext (λ kind. fun_ext (λ at. counts kind at)))
 
-pub same_share : (config : Configuration) (runs : List Run) (tallies : KindTallies) → AreCounted runs tallies
-    → deck_share config (λ kind. tally_at (tallies_in tallies kind)) ≡ deck_share config (counts_of runs)
-same_share config runs tallies counts = ap (λ (c : Kind → ℕ → Tally). deck_share config c) (fun_ext (λ kind. fun_ext (λ at. counts kind at)))
+pub same_shortfall : (least : ℕ) (config : Configuration) (runs : List Run) (tallies : KindTallies) → AreCounted runs tallies
+    → deck_short least config (λ kind. tally_at (tallies_in tallies kind)) ≡ deck_short least config (counts_of runs)
+same_shortfall least config runs tallies counts = ap (λ (c : Kind → ℕ → Tally). deck_short least config c) (fun_ext (λ kind. fun_ext (λ at. counts kind at)))
 
 -- the counts of one kind are those of this run too, the others are as they were
 of_same : (of kind : Kind) → same_kind of kind ≡ true → of ≡ kind

@@ -17,7 +17,7 @@ use Rattle.sms_explain.specs.declared.deck_sources.DeckSources.{DeckSources}
 use Rattle.sms_script.specs.declared.item.Item.{Item}
 use Rattle.sms_simulation.specs.Simulation.{AreAsked, RefusesDeck, ShowsNothing, first_misplaced}
 use Rattle.sms_coverage.specs.Events.{counts_of, runs_of_item}
-use Rattle.sms_coverage.specs.Shares.{deck_share, is_short}
+use Rattle.sms_coverage.specs.Shortfall.{deck_short}
 use Rattle.sms_coverage.specs.declared.coverage.Coverage.{Coverage}
 use Rattle.sms_coverage.specs.declared.coverage.Covered.{Covered}
 use Rattle.sms_coverage.specs.declared.coverage.Covered.TheVariants as coverages
@@ -39,14 +39,14 @@ deck_text config sources counts =
     ++ kind_text config sources counts MgmtClas ++ kind_text config sources counts StorGrp
 
 -- the coverage tells what these ALLOCs reach of the routines of the deck, and whether that is less than so many per cent
+-- of one of them
 pub record CoversUnder (least : ℕ) (deck : List ℕ) (others : List Item) (coverage : Coverage) : Type 0 where
   pub config : Configuration
   pub configures : Configures deck config
   pub sources : DeckSources
   pub texts : AreSources deck sources
   pub text_is : coverage.text ≡ deck_text config sources (counts_of (flat_map (runs_of_item config) others))
-  pub short_is : coverage.short
-      ≡ is_short least (deck_share config (counts_of (flat_map (runs_of_item config) others)))
+  pub short_is : coverage.short ≡ deck_short least config (counts_of (flat_map (runs_of_item config) others))
 
 -- the coverage is that of a deck and of the ALLOCs behind it
 pub record Covers (least : ℕ) (items : List Item) (coverage : Coverage) : Type 0 where

@@ -1,3 +1,3 @@
 pub mod Events
-pub mod Shares
+pub mod Shortfall
 pub mod Coverage

@@ -6,7 +6,7 @@ use sms_construct::Fault;
 #[derive(Drop)]
 pub struct Coverage {
     pub text: Items<u8>,
-    /// Fewer of the points of all routines are covered than was asked for.
+    /// Less of a routine is covered than was asked for.
     pub short: bool,
 }
 

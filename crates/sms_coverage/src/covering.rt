@@ -4,11 +4,11 @@ ghost use Rattle.sms_script.specs.Script.{items_of};
 ghost use Rattle.deck_meaning.specs.Reading.{Configures};
 ghost use Rattle.sms_coverage.specs.Coverage.{IsCoverage, IsCoveredUnder, deck_text};
 ghost use Rattle.sms_coverage.specs.Events.{counts_of, runs_of_item};
-ghost use Rattle.sms_coverage.specs.Shares.{deck_share, is_short};
+ghost use Rattle.sms_coverage.specs.Shortfall.{deck_short};
 
 use crate::counting::counted;
 use crate::coverage::{Coverage, Covered};
-use crate::share::is_short;
+use crate::shortfall::is_short;
 use crate::text::push_deck;
 use deck_meaning::{Config, DeckErr};
 use desk_common::Items;
@@ -20,7 +20,7 @@ use sms_simulation::{all_items, first_other};
 use std::alloc::{AllocError, Global};
 
 /// What the allocations behind a script's first item reach of the routines of the deck that it activates, and whether
-/// that is less than `least` per cent of all points (docs/manual/tool.md, "Coverage of a script"). Nothing is allocated.
+/// that is less than `least` per cent of one of them (docs/manual/tool.md, "Coverage of a script"). Nothing is allocated.
 pub fn cover(alloc: Global, script: &Script, least: u8) -> Result<Covered, AllocError>
     ensures { IfOk result (IsCoverage least (items_of script.now)) }
 {
@@ -92,7 +92,7 @@ fn cover_by(
 }
 
 // What the items reach of the routines.
-#[tactic(auto, using(crate::proofs::CoverageLemmas::same_text, crate::proofs::CoverageLemmas::same_share))]
+#[tactic(auto, using(crate::proofs::CoverageLemmas::same_text, crate::proofs::CoverageLemmas::same_shortfall))]
 fn coverage_of(
     alloc: Global,
     config: &Config,
@@ -102,8 +102,8 @@ fn coverage_of(
 ) -> Result<Coverage, AllocError>
     ensures text { IfOk result (λ coverage. coverage.text ≡ deck_text config.now sources.now
         (counts_of (flat_map (runs_of_item config.now) (map (λ item. item.now) items.now)))) }
-    ensures short { IfOk result (λ coverage. coverage.short ≡ is_short least (deck_share config.now
-        (counts_of (flat_map (runs_of_item config.now) (map (λ item. item.now) items.now))))) }
+    ensures short { IfOk result (λ coverage. coverage.short ≡ deck_short least config.now
+        (counts_of (flat_map (runs_of_item config.now) (map (λ item. item.now) items.now)))) }
 {
     let tallies = counted(alloc, config, items)?;
     let mut text = Vec::new(alloc);

@@ -5,10 +5,9 @@ mod counting;
 mod coverage;
 mod covering;
 mod kind_tallies;
-mod share;
+mod shortfall;
 mod text;
 
 pub use coverage::{Coverage, Covered};
 pub use covering::cover;
 pub use kind_tallies::KindTallies;
-pub use share::Share;

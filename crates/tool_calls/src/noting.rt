@@ -70,7 +70,7 @@ pub fn note_coverage(
         Covered::Shown(coverage) if coverage.short => keep(
             note,
             format!(in alloc;
-                "less than {least} per cent of the statements, WHENs and comparisons are covered\n"
+                "less than {least} per cent of the statements, WHENs and comparisons of a routine are covered\n"
             ),
         ),
         Covered::Shown(_) => (),

@@ -42,7 +42,7 @@ const COVERAGE: &str = "
 smsc coverage [FILE] [--fail-under N]
                      tell what the allocations of such a script reach of the
                      routines, and what they don't; with --fail-under the exit
-                     status is 1 where they reach less than N per cent
+                     status is 1 where they cover less than N per cent of one
 
     smsc coverage morning.txt --fail-under 90
 ";
