@@ -3,7 +3,7 @@ use crate::comparison::Comparison;
 use acs_tree::Kind;
 
 /// What is done with the input.
-#[derive(Clone, Copy, Debug, PartialEq, Eq)]
+#[derive(Clone, Copy)]
 pub enum Task {
     /// It is a routine of this kind, to be translated.
     Translate(Kind),
