@@ -16,9 +16,11 @@ use Rattle.clap.proofs.OnLiterals.{clap_on_literals}
 use Rattle.desk_common.specs.Exact.{IsExact, MayRefuse}
 use Rattle.desk_common.proofs.ExactLemmas.{exact_fault, exact_thing, exact_want}
 use Rattle.std.proofs.lemmas.Option.{same_Some}
-use Rattle.tool_words.specs.Tool.{flag_words, tool, words_of}
+use Rattle.tool_words.specs.Tool.{flag_words, tool, where_usual, words_of}
 use Rattle.tool_words.specs.Asking.{AreRefused, AreShown, AskFor, Hinders, AreSorted, err_of, is_free, kind_named, task_found}
 use Rattle.tool_words.specs.Asking.{is_refused, is_shown, is_text, task_or_bad}
+use Rattle.tool_words.specs.declared.format.Format.{Format}
+use Rattle.tool_words.specs.declared.format.Format.TheVariants as formats
 use Rattle.tool_words.specs.declared.task.Task.{Task}
 use Rattle.tool_words.specs.declared.task.Task.TheVariants as tasks
 use Rattle.tool_words.specs.declared.words_err.WordsErr.{WordsErr}
@@ -226,7 +228,7 @@ Asks words task = (is_free (fault_of tool words) ≡ true) × (task_found (subco
 asks_as : (words given : List Text) (task : Task) → Some words ≡ Some given → Asks given task → Asks words task
 asks_as words given task e asks = subst (λ (x : List Text). Asks x task) (sym (same_Some _ _ e)) asks
 
-comparison_asks : (changed fail : Bool) → Asks (codes "compare" ∷ (flag_words (codes "--changed") changed ++ flag_words (codes "--fail") fail)) (tasks.Compare (record { changed = changed; fail = fail }))
+comparison_asks : (changed fail : Bool) → Asks (codes "compare" ∷ (flag_words (codes "--changed") changed ++ flag_words (codes "--fail") fail)) (tasks.Compare (record { changed = changed; fail = fail; format = formats.Text }))
 unfolding clap_on_literals
 comparison_asks true true = (refl, refl)
 comparison_asks true false = (refl, refl)
@@ -267,11 +269,17 @@ least_asks words least w = elim (cases_Bool (least == 0)) [
   | inr some ↦ absurd (cc (rw some at w))
 ]
 
+form_asks : (words : List Text) (changed fail : Bool) (format : Format) → Some words ≡ where_usual format (codes "compare" ∷ (flag_words (codes "--changed") changed ++ flag_words (codes "--fail") fail))
+    → Asks words (tasks.Compare (record { changed = changed; fail = fail; format = format }))
+form_asks words changed fail formats.Text w = asks_as words _ _ w (comparison_asks changed fail)
+form_asks words changed fail formats.Csv w = absurd (cc w)
+form_asks words changed fail formats.Json w = absurd (cc w)
+
 task_asks : (words : List Text) (task : Task) → Some words ≡ words_of task → Asks words task
 task_asks words (tasks.Translate kind) w = asks_as words _ _ w (kind_asks kind)
 task_asks words tasks.Validate w = asks_as words _ _ w validate_asks
 task_asks words tasks.Simulate w = asks_as words _ _ w simulate_asks
-task_asks words (tasks.Compare comparison) w = asks_as words _ _ w (comparison_asks comparison.changed comparison.fail)
+task_asks words (tasks.Compare comparison) w = form_asks words comparison.changed comparison.fail comparison.format w
 task_asks words tasks.Explain w = asks_as words _ _ w explain_asks
 task_asks words (tasks.Coverage least) w = least_asks words least w
 task_asks words (tasks.Lint fail) w = asks_as words _ _ w (lint_asks fail)

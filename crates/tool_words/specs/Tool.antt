@@ -7,6 +7,8 @@ use Rattle.clap.specs.Walk.{Rule, Text}
 use Rattle.clap.specs.declared.builder.action.ArgAction.TheVariants.{SetTrue}
 use Rattle.clap.specs.declared.builder.command.Command.{Command}
 use Rattle.clap.specs.declared.builder.command.Command.TheViews.{out-Command}
+use Rattle.tool_words.specs.declared.format.Format.{Format}
+use Rattle.tool_words.specs.declared.format.Format.TheVariants as formats
 use Rattle.tool_words.specs.declared.task.Task.{Task}
 use Rattle.tool_words.specs.declared.task.Task.TheVariants as tasks
 
@@ -38,9 +40,9 @@ file_app name = with_rule (new_app name) (path_rule (codes "file"))
 -- the subcommand `compare`
 abbrev pub compare_app : App
 compare_app =
-    with_rule (with_rule (with_rule (with_rule (with_rule (new_app (codes "compare"))
+    with_rule (with_rule (with_rule (with_rule (with_rule (with_rule (new_app (codes "compare"))
     (path_rule (codes "old"))) (path_rule (codes "new"))) (path_rule (codes "cases")))
-    (flag_rule (codes "changed"))) (flag_rule (codes "fail"))
+    (flag_rule (codes "changed"))) (flag_rule (codes "fail"))) (option_rule (codes "format"))
 
 -- the subcommand `coverage`
 abbrev pub coverage_app : App
@@ -82,6 +84,12 @@ KeepsItsOwn command = (out-Command command).has_globals ≡ false
 abbrev pub flag_words : Text → Bool → List Text
 flag_words name set = if set then name ∷ [] else []
 
+-- the words, where the form is the usual one
+abbrev pub where_usual : Format → List Text → Option (List Text)
+where_usual formats.Text words = Some words
+where_usual formats.Csv words = None
+where_usual formats.Json words = None
+
 -- words that ask for a task without a value behind a hyphen, and name no file: for a translation `translate` and the name
 -- of the kind, for each other task the name of its subcommand and its flags
 abbrev pub words_of : Task → Option (List Text)
@@ -89,7 +97,7 @@ words_of (tasks.Translate kind) = Some (codes "translate" ∷ name_of kind ∷ [
 words_of tasks.Validate = Some (codes "validate" ∷ [])
 words_of tasks.Simulate = Some (codes "simulate" ∷ [])
 words_of (tasks.Compare comparison) =
-    Some (codes "compare" ∷ (flag_words (codes "--changed") comparison.changed
+    where_usual comparison.format (codes "compare" ∷ (flag_words (codes "--changed") comparison.changed
     ++ flag_words (codes "--fail") comparison.fail))
 words_of tasks.Explain = Some (codes "explain" ∷ [])
 words_of (tasks.Coverage least) = if least == 0 then Some (codes "coverage" ∷ []) else None

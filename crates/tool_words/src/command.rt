@@ -32,7 +32,7 @@ const SIMULATE: Said = Said {
 
 const COMPARE: Said = Said {
     about: "Say which data sets a new deck treats otherwise than the old one",
-    usage: "smsc compare [OLD [NEW [CASES]]] [--changed] [--fail]",
+    usage: "smsc compare [OLD [NEW [CASES]]] [--changed] [--fail] [--format FORM]",
 };
 
 const EXPLAIN: Said = Said {
@@ -104,7 +104,8 @@ fn comparing<'a>(alloc: Global) -> Result<Command<'a>, AllocError>
         .arg(path(alloc, "new"))?
         .arg(path(alloc, "cases"))?
         .arg(flag(alloc, "changed"))?
-        .arg(flag(alloc, "fail"))
+        .arg(flag(alloc, "fail"))?
+        .arg(option(alloc, "format"))
 }
 
 // The subcommand `coverage`, which reads one file.

@@ -23,10 +23,11 @@ smsc simulate [FILE] say what the routines of a deck give the allocations of
 ";
 
 const COMPARE: &str = "
-smsc compare [OLD [NEW [CASES]]] [--changed] [--fail]
+smsc compare [OLD [NEW [CASES]]] [--changed] [--fail] [--format FORM]
                      say which data sets a new deck treats otherwise than the
                      old one, by a table of cases; --changed lists those alone,
-                     and with --fail the exit status is 1 where there are any
+                     and with --fail the exit status is 1 where there are any;
+                     FORM is text, csv or json
 
     smsc compare old.toml new.toml cases.csv --changed --fail
 ";

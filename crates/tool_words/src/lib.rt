@@ -4,6 +4,7 @@
 mod command;
 mod comparison;
 mod examples;
+mod format;
 mod paths;
 mod printed;
 mod reading;
@@ -13,6 +14,7 @@ mod values;
 mod words_err;
 
 pub use comparison::Comparison;
+pub use format::Format;
 pub use paths::Paths;
 pub use reading::{paths_asked, shown_text, task_asked};
 pub use task::Task;

@@ -1,5 +1,5 @@
 //! What is said of a value that isn't as its word asks.
-use crate::values::{kind_in, least_in, value_of};
+use crate::values::{format_in, kind_in, least_in, value_of};
 use clap::ArgMatches;
 use std::alloc::{AllocError, Global};
 
@@ -11,6 +11,10 @@ pub fn value_fault(alloc: Global, matches: &ArgMatches<'_>) -> Result<String, Al
     if name == "translate" && kind_in(inner).is_none() {
         let kinds = "DATACLAS, STORCLAS, MGMTCLAS, STORGRP";
         return invalid(alloc, value_of(inner, "kind"), "<kind>", kinds);
+    }
+    if format_in(inner).is_none() {
+        let word = "--format <format>";
+        return invalid(alloc, value_of(inner, "format"), word, "text, csv, json");
     }
     if least_in(inner).is_none() {
         let word = "--fail-under <fail-under>";

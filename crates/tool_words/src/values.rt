@@ -1,8 +1,9 @@
 // Values of words that were found.
 ghost use Rattle.std.specs.Prelude.{◌≡◌, option_map};
 ghost use Rattle.clap.specs.Words.{first_of, found_of, rows_of};
-ghost use Rattle.tool_words.specs.Asking.{is_set, kind_in, kind_named, least_in};
+ghost use Rattle.tool_words.specs.Asking.{format_in, is_set, kind_in, kind_named, least_in};
 
+use crate::format::Format;
 use acs_tree::{Kind, number};
 use clap::ArgMatches;
 
@@ -39,6 +40,25 @@ fn kind_named(word: &str) -> Option<Kind>
     ensures { result ≡ kind_named word.now }
 {
     Kind::named(word.as_bytes())
+}
+
+/// The form that the words name, and lines where they name none.
+pub fn format_in(matches: &ArgMatches<'_>) -> Option<Format>
+    ensures { result ≡ format_in (rows_of (found_of matches.now)) }
+{
+    let Some(word) = value_of(matches, "format") else {
+        return Some(Format::Text);
+    };
+    if word == "text" {
+        return Some(Format::Text);
+    }
+    if word == "csv" {
+        return Some(Format::Csv);
+    }
+    if word == "json" {
+        return Some(Format::Json);
+    }
+    None
 }
 
 /// The least per cent that the words name, and 0 where they name none.
