@@ -44,6 +44,7 @@ use Rattle.tool_calls.specs.ToolEnds.{Ends, HasAnswer, leaves_sink}
 use Rattle.tool_calls.specs.declared.status.ToolStatus.{ToolStatus}
 use Rattle.tool_calls.specs.declared.status.ToolStatus.TheVariants.{Done, FaultFound, BadWords}
 use Rattle.tool_words.specs.declared.comparison.Comparison.{Comparison}
+use Rattle.tool_words.specs.declared.pick.Pick.{Pick}
 use Rattle.tool_words.specs.declared.task.Task.{Task}
 use Rattle.tool_words.specs.declared.task.Task.TheVariants.{Translate, Validate, Simulate, Compare, Explain, Coverage}
 use Rattle.tool_words.specs.declared.task.Task.TheVariants.{Lint as LintDeck}
@@ -90,19 +91,19 @@ simulation_hindered bytes phases (simulations.Misplaced line) why script is e = 
 ]
 
 -- what an explanation comes to is the answer to its script
-pub explanation_told : {bytes text : List ℕ} {status : ToolStatus} (phases : List (List Item)) (made : Simulated) → script_of bytes ≡ Ok phases → IsExplanation (items_of phases) made → TellsSimulation made status text → IsAnswer bytes Explain status text
-explanation_told {bytes} {text} {status} phases (simulations.Shown shown) script is e =
-    subst (λ x. IsAnswer bytes Explain x text) (sym e.0) (subst (λ x. IsAnswer bytes Explain Done x) (sym e.1) (explained phases shown script is))
-explanation_told {bytes} {text} {status} phases (simulations.Refused fault) script is e =
-    subst (λ x. IsAnswer bytes Explain x text) (sym e.0) (subst (λ x. IsAnswer bytes Explain FaultFound x) (sym e.1) (unexplained phases fault script is))
-explanation_told phases (simulations.Misplaced line) script is e = absurd e
+pub explanation_told : {bytes text : List ℕ} {status : ToolStatus} (pick : Pick) (phases : List (List Item)) (made : Simulated) → script_of bytes ≡ Ok phases → IsExplanation pick.job pick.number (items_of phases) made → TellsSimulation made status text → IsAnswer bytes (Explain pick) status text
+explanation_told {bytes} {text} {status} pick phases (simulations.Shown shown) script is e =
+    subst (λ x. IsAnswer bytes (Explain pick) x text) (sym e.0) (subst (λ x. IsAnswer bytes (Explain pick) Done x) (sym e.1) (explained pick phases shown script is))
+explanation_told {bytes} {text} {status} pick phases (simulations.Refused fault) script is e =
+    subst (λ x. IsAnswer bytes (Explain pick) x text) (sym e.0) (subst (λ x. IsAnswer bytes (Explain pick) FaultFound x) (sym e.1) (unexplained pick phases fault script is))
+explanation_told pick phases (simulations.Misplaced line) script is e = absurd e
 
-pub explanation_hindered : (bytes : List ℕ) (phases : List (List Item)) (made : Simulated) (why : NoAnswer) → script_of bytes ≡ Ok phases → IsExplanation (items_of phases) made → HindersSimulation made why → Hinders bytes Explain why
-explanation_hindered bytes phases (simulations.Shown shown) why script is e = no_memory bytes Explain why e
-explanation_hindered bytes phases (simulations.Refused fault) why script is e = no_memory bytes Explain why e
-explanation_hindered bytes phases (simulations.Misplaced line) why script is e = elim e [
-  | inl other ↦ subst (λ x. Hinders bytes Explain x) (sym other) (misplaced phases line script is)
-  | inr memory ↦ no_memory bytes Explain why memory
+pub explanation_hindered : (bytes : List ℕ) (pick : Pick) (phases : List (List Item)) (made : Simulated) (why : NoAnswer) → script_of bytes ≡ Ok phases → IsExplanation pick.job pick.number (items_of phases) made → HindersSimulation made why → Hinders bytes (Explain pick) why
+explanation_hindered bytes pick phases (simulations.Shown shown) why script is e = no_memory bytes (Explain pick) why e
+explanation_hindered bytes pick phases (simulations.Refused fault) why script is e = no_memory bytes (Explain pick) why e
+explanation_hindered bytes pick phases (simulations.Misplaced line) why script is e = elim e [
+  | inl other ↦ subst (λ x. Hinders bytes (Explain pick) x) (sym other) (misplaced phases line script is)
+  | inr memory ↦ no_memory bytes (Explain pick) why memory
 ]
 
 -- what a coverage comes to is the answer to its script
@@ -126,9 +127,9 @@ pub unread_simulation : (bytes : List ℕ) (why : NoAnswer) → HindersScript by
 unread_simulation bytes (hindrances.Script err) is = is
 unread_simulation bytes hindrances.NoMemory is = tt
 
-pub unread_explanation : (bytes : List ℕ) (why : NoAnswer) → HindersScript bytes why → Hinders bytes Explain why
-unread_explanation bytes (hindrances.Script err) is = is
-unread_explanation bytes hindrances.NoMemory is = tt
+pub unread_explanation : (bytes : List ℕ) (pick : Pick) (why : NoAnswer) → HindersScript bytes why → Hinders bytes (Explain pick) why
+unread_explanation bytes pick (hindrances.Script err) is = is
+unread_explanation bytes pick hindrances.NoMemory is = tt
 
 pub unread_coverage : (bytes : List ℕ) (least : ℕ) (why : NoAnswer) → HindersScript bytes why → Hinders bytes (Coverage least) why
 unread_coverage bytes least (hindrances.Script err) is = is
@@ -209,8 +210,8 @@ answer_ends (refused fault d) = inr refl
 answer_ends (simulated phases text script is) = inl refl
 answer_ends (unsimulated phases fault script is) = inr refl
 answer_ends (compared comparison status text is) = comparison_ends is
-answer_ends (explained phases text script is) = inl refl
-answer_ends (unexplained phases fault script is) = inr refl
+answer_ends (explained pick phases text script is) = inl refl
+answer_ends (unexplained pick phases fault script is) = inr refl
 answer_ends (covered least phases status coverage script is e) = coverage_ends coverage.short status e
 answer_ends (uncovered least phases fault script is) = inr refl
 answer_ends (linted fail status lint is e) = lint_ends fail (length lint.findings) status e

@@ -11,6 +11,6 @@ most_bytes (Translate kind) = most_routine_bytes
 most_bytes Validate = most_input_bytes
 most_bytes Simulate = most_input_bytes
 most_bytes (Compare comparison) = most_input_bytes
-most_bytes Explain = most_input_bytes
+most_bytes (Explain pick) = most_input_bytes
 most_bytes (Coverage least) = most_input_bytes
 most_bytes (Lint fail) = most_input_bytes

@@ -35,6 +35,7 @@ use Rattle.tool_calls.specs.declared.no_answer.NoAnswer.TheVariants as hindrance
 use Rattle.tool_calls.specs.declared.status.ToolStatus.{ToolStatus}
 use Rattle.tool_calls.specs.declared.status.ToolStatus.TheVariants.{Done, FaultFound}
 use Rattle.tool_words.specs.declared.comparison.Comparison.{Comparison}
+use Rattle.tool_words.specs.declared.pick.Pick.{Pick}
 use Rattle.tool_words.specs.declared.task.Task.{Task}
 use Rattle.tool_words.specs.declared.task.Task.TheVariants.{Translate, Validate, Simulate, Compare, Explain, Coverage}
 use Rattle.tool_words.specs.declared.task.Task.TheVariants.{Lint as LintDeck}
@@ -88,11 +89,12 @@ pub data IsAnswer (bytes : List ℕ) : Task → ToolStatus → List ℕ → Type
   compared : (comparison : Comparison) (status : ToolStatus) (text : List ℕ) →
       IsComparison (IsReading bytes) (IsRefusal bytes) comparison status text →
       IsAnswer bytes (Compare comparison) status text
-  explained : (phases : List (List Item)) (text : List ℕ) → script_of bytes ≡ Ok phases →
-      IsExplanation (items_of phases) (simulations.Shown text) → IsAnswer bytes Explain Done text
-  unexplained : (phases : List (List Item)) (fault : DeckFault) → script_of bytes ≡ Ok phases →
-      IsExplanation (items_of phases) (simulations.Refused fault) →
-      IsAnswer bytes Explain FaultFound (refused_text fault)
+  explained : (pick : Pick) (phases : List (List Item)) (text : List ℕ) → script_of bytes ≡ Ok phases →
+      IsExplanation pick.job pick.number (items_of phases) (simulations.Shown text) →
+      IsAnswer bytes (Explain pick) Done text
+  unexplained : (pick : Pick) (phases : List (List Item)) (fault : DeckFault) → script_of bytes ≡ Ok phases →
+      IsExplanation pick.job pick.number (items_of phases) (simulations.Refused fault) →
+      IsAnswer bytes (Explain pick) FaultFound (refused_text fault)
   covered : (least : ℕ) (phases : List (List Item)) (status : ToolStatus) (coverage : Covering) →
       script_of bytes ≡ Ok phases → IsCoverage least (items_of phases) (coverages.Shown coverage) →
       status ≡ coverage_status coverage.short → IsAnswer bytes (Coverage least) status coverage.text
@@ -114,7 +116,7 @@ pub data HasScriptFault (bytes : List ℕ) : ScriptErr → Type 0 where
 -- the input of a simulation, an explanation or a coverage is no script that can be simulated
 abbrev pub IsScriptFault : List ℕ → Task → ScriptErr → Type 0
 IsScriptFault bytes Simulate err = HasScriptFault bytes err
-IsScriptFault bytes Explain err = HasScriptFault bytes err
+IsScriptFault bytes (Explain pick) err = HasScriptFault bytes err
 IsScriptFault bytes (Coverage least) err = HasScriptFault bytes err
 IsScriptFault bytes _ err = ⊥
 

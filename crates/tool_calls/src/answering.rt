@@ -22,7 +22,7 @@ use sms_explain::explain;
 use sms_script::{Script, ScriptErr, push_fault, read_script};
 use sms_simulation::{Simulated, simulate};
 use std::alloc::{AllocError, Global};
-use tool_words::Task;
+use tool_words::{Pick, Task};
 
 /// The answer to the bytes: its status and its text. What a fault means is noted.
 pub fn answer(
@@ -44,7 +44,7 @@ pub fn answer(
         Task::Compare(comparison) => {
             compared(alloc, comparison, &bytes, note).map_err(|_| NoAnswer::NoMemory)
         }
-        Task::Explain => explained(alloc, &bytes, note),
+        Task::Explain(pick) => explained(alloc, pick, &bytes, note),
         Task::Coverage { least } => covered(alloc, least, &bytes, note),
         Task::Lint { fail } => { linted(alloc, fail, bytes, note).map_err(|_| NoAnswer::NoMemory) }
     }
@@ -76,18 +76,19 @@ fn simulated(
 // The explanation of a script.
 fn explained(
     alloc: Global,
+    pick: Pick,
     bytes: &[u8],
     note: &mut String,
 ) -> Result<(ToolStatus, Items<u8>), NoAnswer>
     requires { length bytes.now < 2 ^ 32 }
-    ensures answer { IfOk result (λ found. IsAnswer bytes.now Explain found.0 found.1) }
-    ensures hindered { IfErr result (Hinders bytes.now Explain) }
+    ensures answer { IfOk result (λ found. IsAnswer bytes.now (Explain pick) found.0 found.1) }
+    ensures hindered { IfErr result (Hinders bytes.now (Explain pick)) }
 {
     let script = match script_in(alloc, bytes, note) {
         Ok(script) => script,
         Err(why) => return Err(why),
     };
-    match explain(alloc, &script) {
+    match explain(alloc, &script, &pick.job, pick.number) {
         Ok(made) => {
             note_simulation(alloc, note, bytes, &script, &made);
             simulation(alloc, made)

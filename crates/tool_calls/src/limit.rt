@@ -15,7 +15,7 @@ pub fn most_bytes(task: Task) -> usize
         Task::Validate
         | Task::Simulate
         | Task::Compare(_)
-        | Task::Explain
+        | Task::Explain(_)
         | Task::Coverage { .. }
         | Task::Lint { .. } => MAX_INPUT,
     }

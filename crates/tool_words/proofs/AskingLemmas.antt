@@ -16,7 +16,7 @@ use Rattle.clap.proofs.OnLiterals.{clap_on_literals}
 use Rattle.desk_common.specs.Exact.{IsExact, MayRefuse}
 use Rattle.desk_common.proofs.ExactLemmas.{exact_fault, exact_thing, exact_want}
 use Rattle.std.proofs.lemmas.Option.{same_Some}
-use Rattle.tool_words.specs.Tool.{flag_words, tool, where_usual, words_of}
+use Rattle.tool_words.specs.Tool.{flag_words, tool, where_all, where_usual, words_of}
 use Rattle.tool_words.specs.Asking.{AreRefused, AreShown, AskFor, Hinders, AreSorted, err_of, is_free, kind_named, task_found}
 use Rattle.tool_words.specs.Asking.{is_refused, is_shown, is_text, task_or_bad}
 use Rattle.tool_words.specs.declared.format.Format.{Format}
@@ -255,7 +255,7 @@ simulate_asks : Asks (codes "simulate" ∷ []) tasks.Simulate
 unfolding clap_on_literals
 simulate_asks = (refl, refl)
 
-explain_asks : Asks (codes "explain" ∷ []) tasks.Explain
+explain_asks : Asks (codes "explain" ∷ []) (tasks.Explain (record { job = None; number = None }))
 unfolding clap_on_literals
 explain_asks = (refl, refl)
 
@@ -275,12 +275,17 @@ form_asks words changed fail formats.Text w = asks_as words _ _ w (comparison_as
 form_asks words changed fail formats.Csv w = absurd (cc w)
 form_asks words changed fail formats.Json w = absurd (cc w)
 
+pick_asks : (words : List Text) (job : Option Text) (number : Option ℕ) → Some words ≡ where_all job number (codes "explain" ∷ []) → Asks words (tasks.Explain (record { job = job; number = number }))
+pick_asks words None None w = asks_as words _ _ w explain_asks
+pick_asks words (Some job) number w = absurd (cc w)
+pick_asks words None (Some number) w = absurd (cc w)
+
 task_asks : (words : List Text) (task : Task) → Some words ≡ words_of task → Asks words task
 task_asks words (tasks.Translate kind) w = asks_as words _ _ w (kind_asks kind)
 task_asks words tasks.Validate w = asks_as words _ _ w validate_asks
 task_asks words tasks.Simulate w = asks_as words _ _ w simulate_asks
 task_asks words (tasks.Compare comparison) w = form_asks words comparison.changed comparison.fail comparison.format w
-task_asks words tasks.Explain w = asks_as words _ _ w explain_asks
+task_asks words (tasks.Explain pick) w = pick_asks words pick.job pick.number w
 task_asks words (tasks.Coverage least) w = least_asks words least w
 task_asks words (tasks.Lint fail) w = asks_as words _ _ w (lint_asks fail)
 

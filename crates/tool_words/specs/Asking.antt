@@ -11,11 +11,13 @@ use Rattle.acs_tree.specs.declared.kind.Kind.TheVariants.{DataClas, StorClas, Mg
 use Rattle.clap.specs.Words.{Kinds, Row, Text, fault_of, first_of, subcommand_of}
 use Rattle.clap.specs.declared.error.kind.ErrorKind.{ErrorKind}
 use Rattle.clap.specs.declared.error.kind.ErrorKind.TheVariants as kind
+use Rattle.dsn_mask.specs.Name.{name_of as job_named}
 use Rattle.tool_words.specs.Tool.{tool}
 use Rattle.tool_words.specs.declared.comparison.Comparison.{Comparison}
 use Rattle.tool_words.specs.declared.format.Format.{Format}
 use Rattle.tool_words.specs.declared.format.Format.TheVariants as formats
 use Rattle.tool_words.specs.declared.paths.Paths.{Paths}
+use Rattle.tool_words.specs.declared.pick.Pick.{Pick}
 use Rattle.tool_words.specs.declared.task.Task.{Task}
 use Rattle.tool_words.specs.declared.task.Task.TheVariants as tasks
 use Rattle.tool_words.specs.declared.words_err.WordsErr.{WordsErr}
@@ -77,6 +79,25 @@ least_named (Some word) = within 0 100 (number_of word)
 abbrev pub least_in : List Row → Option ℕ
 least_in rows = least_named (first_of (codes "fail-under") rows)
 
+-- what a word is by this reading, if it is anything; nothing is asked where there is no word
+abbrev pub read_if : {A : Type 0} → (Text → Option A) → Option Text → Option (Option A)
+read_if read None = Some None
+read_if read (Some word) = option_map (λ value. Some value) (read word)
+
+-- the job and the number that these rows name
+
+abbrev pub job_in : List Row → Option (Option Text)
+job_in rows = read_if job_named (first_of (codes "job") rows)
+
+abbrev pub number_in : List Row → Option (Option ℕ)
+number_in rows = read_if (λ word. within 1 4294967295 (number_of word)) (first_of (codes "number") rows)
+
+-- which allocations these rows ask for
+abbrev pub pick_in : List Row → Option Pick
+pick_in rows =
+    option_and_then (λ job. option_and_then (λ number. Some (record { job = job; number = number })) (number_in rows))
+    (job_in rows)
+
 -- how these rows ask two decks to be compared, in this form
 abbrev pub comparison_with : List Row → Format → Comparison
 comparison_with rows format = record {
@@ -93,7 +114,7 @@ task_of name rows =
     else if bytes_eq name (codes "simulate") then Some tasks.Simulate
     else if bytes_eq name (codes "compare")
     then option_map (λ format. tasks.Compare (comparison_with rows format)) (format_in rows)
-    else if bytes_eq name (codes "explain") then Some tasks.Explain
+    else if bytes_eq name (codes "explain") then option_map tasks.Explain (pick_in rows)
     else if bytes_eq name (codes "coverage") then option_map tasks.Coverage (least_in rows)
     else if bytes_eq name (codes "lint") then Some (tasks.Lint (is_set (codes "fail") rows)) else None
 

@@ -1,5 +1,5 @@
 -- The command line of the tool: the command that its words are read by (docs/manual/tool.md, "Words").
-use Rattle.std.specs.Prelude.{◌≡◌, ◌==◌, Bool, List, [], ◌∷◌, ◌++◌, Option, None, Some, true, false, codes}
+use Rattle.std.specs.Prelude.{◌≡◌, ◌==◌, ℕ, Bool, List, [], ◌∷◌, ◌++◌, Option, None, Some, true, false, codes}
 use Rattle.std.specs.Prelude.{if◌then◌else◌}
 use Rattle.acs_tree.specs.Variables.{name_of}
 use Rattle.clap.specs.Simple.{App, new_app, new_rule, new_shape, with_rule, with_subcommand}
@@ -44,6 +44,11 @@ compare_app =
     (path_rule (codes "old"))) (path_rule (codes "new"))) (path_rule (codes "cases")))
     (flag_rule (codes "changed"))) (flag_rule (codes "fail"))) (option_rule (codes "format"))
 
+-- the subcommand `explain`
+abbrev pub explain_app : App
+explain_app =
+    with_rule (with_rule (file_app (codes "explain")) (option_rule (codes "job"))) (option_rule (codes "number"))
+
 -- the subcommand `coverage`
 abbrev pub coverage_app : App
 coverage_app = with_rule (file_app (codes "coverage")) (option_rule (codes "fail-under"))
@@ -72,7 +77,7 @@ tool =
     (file_app (codes "validate")).top)
     (file_app (codes "simulate")).top)
     compare_app.top)
-    (file_app (codes "explain")).top)
+    explain_app.top)
     coverage_app.top)
     lint_app.top
 
@@ -90,6 +95,12 @@ where_usual formats.Text words = Some words
 where_usual formats.Csv words = None
 where_usual formats.Json words = None
 
+-- the words, where neither a job nor a number is asked for
+abbrev pub where_all : Option Text → Option ℕ → List Text → Option (List Text)
+where_all None None words = Some words
+where_all (Some job) number words = None
+where_all None (Some number) words = None
+
 -- words that ask for a task without a value behind a hyphen, and name no file: for a translation `translate` and the name
 -- of the kind, for each other task the name of its subcommand and its flags
 abbrev pub words_of : Task → Option (List Text)
@@ -99,6 +110,6 @@ words_of tasks.Simulate = Some (codes "simulate" ∷ [])
 words_of (tasks.Compare comparison) =
     where_usual comparison.format (codes "compare" ∷ (flag_words (codes "--changed") comparison.changed
     ++ flag_words (codes "--fail") comparison.fail))
-words_of tasks.Explain = Some (codes "explain" ∷ [])
+words_of (tasks.Explain pick) = where_all pick.job pick.number (codes "explain" ∷ [])
 words_of (tasks.Coverage least) = if least == 0 then Some (codes "coverage" ∷ []) else None
 words_of (tasks.Lint fail) = Some (codes "lint" ∷ flag_words (codes "--fail") fail)

@@ -3,7 +3,7 @@ ghost use Rattle.std.specs.Prelude.{◌≡◌, false, IfOk};
 ghost use Rattle.clap.specs.Words.{app_of, rule_of};
 ghost use Rattle.clap.specs.declared.builder.command.Command.TheViews.{out-Command};
 ghost use Rattle.tool_words.specs.Tool.{KeepsItsOwn, bare_app, compare_app, coverage_app, file_app, flag_rule};
-ghost use Rattle.tool_words.specs.Tool.{lint_app, option_rule, path_rule, tool, translate_app, wanted_rule};
+ghost use Rattle.tool_words.specs.Tool.{explain_app, lint_app, option_rule, path_rule, tool, translate_app, wanted_rule};
 
 use clap::{Arg, ArgAction, Command};
 use std::alloc::{AllocError, Global};
@@ -37,7 +37,7 @@ const COMPARE: Said = Said {
 
 const EXPLAIN: Said = Said {
     about: "Tell what each routine does with allocations, statement by statement",
-    usage: "smsc explain [FILE]",
+    usage: "smsc explain [FILE] [--job JOB] [--number N]",
 };
 
 const COVERAGE: Said = Said {
@@ -63,7 +63,7 @@ pub fn tool_command<'a>(alloc: Global) -> Result<Command<'a>, AllocError>
     let validate = reading(alloc, "validate", VALIDATE)?;
     let simulate = reading(alloc, "simulate", SIMULATE)?;
     let compare = comparing(alloc)?;
-    let explain = reading(alloc, "explain", EXPLAIN)?;
+    let explain = explaining(alloc)?;
     let coverage = covering(alloc)?;
     let lint = linting(alloc)?;
     bare_tool(alloc)
@@ -106,6 +106,17 @@ fn comparing<'a>(alloc: Global) -> Result<Command<'a>, AllocError>
         .arg(flag(alloc, "changed"))?
         .arg(flag(alloc, "fail"))?
         .arg(option(alloc, "format"))
+}
+
+// The subcommand `explain`, which reads one file.
+fn explaining<'a>(alloc: Global) -> Result<Command<'a>, AllocError>
+    ensures app { IfOk result (λ command. app_of command ≡ explain_app) }
+    ensures own { IfOk result (KeepsItsOwn) }
+{
+    described(Command::new(alloc, "explain"), EXPLAIN)
+        .arg(path(alloc, "file"))?
+        .arg(option(alloc, "job"))?
+        .arg(option(alloc, "number"))
 }
 
 // The subcommand `coverage`, which reads one file.

@@ -2,7 +2,7 @@
 use crate::format::Format;
 
 /// What is listed of a comparison, in which form, and with which status it ends.
-#[derive(Clone, Copy, Debug, PartialEq, Eq)]
+#[derive(Clone, Copy)]
 pub struct Comparison {
     /// Cases that come to the same are left out of the listing.
     pub changed: bool,

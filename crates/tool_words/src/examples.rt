@@ -33,10 +33,12 @@ smsc compare [OLD [NEW [CASES]]] [--changed] [--fail] [--format FORM]
 ";
 
 const EXPLAIN: &str = "
-smsc explain [FILE]  tell what each routine does with the allocations of such
-                     a script, statement by statement
+smsc explain [FILE] [--job JOB] [--number N]
+                     tell what each routine does with the allocations of such
+                     a script, statement by statement, or with those of a job
+                     or with a number alone
 
-    smsc explain morning.txt
+    smsc explain morning.txt --job PAYJOB --number 1
 ";
 
 const COVERAGE: &str = "

@@ -1,7 +1,7 @@
 //! The forms of what is printed.
 
 /// In which form a list is printed (docs/manual/tool.md, "For other tools").
-#[derive(Clone, Copy, Debug, PartialEq, Eq)]
+#[derive(Clone, Copy)]
 pub enum Format {
     /// As lines for a person.
     Text,

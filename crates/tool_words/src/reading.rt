@@ -15,7 +15,7 @@ use crate::paths::Paths;
 use crate::printed::printed_words;
 use crate::task::Task;
 use crate::value_faults::value_fault;
-use crate::values::{format_in, is_set, kind_in, least_in, value_of};
+use crate::values::{format_in, is_set, kind_in, least_in, pick_in, value_of};
 use crate::words_err::WordsErr;
 use clap::error::ErrorKind;
 use clap::{ArgMatches, Error};
@@ -112,7 +112,10 @@ fn task_of(name: &str, matches: &ArgMatches<'_>) -> Option<Task>
         return Some(Task::Compare(comparison));
     }
     if name == "explain" {
-        return Some(Task::Explain);
+        return match pick_in(matches) {
+            Some(pick) => Some(Task::Explain(pick)),
+            None => None,
+        };
     }
     if name == "coverage" {
         let least = least_in(matches)?;

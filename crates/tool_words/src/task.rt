@@ -1,9 +1,10 @@
 //! What the words of the command line ask for.
 use crate::comparison::Comparison;
+use crate::pick::Pick;
 use acs_tree::Kind;
 
 /// What is done with the input.
-#[derive(Clone, Copy, Debug, PartialEq, Eq)]
+#[derive(Clone, Copy)]
 pub enum Task {
     /// It is a routine of this kind, to be translated.
     Translate(Kind),
@@ -13,8 +14,8 @@ pub enum Task {
     Simulate,
     /// It has two decks and a table of cases, under which the decks are to be compared so.
     Compare(Comparison),
-    /// It is a script, of which it is to be told what the routines do with each allocation.
-    Explain,
+    /// It is a script, of which it is to be told what the routines do with each of these allocations.
+    Explain(Pick),
     /// It is a script, of which it is to be told what its allocations reach of the routines; that less than `least` per
     /// cent of a routine is covered is told by the exit status.
     Coverage { least: u8 },
