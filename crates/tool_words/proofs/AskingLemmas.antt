@@ -8,7 +8,9 @@ use Rattle.std.proofs.lemmas.Slice.Eq.{bytes_eq-Decides}
 use Rattle.acs_tree.specs.Variables.{name_of}
 use Rattle.acs_tree.specs.declared.kind.Kind.{Kind}
 use Rattle.clap.specs.Walk.{Row, Text}
-use Rattle.clap.specs.Words.{IsAmong, Kinds, fault_of, subcommand_of}
+use Rattle.clap.specs.Matches.{subcommand_name_of}
+use Rattle.clap.specs.Words.{IsAmong, Kinds, fault_of, subcommand_of, subcommand_rows_of}
+use Rattle.clap.specs.declared.parser.matches.ArgMatches.{ArgMatches}
 use Rattle.clap.specs.declared.error.kind.ErrorKind.{ErrorKind}
 use Rattle.clap.specs.declared.error.kind.ErrorKind.TheVariants as kind
 use Rattle.acs_tree.specs.declared.kind.Kind.TheVariants.{DataClas, StorClas, MgmtClas, StorGrp}
@@ -26,6 +28,7 @@ use Rattle.tool_words.specs.declared.task.Task.TheVariants as tasks
 use Rattle.tool_words.specs.declared.words_err.WordsErr.{WordsErr}
 use Rattle.tool_words.specs.declared.words_err.WordsErr.TheVariants as errs
 use Rattle.tool_words.proofs.AlikeLemmas.{is_alike, tool_alike}
+use Rattle.tool_words.proofs.ToolLemmas.{none_found}
 
 all_among : (p : ErrorKind → Bool) (ks : Kinds) (k : ErrorKind) → IsAmong k ks → list_all p ks ≡ true → p k ≡ true
 all_among p [] k among all = absurd among
@@ -132,7 +135,7 @@ hindered_by words kind.Io among = inl (refused_by words kind.Io among refl)
 hindered_by words kind.Format among = inl (refused_by words kind.Format among refl)
 hindered_by words kind.OutOfMemory among = inr refl
 
-pub wanted : (words : List Text) (e : WordsErr) → e ≡ errs.NoMemory → MayHinder words e
+wanted : (words : List Text) (e : WordsErr) → e ≡ errs.NoMemory → MayHinder words e
 wanted words e is = inr (ap Some (sym is))
 
 pub hindered : (words : List Text) (k : ErrorKind) → ((k ≡ kind.OutOfMemory) ⊎ IsAmong k (fault_of tool words)) → MayHinder words (err_of k)
@@ -160,6 +163,18 @@ module _ (words : List Text) (found : Option (Text × List Row)) (result : Resul
 
   pub unasked : IfErr result (MayHinder words)
   unasked = read_hinders words (task_found (subcommand_of tool words)) result free refl told
+
+-- where words name no files they are refused, or memory is wanting
+pub unnamed : (words : List Text) (found : Option (Text × List Row)) (e : WordsErr) → fault_of tool words ≡ [] → found ≡ subcommand_of tool words → (((e ≡ errs.Bad) × (task_found found ≡ None)) ⊎ (e ≡ errs.NoMemory))
+    → MayHinder words e
+unnamed words found e free same why = elim why [
+  | inl bad ↦ subst (MayHinder words) (sym bad.0) (inl (inr (record { free = ap is_free free; none = ap task_found (sym same) ∙ bad.1 })))
+  | inr memory ↦ wanted words e memory
+]
+
+-- where no subcommand was found nothing is asked for
+pub none_asks : (m : ArgMatches) → None ≡ subcommand_name_of m → None ≡ task_found (subcommand_rows_of m)
+none_asks m e = sym (ap task_found (none_found m e))
 
 -- the kind of this name is the one that the word names
 pub named_as : (word : Text) (found : Option Kind) → MatchOption found ((kind : Kind) → word ≡ name_of kind → ⊥) (λ kind. word ≡ name_of kind) → found ≡ kind_named word

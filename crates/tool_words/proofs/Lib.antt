@@ -1,3 +1,3 @@
 mod ToolLemmas
 mod AlikeLemmas
-mod AskingLemmas
+pub mod AskingLemmas

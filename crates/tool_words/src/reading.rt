@@ -1,5 +1,5 @@
 //! Reading the words.
-ghost use Rattle.std.specs.Prelude.{◌≡◌, ◌⊎◌, [], Some, IfOk, IfErr, MatchResult, map, option_map, string_bytes};
+ghost use Rattle.std.specs.Prelude.{◌≡◌, ◌⊎◌, [], None, Some, IfOk, IfErr, MatchResult, map, option_map, string_bytes};
 ghost use Rattle.clap.specs.Words.{kind_of, IsAmong, fault_of, found_of, rows_of, subcommand_of};
 ghost use Rattle.clap.specs.Words.{subcommand_rows_of};
 ghost use Rattle.desk_common.specs.Exact.{IsExact, MayRefuse};
@@ -56,16 +56,24 @@ pub fn paths_asked<'a>(alloc: Global, words: &'a [String]) -> Result<Paths<'a>, 
         (MayRefuse (Hinders (map string_bytes words.entry.now)) (Some WordsErr.NoMemory)) }
 {
     match read_matches(alloc, words) {
-        Ok(matches) => match task_in(&matches) {
-            Ok(_) => paths_in(&matches),
-            Err(err) => Err(err),
-        },
+        Ok(matches) => paths_in(&matches),
         Err(error) => Err(words_err(error.kind())),
     }
 }
 
-// The files that the subcommand that was found names.
+// The files that the subcommand that was found names, or that it asks for nothing.
 fn paths_in<'a>(matches: &ArgMatches<'a>) -> Result<Paths<'a>, WordsErr>
+    ensures paths { IfOk result (NamePaths (subcommand_rows_of matches.now)) }
+    ensures err { IfErr result (λ e. ((e ≡ WordsErr.Bad) × (task_found (subcommand_rows_of matches.now) ≡ None))
+        ⊎ (e ≡ WordsErr.NoMemory)) }
+{
+    match task_found(matches) {
+        Some(_) => named_paths(matches),
+        None => Err(WordsErr::Bad),
+    }
+}
+
+fn named_paths<'a>(matches: &ArgMatches<'a>) -> Result<Paths<'a>, WordsErr>
     ensures paths { IfOk result (NamePaths (subcommand_rows_of matches.now)) }
     ensures memory { IfErr result (λ e. e ≡ WordsErr.NoMemory) }
 {
@@ -80,17 +88,23 @@ fn paths_in<'a>(matches: &ArgMatches<'a>) -> Result<Paths<'a>, WordsErr>
     })
 }
 
-// What the subcommand that was found asks for.
+// What the subcommand that was found asks for, or that it asks for nothing.
 fn task_in(matches: &ArgMatches<'_>) -> Result<Task, WordsErr>
     ensures { result ≡ task_or_bad (task_found (subcommand_rows_of matches.now)) }
 {
-    let Some((name, inner)) = matches.subcommand() else {
-        return Err(WordsErr::Bad);
-    };
-    match task_of(name, inner) {
+    match task_found(matches) {
         Some(task) => Ok(task),
         None => Err(WordsErr::Bad),
     }
+}
+
+// What the subcommand that was found asks for.
+#[tactic(auto, using(crate::proofs::AskingLemmas::none_asks))]
+fn task_found(matches: &ArgMatches<'_>) -> Option<Task>
+    ensures { result ≡ task_found (subcommand_rows_of matches.now) }
+{
+    let (name, inner) = matches.subcommand()?;
+    task_of(name, inner)
 }
 
 // What the subcommand of this name asks for.
