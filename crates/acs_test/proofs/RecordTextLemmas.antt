@@ -1,15 +1,11 @@
 -- The parts of cases are their JSON.
-use Rattle.std.proofs.Common.{◌≡◌, ◌++◌, Bool, true, false, refl}
+use Rattle.std.proofs.Common.{◌≡◌, Bool, true, false, refl}
 use Rattle.json.specs.Print.{escape_byte}
 use Rattle.serde_json.specs.Written.{compact_text}
 use Rattle.desk_law.specs.Classification.{Classes}
-use Rattle.acs_test.specs.CaseRecords.{case_value, side_value}
-use Rattle.acs_test.specs.Inner.Pieces.{case_piece, side_piece}
+use Rattle.acs_test.specs.CaseRecords.{case_value}
+use Rattle.acs_test.specs.Inner.Pieces.{case_piece}
 use Rattle.acs_test.specs.declared.case.Case.{Case}
-
-pub side_is : (classes : Classes) → side_piece classes ≡ compact_text (side_value classes)
-unfolding escape_byte
-side_is classes = refl
 
 pub case_is : (case : Case) (old new : Classes) (same : Bool) → case_piece case old new same ≡ compact_text (case_value case old new same)
 unfolding escape_byte

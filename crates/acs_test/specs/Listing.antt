@@ -9,7 +9,6 @@ use Rattle.sms_script.specs.NameText.{spaced}
 use Rattle.sms_script.specs.TraceText.{trace_lines}
 use Rattle.desk_law.specs.Classification.{Classes, classes_of}
 use Rattle.sms_construct.specs.declared.stop.Stop.{Stop}
-use Rattle.sms_classes.specs.declared.classified.Classified.{Classified}
 use Rattle.sms_simulation.specs.OutcomeText.{behind, outcome_text}
 use Rattle.acs_test.specs.CaseRecords.{case_header, case_line, case_record}
 use Rattle.acs_test.specs.declared.case.Case.{Case}
@@ -19,10 +18,6 @@ use Rattle.acs_test.specs.declared.form.CaseForm.TheVariants.{Lines, Csv, Json}
 -- what a case comes to under a configuration
 abbrev pub classes_for : Configuration → Case → Classes
 classes_for config case = classes_of config case.job case.alloc
-
--- a classification, and the lines that its routines wrote, come to this
-abbrev pub classes_made : Classified → SlateLines → Classes
-classes_made classified written = record { values = classified.values; written = written; stop = classified.stop }
 
 -- the line of an outcome
 abbrev pub outcome_line : Stop → Values → List ℕ

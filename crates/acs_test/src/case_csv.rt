@@ -1,15 +1,13 @@
 // Cases as comma-separated values.
-ghost use Rattle.std.specs.Prelude.{◌≡◌, ◌++◌, map, IfOk, OnOk};
+ghost use Rattle.std.specs.Prelude.{◌≡◌, ◌++◌, IfOk, OnOk};
 ghost use Rattle.csv.specs.Writing.{default_writer, row_text};
 ghost use Rattle.acs_test.specs.CaseRecords.{case_header, case_record, differs_word};
-ghost use Rattle.acs_test.specs.Listing.{classes_made};
-ghost use Rattle.sms_simulation.specs.OutcomeText.{outcome_text};
+ghost use Rattle.sms_outcomes.specs.Outcomes.{classes_made};
 
 use crate::case::Case;
 use acs_tree::Slate;
-use csv::WriterBuilder;
 use sms_classes::Classified;
-use sms_simulation::push_outcome;
+use sms_outcomes::{outcome_text, record_text};
 use std::alloc::{AllocError, Global};
 
 const HEADER: [&[u8]; 4] = [b"case", b"differs", b"old", b"new"];
@@ -44,30 +42,8 @@ pub fn push_record(
     text.extend_from_slice(&record)
 }
 
-fn outcome_text(alloc: Global, made: &Classified) -> Result<Vec<u8>, AllocError>
-    ensures { IfOk result (λ text. text.items ≡ outcome_text made.now.stop made.now.values) }
-{
-    let mut text = Vec::new(alloc);
-    push_outcome(&mut text, made.stop, &made.values)?;
-    Ok(text)
-}
-
 fn differs_word(same: bool) -> &'static [u8]
     ensures { result.now ≡ differs_word same }
 {
     if same { b"NO" } else { b"YES" }
-}
-
-// One record.
-fn record_text(alloc: Global, fields: &[&[u8]]) -> Result<Vec<u8>, AllocError>
-    ensures { IfOk result (λ text. text.items ≡ row_text default_writer (map (λ field. field.now) fields.now)) }
-{
-    let mut writer = WriterBuilder::new().from_writer(Vec::new(alloc));
-    if writer.write_fields(fields).is_err() {
-        return Err(AllocError);
-    }
-    match writer.into_inner() {
-        Ok(text) => Ok(text),
-        Err(_) => Err(AllocError),
-    }
 }

@@ -1,7 +1,7 @@
 // Cases as lines.
 ghost use Rattle.std.specs.Prelude.{◌≡◌, ◌++◌, OnOk};
-ghost use Rattle.acs_test.specs.Listing.{case_text, classes_made, differing_head, differing_text, end_text, same_text};
-ghost use Rattle.acs_test.specs.Listing.{side_text};
+ghost use Rattle.acs_test.specs.Listing.{case_text, differing_head, differing_text, end_text, same_text, side_text};
+ghost use Rattle.sms_outcomes.specs.Outcomes.{classes_made};
 
 use crate::case::Case;
 use crate::outcome::push_outcome_lines;

@@ -1,6 +1,7 @@
 // Cases in the forms of a listing.
 ghost use Rattle.std.specs.Prelude.{◌≡◌, ◌++◌, IfOk, OnOk};
-ghost use Rattle.acs_test.specs.Listing.{classes_made, end_in, front_in, text_in};
+ghost use Rattle.acs_test.specs.Listing.{end_in, front_in, text_in};
+ghost use Rattle.sms_outcomes.specs.Outcomes.{classes_made};
 
 use crate::case::Case;
 use crate::case_csv::{case_header, push_record};

@@ -13,7 +13,7 @@ pub fn most_bytes(task: Task) -> usize
     match task {
         Task::Translate(_) => MAX_ROUTINE,
         Task::Validate
-        | Task::Simulate
+        | Task::Simulate(_)
         | Task::Compare(_)
         | Task::Explain(_)
         | Task::Coverage { .. }

@@ -266,7 +266,7 @@ validate_asks : Asks (codes "validate" ∷ []) tasks.Validate
 unfolding clap_on_literals
 validate_asks = (refl, refl)
 
-simulate_asks : Asks (codes "simulate" ∷ []) tasks.Simulate
+simulate_asks : Asks (codes "simulate" ∷ []) (tasks.Simulate formats.Text)
 unfolding clap_on_literals
 simulate_asks = (refl, refl)
 
@@ -295,10 +295,15 @@ pick_asks words None None w = asks_as words _ _ w explain_asks
 pick_asks words (Some job) number w = absurd (cc w)
 pick_asks words None (Some number) w = absurd (cc w)
 
+simulated_asks : (words : List Text) (format : Format) → Some words ≡ where_usual format (codes "simulate" ∷ []) → Asks words (tasks.Simulate format)
+simulated_asks words formats.Text w = asks_as words _ _ w simulate_asks
+simulated_asks words formats.Csv w = absurd (cc w)
+simulated_asks words formats.Json w = absurd (cc w)
+
 task_asks : (words : List Text) (task : Task) → Some words ≡ words_of task → Asks words task
 task_asks words (tasks.Translate kind) w = asks_as words _ _ w (kind_asks kind)
 task_asks words tasks.Validate w = asks_as words _ _ w validate_asks
-task_asks words tasks.Simulate w = asks_as words _ _ w simulate_asks
+task_asks words (tasks.Simulate format) w = simulated_asks words format w
 task_asks words (tasks.Compare comparison) w = form_asks words comparison.changed comparison.fail comparison.format w
 task_asks words (tasks.Explain pick) w = pick_asks words pick.job pick.number w
 task_asks words (tasks.Coverage least) w = least_asks words least w

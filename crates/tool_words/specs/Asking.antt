@@ -111,7 +111,7 @@ abbrev pub task_of : Text → List Row → Option Task
 task_of name rows =
     if bytes_eq name (codes "translate") then option_map tasks.Translate (kind_in rows)
     else if bytes_eq name (codes "validate") then Some tasks.Validate
-    else if bytes_eq name (codes "simulate") then Some tasks.Simulate
+    else if bytes_eq name (codes "simulate") then option_map tasks.Simulate (format_in rows)
     else if bytes_eq name (codes "compare")
     then option_map (λ format. tasks.Compare (comparison_with rows format)) (format_in rows)
     else if bytes_eq name (codes "explain") then option_map tasks.Explain (pick_in rows)

@@ -37,6 +37,10 @@ translate_app =
 abbrev pub file_app : Text → App
 file_app name = with_rule (new_app name) (path_rule (codes "file"))
 
+-- the subcommand `simulate`
+abbrev pub simulate_app : App
+simulate_app = with_rule (file_app (codes "simulate")) (option_rule (codes "format"))
+
 -- the subcommand `compare`
 abbrev pub compare_app : App
 compare_app =
@@ -75,7 +79,7 @@ tool =
     bare_app
     translate_app.top)
     (file_app (codes "validate")).top)
-    (file_app (codes "simulate")).top)
+    simulate_app.top)
     compare_app.top)
     explain_app.top)
     coverage_app.top)
@@ -106,7 +110,7 @@ where_all None (Some number) words = None
 abbrev pub words_of : Task → Option (List Text)
 words_of (tasks.Translate kind) = Some (codes "translate" ∷ name_of kind ∷ [])
 words_of tasks.Validate = Some (codes "validate" ∷ [])
-words_of tasks.Simulate = Some (codes "simulate" ∷ [])
+words_of (tasks.Simulate format) = where_usual format (codes "simulate" ∷ [])
 words_of (tasks.Compare comparison) =
     where_usual comparison.format (codes "compare" ∷ (flag_words (codes "--changed") comparison.changed
     ++ flag_words (codes "--fail") comparison.fail))

@@ -3,7 +3,7 @@ ghost use Rattle.std.specs.Prelude.{◌≡◌, false, IfOk};
 ghost use Rattle.clap.specs.Words.{app_of, rule_of};
 ghost use Rattle.clap.specs.declared.builder.command.Command.TheViews.{out-Command};
 ghost use Rattle.tool_words.specs.Tool.{KeepsItsOwn, bare_app, compare_app, coverage_app, file_app, flag_rule};
-ghost use Rattle.tool_words.specs.Tool.{explain_app, lint_app, option_rule, path_rule, tool, translate_app, wanted_rule};
+ghost use Rattle.tool_words.specs.Tool.{explain_app, lint_app, option_rule, path_rule, simulate_app, tool, translate_app, wanted_rule};
 
 use clap::{Arg, ArgAction, Command};
 use std::alloc::{AllocError, Global};
@@ -27,7 +27,7 @@ const VALIDATE: Said = Said {
 
 const SIMULATE: Said = Said {
     about: "Say what the routines of a deck give allocations",
-    usage: "smsc simulate [FILE]",
+    usage: "smsc simulate [FILE] [--format FORM]",
 };
 
 const COMPARE: Said = Said {
@@ -61,7 +61,7 @@ pub fn tool_command<'a>(alloc: Global) -> Result<Command<'a>, AllocError>
 {
     let translate = translating(alloc)?;
     let validate = reading(alloc, "validate", VALIDATE)?;
-    let simulate = reading(alloc, "simulate", SIMULATE)?;
+    let simulate = simulating(alloc)?;
     let compare = comparing(alloc)?;
     let explain = explaining(alloc)?;
     let coverage = covering(alloc)?;
@@ -92,6 +92,16 @@ fn reading<'a>(alloc: Global, name: &'a str, said: Said) -> Result<Command<'a>, 
     ensures own { IfOk result (KeepsItsOwn) }
 {
     described(Command::new(alloc, name), said).arg(path(alloc, "file"))
+}
+
+// The subcommand `simulate`, which reads one file.
+fn simulating<'a>(alloc: Global) -> Result<Command<'a>, AllocError>
+    ensures app { IfOk result (λ command. app_of command ≡ simulate_app) }
+    ensures own { IfOk result (KeepsItsOwn) }
+{
+    described(Command::new(alloc, "simulate"), SIMULATE)
+        .arg(path(alloc, "file"))?
+        .arg(option(alloc, "format"))
 }
 
 // The subcommand `compare`, which reads up to three files.

@@ -16,8 +16,10 @@ smsc validate [FILE] validate a deck
 ";
 
 const SIMULATE: &str = "
-smsc simulate [FILE] say what the routines of a deck give the allocations of
-                     a script that begins with an ACTIVATE
+smsc simulate [FILE] [--format FORM]
+                     say what the routines of a deck give the allocations of
+                     a script that begins with an ACTIVATE; FORM is text, csv
+                     or json
 
     smsc simulate morning.txt
 ";

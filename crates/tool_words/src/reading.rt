@@ -119,7 +119,8 @@ fn task_of(name: &str, matches: &ArgMatches<'_>) -> Option<Task>
         return Some(Task::Validate);
     }
     if name == "simulate" {
-        return Some(Task::Simulate);
+        let format = format_in(matches)?;
+        return Some(Task::Simulate(format));
     }
     if name == "compare" {
         let comparison = comparison_in(matches)?;

@@ -1,5 +1,6 @@
 //! What the words of the command line ask for.
 use crate::comparison::Comparison;
+use crate::format::Format;
 use crate::pick::Pick;
 use acs_tree::Kind;
 
@@ -10,8 +11,8 @@ pub enum Task {
     Translate(Kind),
     /// It is a deck, to be validated.
     Validate,
-    /// It is a script, of which the allocations are to be simulated.
-    Simulate,
+    /// It is a script, of which the allocations are to be simulated, and told in this form.
+    Simulate(Format),
     /// It has two decks and a table of cases, under which the decks are to be compared so.
     Compare(Comparison),
     /// It is a script, of which it is to be told what the routines do with each of these allocations.

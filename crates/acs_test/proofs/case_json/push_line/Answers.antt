@@ -2,7 +2,7 @@
 use Rattle.std.proofs.Common.{◌++◌, ◌∷◌, [], ◌∙◌, ℕ, List, ap, append_assoc}
 use Rattle.serde_json.specs.Written.{compact_text}
 use Rattle.acs_test.specs.CaseRecords.{case_value}
-use Rattle.acs_test.specs.Listing.{classes_made}
+use Rattle.sms_outcomes.specs.Outcomes.{classes_made}
 use Rattle.acs_test.proofs.RecordTextLemmas.{case_is}
 use Rattle.acs_test.proofs.case_json.push_line.Goals as goal
 
