@@ -38,7 +38,7 @@ use Rattle.tool_calls.specs.PartsEnds.{EndsTold, SinkSeen, WasCutOff}
 use Rattle.tool_calls.specs.declared.no_answer.NoAnswer.{NoAnswer}
 use Rattle.tool_calls.specs.declared.no_answer.NoAnswer.TheVariants as hindrances
 use Rattle.tool_calls.specs.ToolText.{translated_text, valid_text, refused_text, IsAnswer, IsSimulationIn, translated, faulty, valid}
-use Rattle.tool_calls.specs.ToolText.{refused, simulated, unsimulated, compared, explained, unexplained, covered, uncovered, linted, unlinted, lint_status, unread, misplaced, Hinders, HindersScript}
+use Rattle.tool_calls.specs.ToolText.{refused, simulated, unsimulated, compared, explained, unexplained, covered, uncovered, linted, unlinted, lint_status, lint_text, unread, misplaced, Hinders, HindersScript}
 use Rattle.tool_calls.specs.ToolText.{hindrance_of, coverage_status, TellsCoverage, HindersCoverage, TellsFault, TellsSimulation, HindersSimulation}
 use Rattle.tool_calls.specs.ToolEnds.{Ends, HasAnswer, leaves_sink}
 use Rattle.tool_calls.specs.declared.status.ToolStatus.{ToolStatus}
@@ -66,12 +66,12 @@ deck_refused {bytes} {text} {status} {fault} f e = subst (λ x. IsAnswer bytes V
 
 -- what is found in a deck, or its fault, is the answer to it
 
-pub linted_told : {bytes text : List ℕ} {fail : Bool} {status : ToolStatus} {lint : Lint} → IsLintOf bytes lint → status ≡ lint_status fail (length lint.findings) → text ≡ lint.text → IsAnswer bytes (LintDeck fail) status text
-linted_told {bytes} {text} {fail} {status} {lint} is e t = subst (λ x. IsAnswer bytes (LintDeck fail) status x) (sym t) (linted fail status lint is e)
+pub linted_told : {bytes text : List ℕ} {fail : Bool} {format : Format} {status : ToolStatus} {lint : Lint} → IsLintOf bytes lint → status ≡ lint_status fail (length lint.findings) → text ≡ lint_text format lint → IsAnswer bytes (LintDeck fail format) status text
+linted_told {bytes} {text} {fail} {format} {status} {lint} is e t = subst (λ x. IsAnswer bytes (LintDeck fail format) status x) (sym t) (linted fail format status lint is e)
 
-pub unlinted_told : {bytes text : List ℕ} {fail : Bool} {status : ToolStatus} {fault : DeckFault} → HasFirstFault bytes fault → (status ≡ FaultFound) × (text ≡ refused_text fault) → IsAnswer bytes (LintDeck fail) status text
-unlinted_told {bytes} {text} {fail} {status} {fault} f e =
-    subst (λ x. IsAnswer bytes (LintDeck fail) x text) (sym e.0) (subst (λ x. IsAnswer bytes (LintDeck fail) FaultFound x) (sym e.1) (unlinted fail fault f))
+pub unlinted_told : {bytes text : List ℕ} {fail : Bool} {format : Format} {status : ToolStatus} {fault : DeckFault} → HasFirstFault bytes fault → (status ≡ FaultFound) × (text ≡ refused_text fault) → IsAnswer bytes (LintDeck fail format) status text
+unlinted_told {bytes} {text} {fail} {format} {status} {fault} f e =
+    subst (λ x. IsAnswer bytes (LintDeck fail format) x text) (sym e.0) (subst (λ x. IsAnswer bytes (LintDeck fail format) FaultFound x) (sym e.1) (unlinted fail format fault f))
 
 -- what a simulation comes to is the answer to its script; a misplaced item is one of the script in each form
 
@@ -222,8 +222,8 @@ answer_ends (explained pick phases text script is) = inl refl
 answer_ends (unexplained pick phases fault script is) = inr refl
 answer_ends (covered least phases status coverage script is e) = coverage_ends coverage.short status e
 answer_ends (uncovered least phases fault script is) = inr refl
-answer_ends (linted fail status lint is e) = lint_ends fail (length lint.findings) status e
-answer_ends (unlinted fail fault is) = inr refl
+answer_ends (linted fail format status lint is e) = lint_ends fail (length lint.findings) status e
+answer_ends (unlinted fail format fault is) = inr refl
 
 pub answered : {bytes text : List ℕ} {task : Task} {status : ToolStatus} (old new : Observed) → IsAnswer bytes task status text → WasRead (most_bytes task) old new bytes → Appends old.taken new.taken text → new.write_faults ≡ old.write_faults → Ends task old new status
 answered {bytes} {text} {task} {status} old new a r w f = elim (answer_ends a) [

@@ -13,4 +13,4 @@ most_bytes (Simulate format) = most_input_bytes
 most_bytes (Compare comparison) = most_input_bytes
 most_bytes (Explain pick) = most_input_bytes
 most_bytes (Coverage least) = most_input_bytes
-most_bytes (Lint fail) = most_input_bytes
+most_bytes (Lint fail format) = most_input_bytes

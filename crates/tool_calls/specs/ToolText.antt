@@ -28,6 +28,7 @@ use Rattle.sms_coverage.specs.declared.coverage.Covered.TheVariants as coverages
 use Rattle.sms_explain.specs.Explanation.{IsExplanation}
 use Rattle.acs_test.specs.Reading.{IsReading, IsRefusal}
 use Rattle.sms_lint.specs.Linting.{IsLintOf}
+use Rattle.lint_records.specs.FindingRecords.{records_text}
 use Rattle.sms_outcomes.specs.SimulatedRecords.{IsRecorded}
 use Rattle.sms_outcomes.specs.declared.form.RecordForm.TheVariants as forms
 use Rattle.sms_lint.specs.declared.linted.Lint.{Lint}
@@ -72,6 +73,12 @@ refused_text fault = codes "FAULT " ++ (deck_fault_text fault ++ codes "\n")
 abbrev pub lint_status : Bool → ℕ → ToolStatus
 lint_status fail findings = if fail && nat_lt 0 findings then FaultFound else Done
 
+-- what is found in a deck, in a form
+abbrev pub lint_text : Format → Lint → List ℕ
+lint_text formats.Text lint = lint.text
+lint_text formats.Csv lint = records_text forms.Csv lint.sources lint.findings
+lint_text formats.Json lint = records_text forms.Json lint.sources lint.findings
+
 -- the status of a coverage, which may be less than was asked for
 abbrev pub coverage_status : Bool → ToolStatus
 coverage_status short = if short then FaultFound else Done
@@ -111,10 +118,11 @@ pub data IsAnswer (bytes : List ℕ) : Task → ToolStatus → List ℕ → Type
   uncovered : (least : ℕ) (phases : List (List Item)) (fault : DeckFault) → script_of bytes ≡ Ok phases →
       IsCoverage least (items_of phases) (coverages.Refused fault) →
       IsAnswer bytes (Coverage least) FaultFound (refused_text fault)
-  linted : (fail : Bool) (status : ToolStatus) (lint : Lint) → IsLintOf bytes lint →
-      status ≡ lint_status fail (length lint.findings) → IsAnswer bytes (LintDeck fail) status lint.text
-  unlinted : (fail : Bool) (fault : DeckFault) → HasFirstFault bytes fault →
-      IsAnswer bytes (LintDeck fail) FaultFound (refused_text fault)
+  linted : (fail : Bool) (format : Format) (status : ToolStatus) (lint : Lint) → IsLintOf bytes lint →
+      status ≡ lint_status fail (length lint.findings) →
+      IsAnswer bytes (LintDeck fail format) status (lint_text format lint)
+  unlinted : (fail : Bool) (format : Format) (fault : DeckFault) → HasFirstFault bytes fault →
+      IsAnswer bytes (LintDeck fail format) FaultFound (refused_text fault)
 
 -- the input is no script that can be simulated: it has this fault as a script, or is one with an item that isn't the
 -- one asked there

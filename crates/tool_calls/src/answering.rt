@@ -47,7 +47,9 @@ pub fn answer(
         }
         Task::Explain(pick) => explained(alloc, pick, &bytes, note),
         Task::Coverage { least } => covered(alloc, least, &bytes, note),
-        Task::Lint { fail } => { linted(alloc, fail, bytes, note).map_err(|_| NoAnswer::NoMemory) }
+        Task::Lint { fail, format } => {
+            linted(alloc, fail, format, bytes, note).map_err(|_| NoAnswer::NoMemory)
+        }
     }
 }
 

@@ -250,7 +250,7 @@ comparison_asks true false = (refl, refl)
 comparison_asks false true = (refl, refl)
 comparison_asks false false = (refl, refl)
 
-lint_asks : (fail : Bool) → Asks (codes "lint" ∷ flag_words (codes "--fail") fail) (tasks.Lint fail)
+lint_asks : (fail : Bool) → Asks (codes "lint" ∷ flag_words (codes "--fail") fail) (tasks.Lint fail formats.Text)
 unfolding clap_on_literals
 lint_asks true = (refl, refl)
 lint_asks false = (refl, refl)
@@ -300,6 +300,11 @@ simulated_asks words formats.Text w = asks_as words _ _ w simulate_asks
 simulated_asks words formats.Csv w = absurd (cc w)
 simulated_asks words formats.Json w = absurd (cc w)
 
+linted_asks : (words : List Text) (fail : Bool) (format : Format) → Some words ≡ where_usual format (codes "lint" ∷ flag_words (codes "--fail") fail) → Asks words (tasks.Lint fail format)
+linted_asks words fail formats.Text w = asks_as words _ _ w (lint_asks fail)
+linted_asks words fail formats.Csv w = absurd (cc w)
+linted_asks words fail formats.Json w = absurd (cc w)
+
 task_asks : (words : List Text) (task : Task) → Some words ≡ words_of task → Asks words task
 task_asks words (tasks.Translate kind) w = asks_as words _ _ w (kind_asks kind)
 task_asks words tasks.Validate w = asks_as words _ _ w validate_asks
@@ -307,7 +312,7 @@ task_asks words (tasks.Simulate format) w = simulated_asks words format w
 task_asks words (tasks.Compare comparison) w = form_asks words comparison.changed comparison.fail comparison.format w
 task_asks words (tasks.Explain pick) w = pick_asks words pick.job pick.number w
 task_asks words (tasks.Coverage least) w = least_asks words least w
-task_asks words (tasks.Lint fail) w = asks_as words _ _ w (lint_asks fail)
+task_asks words (tasks.Lint fail format) w = linted_asks words fail format w
 
 known_asks : (words : List Text) (task : Task) → Some words ≡ words_of task → AskFor words task
 known_asks words task w = let asks = task_asks words task w in record { free = asks.0; found = asks.1 }

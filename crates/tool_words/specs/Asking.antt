@@ -116,7 +116,8 @@ task_of name rows =
     then option_map (λ format. tasks.Compare (comparison_with rows format)) (format_in rows)
     else if bytes_eq name (codes "explain") then option_map tasks.Explain (pick_in rows)
     else if bytes_eq name (codes "coverage") then option_map tasks.Coverage (least_in rows)
-    else if bytes_eq name (codes "lint") then Some (tasks.Lint (is_set (codes "fail") rows)) else None
+    else if bytes_eq name (codes "lint")
+    then option_map (tasks.Lint (is_set (codes "fail") rows)) (format_in rows) else None
 
 -- what the subcommand that was found asks for
 abbrev pub task_found : Option (Text × List Row) → Option Task

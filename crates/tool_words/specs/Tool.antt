@@ -59,7 +59,8 @@ coverage_app = with_rule (file_app (codes "coverage")) (option_rule (codes "fail
 
 -- the subcommand `lint`
 abbrev pub lint_app : App
-lint_app = with_rule (file_app (codes "lint")) (flag_rule (codes "fail"))
+lint_app =
+    with_rule (with_rule (file_app (codes "lint")) (flag_rule (codes "fail"))) (option_rule (codes "format"))
 
 -- the command without its subcommands: one is wanted, there is no `help` among them, and there is a version
 abbrev pub bare_app : App
@@ -116,4 +117,4 @@ words_of (tasks.Compare comparison) =
     ++ flag_words (codes "--fail") comparison.fail))
 words_of (tasks.Explain pick) = where_all pick.job pick.number (codes "explain" ∷ [])
 words_of (tasks.Coverage least) = if least == 0 then Some (codes "coverage" ∷ []) else None
-words_of (tasks.Lint fail) = Some (codes "lint" ∷ flag_words (codes "--fail") fail)
+words_of (tasks.Lint fail format) = where_usual format (codes "lint" ∷ flag_words (codes "--fail") fail)

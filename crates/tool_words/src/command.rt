@@ -47,7 +47,7 @@ const COVERAGE: Said = Said {
 
 const LINT: Said = Said {
     about: "Tell what in a deck is certain and hardly meant so",
-    usage: "smsc lint [FILE] [--fail]",
+    usage: "smsc lint [FILE] [--fail] [--format FORM]",
 };
 
 const TOOL: Said = Said {
@@ -146,7 +146,8 @@ fn linting<'a>(alloc: Global) -> Result<Command<'a>, AllocError>
 {
     described(Command::new(alloc, "lint"), LINT)
         .arg(path(alloc, "file"))?
-        .arg(flag(alloc, "fail"))
+        .arg(flag(alloc, "fail"))?
+        .arg(option(alloc, "format"))
 }
 
 // The command with what help says of it.

@@ -53,9 +53,10 @@ smsc coverage [FILE] [--fail-under N]
 ";
 
 const LINT: &str = "
-smsc lint [FILE] [--fail]
+smsc lint [FILE] [--fail] [--format FORM]
                      tell what in a deck is certain and hardly meant so; with
-                     --fail the exit status is 1 where there is a finding
+                     --fail the exit status is 1 where there is a finding;
+                     FORM is text, csv or json
 
     smsc lint deck.toml --fail
 ";

@@ -137,8 +137,10 @@ fn task_of(name: &str, matches: &ArgMatches<'_>) -> Option<Task>
         return Some(Task::Coverage { least });
     }
     if name == "lint" {
+        let format = format_in(matches)?;
         return Some(Task::Lint {
             fail: is_set(matches, "fail"),
+            format,
         });
     }
     None
