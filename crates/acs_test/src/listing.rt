@@ -65,6 +65,7 @@ fn counted(differing: u64, same: bool) -> u64
 
 // Puts a case behind a text, with `changed` only where it differs, and tells whether it comes to the same under both
 // configurations.
+#[tactic(auto, using(crate::proofs::ListingLemmas::left_out))]
 fn push_case(
     alloc: Global,
     text: &mut Vec<u8>,

@@ -1,5 +1,5 @@
 -- The parts of findings are their JSON.
-use Rattle.std.proofs.Common.{◌≡◌, ◌++◌, ◌∷◌, [], ap, refl}
+use Rattle.std.proofs.Common.{◌≡◌, refl}
 use Rattle.std.specs.Prelude.{Some}
 use Rattle.acs_places.specs.declared.place.Place.{Place}
 use Rattle.json.specs.Print.{escape_byte}

@@ -1,5 +1,5 @@
 -- The parts of records are their JSON.
-use Rattle.std.proofs.Common.{◌≡◌, ◌++◌, append_assoc, refl, false}
+use Rattle.std.proofs.Common.{◌≡◌, append_assoc, refl, false}
 use Rattle.json.specs.Print.{escape_byte}
 use Rattle.serde_json.specs.Written.{compact_text, members_text}
 use Rattle.desk_law.specs.Classification.{Classes}

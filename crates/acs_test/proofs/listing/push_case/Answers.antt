@@ -1,7 +1,7 @@
-use Rattle.std.proofs.Common.{rules, ◌++◌, List, ℕ, [], ap, ap₂, sym, ◌∙◌, append-nil, refl}
+use Rattle.std.proofs.Common.{rules, ◌++◌, List, ℕ, ap, ap₂, sym, ◌∙◌}
 use Rattle.desk_law.specs.Classification.{Classes}
 use Rattle.acs_test.specs.Listing.{classes_for, text_in}
-use Rattle.acs_test.proofs.ListingLemmas.{left_out, put_in}
+use Rattle.acs_test.proofs.ListingLemmas.{put_in}
 use Rattle.acs_test.proofs.listing.push_case.Goals as goal
 
 pub returns-clause-text : goal.returns-clause-text

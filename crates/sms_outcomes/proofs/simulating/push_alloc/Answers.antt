@@ -1,10 +1,9 @@
-use Rattle.std.proofs.Common.{◌≡◌, ◌++◌, ap, ◌∙◌}
+use Rattle.std.proofs.Common.{◌++◌, ap, ◌∙◌}
 use Rattle.acs_tree.specs.Slates.{SlateLines}
 use Rattle.acs_tree.specs.declared.values.Values.{Values}
-use Rattle.desk_law.specs.Classification.{Classes, classes_of}
+use Rattle.desk_law.specs.Classification.{classes_of}
 use Rattle.sms_construct.specs.declared.stop.Stop.{Stop}
 use Rattle.sms_outcomes.specs.ItemRecords.{record_in}
-use Rattle.sms_outcomes.specs.Outcomes.{classes_made}
 use Rattle.sms_outcomes.proofs.simulating.push_alloc.Goals as goal
 
 pub returns : goal.returns
