@@ -18,11 +18,11 @@ pub record IsSoFar (sets : List DataSet) (mask from at : Option (List ℕ)) (sho
 pub so_far_none : (sets : List DataSet) (mask from : Option (List ℕ)) → IsSoFar sets mask from from [] 0
 so_far_none sets mask from = record { walked = []; walks = tt; shown_are = refl; few = omega arith; at_is = refl; count = refl }
 
-walk_more : (sets : List DataSet) (from : Option (List ℕ)) (walked : List DataSet) (set : DataSet) → IsWalk sets from walked → IsFirstBehind (last_name from walked) sets set → IsWalk sets from (walked ++ set ∷ [])
+pub walk_more : (sets : List DataSet) (from : Option (List ℕ)) (walked : List DataSet) (set : DataSet) → IsWalk sets from walked → IsFirstBehind (last_name from walked) sets set → IsWalk sets from (walked ++ set ∷ [])
 walk_more sets from [] set h first = (first, tt)
 walk_more sets from (x ∷ xs) set h first = (h.0, walk_more sets (Some x.dsn) xs set h.1 first)
 
-last_more : (from : Option (List ℕ)) (walked : List DataSet) (set : DataSet) → last_name from (walked ++ set ∷ []) ≡ Some set.dsn
+pub last_more : (from : Option (List ℕ)) (walked : List DataSet) (set : DataSet) → last_name from (walked ++ set ∷ []) ≡ Some set.dsn
 last_more from [] set = refl
 last_more from (x ∷ xs) set = last_more (Some x.dsn) xs set
 

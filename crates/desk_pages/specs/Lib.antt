@@ -1,3 +1,6 @@
 pub mod Groups
 pub mod Listing
+pub mod Lying
+pub mod Newest
+pub mod Checking
 pub mod DeskPages

@@ -5,7 +5,7 @@ use Rattle.dsn_mask.specs.MaskTest.{mask_fits}
 use Rattle.dsn_mask.specs.Name.{short_of}
 use Rattle.desk_state.specs.Following.{IsFirstBehind, IsLastName}
 
--- so many data sets stand on a page
+-- so many data sets, or extents, stand on a page
 abbrev pub most_shown : ℕ
 most_shown = 200
 

@@ -1,8 +1,13 @@
 //! The pages of a desk.
 #![tactic(auto)]
 
+mod checking;
 mod grouping;
+mod latest;
 mod listing;
+mod lying;
+mod pool;
+mod said;
 mod showing;
 mod shown_desk;
 

@@ -9,12 +9,21 @@ pub enum PagePath {
     Desk,
     /// Whether the desk is there.
     Health,
+    /// The last entries of the journal.
+    Answers,
+    /// What an activation of the body would be answered.
+    Check,
+    /// The text of the active deck.
+    Deck,
     /// All storage groups.
     Groups,
     /// All volumes.
     Volumes,
-    /// The volume of this serial.
-    Volume(Volser),
+    /// The volume of this serial, from a track on.
+    Volume {
+        volser: Volser,
+        from: u32,
+    },
     /// Data sets whose names fit the mask, or all, behind a name, or from the first.
     Sets {
         mask: Option<Mask>,

@@ -4,12 +4,15 @@ ghost use Rattle.dsn_mask.specs.DataSetName.{dsn_of};
 ghost use Rattle.dsn_mask.specs.MaskText.{mask_of};
 ghost use Rattle.dsn_mask.specs.Name.{volser_of};
 ghost use Rattle.http_head.specs.Segments.{segment};
-ghost use Rattle.page_paths.specs.Paths.{after_at, alone, behind_mask, or_bad, page_by, page_of_some, page_path_of};
-ghost use Rattle.page_paths.specs.Paths.{set_at, sets_at, under_mask, volume_at};
+ghost use Rattle.sms_construct.specs.Numbers.{small_number_of};
+ghost use Rattle.page_paths.specs.Paths.{after_at, alone, behind_mask, behind_volume, or_bad, page_by, page_of_pool};
+ghost use Rattle.page_paths.specs.Paths.{page_of_some, page_path_of, set_at, sets_at, track_at, under_mask, under_volume};
+ghost use Rattle.page_paths.specs.Paths.{volume_at};
 
 use crate::page_path::PagePath;
 use dsn_mask::{Dsn, Mask, Volser};
 use http_head::segment;
+use sms_construct::read_number;
 use std::alloc::{AllocError, Global};
 
 /// What the path asks to be shown (docs/manual/smsd.md, "What pages show").
@@ -31,6 +34,22 @@ fn page_by(alloc: Global, path: &[u8], word: &[u8]) -> Result<PagePath, AllocErr
     }
     if word == b"HEALTH".as_slice() {
         return alone(alloc, 2, path, PagePath::Health);
+    }
+    if word == b"ANSWERS".as_slice() {
+        return alone(alloc, 2, path, PagePath::Answers);
+    }
+    if word == b"CHECK".as_slice() {
+        return alone(alloc, 2, path, PagePath::Check);
+    }
+    page_of_pool(alloc, path, word)
+}
+
+// The page by the first word of its path, where it shows what is active, or data sets.
+fn page_of_pool(alloc: Global, path: &[u8], word: &[u8]) -> Result<PagePath, AllocError>
+    ensures { IfOk result (λ page. page ≡ page_of_pool path.now word.now) }
+{
+    if word == b"DECK".as_slice() {
+        return alone(alloc, 2, path, PagePath::Deck);
     }
     if word == b"GROUPS".as_slice() {
         return alone(alloc, 2, path, PagePath::Groups);
@@ -71,16 +90,48 @@ fn volume_at(alloc: Global, path: &[u8]) -> Result<PagePath, AllocError>
     ensures { IfOk result (λ page. page ≡ volume_at path.now (segment 2 path.now)) }
 {
     match segment(alloc, 2, path)? {
-        Some(text) => alone(alloc, 3, path, volume_named(&text)),
+        Some(text) => under_volume(alloc, path, &text),
         None => Ok(PagePath::Missing),
     }
 }
 
-fn volume_named(text: &[u8]) -> PagePath
-    ensures { result ≡ or_bad (option_map PagePath.Volume (volser_of text.now)) }
+fn under_volume(alloc: Global, path: &[u8], text: &[u8]) -> Result<PagePath, AllocError>
+    ensures { IfOk result (λ page. page ≡ under_volume path.now (volser_of text.now)) }
 {
     match Volser::new(text) {
-        Some(volser) => PagePath::Volume(volser),
+        Some(volser) => behind_volume(alloc, path, volser),
+        None => Ok(PagePath::Bad),
+    }
+}
+
+fn behind_volume(alloc: Global, path: &[u8], volser: Volser) -> Result<PagePath, AllocError>
+    ensures { IfOk result (λ page. page ≡ behind_volume path.now volser (segment 3 path.now)) }
+{
+    match segment(alloc, 3, path)? {
+        Some(word) => {
+            if word.as_slice() == b"FROM".as_slice() {
+                return track_at(alloc, path, volser);
+            }
+            Ok(PagePath::Missing)
+        }
+        None => Ok(PagePath::Volume { volser, from: 0 }),
+    }
+}
+
+fn track_at(alloc: Global, path: &[u8], volser: Volser) -> Result<PagePath, AllocError>
+    ensures { IfOk result (λ page. page ≡ track_at path.now volser (segment 4 path.now)) }
+{
+    match segment(alloc, 4, path)? {
+        Some(text) => alone(alloc, 5, path, volume_from(volser, &text)),
+        None => Ok(PagePath::Missing),
+    }
+}
+
+fn volume_from(volser: Volser, text: &[u8]) -> PagePath
+    ensures { result ≡ or_bad (option_map (PagePath.Volume volser) (small_number_of text.now)) }
+{
+    match read_number(text) {
+        Some(from) => PagePath::Volume { volser, from },
         None => PagePath::Bad,
     }
 }

@@ -1,0 +1,10 @@
+-- The page is that of the extents on the volume.
+use Rattle.std.proofs.lemmas.Result.{IfOk-weaker}
+use Rattle.desk_pages.proofs.pool.tracks.Goals as goal
+
+pub returns : goal.returns
+returns g c = IfOk-weaker c.tracks_page.result _ _ (λ page is s stands. record {
+  extents = c.in_ok-extents.extents.items;
+  lying = c.in_ok-extents.ensures s stands;
+  page_is = is;
+}) c.tracks_page.ensures
