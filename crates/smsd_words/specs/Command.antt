@@ -30,10 +30,11 @@ KeepsItsOwn command = (out-Command command).has_globals ≡ false
 
 abbrev pub run_app : App
 run_app =
-    with_rule (with_rule (with_rule
+    with_rule (with_rule (with_rule (with_rule
     (new_app (codes "run"))
     (word_rule (codes "script")))
     (flag_rule (codes "volumes")))
+    (flag_rule (codes "strict")))
     (option_rule (codes "store"))
 
 abbrev pub list_app : App
@@ -59,6 +60,14 @@ serve_app =
 abbrev pub check_app : App
 check_app = with_rule (with_rule (new_app (codes "check")) (wanted_rule (codes "deck"))) (option_rule (codes "store"))
 
+abbrev pub manage_app : App
+manage_app =
+    with_rule (with_rule (with_rule
+    (new_app (codes "manage"))
+    (wanted_rule (codes "day")))
+    (flag_rule (codes "dry-run")))
+    (option_rule (codes "store"))
+
 -- the command without its subcommands: one is wanted, there is no `help` among them, and there is a version
 abbrev pub bare_app : App
 bare_app = record (new_app (codes "smsd")) {
@@ -73,9 +82,10 @@ bare_app = record (new_app (codes "smsd")) {
 -- the command
 abbrev pub smsd : App
 smsd =
-    with_subcommand (with_subcommand (with_subcommand (with_subcommand
+    with_subcommand (with_subcommand (with_subcommand (with_subcommand (with_subcommand
     bare_app
     run_app.top)
     list_app.top)
     serve_app.top)
-    check_app.top
+    check_app.top)
+    manage_app.top

@@ -4,7 +4,8 @@ use std::alloc::{AllocError, Global};
 const RUN: &str = "
 smsd run [SCRIPT]    answer a script on the store: the one in the file SCRIPT, or
                      the one on standard input; with --volumes the table of
-                     volumes stands behind the answers
+                     volumes stands behind the answers; with --strict the exit
+                     status is 1 where an answer is an R, F or M
 
     smsd run morning.txt --store payroll.db
 ";
@@ -34,6 +35,15 @@ smsd check DECK      say what an ACTIVATE of the deck in the file DECK would be
     smsd check new.toml --store payroll.db
 ";
 
+const MANAGE: &str = "
+smsd manage DAY      do space management on the store: data sets that have
+                     expired on the day are deleted, and others give back the
+                     tracks that they don't use; --dry-run says what is due, and
+                     nothing changes
+
+    smsd manage 20 --dry-run --store payroll.db
+";
+
 const DOCUMENT: &str = "
 The store is the file after --store, or desk.db in the current folder. run and
 serve make it where it is missing. docs/manual/smsd.md has what each command does
@@ -47,7 +57,8 @@ pub fn examples_of(alloc: Global, word: &str) -> Result<String, AllocError> {
         "list" => format!(in alloc; "{LIST}{DOCUMENT}"),
         "serve" => format!(in alloc; "{SERVE}{DOCUMENT}"),
         "check" => format!(in alloc; "{CHECK}{DOCUMENT}"),
-        _ => format!(in alloc; "{RUN}{LIST}{SERVE}{CHECK}{DOCUMENT}"),
+        "manage" => format!(in alloc; "{MANAGE}{DOCUMENT}"),
+        _ => format!(in alloc; "{RUN}{LIST}{SERVE}{CHECK}{MANAGE}{DOCUMENT}"),
     }
 }
 
@@ -58,11 +69,14 @@ const LIST_VALUES: &str = "WHAT is groups, volumes, sets or extents; --mask a ma
 const SERVE_VALUES: &str = "--port is a number of 1 to 65535, --connections one of 1 to 10000, \
     and --idle one of 1 to 86400";
 
+const MANAGE_VALUES: &str = "DAY is a number of 0 to 9999999";
+
 /// Which values the words of a command have; empty where each is one.
 pub fn values_wanted(words: &[String]) -> &'static str {
     match words.first() {
         Some(word) if word.as_str() == "list" => LIST_VALUES,
         Some(word) if word.as_str() == "serve" => SERVE_VALUES,
+        Some(word) if word.as_str() == "manage" => MANAGE_VALUES,
         _ => "",
     }
 }

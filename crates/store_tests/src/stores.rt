@@ -1,5 +1,5 @@
 //! What is answered and listed of a store.
-use crate::calls::{all, check, list, run};
+use crate::calls::{all, check, due, list, manage, run};
 use desk_calls::RunStatus;
 use dsn_mask::{Dsn, Mask, Name, Volser};
 use sms_construct::{Op, Reply, Request, RequestNumber};
@@ -89,6 +89,62 @@ static DECKS: &[(&str, bool, &str)] = &[
     ("version = 1\n[storgroup.SG1.volume.VOL001]\ntracks = 0\n", false,
         "R21 DECK K4 storgroup.SG1.volume.VOL001.tracks\n"),
 ];
+
+// A script of which something is due, and in which the job of space management has used a number.
+const DAILY: &str = "\
+SMSADMIN 1 ACTIVATE
+version = 1
+[storclass.SC1]
+[mgmtclass.MCT]
+expire_after = 2
+release = \"YES\"
+[storgroup.SG1.volume.VOL001]
+tracks = 100
+[routine]
+storclass = \"PROC STORCLAS SET &STORCLAS = 'SC1' END\"
+mgmtclass = \"PROC MGMTCLAS SET &MGMTCLAS = 'MCT' END\"
+storgroup = \"PROC STORGRP SET &STORGRP = 'SG1' END\"
+./END
+JOB1 1 ALLOC A.A SPACE=(TRK,10) DAY=1
+JOB1 2 ALLOC A.B SPACE=(TRK,10) DAY=3
+JOB1 3 ALLOC A.C SPACE=(TRK,10) DAY=1 RETPD=5
+SMSMGMT 9 USED A.B 4
+";
+
+// Days one behind the other, what is due then, and what is answered.
+#[rattlefmt::skip]
+static DAYS: &[(u32, &str, &str)] = &[
+    (3, "DUE A.A DELETE\nDUE A.B RELEASE\nDUE A.C RELEASE\n",
+        "MANAGE 10 A.A A03 DELETED 10\nMANAGE 11 A.B A09 RELEASED 6\nMANAGE 12 A.C A09 RELEASED 9\nMANAGED 1 2\n"),
+    (3, "", "MANAGED 0 0\n"),
+    (6, "DUE A.B DELETE\nDUE A.C DELETE\n",
+        "MANAGE 13 A.B A03 DELETED 4\nMANAGE 14 A.C A03 DELETED 1\nMANAGED 2 0\n"),
+];
+
+// Whether each day is told and then done, each act once.
+fn is_managed(alloc: Global) -> Result<bool, Fail> {
+    let (first, _, mut keeper) = run(alloc, DAILY, false, None, MemKeeper::new(alloc))?;
+    let mut good = first == DONE;
+    for (day, told, text) in DAYS {
+        let (status, out, store) = due(alloc, *day, keeper)?;
+        good &= status == DONE && out.taken() == told.as_bytes();
+        let (status, out, store) = manage(alloc, *day, None, store)?;
+        good &= status == DONE && out.taken() == text.as_bytes();
+        keeper = store;
+    }
+    Ok(good)
+}
+
+// Whether nothing is done on a store that can't be made ready, and a front is written where a write fails.
+fn is_hindered(alloc: Global) -> Result<bool, Fail> {
+    let (failed, out, _) = manage(alloc, 3, None, FaultKeeper::new(alloc, &[0])?)?;
+    let mut good = failed == StoreStatus::Unopened(OpenErr::Failed) && out.taken().is_empty();
+    let (status, out, _) = due(alloc, 3, FaultKeeper::new(alloc, &[0])?)?;
+    good &= status == DONE && out.taken().is_empty();
+    let (cut, out, _) = manage(alloc, 3, Some(2), MemKeeper::new(alloc))?;
+    good &= cut == StoreStatus::Ran(RunStatus::WriteFault) && out.taken() == b"MANAGED".as_slice();
+    Ok(good)
+}
 
 // Whether each deck is answered so, and the store stays.
 fn is_checked(alloc: Global, store: MemKeeper) -> Result<(bool, MemKeeper), Fail> {
@@ -211,6 +267,13 @@ fn lists_of_an_empty_store_have_no_row(rt: HostRuntime) -> Result<(), Fail> {
     let alloc = rt.alloc();
     let (good, _) = is_listed(alloc, true, MemKeeper::new(alloc))?;
     assert!(rt; good);
+    Ok(())
+}
+
+#[test]
+fn a_day_is_told_and_done_under_numbers_of_its_own(rt: HostRuntime) -> Result<(), Fail> {
+    let alloc = rt.alloc();
+    assert!(rt; is_managed(alloc)? && is_hindered(alloc)?);
     Ok(())
 }
 

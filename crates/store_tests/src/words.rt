@@ -5,19 +5,30 @@ use std::alloc::Global;
 use std::test::Fail;
 use store_report::{Format, Listing};
 
-// Words, and the store, the script and whether the table of volumes is asked for.
+// Words, and the store, the script, whether the table of volumes is asked for, and whether the script is strict.
 #[rattlefmt::skip]
-static RUNS: &[(&[&str], &str, Option<&str>, bool)] = &[
-    (&["run"], "desk.db", None, false),
-    (&["run", "--volumes", "a"], "desk.db", Some("a"), true),
-    (&["run", "a", "--store", "s"], "s", Some("a"), false),
-    (&["run", "--store=s", "--", "-a"], "s", Some("-a"), false),
+static RUNS: &[(&[&str], &str, Option<&str>, bool, bool)] = &[
+    (&["run"], "desk.db", None, false, false),
+    (&["run", "--volumes", "a"], "desk.db", Some("a"), true, false),
+    (&["run", "a", "--store", "s", "--strict"], "s", Some("a"), false, true),
+    (&["run", "--store=s", "--", "-a"], "s", Some("-a"), false, false),
 ];
 
 // Words, the store and the deck.
 static CHECKED: &[(&[&str], &str, &str)] = &[
     (&["check", "d"], "desk.db", "d"),
     (&["check", "--store", "s", "--", "-d"], "s", "-d"),
+];
+
+// Words, the store, the day and whether it is only told.
+static MANAGED: &[(&[&str], &str, u32, bool)] = &[
+    (&["manage", "3"], "desk.db", 3, false),
+    (
+        &["manage", "--dry-run", "9999999", "--store=s"],
+        "s",
+        9999999,
+        true,
+    ),
 ];
 
 // Words, and the listing, the form, the mask, the storage group and the volume.
@@ -59,6 +70,10 @@ static HINDERED: &[(&[&str], WordsErr)] = &[
     (&["serve", "--idle", "x"], WordsErr::Bad),
     (&["serve", "8080"], WordsErr::Bad),
     (&["check"], WordsErr::Bad),
+    (&["manage"], WordsErr::Bad),
+    (&["manage", "10000000"], WordsErr::Bad),
+    (&["manage", "-1"], WordsErr::Bad),
+    (&["manage", "1", "--dry-run", "--dry-run"], WordsErr::Bad),
     (&["help"], WordsErr::Bad),
     (&["--help"], WordsErr::Shown),
     (&["list", "-h"], WordsErr::Shown),
@@ -76,7 +91,7 @@ fn words_of(alloc: Global, list: &[&str]) -> Result<Vec<String>, Fail> {
 
 fn are_runs(alloc: Global) -> Result<bool, Fail> {
     let mut good = true;
-    for (list, store, script, volumes) in RUNS {
+    for (list, store, script, volumes, strict) in RUNS {
         let words = words_of(alloc, list)?;
         good &= match task_asked(alloc, &words) {
             Ok(
@@ -85,9 +100,10 @@ fn are_runs(alloc: Global) -> Result<bool, Fail> {
                     task: Task::Run {
                         script: found,
                         volumes: asked,
+                        strict: judged,
                     },
                 },
-            ) => named == *store && found == *script && asked == *volumes,
+            ) => { named == *store && found == *script && asked == *volumes && judged == *strict }
             _ => false,
         };
     }
@@ -105,6 +121,26 @@ fn are_checked(alloc: Global) -> Result<bool, Fail> {
                     task: Task::Check { deck: found },
                 },
             ) => named == *store && found == *deck,
+            _ => false,
+        };
+    }
+    Ok(good)
+}
+
+fn are_managed(alloc: Global) -> Result<bool, Fail> {
+    let mut good = true;
+    for (list, store, day, dry) in MANAGED {
+        let words = words_of(alloc, list)?;
+        good &= match task_asked(alloc, &words) {
+            Ok(
+                Asked {
+                    store: named,
+                    task: Task::Manage {
+                        day: found,
+                        dry: asked,
+                    },
+                },
+            ) => named == *store && found == *day && asked == *dry,
             _ => false,
         };
     }
@@ -193,7 +229,7 @@ fn are_hindered(alloc: Global) -> Result<bool, Fail> {
 fn words_in_any_order_ask_for_a_task(rt: HostRuntime) -> Result<(), Fail> {
     let alloc = rt.alloc();
     let good = are_runs(alloc)? && are_listed(alloc)? && are_served(alloc)? && are_checked(alloc)?;
-    assert!(rt; good);
+    assert!(rt; good && are_managed(alloc)?);
     Ok(())
 }
 
