@@ -25,6 +25,7 @@ use Rattle.desk_law.specs.Display.{shown_volume}
 use Rattle.desk_law.specs.State.{DeskState, set_named}
 use Rattle.desk_law.specs.Volumes.{groups_in, volume_named, volumes_in}
 use Rattle.desk_pages.specs.Checking.{Comes}
+use Rattle.desk_pages.specs.Classifying.{alloc_asked, classified_page}
 use Rattle.desk_pages.specs.Groups.{shown_group}
 use Rattle.desk_pages.specs.Listing.{IsListing, most_shown}
 use Rattle.desk_pages.specs.Lying.{AreLying, gaps_beside}
@@ -137,6 +138,7 @@ IsGotten s journal paths.Desk page = page ≡ desk_page s (length journal)
 IsGotten s journal paths.Health page = page ≡ showing health_body
 IsGotten s journal paths.Answers page = page ≡ answers_page journal
 IsGotten s journal paths.Check page = page ≡ posted_alone_page
+IsGotten s journal (paths.Classify job dsn) page = page ≡ posted_alone_page
 IsGotten s journal paths.Deck page = page ≡ deck_page s.active
 IsGotten s journal paths.Groups page = page ≡ groups_page s
 IsGotten s journal paths.Volumes page = page ≡ volumes_page s
@@ -152,6 +154,7 @@ IsPosted s body paths.Desk page = page ≡ not_allowed_page
 IsPosted s body paths.Health page = page ≡ not_allowed_page
 IsPosted s body paths.Answers page = page ≡ not_allowed_page
 IsPosted s body paths.Check page = IsCheckPage s body page
+IsPosted s body (paths.Classify job dsn) page = page ≡ classified_page s.active job (alloc_asked dsn body)
 IsPosted s body paths.Deck page = page ≡ not_allowed_page
 IsPosted s body paths.Groups page = page ≡ not_allowed_page
 IsPosted s body paths.Volumes page = page ≡ not_allowed_page

@@ -2,6 +2,7 @@
 #![tactic(auto)]
 
 mod checking;
+mod classifying;
 mod grouping;
 mod latest;
 mod listing;

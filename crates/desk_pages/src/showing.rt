@@ -6,6 +6,7 @@ ghost use Rattle.desk_pages.specs.DeskPages.{IsGotten, IsPage, IsPosted, IsSetsP
 ghost use Rattle.desk_pages.specs.DeskPages.{deck_page, desk_page, missing_page, set_page, showing};
 
 use crate::checking::check;
+use crate::classifying::classification;
 use crate::latest::newest;
 use crate::listing::list_sets;
 use crate::pool::{groups, volume, volumes};
@@ -49,6 +50,7 @@ fn posted<D: ShownDesk>(
 {
     match asked {
         PagePath::Check => check(alloc, desk, body),
+        PagePath::Classify { job, dsn } => classification(alloc, desk, job, dsn, body),
         PagePath::Missing => missing(alloc),
         PagePath::Bad => bad(alloc),
         PagePath::Desk
@@ -72,7 +74,9 @@ fn gotten<D: ShownDesk>(alloc: Global, desk: &D, asked: PagePath) -> Result<Page
         PagePath::Desk => whole(alloc, desk),
         PagePath::Health => health(alloc),
         PagePath::Answers => answers(alloc, desk),
-        PagePath::Check => refused(alloc, PageStatus::NotAllowed, b"this page is asked by POST"),
+        PagePath::Check | PagePath::Classify { .. } => {
+            refused(alloc, PageStatus::NotAllowed, b"this page is asked by POST")
+        }
         PagePath::Deck => deck(alloc, desk),
         PagePath::Groups => groups(alloc, desk),
         PagePath::Volumes => volumes(alloc, desk),

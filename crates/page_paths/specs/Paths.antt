@@ -2,7 +2,7 @@
 use Rattle.std.specs.Prelude.{ℕ, List, bytes_eq, codes, is_some, Option, None, Some, if◌then◌else◌, option_map}
 use Rattle.dsn_mask.specs.DataSetName.{dsn_of}
 use Rattle.dsn_mask.specs.MaskText.{mask_of}
-use Rattle.dsn_mask.specs.Name.{volser_of}
+use Rattle.dsn_mask.specs.Name.{name_of, volser_of}
 use Rattle.http_head.specs.Segments.{segment}
 use Rattle.sms_construct.specs.Numbers.{small_number_of}
 use Rattle.page_paths.specs.declared.page_path.PagePath.{PagePath}
@@ -65,9 +65,25 @@ abbrev pub sets_at : List ℕ → Option (List ℕ) → PagePath
 sets_at path None = pages.Sets None None
 sets_at path (Some text) = under_mask path (mask_of text)
 
--- the page by the first word of its path, where it shows some of the volumes or data sets
+-- the page of the classes that this job would get for the data set that a segment names
+abbrev pub classify_of : List ℕ → List ℕ → Option (List ℕ) → PagePath
+classify_of path job None = pages.Missing
+classify_of path job (Some text) = alone 4 path (or_bad (option_map (pages.Classify job) (dsn_of text)))
+
+-- the same of the job that the path has, if it is a name
+abbrev pub under_job : List ℕ → Option (List ℕ) → PagePath
+under_job path None = pages.Bad
+under_job path (Some job) = classify_of path job (segment 3 path)
+
+-- the page of the classes that the job would get which a segment names
+abbrev pub classify_at : List ℕ → Option (List ℕ) → PagePath
+classify_at path None = pages.Missing
+classify_at path (Some text) = under_job path (name_of text)
+
+-- the page by the first word of its path, where it shows some of the volumes or data sets, or classes
 abbrev pub page_of_some : List ℕ → List ℕ → PagePath
 page_of_some path word =
+    if bytes_eq word (codes "CLASSIFY") then classify_at path (segment 2 path) else
     if bytes_eq word (codes "VOLUME") then volume_at path (segment 2 path) else
     if bytes_eq word (codes "SETS") then sets_at path (segment 2 path) else
     if bytes_eq word (codes "SET") then set_at path (segment 2 path) else pages.Missing

@@ -1,6 +1,6 @@
 //! What a path asks to be shown.
 
-use dsn_mask::{Dsn, Mask, Volser};
+use dsn_mask::{Dsn, Mask, Name, Volser};
 
 /// What a path asks to be shown.
 #[derive(Drop)]
@@ -13,6 +13,11 @@ pub enum PagePath {
     Answers,
     /// What an activation of the body would be answered.
     Check,
+    /// The classes that an ALLOC of this job and name with the body's operands would get.
+    Classify {
+        job: Name,
+        dsn: Dsn,
+    },
     /// The text of the active deck.
     Deck,
     /// All storage groups.

@@ -2,15 +2,15 @@
 ghost use Rattle.std.specs.Prelude.{◌≡◌, IfOk, Some, option_map};
 ghost use Rattle.dsn_mask.specs.DataSetName.{dsn_of};
 ghost use Rattle.dsn_mask.specs.MaskText.{mask_of};
-ghost use Rattle.dsn_mask.specs.Name.{volser_of};
+ghost use Rattle.dsn_mask.specs.Name.{name_of, volser_of};
 ghost use Rattle.http_head.specs.Segments.{segment};
 ghost use Rattle.sms_construct.specs.Numbers.{small_number_of};
 ghost use Rattle.page_paths.specs.Paths.{after_at, alone, behind_mask, behind_volume, or_bad, page_by, page_of_pool};
 ghost use Rattle.page_paths.specs.Paths.{page_of_some, page_path_of, set_at, sets_at, track_at, under_mask, under_volume};
-ghost use Rattle.page_paths.specs.Paths.{volume_at};
+ghost use Rattle.page_paths.specs.Paths.{classify_at, classify_of, under_job, volume_at};
 
 use crate::page_path::PagePath;
-use dsn_mask::{Dsn, Mask, Volser};
+use dsn_mask::{Dsn, Mask, Name, Volser};
 use http_head::segment;
 use sms_construct::read_number;
 use std::alloc::{AllocError, Global};
@@ -60,10 +60,13 @@ fn page_of_pool(alloc: Global, path: &[u8], word: &[u8]) -> Result<PagePath, All
     page_of_some(alloc, path, word)
 }
 
-// The page by the first word of its path, where it shows some of the volumes or data sets.
+// The page by the first word of its path, where it shows some of the volumes or data sets, or classes.
 fn page_of_some(alloc: Global, path: &[u8], word: &[u8]) -> Result<PagePath, AllocError>
     ensures { IfOk result (λ page. page ≡ page_of_some path.now word.now) }
 {
+    if word == b"CLASSIFY".as_slice() {
+        return classify_at(alloc, path);
+    }
     if word == b"VOLUME".as_slice() {
         return volume_at(alloc, path);
     }
@@ -83,6 +86,42 @@ fn alone(alloc: Global, number: usize, path: &[u8], page: PagePath) -> Result<Pa
     match segment(alloc, number, path)? {
         Some(_) => Ok(PagePath::Missing),
         None => Ok(page),
+    }
+}
+
+fn classify_at(alloc: Global, path: &[u8]) -> Result<PagePath, AllocError>
+    ensures { IfOk result (λ page. page ≡ classify_at path.now (segment 2 path.now)) }
+{
+    match segment(alloc, 2, path)? {
+        Some(text) => under_job(alloc, path, &text),
+        None => Ok(PagePath::Missing),
+    }
+}
+
+fn under_job(alloc: Global, path: &[u8], text: &[u8]) -> Result<PagePath, AllocError>
+    ensures { IfOk result (λ page. page ≡ under_job path.now (name_of text.now)) }
+{
+    match Name::new(text) {
+        Some(job) => classify_of(alloc, path, job),
+        None => Ok(PagePath::Bad),
+    }
+}
+
+fn classify_of(alloc: Global, path: &[u8], job: Name) -> Result<PagePath, AllocError>
+    ensures { IfOk result (λ page. page ≡ classify_of path.now job (segment 3 path.now)) }
+{
+    match segment(alloc, 3, path)? {
+        Some(text) => alone(alloc, 4, path, classify_named(job, &text)),
+        None => Ok(PagePath::Missing),
+    }
+}
+
+fn classify_named(job: Name, text: &[u8]) -> PagePath
+    ensures { result ≡ or_bad (option_map (PagePath.Classify job) (dsn_of text.now)) }
+{
+    match Dsn::parse(text) {
+        Ok(dsn) => PagePath::Classify { job, dsn },
+        Err(_) => PagePath::Bad,
     }
 }
 

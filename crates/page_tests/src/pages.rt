@@ -90,6 +90,12 @@ static ROWS: &[Row] = &[
         "{\"code\":\"R22\",\"lines\":[\"R22 VOLUME IN USE EAV001\"]}"),
     (true, "/check", "version = 1\n[storgroup.SG1.volume.EAV001]\ncylinders = 65541\n\
         [storgroup.SG1.volume.VOL001]\ntracks = 100\n", PageStatus::Shown, "{\"code\":\"A04\",\"lines\":[]}"),
+    (true, "/classify/job1/pay.new", "{\"SPACE\":\"(TRK,5)\"}", PageStatus::Shown,
+        "{\"outcome\":\"CLASSES - SC1 - SG2\",\"lines\":[]}"),
+    (true, "/classify/JOB1/NEW.ONE", "", PageStatus::Shown, "{\"outcome\":\"CLASSES - SC1 - SG1\",\"lines\":[]}"),
+    (true, "/classify/JOB1/NEW.ONE", "{\"SPACE\":1}", PageStatus::Bad, "{\"error\":\"the body isn't that of an ALLOC\"}"),
+    (true, "/classify/JOB1", "", PageStatus::Missing, MISSING),
+    (false, "/classify/JOB1/NEW.ONE", "", PageStatus::NotAllowed, "{\"error\":\"this page is asked by POST\"}"),
     (false, "/check", "", PageStatus::NotAllowed, "{\"error\":\"this page is asked by POST\"}"),
     (true, "/answers", "", PageStatus::NotAllowed, "{\"error\":\"this page is read by GET\"}"),
     (true, "/volume/VOL001", "", PageStatus::NotAllowed, "{\"error\":\"this page is read by GET\"}"),
@@ -108,6 +114,7 @@ static EMPTY: &[Row] = &[
     (false, "/deck", "", PageStatus::Shown, "{\"deck\":null}"),
     (false, "/groups", "", PageStatus::Shown, "{\"groups\":[]}"),
     (false, "/volume/VOL001", "", PageStatus::Missing, "{\"error\":\"no active volume has this serial\"}"),
+    (true, "/classify/JOB1/A.B", "", PageStatus::Missing, "{\"error\":\"no configuration is active\"}"),
     (true, "/check", "version = 1\n", PageStatus::Shown, "{\"code\":\"A04\",\"lines\":[]}"),
 ];
 

@@ -84,6 +84,12 @@ abbrev pub check_value : List ℕ → List (List ℕ) → Data
 check_value code lines =
     object (member (codes "code") (string code) (member (codes "lines") (array (line_values lines)) no_members))
 
+-- the page of a classification: how it ends, and the lines that the routines wrote
+abbrev pub classified_body : List ℕ → List (List ℕ) → List ℕ
+classified_body outcome lines =
+    compact_text
+    (object (member (codes "outcome") (string outcome) (member (codes "lines") (array (line_values lines)) no_members)))
+
 -- the page of the check of a deck that would be active
 abbrev pub passed_body : List ℕ
 passed_body = compact_text (check_value (codes "A04") [])

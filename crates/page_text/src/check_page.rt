@@ -41,8 +41,8 @@ fn push_check(text: &mut Vec<u8>, code: &[u8], lines: &[Items<u8>]) -> Result<()
     Ok(())
 }
 
-// Puts lines as strings behind a text, with commas between them, and the closing bracket.
-fn push_lines(text: &mut Vec<u8>, lines: &[Items<u8>]) -> Result<(), AllocError>
+/// Puts lines as strings behind a text, with commas between them, and the closing bracket.
+pub fn push_lines(text: &mut Vec<u8>, lines: &[Items<u8>]) -> Result<(), AllocError>
     ensures { OnOk result (text.new.items ≡ text.old.items ++ items_text false (line_values lines.entry.now)) }
 {
     let mut later = false;

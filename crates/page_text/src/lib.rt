@@ -3,6 +3,7 @@
 
 mod answers_page;
 mod check_page;
+mod classified_page;
 mod coding;
 mod deck_page;
 mod desk_page;
@@ -20,6 +21,7 @@ mod volume_page;
 
 pub use answers_page::answers_body;
 pub use check_page::{barred_body, passed_body};
+pub use classified_page::classified_body;
 pub use deck_page::{deck_body, no_deck_body};
 pub use desk_page::{desk_body, error_body, health_body};
 pub use gap::Gap;

@@ -40,3 +40,9 @@ answers_text entries = codes "{\"answers\":[" ++ (items_text false (entry_values
 abbrev pub check_text : List ℕ → List (List ℕ) → List ℕ
 check_text code lines =
     codes "{\"code\":" ++ (quoted code ++ (codes ",\"lines\":[" ++ (items_text false (line_values lines) ++ codes "}")))
+
+-- a classification
+abbrev pub classified_text : List ℕ → List (List ℕ) → List ℕ
+classified_text outcome lines =
+    codes "{\"outcome\":" ++ (quoted outcome
+    ++ (codes ",\"lines\":[" ++ (items_text false (line_values lines) ++ codes "}")))
