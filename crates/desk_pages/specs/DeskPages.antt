@@ -2,15 +2,16 @@
 use Rattle.std.specs.Prelude.{ℕ, ◌≡◌, List, Option, None, Some, codes, length, map, Bool, true, false, option_map}
 use Rattle.std.specs.Prelude.{slice_get, take, unwrap_or}
 use Rattle.http_flow.specs.declared.page.Page.{Page}
-use Rattle.http_flow.specs.declared.page.PageStatus.{PageStatus}
 use Rattle.http_flow.specs.declared.page.PageStatus.TheVariants as statuses
+use Rattle.http_flow.specs.declared.page_kind.PageKind.TheVariants as kinds
 use Rattle.http_page.specs.Pages.{PageAsk}
+use Rattle.page_files.specs.Files.{markup_file, script_file, style_file}
 use Rattle.page_paths.specs.Paths.{page_path_of}
 use Rattle.page_paths.specs.declared.page_path.PagePath.{PagePath}
 use Rattle.page_paths.specs.declared.page_path.PagePath.TheVariants as paths
 use Rattle.page_text.specs.AnswerBodies.{answers_body, barred_body, passed_body}
 use Rattle.page_text.specs.GroupBodies.{shown_groups_body}
-use Rattle.page_text.specs.PageBodies.{deck_body, desk_body, error_body, health_body, no_deck_body, set_body}
+use Rattle.page_text.specs.PageBodies.{deck_body, desk_body, health_body, no_deck_body, set_body}
 use Rattle.page_text.specs.PageBodies.{sets_body, volumes_body}
 use Rattle.page_text.specs.TrackBodies.{tracks_body}
 use Rattle.page_text.specs.declared.set_extent.SetExtent.{SetExtent}
@@ -25,44 +26,36 @@ use Rattle.desk_law.specs.Display.{shown_volume}
 use Rattle.desk_law.specs.State.{DeskState, set_named}
 use Rattle.desk_law.specs.Volumes.{groups_in, volume_named, volumes_in}
 use Rattle.desk_pages.specs.Checking.{Comes}
-use Rattle.desk_pages.specs.Classifying.{alloc_asked, classified_page}
 use Rattle.desk_pages.specs.Groups.{shown_group}
 use Rattle.desk_pages.specs.Listing.{IsListing, most_shown}
 use Rattle.desk_pages.specs.Lying.{AreLying, gaps_beside}
 use Rattle.desk_pages.specs.Newest.{newest}
-
--- a page that shows something
-abbrev pub showing : List ℕ → Page
-showing body = record { status = statuses.Shown; body = body }
+use Rattle.desk_pages.specs.Shown.{filed, refusing, showing}
+use Rattle.desk_pages.specs.Trials.{IsTrialPage, alloc_asked}
 
 -- there is no page at the path
 abbrev pub missing_page : Page
-missing_page = record { status = statuses.Missing; body = error_body (codes "there is no page at this path") }
+missing_page = refusing statuses.Missing (codes "there is no page at this path")
 
 -- a segment of the path isn't as the page asks
 abbrev pub bad_page : Page
-bad_page = record {
-  status = statuses.Bad;
-  body = error_body (codes "a segment of this path is no name, serial, number or mask");
-}
+bad_page = refusing statuses.Bad (codes "a segment of this path is no name, serial, number or mask")
 
 -- the page isn't there for POST
 abbrev pub not_allowed_page : Page
-not_allowed_page = record { status = statuses.NotAllowed; body = error_body (codes "this page is read by GET") }
+not_allowed_page = refusing statuses.NotAllowed (codes "this page is read by GET")
 
 -- the page is there for POST alone
 abbrev pub posted_alone_page : Page
-posted_alone_page =
-    record { status = statuses.NotAllowed; body = error_body (codes "this page is asked by POST") }
+posted_alone_page = refusing statuses.NotAllowed (codes "this page is asked by POST")
 
 -- there is no such volume
 abbrev pub no_volume_page : Page
-no_volume_page =
-    record { status = statuses.Missing; body = error_body (codes "no active volume has this serial") }
+no_volume_page = refusing statuses.Missing (codes "no active volume has this serial")
 
 -- there is no such data set
 abbrev pub no_set_page : Page
-no_set_page = record { status = statuses.Missing; body = error_body (codes "no data set of this name is catalogued") }
+no_set_page = refusing statuses.Missing (codes "no data set of this name is catalogued")
 
 -- the desk: its activations, its entries and its active volumes
 abbrev pub desk_page : DeskState → ℕ → Page
@@ -134,11 +127,14 @@ pub record IsCheckPage (s : DeskState) (deck : List ℕ) (page : Page) : Type 0 
 
 -- the page that is read at a path
 abbrev pub IsGotten : DeskState → List Entry → PagePath → Page → Type 0
+IsGotten s journal paths.Home page = page ≡ filed kinds.Markup markup_file
+IsGotten s journal paths.Style page = page ≡ filed kinds.Style style_file
+IsGotten s journal paths.Script page = page ≡ filed kinds.Script script_file
 IsGotten s journal paths.Desk page = page ≡ desk_page s (length journal)
 IsGotten s journal paths.Health page = page ≡ showing health_body
 IsGotten s journal paths.Answers page = page ≡ answers_page journal
 IsGotten s journal paths.Check page = page ≡ posted_alone_page
-IsGotten s journal (paths.Classify job dsn) page = page ≡ posted_alone_page
+IsGotten s journal (paths.Trial shows job dsn) page = page ≡ posted_alone_page
 IsGotten s journal paths.Deck page = page ≡ deck_page s.active
 IsGotten s journal paths.Groups page = page ≡ groups_page s
 IsGotten s journal paths.Volumes page = page ≡ volumes_page s
@@ -150,11 +146,14 @@ IsGotten s journal paths.Missing page = page ≡ missing_page
 
 -- the page at a path that is asked for by POST, with this body
 abbrev pub IsPosted : DeskState → List ℕ → PagePath → Page → Type 0
+IsPosted s body paths.Home page = page ≡ not_allowed_page
+IsPosted s body paths.Style page = page ≡ not_allowed_page
+IsPosted s body paths.Script page = page ≡ not_allowed_page
 IsPosted s body paths.Desk page = page ≡ not_allowed_page
 IsPosted s body paths.Health page = page ≡ not_allowed_page
 IsPosted s body paths.Answers page = page ≡ not_allowed_page
 IsPosted s body paths.Check page = IsCheckPage s body page
-IsPosted s body (paths.Classify job dsn) page = page ≡ classified_page s.active job (alloc_asked dsn body)
+IsPosted s body (paths.Trial shows job dsn) page = IsTrialPage shows s.active job (alloc_asked dsn body) page
 IsPosted s body paths.Deck page = page ≡ not_allowed_page
 IsPosted s body paths.Groups page = page ≡ not_allowed_page
 IsPosted s body paths.Volumes page = page ≡ not_allowed_page

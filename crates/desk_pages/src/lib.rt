@@ -2,7 +2,6 @@
 #![tactic(auto)]
 
 mod checking;
-mod classifying;
 mod grouping;
 mod latest;
 mod listing;
@@ -11,6 +10,7 @@ mod pool;
 mod said;
 mod showing;
 mod shown_desk;
+mod trials;
 
 pub use showing::show_page;
 pub use shown_desk::ShownDesk;

@@ -3,17 +3,19 @@ ghost use Rattle.std.specs.Prelude.{◌≡◌, IfOk, length};
 ghost use Rattle.desk_law.specs.State.{DeskState, set_named};
 ghost use Rattle.page_text.specs.PageBodies.{health_body};
 ghost use Rattle.desk_pages.specs.DeskPages.{IsGotten, IsPage, IsPosted, IsSetsPage, answers_page, bad_page};
-ghost use Rattle.desk_pages.specs.DeskPages.{deck_page, desk_page, missing_page, set_page, showing};
+ghost use Rattle.desk_pages.specs.DeskPages.{deck_page, desk_page, missing_page, set_page};
+ghost use Rattle.desk_pages.specs.Shown.{showing};
 
 use crate::checking::check;
-use crate::classifying::classification;
 use crate::latest::newest;
 use crate::listing::list_sets;
 use crate::pool::{groups, volume, volumes};
-use crate::said::{refused, shown};
+use crate::said::{filed, refused, shown};
 use crate::shown_desk::ShownDesk;
+use crate::trials::trial;
 use dsn_mask::{Dsn, Mask};
-use http_flow::{Page, PageStatus};
+use http_flow::{Page, PageKind, PageStatus};
+use page_files::{desk_markup, desk_script, desk_style};
 use page_paths::{PagePath, read_page_path};
 use page_text::{
     answers_body, deck_body, desk_body, health_body, no_deck_body, set_body, sets_body,
@@ -50,10 +52,13 @@ fn posted<D: ShownDesk>(
 {
     match asked {
         PagePath::Check => check(alloc, desk, body),
-        PagePath::Classify { job, dsn } => classification(alloc, desk, job, dsn, body),
+        PagePath::Trial { shows, job, dsn } => trial(alloc, desk, *shows, job, dsn, body),
         PagePath::Missing => missing(alloc),
         PagePath::Bad => bad(alloc),
-        PagePath::Desk
+        PagePath::Home
+        | PagePath::Style
+        | PagePath::Script
+        | PagePath::Desk
         | PagePath::Health
         | PagePath::Answers
         | PagePath::Deck
@@ -71,10 +76,13 @@ fn gotten<D: ShownDesk>(alloc: Global, desk: &D, asked: PagePath) -> Result<Page
         IsGotten s (D.journal desk.now) asked page) }
 {
     match asked {
+        PagePath::Home => filed(alloc, PageKind::Markup, desk_markup()),
+        PagePath::Style => filed(alloc, PageKind::Style, desk_style()),
+        PagePath::Script => filed(alloc, PageKind::Script, desk_script()),
         PagePath::Desk => whole(alloc, desk),
         PagePath::Health => health(alloc),
         PagePath::Answers => answers(alloc, desk),
-        PagePath::Check | PagePath::Classify { .. } => {
+        PagePath::Check | PagePath::Trial { .. } => {
             refused(alloc, PageStatus::NotAllowed, b"this page is asked by POST")
         }
         PagePath::Deck => deck(alloc, desk),

@@ -7,6 +7,8 @@ use Rattle.http_head.specs.Segments.{segment}
 use Rattle.sms_construct.specs.Numbers.{small_number_of}
 use Rattle.page_paths.specs.declared.page_path.PagePath.{PagePath}
 use Rattle.page_paths.specs.declared.page_path.PagePath.TheVariants as pages
+use Rattle.page_paths.specs.declared.trial.Trial.{Trial}
+use Rattle.page_paths.specs.declared.trial.Trial.TheVariants as trials
 
 -- the page, where the path has no segment of this number
 abbrev pub alone : ℕ → List ℕ → PagePath → PagePath
@@ -65,28 +67,40 @@ abbrev pub sets_at : List ℕ → Option (List ℕ) → PagePath
 sets_at path None = pages.Sets None None
 sets_at path (Some text) = under_mask path (mask_of text)
 
--- the page of the classes that this job would get for the data set that a segment names
-abbrev pub classify_of : List ℕ → List ℕ → Option (List ℕ) → PagePath
-classify_of path job None = pages.Missing
-classify_of path job (Some text) = alone 4 path (or_bad (option_map (pages.Classify job) (dsn_of text)))
+-- the page of what an ALLOC of this job for the data set that a segment names would come to
+abbrev pub trial_of : List ℕ → Trial → List ℕ → Option (List ℕ) → PagePath
+trial_of path shows job None = pages.Missing
+trial_of path shows job (Some text) = alone 4 path (or_bad (option_map (pages.Trial shows job) (dsn_of text)))
 
 -- the same of the job that the path has, if it is a name
-abbrev pub under_job : List ℕ → Option (List ℕ) → PagePath
-under_job path None = pages.Bad
-under_job path (Some job) = classify_of path job (segment 3 path)
+abbrev pub under_job : List ℕ → Trial → Option (List ℕ) → PagePath
+under_job path shows None = pages.Bad
+under_job path shows (Some job) = trial_of path shows job (segment 3 path)
 
--- the page of the classes that the job would get which a segment names
-abbrev pub classify_at : List ℕ → Option (List ℕ) → PagePath
-classify_at path None = pages.Missing
-classify_at path (Some text) = under_job path (name_of text)
+-- the page of what an ALLOC of the job that a segment names would come to
+abbrev pub trial_at : List ℕ → Trial → Option (List ℕ) → PagePath
+trial_at path shows None = pages.Missing
+trial_at path shows (Some text) = under_job path shows (name_of text)
 
--- the page by the first word of its path, where it shows some of the volumes or data sets, or classes
+-- the page by the first word of its path, where it is a file of the desk's page
+abbrev pub page_of_file : List ℕ → List ℕ → PagePath
+page_of_file path word =
+    if bytes_eq word (codes "") then alone 2 path pages.Home else
+    if bytes_eq word (codes "DESK.CSS") then alone 2 path pages.Style else
+    if bytes_eq word (codes "DESK.JS") then alone 2 path pages.Script else pages.Missing
+
+-- the page by the first word of its path, where it shows what an ALLOC would come to
+abbrev pub page_of_trial : List ℕ → List ℕ → PagePath
+page_of_trial path word =
+    if bytes_eq word (codes "CLASSIFY") then trial_at path trials.Classes (segment 2 path) else
+    if bytes_eq word (codes "EXPLAIN") then trial_at path trials.Runs (segment 2 path) else page_of_file path word
+
+-- the page by the first word of its path, where it shows some of the volumes or data sets
 abbrev pub page_of_some : List ℕ → List ℕ → PagePath
 page_of_some path word =
-    if bytes_eq word (codes "CLASSIFY") then classify_at path (segment 2 path) else
     if bytes_eq word (codes "VOLUME") then volume_at path (segment 2 path) else
     if bytes_eq word (codes "SETS") then sets_at path (segment 2 path) else
-    if bytes_eq word (codes "SET") then set_at path (segment 2 path) else pages.Missing
+    if bytes_eq word (codes "SET") then set_at path (segment 2 path) else page_of_trial path word
 
 -- the page by the first word of its path, where it shows what is active, or data sets
 abbrev pub page_of_pool : List ℕ → List ℕ → PagePath

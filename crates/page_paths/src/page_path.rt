@@ -1,10 +1,17 @@
 //! What a path asks to be shown.
 
+use crate::trial::Trial;
 use dsn_mask::{Dsn, Mask, Name, Volser};
 
 /// What a path asks to be shown.
 #[derive(Drop)]
 pub enum PagePath {
+    /// The markup of the desk's page.
+    Home,
+    /// Its style sheet.
+    Style,
+    /// Its script.
+    Script,
     /// The desk as a whole.
     Desk,
     /// Whether the desk is there.
@@ -13,8 +20,9 @@ pub enum PagePath {
     Answers,
     /// What an activation of the body would be answered.
     Check,
-    /// The classes that an ALLOC of this job and name with the body's operands would get.
-    Classify {
+    /// What an ALLOC of this job and name with the body's operands would come to.
+    Trial {
+        shows: Trial,
         job: Name,
         dsn: Dsn,
     },

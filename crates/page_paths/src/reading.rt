@@ -7,9 +7,10 @@ ghost use Rattle.http_head.specs.Segments.{segment};
 ghost use Rattle.sms_construct.specs.Numbers.{small_number_of};
 ghost use Rattle.page_paths.specs.Paths.{after_at, alone, behind_mask, behind_volume, or_bad, page_by, page_of_pool};
 ghost use Rattle.page_paths.specs.Paths.{page_of_some, page_path_of, set_at, sets_at, track_at, under_mask, under_volume};
-ghost use Rattle.page_paths.specs.Paths.{classify_at, classify_of, under_job, volume_at};
+ghost use Rattle.page_paths.specs.Paths.{page_of_file, page_of_trial, trial_at, trial_of, under_job, volume_at};
 
 use crate::page_path::PagePath;
+use crate::trial::Trial;
 use dsn_mask::{Dsn, Mask, Name, Volser};
 use http_head::segment;
 use sms_construct::read_number;
@@ -60,13 +61,10 @@ fn page_of_pool(alloc: Global, path: &[u8], word: &[u8]) -> Result<PagePath, All
     page_of_some(alloc, path, word)
 }
 
-// The page by the first word of its path, where it shows some of the volumes or data sets, or classes.
+// The page by the first word of its path, where it shows some of the volumes or data sets.
 fn page_of_some(alloc: Global, path: &[u8], word: &[u8]) -> Result<PagePath, AllocError>
     ensures { IfOk result (λ page. page ≡ page_of_some path.now word.now) }
 {
-    if word == b"CLASSIFY".as_slice() {
-        return classify_at(alloc, path);
-    }
     if word == b"VOLUME".as_slice() {
         return volume_at(alloc, path);
     }
@@ -75,6 +73,35 @@ fn page_of_some(alloc: Global, path: &[u8], word: &[u8]) -> Result<PagePath, All
     }
     if word == b"SET".as_slice() {
         return set_at(alloc, path);
+    }
+    page_of_trial(alloc, path, word)
+}
+
+// The page by the first word of its path, where it shows what an ALLOC would come to.
+fn page_of_trial(alloc: Global, path: &[u8], word: &[u8]) -> Result<PagePath, AllocError>
+    ensures { IfOk result (λ page. page ≡ page_of_trial path.now word.now) }
+{
+    if word == b"CLASSIFY".as_slice() {
+        return trial_at(alloc, path, Trial::Classes);
+    }
+    if word == b"EXPLAIN".as_slice() {
+        return trial_at(alloc, path, Trial::Runs);
+    }
+    page_of_file(alloc, path, word)
+}
+
+// The page by the first word of its path, where it is a file of the desk's page.
+fn page_of_file(alloc: Global, path: &[u8], word: &[u8]) -> Result<PagePath, AllocError>
+    ensures { IfOk result (λ page. page ≡ page_of_file path.now word.now) }
+{
+    if word == b"".as_slice() {
+        return alone(alloc, 2, path, PagePath::Home);
+    }
+    if word == b"DESK.CSS".as_slice() {
+        return alone(alloc, 2, path, PagePath::Style);
+    }
+    if word == b"DESK.JS".as_slice() {
+        return alone(alloc, 2, path, PagePath::Script);
     }
     Ok(PagePath::Missing)
 }
@@ -89,38 +116,38 @@ fn alone(alloc: Global, number: usize, path: &[u8], page: PagePath) -> Result<Pa
     }
 }
 
-fn classify_at(alloc: Global, path: &[u8]) -> Result<PagePath, AllocError>
-    ensures { IfOk result (λ page. page ≡ classify_at path.now (segment 2 path.now)) }
+fn trial_at(alloc: Global, path: &[u8], shows: Trial) -> Result<PagePath, AllocError>
+    ensures { IfOk result (λ page. page ≡ trial_at path.now shows (segment 2 path.now)) }
 {
     match segment(alloc, 2, path)? {
-        Some(text) => under_job(alloc, path, &text),
+        Some(text) => under_job(alloc, path, shows, &text),
         None => Ok(PagePath::Missing),
     }
 }
 
-fn under_job(alloc: Global, path: &[u8], text: &[u8]) -> Result<PagePath, AllocError>
-    ensures { IfOk result (λ page. page ≡ under_job path.now (name_of text.now)) }
+fn under_job(alloc: Global, path: &[u8], shows: Trial, text: &[u8]) -> Result<PagePath, AllocError>
+    ensures { IfOk result (λ page. page ≡ under_job path.now shows (name_of text.now)) }
 {
     match Name::new(text) {
-        Some(job) => classify_of(alloc, path, job),
+        Some(job) => trial_of(alloc, path, shows, job),
         None => Ok(PagePath::Bad),
     }
 }
 
-fn classify_of(alloc: Global, path: &[u8], job: Name) -> Result<PagePath, AllocError>
-    ensures { IfOk result (λ page. page ≡ classify_of path.now job (segment 3 path.now)) }
+fn trial_of(alloc: Global, path: &[u8], shows: Trial, job: Name) -> Result<PagePath, AllocError>
+    ensures { IfOk result (λ page. page ≡ trial_of path.now shows job (segment 3 path.now)) }
 {
     match segment(alloc, 3, path)? {
-        Some(text) => alone(alloc, 4, path, classify_named(job, &text)),
+        Some(text) => alone(alloc, 4, path, trial_named(shows, job, &text)),
         None => Ok(PagePath::Missing),
     }
 }
 
-fn classify_named(job: Name, text: &[u8]) -> PagePath
-    ensures { result ≡ or_bad (option_map (PagePath.Classify job) (dsn_of text.now)) }
+fn trial_named(shows: Trial, job: Name, text: &[u8]) -> PagePath
+    ensures { result ≡ or_bad (option_map (PagePath.Trial shows job) (dsn_of text.now)) }
 {
     match Dsn::parse(text) {
-        Ok(dsn) => PagePath::Classify { job, dsn },
+        Ok(dsn) => PagePath::Trial { shows, job, dsn },
         Err(_) => PagePath::Bad,
     }
 }

@@ -90,6 +90,10 @@ classified_body outcome lines =
     compact_text
     (object (member (codes "outcome") (string outcome) (member (codes "lines") (array (line_values lines)) no_members)))
 
+-- the page of what routines would do: the text that tells it
+abbrev pub explained_body : List ℕ → List ℕ
+explained_body told = compact_text (object (member (codes "text") (string told) no_members))
+
 -- the page of the check of a deck that would be active
 abbrev pub passed_body : List ℕ
 passed_body = compact_text (check_value (codes "A04") [])

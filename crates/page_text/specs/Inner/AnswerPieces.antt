@@ -46,3 +46,7 @@ abbrev pub classified_text : List ℕ → List (List ℕ) → List ℕ
 classified_text outcome lines =
     codes "{\"outcome\":" ++ (quoted outcome
     ++ (codes ",\"lines\":[" ++ (items_text false (line_values lines) ++ codes "}")))
+
+-- what routines would do
+abbrev pub explained_text : List ℕ → List ℕ
+explained_text told = codes "{\"text\":" ++ (quoted told ++ codes "}")

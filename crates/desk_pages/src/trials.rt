@@ -1,11 +1,11 @@
-//! What classes an ALLOC would get.
+//! What an ALLOC would come to.
 ghost use Rattle.std.specs.Prelude.{◌≡◌, ◌++◌, IfOk, Some, codes};
 ghost use Rattle.std.specs.Option.{option_copied};
 ghost use Rattle.desk_law.specs.Classification.{classes_of};
 ghost use Rattle.desk_law.specs.State.{DeskState};
 ghost use Rattle.sms_simulation.specs.OutcomeText.{outcome_text};
 ghost use Rattle.http_message.specs.Asked.{op_with};
-ghost use Rattle.desk_pages.specs.Classifying.{alloc_asked, classes_page, classified_page};
+ghost use Rattle.desk_pages.specs.Trials.{IsTrialPage, ShowsTrial, TellsRuns, alloc_asked, classes_page};
 
 use crate::said::{refused, shown};
 use crate::shown_desk::ShownDesk;
@@ -16,27 +16,31 @@ use dsn_mask::{Dsn, Name};
 use http_flow::{Page, PageStatus};
 use http_head::Route;
 use http_message::{AskedPath, LineText, read_request};
-use page_text::classified_body;
+use page_paths::Trial;
+use page_text::{classified_body, explained_body};
 use sms_classes::{Classified, classify};
 use sms_construct::{Alloc, Op, Request, RequestNumber, Trace};
+use sms_explain::{DeckSources, push_runs};
 use sms_script::push_trace;
 use sms_simulation::push_outcome;
+use sms_story::runs_of;
 use std::alloc::{AllocError, Global};
 
-/// What the active routines give an ALLOC of this job and name with the operands that the body gives.
-pub fn classification<D: ShownDesk>(
+/// What an ALLOC of this job and name with the operands that the body gives would come to under what is active.
+pub fn trial<D: ShownDesk>(
     alloc: Global,
     desk: &D,
+    shows: Trial,
     job: &Name,
     dsn: &Dsn,
     body: &[u8],
 ) -> Result<Page, AllocError>
     ensures { IfOk result (λ page. (s : DeskState) → D.stands desk.now s →
-        page ≡ classified_page s.active job.now (alloc_asked dsn.now body.now)) }
+        IsTrialPage shows s.active job.now (alloc_asked dsn.now body.now) page) }
 {
     let op = asked(alloc, job, dsn, body)?;
     match &op {
-        Some(Op::Alloc(allocation)) => under(alloc, desk.config(), job, allocation.get()),
+        Some(Op::Alloc(allocation)) => under(alloc, desk.config(), shows, job, allocation.get()),
         _ => refused(alloc, PageStatus::Bad, b"the body isn't that of an ALLOC"),
     }
 }
@@ -74,20 +78,54 @@ fn line_of(alloc: Global, dsn: &Dsn) -> Result<LineText, AllocError>
     Ok(LineText::from_vec(line))
 }
 
-// What the routines of a configuration give the ALLOC, if there is one.
+// What the ALLOC would come to under a configuration, if there is one.
 fn under(
     alloc: Global,
     active: Option<&Config>,
+    shows: Trial,
     job: &Name,
     allocation: &Alloc,
 ) -> Result<Page, AllocError>
-    ensures { IfOk result (λ page. page
-        ≡ classified_page (option_copied active.entry) job.now (Some allocation.now)) }
+    ensures { IfOk result (λ page.
+        IsTrialPage shows (option_copied active.entry) job.now (Some allocation.now) page) }
 {
     match active {
-        Some(config) => classes(alloc, config, job, allocation),
+        Some(config) => tried(alloc, config, shows, job, allocation),
         None => refused(alloc, PageStatus::Missing, b"no configuration is active"),
     }
+}
+
+// What the ALLOC would come to under a configuration.
+fn tried(
+    alloc: Global,
+    config: &Config,
+    shows: Trial,
+    job: &Name,
+    allocation: &Alloc,
+) -> Result<Page, AllocError>
+    ensures { IfOk result (ShowsTrial shows config.now job.now allocation.now) }
+{
+    match shows {
+        Trial::Classes => classes(alloc, config, job, allocation),
+        Trial::Runs => runs(alloc, config, job, allocation),
+    }
+}
+
+// What the routines of a configuration do with the ALLOC.
+fn runs(
+    alloc: Global,
+    config: &Config,
+    job: &Name,
+    allocation: &Alloc,
+) -> Result<Page, AllocError>
+    ensures { IfOk result (TellsRuns config.now job.now allocation.now) }
+{
+    let sources = DeckSources::of(alloc, config.deck())?;
+    let runs = runs_of(alloc, config, job, allocation)?;
+    let mut told = Vec::new(alloc);
+    push_runs(&mut told, &sources, runs.as_slice())?;
+    let body = explained_body(alloc, &told)?;
+    Ok(shown(body))
 }
 
 // What the routines of a configuration give the ALLOC.
