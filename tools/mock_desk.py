@@ -17,12 +17,12 @@ import sys
 import tomllib
 from urllib.parse import unquote
 
-HERE = os.path.dirname(os.path.abspath(__file__))
-DATA = os.path.join(HERE, "page")
+from desk_page import read_file
+
 FILES = {
-    "/": ("desk.html", "text/html; charset=utf-8"),
-    "/desk.css": ("desk.css", "text/css; charset=utf-8"),
-    "/desk.js": ("desk.js", "text/javascript; charset=utf-8"),
+    "/": ("markup", "text/html; charset=utf-8"),
+    "/desk.css": ("style", "text/css; charset=utf-8"),
+    "/desk.js": ("script", "text/javascript; charset=utf-8"),
 }
 DEVICES = {"3390-3": 50085, "3390-9": 150255}
 STATUSES = {"ENABLE": "ENABLE", "DISABLE": "DISALL", "DISABLE-NEW": "DISNEW", "QUIESCE": "QUIALL", "QUIESCE-NEW": "QUINEW"}
@@ -363,8 +363,7 @@ class Clerk(http.server.BaseHTTPRequestHandler):
     def do_GET(self):
         if self.path in FILES:
             name, kind = FILES[self.path]
-            with open(os.path.join(DATA, name), "rb") as file:
-                return self.send(200, file.read(), kind)
+            return self.send(200, read_file(name), kind)
         word, *parts = [unquote(part).upper() for part in self.path[1:].split("/")]
         return self.show(word.lower(), parts)
 
@@ -437,7 +436,7 @@ class Clerk(http.server.BaseHTTPRequestHandler):
             return self.send(404, {"error": "no configuration is active"})
         run = Routines(self.desk.deck, path[1], path[2], operands)
         outcome = run.outcome()
-        self.tell({"outcome": outcome, "lines": run.lines} if path[0] == "CLASSIFY" else {"lines": run.events})
+        self.tell({"outcome": outcome, "lines": run.lines} if path[0] == "CLASSIFY" else {"text": "\n".join([*run.events, ""])})
 
 
 def main(words):

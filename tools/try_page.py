@@ -26,6 +26,8 @@ import tempfile
 import time
 from urllib.parse import quote
 
+from desk_page import read_file
+
 HERE = os.path.dirname(os.path.abspath(__file__))
 differing = 0
 
@@ -766,11 +768,9 @@ def step_without(browser, desk):
 
 
 def step_ascii():
-    data = os.path.join(HERE, "page")
     total = 0
-    for name in ("desk.html", "desk.css", "desk.js"):
-        with open(os.path.join(data, name), "rb") as file:
-            text = file.read()
+    for name in ("markup", "style", "script"):
+        text = read_file(name)
         total += len(text)
         check(all(byte in b"\n" or 32 <= byte < 127 for byte in text), f"{name} has a byte that isn't printed ASCII")
         check(b'"' not in text and b"\\" not in text, f"{name} has a double quote or a backslash")

@@ -4,6 +4,8 @@
 #[cfg(test)]
 mod desks;
 #[cfg(test)]
+mod files;
+#[cfg(test)]
 mod many;
 #[cfg(test)]
 mod pages;

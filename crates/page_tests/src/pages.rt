@@ -95,6 +95,20 @@ static ROWS: &[Row] = &[
     (true, "/classify/JOB1/NEW.ONE", "", PageStatus::Shown, "{\"outcome\":\"CLASSES - SC1 - SG1\",\"lines\":[]}"),
     (true, "/classify/JOB1/NEW.ONE", "{\"SPACE\":1}", PageStatus::Bad, "{\"error\":\"the body isn't that of an ALLOC\"}"),
     (true, "/classify/JOB1", "", PageStatus::Missing, MISSING),
+    (true, "/classify/JOB1/A.B/C", "", PageStatus::Missing, MISSING),
+    (true, "/classify/JOB-1/A.B", "", PageStatus::Bad, BAD),
+    (true, "/explain/job1/pay.new", "{\"SPACE\":\"(TRK,5)\"}", PageStatus::Shown,
+        "{\"text\":\"STORCLAS BEGIN - - -\\n  1:15 SET\\n  1:19 &STORCLAS = 'SC1'\\nSTORCLAS END - SC1 -\\n\
+        STORGRP BEGIN - SC1 -\\n  1:14 IF\\n  1:24 &HLQ EQ 'PAY' TRUE 'PAY'\\n  1:35 SET\\n\
+        \x20 1:39 &STORGRP = 'SG2'\\nSTORGRP END - SC1 - SG2\\n\"}"),
+    (true, "/explain/JOB1/NEW.ONE", "no JSON", PageStatus::Bad, "{\"error\":\"the body isn't that of an ALLOC\"}"),
+    (true, "/explain/JOB1/-", "", PageStatus::Bad, BAD),
+    (false, "/explain/JOB1/NEW.ONE", "", PageStatus::NotAllowed, "{\"error\":\"this page is asked by POST\"}"),
+    (true, "/", "", PageStatus::NotAllowed, "{\"error\":\"this page is read by GET\"}"),
+    (true, "/desk.js", "", PageStatus::NotAllowed, "{\"error\":\"this page is read by GET\"}"),
+    (false, "/desk.html", "", PageStatus::Missing, MISSING),
+    (false, "//", "", PageStatus::Missing, MISSING),
+    (false, "/desk.css/x", "", PageStatus::Missing, MISSING),
     (false, "/classify/JOB1/NEW.ONE", "", PageStatus::NotAllowed, "{\"error\":\"this page is asked by POST\"}"),
     (false, "/check", "", PageStatus::NotAllowed, "{\"error\":\"this page is asked by POST\"}"),
     (true, "/answers", "", PageStatus::NotAllowed, "{\"error\":\"this page is read by GET\"}"),
@@ -115,6 +129,7 @@ static EMPTY: &[Row] = &[
     (false, "/groups", "", PageStatus::Shown, "{\"groups\":[]}"),
     (false, "/volume/VOL001", "", PageStatus::Missing, "{\"error\":\"no active volume has this serial\"}"),
     (true, "/classify/JOB1/A.B", "", PageStatus::Missing, "{\"error\":\"no configuration is active\"}"),
+    (true, "/explain/JOB1/A.B", "", PageStatus::Missing, "{\"error\":\"no configuration is active\"}"),
     (true, "/check", "version = 1\n", PageStatus::Shown, "{\"code\":\"A04\",\"lines\":[]}"),
 ];
 
