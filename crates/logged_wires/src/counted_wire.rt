@@ -83,18 +83,6 @@ fn last_status(piece: &[u8]) -> Option<u16> {
 
 // The status of three digits at the front.
 fn status_at(bytes: &[u8]) -> Option<u16> {
-    match bytes {
-        [hundreds, tens, ones, ..] => {
-            Some(digit(*hundreds)? * 100 + digit(*tens)? * 10 + digit(*ones)?)
-        }
-        _ => None,
-    }
-}
-
-fn digit(byte: u8) -> Option<u16> {
-    if byte.is_ascii_digit() {
-        Some(u16::from(byte & 15))
-    } else {
-        None
-    }
+    let digits = str::from_utf8(bytes.get(..3)?).ok()?;
+    digits.parse().ok()
 }
