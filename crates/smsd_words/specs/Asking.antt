@@ -117,7 +117,7 @@ serving_in rows =
     option_and_then (λ port.
     option_and_then (λ connections.
     option_and_then (λ idle.
-    Some (record { port = port; connections = connections; idle = idle }))
+    Some (record { port = port; connections = connections; idle = idle; log = is_set (codes "log") rows }))
     (number_or 86400 60 (first_of (codes "idle") rows)))
     (number_or 10000 1000 (first_of (codes "connections") rows)))
     (number_or 65535 8080 (first_of (codes "port") rows))

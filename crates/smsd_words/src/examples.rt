@@ -23,7 +23,8 @@ const SERVE: &str = "
 smsd serve           serve the store over HTTP on 127.0.0.1, until it is ended:
                      --port N, 8080 where it isn't named; --connections N at
                      once, 1000; --idle N, the seconds after which a connection
-                     at which nothing happens is closed, 60
+                     at which nothing happens is closed, 60; with --log a line
+                     on standard error for each connection that ends
 
     smsd serve --port 9000 --store payroll.db
 ";

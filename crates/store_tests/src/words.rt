@@ -42,13 +42,16 @@ static LISTS: &[(&[&str], Listing, Format, [&str; 3])] = &[
     (&["list", "--mask", "A.**", "extents", "--volume", "V"], Listing::Extents, Format::Csv, ["A.**", "", "V"]),
 ];
 
-static SERVED: &[(&[&str], (u16, u16, u32))] = &[
-    (&["serve"], (8080, 1000, 60)),
+static SERVED: &[(&[&str], (u16, u16, u32, bool))] = &[
+    (&["serve"], (8080, 1000, 60, false)),
     (
-        &["serve", "--port", "65535", "--idle=86400"],
-        (65535, 1000, 86400),
+        &["serve", "--port", "65535", "--log", "--idle=86400"],
+        (65535, 1000, 86400, true),
     ),
-    (&["serve", "--connections", "1", "--port", "1"], (1, 1, 60)),
+    (
+        &["serve", "--connections", "1", "--port", "1"],
+        (1, 1, 60, false),
+    ),
 ];
 
 static HINDERED: &[(&[&str], WordsErr)] = &[
@@ -193,12 +196,13 @@ fn volser_bytes(volser: &Option<Volser>) -> &[u8] {
 
 fn are_served(alloc: Global) -> Result<bool, Fail> {
     let mut good = true;
-    for (list, (port, connections, idle)) in SERVED {
+    for (list, (port, connections, idle, log)) in SERVED {
         let words = words_of(alloc, list)?;
         let wanted = Serving {
             port: *port,
             connections: *connections,
             idle: *idle,
+            log: *log,
         };
         good &= match task_asked(alloc, &words) {
             Ok(
