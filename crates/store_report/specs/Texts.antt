@@ -2,9 +2,14 @@
 use Rattle.std.specs.Prelude.{ℕ, List, [], ◌∷◌, ◌++◌, None}
 use Rattle.page_text.specs.PageBodies.{groups_body, sets_body, volumes_body}
 use Rattle.page_text.specs.declared.group_row.GroupRow.{GroupRow}
+use Rattle.sms_construct.specs.declared.data_class.DataClass.{DataClass}
 use Rattle.sms_construct.specs.declared.data_set.DataSet.{DataSet}
+use Rattle.sms_construct.specs.declared.management_class.MgmtClass.{MgmtClass}
+use Rattle.sms_construct.specs.declared.storage_class.StorClass.{StorClass}
 use Rattle.sms_construct.specs.declared.vol_row.VolRow.{VolRow}
 use Rattle.sms_report.specs.VolumesTable.{table_text}
+use Rattle.store_report.specs.ClassTable.{classes_table}
+use Rattle.store_report.specs.ClassesJson.{classes_body}
 use Rattle.store_report.specs.ExtentsJson.{extents_body}
 use Rattle.store_report.specs.Tables.{extents_table, groups_table, sets_table}
 use Rattle.store_report.specs.declared.extent_row.ExtentRow.{ExtentRow}
@@ -24,6 +29,13 @@ groups_text Json rows = line_of (groups_body rows)
 abbrev pub volumes_text : Format → List VolRow → List ℕ
 volumes_text Csv rows = table_text rows
 volumes_text Json rows = line_of (volumes_body rows)
+
+-- classes, kind by kind
+abbrev pub classes_text : Format → List DataClass → List StorClass → List MgmtClass → List ℕ
+classes_text Csv data_classes storage_classes management_classes =
+    classes_table data_classes storage_classes management_classes
+classes_text Json data_classes storage_classes management_classes =
+    line_of (classes_body data_classes storage_classes management_classes)
 
 -- data sets
 abbrev pub sets_text : Format → List DataSet → List ℕ

@@ -1,14 +1,16 @@
 //! The text of each list in each form.
 ghost use Rattle.std.specs.Prelude.{◌≡◌, IfOk, map};
-ghost use Rattle.store_report.specs.Texts.{extents_text, groups_text, line_of, sets_text, volumes_text};
+ghost use Rattle.store_report.specs.Texts.{classes_text, extents_text, groups_text, line_of, sets_text, volumes_text};
 
+use crate::class_table::classes_csv;
+use crate::classes_json::classes_body;
 use crate::extent_row::ExtentRow;
 use crate::extents_json::extents_body;
 use crate::format::Format;
 use crate::tables::{extents_csv, groups_csv, sets_csv};
 use desk_common::Items;
 use page_text::{GroupRow, groups_body, sets_body, volumes_body};
-use sms_construct::{DataSet, VolRow};
+use sms_construct::{DataClass, DataSet, MgmtClass, StorClass, VolRow};
 use sms_report::volumes_csv;
 use std::alloc::{AllocError, Global};
 
@@ -34,6 +36,26 @@ pub fn volumes_text(alloc: Global, format: Format, rows: Vec<VolRow>) -> Result<
         Format::Json => {
             let body = volumes_body(alloc, &rows)?;
             line_of(alloc, body.as_slice())
+        }
+    }
+}
+
+/// The list of these classes (docs/manual/smsd.md, "Lists").
+pub fn classes_text(
+    alloc: Global,
+    format: Format,
+    data_classes: &[DataClass],
+    storage_classes: &[StorClass],
+    management_classes: &[MgmtClass],
+) -> Result<Vec<u8>, AllocError>
+    ensures { IfOk result (λ text. text.items
+        ≡ classes_text format data_classes.now storage_classes.now management_classes.now) }
+{
+    match format {
+        Format::Csv => classes_csv(alloc, data_classes, storage_classes, management_classes),
+        Format::Json => {
+            let body = classes_body(alloc, data_classes, storage_classes, management_classes)?;
+            line_of(alloc, &body)
         }
     }
 }

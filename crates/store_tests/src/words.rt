@@ -38,6 +38,7 @@ static LISTS: &[(&[&str], Listing, Format, [&str; 3])] = &[
     (&["list", "--", "volumes"], Listing::Volumes, Format::Csv, ["", "", ""]),
     (&["list", "--format=json", "groups"], Listing::Groups, Format::Json, ["", "", ""]),
     (&["list", "groups", "--group", "SG1"], Listing::Groups, Format::Csv, ["", "SG1", ""]),
+    (&["list", "classes", "--format", "json"], Listing::Classes, Format::Json, ["", "", ""]),
     (&["list", "volumes", "--group", "SG1", "--volume", "1"], Listing::Volumes, Format::Csv, ["", "SG1", "1"]),
     (&["list", "--mask", "A.**", "extents", "--volume", "V"], Listing::Extents, Format::Csv, ["A.**", "", "V"]),
 ];
@@ -64,6 +65,9 @@ static HINDERED: &[(&[&str], WordsErr)] = &[
     (&["list", "sets", "--mask", "a"], WordsErr::Bad),
     (&["list", "volumes", "--mask", "A"], WordsErr::Bad),
     (&["list", "groups", "--volume", "V"], WordsErr::Bad),
+    (&["list", "classes", "--mask", "A"], WordsErr::Bad),
+    (&["list", "classes", "--group", "SG1"], WordsErr::Bad),
+    (&["list", "classes", "--volume", "V"], WordsErr::Bad),
     (&["serve", "--port", "0"], WordsErr::Bad),
     (&["serve", "--port", "65536"], WordsErr::Bad),
     (&["serve", "--connections", "10001"], WordsErr::Bad),
