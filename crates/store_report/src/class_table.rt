@@ -1,5 +1,5 @@
 //! The table of classes as comma-separated values.
-ghost use Rattle.std.specs.Prelude.{◌≡◌, ◌++◌, flat_map, map, IfOk, OnOk};
+ghost use Rattle.std.specs.Prelude.{◌≡◌, ◌++◌, ◌∷◌, [], flat_map, map, IfOk, OnOk};
 ghost use Rattle.csv.specs.Writing.{default_writer, row_text};
 ghost use Rattle.store_report.specs.ClassTable.{classes_header, classes_table, data_class_fields};
 ghost use Rattle.store_report.specs.ClassTable.{management_class_fields, number_field, storage_class_fields};
@@ -69,20 +69,18 @@ fn push_data_class(alloc: Global, text: &mut Vec<u8>, class: &DataClass) -> Resu
     let primary = number_field(alloc, primary_of(&class.space))?;
     let secondary = number_field(alloc, secondary_of(&class.space))?;
     let volumes = number_field(alloc, count_of(&class.volumes))?;
-    let record = record_text(
+    let record = ten_fields(
         alloc,
-        &[
-            b"DATACLAS",
-            class.name.bytes(),
-            unit_field(&class.space),
-            &primary,
-            &secondary,
-            &volumes,
-            eattr_bytes(class.eattr),
-            EMPTY,
-            EMPTY,
-            EMPTY,
-        ],
+        b"DATACLAS",
+        class.name.bytes(),
+        unit_field(&class.space),
+        &primary,
+        &secondary,
+        &volumes,
+        eattr_bytes(class.eattr),
+        EMPTY,
+        EMPTY,
+        EMPTY,
     )?;
     text.extend_from_slice(&record)
 }
@@ -109,20 +107,18 @@ fn push_storage_class(
     ensures { OnOk result (text.new.items
         ≡ text.old.items ++ row_text default_writer (storage_class_fields class.now)) }
 {
-    let record = record_text(
+    let record = ten_fields(
         alloc,
-        &[
-            b"STORCLAS",
-            class.name.bytes(),
-            EMPTY,
-            EMPTY,
-            EMPTY,
-            EMPTY,
-            EMPTY,
-            switch_field(class.multi_tier),
-            EMPTY,
-            EMPTY,
-        ],
+        b"STORCLAS",
+        class.name.bytes(),
+        EMPTY,
+        EMPTY,
+        EMPTY,
+        EMPTY,
+        EMPTY,
+        switch_field(class.multi_tier),
+        EMPTY,
+        EMPTY,
     )?;
     text.extend_from_slice(&record)
 }
@@ -150,22 +146,55 @@ fn push_management_class(
         ≡ text.old.items ++ row_text default_writer (management_class_fields class.now)) }
 {
     let expire_after = number_field(alloc, class.expire_after)?;
-    let record = record_text(
+    let record = ten_fields(
         alloc,
-        &[
-            b"MGMTCLAS",
-            class.name.bytes(),
-            EMPTY,
-            EMPTY,
-            EMPTY,
-            EMPTY,
-            EMPTY,
-            EMPTY,
-            &expire_after,
-            switch_field(class.release),
-        ],
+        b"MGMTCLAS",
+        class.name.bytes(),
+        EMPTY,
+        EMPTY,
+        EMPTY,
+        EMPTY,
+        EMPTY,
+        EMPTY,
+        &expire_after,
+        switch_field(class.release),
     )?;
     text.extend_from_slice(&record)
+}
+
+// A record of ten fields.
+fn ten_fields<'a>(
+    alloc: Global,
+    kind: &'a [u8],
+    name: &'a [u8],
+    unit: &'a [u8],
+    primary: &'a [u8],
+    secondary: &'a [u8],
+    volcount: &'a [u8],
+    eattr: &'a [u8],
+    multi_tier: &'a [u8],
+    expire_after: &'a [u8],
+    release: &'a [u8],
+) -> Result<Vec<u8>, AllocError>
+    ensures { IfOk result (λ text. text.items ≡ row_text default_writer
+        (kind.now ∷ name.now ∷ unit.now ∷ primary.now ∷ secondary.now ∷ volcount.now ∷ eattr.now
+        ∷ multi_tier.now ∷ expire_after.now ∷ release.now ∷ [])) }
+{
+    record_text(
+        alloc,
+        &[
+            kind,
+            name,
+            unit,
+            primary,
+            secondary,
+            volcount,
+            eattr,
+            multi_tier,
+            expire_after,
+            release,
+        ],
+    )
 }
 
 // A number, and nothing where there is none.

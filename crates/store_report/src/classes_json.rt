@@ -4,7 +4,7 @@ ghost use Rattle.serde_json.specs.Written.{compact_text, items_text};
 ghost use Rattle.store_report.specs.ClassesJson.{classes_body, data_class_body, data_class_values};
 ghost use Rattle.store_report.specs.ClassesJson.{management_class_body, management_class_values};
 ghost use Rattle.store_report.specs.ClassesJson.{storage_class_body, storage_class_values, unit_if};
-ghost use Rattle.store_report.specs.Inner.ClassPieces.{classes_piece, data_class_piece, management_class_piece};
+ghost use Rattle.store_report.specs.Inner.ClassPieces.{classes_piece, data_class_rest, management_class_piece};
 ghost use Rattle.store_report.specs.Inner.ClassPieces.{space_piece, storage_class_piece};
 
 use crate::class_parts::{count_of, eattr_bytes, primary_of, secondary_of, unit_bytes};
@@ -111,15 +111,16 @@ fn push_management_classes(text: &mut Vec<u8>, classes: &[MgmtClass]) -> Result<
 fn push_data_class(text: &mut Vec<u8>, class: &DataClass) -> Result<(), AllocError>
     ensures { OnOk result (text.new.items ≡ text.old.items ++ data_class_body class.now) }
 {
-    push_data_parts(text, class)?;
+    push_text(text, b"{\"name\":", class.name.bytes())?;
+    push_space(text, &class.space)?;
+    push_data_rest(text, class)?;
     Ok(())
 }
 
-fn push_data_parts(text: &mut Vec<u8>, class: &DataClass) -> Result<(), AllocError>
-    ensures { OnOk result (text.new.items ≡ text.old.items ++ data_class_piece class.now) }
+// Puts what stands behind its space behind a text.
+fn push_data_rest(text: &mut Vec<u8>, class: &DataClass) -> Result<(), AllocError>
+    ensures { OnOk result (text.new.items ≡ text.old.items ++ data_class_rest class.now) }
 {
-    push_text(text, b"{\"name\":", class.name.bytes())?;
-    push_space(text, &class.space)?;
     push_count_if(text, b",\"volcount\":", count_of(&class.volumes))?;
     push_text(text, b",\"eattr\":", eattr_bytes(class.eattr))?;
     text.push(b'}')?;

@@ -18,13 +18,17 @@ space_piece space =
     ++ (compact_text (count_if (primary_of space)) ++ (codes ",\"secondary\":"
     ++ compact_text (count_if (secondary_of space))))))
 
--- a class of each kind
+-- the name of a class, at its front
+abbrev pub name_piece : List ℕ → List ℕ
+name_piece name = codes "{\"name\":" ++ quoted name
 
-abbrev pub data_class_piece : DataClass → List ℕ
-data_class_piece class =
-    codes "{\"name\":" ++ (quoted class.name ++ (space_piece class.space ++ (codes ",\"volcount\":"
-    ++ (compact_text (count_if class.volumes) ++ (codes ",\"eattr\":" ++ (quoted (eattr_text class.eattr)
-    ++ codes "}"))))))
+-- what stands behind the space of a data class
+abbrev pub data_class_rest : DataClass → List ℕ
+data_class_rest class =
+    codes ",\"volcount\":" ++ (compact_text (count_if class.volumes) ++ (codes ",\"eattr\":"
+    ++ (quoted (eattr_text class.eattr) ++ codes "}")))
+
+-- a class of each other kind
 
 abbrev pub storage_class_piece : StorClass → List ℕ
 storage_class_piece class =
