@@ -13,6 +13,7 @@ use Rattle.sms_construct.specs.Numbers.{small_number_of}
 use Rattle.smsd_words.specs.Command.{smsd}
 use Rattle.store_report.specs.declared.format.Format.{Format}
 use Rattle.store_report.specs.declared.format.Format.TheVariants.{Csv, Json}
+use Rattle.store_report.specs.declared.format.Format.TheVariants as formats
 use Rattle.store_report.specs.declared.listing.Listing.{Listing}
 use Rattle.store_report.specs.declared.listing.Listing.TheVariants.{Groups, Volumes, Classes, Sets, Extents}
 use Rattle.store_report.specs.declared.query.Query.{Query}
@@ -50,7 +51,8 @@ abbrev pub format_named : Option Text → Option Format
 format_named None = Some Csv
 format_named (Some word) =
     if bytes_eq word (codes "csv") then Some Csv
-    else if bytes_eq word (codes "json") then Some Json else None
+    else if bytes_eq word (codes "json") then Some Json
+    else if bytes_eq word (codes "text") then Some formats.Text else None
 
 -- the form that these rows name
 abbrev pub format_in : List Row → Option Format

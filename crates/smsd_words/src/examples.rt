@@ -14,7 +14,8 @@ const LIST: &str = "
 smsd list WHAT       list what the store holds: WHAT is groups, volumes, classes,
                      sets or extents; nothing changes. --mask MASK, --group NAME
                      and --volume VOLSER take the rows that fit, of classes all;
-                     --format is csv, comma-separated values, or json
+                     --format is csv, comma-separated values, json, or text,
+                     as columns
 
     smsd list sets --mask 'PAY.**' --group SG1 --store payroll.db
 ";
@@ -64,7 +65,7 @@ pub fn examples_of(alloc: Global, word: &str) -> Result<String, AllocError> {
 
 const LIST_VALUES: &str = "WHAT is groups, volumes, classes, sets or extents; --mask a mask of \
     data set names, for sets and extents alone; --group the name of a storage group, not for \
-    classes; --volume a serial, neither for groups nor for classes; --format csv or json";
+    classes; --volume a serial, neither for groups nor for classes; --format csv, json or text";
 
 const SERVE_VALUES: &str = "--port is a number of 1 to 65535, --connections one of 1 to 10000, \
     and --idle one of 1 to 86400";

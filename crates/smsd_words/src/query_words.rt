@@ -105,6 +105,9 @@ fn format_in(matches: &ArgMatches<'_>) -> Option<Format>
     if word == "json" {
         return Some(Format::Json);
     }
+    if word == "text" {
+        return Some(Format::Text);
+    }
     None
 }
 

@@ -4,6 +4,7 @@
 mod class_parts;
 mod class_table;
 mod classes_json;
+mod columns;
 mod csv_record;
 mod extent_row;
 mod extents_json;

@@ -4,6 +4,9 @@ ghost use Rattle.store_report.specs.Texts.{classes_text, extents_text, groups_te
 
 use crate::class_table::classes_csv;
 use crate::classes_json::classes_body;
+use crate::columns::{
+    CLASSES_WIDTHS, EXTENTS_WIDTHS, GROUPS_WIDTHS, SETS_WIDTHS, VOLUMES_WIDTHS, columns_text,
+};
 use crate::extent_row::ExtentRow;
 use crate::extents_json::extents_body;
 use crate::format::Format;
@@ -24,6 +27,10 @@ pub fn groups_text(alloc: Global, format: Format, rows: &[GroupRow]) -> Result<V
             let body = groups_body(alloc, rows)?;
             line_of(alloc, body.as_slice())
         }
+        Format::Text => {
+            let records = groups_csv(alloc, rows)?;
+            columns_text(alloc, &records, &GROUPS_WIDTHS)
+        }
     }
 }
 
@@ -36,6 +43,10 @@ pub fn volumes_text(alloc: Global, format: Format, rows: Vec<VolRow>) -> Result<
         Format::Json => {
             let body = volumes_body(alloc, &rows)?;
             line_of(alloc, body.as_slice())
+        }
+        Format::Text => {
+            let records = volumes_csv(alloc, &Items::from_vec(rows))?;
+            columns_text(alloc, &records, &VOLUMES_WIDTHS)
         }
     }
 }
@@ -57,6 +68,10 @@ pub fn classes_text(
             let body = classes_body(alloc, data_classes, storage_classes, management_classes)?;
             line_of(alloc, &body)
         }
+        Format::Text => {
+            let records = classes_csv(alloc, data_classes, storage_classes, management_classes)?;
+            columns_text(alloc, &records, &CLASSES_WIDTHS)
+        }
     }
 }
 
@@ -69,6 +84,10 @@ pub fn sets_text(alloc: Global, format: Format, sets: &[&DataSet]) -> Result<Vec
         Format::Json => {
             let body = sets_body(alloc, sets, None)?;
             line_of(alloc, body.as_slice())
+        }
+        Format::Text => {
+            let records = sets_csv(alloc, sets)?;
+            columns_text(alloc, &records, &SETS_WIDTHS)
         }
     }
 }
@@ -86,6 +105,10 @@ pub fn extents_text(
         Format::Json => {
             let body = extents_body(alloc, rows)?;
             line_of(alloc, &body)
+        }
+        Format::Text => {
+            let records = extents_csv(alloc, rows)?;
+            columns_text(alloc, &records, &EXTENTS_WIDTHS)
         }
     }
 }

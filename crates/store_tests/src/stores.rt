@@ -83,6 +83,12 @@ static LISTS: &[(Listing, Format, &str, &str)] = &[
     (Listing::Extents, Format::Csv,
         "dsn,volser,start,length\nA.B,VOL001,10,3\nPAY.MASTER,VOL001,0,10\nPAY.MASTER,VOL001,13,5\n",
         "dsn,volser,start,length\n"),
+    (Listing::Extents, Format::Text,
+        "dsn                                           volser  start       length\n\
+        A.B                                           VOL001  10          3\n\
+        PAY.MASTER                                    VOL001  0           10\n\
+        PAY.MASTER                                    VOL001  13          5\n",
+        "dsn                                           volser  start       length\n"),
     (Listing::Extents, Format::Json,
         "{\"extents\":[{\"dsn\":\"A.B\",\"volser\":\"VOL001\",\"start\":10,\"tracks\":3},\
         {\"dsn\":\"PAY.MASTER\",\"volser\":\"VOL001\",\"start\":0,\"tracks\":10},\

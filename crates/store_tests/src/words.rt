@@ -35,6 +35,7 @@ static MANAGED: &[(&[&str], &str, u32, bool)] = &[
 #[rattlefmt::skip]
 static LISTS: &[(&[&str], Listing, Format, [&str; 3])] = &[
     (&["list", "sets"], Listing::Sets, Format::Csv, ["", "", ""]),
+    (&["list", "sets", "--format", "text"], Listing::Sets, Format::Text, ["", "", ""]),
     (&["list", "--", "volumes"], Listing::Volumes, Format::Csv, ["", "", ""]),
     (&["list", "--format=json", "groups"], Listing::Groups, Format::Json, ["", "", ""]),
     (&["list", "groups", "--group", "SG1"], Listing::Groups, Format::Csv, ["", "SG1", ""]),
@@ -61,7 +62,7 @@ static HINDERED: &[(&[&str], WordsErr)] = &[
     (&["list"], WordsErr::Bad),
     (&["list", "set"], WordsErr::Bad),
     (&["list", "SETS"], WordsErr::Bad),
-    (&["list", "sets", "--format", "text"], WordsErr::Bad),
+    (&["list", "sets", "--format", "xml"], WordsErr::Bad),
     (&["list", "sets", "--mask", "a"], WordsErr::Bad),
     (&["list", "volumes", "--mask", "A"], WordsErr::Bad),
     (&["list", "groups", "--volume", "V"], WordsErr::Bad),
