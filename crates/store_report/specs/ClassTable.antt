@@ -61,10 +61,14 @@ management_class_fields class =
     codes "MGMTCLAS" ∷ class.name ∷ empty ∷ empty ∷ empty ∷ empty ∷ empty ∷ empty
     ∷ number_field class.expire_after ∷ switch_field class.release ∷ []
 
--- the header and a record for each class, kind by kind
+-- a record for each class, kind by kind
+abbrev pub classes_records : List DataClass → List StorClass → List MgmtClass → List ℕ
+classes_records data_classes storage_classes management_classes =
+    flat_map (λ class. row_text default_writer (data_class_fields class)) data_classes
+    ++ (flat_map (λ class. row_text default_writer (storage_class_fields class)) storage_classes
+    ++ flat_map (λ class. row_text default_writer (management_class_fields class)) management_classes)
+
+-- the header, and these
 abbrev pub classes_table : List DataClass → List StorClass → List MgmtClass → List ℕ
 classes_table data_classes storage_classes management_classes =
-    row_text default_writer classes_header
-    ++ (flat_map (λ class. row_text default_writer (data_class_fields class)) data_classes
-    ++ (flat_map (λ class. row_text default_writer (storage_class_fields class)) storage_classes
-    ++ flat_map (λ class. row_text default_writer (management_class_fields class)) management_classes))
+    row_text default_writer classes_header ++ classes_records data_classes storage_classes management_classes
