@@ -17,7 +17,7 @@ use desk_calls::RunStatus;
 use sms_base::{Sink, write_all};
 use sms_construct::{DataSet, StorGroup};
 use sms_core::Core;
-use sms_keeper::{Keeper, Rows, Stored};
+use sms_keeper::{Keeper, Stored};
 use sms_open::reopen;
 use std::alloc::{AllocError, Global};
 use store_report::{
@@ -144,7 +144,7 @@ fn found_text(alloc: Global, query: &Query, found: &FoundRows) -> Result<Vec<u8>
     match query.listing {
         Listing::Classes => list_classes(alloc, query.format, &found.config),
         Listing::Groups | Listing::Volumes | Listing::Sets | Listing::Extents => {
-            rows_text(alloc, query, &found.rows)
+            rows_text(alloc, query, found)
         }
     }
 }
@@ -169,11 +169,11 @@ fn list_classes(
     }
 }
 
-// The list of these rows.
-fn rows_text(alloc: Global, query: &Query, rows: &Rows) -> Result<Vec<u8>, AllocError>
-    ensures { IfOk result (λ text. (o : Begun) → o.rows ≡ rows.now → IsListed query.now o text.items) }
+// The list of the data sets that were found, or of their extents.
+fn rows_text(alloc: Global, query: &Query, found: &FoundRows) -> Result<Vec<u8>, AllocError>
+    ensures { IfOk result (λ text. IsListed query.now (opening_of found.now.rows found.now.config) text.items) }
 {
-    let sets = pick_sets(alloc, rows.sets.as_slice(), &query.selection)?;
+    let sets = pick_sets(alloc, found.rows.sets.as_slice(), &query.selection)?;
     picked_text(alloc, query, &sets)
 }
 

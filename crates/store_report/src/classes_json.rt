@@ -24,12 +24,7 @@ pub fn classes_body(
         ≡ classes_body data_classes.now storage_classes.now management_classes.now) }
 {
     let mut text = Vec::new(alloc);
-    push_body(
-        &mut text,
-        data_classes,
-        storage_classes,
-        management_classes,
-    )?;
+    push_body(&mut text, data_classes, storage_classes, management_classes)?;
     Ok(text)
 }
 
