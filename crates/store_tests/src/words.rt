@@ -35,9 +35,11 @@ static MANAGED: &[(&[&str], &str, u32, bool)] = &[
 #[rattlefmt::skip]
 static LISTS: &[(&[&str], Listing, Format, [&str; 3])] = &[
     (&["list", "sets"], Listing::Sets, Format::Csv, ["", "", ""]),
+    (&["list", "sets", "--format", "text"], Listing::Sets, Format::Text, ["", "", ""]),
     (&["list", "--", "volumes"], Listing::Volumes, Format::Csv, ["", "", ""]),
     (&["list", "--format=json", "groups"], Listing::Groups, Format::Json, ["", "", ""]),
     (&["list", "groups", "--group", "SG1"], Listing::Groups, Format::Csv, ["", "SG1", ""]),
+    (&["list", "classes", "--format", "json"], Listing::Classes, Format::Json, ["", "", ""]),
     (&["list", "volumes", "--group", "SG1", "--volume", "1"], Listing::Volumes, Format::Csv, ["", "SG1", "1"]),
     (&["list", "--mask", "A.**", "extents", "--volume", "V"], Listing::Extents, Format::Csv, ["A.**", "", "V"]),
 ];
@@ -63,10 +65,13 @@ static HINDERED: &[(&[&str], WordsErr)] = &[
     (&["list"], WordsErr::Bad),
     (&["list", "set"], WordsErr::Bad),
     (&["list", "SETS"], WordsErr::Bad),
-    (&["list", "sets", "--format", "text"], WordsErr::Bad),
+    (&["list", "sets", "--format", "xml"], WordsErr::Bad),
     (&["list", "sets", "--mask", "a"], WordsErr::Bad),
     (&["list", "volumes", "--mask", "A"], WordsErr::Bad),
     (&["list", "groups", "--volume", "V"], WordsErr::Bad),
+    (&["list", "classes", "--mask", "A"], WordsErr::Bad),
+    (&["list", "classes", "--group", "SG1"], WordsErr::Bad),
+    (&["list", "classes", "--volume", "V"], WordsErr::Bad),
     (&["serve", "--port", "0"], WordsErr::Bad),
     (&["serve", "--port", "65536"], WordsErr::Bad),
     (&["serve", "--connections", "10001"], WordsErr::Bad),
