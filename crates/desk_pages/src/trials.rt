@@ -115,12 +115,7 @@ fn tried(
 }
 
 // What the routines of a configuration do with the ALLOC.
-fn runs(
-    alloc: Global,
-    config: &Config,
-    job: &Name,
-    allocation: &Alloc,
-) -> Result<Page, AllocError>
+fn runs(alloc: Global, config: &Config, job: &Name, allocation: &Alloc) -> Result<Page, AllocError>
     ensures { IfOk result (TellsRuns config.now job.now allocation.now) }
 {
     let sources = DeckSources::of(alloc, config.deck())?;
@@ -147,11 +142,7 @@ fn classes(
 }
 
 // The page of a classification, with what the routines wrote.
-fn shown_classes(
-    alloc: Global,
-    classified: &Classified,
-    trace: &Trace,
-) -> Result<Page, AllocError>
+fn shown_classes(alloc: Global, classified: &Classified, trace: &Trace) -> Result<Page, AllocError>
     ensures { IfOk result (λ page. page ≡ showing (classified_body
         (outcome_text classified.now.stop classified.now.values) (trace_lines trace.now))) }
 {

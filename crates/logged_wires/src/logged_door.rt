@@ -30,8 +30,12 @@ impl<'a, D> LoggedDoor<'a, D> {
         self.ended = self.ended.saturating_add(1);
         let (number, came, sent) = (self.ended, conn.came(), conn.sent());
         let _ = match conn.status() {
-            Some(status) => eprintln!(self.rt; "smsd: connection {number} ended: {came} bytes came, {sent} were sent, last status {status}"),
-            None => eprintln!(self.rt; "smsd: connection {number} ended: {came} bytes came, {sent} were sent"),
+            Some(status) => eprintln!(self.rt;
+                "smsd: connection {number} ended: {came} bytes came, {sent} were sent, last status {status}"
+            ),
+            None => eprintln!(self.rt;
+                "smsd: connection {number} ended: {came} bytes came, {sent} were sent"
+            ),
         };
     }
 }

@@ -10,7 +10,8 @@ pub fn desk_script() -> &'static [u8]
 }
 
 /// The script as it is: JavaScript between the quotes, which has no quote and no backslash.
-pub static SCRIPT: &[u8] = b"// The page of the desk: what its routes answer, shown in five views and kept current.
+pub static SCRIPT: &[u8] =
+    b"// The page of the desk: what its routes answer, shown in five views and kept current.
 
 // ---- Limits and words
 
