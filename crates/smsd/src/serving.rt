@@ -80,7 +80,7 @@ fn serve_at(
 }
 
 // Serves the store of the keeper to those that come through the door, and closes it.
-fn keep_and_close<R: Readiness>(
+fn keep_and_close<R: Readiness + Drop>(
     rt: &HostRuntime,
     serving: Serving,
     door: R,
