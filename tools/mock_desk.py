@@ -17,12 +17,19 @@ import sys
 import tomllib
 from urllib.parse import unquote
 
-HERE = os.path.dirname(os.path.abspath(__file__))
-DATA = os.path.join(HERE, "page")
+from desk_page import read_file
+
 FILES = {
-    "/": ("desk.html", "text/html; charset=utf-8"),
-    "/desk.css": ("desk.css", "text/css; charset=utf-8"),
-    "/desk.js": ("desk.js", "text/javascript; charset=utf-8"),
+    "/": ("markup", "text/html; charset=utf-8"),
+    "/desk.css": ("style", "text/css; charset=utf-8"),
+    "/desk.js": ("script", "text/javascript; charset=utf-8"),
+}
+NO_SNIFFING = ("X-Content-Type-Options", "nosniff")
+POLICY = "default-src 'self'; frame-ancestors 'none'; base-uri 'none'; form-action 'none'"
+HEADERS = {
+    "text/html; charset=utf-8": (NO_SNIFFING, ("Content-Security-Policy", POLICY)),
+    "text/css; charset=utf-8": (NO_SNIFFING,),
+    "text/javascript; charset=utf-8": (NO_SNIFFING,),
 }
 DEVICES = {"3390-3": 50085, "3390-9": 150255}
 STATUSES = {"ENABLE": "ENABLE", "DISABLE": "DISALL", "DISABLE-NEW": "DISNEW", "QUIESCE": "QUIALL", "QUIESCE-NEW": "QUINEW"}
@@ -348,13 +355,12 @@ class Clerk(http.server.BaseHTTPRequestHandler):
     def send(self, status, body, kind="application/json"):
         data = body if isinstance(body, bytes) else json.dumps(body, separators=(",", ":")).encode()
         self.send_response(status)
-        for name, value in (("Content-Type", kind), ("Content-Length", str(len(data))),
-                            ("Content-Security-Policy", "default-src 'self'"), ("X-Content-Type-Options", "nosniff")):
+        for name, value in (("Content-Type", kind), *HEADERS.get(kind, ()), ("Content-Length", str(len(data)))):
             self.send_header(name, value)
         self.end_headers()
         self.wfile.write(data)
 
-    def tell(self, body, error="no request and no page has this path"):
+    def tell(self, body, error="no request and no page is asked so"):
         self.send(200, body) if body is not None else self.send(404, {"error": error})
 
     def has(self, word):
@@ -363,8 +369,7 @@ class Clerk(http.server.BaseHTTPRequestHandler):
     def do_GET(self):
         if self.path in FILES:
             name, kind = FILES[self.path]
-            with open(os.path.join(DATA, name), "rb") as file:
-                return self.send(200, file.read(), kind)
+            return self.send(200, read_file(name), kind)
         word, *parts = [unquote(part).upper() for part in self.path[1:].split("/")]
         return self.show(word.lower(), parts)
 
@@ -437,7 +442,7 @@ class Clerk(http.server.BaseHTTPRequestHandler):
             return self.send(404, {"error": "no configuration is active"})
         run = Routines(self.desk.deck, path[1], path[2], operands)
         outcome = run.outcome()
-        self.tell({"outcome": outcome, "lines": run.lines} if path[0] == "CLASSIFY" else {"lines": run.events})
+        self.tell({"outcome": outcome, "lines": run.lines} if path[0] == "CLASSIFY" else {"text": "\n".join([*run.events, ""])})
 
 
 def main(words):

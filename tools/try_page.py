@@ -3,7 +3,7 @@
 
 usage: tools/try_page.py [PATH/smsd] [--pictures FOLDER] [--manual] [--port PORT]
 
-It wants Debian's package chromium (apt-get install -y chromium), and nothing else. Without a path the page is served by
+It wants Debian's package chromium (apt-get update && apt-get install -y chromium), and nothing else. Without a path the page is served by
 tools/mock_desk.py, and with one by that program over a store in a folder of its own; the measure of 1,024 volumes and
 20,000 data sets is the mock desk's in both. Each step is asserted in the page's DOM; no script of another origin, no
 inline one and no inline style may be asked for (Content-Security-Policy), no exception may come, and on each view at
@@ -25,6 +25,8 @@ import sys
 import tempfile
 import time
 from urllib.parse import quote
+
+from desk_page import read_file
 
 HERE = os.path.dirname(os.path.abspath(__file__))
 differing = 0
@@ -766,11 +768,9 @@ def step_without(browser, desk):
 
 
 def step_ascii():
-    data = os.path.join(HERE, "page")
     total = 0
-    for name in ("desk.html", "desk.css", "desk.js"):
-        with open(os.path.join(data, name), "rb") as file:
-            text = file.read()
+    for name in ("markup", "style", "script"):
+        text = read_file(name)
         total += len(text)
         check(all(byte in b"\n" or 32 <= byte < 127 for byte in text), f"{name} has a byte that isn't printed ASCII")
         check(b'"' not in text and b"\\" not in text, f"{name} has a double quote or a backslash")

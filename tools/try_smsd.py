@@ -8,6 +8,8 @@ usage: tools/try_smsd.py PATH/smsd [PORT [KILLS]]      PORT of 127.0.0.1 (18080)
 - Connections: a thousand that say nothing, with one that is answered beside them; one client more than may be is told 503.
 - A client that never reads, while another is answered; one whose message comes byte by byte; several messages in one write.
 - A message of another site (Host, Origin, Sec-Fetch-Site) is told 403, and nothing is done.
+- Days of space management on a store: what is due is told and then done, once, and the next day goes on behind it.
+- The exit statuses of a deck that wouldn't be active, of an input and a store that aren't there, and of a port that is taken.
 It works in a folder of its own and ends by itself; the exit status is 1 where something differs.
 """
 import atexit
@@ -201,6 +203,61 @@ def try_clients():
     check(not listed("sets", "--mask", "EVIL.**"), "a message of another site acted")
 
 
+DAILY = """SMSADMIN 1 ACTIVATE
+version = 1
+[storclass.SC1]
+[mgmtclass.MCT]
+expire_after = 2
+release = "YES"
+[storgroup.SG1.volume.VOL001]
+tracks = 100
+[routine]
+storclass = "PROC STORCLAS SET &STORCLAS = 'SC1' END"
+mgmtclass = "PROC MGMTCLAS SET &MGMTCLAS = 'MCT' END"
+storgroup = "PROC STORGRP SET &STORGRP = 'SG1' END"
+./END
+JOB1 1 ALLOC A.A SPACE=(TRK,10) DAY=1
+JOB1 2 ALLOC A.B SPACE=(TRK,10) DAY=3
+JOB1 3 ALLOC A.C SPACE=(TRK,10) DAY=1 RETPD=5
+JOB1 4 USED A.B 4
+"""
+DAYS = [
+    ("3", "DUE A.A DELETE\nDUE A.B RELEASE\nDUE A.C RELEASE\n",
+     "MANAGE 1 A.A A03 DELETED 10\nMANAGE 2 A.B A09 RELEASED 6\nMANAGE 3 A.C A09 RELEASED 9\nMANAGED 1 2\n"),
+    ("3", "", "MANAGED 0 0\n"),
+    ("6", "DUE A.B DELETE\nDUE A.C DELETE\n",
+     "MANAGE 4 A.B A03 DELETED 4\nMANAGE 5 A.C A03 DELETED 1\nMANAGED 2 0\n"),
+]
+
+
+def ended(words, status, text=None, given=""):
+    made = subprocess.run([smsd, *words], cwd=folder, input=given, capture_output=True, text=True, timeout=60)
+    check(made.returncode == status, f"{words} ended with {made.returncode}: {made.stderr}")
+    if text is not None:
+        check(made.stdout == text, f"{words} printed {made.stdout!r}")
+
+
+def try_days():
+    ended(["run", "--store", "days.db"], 0, given=DAILY)
+    for day, told, text in DAYS:
+        ended(["manage", day, "--dry-run", "--store", "days.db"], 0, told)
+        ended(["manage", day, "--store", "days.db"], 0, text)
+    ended(["list", "sets", "--store", "days.db"], 0, "dsn,dataclas,storclas,mgmtclas,group,day,used,extents\n")
+
+
+def try_statuses():
+    with open(os.path.join(folder, "small.toml"), "w") as deck:
+        deck.write("version = 1\n[storgroup.SG1.volume.VOL001]\ntracks = 0\n")
+    ended(["check", "small.toml"], 1)
+    ended(["check", "none.toml"], 3)
+    ended(["run", "none"], 3)
+    for words in (["list", "sets"], ["check", "small.toml"], ["manage", "1"], ["manage", "1", "--dry-run"]):
+        ended([*words, "--store", "none.db"], 9)
+    with socket.create_server(("127.0.0.1", 0)) as taken:
+        ended(["serve", "--port", str(taken.getsockname()[1])], 9)
+    ended(["manage", "10000000"], 2)
+
+
 if len(sys.argv) < 2:
     sys.exit(__doc__)
 smsd = os.path.abspath(sys.argv[1])
@@ -214,5 +271,7 @@ with tempfile.TemporaryDirectory() as folder:
     try_kills(kills)
     try_connections()
     try_clients()
+    try_days()
+    try_statuses()
 print(f"{differing} differ")
 sys.exit(1 if differing else 0)

@@ -54,9 +54,13 @@ missed_with source point tally =
 abbrev pub missed_text : Source → (ℕ → Tally) → Point → List ℕ
 missed_text source tallies point = missed_with source point (tallies (place_of point))
 
+-- the point is covered, by the counts of all tokens
+abbrev pub is_covered_by : (ℕ → Tally) → Point → Bool
+is_covered_by tallies point = is_covered point (tallies (place_of point))
+
 -- the point is of this class, and covered
 abbrev pub is_covered_of : Class → (ℕ → Tally) → Point → Bool
-is_covered_of class tallies point = is_of class point && is_covered point (tallies (place_of point))
+is_covered_of class tallies point = is_of class point && is_covered_by tallies point
 
 -- a word, how many points of a class are covered, and how many there are
 abbrev pub share_text : List ℕ → Class → List Point → (ℕ → Tally) → List ℕ

@@ -1,8 +1,8 @@
 //! What was reached of a routine, as text.
 ghost use Rattle.std.specs.Prelude.{◌≡◌, ◌≤◌, ◌++◌, OnOk, count_by, flat_map, length};
 ghost use Rattle.acs_coverage.specs.Counts.{tally_at};
-ghost use Rattle.acs_coverage.specs.CoverageText.{count_text, coverage_text, is_covered, is_covered_of, lack_text};
-ghost use Rattle.acs_coverage.specs.CoverageText.{counted, missed_text, missed_with, point_front, point_text};
+ghost use Rattle.acs_coverage.specs.CoverageText.{count_text, coverage_text, is_covered, is_covered_by, is_covered_of};
+ghost use Rattle.acs_coverage.specs.CoverageText.{counted, lack_text, missed_text, missed_with, point_front, point_text};
 ghost use Rattle.acs_coverage.specs.CoverageText.{share_text, totals_text};
 ghost use Rattle.acs_coverage.specs.Points.{is_of};
 
@@ -223,5 +223,24 @@ fn covered_of(class: Class, points: &[Point], tallies: &Tallies) -> usize
 fn is_covered_of(class: Class, point: &Point, tallies: &Tallies) -> bool
     ensures { result ≡ is_covered_of class (tally_at tallies.now) point.now }
 {
-    point.is_of(class) && is_covered(point, &tallies.at(point.place()))
+    point.is_of(class) && is_covered_by(point, tallies)
+}
+
+fn is_covered_by(point: &Point, tallies: &Tallies) -> bool
+    ensures { result ≡ is_covered_by (tally_at tallies.now) point.now }
+{
+    is_covered(point, &tallies.at(point.place()))
+}
+
+/// How many of the points are covered: statements that ran, WHENs that were taken, and comparisons that went both ways.
+pub fn covered_points(points: &[Point], tallies: &Tallies) -> usize
+    ensures { result ≡ count_by (is_covered_by (tally_at tallies.now)) points.now }
+{
+    let mut count = 0;
+    for point in points {
+        if is_covered_by(point, tallies) {
+            count += 1;
+        }
+    }
+    count
 }

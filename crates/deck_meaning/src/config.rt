@@ -114,6 +114,27 @@ impl Config {
         self.sysplex
     }
 
+    /// The data classes in byte order of their names.
+    pub fn data_classes(&self) -> &[DataClass]
+        ensures { result.now ≡ self.now.data_classes }
+    {
+        self.data_classes.as_slice()
+    }
+
+    /// The storage classes in byte order of their names.
+    pub fn storage_classes(&self) -> &[StorClass]
+        ensures { result.now ≡ self.now.storage_classes }
+    {
+        self.storage_classes.as_slice()
+    }
+
+    /// The management classes in byte order of their names.
+    pub fn management_classes(&self) -> &[MgmtClass]
+        ensures { result.now ≡ self.now.management_classes }
+    {
+        self.management_classes.as_slice()
+    }
+
     /// The storage groups in byte order of their names.
     pub fn groups(&self) -> &[StorGroup]
         ensures { result.now ≡ self.now.groups }

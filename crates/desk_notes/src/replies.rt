@@ -62,6 +62,11 @@ impl RepliesSeen {
         self.next = next_behind(self.next, byte);
     }
 
+    /// Whether something that was asked for was refused or couldn't be done: an R, an F or an M.
+    pub fn has_undone(self) -> bool {
+        self.counts.has_undone()
+    }
+
     /// Whether a deck was refused.
     pub fn has_refused_deck(self) -> bool {
         self.counts.has_refused_deck()

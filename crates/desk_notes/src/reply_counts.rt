@@ -19,11 +19,13 @@ const FAULT_SENTENCE: &str =
     "the records couldn't be written, as on a full disk: ask again, with the same numbers, for what was answered \
     F30, and each acts once; over a file one of them may have been done all the same; what else was done is kept\n";
 
-/// How many answers refused something, by their codes, and whether one tells of a fault of the records.
+/// How many answers refused something, by their codes, and whether one tells of a fault of the records, or that memory
+/// was wanting.
 #[derive(Clone, Copy)]
 pub struct ReplyCounts {
     refused: [u32; CODES],
     has_fault: bool,
+    has_want: bool,
 }
 
 impl ReplyCounts {
@@ -32,6 +34,7 @@ impl ReplyCounts {
         ReplyCounts {
             refused: [0; CODES],
             has_fault: false,
+            has_want: false,
         }
     }
 
@@ -39,6 +42,7 @@ impl ReplyCounts {
     pub fn add(&mut self, letter: u8, tens: u8, ones: u8) {
         match (letter, tens, ones) {
             (b'F', b'3', b'0') => self.has_fault = true,
+            (b'M', b'3', b'1') => self.has_want = true,
             (b'R', _, b'0'..=b'9') => self.add_refused(digit(tens), digit(ones)),
             _ => (),
         }
@@ -49,6 +53,11 @@ impl ReplyCounts {
         if let Some(count) = self.refused.get_mut(code) {
             *count = count.saturating_add(1);
         }
+    }
+
+    /// Whether something that was asked for was refused or couldn't be done.
+    pub fn has_undone(self) -> bool {
+        self.has_fault || self.has_want || self.refused.iter().any(|count| *count > 0)
     }
 
     /// Whether a deck was refused.

@@ -1,2 +1,5 @@
 pub mod ListingLaws
 pub mod FindLaws
+pub mod LyingLaws
+pub mod NewestLaws
+pub mod CheckLaws

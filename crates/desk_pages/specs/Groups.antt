@@ -1,6 +1,7 @@
 -- Storage groups with the sums of their volumes (docs/manual/smsd.md, "What pages show").
 use Rattle.std.specs.Prelude.{ℕ, List, [], ◌∷◌, ◌+◌, bytes_eq, if◌then◌else◌}
 use Rattle.page_text.specs.declared.group_row.GroupRow.{GroupRow}
+use Rattle.page_text.specs.declared.shown_group.ShownGroup.{ShownGroup}
 use Rattle.sms_construct.specs.declared.storage_group.StorGroup.{StorGroup}
 use Rattle.sms_construct.specs.declared.vol_row.VolRow.{VolRow}
 
@@ -27,6 +28,12 @@ with_volumes name row (one ∷ others) =
 abbrev pub row_named : List VolRow → List ℕ → GroupRow
 row_named rows name = with_volumes name (no_volumes name) rows
 
--- a storage group, by the rows of the volumes
-abbrev pub group_row : List VolRow → StorGroup → GroupRow
-group_row rows group = row_named rows group.name
+-- a storage group as its deck defines it, by the rows of the volumes
+abbrev pub shown_group : List VolRow → StorGroup → ShownGroup
+shown_group rows group = record {
+  row = row_named rows group.name;
+  high = group.high;
+  low = group.low;
+  overflow = group.overflow;
+  breakpoint = group.breakpoint;
+}

@@ -5,7 +5,7 @@ use Rattle.dsn_mask.specs.MaskTest.{mask_fits}
 use Rattle.dsn_mask.specs.Name.{short_of}
 use Rattle.desk_state.specs.Following.{IsFirstBehind, IsLastName}
 
--- so many data sets stand on a page
+-- so many data sets, or extents, stand on a page
 abbrev pub most_shown : ℕ
 most_shown = 200
 
@@ -48,4 +48,5 @@ pub record IsListing (sets : List DataSet) (mask from : Option (List ℕ)) (show
   pub walks : IsWalk sets from walked
   pub shown_are : shown ≡ filter (λ set. fits mask set.dsn) walked
   pub few : length shown ≤ most_shown
+  pub bounded : length walked ≤ most_looked
   pub end : IsPageEnd sets from walked shown after

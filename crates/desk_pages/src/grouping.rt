@@ -1,28 +1,41 @@
 //! Storage groups with the sums of their volumes.
 ghost use Rattle.std.specs.Prelude.{◌≡◌, ◌≤◌, ◌<◌, ◌+◌, ◌-◌, ◌*◌, ◌^◌, IfOk, length, map};
-ghost use Rattle.desk_pages.specs.Groups.{group_row, row_named, with_volume};
+ghost use Rattle.desk_pages.specs.Groups.{row_named, shown_group, with_volume};
 
 use dsn_mask::Name;
-use page_text::GroupRow;
+use page_text::{GroupRow, ShownGroup};
 use sms_construct::{StorGroup, VolRow};
 use std::alloc::{AllocError, Global};
 
-/// The storage groups, each with the sums of its volumes.
-pub fn group_rows(
+/// The storage groups, each as its deck defines it and with the sums of its volumes.
+pub fn shown_groups(
     alloc: Global,
     groups: &[StorGroup],
     rows: &[VolRow],
-) -> Result<Vec<GroupRow>, AllocError>
+) -> Result<Vec<ShownGroup>, AllocError>
     requires { length rows.now < 2 ^ 32 }
-    ensures { IfOk result (λ found. found.items ≡ map (group_row rows.now) groups.entry.now) }
+    ensures { IfOk result (λ found. found.items ≡ map (shown_group rows.now) groups.entry.now) }
 {
     let mut found = Vec::new(alloc);
     let mut rest = groups;
     while let [group, others @ ..] = rest {
-        found.push(row_named(group.name, rows))?;
+        found.push(shown_group(group, rows))?;
         rest = others;
     }
     Ok(found)
+}
+
+fn shown_group(group: &StorGroup, rows: &[VolRow]) -> ShownGroup
+    requires { length rows.now < 2 ^ 32 }
+    ensures { result ≡ shown_group rows.now group.now }
+{
+    ShownGroup {
+        row: row_named(group.name, rows),
+        high: group.high,
+        low: group.low,
+        overflow: group.overflow,
+        breakpoint: group.breakpoint,
+    }
 }
 
 // The storage group of this name with the sums of its volumes.

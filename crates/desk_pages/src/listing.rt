@@ -9,8 +9,8 @@ use dsn_mask::{Dsn, Mask, Short};
 use sms_construct::DataSet;
 use std::alloc::{AllocError, Global};
 
-// So many data sets stand on a page.
-const MOST_SHOWN: usize = 200;
+/// So many data sets, or extents, stand on a page.
+pub const MOST_SHOWN: usize = 200;
 
 // So many data sets are looked at for a page.
 const MOST_LOOKED: usize = 20_000;

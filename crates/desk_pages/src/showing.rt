@@ -1,55 +1,70 @@
 //! The page at a path.
-ghost use Rattle.std.specs.Prelude.{◌≡◌, IfOk, List, bytes_eq, find, ℕ};
-ghost use Rattle.std.specs.Option.{option_copied};
+ghost use Rattle.std.specs.Prelude.{◌≡◌, IfOk, length};
 ghost use Rattle.desk_law.specs.State.{DeskState, set_named};
-ghost use Rattle.desk_law.specs.Volumes.{volume_named};
-ghost use Rattle.page_text.specs.PageBodies.{error_body, health_body};
-ghost use Rattle.desk_pages.specs.DeskPages.{IsGotten, IsPage, IsSetsPage, bad_page, desk_page, groups_page};
-ghost use Rattle.desk_pages.specs.DeskPages.{missing_page, not_allowed_page, posted_page, set_page, showing};
-ghost use Rattle.desk_pages.specs.DeskPages.{volume_page, volumes_page};
+ghost use Rattle.page_text.specs.PageBodies.{health_body};
+ghost use Rattle.desk_pages.specs.DeskPages.{IsGotten, IsPage, IsPosted, IsSetsPage, answers_page, bad_page};
+ghost use Rattle.desk_pages.specs.DeskPages.{deck_page, desk_page, missing_page, set_page};
+ghost use Rattle.desk_pages.specs.Shown.{showing};
 
-use crate::grouping::group_rows;
+use crate::checking::check;
+use crate::latest::newest;
 use crate::listing::list_sets;
+use crate::pool::{groups, volume, volumes};
+use crate::said::{filed, refused, shown};
 use crate::shown_desk::ShownDesk;
-use desk_common::Items;
-use dsn_mask::{Dsn, Mask, Volser};
-use http_flow::{Page, PageStatus};
+use crate::trials::trial;
+use dsn_mask::{Dsn, Mask};
+use http_flow::{Page, PageKind, PageStatus};
+use page_files::{desk_markup, desk_script, desk_style};
 use page_paths::{PagePath, read_page_path};
 use page_text::{
-    desk_body, error_body, groups_body, health_body, set_body, sets_body, volume_body, volumes_body,
+    answers_body, deck_body, desk_body, health_body, no_deck_body, set_body, sets_body,
 };
-use sms_construct::VolRow;
 use std::alloc::{AllocError, Global};
 
-/// The page at this path of the desk as it stands (docs/manual/smsd.md, "What pages show").
+/// The page at this path of the desk as it stands, with this body if it is asked by POST (docs/manual/smsd.md, "What
+/// pages show").
 pub fn show_page<D: ShownDesk>(
     alloc: Global,
     desk: &D,
     posts: bool,
     path: &[u8],
+    body: &[u8],
 ) -> Result<Page, AllocError>
-    ensures { IfOk result (λ page. (s : DeskState) (body : List ℕ) → D.stands desk.now s →
-        IsPage s (D.entries desk.now) (record { posts = posts; path = path.now; body = body }) page) }
+    ensures { IfOk result (λ page. (s : DeskState) → D.stands desk.now s →
+        IsPage s (D.journal desk.now) (record { posts = posts; path = path.now; body = body.now }) page) }
 {
     let asked = read_page_path(alloc, path)?;
     if posts {
-        return posted(alloc, &asked);
+        return posted(alloc, desk, &asked, body);
     }
     gotten(alloc, desk, asked)
 }
 
 // The page at a path that is asked for by POST.
-fn posted(alloc: Global, asked: &PagePath) -> Result<Page, AllocError>
-    ensures { IfOk result (λ page. page ≡ posted_page asked.now) }
+fn posted<D: ShownDesk>(
+    alloc: Global,
+    desk: &D,
+    asked: &PagePath,
+    body: &[u8],
+) -> Result<Page, AllocError>
+    ensures { IfOk result (λ page. (s : DeskState) → D.stands desk.now s → IsPosted s body.now asked.now page) }
 {
     match asked {
+        PagePath::Check => check(alloc, desk, body),
+        PagePath::Trial { shows, job, dsn } => trial(alloc, desk, *shows, job, dsn, body),
         PagePath::Missing => missing(alloc),
         PagePath::Bad => bad(alloc),
-        PagePath::Desk
+        PagePath::Home
+        | PagePath::Style
+        | PagePath::Script
+        | PagePath::Desk
         | PagePath::Health
+        | PagePath::Answers
+        | PagePath::Deck
         | PagePath::Groups
         | PagePath::Volumes
-        | PagePath::Volume(_)
+        | PagePath::Volume { .. }
         | PagePath::Sets { .. }
         | PagePath::Set(_) => refused(alloc, PageStatus::NotAllowed, b"this page is read by GET"),
     }
@@ -58,14 +73,22 @@ fn posted(alloc: Global, asked: &PagePath) -> Result<Page, AllocError>
 // The page that is read at a path.
 fn gotten<D: ShownDesk>(alloc: Global, desk: &D, asked: PagePath) -> Result<Page, AllocError>
     ensures { IfOk result (λ page. (s : DeskState) → D.stands desk.now s →
-        IsGotten s (D.entries desk.now) asked page) }
+        IsGotten s (D.journal desk.now) asked page) }
 {
     match asked {
+        PagePath::Home => filed(alloc, PageKind::Markup, desk_markup()),
+        PagePath::Style => filed(alloc, PageKind::Style, desk_style()),
+        PagePath::Script => filed(alloc, PageKind::Script, desk_script()),
         PagePath::Desk => whole(alloc, desk),
         PagePath::Health => health(alloc),
+        PagePath::Answers => answers(alloc, desk),
+        PagePath::Check | PagePath::Trial { .. } => {
+            refused(alloc, PageStatus::NotAllowed, b"this page is asked by POST")
+        }
+        PagePath::Deck => deck(alloc, desk),
         PagePath::Groups => groups(alloc, desk),
         PagePath::Volumes => volumes(alloc, desk),
-        PagePath::Volume(volser) => volume(alloc, desk, &volser),
+        PagePath::Volume { volser, from } => volume(alloc, desk, &volser, from),
         PagePath::Sets { mask, after } => sets(alloc, desk, &mask, after),
         PagePath::Set(dsn) => set(alloc, desk, &dsn),
         PagePath::Bad => bad(alloc),
@@ -76,11 +99,12 @@ fn gotten<D: ShownDesk>(alloc: Global, desk: &D, asked: PagePath) -> Result<Page
 // The desk as a whole.
 fn whole<D: ShownDesk>(alloc: Global, desk: &D) -> Result<Page, AllocError>
     ensures { IfOk result (λ page. (s : DeskState) → D.stands desk.now s →
-        page ≡ desk_page s (D.entries desk.now)) }
+        page ≡ desk_page s (length (D.journal desk.now))) }
 {
     let rows = desk.volumes()?;
     let volumes = rows.as_slice().len() as u64;
-    let body = desk_body(alloc, desk.activations(), desk.entries(), volumes)?;
+    let entries = desk.journal().len() as u64;
+    let body = desk_body(alloc, desk.activations(), entries, volumes)?;
     Ok(shown(body))
 }
 
@@ -92,49 +116,29 @@ fn health(alloc: Global) -> Result<Page, AllocError>
     Ok(shown(body))
 }
 
-// All storage groups.
-fn groups<D: ShownDesk>(alloc: Global, desk: &D) -> Result<Page, AllocError>
-    ensures { IfOk result (λ page. (s : DeskState) → D.stands desk.now s → page ≡ groups_page s) }
+// The text of the active deck.
+fn deck<D: ShownDesk>(alloc: Global, desk: &D) -> Result<Page, AllocError>
+    ensures { IfOk result (λ page. (s : DeskState) → D.stands desk.now s → page ≡ deck_page s.active) }
 {
-    let volumes = desk.volumes()?;
-    let rows = group_rows(alloc, desk.groups(), volumes.as_slice())?;
-    let body = groups_body(alloc, &rows)?;
-    Ok(shown(body))
-}
-
-// All volumes.
-fn volumes<D: ShownDesk>(alloc: Global, desk: &D) -> Result<Page, AllocError>
-    ensures { IfOk result (λ page. (s : DeskState) → D.stands desk.now s → page ≡ volumes_page s) }
-{
-    let rows = desk.volumes()?;
-    let body = volumes_body(alloc, rows.as_slice())?;
-    Ok(shown(body))
-}
-
-// The volume of this serial.
-fn volume<D: ShownDesk>(alloc: Global, desk: &D, volser: &Volser) -> Result<Page, AllocError>
-    ensures { IfOk result (λ page. (s : DeskState) → D.stands desk.now s →
-        page ≡ volume_page s (volume_named s volser.now)) }
-{
-    let rows = desk.volumes()?;
-    match row_of(rows.as_slice(), volser) {
-        Some(row) => {
-            let body = volume_body(alloc, row)?;
+    match desk.config() {
+        Some(config) => {
+            let body = deck_body(alloc, config.deck())?;
             Ok(shown(body))
         }
-        None => refused(
-            alloc,
-            PageStatus::Missing,
-            b"no active volume has this serial",
-        ),
+        None => {
+            let body = no_deck_body(alloc)?;
+            Ok(shown(body))
+        }
     }
 }
 
-// The row of this serial.
-fn row_of<'a>(rows: &'a [VolRow], volser: &Volser) -> Option<&'a VolRow>
-    ensures { option_copied result ≡ find (λ row. bytes_eq row.volser volser.now) rows.entry.now }
+// The last entries of the journal.
+fn answers<D: ShownDesk>(alloc: Global, desk: &D) -> Result<Page, AllocError>
+    ensures { IfOk result (λ page. page ≡ answers_page (D.journal desk.now)) }
 {
-    rows.iter().find(|row| row.volser == *volser)
+    let entries = newest(alloc, desk.journal())?;
+    let body = answers_body(alloc, &entries)?;
+    Ok(shown(body))
 }
 
 // The data sets behind a name that fit a mask.
@@ -169,22 +173,13 @@ fn set<D: ShownDesk>(alloc: Global, desk: &D, dsn: &Dsn) -> Result<Page, AllocEr
     }
 }
 
-fn shown(body: Items<u8>) -> Page
-    ensures { result ≡ showing body }
-{
-    Page {
-        status: PageStatus::Shown,
-        body,
-    }
-}
-
 fn bad(alloc: Global) -> Result<Page, AllocError>
     ensures { IfOk result (λ page. page ≡ bad_page) }
 {
     refused(
         alloc,
         PageStatus::Bad,
-        b"a segment of this path is no name, serial or mask",
+        b"a segment of this path is no name, serial, number or mask",
     )
 }
 
@@ -192,12 +187,4 @@ fn missing(alloc: Global) -> Result<Page, AllocError>
     ensures { IfOk result (λ page. page ≡ missing_page) }
 {
     refused(alloc, PageStatus::Missing, b"there is no page at this path")
-}
-
-// A page that says what is wrong.
-fn refused(alloc: Global, status: PageStatus, sentence: &[u8]) -> Result<Page, AllocError>
-    ensures { IfOk result (λ page. page ≡ record { status = status; body = error_body sentence.now }) }
-{
-    let body = error_body(alloc, sentence)?;
-    Ok(Page { status, body })
 }

@@ -1,13 +1,15 @@
 //! Desks that can be shown.
-ghost use Rattle.std.specs.Prelude.{◌≡◌, ◌<◌, ◌^◌, IfOk, length, map, option_map, ℕ};
+ghost use Rattle.std.specs.Prelude.{◌≡◌, ◌<◌, ◌^◌, IfOk, length, map, option_map, List};
 ghost use Rattle.std.specs.Option.{option_copied};
+ghost use Rattle.sms_construct.specs.declared.entry.Entry.{Entry as Entered};
 ghost use Rattle.desk_law.specs.Display.{shown_volume};
 ghost use Rattle.desk_law.specs.State.{DeskState, set_named};
 ghost use Rattle.desk_law.specs.Volumes.{groups_in, volumes_in};
 ghost use Rattle.desk_state.specs.Following.{IsNextSet};
 
+use deck_meaning::Config;
 use dsn_mask::Dsn;
-use sms_construct::{DataSet, StorGroup, VolRows};
+use sms_construct::{DataSet, Entry, StorGroup, VolRows};
 use std::alloc::AllocError;
 
 /// A desk whose state can be shown.
@@ -15,16 +17,20 @@ pub trait ShownDesk {
     /// It stands in this state.
     ghost stands: { Self → DeskState → Type 0 };
 
-    /// How many entries its journal has.
-    ghost entries: { Self → ℕ };
+    /// Its journal.
+    ghost journal: { Self → List Entered };
 
-    /// How many entries its journal has.
-    fn entries(&self) -> u64
-        ensures { result ≡ entries self.now };
+    /// Its journal.
+    fn journal(&self) -> &[Entry]
+        ensures { result.now ≡ journal self.now };
 
     /// How many activations there were, where something is active.
     fn activations(&self) -> Option<u64>
         ensures { (s : DeskState) → stands self.now s → result ≡ option_map (λ config. s.activations) s.active };
+
+    /// The active configuration.
+    fn config(&self) -> Option<&Config>
+        ensures { (s : DeskState) → stands self.now s → option_copied result ≡ s.active };
 
     /// The storage groups of the active configuration, in byte order of their names.
     fn groups(&self) -> &[StorGroup]

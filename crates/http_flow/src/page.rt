@@ -1,8 +1,9 @@
 //! Pages.
 ghost use Rattle.std.specs.Prelude.{◌≡◌, ◌++◌, IfOk, OnErr, OnOk, codes};
 ghost use Rattle.http_answer.specs.AnswerText.{connection_text};
-ghost use Rattle.http_flow.specs.PageText.{page_text, status_line};
+ghost use Rattle.http_flow.specs.PageText.{kind_lines, page_text, status_line};
 
+use crate::page_kind::PageKind;
 use desk_common::{Items, push_number};
 use std::alloc::{AllocError, Global};
 
@@ -19,10 +20,11 @@ pub enum PageStatus {
     NotAllowed,
 }
 
-/// A page: its status, and its body as JSON.
+/// A page: its status, of what kind its body is, and the body.
 #[derive(Drop)]
 pub struct Page {
     pub status: PageStatus,
+    pub kind: PageKind,
     pub body: Items<u8>,
 }
 
@@ -47,7 +49,8 @@ fn page_bytes(alloc: Global, page: &Page, closes: bool) -> Result<Vec<u8>, Alloc
     let body = page.body.as_slice();
     let mut text = Vec::new(alloc);
     text.extend_from_slice(status_line(page.status))?;
-    text.extend_from_slice(b"Content-Type: application/json\r\nContent-Length: ")?;
+    text.extend_from_slice(kind_lines(page.kind))?;
+    text.extend_from_slice(b"Content-Length: ")?;
     push_number(&mut text, body.len() as u64)?;
     text.extend_from_slice(b"\r\nConnection: ")?;
     text.extend_from_slice(connection_text(closes))?;
@@ -64,6 +67,26 @@ fn status_line(status: PageStatus) -> &'static [u8]
         PageStatus::Bad => b"HTTP/1.1 400 Bad Request\r\n",
         PageStatus::Missing => b"HTTP/1.1 404 Not Found\r\n",
         PageStatus::NotAllowed => b"HTTP/1.1 405 Method Not Allowed\r\n",
+    }
+}
+
+// The headers that a kind of body has. A browser takes nothing for the markup but what this desk serves, and shows it in
+// no other site's frame.
+fn kind_lines(kind: PageKind) -> &'static [u8]
+    ensures { result.now ≡ kind_lines kind }
+{
+    match kind {
+        PageKind::Json => b"Content-Type: application/json\r\n",
+        PageKind::Markup => {
+            b"Content-Type: text/html; charset=utf-8\r\nX-Content-Type-Options: nosniff\r\n\
+            Content-Security-Policy: default-src 'self'; frame-ancestors 'none'; base-uri 'none'; form-action 'none'\r\n"
+        }
+        PageKind::Style => {
+            b"Content-Type: text/css; charset=utf-8\r\nX-Content-Type-Options: nosniff\r\n"
+        }
+        PageKind::Script => {
+            b"Content-Type: text/javascript; charset=utf-8\r\nX-Content-Type-Options: nosniff\r\n"
+        }
     }
 }
 

@@ -9,3 +9,4 @@ mod reading;
 mod reserved;
 
 pub use manage::manage_main;
+pub use printing::push_managed;

@@ -1,5 +1,5 @@
 -- A page of a core shows the state behind the talks.
-use Rattle.std.proofs.Common.{◌≡◌, ◌++◌, List, length, sym}
+use Rattle.std.proofs.Common.{◌≡◌, ◌++◌, List, sym}
 use Rattle.http_flow.specs.declared.page.Page.{Page}
 use Rattle.http_page.specs.Pages.{PageAsk}
 use Rattle.http_talk.specs.declared.talk.Talk.{Talk}
@@ -10,5 +10,5 @@ use Rattle.desk_http.specs.Entered.{HasEntered}
 use Rattle.desk_pages.specs.DeskPages.{IsPage}
 use Rattle.page_clerk.specs.Shows.{ShowsPage, begun_with}
 
-pub shows_now : {P : Type 0} (start core : CoreView P) (talks : List Talk) (ask : PageAsk) (page : Page) → HasEntered start core talks → ((s : DeskState) → Reaches core.opening core.journal s → IsPage s (length core.journal) ask page) → ShowsPage (begun_with start) talks ask page
+pub shows_now : {P : Type 0} (start core : CoreView P) (talks : List Talk) (ask : PageAsk) (page : Page) → HasEntered start core talks → ((s : DeskState) → Reaches core.opening core.journal s → IsPage s core.journal ask page) → ShowsPage (begun_with start) talks ask page
 shows_now start core talks ask page h shows = λ s reaches. rw (sym h.journal) (shows s (rw (h.opening, h.journal) reaches))

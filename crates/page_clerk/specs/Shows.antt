@@ -1,5 +1,5 @@
 -- What the pages of a core show (docs/manual/smsd.md, "Pages").
-use Rattle.std.specs.Prelude.{ℕ, List, ◌++◌, length}
+use Rattle.std.specs.Prelude.{ℕ, List, ◌++◌}
 use Rattle.http_flow.specs.Exchange.{Basis}
 use Rattle.http_flow.specs.declared.page.Page.{Page}
 use Rattle.http_page.specs.Pages.{PageAsk}
@@ -30,4 +30,4 @@ begun_with core = record {
 abbrev pub ShowsPage : Basis Begun → List Talk → PageAsk → Page → Type 0
 ShowsPage basis talks ask page =
     (s : DeskState) → Reaches basis.begun.opening (basis.begun.journal ++ entries_of talks) s
-    → IsPage s (length (basis.begun.journal ++ entries_of talks)) ask page
+    → IsPage s (basis.begun.journal ++ entries_of talks) ask page

@@ -12,13 +12,14 @@ ghost use Rattle.page_clerk.specs.Filling.{AreUnfilled, activations_in, is_nearl
 ghost use Rattle.page_clerk.specs.Shows.{Begun, ShowsPage, begun_with};
 
 use acs_tree::Slate;
+use deck_meaning::Config;
 use desk_common::Items;
 use desk_pages::{ShownDesk, show_page};
 use dsn_mask::Dsn;
 use http_flow::{Page, Pages};
 use http_talk::{Clerk, Talk, Talks};
 use page_text::push_said_refusal;
-use sms_construct::{Answer, DataSet, Op, Reply, Request, StorGroup, VolRows};
+use sms_construct::{Answer, DataSet, Entry, Op, Reply, Request, StorGroup, VolRows};
 use sms_core::{Core, Work};
 use sms_keeper::Keeper;
 use std::alloc::{AllocError, Global};
@@ -174,15 +175,22 @@ fn entered<P: Keeper>(clerk: &PageClerk<P>)
 impl<P: Keeper> ShownDesk for PageClerk<P> {
     ghost stands = { λ c s. Reaches c.core.opening c.core.journal s };
 
-    ghost entries = { λ c. length c.core.journal };
+    ghost journal = { λ c. c.core.journal };
 
-    fn entries(&self) -> u64 {
-        self.core.journal().len() as u64
+    fn journal(&self) -> &[Entry] {
+        self.core.journal()
     }
 
     fn activations(&self) -> Option<u64> {
         match self.core.active() {
             Some((count, _)) => Some(count),
+            None => None,
+        }
+    }
+
+    fn config(&self) -> Option<&Config> {
+        match self.core.active() {
+            Some((_, config)) => Some(config.get()),
             None => None,
         }
     }
@@ -231,10 +239,9 @@ impl<P: Keeper> Pages for PageClerk<P> {
         path: &[u8],
         body: &[u8],
     ) -> Result<Page, AllocError> {
-        let _body = body;
         // A fact for the proof; nothing changes.
         entered(self);
-        show_page(alloc, self, posts, path)
+        show_page(alloc, self, posts, path, body)
     }
 
     fn refuse(&self, alloc: Global, text: &mut Vec<u8>, status: u16) -> Result<(), AllocError> {

@@ -3,6 +3,8 @@
 
 mod page_path;
 mod reading;
+mod trial;
 
 pub use page_path::PagePath;
 pub use reading::read_page_path;
+pub use trial::Trial;

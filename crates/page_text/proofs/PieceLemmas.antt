@@ -6,8 +6,8 @@ use Rattle.sms_construct.specs.declared.extent.Extent.{Extent}
 use Rattle.sms_construct.specs.declared.data_set.DataSet.{DataSet}
 use Rattle.sms_construct.specs.declared.vol_row.VolRow.{VolRow}
 use Rattle.page_text.specs.declared.group_row.GroupRow.{GroupRow}
-use Rattle.page_text.specs.PageBodies.{health_body, group_body, groups_body, extent_body, volume_body, volumes_body, set_body, sets_body, desk_body, error_body}
-use Rattle.page_text.specs.Inner.Pieces.{group_piece, groups_text, extent_piece, volume_front, volume_rest, volumes_text, set_front, set_rest, sets_text, desk_text, error_text, refusal_line, refusal_rest}
+use Rattle.page_text.specs.PageBodies.{health_body, group_body, groups_body, extent_body, volume_body, volumes_body, set_body, sets_body, deck_body, desk_body, error_body, no_deck_body}
+use Rattle.page_text.specs.Inner.Pieces.{group_piece, groups_text, extent_piece, volume_front, volume_rest, volumes_text, set_front, set_rest, sets_text, deck_text, desk_text, error_text, refusal_line, refusal_rest}
 use Rattle.page_text.specs.RefusalText.{refusal_with}
 
 pub extent_is : (extent : Extent) → extent_piece extent ≡ extent_body extent
@@ -33,6 +33,14 @@ sets_is sets after = refl
 pub desk_is : (activations : Option ℕ) (entries volumes : ℕ) → desk_text activations entries volumes ≡ desk_body activations entries volumes
 unfolding escape_byte
 desk_is activations entries volumes = refl
+
+pub deck_is : (deck : List ℕ) → deck_text deck ≡ deck_body deck
+unfolding escape_byte
+deck_is deck = refl
+
+pub no_deck_is : codes "{\"deck\":null}" ≡ no_deck_body
+unfolding escape_byte
+no_deck_is = refl
 
 pub error_is : (sentence : List ℕ) → error_text sentence ≡ error_body sentence
 unfolding escape_byte

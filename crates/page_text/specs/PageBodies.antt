@@ -108,7 +108,7 @@ abbrev pub set_values : List DataSet → Items
 set_values [] = no_items
 set_values (set ∷ sets) = item (set_value set) (set_values sets)
 
--- the page of a volume
+-- a volume as the page of all has it
 abbrev pub volume_body : VolRow → List ℕ
 volume_body row = compact_text (volume_value row)
 
@@ -147,6 +147,14 @@ desk_body activations entries volumes =
     (member (codes "activations") (count_if activations)
     (member (codes "entries") (count entries)
     (member (codes "volumes") (count volumes) no_members))))
+
+-- the page of the active deck, whose text this is
+abbrev pub deck_body : List ℕ → List ℕ
+deck_body deck = compact_text (object (member (codes "deck") (string deck) no_members))
+
+-- the same where none is active
+abbrev pub no_deck_body : List ℕ
+no_deck_body = compact_text (object (member (codes "deck") null no_members))
 
 -- the page that says that the desk is there
 abbrev pub health_body : List ℕ

@@ -10,15 +10,6 @@ use sms_construct::VolRow;
 use sms_script::status_bytes;
 use std::alloc::{AllocError, Global};
 
-/// The page of a volume (docs/manual/smsd.md, "What pages show").
-pub fn volume_body(alloc: Global, row: &VolRow) -> Result<Items<u8>, AllocError>
-    ensures { IfOk result (λ body. body ≡ volume_body row.now) }
-{
-    let mut text = Vec::new(alloc);
-    push_volume(&mut text, row)?;
-    Ok(Items::from_vec(text))
-}
-
 /// The page of all volumes (docs/manual/smsd.md, "What pages show").
 pub fn volumes_body(alloc: Global, rows: &[VolRow]) -> Result<Items<u8>, AllocError>
     ensures { IfOk result (λ body. body ≡ volumes_body rows.now) }
@@ -64,8 +55,8 @@ fn push_volume(text: &mut Vec<u8>, row: &VolRow) -> Result<(), AllocError>
     Ok(())
 }
 
-// Puts its names and its status behind a text.
-fn push_front(text: &mut Vec<u8>, row: &VolRow) -> Result<(), AllocError>
+/// Puts the names and the status of a volume behind a text.
+pub fn push_front(text: &mut Vec<u8>, row: &VolRow) -> Result<(), AllocError>
     ensures { OnOk result (text.new.items ≡ text.old.items ++ volume_front row.now) }
 {
     push_text(text, b"{\"volser\":", row.volser.bytes())?;

@@ -16,23 +16,24 @@ use Rattle.sms_explain.specs.declared.deck_sources.DeckSources.{DeckSources}
 use Rattle.sms_keeper.specs.Suits.{deck_of}
 use Rattle.sms_script.specs.declared.item.Item.{Item}
 use Rattle.sms_simulation.specs.Simulation.{AreAsked, first_misplaced, first_other, misplaced_from}
-use Rattle.sms_simulation.specs.declared.simulated.Simulated.{Simulated}
-use Rattle.sms_simulation.specs.declared.simulated.Simulated.TheVariants as simulations
 use Rattle.sms_story.specs.declared.run.Run.{Run}
 use Rattle.sms_coverage.specs.Coverage.{IsCoverage, IsCoveredUnder, deck_text}
+use Rattle.sms_coverage.specs.Shortfall.{deck_short}
+use Rattle.sms_coverage.specs.declared.coverage.Covered.{Covered}
+use Rattle.sms_coverage.specs.declared.coverage.Covered.TheVariants as coverages
 use Rattle.sms_coverage.specs.Events.{AreCounted, counts_of, events_in, events_of_run, runs_of_item, tallies_in}
 use Rattle.sms_coverage.specs.declared.kind_tallies.KindTallies.{KindTallies}
 
 asked : (first : Item) (others : List Item) (deck : List ℕ) → deck_of first.request.op ≡ Some deck → first_other others ≡ None → AreAsked (first ∷ others) deck others
 asked first others deck activates allocates = record { first = first; items_are = refl; activates = activates; allocates = allocates }
 
-pub covered_under : (first : Item) (others : List Item) (deck : List ℕ) (made : Simulated) → deck_of first.request.op ≡ Some deck → first_other others ≡ None
-    → IsCoveredUnder deck others made → IsCoverage (first ∷ others) made
-covered_under first others deck (simulations.Shown text) activates allocates covers =
+pub covered_under : (least : ℕ) (first : Item) (others : List Item) (deck : List ℕ) (made : Covered) → deck_of first.request.op ≡ Some deck → first_other others ≡ None
+    → IsCoveredUnder least deck others made → IsCoverage least (first ∷ others) made
+covered_under least first others deck (coverages.Shown coverage) activates allocates covers =
     inr (record { deck = deck; others = others; asked = asked first others deck activates allocates; covers = covers })
-covered_under first others deck (simulations.Refused fault) activates allocates found =
+covered_under least first others deck (coverages.Refused fault) activates allocates found =
     record { deck = deck; others = others; asked = asked first others deck activates allocates; found = found }
-covered_under first others deck (simulations.Misplaced line) activates allocates never = absurd never
+covered_under least first others deck (coverages.Misplaced line) activates allocates never = absurd never
 
 pub misplaced_behind : (first : Item) (others : List Item) (deck : List ℕ) (line : ℕ) → deck_of first.request.op ≡ Some deck → first_other others ≡ Some line → first_misplaced (first ∷ others) ≡ Some line
 misplaced_behind first others deck line activates other = ap (λ (d : Option (List ℕ)). misplaced_from d first others) activates ∙ other
@@ -42,6 +43,10 @@ pub same_text : (config : Configuration) (sources : DeckSources) (runs : List Ru
     → deck_text config sources (λ kind. tally_at (tallies_in tallies kind)) ≡ deck_text config sources (counts_of runs)
 same_text config sources runs tallies counts =
     ap (λ (c : Kind → ℕ → Tally). deck_text config sources c) (fun_ext (λ kind. fun_ext (λ at. counts kind at)))
+
+pub same_shortfall : (least : ℕ) (config : Configuration) (runs : List Run) (tallies : KindTallies) → AreCounted runs tallies
+    → deck_short least config (λ kind. tally_at (tallies_in tallies kind)) ≡ deck_short least config (counts_of runs)
+same_shortfall least config runs tallies counts = ap (λ (c : Kind → ℕ → Tally). deck_short least config c) (fun_ext (λ kind. fun_ext (λ at. counts kind at)))
 
 -- the counts of one kind are those of this run too, the others are as they were
 of_same : (of kind : Kind) → same_kind of kind ≡ true → of ≡ kind

@@ -1,6 +1,6 @@
 -- The coverage of a script: what its allocations reach of the routines of its deck (docs/manual/tool.md, "Coverage of a
 -- script").
-use Rattle.std.specs.Prelude.{◌≡◌, ◌⊎◌, ◌++◌, ℕ, List, [], Option, None, Some, flat_map}
+use Rattle.std.specs.Prelude.{◌≡◌, ◌⊎◌, ◌++◌, ℕ, false, List, [], Option, None, Some, flat_map}
 use Rattle.acs_coverage.specs.CoverageText.{coverage_text}
 use Rattle.acs_coverage.specs.Points.{points_of}
 use Rattle.acs_coverage.specs.declared.tally.Tally.{Tally}
@@ -16,9 +16,11 @@ use Rattle.sms_explain.specs.DeckTexts.{AreSources, source_in}
 use Rattle.sms_explain.specs.declared.deck_sources.DeckSources.{DeckSources}
 use Rattle.sms_script.specs.declared.item.Item.{Item}
 use Rattle.sms_simulation.specs.Simulation.{AreAsked, RefusesDeck, ShowsNothing, first_misplaced}
-use Rattle.sms_simulation.specs.declared.simulated.Simulated.{Simulated}
-use Rattle.sms_simulation.specs.declared.simulated.Simulated.TheVariants as simulations
 use Rattle.sms_coverage.specs.Events.{counts_of, runs_of_item}
+use Rattle.sms_coverage.specs.Shortfall.{deck_short}
+use Rattle.sms_coverage.specs.declared.coverage.Coverage.{Coverage}
+use Rattle.sms_coverage.specs.declared.coverage.Covered.{Covered}
+use Rattle.sms_coverage.specs.declared.coverage.Covered.TheVariants as coverages
 
 -- what was reached of a routine; of a missing one nothing is told
 abbrev pub routine_text : Kind → Source → (ℕ → Tally) → Option CheckedRoutine → List ℕ
@@ -36,29 +38,35 @@ deck_text config sources counts =
     kind_text config sources counts DataClas ++ kind_text config sources counts StorClas
     ++ kind_text config sources counts MgmtClas ++ kind_text config sources counts StorGrp
 
--- the text tells what these ALLOCs reach of the routines of the deck
-pub record CoversUnder (deck : List ℕ) (others : List Item) (text : List ℕ) : Type 0 where
+-- the coverage tells what these ALLOCs reach of the routines of the deck, and whether that is less than so many per cent
+-- of one of them
+pub record CoversUnder (least : ℕ) (deck : List ℕ) (others : List Item) (coverage : Coverage) : Type 0 where
   pub config : Configuration
   pub configures : Configures deck config
   pub sources : DeckSources
   pub texts : AreSources deck sources
-  pub text_is : text ≡ deck_text config sources (counts_of (flat_map (runs_of_item config) others))
+  pub text_is : coverage.text ≡ deck_text config sources (counts_of (flat_map (runs_of_item config) others))
+  pub short_is : coverage.short ≡ deck_short least config (counts_of (flat_map (runs_of_item config) others))
 
--- the text is that of a deck and of the ALLOCs behind it
-pub record Covers (items : List Item) (text : List ℕ) : Type 0 where
+-- the coverage is that of a deck and of the ALLOCs behind it
+pub record Covers (least : ℕ) (items : List Item) (coverage : Coverage) : Type 0 where
   pub deck : List ℕ
   pub others : List Item
   pub asked : AreAsked items deck others
-  pub covers : CoversUnder deck others text
+  pub covers : CoversUnder least deck others coverage
 
--- what the coverage of these items comes to
-abbrev pub IsCoverage : List Item → Simulated → Type 0
-IsCoverage items (simulations.Shown text) = ShowsNothing items text ⊎ Covers items text
-IsCoverage items (simulations.Refused fault) = RefusesDeck items fault
-IsCoverage items (simulations.Misplaced line) = first_misplaced items ≡ Some line
+-- there is nothing of which something could be reached
+abbrev pub CoversNothing : List Item → Coverage → Type 0
+CoversNothing items coverage = ShowsNothing items coverage.text × (coverage.short ≡ false)
+
+-- what the coverage of these items comes to, where so many per cent are asked for
+abbrev pub IsCoverage : ℕ → List Item → Covered → Type 0
+IsCoverage least items (coverages.Shown coverage) = CoversNothing items coverage ⊎ Covers least items coverage
+IsCoverage least items (coverages.Refused fault) = RefusesDeck items fault
+IsCoverage least items (coverages.Misplaced line) = first_misplaced items ≡ Some line
 
 -- what it comes to where this deck is activated and these are the ALLOCs behind it
-abbrev pub IsCoveredUnder : List ℕ → List Item → Simulated → Type 0
-IsCoveredUnder deck others (simulations.Shown text) = CoversUnder deck others text
-IsCoveredUnder deck others (simulations.Refused fault) = HasFirstFault deck fault
-IsCoveredUnder deck others (simulations.Misplaced line) = ⊥
+abbrev pub IsCoveredUnder : ℕ → List ℕ → List Item → Covered → Type 0
+IsCoveredUnder least deck others (coverages.Shown coverage) = CoversUnder least deck others coverage
+IsCoveredUnder least deck others (coverages.Refused fault) = HasFirstFault deck fault
+IsCoveredUnder least deck others (coverages.Misplaced line) = ⊥

@@ -2,9 +2,12 @@
 #![tactic(auto)]
 
 mod counting;
+mod coverage;
 mod covering;
 mod kind_tallies;
+mod shortfall;
 mod text;
 
+pub use coverage::{Coverage, Covered};
 pub use covering::cover;
 pub use kind_tallies::KindTallies;

@@ -7,3 +7,4 @@ mod run_text;
 
 pub use deck_sources::{DeckSources, sources_of};
 pub use explaining::explain;
+pub use run_text::push_runs;

@@ -1,4 +1,4 @@
-// Runs as text.
+//! Runs as text.
 ghost use Rattle.std.specs.Prelude.{◌≡◌, ◌++◌, OnOk, flat_map};
 ghost use Rattle.sms_explain.specs.RunText.{begin_text, end_text, ending_text, groups_text, run_text, values_text};
 
@@ -11,7 +11,8 @@ use sms_script::{push_word_and_blank, value_bytes};
 use sms_story::Run;
 use std::alloc::AllocError;
 
-/// Puts what happened in these runs behind a text.
+/// Puts what happened in these runs behind a text (docs/manual/tool.md, "Explaining a script"), or only a front of it
+/// where memory is wanting.
 pub fn push_runs(text: &mut Vec<u8>, sources: &DeckSources, runs: &[Run]) -> Result<(), AllocError>
     ensures { OnOk result (text.new.items ≡ text.old.items ++ flat_map (run_text sources.now) runs.now) }
 {

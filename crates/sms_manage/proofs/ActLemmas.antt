@@ -29,15 +29,10 @@ use Rattle.desk_law.proofs.HistoryLemmas.{leads-one, leads-push}
 use Rattle.sms_core.specs.Core.{Enters}
 use Rattle.sms_manage.specs.declared.wanted.Due.{Due}
 use Rattle.sms_manage.specs.declared.wanted.Due.TheVariants.{Nothing, Delete, Release}
-use Rattle.sms_manage.specs.Managed.{IsUnused, manager, op_for, is_hindered}
+use Rattle.sms_manage.specs.Managed.{IsUnused, IsUnusedFrom, manager, op_for, is_hindered}
 
--- the job has no floor, and no kept reply from this number on
-pub record IsUnusedFrom (o : Opening) (h : List Entry) (number : ℕ) : Type 0 where
-  pub floor : floor_of o h manager ≡ 0
-  pub kept : (n : ℕ) → number ≤ n → kept_for o h manager n ≡ None
-
-pub unused-all : (o : Opening) (h : List Entry) → IsUnused o h → IsUnusedFrom o h 1
-unused-all o h unused = record { floor = unused.floor; kept = λ n any. unused.kept n }
+pub unused_all : (o : Opening) (h : List Entry) → IsUnused o h → IsUnusedFrom o h 1
+unused_all o h unused = record { floor = rw unused.floor (omega arith); kept = λ n any. unused.kept n }
 
 -- the state after what is due was done
 abbrev pub after_act : Due → DeskState → DataSet → DeskState
@@ -97,14 +92,16 @@ unused-push : (o : Opening) (h : List Entry) (number : ℕ) (e : Entry) → IsUn
 unused-push o h number e unused same quiet = record {
   floor =
       let floors : all_floors o (h ++ e ∷ []) ≡ all_floors o h = all-floors-append o h (e ∷ []) ∙ ap (λ l. all_floors o h ++ (l ++ [])) quiet ∙ append-none (all_floors o h) in
-      ap (greatest_floor manager) floors ∙ unused.floor;
+      let same_floor : greatest_floor manager (all_floors o (h ++ e ∷ [])) ≡ greatest_floor manager (all_floors o h) = ap (greatest_floor manager) floors in
+      let below : greatest_floor manager (all_floors o h) ≤ number = unused.floor in
+      omega (arith, same_floor, below);
   kept = λ n less.
       ap (find (is_reply_of manager n)) (all-rows-append o h (e ∷ []))
       ∙ find-none (is_reply_of manager n) (all_rows o h) (rows_of_entry e ++ []) (unused.kept n (omega (arith, less))) (other-row-at number n e _ refl same less);
 }
 
 unused-later : (o : Opening) (h : List Entry) (number : ℕ) → IsUnusedFrom o h number → IsUnusedFrom o h (number + 1)
-unused-later o h number unused = record { floor = unused.floor; kept = λ n less. unused.kept n (omega (arith, less)) }
+unused-later o h number unused = record { floor = let below : floor_of o h manager ≤ number = unused.floor in omega (arith, below); kept = λ n less. unused.kept n (omega (arith, less)) }
 
 -- a request was answered: the state after it, and what is unused then
 pub record HasActed (o : Opening) (h' : List Entry) (number : ℕ) (wanted : Due) (s : DeskState) (set : DataSet) (reply : Reply) : Type 0 where
@@ -118,7 +115,7 @@ entered-act : (o : Opening) (h : List Entry) (number : ℕ) (wanted : Due) (op :
     → e.request.number ≡ number → e.request.op ≡ op → op_for wanted set.dsn ≡ Some op → set_named set.dsn s.sets ≡ Some set → Reaches o h s → IsStep o h s e after
     → HasActed o (h ++ e ∷ []) number wanted s set e.answer.reply
 entered-act o h number wanted op s after set e unused job same asked is found reaches step =
-    let above : nat_lt e.request.number (floor_of o h e.request.job) ≡ false = rw (job, unused.floor) (not-below e.request.number) in
+    let above : nat_lt e.request.number (floor_of o h e.request.job) ≡ false = rw (job, same) (not-below number (floor_of o h manager) unused.floor) in
     let none : kept_for o h e.request.job e.request.number ≡ None = rw (job, same) (unused.kept number (omega arith)) in
     let fresh : IsFresh (floor_of o h) s e after = rw (above, none) at step.answer in
     let acted = fresh-act (floor_of o h) s set wanted op e after is asked found fresh in
@@ -129,8 +126,8 @@ entered-act o h number wanted op s after set e unused job same asked is found re
       unused = unused-push o h number e unused same acted.quiet;
     }
   where
-    not-below : (n : ℕ) → nat_lt n 0 ≡ false
-    not-below n = grind (arith, nat_tests)
+    not-below : (n floor : ℕ) → floor ≤ n → nat_lt n floor ≡ false
+    not-below n floor below = grind (arith, nat_tests, below)
 
 without-entry : (reply : Reply) → is_entered reply ≡ false → (not (is_hindered reply) ≡ false) × (floor_told reply ≡ [])
 without-entry (replies.Granted set trace) none = absurd cc

@@ -41,8 +41,8 @@ one-asked number op answer = elim (cases_Bool (is_entered answer.reply)) [
 ]
 
 -- what was asked of a data set was added
-pub asks-asking : (o : Opening) (old new : List Entry) (dsn : List ℕ) (op : Op) (acts acts' : List Act) → Asks o old new dsn op acts acts' → IsAsking old new
-asks-asking o old new dsn op acts acts' asks = record {
+pub asks-asking : (first : ℕ) (o : Opening) (old new : List Entry) (dsn : List ℕ) (op : Op) (acts acts' : List Act) → Asks first o old new dsn op acts acts' → IsAsking old new
+asks-asking first o old new dsn op acts acts' asks = record {
   added = entry_of _ asks.answer;
   behind = asks.enters.journal_is;
   asked = one-asked _ op asks.answer;

@@ -17,27 +17,27 @@ use Rattle.sms_manage.specs.declared.act.Act.{Act}
 use Rattle.sms_manage.specs.declared.wanted.Due.{Due}
 use Rattle.sms_manage.specs.declared.wanted.Due.TheVariants.{Nothing, Delete, Release}
 use Rattle.sms_manage.specs.Due.{due_of, is_due, is_due_if}
-use Rattle.sms_manage.specs.Managed.{AreAnswersBehind, IsAnswerBehind, IsDayBegun, IsManaged, IsUnused, WasDayBegun}
-use Rattle.sms_manage.specs.Managed.{WasManaged, are_counted, entries_of}
+use Rattle.sms_manage.specs.Managed.{AreAnswersBehind, IsAnswerBehind, IsDayBegun, IsManaged, IsUnusedFrom, WasDayBegunFrom}
+use Rattle.sms_manage.specs.Managed.{WasManagedFrom, are_counted, entries_of}
 use Rattle.sms_manage.specs.Managed.{entry_for, op_for, op_if, is_hindered}
 use Rattle.sms_manage.specs.Inner.Walk.{Asks, IsDueNext, IsNextDue}
-use Rattle.sms_manage.proofs.ActLemmas.{HasActed, IsUnusedFrom, step-acted, unused-all}
+use Rattle.sms_manage.proofs.ActLemmas.{HasActed, step-acted}
 use Rattle.sms_manage.proofs.DayLemmas.{AllBefore, R, all-push, any-push, ascending-push, before-apart, before-behind}
 use Rattle.sms_manage.proofs.DayLemmas.{before-push, behind-apart, counted-push, entries-push, further, names-push}
 use Rattle.sms_manage.proofs.DayLemmas.{other-stays, same-name, settled-act, which-at}
 
 -- the data sets up to a name were gone through, from the state before
-pub record IsDaySoFar (o : Opening) (day : ℕ) (config : Configuration) (before : DeskState) (old h : List Entry) (last : Option (List ℕ)) (acts : List Act) : Type 0 where
+pub record IsDaySoFar (first : ℕ) (o : Opening) (day : ℕ) (config : Configuration) (before : DeskState) (old h : List Entry) (last : Option (List ℕ)) (acts : List Act) : Type 0 where
   pub state : DeskState
   pub reaches : Reaches o h state
   pub journal : h ≡ old ++ entries_of config day before.sets acts
   pub answers : AreAnswersBehind config day before.sets old acts
-  pub unused : IsUnusedFrom o h (length acts + 1)
+  pub unused : IsUnusedFrom o h (first + length acts)
   pub behind : (dsn : List ℕ) → is_behind last dsn ≡ true → set_named dsn state.sets ≡ set_named dsn before.sets
   pub each : (dsn : List ℕ) → list_any (λ act. bytes_eq act.dsn dsn) acts ≡ (not (is_behind last dsn) && is_due_if config day (set_named dsn before.sets))
   pub names : (dsn : List ℕ) → is_behind last dsn ≡ true → AllBefore (map (λ act. act.dsn) acts) dsn
   pub order : are_ascending (map (λ act. act.dsn) acts) ≡ true
-  pub counted : are_counted 1 acts ≡ true
+  pub counted : are_counted first acts ≡ true
   pub others : (dsn : List ℕ) → is_behind last dsn ≡ false → is_due_if config day (set_named dsn before.sets) ≡ false → set_named dsn state.sets ≡ set_named dsn before.sets
   pub settled : list_all (λ act. not (is_hindered act.answer.reply)) acts ≡ true → (dsn : List ℕ) → is_behind last dsn ≡ false → is_due_if config day (set_named dsn state.sets) ≡ false
 
@@ -50,13 +50,13 @@ answers-push config day sets h (a ∷ acts) act op is all one =
     (all.0, answers-push config day sets (h ++ entry) acts act op is all.1 (subst (λ es. IsAnswerBehind es op act.answer) (sym (append_assoc h entry (entries_of config day sets acts))) one))
 
 -- nothing was gone through yet
-pub day-begins : (o : Opening) (day : ℕ) (config : Configuration) (before : DeskState) (old : List Entry) → Reaches o old before → IsUnused o old → IsDaySoFar o day config before old old None []
-day-begins o day config before old reaches unused = record {
+pub day-begins : (first : ℕ) (o : Opening) (day : ℕ) (config : Configuration) (before : DeskState) (old : List Entry) → Reaches o old before → IsUnusedFrom o old first → IsDaySoFar first o day config before old old None []
+day-begins first o day config before old reaches unused = record {
   state = before;
   reaches = reaches;
   journal = sym (append-nil old);
   answers = tt;
-  unused = unused-all o old unused;
+  unused = let at : first ≡ first + 0 = omega arith in subst (λ n. IsUnusedFrom o old n) at unused;
   behind = λ dsn any. refl;
   each = λ dsn. refl;
   names = λ dsn any. tt;
@@ -66,7 +66,7 @@ day-begins o day config before old reaches unused = record {
   settled = λ all dsn isnt. absurd cc;
 }
 
-module _ (o : Opening) (day : ℕ) (config : Configuration) (before : DeskState) (old h : List Entry) (last : Option (List ℕ)) (acts : List Act) (far : IsDaySoFar o day config before old h last acts)
+module _ (first : ℕ) (o : Opening) (day : ℕ) (config : Configuration) (before : DeskState) (old h : List Entry) (last : Option (List ℕ)) (acts : List Act) (far : IsDaySoFar first o day config before old h last acts)
     (set : DataSet) (next : IsFirstBehind last far.state.sets set) where
   -- the next data set stands as it stood before the day
   next-before : set_named set.dsn before.sets ≡ Some set
@@ -95,7 +95,7 @@ module _ (o : Opening) (day : ℕ) (config : Configuration) (before : DeskState)
   up-to dsn isnt = before-apart set.dsn dsn (before-behind last dsn set.dsn isnt next.behind)
 
   -- nothing is due of it
-  pub day-skips : due_of config day set ≡ Nothing → IsDaySoFar o day config before old h (Some set.dsn) acts
+  pub day-skips : due_of config day set ≡ Nothing → IsDaySoFar first o day config before old h (Some set.dsn) acts
   day-skips due =
       let none : is_due_if config day (set_named set.dsn before.sets) ≡ false = rw (next-before, due) refl in
       record {
@@ -129,11 +129,11 @@ module _ (o : Opening) (day : ℕ) (config : Configuration) (before : DeskState)
       }
 
   -- what is due of it is asked
-  pub day-asks : (h' : List Entry) (acts' : List Act) (wanted : Due) (op : Op) → due_of config day set ≡ wanted → op_for wanted set.dsn ≡ Some op → Asks o h h' set.dsn op acts acts' → IsDaySoFar o day config before old h' (Some set.dsn) acts'
+  pub day-asks : (h' : List Entry) (acts' : List Act) (wanted : Due) (op : Op) → due_of config day set ≡ wanted → op_for wanted set.dsn ≡ Some op → Asks first o h h' set.dsn op acts acts' → IsDaySoFar first o day config before old h' (Some set.dsn) acts'
   day-asks h' acts' wanted op due is asks =
       let answer = asks.answer in
-      let act : Act = record { number = length acts + 1; dsn = set.dsn; answer = answer } in
-      let acted = step-acted o h h' asks.told asks.told_then asks.count asks.count_then (length acts + 1) wanted op far.state set _ answer far.unused refl is next.stands far.reaches asks.enters in
+      let act : Act = record { number = first + length acts; dsn = set.dsn; answer = answer } in
+      let acted = step-acted o h h' asks.told asks.told_then asks.count asks.count_then (first + length acts) wanted op far.state set _ answer far.unused refl is next.stands far.reaches asks.enters in
       let asked : op_if config day (set_named set.dsn before.sets) ≡ Some op = rw (next-before, due) is in
       let one : entry_for (op_if config day (set_named set.dsn before.sets)) act ≡ entry_for (Some op) act = ap (λ found. entry_for found act) asked in
       let some : is_due_if config day (set_named set.dsn before.sets) ≡ true = rw (next-before, due) (is-due wanted op is) in
@@ -145,7 +145,10 @@ module _ (o : Opening) (day : ℕ) (config : Configuration) (before : DeskState)
             ∙ ap (λ es. old ++ es) (ap (λ es. entries_of config day before.sets acts ++ es) (sym one) ∙ sym (entries-push config day before.sets acts act));
         answers = answers-push config day before.sets old acts act op asked far.answers
             (subst (λ es. IsAnswerBehind es op answer) far.journal (record { unplaced = asks.enters.no_place; full = asks.enters.full }));
-        unused = rw (length-append acts (act ∷ [])) acted.unused;
+        unused =
+            let more : length (acts ++ act ∷ []) ≡ length acts + 1 = length-append acts (act ∷ []) in
+            let at : (first + length acts) + 1 ≡ first + length (acts ++ act ∷ []) = omega (arith, more) in
+            subst (λ n. IsUnusedFrom o h' n) at acted.unused;
         behind = λ dsn past. stays acted dsn (behind-apart set.dsn dsn past) ∙ far.behind dsn (passed dsn past);
         each = λ dsn. any-push (λ a. bytes_eq a.dsn dsn) acts act ∙ elim (cases_Bool (is_behind (Some set.dsn) dsn)) [
           | inl past ↦ rw (past, behind-apart set.dsn dsn past) (or-none _ ∙ rw (passed dsn past) at (far.each dsn))
@@ -157,7 +160,7 @@ module _ (o : Opening) (day : ℕ) (config : Configuration) (before : DeskState)
         ];
         names = λ dsn past. rw (names-push acts act) (before-push (map (λ (a : Act). a.dsn) acts) set.dsn dsn (far.names dsn (passed dsn past)) past);
         order = rw (names-push acts act) (ascending-push (map (λ (a : Act). a.dsn) acts) set.dsn far.order (far.names set.dsn next.behind));
-        counted = counted-push 1 acts act far.counted (omega arith);
+        counted = counted-push first acts act far.counted (omega arith);
         others = λ dsn isnt quiet. elim (place-of dsn isnt) [
           | inl early ↦ stays acted dsn (up-to dsn early) ∙ far.others dsn early quiet
           | inr (inl same) ↦ let bad : false ≡ true = sym quiet ∙ rw (← same) some in absurd cc
@@ -195,9 +198,9 @@ module _ (o : Opening) (day : ℕ) (config : Configuration) (before : DeskState)
       or-all false = refl
 
 -- all names were gone through
-pub day-ends : (o : Opening) (day : ℕ) (config : Configuration) (before : DeskState) (old h : List Entry) (last : Option (List ℕ)) (acts : List Act) (far : IsDaySoFar o day config before old h last acts)
-    → before.active ≡ Some config → IsLastName last far.state.sets → IsManaged o day config before far.state old h acts
-day-ends o day config before old h last acts far active none = record {
+pub day-ends : (first : ℕ) (o : Opening) (day : ℕ) (config : Configuration) (before : DeskState) (old h : List Entry) (last : Option (List ℕ)) (acts : List Act) (far : IsDaySoFar first o day config before old h last acts)
+    → before.active ≡ Some config → IsLastName last far.state.sets → IsManaged first o day config before far.state old h acts
+day-ends first o day config before old h last acts far active none = record {
   active = active;
   acts_are = record {
     each = λ dsn. far.each dsn ∙ elim (cases_Bool (is_behind last dsn)) [
@@ -236,9 +239,9 @@ past-then true due asked is found none = refl
 past-then false due asked is found none = let bad : true ≡ false = sym found ∙ sym is ∙ none in absurd cc
 
 -- the acts up to a name are first ones
-pub day-begun : (o : Opening) (day : ℕ) (config : Configuration) (before : DeskState) (old h : List Entry) (last : Option (List ℕ)) (acts : List Act) → IsDaySoFar o day config before old h last acts
-    → IsDayBegun day config before old h
-day-begun o day config before old h last acts far = record {
+pub day-begun : (first : ℕ) (o : Opening) (day : ℕ) (config : Configuration) (before : DeskState) (old h : List Entry) (last : Option (List ℕ)) (acts : List Act) → IsDaySoFar first o day config before old h last acts
+    → IsDayBegun first day config before old h
+day-begun first o day config before old h last acts far = record {
   acts = acts;
   acts_are = record {
     due = λ dsn asked. due-then (is_behind last dsn) (is_due_if config day (set_named dsn before.sets)) _ (far.each dsn) asked;
@@ -251,10 +254,10 @@ day-begun o day config before old h last acts far = record {
 }
 
 -- nothing was asked for
-pub begun-none : (o : Opening) (day : ℕ) (old : List Entry) → WasDayBegun o day old old
-begun-none o day old before reaches = at before.active
+pub begun-none : (first : ℕ) (o : Opening) (day : ℕ) (old : List Entry) → WasDayBegunFrom first o day old old
+begun-none first o day old before reaches = at before.active
   where
-    at : (active : Option Configuration) → MatchOption active (old ≡ old) (λ config. IsDayBegun day config before old old)
+    at : (active : Option Configuration) → MatchOption active (old ≡ old) (λ config. IsDayBegun first day config before old old)
     at None = refl
     at (Some config) = record {
       acts = [];
@@ -267,11 +270,11 @@ all-asked : (asked due : Bool) → asked ≡ due → due ≡ true → asked ≡ 
 all-asked asked due is found none = let bad : true ≡ false = sym found ∙ sym is ∙ none in absurd cc
 
 -- a whole day was begun
-pub whole-begun : (o : Opening) (day : ℕ) (old new : List Entry) (acts : List Act) → WasManaged o day old new acts → WasDayBegun o day old new
-whole-begun o day old new acts was before reaches = elim (was before reaches) [
+pub whole-begun : (first : ℕ) (o : Opening) (day : ℕ) (old new : List Entry) (acts : List Act) → WasManagedFrom first o day old new acts → WasDayBegunFrom first o day old new
+whole-begun first o day old new acts was before reaches = elim (was before reaches) [
   | inl did ↦
       let managed = did.2 in
-      subst (λ found. MatchOption found (new ≡ old) (λ c. IsDayBegun day c before old new)) (sym managed.active) (record {
+      subst (λ found. MatchOption found (new ≡ old) (λ c. IsDayBegun first day c before old new)) (sym managed.active) (record {
         acts = acts;
         acts_are = record {
           due = λ dsn asked. sym (managed.acts_are.each dsn) ∙ asked;
@@ -282,7 +285,7 @@ whole-begun o day old new acts was before reaches = elim (was before reaches) [
         journal = managed.journal;
         answers = managed.answers;
       })
-  | inr idle ↦ subst (λ found. MatchOption found (new ≡ old) (λ c. IsDayBegun day c before old new)) (sym idle.inactive) idle.same
+  | inr idle ↦ subst (λ found. MatchOption found (new ≡ old) (λ c. IsDayBegun first day c before old new)) (sym idle.inactive) idle.same
 ]
 
 -- what holds anyway holds after an error
@@ -296,31 +299,31 @@ err-then (Ok x) f p = tt
 err-then (Err e) f p = f p
 
 -- the same of the configuration that is active
-pub begun-under : (o : Opening) (day : ℕ) (config : Configuration) (old new : List Entry) → ((before : DeskState) → Reaches o old before → before.active ≡ Some config)
-    → ((before : DeskState) → Reaches o old before → before.active ≡ Some config → IsDayBegun day config before old new) → WasDayBegun o day old new
-begun-under o day config old new active begun before reaches =
-    subst (λ found. MatchOption found (new ≡ old) (λ c. IsDayBegun day c before old new)) (sym (active before reaches)) (begun before reaches (active before reaches))
+pub begun-under : (first : ℕ) (o : Opening) (day : ℕ) (config : Configuration) (old new : List Entry) → ((before : DeskState) → Reaches o old before → before.active ≡ Some config)
+    → ((before : DeskState) → Reaches o old before → before.active ≡ Some config → IsDayBegun first day config before old new) → WasDayBegunFrom first o day old new
+begun-under first o day config old new active begun before reaches =
+    subst (λ found. MatchOption found (new ≡ old) (λ c. IsDayBegun first day c before old new)) (sym (active before reaches)) (begun before reaches (active before reaches))
 
 -- The next data set, as the catalog is gone through.
 
-module _ (o o' : Opening) (day : ℕ) (config : Configuration) (before : DeskState) (old h : List Entry) (last : Option (List ℕ)) (acts : List Act) (next : Option (List ℕ × Due)) (same : o' ≡ o)
-    (far : IsDaySoFar o day config before old h last acts) (finds : (s : DeskState) → Reaches o' h s → IsNextDue config day s.sets last next) where
+module _ (first : ℕ) (o o' : Opening) (day : ℕ) (config : Configuration) (before : DeskState) (old h : List Entry) (last : Option (List ℕ)) (acts : List Act) (next : Option (List ℕ × Due)) (same : o' ≡ o)
+    (far : IsDaySoFar first o day config before old h last acts) (finds : (s : DeskState) → Reaches o' h s → IsNextDue config day s.sets last next) where
   found : IsNextDue config day far.state.sets last next
   found = finds far.state (subst (λ p. Reaches p h far.state) (sym same) far.reaches)
 
   -- there is none
-  pub day-over : before.active ≡ Some config → next ≡ None → (after : DeskState) × IsManaged o day config before after old h acts
-  day-over active none = (far.state, day-ends o day config before old h last acts far active (subst (λ n. IsNextDue config day far.state.sets last n) none found))
+  pub day-over : before.active ≡ Some config → next ≡ None → (after : DeskState) × IsManaged first o day config before after old h acts
+  day-over active none = (far.state, day-ends first o day config before old h last acts far active (subst (λ n. IsNextDue config day far.state.sets last n) none found))
 
   module _ (pair : List ℕ × Due) (is : next ≡ Some pair) where
     due-next : IsDueNext config day far.state.sets last pair
     due-next = subst (λ n. IsNextDue config day far.state.sets last n) is found
 
     -- nothing is due of it
-    pub day-passes : op_for pair.1 pair.0 ≡ None → IsDaySoFar o day config before old h (Some pair.0) acts
+    pub day-passes : op_for pair.1 pair.0 ≡ None → IsDaySoFar first o day config before old h (Some pair.0) acts
     day-passes none =
-        subst (λ d. IsDaySoFar o day config before old h (Some d) acts) (sym due-next.name)
-        (day-skips o day config before old h last acts far due-next.set due-next.first (sym due-next.due ∙ nothing pair.1 none))
+        subst (λ d. IsDaySoFar first o day config before old h (Some d) acts) (sym due-next.name)
+        (day-skips first o day config before old h last acts far due-next.set due-next.first (sym due-next.due ∙ nothing pair.1 none))
       where
         nothing : (wanted : Due) → op_for wanted pair.0 ≡ None → wanted ≡ Nothing
         nothing Nothing none = refl
@@ -328,8 +331,8 @@ module _ (o o' : Opening) (day : ℕ) (config : Configuration) (before : DeskSta
         nothing Release none = absurd cc
 
     -- what is due of it was asked
-    pub day-acts : (h' : List Entry) (acts' : List Act) (op : Op) → op_for pair.1 pair.0 ≡ Some op → Asks o' h h' pair.0 op acts acts' → IsDaySoFar o day config before old h' (Some pair.0) acts'
+    pub day-acts : (h' : List Entry) (acts' : List Act) (op : Op) → op_for pair.1 pair.0 ≡ Some op → Asks first o' h h' pair.0 op acts acts' → IsDaySoFar first o day config before old h' (Some pair.0) acts'
     day-acts h' acts' op some asks =
-        subst (λ d. IsDaySoFar o day config before old h' (Some d) acts') (sym due-next.name)
-        (day-asks o day config before old h last acts far due-next.set due-next.first h' acts' pair.1 op (sym due-next.due) (subst (λ d. op_for pair.1 d ≡ Some op) due-next.name some)
-        (subst (λ d. Asks o h h' d op acts acts') due-next.name (subst (λ p. Asks p h h' pair.0 op acts acts') same asks)))
+        subst (λ d. IsDaySoFar first o day config before old h' (Some d) acts') (sym due-next.name)
+        (day-asks first o day config before old h last acts far due-next.set due-next.first h' acts' pair.1 op (sym due-next.due) (subst (λ d. op_for pair.1 d ≡ Some op) due-next.name some)
+        (subst (λ d. Asks first o h h' d op acts acts') due-next.name (subst (λ p. Asks first p h h' pair.0 op acts acts') same asks)))

@@ -1,5 +1,5 @@
 -- A day of space management: which requests are made, and what they come to.
-use Rattle.std.specs.Prelude.{ℕ, ◌≡◌, ◌↔◌, ◌+◌, ◌==◌, ◌&&◌, ◌⊎◌, Bool, true, false, not, List, [], ◌∷◌, ◌++◌, map}
+use Rattle.std.specs.Prelude.{ℕ, ◌≡◌, ◌≤◌, ◌↔◌, ◌+◌, ◌==◌, ◌&&◌, ◌⊎◌, Bool, true, false, not, List, [], ◌∷◌, ◌++◌, map}
 use Rattle.std.specs.Prelude.{codes, bytes_eq, Option, None, Some, IfSome, MatchOption}
 use Rattle.std.specs.List.{list_all, list_any}
 use Rattle.sms_construct.specs.Configuration.{Configuration, are_ascending}
@@ -30,6 +30,11 @@ pub record IsUnused (o : Opening) (h : List Entry) : Type 0 where
   pub floor : floor_of o h manager ≡ 0
   pub kept : (number : ℕ) → kept_for o h manager number ≡ None
 
+-- the job has no kept reply from this number on, and no floor above it
+pub record IsUnusedFrom (o : Opening) (h : List Entry) (number : ℕ) : Type 0 where
+  pub floor : floor_of o h manager ≤ number
+  pub kept : (n : ℕ) → number ≤ n → kept_for o h manager n ≡ None
+
 -- what is asked where something is due
 abbrev pub op_for : Due → List ℕ → Option Op
 op_for Nothing dsn = None
@@ -57,21 +62,22 @@ abbrev pub are_counted : ℕ → List Act → Bool
 are_counted number [] = true
 are_counted number (act ∷ acts) = act.number == number && are_counted (number + 1) acts
 
--- the acts are just one for each data set of which something is due, in byte order of the names, and are counted from 1
-pub record AreActs (config : Configuration) (day : ℕ) (sets : List DataSet) (acts : List Act) : Type 0 where
+-- the acts are just one for each data set of which something is due, in byte order of the names, and are counted from
+-- this number
+pub record AreActs (first : ℕ) (config : Configuration) (day : ℕ) (sets : List DataSet) (acts : List Act) : Type 0 where
   pub each : (dsn : List ℕ) → list_any (λ act. bytes_eq act.dsn dsn) acts ≡ is_due_if config day (set_named dsn sets)
   pub order : are_ascending (map (λ act. act.dsn) acts) ≡ true
-  pub counted : are_counted 1 acts ≡ true
+  pub counted : are_counted first acts ≡ true
 
 -- the acts are just one for each of some first data sets of which something is due, in byte order of the names, and are
--- counted from 1: what is due and wasn't asked for stands behind all that was
-pub record AreFirstActs (config : Configuration) (day : ℕ) (sets : List DataSet) (acts : List Act) : Type 0 where
+-- counted from this number: what is due and wasn't asked for stands behind all that was
+pub record AreFirstActs (first : ℕ) (config : Configuration) (day : ℕ) (sets : List DataSet) (acts : List Act) : Type 0 where
   pub due : (dsn : List ℕ) → list_any (λ act. bytes_eq act.dsn dsn) acts ≡ true →
       is_due_if config day (set_named dsn sets) ≡ true
   pub front : (dsn : List ℕ) → is_due_if config day (set_named dsn sets) ≡ true →
       list_any (λ act. bytes_eq act.dsn dsn) acts ≡ false → list_all (λ act. is_behind (Some act.dsn) dsn) acts ≡ true
   pub order : are_ascending (map (λ act. act.dsn) acts) ≡ true
-  pub counted : are_counted 1 acts ≡ true
+  pub counted : are_counted first acts ≡ true
 
 -- nothing was done: the keeper failed, or the journal's room or memory was wanting
 abbrev pub is_hindered : Reply → Bool
@@ -94,10 +100,10 @@ AreAnswersBehind config day sets h (act ∷ acts) =
     × AreAnswersBehind config day sets (h ++ entry_for (op_if config day (set_named act.dsn sets)) act) acts
 
 -- from the state before, in which this configuration was active, the acts lead to the state after
-pub record IsManaged (o : Opening) (day : ℕ) (config : Configuration) (before after : DeskState) (old new : List Entry)
-    (acts : List Act) : Type 0 where
+pub record IsManaged (first : ℕ) (o : Opening) (day : ℕ) (config : Configuration) (before after : DeskState)
+    (old new : List Entry) (acts : List Act) : Type 0 where
   pub active : before.active ≡ Some config
-  pub acts_are : AreActs config day before.sets acts
+  pub acts_are : AreActs first config day before.sets acts
   pub journal : new ≡ old ++ entries_of config day before.sets acts
   pub answers : AreAnswersBehind config day before.sets old acts
   pub legal : Reaches o new after
@@ -109,17 +115,21 @@ pub record IsManaged (o : Opening) (day : ℕ) (config : Configuration) (before 
       is_due_if config day (set_named dsn after.sets) ≡ false
 
 -- from the state before, in which this configuration was active, some first acts of the day were done
-pub record IsDayBegun (day : ℕ) (config : Configuration) (before : DeskState) (old new : List Entry) : Type 0 where
+pub record IsDayBegun (first day : ℕ) (config : Configuration) (before : DeskState) (old new : List Entry) : Type 0 where
   pub acts : List Act
-  pub acts_are : AreFirstActs config day before.sets acts
+  pub acts_are : AreFirstActs first config day before.sets acts
   pub journal : new ≡ old ++ entries_of config day before.sets acts
   pub answers : AreAnswersBehind config day before.sets old acts
 
 -- some first acts of a day were done behind these entries; none where nothing is active
-abbrev pub WasDayBegun : Opening → ℕ → List Entry → List Entry → Type 0
-WasDayBegun o day old new =
+abbrev pub WasDayBegunFrom : ℕ → Opening → ℕ → List Entry → List Entry → Type 0
+WasDayBegunFrom first o day old new =
     (before : DeskState) → Reaches o old before
-    → MatchOption before.active (new ≡ old) (λ config. IsDayBegun day config before old new)
+    → MatchOption before.active (new ≡ old) (λ config. IsDayBegun first day config before old new)
+
+-- the same of acts that are counted from 1
+abbrev pub WasDayBegun : Opening → ℕ → List Entry → List Entry → Type 0
+WasDayBegun = WasDayBegunFrom 1
 
 -- behind these entries stand only some that the job asked for
 pub record IsAsking (old new : List Entry) : Type 0 where
@@ -133,9 +143,13 @@ pub record IsIdle (before : DeskState) (old new : List Entry) (acts : List Act) 
   pub none : acts ≡ []
   pub same : new ≡ old
 
--- a day of space management behind these entries
-abbrev pub WasManaged : Opening → ℕ → List Entry → List Entry → List Act → Type 0
-WasManaged o day old new acts =
+-- a day of space management behind these entries, with acts that are counted from this number
+abbrev pub WasManagedFrom : ℕ → Opening → ℕ → List Entry → List Entry → List Act → Type 0
+WasManagedFrom first o day old new acts =
     (before : DeskState) → Reaches o old before
-    → ((config : Configuration) × (after : DeskState) × IsManaged o day config before after old new acts) ⊎
+    → ((config : Configuration) × (after : DeskState) × IsManaged first o day config before after old new acts) ⊎
     IsIdle before old new acts
+
+-- the same of acts that are counted from 1
+abbrev pub WasManaged : Opening → ℕ → List Entry → List Entry → List Act → Type 0
+WasManaged = WasManagedFrom 1

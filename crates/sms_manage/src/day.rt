@@ -2,7 +2,8 @@
 ghost use Rattle.std.specs.Prelude.{◌≡◌, ◌+◌, IfOk, IfSome, OnErr, OnOk, Some};
 ghost use Rattle.desk_law.specs.State.{DeskState};
 ghost use Rattle.desk_law.specs.History.{Reaches};
-ghost use Rattle.sms_manage.specs.Managed.{IsAsking, IsDayBegun, IsManaged, IsUnused, WasDayBegun, WasManaged, op_for};
+ghost use Rattle.sms_manage.specs.Managed.{IsAsking, IsDayBegun, IsManaged, IsUnused, IsUnusedFrom, op_for};
+ghost use Rattle.sms_manage.specs.Managed.{WasDayBegun, WasDayBegunFrom, WasManaged, WasManagedFrom};
 ghost use Rattle.sms_manage.specs.Inner.Walk.{Asks, IsNextDue};
 
 use crate::act::{Act, Acts};
@@ -39,11 +40,38 @@ pub fn run_day<P: Keeper>(
     ensures opening { core.new.opening ≡ core.old.opening }
     ensures mark { core.new.mark ≡ core.old.mark }
 {
+    // A fact for the proof; nothing changes.
+    unused_from_one(core);
+    run_day_from(alloc, core, slate, day, 1)
+}
+
+/// The same with requests that are numbered from the first number on, from which the job has used none.
+pub fn run_day_from<P: Keeper>(
+    alloc: Global,
+    core: &mut Core<P>,
+    slate: &mut Slate,
+    day: u32,
+    first: u32,
+) -> Result<Acts, AllocError>
+    requires { IsUnusedFrom core.old.opening core.old.journal first }
+    ensures managed { IfOk result (λ acts.
+        WasManagedFrom first core.old.opening day core.old.journal core.new.journal acts) }
+    ensures begun { OnErr result (WasDayBegunFrom first core.old.opening day core.old.journal core.new.journal) }
+    ensures asking { IsAsking core.old.journal core.new.journal }
+    ensures opening { core.new.opening ≡ core.old.opening }
+    ensures mark { core.new.mark ≡ core.old.mark }
+{
     match active(core)? {
-        Some(config) => act_all(alloc, core, slate, config.get(), day),
+        Some(config) => act_all(alloc, core, slate, config.get(), day, first),
         None => Ok(Items::new(alloc)),
     }
 }
+
+// From 1 on the job has used no number where it has used none. A fact for the proof; nothing runs.
+fn unused_from_one<P: Keeper>(core: &Core<P>)
+    requires { IsUnused core.now.opening core.now.journal }
+    ensures { IsUnusedFrom core.now.opening core.now.journal 1 }
+{}
 
 // Asks for all that is due on a day under a configuration.
 fn act_all<P: Keeper>(
@@ -52,14 +80,15 @@ fn act_all<P: Keeper>(
     slate: &mut Slate,
     config: &Config,
     day: u32,
+    first: u32,
 ) -> Result<Acts, AllocError>
-    requires { IsUnused core.old.opening core.old.journal }
+    requires { IsUnusedFrom core.old.opening core.old.journal first }
     ensures managed { IfOk result (λ acts. (before : DeskState) → Reaches core.old.opening core.old.journal before →
         before.active ≡ Some config.now →
-        (after : DeskState) × IsManaged core.old.opening day config.now before after core.old.journal core.new.journal
+        (after : DeskState) × IsManaged first core.old.opening day config.now before after core.old.journal core.new.journal
         acts) }
     ensures begun { OnErr result ((before : DeskState) → Reaches core.old.opening core.old.journal before →
-        before.active ≡ Some config.now → IsDayBegun day config.now before core.old.journal core.new.journal) }
+        before.active ≡ Some config.now → IsDayBegun first day config.now before core.old.journal core.new.journal) }
     ensures asking { IsAsking core.old.journal core.new.journal }
     ensures opening { core.new.opening ≡ core.old.opening }
     ensures mark { core.new.mark ≡ core.old.mark }
@@ -72,7 +101,7 @@ fn act_all<P: Keeper>(
         };
         last = Some(next.0);
         if let Some(op) = op_for(next.1, next.0) {
-            act_on(core, slate, next.0, op, &mut acts)?;
+            act_on(core, slate, first, next.0, op, &mut acts)?;
         }
     }
     Err(AllocError)
@@ -118,18 +147,19 @@ fn op_for(wanted: Due, dsn: Dsn) -> Option<Op>
 fn act_on<P: Keeper>(
     core: &mut Core<P>,
     slate: &mut Slate,
+    first: u32,
     dsn: Dsn,
     op: Op,
     acts: &mut Vec<Act>,
 ) -> Result<(), AllocError>
-    ensures asked { OnOk result (Asks core.old.opening core.old.journal core.new.journal dsn op acts.old.items
+    ensures asked { OnOk result (Asks first core.old.opening core.old.journal core.new.journal dsn op acts.old.items
         acts.new.items) }
     ensures unasked { OnErr result (core.new.journal ≡ core.old.journal) }
     ensures opening { core.new.opening ≡ core.old.opening }
     ensures mark { core.new.mark ≡ core.old.mark }
 {
     acts.reserve(1)?;
-    let Some(number) = number_behind(acts.len()) else {
+    let Some(number) = number_behind(first, acts.len()) else {
         return Err(AllocError);
     };
     let Some(job) = Name::new(MANAGER) else {
@@ -146,11 +176,12 @@ fn act_on<P: Keeper>(
 }
 
 // The number of the act behind so many; `None` where it is none of a request.
-fn number_behind(count: usize) -> Option<RequestNumber>
-    ensures { IfSome result (λ number. number ≡ count + 1) }
+fn number_behind(first: u32, count: usize) -> Option<RequestNumber>
+    ensures { IfSome result (λ number. number ≡ first + count) }
 {
-    if count >= u32::MAX as usize {
+    let number = u64::from(first).checked_add(count as u64)?;
+    if number > u64::from(u32::MAX) {
         return None;
     }
-    RequestNumber::new(count as u32 + 1)
+    RequestNumber::new(number as u32)
 }

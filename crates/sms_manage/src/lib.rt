@@ -7,6 +7,6 @@ mod expiry;
 mod wanted;
 
 pub use act::{Act, Acts};
-pub use day::{MANAGER, run_day};
+pub use day::{MANAGER, run_day, run_day_from};
 pub use expiry::due;
 pub use wanted::Due;

@@ -1,7 +1,7 @@
 //! How the program ends.
 ghost use Rattle.std.specs.Prelude.{◌≡◌};
 ghost use Rattle.std.specs.Process.{exit_status};
-ghost use Rattle.smsd.specs.Ends.{IsEnd};
+ghost use Rattle.smsd.specs.Ends.{is_bad, is_done, is_whole};
 ghost use Rattle.store_calls.specs.Statuses.{store_status_of};
 
 use crate::explaining::{NO_MEMORY, WAITING_FAULT};
@@ -10,8 +10,8 @@ use std::io::Write;
 use std::process::ExitCode;
 use store_calls::StoreStatus;
 
-// The exit statuses of a deck that wouldn't be active, of waiting that failed, and of a file or a port that can't be had.
-const NOT_ACTIVE: u8 = 1;
+// The exit statuses of what is judged and isn't good, of waiting that failed, and of a file or a port that can't be had.
+const NOT_GOOD: u8 = 1;
 
 const NOT_WAITED: u8 = 8;
 
@@ -19,12 +19,6 @@ const NOT_HAD: u8 = 9;
 
 /// Says how a call over a store ended, where that isn't well, and what its note says; ends the program with its status.
 pub fn end_with(rt: &HostRuntime, status: StoreStatus, note: &str) -> ExitCode
-    ensures { IsEnd (exit_status result) }
-{
-    end_status(rt, status, note)
-}
-
-fn end_status(rt: &HostRuntime, status: StoreStatus, note: &str) -> ExitCode
     ensures { exit_status result ≡ store_status_of status }
 {
     let code = status.code();
@@ -39,45 +33,68 @@ fn end_status(rt: &HostRuntime, status: StoreStatus, note: &str) -> ExitCode
 
 /// Says that memory is wanting before a store is open, and ends the program.
 pub fn end_wanting(rt: &HostRuntime) -> ExitCode
-    ensures { IsEnd (exit_status result) }
+    ensures { exit_status result ≡ 7 }
 {
     end(rt, 7, NO_MEMORY)
 }
 
 /// Says why a file or a port can't be had, and ends the program.
 pub fn end_refused(rt: &HostRuntime, note: &str) -> ExitCode
-    ensures { IsEnd (exit_status result) }
+    ensures { exit_status result ≡ 9 }
 {
     end_noted(rt, NOT_HAD, note)
 }
 
 /// Says why the input can't be opened, and ends the program.
 pub fn end_unread(rt: &HostRuntime, note: &str) -> ExitCode
-    ensures { IsEnd (exit_status result) }
+    ensures { exit_status result ≡ 3 }
 {
     end_noted(rt, 3, note)
 }
 
 /// Says that waiting for connections failed, and ends the program.
 pub fn end_unwaited(rt: &HostRuntime) -> ExitCode
-    ensures { IsEnd (exit_status result) }
+    ensures { exit_status result ≡ 8 }
 {
     end(rt, NOT_WAITED, WAITING_FAULT)
 }
 
-/// Ends the program where a deck wouldn't be active, with what its note says.
-pub fn end_inactive(rt: &HostRuntime, note: &str) -> ExitCode
-    ensures { IsEnd (exit_status result) }
+/// Ends the program where a deck wouldn't be active, or a strict script has an answer that isn't good, with what its note
+/// says.
+pub fn end_bad(rt: &HostRuntime, note: &str) -> ExitCode
+    ensures { exit_status result ≡ 1 }
 {
     say(rt, note);
-    code(NOT_ACTIVE)
+    ExitCode::from(NOT_GOOD)
+}
+
+/// Whether all was written, and what was written isn't good.
+pub fn is_bad(status: StoreStatus, good: bool) -> bool
+    ensures { result ≡ is_bad status good }
+{
+    is_done(status) && !good
+}
+
+fn is_done(status: StoreStatus) -> bool
+    ensures { result ≡ is_done status }
+{
+    match status {
+        StoreStatus::Ran(status) => is_whole(status),
+        StoreStatus::Unopened(_) => false,
+    }
+}
+
+fn is_whole(status: RunStatus) -> bool
+    ensures { result ≡ is_whole status }
+{
+    matches!(status, RunStatus::Done)
 }
 
 /// Ends the program where all went well.
 pub fn end_well() -> ExitCode
-    ensures { IsEnd (exit_status result) }
+    ensures { exit_status result ≡ 0 }
 {
-    code(0)
+    ExitCode::from(0)
 }
 
 /// Says a status on standard error, and behind it a sentence; ends the program with it.
@@ -97,12 +114,6 @@ fn end_noted(rt: &HostRuntime, status: u8, note: &str) -> ExitCode
 {
     let _ = eprintln!(rt; "smsd: status {status}");
     say(rt, note);
-    ExitCode::from(status)
-}
-
-fn code(status: u8) -> ExitCode
-    ensures { exit_status result ≡ status }
-{
     ExitCode::from(status)
 }
 

@@ -1,15 +1,16 @@
-//! The lasting desk as a program: it answers a script on a store, lists what the store holds, serves it, or
-//! checks a deck there.
+//! The lasting desk as a program: it answers a script on a store, lists what the store holds, serves it, checks a deck
+//! or manages space there.
 #![tactic(auto)]
 
 ghost use Rattle.std.specs.Process.{exit_status};
-ghost use Rattle.smsd.specs.Ends.{IsEnd};
+ghost use Rattle.smsd.specs.Ends.{IsTaskEnd};
 
 mod checking;
 mod ending;
 mod explaining;
 mod kept_source;
 mod listing;
+mod managing;
 mod noted_sink;
 mod running;
 mod serving;
@@ -39,20 +40,23 @@ fn obey(rt: &HostRuntime, words: &[String]) -> ExitCode {
 
 // Does the task on the store, and ends the program.
 fn act(rt: &HostRuntime, store: &str, task: &Task<'_>) -> ExitCode
-    ensures { IsEnd (exit_status result) }
+    ensures { IsTaskEnd task.now (exit_status result) }
 {
     match task {
         Task::Run {
             script: None,
             volumes,
-        } => running::run(rt, store, *volumes),
+            strict,
+        } => running::run(rt, store, *volumes, *strict),
         Task::Run {
             script: Some(path),
             volumes,
-        } => running::run_file(rt, store, *volumes, path),
+            strict,
+        } => running::run_file(rt, store, *volumes, *strict, path),
         Task::List(query) => listing::list(rt, store, query),
         Task::Serve(serving) => serving::serve(rt, store, *serving),
         Task::Check { deck } => checking::check(rt, store, deck),
+        Task::Manage { day, dry } => managing::manage(rt, store, *day, *dry),
     }
 }
 

@@ -1,56 +1,125 @@
 //! A script on a store.
+ghost use Rattle.std.specs.Prelude.{◌≡◌, IfErr, IfOk, OnErr, false, true};
 ghost use Rattle.std.specs.Process.{exit_status};
-ghost use Rattle.smsd.specs.Ends.{IsEnd};
+ghost use Rattle.sms_base.specs.Observed.{seen_streams};
+ghost use Rattle.smsd.specs.Ends.{IsOfScript, IsReadEnd, IsScriptEnd, judged_status_of};
+ghost use Rattle.smsd.specs.Inner.Calls.{EndsRun};
 
-use crate::ending::{end_unread, end_with};
+use crate::ending::{end_bad, end_unread, end_with, is_bad};
 use crate::explaining::{note_status, note_unread};
 use crate::kept_source::KeptSource;
 use crate::noted_sink::NotedSink;
-use crate::store::{close, open};
-use desk_notes::note_replies;
-use sms_base::{Source, StdSink, StdSource};
+use crate::store::{FileKeeper, close, open};
+use desk_notes::{RepliesSeen, note_replies};
+use sms_base::{Sink, Source, StdSink, StdSource};
+use sms_keeper::Stored;
+use std::io::Read;
 use std::process::ExitCode;
 use std::{fs, io};
-use store_calls::store_run;
+use store_calls::{StoreStatus, store_run};
 
 /// Answers the script on standard input on the store, and ends the program.
-pub fn run(rt: &HostRuntime, store: &str, volumes: bool) -> ExitCode
-    ensures { IsEnd (exit_status result) }
+pub fn run(rt: &HostRuntime, store: &str, volumes: bool, strict: bool) -> ExitCode
+    ensures { IsReadEnd (IsScriptEnd strict) (exit_status result) }
 {
-    run_source(rt, store, volumes, StdSource::new(rt.reader()))
+    let source = StdSource::new(rt.reader());
+    run_source(rt, volumes, strict, source, open(rt, store))
 }
 
 /// Answers the script in the file at the path on the store, and ends the program.
-pub fn run_file(rt: &HostRuntime, store: &str, volumes: bool, path: &str) -> ExitCode
-    ensures { IsEnd (exit_status result) }
+pub fn run_file(rt: &HostRuntime, store: &str, volumes: bool, strict: bool, path: &str) -> ExitCode
+    ensures { IsReadEnd (IsScriptEnd strict) (exit_status result) }
 {
-    match fs::open(rt, path) {
-        Ok(file) => run_source(rt, store, volumes, StdSource::new(file)),
+    run_opened(rt, store, volumes, strict, path, fs::open(rt, path))
+}
+
+// Answers the script in the file that was opened, or says why it wasn't; ends the program.
+fn run_opened<R: Read + Drop>(
+    rt: &HostRuntime,
+    store: &str,
+    volumes: bool,
+    strict: bool,
+    path: &str,
+    opened: io::Result<R>,
+) -> ExitCode
+    ensures unread { OnErr opened (exit_status result ≡ 3) }
+    ensures ends { IsReadEnd (IsScriptEnd strict) (exit_status result) }
+{
+    match opened {
+        Ok(file) => run_source(rt, volumes, strict, StdSource::new(file), open(rt, store)),
         Err(error) => refuse(rt, path, error),
     }
 }
 
-// Answers the script of the source on the store, and ends the program.
-fn run_source<S: Source + Drop>(rt: &HostRuntime, store: &str, volumes: bool, source: S) -> ExitCode
-    ensures { IsEnd (exit_status result) }
+// Answers the script of the source on the store that was opened, and ends the program; or ends it as the opening did.
+fn run_source<S: Source + Drop>(
+    rt: &HostRuntime,
+    volumes: bool,
+    strict: bool,
+    source: S,
+    opened: Result<FileKeeper, ExitCode>,
+) -> ExitCode
+    ensures unopened { IfErr opened (λ code. exit_status result ≡ exit_status code) }
+    ensures ran { IfOk opened (λ _. IsOfScript strict (exit_status result)) }
 {
-    let keeper = match open(rt, store) {
-        Ok(keeper) => keeper,
-        Err(code) => return code,
-    };
-    let mut src = KeptSource::new(rt.alloc(), source);
-    let mut out = NotedSink::new(StdSink::new(io::writer(rt)));
-    let (status, keeper) = store_run(rt.alloc(), volumes, &mut src, &mut out, keeper);
-    close(keeper);
+    match opened {
+        Ok(keeper) => {
+            let mut src = KeptSource::new(rt.alloc(), source);
+            let mut out = NotedSink::new(StdSink::new(io::writer(rt)));
+            let (code, keeper) = answer(rt, volumes, strict, &mut src, &mut out, keeper);
+            close(keeper);
+            code
+        }
+        Err(code) => code,
+    }
+}
+
+// Answers the script of the source on the store of the keeper, and says how the program ends, with the keeper.
+fn answer<S: Source, K: Sink, P: Stored>(
+    rt: &HostRuntime,
+    volumes: bool,
+    strict: bool,
+    src: &mut KeptSource<S>,
+    out: &mut NotedSink<K>,
+    keeper: P,
+) -> (ExitCode, P)
+    ensures { EndsRun P.Keeper P.damage volumes strict
+        (seen_streams S.left S.reads S.read_faults K.taken K.write_faults src.old.source out.old.sink)
+        (seen_streams S.left S.reads S.read_faults K.taken K.write_faults src.new.source out.new.sink)
+        keeper result.1 (exit_status result.0) }
+{
+    let (status, keeper) = store_run(rt.alloc(), volumes, src, out, keeper);
     let mut note = String::new(rt.alloc());
     note_status(rt.alloc(), &mut note, status, src.given());
     note_replies(rt.alloc(), &mut note, out.seen(), src.given());
-    end_with(rt, status, &note)
+    let good = is_good(strict, out.seen());
+    (end_judged(rt, status, good, &note), keeper)
+}
+
+// Whether the answers that were written are good, which all are of a script that isn't strict.
+fn is_good(strict: bool, seen: RepliesSeen) -> bool
+    ensures { strict ≡ false → result ≡ true }
+{
+    if strict {
+        return !seen.has_undone();
+    }
+    true
+}
+
+// Says how the script ended, where that isn't well, and what its note says; ends the program with its status, or with
+// that of answers that aren't good.
+fn end_judged(rt: &HostRuntime, status: StoreStatus, good: bool, note: &str) -> ExitCode
+    ensures { exit_status result ≡ judged_status_of status good }
+{
+    if is_bad(status, good) {
+        return end_bad(rt, note);
+    }
+    end_with(rt, status, note)
 }
 
 /// Says why the input can't be opened, and ends the program.
 pub fn refuse(rt: &HostRuntime, path: &str, error: io::Error) -> ExitCode
-    ensures { IsEnd (exit_status result) }
+    ensures { exit_status result ≡ 3 }
 {
     let mut note = String::new(rt.alloc());
     note_unread(rt.alloc(), &mut note, path, error);

@@ -1,19 +1,21 @@
 -- What words ask for, by the command that reads them (docs/manual/smsd.md, "Words").
 use Rattle.std.specs.Prelude.{◌≡◌, ◌⊎◌, ℕ, Bool, true, false, List, [], Option, None, Some, codes, bytes_eq, is_some}
-use Rattle.std.specs.Prelude.{if◌then◌else◌, option_and_then, option_map, unwrap_or}
+use Rattle.std.specs.Prelude.{if◌then◌else◌, nat_le, option_and_then, option_map, unwrap_or}
 use Rattle.std.specs.Option.{option_map_or}
 use Rattle.acs_tree.specs.Numbers.{within}
 use Rattle.clap.specs.Words.{IsAmong, Row, Text, fault_of, first_of, subcommand_of}
 use Rattle.clap.specs.declared.error.kind.ErrorKind.{ErrorKind}
 use Rattle.clap.specs.declared.error.kind.ErrorKind.TheVariants as kind
+use Rattle.desk_common.specs.Limits.{last_day}
 use Rattle.dsn_mask.specs.MaskText.{mask_of}
 use Rattle.dsn_mask.specs.Name.{name_of, volser_of}
 use Rattle.sms_construct.specs.Numbers.{small_number_of}
 use Rattle.smsd_words.specs.Command.{smsd}
 use Rattle.store_report.specs.declared.format.Format.{Format}
 use Rattle.store_report.specs.declared.format.Format.TheVariants.{Csv, Json}
+use Rattle.store_report.specs.declared.format.Format.TheVariants as formats
 use Rattle.store_report.specs.declared.listing.Listing.{Listing}
-use Rattle.store_report.specs.declared.listing.Listing.TheVariants.{Groups, Volumes, Sets, Extents}
+use Rattle.store_report.specs.declared.listing.Listing.TheVariants.{Groups, Volumes, Classes, Sets, Extents}
 use Rattle.store_report.specs.declared.query.Query.{Query}
 use Rattle.store_report.specs.declared.selection.Selection.{Selection}
 use Rattle.smsd_words.specs.declared.serving.Serving.{Serving}
@@ -36,6 +38,7 @@ abbrev pub listing_named : Text → Option Listing
 listing_named word =
     if bytes_eq word (codes "groups") then Some Groups
     else if bytes_eq word (codes "volumes") then Some Volumes
+    else if bytes_eq word (codes "classes") then Some Classes
     else if bytes_eq word (codes "sets") then Some Sets
     else if bytes_eq word (codes "extents") then Some Extents else None
 
@@ -48,7 +51,8 @@ abbrev pub format_named : Option Text → Option Format
 format_named None = Some Csv
 format_named (Some word) =
     if bytes_eq word (codes "csv") then Some Csv
-    else if bytes_eq word (codes "json") then Some Json else None
+    else if bytes_eq word (codes "json") then Some Json
+    else if bytes_eq word (codes "text") then Some formats.Text else None
 
 -- the form that these rows name
 abbrev pub format_in : List Row → Option Format
@@ -81,11 +85,18 @@ selection_in rows =
     (group_in rows))
     (mask_in rows)
 
+-- nothing is asked of the rows
+abbrev pub is_all : Selection → Bool
+is_all selection =
+    if is_some selection.mask then false
+    else (if is_some selection.group then false else (if is_some selection.volume then false else true))
+
 -- each row of the listing has what is asked of it: data sets and extents a name, a storage group and a volume, volumes a
--- storage group and a serial, storage groups a name
+-- storage group and a serial, storage groups a name, classes nothing
 abbrev pub suits : Listing → Selection → Bool
 suits Groups selection = if is_some selection.mask then false else (if is_some selection.volume then false else true)
 suits Volumes selection = if is_some selection.mask then false else true
+suits Classes selection = is_all selection
 suits Sets selection = true
 suits Extents selection = true
 
@@ -116,19 +127,33 @@ serving_in rows =
     option_and_then (λ port.
     option_and_then (λ connections.
     option_and_then (λ idle.
-    Some (record { port = port; connections = connections; idle = idle }))
+    Some (record { port = port; connections = connections; idle = idle; log = is_set (codes "log") rows }))
     (number_or 86400 60 (first_of (codes "idle") rows)))
     (number_or 10000 1000 (first_of (codes "connections") rows)))
     (number_or 65535 8080 (first_of (codes "port") rows))
 
+-- a day up to the last
+abbrev pub day_of : ℕ → Option ℕ
+day_of day = if nat_le day last_day then Some day else None
+
+-- the day that a word names
+abbrev pub day_named : Text → Option ℕ
+day_named word = option_and_then day_of (small_number_of word)
+
+-- the day that these rows name
+abbrev pub day_in : List Row → Option ℕ
+day_in rows = option_and_then day_named (first_of (codes "day") rows)
+
 -- the subcommand of this name with these rows asks for this task
 abbrev pub AsksTask : Text → List Row → Task → Type 0
-AsksTask name rows (tasks.Run script volumes) =
+AsksTask name rows (tasks.Run script volumes strict) =
     (name ≡ codes "run") × (option_map (λ path. path.now) script ≡ first_of (codes "script") rows) ×
-    (volumes ≡ is_set (codes "volumes") rows)
+    (volumes ≡ is_set (codes "volumes") rows) × (strict ≡ is_set (codes "strict") rows)
 AsksTask name rows (tasks.List query) = (name ≡ codes "list") × (query_in rows ≡ Some query)
 AsksTask name rows (tasks.Serve serving) = (name ≡ codes "serve") × (serving_in rows ≡ Some serving)
 AsksTask name rows (tasks.Check deck) = (name ≡ codes "check") × (first_of (codes "deck") rows ≡ Some deck.now)
+AsksTask name rows (tasks.Manage day dry) =
+    (name ≡ codes "manage") × (day_in rows ≡ Some day) × (dry ≡ is_set (codes "dry-run") rows)
 
 -- the subcommand that was found asks for this
 pub record Finds (found : Option (Text × List Row)) (asked : Asked) : Type 0 where

@@ -30,10 +30,11 @@ KeepsItsOwn command = (out-Command command).has_globals ≡ false
 
 abbrev pub run_app : App
 run_app =
-    with_rule (with_rule (with_rule
+    with_rule (with_rule (with_rule (with_rule
     (new_app (codes "run"))
     (word_rule (codes "script")))
     (flag_rule (codes "volumes")))
+    (flag_rule (codes "strict")))
     (option_rule (codes "store"))
 
 abbrev pub list_app : App
@@ -49,15 +50,24 @@ list_app =
 
 abbrev pub serve_app : App
 serve_app =
-    with_rule (with_rule (with_rule (with_rule
+    with_rule (with_rule (with_rule (with_rule (with_rule
     (new_app (codes "serve"))
     (option_rule (codes "port")))
     (option_rule (codes "connections")))
     (option_rule (codes "idle")))
+    (flag_rule (codes "log")))
     (option_rule (codes "store"))
 
 abbrev pub check_app : App
 check_app = with_rule (with_rule (new_app (codes "check")) (wanted_rule (codes "deck"))) (option_rule (codes "store"))
+
+abbrev pub manage_app : App
+manage_app =
+    with_rule (with_rule (with_rule
+    (new_app (codes "manage"))
+    (wanted_rule (codes "day")))
+    (flag_rule (codes "dry-run")))
+    (option_rule (codes "store"))
 
 -- the command without its subcommands: one is wanted, there is no `help` among them, and there is a version
 abbrev pub bare_app : App
@@ -73,9 +83,10 @@ bare_app = record (new_app (codes "smsd")) {
 -- the command
 abbrev pub smsd : App
 smsd =
-    with_subcommand (with_subcommand (with_subcommand (with_subcommand
+    with_subcommand (with_subcommand (with_subcommand (with_subcommand (with_subcommand
     bare_app
     run_app.top)
     list_app.top)
     serve_app.top)
-    check_app.top
+    check_app.top)
+    manage_app.top

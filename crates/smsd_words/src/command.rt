@@ -1,8 +1,8 @@
 // The command that reads the words.
 ghost use Rattle.std.specs.Prelude.{◌≡◌, IfOk, false};
 ghost use Rattle.clap.specs.Words.{app_of, rule_of};
-ghost use Rattle.smsd_words.specs.Command.{KeepsItsOwn, bare_app, check_app, flag_rule, list_app, option_rule};
-ghost use Rattle.smsd_words.specs.Command.{run_app, serve_app, smsd, wanted_rule, word_rule};
+ghost use Rattle.smsd_words.specs.Command.{KeepsItsOwn, bare_app, check_app, flag_rule, list_app, manage_app};
+ghost use Rattle.smsd_words.specs.Command.{option_rule, run_app, serve_app, smsd, wanted_rule, word_rule};
 
 use clap::{Arg, ArgAction, Command};
 use std::alloc::{AllocError, Global};
@@ -15,11 +15,13 @@ pub fn smsd_command<'a>(alloc: Global) -> Result<Command<'a>, AllocError>
     let list = list_command(alloc)?;
     let serve = serve_command(alloc)?;
     let check = check_command(alloc)?;
+    let manage = manage_command(alloc)?;
     bare_command(alloc)
         .subcommand(run)?
         .subcommand(list)?
         .subcommand(serve)?
-        .subcommand(check)
+        .subcommand(check)?
+        .subcommand(manage)
 }
 
 // The subcommand that answers a script.
@@ -30,6 +32,7 @@ fn run_command<'a>(alloc: Global) -> Result<Command<'a>, AllocError>
     Command::new(alloc, "run")
         .arg(word(alloc, "script"))?
         .arg(flag(alloc, "volumes"))?
+        .arg(flag(alloc, "strict"))?
         .arg(option(alloc, "store"))
 }
 
@@ -56,6 +59,7 @@ fn serve_command<'a>(alloc: Global) -> Result<Command<'a>, AllocError>
         .arg(option(alloc, "port"))?
         .arg(option(alloc, "connections"))?
         .arg(option(alloc, "idle"))?
+        .arg(flag(alloc, "log"))?
         .arg(option(alloc, "store"))
 }
 
@@ -66,6 +70,17 @@ fn check_command<'a>(alloc: Global) -> Result<Command<'a>, AllocError>
 {
     Command::new(alloc, "check")
         .arg(wanted(alloc, "deck"))?
+        .arg(option(alloc, "store"))
+}
+
+// The subcommand that manages space.
+fn manage_command<'a>(alloc: Global) -> Result<Command<'a>, AllocError>
+    ensures app { IfOk result (λ command. app_of command ≡ manage_app) }
+    ensures own { IfOk result (KeepsItsOwn) }
+{
+    Command::new(alloc, "manage")
+        .arg(wanted(alloc, "day"))?
+        .arg(flag(alloc, "dry-run"))?
         .arg(option(alloc, "store"))
 }
 

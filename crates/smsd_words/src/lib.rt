@@ -3,6 +3,7 @@
 
 mod command;
 mod examples;
+mod manage_words;
 mod query_words;
 mod reading;
 mod serve_words;

@@ -10,6 +10,7 @@ ghost use Rattle.smsd_words.specs.declared.task.Task.{Task as TaskOf};
 
 use crate::command::smsd_command;
 use crate::examples::examples_of;
+use crate::manage_words::day_in;
 use crate::query_words::query_in;
 use crate::serve_words::serving_in;
 use crate::task::{Asked, Task};
@@ -86,6 +87,7 @@ fn task_of<'a>(name: &str, matches: &ArgMatches<'a>) -> Option<Task<'a>>
         return Some(Task::Run {
             script: value_of(matches, "script"),
             volumes: is_set(matches, "volumes"),
+            strict: is_set(matches, "strict"),
         });
     }
     if name == "list" {
@@ -103,6 +105,15 @@ fn task_of<'a>(name: &str, matches: &ArgMatches<'a>) -> Option<Task<'a>>
     if name == "check" {
         return match value_of(matches, "deck") {
             Some(deck) => Some(Task::Check { deck }),
+            None => None,
+        };
+    }
+    if name == "manage" {
+        return match day_in(matches) {
+            Some(day) => Some(Task::Manage {
+                day,
+                dry: is_set(matches, "dry-run"),
+            }),
             None => None,
         };
     }

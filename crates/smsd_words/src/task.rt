@@ -14,10 +14,12 @@ pub struct Asked<'a> {
 #[derive(Clone, Copy)]
 pub enum Task<'a> {
     /// A script is answered on it: that of the file at this path, or without one that on standard input; with `volumes`
-    /// the table of volumes stands behind the answers.
+    /// the table of volumes stands behind the answers, and with `strict` an answer that tells that something was refused
+    /// or couldn't be done ends the program as a fault does.
     Run {
         script: Option<&'a str>,
         volumes: bool,
+        strict: bool,
     },
     /// This is listed of it.
     List(Query),
@@ -26,5 +28,10 @@ pub enum Task<'a> {
     /// It is told what an activation of the deck in the file at this path would be answered on it.
     Check {
         deck: &'a str,
+    },
+    /// What space management has to do on this day is done on it; with `dry` it is told and not done.
+    Manage {
+        day: u32,
+        dry: bool,
     },
 }

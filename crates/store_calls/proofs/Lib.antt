@@ -1,3 +1,4 @@
 mod OpenedLemmas
 mod ListedLemmas
 mod NumberLemmas
+mod DayLemmas

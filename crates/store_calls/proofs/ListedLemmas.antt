@@ -1,10 +1,10 @@
 -- What is listed, and what is said of a store that isn't.
-use Rattle.std.proofs.Common.{◌≡◌, refl, None, Ok, Err, IfOk, IfErr, Result, inl, inr, ◌⊎◌}
+use Rattle.std.proofs.Common.{◌≡◌, ◌∙◌, refl, None, Ok, Err, IfOk, IfErr, Result, inl, inr, ◌⊎◌}
 use Rattle.std.specs.Prelude.{ℕ, IfSome, IsErrOf, Option}
 use Rattle.desk_common.specs.Causes.{Rose}
 use Rattle.desk_restoring.specs.Opened.{opening_of}
 use Rattle.sms_construct.specs.Configuration.{Configuration}
-use Rattle.sms_keeper.specs.Loading.{AreLoaded, NamesDamage, StaysDamaged}
+use Rattle.sms_keeper.specs.Loading.{AreLoaded, NamesDamage, SameDamage, StaysDamaged}
 use Rattle.sms_keeper.specs.Told.{Stays}
 use Rattle.sms_keeper.specs.declared.keeper.Keeper.{Ghosts}
 use Rattle.sms_keeper.specs.declared.load_err.LoadErr.{LoadErr}
@@ -19,7 +19,7 @@ use Rattle.sms_open.specs.declared.rows_err.RowsErr.{RowsErr}
 use Rattle.sms_open.specs.declared.rows_err.RowsErr.TheVariants.{Unsound, NoMemory}
 use Rattle.store_calls.specs.Opened.{IsUnopened, WasOpened}
 use Rattle.store_calls.specs.declared.loading.FoundRows.{FoundRows}
-use Rattle.store_calls.proofs.OpenedLemmas.{same_of_stays}
+use Rattle.store_calls.proofs.OpenedLemmas.{same_of_stays, same_on_damage, stays_on}
 
 -- rows that fail a test are told by its number
 pub names_rows : (told : Option Rows) (damage : Option (Table × ℕ)) (rows : Rows) (err : RowsErr) → damage ≡ None → IfSome told (λ tables. AreLoaded tables rows)
@@ -75,6 +75,37 @@ module _ {P : Type 0} (told_by : Ghosts P) (damage : P → Option (Table × ℕ)
     cause = λ failed. absurd (unfailed failed);
     unfailed = λ other. stands;
   })
+
+  -- rows that weren't found leave the damage that is told
+  pub left_case : (r : Result (P × FoundRows) (P × OpenErr)) (before after : P) → StaysDamaged (damage before) (damage after) → IfErr r (λ back. back.0 ≡ after)
+      → IfErr r (λ back. StaysDamaged (damage before) (damage back.0))
+  left_case (Ok found) before after damaged same = tt
+  left_case (Err back) before after damaged same = rw same damaged
+
+  -- rows that were found behind a making ready
+  pub found_case : (r : Result (P × FoundRows) (P × OpenErr)) (before ready : P) → Stays (told_by.told before) (told_by.told ready) → told_by.count ready ≡ told_by.count before
+      → IfOk r (λ found. WasOpened told_by damage ready found.0 (opening_of found.1.rows found.1.config))
+      → IfOk r (λ found. WasOpened told_by damage before found.0 (opening_of found.1.rows found.1.config))
+  found_case (Ok found) before ready kept stands opened = record {
+    opened = opened.opened;
+    undamaged = opened.undamaged;
+    tables = stays_on (told_by.told before) (told_by.told ready) (told_by.told found.0) kept opened.tables;
+    count = opened.count ∙ stands;
+  }
+  found_case (Err back) before ready kept stands opened = tt
+
+  -- and rows that weren't
+  pub unfound_case : (r : Result (P × FoundRows) (P × OpenErr)) (before ready : P) → Stays (told_by.told before) (told_by.told ready) → SameDamage (damage before) (damage ready)
+      → told_by.count ready ≡ told_by.count before → IfErr r (λ back. IsUnopened told_by damage ready back.0 back.1)
+      → IfErr r (λ back. StaysDamaged (damage ready) (damage back.0)) → IfErr r (λ back. IsUnopened told_by damage before back.0 back.1)
+  unfound_case (Ok found) before ready kept same stands refused damaged = tt
+  unfound_case (Err back) before ready kept same stands refused damaged = record {
+    tables = stays_on (told_by.told before) (told_by.told ready) (told_by.told back.0) kept refused.tables;
+    damage_stays = same_on_damage (damage before) (damage ready) (damage back.0) same damaged;
+    names = refused.names;
+    cause = λ failed. rw stands at (refused.cause failed);
+    unfailed = λ other. refused.unfailed other ∙ stands;
+  }
 
   -- tables that weren't loaded
   pub refused_load : (before after : P) (err : LoadErr) → NamesDamage (told_by.told after) (damage after) err → Stays (told_by.told before) (told_by.told after)

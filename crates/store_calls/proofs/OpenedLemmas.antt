@@ -46,7 +46,7 @@ same_of_stays (Some found) None stays = tt
 same_of_stays (Some found) (Some still) stays = sym (same_Some _ _ stays)
 
 -- the same, behind damage that is the same
-same_on_damage : (a b c : Option (Table × ℕ)) → SameDamage a b → StaysDamaged b c → SameDamage a c
+pub same_on_damage : (a b c : Option (Table × ℕ)) → SameDamage a b → StaysDamaged b c → SameDamage a c
 same_on_damage None b c first second = tt
 same_on_damage (Some found) b None first second = tt
 same_on_damage (Some found) b (Some still) first second =

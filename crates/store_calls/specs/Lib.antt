@@ -2,5 +2,8 @@ pub mod Statuses
 pub mod Opened
 pub mod StoreRun
 pub mod StoreLists
+pub mod Written
 pub mod Checked
+pub mod StoreDue
+pub mod StoreDay
 pub mod Inner

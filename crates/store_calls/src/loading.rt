@@ -2,12 +2,12 @@
 ghost use Rattle.std.specs.Prelude.{◌≡◌, None, IfErr, IfOk, IfSome};
 ghost use Rattle.desk_records.specs.Tied.{IsSoundOpening};
 ghost use Rattle.desk_restoring.specs.Opened.{opening_of};
-ghost use Rattle.sms_keeper.specs.Loading.{AreLoaded};
+ghost use Rattle.sms_keeper.specs.Loading.{AreLoaded, StaysDamaged};
 ghost use Rattle.sms_open.specs.Reopening.{IsOpened, NamesRefusal, refusal_of_load, refusal_of_rows};
 ghost use Rattle.store_calls.specs.Opened.{IsUnopened, WasOpened};
 
 use deck_meaning::Config;
-use sms_keeper::{LoadErr, Rows, Stored};
+use sms_keeper::{KeeperErr, LoadErr, Rows, Stored};
 use sms_open::{OpenErr, RowsErr, test_rows};
 use std::alloc::Global;
 
@@ -24,10 +24,25 @@ pub fn load_store<P: Stored>(alloc: Global, mut keeper: P) -> Result<(P, FoundRo
         WasOpened P.Keeper P.damage keeper found.0 (opening_of found.1.rows found.1.config)) }
     ensures sound { IfOk result (λ found. IsSoundOpening (opening_of found.1.rows found.1.config)) }
     ensures refused { IfErr result (λ back. IsUnopened P.Keeper P.damage keeper back.0 back.1) }
+    ensures damage_left { IfErr result (λ back. StaysDamaged (P.damage keeper) (P.damage back.0)) }
 {
     match keeper.load() {
         Ok(rows) => tested(alloc, keeper, rows),
         Err(err) => Err((keeper, refusal_of_load(err))),
+    }
+}
+
+/// The same of a keeper that is made ready first.
+pub fn load_ready<P: Stored>(alloc: Global, mut keeper: P) -> Result<(P, FoundRows), (P, OpenErr)>
+    ensures opened { IfOk result (λ found.
+        WasOpened P.Keeper P.damage keeper found.0 (opening_of found.1.rows found.1.config)) }
+    ensures sound { IfOk result (λ found. IsSoundOpening (opening_of found.1.rows found.1.config)) }
+    ensures refused { IfErr result (λ back. IsUnopened P.Keeper P.damage keeper back.0 back.1) }
+{
+    match keeper.ready() {
+        Ok(()) => load_store(alloc, keeper),
+        Err(KeeperErr::Failed) => Err((keeper, OpenErr::Failed)),
+        Err(KeeperErr::NoMemory) => Err((keeper, OpenErr::NoMemory)),
     }
 }
 

@@ -3,7 +3,7 @@ use sms_base::{MemSink, MemSource};
 use sms_keeper::Stored;
 use std::alloc::Global;
 use std::test::Fail;
-use store_calls::{StoreStatus, store_check, store_list, store_run};
+use store_calls::{StoreStatus, store_check, store_due, store_list, store_manage, store_run};
 use store_report::{Format, Listing, Query, Selection};
 
 const ROOM: usize = 4_000;
@@ -70,4 +70,27 @@ pub fn check<P: Stored>(
     let (mut src, mut out) = (source(alloc, deck)?, sink(alloc, None)?);
     let (status, good, keeper) = store_check(alloc, &mut src, &mut out, keeper);
     Ok((status, good, out, keeper))
+}
+
+/// How what is due on the store on the day is told, what is written, and the store behind it.
+pub fn due<P: Stored>(
+    alloc: Global,
+    day: u32,
+    keeper: P,
+) -> Result<(StoreStatus, MemSink, P), Fail> {
+    let mut out = sink(alloc, None)?;
+    let (status, keeper) = store_due(alloc, day, &mut out, keeper);
+    Ok((status, out, keeper))
+}
+
+/// How the day is done on the store, what is written, and the store behind it.
+pub fn manage<P: Stored>(
+    alloc: Global,
+    day: u32,
+    failing: Option<u64>,
+    keeper: P,
+) -> Result<(StoreStatus, MemSink, P), Fail> {
+    let mut out = sink(alloc, failing)?;
+    let (status, keeper) = store_manage(alloc, day, &mut out, keeper);
+    Ok((status, out, keeper))
 }

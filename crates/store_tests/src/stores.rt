@@ -1,5 +1,5 @@
 //! What is answered and listed of a store.
-use crate::calls::{all, check, list, run};
+use crate::calls::{all, check, due, list, manage, run};
 use desk_calls::RunStatus;
 use dsn_mask::{Dsn, Mask, Name, Volser};
 use sms_construct::{Op, Reply, Request, RequestNumber};
@@ -16,8 +16,16 @@ const DONE: StoreStatus = StoreStatus::Ran(RunStatus::Done);
 const MONDAY: &str = "\
 SMSADMIN 1 ACTIVATE
 version = 1
+[dataclass.DC1]
+space = \"(TRK,(5,2))\"
+volcount = 3
+[dataclass.DC2]
+eattr = \"OPT\"
 [storclass.SC1]
 [mgmtclass.MC1]
+release = \"YES\"
+[mgmtclass.MC2]
+expire_after = 30
 [storgroup.SG1.volume.VOL001]
 tracks = 100
 [routine]
@@ -56,6 +64,18 @@ static LISTS: &[(Listing, Format, &str, &str)] = &[
     (Listing::Volumes, Format::Csv,
         "volser,group,status,capacity,free,extents\nVOL001,SG1,ENABLE,100,82,3\n",
         "volser,group,status,capacity,free,extents\n"),
+    (Listing::Classes, Format::Csv,
+        "kind,name,unit,primary,secondary,volcount,eattr,multi_tier,expire_after,release\n\
+        DATACLAS,DC1,TRK,5,2,3,NO,,,\nDATACLAS,DC2,,,,,OPT,,,\nSTORCLAS,SC1,,,,,,NO,,\n\
+        MGMTCLAS,MC1,,,,,,,,YES\nMGMTCLAS,MC2,,,,,,,30,NO\n",
+        "kind,name,unit,primary,secondary,volcount,eattr,multi_tier,expire_after,release\n"),
+    (Listing::Classes, Format::Json,
+        "{\"dataclas\":[{\"name\":\"DC1\",\"unit\":\"TRK\",\"primary\":5,\"secondary\":2,\"volcount\":3,\"eattr\":\"NO\"},\
+        {\"name\":\"DC2\",\"unit\":null,\"primary\":null,\"secondary\":null,\"volcount\":null,\"eattr\":\"OPT\"}],\
+        \"storclas\":[{\"name\":\"SC1\",\"multi_tier\":false}],\
+        \"mgmtclas\":[{\"name\":\"MC1\",\"expire_after\":null,\"release\":true},\
+        {\"name\":\"MC2\",\"expire_after\":30,\"release\":false}]}\n",
+        "{\"dataclas\":[],\"storclas\":[],\"mgmtclas\":[]}\n"),
     (Listing::Sets, Format::Csv,
         "dsn,dataclas,storclas,mgmtclas,group,day,used,extents\n\
         A.B,,SC1,MC1,SG1,0,0,1\nPAY.MASTER,,SC1,MC1,SG1,7,12,2\n",
@@ -63,6 +83,12 @@ static LISTS: &[(Listing, Format, &str, &str)] = &[
     (Listing::Extents, Format::Csv,
         "dsn,volser,start,length\nA.B,VOL001,10,3\nPAY.MASTER,VOL001,0,10\nPAY.MASTER,VOL001,13,5\n",
         "dsn,volser,start,length\n"),
+    (Listing::Extents, Format::Text,
+        "dsn                                           volser  start       length\n\
+        A.B                                           VOL001  10          3\n\
+        PAY.MASTER                                    VOL001  0           10\n\
+        PAY.MASTER                                    VOL001  13          5\n",
+        "dsn                                           volser  start       length\n"),
     (Listing::Extents, Format::Json,
         "{\"extents\":[{\"dsn\":\"A.B\",\"volser\":\"VOL001\",\"start\":10,\"tracks\":3},\
         {\"dsn\":\"PAY.MASTER\",\"volser\":\"VOL001\",\"start\":0,\"tracks\":10},\
@@ -89,6 +115,62 @@ static DECKS: &[(&str, bool, &str)] = &[
     ("version = 1\n[storgroup.SG1.volume.VOL001]\ntracks = 0\n", false,
         "R21 DECK K4 storgroup.SG1.volume.VOL001.tracks\n"),
 ];
+
+// A script of which something is due, and in which the job of space management has used a number.
+const DAILY: &str = "\
+SMSADMIN 1 ACTIVATE
+version = 1
+[storclass.SC1]
+[mgmtclass.MCT]
+expire_after = 2
+release = \"YES\"
+[storgroup.SG1.volume.VOL001]
+tracks = 100
+[routine]
+storclass = \"PROC STORCLAS SET &STORCLAS = 'SC1' END\"
+mgmtclass = \"PROC MGMTCLAS SET &MGMTCLAS = 'MCT' END\"
+storgroup = \"PROC STORGRP SET &STORGRP = 'SG1' END\"
+./END
+JOB1 1 ALLOC A.A SPACE=(TRK,10) DAY=1
+JOB1 2 ALLOC A.B SPACE=(TRK,10) DAY=3
+JOB1 3 ALLOC A.C SPACE=(TRK,10) DAY=1 RETPD=5
+SMSMGMT 9 USED A.B 4
+";
+
+// Days one behind the other, what is due then, and what is answered.
+#[rattlefmt::skip]
+static DAYS: &[(u32, &str, &str)] = &[
+    (3, "DUE A.A DELETE\nDUE A.B RELEASE\nDUE A.C RELEASE\n",
+        "MANAGE 10 A.A A03 DELETED 10\nMANAGE 11 A.B A09 RELEASED 6\nMANAGE 12 A.C A09 RELEASED 9\nMANAGED 1 2\n"),
+    (3, "", "MANAGED 0 0\n"),
+    (6, "DUE A.B DELETE\nDUE A.C DELETE\n",
+        "MANAGE 13 A.B A03 DELETED 4\nMANAGE 14 A.C A03 DELETED 1\nMANAGED 2 0\n"),
+];
+
+// Whether each day is told and then done, each act once.
+fn is_managed(alloc: Global) -> Result<bool, Fail> {
+    let (first, _, mut keeper) = run(alloc, DAILY, false, None, MemKeeper::new(alloc))?;
+    let mut good = first == DONE;
+    for (day, told, text) in DAYS {
+        let (status, out, store) = due(alloc, *day, keeper)?;
+        good &= status == DONE && out.taken() == told.as_bytes();
+        let (status, out, store) = manage(alloc, *day, None, store)?;
+        good &= status == DONE && out.taken() == text.as_bytes();
+        keeper = store;
+    }
+    Ok(good)
+}
+
+// Whether nothing is done on a store that can't be made ready, and a front is written where a write fails.
+fn is_hindered(alloc: Global) -> Result<bool, Fail> {
+    let (failed, out, _) = manage(alloc, 3, None, FaultKeeper::new(alloc, &[0])?)?;
+    let mut good = failed == StoreStatus::Unopened(OpenErr::Failed) && out.taken().is_empty();
+    let (status, out, _) = due(alloc, 3, FaultKeeper::new(alloc, &[0])?)?;
+    good &= status == DONE && out.taken().is_empty();
+    let (cut, out, _) = manage(alloc, 3, Some(2), MemKeeper::new(alloc))?;
+    good &= cut == StoreStatus::Ran(RunStatus::WriteFault) && out.taken() == b"MANAGED".as_slice();
+    Ok(good)
+}
 
 // Whether each deck is answered so, and the store stays.
 fn is_checked(alloc: Global, store: MemKeeper) -> Result<(bool, MemKeeper), Fail> {
@@ -211,6 +293,13 @@ fn lists_of_an_empty_store_have_no_row(rt: HostRuntime) -> Result<(), Fail> {
     let alloc = rt.alloc();
     let (good, _) = is_listed(alloc, true, MemKeeper::new(alloc))?;
     assert!(rt; good);
+    Ok(())
+}
+
+#[test]
+fn a_day_is_told_and_done_under_numbers_of_its_own(rt: HostRuntime) -> Result<(), Fail> {
+    let alloc = rt.alloc();
+    assert!(rt; is_managed(alloc)? && is_hindered(alloc)?);
     Ok(())
 }
 

@@ -5,13 +5,13 @@ use std::alloc::Global;
 use std::test::Fail;
 use store_report::{Format, Listing};
 
-// Words, and the store, the script and whether the table of volumes is asked for.
+// Words, and the store, the script, whether the table of volumes is asked for, and whether the script is strict.
 #[rattlefmt::skip]
-static RUNS: &[(&[&str], &str, Option<&str>, bool)] = &[
-    (&["run"], "desk.db", None, false),
-    (&["run", "--volumes", "a"], "desk.db", Some("a"), true),
-    (&["run", "a", "--store", "s"], "s", Some("a"), false),
-    (&["run", "--store=s", "--", "-a"], "s", Some("-a"), false),
+static RUNS: &[(&[&str], &str, Option<&str>, bool, bool)] = &[
+    (&["run"], "desk.db", None, false, false),
+    (&["run", "--volumes", "a"], "desk.db", Some("a"), true, false),
+    (&["run", "a", "--store", "s", "--strict"], "s", Some("a"), false, true),
+    (&["run", "--store=s", "--", "-a"], "s", Some("-a"), false, false),
 ];
 
 // Words, the store and the deck.
@@ -20,24 +20,40 @@ static CHECKED: &[(&[&str], &str, &str)] = &[
     (&["check", "--store", "s", "--", "-d"], "s", "-d"),
 ];
 
+// Words, the store, the day and whether it is only told.
+static MANAGED: &[(&[&str], &str, u32, bool)] = &[
+    (&["manage", "3"], "desk.db", 3, false),
+    (
+        &["manage", "--dry-run", "9999999", "--store=s"],
+        "s",
+        9999999,
+        true,
+    ),
+];
+
 // Words, and the listing, the form, the mask, the storage group and the volume.
 #[rattlefmt::skip]
 static LISTS: &[(&[&str], Listing, Format, [&str; 3])] = &[
     (&["list", "sets"], Listing::Sets, Format::Csv, ["", "", ""]),
+    (&["list", "sets", "--format", "text"], Listing::Sets, Format::Text, ["", "", ""]),
     (&["list", "--", "volumes"], Listing::Volumes, Format::Csv, ["", "", ""]),
     (&["list", "--format=json", "groups"], Listing::Groups, Format::Json, ["", "", ""]),
     (&["list", "groups", "--group", "SG1"], Listing::Groups, Format::Csv, ["", "SG1", ""]),
+    (&["list", "classes", "--format", "json"], Listing::Classes, Format::Json, ["", "", ""]),
     (&["list", "volumes", "--group", "SG1", "--volume", "1"], Listing::Volumes, Format::Csv, ["", "SG1", "1"]),
     (&["list", "--mask", "A.**", "extents", "--volume", "V"], Listing::Extents, Format::Csv, ["A.**", "", "V"]),
 ];
 
-static SERVED: &[(&[&str], (u16, u16, u32))] = &[
-    (&["serve"], (8080, 1000, 60)),
+static SERVED: &[(&[&str], (u16, u16, u32, bool))] = &[
+    (&["serve"], (8080, 1000, 60, false)),
     (
-        &["serve", "--port", "65535", "--idle=86400"],
-        (65535, 1000, 86400),
+        &["serve", "--port", "65535", "--log", "--idle=86400"],
+        (65535, 1000, 86400, true),
     ),
-    (&["serve", "--connections", "1", "--port", "1"], (1, 1, 60)),
+    (
+        &["serve", "--connections", "1", "--port", "1"],
+        (1, 1, 60, false),
+    ),
 ];
 
 static HINDERED: &[(&[&str], WordsErr)] = &[
@@ -49,16 +65,23 @@ static HINDERED: &[(&[&str], WordsErr)] = &[
     (&["list"], WordsErr::Bad),
     (&["list", "set"], WordsErr::Bad),
     (&["list", "SETS"], WordsErr::Bad),
-    (&["list", "sets", "--format", "text"], WordsErr::Bad),
+    (&["list", "sets", "--format", "xml"], WordsErr::Bad),
     (&["list", "sets", "--mask", "a"], WordsErr::Bad),
     (&["list", "volumes", "--mask", "A"], WordsErr::Bad),
     (&["list", "groups", "--volume", "V"], WordsErr::Bad),
+    (&["list", "classes", "--mask", "A"], WordsErr::Bad),
+    (&["list", "classes", "--group", "SG1"], WordsErr::Bad),
+    (&["list", "classes", "--volume", "V"], WordsErr::Bad),
     (&["serve", "--port", "0"], WordsErr::Bad),
     (&["serve", "--port", "65536"], WordsErr::Bad),
     (&["serve", "--connections", "10001"], WordsErr::Bad),
     (&["serve", "--idle", "x"], WordsErr::Bad),
     (&["serve", "8080"], WordsErr::Bad),
     (&["check"], WordsErr::Bad),
+    (&["manage"], WordsErr::Bad),
+    (&["manage", "10000000"], WordsErr::Bad),
+    (&["manage", "-1"], WordsErr::Bad),
+    (&["manage", "1", "--dry-run", "--dry-run"], WordsErr::Bad),
     (&["help"], WordsErr::Bad),
     (&["--help"], WordsErr::Shown),
     (&["list", "-h"], WordsErr::Shown),
@@ -76,7 +99,7 @@ fn words_of(alloc: Global, list: &[&str]) -> Result<Vec<String>, Fail> {
 
 fn are_runs(alloc: Global) -> Result<bool, Fail> {
     let mut good = true;
-    for (list, store, script, volumes) in RUNS {
+    for (list, store, script, volumes, strict) in RUNS {
         let words = words_of(alloc, list)?;
         good &= match task_asked(alloc, &words) {
             Ok(
@@ -85,9 +108,10 @@ fn are_runs(alloc: Global) -> Result<bool, Fail> {
                     task: Task::Run {
                         script: found,
                         volumes: asked,
+                        strict: judged,
                     },
                 },
-            ) => named == *store && found == *script && asked == *volumes,
+            ) => { named == *store && found == *script && asked == *volumes && judged == *strict }
             _ => false,
         };
     }
@@ -105,6 +129,26 @@ fn are_checked(alloc: Global) -> Result<bool, Fail> {
                     task: Task::Check { deck: found },
                 },
             ) => named == *store && found == *deck,
+            _ => false,
+        };
+    }
+    Ok(good)
+}
+
+fn are_managed(alloc: Global) -> Result<bool, Fail> {
+    let mut good = true;
+    for (list, store, day, dry) in MANAGED {
+        let words = words_of(alloc, list)?;
+        good &= match task_asked(alloc, &words) {
+            Ok(
+                Asked {
+                    store: named,
+                    task: Task::Manage {
+                        day: found,
+                        dry: asked,
+                    },
+                },
+            ) => named == *store && found == *day && asked == *dry,
             _ => false,
         };
     }
@@ -157,12 +201,13 @@ fn volser_bytes(volser: &Option<Volser>) -> &[u8] {
 
 fn are_served(alloc: Global) -> Result<bool, Fail> {
     let mut good = true;
-    for (list, (port, connections, idle)) in SERVED {
+    for (list, (port, connections, idle, log)) in SERVED {
         let words = words_of(alloc, list)?;
         let wanted = Serving {
             port: *port,
             connections: *connections,
             idle: *idle,
+            log: *log,
         };
         good &= match task_asked(alloc, &words) {
             Ok(
@@ -193,7 +238,7 @@ fn are_hindered(alloc: Global) -> Result<bool, Fail> {
 fn words_in_any_order_ask_for_a_task(rt: HostRuntime) -> Result<(), Fail> {
     let alloc = rt.alloc();
     let good = are_runs(alloc)? && are_listed(alloc)? && are_served(alloc)? && are_checked(alloc)?;
-    assert!(rt; good);
+    assert!(rt; good && are_managed(alloc)?);
     Ok(())
 }
 

@@ -1,6 +1,6 @@
 -- What an answer says of the status and the sink.
 use Rattle.std.specs.Prelude.{Err, IfOk, Result}
-use Rattle.std.proofs.Common.{◌≡◌, ◌⊎◌, ◌∙◌, ◌&&◌, Bool, nat_lt, true, List, ℕ, Ok, Some, length, refl, sym, subst, inl, inr}
+use Rattle.std.proofs.Common.{◌≡◌, ◌⊎◌, ◌∙◌, ◌&&◌, Bool, nat_lt, true, false, List, ℕ, Ok, Some, length, refl, sym, subst, inl, inr}
 use Rattle.std.proofs.lemmas.Bool.{cases_Bool}
 use Rattle.std.specs.Io.KnownBytes.{Appends}
 use Rattle.acs_tree.specs.declared.kind.Kind.{Kind}
@@ -23,6 +23,8 @@ use Rattle.sms_simulation.specs.Simulation.{IsSimulation}
 use Rattle.sms_simulation.specs.declared.simulated.Simulated.{Simulated}
 use Rattle.sms_simulation.specs.declared.simulated.Simulated.TheVariants as simulations
 use Rattle.sms_coverage.specs.Coverage.{IsCoverage}
+use Rattle.sms_coverage.specs.declared.coverage.Covered.{Covered}
+use Rattle.sms_coverage.specs.declared.coverage.Covered.TheVariants as coverages
 use Rattle.sms_explain.specs.Explanation.{IsExplanation}
 use Rattle.sms_lint.specs.Linting.{IsLintOf}
 use Rattle.sms_lint.specs.declared.linted.Lint.{Lint}
@@ -37,7 +39,7 @@ use Rattle.tool_calls.specs.declared.no_answer.NoAnswer.{NoAnswer}
 use Rattle.tool_calls.specs.declared.no_answer.NoAnswer.TheVariants as hindrances
 use Rattle.tool_calls.specs.ToolText.{translated_text, valid_text, refused_text, IsAnswer, translated, faulty, valid}
 use Rattle.tool_calls.specs.ToolText.{refused, simulated, unsimulated, compared, explained, unexplained, covered, uncovered, linted, unlinted, lint_status, unread, misplaced, Hinders, HindersScript}
-use Rattle.tool_calls.specs.ToolText.{hindrance_of, TellsFault, TellsSimulation, HindersSimulation}
+use Rattle.tool_calls.specs.ToolText.{hindrance_of, coverage_status, TellsCoverage, HindersCoverage, TellsFault, TellsSimulation, HindersSimulation}
 use Rattle.tool_calls.specs.ToolEnds.{Ends, HasAnswer, leaves_sink}
 use Rattle.tool_calls.specs.declared.status.ToolStatus.{ToolStatus}
 use Rattle.tool_calls.specs.declared.status.ToolStatus.TheVariants.{Done, FaultFound, BadWords}
@@ -104,19 +106,19 @@ explanation_hindered bytes phases (simulations.Misplaced line) why script is e =
 ]
 
 -- what a coverage comes to is the answer to its script
-pub coverage_told : {bytes text : List ℕ} {status : ToolStatus} (phases : List (List Item)) (made : Simulated) → script_of bytes ≡ Ok phases → IsCoverage (items_of phases) made → TellsSimulation made status text → IsAnswer bytes Coverage status text
-coverage_told {bytes} {text} {status} phases (simulations.Shown shown) script is e =
-    subst (λ x. IsAnswer bytes Coverage x text) (sym e.0) (subst (λ x. IsAnswer bytes Coverage Done x) (sym e.1) (covered phases shown script is))
-coverage_told {bytes} {text} {status} phases (simulations.Refused fault) script is e =
-    subst (λ x. IsAnswer bytes Coverage x text) (sym e.0) (subst (λ x. IsAnswer bytes Coverage FaultFound x) (sym e.1) (uncovered phases fault script is))
-coverage_told phases (simulations.Misplaced line) script is e = absurd e
+pub coverage_told : {bytes text : List ℕ} {status : ToolStatus} (least : ℕ) (phases : List (List Item)) (made : Covered) → script_of bytes ≡ Ok phases → IsCoverage least (items_of phases) made → TellsCoverage made status text → IsAnswer bytes (Coverage least) status text
+coverage_told {bytes} {text} {status} least phases (coverages.Shown coverage) script is e =
+    subst (λ x. IsAnswer bytes (Coverage least) status x) (sym e.1) (covered least phases status coverage script is e.0)
+coverage_told {bytes} {text} {status} least phases (coverages.Refused fault) script is e =
+    subst (λ x. IsAnswer bytes (Coverage least) x text) (sym e.0) (subst (λ x. IsAnswer bytes (Coverage least) FaultFound x) (sym e.1) (uncovered least phases fault script is))
+coverage_told least phases (coverages.Misplaced line) script is e = absurd e
 
-pub coverage_hindered : (bytes : List ℕ) (phases : List (List Item)) (made : Simulated) (why : NoAnswer) → script_of bytes ≡ Ok phases → IsCoverage (items_of phases) made → HindersSimulation made why → Hinders bytes Coverage why
-coverage_hindered bytes phases (simulations.Shown shown) why script is e = no_memory bytes Coverage why e
-coverage_hindered bytes phases (simulations.Refused fault) why script is e = no_memory bytes Coverage why e
-coverage_hindered bytes phases (simulations.Misplaced line) why script is e = elim e [
-  | inl other ↦ subst (λ x. Hinders bytes Coverage x) (sym other) (misplaced phases line script is)
-  | inr memory ↦ no_memory bytes Coverage why memory
+pub coverage_hindered : (bytes : List ℕ) (least : ℕ) (phases : List (List Item)) (made : Covered) (why : NoAnswer) → script_of bytes ≡ Ok phases → IsCoverage least (items_of phases) made → HindersCoverage made why → Hinders bytes (Coverage least) why
+coverage_hindered bytes least phases (coverages.Shown coverage) why script is e = no_memory bytes (Coverage least) why e
+coverage_hindered bytes least phases (coverages.Refused fault) why script is e = no_memory bytes (Coverage least) why e
+coverage_hindered bytes least phases (coverages.Misplaced line) why script is e = elim e [
+  | inl other ↦ subst (λ x. Hinders bytes (Coverage least) x) (sym other) (misplaced phases line script is)
+  | inr memory ↦ no_memory bytes (Coverage least) why memory
 ]
 
 -- what hinders the reading of a script hinders its simulation, its explanation and its coverage
@@ -128,9 +130,9 @@ pub unread_explanation : (bytes : List ℕ) (why : NoAnswer) → HindersScript b
 unread_explanation bytes (hindrances.Script err) is = is
 unread_explanation bytes hindrances.NoMemory is = tt
 
-pub unread_coverage : (bytes : List ℕ) (why : NoAnswer) → HindersScript bytes why → Hinders bytes Coverage why
-unread_coverage bytes (hindrances.Script err) is = is
-unread_coverage bytes hindrances.NoMemory is = tt
+pub unread_coverage : (bytes : List ℕ) (least : ℕ) (why : NoAnswer) → HindersScript bytes why → Hinders bytes (Coverage least) why
+unread_coverage bytes least (hindrances.Script err) is = is
+unread_coverage bytes least hindrances.NoMemory is = tt
 
 refusal_hinders : (bytes : List ℕ) (err : ScriptErr) → IsRefusal (script_of bytes) err → HindersScript bytes (hindrance_of err)
 refusal_hinders bytes (scripts.BadLine line) is = unread (scripts.BadLine line) is
@@ -195,6 +197,10 @@ lint_ends fail findings status e = elim (cases_Bool (fail && nat_lt 0 findings))
   | inr well ↦ inl (e ∙ rw well refl)
 ]
 
+coverage_ends : (short : Bool) (status : ToolStatus) → status ≡ coverage_status short → IsEnd status
+coverage_ends true status e = inr e
+coverage_ends false status e = inl e
+
 answer_ends : {bytes text : List ℕ} {task : Task} {status : ToolStatus} → IsAnswer bytes task status text → IsEnd status
 answer_ends (translated kind tree count d) = inl refl
 answer_ends (faulty kind fault d) = inr refl
@@ -205,8 +211,8 @@ answer_ends (unsimulated phases fault script is) = inr refl
 answer_ends (compared comparison status text is) = comparison_ends is
 answer_ends (explained phases text script is) = inl refl
 answer_ends (unexplained phases fault script is) = inr refl
-answer_ends (covered phases text script is) = inl refl
-answer_ends (uncovered phases fault script is) = inr refl
+answer_ends (covered least phases status coverage script is e) = coverage_ends coverage.short status e
+answer_ends (uncovered least phases fault script is) = inr refl
 answer_ends (linted fail status lint is e) = lint_ends fail (length lint.findings) status e
 answer_ends (unlinted fail fault is) = inr refl
 

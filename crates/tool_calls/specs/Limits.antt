@@ -12,5 +12,5 @@ most_bytes Validate = most_input_bytes
 most_bytes Simulate = most_input_bytes
 most_bytes (Compare comparison) = most_input_bytes
 most_bytes Explain = most_input_bytes
-most_bytes Coverage = most_input_bytes
+most_bytes (Coverage least) = most_input_bytes
 most_bytes (Lint fail) = most_input_bytes

@@ -22,6 +22,9 @@ use Rattle.sms_simulation.specs.Simulation.{IsSimulation, first_misplaced}
 use Rattle.sms_simulation.specs.declared.simulated.Simulated.{Simulated}
 use Rattle.sms_simulation.specs.declared.simulated.Simulated.TheVariants as simulations
 use Rattle.sms_coverage.specs.Coverage.{IsCoverage}
+use Rattle.sms_coverage.specs.declared.coverage.Coverage.{Coverage as Covering}
+use Rattle.sms_coverage.specs.declared.coverage.Covered.{Covered}
+use Rattle.sms_coverage.specs.declared.coverage.Covered.TheVariants as coverages
 use Rattle.sms_explain.specs.Explanation.{IsExplanation}
 use Rattle.acs_test.specs.Reading.{IsReading, IsRefusal}
 use Rattle.sms_lint.specs.Linting.{IsLintOf}
@@ -64,6 +67,10 @@ refused_text fault = codes "FAULT " ++ (deck_fault_text fault ++ codes "\n")
 abbrev pub lint_status : Bool → ℕ → ToolStatus
 lint_status fail findings = if fail && nat_lt 0 findings then FaultFound else Done
 
+-- the status of a coverage, which may be less than was asked for
+abbrev pub coverage_status : Bool → ToolStatus
+coverage_status short = if short then FaultFound else Done
+
 -- the answer to an input: its status and what is printed
 pub data IsAnswer (bytes : List ℕ) : Task → ToolStatus → List ℕ → Type 0 where
   translated : (kind : Kind) (tree : Routine) (count : ℕ) → IsTranslated bytes kind tree count →
@@ -86,11 +93,12 @@ pub data IsAnswer (bytes : List ℕ) : Task → ToolStatus → List ℕ → Type
   unexplained : (phases : List (List Item)) (fault : DeckFault) → script_of bytes ≡ Ok phases →
       IsExplanation (items_of phases) (simulations.Refused fault) →
       IsAnswer bytes Explain FaultFound (refused_text fault)
-  covered : (phases : List (List Item)) (text : List ℕ) → script_of bytes ≡ Ok phases →
-      IsCoverage (items_of phases) (simulations.Shown text) → IsAnswer bytes Coverage Done text
-  uncovered : (phases : List (List Item)) (fault : DeckFault) → script_of bytes ≡ Ok phases →
-      IsCoverage (items_of phases) (simulations.Refused fault) →
-      IsAnswer bytes Coverage FaultFound (refused_text fault)
+  covered : (least : ℕ) (phases : List (List Item)) (status : ToolStatus) (coverage : Covering) →
+      script_of bytes ≡ Ok phases → IsCoverage least (items_of phases) (coverages.Shown coverage) →
+      status ≡ coverage_status coverage.short → IsAnswer bytes (Coverage least) status coverage.text
+  uncovered : (least : ℕ) (phases : List (List Item)) (fault : DeckFault) → script_of bytes ≡ Ok phases →
+      IsCoverage least (items_of phases) (coverages.Refused fault) →
+      IsAnswer bytes (Coverage least) FaultFound (refused_text fault)
   linted : (fail : Bool) (status : ToolStatus) (lint : Lint) → IsLintOf bytes lint →
       status ≡ lint_status fail (length lint.findings) → IsAnswer bytes (LintDeck fail) status lint.text
   unlinted : (fail : Bool) (fault : DeckFault) → HasFirstFault bytes fault →
@@ -107,7 +115,7 @@ pub data HasScriptFault (bytes : List ℕ) : ScriptErr → Type 0 where
 abbrev pub IsScriptFault : List ℕ → Task → ScriptErr → Type 0
 IsScriptFault bytes Simulate err = HasScriptFault bytes err
 IsScriptFault bytes Explain err = HasScriptFault bytes err
-IsScriptFault bytes Coverage err = HasScriptFault bytes err
+IsScriptFault bytes (Coverage least) err = HasScriptFault bytes err
 IsScriptFault bytes _ err = ⊥
 
 -- why an input has no answer; want of memory says nothing of it
@@ -143,3 +151,16 @@ abbrev pub HindersSimulation : Simulated → NoAnswer → Type 0
 HindersSimulation (simulations.Misplaced line) why =
     (why ≡ hindrances.Script (scripts.BadLine line)) ⊎ (why ≡ hindrances.NoMemory)
 HindersSimulation made why = why ≡ hindrances.NoMemory
+
+-- a coverage is told
+abbrev pub TellsCoverage : Covered → ToolStatus → List ℕ → Type 0
+TellsCoverage (coverages.Shown coverage) status text =
+    (status ≡ coverage_status coverage.short) × (text ≡ coverage.text)
+TellsCoverage (coverages.Refused fault) status text = (status ≡ FaultFound) × (text ≡ refused_text fault)
+TellsCoverage (coverages.Misplaced line) status text = ⊥
+
+-- why a coverage has no text
+abbrev pub HindersCoverage : Covered → NoAnswer → Type 0
+HindersCoverage (coverages.Misplaced line) why =
+    (why ≡ hindrances.Script (scripts.BadLine line)) ⊎ (why ≡ hindrances.NoMemory)
+HindersCoverage made why = why ≡ hindrances.NoMemory

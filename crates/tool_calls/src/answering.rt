@@ -3,20 +3,20 @@ ghost use Rattle.std.specs.Prelude.{◌≡◌, ◌<◌, ◌^◌, length, IfOk, I
 ghost use Rattle.sms_script.specs.Script.{script_of};
 ghost use Rattle.tool_calls.specs.ToolText.{letter_of, translated_text, fault_text, refused_text, valid_text, IsAnswer};
 ghost use Rattle.tool_calls.specs.ToolText.{Hinders, HindersScript, hindrance_of, TellsFault, TellsSimulation};
-ghost use Rattle.tool_calls.specs.ToolText.{HindersSimulation};
+ghost use Rattle.tool_calls.specs.ToolText.{HindersCoverage, HindersSimulation, TellsCoverage, coverage_status};
 ghost use Rattle.tool_words.specs.declared.task.Task.TheVariants.{Translate, Validate, Simulate, Explain, Coverage};
 
 use crate::comparing::compared;
 use crate::linting::linted;
 use crate::no_answer::NoAnswer;
-use crate::noting::{note_deck, note_refusal, note_script, note_simulation};
+use crate::noting::{note_coverage, note_deck, note_refusal, note_script, note_simulation};
 use crate::status::ToolStatus;
 use acs_translate::{RoutineFault, Stage, TranslateErr, translate};
 use acs_tree::Kind;
 use deck_meaning::DeckErr;
 use desk_common::{Items, Shared, push_number};
 use sms_construct::Fault;
-use sms_coverage::cover;
+use sms_coverage::{Covered, cover};
 use sms_deck::read_deck;
 use sms_explain::explain;
 use sms_script::{Script, ScriptErr, push_fault, read_script};
@@ -45,7 +45,7 @@ pub fn answer(
             compared(alloc, comparison, &bytes, note).map_err(|_| NoAnswer::NoMemory)
         }
         Task::Explain => explained(alloc, &bytes, note),
-        Task::Coverage => covered(alloc, &bytes, note),
+        Task::Coverage { least } => covered(alloc, least, &bytes, note),
         Task::Lint { fail } => { linted(alloc, fail, bytes, note).map_err(|_| NoAnswer::NoMemory) }
     }
 }
@@ -99,21 +99,22 @@ fn explained(
 // What a script reaches of the routines of its deck.
 fn covered(
     alloc: Global,
+    least: u8,
     bytes: &[u8],
     note: &mut String,
 ) -> Result<(ToolStatus, Items<u8>), NoAnswer>
     requires { length bytes.now < 2 ^ 32 }
-    ensures answer { IfOk result (λ found. IsAnswer bytes.now Coverage found.0 found.1) }
-    ensures hindered { IfErr result (Hinders bytes.now Coverage) }
+    ensures answer { IfOk result (λ found. IsAnswer bytes.now (Coverage least) found.0 found.1) }
+    ensures hindered { IfErr result (Hinders bytes.now (Coverage least)) }
 {
     let script = match script_in(alloc, bytes, note) {
         Ok(script) => script,
         Err(why) => return Err(why),
     };
-    match cover(alloc, &script) {
+    match cover(alloc, &script, least) {
         Ok(made) => {
-            note_simulation(alloc, note, bytes, &script, &made);
-            simulation(alloc, made)
+            note_coverage(alloc, note, bytes, &script, &made, least);
+            coverage(alloc, made)
         }
         Err(_) => Err(NoAnswer::NoMemory),
     }
@@ -154,6 +155,29 @@ fn simulation(alloc: Global, made: Simulated) -> Result<(ToolStatus, Items<u8>),
         Simulated::Shown(text) => Ok((ToolStatus::Done, text)),
         Simulated::Refused(fault) => { refused(alloc, &fault).map_err(|_| NoAnswer::NoMemory) }
         Simulated::Misplaced(line) => Err(NoAnswer::Script(ScriptErr::BadLine(line))),
+    }
+}
+
+// What a coverage comes to, as an answer.
+fn coverage(alloc: Global, made: Covered) -> Result<(ToolStatus, Items<u8>), NoAnswer>
+    ensures answer { IfOk result (λ found. TellsCoverage made found.0 found.1) }
+    ensures hindered { IfErr result (HindersCoverage made) }
+{
+    match made {
+        Covered::Shown(coverage) => Ok((coverage_status(coverage.short), coverage.text)),
+        Covered::Refused(fault) => { refused(alloc, &fault).map_err(|_| NoAnswer::NoMemory) }
+        Covered::Misplaced(line) => Err(NoAnswer::Script(ScriptErr::BadLine(line))),
+    }
+}
+
+// The status of a coverage, which may be less than was asked for.
+fn coverage_status(short: bool) -> ToolStatus
+    ensures { result ≡ coverage_status short }
+{
+    if short {
+        ToolStatus::FaultFound
+    } else {
+        ToolStatus::Done
     }
 }
 

@@ -16,7 +16,7 @@ pub fn most_bytes(task: Task) -> usize
         | Task::Simulate
         | Task::Compare(_)
         | Task::Explain
-        | Task::Coverage
+        | Task::Coverage { .. }
         | Task::Lint { .. } => MAX_INPUT,
     }
 }

@@ -8,6 +8,7 @@ use fault_notes::{
     layout_note, many_cases_note, misplaced_note, routine_note, script_note, shown,
 };
 use sms_construct::{Fault, Op, Stage, TextFault};
+use sms_coverage::Covered;
 use sms_script::{Item, Script, ScriptErr};
 use sms_simulation::Simulated;
 use std::alloc::{AllocError, Global};
@@ -47,10 +48,39 @@ pub fn note_simulation(
     script: &Script,
     made: &Simulated,
 ) {
-    match (made, deck_in(script)) {
-        (Simulated::Refused(fault), Some(deck)) => keep(note, deck_note(alloc, deck, fault)),
-        (Simulated::Misplaced(line), _) => keep(note, misplaced_note(alloc, text, *line)),
-        _ => (),
+    match made {
+        Simulated::Refused(fault) => note_deck_in(alloc, note, script, fault),
+        Simulated::Misplaced(line) => keep(note, misplaced_note(alloc, text, *line)),
+        Simulated::Shown(_) => (),
+    }
+}
+
+/// Notes why the script in this text has no coverage, or that it is less than `least` per cent.
+pub fn note_coverage(
+    alloc: Global,
+    note: &mut String,
+    text: &[u8],
+    script: &Script,
+    made: &Covered,
+    least: u8,
+) {
+    match made {
+        Covered::Refused(fault) => note_deck_in(alloc, note, script, fault),
+        Covered::Misplaced(line) => keep(note, misplaced_note(alloc, text, *line)),
+        Covered::Shown(coverage) if coverage.short => keep(
+            note,
+            format!(in alloc;
+                "less than {least} per cent of the statements, WHENs and comparisons of a routine are covered\n"
+            ),
+        ),
+        Covered::Shown(_) => (),
+    }
+}
+
+// Notes the fault of the deck of the script's first item.
+fn note_deck_in(alloc: Global, note: &mut String, script: &Script, fault: &Fault) {
+    if let Some(deck) = deck_in(script) {
+        keep(note, deck_note(alloc, deck, fault));
     }
 }
 

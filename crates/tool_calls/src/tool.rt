@@ -1,5 +1,5 @@
 //! The top call of the translator.
-ghost use Rattle.std.specs.Prelude.{◌≡◌, ◌⊎◌, true, map, string_bytes};
+ghost use Rattle.std.specs.Prelude.{◌≡◌, ◌⊎◌, Some, true, map, string_bytes};
 ghost use Rattle.desk_common.specs.Causes.{Rose};
 ghost use Rattle.tool_calls.specs.ToolEnds.{Ends, EndsFor, ends_shown, leaves_sink};
 ghost use Rattle.tool_words.specs.Asking.{AreRefused, AreShown};
@@ -39,7 +39,7 @@ pub fn smsc_main<S: Source, K: Sink>(
         (seen_streams S.left S.reads S.read_faults K.taken K.write_faults src.old out.old)
         (seen_streams S.left S.reads S.read_faults K.taken K.write_faults src.new out.new)
         result }
-    ensures ends { (task : TaskOf) → map string_bytes words.now ≡ words_of task → Ends task
+    ensures ends { (task : TaskOf) → Some (map string_bytes words.now) ≡ words_of task → Ends task
         (seen_streams S.left S.reads S.read_faults K.taken K.write_faults src.old out.old)
         (seen_streams S.left S.reads S.read_faults K.taken K.write_faults src.new out.new)
         result }

@@ -15,7 +15,7 @@ use Rattle.clap.specs.declared.builder.action.ArgAction.{ArgAction}
 use Rattle.clap.specs.declared.builder.action.ArgAction.TheVariants.{Set, Append, SetTrue, SetFalse, Count, Help}
 use Rattle.clap.specs.declared.builder.action.ArgAction.TheVariants.{HelpShort, HelpLong, Version}
 use Rattle.tool_words.specs.Asking.{is_text}
-use Rattle.tool_words.specs.Tool.{Names as KindNames, tool_app}
+use Rattle.tool_words.specs.Tool.{tool}
 use Rattle.clap.specs.Simple.{App, Shape, built, names_of, argument_words, entered, label_of}
 use Rattle.clap.specs.Takes.{is_given}
 use Rattle.clap.specs.Kinds.{Kinds, or_else, values_kinds, range_kinds, request_kinds, check_kinds}
@@ -196,9 +196,9 @@ entered_alike : (a : App) (stop : Option (Text × List Text)) → list_all (λ x
 entered_alike a stop all = opt_alike (λ p. option_map_or (λ s. level_fault s [] nothing_held p.1 false []) (find (λ s. answers_to p.0 (label_of s)) a.subs) []) stop [] (λ p. find_alike (λ s. answers_to p.0 (label_of s)) a.subs (λ s. level_fault s [] nothing_held p.1 false []) all (λ s d. level_alike s [] nothing_held p.1 false [] d none)) none
 
 -- the kinds of the tool are alike at any words
-pub tool_alike : (names : KindNames) (words : List Text) → is_alike (fault_of (tool_app names) words) ≡ true
-tool_alike names words =
-    let app = built (tool_app names) in
-    let given = argument_words (tool_app names) words in
+pub tool_alike : (words : List Text) → is_alike (fault_of tool words) ≡ true
+tool_alike words =
+    let app = built tool in
+    let given = argument_words tool words in
     let stop = (walk app.top.rules (names_of app) nothing_held given).stopped in
     level_alike app.top (names_of app) nothing_held given (is_some (entered app stop)) (entered_fault app stop) refl (entered_alike app stop refl)

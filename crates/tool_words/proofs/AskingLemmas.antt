@@ -1,13 +1,14 @@
 -- What the kinds of a refusal say, and what a subcommand asks for.
 use Rattle.std.proofs.Common.{◌≡◌, refl, ap, ◌∙◌, sym, subst, ℕ, List, [], ◌∷◌, Bool, true, false, not, ◌&&◌, Option}
-use Rattle.std.proofs.Common.{Some, None, codes, length, arith, inl, inr, ◌⊎◌}
+use Rattle.std.proofs.Common.{Some, None, codes, inl, inr, ◌⊎◌, ◌++◌, ◌==◌, if◌then◌else◌}
 use Rattle.std.specs.Prelude.{Result, Ok, Err, IfOk, IfErr, MatchOption, MatchResult, bytes_eq}
 use Rattle.std.specs.List.{list_all}
-use Rattle.std.proofs.lemmas.Bool.{cases_Bool, and_parts}
+use Rattle.std.proofs.lemmas.Bool.{cases_Bool, and_parts, eqb-true}
 use Rattle.std.proofs.lemmas.Slice.Eq.{bytes_eq-Decides}
 use Rattle.acs_tree.specs.Variables.{name_of}
 use Rattle.acs_tree.specs.declared.kind.Kind.{Kind}
 use Rattle.clap.specs.Walk.{Row, Text}
+use Rattle.clap.specs.Matches.{subcommand_name_of}
 use Rattle.clap.specs.Words.{IsAmong, Kinds, fault_of, subcommand_of, subcommand_rows_of}
 use Rattle.clap.specs.declared.parser.matches.ArgMatches.{ArgMatches}
 use Rattle.clap.specs.declared.error.kind.ErrorKind.{ErrorKind}
@@ -17,15 +18,15 @@ use Rattle.clap.proofs.OnLiterals.{clap_on_literals}
 use Rattle.desk_common.specs.Exact.{IsExact, MayRefuse}
 use Rattle.desk_common.proofs.ExactLemmas.{exact_fault, exact_thing, exact_want}
 use Rattle.std.proofs.lemmas.Option.{same_Some}
-use Rattle.tool_words.specs.Tool.{kind_words, names_with, tool, words_of}
+use Rattle.tool_words.specs.Tool.{flag_words, tool, words_of}
 use Rattle.tool_words.specs.Asking.{AreRefused, AreShown, AskFor, Hinders, AreSorted, err_of, is_free, kind_named, task_found}
-use Rattle.tool_words.specs.Asking.{is_refused, is_shown, is_text}
+use Rattle.tool_words.specs.Asking.{is_refused, is_shown, is_text, task_or_bad}
 use Rattle.tool_words.specs.declared.task.Task.{Task}
 use Rattle.tool_words.specs.declared.task.Task.TheVariants as tasks
 use Rattle.tool_words.specs.declared.words_err.WordsErr.{WordsErr}
 use Rattle.tool_words.specs.declared.words_err.WordsErr.TheVariants as errs
 use Rattle.tool_words.proofs.AlikeLemmas.{is_alike, tool_alike}
-use Rattle.tool_words.proofs.FreeLemmas.{tool_asks}
+use Rattle.tool_words.proofs.ToolLemmas.{none_found}
 
 all_among : (p : ErrorKind → Bool) (ks : Kinds) (k : ErrorKind) → IsAmong k ks → list_all p ks ≡ true → p k ≡ true
 all_among p [] k among all = absurd among
@@ -62,17 +63,13 @@ both_hold : (a b : Bool) → a ≡ true → b ≡ true → (a && b) ≡ true
 both_hold a b x y = rw (x, y) refl
 
 tool_kinds : (words : List Text) → is_alike (fault_of tool words) ≡ true
-tool_kinds words = tool_alike (names_with kind_words) words
+tool_kinds words = tool_alike words
 
 shown_by : (words : List Text) (k : ErrorKind) → IsAmong k (fault_of tool words) → is_text k ≡ true → AreShown words
 shown_by words k among text = both_hold _ _ (some_kind _ k among) (all_text _ k among (tool_kinds words) text)
 
 refused_by : (words : List Text) (k : ErrorKind) → IsAmong k (fault_of tool words) → is_text k ≡ false → AreRefused words
-refused_by words k among text = both_hold _ _ (some_kind _ k among) (none_text _ k among (tool_kinds words) text)
-
-free_of : (kinds : Kinds) → is_free kinds ≡ true → kinds ≡ []
-free_of [] e = refl
-free_of (k ∷ ks) e = absurd (cc e)
+refused_by words k among text = inl (both_hold _ _ (some_kind _ k among) (none_text _ k among (tool_kinds words) text))
 
 -- a reading with a fault refuses the words, or shows a text
 faults_sorted : (kinds : Kinds) → is_alike kinds ≡ true → is_free kinds ≡ false → (is_refused kinds ≡ true) ⊎ (is_shown kinds ≡ true)
@@ -83,11 +80,19 @@ faults_sorted (k ∷ ks) alike e = elim (cases_Bool (list_all is_text (k ∷ ks)
   | inr other ↦ inl (rw other at alike)
 ]
 
+-- words without a fault ask for a task, or a value in them isn't as its word asks
+free_sorted : (words : List Text) (found : Option Task) → is_free (fault_of tool words) ≡ true → task_found (subcommand_of tool words) ≡ found → AreSorted words
+free_sorted words None free e = inr (inl (inr (record { free = free; none = e })))
+free_sorted words (Some task) free e = inl (task, record { free = free; found = e })
+
 -- words ask for a task, are refused, or ask for a text
 pub tool_sorted : (words : List Text) → AreSorted words
 tool_sorted words = elim (cases_Bool (is_free (fault_of tool words))) [
-  | inl free ↦ let (task, finds) = tool_asks words (free_of (fault_of tool words) free) in inl (task, record { free = free; found = finds })
-  | inr faults ↦ inr (faults_sorted (fault_of tool words) (tool_kinds words) faults)
+  | inl free ↦ free_sorted words (task_found (subcommand_of tool words)) free refl
+  | inr faults ↦ elim (faults_sorted (fault_of tool words) (tool_kinds words) faults) [
+    | inl refused ↦ inr (inl (inl refused))
+    | inr shown ↦ inr (inr shown)
+  ]
 ]
 
 -- no reading does two of the three
@@ -128,7 +133,7 @@ hindered_by words kind.Io among = inl (refused_by words kind.Io among refl)
 hindered_by words kind.Format among = inl (refused_by words kind.Format among refl)
 hindered_by words kind.OutOfMemory among = inr refl
 
-pub wanted : (words : List Text) (e : WordsErr) → e ≡ errs.NoMemory → MayHinder words e
+wanted : (words : List Text) (e : WordsErr) → e ≡ errs.NoMemory → MayHinder words e
 wanted words e is = inr (ap Some (sym is))
 
 pub hindered : (words : List Text) (k : ErrorKind) → ((k ≡ kind.OutOfMemory) ⊎ IsAmong k (fault_of tool words)) → MayHinder words (err_of k)
@@ -137,8 +142,37 @@ hindered words k why = elim why [
   | inr among ↦ hindered_by words k among
 ]
 
-pub asked : (words : List Text) (matches : ArgMatches) (task : Task) → ((fault_of tool words ≡ []) × (subcommand_rows_of matches ≡ subcommand_of tool words)) → task_found (subcommand_rows_of matches) ≡ Some task → AskFor words task
-asked words matches task read finds = record { free = ap is_free read.0; found = ap task_found (sym read.1) ∙ finds }
+-- what a reading without a fault comes to
+
+read_asks : (words : List Text) (found : Option Task) (result : Result Task WordsErr) → fault_of tool words ≡ [] → task_found (subcommand_of tool words) ≡ found → result ≡ task_or_bad found → IfOk result (AskFor words)
+read_asks words None result free e is = subst (λ (r : Result Task WordsErr). IfOk r (AskFor words)) (sym is) tt
+read_asks words (Some task) result free e is = subst (λ (r : Result Task WordsErr). IfOk r (AskFor words)) (sym is) (record { free = ap is_free free; found = e })
+
+read_hinders : (words : List Text) (found : Option Task) (result : Result Task WordsErr) → fault_of tool words ≡ [] → task_found (subcommand_of tool words) ≡ found → result ≡ task_or_bad found → IfErr result (MayHinder words)
+read_hinders words None result free e is = subst (λ (r : Result Task WordsErr). IfErr r (MayHinder words)) (sym is) (inl (inr (record { free = ap is_free free; none = e })))
+read_hinders words (Some task) result free e is = subst (λ (r : Result Task WordsErr). IfErr r (MayHinder words)) (sym is) tt
+
+module _ (words : List Text) (found : Option (Text × List Row)) (result : Result Task WordsErr) (free : fault_of tool words ≡ []) (same : found ≡ subcommand_of tool words) (is : result ≡ task_or_bad (task_found found)) where
+  told : result ≡ task_or_bad (task_found (subcommand_of tool words))
+  told = is ∙ ap (λ (x : Option (Text × List Row)). task_or_bad (task_found x)) same
+
+  pub asked : IfOk result (AskFor words)
+  asked = read_asks words (task_found (subcommand_of tool words)) result free refl told
+
+  pub unasked : IfErr result (MayHinder words)
+  unasked = read_hinders words (task_found (subcommand_of tool words)) result free refl told
+
+-- where words name no files they are refused, or memory is wanting
+pub unnamed : (words : List Text) (found : Option (Text × List Row)) (e : WordsErr) → fault_of tool words ≡ [] → found ≡ subcommand_of tool words → (((e ≡ errs.Bad) × (task_found found ≡ None)) ⊎ (e ≡ errs.NoMemory))
+    → MayHinder words e
+unnamed words found e free same why = elim why [
+  | inl bad ↦ subst (MayHinder words) (sym bad.0) (inl (inr (record { free = ap is_free free; none = ap task_found (sym same) ∙ bad.1 })))
+  | inr memory ↦ wanted words e memory
+]
+
+-- where no subcommand was found nothing is asked for
+pub none_asks : (m : ArgMatches) → None ≡ subcommand_name_of m → None ≡ task_found (subcommand_rows_of m)
+none_asks m e = sym (ap task_found (none_found m e))
 
 -- the kind of this name is the one that the word names
 pub named_as : (word : Text) (found : Option Kind) → MatchOption found ((kind : Kind) → word ≡ name_of kind → ⊥) (λ kind. word ≡ name_of kind) → found ≡ kind_named word
@@ -167,16 +201,26 @@ one_asked words one two a b = same_Some _ _ (sym a.found ∙ b.found)
 
 -- words that ask for a task are neither refused nor shown
 pub asked_once : (words : List Text) (task : Task) (e : WordsErr) → AskFor words task → Hinders words e → ⊥
-asked_once words task errs.Bad a h = free_refused (fault_of tool words) a.free h
+asked_once words task errs.Bad a h = elim h [
+  | inl refused ↦ free_refused (fault_of tool words) a.free refused
+  | inr nothing ↦ cc (a.found, nothing.none)
+]
 asked_once words task errs.Shown a h = free_shown (fault_of tool words) a.free h
 asked_once words task errs.NoMemory a h = h
+
+-- words are never refused and shown
+bad_shown : (words : List Text) → AreRefused words → AreShown words → ⊥
+bad_shown words refused shown = elim refused [
+  | inl kinds ↦ shown_refused (fault_of tool words) shown kinds
+  | inr nothing ↦ free_shown (fault_of tool words) nothing.free shown
+]
 
 -- there is one cause at most
 one_cause : (words : List Text) (one two : WordsErr) → Hinders words one → Hinders words two → one ≡ two
 one_cause words errs.Bad errs.Bad a b = refl
-one_cause words errs.Bad errs.Shown a b = absurd (shown_refused (fault_of tool words) b a)
+one_cause words errs.Bad errs.Shown a b = absurd (bad_shown words a b)
 one_cause words errs.Bad errs.NoMemory a b = absurd b
-one_cause words errs.Shown errs.Bad a b = absurd (shown_refused (fault_of tool words) a b)
+one_cause words errs.Shown errs.Bad a b = absurd (bad_shown words b a)
 one_cause words errs.Shown errs.Shown a b = refl
 one_cause words errs.Shown errs.NoMemory a b = absurd b
 one_cause words errs.NoMemory two a b = absurd a
@@ -190,64 +234,71 @@ exact_task words (Err e) asks hinders = elim hinders [
 
 -- the words of a task are free of faults, and ask for it
 
-comparison_free : (changed fail : Bool) → is_free (fault_of tool (words_of (tasks.Compare (record { changed = changed; fail = fail })))) ≡ true
-unfolding clap_on_literals
-comparison_free true true = refl
-comparison_free true false = refl
-comparison_free false true = refl
-comparison_free false false = refl
+-- words ask for this task, and it is the one whose words these are
+abbrev Asks : List Text → Task → Type 0
+Asks words task = (is_free (fault_of tool words) ≡ true) × (task_found (subcommand_of tool words) ≡ Some task)
 
-comparison_found : (changed fail : Bool) → task_found (subcommand_of tool (words_of (tasks.Compare (record { changed = changed; fail = fail })))) ≡ Some (tasks.Compare (record { changed = changed; fail = fail }))
-unfolding clap_on_literals
-comparison_found true true = refl
-comparison_found true false = refl
-comparison_found false true = refl
-comparison_found false false = refl
+asks_as : (words given : List Text) (task : Task) → Some words ≡ Some given → Asks given task → Asks words task
+asks_as words given task e asks = subst (λ (x : List Text). Asks x task) (sym (same_Some _ _ e)) asks
 
-lint_free : (fail : Bool) → is_free (fault_of tool (words_of (tasks.Lint fail))) ≡ true
+comparison_asks : (changed fail : Bool) → Asks (codes "compare" ∷ (flag_words (codes "--changed") changed ++ flag_words (codes "--fail") fail)) (tasks.Compare (record { changed = changed; fail = fail }))
 unfolding clap_on_literals
-lint_free true = refl
-lint_free false = refl
+comparison_asks true true = (refl, refl)
+comparison_asks true false = (refl, refl)
+comparison_asks false true = (refl, refl)
+comparison_asks false false = (refl, refl)
 
-lint_found : (fail : Bool) → task_found (subcommand_of tool (words_of (tasks.Lint fail))) ≡ Some (tasks.Lint fail)
+lint_asks : (fail : Bool) → Asks (codes "lint" ∷ flag_words (codes "--fail") fail) (tasks.Lint fail)
 unfolding clap_on_literals
-lint_found true = refl
-lint_found false = refl
+lint_asks true = (refl, refl)
+lint_asks false = (refl, refl)
 
-task_free : (task : Task) → is_free (fault_of tool (words_of task)) ≡ true
+kind_asks : (kind : Kind) → Asks (codes "translate" ∷ name_of kind ∷ []) (tasks.Translate kind)
 unfolding clap_on_literals
-task_free (tasks.Translate DataClas) = refl
-task_free (tasks.Translate StorClas) = refl
-task_free (tasks.Translate MgmtClas) = refl
-task_free (tasks.Translate StorGrp) = refl
-task_free tasks.Validate = refl
-task_free tasks.Simulate = refl
-task_free (tasks.Compare comparison) = comparison_free comparison.changed comparison.fail
-task_free tasks.Explain = refl
-task_free tasks.Coverage = refl
-task_free (tasks.Lint fail) = lint_free fail
+kind_asks DataClas = (refl, refl)
+kind_asks StorClas = (refl, refl)
+kind_asks MgmtClas = (refl, refl)
+kind_asks StorGrp = (refl, refl)
 
-task_is_found : (task : Task) → task_found (subcommand_of tool (words_of task)) ≡ Some task
+validate_asks : Asks (codes "validate" ∷ []) tasks.Validate
 unfolding clap_on_literals
-task_is_found (tasks.Translate DataClas) = refl
-task_is_found (tasks.Translate StorClas) = refl
-task_is_found (tasks.Translate MgmtClas) = refl
-task_is_found (tasks.Translate StorGrp) = refl
-task_is_found tasks.Validate = refl
-task_is_found tasks.Simulate = refl
-task_is_found (tasks.Compare comparison) = comparison_found comparison.changed comparison.fail
-task_is_found tasks.Explain = refl
-task_is_found tasks.Coverage = refl
-task_is_found (tasks.Lint fail) = lint_found fail
+validate_asks = (refl, refl)
 
-task_asks : (words : List Text) (task : Task) → words ≡ words_of task → AskFor words task
-task_asks words task w = subst (λ (x : List Text). AskFor x task) (sym w) (record { free = task_free task; found = task_is_found task })
+simulate_asks : Asks (codes "simulate" ∷ []) tasks.Simulate
+unfolding clap_on_literals
+simulate_asks = (refl, refl)
+
+explain_asks : Asks (codes "explain" ∷ []) tasks.Explain
+unfolding clap_on_literals
+explain_asks = (refl, refl)
+
+coverage_asks : Asks (codes "coverage" ∷ []) (tasks.Coverage 0)
+unfolding clap_on_literals
+coverage_asks = (refl, refl)
+
+least_asks : (words : List Text) (least : ℕ) → Some words ≡ (if least == 0 then Some (codes "coverage" ∷ []) else None) → Asks words (tasks.Coverage least)
+least_asks words least w = elim (cases_Bool (least == 0)) [
+  | inl none ↦ subst (λ (n : ℕ). Asks words (tasks.Coverage n)) (sym (eqb-true least 0 none)) (asks_as words _ (tasks.Coverage 0) (rw none at w) coverage_asks)
+  | inr some ↦ absurd (cc (rw some at w))
+]
+
+task_asks : (words : List Text) (task : Task) → Some words ≡ words_of task → Asks words task
+task_asks words (tasks.Translate kind) w = asks_as words _ _ w (kind_asks kind)
+task_asks words tasks.Validate w = asks_as words _ _ w validate_asks
+task_asks words tasks.Simulate w = asks_as words _ _ w simulate_asks
+task_asks words (tasks.Compare comparison) w = asks_as words _ _ w (comparison_asks comparison.changed comparison.fail)
+task_asks words tasks.Explain w = asks_as words _ _ w explain_asks
+task_asks words (tasks.Coverage least) w = least_asks words least w
+task_asks words (tasks.Lint fail) w = asks_as words _ _ w (lint_asks fail)
+
+known_asks : (words : List Text) (task : Task) → Some words ≡ words_of task → AskFor words task
+known_asks words task w = let asks = task_asks words task w in record { free = asks.0; found = asks.1 }
 
 -- the words of a task ask for it, and for no other
-pub matched : (words : List Text) (task : Task) (result : Result Task WordsErr) → words ≡ words_of task → IfOk result (AskFor words) → IfErr result (MayHinder words)
+pub matched : (words : List Text) (task : Task) (result : Result Task WordsErr) → Some words ≡ words_of task → IfOk result (AskFor words) → IfErr result (MayHinder words)
     → MatchResult result (λ found. found ≡ task) (λ err. err ≡ errs.NoMemory)
-matched words task (Ok found) w asks hinders = one_asked words found task asks (task_asks words task w)
+matched words task (Ok found) w asks hinders = one_asked words found task asks (known_asks words task w)
 matched words task (Err err) w asks hinders = elim hinders [
-  | inl fault ↦ absurd (asked_once words task err (task_asks words task w) fault)
+  | inl fault ↦ absurd (asked_once words task err (known_asks words task w) fault)
   | inr memory ↦ sym (same_Some _ _ memory)
 ]

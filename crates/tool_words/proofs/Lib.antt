@@ -1,8 +1,3 @@
 mod ToolLemmas
 mod AlikeLemmas
-mod MovedWalkLemmas
-mod PlaceLemmas
-mod FreeUseLemmas
-mod FreeWalkLemmas
-mod FreeLemmas
-mod AskingLemmas
+pub mod AskingLemmas

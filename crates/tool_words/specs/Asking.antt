@@ -1,9 +1,10 @@
 -- What words ask for, by the command that reads them (docs/manual/tool.md, "Words").
-use Rattle.std.specs.Prelude.{◌≡◌, ◌⊎◌, Bool, true, false, not, ◌&&◌, List, [], ◌∷◌, Option, None, Some, codes, bytes_eq}
-use Rattle.std.specs.Prelude.{if◌then◌else◌, option_and_then, option_map}
+use Rattle.std.specs.Prelude.{◌≡◌, ◌⊎◌, ℕ, Bool, true, false, not, ◌&&◌, List, [], ◌∷◌, Option, None, Some, codes}
+use Rattle.std.specs.Prelude.{Result, Ok, Err, bytes_eq, if◌then◌else◌, option_and_then, option_map}
 use Rattle.std.specs.Borrow.{Bor}
 use Rattle.std.specs.List.{list_all}
 use Rattle.std.specs.Option.{option_map_or}
+use Rattle.acs_tree.specs.Numbers.{number_of, within}
 use Rattle.acs_tree.specs.Variables.{name_of}
 use Rattle.acs_tree.specs.declared.kind.Kind.{Kind}
 use Rattle.acs_tree.specs.declared.kind.Kind.TheVariants.{DataClas, StorClas, MgmtClas, StorGrp}
@@ -48,11 +49,23 @@ kind_named word =
 abbrev pub is_set : Text → List Row → Bool
 is_set name rows = option_map_or (λ value. bytes_eq value (codes "true")) (first_of name rows) false
 
+-- the kind that these rows name
+abbrev pub kind_in : List Row → Option Kind
+kind_in rows = option_and_then kind_named (first_of (codes "kind") rows)
+
+-- the per cent that a word writes, 0 to 100; 0 where there is none
+abbrev pub least_named : Option Text → Option ℕ
+least_named None = Some 0
+least_named (Some word) = within 0 100 (number_of word)
+
+-- the least per cent that these rows name
+abbrev pub least_in : List Row → Option ℕ
+least_in rows = least_named (first_of (codes "fail-under") rows)
+
 -- what the subcommand of this name with these rows asks for
 abbrev pub task_of : Text → List Row → Option Task
 task_of name rows =
-    if bytes_eq name (codes "translate")
-    then option_map tasks.Translate (option_and_then kind_named (first_of (codes "kind") rows))
+    if bytes_eq name (codes "translate") then option_map tasks.Translate (kind_in rows)
     else if bytes_eq name (codes "validate") then Some tasks.Validate
     else if bytes_eq name (codes "simulate") then Some tasks.Simulate
     else if bytes_eq name (codes "compare") then Some (tasks.Compare (record {
@@ -60,7 +73,7 @@ task_of name rows =
       fail = is_set (codes "fail") rows;
     }))
     else if bytes_eq name (codes "explain") then Some tasks.Explain
-    else if bytes_eq name (codes "coverage") then Some tasks.Coverage
+    else if bytes_eq name (codes "coverage") then option_map tasks.Coverage (least_in rows)
     else if bytes_eq name (codes "lint") then Some (tasks.Lint (is_set (codes "fail") rows)) else None
 
 -- what the subcommand that was found asks for
@@ -72,6 +85,16 @@ task_found (Some found) = task_of found.0 found.1
 pub record AskFor (words : List Text) (task : Task) : Type 0 where
   pub free : is_free (fault_of tool words) ≡ true
   pub found : task_found (subcommand_of tool words) ≡ Some task
+
+-- the words are free of faults, and a value isn't as its word asks
+pub record AskNothing (words : List Text) : Type 0 where
+  pub free : is_free (fault_of tool words) ≡ true
+  pub none : task_found (subcommand_of tool words) ≡ None
+
+-- the task, or that the words are refused
+abbrev pub task_or_bad : Option Task → Result Task WordsErr
+task_or_bad None = Err errs.Bad
+task_or_bad (Some task) = Ok task
 
 -- the path of this name that the subcommand that was found has
 abbrev pub path_found : Text → Option (Text × List Row) → Option Text
@@ -88,9 +111,9 @@ pub record NamePaths (found : Option (Text × List Row)) (paths : Paths) : Type 
   pub new : IsPath paths.new (codes "new") found
   pub cases : IsPath paths.cases (codes "cases") found
 
--- the tool's command refuses the words
+-- the tool's command refuses the words, or a value in them isn't as its word asks
 abbrev pub AreRefused : List Text → Type 0
-AreRefused words = is_refused (fault_of tool words) ≡ true
+AreRefused words = (is_refused (fault_of tool words) ≡ true) ⊎ AskNothing words
 
 -- the tool's command answers the words with a text of help or of the version
 abbrev pub AreShown : List Text → Type 0

@@ -2,13 +2,11 @@
 ghost use Rattle.std.specs.Prelude.{◌≡◌, false, IfOk};
 ghost use Rattle.clap.specs.Words.{app_of, rule_of};
 ghost use Rattle.clap.specs.declared.builder.command.Command.TheViews.{out-Command};
-ghost use Rattle.tool_words.specs.Tool.{IsTool, IsTranslate, KeepsItsOwn, bare_app, compare_app, file_app, flag_rule};
-ghost use Rattle.tool_words.specs.Tool.{lint_app};
+ghost use Rattle.tool_words.specs.Tool.{KeepsItsOwn, bare_app, compare_app, coverage_app, file_app, flag_rule};
+ghost use Rattle.tool_words.specs.Tool.{lint_app, option_rule, path_rule, tool, translate_app, wanted_rule};
 
 use clap::{Arg, ArgAction, Command};
 use std::alloc::{AllocError, Global};
-
-static KINDS: [&str; 4] = ["DATACLAS", "STORCLAS", "MGMTCLAS", "STORGRP"];
 
 /// What help says of a command.
 #[derive(Clone, Copy)]
@@ -44,7 +42,7 @@ const EXPLAIN: Said = Said {
 
 const COVERAGE: Said = Said {
     about: "Tell what allocations reach of the routines, and what they don't",
-    usage: "smsc coverage [FILE]",
+    usage: "smsc coverage [FILE] [--fail-under N]",
 };
 
 const LINT: Said = Said {
@@ -59,14 +57,14 @@ const TOOL: Said = Said {
 
 /// The command of the tool.
 pub fn tool_command<'a>(alloc: Global) -> Result<Command<'a>, AllocError>
-    ensures { IfOk result (λ command. IsTool (app_of command)) }
+    ensures { IfOk result (λ command. app_of command ≡ tool) }
 {
     let translate = translating(alloc)?;
     let validate = reading(alloc, "validate", VALIDATE)?;
     let simulate = reading(alloc, "simulate", SIMULATE)?;
     let compare = comparing(alloc)?;
     let explain = reading(alloc, "explain", EXPLAIN)?;
-    let coverage = reading(alloc, "coverage", COVERAGE)?;
+    let coverage = covering(alloc)?;
     let lint = linting(alloc)?;
     bare_tool(alloc)
         .subcommand(translate)?
@@ -80,16 +78,12 @@ pub fn tool_command<'a>(alloc: Global) -> Result<Command<'a>, AllocError>
 
 // The subcommand `translate`, which wants the name of a kind.
 fn translating<'a>(alloc: Global) -> Result<Command<'a>, AllocError>
-    ensures app { IfOk result (λ command. IsTranslate (app_of command)) }
+    ensures app { IfOk result (λ command. app_of command ≡ translate_app) }
     ensures own { IfOk result (KeepsItsOwn) }
 {
-    let kind = Arg::new(alloc, "kind")
-        .required(true)
-        .value_parser(KINDS.as_slice());
-    let file = Arg::new(alloc, "file");
     described(Command::new(alloc, "translate"), TRANSLATE)
-        .arg(kind)?
-        .arg(file)
+        .arg(wanted(alloc, "kind"))?
+        .arg(path(alloc, "file"))
 }
 
 // The subcommand of this name, which reads one file.
@@ -97,8 +91,7 @@ fn reading<'a>(alloc: Global, name: &'a str, said: Said) -> Result<Command<'a>, 
     ensures app { IfOk result (λ command. app_of command ≡ file_app name.entry.now) }
     ensures own { IfOk result (KeepsItsOwn) }
 {
-    let file = Arg::new(alloc, "file");
-    described(Command::new(alloc, name), said).arg(file)
+    described(Command::new(alloc, name), said).arg(path(alloc, "file"))
 }
 
 // The subcommand `compare`, which reads up to three files.
@@ -106,17 +99,22 @@ fn comparing<'a>(alloc: Global) -> Result<Command<'a>, AllocError>
     ensures app { IfOk result (λ command. app_of command ≡ compare_app) }
     ensures own { IfOk result (KeepsItsOwn) }
 {
-    let old = Arg::new(alloc, "old");
-    let new = Arg::new(alloc, "new");
-    let cases = Arg::new(alloc, "cases");
-    let changed = flag(alloc, "changed");
-    let fail = flag(alloc, "fail");
     described(Command::new(alloc, "compare"), COMPARE)
-        .arg(old)?
-        .arg(new)?
-        .arg(cases)?
-        .arg(changed)?
-        .arg(fail)
+        .arg(path(alloc, "old"))?
+        .arg(path(alloc, "new"))?
+        .arg(path(alloc, "cases"))?
+        .arg(flag(alloc, "changed"))?
+        .arg(flag(alloc, "fail"))
+}
+
+// The subcommand `coverage`, which reads one file.
+fn covering<'a>(alloc: Global) -> Result<Command<'a>, AllocError>
+    ensures app { IfOk result (λ command. app_of command ≡ coverage_app) }
+    ensures own { IfOk result (KeepsItsOwn) }
+{
+    described(Command::new(alloc, "coverage"), COVERAGE)
+        .arg(path(alloc, "file"))?
+        .arg(option(alloc, "fail-under"))
 }
 
 // The subcommand `lint`, which reads one file.
@@ -124,11 +122,9 @@ fn linting<'a>(alloc: Global) -> Result<Command<'a>, AllocError>
     ensures app { IfOk result (λ command. app_of command ≡ lint_app) }
     ensures own { IfOk result (KeepsItsOwn) }
 {
-    let file = Arg::new(alloc, "file");
-    let fail = flag(alloc, "fail");
     described(Command::new(alloc, "lint"), LINT)
-        .arg(file)?
-        .arg(fail)
+        .arg(path(alloc, "file"))?
+        .arg(flag(alloc, "fail"))
 }
 
 // The command with what help says of it.
@@ -137,6 +133,30 @@ fn described<'a>(command: Command<'a>, said: Said) -> Command<'a>
     ensures own { (out-Command result).has_globals ≡ (out-Command command.entry).has_globals }
 {
     command.about(said.about).override_usage(said.usage)
+}
+
+// A word that is wanted.
+fn wanted<'a>(alloc: Global, name: &'a str) -> Arg<'a>
+    ensures rule { rule_of result ≡ wanted_rule name.entry.now }
+    ensures local { result.global ≡ false }
+{
+    Arg::new(alloc, name).required(true)
+}
+
+// A word that is a path, which may be missing.
+fn path<'a>(alloc: Global, name: &'a str) -> Arg<'a>
+    ensures rule { rule_of result ≡ path_rule name.entry.now }
+    ensures local { result.global ≡ false }
+{
+    Arg::new(alloc, name)
+}
+
+// An option with a value.
+fn option<'a>(alloc: Global, name: &'a str) -> Arg<'a>
+    ensures rule { rule_of result ≡ option_rule name.entry.now }
+    ensures local { result.global ≡ false }
+{
+    Arg::new(alloc, name).long(name)
 }
 
 // The flag of this name.

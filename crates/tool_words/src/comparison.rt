@@ -1,7 +1,7 @@
 //! How two decks are compared.
 
 /// What is listed of a comparison, and with which status it ends.
-#[derive(Clone, Copy, Debug, PartialEq, Eq)]
+#[derive(Clone, Copy)]
 pub struct Comparison {
     /// Cases that come to the same are left out of the listing.
     pub changed: bool,

@@ -39,10 +39,12 @@ smsc explain [FILE]  tell what each routine does with the allocations of such
 ";
 
 const COVERAGE: &str = "
-smsc coverage [FILE] tell what the allocations of such a script reach of the
-                     routines, and what they don't
+smsc coverage [FILE] [--fail-under N]
+                     tell what the allocations of such a script reach of the
+                     routines, and what they don't; with --fail-under the exit
+                     status is 1 where they cover less than N per cent of one
 
-    smsc coverage morning.txt
+    smsc coverage morning.txt --fail-under 90
 ";
 
 const LINT: &str = "

@@ -8,6 +8,8 @@ mod paths;
 mod printed;
 mod reading;
 mod task;
+mod value_faults;
+mod values;
 mod words_err;
 
 pub use comparison::Comparison;

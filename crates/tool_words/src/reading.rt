@@ -1,14 +1,12 @@
 //! Reading the words.
-ghost use Rattle.std.specs.Prelude.{◌≡◌, ◌⊎◌, [], Some, IfOk, IfErr, MatchResult, codes, map, option_map, option_and_then};
-ghost use Rattle.std.specs.Prelude.{string_bytes};
-ghost use Rattle.clap.specs.Words.{kind_of, IsAmong, fault_of, first_of, found_of, rows_of, subcommand_of};
+ghost use Rattle.std.specs.Prelude.{◌≡◌, ◌⊎◌, [], None, Some, IfOk, IfErr, MatchResult, map, string_bytes};
+ghost use Rattle.clap.specs.Words.{kind_of, IsAmong, fault_of, found_of, rows_of, subcommand_of};
 ghost use Rattle.clap.specs.Words.{subcommand_rows_of};
 ghost use Rattle.desk_common.specs.Exact.{IsExact, MayRefuse};
-ghost use Rattle.tool_words.specs.Asking.{AskFor, Hinders, AreSorted, NamePaths, err_of, is_set, kind_named, task_found};
-ghost use Rattle.tool_words.specs.Asking.{task_of};
+ghost use Rattle.tool_words.specs.Asking.{AskFor, Hinders, AreSorted, NamePaths, err_of, task_found, task_of};
+ghost use Rattle.tool_words.specs.Asking.{task_or_bad};
 ghost use Rattle.tool_words.specs.Tool.{tool, words_of};
 ghost use Rattle.tool_words.specs.declared.task.Task.{Task as TaskOf};
-ghost use Rattle.tool_words.specs.declared.task.Task.TheVariants.{Translate};
 
 use crate::command::tool_command;
 use crate::comparison::Comparison;
@@ -16,16 +14,18 @@ use crate::examples::examples_of;
 use crate::paths::Paths;
 use crate::printed::printed_words;
 use crate::task::Task;
+use crate::value_faults::value_fault;
+use crate::values::{is_set, kind_in, least_in, value_of};
 use crate::words_err::WordsErr;
-use acs_tree::Kind;
 use clap::error::ErrorKind;
 use clap::{ArgMatches, Error};
 use std::alloc::{AllocError, Global};
 
 // What the tool's command finds in the words.
 fn read_matches<'a>(alloc: Global, words: &'a [String]) -> Result<ArgMatches<'a>, Error>
-    ensures ok { IfOk result (λ m. (fault_of tool (map string_bytes words.entry.now) ≡ [])
-        × (subcommand_rows_of m ≡ subcommand_of tool (map string_bytes words.entry.now))) }
+    ensures free { IfOk result (λ _. fault_of tool (map string_bytes words.entry.now) ≡ []) }
+    ensures found { IfOk result (λ m.
+        subcommand_rows_of m ≡ subcommand_of tool (map string_bytes words.entry.now)) }
     ensures err { IfErr result (λ e. (kind_of e ≡ ErrorKind.OutOfMemory)
         ⊎ IsAmong (kind_of e) (fault_of tool (map string_bytes words.entry.now))) }
 {
@@ -40,7 +40,7 @@ pub fn task_asked(alloc: Global, words: &[String]) -> Result<Task, WordsErr>
     ensures exactly { IsExact (AskFor (map string_bytes words.now))
         (Hinders (map string_bytes words.now)) (Some WordsErr.NoMemory) result }
     ensures sorted { AreSorted (map string_bytes words.now) }
-    ensures known { (task : TaskOf) → map string_bytes words.now ≡ words_of task →
+    ensures known { (task : TaskOf) → Some (map string_bytes words.now) ≡ words_of task →
         MatchResult result (λ found. found ≡ task) (λ err. err ≡ WordsErr.NoMemory) }
 {
     match read_matches(alloc, words) {
@@ -61,8 +61,19 @@ pub fn paths_asked<'a>(alloc: Global, words: &'a [String]) -> Result<Paths<'a>, 
     }
 }
 
-// The files that the subcommand that was found names.
+// The files that the subcommand that was found names, or that it asks for nothing.
 fn paths_in<'a>(matches: &ArgMatches<'a>) -> Result<Paths<'a>, WordsErr>
+    ensures paths { IfOk result (NamePaths (subcommand_rows_of matches.now)) }
+    ensures err { IfErr result (λ e. ((e ≡ WordsErr.Bad) × (task_found (subcommand_rows_of matches.now) ≡ None))
+        ⊎ (e ≡ WordsErr.NoMemory)) }
+{
+    match task_found(matches) {
+        Some(_) => named_paths(matches),
+        None => Err(WordsErr::Bad),
+    }
+}
+
+fn named_paths<'a>(matches: &ArgMatches<'a>) -> Result<Paths<'a>, WordsErr>
     ensures paths { IfOk result (NamePaths (subcommand_rows_of matches.now)) }
     ensures memory { IfErr result (λ e. e ≡ WordsErr.NoMemory) }
 {
@@ -77,18 +88,23 @@ fn paths_in<'a>(matches: &ArgMatches<'a>) -> Result<Paths<'a>, WordsErr>
     })
 }
 
-// What the subcommand that was found asks for.
+// What the subcommand that was found asks for, or that it asks for nothing.
 fn task_in(matches: &ArgMatches<'_>) -> Result<Task, WordsErr>
-    ensures asked { IfOk result (λ task. task_found (subcommand_rows_of matches.now) ≡ Some task) }
-    ensures memory { IfErr result (λ e. e ≡ WordsErr.NoMemory) }
+    ensures { result ≡ task_or_bad (task_found (subcommand_rows_of matches.now)) }
 {
-    let Some((name, inner)) = matches.subcommand() else {
-        return Err(WordsErr::NoMemory);
-    };
-    match task_of(name, inner) {
+    match task_found(matches) {
         Some(task) => Ok(task),
-        None => Err(WordsErr::NoMemory),
+        None => Err(WordsErr::Bad),
     }
+}
+
+// What the subcommand that was found asks for.
+#[tactic(auto, using(crate::proofs::AskingLemmas::none_asks))]
+fn task_found(matches: &ArgMatches<'_>) -> Option<Task>
+    ensures { result ≡ task_found (subcommand_rows_of matches.now) }
+{
+    let (name, inner) = matches.subcommand()?;
+    task_of(name, inner)
 }
 
 // What the subcommand of this name asks for.
@@ -96,7 +112,8 @@ fn task_of(name: &str, matches: &ArgMatches<'_>) -> Option<Task>
     ensures { result ≡ task_of name.now (rows_of (found_of matches.now)) }
 {
     if name == "translate" {
-        return translation(matches);
+        let kind = kind_in(matches)?;
+        return Some(Task::Translate(kind));
     }
     if name == "validate" {
         return Some(Task::Validate);
@@ -114,7 +131,8 @@ fn task_of(name: &str, matches: &ArgMatches<'_>) -> Option<Task>
         return Some(Task::Explain);
     }
     if name == "coverage" {
-        return Some(Task::Coverage);
+        let least = least_in(matches)?;
+        return Some(Task::Coverage { least });
     }
     if name == "lint" {
         return Some(Task::Lint {
@@ -122,40 +140,6 @@ fn task_of(name: &str, matches: &ArgMatches<'_>) -> Option<Task>
         });
     }
     None
-}
-
-// The translation that the word KIND asks for.
-fn translation(matches: &ArgMatches<'_>) -> Option<Task>
-    ensures { result ≡ option_map Translate (option_and_then kind_named
-        (first_of (codes "kind") (rows_of (found_of matches.now)))) }
-{
-    let word = value_of(matches, "kind")?;
-    let kind = kind_named(word)?;
-    Some(Task::Translate(kind))
-}
-
-// The kind that a word names.
-fn kind_named(word: &str) -> Option<Kind>
-    ensures { result ≡ kind_named word.now }
-{
-    Kind::named(word.as_bytes())
-}
-
-// The value of this name.
-fn value_of<'a>(matches: &ArgMatches<'a>, name: &str) -> Option<&'a str>
-    ensures { option_map (λ value. value.now) result ≡ first_of name.now (rows_of (found_of matches.now)) }
-{
-    matches.get_str(name)
-}
-
-// Whether the flag of this name is set.
-fn is_set(matches: &ArgMatches<'_>, name: &str) -> bool
-    ensures { result ≡ is_set name.now (rows_of (found_of matches.now)) }
-{
-    match value_of(matches, name) {
-        Some(value) => value == "true",
-        None => false,
-    }
 }
 
 // Why words with an error of this kind ask for nothing.
@@ -179,7 +163,7 @@ pub fn shown_text(alloc: Global, words: &[String]) -> Result<String, AllocError>
 // The same, of words as they are.
 fn text_for(alloc: Global, words: &[String]) -> Result<String, AllocError> {
     match read_matches(alloc, words) {
-        Ok(_) => Ok(String::new(alloc)),
+        Ok(matches) => value_fault(alloc, &matches),
         Err(error) => {
             let examples = examples_behind(alloc, words, error.kind())?;
             format!(in alloc; "{error}{examples}")

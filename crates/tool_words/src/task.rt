@@ -3,7 +3,7 @@ use crate::comparison::Comparison;
 use acs_tree::Kind;
 
 /// What is done with the input.
-#[derive(Clone, Copy, Debug, PartialEq, Eq)]
+#[derive(Clone, Copy)]
 pub enum Task {
     /// It is a routine of this kind, to be translated.
     Translate(Kind),
@@ -15,8 +15,9 @@ pub enum Task {
     Compare(Comparison),
     /// It is a script, of which it is to be told what the routines do with each allocation.
     Explain,
-    /// It is a script, of which it is to be told what its allocations reach of the routines.
-    Coverage,
+    /// It is a script, of which it is to be told what its allocations reach of the routines; that less than `least` per
+    /// cent of a routine is covered is told by the exit status.
+    Coverage { least: u8 },
     /// It is a deck, of which it is to be told what is certain and hardly meant so; with `fail` a finding is told by the
     /// exit status.
     Lint { fail: bool },

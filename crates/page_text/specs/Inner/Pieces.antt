@@ -74,6 +74,10 @@ desk_text activations entries volumes =
     codes "{\"activations\":" ++ (compact_text (count_if activations) ++ (codes ",\"entries\":" ++ (decimal entries
     ++ (codes ",\"volumes\":" ++ (decimal volumes ++ codes "}")))))
 
+-- a deck
+abbrev pub deck_text : List ℕ → List ℕ
+deck_text deck = codes "{\"deck\":" ++ (quoted deck ++ codes "}")
+
 -- what is wrong
 abbrev pub error_text : List ℕ → List ℕ
 error_text sentence = codes "{\"error\":" ++ (quoted sentence ++ codes "}")

@@ -26,13 +26,13 @@ pub record IsDueNext (config : Configuration) (day : ℕ) (sets : List DataSet) 
 abbrev pub IsNextDue : Configuration → ℕ → List DataSet → Option (List ℕ) → Option (List ℕ × Due) → Type 0
 IsNextDue config day sets last next = MatchOption next (IsLastName last sets) (IsDueNext config day sets last)
 
--- a request was answered and stored behind the others, with the next number
-pub record Asks (o : Opening) (old new : List Entry) (dsn : List ℕ) (op : Op) (acts acts' : List Act) : Type 0 where
+-- a request was answered and stored behind the others, with the next number behind the first
+pub record Asks (first : ℕ) (o : Opening) (old new : List Entry) (dsn : List ℕ) (op : Op) (acts acts' : List Act) : Type 0 where
   pub answer : Answer
-  pub behind : acts' ≡ acts ++ record { number = length acts + 1; dsn = dsn; answer = answer } ∷ []
+  pub behind : acts' ≡ acts ++ record { number = first + length acts; dsn = dsn; answer = answer } ∷ []
   pub told : Option Rows
   pub told_then : Option Rows
   pub count : ℕ
   pub count_then : ℕ
   pub enters : Enters o old new told told_then count count_then
-      (record { job = manager; number = length acts + 1; op = op }) answer
+      (record { job = manager; number = first + length acts; op = op }) answer

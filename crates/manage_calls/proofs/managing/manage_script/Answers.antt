@@ -26,7 +26,7 @@ returns-clause-left g c = λ bytes script.
     let managed = c.manage_day-acts.ensures in
     let closed = c.into_parts-keeper-2.ensures in
     let opening = ran.opening ∙ c.new.ensures.opening in
-    inr (begun c.args.script.now c.in-Ok.answers _ _ _ opening c.new.ensures.journal (rw c.in-Ok.is at ran.answered) ran.legal c.new_is_lawful.ensures bytes script c.manage_day-acts.new.core.journal managed.asking c.args.day (whole-begun empty_opening c.args.day _ _ _ (rw (c.in-Ok-acts.is, opening) at managed.managed)) _ _
+    inr (begun c.args.script.now c.in-Ok.answers _ _ _ opening c.new.ensures.journal (rw c.in-Ok.is at ran.answered) ran.legal c.new_is_lawful.ensures bytes script c.manage_day-acts.new.core.journal managed.asking c.args.day (whole-begun 1 empty_opening c.args.day _ _ _ (rw (c.in-Ok-acts.is, opening) at managed.managed)) _ _
     (rw closed.keeper (recorded-whole _ _ _ _ _ _ (managed.opening ∙ opening) (managed.mark ∙ ran.mark ∙ c.new.ensures.mark) closed.legal closed.counted closed.tables c.new_is_lawful.ensures)))
 
 -- the script was answered, and all that was due was asked for

@@ -12,5 +12,5 @@ invariant-loop g l = record {
   mark : l.core.mark ≡ l.initial.core.mark;
   asking : IsAsking l.initial.core.journal l.core.journal;
   far : (before : DeskState) → Reaches l.initial.core.opening l.initial.core.journal before
-      → IsDaySoFar l.initial.core.opening l.day l.config before l.initial.core.journal l.core.journal l.last l.acts.items;
+      → IsDaySoFar l.first l.initial.core.opening l.day l.config before l.initial.core.journal l.core.journal l.last l.acts.items;
 }

@@ -8,4 +8,5 @@ returns c =
     let one = c.in_ok-subcommand.ensures.shape c.in_ok-run.ensures.own ∙ ap₂ with_subcommand c.bare_command.ensures (ap (λ (a : App). a.top) c.in_ok-run.ensures.app) in
     let two = c.in_ok-subcommand-2.ensures.shape c.in_ok-list.ensures.own ∙ ap₂ with_subcommand one (ap (λ (a : App). a.top) c.in_ok-list.ensures.app) in
     let three = c.in_ok-subcommand-3.ensures.shape c.in_ok-serve.ensures.own ∙ ap₂ with_subcommand two (ap (λ (a : App). a.top) c.in_ok-serve.ensures.app) in
-    IfOk-weaker c.subcommand-4.result _ _ (λ r h. h.shape c.in_ok-check.ensures.own ∙ ap₂ with_subcommand three (ap (λ (a : App). a.top) c.in_ok-check.ensures.app)) c.subcommand-4.ensures
+    let four = c.in_ok-subcommand-4.ensures.shape c.in_ok-check.ensures.own ∙ ap₂ with_subcommand three (ap (λ (a : App). a.top) c.in_ok-check.ensures.app) in
+    IfOk-weaker c.subcommand-5.result _ _ (λ r h. h.shape c.in_ok-manage.ensures.own ∙ ap₂ with_subcommand four (ap (λ (a : App). a.top) c.in_ok-manage.ensures.app)) c.subcommand-5.ensures

@@ -1,4 +1,4 @@
-use Rattle.store_calls.proofs.ListedLemmas.{loaded_case, refused_load, tested_case}
+use Rattle.store_calls.proofs.ListedLemmas.{left_case, loaded_case, refused_load, tested_case}
 use Rattle.store_calls.proofs.loading.load_store.Goals as goal
 
 pub returns-in-Ok-clause-opened : goal.returns-in-Ok-clause-opened
@@ -14,3 +14,6 @@ pub returns-in-Err-clause-refused : goal.returns-in-Err-clause-refused
 returns-in-Err-clause-refused g c =
     rw c.refusal_of_load.ensures (refused_load g.P.Keeper g.P.Stored.damage _ _ c.in-Err.err c.in-Err.ensures.damaged c.in-Err.ensures.kept c.in-Err.ensures.damage_kept
     c.in-Err.ensures.cause c.in-Err.ensures.stands)
+
+pub returns-in-Ok-clause-damage_left : goal.returns-in-Ok-clause-damage_left
+returns-in-Ok-clause-damage_left g c = left_case g.P.Keeper g.P.Stored.damage c.tested.result _ _ c.in-Ok.ensures.damage_kept c.tested.ensures.left

@@ -5,9 +5,9 @@ use Rattle.tool_words.proofs.command.linting.Goals as goal
 
 pub returns-clause-app : goal.returns-clause-app
 returns-clause-app c =
-    let one = c.in_ok-arg.ensures.shape c.new-file.ensures.optional.1 ∙ ap₂ with_rule (c.described.ensures.app ∙ c.new.ensures.app) c.new-file.ensures.rule in
-    IfOk-weaker c.arg-2.result _ _ (λ r h. h.shape c.flag-fail.ensures.local ∙ ap₂ with_rule one c.flag-fail.ensures.rule) c.arg-2.ensures
+    let one = c.in_ok-arg.ensures.shape c.path.ensures.local ∙ ap₂ with_rule (c.described.ensures.app ∙ c.new.ensures.app) c.path.ensures.rule in
+    IfOk-weaker c.arg-2.result _ _ (λ r h. h.shape c.flag.ensures.local ∙ ap₂ with_rule one c.flag.ensures.rule) c.arg-2.ensures
 
 pub returns-clause-own : goal.returns-clause-own
 returns-clause-own c =
-    IfOk-weaker c.arg-2.result _ _ (λ r h. rw (h.globals, c.in_ok-arg.ensures.globals, c.described.ensures.own, c.new.ensures.local, c.new-file.ensures.optional.1, c.flag-fail.ensures.local) refl) c.arg-2.ensures
+    IfOk-weaker c.arg-2.result _ _ (λ r h. rw (h.globals, c.in_ok-arg.ensures.globals, c.described.ensures.own, c.new.ensures.local, c.path.ensures.local, c.flag.ensures.local) refl) c.arg-2.ensures

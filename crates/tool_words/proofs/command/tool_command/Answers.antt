@@ -5,9 +5,8 @@ use Rattle.tool_words.proofs.command.tool_command.Goals as goal
 
 pub returns : goal.returns
 returns c =
-    let (names, kinds, translate_is) = c.in_ok-translate.ensures.app in
     let one = c.in_ok-subcommand.ensures.shape c.in_ok-translate.ensures.own
-    ∙ ap₂ with_subcommand c.bare_tool.ensures (ap (λ (a : App). a.top) translate_is) in
+    ∙ ap₂ with_subcommand c.bare_tool.ensures (ap (λ (a : App). a.top) c.in_ok-translate.ensures.app) in
     let two = c.in_ok-subcommand-2.ensures.shape c.in_ok-validate.ensures.own
     ∙ ap₂ with_subcommand one (ap (λ (a : App). a.top) c.in_ok-validate.ensures.app) in
     let three = c.in_ok-subcommand-3.ensures.shape c.in_ok-simulate.ensures.own
@@ -18,9 +17,5 @@ returns c =
     ∙ ap₂ with_subcommand four (ap (λ (a : App). a.top) c.in_ok-explain.ensures.app) in
     let six = c.in_ok-subcommand-6.ensures.shape c.in_ok-coverage.ensures.own
     ∙ ap₂ with_subcommand five (ap (λ (a : App). a.top) c.in_ok-coverage.ensures.app) in
-    IfOk-weaker c.subcommand-7.result _ _ (λ r h. (
-      names,
-      kinds,
-      h.shape c.in_ok-lint.ensures.own
-          ∙ ap₂ with_subcommand six (ap (λ (a : App). a.top) c.in_ok-lint.ensures.app),
-    )) c.subcommand-7.ensures
+    IfOk-weaker c.subcommand-7.result _ _ (λ r h. h.shape c.in_ok-lint.ensures.own
+    ∙ ap₂ with_subcommand six (ap (λ (a : App). a.top) c.in_ok-lint.ensures.app)) c.subcommand-7.ensures

@@ -4,11 +4,12 @@ use Rattle.std.proofs.lemmas.Result.{IfErr-weaker}
 use Rattle.clap.specs.Words.{kind_of}
 use Rattle.clap.specs.declared.error.kind.ErrorKind.{ErrorKind}
 use Rattle.tool_words.specs.Asking.{err_of}
-use Rattle.tool_words.proofs.AskingLemmas.{MayHinder, hindered, wanted}
+use Rattle.tool_words.proofs.AskingLemmas.{MayHinder, hindered, unnamed}
 use Rattle.tool_words.proofs.reading.paths_asked.Goals as goal
 
 pub returns-in-Ok-clause-hindered : goal.returns-in-Ok-clause-hindered
-returns-in-Ok-clause-hindered c = IfErr-weaker c.paths_in.result _ _ (wanted (map string_bytes c.args.words.now)) c.paths_in.ensures.memory
+returns-in-Ok-clause-hindered c =
+    IfErr-weaker c.paths_in.result _ _ (λ e why. unnamed _ _ e c.in-Ok.ensures.free c.in-Ok.ensures.found why) c.paths_in.ensures.err
 
 pub returns-in-Err-clause-hindered : goal.returns-in-Err-clause-hindered
 returns-in-Err-clause-hindered c =

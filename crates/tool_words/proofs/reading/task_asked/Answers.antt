@@ -1,25 +1,22 @@
 use Rattle.std.proofs.Common.{map, sym, subst}
 use Rattle.std.specs.Prelude.{string_bytes, Err}
-use Rattle.std.proofs.lemmas.Result.{IfErr-weaker, IfOk-weaker}
 use Rattle.clap.specs.Words.{kind_of}
 use Rattle.clap.specs.declared.error.kind.ErrorKind.{ErrorKind}
 use Rattle.tool_words.specs.Asking.{err_of}
-use Rattle.tool_words.proofs.AskingLemmas.{MayHinder, asked, exact_task, hindered, matched, tool_sorted, wanted}
+use Rattle.tool_words.proofs.AskingLemmas.{MayHinder, asked, exact_task, hindered, matched, tool_sorted, unasked}
 use Rattle.tool_words.proofs.reading.task_asked.Goals as goal
 
 pub returns-in-Ok-clause-asked : goal.returns-in-Ok-clause-asked
-returns-in-Ok-clause-asked c =
-    IfOk-weaker c.task_in.result _ _ (λ task finds. asked (map string_bytes c.args.words.now) c.in-Ok.matches task c.in-Ok.ensures.ok finds) c.task_in.ensures.asked
+returns-in-Ok-clause-asked c = asked _ _ c.task_in.result c.in-Ok.ensures.free c.in-Ok.ensures.found c.task_in.ensures
 
 pub returns-in-Ok-clause-hindered : goal.returns-in-Ok-clause-hindered
-returns-in-Ok-clause-hindered c = IfErr-weaker c.task_in.result _ _ (wanted (map string_bytes c.args.words.now)) c.task_in.ensures.memory
+returns-in-Ok-clause-hindered c = unasked _ _ c.task_in.result c.in-Ok.ensures.free c.in-Ok.ensures.found c.task_in.ensures
 
 pub returns-in-Ok-clause-exactly : goal.returns-in-Ok-clause-exactly
 returns-in-Ok-clause-exactly c =
-    let words = map string_bytes c.args.words.now in
-    exact_task words c.task_in.result
-    (IfOk-weaker c.task_in.result _ _ (λ task finds. asked words c.in-Ok.matches task c.in-Ok.ensures.ok finds) c.task_in.ensures.asked)
-    (IfErr-weaker c.task_in.result _ _ (wanted words) c.task_in.ensures.memory)
+    exact_task (map string_bytes c.args.words.now) c.task_in.result
+    (asked _ _ c.task_in.result c.in-Ok.ensures.free c.in-Ok.ensures.found c.task_in.ensures)
+    (unasked _ _ c.task_in.result c.in-Ok.ensures.free c.in-Ok.ensures.found c.task_in.ensures)
 
 pub returns-in-Ok-clause-sorted : goal.returns-in-Ok-clause-sorted
 returns-in-Ok-clause-sorted c = tool_sorted (map string_bytes c.args.words.now)
@@ -42,10 +39,9 @@ returns-in-Err-clause-exactly c =
 
 pub returns-in-Ok-clause-known : goal.returns-in-Ok-clause-known
 returns-in-Ok-clause-known c task w =
-    let words = map string_bytes c.args.words.now in
-    matched words task c.task_in.result w
-    (IfOk-weaker c.task_in.result _ _ (λ found finds. asked words c.in-Ok.matches found c.in-Ok.ensures.ok finds) c.task_in.ensures.asked)
-    (IfErr-weaker c.task_in.result _ _ (wanted words) c.task_in.ensures.memory)
+    matched (map string_bytes c.args.words.now) task c.task_in.result w
+    (asked _ _ c.task_in.result c.in-Ok.ensures.free c.in-Ok.ensures.found c.task_in.ensures)
+    (unasked _ _ c.task_in.result c.in-Ok.ensures.free c.in-Ok.ensures.found c.task_in.ensures)
 
 pub returns-in-Err-clause-known : goal.returns-in-Err-clause-known
 returns-in-Err-clause-known c task w =

@@ -7,4 +7,4 @@ use Rattle.page_clerk.proofs.page_clerk.PageClerkPages.show.Goals as goal
 pub returns : goal.returns
 returns g c =
     let ask : PageAsk = record { posts = c.args.posts; path = c.args.path.now; body = c.args.body.now } in
-    IfOk-weaker c.show_page.result _ _ (λ page shown. shows_now c.args.self.now.start c.args.self.now.core c.args.self.now.talks ask page c.entered.ensures (λ s reaches. shown s c.args.body.now reaches)) c.show_page.ensures
+    IfOk-weaker c.show_page.result _ _ (λ page shown. shows_now c.args.self.now.start c.args.self.now.core c.args.self.now.talks ask page c.entered.ensures shown) c.show_page.ensures

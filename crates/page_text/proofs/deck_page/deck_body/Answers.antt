@@ -1,0 +1,8 @@
+-- The text is the page.
+use Rattle.std.proofs.Common.{◌∙◌}
+use Rattle.page_text.proofs.PutLemmas.{from_empty}
+use Rattle.page_text.proofs.PieceLemmas.{deck_is}
+use Rattle.page_text.proofs.deck_page.deck_body.Goals as goal
+
+pub returns : goal.returns
+returns c = c.from_vec.ensures ∙ from_empty _ _ _ _ c.in_ok-push_deck.ensures c.new-text.ensures.items (deck_is _)

@@ -1,7 +1,0 @@
-use Rattle.std.proofs.Common.{inr}
-use Rattle.store_calls.specs.declared.status.StoreStatus.TheVariants.{Ran}
-use Rattle.desk_calls.specs.declared.status.RunStatus.TheVariants.{NoMemory}
-use Rattle.smsd.proofs.ending.end_wanting.Goals as goal
-
-pub returns : goal.returns
-returns c = inr (inr (inr (Ran NoMemory, c.end.ensures)))

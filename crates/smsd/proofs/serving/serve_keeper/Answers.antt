@@ -1,0 +1,8 @@
+use Rattle.std.proofs.Common.{inl, inr}
+use Rattle.smsd.proofs.serving.serve_keeper.Goals as goal
+
+pub returns-in-Ok : goal.returns-in-Ok
+returns-in-Ok c = inr c.serve_at.ensures
+
+pub returns-in-Err : goal.returns-in-Err
+returns-in-Err c = inl c.end_unbound.ensures

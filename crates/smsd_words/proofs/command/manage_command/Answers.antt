@@ -1,0 +1,16 @@
+use Rattle.std.proofs.Common.{ap₂, ◌∙◌, refl}
+use Rattle.std.proofs.lemmas.Result.{IfOk-weaker}
+use Rattle.clap.specs.Words.{with_rule}
+use Rattle.smsd_words.proofs.command.manage_command.Goals as goal
+
+pub returns-clause-app : goal.returns-clause-app
+returns-clause-app c =
+    let one = c.in_ok-arg.ensures.shape c.wanted.ensures.local ∙ ap₂ with_rule c.new.ensures.app c.wanted.ensures.rule in
+    let two = c.in_ok-arg-2.ensures.shape c.flag.ensures.local ∙ ap₂ with_rule one c.flag.ensures.rule in
+    IfOk-weaker c.arg-3.result _ _ (λ r h. h.shape c.option.ensures.local ∙ ap₂ with_rule two c.option.ensures.rule) c.arg-3.ensures
+
+pub returns-clause-own : goal.returns-clause-own
+returns-clause-own c =
+    IfOk-weaker c.arg-3.result _ _
+    (λ r h. h.globals ∙ rw (c.in_ok-arg-2.ensures.globals, c.in_ok-arg.ensures.globals, c.new.ensures.local, c.wanted.ensures.local, c.flag.ensures.local, c.option.ensures.local) refl)
+    c.arg-3.ensures

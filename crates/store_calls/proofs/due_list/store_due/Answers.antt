@@ -1,0 +1,8 @@
+use Rattle.desk_restoring.specs.Opened.{opening_of}
+use Rattle.store_calls.specs.StoreDue.{due_text}
+use Rattle.store_calls.proofs.due_list.store_due.Goals as goal
+
+pub returns-in-Ok-clause-ends : goal.returns-in-Ok-clause-ends
+returns-in-Ok-clause-ends g c =
+    let o = opening_of c.in-Ok.found.rows c.in-Ok.found.config in
+    record { opening = o; opened = c.in-Ok.ensures.opened; ends = c.write_made.ensures.ends (due_text c.args.day o) c.due_text-text.ensures }
