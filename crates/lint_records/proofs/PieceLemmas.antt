@@ -1,5 +1,5 @@
 -- The parts of findings are their JSON.
-use Rattle.std.proofs.Common.{◌≡◌, refl}
+use Rattle.std.proofs.Common.{◌≡◌, append_assoc, refl}
 use Rattle.std.specs.Prelude.{Some}
 use Rattle.acs_places.specs.declared.place.Place.{Place}
 use Rattle.json.specs.Print.{escape_byte}
@@ -14,4 +14,4 @@ place_is place = refl
 
 pub finding_is : (told : Told) → finding_piece told ≡ compact_text (finding_value told)
 unfolding escape_byte
-finding_is told = refl
+finding_is told = simp append_assoc refl

@@ -1,10 +1,10 @@
 // The record of a finding.
-ghost use Rattle.std.specs.Prelude.{◌≡◌, ◌++◌, IfOk, OnOk};
+ghost use Rattle.std.specs.Prelude.{◌≡◌, ◌++◌, ◌∷◌, [], IfOk, OnOk};
 ghost use Rattle.csv.specs.Writing.{default_writer, row_text};
 ghost use Rattle.serde_json.specs.Written.{compact_text};
 ghost use Rattle.lint_records.specs.FindingRecords.{count_field, count_if, finding_fields, record_in};
 ghost use Rattle.lint_records.specs.FindingRecords.{column_of, line_of, since_value};
-ghost use Rattle.lint_records.specs.Inner.Pieces.{finding_piece, place_piece};
+ghost use Rattle.lint_records.specs.Inner.Pieces.{at_piece, finding_piece, place_piece, what_piece};
 
 use acs_places::Place;
 use desk_common::push_number;
@@ -48,11 +48,37 @@ fn push_fields(
     let column = count_field(alloc, column_of(place))?;
     let since_line = count_field(alloc, line_of(since))?;
     let since_column = count_field(alloc, column_of(since))?;
-    let record = record_text(
+    let record = seven_fields(
         alloc,
-        &[at, name, &line, &column, what, &since_line, &since_column],
+        at,
+        name,
+        &line,
+        &column,
+        what,
+        &since_line,
+        &since_column,
     )?;
     text.extend_from_slice(&record)
+}
+
+// A record of seven fields.
+fn seven_fields<'a>(
+    alloc: Global,
+    first: &'a [u8],
+    second: &'a [u8],
+    third: &'a [u8],
+    fourth: &'a [u8],
+    fifth: &'a [u8],
+    sixth: &'a [u8],
+    seventh: &'a [u8],
+) -> Result<Vec<u8>, AllocError>
+    ensures { IfOk result (λ text. text.items ≡ row_text default_writer (first.now ∷ second.now ∷ third.now ∷
+        fourth.now ∷ fifth.now ∷ sixth.now ∷ seventh.now ∷ [])) }
+{
+    record_text(
+        alloc,
+        &[first, second, third, fourth, fifth, sixth, seventh],
+    )
 }
 
 // A count as a field, and nothing where there is none.
@@ -111,10 +137,29 @@ fn push_parts(
     ensures { OnOk result (text.new.items ≡ text.old.items ++ finding_piece
         (record { at = at.now; name = name.now; place = place; what = what.now; since = since })) }
 {
+    push_at(text, at, name, place)?;
+    push_what(text, what, since)?;
+    Ok(())
+}
+
+fn push_at(
+    text: &mut Vec<u8>,
+    at: &[u8],
+    name: &[u8],
+    place: Option<Place>,
+) -> Result<(), AllocError>
+    ensures { OnOk result (text.new.items ≡ text.old.items ++ at_piece at.now name.now place) }
+{
     push_text(text, b"{\"in\":", at)?;
     push_text(text, b",\"name\":", name)?;
     push_count_if(text, b",\"line\":", line_of(place))?;
     push_count_if(text, b",\"column\":", column_of(place))?;
+    Ok(())
+}
+
+fn push_what(text: &mut Vec<u8>, what: &[u8], since: Option<Place>) -> Result<(), AllocError>
+    ensures { OnOk result (text.new.items ≡ text.old.items ++ what_piece what.now since) }
+{
     push_text(text, b",\"finding\":", what)?;
     text.extend_from_slice(b",\"since\":")?;
     push_since(text, since)?;
