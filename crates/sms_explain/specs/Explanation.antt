@@ -1,12 +1,11 @@
 -- The explanation of a script: what the routines of its deck do with each of its allocations (docs/manual/tool.md,
 -- "Explaining a script").
-use Rattle.std.specs.Prelude.{◌≡◌, ◌⊎◌, ◌++◌, ℕ, List, [], ◌∷◌, Option, None, Some, codes, decimal, filter}
+use Rattle.std.specs.Prelude.{◌≡◌, ◌⊎◌, ◌++◌, ℕ, List, [], Option, None, Some, codes, decimal, filter}
 use Rattle.std.specs.Prelude.{flat_map}
 use Rattle.desk_law.specs.Classification.{classes_of}
 use Rattle.acs_tree.specs.declared.values.Values.{Values}
 use Rattle.sms_construct.specs.Configuration.{Configuration}
 use Rattle.sms_construct.specs.declared.alloc.Alloc.{Alloc}
-use Rattle.sms_construct.specs.declared.fault.Fault.{Fault}
 use Rattle.sms_construct.specs.declared.stop.Stop.{Stop}
 use Rattle.deck_meaning.specs.Reading.{Configures, HasFirstFault}
 use Rattle.sms_script.specs.declared.item.Item.{Item}
