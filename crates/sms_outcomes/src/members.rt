@@ -1,5 +1,5 @@
 //! What a classification comes to, as members of an object of JSON.
-ghost use Rattle.std.specs.Prelude.{◌≡◌, ◌++◌, OnOk, codes, false};
+ghost use Rattle.std.specs.Prelude.{◌≡◌, ◌++◌, IfOk, OnOk, codes, false};
 ghost use Rattle.json.specs.Print.{quoted};
 ghost use Rattle.serde_json.specs.Written.{compact_text, items_text, members_text};
 ghost use Rattle.sms_simulation.specs.OutcomeText.{outcome_text};
@@ -115,11 +115,27 @@ fn push_written(alloc: Global, text: &mut Vec<u8>, written: &Slate) -> Result<()
     ensures { OnOk result (text.new.items ≡ text.old.items ++ (codes ",\"written\":[" ++
         items_text false (text_values (written_lines written.now)))) }
 {
+    let lines = lines_of(alloc, written)?;
+    push_lines(text, lines.as_slice())?;
+    Ok(())
+}
+
+// The lines that the routines wrote, as they are told.
+fn lines_of(alloc: Global, written: &Slate) -> Result<Items<Items<u8>>, AllocError>
+    ensures { IfOk result (λ lines. lines ≡ written_lines written.now) }
+{
     let trace = Trace::of(alloc, written)?;
     let mut lines = Items::new(alloc);
     push_trace(alloc, &mut lines, &trace)?;
+    Ok(lines)
+}
+
+fn push_lines(text: &mut Vec<u8>, lines: &[Items<u8>]) -> Result<(), AllocError>
+    ensures { OnOk result (text.new.items ≡ text.old.items ++ (codes ",\"written\":[" ++
+        items_text false (text_values lines.now))) }
+{
     text.extend_from_slice(b",\"written\":[")?;
-    push_texts(text, lines.as_slice())?;
+    push_texts(text, lines)?;
     Ok(())
 }
 
