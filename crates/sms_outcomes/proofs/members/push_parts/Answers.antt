@@ -11,7 +11,7 @@ pub returns : goal.returns
 returns c =
     let made = c.args.made.now in
     let outcome : List ℕ = codes "\"outcome\":" ++ quoted (outcome_text made.stop made.values) in
-    let data : List ℕ = codes ",\"dataclas\":" ++ compact_text (class_value made.values.dataclas) in
+    let datas : List ℕ = codes ",\"dataclas\":" ++ compact_text (class_value made.values.dataclas) in
     let storage : List ℕ = codes ",\"storclas\":" ++ compact_text (class_value made.values.storclas) in
     let management : List ℕ = codes ",\"mgmtclas\":" ++ compact_text (class_value made.values.mgmtclas) in
     let named : List (List ℕ) → List ℕ = λ (names : List (List ℕ)). codes ",\"groups\":[" ++ items_text false (text_values names) in
@@ -30,5 +30,5 @@ returns c =
     let lists = behind four groups five (written ++ codes "}") now put last in
     let third = behind three management four (groups ++ (written ++ codes "}")) now c.in_ok-push_class-3.ensures lists in
     let second = behind two storage three (management ++ (groups ++ (written ++ codes "}"))) now c.in_ok-push_class-2.ensures third in
-    let first = behind one data two (storage ++ (management ++ (groups ++ (written ++ codes "}")))) now c.in_ok-push_class.ensures second in
-    behind start outcome one (data ++ (storage ++ (management ++ (groups ++ (written ++ codes "}"))))) now c.in_ok-push_outcome_of.ensures first
+    let first = behind one datas two (storage ++ (management ++ (groups ++ (written ++ codes "}")))) now c.in_ok-push_class.ensures second in
+    behind start outcome one (datas ++ (storage ++ (management ++ (groups ++ (written ++ codes "}"))))) now c.in_ok-push_outcome_of.ensures first
