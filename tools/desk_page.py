@@ -1,5 +1,6 @@
 """The files of the desk's page, as the program has them: what stands between the quotes in crates/page_files/src."""
 import os
+import re
 
 SOURCES = os.path.join(os.path.dirname(os.path.abspath(__file__)), "..", "crates", "page_files", "src")
 
@@ -8,4 +9,4 @@ def read_file(name):
     """The bytes of the file markup, style or script."""
     with open(os.path.join(SOURCES, name + ".rt"), "rb") as source:
         text = source.read()
-    return text[text.index(b'= b"') + 4:text.rindex(b'";')]
+    return text[re.search(rb'=\s+b"', text).end():text.rindex(b'";')]

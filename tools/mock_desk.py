@@ -24,6 +24,13 @@ FILES = {
     "/desk.css": ("style", "text/css; charset=utf-8"),
     "/desk.js": ("script", "text/javascript; charset=utf-8"),
 }
+NO_SNIFFING = ("X-Content-Type-Options", "nosniff")
+POLICY = "default-src 'self'; frame-ancestors 'none'; base-uri 'none'; form-action 'none'"
+HEADERS = {
+    "text/html; charset=utf-8": (NO_SNIFFING, ("Content-Security-Policy", POLICY)),
+    "text/css; charset=utf-8": (NO_SNIFFING,),
+    "text/javascript; charset=utf-8": (NO_SNIFFING,),
+}
 DEVICES = {"3390-3": 50085, "3390-9": 150255}
 STATUSES = {"ENABLE": "ENABLE", "DISABLE": "DISALL", "DISABLE-NEW": "DISNEW", "QUIESCE": "QUIALL", "QUIESCE-NEW": "QUINEW"}
 KINDS = {"DATACLAS": "dataclass", "STORCLAS": "storclass", "MGMTCLAS": "mgmtclass", "STORGRP": "storgroup"}
@@ -348,13 +355,12 @@ class Clerk(http.server.BaseHTTPRequestHandler):
     def send(self, status, body, kind="application/json"):
         data = body if isinstance(body, bytes) else json.dumps(body, separators=(",", ":")).encode()
         self.send_response(status)
-        for name, value in (("Content-Type", kind), ("Content-Length", str(len(data))),
-                            ("Content-Security-Policy", "default-src 'self'"), ("X-Content-Type-Options", "nosniff")):
+        for name, value in (("Content-Type", kind), *HEADERS.get(kind, ()), ("Content-Length", str(len(data)))):
             self.send_header(name, value)
         self.end_headers()
         self.wfile.write(data)
 
-    def tell(self, body, error="no request and no page has this path"):
+    def tell(self, body, error="no request and no page is asked so"):
         self.send(200, body) if body is not None else self.send(404, {"error": error})
 
     def has(self, word):

@@ -3,7 +3,7 @@
 
 usage: tools/try_page.py [PATH/smsd] [--pictures FOLDER] [--manual] [--port PORT]
 
-It wants Debian's package chromium (apt-get install -y chromium), and nothing else. Without a path the page is served by
+It wants Debian's package chromium (apt-get update && apt-get install -y chromium), and nothing else. Without a path the page is served by
 tools/mock_desk.py, and with one by that program over a store in a folder of its own; the measure of 1,024 volumes and
 20,000 data sets is the mock desk's in both. Each step is asserted in the page's DOM; no script of another origin, no
 inline one and no inline style may be asked for (Content-Security-Policy), no exception may come, and on each view at

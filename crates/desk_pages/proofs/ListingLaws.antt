@@ -58,8 +58,15 @@ module _ (sets : List DataSet) (mask from at : Option (List ℕ)) (shown : List 
   }
 
   -- none is behind the last
-  pub ends_last : IsLastName at sets → IsListing sets mask from shown None
-  ends_last last = record { walked = h.walked; walks = h.walks; shown_are = h.shown_are; few = h.few; end = rw h.at_is last }
+  pub ends_last : looked ≤ most_looked → IsLastName at sets → IsListing sets mask from shown None
+  ends_last within last = record {
+    walked = h.walked;
+    walks = h.walks;
+    shown_are = h.shown_are;
+    few = h.few;
+    bounded = omega (arith, h.count, within);
+    end = rw h.at_is last;
+  }
 
 -- one more was put on the page
 pub so_far_push : {X : Type 0} (f : X → DataSet) (sets : List DataSet) (mask from at : Option (List ℕ)) (xs ys : List X) (x : X) (looked : ℕ) → ys ≡ xs ++ x ∷ [] → IsSoFar sets mask from at (map f xs) looked → IsFirstBehind at sets (f x) → fits mask (f x).dsn ≡ true → (length xs ≡ most_shown → ⊥) → IsSoFar sets mask from (Some (f x).dsn) (map f ys) (looked + 1)
@@ -91,12 +98,13 @@ module _ (sets : List DataSet) (mask from : Option (List ℕ)) (shown : List Dat
   ends_at None h some why = absurd (some (ap (λ l. length l) (none_walked from h.walked h.at_is)))
   ends_at (Some name) h some why = (h.at_is, why)
 
-  pub ends_full : (at : Option (List ℕ)) → IsSoFar sets mask from at shown looked → length shown ≡ most_shown → IsListing sets mask from shown at
-  ends_full at h full = record {
+  pub ends_full : (at : Option (List ℕ)) → IsSoFar sets mask from at shown looked → looked ≤ most_looked → length shown ≡ most_shown → IsListing sets mask from shown at
+  ends_full at h within full = record {
     walked = h.walked;
     walks = h.walks;
     shown_are = h.shown_are;
     few = h.few;
+    bounded = omega (arith, h.count, within);
     end = ends_at at h (λ none. omega (arith, full, none_shown (λ (x : DataSet). fits mask x.dsn) shown h.walked h.shown_are none)) (inl full);
   }
 
@@ -106,5 +114,6 @@ module _ (sets : List DataSet) (mask from : Option (List ℕ)) (shown : List Dat
     walks = h.walks;
     shown_are = h.shown_are;
     few = h.few;
+    bounded = omega (arith, h.count, enough);
     end = ends_at at h (λ none. omega (arith, none, h.count, enough)) (inr (h.count ∙ enough));
   }

@@ -16,8 +16,8 @@ pub newest_none : {X : Type 0} (f : X → Entry) (journal : List Entry) → AreN
 newest_none f journal = record { whole = ap reverse (take_all (length journal) journal (omega arith)); within = omega arith; few = omega arith }
 
 -- one more was found
-pub length_pushed : {X : Type 0} {x : X} (found found' : List X) → found' ≡ found ++ x ∷ [] → length found' ≡ length found + 1
-length_pushed {x = x} found found' is = ap (λ l. length l) is ∙ length-append found (x ∷ [])
+pub length_pushed : {X : Type 0} (x : X) (found found' : List X) → found' ≡ found ++ x ∷ [] → length found' ≡ length found + 1
+length_pushed x found found' is = ap (λ l. length l) is ∙ length-append found (x ∷ [])
 
 -- the last of a front comes first when it is turned
 turned : (journal : List Entry) (n : ℕ) (entry : Entry) → n < length journal → entry ≡ get_or journal n entry → reverse (take (n + 1) journal) ≡ entry ∷ reverse (take n journal)

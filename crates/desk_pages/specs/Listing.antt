@@ -48,4 +48,5 @@ pub record IsListing (sets : List DataSet) (mask from : Option (List ℕ)) (show
   pub walks : IsWalk sets from walked
   pub shown_are : shown ≡ filter (λ set. fits mask set.dsn) walked
   pub few : length shown ≤ most_shown
+  pub bounded : length walked ≤ most_looked
   pub end : IsPageEnd sets from walked shown after

@@ -5,6 +5,9 @@ ghost use Rattle.desk_law.specs.Classification.{classes_of};
 ghost use Rattle.desk_law.specs.State.{DeskState};
 ghost use Rattle.sms_simulation.specs.OutcomeText.{outcome_text};
 ghost use Rattle.http_message.specs.Asked.{op_with};
+ghost use Rattle.page_text.specs.AnswerBodies.{classified_body};
+ghost use Rattle.sms_script.specs.TraceText.{trace_lines};
+ghost use Rattle.desk_pages.specs.Shown.{showing};
 ghost use Rattle.desk_pages.specs.Trials.{IsTrialPage, ShowsTrial, TellsRuns, alloc_asked, classes_page};
 
 use crate::said::{refused, shown};
@@ -21,7 +24,7 @@ use page_text::{classified_body, explained_body};
 use sms_classes::{Classified, classify};
 use sms_construct::{Alloc, Op, Request, RequestNumber, Trace};
 use sms_explain::{DeckSources, push_runs};
-use sms_script::push_trace;
+use sms_script::{TextLines, push_trace};
 use sms_simulation::push_outcome;
 use sms_story::runs_of;
 use std::alloc::{AllocError, Global};
@@ -112,12 +115,7 @@ fn tried(
 }
 
 // What the routines of a configuration do with the ALLOC.
-fn runs(
-    alloc: Global,
-    config: &Config,
-    job: &Name,
-    allocation: &Alloc,
-) -> Result<Page, AllocError>
+fn runs(alloc: Global, config: &Config, job: &Name, allocation: &Alloc) -> Result<Page, AllocError>
     ensures { IfOk result (TellsRuns config.now job.now allocation.now) }
 {
     let sources = DeckSources::of(alloc, config.deck())?;
@@ -140,11 +138,27 @@ fn classes(
     let mut slate = Slate::new(alloc)?;
     let classified = classify(config, job, allocation, &mut slate);
     let trace = Trace::of(alloc, &slate)?;
-    let outcome = outcome_of(alloc, &classified)?;
-    let mut lines = Items::new(alloc);
-    push_trace(alloc, &mut lines, &trace)?;
+    shown_classes(alloc, &classified, &trace)
+}
+
+// The page of a classification, with what the routines wrote.
+fn shown_classes(alloc: Global, classified: &Classified, trace: &Trace) -> Result<Page, AllocError>
+    ensures { IfOk result (λ page. page ≡ showing (classified_body
+        (outcome_text classified.now.stop classified.now.values) (trace_lines trace.now))) }
+{
+    let outcome = outcome_of(alloc, classified)?;
+    let lines = lines_of(alloc, trace)?;
     let body = classified_body(alloc, &outcome, lines.as_slice())?;
     Ok(shown(body))
+}
+
+// The lines that the routines wrote.
+fn lines_of(alloc: Global, trace: &Trace) -> Result<TextLines, AllocError>
+    ensures { IfOk result (λ lines. lines ≡ trace_lines trace.now) }
+{
+    let mut lines = Items::new(alloc);
+    push_trace(alloc, &mut lines, trace)?;
+    Ok(lines)
 }
 
 // How a classification ends.

@@ -14,13 +14,21 @@ status_line statuses.Bad = codes "HTTP/1.1 400 Bad Request\r\n"
 status_line statuses.Missing = codes "HTTP/1.1 404 Not Found\r\n"
 status_line statuses.NotAllowed = codes "HTTP/1.1 405 Method Not Allowed\r\n"
 
--- the headers that a kind of body has; of the markup, that it takes nothing but what this desk serves
+-- a browser takes the file as what it is said to be
+abbrev pub no_sniffing : List ℕ
+no_sniffing = codes "X-Content-Type-Options: nosniff\r\n"
+
+-- a browser takes nothing for the markup but what this desk serves, and shows it in no other site's frame
+abbrev pub policy : List ℕ
+policy =
+    codes "Content-Security-Policy: default-src 'self'; frame-ancestors 'none'; base-uri 'none'; form-action 'none'\r\n"
+
+-- the headers that a kind of body has
 abbrev pub kind_lines : PageKind → List ℕ
 kind_lines kinds.Json = codes "Content-Type: application/json\r\n"
-kind_lines kinds.Markup =
-    codes "Content-Type: text/html; charset=utf-8\r\nContent-Security-Policy: default-src 'self'\r\n"
-kind_lines kinds.Style = codes "Content-Type: text/css; charset=utf-8\r\n"
-kind_lines kinds.Script = codes "Content-Type: text/javascript; charset=utf-8\r\n"
+kind_lines kinds.Markup = codes "Content-Type: text/html; charset=utf-8\r\n" ++ (no_sniffing ++ policy)
+kind_lines kinds.Style = codes "Content-Type: text/css; charset=utf-8\r\n" ++ no_sniffing
+kind_lines kinds.Script = codes "Content-Type: text/javascript; charset=utf-8\r\n" ++ no_sniffing
 
 -- the bytes of a page
 abbrev pub page_text : Page → Bool → List ℕ

@@ -70,17 +70,23 @@ fn status_line(status: PageStatus) -> &'static [u8]
     }
 }
 
-// The headers that a kind of body has. A browser takes nothing for the markup but what this desk serves.
+// The headers that a kind of body has. A browser takes nothing for the markup but what this desk serves, and shows it in
+// no other site's frame.
 fn kind_lines(kind: PageKind) -> &'static [u8]
     ensures { result.now ≡ kind_lines kind }
 {
     match kind {
         PageKind::Json => b"Content-Type: application/json\r\n",
         PageKind::Markup => {
-            b"Content-Type: text/html; charset=utf-8\r\nContent-Security-Policy: default-src 'self'\r\n"
+            b"Content-Type: text/html; charset=utf-8\r\nX-Content-Type-Options: nosniff\r\n\
+            Content-Security-Policy: default-src 'self'; frame-ancestors 'none'; base-uri 'none'; form-action 'none'\r\n"
         }
-        PageKind::Style => b"Content-Type: text/css; charset=utf-8\r\n",
-        PageKind::Script => b"Content-Type: text/javascript; charset=utf-8\r\n",
+        PageKind::Style => {
+            b"Content-Type: text/css; charset=utf-8\r\nX-Content-Type-Options: nosniff\r\n"
+        }
+        PageKind::Script => {
+            b"Content-Type: text/javascript; charset=utf-8\r\nX-Content-Type-Options: nosniff\r\n"
+        }
     }
 }
 

@@ -10,7 +10,8 @@ pub fn desk_script() -> &'static [u8]
 }
 
 /// The script as it is: JavaScript between the quotes, which has no quote and no backslash.
-pub static SCRIPT: &[u8] = b"// The page of the desk: what its routes answer, shown in five views and kept current.
+pub static SCRIPT: &[u8] =
+    b"// The page of the desk: what its routes answer, shown in five views and kept current.
 
 // ---- Limits and words
 
@@ -226,6 +227,11 @@ function isMissing(answer) {
   return answer.status === 405 || (answer.status === 404 && (!error || error.includes('no page')));
 }
 
+// Whether what was asked may stand all the same, or be asked again: it keeps its number then.
+function isInDoubt(answer) {
+  return isGood(answer) && ['F30', 'M31'].includes(answer.body.code);
+}
+
 function sentenceOf(answer) {
   const error = answer.body?.error;
   return typeof error === 'string' ? error : `the desk answered with status ${answer.status}`;
@@ -276,8 +282,9 @@ const known = {
   numbers: new Map(), // job to the last request number given here
   volumes: new Map(), // serial to what /volume answered, and the row of /volumes that it stands for
   colors: null, // of strips, until light and dark change
-  focus: new Map(), // strip to the piece that is pointed at
+  focus: new Map(), // strip to the first track of the piece that is pointed at
   isReplacing: false, // while elements make place for new ones
+  isSame: false, // while a view is loaded anew behind entries that changed nothing
   unanswered: null, // an activation that was asked and not answered: its text and number
   deck: null, // the active deck's text, where the desk shows it
   deckOf: null, // the activation whose deck that is
@@ -322,7 +329,12 @@ async function look() {
   if (!isNew) return;
   if (known.gone) known.deckOf = null;
   if (news.freed) for (const kept of known.volumes.values()) kept.row = null;
-  if (news.changed || VIEWS[known.place.view].showsAnswers) await loadView();
+  known.isSame = !news.changed;
+  try {
+    if (news.changed || VIEWS[known.place.view].showsAnswers) await loadView();
+  } finally {
+    known.isSame = false;
+  }
   known.gone = false;
   known.text = answer.text;
 }
@@ -400,7 +412,7 @@ function isOld(load) {
 
 function readPlace() {
   const [view, ...parts] = location.hash.slice(1).split('/').map(decode);
-  return view in VIEWS ? { view, parts } : { view: 'pool', parts: [] };
+  return Object.hasOwn(VIEWS, view) ? { view, parts } : { view: 'pool', parts: [] };
 }
 
 function decode(text) {
@@ -702,11 +714,11 @@ function listen(strip) {
   const { canvas, part } = strip;
   canvas.addEventListener('pointermove', (event) => pointAt(strip, pieceUnder(strip, event)));
   canvas.addEventListener('pointerleave', () => { if (document.activeElement !== canvas) pointAt(strip, null); });
-  canvas.addEventListener('focus', () => pointAt(strip, known.focus.get(strip.key) ?? 0));
+  canvas.addEventListener('focus', () => pointAt(strip, pointedAt(strip) ?? 0));
   canvas.addEventListener('blur', () => { if (!known.isReplacing) pointAt(strip, null); });
   canvas.addEventListener('click', (event) => openPiece(strip, pieceUnder(strip, event)));
   canvas.addEventListener('keydown', (event) => {
-    const at = known.focus.get(strip.key) ?? 0;
+    const at = pointedAt(strip) ?? 0;
     const last = part.pieces.length - 1;
     const next = { ArrowRight: at + 1, ArrowLeft: at - 1, Home: 0, End: last }[event.key];
     if (event.key === 'Enter') openPiece(strip, at);
@@ -741,14 +753,21 @@ function pieceAt(pieces, track) {
 }
 
 function pointAt(strip, at) {
-  if (at === null) known.focus.delete(strip.key);
-  else known.focus.set(strip.key, at);
+  const piece = at === null ? undefined : strip.part.pieces[at];
+  if (piece === undefined) known.focus.delete(strip.key);
+  else known.focus.set(strip.key, piece.start);
   tell(strip);
   paint(strip);
 }
 
+// The piece that is pointed at: the one that holds the track at which the pointed one began.
+function pointedAt(strip) {
+  const track = known.focus.get(strip.key);
+  return track === undefined ? undefined : pieceAt(strip.part.pieces, track) ?? undefined;
+}
+
 function tell(strip) {
-  const at = known.focus.get(strip.key);
+  const at = pointedAt(strip);
   const piece = at === undefined ? undefined : strip.part.pieces[at];
   const words = piece ? pieceWords(piece, at, strip.part.pieces.length) : '';
   strip.canvas.setAttribute('aria-valuenow', (at ?? 0) + 1);
@@ -786,7 +805,7 @@ function paint(strip) {
   fill((piece) => piece.dsn !== null, colors.used);
   if (strip.marked) fill((piece) => piece.dsn === strip.marked, colors.marked);
   paintEdges(brush, part, factor, height, scale, colors.free);
-  const at = known.focus.get(strip.key);
+  const at = pointedAt(strip);
   if (at !== undefined && part.pieces[at]) frame(brush, part, part.pieces[at], factor, height, scale, colors.ink);
 }
 
@@ -948,12 +967,17 @@ const EXTENT_COLUMNS = [
 ];
 
 async function loadSet([dsn = ''], load) {
+  if (known.isSame && byId('set-title').textContent === dsn && byId('set-history')) {
+    const history = await ask('/answers');
+    if (!isOld(load)) replace(byId('set-history'), historyOf(dsn, history));
+    return;
+  }
   setText(byId('set-title'), dsn);
   const [answer, history] = await Promise.all([ask(`/set/${segment(dsn)}`), ask('/answers')]);
   if (isOld(load)) return;
   note('set-note', isGood(answer) ? '' : sentenceOf(answer));
   const detail = isGood(answer) ? setDetail(answer.body) : [];
-  replace(byId('set-detail'), detail, historyOf(dsn, history));
+  replace(byId('set-detail'), detail, make('div', { id: 'set-history' }, historyOf(dsn, history)));
   await loadSetStrips(load);
 }
 
@@ -1142,7 +1166,7 @@ async function allocate() {
     const asking = `/job/${segment(job)}/${segment(field.value.trim())}`;
     const answer = await post(`${asking}/alloc/${segment(dsn)}`, operands());
     if (!isGood(answer)) return refusal(answer, sentenceOf(answer));
-    field.value = '';
+    if (!isInDoubt(answer)) field.value = '';
     return replyPanel(answer.body, dsn);
   });
   await lookSoon();
@@ -1172,6 +1196,7 @@ async function pathPart(answer) {
       + 'smsc explain tells it of a deck and a script.';
     return [title, empty(isMissing(answer) ? missing : sentenceOf(answer))];
   }
+  await look();
   const text = await activeDeck();
   const deck = text === null ? null : readDeck(text);
   return [title, ...stories(String(answer.body.text ?? '').split(LINE_END)).map((story) => storyPanel(story, deck))];
@@ -1300,9 +1325,21 @@ async function takeFile(file) {
   await check();
 }
 
+const DECK_BYTES = 262144;
+
+// What is said of a deck that is longer than a desk takes; null of another.
+function tooLong(text) {
+  const { length } = new TextEncoder().encode(text);
+  if (length <= DECK_BYTES) return null;
+  const words = `This deck has ${counted(length, 'byte')}; a desk takes at most ${number(DECK_BYTES)}.`;
+  return make('div', { class: 'panel bad' }, make('p', {}, words));
+}
+
 async function check() {
   const text = deckText();
   await answered('deck-result', async () => {
+    const long = tooLong(text);
+    if (long) return long;
     const answer = await ask('/check', { method: 'POST', body: text });
     const missing = 'This desk does not check decks.';
     return [isGood(answer) ? checkParts(answer.body, text) : refusal(answer, missing), await difference(text)];
@@ -1367,6 +1404,11 @@ function showLine(line, text) {
 
 async function activate() {
   const text = deckText();
+  const long = tooLong(text);
+  if (long) {
+    replace(byId('deck-result'), long);
+    return;
+  }
   const now = known.desk?.activations ?? null;
   if (known.unanswered?.text !== text) known.unanswered = { text, number: freshNumber('SMSADMIN') };
   const fresh = known.unanswered.number;
@@ -1378,7 +1420,7 @@ async function activate() {
   if (!isSure) return;
   await answered('deck-result', async () => {
     const answer = await ask(`/admin/${fresh}/activate`, { method: 'POST', body: text });
-    known.unanswered = null;
+    if (!isInDoubt(answer)) known.unanswered = null;
     if (!isGood(answer)) return refusal(answer, sentenceOf(answer));
     return activated(answer.body, text);
   });
@@ -1450,7 +1492,7 @@ function quotedPlace(deck, [kind, name]) {
 }
 
 const COMMENT = '[/][*][^]*?[*][/]';
-const SIGNS = '&&|[=&^><|]=|[&^][><]|[=><|(),]';
+const SIGNS = '&&|[>^<]=|[&^][><]|[=><|(),]';
 const TOKEN = new RegExp(`${COMMENT}|([&][A-Za-z0-9_]+|'[^']*'|[A-Za-z0-9#@$._%*-]+|${SIGNS})`, 'g');
 
 // Where the n-th token of a routine begins, counted from 0; behind the last one its end.
@@ -1470,6 +1512,9 @@ function within(entry, offset) {
   const line = entry.textLine + front.length - 1;
   return { line, column: front.length === 1 ? entry.textColumn + offset : front.pop().length + 1 };
 }
+
+// A deck's tables lie less deep.
+const MOST_DEEP = 80;
 
 // ---- Reading a deck: its tables and keys with their places, as far as it is TOML of a deck's form
 
@@ -1644,6 +1689,7 @@ class DeckReader {
   }
 
   readInline(deck, path, place) {
+    if (path.length > MOST_DEEP) throw new Stop();
     deck.tables.set(path.join('.'), place);
     this.at += 1;
     this.skip();
@@ -1972,7 +2018,11 @@ function begin() {
   byId('try-allocate').addEventListener('click', allocate);
   byId('deck-activate').addEventListener('click', activate);
   byId('deck-open').addEventListener('click', () => byId('deck-file').click());
-  byId('deck-file').addEventListener('change', (event) => takeFile(event.target.files[0]));
+  byId('deck-file').addEventListener('change', (event) => {
+    takeFile(event.target.files[0]);
+    // The same file may be opened once more.
+    event.target.value = '';
+  });
   byId('deck-active').addEventListener('click', () => setDeck(known.deck ?? ''));
   byId('deck-text').addEventListener('input', () => numberLines());
   byId('deck-text').addEventListener('scroll', followScroll);

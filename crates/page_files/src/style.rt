@@ -10,7 +10,8 @@ pub fn desk_style() -> &'static [u8]
 }
 
 /// The style sheet as it is: CSS between the quotes, which has no quote and no backslash.
-pub static STYLE: &[u8] = b"/* The page of the desk, in light and in dark, from 360 pixels of width on. */
+pub static STYLE: &[u8] =
+    b"/* The page of the desk, in light and in dark, from 360 pixels of width on. */
 
 :root {
   --ground: #f3f4f2;

@@ -12,14 +12,17 @@ use std::test::Fail;
 #[rattlefmt::skip]
 static ROWS: &[(&str, &str, &str)] = &[
     ("GET / HTTP/1.1\r\nHost: 127.0.0.1:8080\r\n\r\n",
-        "HTTP/1.1 200 OK\r\nContent-Type: text/html; charset=utf-8\r\n\
-        Content-Security-Policy: default-src 'self'\r\nContent-Length: 6222\r\nConnection: keep-alive\r\n\r\n\
+        "HTTP/1.1 200 OK\r\nContent-Type: text/html; charset=utf-8\r\nX-Content-Type-Options: nosniff\r\n\
+        Content-Security-Policy: default-src 'self'; frame-ancestors 'none'; base-uri 'none'; form-action 'none'\r\n\
+        Content-Length: 6222\r\nConnection: keep-alive\r\n\r\n\
         <!doctype html>\n", "</html>\n"),
     ("GET /desk.css HTTP/1.1\r\nHost: localhost:8080\r\n\r\n",
-        "HTTP/1.1 200 OK\r\nContent-Type: text/css; charset=utf-8\r\nContent-Length: 12860\r\n\
+        "HTTP/1.1 200 OK\r\nContent-Type: text/css; charset=utf-8\r\nX-Content-Type-Options: nosniff\r\n\
+        Content-Length: 12860\r\n\
         Connection: keep-alive\r\n\r\n/*", "}\n"),
     ("GET /desk.js HTTP/1.1\r\nHost: [::1]:8080\r\nConnection: close\r\n\r\n",
-        "HTTP/1.1 200 OK\r\nContent-Type: text/javascript; charset=utf-8\r\nContent-Length: 77611\r\n\
+        "HTTP/1.1 200 OK\r\nContent-Type: text/javascript; charset=utf-8\r\nX-Content-Type-Options: nosniff\r\n\
+        Content-Length: 79384\r\n\
         Connection: close\r\n\r\n//", "\nbegin();\n"),
     ("GET / HTTP/1.1\r\nHost: desk.example:8080\r\n\r\n", "HTTP/1.1 403 Forbidden\r\n", "another site\"}"),
 ];

@@ -72,6 +72,20 @@ static ROWS: &[Row] = &[
         "{\"sets\":[{\"dsn\":\"PAY.C\",\"dataclas\":null,\"storclas\":\"SC1\",\"mgmtclas\":null,\"group\":\"SG2\",\
         \"day\":0,\"retpd\":null,\"unit\":\"TRK\",\"secondary\":0,\"volumes\":1,\"eattr\":\"NO\",\"used\":0,\
         \"extents\":[{\"volser\":\"VOL001\",\"start\":15,\"tracks\":7}]}],\"after\":null}"),
+    (false, "/set/pay.b", "", PageStatus::Shown,
+        "{\"dsn\":\"PAY.B\",\"dataclas\":null,\"storclas\":\"SC1\",\"mgmtclas\":null,\"group\":\"SG2\",\
+        \"day\":0,\"retpd\":null,\"unit\":\"TRK\",\"secondary\":3,\"volumes\":1,\"eattr\":\"NO\",\"used\":0,\
+        \"extents\":[{\"volser\":\"VOL001\",\"start\":10,\"tracks\":5},{\"volser\":\"VOL001\",\"start\":0,\"tracks\":3}]}"),
+    (false, "/%73et/%50AY.B", "", PageStatus::Shown,
+        "{\"dsn\":\"PAY.B\",\"dataclas\":null,\"storclas\":\"SC1\",\"mgmtclas\":null,\"group\":\"SG2\",\
+        \"day\":0,\"retpd\":null,\"unit\":\"TRK\",\"secondary\":3,\"volumes\":1,\"eattr\":\"NO\",\"used\":0,\
+        \"extents\":[{\"volser\":\"VOL001\",\"start\":10,\"tracks\":5},{\"volser\":\"VOL001\",\"start\":0,\"tracks\":3}]}"),
+    (false, "/sets/*.B", "", PageStatus::Shown,
+        "{\"sets\":[{\"dsn\":\"PAY.B\",\"dataclas\":null,\"storclas\":\"SC1\",\"mgmtclas\":null,\"group\":\"SG2\",\
+        \"day\":0,\"retpd\":null,\"unit\":\"TRK\",\"secondary\":3,\"volumes\":1,\"eattr\":\"NO\",\"used\":0,\
+        \"extents\":[{\"volser\":\"VOL001\",\"start\":10,\"tracks\":5},{\"volser\":\"VOL001\",\"start\":0,\"tracks\":3}]}],\"after\":null}"),
+    (true, "/set/PAY.B", "", PageStatus::NotAllowed, "{\"error\":\"this page is read by GET\"}"),
+    (true, "/desk", "", PageStatus::NotAllowed, "{\"error\":\"this page is read by GET\"}"),
     (false, "/set/PAY.A", "", PageStatus::Missing, "{\"error\":\"no data set of this name is catalogued\"}"),
     (false, "/answers", "", PageStatus::Shown,
         "{\"answers\":[\

@@ -8,7 +8,7 @@ abbrev pub sentence_of : ℕ → List ℕ
 sentence_of status =
     if status == 400 then codes "this isn't a request as the desk reads them" else
     if status == 403 then codes "Host, Origin or Sec-Fetch-Site names another site" else
-    if status == 404 then codes "no request and no page has this path" else
+    if status == 404 then codes "no request and no page is asked so" else
     if status == 405 then codes "this path is asked by POST" else
     if status == 411 then codes "a deck needs a Content-Length" else
     if status == 413 then codes "the body is longer than this path allows" else

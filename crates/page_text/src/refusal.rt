@@ -75,7 +75,7 @@ fn sentence_of(status: u16) -> &'static [u8]
     match status {
         400 => b"this isn't a request as the desk reads them",
         403 => b"Host, Origin or Sec-Fetch-Site names another site",
-        404 => b"no request and no page has this path",
+        404 => b"no request and no page is asked so",
         405 => b"this path is asked by POST",
         411 => b"a deck needs a Content-Length",
         413 => b"the body is longer than this path allows",

@@ -9,6 +9,7 @@ ghost use Rattle.smsd.specs.Served.{IsOfServing, IsPortEnd, IsUnbound, loop_stat
 use crate::ending::{end_refused, end_unwaited, end_wanting, end_well, end_with};
 use crate::explaining::{note_port, note_status};
 use crate::store::{FileKeeper, close, open};
+use logged_wires::LoggedDoor;
 use mio_poll::PollDoor;
 use ready_wires::Readiness;
 use serve_poll::LoopEnd;
@@ -53,7 +54,7 @@ fn serve_keeper(rt: &HostRuntime, serving: Serving, keeper: FileKeeper) -> ExitC
     let most = usize::from(serving.connections);
     let patience = Duration::from_secs(u64::from(serving.idle));
     match PollDoor::bind(rt.alloc(), rt, address, most, patience) {
-        Ok(mut door) => serve_at(rt, serving, &mut door, keeper),
+        Ok(door) => serve_at(rt, serving, door, keeper),
         Err(error) => {
             close(keeper);
             end_unbound(rt, serving.port, error)
@@ -65,15 +66,31 @@ fn serve_keeper(rt: &HostRuntime, serving: Serving, keeper: FileKeeper) -> ExitC
 fn serve_at(
     rt: &HostRuntime,
     serving: Serving,
-    door: &mut PollDoor<'_, HostRuntime>,
+    door: PollDoor<'_, HostRuntime>,
     keeper: FileKeeper,
 ) -> ExitCode
     ensures { IsOfServing (exit_status result) }
 {
     let port = serving.port;
-    let most = usize::from(serving.connections);
     let _ = eprintln!(rt; "smsd: listening on 127.0.0.1:{port}");
-    let (code, keeper) = keep(rt, port, door, keeper, most);
+    if serving.log {
+        return keep_and_close(rt, serving, LoggedDoor::new(rt, door), keeper);
+    }
+    keep_and_close(rt, serving, door, keeper)
+}
+
+// Serves the store of the keeper to those that come through the door, and closes it.
+fn keep_and_close<R: Readiness>(
+    rt: &HostRuntime,
+    serving: Serving,
+    door: R,
+    keeper: FileKeeper,
+) -> ExitCode
+    ensures { IsOfServing (exit_status result) }
+{
+    let mut door = door;
+    let most = usize::from(serving.connections);
+    let (code, keeper) = keep(rt, serving.port, &mut door, keeper, most);
     close(keeper);
     code
 }

@@ -13,8 +13,9 @@ use Rattle.sms_construct.specs.Numbers.{small_number_of}
 use Rattle.smsd_words.specs.Command.{smsd}
 use Rattle.store_report.specs.declared.format.Format.{Format}
 use Rattle.store_report.specs.declared.format.Format.TheVariants.{Csv, Json}
+use Rattle.store_report.specs.declared.format.Format.TheVariants as formats
 use Rattle.store_report.specs.declared.listing.Listing.{Listing}
-use Rattle.store_report.specs.declared.listing.Listing.TheVariants.{Groups, Volumes, Sets, Extents}
+use Rattle.store_report.specs.declared.listing.Listing.TheVariants.{Groups, Volumes, Classes, Sets, Extents}
 use Rattle.store_report.specs.declared.query.Query.{Query}
 use Rattle.store_report.specs.declared.selection.Selection.{Selection}
 use Rattle.smsd_words.specs.declared.serving.Serving.{Serving}
@@ -37,6 +38,7 @@ abbrev pub listing_named : Text → Option Listing
 listing_named word =
     if bytes_eq word (codes "groups") then Some Groups
     else if bytes_eq word (codes "volumes") then Some Volumes
+    else if bytes_eq word (codes "classes") then Some Classes
     else if bytes_eq word (codes "sets") then Some Sets
     else if bytes_eq word (codes "extents") then Some Extents else None
 
@@ -49,7 +51,8 @@ abbrev pub format_named : Option Text → Option Format
 format_named None = Some Csv
 format_named (Some word) =
     if bytes_eq word (codes "csv") then Some Csv
-    else if bytes_eq word (codes "json") then Some Json else None
+    else if bytes_eq word (codes "json") then Some Json
+    else if bytes_eq word (codes "text") then Some formats.Text else None
 
 -- the form that these rows name
 abbrev pub format_in : List Row → Option Format
@@ -82,11 +85,18 @@ selection_in rows =
     (group_in rows))
     (mask_in rows)
 
+-- nothing is asked of the rows
+abbrev pub is_all : Selection → Bool
+is_all selection =
+    if is_some selection.mask then false
+    else (if is_some selection.group then false else (if is_some selection.volume then false else true))
+
 -- each row of the listing has what is asked of it: data sets and extents a name, a storage group and a volume, volumes a
--- storage group and a serial, storage groups a name
+-- storage group and a serial, storage groups a name, classes nothing
 abbrev pub suits : Listing → Selection → Bool
 suits Groups selection = if is_some selection.mask then false else (if is_some selection.volume then false else true)
 suits Volumes selection = if is_some selection.mask then false else true
+suits Classes selection = is_all selection
 suits Sets selection = true
 suits Extents selection = true
 
@@ -117,7 +127,7 @@ serving_in rows =
     option_and_then (λ port.
     option_and_then (λ connections.
     option_and_then (λ idle.
-    Some (record { port = port; connections = connections; idle = idle }))
+    Some (record { port = port; connections = connections; idle = idle; log = is_set (codes "log") rows }))
     (number_or 86400 60 (first_of (codes "idle") rows)))
     (number_or 10000 1000 (first_of (codes "connections") rows)))
     (number_or 65535 8080 (first_of (codes "port") rows))

@@ -50,11 +50,12 @@ list_app =
 
 abbrev pub serve_app : App
 serve_app =
-    with_rule (with_rule (with_rule (with_rule
+    with_rule (with_rule (with_rule (with_rule (with_rule
     (new_app (codes "serve"))
     (option_rule (codes "port")))
     (option_rule (codes "connections")))
     (option_rule (codes "idle")))
+    (flag_rule (codes "log")))
     (option_rule (codes "store"))
 
 abbrev pub check_app : App

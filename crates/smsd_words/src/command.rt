@@ -59,6 +59,7 @@ fn serve_command<'a>(alloc: Global) -> Result<Command<'a>, AllocError>
         .arg(option(alloc, "port"))?
         .arg(option(alloc, "connections"))?
         .arg(option(alloc, "idle"))?
+        .arg(flag(alloc, "log"))?
         .arg(option(alloc, "store"))
 }
 

@@ -11,10 +11,11 @@ smsd run [SCRIPT]    answer a script on the store: the one in the file SCRIPT, o
 ";
 
 const LIST: &str = "
-smsd list WHAT       list what the store holds: WHAT is groups, volumes, sets or
-                     extents; nothing changes. --mask MASK, --group NAME and
-                     --volume VOLSER take the rows that fit; --format is csv,
-                     comma-separated values, or json
+smsd list WHAT       list what the store holds: WHAT is groups, volumes, classes,
+                     sets or extents; nothing changes. --mask MASK, --group NAME
+                     and --volume VOLSER take the rows that fit, of classes all;
+                     --format is csv, comma-separated values, json, or text,
+                     as columns
 
     smsd list sets --mask 'PAY.**' --group SG1 --store payroll.db
 ";
@@ -23,7 +24,8 @@ const SERVE: &str = "
 smsd serve           serve the store over HTTP on 127.0.0.1, until it is ended:
                      --port N, 8080 where it isn't named; --connections N at
                      once, 1000; --idle N, the seconds after which a connection
-                     at which nothing happens is closed, 60
+                     at which nothing happens is closed, 60; with --log a line
+                     on standard error for each connection that ends
 
     smsd serve --port 9000 --store payroll.db
 ";
@@ -62,9 +64,9 @@ pub fn examples_of(alloc: Global, word: &str) -> Result<String, AllocError> {
     }
 }
 
-const LIST_VALUES: &str = "WHAT is groups, volumes, sets or extents; --mask a mask of data set \
-    names, for sets and extents alone; --group the name of a storage group; --volume a serial, \
-    not for groups; --format csv or json";
+const LIST_VALUES: &str = "WHAT is groups, volumes, classes, sets or extents; --mask a mask of \
+    data set names, for sets and extents alone; --group the name of a storage group, not for \
+    classes; --volume a serial, neither for groups nor for classes; --format csv, json or text";
 
 const SERVE_VALUES: &str = "--port is a number of 1 to 65535, --connections one of 1 to 10000, \
     and --idle one of 1 to 86400";

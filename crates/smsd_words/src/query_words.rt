@@ -1,7 +1,7 @@
 // What is asked of the lists, in words.
 ghost use Rattle.std.specs.Prelude.{◌≡◌};
 ghost use Rattle.clap.specs.Words.{found_of, rows_of};
-ghost use Rattle.smsd_words.specs.Asking.{format_in, group_in, listing_in, listing_named, mask_in, query_in};
+ghost use Rattle.smsd_words.specs.Asking.{format_in, group_in, is_all, listing_in, listing_named, mask_in, query_in};
 ghost use Rattle.smsd_words.specs.Asking.{query_of, query_with, selection_in, suits, volume_in};
 
 use crate::values::value_of;
@@ -49,8 +49,16 @@ fn suits(listing: Listing, selection: &Selection) -> bool
     match listing {
         Listing::Groups => selection.mask.is_none() && selection.volume.is_none(),
         Listing::Volumes => selection.mask.is_none(),
+        Listing::Classes => is_all(selection),
         Listing::Sets | Listing::Extents => true,
     }
+}
+
+// Whether nothing is asked of the rows.
+fn is_all(selection: &Selection) -> bool
+    ensures { result ≡ is_all selection.now }
+{
+    selection.mask.is_none() && selection.group.is_none() && selection.volume.is_none()
 }
 
 // The listing that the words name.
@@ -71,6 +79,9 @@ fn listing_named(word: &str) -> Option<Listing>
     }
     if word == "volumes" {
         return Some(Listing::Volumes);
+    }
+    if word == "classes" {
+        return Some(Listing::Classes);
     }
     if word == "sets" {
         return Some(Listing::Sets);
@@ -93,6 +104,9 @@ fn format_in(matches: &ArgMatches<'_>) -> Option<Format>
     }
     if word == "json" {
         return Some(Format::Json);
+    }
+    if word == "text" {
+        return Some(Format::Text);
     }
     None
 }

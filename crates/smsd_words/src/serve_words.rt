@@ -4,7 +4,7 @@ ghost use Rattle.clap.specs.Words.{first_of, found_of, rows_of};
 ghost use Rattle.smsd_words.specs.Asking.{number_or, serving_in};
 
 use crate::serving::Serving;
-use crate::values::value_of;
+use crate::values::{is_set, value_of};
 use clap::ArgMatches;
 use sms_construct::read_number;
 
@@ -34,6 +34,7 @@ pub fn serving_in(matches: &ArgMatches<'_>) -> Option<Serving>
         port: port as u16,
         connections: connections as u16,
         idle,
+        log: is_set(matches, "log"),
     })
 }
 

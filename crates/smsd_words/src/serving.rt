@@ -9,4 +9,6 @@ pub struct Serving {
     pub connections: u16,
     /// For how many seconds nothing may happen at a connection, 1 to 86,400.
     pub idle: u32,
+    /// Each connection that ends is told of on standard error.
+    pub log: bool,
 }

@@ -1,8 +1,9 @@
 -- How a list of a store ends: each status and its cause.
-use Rattle.std.specs.Prelude.{◌≡◌, ℕ, List, Option, filter, flat_map, map}
+use Rattle.std.specs.Prelude.{◌≡◌, ℕ, List, [], Option, None, Some, filter, flat_map, map}
 use Rattle.std.specs.Io.KnownBytes.{Appends}
 use Rattle.desk_common.specs.Causes.{Rose}
 use Rattle.desk_common.specs.Fronts.{IsProperPrefix}
+use Rattle.sms_construct.specs.Configuration.{Configuration}
 use Rattle.sms_construct.specs.declared.data_set.DataSet.{DataSet}
 use Rattle.sms_construct.specs.declared.vol_row.VolRow.{VolRow}
 use Rattle.sms_keeper.specs.declared.keeper.Keeper.{Ghosts}
@@ -16,8 +17,9 @@ use Rattle.desk_calls.specs.declared.status.RunStatus.TheVariants.{TooLong, NoMe
 use Rattle.page_text.specs.declared.group_row.GroupRow.{GroupRow}
 use Rattle.store_report.specs.GroupSums.{group_row}
 use Rattle.store_report.specs.Selecting.{extents_on, fits_group, fits_set, fits_volume}
-use Rattle.store_report.specs.Texts.{extents_text, groups_text, sets_text, volumes_text}
+use Rattle.store_report.specs.Texts.{classes_text, extents_text, groups_text, sets_text, volumes_text}
 use Rattle.store_report.specs.declared.extent_row.ExtentRow.{ExtentRow}
+use Rattle.store_report.specs.declared.format.Format.{Format}
 use Rattle.store_report.specs.declared.listing.Listing.{Listing}
 use Rattle.store_report.specs.declared.listing.Listing.TheVariants as lists
 use Rattle.store_report.specs.declared.query.Query.{Query}
@@ -52,10 +54,17 @@ set_rows selection sets = filter (fits_set selection) sets
 abbrev pub extent_rows : Selection → List DataSet → List ExtentRow
 extent_rows selection sets = flat_map (extents_on selection.volume) (set_rows selection sets)
 
+-- the classes of a configuration in a form, none where nothing is active
+abbrev pub classes_of : Format → Option Configuration → List ℕ
+classes_of format None = classes_text format [] [] []
+classes_of format (Some config) =
+    classes_text format config.data_classes config.storage_classes config.management_classes
+
 -- the text of this list, of what a desk with this opening begins with
 abbrev pub list_text : Listing → Query → Opening → List ℕ
 list_text lists.Groups query o = groups_text query.format (group_rows query.selection (start_of o))
 list_text lists.Volumes query o = volumes_text query.format (volume_rows query.selection (start_of o))
+list_text lists.Classes query o = classes_of query.format (start_of o).active
 list_text lists.Sets query o = sets_text query.format (set_rows query.selection o.rows.sets)
 list_text lists.Extents query o = extents_text query.format (extent_rows query.selection o.rows.sets)
 

@@ -98,5 +98,6 @@ fn push_named(text: &mut Vec<u8>, dsn: &Dsn, word: &[u8]) -> Result<(), AllocErr
     text.extend_from_slice(b"DUE ")?;
     push_word_and_blank(text, dsn.bytes())?;
     text.extend_from_slice(word)?;
-    text.push(b'\n')
+    text.push(b'\n')?;
+    Ok(())
 }

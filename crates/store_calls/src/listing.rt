@@ -3,24 +3,26 @@ ghost use Rattle.std.specs.Prelude.{◌≡◌, [], IfOk, map, true};
 ghost use Rattle.desk_law.specs.History.{Reaches};
 ghost use Rattle.desk_law.specs.State.{DeskState, Opening as Begun, start_of};
 ghost use Rattle.desk_law.specs.Volumes.{groups_in};
+ghost use Rattle.desk_restoring.specs.Opened.{opening_of};
 ghost use Rattle.store_report.specs.Texts.{groups_text, volumes_text};
 ghost use Rattle.store_report.specs.declared.query.Query.{Query as Asked};
-ghost use Rattle.store_calls.specs.StoreLists.{IsListed, ListEnds, StoreListEnds, group_rows, seen_sink, set_rows};
-ghost use Rattle.store_calls.specs.StoreLists.{volume_rows};
+ghost use Rattle.store_calls.specs.StoreLists.{IsListed, ListEnds, StoreListEnds, classes_of, group_rows, seen_sink};
+ghost use Rattle.store_calls.specs.StoreLists.{set_rows, volume_rows};
 ghost use Rattle.store_calls.specs.Statuses.{leaves_sink, leaves_sink_of};
 
-use crate::loading::load_store;
+use crate::loading::{FoundRows, load_store};
 use crate::status::StoreStatus;
+use deck_meaning::Config;
 use desk_calls::RunStatus;
 use sms_base::{Sink, write_all};
 use sms_construct::{DataSet, StorGroup};
 use sms_core::Core;
-use sms_keeper::{Keeper, Rows, Stored};
+use sms_keeper::{Keeper, Stored};
 use sms_open::reopen;
 use std::alloc::{AllocError, Global};
 use store_report::{
-    Listing, Query, extents_text, groups_text, pick_extents, pick_groups, pick_sets, pick_volumes,
-    sets_text, volumes_text,
+    Format, Listing, Query, classes_text, extents_text, groups_text, pick_extents, pick_groups,
+    pick_sets, pick_volumes, sets_text, volumes_text,
 };
 
 /// Writes the list that is asked for of what the store holds to the sink. Nothing of the store is written: it isn't
@@ -37,7 +39,9 @@ pub fn store_list<K: Sink, P: Stored>(
 {
     match query.listing {
         Listing::Groups | Listing::Volumes => list_desk(alloc, query, out, keeper),
-        Listing::Sets | Listing::Extents => list_rows(alloc, query, out, keeper),
+        Listing::Classes | Listing::Sets | Listing::Extents => {
+            list_rows(alloc, query, out, keeper)
+        }
     }
 }
 
@@ -61,7 +65,7 @@ fn list_desk<K: Sink, P: Stored>(
     }
 }
 
-// The list of a desk that was just opened; a list of data sets or extents isn't made of it.
+// The list of a desk that was just opened; a list of classes, data sets or extents isn't made of it.
 fn desk_text<P: Keeper>(alloc: Global, query: &Query, core: &Core<P>) -> Result<Vec<u8>, AllocError>
     requires { core.now.journal ≡ [] }
     ensures { IfOk result (λ text. IsListed query.now core.now.opening text.items) }
@@ -69,7 +73,7 @@ fn desk_text<P: Keeper>(alloc: Global, query: &Query, core: &Core<P>) -> Result<
     match query.listing {
         Listing::Groups => list_groups(alloc, query, core),
         Listing::Volumes => list_volumes(alloc, query, core),
-        Listing::Sets | Listing::Extents => Err(AllocError),
+        Listing::Classes | Listing::Sets | Listing::Extents => Err(AllocError),
     }
 }
 
@@ -113,7 +117,7 @@ fn list_volumes<P: Keeper>(
     volumes_text(alloc, query.format, picked)
 }
 
-// Writes a list of data sets or extents: those of the rows, which aren't made a desk of.
+// Writes a list of classes, data sets or extents: those of the rows, which aren't made a desk of.
 fn list_rows<K: Sink, P: Stored>(
     alloc: Global,
     query: &Query,
@@ -126,22 +130,54 @@ fn list_rows<K: Sink, P: Stored>(
 {
     match load_store(alloc, keeper) {
         Ok((keeper, found)) => {
-            let text = rows_text(alloc, query, &found.rows);
+            let text = found_text(alloc, query, &found);
             (StoreStatus::Ran(write_text(out, text)), keeper)
         }
         Err((keeper, err)) => (StoreStatus::Unopened(err), keeper),
     }
 }
 
-// The list of these rows.
-fn rows_text(alloc: Global, query: &Query, rows: &Rows) -> Result<Vec<u8>, AllocError>
-    ensures { IfOk result (λ text. (o : Begun) → o.rows ≡ rows.now → IsListed query.now o text.items) }
+// The list of what was found.
+fn found_text(alloc: Global, query: &Query, found: &FoundRows) -> Result<Vec<u8>, AllocError>
+    ensures { IfOk result (λ text. IsListed query.now (opening_of found.now.rows found.now.config) text.items) }
 {
-    let sets = pick_sets(alloc, rows.sets.as_slice(), &query.selection)?;
+    match query.listing {
+        Listing::Classes => list_classes(alloc, query.format, &found.config),
+        Listing::Groups | Listing::Volumes | Listing::Sets | Listing::Extents => {
+            rows_text(alloc, query, found)
+        }
+    }
+}
+
+// The list of the classes.
+fn list_classes(
+    alloc: Global,
+    format: Format,
+    active: &Option<Config>,
+) -> Result<Vec<u8>, AllocError>
+    ensures { IfOk result (λ text. text.items ≡ classes_of format active.now) }
+{
+    match active {
+        Some(config) => classes_text(
+            alloc,
+            format,
+            config.data_classes(),
+            config.storage_classes(),
+            config.management_classes(),
+        ),
+        None => classes_text(alloc, format, &[], &[], &[]),
+    }
+}
+
+// The list of the data sets that were found, or of their extents.
+fn rows_text(alloc: Global, query: &Query, found: &FoundRows) -> Result<Vec<u8>, AllocError>
+    ensures { IfOk result (λ text. IsListed query.now (opening_of found.now.rows found.now.config) text.items) }
+{
+    let sets = pick_sets(alloc, found.rows.sets.as_slice(), &query.selection)?;
     picked_text(alloc, query, &sets)
 }
 
-// The list of these data sets, or of their extents; a list of storage groups or volumes isn't made of them.
+// The list of these data sets, or of their extents; another list isn't made of them.
 fn picked_text(alloc: Global, query: &Query, sets: &[&DataSet]) -> Result<Vec<u8>, AllocError>
     ensures { IfOk result (λ text. (o : Begun) →
         map (λ set. set.now) sets.now ≡ set_rows query.now.selection o.rows.sets → IsListed query.now o text.items) }
@@ -152,7 +188,7 @@ fn picked_text(alloc: Global, query: &Query, sets: &[&DataSet]) -> Result<Vec<u8
             let rows = pick_extents(alloc, sets, &query.selection.volume)?;
             extents_text(alloc, query.format, &rows)
         }
-        Listing::Groups | Listing::Volumes => Err(AllocError),
+        Listing::Groups | Listing::Volumes | Listing::Classes => Err(AllocError),
     }
 }
 

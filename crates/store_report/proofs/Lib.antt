@@ -1,1 +1,2 @@
 mod ExtentLemmas
+mod ClassLemmas

@@ -1,2 +1,3 @@
 -- What private clauses and proofs alone cite.
 pub mod Pieces
+pub mod ClassPieces

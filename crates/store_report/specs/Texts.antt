@@ -2,14 +2,21 @@
 use Rattle.std.specs.Prelude.{ℕ, List, [], ◌∷◌, ◌++◌, None}
 use Rattle.page_text.specs.PageBodies.{groups_body, sets_body, volumes_body}
 use Rattle.page_text.specs.declared.group_row.GroupRow.{GroupRow}
+use Rattle.sms_construct.specs.declared.data_class.DataClass.{DataClass}
 use Rattle.sms_construct.specs.declared.data_set.DataSet.{DataSet}
+use Rattle.sms_construct.specs.declared.management_class.MgmtClass.{MgmtClass}
+use Rattle.sms_construct.specs.declared.storage_class.StorClass.{StorClass}
 use Rattle.sms_construct.specs.declared.vol_row.VolRow.{VolRow}
 use Rattle.sms_report.specs.VolumesTable.{table_text}
+use Rattle.store_report.specs.ClassTable.{classes_table}
+use Rattle.store_report.specs.ClassesJson.{classes_body}
+use Rattle.store_report.specs.Columns.{classes_widths, columns_of, extents_widths, groups_widths, sets_widths}
+use Rattle.store_report.specs.Columns.{volumes_widths}
 use Rattle.store_report.specs.ExtentsJson.{extents_body}
 use Rattle.store_report.specs.Tables.{extents_table, groups_table, sets_table}
 use Rattle.store_report.specs.declared.extent_row.ExtentRow.{ExtentRow}
 use Rattle.store_report.specs.declared.format.Format.{Format}
-use Rattle.store_report.specs.declared.format.Format.TheVariants.{Csv, Json}
+use Rattle.store_report.specs.declared.format.Format.TheVariants.{Csv, Json, Text}
 
 -- a value of JSON as a line
 abbrev pub line_of : List ℕ → List ℕ
@@ -19,18 +26,31 @@ line_of body = body ++ 10 ∷ []
 abbrev pub groups_text : Format → List GroupRow → List ℕ
 groups_text Csv rows = groups_table rows
 groups_text Json rows = line_of (groups_body rows)
+groups_text Text rows = columns_of groups_widths (groups_table rows)
 
 -- volumes
 abbrev pub volumes_text : Format → List VolRow → List ℕ
 volumes_text Csv rows = table_text rows
 volumes_text Json rows = line_of (volumes_body rows)
+volumes_text Text rows = columns_of volumes_widths (table_text rows)
+
+-- classes, kind by kind
+abbrev pub classes_text : Format → List DataClass → List StorClass → List MgmtClass → List ℕ
+classes_text Csv data_classes storage_classes management_classes =
+    classes_table data_classes storage_classes management_classes
+classes_text Json data_classes storage_classes management_classes =
+    line_of (classes_body data_classes storage_classes management_classes)
+classes_text Text data_classes storage_classes management_classes =
+    columns_of classes_widths (classes_table data_classes storage_classes management_classes)
 
 -- data sets
 abbrev pub sets_text : Format → List DataSet → List ℕ
 sets_text Csv sets = sets_table sets
 sets_text Json sets = line_of (sets_body sets None)
+sets_text Text sets = columns_of sets_widths (sets_table sets)
 
 -- extents
 abbrev pub extents_text : Format → List ExtentRow → List ℕ
 extents_text Csv rows = extents_table rows
 extents_text Json rows = line_of (extents_body rows)
+extents_text Text rows = columns_of extents_widths (extents_table rows)

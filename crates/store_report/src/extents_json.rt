@@ -1,13 +1,11 @@
 //! Extents as JSON.
-ghost use Rattle.std.specs.Prelude.{◌≡◌, ◌++◌, IfOk, OnOk, decimal, false};
-ghost use Rattle.json.specs.Print.{quoted};
+ghost use Rattle.std.specs.Prelude.{◌≡◌, ◌++◌, IfOk, OnOk, false};
 ghost use Rattle.serde_json.specs.Written.{items_text};
 ghost use Rattle.store_report.specs.ExtentsJson.{extent_body, extent_values, extents_body};
 ghost use Rattle.store_report.specs.Inner.Pieces.{extent_front, extent_rest, extents_piece};
 
 use crate::extent_row::ExtentRow;
-use desk_common::push_number;
-use json_text::push_quoted;
+use crate::pieces::{push_count, push_text};
 use std::alloc::{AllocError, Global};
 
 /// These extents as one value of JSON.
@@ -71,23 +69,5 @@ fn push_rest(text: &mut Vec<u8>, row: &ExtentRow) -> Result<(), AllocError>
     push_count(text, b",\"start\":", row.extent.start)?;
     push_count(text, b",\"tracks\":", row.extent.length)?;
     text.push(b'}')?;
-    Ok(())
-}
-
-// Puts what stands before a text, and the text as a string, behind another text.
-fn push_text(text: &mut Vec<u8>, before: &[u8], value: &[u8]) -> Result<(), AllocError>
-    ensures { OnOk result (text.new.items ≡ text.old.items ++ (before.now ++ quoted value.now)) }
-{
-    text.extend_from_slice(before)?;
-    push_quoted(text, value)?;
-    Ok(())
-}
-
-// Puts what stands before a count, and the count, behind a text.
-fn push_count(text: &mut Vec<u8>, before: &[u8], count: u32) -> Result<(), AllocError>
-    ensures { OnOk result (text.new.items ≡ text.old.items ++ (before.now ++ decimal count)) }
-{
-    text.extend_from_slice(before)?;
-    push_number(text, u64::from(count))?;
     Ok(())
 }

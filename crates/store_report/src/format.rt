@@ -7,4 +7,6 @@ pub enum Format {
     Csv,
     /// As one value of JSON.
     Json,
+    /// As columns that stand below each other.
+    Text,
 }

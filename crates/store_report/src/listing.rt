@@ -7,6 +7,8 @@ pub enum Listing {
     Groups,
     /// The volumes of the active configuration.
     Volumes,
+    /// The data, storage and management classes of the active configuration.
+    Classes,
     /// The catalogued data sets.
     Sets,
     /// Their extents.

@@ -1,14 +1,19 @@
 //! The text of each list in each form.
 ghost use Rattle.std.specs.Prelude.{◌≡◌, IfOk, map};
-ghost use Rattle.store_report.specs.Texts.{extents_text, groups_text, line_of, sets_text, volumes_text};
+ghost use Rattle.store_report.specs.Texts.{classes_text, extents_text, groups_text, line_of, sets_text, volumes_text};
 
+use crate::class_table::classes_csv;
+use crate::classes_json::classes_body;
+use crate::columns::{
+    CLASSES_WIDTHS, EXTENTS_WIDTHS, GROUPS_WIDTHS, SETS_WIDTHS, VOLUMES_WIDTHS, columns_text,
+};
 use crate::extent_row::ExtentRow;
 use crate::extents_json::extents_body;
 use crate::format::Format;
 use crate::tables::{extents_csv, groups_csv, sets_csv};
 use desk_common::Items;
 use page_text::{GroupRow, groups_body, sets_body, volumes_body};
-use sms_construct::{DataSet, VolRow};
+use sms_construct::{DataClass, DataSet, MgmtClass, StorClass, VolRow};
 use sms_report::volumes_csv;
 use std::alloc::{AllocError, Global};
 
@@ -21,6 +26,10 @@ pub fn groups_text(alloc: Global, format: Format, rows: &[GroupRow]) -> Result<V
         Format::Json => {
             let body = groups_body(alloc, rows)?;
             line_of(alloc, body.as_slice())
+        }
+        Format::Text => {
+            let records = groups_csv(alloc, rows)?;
+            columns_text(alloc, &records, &GROUPS_WIDTHS)
         }
     }
 }
@@ -35,6 +44,34 @@ pub fn volumes_text(alloc: Global, format: Format, rows: Vec<VolRow>) -> Result<
             let body = volumes_body(alloc, &rows)?;
             line_of(alloc, body.as_slice())
         }
+        Format::Text => {
+            let records = volumes_csv(alloc, &Items::from_vec(rows))?;
+            columns_text(alloc, &records, &VOLUMES_WIDTHS)
+        }
+    }
+}
+
+/// The list of these classes (docs/manual/smsd.md, "Lists").
+pub fn classes_text(
+    alloc: Global,
+    format: Format,
+    data_classes: &[DataClass],
+    storage_classes: &[StorClass],
+    management_classes: &[MgmtClass],
+) -> Result<Vec<u8>, AllocError>
+    ensures { IfOk result (λ text. text.items
+        ≡ classes_text format data_classes.now storage_classes.now management_classes.now) }
+{
+    match format {
+        Format::Csv => classes_csv(alloc, data_classes, storage_classes, management_classes),
+        Format::Json => {
+            let body = classes_body(alloc, data_classes, storage_classes, management_classes)?;
+            line_of(alloc, &body)
+        }
+        Format::Text => {
+            let records = classes_csv(alloc, data_classes, storage_classes, management_classes)?;
+            columns_text(alloc, &records, &CLASSES_WIDTHS)
+        }
     }
 }
 
@@ -47,6 +84,10 @@ pub fn sets_text(alloc: Global, format: Format, sets: &[&DataSet]) -> Result<Vec
         Format::Json => {
             let body = sets_body(alloc, sets, None)?;
             line_of(alloc, body.as_slice())
+        }
+        Format::Text => {
+            let records = sets_csv(alloc, sets)?;
+            columns_text(alloc, &records, &SETS_WIDTHS)
         }
     }
 }
@@ -64,6 +105,10 @@ pub fn extents_text(
         Format::Json => {
             let body = extents_body(alloc, rows)?;
             line_of(alloc, &body)
+        }
+        Format::Text => {
+            let records = extents_csv(alloc, rows)?;
+            columns_text(alloc, &records, &EXTENTS_WIDTHS)
         }
     }
 }

@@ -16,8 +16,16 @@ const DONE: StoreStatus = StoreStatus::Ran(RunStatus::Done);
 const MONDAY: &str = "\
 SMSADMIN 1 ACTIVATE
 version = 1
+[dataclass.DC1]
+space = \"(TRK,(5,2))\"
+volcount = 3
+[dataclass.DC2]
+eattr = \"OPT\"
 [storclass.SC1]
 [mgmtclass.MC1]
+release = \"YES\"
+[mgmtclass.MC2]
+expire_after = 30
 [storgroup.SG1.volume.VOL001]
 tracks = 100
 [routine]
@@ -56,6 +64,18 @@ static LISTS: &[(Listing, Format, &str, &str)] = &[
     (Listing::Volumes, Format::Csv,
         "volser,group,status,capacity,free,extents\nVOL001,SG1,ENABLE,100,82,3\n",
         "volser,group,status,capacity,free,extents\n"),
+    (Listing::Classes, Format::Csv,
+        "kind,name,unit,primary,secondary,volcount,eattr,multi_tier,expire_after,release\n\
+        DATACLAS,DC1,TRK,5,2,3,NO,,,\nDATACLAS,DC2,,,,,OPT,,,\nSTORCLAS,SC1,,,,,,NO,,\n\
+        MGMTCLAS,MC1,,,,,,,,YES\nMGMTCLAS,MC2,,,,,,,30,NO\n",
+        "kind,name,unit,primary,secondary,volcount,eattr,multi_tier,expire_after,release\n"),
+    (Listing::Classes, Format::Json,
+        "{\"dataclas\":[{\"name\":\"DC1\",\"unit\":\"TRK\",\"primary\":5,\"secondary\":2,\"volcount\":3,\"eattr\":\"NO\"},\
+        {\"name\":\"DC2\",\"unit\":null,\"primary\":null,\"secondary\":null,\"volcount\":null,\"eattr\":\"OPT\"}],\
+        \"storclas\":[{\"name\":\"SC1\",\"multi_tier\":false}],\
+        \"mgmtclas\":[{\"name\":\"MC1\",\"expire_after\":null,\"release\":true},\
+        {\"name\":\"MC2\",\"expire_after\":30,\"release\":false}]}\n",
+        "{\"dataclas\":[],\"storclas\":[],\"mgmtclas\":[]}\n"),
     (Listing::Sets, Format::Csv,
         "dsn,dataclas,storclas,mgmtclas,group,day,used,extents\n\
         A.B,,SC1,MC1,SG1,0,0,1\nPAY.MASTER,,SC1,MC1,SG1,7,12,2\n",
@@ -63,6 +83,12 @@ static LISTS: &[(Listing, Format, &str, &str)] = &[
     (Listing::Extents, Format::Csv,
         "dsn,volser,start,length\nA.B,VOL001,10,3\nPAY.MASTER,VOL001,0,10\nPAY.MASTER,VOL001,13,5\n",
         "dsn,volser,start,length\n"),
+    (Listing::Extents, Format::Text,
+        "dsn                                           volser  start       length\n\
+        A.B                                           VOL001  10          3\n\
+        PAY.MASTER                                    VOL001  0           10\n\
+        PAY.MASTER                                    VOL001  13          5\n",
+        "dsn                                           volser  start       length\n"),
     (Listing::Extents, Format::Json,
         "{\"extents\":[{\"dsn\":\"A.B\",\"volser\":\"VOL001\",\"start\":10,\"tracks\":3},\
         {\"dsn\":\"PAY.MASTER\",\"volser\":\"VOL001\",\"start\":0,\"tracks\":10},\

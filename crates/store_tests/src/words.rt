@@ -35,20 +35,25 @@ static MANAGED: &[(&[&str], &str, u32, bool)] = &[
 #[rattlefmt::skip]
 static LISTS: &[(&[&str], Listing, Format, [&str; 3])] = &[
     (&["list", "sets"], Listing::Sets, Format::Csv, ["", "", ""]),
+    (&["list", "sets", "--format", "text"], Listing::Sets, Format::Text, ["", "", ""]),
     (&["list", "--", "volumes"], Listing::Volumes, Format::Csv, ["", "", ""]),
     (&["list", "--format=json", "groups"], Listing::Groups, Format::Json, ["", "", ""]),
     (&["list", "groups", "--group", "SG1"], Listing::Groups, Format::Csv, ["", "SG1", ""]),
+    (&["list", "classes", "--format", "json"], Listing::Classes, Format::Json, ["", "", ""]),
     (&["list", "volumes", "--group", "SG1", "--volume", "1"], Listing::Volumes, Format::Csv, ["", "SG1", "1"]),
     (&["list", "--mask", "A.**", "extents", "--volume", "V"], Listing::Extents, Format::Csv, ["A.**", "", "V"]),
 ];
 
-static SERVED: &[(&[&str], (u16, u16, u32))] = &[
-    (&["serve"], (8080, 1000, 60)),
+static SERVED: &[(&[&str], (u16, u16, u32, bool))] = &[
+    (&["serve"], (8080, 1000, 60, false)),
     (
-        &["serve", "--port", "65535", "--idle=86400"],
-        (65535, 1000, 86400),
+        &["serve", "--port", "65535", "--log", "--idle=86400"],
+        (65535, 1000, 86400, true),
     ),
-    (&["serve", "--connections", "1", "--port", "1"], (1, 1, 60)),
+    (
+        &["serve", "--connections", "1", "--port", "1"],
+        (1, 1, 60, false),
+    ),
 ];
 
 static HINDERED: &[(&[&str], WordsErr)] = &[
@@ -60,10 +65,13 @@ static HINDERED: &[(&[&str], WordsErr)] = &[
     (&["list"], WordsErr::Bad),
     (&["list", "set"], WordsErr::Bad),
     (&["list", "SETS"], WordsErr::Bad),
-    (&["list", "sets", "--format", "text"], WordsErr::Bad),
+    (&["list", "sets", "--format", "xml"], WordsErr::Bad),
     (&["list", "sets", "--mask", "a"], WordsErr::Bad),
     (&["list", "volumes", "--mask", "A"], WordsErr::Bad),
     (&["list", "groups", "--volume", "V"], WordsErr::Bad),
+    (&["list", "classes", "--mask", "A"], WordsErr::Bad),
+    (&["list", "classes", "--group", "SG1"], WordsErr::Bad),
+    (&["list", "classes", "--volume", "V"], WordsErr::Bad),
     (&["serve", "--port", "0"], WordsErr::Bad),
     (&["serve", "--port", "65536"], WordsErr::Bad),
     (&["serve", "--connections", "10001"], WordsErr::Bad),
@@ -193,12 +201,13 @@ fn volser_bytes(volser: &Option<Volser>) -> &[u8] {
 
 fn are_served(alloc: Global) -> Result<bool, Fail> {
     let mut good = true;
-    for (list, (port, connections, idle)) in SERVED {
+    for (list, (port, connections, idle, log)) in SERVED {
         let words = words_of(alloc, list)?;
         let wanted = Serving {
             port: *port,
             connections: *connections,
             idle: *idle,
+            log: *log,
         };
         good &= match task_asked(alloc, &words) {
             Ok(

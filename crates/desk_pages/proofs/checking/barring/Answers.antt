@@ -12,6 +12,6 @@ pub returns-in-Ok : goal.returns-in-Ok
 returns-in-Ok g c = IfOk-weaker c.barring_config.result _ _ (λ found comes s stands.
     comes_of_deck s c.args.deck.now c.in-Ok.config found c.in-Ok.ensures.ok (comes s stands)) c.barring_config.ensures
 
-pub returns-in-Err-Fault : goal.returns-in-Err-Fault
-returns-in-Err-Fault g c = λ s stands.
-    comes_faulted s c.args.deck.now c.in-Err-Fault.fault _ (subst (MayRefuse (TellsFirstFault c.args.deck.now) (Some errors.NoMemory)) c.in-Err-Fault.field-0-is c.in-Err-Fault.ensures.err) c.in_ok-faulted.ensures
+pub returns-in_ok-faulted-in-Err-Fault : goal.returns-in_ok-faulted-in-Err-Fault
+returns-in_ok-faulted-in-Err-Fault g c = λ s stands.
+    comes_faulted s c.args.deck.now c.in-Err-Fault.fault _ (subst (MayRefuse (TellsFirstFault c.args.deck.now) (Some errors.NoMemory)) c.in-Err-Fault.field-0-is c.in-Err-Fault.ensures.err) c.in_ok-faulted-in-Err-Fault.ensures

@@ -9,7 +9,7 @@ loop-left-init c = record { newest = rw c.new-found.ensures.items (newest_none (
 pub loop-left-preserved : goal.loop-left-preserved
 loop-left-preserved c = record {
   newest = newest_more (λ entry. entry.now) c.args.journal.now c.loop-left.left _ c.loop-left.found.items _ _ c.loop-left.invariant.newest (omega arith) c.in_ok-push.ensures.items c.index-journal-left.is (λ e. c.if-len-eq-MOST_SHOWN.false (c.len.ensures ∙ c.loop-left.invariant.len ∙ e));
-  len = omega (arith, c.in_ok-push.ensures.len, c.loop-left.invariant.len, length_pushed _ _ c.in_ok-push.ensures.items);
+  len = omega (arith, c.in_ok-push.ensures.len, c.loop-left.invariant.len, length_pushed _ _ _ c.in_ok-push.ensures.items);
 }
 
 pub returns-then-len-eq-MOST_SHOWN : goal.returns-then-len-eq-MOST_SHOWN

@@ -6,7 +6,7 @@ use Rattle.desk_pages.proofs.listing.list_sets.Goals as goal
 
 pub returns-then-len-eq-MOST_SHOWN : goal.returns-then-len-eq-MOST_SHOWN
 returns-then-len-eq-MOST_SHOWN g c = λ s stands.
-    ends_full s.sets c.args.mask.now c.args.from _ c.loop-looked.looked c.loop-looked.at (c.loop-looked.invariant.so_far s stands) (length-map c.loop-looked.sets.items _ ∙ sym c.loop-looked.invariant.len ∙ sym c.len.ensures ∙ c.if-len-eq-MOST_SHOWN.true)
+    ends_full s.sets c.args.mask.now c.args.from _ c.loop-looked.looked c.loop-looked.at (c.loop-looked.invariant.so_far s stands) c.loop-looked.invariant.within (length-map c.loop-looked.sets.items _ ∙ sym c.loop-looked.invariant.len ∙ sym c.len.ensures ∙ c.if-len-eq-MOST_SHOWN.true)
 
 pub loop-looked-preserved-in-Continue-1 : goal.loop-looked-preserved-in-Continue-1
 loop-looked-preserved-in-Continue-1 g c = record {

@@ -1,9 +1,7 @@
-use Rattle.std.proofs.Common.{refl}
-use Rattle.std.proofs.lemmas.Result.{IfOk-weaker}
 use Rattle.desk_restoring.specs.Opened.{opening_of}
 use Rattle.store_calls.proofs.listing.list_rows.Goals as goal
 
 pub returns-in-Ok-clause-ends : goal.returns-in-Ok-clause-ends
 returns-in-Ok-clause-ends g c =
     let o = opening_of c.in-Ok.found.rows c.in-Ok.found.config in
-    record { opening = o; opened = c.in-Ok.ensures.opened; ends = c.write_text.ensures.ends _ o (IfOk-weaker c.rows_text-text.result _ _ (λ text h. h o refl) c.rows_text-text.ensures) }
+    record { opening = o; opened = c.in-Ok.ensures.opened; ends = c.write_text.ensures.ends _ o c.found_text-text.ensures }
