@@ -3,6 +3,9 @@
 usage: tools/tool_files.py PATH/smsc      it makes a folder of its own, and ends with 1 where something differs
 What stands in docs/manual/tool.md, "Files": a file has the bytes that standard input would have; a note begins with the name
 of its file; a comparison takes each part from a file, or its table from standard input; a file that isn't there is status 3."""
+import csv
+import io
+import json
 import os
 import subprocess
 import sys
@@ -75,6 +78,13 @@ with tempfile.TemporaryDirectory() as folder:
     check("compare OLD NEW", run(["compare", *parts[:2]], CASES)[:2], listing)
     check("compare --fail", run(["compare", "--fail", *parts])[0], 1)
     check("compare --changed", run(["compare", *parts, "--changed"])[1].count("SAME"), 0)
+    records = list(csv.reader(io.StringIO(run(["compare", *parts, "--format", "csv"])[1])))
+    check("compare --format csv", records[0], ["case", "differs", "old", "new"])
+    check("compare --format csv", [row[:2] for row in records[1:]], [["C1", "NO"], ["C2", "YES"]])
+    values = [json.loads(line) for line in run(["compare", *parts, "--format", "json"])[1].splitlines()]
+    check("compare --format json", [value["case"] for value in values], ["C1", "C2"])
+    check("compare --format json", [value["new"]["storclas"] for value in values], ["SC1", "SC2"])
+    check("coverage --fail-under", run(["coverage", "--fail-under", "100", "script.txt"])[0], 0)
     check("compare the same", run(["compare", "--fail", "deck.toml", "deck.toml", "cases.csv"])[0], 0)
     for words, front in (
         (["validate", "bad.toml"], "smsc: bad.toml: line 2, column 1: "),

@@ -6,3 +6,4 @@ mod ReadingLemmas
 mod LineLemmas
 mod SameLemmas
 mod ListingLemmas
+mod RecordTextLemmas

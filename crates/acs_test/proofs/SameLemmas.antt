@@ -3,7 +3,7 @@ use Rattle.std.proofs.Common.{◌≡◌, Bool, true, false, Decides, ap, ap₂}
 use Rattle.acs_tree.specs.Slates.{SlateLines}
 use Rattle.desk_law.specs.Classification.{Classes}
 use Rattle.sms_classes.specs.declared.classified.Classified.{Classified}
-use Rattle.acs_test.specs.Listing.{classes_made}
+use Rattle.sms_outcomes.specs.Outcomes.{classes_made}
 
 -- where values and end are equal, the lines decide
 pub lines_decide : (one other : Classified) (written others : SlateLines) (result : Bool) → one ≡ other → Decides result (written ≡ others) → Decides result (classes_made one written ≡ classes_made other others)

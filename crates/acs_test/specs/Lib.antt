@@ -4,5 +4,6 @@ pub mod AllocLine
 pub mod Table
 pub mod Records
 pub mod Reading
+pub mod CaseRecords
 pub mod Listing
 pub mod Inner

@@ -2,10 +2,15 @@
 #![tactic(auto)]
 
 mod case;
+mod case_csv;
+mod case_json;
+mod case_lines;
+mod case_text;
 mod cases;
 mod cases_err;
 mod columns;
 mod fields;
+mod form;
 mod layout;
 mod line;
 mod listing;
@@ -18,6 +23,7 @@ mod table_cases;
 pub use case::Case;
 pub use cases::Cases;
 pub use cases_err::{CasesErr, Side};
+pub use form::CaseForm;
 pub use layout::InputParts;
 pub use listing::{Listing, compare, list_cases};
 pub use reading::{read_cases, read_parts};

@@ -1,6 +1,7 @@
 //! What a case comes to.
 ghost use Rattle.std.specs.Prelude.{◌≡◌, ◌↔◌, ◌++◌, IsTrue, OnOk};
-ghost use Rattle.acs_test.specs.Listing.{classes_for, classes_made, outcome_line, outcome_lines, written_text};
+ghost use Rattle.acs_test.specs.Listing.{classes_for, outcome_line, outcome_lines, written_text};
+ghost use Rattle.sms_outcomes.specs.Outcomes.{classes_made};
 
 use crate::case::Case;
 use acs_tree::{Kind, Line, Slate, Values};

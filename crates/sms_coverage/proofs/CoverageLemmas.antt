@@ -5,7 +5,7 @@ use Rattle.std.proofs.lemmas.List.{map-append, take_more}
 use Rattle.std.specs.Prelude.{Option, None, Some, flat_map, if◌then◌else◌}
 use Rattle.std.proofs.lemmas.Grind.{flat_map-append}
 use std.Path.{fun_ext}
-use Rattle.acs_coverage.specs.Counts.{AreCounts, tally_at, tally_of}
+use Rattle.acs_coverage.specs.Counts.{AreCounts, tally_at}
 use Rattle.acs_coverage.specs.declared.tally.Tally.{Tally}
 use Rattle.acs_trace.specs.declared.event.Event.{Event}
 use Rattle.acs_tree.specs.Slates.{same_kind}

@@ -10,7 +10,6 @@ use Rattle.acs_tree.specs.Variables.{name_of}
 use Rattle.acs_tree.specs.declared.kind.Kind.{Kind}
 use Rattle.acs_tree.specs.declared.kind.Kind.TheVariants.{DataClas, StorClas, MgmtClas, StorGrp}
 use Rattle.sms_construct.specs.Configuration.{Configuration, routine_of}
-use Rattle.sms_construct.specs.declared.fault.Fault.{Fault}
 use Rattle.deck_meaning.specs.Reading.{Configures, HasFirstFault}
 use Rattle.sms_explain.specs.DeckTexts.{AreSources, source_in}
 use Rattle.sms_explain.specs.declared.deck_sources.DeckSources.{DeckSources}

@@ -1,6 +1,6 @@
 -- What an explanation comes to, from its parts.
 use Rattle.std.proofs.Common.{◌≡◌, ◌++◌, ℕ, List, [], ◌∷◌, codes, decimal, refl, ap, ◌∙◌, inr, append_assoc}
-use Rattle.std.specs.Prelude.{Option, None, Some, flat_map}
+use Rattle.std.specs.Prelude.{Option, None, Some, filter, flat_map}
 use Rattle.acs_tree.specs.declared.values.Values.{Values}
 use Rattle.desk_law.specs.Classification.{Classes, classes_of, trace_of}
 use Rattle.sms_construct.specs.Configuration.{Configuration}
@@ -18,19 +18,20 @@ use Rattle.sms_simulation.specs.declared.simulated.Simulated.TheVariants as simu
 use Rattle.sms_story.specs.Runs.{runs_of}
 use Rattle.sms_story.specs.declared.run.Run.{Run}
 use Rattle.sms_explain.specs.Explanation.{IsExplainedUnder, IsExplanation, end_text, head_text, told_text}
+use Rattle.sms_explain.specs.Picking.{is_picked}
 use Rattle.sms_explain.specs.RunText.{run_text}
 use Rattle.sms_explain.specs.declared.deck_sources.DeckSources.{DeckSources}
 
 asked : (first : Item) (others : List Item) (deck : List ℕ) → deck_of first.request.op ≡ Some deck → first_other others ≡ None → AreAsked (first ∷ others) deck others
 asked first others deck activates allocates = record { first = first; items_are = refl; activates = activates; allocates = allocates }
 
-pub explained_under : (first : Item) (others : List Item) (deck : List ℕ) (made : Simulated) → deck_of first.request.op ≡ Some deck → first_other others ≡ None
-    → IsExplainedUnder deck others made → IsExplanation (first ∷ others) made
-explained_under first others deck (simulations.Shown text) activates allocates tells =
+pub explained_under : (job : Option (List ℕ)) (number : Option ℕ) (first : Item) (others : List Item) (deck : List ℕ) (made : Simulated) → deck_of first.request.op ≡ Some deck → first_other others ≡ None
+    → IsExplainedUnder deck (filter (is_picked job number) others) made → IsExplanation job number (first ∷ others) made
+explained_under job number first others deck (simulations.Shown text) activates allocates tells =
     inr (record { deck = deck; others = others; asked = asked first others deck activates allocates; tells = tells })
-explained_under first others deck (simulations.Refused fault) activates allocates found =
+explained_under job number first others deck (simulations.Refused fault) activates allocates found =
     record { deck = deck; others = others; asked = asked first others deck activates allocates; found = found }
-explained_under first others deck (simulations.Misplaced line) activates allocates never = absurd never
+explained_under job number first others deck (simulations.Misplaced line) activates allocates never = absurd never
 
 pub misplaced_behind : (first : Item) (others : List Item) (deck : List ℕ) (line : ℕ) → deck_of first.request.op ≡ Some deck → first_other others ≡ Some line → first_misplaced (first ∷ others) ≡ Some line
 misplaced_behind first others deck line activates other = ap (λ (d : Option (List ℕ)). misplaced_from d first others) activates ∙ other

@@ -1,11 +1,11 @@
 -- The explanation of a script: what the routines of its deck do with each of its allocations (docs/manual/tool.md,
 -- "Explaining a script").
-use Rattle.std.specs.Prelude.{◌≡◌, ◌⊎◌, ◌++◌, ℕ, List, [], ◌∷◌, Option, None, Some, codes, decimal, flat_map}
+use Rattle.std.specs.Prelude.{◌≡◌, ◌⊎◌, ◌++◌, ℕ, List, [], Option, None, Some, codes, decimal, filter}
+use Rattle.std.specs.Prelude.{flat_map}
 use Rattle.desk_law.specs.Classification.{classes_of}
 use Rattle.acs_tree.specs.declared.values.Values.{Values}
 use Rattle.sms_construct.specs.Configuration.{Configuration}
 use Rattle.sms_construct.specs.declared.alloc.Alloc.{Alloc}
-use Rattle.sms_construct.specs.declared.fault.Fault.{Fault}
 use Rattle.sms_construct.specs.declared.stop.Stop.{Stop}
 use Rattle.deck_meaning.specs.Reading.{Configures, HasFirstFault}
 use Rattle.sms_script.specs.declared.item.Item.{Item}
@@ -15,6 +15,7 @@ use Rattle.sms_simulation.specs.declared.simulated.Simulated.{Simulated}
 use Rattle.sms_simulation.specs.declared.simulated.Simulated.TheVariants as simulations
 use Rattle.sms_story.specs.Runs.{runs_of}
 use Rattle.sms_explain.specs.DeckTexts.{AreSources}
+use Rattle.sms_explain.specs.Picking.{is_picked}
 use Rattle.sms_explain.specs.RunText.{run_text}
 use Rattle.sms_explain.specs.declared.deck_sources.DeckSources.{DeckSources}
 
@@ -54,18 +55,19 @@ pub record TellsUnder (deck : List ℕ) (others : List Item) (text : List ℕ) :
   pub texts : AreSources deck sources
   pub text_is : text ≡ flat_map (told_of config sources) others
 
--- the text is that of a deck and of the ALLOCs behind it
-pub record Tells (items : List Item) (text : List ℕ) : Type 0 where
+-- the text is that of a deck and of those ALLOCs behind it that are of this job and have this number, where one is asked
+-- for
+pub record Tells (job : Option (List ℕ)) (number : Option ℕ) (items : List Item) (text : List ℕ) : Type 0 where
   pub deck : List ℕ
   pub others : List Item
   pub asked : AreAsked items deck others
-  pub tells : TellsUnder deck others text
+  pub tells : TellsUnder deck (filter (is_picked job number) others) text
 
 -- what the explanation of these items comes to
-abbrev pub IsExplanation : List Item → Simulated → Type 0
-IsExplanation items (simulations.Shown text) = ShowsNothing items text ⊎ Tells items text
-IsExplanation items (simulations.Refused fault) = RefusesDeck items fault
-IsExplanation items (simulations.Misplaced line) = first_misplaced items ≡ Some line
+abbrev pub IsExplanation : Option (List ℕ) → Option ℕ → List Item → Simulated → Type 0
+IsExplanation job number items (simulations.Shown text) = ShowsNothing items text ⊎ Tells job number items text
+IsExplanation job number items (simulations.Refused fault) = RefusesDeck items fault
+IsExplanation job number items (simulations.Misplaced line) = first_misplaced items ≡ Some line
 
 -- what it comes to where this deck is activated and these are the ALLOCs behind it
 abbrev pub IsExplainedUnder : List ℕ → List Item → Simulated → Type 0

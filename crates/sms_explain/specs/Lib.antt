@@ -1,3 +1,4 @@
 pub mod DeckTexts
 pub mod RunText
+pub mod Picking
 pub mod Explanation

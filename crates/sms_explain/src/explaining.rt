@@ -1,15 +1,18 @@
 //! The explanation of a script.
-ghost use Rattle.std.specs.Prelude.{◌≡◌, ◌++◌, ◌∷◌, flat_map, map, IfOk, OnOk};
+ghost use Rattle.std.specs.Prelude.{◌≡◌, ◌++◌, ◌∷◌, filter, flat_map, map, IfOk, OnOk};
 ghost use Rattle.sms_script.specs.Script.{items_of};
 ghost use Rattle.deck_meaning.specs.Reading.{Configures};
 ghost use Rattle.sms_explain.specs.Explanation.{IsExplainedUnder, IsExplanation, end_text, front_text};
 ghost use Rattle.sms_explain.specs.Explanation.{head_text, told_of, told_text};
+ghost use Rattle.sms_explain.specs.Picking.{is_picked};
 
 use crate::deck_sources::{DeckSources, sources_of};
+use crate::picking::picked_items;
 use crate::run_text::push_runs;
 use acs_tree::Slate;
 use deck_meaning::{Config, DeckErr};
 use desk_common::Items;
+use dsn_mask::Name;
 use sms_classes::Classified;
 use sms_construct::{Alloc, DeckText, Op};
 use sms_deck::read_deck;
@@ -18,28 +21,45 @@ use sms_simulation::{Simulated, all_items, first_other, push_outcome, push_writt
 use sms_story::tell;
 use std::alloc::{AllocError, Global};
 
-/// What the routines of the deck that the script's first item activates do with each of the allocations behind it
-/// (docs/manual/tool.md, "Explaining a script"). Nothing is allocated.
-pub fn explain(alloc: Global, script: &Script) -> Result<Simulated, AllocError>
-    ensures { IfOk result (IsExplanation (items_of script.now)) }
+/// What the routines of the deck that the script's first item activates do with each of the allocations behind it that
+/// are of this job and have this number, where one is asked for (docs/manual/tool.md, "Explaining a script"). Nothing is
+/// allocated.
+pub fn explain(
+    alloc: Global,
+    script: &Script,
+    job: &Option<Name>,
+    number: Option<u32>,
+) -> Result<Simulated, AllocError>
+    ensures { IfOk result (IsExplanation job.now number (items_of script.now)) }
 {
     let items = all_items(alloc, script.as_slice())?;
-    explain_items(alloc, &items)
+    explain_items(alloc, &items, job, number)
 }
 
-fn explain_items(alloc: Global, items: &[&Item]) -> Result<Simulated, AllocError>
-    ensures { IfOk result (IsExplanation (map (λ item. item.now) items.now)) }
+fn explain_items(
+    alloc: Global,
+    items: &[&Item],
+    job: &Option<Name>,
+    number: Option<u32>,
+) -> Result<Simulated, AllocError>
+    ensures { IfOk result (IsExplanation job.now number (map (λ item. item.now) items.now)) }
 {
     match items {
         [] => Ok(Simulated::Shown(Items::new(alloc))),
-        [first, others @ ..] => explain_from(alloc, first, others),
+        [first, others @ ..] => explain_from(alloc, first, others, job, number),
     }
 }
 
 // The explanation of an item and those behind it.
 #[tactic(auto, using(crate::proofs::ExplanationLemmas::explained_under, crate::proofs::ExplanationLemmas::misplaced_behind))]
-fn explain_from(alloc: Global, first: &Item, others: &[&Item]) -> Result<Simulated, AllocError>
-    ensures { IfOk result (IsExplanation (first.now ∷ map (λ item. item.now) others.now)) }
+fn explain_from(
+    alloc: Global,
+    first: &Item,
+    others: &[&Item],
+    job: &Option<Name>,
+    number: Option<u32>,
+) -> Result<Simulated, AllocError>
+    ensures { IfOk result (IsExplanation job.now number (first.now ∷ map (λ item. item.now) others.now)) }
 {
     let Op::Activate(deck) = &first.request.op else {
         return Ok(Simulated::Misplaced(first.line));
@@ -47,7 +67,22 @@ fn explain_from(alloc: Global, first: &Item, others: &[&Item]) -> Result<Simulat
     if let Some(line) = first_other(others) {
         return Ok(Simulated::Misplaced(line));
     }
-    explain_under(alloc, deck, others)
+    explain_picked(alloc, deck, others, job, number)
+}
+
+// The explanation of an item that activates this deck, and of those ALLOCs behind it that are asked for.
+fn explain_picked(
+    alloc: Global,
+    deck: &DeckText,
+    others: &[&Item],
+    job: &Option<Name>,
+    number: Option<u32>,
+) -> Result<Simulated, AllocError>
+    ensures { IfOk result (IsExplainedUnder deck.now
+        (filter (is_picked job.now number) (map (λ item. item.now) others.now))) }
+{
+    let picked = picked_items(alloc, others, job, number)?;
+    explain_under(alloc, deck, &picked)
 }
 
 // The explanation of an item that activates this deck and of ALLOCs behind it.

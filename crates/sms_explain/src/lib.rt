@@ -3,6 +3,7 @@
 
 mod deck_sources;
 mod explaining;
+mod picking;
 mod run_text;
 
 pub use deck_sources::{DeckSources, sources_of};

@@ -19,7 +19,7 @@ use Rattle.sms_script.specs.Script.{IsRefusal, items_of, script_of}
 use Rattle.sms_script.specs.declared.item.Item.{Item}
 use Rattle.sms_script.specs.declared.script_err.ScriptErr.{ScriptErr}
 use Rattle.sms_script.specs.declared.script_err.ScriptErr.TheVariants as scripts
-use Rattle.sms_simulation.specs.Simulation.{IsSimulation}
+use Rattle.sms_simulation.specs.Simulation.{first_misplaced}
 use Rattle.sms_simulation.specs.declared.simulated.Simulated.{Simulated}
 use Rattle.sms_simulation.specs.declared.simulated.Simulated.TheVariants as simulations
 use Rattle.sms_coverage.specs.Coverage.{IsCoverage}
@@ -37,13 +37,16 @@ use Rattle.tool_calls.specs.CasesText.{IsComparison, TellsListing, TellsCases, c
 use Rattle.tool_calls.specs.PartsEnds.{EndsTold, SinkSeen, WasCutOff}
 use Rattle.tool_calls.specs.declared.no_answer.NoAnswer.{NoAnswer}
 use Rattle.tool_calls.specs.declared.no_answer.NoAnswer.TheVariants as hindrances
-use Rattle.tool_calls.specs.ToolText.{translated_text, valid_text, refused_text, IsAnswer, translated, faulty, valid}
-use Rattle.tool_calls.specs.ToolText.{refused, simulated, unsimulated, compared, explained, unexplained, covered, uncovered, linted, unlinted, lint_status, unread, misplaced, Hinders, HindersScript}
+use Rattle.tool_calls.specs.ToolText.{translated_text, valid_text, refused_text, IsAnswer, IsSimulationIn, translated, faulty, valid}
+use Rattle.tool_calls.specs.ToolText.{refused, simulated, unsimulated, compared, explained, unexplained, covered, uncovered, linted, unlinted, lint_status, lint_text, unread, misplaced, Hinders, HindersScript}
 use Rattle.tool_calls.specs.ToolText.{hindrance_of, coverage_status, TellsCoverage, HindersCoverage, TellsFault, TellsSimulation, HindersSimulation}
 use Rattle.tool_calls.specs.ToolEnds.{Ends, HasAnswer, leaves_sink}
 use Rattle.tool_calls.specs.declared.status.ToolStatus.{ToolStatus}
 use Rattle.tool_calls.specs.declared.status.ToolStatus.TheVariants.{Done, FaultFound, BadWords}
 use Rattle.tool_words.specs.declared.comparison.Comparison.{Comparison}
+use Rattle.tool_words.specs.declared.format.Format.{Format}
+use Rattle.tool_words.specs.declared.format.Format.TheVariants as formats
+use Rattle.tool_words.specs.declared.pick.Pick.{Pick}
 use Rattle.tool_words.specs.declared.task.Task.{Task}
 use Rattle.tool_words.specs.declared.task.Task.TheVariants.{Translate, Validate, Simulate, Compare, Explain, Coverage}
 use Rattle.tool_words.specs.declared.task.Task.TheVariants.{Lint as LintDeck}
@@ -63,46 +66,52 @@ deck_refused {bytes} {text} {status} {fault} f e = subst (λ x. IsAnswer bytes V
 
 -- what is found in a deck, or its fault, is the answer to it
 
-pub linted_told : {bytes text : List ℕ} {fail : Bool} {status : ToolStatus} {lint : Lint} → IsLintOf bytes lint → status ≡ lint_status fail (length lint.findings) → text ≡ lint.text → IsAnswer bytes (LintDeck fail) status text
-linted_told {bytes} {text} {fail} {status} {lint} is e t = subst (λ x. IsAnswer bytes (LintDeck fail) status x) (sym t) (linted fail status lint is e)
+pub linted_told : {bytes text : List ℕ} {fail : Bool} {format : Format} {status : ToolStatus} {lint : Lint} → IsLintOf bytes lint → status ≡ lint_status fail (length lint.findings) → text ≡ lint_text format lint → IsAnswer bytes (LintDeck fail format) status text
+linted_told {bytes} {text} {fail} {format} {status} {lint} is e t = subst (λ x. IsAnswer bytes (LintDeck fail format) status x) (sym t) (linted fail format status lint is e)
 
-pub unlinted_told : {bytes text : List ℕ} {fail : Bool} {status : ToolStatus} {fault : DeckFault} → HasFirstFault bytes fault → (status ≡ FaultFound) × (text ≡ refused_text fault) → IsAnswer bytes (LintDeck fail) status text
-unlinted_told {bytes} {text} {fail} {status} {fault} f e =
-    subst (λ x. IsAnswer bytes (LintDeck fail) x text) (sym e.0) (subst (λ x. IsAnswer bytes (LintDeck fail) FaultFound x) (sym e.1) (unlinted fail fault f))
+pub unlinted_told : {bytes text : List ℕ} {fail : Bool} {format : Format} {status : ToolStatus} {fault : DeckFault} → HasFirstFault bytes fault → (status ≡ FaultFound) × (text ≡ refused_text fault) → IsAnswer bytes (LintDeck fail format) status text
+unlinted_told {bytes} {text} {fail} {format} {status} {fault} f e =
+    subst (λ x. IsAnswer bytes (LintDeck fail format) x text) (sym e.0) (subst (λ x. IsAnswer bytes (LintDeck fail format) FaultFound x) (sym e.1) (unlinted fail format fault f))
 
--- what a simulation comes to is the answer to its script
-pub simulation_told : {bytes text : List ℕ} {status : ToolStatus} (phases : List (List Item)) (made : Simulated) → script_of bytes ≡ Ok phases → IsSimulation (items_of phases) made → TellsSimulation made status text → IsAnswer bytes Simulate status text
-simulation_told {bytes} {text} {status} phases (simulations.Shown shown) script is e =
-    subst (λ x. IsAnswer bytes Simulate x text) (sym e.0) (subst (λ x. IsAnswer bytes Simulate Done x) (sym e.1) (simulated phases shown script is))
-simulation_told {bytes} {text} {status} phases (simulations.Refused fault) script is e =
-    subst (λ x. IsAnswer bytes Simulate x text) (sym e.0) (subst (λ x. IsAnswer bytes Simulate FaultFound x) (sym e.1) (unsimulated phases fault script is))
-simulation_told phases (simulations.Misplaced line) script is e = absurd e
+-- what a simulation comes to is the answer to its script; a misplaced item is one of the script in each form
+
+misplaced_in : (format : Format) (items : List Item) (line : ℕ) → IsSimulationIn format items (simulations.Misplaced line) → first_misplaced items ≡ Some line
+misplaced_in formats.Text items line is = is
+misplaced_in formats.Csv items line is = is
+misplaced_in formats.Json items line is = is
+
+pub simulation_told : {bytes text : List ℕ} {status : ToolStatus} (format : Format) (phases : List (List Item)) (made : Simulated) → script_of bytes ≡ Ok phases → IsSimulationIn format (items_of phases) made → TellsSimulation made status text → IsAnswer bytes (Simulate format) status text
+simulation_told {bytes} {text} {status} format phases (simulations.Shown shown) script is e =
+    subst (λ x. IsAnswer bytes (Simulate format) x text) (sym e.0) (subst (λ x. IsAnswer bytes (Simulate format) Done x) (sym e.1) (simulated format phases shown script is))
+simulation_told {bytes} {text} {status} format phases (simulations.Refused fault) script is e =
+    subst (λ x. IsAnswer bytes (Simulate format) x text) (sym e.0) (subst (λ x. IsAnswer bytes (Simulate format) FaultFound x) (sym e.1) (unsimulated format phases fault script is))
+simulation_told format phases (simulations.Misplaced line) script is e = absurd e
 
 no_memory : (bytes : List ℕ) (task : Task) (why : NoAnswer) → why ≡ hindrances.NoMemory → Hinders bytes task why
 no_memory bytes task why e = subst (λ x. Hinders bytes task x) (sym e) tt
 
-pub simulation_hindered : (bytes : List ℕ) (phases : List (List Item)) (made : Simulated) (why : NoAnswer) → script_of bytes ≡ Ok phases → IsSimulation (items_of phases) made → HindersSimulation made why → Hinders bytes Simulate why
-simulation_hindered bytes phases (simulations.Shown shown) why script is e = no_memory bytes Simulate why e
-simulation_hindered bytes phases (simulations.Refused fault) why script is e = no_memory bytes Simulate why e
-simulation_hindered bytes phases (simulations.Misplaced line) why script is e = elim e [
-  | inl other ↦ subst (λ x. Hinders bytes Simulate x) (sym other) (misplaced phases line script is)
-  | inr memory ↦ no_memory bytes Simulate why memory
+pub simulation_hindered : (bytes : List ℕ) (format : Format) (phases : List (List Item)) (made : Simulated) (why : NoAnswer) → script_of bytes ≡ Ok phases → IsSimulationIn format (items_of phases) made → HindersSimulation made why → Hinders bytes (Simulate format) why
+simulation_hindered bytes format phases (simulations.Shown shown) why script is e = no_memory bytes (Simulate format) why e
+simulation_hindered bytes format phases (simulations.Refused fault) why script is e = no_memory bytes (Simulate format) why e
+simulation_hindered bytes format phases (simulations.Misplaced line) why script is e = elim e [
+  | inl other ↦ subst (λ x. Hinders bytes (Simulate format) x) (sym other) (misplaced phases line script (misplaced_in format (items_of phases) line is))
+  | inr memory ↦ no_memory bytes (Simulate format) why memory
 ]
 
 -- what an explanation comes to is the answer to its script
-pub explanation_told : {bytes text : List ℕ} {status : ToolStatus} (phases : List (List Item)) (made : Simulated) → script_of bytes ≡ Ok phases → IsExplanation (items_of phases) made → TellsSimulation made status text → IsAnswer bytes Explain status text
-explanation_told {bytes} {text} {status} phases (simulations.Shown shown) script is e =
-    subst (λ x. IsAnswer bytes Explain x text) (sym e.0) (subst (λ x. IsAnswer bytes Explain Done x) (sym e.1) (explained phases shown script is))
-explanation_told {bytes} {text} {status} phases (simulations.Refused fault) script is e =
-    subst (λ x. IsAnswer bytes Explain x text) (sym e.0) (subst (λ x. IsAnswer bytes Explain FaultFound x) (sym e.1) (unexplained phases fault script is))
-explanation_told phases (simulations.Misplaced line) script is e = absurd e
+pub explanation_told : {bytes text : List ℕ} {status : ToolStatus} (pick : Pick) (phases : List (List Item)) (made : Simulated) → script_of bytes ≡ Ok phases → IsExplanation pick.job pick.number (items_of phases) made → TellsSimulation made status text → IsAnswer bytes (Explain pick) status text
+explanation_told {bytes} {text} {status} pick phases (simulations.Shown shown) script is e =
+    subst (λ x. IsAnswer bytes (Explain pick) x text) (sym e.0) (subst (λ x. IsAnswer bytes (Explain pick) Done x) (sym e.1) (explained pick phases shown script is))
+explanation_told {bytes} {text} {status} pick phases (simulations.Refused fault) script is e =
+    subst (λ x. IsAnswer bytes (Explain pick) x text) (sym e.0) (subst (λ x. IsAnswer bytes (Explain pick) FaultFound x) (sym e.1) (unexplained pick phases fault script is))
+explanation_told pick phases (simulations.Misplaced line) script is e = absurd e
 
-pub explanation_hindered : (bytes : List ℕ) (phases : List (List Item)) (made : Simulated) (why : NoAnswer) → script_of bytes ≡ Ok phases → IsExplanation (items_of phases) made → HindersSimulation made why → Hinders bytes Explain why
-explanation_hindered bytes phases (simulations.Shown shown) why script is e = no_memory bytes Explain why e
-explanation_hindered bytes phases (simulations.Refused fault) why script is e = no_memory bytes Explain why e
-explanation_hindered bytes phases (simulations.Misplaced line) why script is e = elim e [
-  | inl other ↦ subst (λ x. Hinders bytes Explain x) (sym other) (misplaced phases line script is)
-  | inr memory ↦ no_memory bytes Explain why memory
+pub explanation_hindered : (bytes : List ℕ) (pick : Pick) (phases : List (List Item)) (made : Simulated) (why : NoAnswer) → script_of bytes ≡ Ok phases → IsExplanation pick.job pick.number (items_of phases) made → HindersSimulation made why → Hinders bytes (Explain pick) why
+explanation_hindered bytes pick phases (simulations.Shown shown) why script is e = no_memory bytes (Explain pick) why e
+explanation_hindered bytes pick phases (simulations.Refused fault) why script is e = no_memory bytes (Explain pick) why e
+explanation_hindered bytes pick phases (simulations.Misplaced line) why script is e = elim e [
+  | inl other ↦ subst (λ x. Hinders bytes (Explain pick) x) (sym other) (misplaced phases line script is)
+  | inr memory ↦ no_memory bytes (Explain pick) why memory
 ]
 
 -- what a coverage comes to is the answer to its script
@@ -122,13 +131,13 @@ coverage_hindered bytes least phases (coverages.Misplaced line) why script is e 
 ]
 
 -- what hinders the reading of a script hinders its simulation, its explanation and its coverage
-pub unread_simulation : (bytes : List ℕ) (why : NoAnswer) → HindersScript bytes why → Hinders bytes Simulate why
-unread_simulation bytes (hindrances.Script err) is = is
-unread_simulation bytes hindrances.NoMemory is = tt
+pub unread_simulation : (bytes : List ℕ) (format : Format) (why : NoAnswer) → HindersScript bytes why → Hinders bytes (Simulate format) why
+unread_simulation bytes format (hindrances.Script err) is = is
+unread_simulation bytes format hindrances.NoMemory is = tt
 
-pub unread_explanation : (bytes : List ℕ) (why : NoAnswer) → HindersScript bytes why → Hinders bytes Explain why
-unread_explanation bytes (hindrances.Script err) is = is
-unread_explanation bytes hindrances.NoMemory is = tt
+pub unread_explanation : (bytes : List ℕ) (pick : Pick) (why : NoAnswer) → HindersScript bytes why → Hinders bytes (Explain pick) why
+unread_explanation bytes pick (hindrances.Script err) is = is
+unread_explanation bytes pick hindrances.NoMemory is = tt
 
 pub unread_coverage : (bytes : List ℕ) (least : ℕ) (why : NoAnswer) → HindersScript bytes why → Hinders bytes (Coverage least) why
 unread_coverage bytes least (hindrances.Script err) is = is
@@ -206,15 +215,15 @@ answer_ends (translated kind tree count d) = inl refl
 answer_ends (faulty kind fault d) = inr refl
 answer_ends (valid config d) = inl refl
 answer_ends (refused fault d) = inr refl
-answer_ends (simulated phases text script is) = inl refl
-answer_ends (unsimulated phases fault script is) = inr refl
+answer_ends (simulated format phases text script is) = inl refl
+answer_ends (unsimulated format phases fault script is) = inr refl
 answer_ends (compared comparison status text is) = comparison_ends is
-answer_ends (explained phases text script is) = inl refl
-answer_ends (unexplained phases fault script is) = inr refl
+answer_ends (explained pick phases text script is) = inl refl
+answer_ends (unexplained pick phases fault script is) = inr refl
 answer_ends (covered least phases status coverage script is e) = coverage_ends coverage.short status e
 answer_ends (uncovered least phases fault script is) = inr refl
-answer_ends (linted fail status lint is e) = lint_ends fail (length lint.findings) status e
-answer_ends (unlinted fail fault is) = inr refl
+answer_ends (linted fail format status lint is e) = lint_ends fail (length lint.findings) status e
+answer_ends (unlinted fail format fault is) = inr refl
 
 pub answered : {bytes text : List ℕ} {task : Task} {status : ToolStatus} (old new : Observed) → IsAnswer bytes task status text → WasRead (most_bytes task) old new bytes → Appends old.taken new.taken text → new.write_faults ≡ old.write_faults → Ends task old new status
 answered {bytes} {text} {task} {status} old new a r w f = elim (answer_ends a) [

@@ -5,11 +5,15 @@ use Rattle.acs_test.specs.Listing.{IsListingOf}
 use Rattle.acs_test.specs.declared.cases.Cases.{Cases}
 use Rattle.acs_test.specs.declared.cases_err.CasesErr.{CasesErr}
 use Rattle.acs_test.specs.declared.cases_err.CasesErr.TheVariants as errs
+use Rattle.acs_test.specs.declared.form.CaseForm.{CaseForm}
+use Rattle.acs_test.specs.declared.form.CaseForm.TheVariants as forms
 use Rattle.acs_test.specs.declared.cases_err.Side.{Side}
 use Rattle.acs_test.specs.declared.cases_err.Side.TheVariants.{Old, New}
 use Rattle.tool_calls.specs.declared.status.ToolStatus.{ToolStatus}
 use Rattle.tool_calls.specs.declared.status.ToolStatus.TheVariants.{Done, FaultFound}
 use Rattle.tool_words.specs.declared.comparison.Comparison.{Comparison}
+use Rattle.tool_words.specs.declared.format.Format.{Format}
+use Rattle.tool_words.specs.declared.format.Format.TheVariants as formats
 
 -- a code, and a number behind it
 abbrev pub numbered : List ℕ → ℕ → List ℕ
@@ -48,11 +52,18 @@ is_failed comparison differing = comparison.fail && nat_lt 0 differing
 abbrev pub compared_status : Comparison → ℕ → ToolStatus
 compared_status comparison differing = if is_failed comparison differing then FaultFound else Done
 
+-- the form of the listing
+abbrev pub form_of : Format → CaseForm
+form_of formats.Text = forms.Lines
+form_of formats.Csv = forms.Csv
+form_of formats.Json = forms.Json
+
 -- the listing of these cases, and its status
 pub record TellsListing (cases : Cases) (comparison : Comparison) (status : ToolStatus) (text : List ℕ) : Type 0 where
   pub differing : ℕ
   pub status_is : status ≡ compared_status comparison differing
-  pub listing : IsListingOf cases.before cases.after comparison.changed cases.list differing text
+  pub listing :
+      IsListingOf cases.before cases.after (form_of comparison.format) comparison.changed cases.list differing text
 
 -- what a comparison of what reads so comes to: the listing of the cases, or the line of the refusal
 pub data IsComparison (reads : Cases → Type 0) (refuses : CasesErr → Type 0) (comparison : Comparison)

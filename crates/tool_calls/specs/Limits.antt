@@ -9,8 +9,8 @@ use Rattle.tool_words.specs.declared.task.Task.TheVariants.{Translate, Validate,
 abbrev pub most_bytes : Task → ℕ
 most_bytes (Translate kind) = most_routine_bytes
 most_bytes Validate = most_input_bytes
-most_bytes Simulate = most_input_bytes
+most_bytes (Simulate format) = most_input_bytes
 most_bytes (Compare comparison) = most_input_bytes
-most_bytes Explain = most_input_bytes
+most_bytes (Explain pick) = most_input_bytes
 most_bytes (Coverage least) = most_input_bytes
-most_bytes (Lint fail) = most_input_bytes
+most_bytes (Lint fail format) = most_input_bytes

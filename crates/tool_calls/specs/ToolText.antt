@@ -28,6 +28,9 @@ use Rattle.sms_coverage.specs.declared.coverage.Covered.TheVariants as coverages
 use Rattle.sms_explain.specs.Explanation.{IsExplanation}
 use Rattle.acs_test.specs.Reading.{IsReading, IsRefusal}
 use Rattle.sms_lint.specs.Linting.{IsLintOf}
+use Rattle.lint_records.specs.FindingRecords.{records_text}
+use Rattle.sms_outcomes.specs.SimulatedRecords.{IsRecorded}
+use Rattle.sms_outcomes.specs.declared.form.RecordForm.TheVariants as forms
 use Rattle.sms_lint.specs.declared.linted.Lint.{Lint}
 use Rattle.tool_calls.specs.CasesText.{IsComparison}
 use Rattle.tool_calls.specs.declared.no_answer.NoAnswer.{NoAnswer}
@@ -35,6 +38,9 @@ use Rattle.tool_calls.specs.declared.no_answer.NoAnswer.TheVariants as hindrance
 use Rattle.tool_calls.specs.declared.status.ToolStatus.{ToolStatus}
 use Rattle.tool_calls.specs.declared.status.ToolStatus.TheVariants.{Done, FaultFound}
 use Rattle.tool_words.specs.declared.comparison.Comparison.{Comparison}
+use Rattle.tool_words.specs.declared.format.Format.{Format}
+use Rattle.tool_words.specs.declared.format.Format.TheVariants as formats
+use Rattle.tool_words.specs.declared.pick.Pick.{Pick}
 use Rattle.tool_words.specs.declared.task.Task.{Task}
 use Rattle.tool_words.specs.declared.task.Task.TheVariants.{Translate, Validate, Simulate, Compare, Explain, Coverage}
 use Rattle.tool_words.specs.declared.task.Task.TheVariants.{Lint as LintDeck}
@@ -67,9 +73,21 @@ refused_text fault = codes "FAULT " ++ (deck_fault_text fault ++ codes "\n")
 abbrev pub lint_status : Bool → ℕ → ToolStatus
 lint_status fail findings = if fail && nat_lt 0 findings then FaultFound else Done
 
+-- what is found in a deck, in a form
+abbrev pub lint_text : Format → Lint → List ℕ
+lint_text formats.Text lint = lint.text
+lint_text formats.Csv lint = records_text forms.Csv lint.sources lint.findings
+lint_text formats.Json lint = records_text forms.Json lint.sources lint.findings
+
 -- the status of a coverage, which may be less than was asked for
 abbrev pub coverage_status : Bool → ToolStatus
 coverage_status short = if short then FaultFound else Done
+
+-- what the simulation of these items comes to in a form
+abbrev pub IsSimulationIn : Format → List Item → Simulated → Type 0
+IsSimulationIn formats.Text items made = IsSimulation items made
+IsSimulationIn formats.Csv items made = IsRecorded forms.Csv items made
+IsSimulationIn formats.Json items made = IsRecorded forms.Json items made
 
 -- the answer to an input: its status and what is printed
 pub data IsAnswer (bytes : List ℕ) : Task → ToolStatus → List ℕ → Type 0 where
@@ -80,29 +98,31 @@ pub data IsAnswer (bytes : List ℕ) : Task → ToolStatus → List ℕ → Type
   valid : (config : Configuration) → Configures bytes config →
       IsAnswer bytes Validate Done (valid_text (length config.groups) (length config.volumes))
   refused : (fault : DeckFault) → HasFirstFault bytes fault → IsAnswer bytes Validate FaultFound (refused_text fault)
-  simulated : (phases : List (List Item)) (text : List ℕ) → script_of bytes ≡ Ok phases →
-      IsSimulation (items_of phases) (simulations.Shown text) → IsAnswer bytes Simulate Done text
-  unsimulated : (phases : List (List Item)) (fault : DeckFault) → script_of bytes ≡ Ok phases →
-      IsSimulation (items_of phases) (simulations.Refused fault) →
-      IsAnswer bytes Simulate FaultFound (refused_text fault)
+  simulated : (format : Format) (phases : List (List Item)) (text : List ℕ) → script_of bytes ≡ Ok phases →
+      IsSimulationIn format (items_of phases) (simulations.Shown text) → IsAnswer bytes (Simulate format) Done text
+  unsimulated : (format : Format) (phases : List (List Item)) (fault : DeckFault) → script_of bytes ≡ Ok phases →
+      IsSimulationIn format (items_of phases) (simulations.Refused fault) →
+      IsAnswer bytes (Simulate format) FaultFound (refused_text fault)
   compared : (comparison : Comparison) (status : ToolStatus) (text : List ℕ) →
       IsComparison (IsReading bytes) (IsRefusal bytes) comparison status text →
       IsAnswer bytes (Compare comparison) status text
-  explained : (phases : List (List Item)) (text : List ℕ) → script_of bytes ≡ Ok phases →
-      IsExplanation (items_of phases) (simulations.Shown text) → IsAnswer bytes Explain Done text
-  unexplained : (phases : List (List Item)) (fault : DeckFault) → script_of bytes ≡ Ok phases →
-      IsExplanation (items_of phases) (simulations.Refused fault) →
-      IsAnswer bytes Explain FaultFound (refused_text fault)
+  explained : (pick : Pick) (phases : List (List Item)) (text : List ℕ) → script_of bytes ≡ Ok phases →
+      IsExplanation pick.job pick.number (items_of phases) (simulations.Shown text) →
+      IsAnswer bytes (Explain pick) Done text
+  unexplained : (pick : Pick) (phases : List (List Item)) (fault : DeckFault) → script_of bytes ≡ Ok phases →
+      IsExplanation pick.job pick.number (items_of phases) (simulations.Refused fault) →
+      IsAnswer bytes (Explain pick) FaultFound (refused_text fault)
   covered : (least : ℕ) (phases : List (List Item)) (status : ToolStatus) (coverage : Covering) →
       script_of bytes ≡ Ok phases → IsCoverage least (items_of phases) (coverages.Shown coverage) →
       status ≡ coverage_status coverage.short → IsAnswer bytes (Coverage least) status coverage.text
   uncovered : (least : ℕ) (phases : List (List Item)) (fault : DeckFault) → script_of bytes ≡ Ok phases →
       IsCoverage least (items_of phases) (coverages.Refused fault) →
       IsAnswer bytes (Coverage least) FaultFound (refused_text fault)
-  linted : (fail : Bool) (status : ToolStatus) (lint : Lint) → IsLintOf bytes lint →
-      status ≡ lint_status fail (length lint.findings) → IsAnswer bytes (LintDeck fail) status lint.text
-  unlinted : (fail : Bool) (fault : DeckFault) → HasFirstFault bytes fault →
-      IsAnswer bytes (LintDeck fail) FaultFound (refused_text fault)
+  linted : (fail : Bool) (format : Format) (status : ToolStatus) (lint : Lint) → IsLintOf bytes lint →
+      status ≡ lint_status fail (length lint.findings) →
+      IsAnswer bytes (LintDeck fail format) status (lint_text format lint)
+  unlinted : (fail : Bool) (format : Format) (fault : DeckFault) → HasFirstFault bytes fault →
+      IsAnswer bytes (LintDeck fail format) FaultFound (refused_text fault)
 
 -- the input is no script that can be simulated: it has this fault as a script, or is one with an item that isn't the
 -- one asked there
@@ -113,8 +133,8 @@ pub data HasScriptFault (bytes : List ℕ) : ScriptErr → Type 0 where
 
 -- the input of a simulation, an explanation or a coverage is no script that can be simulated
 abbrev pub IsScriptFault : List ℕ → Task → ScriptErr → Type 0
-IsScriptFault bytes Simulate err = HasScriptFault bytes err
-IsScriptFault bytes Explain err = HasScriptFault bytes err
+IsScriptFault bytes (Simulate format) err = HasScriptFault bytes err
+IsScriptFault bytes (Explain pick) err = HasScriptFault bytes err
 IsScriptFault bytes (Coverage least) err = HasScriptFault bytes err
 IsScriptFault bytes _ err = ⊥
 

@@ -1,9 +1,9 @@
 //! From the bytes of the input to the text of the answer.
 ghost use Rattle.std.specs.Prelude.{◌≡◌, ◌<◌, ◌^◌, length, IfOk, IfErr, Ok};
-ghost use Rattle.sms_script.specs.Script.{script_of};
+ghost use Rattle.sms_script.specs.Script.{items_of, script_of};
 ghost use Rattle.tool_calls.specs.ToolText.{letter_of, translated_text, fault_text, refused_text, valid_text, IsAnswer};
 ghost use Rattle.tool_calls.specs.ToolText.{Hinders, HindersScript, hindrance_of, TellsFault, TellsSimulation};
-ghost use Rattle.tool_calls.specs.ToolText.{HindersCoverage, HindersSimulation, TellsCoverage, coverage_status};
+ghost use Rattle.tool_calls.specs.ToolText.{HindersCoverage, HindersSimulation, IsSimulationIn, TellsCoverage, coverage_status};
 ghost use Rattle.tool_words.specs.declared.task.Task.TheVariants.{Translate, Validate, Simulate, Explain, Coverage};
 
 use crate::comparing::compared;
@@ -19,10 +19,11 @@ use sms_construct::Fault;
 use sms_coverage::{Covered, cover};
 use sms_deck::read_deck;
 use sms_explain::explain;
+use sms_outcomes::{RecordForm, simulate_records};
 use sms_script::{Script, ScriptErr, push_fault, read_script};
 use sms_simulation::{Simulated, simulate};
 use std::alloc::{AllocError, Global};
-use tool_words::Task;
+use tool_words::{Format, Pick, Task};
 
 /// The answer to the bytes: its status and its text. What a fault means is noted.
 pub fn answer(
@@ -40,31 +41,34 @@ pub fn answer(
             translated(alloc, kind, &bytes, note).map_err(|_| NoAnswer::NoMemory)
         }
         Task::Validate => validated(alloc, bytes, note).map_err(|_| NoAnswer::NoMemory),
-        Task::Simulate => simulated(alloc, &bytes, note),
+        Task::Simulate(format) => simulated(alloc, format, &bytes, note),
         Task::Compare(comparison) => {
             compared(alloc, comparison, &bytes, note).map_err(|_| NoAnswer::NoMemory)
         }
-        Task::Explain => explained(alloc, &bytes, note),
+        Task::Explain(pick) => explained(alloc, pick, &bytes, note),
         Task::Coverage { least } => covered(alloc, least, &bytes, note),
-        Task::Lint { fail } => { linted(alloc, fail, bytes, note).map_err(|_| NoAnswer::NoMemory) }
+        Task::Lint { fail, format } => {
+            linted(alloc, fail, format, bytes, note).map_err(|_| NoAnswer::NoMemory)
+        }
     }
 }
 
 // The answer to a script.
 fn simulated(
     alloc: Global,
+    format: Format,
     bytes: &[u8],
     note: &mut String,
 ) -> Result<(ToolStatus, Items<u8>), NoAnswer>
     requires { length bytes.now < 2 ^ 32 }
-    ensures answer { IfOk result (λ found. IsAnswer bytes.now Simulate found.0 found.1) }
-    ensures hindered { IfErr result (Hinders bytes.now Simulate) }
+    ensures answer { IfOk result (λ found. IsAnswer bytes.now (Simulate format) found.0 found.1) }
+    ensures hindered { IfErr result (Hinders bytes.now (Simulate format)) }
 {
     let script = match script_in(alloc, bytes, note) {
         Ok(script) => script,
         Err(why) => return Err(why),
     };
-    match simulate(alloc, &script) {
+    match simulation_in(alloc, format, &script) {
         Ok(made) => {
             note_simulation(alloc, note, bytes, &script, &made);
             simulation(alloc, made)
@@ -73,21 +77,33 @@ fn simulated(
     }
 }
 
+// The simulation of a script in a form.
+fn simulation_in(alloc: Global, format: Format, script: &Script) -> Result<Simulated, AllocError>
+    ensures { IfOk result (IsSimulationIn format (items_of script.now)) }
+{
+    match format {
+        Format::Text => simulate(alloc, script),
+        Format::Csv => simulate_records(alloc, RecordForm::Csv, script),
+        Format::Json => simulate_records(alloc, RecordForm::Json, script),
+    }
+}
+
 // The explanation of a script.
 fn explained(
     alloc: Global,
+    pick: Pick,
     bytes: &[u8],
     note: &mut String,
 ) -> Result<(ToolStatus, Items<u8>), NoAnswer>
     requires { length bytes.now < 2 ^ 32 }
-    ensures answer { IfOk result (λ found. IsAnswer bytes.now Explain found.0 found.1) }
-    ensures hindered { IfErr result (Hinders bytes.now Explain) }
+    ensures answer { IfOk result (λ found. IsAnswer bytes.now (Explain pick) found.0 found.1) }
+    ensures hindered { IfErr result (Hinders bytes.now (Explain pick)) }
 {
     let script = match script_in(alloc, bytes, note) {
         Ok(script) => script,
         Err(why) => return Err(why),
     };
-    match explain(alloc, &script) {
+    match explain(alloc, &script, &pick.job, pick.number) {
         Ok(made) => {
             note_simulation(alloc, note, bytes, &script, &made);
             simulation(alloc, made)

@@ -1,21 +1,24 @@
 //! From two decks and a table of cases to the text of the answer.
 ghost use Rattle.std.specs.Prelude.{◌≡◌, ◌<◌, ◌+◌, ◌^◌, length, IfOk};
 ghost use Rattle.acs_test.specs.Layout.{parts_seen};
+ghost use Rattle.acs_test.specs.Listing.{IsListingOf};
 ghost use Rattle.acs_test.specs.Reading.{Gives, Refuses};
 ghost use Rattle.tool_calls.specs.CasesText.{IsComparison, TellsListing, TellsCases, cases_fault_text, compared_status};
-ghost use Rattle.tool_calls.specs.CasesText.{numbered, side_code};
+ghost use Rattle.tool_calls.specs.CasesText.{form_of, numbered, side_code};
 ghost use Rattle.tool_calls.specs.ToolText.{IsAnswer};
 ghost use Rattle.tool_words.specs.declared.task.Task.TheVariants.{Compare};
 
 use crate::noting::{note_cases, note_parts};
 use crate::part_names::PartNames;
 use crate::status::ToolStatus;
-use acs_test::{Cases, CasesErr, InputParts, Side, list_cases, read_cases, read_parts};
+use acs_test::{
+    CaseForm, Cases, CasesErr, InputParts, Listing, Side, list_cases, read_cases, read_parts,
+};
 use desk_common::{Items, push_number};
 use sms_construct::Fault;
 use sms_script::push_fault;
 use std::alloc::{AllocError, Global};
-use tool_words::Comparison;
+use tool_words::{Comparison, Format};
 
 /// The answer to two decks and a table of cases in one text. What a fault means is noted.
 pub fn compared(
@@ -65,9 +68,28 @@ fn listed(
 ) -> Result<(ToolStatus, Items<u8>), AllocError>
     ensures { IfOk result (λ found. TellsListing cases.now comparison found.0 found.1) }
 {
-    let listing = list_cases(alloc, cases, comparison.changed)?;
+    let listing = listing_of(alloc, comparison, cases)?;
     let status = compared_status(comparison, listing.differing);
     Ok((status, Items::from_vec(listing.text)))
+}
+
+fn listing_of(alloc: Global, comparison: Comparison, cases: &Cases) -> Result<Listing, AllocError>
+    ensures { IfOk result (λ made. IsListingOf cases.now.before cases.now.after (form_of comparison.format)
+        comparison.changed cases.now.list made.differing made.text.items) }
+{
+    let form = form_of(comparison.format);
+    list_cases(alloc, cases, form, comparison.changed)
+}
+
+// The form of the listing.
+fn form_of(format: Format) -> CaseForm
+    ensures { result ≡ form_of format }
+{
+    match format {
+        Format::Text => CaseForm::Lines,
+        Format::Csv => CaseForm::Csv,
+        Format::Json => CaseForm::Json,
+    }
 }
 
 // The status of a comparison by which so many cases differ.

@@ -13,9 +13,9 @@ pub fn most_bytes(task: Task) -> usize
     match task {
         Task::Translate(_) => MAX_ROUTINE,
         Task::Validate
-        | Task::Simulate
+        | Task::Simulate(_)
         | Task::Compare(_)
-        | Task::Explain
+        | Task::Explain(_)
         | Task::Coverage { .. }
         | Task::Lint { .. } => MAX_INPUT,
     }

@@ -18,9 +18,11 @@ use Rattle.clap.proofs.OnLiterals.{clap_on_literals}
 use Rattle.desk_common.specs.Exact.{IsExact, MayRefuse}
 use Rattle.desk_common.proofs.ExactLemmas.{exact_fault, exact_thing, exact_want}
 use Rattle.std.proofs.lemmas.Option.{same_Some}
-use Rattle.tool_words.specs.Tool.{flag_words, tool, words_of}
+use Rattle.tool_words.specs.Tool.{flag_words, tool, where_all, where_usual, words_of}
 use Rattle.tool_words.specs.Asking.{AreRefused, AreShown, AskFor, Hinders, AreSorted, err_of, is_free, kind_named, task_found}
 use Rattle.tool_words.specs.Asking.{is_refused, is_shown, is_text, task_or_bad}
+use Rattle.tool_words.specs.declared.format.Format.{Format}
+use Rattle.tool_words.specs.declared.format.Format.TheVariants as formats
 use Rattle.tool_words.specs.declared.task.Task.{Task}
 use Rattle.tool_words.specs.declared.task.Task.TheVariants as tasks
 use Rattle.tool_words.specs.declared.words_err.WordsErr.{WordsErr}
@@ -241,14 +243,14 @@ Asks words task = (is_free (fault_of tool words) ≡ true) × (task_found (subco
 asks_as : (words given : List Text) (task : Task) → Some words ≡ Some given → Asks given task → Asks words task
 asks_as words given task e asks = subst (λ (x : List Text). Asks x task) (sym (same_Some _ _ e)) asks
 
-comparison_asks : (changed fail : Bool) → Asks (codes "compare" ∷ (flag_words (codes "--changed") changed ++ flag_words (codes "--fail") fail)) (tasks.Compare (record { changed = changed; fail = fail }))
+comparison_asks : (changed fail : Bool) → Asks (codes "compare" ∷ (flag_words (codes "--changed") changed ++ flag_words (codes "--fail") fail)) (tasks.Compare (record { changed = changed; fail = fail; format = formats.Text }))
 unfolding clap_on_literals
 comparison_asks true true = (refl, refl)
 comparison_asks true false = (refl, refl)
 comparison_asks false true = (refl, refl)
 comparison_asks false false = (refl, refl)
 
-lint_asks : (fail : Bool) → Asks (codes "lint" ∷ flag_words (codes "--fail") fail) (tasks.Lint fail)
+lint_asks : (fail : Bool) → Asks (codes "lint" ∷ flag_words (codes "--fail") fail) (tasks.Lint fail formats.Text)
 unfolding clap_on_literals
 lint_asks true = (refl, refl)
 lint_asks false = (refl, refl)
@@ -264,11 +266,11 @@ validate_asks : Asks (codes "validate" ∷ []) tasks.Validate
 unfolding clap_on_literals
 validate_asks = (refl, refl)
 
-simulate_asks : Asks (codes "simulate" ∷ []) tasks.Simulate
+simulate_asks : Asks (codes "simulate" ∷ []) (tasks.Simulate formats.Text)
 unfolding clap_on_literals
 simulate_asks = (refl, refl)
 
-explain_asks : Asks (codes "explain" ∷ []) tasks.Explain
+explain_asks : Asks (codes "explain" ∷ []) (tasks.Explain (record { job = None; number = None }))
 unfolding clap_on_literals
 explain_asks = (refl, refl)
 
@@ -282,14 +284,35 @@ least_asks words least w = elim (cases_Bool (least == 0)) [
   | inr some ↦ absurd (cc (rw some at w))
 ]
 
+form_asks : (words : List Text) (changed fail : Bool) (format : Format) → Some words ≡ where_usual format (codes "compare" ∷ (flag_words (codes "--changed") changed ++ flag_words (codes "--fail") fail))
+    → Asks words (tasks.Compare (record { changed = changed; fail = fail; format = format }))
+form_asks words changed fail formats.Text w = asks_as words _ _ w (comparison_asks changed fail)
+form_asks words changed fail formats.Csv w = absurd (cc w)
+form_asks words changed fail formats.Json w = absurd (cc w)
+
+pick_asks : (words : List Text) (job : Option Text) (number : Option ℕ) → Some words ≡ where_all job number (codes "explain" ∷ []) → Asks words (tasks.Explain (record { job = job; number = number }))
+pick_asks words None None w = asks_as words _ _ w explain_asks
+pick_asks words (Some job) number w = absurd (cc w)
+pick_asks words None (Some number) w = absurd (cc w)
+
+simulated_asks : (words : List Text) (format : Format) → Some words ≡ where_usual format (codes "simulate" ∷ []) → Asks words (tasks.Simulate format)
+simulated_asks words formats.Text w = asks_as words _ _ w simulate_asks
+simulated_asks words formats.Csv w = absurd (cc w)
+simulated_asks words formats.Json w = absurd (cc w)
+
+linted_asks : (words : List Text) (fail : Bool) (format : Format) → Some words ≡ where_usual format (codes "lint" ∷ flag_words (codes "--fail") fail) → Asks words (tasks.Lint fail format)
+linted_asks words fail formats.Text w = asks_as words _ _ w (lint_asks fail)
+linted_asks words fail formats.Csv w = absurd (cc w)
+linted_asks words fail formats.Json w = absurd (cc w)
+
 task_asks : (words : List Text) (task : Task) → Some words ≡ words_of task → Asks words task
 task_asks words (tasks.Translate kind) w = asks_as words _ _ w (kind_asks kind)
 task_asks words tasks.Validate w = asks_as words _ _ w validate_asks
-task_asks words tasks.Simulate w = asks_as words _ _ w simulate_asks
-task_asks words (tasks.Compare comparison) w = asks_as words _ _ w (comparison_asks comparison.changed comparison.fail)
-task_asks words tasks.Explain w = asks_as words _ _ w explain_asks
+task_asks words (tasks.Simulate format) w = simulated_asks words format w
+task_asks words (tasks.Compare comparison) w = form_asks words comparison.changed comparison.fail comparison.format w
+task_asks words (tasks.Explain pick) w = pick_asks words pick.job pick.number w
 task_asks words (tasks.Coverage least) w = least_asks words least w
-task_asks words (tasks.Lint fail) w = asks_as words _ _ w (lint_asks fail)
+task_asks words (tasks.Lint fail format) w = linted_asks words fail format w
 
 known_asks : (words : List Text) (task : Task) → Some words ≡ words_of task → AskFor words task
 known_asks words task w = let asks = task_asks words task w in record { free = asks.0; found = asks.1 }

@@ -11,8 +11,13 @@ use Rattle.acs_tree.specs.declared.kind.Kind.TheVariants.{DataClas, StorClas, Mg
 use Rattle.clap.specs.Words.{Kinds, Row, Text, fault_of, first_of, subcommand_of}
 use Rattle.clap.specs.declared.error.kind.ErrorKind.{ErrorKind}
 use Rattle.clap.specs.declared.error.kind.ErrorKind.TheVariants as kind
+use Rattle.dsn_mask.specs.Name.{name_of as job_named}
 use Rattle.tool_words.specs.Tool.{tool}
+use Rattle.tool_words.specs.declared.comparison.Comparison.{Comparison}
+use Rattle.tool_words.specs.declared.format.Format.{Format}
+use Rattle.tool_words.specs.declared.format.Format.TheVariants as formats
 use Rattle.tool_words.specs.declared.paths.Paths.{Paths}
+use Rattle.tool_words.specs.declared.pick.Pick.{Pick}
 use Rattle.tool_words.specs.declared.task.Task.{Task}
 use Rattle.tool_words.specs.declared.task.Task.TheVariants as tasks
 use Rattle.tool_words.specs.declared.words_err.WordsErr.{WordsErr}
@@ -53,6 +58,18 @@ is_set name rows = option_map_or (λ value. bytes_eq value (codes "true")) (firs
 abbrev pub kind_in : List Row → Option Kind
 kind_in rows = option_and_then kind_named (first_of (codes "kind") rows)
 
+-- the form that a word names; lines where there is none
+abbrev pub format_named : Option Text → Option Format
+format_named None = Some formats.Text
+format_named (Some word) =
+    if bytes_eq word (codes "text") then Some formats.Text
+    else if bytes_eq word (codes "csv") then Some formats.Csv
+    else if bytes_eq word (codes "json") then Some formats.Json else None
+
+-- the form that these rows name
+abbrev pub format_in : List Row → Option Format
+format_in rows = format_named (first_of (codes "format") rows)
+
 -- the per cent that a word writes, 0 to 100; 0 where there is none
 abbrev pub least_named : Option Text → Option ℕ
 least_named None = Some 0
@@ -62,19 +79,45 @@ least_named (Some word) = within 0 100 (number_of word)
 abbrev pub least_in : List Row → Option ℕ
 least_in rows = least_named (first_of (codes "fail-under") rows)
 
+-- what a word is by this reading, if it is anything; nothing is asked where there is no word
+abbrev pub read_if : {A : Type 0} → (Text → Option A) → Option Text → Option (Option A)
+read_if read None = Some None
+read_if read (Some word) = option_map (λ value. Some value) (read word)
+
+-- the job and the number that these rows name
+
+abbrev pub job_in : List Row → Option (Option Text)
+job_in rows = read_if job_named (first_of (codes "job") rows)
+
+abbrev pub number_in : List Row → Option (Option ℕ)
+number_in rows = read_if (λ word. within 1 4294967295 (number_of word)) (first_of (codes "number") rows)
+
+-- which allocations these rows ask for
+abbrev pub pick_in : List Row → Option Pick
+pick_in rows =
+    option_and_then (λ job. option_and_then (λ number. Some (record { job = job; number = number })) (number_in rows))
+    (job_in rows)
+
+-- how these rows ask two decks to be compared, in this form
+abbrev pub comparison_with : List Row → Format → Comparison
+comparison_with rows format = record {
+  changed = is_set (codes "changed") rows;
+  fail = is_set (codes "fail") rows;
+  format = format;
+}
+
 -- what the subcommand of this name with these rows asks for
 abbrev pub task_of : Text → List Row → Option Task
 task_of name rows =
     if bytes_eq name (codes "translate") then option_map tasks.Translate (kind_in rows)
     else if bytes_eq name (codes "validate") then Some tasks.Validate
-    else if bytes_eq name (codes "simulate") then Some tasks.Simulate
-    else if bytes_eq name (codes "compare") then Some (tasks.Compare (record {
-      changed = is_set (codes "changed") rows;
-      fail = is_set (codes "fail") rows;
-    }))
-    else if bytes_eq name (codes "explain") then Some tasks.Explain
+    else if bytes_eq name (codes "simulate") then option_map tasks.Simulate (format_in rows)
+    else if bytes_eq name (codes "compare")
+    then option_map (λ format. tasks.Compare (comparison_with rows format)) (format_in rows)
+    else if bytes_eq name (codes "explain") then option_map tasks.Explain (pick_in rows)
     else if bytes_eq name (codes "coverage") then option_map tasks.Coverage (least_in rows)
-    else if bytes_eq name (codes "lint") then Some (tasks.Lint (is_set (codes "fail") rows)) else None
+    else if bytes_eq name (codes "lint")
+    then option_map (tasks.Lint (is_set (codes "fail") rows)) (format_in rows) else None
 
 -- what the subcommand that was found asks for
 abbrev pub task_found : Option (Text × List Row) → Option Task

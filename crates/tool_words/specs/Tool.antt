@@ -1,5 +1,5 @@
 -- The command line of the tool: the command that its words are read by (docs/manual/tool.md, "Words").
-use Rattle.std.specs.Prelude.{◌≡◌, ◌==◌, Bool, List, [], ◌∷◌, ◌++◌, Option, None, Some, true, false, codes}
+use Rattle.std.specs.Prelude.{◌≡◌, ◌==◌, ℕ, Bool, List, [], ◌∷◌, ◌++◌, Option, None, Some, true, false, codes}
 use Rattle.std.specs.Prelude.{if◌then◌else◌}
 use Rattle.acs_tree.specs.Variables.{name_of}
 use Rattle.clap.specs.Simple.{App, new_app, new_rule, new_shape, with_rule, with_subcommand}
@@ -7,6 +7,8 @@ use Rattle.clap.specs.Walk.{Rule, Text}
 use Rattle.clap.specs.declared.builder.action.ArgAction.TheVariants.{SetTrue}
 use Rattle.clap.specs.declared.builder.command.Command.{Command}
 use Rattle.clap.specs.declared.builder.command.Command.TheViews.{out-Command}
+use Rattle.tool_words.specs.declared.format.Format.{Format}
+use Rattle.tool_words.specs.declared.format.Format.TheVariants as formats
 use Rattle.tool_words.specs.declared.task.Task.{Task}
 use Rattle.tool_words.specs.declared.task.Task.TheVariants as tasks
 
@@ -35,12 +37,21 @@ translate_app =
 abbrev pub file_app : Text → App
 file_app name = with_rule (new_app name) (path_rule (codes "file"))
 
+-- the subcommand `simulate`
+abbrev pub simulate_app : App
+simulate_app = with_rule (file_app (codes "simulate")) (option_rule (codes "format"))
+
 -- the subcommand `compare`
 abbrev pub compare_app : App
 compare_app =
-    with_rule (with_rule (with_rule (with_rule (with_rule (new_app (codes "compare"))
+    with_rule (with_rule (with_rule (with_rule (with_rule (with_rule (new_app (codes "compare"))
     (path_rule (codes "old"))) (path_rule (codes "new"))) (path_rule (codes "cases")))
-    (flag_rule (codes "changed"))) (flag_rule (codes "fail"))
+    (flag_rule (codes "changed"))) (flag_rule (codes "fail"))) (option_rule (codes "format"))
+
+-- the subcommand `explain`
+abbrev pub explain_app : App
+explain_app =
+    with_rule (with_rule (file_app (codes "explain")) (option_rule (codes "job"))) (option_rule (codes "number"))
 
 -- the subcommand `coverage`
 abbrev pub coverage_app : App
@@ -48,7 +59,8 @@ coverage_app = with_rule (file_app (codes "coverage")) (option_rule (codes "fail
 
 -- the subcommand `lint`
 abbrev pub lint_app : App
-lint_app = with_rule (file_app (codes "lint")) (flag_rule (codes "fail"))
+lint_app =
+    with_rule (with_rule (file_app (codes "lint")) (flag_rule (codes "fail"))) (option_rule (codes "format"))
 
 -- the command without its subcommands: one is wanted, there is no `help` among them, and there is a version
 abbrev pub bare_app : App
@@ -68,9 +80,9 @@ tool =
     bare_app
     translate_app.top)
     (file_app (codes "validate")).top)
-    (file_app (codes "simulate")).top)
+    simulate_app.top)
     compare_app.top)
-    (file_app (codes "explain")).top)
+    explain_app.top)
     coverage_app.top)
     lint_app.top
 
@@ -82,15 +94,27 @@ KeepsItsOwn command = (out-Command command).has_globals ≡ false
 abbrev pub flag_words : Text → Bool → List Text
 flag_words name set = if set then name ∷ [] else []
 
+-- the words, where the form is the usual one
+abbrev pub where_usual : Format → List Text → Option (List Text)
+where_usual formats.Text words = Some words
+where_usual formats.Csv words = None
+where_usual formats.Json words = None
+
+-- the words, where neither a job nor a number is asked for
+abbrev pub where_all : Option Text → Option ℕ → List Text → Option (List Text)
+where_all None None words = Some words
+where_all (Some job) number words = None
+where_all None (Some number) words = None
+
 -- words that ask for a task without a value behind a hyphen, and name no file: for a translation `translate` and the name
 -- of the kind, for each other task the name of its subcommand and its flags
 abbrev pub words_of : Task → Option (List Text)
 words_of (tasks.Translate kind) = Some (codes "translate" ∷ name_of kind ∷ [])
 words_of tasks.Validate = Some (codes "validate" ∷ [])
-words_of tasks.Simulate = Some (codes "simulate" ∷ [])
+words_of (tasks.Simulate format) = where_usual format (codes "simulate" ∷ [])
 words_of (tasks.Compare comparison) =
-    Some (codes "compare" ∷ (flag_words (codes "--changed") comparison.changed
+    where_usual comparison.format (codes "compare" ∷ (flag_words (codes "--changed") comparison.changed
     ++ flag_words (codes "--fail") comparison.fail))
-words_of tasks.Explain = Some (codes "explain" ∷ [])
+words_of (tasks.Explain pick) = where_all pick.job pick.number (codes "explain" ∷ [])
 words_of (tasks.Coverage least) = if least == 0 then Some (codes "coverage" ∷ []) else None
-words_of (tasks.Lint fail) = Some (codes "lint" ∷ flag_words (codes "--fail") fail)
+words_of (tasks.Lint fail format) = where_usual format (codes "lint" ∷ flag_words (codes "--fail") fail)

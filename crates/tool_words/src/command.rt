@@ -3,7 +3,7 @@ ghost use Rattle.std.specs.Prelude.{◌≡◌, false, IfOk};
 ghost use Rattle.clap.specs.Words.{app_of, rule_of};
 ghost use Rattle.clap.specs.declared.builder.command.Command.TheViews.{out-Command};
 ghost use Rattle.tool_words.specs.Tool.{KeepsItsOwn, bare_app, compare_app, coverage_app, file_app, flag_rule};
-ghost use Rattle.tool_words.specs.Tool.{lint_app, option_rule, path_rule, tool, translate_app, wanted_rule};
+ghost use Rattle.tool_words.specs.Tool.{explain_app, lint_app, option_rule, path_rule, simulate_app, tool, translate_app, wanted_rule};
 
 use clap::{Arg, ArgAction, Command};
 use std::alloc::{AllocError, Global};
@@ -27,17 +27,17 @@ const VALIDATE: Said = Said {
 
 const SIMULATE: Said = Said {
     about: "Say what the routines of a deck give allocations",
-    usage: "smsc simulate [FILE]",
+    usage: "smsc simulate [FILE] [--format FORM]",
 };
 
 const COMPARE: Said = Said {
     about: "Say which data sets a new deck treats otherwise than the old one",
-    usage: "smsc compare [OLD [NEW [CASES]]] [--changed] [--fail]",
+    usage: "smsc compare [OLD [NEW [CASES]]] [--changed] [--fail] [--format FORM]",
 };
 
 const EXPLAIN: Said = Said {
     about: "Tell what each routine does with allocations, statement by statement",
-    usage: "smsc explain [FILE]",
+    usage: "smsc explain [FILE] [--job JOB] [--number N]",
 };
 
 const COVERAGE: Said = Said {
@@ -47,7 +47,7 @@ const COVERAGE: Said = Said {
 
 const LINT: Said = Said {
     about: "Tell what in a deck is certain and hardly meant so",
-    usage: "smsc lint [FILE] [--fail]",
+    usage: "smsc lint [FILE] [--fail] [--format FORM]",
 };
 
 const TOOL: Said = Said {
@@ -61,9 +61,9 @@ pub fn tool_command<'a>(alloc: Global) -> Result<Command<'a>, AllocError>
 {
     let translate = translating(alloc)?;
     let validate = reading(alloc, "validate", VALIDATE)?;
-    let simulate = reading(alloc, "simulate", SIMULATE)?;
+    let simulate = simulating(alloc)?;
     let compare = comparing(alloc)?;
-    let explain = reading(alloc, "explain", EXPLAIN)?;
+    let explain = explaining(alloc)?;
     let coverage = covering(alloc)?;
     let lint = linting(alloc)?;
     bare_tool(alloc)
@@ -94,6 +94,16 @@ fn reading<'a>(alloc: Global, name: &'a str, said: Said) -> Result<Command<'a>, 
     described(Command::new(alloc, name), said).arg(path(alloc, "file"))
 }
 
+// The subcommand `simulate`, which reads one file.
+fn simulating<'a>(alloc: Global) -> Result<Command<'a>, AllocError>
+    ensures app { IfOk result (λ command. app_of command ≡ simulate_app) }
+    ensures own { IfOk result (KeepsItsOwn) }
+{
+    described(Command::new(alloc, "simulate"), SIMULATE)
+        .arg(path(alloc, "file"))?
+        .arg(option(alloc, "format"))
+}
+
 // The subcommand `compare`, which reads up to three files.
 fn comparing<'a>(alloc: Global) -> Result<Command<'a>, AllocError>
     ensures app { IfOk result (λ command. app_of command ≡ compare_app) }
@@ -104,7 +114,19 @@ fn comparing<'a>(alloc: Global) -> Result<Command<'a>, AllocError>
         .arg(path(alloc, "new"))?
         .arg(path(alloc, "cases"))?
         .arg(flag(alloc, "changed"))?
-        .arg(flag(alloc, "fail"))
+        .arg(flag(alloc, "fail"))?
+        .arg(option(alloc, "format"))
+}
+
+// The subcommand `explain`, which reads one file.
+fn explaining<'a>(alloc: Global) -> Result<Command<'a>, AllocError>
+    ensures app { IfOk result (λ command. app_of command ≡ explain_app) }
+    ensures own { IfOk result (KeepsItsOwn) }
+{
+    described(Command::new(alloc, "explain"), EXPLAIN)
+        .arg(path(alloc, "file"))?
+        .arg(option(alloc, "job"))?
+        .arg(option(alloc, "number"))
 }
 
 // The subcommand `coverage`, which reads one file.
@@ -124,7 +146,8 @@ fn linting<'a>(alloc: Global) -> Result<Command<'a>, AllocError>
 {
     described(Command::new(alloc, "lint"), LINT)
         .arg(path(alloc, "file"))?
-        .arg(flag(alloc, "fail"))
+        .arg(flag(alloc, "fail"))?
+        .arg(option(alloc, "format"))
 }
 
 // The command with what help says of it.

@@ -16,26 +16,31 @@ smsc validate [FILE] validate a deck
 ";
 
 const SIMULATE: &str = "
-smsc simulate [FILE] say what the routines of a deck give the allocations of
-                     a script that begins with an ACTIVATE
+smsc simulate [FILE] [--format FORM]
+                     say what the routines of a deck give the allocations of
+                     a script that begins with an ACTIVATE; FORM is text, csv
+                     or json
 
     smsc simulate morning.txt
 ";
 
 const COMPARE: &str = "
-smsc compare [OLD [NEW [CASES]]] [--changed] [--fail]
+smsc compare [OLD [NEW [CASES]]] [--changed] [--fail] [--format FORM]
                      say which data sets a new deck treats otherwise than the
                      old one, by a table of cases; --changed lists those alone,
-                     and with --fail the exit status is 1 where there are any
+                     and with --fail the exit status is 1 where there are any;
+                     FORM is text, csv or json
 
     smsc compare old.toml new.toml cases.csv --changed --fail
 ";
 
 const EXPLAIN: &str = "
-smsc explain [FILE]  tell what each routine does with the allocations of such
-                     a script, statement by statement
+smsc explain [FILE] [--job JOB] [--number N]
+                     tell what each routine does with the allocations of such
+                     a script, statement by statement, or with those of a job
+                     or with a number alone
 
-    smsc explain morning.txt
+    smsc explain morning.txt --job PAYJOB --number 1
 ";
 
 const COVERAGE: &str = "
@@ -48,9 +53,10 @@ smsc coverage [FILE] [--fail-under N]
 ";
 
 const LINT: &str = "
-smsc lint [FILE] [--fail]
+smsc lint [FILE] [--fail] [--format FORM]
                      tell what in a deck is certain and hardly meant so; with
-                     --fail the exit status is 1 where there is a finding
+                     --fail the exit status is 1 where there is a finding;
+                     FORM is text, csv or json
 
     smsc lint deck.toml --fail
 ";

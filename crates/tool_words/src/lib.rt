@@ -4,7 +4,9 @@
 mod command;
 mod comparison;
 mod examples;
+mod format;
 mod paths;
+mod pick;
 mod printed;
 mod reading;
 mod task;
@@ -13,7 +15,9 @@ mod values;
 mod words_err;
 
 pub use comparison::Comparison;
+pub use format::Format;
 pub use paths::Paths;
+pub use pick::Pick;
 pub use reading::{paths_asked, shown_text, task_asked};
 pub use task::Task;
 pub use words_err::WordsErr;

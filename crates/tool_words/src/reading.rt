@@ -1,10 +1,10 @@
 //! Reading the words.
-ghost use Rattle.std.specs.Prelude.{◌≡◌, ◌⊎◌, [], None, Some, IfOk, IfErr, MatchResult, map, string_bytes};
+ghost use Rattle.std.specs.Prelude.{◌≡◌, ◌⊎◌, [], None, Some, IfOk, IfErr, MatchResult, map, option_map, string_bytes};
 ghost use Rattle.clap.specs.Words.{kind_of, IsAmong, fault_of, found_of, rows_of, subcommand_of};
 ghost use Rattle.clap.specs.Words.{subcommand_rows_of};
 ghost use Rattle.desk_common.specs.Exact.{IsExact, MayRefuse};
 ghost use Rattle.tool_words.specs.Asking.{AskFor, Hinders, AreSorted, NamePaths, err_of, task_found, task_of};
-ghost use Rattle.tool_words.specs.Asking.{task_or_bad};
+ghost use Rattle.tool_words.specs.Asking.{comparison_with, format_in, task_or_bad};
 ghost use Rattle.tool_words.specs.Tool.{tool, words_of};
 ghost use Rattle.tool_words.specs.declared.task.Task.{Task as TaskOf};
 
@@ -15,7 +15,7 @@ use crate::paths::Paths;
 use crate::printed::printed_words;
 use crate::task::Task;
 use crate::value_faults::value_fault;
-use crate::values::{is_set, kind_in, least_in, value_of};
+use crate::values::{format_in, is_set, kind_in, least_in, pick_in, value_of};
 use crate::words_err::WordsErr;
 use clap::error::ErrorKind;
 use clap::{ArgMatches, Error};
@@ -119,27 +119,44 @@ fn task_of(name: &str, matches: &ArgMatches<'_>) -> Option<Task>
         return Some(Task::Validate);
     }
     if name == "simulate" {
-        return Some(Task::Simulate);
+        let format = format_in(matches)?;
+        return Some(Task::Simulate(format));
     }
     if name == "compare" {
-        return Some(Task::Compare(Comparison {
-            changed: is_set(matches, "changed"),
-            fail: is_set(matches, "fail"),
-        }));
+        let comparison = comparison_in(matches)?;
+        return Some(Task::Compare(comparison));
     }
     if name == "explain" {
-        return Some(Task::Explain);
+        return match pick_in(matches) {
+            Some(pick) => Some(Task::Explain(pick)),
+            None => None,
+        };
     }
     if name == "coverage" {
         let least = least_in(matches)?;
         return Some(Task::Coverage { least });
     }
     if name == "lint" {
+        let format = format_in(matches)?;
         return Some(Task::Lint {
             fail: is_set(matches, "fail"),
+            format,
         });
     }
     None
+}
+
+// How the words ask two decks to be compared.
+fn comparison_in(matches: &ArgMatches<'_>) -> Option<Comparison>
+    ensures { result ≡ option_map (comparison_with (rows_of (found_of matches.now)))
+        (format_in (rows_of (found_of matches.now))) }
+{
+    let format = format_in(matches)?;
+    Some(Comparison {
+        changed: is_set(matches, "changed"),
+        fail: is_set(matches, "fail"),
+        format,
+    })
 }
 
 // Why words with an error of this kind ask for nothing.

@@ -1,13 +1,18 @@
 // Values of words that were found.
 ghost use Rattle.std.specs.Prelude.{◌≡◌, option_map};
 ghost use Rattle.clap.specs.Words.{first_of, found_of, rows_of};
-ghost use Rattle.tool_words.specs.Asking.{is_set, kind_in, kind_named, least_in};
+ghost use Rattle.tool_words.specs.Asking.{format_in, is_set, job_in, kind_in, kind_named, least_in, number_in, pick_in};
 
+use crate::format::Format;
+use crate::pick::Pick;
 use acs_tree::{Kind, number};
 use clap::ArgMatches;
+use dsn_mask::Name;
 
-// The greatest per cent.
+// The greatest per cent, and the greatest number of a request.
 const MOST_PERCENT: u64 = 100;
+
+const MOST_NUMBER: u64 = 4_294_967_295;
 
 /// The value of this name.
 pub fn value_of<'a>(matches: &ArgMatches<'a>, name: &str) -> Option<&'a str>
@@ -41,6 +46,25 @@ fn kind_named(word: &str) -> Option<Kind>
     Kind::named(word.as_bytes())
 }
 
+/// The form that the words name, and lines where they name none.
+pub fn format_in(matches: &ArgMatches<'_>) -> Option<Format>
+    ensures { result ≡ format_in (rows_of (found_of matches.now)) }
+{
+    let Some(word) = value_of(matches, "format") else {
+        return Some(Format::Text);
+    };
+    if word == "text" {
+        return Some(Format::Text);
+    }
+    if word == "csv" {
+        return Some(Format::Csv);
+    }
+    if word == "json" {
+        return Some(Format::Json);
+    }
+    None
+}
+
 /// The least per cent that the words name, and 0 where they name none.
 pub fn least_in(matches: &ArgMatches<'_>) -> Option<u8>
     ensures { result ≡ least_in (rows_of (found_of matches.now)) }
@@ -50,4 +74,39 @@ pub fn least_in(matches: &ArgMatches<'_>) -> Option<u8>
     };
     let least = number(word.as_bytes(), 0, MOST_PERCENT)?;
     Some(least as u8)
+}
+
+/// Which allocations the words ask for.
+pub fn pick_in(matches: &ArgMatches<'_>) -> Option<Pick>
+    ensures { result ≡ pick_in (rows_of (found_of matches.now)) }
+{
+    let job = job_in(matches)?;
+    let number = number_in(matches)?;
+    Some(Pick { job, number })
+}
+
+// The job that the words name, if they name one.
+fn job_in(matches: &ArgMatches<'_>) -> Option<Option<Name>>
+    ensures { result ≡ job_in (rows_of (found_of matches.now)) }
+{
+    let Some(word) = value_of(matches, "job") else {
+        return Some(None);
+    };
+    match Name::new(word.as_bytes()) {
+        Some(name) => Some(Some(name)),
+        None => None,
+    }
+}
+
+// The number of a request that the words name, if they name one.
+fn number_in(matches: &ArgMatches<'_>) -> Option<Option<u32>>
+    ensures { result ≡ number_in (rows_of (found_of matches.now)) }
+{
+    let Some(word) = value_of(matches, "number") else {
+        return Some(None);
+    };
+    match number(word.as_bytes(), 1, MOST_NUMBER) {
+        Some(number) => Some(Some(number as u32)),
+        None => None,
+    }
 }

@@ -9,8 +9,9 @@ returns-clause-app c =
     let two = c.in_ok-arg-2.ensures.shape c.path-2.ensures.local ∙ ap₂ with_rule one c.path-2.ensures.rule in
     let three = c.in_ok-arg-3.ensures.shape c.path-3.ensures.local ∙ ap₂ with_rule two c.path-3.ensures.rule in
     let four = c.in_ok-arg-4.ensures.shape c.flag.ensures.local ∙ ap₂ with_rule three c.flag.ensures.rule in
-    IfOk-weaker c.arg-5.result _ _ (λ r h. h.shape c.flag-2.ensures.local ∙ ap₂ with_rule four c.flag-2.ensures.rule) c.arg-5.ensures
+    let five = c.in_ok-arg-5.ensures.shape c.flag-2.ensures.local ∙ ap₂ with_rule four c.flag-2.ensures.rule in
+    IfOk-weaker c.arg-6.result _ _ (λ r h. h.shape c.option.ensures.local ∙ ap₂ with_rule five c.option.ensures.rule) c.arg-6.ensures
 
 pub returns-clause-own : goal.returns-clause-own
 returns-clause-own c =
-    IfOk-weaker c.arg-5.result _ _ (λ r h. rw (h.globals, c.in_ok-arg-4.ensures.globals, c.in_ok-arg-3.ensures.globals, c.in_ok-arg-2.ensures.globals, c.in_ok-arg.ensures.globals, c.described.ensures.own, c.new.ensures.local, c.path.ensures.local, c.path-2.ensures.local, c.path-3.ensures.local, c.flag.ensures.local, c.flag-2.ensures.local) refl) c.arg-5.ensures
+    IfOk-weaker c.arg-6.result _ _ (λ r h. rw (h.globals, c.in_ok-arg-5.ensures.globals, c.in_ok-arg-4.ensures.globals, c.in_ok-arg-3.ensures.globals, c.in_ok-arg-2.ensures.globals, c.in_ok-arg.ensures.globals, c.described.ensures.own, c.new.ensures.local, c.path.ensures.local, c.path-2.ensures.local, c.path-3.ensures.local, c.flag.ensures.local, c.flag-2.ensures.local, c.option.ensures.local) refl) c.arg-6.ensures

@@ -1,0 +1,49 @@
+// Cases as comma-separated values.
+ghost use Rattle.std.specs.Prelude.{◌≡◌, ◌++◌, IfOk, OnOk};
+ghost use Rattle.csv.specs.Writing.{default_writer, row_text};
+ghost use Rattle.acs_test.specs.CaseRecords.{case_header, case_record, differs_word};
+ghost use Rattle.sms_outcomes.specs.Outcomes.{classes_made};
+
+use crate::case::Case;
+use acs_tree::Slate;
+use sms_classes::Classified;
+use sms_outcomes::{outcome_text, record_text};
+use std::alloc::{AllocError, Global};
+
+const HEADER: [&[u8]; 4] = [b"case", b"differs", b"old", b"new"];
+
+/// The names of the fields.
+pub fn case_header(alloc: Global) -> Result<Vec<u8>, AllocError>
+    ensures { IfOk result (λ text. text.items ≡ row_text default_writer case_header) }
+{
+    record_text(alloc, &HEADER)
+}
+
+/// Puts a case behind a text that comes to the one and to the other.
+pub fn push_record(
+    alloc: Global,
+    text: &mut Vec<u8>,
+    case: &Case,
+    before: &Classified,
+    old: &Slate,
+    after: &Classified,
+    new: &Slate,
+    same: bool,
+) -> Result<(), AllocError>
+    ensures { OnOk result (text.new.items ≡ text.old.items ++ case_record case.now (classes_made before.now old.now)
+        (classes_made after.now new.now) same) }
+{
+    let before = outcome_text(alloc, before)?;
+    let after = outcome_text(alloc, after)?;
+    let record = record_text(
+        alloc,
+        &[case.name.bytes(), differs_word(same), &before, &after],
+    )?;
+    text.extend_from_slice(&record)
+}
+
+fn differs_word(same: bool) -> &'static [u8]
+    ensures { result.now ≡ differs_word same }
+{
+    if same { b"NO" } else { b"YES" }
+}

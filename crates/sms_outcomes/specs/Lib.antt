@@ -1,0 +1,4 @@
+pub mod Outcomes
+pub mod ItemRecords
+pub mod SimulatedRecords
+pub mod Inner
