@@ -5,11 +5,12 @@ ghost use Rattle.sms_base.specs.Observed.{seen_streams};
 ghost use Rattle.smsd.specs.Ends.{IsJudgedEnd, IsOfJudged, IsReadEnd, judged_status_of};
 ghost use Rattle.smsd.specs.Inner.Calls.{EndsCheck};
 
+use crate::closing::Closing;
 use crate::ending::{end_bad, end_with, is_bad};
 use crate::explaining::{note_deck, note_status};
 use crate::kept_source::KeptSource;
 use crate::running::refuse;
-use crate::store::{FileKeeper, close, open_present};
+use crate::store::open_present;
 use sms_base::{Sink, Source, StdSink, StdSource};
 use sms_keeper::Stored;
 use std::io::Read;
@@ -41,10 +42,10 @@ fn check_opened<R: Read + Drop>(
 }
 
 // The same of the deck of the source, on the store that was opened; or ends the program as the opening did.
-fn check_source<S: Source + Drop>(
+fn check_source<S: Source + Drop, P: Closing>(
     rt: &HostRuntime,
     source: S,
-    opened: Result<FileKeeper, ExitCode>,
+    opened: Result<P, ExitCode>,
 ) -> ExitCode
     ensures unopened { IfErr opened (λ code. exit_status result ≡ exit_status code) }
     ensures checked { IfOk opened (λ _. IsOfJudged (exit_status result)) }
@@ -54,7 +55,7 @@ fn check_source<S: Source + Drop>(
             let mut src = KeptSource::new(rt.alloc(), source);
             let mut out = StdSink::new(io::writer(rt));
             let (code, keeper) = check_deck(rt, &mut src, &mut out, keeper);
-            close(keeper);
+            keeper.close();
             code
         }
         Err(code) => code,

@@ -5,9 +5,10 @@ ghost use Rattle.store_calls.specs.StoreLists.{seen_sink};
 ghost use Rattle.smsd.specs.Ends.{IsOfCall, IsStoreEnd};
 ghost use Rattle.smsd.specs.Inner.Calls.{EndsList};
 
+use crate::closing::Closing;
 use crate::ending::end_with;
 use crate::explaining::note_status;
-use crate::store::{FileKeeper, close, open_present};
+use crate::store::open_present;
 use sms_base::{Sink, StdSink};
 use sms_keeper::Stored;
 use std::io;
@@ -23,7 +24,7 @@ pub fn list(rt: &HostRuntime, store: &str, query: &Query) -> ExitCode
 }
 
 // The same of the store that was opened; or ends the program as the opening did.
-fn list_opened(rt: &HostRuntime, query: &Query, opened: Result<FileKeeper, ExitCode>) -> ExitCode
+fn list_opened<P: Closing>(rt: &HostRuntime, query: &Query, opened: Result<P, ExitCode>) -> ExitCode
     ensures unopened { IfErr opened (λ code. exit_status result ≡ exit_status code) }
     ensures ran { IfOk opened (λ _. IsOfCall (exit_status result)) }
 {
@@ -31,7 +32,7 @@ fn list_opened(rt: &HostRuntime, query: &Query, opened: Result<FileKeeper, ExitC
         Ok(keeper) => {
             let mut out = StdSink::new(io::writer(rt));
             let (code, keeper) = write_list(rt, query, &mut out, keeper);
-            close(keeper);
+            keeper.close();
             code
         }
         Err(code) => code,

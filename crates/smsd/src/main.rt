@@ -6,6 +6,7 @@ ghost use Rattle.std.specs.Process.{exit_status};
 ghost use Rattle.smsd.specs.Ends.{IsTaskEnd};
 
 mod checking;
+mod closing;
 mod ending;
 mod explaining;
 mod kept_source;

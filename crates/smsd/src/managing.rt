@@ -5,10 +5,11 @@ ghost use Rattle.store_calls.specs.StoreLists.{seen_sink};
 ghost use Rattle.smsd.specs.Ends.{IsOfCall, IsStoreEnd};
 ghost use Rattle.smsd.specs.Inner.Calls.{EndsManage, ManageEnds};
 
+use crate::closing::Closing;
 use crate::ending::end_with;
 use crate::explaining::note_status;
 use crate::noted_sink::NotedSink;
-use crate::store::{FileKeeper, close, open_present};
+use crate::store::open_present;
 use desk_notes::note_replies;
 use sms_base::{Sink, StdSink};
 use sms_keeper::Stored;
@@ -25,11 +26,11 @@ pub fn manage(rt: &HostRuntime, store: &str, day: u32, dry: bool) -> ExitCode
 }
 
 // The same on the store that was opened; or ends the program as the opening did.
-fn manage_opened(
+fn manage_opened<P: Closing>(
     rt: &HostRuntime,
     day: u32,
     dry: bool,
-    opened: Result<FileKeeper, ExitCode>,
+    opened: Result<P, ExitCode>,
 ) -> ExitCode
     ensures unopened { IfErr opened (λ code. exit_status result ≡ exit_status code) }
     ensures ran { IfOk opened (λ _. IsOfCall (exit_status result)) }
@@ -38,7 +39,7 @@ fn manage_opened(
         Ok(keeper) => {
             let mut out = NotedSink::new(StdSink::new(io::writer(rt)));
             let (code, keeper) = manage_store(rt, day, dry, &mut out, keeper);
-            close(keeper);
+            keeper.close();
             code
         }
         Err(code) => code,

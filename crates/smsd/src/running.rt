@@ -5,11 +5,12 @@ ghost use Rattle.sms_base.specs.Observed.{seen_streams};
 ghost use Rattle.smsd.specs.Ends.{IsOfScript, IsReadEnd, IsScriptEnd, judged_status_of};
 ghost use Rattle.smsd.specs.Inner.Calls.{EndsRun};
 
+use crate::closing::Closing;
 use crate::ending::{end_bad, end_unread, end_with, is_bad};
 use crate::explaining::{note_status, note_unread};
 use crate::kept_source::KeptSource;
 use crate::noted_sink::NotedSink;
-use crate::store::{FileKeeper, close, open};
+use crate::store::open;
 use desk_notes::{RepliesSeen, note_replies};
 use sms_base::{Sink, Source, StdSink, StdSource};
 use sms_keeper::Stored;
@@ -52,12 +53,12 @@ fn run_opened<R: Read + Drop>(
 }
 
 // Answers the script of the source on the store that was opened, and ends the program; or ends it as the opening did.
-fn run_source<S: Source + Drop>(
+fn run_source<S: Source + Drop, P: Closing>(
     rt: &HostRuntime,
     volumes: bool,
     strict: bool,
     source: S,
-    opened: Result<FileKeeper, ExitCode>,
+    opened: Result<P, ExitCode>,
 ) -> ExitCode
     ensures unopened { IfErr opened (λ code. exit_status result ≡ exit_status code) }
     ensures ran { IfOk opened (λ _. IsOfScript strict (exit_status result)) }
@@ -67,7 +68,7 @@ fn run_source<S: Source + Drop>(
             let mut src = KeptSource::new(rt.alloc(), source);
             let mut out = NotedSink::new(StdSink::new(io::writer(rt)));
             let (code, keeper) = answer(rt, volumes, strict, &mut src, &mut out, keeper);
-            close(keeper);
+            keeper.close();
             code
         }
         Err(code) => code,

@@ -6,9 +6,10 @@ ghost use Rattle.smsd.specs.Ends.{IsServeEnd};
 ghost use Rattle.smsd.specs.Inner.Serving.{EndsServe};
 ghost use Rattle.smsd.specs.Served.{IsOfServing, IsPortEnd, IsUnbound, loop_status_of, serving_status_of};
 
+use crate::closing::Closing;
 use crate::ending::{end_refused, end_unwaited, end_wanting, end_well, end_with};
 use crate::explaining::{note_port, note_status};
-use crate::store::{FileKeeper, close, open};
+use crate::store::open;
 use logged_wires::LoggedDoor;
 use mio_poll::PollDoor;
 use ready_wires::Readiness;
@@ -32,10 +33,10 @@ pub fn serve(rt: &HostRuntime, store: &str, serving: Serving) -> ExitCode
 }
 
 // The same of the store that was opened; or ends the program as the opening did.
-fn serve_opened(
+fn serve_opened<P: Closing>(
     rt: &HostRuntime,
     serving: Serving,
-    opened: Result<FileKeeper, ExitCode>,
+    opened: Result<P, ExitCode>,
 ) -> ExitCode
     ensures unopened { IfErr opened (λ code. exit_status result ≡ exit_status code) }
     ensures served { IfOk opened (λ _. IsPortEnd (exit_status result)) }
@@ -47,7 +48,7 @@ fn serve_opened(
 }
 
 // Serves the store of the keeper, where the port is to be had.
-fn serve_keeper(rt: &HostRuntime, serving: Serving, keeper: FileKeeper) -> ExitCode
+fn serve_keeper<P: Closing>(rt: &HostRuntime, serving: Serving, keeper: P) -> ExitCode
     ensures { IsPortEnd (exit_status result) }
 {
     let address = SocketAddr::from((Ipv4Addr::LOCALHOST, serving.port));
@@ -56,18 +57,18 @@ fn serve_keeper(rt: &HostRuntime, serving: Serving, keeper: FileKeeper) -> ExitC
     match PollDoor::bind(rt.alloc(), rt, address, most, patience) {
         Ok(door) => serve_at(rt, serving, door, keeper),
         Err(error) => {
-            close(keeper);
+            keeper.close();
             end_unbound(rt, serving.port, error)
         }
     }
 }
 
 // Serves it at a door.
-fn serve_at(
+fn serve_at<P: Closing>(
     rt: &HostRuntime,
     serving: Serving,
     door: PollDoor<'_, HostRuntime>,
-    keeper: FileKeeper,
+    keeper: P,
 ) -> ExitCode
     ensures { IsOfServing (exit_status result) }
 {
@@ -80,18 +81,18 @@ fn serve_at(
 }
 
 // Serves the store of the keeper to those that come through the door, and closes it.
-fn keep_and_close<R: Readiness + Drop>(
+fn keep_and_close<P: Closing, R: Readiness + Drop>(
     rt: &HostRuntime,
     serving: Serving,
     door: R,
-    keeper: FileKeeper,
+    keeper: P,
 ) -> ExitCode
     ensures { IsOfServing (exit_status result) }
 {
     let mut door = door;
     let most = usize::from(serving.connections);
     let (code, keeper) = keep(rt, serving.port, &mut door, keeper, most);
-    close(keeper);
+    keeper.close();
     code
 }
 

@@ -71,8 +71,3 @@ fn miss(rt: &HostRuntime, path: &str) -> ExitCode
     note_missing(rt.alloc(), &mut note, path);
     end_refused(rt, &note)
 }
-
-/// Closes the store. What was committed stands in its log, so nothing is lost where that can't be copied into the file.
-pub fn close(keeper: FileKeeper) {
-    let _ = keeper.into_connection().close();
-}

@@ -2,14 +2,14 @@ use Rattle.std.proofs.Common.{refl}
 use Rattle.smsd.proofs.listing.list_opened.Goals as goal
 
 pub returns-in-Ok-clause-unopened : goal.returns-in-Ok-clause-unopened
-returns-in-Ok-clause-unopened c = rw c.in-Ok.is tt
+returns-in-Ok-clause-unopened g c = rw c.in-Ok.is tt
 
 -- the number is that of the status with which the store was listed
 pub returns-in-Ok-clause-ran : goal.returns-in-Ok-clause-ran
-returns-in-Ok-clause-ran c = rw c.in-Ok.is (c.write_list-code.ensures.status, c.write_list-code.ensures.code_is)
+returns-in-Ok-clause-ran g c = rw c.in-Ok.is (c.write_list-code.ensures.status, c.write_list-code.ensures.code_is)
 
 pub returns-in-Err-clause-unopened : goal.returns-in-Err-clause-unopened
-returns-in-Err-clause-unopened c = rw c.in-Err.is refl
+returns-in-Err-clause-unopened g c = rw c.in-Err.is refl
 
 pub returns-in-Err-clause-ran : goal.returns-in-Err-clause-ran
-returns-in-Err-clause-ran c = rw c.in-Err.is tt
+returns-in-Err-clause-ran g c = rw c.in-Err.is tt
