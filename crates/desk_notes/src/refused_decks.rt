@@ -11,14 +11,29 @@ use std::alloc::{AllocError, Global};
 // Of so many decks of a script it is told at most.
 const MOST_DECKS: usize = 3;
 
-/// Notes what a person is told of the replies that were seen; where one refuses a deck, and the script is known, also
-/// what the fault of the deck means and in which line of the script it stands.
+/// Notes what a person is told of the replies that were seen, and how many of them refused something; where one refuses
+/// a deck, and the script is known, also what the fault of the deck means and in which line of the script it stands.
 pub fn note_replies(alloc: Global, note: &mut String, seen: RepliesSeen, script: Option<&[u8]>) {
+    note_meaning(alloc, note, seen, script);
+    seen.note_refused(alloc, note);
+}
+
+/// The same, and how many replies there were by their codes, in place of those alone that refused something.
+pub fn note_all_replies(
+    alloc: Global,
+    note: &mut String,
+    seen: RepliesSeen,
+    script: Option<&[u8]>,
+) {
+    note_meaning(alloc, note, seen, script);
+    seen.note_all(alloc, note);
+}
+
+fn note_meaning(alloc: Global, note: &mut String, seen: RepliesSeen, script: Option<&[u8]>) {
     seen.note(note);
     if let (true, Some(text)) = (seen.has_refused_deck(), script) {
         note_refused_decks(alloc, note, text);
     }
-    seen.note_sum(alloc, note);
 }
 
 // Notes the faults of the first decks of this script that have one.

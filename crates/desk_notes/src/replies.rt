@@ -78,8 +78,13 @@ impl RepliesSeen {
     }
 
     /// Notes how many answers refused something, by their codes.
-    pub fn note_sum(self, alloc: Global, note: &mut String) {
-        self.counts.note_sum(alloc, note);
+    pub fn note_refused(self, alloc: Global, note: &mut String) {
+        self.counts.note_refused(alloc, note);
+    }
+
+    /// Notes how many answers there were, by their codes.
+    pub fn note_all(self, alloc: Global, note: &mut String) {
+        self.counts.note_all(alloc, note);
     }
 }
 

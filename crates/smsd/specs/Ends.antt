@@ -79,7 +79,7 @@ IsServeEnd code = IsUnopened code ⊎ IsPortEnd code
 
 -- how each task may end
 abbrev pub IsTaskEnd : Task → ℕ → Type 0
-IsTaskEnd (tasks.Run script volumes strict) code = IsReadEnd (IsScriptEnd strict) code
+IsTaskEnd (tasks.Run script running) code = IsReadEnd (IsScriptEnd running.strict) code
 IsTaskEnd (tasks.List query) code = IsStoreEnd code
 IsTaskEnd (tasks.Serve serving) code = IsServeEnd code
 IsTaskEnd (tasks.Check deck) code = IsReadEnd IsJudgedEnd code

@@ -75,7 +75,8 @@ pub fn is_bad(status: StoreStatus, good: bool) -> bool
     is_done(status) && !good
 }
 
-fn is_done(status: StoreStatus) -> bool
+/// Whether all was written.
+pub fn is_done(status: StoreStatus) -> bool
     ensures { result ≡ is_done status }
 {
     match status {

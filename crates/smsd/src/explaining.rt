@@ -1,5 +1,6 @@
 //! What is said of a call that didn't end well, for the person at the terminal (docs/manual/smsd.md, "Exit statuses").
 //! Where memory for it is wanting, nothing is said.
+use crate::ending::is_done;
 use deck_meaning::DeckErr;
 use desk_calls::RunStatus;
 use desk_common::{Items, Shared};
@@ -19,6 +20,9 @@ pub const NO_MEMORY: &str = "memory is wanting; nothing was read";
 
 pub const WAITING_FAULT: &str = "the system tells no further event; what was answered is kept";
 
+const BEHIND: &str =
+    "the script was answered, and its answers are written; of space management behind it:\n";
+
 pub const TEXT_FAULT: &str = "standard output can't be written; a front of the text may be there";
 
 /// Notes what failed on a store, and what stands.
@@ -29,6 +33,13 @@ pub fn note_status(alloc: Global, note: &mut String, status: StoreStatus, script
         }
         StoreStatus::Ran(status) => say(note, sentence_of_run(status)),
         StoreStatus::Unopened(err) => note_opening(alloc, note, err),
+    }
+}
+
+/// Notes that a script was answered and written, where space management behind it came to another end.
+pub fn note_behind(note: &mut String, ran: StoreStatus, status: StoreStatus) {
+    if is_done(ran) && !is_done(status) {
+        say(note, BEHIND);
     }
 }
 

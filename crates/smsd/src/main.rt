@@ -46,14 +46,12 @@ fn act(rt: &HostRuntime, store: &str, task: &Task<'_>) -> ExitCode
     match task {
         Task::Run {
             script: None,
-            volumes,
-            strict,
-        } => running::run(rt, store, *volumes, *strict),
+            running,
+        } => running::run(rt, store, *running),
         Task::Run {
             script: Some(path),
-            volumes,
-            strict,
-        } => running::run_file(rt, store, *volumes, *strict, path),
+            running,
+        } => running::run_file(rt, store, *running, path),
         Task::List(query) => listing::list(rt, store, query),
         Task::Serve(serving) => serving::serve(rt, store, *serving),
         Task::Check { deck } => checking::check(rt, store, deck),

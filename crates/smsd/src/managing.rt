@@ -10,7 +10,7 @@ use crate::ending::end_with;
 use crate::explaining::note_status;
 use crate::noted_sink::NotedSink;
 use crate::store::open_present;
-use desk_notes::note_replies;
+use desk_notes::note_all_replies;
 use sms_base::{Sink, StdSink};
 use sms_keeper::Stored;
 use std::alloc::Global;
@@ -60,7 +60,7 @@ fn manage_store<K: Sink, P: Stored>(
     let (status, keeper) = do_or_tell(rt.alloc(), day, dry, out, keeper);
     let mut note = String::new(rt.alloc());
     note_status(rt.alloc(), &mut note, status, None);
-    note_replies(rt.alloc(), &mut note, out.seen(), None);
+    note_all_replies(rt.alloc(), &mut note, out.seen(), None);
     (end_with(rt, status, &note), keeper)
 }
 

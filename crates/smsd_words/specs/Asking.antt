@@ -18,6 +18,7 @@ use Rattle.store_report.specs.declared.listing.Listing.{Listing}
 use Rattle.store_report.specs.declared.listing.Listing.TheVariants.{Groups, Volumes, Classes, Sets, Extents}
 use Rattle.store_report.specs.declared.query.Query.{Query}
 use Rattle.store_report.specs.declared.selection.Selection.{Selection}
+use Rattle.smsd_words.specs.declared.running.Running.{Running}
 use Rattle.smsd_words.specs.declared.serving.Serving.{Serving}
 use Rattle.smsd_words.specs.declared.task.Asked.{Asked}
 use Rattle.smsd_words.specs.declared.task.Task.{Task}
@@ -59,7 +60,7 @@ abbrev pub format_in : List Row → Option Format
 format_in rows = format_named (first_of (codes "format") rows)
 
 -- what a word is by this reading, if it is anything; nothing is asked where there is no word
-abbrev pub read_if : (Text → Option Text) → Option Text → Option (Option Text)
+abbrev pub read_if : {A : Type 0} → (Text → Option A) → Option Text → Option (Option A)
 read_if read None = Some None
 read_if read (Some word) = option_map (λ value. Some value) (read word)
 
@@ -144,11 +145,22 @@ day_named word = option_and_then day_of (small_number_of word)
 abbrev pub day_in : List Row → Option ℕ
 day_in rows = option_and_then day_named (first_of (codes "day") rows)
 
+-- the day of space management behind a script that these rows name
+abbrev pub managed_in : List Row → Option (Option ℕ)
+managed_in rows = read_if day_named (first_of (codes "manage") rows)
+
+-- how these rows ask a script to be answered
+abbrev pub running_in : List Row → Option Running
+running_in rows =
+    option_and_then (λ managed.
+    Some (record { volumes = is_set (codes "volumes") rows; strict = is_set (codes "strict") rows; managed = managed }))
+    (managed_in rows)
+
 -- the subcommand of this name with these rows asks for this task
 abbrev pub AsksTask : Text → List Row → Task → Type 0
-AsksTask name rows (tasks.Run script volumes strict) =
+AsksTask name rows (tasks.Run script running) =
     (name ≡ codes "run") × (option_map (λ path. path.now) script ≡ first_of (codes "script") rows) ×
-    (volumes ≡ is_set (codes "volumes") rows) × (strict ≡ is_set (codes "strict") rows)
+    (running_in rows ≡ Some running)
 AsksTask name rows (tasks.List query) = (name ≡ codes "list") × (query_in rows ≡ Some query)
 AsksTask name rows (tasks.Serve serving) = (name ≡ codes "serve") × (serving_in rows ≡ Some serving)
 AsksTask name rows (tasks.Check deck) = (name ≡ codes "check") × (first_of (codes "deck") rows ≡ Some deck.now)

@@ -30,11 +30,12 @@ KeepsItsOwn command = (out-Command command).has_globals ≡ false
 
 abbrev pub run_app : App
 run_app =
-    with_rule (with_rule (with_rule (with_rule
+    with_rule (with_rule (with_rule (with_rule (with_rule
     (new_app (codes "run"))
     (word_rule (codes "script")))
     (flag_rule (codes "volumes")))
     (flag_rule (codes "strict")))
+    (option_rule (codes "manage")))
     (option_rule (codes "store"))
 
 abbrev pub list_app : App

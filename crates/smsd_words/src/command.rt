@@ -33,6 +33,7 @@ fn run_command<'a>(alloc: Global) -> Result<Command<'a>, AllocError>
         .arg(word(alloc, "script"))?
         .arg(flag(alloc, "volumes"))?
         .arg(flag(alloc, "strict"))?
+        .arg(option(alloc, "manage"))?
         .arg(option(alloc, "store"))
 }
 

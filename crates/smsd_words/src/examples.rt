@@ -4,10 +4,12 @@ use std::alloc::{AllocError, Global};
 const RUN: &str = "
 smsd run [SCRIPT]    answer a script on the store: the one in the file SCRIPT, or
                      the one on standard input; with --volumes the table of
-                     volumes stands behind the answers; with --strict the exit
-                     status is 1 where an answer is an R, F or M
+                     volumes stands behind the answers; with --manage DAY space
+                     is managed behind the script, as smsd manage does it; with
+                     --strict the exit status is 1 where an answer is an R, F
+                     or M
 
-    smsd run morning.txt --store payroll.db
+    smsd run morning.txt --manage 20 --store payroll.db
 ";
 
 const LIST: &str = "
@@ -71,11 +73,14 @@ const LIST_VALUES: &str = "WHAT is groups, volumes, classes, sets or extents; --
 const SERVE_VALUES: &str = "--port is a number of 1 to 65535, --connections one of 1 to 10000, \
     and --idle one of 1 to 86400";
 
+const RUN_VALUES: &str = "--manage is a number of 0 to 9999999";
+
 const MANAGE_VALUES: &str = "DAY is a number of 0 to 9999999";
 
 /// Which values the words of a command have; empty where each is one.
 pub fn values_wanted(words: &[String]) -> &'static str {
     match words.first() {
+        Some(word) if word.as_str() == "run" => RUN_VALUES,
         Some(word) if word.as_str() == "list" => LIST_VALUES,
         Some(word) if word.as_str() == "serve" => SERVE_VALUES,
         Some(word) if word.as_str() == "manage" => MANAGE_VALUES,

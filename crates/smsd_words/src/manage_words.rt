@@ -18,7 +18,8 @@ pub fn day_in(matches: &ArgMatches<'_>) -> Option<u32>
     }
 }
 
-fn day_named(word: &str) -> Option<u32>
+/// The day that a word names.
+pub fn day_named(word: &str) -> Option<u32>
     ensures { result ≡ day_named word.now }
 {
     let day = read_number(word.as_bytes())?;

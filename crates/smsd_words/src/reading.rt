@@ -12,6 +12,7 @@ use crate::command::smsd_command;
 use crate::examples::examples_of;
 use crate::manage_words::day_in;
 use crate::query_words::query_in;
+use crate::run_words::running_in;
 use crate::serve_words::serving_in;
 use crate::task::{Asked, Task};
 use crate::values::{is_set, value_of};
@@ -84,11 +85,13 @@ fn task_of<'a>(name: &str, matches: &ArgMatches<'a>) -> Option<Task<'a>>
         (AsksTask name.now (rows_of (found_of matches.now))) }
 {
     if name == "run" {
-        return Some(Task::Run {
-            script: value_of(matches, "script"),
-            volumes: is_set(matches, "volumes"),
-            strict: is_set(matches, "strict"),
-        });
+        return match running_in(matches) {
+            Some(running) => Some(Task::Run {
+                script: value_of(matches, "script"),
+                running,
+            }),
+            None => None,
+        };
     }
     if name == "list" {
         return match query_in(matches) {

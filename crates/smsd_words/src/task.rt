@@ -1,4 +1,5 @@
 //! What the words of the command line ask for.
+use crate::running::Running;
 use crate::serving::Serving;
 use store_report::Query;
 
@@ -13,13 +14,10 @@ pub struct Asked<'a> {
 /// What is done with the store (docs/manual/smsd.md).
 #[derive(Clone, Copy)]
 pub enum Task<'a> {
-    /// A script is answered on it: that of the file at this path, or without one that on standard input; with `volumes`
-    /// the table of volumes stands behind the answers, and with `strict` an answer that tells that something was refused
-    /// or couldn't be done ends the program as a fault does.
+    /// A script is answered on it so: that of the file at this path, or without one that on standard input.
     Run {
         script: Option<&'a str>,
-        volumes: bool,
-        strict: bool,
+        running: Running,
     },
     /// This is listed of it.
     List(Query),

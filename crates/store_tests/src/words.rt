@@ -1,17 +1,20 @@
 //! What words of the command line ask for.
 use dsn_mask::{Mask, Name, Volser};
-use smsd_words::{Asked, Serving, Task, WordsErr, task_asked};
+use smsd_words::{Asked, Running, Serving, Task, WordsErr, task_asked};
 use std::alloc::Global;
 use std::test::Fail;
 use store_report::{Format, Listing};
 
-// Words, and the store, the script, whether the table of volumes is asked for, and whether the script is strict.
+// Words, and the store, the script, whether the table of volumes is asked for, whether the script is strict, and the day
+// of space management behind it.
 #[rattlefmt::skip]
-static RUNS: &[(&[&str], &str, Option<&str>, bool, bool)] = &[
-    (&["run"], "desk.db", None, false, false),
-    (&["run", "--volumes", "a"], "desk.db", Some("a"), true, false),
-    (&["run", "a", "--store", "s", "--strict"], "s", Some("a"), false, true),
-    (&["run", "--store=s", "--", "-a"], "s", Some("-a"), false, false),
+static RUNS: &[(&[&str], &str, Option<&str>, bool, bool, Option<u32>)] = &[
+    (&["run"], "desk.db", None, false, false, None),
+    (&["run", "--volumes", "a"], "desk.db", Some("a"), true, false, None),
+    (&["run", "a", "--store", "s", "--strict"], "s", Some("a"), false, true, None),
+    (&["run", "--store=s", "--", "-a"], "s", Some("-a"), false, false, None),
+    (&["run", "--manage", "20", "a"], "desk.db", Some("a"), false, false, Some(20)),
+    (&["run", "--volumes", "--manage=0"], "desk.db", None, true, false, Some(0)),
 ];
 
 // Words, the store and the deck.
@@ -62,6 +65,9 @@ static HINDERED: &[(&[&str], WordsErr)] = &[
     (&["run", "a", "b"], WordsErr::Bad),
     (&["run", "--volumes", "--volumes"], WordsErr::Bad),
     (&["run", "--store"], WordsErr::Bad),
+    (&["run", "--manage"], WordsErr::Bad),
+    (&["run", "--manage", "10000000"], WordsErr::Bad),
+    (&["run", "--manage", "1", "--manage", "1"], WordsErr::Bad),
     (&["list"], WordsErr::Bad),
     (&["list", "set"], WordsErr::Bad),
     (&["list", "SETS"], WordsErr::Bad),
@@ -99,7 +105,7 @@ fn words_of(alloc: Global, list: &[&str]) -> Result<Vec<String>, Fail> {
 
 fn are_runs(alloc: Global) -> Result<bool, Fail> {
     let mut good = true;
-    for (list, store, script, volumes, strict) in RUNS {
+    for (list, store, script, volumes, strict, managed) in RUNS {
         let words = words_of(alloc, list)?;
         good &= match task_asked(alloc, &words) {
             Ok(
@@ -107,11 +113,19 @@ fn are_runs(alloc: Global) -> Result<bool, Fail> {
                     store: named,
                     task: Task::Run {
                         script: found,
-                        volumes: asked,
-                        strict: judged,
+                        running,
                     },
                 },
-            ) => { named == *store && found == *script && asked == *volumes && judged == *strict }
+            ) => {
+                named == *store
+                    && found == *script
+                    && running
+                        == Running {
+                            volumes: *volumes,
+                            strict: *strict,
+                            managed: *managed,
+                        }
+            }
             _ => false,
         };
     }

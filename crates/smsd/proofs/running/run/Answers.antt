@@ -5,4 +5,4 @@ use Rattle.smsd.proofs.EndLemmas.{opened_end}
 use Rattle.smsd.proofs.running.run.Goals as goal
 
 pub returns : goal.returns
-returns c = inr (opened_end (IsOfScript c.args.strict) c.open.result (exit_status c.run_source.result) c.open.ensures c.run_source.ensures.unopened c.run_source.ensures.ran)
+returns c = inr (opened_end (IsOfScript c.args.running.strict) c.open.result (exit_status c.run_source.result) c.open.ensures c.run_source.ensures.unopened c.run_source.ensures.ran)

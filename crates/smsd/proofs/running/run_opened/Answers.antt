@@ -5,7 +5,7 @@ use Rattle.smsd.proofs.EndLemmas.{opened_end}
 use Rattle.smsd.proofs.running.run_opened.Goals as goal
 
 pub returns-in-Ok-clause-ends : goal.returns-in-Ok-clause-ends
-returns-in-Ok-clause-ends g c = inr (opened_end (IsOfScript c.args.strict) c.open.result (exit_status c.run_source.result) c.open.ensures c.run_source.ensures.unopened c.run_source.ensures.ran)
+returns-in-Ok-clause-ends g c = inr (opened_end (IsOfScript c.args.running.strict) c.open.result (exit_status c.run_source.result) c.open.ensures c.run_source.ensures.unopened c.run_source.ensures.ran)
 
 pub returns-in-Ok-clause-unread : goal.returns-in-Ok-clause-unread
 returns-in-Ok-clause-unread g c = rw c.in-Ok.is tt
