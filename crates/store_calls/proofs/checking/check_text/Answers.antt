@@ -1,4 +1,4 @@
-use Rattle.std.proofs.Common.{[], None, subst}
+use Rattle.std.proofs.Common.{[], ◌++◌, ◌∙◌, ℕ, List, None, ap, subst}
 use Rattle.desk_restoring.specs.Opened.{opening_of}
 use Rattle.sms_construct.specs.declared.request.Request.{Request}
 use Rattle.sms_core.specs.Core.{Enters}
@@ -17,5 +17,7 @@ returns c =
       journal = answered.0;
       enters = subst (λ (r : Request). Enters (opening_of c.args.rows c.args.config) [] answered.0 None None 0 0 r c.in_ok-answer.answer) (is_activation request c.args.bytes.items asked.job asked.op) answered.1;
       good_is = c.is_activated.ensures;
-      text_is = c.in_ok-text.ensures;
+      changed = c.in_ok-changes.changes.items;
+      difference = c.in_ok-changes.ensures;
+      text_is = c.in_ok-extend_from_slice.ensures.items ∙ ap (λ (told : List ℕ). told ++ c.in_ok-changes.changes.items) c.in_ok-text.ensures;
     }
