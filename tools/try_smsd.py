@@ -235,14 +235,27 @@ def ended(words, status, text=None, given=""):
     check(made.returncode == status, f"{words} ended with {made.returncode}: {made.stderr}")
     if text is not None:
         check(made.stdout == text, f"{words} printed {made.stdout!r}")
+    return made.stderr
 
 
 def try_days():
-    ended(["run", "--store", "days.db"], 0, given=DAILY)
+    told = ended(["run", "--store", "days.db"], 0, given=DAILY)
+    check(told == "smsd: answers: A00 3, A04 1, A08 1\n", f"run said {told!r}")
     for day, told, text in DAYS:
         ended(["manage", day, "--dry-run", "--store", "days.db"], 0, told)
         ended(["manage", day, "--store", "days.db"], 0, text)
     ended(["list", "sets", "--store", "days.db"], 0, "dsn,dataclas,storclas,mgmtclas,group,day,used,extents\n")
+
+
+def try_run_and_day():
+    answers = "1 1 1 SMSADMIN 1 A04 ACTIVATED 1\n"
+    first = subprocess.run([smsd, "run", "--store", "behind.db", "--manage", "3"], cwd=folder, input=DAILY,
+                           capture_output=True, text=True, timeout=60)
+    check(first.returncode == 0 and first.stdout.startswith(answers) and first.stdout.endswith("END 5 5\n" + DAYS[0][2]),
+          f"run with a day ended with {first.returncode}: {first.stdout!r} {first.stderr!r}")
+    check(first.stderr == "smsd: answers: A00 3, A03 1, A04 1, A08 1, A09 2\n", f"run with a day said {first.stderr!r}")
+    ended(["run", "--store", "behind.db", "--manage", "6", "--strict"], 1, given="JOB1 9 EXTEND A.A\n")
+    ended(["list", "sets", "--store", "behind.db"], 0, "dsn,dataclas,storclas,mgmtclas,group,day,used,extents\n")
 
 
 def try_statuses():
@@ -272,6 +285,7 @@ with tempfile.TemporaryDirectory() as folder:
     try_connections()
     try_clients()
     try_days()
+    try_run_and_day()
     try_statuses()
 print(f"{differing} differ")
 sys.exit(1 if differing else 0)

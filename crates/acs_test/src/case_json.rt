@@ -11,7 +11,7 @@ use sms_classes::Classified;
 use sms_outcomes::{push_members, push_text};
 use std::alloc::{AllocError, Global};
 
-/// Puts a case behind a text, as a line, that comes to the one and to the other.
+/// Puts a case that comes to the one and to the other behind a text, as a line.
 pub fn push_line(
     alloc: Global,
     text: &mut Vec<u8>,

@@ -14,8 +14,8 @@ use Rattle.sms_explain.specs.declared.deck_sources.DeckSources.{DeckSources}
 use Rattle.sms_lint.specs.declared.deck_finding.DeckFinding.{DeckFinding}
 use Rattle.sms_lint.specs.declared.deck_finding.DeckFinding.TheVariants.{InRoutine, NeverExpires, NeverSet, NotEnabled}
 
--- a finding: the routine's kind or the key of the construct's table, the word or the construct's name, the word's place,
--- what is found, and the place that makes it so
+-- a finding: the routine's kind or the key of the construct's table, the word or the construct's name, the word's
+-- place, what is found, and the place that makes it so
 pub record Told : Type 0 where
   pub at : List ℕ
   pub name : List ℕ

@@ -55,8 +55,8 @@ pub record TellsUnder (deck : List ℕ) (others : List Item) (text : List ℕ) :
   pub texts : AreSources deck sources
   pub text_is : text ≡ flat_map (told_of config sources) others
 
--- the text is that of a deck and of those ALLOCs behind it that are of this job and have this number, where one is asked
--- for
+-- the text is that of a deck and of those ALLOCs behind it that are of this job and have this number, where one is
+-- asked for
 pub record Tells (job : Option (List ℕ)) (number : Option ℕ) (items : List Item) (text : List ℕ) : Type 0 where
   pub deck : List ℕ
   pub others : List Item

@@ -22,8 +22,8 @@ use sms_story::tell;
 use std::alloc::{AllocError, Global};
 
 /// What the routines of the deck that the script's first item activates do with each of the allocations behind it that
-/// are of this job and have this number, where one is asked for (docs/manual/tool.md, "Explaining a script"). Nothing is
-/// allocated.
+/// are of this job and have this number, where one is asked for (docs/manual/tool.md, "Explaining a script"). Nothing
+/// is allocated.
 pub fn explain(
     alloc: Global,
     script: &Script,

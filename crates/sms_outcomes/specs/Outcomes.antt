@@ -29,7 +29,8 @@ text_values (text ∷ texts) = item (string text) (text_values texts)
 abbrev pub written_lines : SlateLines → List (List ℕ)
 written_lines written = trace_lines (record { lines = written.lines; more = written.more })
 
--- what a classification comes to: its outcome, what the variables hold at the end, and the lines that the routines wrote
+-- what a classification comes to: its outcome, what the variables hold at the end, and the lines that the routines
+-- wrote
 abbrev pub side_members : Classes → Members
 side_members classes =
     member (codes "outcome") (string (outcome_of classes))

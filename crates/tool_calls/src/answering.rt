@@ -3,7 +3,8 @@ ghost use Rattle.std.specs.Prelude.{◌≡◌, ◌<◌, ◌^◌, length, IfOk, I
 ghost use Rattle.sms_script.specs.Script.{items_of, script_of};
 ghost use Rattle.tool_calls.specs.ToolText.{letter_of, translated_text, fault_text, refused_text, valid_text, IsAnswer};
 ghost use Rattle.tool_calls.specs.ToolText.{Hinders, HindersScript, hindrance_of, TellsFault, TellsSimulation};
-ghost use Rattle.tool_calls.specs.ToolText.{HindersCoverage, HindersSimulation, IsSimulationIn, TellsCoverage, coverage_status};
+ghost use Rattle.tool_calls.specs.ToolText.{HindersCoverage, HindersSimulation, IsSimulationIn, TellsCoverage};
+ghost use Rattle.tool_calls.specs.ToolText.{coverage_status};
 ghost use Rattle.tool_words.specs.declared.task.Task.TheVariants.{Translate, Validate, Simulate, Explain, Coverage};
 
 use crate::comparing::compared;

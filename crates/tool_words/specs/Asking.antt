@@ -10,6 +10,7 @@ use Rattle.acs_tree.specs.declared.kind.Kind.{Kind}
 use Rattle.acs_tree.specs.declared.kind.Kind.TheVariants.{DataClas, StorClas, MgmtClas, StorGrp}
 use Rattle.clap.specs.Words.{Kinds, Row, Text, fault_of, first_of, subcommand_of}
 use Rattle.clap.specs.declared.error.kind.ErrorKind.{ErrorKind}
+use Rattle.desk_common.specs.Limits.{most_number}
 use Rattle.clap.specs.declared.error.kind.ErrorKind.TheVariants as kind
 use Rattle.dsn_mask.specs.Name.{name_of as job_named}
 use Rattle.tool_words.specs.Tool.{tool}
@@ -90,7 +91,7 @@ abbrev pub job_in : List Row → Option (Option Text)
 job_in rows = read_if job_named (first_of (codes "job") rows)
 
 abbrev pub number_in : List Row → Option (Option ℕ)
-number_in rows = read_if (λ word. within 1 4294967295 (number_of word)) (first_of (codes "number") rows)
+number_in rows = read_if (λ word. within 1 most_number (number_of word)) (first_of (codes "number") rows)
 
 -- which allocations these rows ask for
 abbrev pub pick_in : List Row → Option Pick

@@ -3,7 +3,8 @@ ghost use Rattle.std.specs.Prelude.{◌≡◌, false, IfOk};
 ghost use Rattle.clap.specs.Words.{app_of, rule_of};
 ghost use Rattle.clap.specs.declared.builder.command.Command.TheViews.{out-Command};
 ghost use Rattle.tool_words.specs.Tool.{KeepsItsOwn, bare_app, compare_app, coverage_app, file_app, flag_rule};
-ghost use Rattle.tool_words.specs.Tool.{explain_app, lint_app, option_rule, path_rule, simulate_app, tool, translate_app, wanted_rule};
+ghost use Rattle.tool_words.specs.Tool.{explain_app, lint_app, option_rule, path_rule, simulate_app, tool};
+ghost use Rattle.tool_words.specs.Tool.{translate_app, wanted_rule};
 
 use clap::{Arg, ArgAction, Command};
 use std::alloc::{AllocError, Global};

@@ -20,7 +20,7 @@ pub enum Task {
     /// It is a script, of which it is to be told what its allocations reach of the routines; that less than `least` per
     /// cent of a routine is covered is told by the exit status.
     Coverage { least: u8 },
-    /// It is a deck, of which it is to be told in this form what is certain and hardly meant so; with `fail` a finding is
-    /// told by the exit status.
+    /// It is a deck, of which it is to be told in this form what is certain and hardly meant so; with `fail` a finding
+    /// is told by the exit status.
     Lint { fail: bool, format: Format },
 }

@@ -9,9 +9,10 @@ use acs_tree::{Kind, number};
 use clap::ArgMatches;
 use dsn_mask::Name;
 
-// The greatest per cent, and the greatest number of a request.
+// The greatest per cent.
 const MOST_PERCENT: u64 = 100;
 
+// The greatest number of a request.
 const MOST_NUMBER: u64 = 4_294_967_295;
 
 /// The value of this name.
