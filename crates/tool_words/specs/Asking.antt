@@ -10,8 +10,8 @@ use Rattle.acs_tree.specs.declared.kind.Kind.{Kind}
 use Rattle.acs_tree.specs.declared.kind.Kind.TheVariants.{DataClas, StorClas, MgmtClas, StorGrp}
 use Rattle.clap.specs.Words.{Kinds, Row, Text, fault_of, first_of, subcommand_of}
 use Rattle.clap.specs.declared.error.kind.ErrorKind.{ErrorKind}
-use Rattle.desk_common.specs.Limits.{most_number}
 use Rattle.clap.specs.declared.error.kind.ErrorKind.TheVariants as kind
+use Rattle.desk_common.specs.Limits.{most_number}
 use Rattle.dsn_mask.specs.Name.{name_of as job_named}
 use Rattle.tool_words.specs.Tool.{tool}
 use Rattle.tool_words.specs.declared.comparison.Comparison.{Comparison}
