@@ -1,5 +1,5 @@
 -- The parts of cases are their JSON.
-use Rattle.std.proofs.Common.{◌≡◌, Bool, true, false, refl}
+use Rattle.std.proofs.Common.{◌≡◌, ◌++◌, ◌∙◌, ℕ, List, Bool, true, false, ap, append_assoc, refl}
 use Rattle.json.specs.Print.{escape_byte}
 use Rattle.serde_json.specs.Written.{compact_text}
 use Rattle.desk_law.specs.Classification.{Classes}
@@ -11,3 +11,7 @@ pub case_is : (case : Case) (old new : Classes) (same : Bool) → case_piece cas
 unfolding escape_byte
 case_is case old new true = refl
 case_is case old new false = refl
+
+-- a part, and what stands behind it
+pub behind : (before part first rest now : List ℕ) → first ≡ before ++ part → now ≡ first ++ rest → now ≡ before ++ (part ++ rest)
+behind before part first rest now e f = f ∙ ap (λ (t : List ℕ). t ++ rest) e ∙ append_assoc before part rest

@@ -1,5 +1,5 @@
 // Cases as comma-separated values.
-ghost use Rattle.std.specs.Prelude.{◌≡◌, ◌++◌, IfOk, OnOk};
+ghost use Rattle.std.specs.Prelude.{◌≡◌, ◌++◌, ◌∷◌, [], IfOk, OnOk};
 ghost use Rattle.csv.specs.Writing.{default_writer, row_text};
 ghost use Rattle.acs_test.specs.CaseRecords.{case_header, case_record, differs_word};
 ghost use Rattle.sms_outcomes.specs.Outcomes.{classes_made};
@@ -35,11 +35,28 @@ pub fn push_record(
 {
     let before = outcome_text(alloc, before)?;
     let after = outcome_text(alloc, after)?;
-    let record = record_text(
+    let record = four_fields(
         alloc,
-        &[case.name.bytes(), differs_word(same), &before, &after],
+        case.name.bytes(),
+        differs_word(same),
+        &before,
+        &after,
     )?;
     text.extend_from_slice(&record)
+}
+
+// A record of four fields.
+fn four_fields<'a>(
+    alloc: Global,
+    first: &'a [u8],
+    second: &'a [u8],
+    third: &'a [u8],
+    fourth: &'a [u8],
+) -> Result<Vec<u8>, AllocError>
+    ensures { IfOk result (λ text. text.items ≡ row_text default_writer
+        (first.now ∷ second.now ∷ third.now ∷ fourth.now ∷ [])) }
+{
+    record_text(alloc, &[first, second, third, fourth])
 }
 
 fn differs_word(same: bool) -> &'static [u8]

@@ -91,7 +91,7 @@ fn push_name(
     after: Option<Name>,
 ) -> Result<(), AllocError>
     ensures { OnOk result (text.new.items ≡
-        text.old.items ++ difference (name_lines front.now before.now) (name_lines front.now after.now)) }
+        text.old.items ++ difference (name_lines front.now before) (name_lines front.now after)) }
 {
     let old = name_lines(alloc, front, &before)?;
     let new = name_lines(alloc, front, &after)?;

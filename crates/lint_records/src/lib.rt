@@ -2,6 +2,6 @@
 #![tactic(auto)]
 
 mod finding_record;
-mod finding_records;
+mod records;
 
-pub use finding_records::finding_records;
+pub use records::finding_records;

@@ -4,7 +4,7 @@ use Rattle.json.specs.Print.{quoted}
 use Rattle.serde_json.specs.Written.{members_text}
 use Rattle.sms_outcomes.specs.Outcomes.{classes_made, side_members}
 use Rattle.acs_test.specs.Inner.Pieces.{differs_piece}
-use Rattle.sms_outcomes.proofs.PieceLemmas.{behind}
+use Rattle.acs_test.proofs.RecordTextLemmas.{behind}
 use Rattle.acs_test.proofs.case_json.push_parts.Goals as goal
 
 pub returns : goal.returns

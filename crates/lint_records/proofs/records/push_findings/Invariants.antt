@@ -1,7 +1,7 @@
 use Rattle.std.proofs.Common.{◌≡◌, ◌++◌, take}
 use Rattle.std.specs.Prelude.{flat_map}
 use Rattle.lint_records.specs.FindingRecords.{finding_record}
-use Rattle.lint_records.proofs.finding_records.push_findings.Given as goal
+use Rattle.lint_records.proofs.records.push_findings.Given as goal
 
 -- the records of the findings that were gone over
 abbrev pub invariant-loop-finding : goal.invariant-loop-finding
