@@ -47,12 +47,20 @@ management_class_line class =
     (codes "MGMTCLAS " ++ class.name) ++ (numbered (codes " expire_after=") class.expire_after
     ++ (codes " release=" ++ switch_word class.release))
 
+-- the thresholds of a storage group
+abbrev pub thresholds_part : StorGroup → List ℕ
+thresholds_part group = (codes " high=" ++ decimal group.high) ++ (codes " low=" ++ decimal group.low)
+
+-- whether it is chosen after others, and from where on cylinder-managed space is tried first
+abbrev pub order_part : StorGroup → List ℕ
+order_part group =
+    (codes " overflow=" ++ switch_word group.overflow) ++ (codes " breakpoint=" ++ decimal group.breakpoint)
+
 -- the line of a storage group
 abbrev pub group_line : StorGroup → List ℕ
 group_line group =
     (codes "STORGRP " ++ group.name) ++ ((codes " status=" ++ status_text group.status)
-    ++ ((codes " high=" ++ decimal group.high) ++ ((codes " low=" ++ decimal group.low)
-    ++ ((codes " overflow=" ++ switch_word group.overflow) ++ (codes " breakpoint=" ++ decimal group.breakpoint)))))
+    ++ (thresholds_part group ++ order_part group))
 
 -- the line of a volume
 abbrev pub volume_line : VolumeDef → List ℕ

@@ -1,7 +1,7 @@
 //! Constructs that a deck defines, each told in a line.
 ghost use Rattle.std.specs.Prelude.{◌≡◌, ◌++◌, ℕ, List, OnOk};
 ghost use Rattle.deck_changes.specs.DeckLines.{data_class_line, group_line, management_class_line};
-ghost use Rattle.deck_changes.specs.DeckLines.{storage_class_line, volume_line};
+ghost use Rattle.deck_changes.specs.DeckLines.{order_part, storage_class_line, thresholds_part, volume_line};
 
 use crate::lines::{push_numbered, push_numbered_if, push_space, push_worded, switch_bytes};
 use sms_construct::{DataClass, MgmtClass, StorClass, StorGroup, VolumeCount, VolumeDef};
@@ -111,8 +111,22 @@ fn push_group(text: &mut Vec<u8>, group: &StorGroup) -> Result<(), AllocError>
 {
     push_worded(text, b"STORGRP ", group.name.bytes())?;
     push_worded(text, b" status=", status_bytes(group.status))?;
+    push_thresholds(text, group)?;
+    push_order(text, group)?;
+    Ok(())
+}
+
+fn push_thresholds(text: &mut Vec<u8>, group: &StorGroup) -> Result<(), AllocError>
+    ensures { OnOk result (text.new.items ≡ text.old.items ++ thresholds_part group.now) }
+{
     push_numbered(text, b" high=", u64::from(group.high))?;
     push_numbered(text, b" low=", u64::from(group.low))?;
+    Ok(())
+}
+
+fn push_order(text: &mut Vec<u8>, group: &StorGroup) -> Result<(), AllocError>
+    ensures { OnOk result (text.new.items ≡ text.old.items ++ order_part group.now) }
+{
     push_worded(text, b" overflow=", switch_bytes(group.overflow))?;
     push_numbered(text, b" breakpoint=", u64::from(group.breakpoint))?;
     Ok(())
