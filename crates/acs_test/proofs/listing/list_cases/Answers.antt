@@ -47,5 +47,7 @@ returns c =
     record {
       lines = text;
       listed = subst (λ (cases : List Case). IsListed before after form changed cases differing text) c.as_slice-list.ensures whole;
-      text_is = c.in_ok-whole.ensures ∙ ap (λ (cases : List Case). front_in form ++ (text ++ end_in form (length cases) differing)) c.as_slice-list.ensures;
+      text_is = c.in_ok-whole.ensures
+          ∙ ap (λ (t : List ℕ). front_in form ++ (t ++ end_in form (length list) differing)) c.deref.ensures.value
+          ∙ ap (λ (cases : List Case). front_in form ++ (text ++ end_in form (length cases) differing)) c.as_slice-list.ensures;
     }
