@@ -1,4 +1,0 @@
-pub mod DeckLines
-pub mod Differences
-pub mod RoutineChanges
-pub mod DeckChanges
