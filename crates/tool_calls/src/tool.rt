@@ -45,7 +45,7 @@ pub fn smsc_main<S: Source, K: Sink>(
         result }
 {
     match task_asked(alloc, words) {
-        Ok(task) => answer_source(alloc, task, src, out, note),
+        Ok(task) => answer_source(alloc, &task, src, out, note),
         Err(WordsErr::Bad) => {
             note_words(alloc, note, words);
             ToolStatus::BadWords
@@ -74,25 +74,25 @@ fn show<K: Sink>(alloc: Global, words: &[String], out: &mut K) -> ToolStatus
 #[tactic(auto, using(crate::proofs::AnswerLemmas::answered, crate::proofs::AnswerLemmas::never_bad_words, crate::proofs::AnswerLemmas::never_silent))]
 fn answer_source<S: Source, K: Sink>(
     alloc: Global,
-    task: Task,
+    task: &Task,
     src: &mut S,
     out: &mut K,
     note: &mut String,
 ) -> ToolStatus
     ensures words { result ≡ ToolStatus.BadWords → ⊥ }
     ensures unwritten { leaves_sink result ≡ true → out.new ≡ out.old }
-    ensures ends { Ends task
+    ensures ends { Ends task.now
         (seen_streams S.left S.reads S.read_faults K.taken K.write_faults src.old out.old)
         (seen_streams S.left S.reads S.read_faults K.taken K.write_faults src.new out.new)
         result }
 {
-    let bytes = match read_all(alloc, src, most_bytes(task)) {
+    let bytes = match read_all(alloc, src, most_bytes(*task)) {
         Ok(bytes) => bytes,
         Err(ReadEnd::Failed) => return ToolStatus::ReadFault,
         Err(ReadEnd::TooLong) => return ToolStatus::TooLong,
         Err(ReadEnd::NoMemory) => return ToolStatus::NoMemory,
     };
-    let (status, text) = match answer(alloc, task, bytes, note) {
+    let (status, text) = match answer(alloc, *task, bytes, note) {
         Ok(found) => found,
         Err(NoAnswer::Script(fault)) => return ToolStatus::Script(fault),
         Err(NoAnswer::NoMemory) => return ToolStatus::NoMemory,
