@@ -6,7 +6,7 @@ returns-in-Ok-clause-unopened g c = rw c.in-Ok.is tt
 
 -- the number is that of the status with which the deck was checked, and of whether it would be active
 pub returns-in-Ok-clause-checked : goal.returns-in-Ok-clause-checked
-returns-in-Ok-clause-checked g c = rw c.in-Ok.is (c.check_deck-code.ensures.status, c.check_deck-code.ensures.good, c.check_deck-code.ensures.code_is)
+returns-in-Ok-clause-checked g c = rw c.in-Ok.is (c.check_deck-keeper.ensures.status, c.check_deck-keeper.ensures.good, c.check_deck-keeper.ensures.code_is)
 
 pub returns-in-Err-clause-unopened : goal.returns-in-Err-clause-unopened
 returns-in-Err-clause-unopened g c = rw c.in-Err.is refl

@@ -6,7 +6,7 @@ returns-in-Ok-clause-unopened g c = rw c.in-Ok.is tt
 
 -- the number is that of the status with which the store was listed
 pub returns-in-Ok-clause-ran : goal.returns-in-Ok-clause-ran
-returns-in-Ok-clause-ran g c = rw c.in-Ok.is (c.write_list-code.ensures.status, c.write_list-code.ensures.code_is)
+returns-in-Ok-clause-ran g c = rw c.in-Ok.is (c.write_list-keeper.ensures.status, c.write_list-keeper.ensures.code_is)
 
 pub returns-in-Err-clause-unopened : goal.returns-in-Err-clause-unopened
 returns-in-Err-clause-unopened g c = rw c.in-Err.is refl

@@ -6,7 +6,7 @@ returns-in-Ok-clause-unopened g c = rw c.in-Ok.is tt
 
 -- the number is that of the status with which it was done
 pub returns-in-Ok-clause-ran : goal.returns-in-Ok-clause-ran
-returns-in-Ok-clause-ran g c = rw c.in-Ok.is (c.manage_store-code.ensures.status, c.manage_store-code.ensures.code_is)
+returns-in-Ok-clause-ran g c = rw c.in-Ok.is (c.manage_store-keeper.ensures.status, c.manage_store-keeper.ensures.code_is)
 
 pub returns-in-Err-clause-unopened : goal.returns-in-Err-clause-unopened
 returns-in-Err-clause-unopened g c = rw c.in-Err.is refl
