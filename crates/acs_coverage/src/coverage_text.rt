@@ -97,8 +97,8 @@ fn push_counted(text: &mut Vec<u8>, word: &[u8], count: u64) -> Result<(), Alloc
     push_number(text, count)
 }
 
-// Whether everything that may happen at a point happened.
-fn is_covered(point: &Point, tally: &Tally) -> bool
+/// Whether everything that may happen at a point happened.
+pub fn is_covered(point: &Point, tally: &Tally) -> bool
     ensures { result ≡ is_covered point.now tally.now }
 {
     match point {

@@ -8,7 +8,7 @@ mod points;
 mod tallies;
 mod tally;
 
-pub use coverage_text::{covered_points, push_coverage};
+pub use coverage_text::{covered_points, is_covered, push_coverage};
 pub use point::{Point, Points};
 pub use points::points_of;
 pub use tallies::Tallies;

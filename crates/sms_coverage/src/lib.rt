@@ -8,6 +8,8 @@ mod kind_tallies;
 mod shortfall;
 mod text;
 
+pub use counting::counted;
 pub use coverage::{Coverage, Covered};
 pub use covering::cover;
 pub use kind_tallies::KindTallies;
+pub use shortfall::is_short;

@@ -8,4 +8,5 @@ mod run_text;
 
 pub use deck_sources::{DeckSources, sources_of};
 pub use explaining::explain;
+pub use picking::picked_items;
 pub use run_text::push_runs;
