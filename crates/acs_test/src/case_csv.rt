@@ -6,8 +6,9 @@ ghost use Rattle.sms_outcomes.specs.Outcomes.{classes_made};
 
 use crate::case::Case;
 use acs_tree::Slate;
+use flat_records::record_text;
 use sms_classes::Classified;
-use sms_outcomes::{outcome_text, record_text};
+use sms_outcomes::outcome_text;
 use std::alloc::{AllocError, Global};
 
 const HEADER: [&[u8]; 4] = [b"case", b"differs", b"old", b"new"];

@@ -6,8 +6,8 @@ use Rattle.serde_json.specs.Data.{Data, null, number, unsigned, string, object, 
 use Rattle.serde_json.specs.Written.{compact_text}
 use Rattle.sms_explain.specs.declared.deck_sources.DeckSources.{DeckSources}
 use Rattle.sms_lint.specs.declared.deck_finding.DeckFinding.{DeckFinding}
-use Rattle.sms_outcomes.specs.declared.form.RecordForm.{RecordForm}
-use Rattle.sms_outcomes.specs.declared.form.RecordForm.TheVariants.{Csv, Json}
+use Rattle.flat_records.specs.declared.form.RecordForm.{RecordForm}
+use Rattle.flat_records.specs.declared.form.RecordForm.TheVariants.{Csv, Json}
 use Rattle.lint_records.specs.Told.{Told, told}
 
 -- the line and the column of a place, if there is one

@@ -8,7 +8,8 @@ ghost use Rattle.lint_records.specs.Inner.Pieces.{at_piece, finding_piece, place
 
 use acs_places::Place;
 use desk_common::push_number;
-use sms_outcomes::{RecordForm, push_text, record_text};
+use flat_records::{RecordForm, record_text};
+use sms_outcomes::push_text;
 use std::alloc::{AllocError, Global};
 
 /// Puts a record behind a text: where something is found, at what, with its place if it has one, what is found, and the

@@ -9,10 +9,10 @@ use acs_lint::Finding;
 use acs_places::Place;
 use acs_telling::Source;
 use acs_tree::Kind;
+use flat_records::{RecordForm, record_text};
 use sms_construct::key_of;
 use sms_explain::DeckSources;
 use sms_lint::DeckFinding;
-use sms_outcomes::{RecordForm, record_text};
 use std::alloc::{AllocError, Global};
 
 const HEADER: [&[u8]; 7] = [

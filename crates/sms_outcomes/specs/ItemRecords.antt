@@ -9,8 +9,8 @@ use Rattle.sms_script.specs.declared.item.Item.{Item}
 use Rattle.desk_law.specs.Classification.{Classes, classes_of}
 use Rattle.sms_simulation.specs.Simulation.{alloc_of}
 use Rattle.sms_outcomes.specs.Outcomes.{outcome_of, side_members}
-use Rattle.sms_outcomes.specs.declared.form.RecordForm.{RecordForm}
-use Rattle.sms_outcomes.specs.declared.form.RecordForm.TheVariants.{Csv, Json}
+use Rattle.flat_records.specs.declared.form.RecordForm.{RecordForm}
+use Rattle.flat_records.specs.declared.form.RecordForm.TheVariants.{Csv, Json}
 
 -- the ALLOC of an item: its line in the script, its job and its number, and what its classification comes to
 abbrev pub item_value : Item → Classes → Data

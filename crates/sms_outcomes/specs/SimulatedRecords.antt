@@ -7,7 +7,7 @@ use Rattle.sms_simulation.specs.Simulation.{AreAsked, RefusesDeck, first_misplac
 use Rattle.sms_simulation.specs.declared.simulated.Simulated.{Simulated}
 use Rattle.sms_simulation.specs.declared.simulated.Simulated.TheVariants as simulations
 use Rattle.sms_outcomes.specs.ItemRecords.{front_in, item_record}
-use Rattle.sms_outcomes.specs.declared.form.RecordForm.{RecordForm}
+use Rattle.flat_records.specs.declared.form.RecordForm.{RecordForm}
 
 -- there is nothing to simulate, and what stands before records is all
 pub record RecordsNothing (form : RecordForm) (items : List Item) (text : List ℕ) : Type 0 where

@@ -7,11 +7,11 @@ ghost use Rattle.sms_outcomes.specs.Inner.Pieces.{head_piece};
 ghost use Rattle.sms_outcomes.specs.ItemRecords.{front_in, item_fields, item_header, item_value, record_in};
 ghost use Rattle.sms_outcomes.specs.Outcomes.{classes_made};
 
-use crate::csv_record::{outcome_text, record_text};
-use crate::form::RecordForm;
 use crate::members::{push_members, push_text};
+use crate::outcome_field::outcome_text;
 use acs_tree::Slate;
 use desk_common::push_number;
+use flat_records::{RecordForm, record_text};
 use sms_classes::Classified;
 use sms_script::Item;
 use std::alloc::{AllocError, Global};

@@ -5,11 +5,11 @@ ghost use Rattle.desk_law.specs.Classification.{classes_of};
 ghost use Rattle.sms_outcomes.specs.ItemRecords.{front_in, item_record, record_in};
 ghost use Rattle.sms_outcomes.specs.SimulatedRecords.{IsRecorded, IsRecordedUnder};
 
-use crate::form::RecordForm;
 use crate::item_record::{front_text, push_record};
 use acs_tree::Slate;
 use deck_meaning::{Config, DeckErr};
 use desk_common::Items;
+use flat_records::RecordForm;
 use sms_classes::classify;
 use sms_construct::{Alloc, DeckText, Op};
 use sms_deck::read_deck;

@@ -30,7 +30,7 @@ use Rattle.acs_test.specs.Reading.{IsReading, IsRefusal}
 use Rattle.sms_lint.specs.Linting.{IsLintOf}
 use Rattle.lint_records.specs.FindingRecords.{records_text}
 use Rattle.sms_outcomes.specs.SimulatedRecords.{IsRecorded}
-use Rattle.sms_outcomes.specs.declared.form.RecordForm.TheVariants as forms
+use Rattle.flat_records.specs.declared.form.RecordForm.TheVariants as forms
 use Rattle.sms_lint.specs.declared.linted.Lint.{Lint}
 use Rattle.tool_calls.specs.CasesText.{IsComparison}
 use Rattle.tool_calls.specs.declared.no_answer.NoAnswer.{NoAnswer}

@@ -8,9 +8,9 @@ use crate::answering::refused;
 use crate::noting::note_deck;
 use crate::status::ToolStatus;
 use desk_common::{Items, Shared};
+use flat_records::RecordForm;
 use lint_records::finding_records;
 use sms_lint::{Lint as Found, Linted, lint};
-use sms_outcomes::RecordForm;
 use std::alloc::{AllocError, Global};
 use tool_words::Format;
 

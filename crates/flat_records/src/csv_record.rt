@@ -1,11 +1,8 @@
 //! Records of comma-separated values.
 ghost use Rattle.std.specs.Prelude.{◌≡◌, map, IfOk};
 ghost use Rattle.csv.specs.Writing.{default_writer, row_text};
-ghost use Rattle.sms_simulation.specs.OutcomeText.{outcome_text};
 
 use csv::WriterBuilder;
-use sms_classes::Classified;
-use sms_simulation::push_outcome;
 use std::alloc::{AllocError, Global};
 
 /// One record.
@@ -20,13 +17,4 @@ pub fn record_text(alloc: Global, fields: &[&[u8]]) -> Result<Vec<u8>, AllocErro
         Ok(text) => Ok(text),
         Err(_) => Err(AllocError),
     }
-}
-
-/// The outcome of a classification, as a field.
-pub fn outcome_text(alloc: Global, made: &Classified) -> Result<Vec<u8>, AllocError>
-    ensures { IfOk result (λ text. text.items ≡ outcome_text made.now.stop made.now.values) }
-{
-    let mut text = Vec::new(alloc);
-    push_outcome(&mut text, made.stop, &made.values)?;
-    Ok(text)
 }
