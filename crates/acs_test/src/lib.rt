@@ -27,3 +27,4 @@ pub use form::CaseForm;
 pub use layout::InputParts;
 pub use listing::{Listing, compare, list_cases};
 pub use reading::{read_cases, read_parts};
+pub use table_cases::read_table;

@@ -1,8 +1,5 @@
 //! A comparison of files.
-ghost use Rattle.std.specs.Prelude.{◌≤◌, length, IfOk};
-ghost use Rattle.desk_common.specs.Limits.{most_input_bytes};
-
-use crate::files::{TOO_LONG, UNREAD, note_file, open, whole};
+use crate::files::{file_bytes, whole};
 use acs_test::InputParts;
 use sms_base::{StdSink, StdSource};
 use std::io;
@@ -67,23 +64,5 @@ fn names_of(files: ComparedFiles<'_>) -> PartNames<'_> {
         before: files.before,
         after: files.after,
         table: files.cases.unwrap_or("standard input"),
-    }
-}
-
-// All bytes of the file at this path.
-fn file_bytes(rt: &HostRuntime, path: &str, note: &mut String) -> Result<Vec<u8>, ToolStatus>
-    ensures { IfOk result (λ bytes. length bytes.items ≤ most_input_bytes) }
-{
-    let mut src = open(rt, path, note)?;
-    match whole(rt.alloc(), &mut src) {
-        Ok(bytes) => Ok(bytes),
-        Err(status) => {
-            match status {
-                ToolStatus::ReadFault => note_file(rt.alloc(), path, UNREAD, note),
-                ToolStatus::TooLong => note_file(rt.alloc(), path, TOO_LONG, note),
-                _ => (),
-            }
-            Err(status)
-        }
     }
 }

@@ -53,3 +53,21 @@ pub fn whole<S: Source>(alloc: Global, src: &mut S) -> Result<Vec<u8>, ToolStatu
         Err(ReadEnd::NoMemory) => Err(ToolStatus::NoMemory),
     }
 }
+
+/// All bytes of the file at this path; where it can't be read, that is noted.
+pub fn file_bytes(rt: &HostRuntime, path: &str, note: &mut String) -> Result<Vec<u8>, ToolStatus>
+    ensures { IfOk result (λ bytes. length bytes.items ≤ most_input_bytes) }
+{
+    let mut src = open(rt, path, note)?;
+    match whole(rt.alloc(), &mut src) {
+        Ok(bytes) => Ok(bytes),
+        Err(status) => {
+            match status {
+                ToolStatus::ReadFault => note_file(rt.alloc(), path, UNREAD, note),
+                ToolStatus::TooLong => note_file(rt.alloc(), path, TOO_LONG, note),
+                _ => (),
+            }
+            Err(status)
+        }
+    }
+}

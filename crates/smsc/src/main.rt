@@ -6,10 +6,12 @@ ghost use Rattle.std.specs.Prelude.{◌≡◌};
 ghost use Rattle.std.specs.Process.{exit_status};
 ghost use Rattle.tool_calls.specs.ExitStatus.{exit_status_of};
 
+mod case_files;
 mod compared_files;
 mod explaining;
 mod files;
 
+use crate::case_files::{CaseFiles, answer_files};
 use crate::compared_files::{ComparedFiles, compare_files};
 use crate::explaining::sentence_of;
 use crate::files::{TOO_LONG, UNREAD, note_file, open};
@@ -43,6 +45,9 @@ fn answer(rt: &HostRuntime, words: &[String], note: &mut String) -> ToolStatus {
             cases: paths.cases,
         };
         return compare_files(rt, words, files, note);
+    }
+    if let (Some(deck), Some(table)) = (paths.file, paths.cases) {
+        return answer_files(rt, words, CaseFiles { deck, table }, note);
     }
     match paths.file.or(paths.old) {
         Some(path) => answer_file(rt, words, path, note),

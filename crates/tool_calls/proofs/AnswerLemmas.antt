@@ -20,12 +20,6 @@ use Rattle.sms_script.specs.declared.item.Item.{Item}
 use Rattle.sms_script.specs.declared.script_err.ScriptErr.{ScriptErr}
 use Rattle.sms_script.specs.declared.script_err.ScriptErr.TheVariants as scripts
 use Rattle.sms_simulation.specs.Simulation.{first_misplaced}
-use Rattle.sms_simulation.specs.declared.simulated.Simulated.{Simulated}
-use Rattle.sms_simulation.specs.declared.simulated.Simulated.TheVariants as simulations
-use Rattle.sms_coverage.specs.Coverage.{IsCoverage}
-use Rattle.sms_coverage.specs.declared.coverage.Covered.{Covered}
-use Rattle.sms_coverage.specs.declared.coverage.Covered.TheVariants as coverages
-use Rattle.sms_explain.specs.Explanation.{IsExplanation}
 use Rattle.sms_lint.specs.Linting.{IsLintOf}
 use Rattle.sms_lint.specs.declared.linted.Lint.{Lint}
 use Rattle.acs_test.specs.Reading.{IsReading, IsRefusal as IsCasesRefusal}
@@ -37,18 +31,21 @@ use Rattle.tool_calls.specs.CasesText.{IsComparison, TellsListing, TellsCases, c
 use Rattle.tool_calls.specs.PartsEnds.{EndsTold, SinkSeen, WasCutOff}
 use Rattle.tool_calls.specs.declared.no_answer.NoAnswer.{NoAnswer}
 use Rattle.tool_calls.specs.declared.no_answer.NoAnswer.TheVariants as hindrances
-use Rattle.tool_calls.specs.ToolText.{translated_text, valid_text, refused_text, IsAnswer, IsSimulationIn, translated, faulty, valid}
-use Rattle.tool_calls.specs.ToolText.{refused, simulated, unsimulated, compared, explained, unexplained, covered, uncovered, linted, unlinted, lint_status, lint_text, unread, misplaced, Hinders, HindersScript}
-use Rattle.tool_calls.specs.ToolText.{hindrance_of, coverage_status, TellsCoverage, HindersCoverage, TellsFault, TellsSimulation, HindersSimulation}
+use Rattle.tool_calls.specs.DeckText.{refused_in, refused_text, valid_in}
+use Rattle.tool_calls.specs.ScriptText.{IsScriptAnswer, IsToldOf, TellsScript, shown, unshown}
+use Rattle.tool_calls.specs.ToolText.{translated_text, IsAnswer, translated, faulty, valid, refused, scripted, compared, linted, unlinted}
+use Rattle.tool_calls.specs.ToolText.{lint_status, lint_text, unread, misplaced, Hinders, HindersScript, HindersTold, hindrance_of, TellsFault}
+use Rattle.tool_calls.specs.declared.script_told.ScriptTold.{ScriptTold}
+use Rattle.tool_calls.specs.declared.script_told.ScriptTold.TheVariants as tolds
+use Rattle.tool_calls.proofs.ScriptLemmas.{IsEnd, misplaced_told, script_ends}
 use Rattle.tool_calls.specs.ToolEnds.{Ends, HasAnswer, leaves_sink}
 use Rattle.tool_calls.specs.declared.status.ToolStatus.{ToolStatus}
 use Rattle.tool_calls.specs.declared.status.ToolStatus.TheVariants.{Done, FaultFound, BadWords}
 use Rattle.tool_words.specs.declared.comparison.Comparison.{Comparison}
 use Rattle.tool_words.specs.declared.format.Format.{Format}
-use Rattle.tool_words.specs.declared.format.Format.TheVariants as formats
-use Rattle.tool_words.specs.declared.pick.Pick.{Pick}
+use Rattle.tool_words.specs.declared.script_task.ScriptTask.{ScriptTask}
 use Rattle.tool_words.specs.declared.task.Task.{Task}
-use Rattle.tool_words.specs.declared.task.Task.TheVariants.{Translate, Validate, Simulate, Compare, Explain, Coverage}
+use Rattle.tool_words.specs.declared.task.Task.TheVariants.{Translate, Validate, Script, Compare}
 use Rattle.tool_words.specs.declared.task.Task.TheVariants.{Lint as LintDeck}
 
 pub done : {bytes text : List ℕ} {kind : Kind} {tree : Routine} {count : ℕ} → IsTranslated bytes kind tree count → text ≡ translated_text kind count → IsAnswer bytes (Translate kind) Done text
@@ -58,11 +55,11 @@ pub found : {bytes text : List ℕ} {kind : Kind} {status : ToolStatus} (err : T
 found {bytes} {text} {kind} {status} (Fault fault) d e = subst (λ x. IsAnswer bytes (Translate kind) x text) (sym e.0) (subst (λ x. IsAnswer bytes (Translate kind) FaultFound x) (sym e.1) (faulty kind fault d))
 found NoMemory d e = absurd e
 
-pub validated : {bytes text : List ℕ} {config : Configuration} → Configures bytes config → text ≡ valid_text (length config.groups) (length config.volumes) → IsAnswer bytes Validate Done text
-validated {bytes} {text} {config} c e = subst (λ x. IsAnswer bytes Validate Done x) (sym e) (valid config c)
+pub validated : {bytes text : List ℕ} {format : Format} {config : Configuration} → Configures bytes config → text ≡ valid_in format (length config.groups) (length config.volumes) → IsAnswer bytes (Validate format) Done text
+validated {bytes} {text} {format} {config} c e = subst (λ x. IsAnswer bytes (Validate format) Done x) (sym e) (valid format config c)
 
-pub deck_refused : {bytes text : List ℕ} {status : ToolStatus} {fault : DeckFault} → HasFirstFault bytes fault → (status ≡ FaultFound) × (text ≡ refused_text fault) → IsAnswer bytes Validate status text
-deck_refused {bytes} {text} {status} {fault} f e = subst (λ x. IsAnswer bytes Validate x text) (sym e.0) (subst (λ x. IsAnswer bytes Validate FaultFound x) (sym e.1) (refused fault f))
+pub deck_refused : {bytes text : List ℕ} {format : Format} {fault : DeckFault} → HasFirstFault bytes fault → text ≡ refused_in format fault → IsAnswer bytes (Validate format) FaultFound text
+deck_refused {bytes} {text} {format} {fault} f e = subst (λ x. IsAnswer bytes (Validate format) FaultFound x) (sym e) (refused format fault f)
 
 -- what is found in a deck, or its fault, is the answer to it
 
@@ -73,75 +70,34 @@ pub unlinted_told : {bytes text : List ℕ} {fail : Bool} {format : Format} {sta
 unlinted_told {bytes} {text} {fail} {format} {status} {fault} f e =
     subst (λ x. IsAnswer bytes (LintDeck fail format) x text) (sym e.0) (subst (λ x. IsAnswer bytes (LintDeck fail format) FaultFound x) (sym e.1) (unlinted fail format fault f))
 
--- what a simulation comes to is the answer to its script; a misplaced item is one of the script in each form
+-- what a task tells of the items of a script is the answer to it
 
-misplaced_in : (format : Format) (items : List Item) (line : ℕ) → IsSimulationIn format items (simulations.Misplaced line) → first_misplaced items ≡ Some line
-misplaced_in formats.Text items line is = is
-misplaced_in formats.Csv items line is = is
-misplaced_in formats.Json items line is = is
+pub items_told : {status : ToolStatus} {text : List ℕ} (task : ScriptTask) (items : List Item) (told : ScriptTold) → IsToldOf task items told → TellsScript told status text → IsScriptAnswer task items status text
+items_told {status} {text} task items (tolds.Shown shown_status shown_text) is e =
+    subst (λ x. IsScriptAnswer task items x text) (sym e.0) (subst (λ x. IsScriptAnswer task items shown_status x) (sym e.1) (shown shown_status shown_text is))
+items_told {status} {text} task items (tolds.Refused fault) is e =
+    subst (λ x. IsScriptAnswer task items x text) (sym e.0) (subst (λ x. IsScriptAnswer task items FaultFound x) (sym e.1) (unshown fault is))
+items_told task items (tolds.Misplaced line) is e = absurd e
 
-pub simulation_told : {bytes text : List ℕ} {status : ToolStatus} (format : Format) (phases : List (List Item)) (made : Simulated) → script_of bytes ≡ Ok phases → IsSimulationIn format (items_of phases) made → TellsSimulation made status text → IsAnswer bytes (Simulate format) status text
-simulation_told {bytes} {text} {status} format phases (simulations.Shown shown) script is e =
-    subst (λ x. IsAnswer bytes (Simulate format) x text) (sym e.0) (subst (λ x. IsAnswer bytes (Simulate format) Done x) (sym e.1) (simulated format phases shown script is))
-simulation_told {bytes} {text} {status} format phases (simulations.Refused fault) script is e =
-    subst (λ x. IsAnswer bytes (Simulate format) x text) (sym e.0) (subst (λ x. IsAnswer bytes (Simulate format) FaultFound x) (sym e.1) (unsimulated format phases fault script is))
-simulation_told format phases (simulations.Misplaced line) script is e = absurd e
+pub script_told : {bytes text : List ℕ} {status : ToolStatus} (task : ScriptTask) (phases : List (List Item)) (told : ScriptTold) → script_of bytes ≡ Ok phases → IsToldOf task (items_of phases) told → TellsScript told status text
+    → IsAnswer bytes (Script task) status text
+script_told {bytes} {text} {status} task phases told script is e = scripted task phases status text script (items_told task (items_of phases) told is e)
 
 no_memory : (bytes : List ℕ) (task : Task) (why : NoAnswer) → why ≡ hindrances.NoMemory → Hinders bytes task why
 no_memory bytes task why e = subst (λ x. Hinders bytes task x) (sym e) tt
 
-pub simulation_hindered : (bytes : List ℕ) (format : Format) (phases : List (List Item)) (made : Simulated) (why : NoAnswer) → script_of bytes ≡ Ok phases → IsSimulationIn format (items_of phases) made → HindersSimulation made why → Hinders bytes (Simulate format) why
-simulation_hindered bytes format phases (simulations.Shown shown) why script is e = no_memory bytes (Simulate format) why e
-simulation_hindered bytes format phases (simulations.Refused fault) why script is e = no_memory bytes (Simulate format) why e
-simulation_hindered bytes format phases (simulations.Misplaced line) why script is e = elim e [
-  | inl other ↦ subst (λ x. Hinders bytes (Simulate format) x) (sym other) (misplaced phases line script (misplaced_in format (items_of phases) line is))
-  | inr memory ↦ no_memory bytes (Simulate format) why memory
+pub script_hindered : (bytes : List ℕ) (task : ScriptTask) (phases : List (List Item)) (told : ScriptTold) (why : NoAnswer) → script_of bytes ≡ Ok phases → IsToldOf task (items_of phases) told → HindersTold told why → Hinders bytes (Script task) why
+script_hindered bytes task phases (tolds.Shown status text) why script is e = no_memory bytes (Script task) why e
+script_hindered bytes task phases (tolds.Refused fault) why script is e = no_memory bytes (Script task) why e
+script_hindered bytes task phases (tolds.Misplaced line) why script is e = elim e [
+  | inl other ↦ subst (λ x. Hinders bytes (Script task) x) (sym other) (misplaced phases line script (misplaced_told task (items_of phases) line is))
+  | inr memory ↦ no_memory bytes (Script task) why memory
 ]
 
--- what an explanation comes to is the answer to its script
-pub explanation_told : {bytes text : List ℕ} {status : ToolStatus} (pick : Pick) (phases : List (List Item)) (made : Simulated) → script_of bytes ≡ Ok phases → IsExplanation pick.job pick.number (items_of phases) made → TellsSimulation made status text → IsAnswer bytes (Explain pick) status text
-explanation_told {bytes} {text} {status} pick phases (simulations.Shown shown) script is e =
-    subst (λ x. IsAnswer bytes (Explain pick) x text) (sym e.0) (subst (λ x. IsAnswer bytes (Explain pick) Done x) (sym e.1) (explained pick phases shown script is))
-explanation_told {bytes} {text} {status} pick phases (simulations.Refused fault) script is e =
-    subst (λ x. IsAnswer bytes (Explain pick) x text) (sym e.0) (subst (λ x. IsAnswer bytes (Explain pick) FaultFound x) (sym e.1) (unexplained pick phases fault script is))
-explanation_told pick phases (simulations.Misplaced line) script is e = absurd e
-
-pub explanation_hindered : (bytes : List ℕ) (pick : Pick) (phases : List (List Item)) (made : Simulated) (why : NoAnswer) → script_of bytes ≡ Ok phases → IsExplanation pick.job pick.number (items_of phases) made → HindersSimulation made why → Hinders bytes (Explain pick) why
-explanation_hindered bytes pick phases (simulations.Shown shown) why script is e = no_memory bytes (Explain pick) why e
-explanation_hindered bytes pick phases (simulations.Refused fault) why script is e = no_memory bytes (Explain pick) why e
-explanation_hindered bytes pick phases (simulations.Misplaced line) why script is e = elim e [
-  | inl other ↦ subst (λ x. Hinders bytes (Explain pick) x) (sym other) (misplaced phases line script is)
-  | inr memory ↦ no_memory bytes (Explain pick) why memory
-]
-
--- what a coverage comes to is the answer to its script
-pub coverage_told : {bytes text : List ℕ} {status : ToolStatus} (least : ℕ) (phases : List (List Item)) (made : Covered) → script_of bytes ≡ Ok phases → IsCoverage least (items_of phases) made → TellsCoverage made status text → IsAnswer bytes (Coverage least) status text
-coverage_told {bytes} {text} {status} least phases (coverages.Shown coverage) script is e =
-    subst (λ x. IsAnswer bytes (Coverage least) status x) (sym e.1) (covered least phases status coverage script is e.0)
-coverage_told {bytes} {text} {status} least phases (coverages.Refused fault) script is e =
-    subst (λ x. IsAnswer bytes (Coverage least) x text) (sym e.0) (subst (λ x. IsAnswer bytes (Coverage least) FaultFound x) (sym e.1) (uncovered least phases fault script is))
-coverage_told least phases (coverages.Misplaced line) script is e = absurd e
-
-pub coverage_hindered : (bytes : List ℕ) (least : ℕ) (phases : List (List Item)) (made : Covered) (why : NoAnswer) → script_of bytes ≡ Ok phases → IsCoverage least (items_of phases) made → HindersCoverage made why → Hinders bytes (Coverage least) why
-coverage_hindered bytes least phases (coverages.Shown coverage) why script is e = no_memory bytes (Coverage least) why e
-coverage_hindered bytes least phases (coverages.Refused fault) why script is e = no_memory bytes (Coverage least) why e
-coverage_hindered bytes least phases (coverages.Misplaced line) why script is e = elim e [
-  | inl other ↦ subst (λ x. Hinders bytes (Coverage least) x) (sym other) (misplaced phases line script is)
-  | inr memory ↦ no_memory bytes (Coverage least) why memory
-]
-
--- what hinders the reading of a script hinders its simulation, its explanation and its coverage
-pub unread_simulation : (bytes : List ℕ) (format : Format) (why : NoAnswer) → HindersScript bytes why → Hinders bytes (Simulate format) why
-unread_simulation bytes format (hindrances.Script err) is = is
-unread_simulation bytes format hindrances.NoMemory is = tt
-
-pub unread_explanation : (bytes : List ℕ) (pick : Pick) (why : NoAnswer) → HindersScript bytes why → Hinders bytes (Explain pick) why
-unread_explanation bytes pick (hindrances.Script err) is = is
-unread_explanation bytes pick hindrances.NoMemory is = tt
-
-pub unread_coverage : (bytes : List ℕ) (least : ℕ) (why : NoAnswer) → HindersScript bytes why → Hinders bytes (Coverage least) why
-unread_coverage bytes least (hindrances.Script err) is = is
-unread_coverage bytes least hindrances.NoMemory is = tt
+-- what hinders the reading of a script hinders what would be told of it
+pub unread_script : (bytes : List ℕ) (task : ScriptTask) (why : NoAnswer) → HindersScript bytes why → Hinders bytes (Script task) why
+unread_script bytes task (hindrances.Script err) is = is
+unread_script bytes task hindrances.NoMemory is = tt
 
 refusal_hinders : (bytes : List ℕ) (err : ScriptErr) → IsRefusal (script_of bytes) err → HindersScript bytes (hindrance_of err)
 refusal_hinders bytes (scripts.BadLine line) is = unread (scripts.BadLine line) is
@@ -153,19 +109,14 @@ refusal_hinders bytes scripts.NoMemory is = tt
 pub no_script : (bytes : List ℕ) (err : ScriptErr) (why : NoAnswer) → IsRefusal (script_of bytes) err → why ≡ hindrance_of err → HindersScript bytes why
 no_script bytes err why is e = subst (λ x. HindersScript bytes x) (sym e) (refusal_hinders bytes err is)
 
--- a listing, or a refusal, is what the comparison comes to
+-- the line of a refusal of cases is what a refusal comes to
 
-module _ (reads : Cases → Type 0) (refuses : CasesErr → Type 0) (comparison : Comparison) where
-  pub listed_told : {E : Type 0} (cases : Cases) (made : Result (ToolStatus × List ℕ) E) → reads cases → IfOk made (λ found. TellsListing cases comparison found.0 found.1)
-      → IfOk made (λ found. IsComparison reads refuses comparison found.0 found.1)
-  listed_told cases (Ok found) read is = listed cases found.0 found.1 read is
-  listed_told cases (Err err) read is = tt
-
-  refused_told : (text : List ℕ) (err : CasesErr) → MayRefuseAs refuses (Some cases_errs.NoMemory) err → text ≡ cases_fault_text err → (cases_errs.NoMemory ≡ err → ⊥) → IsComparison reads refuses comparison FaultFound text
-  refused_told text err (inl is) e other = subst (λ x. IsComparison reads refuses comparison FaultFound x) (sym e) (unlisted err is)
+module _ (refuses : CasesErr → Type 0) (answers : List ℕ → Type 0) (unlisted : (err : CasesErr) → refuses err → answers (cases_fault_text err)) where
+  refused_told : (text : List ℕ) (err : CasesErr) → MayRefuseAs refuses (Some cases_errs.NoMemory) err → text ≡ cases_fault_text err → (cases_errs.NoMemory ≡ err → ⊥) → answers text
+  refused_told text err (inl is) e other = subst (λ x. answers x) (sym e) (unlisted err is)
   refused_told text err (inr want) e other = absurd (other (cc want))
 
-  told_as : (text : List ℕ) (err : CasesErr) → MayRefuseAs refuses (Some cases_errs.NoMemory) err → TellsCases err text → IsComparison reads refuses comparison FaultFound text
+  pub told_as : (text : List ℕ) (err : CasesErr) → MayRefuseAs refuses (Some cases_errs.NoMemory) err → TellsCases err text → answers text
   told_as text (cases_errs.Layout line) is tells = refused_told text (cases_errs.Layout line) is tells (λ e. cc e)
   told_as text (cases_errs.Deck side fault) is tells = refused_told text (cases_errs.Deck side fault) is tells (λ e. cc e)
   told_as text (cases_errs.Fields number) is tells = refused_told text (cases_errs.Fields number) is tells (λ e. cc e)
@@ -174,9 +125,17 @@ module _ (reads : Cases → Type 0) (refuses : CasesErr → Type 0) (comparison 
   told_as text cases_errs.TooMany is tells = refused_told text cases_errs.TooMany is tells (λ e. cc e)
   told_as text cases_errs.NoMemory is tells = absurd tells
 
+-- a listing, or a refusal, is what the comparison comes to
+
+module _ (reads : Cases → Type 0) (refuses : CasesErr → Type 0) (comparison : Comparison) where
+  pub listed_told : {E : Type 0} (cases : Cases) (made : Result (ToolStatus × List ℕ) E) → reads cases → IfOk made (λ found. TellsListing cases comparison found.0 found.1)
+      → IfOk made (λ found. IsComparison reads refuses comparison found.0 found.1)
+  listed_told cases (Ok found) read is = listed cases found.0 found.1 read is
+  listed_told cases (Err err) read is = tt
+
   pub unlisted_told : {E : Type 0} (err : CasesErr) (made : Result (ToolStatus × List ℕ) E) → MayRefuseAs refuses (Some cases_errs.NoMemory) err → IfOk made (λ found. (found.0 ≡ FaultFound) × TellsCases err found.1)
       → IfOk made (λ found. IsComparison reads refuses comparison found.0 found.1)
-  unlisted_told err (Ok found) is e = subst (λ x. IsComparison reads refuses comparison x found.1) (sym e.0) (told_as found.1 err is e.1)
+  unlisted_told err (Ok found) is e = subst (λ x. IsComparison reads refuses comparison x found.1) (sym e.0) (told_as refuses (IsComparison reads refuses comparison FaultFound) unlisted found.1 err is e.1)
   unlisted_told err (Err want) is e = tt
 
 -- what a comparison comes to is the answer to its input
@@ -186,9 +145,6 @@ comparison_told bytes comparison (Ok told) is = compared comparison told.0 told.
 comparison_told bytes comparison (Err want) is = tt
 
 -- ---- an answer has the status of one, or of a fault
-
-abbrev pub IsEnd : ToolStatus → Type 0
-IsEnd status = (status ≡ Done) ⊎ (status ≡ FaultFound)
 
 listed_ends : (comparison : Comparison) (differing : ℕ) (status : ToolStatus) → status ≡ compared_status comparison differing → IsEnd status
 listed_ends comparison differing status e = elim (cases_Bool (is_failed comparison differing)) [
@@ -206,22 +162,13 @@ lint_ends fail findings status e = elim (cases_Bool (fail && nat_lt 0 findings))
   | inr well ↦ inl (e ∙ rw well refl)
 ]
 
-coverage_ends : (short : Bool) (status : ToolStatus) → status ≡ coverage_status short → IsEnd status
-coverage_ends true status e = inr e
-coverage_ends false status e = inl e
-
 answer_ends : {bytes text : List ℕ} {task : Task} {status : ToolStatus} → IsAnswer bytes task status text → IsEnd status
 answer_ends (translated kind tree count d) = inl refl
 answer_ends (faulty kind fault d) = inr refl
-answer_ends (valid config d) = inl refl
-answer_ends (refused fault d) = inr refl
-answer_ends (simulated format phases text script is) = inl refl
-answer_ends (unsimulated format phases fault script is) = inr refl
+answer_ends (valid format config d) = inl refl
+answer_ends (refused format fault d) = inr refl
+answer_ends (scripted task phases status text script is) = script_ends task (items_of phases) is
 answer_ends (compared comparison status text is) = comparison_ends is
-answer_ends (explained pick phases text script is) = inl refl
-answer_ends (unexplained pick phases fault script is) = inr refl
-answer_ends (covered least phases status coverage script is e) = coverage_ends coverage.short status e
-answer_ends (uncovered least phases fault script is) = inr refl
 answer_ends (linted fail format status lint is e) = lint_ends fail (length lint.findings) status e
 answer_ends (unlinted fail format fault is) = inr refl
 

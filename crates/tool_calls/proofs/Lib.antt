@@ -1,2 +1,4 @@
+pub mod ScriptLemmas
 pub mod AnswerLemmas
+mod CaseLemmas
 mod WordsLemmas

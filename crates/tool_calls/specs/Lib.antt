@@ -1,6 +1,9 @@
 pub mod ExitStatus
 pub mod Limits
 pub mod CasesText
+pub mod DeckText
+pub mod ScriptText
+pub mod CaseAnswers
 pub mod ToolText
 pub mod ToolEnds
 pub mod PartsEnds

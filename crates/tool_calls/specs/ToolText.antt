@@ -13,37 +13,31 @@ use Rattle.acs_translate.specs.Translation.{IsTranslated, IsRoutineFault}
 use Rattle.sms_construct.specs.Configuration.{Configuration}
 use Rattle.sms_construct.specs.declared.fault.Fault.{Fault as DeckFault}
 use Rattle.deck_meaning.specs.Reading.{Configures, HasFirstFault}
-use Rattle.sms_script.specs.FaultText.{fault_text as deck_fault_text}
 use Rattle.sms_script.specs.Script.{items_of, script_of}
 use Rattle.sms_script.specs.declared.item.Item.{Item}
 use Rattle.sms_script.specs.declared.script_err.ScriptErr.{ScriptErr}
 use Rattle.sms_script.specs.declared.script_err.ScriptErr.TheVariants as scripts
-use Rattle.sms_simulation.specs.Simulation.{IsSimulation, first_misplaced}
-use Rattle.sms_simulation.specs.declared.simulated.Simulated.{Simulated}
-use Rattle.sms_simulation.specs.declared.simulated.Simulated.TheVariants as simulations
-use Rattle.sms_coverage.specs.Coverage.{IsCoverage}
-use Rattle.sms_coverage.specs.declared.coverage.Coverage.{Coverage as Covering}
-use Rattle.sms_coverage.specs.declared.coverage.Covered.{Covered}
-use Rattle.sms_coverage.specs.declared.coverage.Covered.TheVariants as coverages
-use Rattle.sms_explain.specs.Explanation.{IsExplanation}
+use Rattle.sms_simulation.specs.Simulation.{first_misplaced}
 use Rattle.acs_test.specs.Reading.{IsReading, IsRefusal}
 use Rattle.sms_lint.specs.Linting.{IsLintOf}
 use Rattle.lint_records.specs.FindingRecords.{records_text}
-use Rattle.sms_outcomes.specs.SimulatedRecords.{IsRecorded}
 use Rattle.flat_records.specs.declared.form.RecordForm.TheVariants as forms
 use Rattle.sms_lint.specs.declared.linted.Lint.{Lint}
 use Rattle.tool_calls.specs.CasesText.{IsComparison}
+use Rattle.tool_calls.specs.DeckText.{refused_in, refused_text, valid_in}
+use Rattle.tool_calls.specs.ScriptText.{IsScriptAnswer}
 use Rattle.tool_calls.specs.declared.no_answer.NoAnswer.{NoAnswer}
 use Rattle.tool_calls.specs.declared.no_answer.NoAnswer.TheVariants as hindrances
+use Rattle.tool_calls.specs.declared.script_told.ScriptTold.{ScriptTold}
+use Rattle.tool_calls.specs.declared.script_told.ScriptTold.TheVariants as tolds
 use Rattle.tool_calls.specs.declared.status.ToolStatus.{ToolStatus}
 use Rattle.tool_calls.specs.declared.status.ToolStatus.TheVariants.{Done, FaultFound}
 use Rattle.tool_words.specs.declared.comparison.Comparison.{Comparison}
 use Rattle.tool_words.specs.declared.format.Format.{Format}
 use Rattle.tool_words.specs.declared.format.Format.TheVariants as formats
-use Rattle.tool_words.specs.declared.pick.Pick.{Pick}
+use Rattle.tool_words.specs.declared.script_task.ScriptTask.{ScriptTask}
 use Rattle.tool_words.specs.declared.task.Task.{Task}
-use Rattle.tool_words.specs.declared.task.Task.TheVariants.{Translate, Validate, Simulate, Compare, Explain, Coverage}
-use Rattle.tool_words.specs.declared.task.Task.TheVariants.{Lint as LintDeck}
+use Rattle.tool_words.specs.declared.task.Task.TheVariants.{Translate, Validate, Script, Compare, Lint as LintDeck}
 
 -- L, P or C
 abbrev pub letter_of : Stage → List ℕ
@@ -61,14 +55,6 @@ fault_text fault =
     codes "FAULT " ++ (letter_of fault.stage ++ (decimal fault.number
     ++ (codes " " ++ (decimal fault.at ++ codes "\n"))))
 
--- the line of a deck with so many storage groups and volumes
-abbrev pub valid_text : ℕ → ℕ → List ℕ
-valid_text groups volumes = codes "VALID " ++ (decimal groups ++ (codes " " ++ (decimal volumes ++ codes "\n")))
-
--- the line of a deck's fault
-abbrev pub refused_text : DeckFault → List ℕ
-refused_text fault = codes "FAULT " ++ (deck_fault_text fault ++ codes "\n")
-
 -- the status of a deck in which so much is found
 abbrev pub lint_status : Bool → ℕ → ToolStatus
 lint_status fail findings = if fail && nat_lt 0 findings then FaultFound else Done
@@ -79,45 +65,22 @@ lint_text formats.Text lint = lint.text
 lint_text formats.Csv lint = records_text forms.Csv lint.sources lint.findings
 lint_text formats.Json lint = records_text forms.Json lint.sources lint.findings
 
--- the status of a coverage, which may be less than was asked for
-abbrev pub coverage_status : Bool → ToolStatus
-coverage_status short = if short then FaultFound else Done
-
--- what the simulation of these items comes to in a form
-abbrev pub IsSimulationIn : Format → List Item → Simulated → Type 0
-IsSimulationIn formats.Text items made = IsSimulation items made
-IsSimulationIn formats.Csv items made = IsRecorded forms.Csv items made
-IsSimulationIn formats.Json items made = IsRecorded forms.Json items made
-
 -- the answer to an input: its status and what is printed
 pub data IsAnswer (bytes : List ℕ) : Task → ToolStatus → List ℕ → Type 0 where
   translated : (kind : Kind) (tree : Routine) (count : ℕ) → IsTranslated bytes kind tree count →
       IsAnswer bytes (Translate kind) Done (translated_text kind count)
   faulty : (kind : Kind) (fault : RoutineFault) → IsRoutineFault bytes kind fault →
       IsAnswer bytes (Translate kind) FaultFound (fault_text fault)
-  valid : (config : Configuration) → Configures bytes config →
-      IsAnswer bytes Validate Done (valid_text (length config.groups) (length config.volumes))
-  refused : (fault : DeckFault) → HasFirstFault bytes fault → IsAnswer bytes Validate FaultFound (refused_text fault)
-  simulated : (format : Format) (phases : List (List Item)) (text : List ℕ) → script_of bytes ≡ Ok phases →
-      IsSimulationIn format (items_of phases) (simulations.Shown text) → IsAnswer bytes (Simulate format) Done text
-  unsimulated : (format : Format) (phases : List (List Item)) (fault : DeckFault) → script_of bytes ≡ Ok phases →
-      IsSimulationIn format (items_of phases) (simulations.Refused fault) →
-      IsAnswer bytes (Simulate format) FaultFound (refused_text fault)
+  valid : (format : Format) (config : Configuration) → Configures bytes config →
+      IsAnswer bytes (Validate format) Done (valid_in format (length config.groups) (length config.volumes))
+  refused : (format : Format) (fault : DeckFault) → HasFirstFault bytes fault →
+      IsAnswer bytes (Validate format) FaultFound (refused_in format fault)
+  scripted : (task : ScriptTask) (phases : List (List Item)) (status : ToolStatus) (text : List ℕ) →
+      script_of bytes ≡ Ok phases → IsScriptAnswer task (items_of phases) status text →
+      IsAnswer bytes (Script task) status text
   compared : (comparison : Comparison) (status : ToolStatus) (text : List ℕ) →
       IsComparison (IsReading bytes) (IsRefusal bytes) comparison status text →
       IsAnswer bytes (Compare comparison) status text
-  explained : (pick : Pick) (phases : List (List Item)) (text : List ℕ) → script_of bytes ≡ Ok phases →
-      IsExplanation pick.job pick.number (items_of phases) (simulations.Shown text) →
-      IsAnswer bytes (Explain pick) Done text
-  unexplained : (pick : Pick) (phases : List (List Item)) (fault : DeckFault) → script_of bytes ≡ Ok phases →
-      IsExplanation pick.job pick.number (items_of phases) (simulations.Refused fault) →
-      IsAnswer bytes (Explain pick) FaultFound (refused_text fault)
-  covered : (least : ℕ) (phases : List (List Item)) (status : ToolStatus) (coverage : Covering) →
-      script_of bytes ≡ Ok phases → IsCoverage least (items_of phases) (coverages.Shown coverage) →
-      status ≡ coverage_status coverage.short → IsAnswer bytes (Coverage least) status coverage.text
-  uncovered : (least : ℕ) (phases : List (List Item)) (fault : DeckFault) → script_of bytes ≡ Ok phases →
-      IsCoverage least (items_of phases) (coverages.Refused fault) →
-      IsAnswer bytes (Coverage least) FaultFound (refused_text fault)
   linted : (fail : Bool) (format : Format) (status : ToolStatus) (lint : Lint) → IsLintOf bytes lint →
       status ≡ lint_status fail (length lint.findings) →
       IsAnswer bytes (LintDeck fail format) status (lint_text format lint)
@@ -131,11 +94,9 @@ pub data HasScriptFault (bytes : List ℕ) : ScriptErr → Type 0 where
   misplaced : (phases : List (List Item)) (line : ℕ) → script_of bytes ≡ Ok phases →
       first_misplaced (items_of phases) ≡ Some line → HasScriptFault bytes (scripts.BadLine line)
 
--- the input of a simulation, an explanation or a coverage is no script that can be simulated
+-- the input of a task on a script is no script of which something can be told
 abbrev pub IsScriptFault : List ℕ → Task → ScriptErr → Type 0
-IsScriptFault bytes (Simulate format) err = HasScriptFault bytes err
-IsScriptFault bytes (Explain pick) err = HasScriptFault bytes err
-IsScriptFault bytes (Coverage least) err = HasScriptFault bytes err
+IsScriptFault bytes (Script task) err = HasScriptFault bytes err
 IsScriptFault bytes _ err = ⊥
 
 -- why an input has no answer; want of memory says nothing of it
@@ -160,27 +121,8 @@ abbrev pub TellsFault : TranslateErr → ToolStatus → List ℕ → Type 0
 TellsFault (Fault fault) status text = (status ≡ FaultFound) × (text ≡ fault_text fault)
 TellsFault NoMemory status text = ⊥
 
--- a simulation is told
-abbrev pub TellsSimulation : Simulated → ToolStatus → List ℕ → Type 0
-TellsSimulation (simulations.Shown shown) status text = (status ≡ Done) × (text ≡ shown)
-TellsSimulation (simulations.Refused fault) status text = (status ≡ FaultFound) × (text ≡ refused_text fault)
-TellsSimulation (simulations.Misplaced line) status text = ⊥
-
--- why a simulation has no text
-abbrev pub HindersSimulation : Simulated → NoAnswer → Type 0
-HindersSimulation (simulations.Misplaced line) why =
+-- why what is told of a script is no answer
+abbrev pub HindersTold : ScriptTold → NoAnswer → Type 0
+HindersTold (tolds.Misplaced line) why =
     (why ≡ hindrances.Script (scripts.BadLine line)) ⊎ (why ≡ hindrances.NoMemory)
-HindersSimulation made why = why ≡ hindrances.NoMemory
-
--- a coverage is told
-abbrev pub TellsCoverage : Covered → ToolStatus → List ℕ → Type 0
-TellsCoverage (coverages.Shown coverage) status text =
-    (status ≡ coverage_status coverage.short) × (text ≡ coverage.text)
-TellsCoverage (coverages.Refused fault) status text = (status ≡ FaultFound) × (text ≡ refused_text fault)
-TellsCoverage (coverages.Misplaced line) status text = ⊥
-
--- why a coverage has no text
-abbrev pub HindersCoverage : Covered → NoAnswer → Type 0
-HindersCoverage (coverages.Misplaced line) why =
-    (why ≡ hindrances.Script (scripts.BadLine line)) ⊎ (why ≡ hindrances.NoMemory)
-HindersCoverage made why = why ≡ hindrances.NoMemory
+HindersTold told why = why ≡ hindrances.NoMemory

@@ -103,7 +103,8 @@ fn compared_status(comparison: Comparison, differing: u64) -> ToolStatus
     }
 }
 
-fn told(alloc: Global, err: &CasesErr) -> Result<(ToolStatus, Items<u8>), AllocError>
+/// The answer that an input or its table of cases is refused so.
+pub fn told(alloc: Global, err: &CasesErr) -> Result<(ToolStatus, Items<u8>), AllocError>
     ensures { IfOk result (λ found. (found.0 ≡ ToolStatus.FaultFound) × TellsCases err.now found.1) }
 {
     let text = fault_text(alloc, err)?;

@@ -2,16 +2,23 @@
 #![tactic(auto)]
 
 mod answering;
+mod case_parts;
+mod cases;
 mod comparing;
+mod deck_answers;
 mod limit;
 mod linting;
 mod no_answer;
 mod noting;
 mod part_names;
 mod parts;
+mod script_told;
+mod scripts;
 mod status;
 mod tool;
 
+pub use case_parts::{CasePartNames, CaseParts};
+pub use cases::answer_cases;
 pub use noting::note_name;
 pub use part_names::PartNames;
 pub use parts::compare_parts;

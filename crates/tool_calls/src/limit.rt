@@ -12,11 +12,6 @@ pub fn most_bytes(task: Task) -> usize
 {
     match task {
         Task::Translate(_) => MAX_ROUTINE,
-        Task::Validate
-        | Task::Simulate(_)
-        | Task::Compare(_)
-        | Task::Explain(_)
-        | Task::Coverage { .. }
-        | Task::Lint { .. } => MAX_INPUT,
+        Task::Validate(_) | Task::Script(_) | Task::Compare(_) | Task::Lint { .. } => MAX_INPUT,
     }
 }

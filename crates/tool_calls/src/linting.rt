@@ -4,7 +4,7 @@ ghost use Rattle.lint_records.specs.FindingRecords.{records_text};
 ghost use Rattle.tool_calls.specs.ToolText.{IsAnswer, lint_status, lint_text};
 ghost use Rattle.tool_words.specs.declared.task.Task.TheVariants.{Lint};
 
-use crate::answering::refused;
+use crate::deck_answers::refused;
 use crate::noting::note_deck;
 use crate::status::ToolStatus;
 use desk_common::{Items, Shared};

@@ -1,6 +1,9 @@
 //! What is said of a fault beside the answer, for the person at the terminal (docs/manual/tool.md, "What a fault
 //! means"). Where memory for it is wanting, nothing is said.
+use crate::case_parts::{CasePartNames, CaseParts};
 use crate::part_names::PartNames;
+use crate::script_told::ScriptTold;
+use crate::status::ToolStatus;
 use acs_test::{CasesErr, InputParts, Side};
 use acs_translate::{RoutineFault, TranslateErr};
 use fault_notes::{
@@ -8,11 +11,9 @@ use fault_notes::{
     layout_note, many_cases_note, misplaced_note, routine_note, script_note, shown,
 };
 use sms_construct::{Fault, Op, Stage, TextFault};
-use sms_coverage::Covered;
 use sms_script::{Item, Script, ScriptErr};
-use sms_simulation::Simulated;
 use std::alloc::{AllocError, Global};
-use tool_words::shown_text;
+use tool_words::{ScriptTask, shown_text};
 
 /// Notes why the words of the command line are refused.
 pub fn note_words(alloc: Global, note: &mut String, words: &[String]) {
@@ -40,40 +41,66 @@ pub fn note_script(alloc: Global, note: &mut String, text: &[u8], fault: ScriptE
     keep(note, script_note(alloc, text, fault));
 }
 
-/// Notes why the script in this text isn't simulated.
-pub fn note_simulation(
+/// Notes why nothing is told of the script in this text, or that its coverage is less than was asked for.
+pub fn note_told(
     alloc: Global,
     note: &mut String,
     text: &[u8],
     script: &Script,
-    made: &Simulated,
+    task: ScriptTask,
+    told: &ScriptTold,
 ) {
-    match made {
-        Simulated::Refused(fault) => note_deck_in(alloc, note, script, fault),
-        Simulated::Misplaced(line) => keep(note, misplaced_note(alloc, text, *line)),
-        Simulated::Shown(_) => (),
+    match told {
+        ScriptTold::Refused(fault) => note_deck_in(alloc, note, script, fault),
+        ScriptTold::Misplaced(line) => keep(note, misplaced_note(alloc, text, *line)),
+        ScriptTold::Shown(status, _) => note_short(alloc, note, task, *status),
     }
 }
 
-/// Notes why the script in this text has no coverage, or that it is less than `least` per cent.
-pub fn note_coverage(
+/// Notes why nothing is told of cases under a deck, with its name, or that their coverage is less than was asked for.
+pub fn note_cases_told(
     alloc: Global,
     note: &mut String,
-    text: &[u8],
-    script: &Script,
-    made: &Covered,
-    least: u8,
+    parts: CaseParts<'_>,
+    names: CasePartNames<'_>,
+    task: ScriptTask,
+    told: &ScriptTold,
 ) {
-    match made {
-        Covered::Refused(fault) => note_deck_in(alloc, note, script, fault),
-        Covered::Misplaced(line) => keep(note, misplaced_note(alloc, text, *line)),
-        Covered::Shown(coverage) if coverage.short => keep(
+    match told {
+        ScriptTold::Refused(fault) => {
+            note_deck(alloc, note, parts.deck, fault);
+            note_name(alloc, note, names.deck);
+        }
+        ScriptTold::Misplaced(_) => (),
+        ScriptTold::Shown(status, _) => note_short(alloc, note, task, *status),
+    }
+}
+
+/// Notes the fault of a table of cases that is a text of its own, with its name.
+pub fn note_case_table(
+    alloc: Global,
+    note: &mut String,
+    parts: CaseParts<'_>,
+    names: CasePartNames<'_>,
+    err: &CasesErr,
+) {
+    let table = Rest {
+        text: parts.table,
+        lines: 0,
+    };
+    note_table(alloc, note, table, err);
+    note_name(alloc, note, names.table);
+}
+
+// Notes that a coverage is less than was asked for.
+fn note_short(alloc: Global, note: &mut String, task: ScriptTask, status: ToolStatus) {
+    if let (ScriptTask::Coverage { least, .. }, ToolStatus::FaultFound) = (task, status) {
+        keep(
             note,
             format!(in alloc;
                 "less than {least} per cent of the statements, WHENs and comparisons of a routine are covered\n"
             ),
-        ),
-        Covered::Shown(_) => (),
+        );
     }
 }
 

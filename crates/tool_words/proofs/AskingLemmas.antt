@@ -1,7 +1,7 @@
 -- What the kinds of a refusal say, and what a subcommand asks for.
 use Rattle.std.proofs.Common.{◌≡◌, refl, ap, ◌∙◌, sym, subst, ℕ, List, [], ◌∷◌, Bool, true, false, not, ◌&&◌, Option}
 use Rattle.std.proofs.Common.{Some, None, codes, inl, inr, ◌⊎◌, ◌++◌, ◌==◌, if◌then◌else◌}
-use Rattle.std.specs.Prelude.{Result, Ok, Err, IfOk, IfErr, MatchOption, MatchResult, bytes_eq}
+use Rattle.std.specs.Prelude.{Result, Ok, Err, IfOk, IfErr, MatchOption, MatchResult, bytes_eq, option_and_then}
 use Rattle.std.specs.List.{list_all}
 use Rattle.std.proofs.lemmas.Bool.{cases_Bool, and_parts, eqb-true}
 use Rattle.std.proofs.lemmas.Slice.Eq.{bytes_eq-Decides}
@@ -18,11 +18,12 @@ use Rattle.clap.proofs.OnLiterals.{clap_on_literals}
 use Rattle.desk_common.specs.Exact.{IsExact, MayRefuse}
 use Rattle.desk_common.proofs.ExactLemmas.{exact_fault, exact_thing, exact_want}
 use Rattle.std.proofs.lemmas.Option.{same_Some}
-use Rattle.tool_words.specs.Tool.{flag_words, tool, where_all, where_usual, words_of}
+use Rattle.tool_words.specs.Tool.{flag_words, tool, where_all, where_any, where_usual, words_of}
 use Rattle.tool_words.specs.Asking.{AreRefused, AreShown, AskFor, Hinders, AreSorted, err_of, is_free, kind_named, task_found}
 use Rattle.tool_words.specs.Asking.{is_refused, is_shown, is_text, task_or_bad}
 use Rattle.tool_words.specs.declared.format.Format.{Format}
 use Rattle.tool_words.specs.declared.format.Format.TheVariants as formats
+use Rattle.tool_words.specs.declared.script_task.ScriptTask.TheVariants as script_tasks
 use Rattle.tool_words.specs.declared.task.Task.{Task}
 use Rattle.tool_words.specs.declared.task.Task.TheVariants as tasks
 use Rattle.tool_words.specs.declared.words_err.WordsErr.{WordsErr}
@@ -262,25 +263,33 @@ kind_asks StorClas = (refl, refl)
 kind_asks MgmtClas = (refl, refl)
 kind_asks StorGrp = (refl, refl)
 
-validate_asks : Asks (codes "validate" ∷ []) tasks.Validate
+validate_asks : Asks (codes "validate" ∷ []) (tasks.Validate formats.Text)
 unfolding clap_on_literals
 validate_asks = (refl, refl)
 
-simulate_asks : Asks (codes "simulate" ∷ []) (tasks.Simulate formats.Text)
+simulate_asks : Asks (codes "simulate" ∷ []) (tasks.Script (script_tasks.Simulate formats.Text))
 unfolding clap_on_literals
 simulate_asks = (refl, refl)
 
-explain_asks : Asks (codes "explain" ∷ []) (tasks.Explain (record { job = None; number = None }))
+explain_asks : Asks (codes "explain" ∷ []) (tasks.Script (script_tasks.Explain (record { job = None; number = None; case = None }) formats.Text))
 unfolding clap_on_literals
 explain_asks = (refl, refl)
 
-coverage_asks : Asks (codes "coverage" ∷ []) (tasks.Coverage 0)
+coverage_asks : Asks (codes "coverage" ∷ []) (tasks.Script (script_tasks.Coverage 0 formats.Text))
 unfolding clap_on_literals
 coverage_asks = (refl, refl)
 
-least_asks : (words : List Text) (least : ℕ) → Some words ≡ (if least == 0 then Some (codes "coverage" ∷ []) else None) → Asks words (tasks.Coverage least)
-least_asks words least w = elim (cases_Bool (least == 0)) [
-  | inl none ↦ subst (λ (n : ℕ). Asks words (tasks.Coverage n)) (sym (eqb-true least 0 none)) (asks_as words _ (tasks.Coverage 0) (rw none at w) coverage_asks)
+usual_form : (words given : List Text) (format : Format) → Some words ≡ where_usual format given → (format ≡ formats.Text) × (Some words ≡ Some given)
+usual_form words given formats.Text w = (refl, w)
+usual_form words given formats.Csv w = absurd (cc w)
+usual_form words given formats.Json w = absurd (cc w)
+
+-- the words are those that are asked without a per cent
+least_asks : (words : List Text) (least : ℕ) (format : Format) → Some words ≡ option_and_then (where_usual format) (where_any least (codes "coverage" ∷ [])) → Asks words (tasks.Script (script_tasks.Coverage least format))
+least_asks words least format w = elim (cases_Bool (least == 0)) [
+  | inl none ↦ let usual = usual_form words (codes "coverage" ∷ []) format (rw none at w) in
+      subst (λ (f : Format). Asks words (tasks.Script (script_tasks.Coverage least f))) (sym usual.0)
+      (subst (λ (n : ℕ). Asks words (tasks.Script (script_tasks.Coverage n formats.Text))) (sym (eqb-true least 0 none)) (asks_as words _ (tasks.Script (script_tasks.Coverage 0 formats.Text)) usual.1 coverage_asks))
   | inr some ↦ absurd (cc (rw some at w))
 ]
 
@@ -290,12 +299,21 @@ form_asks words changed fail formats.Text w = asks_as words _ _ w (comparison_as
 form_asks words changed fail formats.Csv w = absurd (cc w)
 form_asks words changed fail formats.Json w = absurd (cc w)
 
-pick_asks : (words : List Text) (job : Option Text) (number : Option ℕ) → Some words ≡ where_all job number (codes "explain" ∷ []) → Asks words (tasks.Explain (record { job = job; number = number }))
-pick_asks words None None w = asks_as words _ _ w explain_asks
-pick_asks words (Some job) number w = absurd (cc w)
-pick_asks words None (Some number) w = absurd (cc w)
+pick_asks : (words : List Text) (job : Option Text) (number : Option ℕ) (case : Option Text) (format : Format) → Some words ≡ option_and_then (where_usual format) (where_all job number case (codes "explain" ∷ []))
+    → Asks words (tasks.Script (script_tasks.Explain (record { job = job; number = number; case = case }) format))
+pick_asks words None None None format w =
+    let usual = usual_form words (codes "explain" ∷ []) format w in
+    subst (λ (f : Format). Asks words (tasks.Script (script_tasks.Explain (record { job = None; number = None; case = None }) f))) (sym usual.0) (asks_as words _ _ usual.1 explain_asks)
+pick_asks words (Some job) number case format w = absurd (cc w)
+pick_asks words None (Some number) case format w = absurd (cc w)
+pick_asks words None None (Some case) format w = absurd (cc w)
 
-simulated_asks : (words : List Text) (format : Format) → Some words ≡ where_usual format (codes "simulate" ∷ []) → Asks words (tasks.Simulate format)
+validated_asks : (words : List Text) (format : Format) → Some words ≡ where_usual format (codes "validate" ∷ []) → Asks words (tasks.Validate format)
+validated_asks words formats.Text w = asks_as words _ _ w validate_asks
+validated_asks words formats.Csv w = absurd (cc w)
+validated_asks words formats.Json w = absurd (cc w)
+
+simulated_asks : (words : List Text) (format : Format) → Some words ≡ where_usual format (codes "simulate" ∷ []) → Asks words (tasks.Script (script_tasks.Simulate format))
 simulated_asks words formats.Text w = asks_as words _ _ w simulate_asks
 simulated_asks words formats.Csv w = absurd (cc w)
 simulated_asks words formats.Json w = absurd (cc w)
@@ -307,11 +325,11 @@ linted_asks words fail formats.Json w = absurd (cc w)
 
 task_asks : (words : List Text) (task : Task) → Some words ≡ words_of task → Asks words task
 task_asks words (tasks.Translate kind) w = asks_as words _ _ w (kind_asks kind)
-task_asks words tasks.Validate w = asks_as words _ _ w validate_asks
-task_asks words (tasks.Simulate format) w = simulated_asks words format w
+task_asks words (tasks.Validate format) w = validated_asks words format w
+task_asks words (tasks.Script (script_tasks.Simulate format)) w = simulated_asks words format w
 task_asks words (tasks.Compare comparison) w = form_asks words comparison.changed comparison.fail comparison.format w
-task_asks words (tasks.Explain pick) w = pick_asks words pick.job pick.number w
-task_asks words (tasks.Coverage least) w = least_asks words least w
+task_asks words (tasks.Script (script_tasks.Explain pick format)) w = pick_asks words pick.job pick.number pick.case format w
+task_asks words (tasks.Script (script_tasks.Coverage least format)) w = least_asks words least format w
 task_asks words (tasks.Lint fail format) w = linted_asks words fail format w
 
 known_asks : (words : List Text) (task : Task) → Some words ≡ words_of task → AskFor words task

@@ -19,6 +19,7 @@ use Rattle.tool_words.specs.declared.format.Format.{Format}
 use Rattle.tool_words.specs.declared.format.Format.TheVariants as formats
 use Rattle.tool_words.specs.declared.paths.Paths.{Paths}
 use Rattle.tool_words.specs.declared.pick.Pick.{Pick}
+use Rattle.tool_words.specs.declared.script_task.ScriptTask.TheVariants as script_tasks
 use Rattle.tool_words.specs.declared.task.Task.{Task}
 use Rattle.tool_words.specs.declared.task.Task.TheVariants as tasks
 use Rattle.tool_words.specs.declared.words_err.WordsErr.{WordsErr}
@@ -93,11 +94,28 @@ job_in rows = read_if job_named (first_of (codes "job") rows)
 abbrev pub number_in : List Row → Option (Option ℕ)
 number_in rows = read_if (λ word. within 1 most_number (number_of word)) (first_of (codes "number") rows)
 
+-- the case that a word names; it goes with a table of cases
+abbrev pub case_named : Option Text → Text → Option Text
+case_named None word = None
+case_named (Some path) word = job_named word
+
+-- the case that these rows name
+abbrev pub case_in : List Row → Option (Option Text)
+case_in rows = read_if (case_named (first_of (codes "cases") rows)) (first_of (codes "case") rows)
+
 -- which allocations these rows ask for
 abbrev pub pick_in : List Row → Option Pick
 pick_in rows =
-    option_and_then (λ job. option_and_then (λ number. Some (record { job = job; number = number })) (number_in rows))
-    (job_in rows)
+    option_and_then (λ job. option_and_then (λ number. option_map (λ case.
+    record { job = job; number = number; case = case }) (case_in rows)) (number_in rows)) (job_in rows)
+
+-- which allocations these rows ask to be explained, and in which form
+abbrev pub explain_in : List Row → Option Task
+explain_in rows = option_and_then (λ pick. option_map (λ format. tasks.Script (script_tasks.Explain pick format)) (format_in rows)) (pick_in rows)
+
+-- which coverage these rows ask for, and in which form it is told
+abbrev pub coverage_in : List Row → Option Task
+coverage_in rows = option_and_then (λ least. option_map (λ format. tasks.Script (script_tasks.Coverage least format)) (format_in rows)) (least_in rows)
 
 -- how these rows ask two decks to be compared, in this form
 abbrev pub comparison_with : List Row → Format → Comparison
@@ -111,12 +129,12 @@ comparison_with rows format = record {
 abbrev pub task_of : Text → List Row → Option Task
 task_of name rows =
     if bytes_eq name (codes "translate") then option_map tasks.Translate (kind_in rows)
-    else if bytes_eq name (codes "validate") then Some tasks.Validate
-    else if bytes_eq name (codes "simulate") then option_map tasks.Simulate (format_in rows)
+    else if bytes_eq name (codes "validate") then option_map tasks.Validate (format_in rows)
+    else if bytes_eq name (codes "simulate") then option_map (λ format. tasks.Script (script_tasks.Simulate format)) (format_in rows)
     else if bytes_eq name (codes "compare")
     then option_map (λ format. tasks.Compare (comparison_with rows format)) (format_in rows)
-    else if bytes_eq name (codes "explain") then option_map tasks.Explain (pick_in rows)
-    else if bytes_eq name (codes "coverage") then option_map tasks.Coverage (least_in rows)
+    else if bytes_eq name (codes "explain") then explain_in rows
+    else if bytes_eq name (codes "coverage") then coverage_in rows
     else if bytes_eq name (codes "lint")
     then option_map (tasks.Lint (is_set (codes "fail") rows)) (format_in rows) else None
 

@@ -2,9 +2,9 @@
 ghost use Rattle.std.specs.Prelude.{◌≡◌, false, IfOk};
 ghost use Rattle.clap.specs.Words.{app_of, rule_of};
 ghost use Rattle.clap.specs.declared.builder.command.Command.TheViews.{out-Command};
-ghost use Rattle.tool_words.specs.Tool.{KeepsItsOwn, bare_app, compare_app, coverage_app, file_app, flag_rule};
-ghost use Rattle.tool_words.specs.Tool.{explain_app, lint_app, option_rule, path_rule, simulate_app, tool};
-ghost use Rattle.tool_words.specs.Tool.{translate_app, wanted_rule};
+ghost use Rattle.tool_words.specs.Tool.{KeepsItsOwn, bare_app, compare_app, coverage_app, explain_app, flag_rule};
+ghost use Rattle.tool_words.specs.Tool.{lint_app, option_rule, path_rule, simulate_app, tool, translate_app};
+ghost use Rattle.tool_words.specs.Tool.{validate_app, wanted_rule};
 
 use clap::{Arg, ArgAction, Command};
 use std::alloc::{AllocError, Global};
@@ -23,12 +23,12 @@ const TRANSLATE: Said = Said {
 
 const VALIDATE: Said = Said {
     about: "Validate a deck",
-    usage: "smsc validate [FILE]",
+    usage: "smsc validate [FILE] [--format FORM]",
 };
 
 const SIMULATE: Said = Said {
     about: "Say what the routines of a deck give allocations",
-    usage: "smsc simulate [FILE] [--format FORM]",
+    usage: "smsc simulate [FILE | DECK CASES] [--format FORM]",
 };
 
 const COMPARE: Said = Said {
@@ -38,12 +38,12 @@ const COMPARE: Said = Said {
 
 const EXPLAIN: Said = Said {
     about: "Tell what each routine does with allocations, statement by statement",
-    usage: "smsc explain [FILE] [--job JOB] [--number N]",
+    usage: "smsc explain [FILE | DECK CASES] [--case NAME] [--job JOB] [--number N] [--format FORM]",
 };
 
 const COVERAGE: Said = Said {
     about: "Tell what allocations reach of the routines, and what they don't",
-    usage: "smsc coverage [FILE] [--fail-under N]",
+    usage: "smsc coverage [FILE | DECK CASES] [--fail-under N] [--format FORM]",
 };
 
 const LINT: Said = Said {
@@ -61,7 +61,7 @@ pub fn tool_command<'a>(alloc: Global) -> Result<Command<'a>, AllocError>
     ensures { IfOk result (λ command. app_of command ≡ tool) }
 {
     let translate = translating(alloc)?;
-    let validate = reading(alloc, "validate", VALIDATE)?;
+    let validate = validating(alloc)?;
     let simulate = simulating(alloc)?;
     let compare = comparing(alloc)?;
     let explain = explaining(alloc)?;
@@ -87,21 +87,24 @@ fn translating<'a>(alloc: Global) -> Result<Command<'a>, AllocError>
         .arg(path(alloc, "file"))
 }
 
-// The subcommand of this name, which reads one file.
-fn reading<'a>(alloc: Global, name: &'a str, said: Said) -> Result<Command<'a>, AllocError>
-    ensures app { IfOk result (λ command. app_of command ≡ file_app name.entry.now) }
+// The subcommand `validate`, which reads one file.
+fn validating<'a>(alloc: Global) -> Result<Command<'a>, AllocError>
+    ensures app { IfOk result (λ command. app_of command ≡ validate_app) }
     ensures own { IfOk result (KeepsItsOwn) }
 {
-    described(Command::new(alloc, name), said).arg(path(alloc, "file"))
+    described(Command::new(alloc, "validate"), VALIDATE)
+        .arg(path(alloc, "file"))?
+        .arg(option(alloc, "format"))
 }
 
-// The subcommand `simulate`, which reads one file.
+// The subcommand `simulate`, which reads one file, or a deck and a table of cases.
 fn simulating<'a>(alloc: Global) -> Result<Command<'a>, AllocError>
     ensures app { IfOk result (λ command. app_of command ≡ simulate_app) }
     ensures own { IfOk result (KeepsItsOwn) }
 {
     described(Command::new(alloc, "simulate"), SIMULATE)
         .arg(path(alloc, "file"))?
+        .arg(path(alloc, "cases"))?
         .arg(option(alloc, "format"))
 }
 
@@ -119,25 +122,30 @@ fn comparing<'a>(alloc: Global) -> Result<Command<'a>, AllocError>
         .arg(option(alloc, "format"))
 }
 
-// The subcommand `explain`, which reads one file.
+// The subcommand `explain`, which reads one file, or a deck and a table of cases.
 fn explaining<'a>(alloc: Global) -> Result<Command<'a>, AllocError>
     ensures app { IfOk result (λ command. app_of command ≡ explain_app) }
     ensures own { IfOk result (KeepsItsOwn) }
 {
     described(Command::new(alloc, "explain"), EXPLAIN)
         .arg(path(alloc, "file"))?
+        .arg(path(alloc, "cases"))?
+        .arg(option(alloc, "case"))?
         .arg(option(alloc, "job"))?
-        .arg(option(alloc, "number"))
+        .arg(option(alloc, "number"))?
+        .arg(option(alloc, "format"))
 }
 
-// The subcommand `coverage`, which reads one file.
+// The subcommand `coverage`, which reads one file, or a deck and a table of cases.
 fn covering<'a>(alloc: Global) -> Result<Command<'a>, AllocError>
     ensures app { IfOk result (λ command. app_of command ≡ coverage_app) }
     ensures own { IfOk result (KeepsItsOwn) }
 {
     described(Command::new(alloc, "coverage"), COVERAGE)
         .arg(path(alloc, "file"))?
-        .arg(option(alloc, "fail-under"))
+        .arg(path(alloc, "cases"))?
+        .arg(option(alloc, "fail-under"))?
+        .arg(option(alloc, "format"))
 }
 
 // The subcommand `lint`, which reads one file.

@@ -10,18 +10,20 @@ smsc translate KIND [FILE]
 ";
 
 const VALIDATE: &str = "
-smsc validate [FILE] validate a deck
+smsc validate [FILE] [--format FORM]
+                     validate a deck; FORM is text, csv or json
 
     smsc validate deck.toml
 ";
 
 const SIMULATE: &str = "
-smsc simulate [FILE] [--format FORM]
+smsc simulate [FILE | DECK CASES] [--format FORM]
                      say what the routines of a deck give the allocations of
-                     a script that begins with an ACTIVATE; FORM is text, csv
-                     or json
+                     a script that begins with an ACTIVATE, or the cases of a
+                     table; FORM is text, csv or json
 
     smsc simulate morning.txt
+    smsc simulate deck.toml cases.csv
 ";
 
 const COMPARE: &str = "
@@ -35,21 +37,25 @@ smsc compare [OLD [NEW [CASES]]] [--changed] [--fail] [--format FORM]
 ";
 
 const EXPLAIN: &str = "
-smsc explain [FILE] [--job JOB] [--number N]
+smsc explain [FILE | DECK CASES] [--case NAME] [--job JOB] [--number N]
+             [--format FORM]
                      tell what each routine does with the allocations of such
-                     a script, statement by statement, or with those of a job
-                     or with a number alone
+                     a script, or the cases of a table, statement by
+                     statement, or with those of a name, of a job or with a
+                     number alone; FORM is text, csv or json
 
     smsc explain morning.txt --job PAYJOB --number 1
+    smsc explain deck.toml cases.csv --case PAY1
 ";
 
 const COVERAGE: &str = "
-smsc coverage [FILE] [--fail-under N]
-                     tell what the allocations of such a script reach of the
-                     routines, and what they don't; with --fail-under the exit
-                     status is 1 where they cover less than N per cent of one
+smsc coverage [FILE | DECK CASES] [--fail-under N] [--format FORM]
+                     tell what the allocations of such a script, or the cases
+                     of a table, reach of the routines, and what they don't;
+                     with --fail-under the exit status is 1 where they cover
+                     less than N per cent of one; FORM is text, csv or json
 
-    smsc coverage morning.txt --fail-under 90
+    smsc coverage deck.toml cases.csv --fail-under 90
 ";
 
 const LINT: &str = "

@@ -13,6 +13,7 @@ use crate::comparison::Comparison;
 use crate::examples::examples_of;
 use crate::paths::Paths;
 use crate::printed::printed_words;
+use crate::script_task::ScriptTask;
 use crate::task::Task;
 use crate::value_faults::value_fault;
 use crate::values::{format_in, is_set, kind_in, least_in, pick_in, value_of};
@@ -116,25 +117,26 @@ fn task_of(name: &str, matches: &ArgMatches<'_>) -> Option<Task>
         return Some(Task::Translate(kind));
     }
     if name == "validate" {
-        return Some(Task::Validate);
+        let format = format_in(matches)?;
+        return Some(Task::Validate(format));
     }
     if name == "simulate" {
         let format = format_in(matches)?;
-        return Some(Task::Simulate(format));
+        return Some(Task::Script(ScriptTask::Simulate(format)));
     }
     if name == "compare" {
         let comparison = comparison_in(matches)?;
         return Some(Task::Compare(comparison));
     }
     if name == "explain" {
-        return match pick_in(matches) {
-            Some(pick) => Some(Task::Explain(pick)),
-            None => None,
-        };
+        let pick = pick_in(matches)?;
+        let format = format_in(matches)?;
+        return Some(Task::Script(ScriptTask::Explain { pick, format }));
     }
     if name == "coverage" {
         let least = least_in(matches)?;
-        return Some(Task::Coverage { least });
+        let format = format_in(matches)?;
+        return Some(Task::Script(ScriptTask::Coverage { least, format }));
     }
     if name == "lint" {
         let format = format_in(matches)?;

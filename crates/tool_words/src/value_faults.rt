@@ -1,5 +1,5 @@
 //! What is said of a value that isn't as its word asks.
-use crate::values::{format_in, kind_in, least_in, pick_in, value_of};
+use crate::values::{format_in, kind_in, least_in, number_in, pick_in, value_of};
 use clap::ArgMatches;
 use dsn_mask::Name;
 use std::alloc::{AllocError, Global};
@@ -27,17 +27,30 @@ pub fn value_fault(alloc: Global, matches: &ArgMatches<'_>) -> Result<String, Al
     Ok(String::new(alloc))
 }
 
-// Which of the job and the number isn't one.
+// Which of the job, the number and the case isn't one.
 fn pick_fault(alloc: Global, matches: &ArgMatches<'_>) -> Result<String, AllocError> {
-    match value_of(matches, "job") {
-        Some(job) if Name::new(job.as_bytes()).is_none() => {
-            let form = "a name of at most 8 bytes, in capitals";
-            invalid(alloc, Some(job), "--job <job>", form)
-        }
-        _ => {
-            let value = value_of(matches, "number");
-            invalid(alloc, value, "--number <number>", "1 to 4294967295")
-        }
+    let form = "a name of at most 8 bytes, in capitals";
+    if !is_name(value_of(matches, "job")) {
+        return invalid(alloc, value_of(matches, "job"), "--job <job>", form);
+    }
+    if number_in(matches).is_none() {
+        let value = value_of(matches, "number");
+        return invalid(alloc, value, "--number <number>", "1 to 4294967295");
+    }
+    let value = value_of(matches, "case");
+    let form = if value_of(matches, "cases").is_none() {
+        "a case of a table: smsc explain DECK CASES --case NAME"
+    } else {
+        form
+    };
+    invalid(alloc, value, "--case <case>", form)
+}
+
+// The value is a name, or there is none.
+fn is_name(value: Option<&str>) -> bool {
+    match value {
+        Some(word) => Name::new(word.as_bytes()).is_some(),
+        None => true,
     }
 }
 

@@ -1,7 +1,8 @@
 // Values of words that were found.
 ghost use Rattle.std.specs.Prelude.{◌≡◌, option_map};
 ghost use Rattle.clap.specs.Words.{first_of, found_of, rows_of};
-ghost use Rattle.tool_words.specs.Asking.{format_in, is_set, job_in, kind_in, kind_named, least_in, number_in, pick_in};
+ghost use Rattle.tool_words.specs.Asking.{case_in, format_in, is_set, job_in, kind_in, kind_named, least_in};
+ghost use Rattle.tool_words.specs.Asking.{number_in, pick_in};
 
 use crate::format::Format;
 use crate::pick::Pick;
@@ -83,7 +84,8 @@ pub fn pick_in(matches: &ArgMatches<'_>) -> Option<Pick>
 {
     let job = job_in(matches)?;
     let number = number_in(matches)?;
-    Some(Pick { job, number })
+    let case = case_in(matches)?;
+    Some(Pick { job, number, case })
 }
 
 // The job that the words name, if they name one.
@@ -99,8 +101,24 @@ fn job_in(matches: &ArgMatches<'_>) -> Option<Option<Name>>
     }
 }
 
-// The number of a request that the words name, if they name one.
-fn number_in(matches: &ArgMatches<'_>) -> Option<Option<u32>>
+// The case that the words name, if they name one; it goes with a table of cases.
+fn case_in(matches: &ArgMatches<'_>) -> Option<Option<Name>>
+    ensures { result ≡ case_in (rows_of (found_of matches.now)) }
+{
+    let Some(word) = value_of(matches, "case") else {
+        return Some(None);
+    };
+    if value_of(matches, "cases").is_none() {
+        return None;
+    }
+    match Name::new(word.as_bytes()) {
+        Some(name) => Some(Some(name)),
+        None => None,
+    }
+}
+
+/// The number of a request that the words name, if they name one.
+pub fn number_in(matches: &ArgMatches<'_>) -> Option<Option<u32>>
     ensures { result ≡ number_in (rows_of (found_of matches.now)) }
 {
     let Some(word) = value_of(matches, "number") else {

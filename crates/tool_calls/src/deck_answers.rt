@@ -1,0 +1,162 @@
+//! What is told of a deck.
+ghost use Rattle.std.specs.Prelude.{◌≡◌, ◌++◌, ◌∷◌, [], IfOk};
+ghost use Rattle.flat_records.specs.Records.{Named};
+ghost use Rattle.flat_records.specs.declared.field.FieldValue.{FieldValue as Value};
+ghost use Rattle.sms_script.specs.FaultText.{fault_text as deck_fault_text};
+ghost use Rattle.tool_calls.specs.DeckText.{deck_record, fault_fields, refused_in, refused_text, valid_fields};
+ghost use Rattle.tool_calls.specs.DeckText.{valid_in, valid_text};
+ghost use Rattle.tool_calls.specs.ToolText.{IsAnswer};
+ghost use Rattle.tool_words.specs.declared.task.Task.TheVariants.{Validate};
+
+use crate::noting::note_deck;
+use crate::status::ToolStatus;
+use deck_meaning::DeckErr;
+use desk_common::{Items, Shared, push_number};
+use flat_records::{FieldValue, Fields, RecordForm, push_header, push_record};
+use sms_construct::Fault;
+use sms_deck::read_deck;
+use sms_script::push_fault;
+use std::alloc::{AllocError, Global};
+use tool_words::Format;
+
+// The names of the fields of a deck's record.
+const NAMES: [&[u8]; 4] = [b"valid", b"groups", b"volumes", b"fault"];
+
+/// The answer to a deck in a form. What its fault means is noted.
+#[tactic(auto, using(crate::proofs::AnswerLemmas::validated, crate::proofs::AnswerLemmas::deck_refused))]
+pub fn validated(
+    alloc: Global,
+    format: Format,
+    bytes: Vec<u8>,
+    note: &mut String,
+) -> Result<(ToolStatus, Items<u8>), AllocError>
+    ensures { IfOk result (λ found. IsAnswer bytes.items (Validate format) found.0 found.1) }
+{
+    let deck = Shared::new(alloc, Items::from_vec(bytes))?;
+    match read_deck(alloc, &deck) {
+        Ok(config) => {
+            let text = valid_in(alloc, format, config.groups().len(), config.volumes().len())?;
+            Ok((ToolStatus::Done, Items::from_vec(text)))
+        }
+        Err(DeckErr::Fault(fault)) => {
+            note_deck(alloc, note, deck.get().as_slice(), &fault);
+            let text = refused_in(alloc, format, &fault)?;
+            Ok((ToolStatus::FaultFound, Items::from_vec(text)))
+        }
+        Err(DeckErr::NoMemory) => Err(AllocError),
+    }
+}
+
+// What is told of a deck with so many storage groups and volumes.
+fn valid_in(
+    alloc: Global,
+    format: Format,
+    groups: usize,
+    volumes: usize,
+) -> Result<Vec<u8>, AllocError>
+    ensures { IfOk result (λ text. text.items ≡ valid_in format groups volumes) }
+{
+    match format {
+        Format::Text => valid_text(alloc, groups, volumes),
+        Format::Csv => valid_record(alloc, RecordForm::Csv, groups, volumes),
+        Format::Json => valid_record(alloc, RecordForm::Json, groups, volumes),
+    }
+}
+
+fn valid_text(alloc: Global, groups: usize, volumes: usize) -> Result<Vec<u8>, AllocError>
+    ensures { IfOk result (λ text. text.items ≡ valid_text groups volumes) }
+{
+    let mut text = b"VALID ".to_vec(alloc)?;
+    push_number(&mut text, groups as u64)?;
+    text.extend_from_slice(b" ")?;
+    push_number(&mut text, volumes as u64)?;
+    text.extend_from_slice(b"\n")?;
+    Ok(text)
+}
+
+fn valid_record(
+    alloc: Global,
+    form: RecordForm,
+    groups: usize,
+    volumes: usize,
+) -> Result<Vec<u8>, AllocError>
+    ensures { IfOk result (λ text. text.items ≡ deck_record form (valid_fields groups volumes)) }
+{
+    let fields = valid_fields(alloc, groups, volumes)?;
+    deck_record(alloc, form, &fields)
+}
+
+fn valid_fields(alloc: Global, groups: usize, volumes: usize) -> Result<Fields<'static>, AllocError>
+    ensures { IfOk result (λ fields. fields ≡ valid_fields groups volumes) }
+{
+    let mut fields = Fields::new(alloc);
+    fields.push(b"valid", FieldValue::Truth(true))?;
+    fields.push(b"groups", FieldValue::Count(groups as u64))?;
+    fields.push(b"volumes", FieldValue::Count(volumes as u64))?;
+    fields.push(b"fault", FieldValue::Missing)?;
+    Ok(fields)
+}
+
+// A deck's record, and what stands before it.
+fn deck_record(alloc: Global, form: RecordForm, fields: &Fields<'_>) -> Result<Vec<u8>, AllocError>
+    ensures { IfOk result (λ text. text.items ≡ deck_record form fields.now) }
+{
+    let mut text = Vec::new(alloc);
+    push_header(alloc, &mut text, form, &NAMES)?;
+    push_record(alloc, &mut text, form, fields)?;
+    Ok(text)
+}
+
+// What is told of a deck with this fault.
+fn refused_in(alloc: Global, format: Format, fault: &Fault) -> Result<Vec<u8>, AllocError>
+    ensures { IfOk result (λ text. text.items ≡ refused_in format fault.now) }
+{
+    match format {
+        Format::Text => refused_text(alloc, fault),
+        Format::Csv => fault_record(alloc, RecordForm::Csv, fault),
+        Format::Json => fault_record(alloc, RecordForm::Json, fault),
+    }
+}
+
+fn fault_record(alloc: Global, form: RecordForm, fault: &Fault) -> Result<Vec<u8>, AllocError>
+    ensures { IfOk result (λ text. text.items ≡ deck_record form (fault_fields fault.now)) }
+{
+    let fields = fault_fields(alloc, fault)?;
+    deck_record(alloc, form, &fields)
+}
+
+fn fault_fields(alloc: Global, fault: &Fault) -> Result<Fields<'static>, AllocError>
+    ensures { IfOk result (λ fields. fields ≡ fault_fields fault.now) }
+{
+    let mut fields = Fields::new(alloc);
+    fields.push(b"valid", FieldValue::Truth(false))?;
+    fields.push(b"groups", FieldValue::Missing)?;
+    fields.push(b"volumes", FieldValue::Missing)?;
+    fields.push(b"fault", fault_value(alloc, fault)?)?;
+    Ok(fields)
+}
+
+fn fault_value(alloc: Global, fault: &Fault) -> Result<FieldValue, AllocError>
+    ensures { IfOk result (λ value. value ≡ Value.Text (deck_fault_text fault.now)) }
+{
+    let mut text = Vec::new(alloc);
+    push_fault(&mut text, fault)?;
+    Ok(FieldValue::Text(Items::from_vec(text)))
+}
+
+/// The answer that a deck has this fault.
+pub fn refused(alloc: Global, fault: &Fault) -> Result<(ToolStatus, Items<u8>), AllocError>
+    ensures { IfOk result (λ found. (found.0 ≡ ToolStatus.FaultFound) × (found.1 ≡ refused_text fault.now)) }
+{
+    let text = refused_text(alloc, fault)?;
+    Ok((ToolStatus::FaultFound, Items::from_vec(text)))
+}
+
+fn refused_text(alloc: Global, fault: &Fault) -> Result<Vec<u8>, AllocError>
+    ensures { IfOk result (λ text. text.items ≡ refused_text fault.now) }
+{
+    let mut text = b"FAULT ".to_vec(alloc)?;
+    push_fault(&mut text, fault)?;
+    text.extend_from_slice(b"\n")?;
+    Ok(text)
+}
