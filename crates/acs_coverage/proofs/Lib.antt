@@ -1,2 +1,3 @@
 pub mod PointLemmas
 pub mod CountLemmas
+mod StandingLemmas

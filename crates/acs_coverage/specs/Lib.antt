@@ -1,4 +1,5 @@
 pub mod Points
 pub mod Counts
 pub mod CoverageText
+pub mod Standing
 pub mod Inner
