@@ -62,8 +62,12 @@ static LISTS: &[(Listing, Format, &str, &str)] = &[
     (Listing::Groups, Format::Json,
         "{\"groups\":[{\"group\":\"SG1\",\"volumes\":1,\"capacity\":100,\"free\":82}]}\n", "{\"groups\":[]}\n"),
     (Listing::Volumes, Format::Csv,
-        "volser,group,status,capacity,free,extents\nVOL001,SG1,ENABLE,100,82,3\n",
-        "volser,group,status,capacity,free,extents\n"),
+        "volser,group,status,capacity,free,extents,high,low,longest_gap\nVOL001,SG1,ENABLE,100,82,3,85,1,82\n",
+        "volser,group,status,capacity,free,extents,high,low,longest_gap\n"),
+    (Listing::Volumes, Format::Json,
+        "{\"volumes\":[{\"volser\":\"VOL001\",\"group\":\"SG1\",\"status\":\"ENABLE\",\"capacity\":100,\"free\":82,\
+        \"extents\":3,\"high\":85,\"low\":1,\"longest_gap\":82}]}\n",
+        "{\"volumes\":[]}\n"),
     (Listing::Classes, Format::Csv,
         "kind,name,unit,primary,secondary,volcount,eattr,multi_tier,expire_after,release\n\
         DATACLAS,DC1,TRK,5,2,3,NO,,,\nDATACLAS,DC2,,,,,OPT,,,\nSTORCLAS,SC1,,,,,,NO,,\n\
