@@ -1,5 +1,6 @@
 //! Volumes with the thresholds of their storage groups and their longest gaps.
 ghost use Rattle.std.specs.Prelude.{◌≡◌, ◌++◌, ◌∷◌, [], IfOk, OnOk, map};
+ghost use Rattle.std.specs.Option.{option_copied};
 ghost use Rattle.desk_law.specs.Candidates.{high_of};
 ghost use Rattle.desk_law.specs.Extents.{extents_of, pieces_on};
 ghost use Rattle.volume_gaps.specs.ListedVolumes.{group_in, listed_volume, low_of};
@@ -66,10 +67,17 @@ fn thresholds_of(groups: &[StorGroup], name: &Name) -> (u8, u8)
     ensures high { result.0 ≡ high_of (group_in groups.now name.now) }
     ensures low { result.1 ≡ low_of (group_in groups.now name.now) }
 {
-    match groups.iter().find(|group| group.name == *name) {
+    match group_in(groups, name) {
         Some(group) => (group.high, group.low),
         None => (0, 0),
     }
+}
+
+// The storage group of this name.
+fn group_in<'a>(groups: &'a [StorGroup], name: &Name) -> Option<&'a StorGroup>
+    ensures { option_copied result ≡ group_in groups.entry.now name.now }
+{
+    groups.iter().find(|group| group.name == *name)
 }
 
 // What these extents hold of a volume, in their order.
