@@ -1,9 +1,10 @@
 -- The three parts are the whole.
-use Rattle.std.proofs.Common.{◌++◌, ◌∙◌, ap, append_assoc, refl, sym}
-use Rattle.store_report.specs.VolumesJson.{volume_body}
+use Rattle.std.proofs.Common.{◌++◌, ◌∙◌, ap}
+use Rattle.store_report.proofs.ClassLemmas.{three_behind}
 use Rattle.store_report.proofs.VolumeLemmas.{volume_is}
 use Rattle.store_report.proofs.volumes_json.push_volume.Goals as goal
 
 pub returns : goal.returns
 returns c =
-    rw (c.in_ok-push_measures.ensures, c.in_ok-push_figures.ensures, c.in_ok-push_names.ensures, sym (volume_is c.args.volume.now)) (simp append_assoc refl)
+    three_behind _ _ _ _ _ _ _ c.in_ok-push_measures.ensures c.in_ok-push_figures.ensures c.in_ok-push_names.ensures
+    ∙ ap (λ l. c.args.text.now.items ++ l) (volume_is c.args.volume.now)
