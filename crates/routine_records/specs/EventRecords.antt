@@ -16,13 +16,13 @@ use Rattle.desk_law.specs.Classification.{Classes, classes_of}
 use Rattle.sms_construct.specs.Configuration.{Configuration}
 use Rattle.sms_construct.specs.declared.alloc.Alloc.{Alloc}
 use Rattle.sms_construct.specs.declared.stop.Stop.{Stop}
-use Rattle.sms_construct.specs.declared.stop.Stop.TheVariants.{Done}
 use Rattle.sms_script.specs.declared.item.Item.{Item}
 use Rattle.sms_simulation.specs.OutcomeText.{outcome_text}
 use Rattle.sms_simulation.specs.Simulation.{alloc_of}
 use Rattle.sms_story.specs.Runs.{runs_of}
 use Rattle.sms_story.specs.declared.run.Run.{Run}
 use Rattle.sms_explain.specs.DeckTexts.{source_in}
+use Rattle.sms_explain.specs.RunText.{values_text}
 use Rattle.sms_explain.specs.declared.deck_sources.DeckSources.{DeckSources}
 use Rattle.routine_records.specs.declared.happening.Happening.{Happening}
 use Rattle.routine_records.specs.declared.happening.Happening.TheVariants as happenings
@@ -75,9 +75,13 @@ told_event source (events.Set target value) = told_at source target happenings.S
 told_event source (events.Wrote line) = told_without happenings.Wrote (Text line)
 told_event source (events.Exited code) = told_without happenings.Exited (Count code)
 
--- what is told of the variables, or of what a classification comes to
-abbrev pub told_classes : Happening → Stop → Values → Told
-told_classes event stop values = told_without event (Text (outcome_text stop values))
+-- what is told of the variables
+abbrev pub told_values : Happening → Values → Told
+told_values event values = told_without event (Text (values_text values))
+
+-- what is told of what a classification comes to
+abbrev pub told_outcome : Stop → Values → Told
+told_outcome stop values = told_without happenings.Outcome (Text (outcome_text stop values))
 
 -- the line of an item in its script, its job and its number
 abbrev pub item_fields : Item → List Named
@@ -122,9 +126,9 @@ event_record form item routine source event = told_record form item routine (tol
 -- a run in a routine: what the variables held at its begin, what happened, and what they held at its end
 abbrev pub run_in : RecordForm → Item → FieldValue → Source → Run → List ℕ
 run_in form item routine source run =
-    told_record form item routine (told_classes happenings.Begin Done run.begins)
+    told_record form item routine (told_values happenings.Begin run.begins)
     ++ (flat_map (event_record form item routine source) run.events
-    ++ told_record form item routine (told_classes happenings.End Done run.ends))
+    ++ told_record form item routine (told_values happenings.End run.ends))
 
 -- the same under the name of its routine
 abbrev pub run_records : RecordForm → DeckSources → Item → Run → List ℕ
@@ -132,7 +136,7 @@ run_records form sources item run = run_in form item (Text (name_of run.kind)) (
 
 -- what a classification that ends so comes to
 abbrev pub outcome_record : RecordForm → Item → Stop → Values → List ℕ
-outcome_record form item stop values = told_record form item Missing (told_classes happenings.Outcome stop values)
+outcome_record form item stop values = told_record form item Missing (told_outcome stop values)
 
 -- the same of classes
 abbrev pub classes_record : RecordForm → Item → Classes → List ℕ

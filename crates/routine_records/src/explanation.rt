@@ -15,7 +15,7 @@ ghost use Rattle.routine_records.specs.Inner.Under.{AreExplainedUnder};
 use crate::asked::Asked;
 use crate::happening::Happening;
 use crate::told::Told;
-use crate::told_events::{text_value, told_classes, told_event};
+use crate::told_events::{text_value, told_event, told_outcome, told_values};
 use crate::told_fields::{NAMES, told_fields};
 use acs_telling::Source;
 use acs_trace::Event;
@@ -25,7 +25,7 @@ use desk_common::Items;
 use dsn_mask::Name;
 use flat_records::{FieldValue, RecordForm, push_header, push_record};
 use sms_classes::Classified;
-use sms_construct::{Alloc, DeckText, Op, Stop};
+use sms_construct::{Alloc, DeckText, Op};
 use sms_deck::read_deck;
 use sms_explain::{DeckSources, picked_items, sources_of};
 use sms_script::{Item, Script};
@@ -222,10 +222,10 @@ fn push_run(
         run_in form item.now (Value.Text (name_of run.now.kind)) source.now run.now) }
 {
     let name = run.kind.name();
-    let begin = told_classes(alloc, Happening::Begin, Stop::Done, &run.begins)?;
+    let begin = told_values(alloc, Happening::Begin, &run.begins)?;
     push_told(alloc, text, form, item, name, begin)?;
     push_events(alloc, text, form, source, item, name, run.events.as_slice())?;
-    let end = told_classes(alloc, Happening::End, Stop::Done, &run.ends)?;
+    let end = told_values(alloc, Happening::End, &run.ends)?;
     push_told(alloc, text, form, item, name, end)
 }
 
@@ -275,7 +275,7 @@ fn push_outcome(
 ) -> Result<(), AllocError>
     ensures { OnOk result (text.new.items ≡ text.old.items ++ outcome_record form item.now made.now.stop made.now.values) }
 {
-    let told = told_classes(alloc, Happening::Outcome, made.stop, &made.values)?;
+    let told = told_outcome(alloc, made.stop, &made.values)?;
     let fields = told_fields(alloc, item, FieldValue::Missing, told)?;
     push_record(alloc, text, form, &fields)
 }

@@ -1,8 +1,9 @@
 //! What is told of the events of a run.
-ghost use Rattle.std.specs.Prelude.{◌≡◌, IfOk};
+ghost use Rattle.std.specs.Prelude.{◌≡◌, ◌++◌, IfOk, OnOk};
 ghost use Rattle.acs_telling.specs.Telling.{comparison_text};
 ghost use Rattle.flat_records.specs.declared.field.FieldValue.{FieldValue as Value};
-ghost use Rattle.routine_records.specs.EventRecords.{told_at, told_classes, told_event, told_without};
+ghost use Rattle.routine_records.specs.EventRecords.{told_at, told_event, told_outcome, told_values, told_without};
+ghost use Rattle.sms_explain.specs.RunText.{groups_text, values_text};
 ghost use Rattle.sms_simulation.specs.OutcomeText.{outcome_text};
 
 use crate::happening::Happening;
@@ -11,8 +12,10 @@ use acs_telling::{Source, push_comparison};
 use acs_trace::Event;
 use acs_tree::{Compare, Values};
 use desk_common::Items;
+use dsn_mask::Name;
 use flat_records::FieldValue;
 use sms_construct::Stop;
+use sms_script::{push_word_and_blank, value_bytes};
 use sms_simulation::push_outcome;
 use std::alloc::{AllocError, Global};
 
@@ -89,17 +92,42 @@ fn told_without(event: Happening, value: FieldValue) -> Told
     }
 }
 
-/// What is told of the variables, or of what a classification comes to.
-pub fn told_classes(
-    alloc: Global,
-    event: Happening,
-    stop: Stop,
-    values: &Values,
-) -> Result<Told, AllocError>
-    ensures { IfOk result (λ told. told ≡ told_classes event stop values.now) }
+/// What is told of the variables.
+pub fn told_values(alloc: Global, event: Happening, values: &Values) -> Result<Told, AllocError>
+    ensures { IfOk result (λ told. told ≡ told_values event values.now) }
+{
+    let mut text = Vec::new(alloc);
+    push_values(&mut text, values)?;
+    Ok(told_without(event, FieldValue::Text(Items::from_vec(text))))
+}
+
+// The three classes, and the storage groups behind them.
+fn push_values(text: &mut Vec<u8>, values: &Values) -> Result<(), AllocError>
+    ensures { OnOk result (text.new.items ≡ text.old.items ++ values_text values.now) }
+{
+    push_word_and_blank(text, value_bytes(&values.dataclas))?;
+    push_word_and_blank(text, value_bytes(&values.storclas))?;
+    text.extend_from_slice(value_bytes(&values.mgmtclas))?;
+    push_groups(text, values.groups.as_slice())
+}
+
+// The storage groups, with a blank before each.
+fn push_groups(text: &mut Vec<u8>, groups: &[Name]) -> Result<(), AllocError>
+    ensures { OnOk result (text.new.items ≡ text.old.items ++ groups_text groups.now) }
+{
+    for group in groups {
+        text.extend_from_slice(b" ")?;
+        text.extend_from_slice(group.bytes())?;
+    }
+    Ok(())
+}
+
+/// What is told of what a classification comes to.
+pub fn told_outcome(alloc: Global, stop: Stop, values: &Values) -> Result<Told, AllocError>
+    ensures { IfOk result (λ told. told ≡ told_outcome stop values.now) }
 {
     let value = outcome_value(alloc, stop, values)?;
-    Ok(told_without(event, value))
+    Ok(told_without(Happening::Outcome, value))
 }
 
 fn outcome_value(alloc: Global, stop: Stop, values: &Values) -> Result<FieldValue, AllocError>
