@@ -27,6 +27,14 @@ use sms_script::{Item, Script};
 use sms_simulation::all_items;
 use std::alloc::{AllocError, Global};
 
+// What was reached of the routines of a deck.
+#[derive(Clone, Copy)]
+struct Reached<'a> {
+    config: &'a Config,
+    sources: &'a DeckSources,
+    tallies: &'a KindTallies,
+}
+
 /// What the allocations behind a script's first item reach of the routines of the deck that it activates: a record in
 /// this form for each point of a routine; and whether that is less than `least` per cent of one of them
 /// (docs/manual/tool.md, "Coverage of a script"). Nothing is allocated.
@@ -141,43 +149,16 @@ fn deck_text(
     ensures { IfOk result (λ text. text.items ≡
         deck_records form config.now sources.now (λ kind. tally_at (tallies_in tallies.now kind))) }
 {
+    let reached = Reached {
+        config,
+        sources,
+        tallies,
+    };
     let mut text = front_text(alloc, form)?;
-    push_kind(
-        alloc,
-        &mut text,
-        form,
-        config,
-        sources,
-        tallies,
-        Kind::DataClas,
-    )?;
-    push_kind(
-        alloc,
-        &mut text,
-        form,
-        config,
-        sources,
-        tallies,
-        Kind::StorClas,
-    )?;
-    push_kind(
-        alloc,
-        &mut text,
-        form,
-        config,
-        sources,
-        tallies,
-        Kind::MgmtClas,
-    )?;
-    push_kind(
-        alloc,
-        &mut text,
-        form,
-        config,
-        sources,
-        tallies,
-        Kind::StorGrp,
-    )?;
+    push_kind(alloc, &mut text, form, &reached, Kind::DataClas)?;
+    push_kind(alloc, &mut text, form, &reached, Kind::StorClas)?;
+    push_kind(alloc, &mut text, form, &reached, Kind::MgmtClas)?;
+    push_kind(alloc, &mut text, form, &reached, Kind::StorGrp)?;
     Ok(text)
 }
 
@@ -186,19 +167,18 @@ fn push_kind(
     alloc: Global,
     text: &mut Vec<u8>,
     form: RecordForm,
-    config: &Config,
-    sources: &DeckSources,
-    tallies: &KindTallies,
+    reached: &Reached<'_>,
     kind: Kind,
 ) -> Result<(), AllocError>
     ensures { OnOk result (text.new.items ≡ text.old.items ++
-        kind_records form config.now sources.now (λ kind. tally_at (tallies_in tallies.now kind)) kind) }
+        kind_records form reached.now.config.now reached.now.sources.now
+        (λ kind. tally_at (tallies_in reached.now.tallies.now kind)) kind) }
 {
-    match config.source(kind) {
+    match reached.config.source(kind) {
         None => Ok(()),
         Some(checked) => {
-            let source = sources.of_kind(kind);
-            let counts = tallies.of_kind(kind);
+            let source = reached.sources.of_kind(kind);
+            let counts = reached.tallies.of_kind(kind);
             push_routine(alloc, text, form, kind, source, checked, counts)
         }
     }

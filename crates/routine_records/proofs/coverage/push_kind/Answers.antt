@@ -14,13 +14,13 @@ pub returns-in-Some : goal.returns-in-Some
 returns-in-Some c =
     let form = c.args.form in
     let kind = c.args.kind in
-    let source : Source = source_in c.args.sources.now kind in
-    let tallies : List Tally = tallies_in c.args.tallies.now kind in
+    let source : Source = source_in c.args.reached.now.sources.now kind in
+    let tallies : List Tally = tallies_in c.args.reached.now.tallies.now kind in
     let checked : CheckedRoutine = c.in-Some.checked.now in
     let given : Source = c.of_kind-source.result.now in
     let counts : List Tally = c.of_kind-counts.result.now in
-    let found : Some checked ≡ routine_of kind c.args.config.now.routines = rw c.in-Some.is at c.source.ensures in
-    let same : routine_records form kind given (tally_at counts) (Some checked) ≡ routine_records form kind source (tally_at tallies) (routine_of kind c.args.config.now.routines) =
+    let found : Some checked ≡ routine_of kind c.args.reached.now.config.now.routines = rw c.in-Some.is at c.source.ensures in
+    let same : routine_records form kind given (tally_at counts) (Some checked) ≡ routine_records form kind source (tally_at tallies) (routine_of kind c.args.reached.now.config.now.routines) =
     ap (λ (s : Source). routine_records form kind s (tally_at counts) (Some checked)) c.of_kind-source.ensures
     ∙ ap (λ (t : List Tally). routine_records form kind source (tally_at t) (Some checked)) c.of_kind-counts.ensures
     ∙ ap (λ (r : Option CheckedRoutine). routine_records form kind source (tally_at tallies) r) found in
