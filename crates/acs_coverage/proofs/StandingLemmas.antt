@@ -236,11 +236,11 @@ module _ (kind : Kind) (body : List Stmt) where
       let seen = (look_when body subject y.test input values).events in
       let told = (story kind body statement input values).events in (
         subst (λ (p : Option Ref → List Point). AllStand (p subject) ((chapter_of kind body (roll-When parts)).look subject input values).events) (sym at)
-        (subst (λ (c : Chapter). AllStand ps (c.look subject input values).events) (sym tells)
-        (all_right (points.When y.at ∷ []) (test ++ points_in statement) seen (all_left test (points_in statement) seen (when_stands body subject y.test input values)))),
+            (subst (λ (c : Chapter). AllStand ps (c.look subject input values).events) (sym tells)
+            (all_right (points.When y.at ∷ []) (test ++ points_in statement) seen (all_left test (points_in statement) seen (when_stands body subject y.test input values)))),
         subst (λ (p : Option Ref → List Point). AllStand (p subject) ((chapter_of kind body (roll-When parts)).body input values).events) (sym at)
-        (subst (λ (c : Chapter). AllStand ps (c.body input values).events) (sym tells)
-        (inl refl, all_right (points.When y.at ∷ []) (test ++ points_in statement) told (all_right test (points_in statement) told (y.body.1 input values)))),
+            (subst (λ (c : Chapter). AllStand ps (c.body input values).events) (sym tells)
+            (inl refl, all_right (points.When y.at ∷ []) (test ++ points_in statement) told (all_right test (points_in statement) told (y.body.1 input values)))),
       )
 
   stmt_stands : (s : Stmt) → StmtStands s

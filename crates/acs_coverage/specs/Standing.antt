@@ -10,8 +10,8 @@ abbrev pub IsAmong : Point → List Point → Type 0
 IsAmong point [] = ⊥
 IsAmong point (other ∷ others) = (point ≡ other) ⊎ IsAmong point others
 
--- what begins, is compared or is taken does so at one of these points; SET, WRITE and EXIT happen in a statement that
--- has begun at one
+-- what begins, is compared or is taken does so at one of these points; of what a SET, a WRITE or an EXIT does nothing is
+-- said
 abbrev pub StandsAt : List Point → Event → Type 0
 StandsAt points (events.Ran at) = IsAmong (Statement at) points
 StandsAt points (events.Compared left op right value holds) = IsAmong (Comparison left op right) points

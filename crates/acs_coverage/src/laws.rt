@@ -7,8 +7,8 @@ ghost use Rattle.acs_tree.specs.declared.kind.Kind.{Kind};
 ghost use Rattle.acs_tree.specs.declared.routine.Routine.{Routine};
 ghost use Rattle.acs_tree.specs.declared.values.Values.{Values};
 
-/// Whatever is told of a routine stands at its points: of every tree, input and values. So what is counted is counted at
-/// a point, and a point that no case reaches is one at which nothing was told.
+/// Each statement that begins, each comparison and each WHEN that is taken, as a routine's story tells them, stands at one
+/// of its points: of every tree, input and values. So what is counted is counted at the token of a point.
 pub fn events_at_points()
     ensures { (routine : Routine) (kind : Kind) (input : Input) (values : Values) →
         AllStand (points_of routine) (story_of routine kind input values).events }

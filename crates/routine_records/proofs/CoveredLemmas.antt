@@ -15,11 +15,11 @@ use Rattle.sms_explain.specs.declared.deck_sources.DeckSources.{DeckSources}
 use Rattle.sms_script.specs.declared.item.Item.{Item}
 use Rattle.sms_simulation.specs.Simulation.{AreAsked}
 use Rattle.sms_story.specs.declared.run.Run.{Run}
-use Rattle.routine_records.specs.CoveredRecords.{AreCovered, deck_records}
-use Rattle.routine_records.specs.Inner.Under.{AreCoveredUnder}
+use Rattle.routine_records.specs.CoveredRecords.{IsCoverageRecorded, deck_records}
+use Rattle.routine_records.specs.Inner.Under.{IsCoverageUnder}
 
 pub covered_under : (form : RecordForm) (least : ℕ) (items others : List Item) (deck : List ℕ) (made : Covered) → AreAsked items deck others
-    → AreCoveredUnder form least deck others made → AreCovered form least items made
+    → IsCoverageUnder form least deck others made → IsCoverageRecorded form least items made
 covered_under form least items others deck (coverages.Shown coverage) asked counts =
     inr (record { deck = deck; others = others; asked = asked; counts = counts })
 covered_under form least items others deck (coverages.Refused fault) asked found = record { deck = deck; others = others; asked = asked; found = found }

@@ -40,7 +40,7 @@ deck_records form config sources counts =
 
 -- the records tell what these ALLOCs reach of the routines of the deck, and whether that is less than so many per cent
 -- of one of them
-pub record CountsUnder (form : RecordForm) (least : ℕ) (deck : List ℕ) (others : List Item) (coverage : Coverage)
+pub record CoverageUnder (form : RecordForm) (least : ℕ) (deck : List ℕ) (others : List Item) (coverage : Coverage)
     : Type 0 where
   pub config : Configuration
   pub configures : Configures deck config
@@ -51,21 +51,21 @@ pub record CountsUnder (form : RecordForm) (least : ℕ) (deck : List ℕ) (othe
   pub short_is : coverage.short ≡ deck_short least config (counts_of (flat_map (runs_of_item config) others))
 
 -- the records are those of a deck and of the ALLOCs behind it
-pub record Counts (form : RecordForm) (least : ℕ) (items : List Item) (coverage : Coverage) : Type 0 where
+pub record CoverageOf (form : RecordForm) (least : ℕ) (items : List Item) (coverage : Coverage) : Type 0 where
   pub deck : List ℕ
   pub others : List Item
   pub asked : AreAsked items deck others
-  pub counts : CountsUnder form least deck others coverage
+  pub counts : CoverageUnder form least deck others coverage
 
 -- there is nothing of which something could be reached, and what stands before records is all
-pub record CountsNothing (form : RecordForm) (items : List Item) (coverage : Coverage) : Type 0 where
+pub record CoverageOfNothing (form : RecordForm) (items : List Item) (coverage : Coverage) : Type 0 where
   pub items_are : items ≡ []
   pub text_is : coverage.text ≡ points_front form
   pub short_is : coverage.short ≡ false
 
 -- what the coverage of these items as records comes to, where so many per cent are asked for
-abbrev pub AreCovered : RecordForm → ℕ → List Item → Covered → Type 0
-AreCovered form least items (coverages.Shown coverage) =
-    CountsNothing form items coverage ⊎ Counts form least items coverage
-AreCovered form least items (coverages.Refused fault) = RefusesDeck items fault
-AreCovered form least items (coverages.Misplaced line) = first_misplaced items ≡ Some line
+abbrev pub IsCoverageRecorded : RecordForm → ℕ → List Item → Covered → Type 0
+IsCoverageRecorded form least items (coverages.Shown coverage) =
+    CoverageOfNothing form items coverage ⊎ CoverageOf form least items coverage
+IsCoverageRecorded form least items (coverages.Refused fault) = RefusesDeck items fault
+IsCoverageRecorded form least items (coverages.Misplaced line) = first_misplaced items ≡ Some line

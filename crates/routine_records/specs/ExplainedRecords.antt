@@ -35,8 +35,8 @@ pub record Records (form : RecordForm) (job : Option (List ℕ)) (number : Optio
   pub records : RecordsUnder form deck (filter (is_picked job number) others) text
 
 -- what the explanation of these items as records comes to
-abbrev pub AreExplained : RecordForm → Option (List ℕ) → Option ℕ → List Item → Simulated → Type 0
-AreExplained form job number items (simulations.Shown text) =
+abbrev pub IsExplanationRecorded : RecordForm → Option (List ℕ) → Option ℕ → List Item → Simulated → Type 0
+IsExplanationRecorded form job number items (simulations.Shown text) =
     RecordsNothing form items text ⊎ Records form job number items text
-AreExplained form job number items (simulations.Refused fault) = RefusesDeck items fault
-AreExplained form job number items (simulations.Misplaced line) = first_misplaced items ≡ Some line
+IsExplanationRecorded form job number items (simulations.Refused fault) = RefusesDeck items fault
+IsExplanationRecorded form job number items (simulations.Misplaced line) = first_misplaced items ≡ Some line

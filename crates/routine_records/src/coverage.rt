@@ -7,8 +7,8 @@ ghost use Rattle.sms_construct.specs.Configuration.{routine_of};
 ghost use Rattle.deck_meaning.specs.Reading.{Configures};
 ghost use Rattle.sms_coverage.specs.Events.{counts_of, runs_of_item, tallies_in};
 ghost use Rattle.sms_coverage.specs.Shortfall.{deck_short};
-ghost use Rattle.routine_records.specs.CoveredRecords.{AreCovered, deck_records, kind_records, routine_records};
-ghost use Rattle.routine_records.specs.Inner.Under.{AreCoveredUnder};
+ghost use Rattle.routine_records.specs.CoveredRecords.{IsCoverageRecorded, deck_records, kind_records, routine_records};
+ghost use Rattle.routine_records.specs.Inner.Under.{IsCoverageUnder};
 ghost use Rattle.routine_records.specs.PointRecords.{point_record, points_front, points_records};
 
 use crate::asked::Asked;
@@ -44,7 +44,7 @@ pub fn coverage_records(
     script: &Script,
     least: u8,
 ) -> Result<Covered, AllocError>
-    ensures { IfOk result (AreCovered form least (items_of script.now)) }
+    ensures { IfOk result (IsCoverageRecorded form least (items_of script.now)) }
 {
     let items = all_items(alloc, script.as_slice())?;
     cover_items(alloc, form, &items, least)
@@ -57,7 +57,7 @@ fn cover_items(
     items: &[&Item],
     least: u8,
 ) -> Result<Covered, AllocError>
-    ensures { IfOk result (AreCovered form least (map (λ item. item.now) items.now)) }
+    ensures { IfOk result (IsCoverageRecorded form least (map (λ item. item.now) items.now)) }
 {
     match Asked::by(items) {
         Asked::Nothing => {
@@ -80,7 +80,7 @@ fn cover_under(
     others: &[&Item],
     least: u8,
 ) -> Result<Covered, AllocError>
-    ensures { IfOk result (AreCoveredUnder form least deck.now (map (λ item. item.now) others.now)) }
+    ensures { IfOk result (IsCoverageUnder form least deck.now (map (λ item. item.now) others.now)) }
 {
     match read_deck(alloc, deck) {
         Ok(config) => cover_by(alloc, form, deck, &config, others, least),
@@ -99,7 +99,7 @@ fn cover_by(
     least: u8,
 ) -> Result<Covered, AllocError>
     ensures { IfOk result (λ made. Configures deck.now config.now →
-        AreCoveredUnder form least deck.now (map (λ item. item.now) others.now) made) }
+        IsCoverageUnder form least deck.now (map (λ item. item.now) others.now) made) }
 {
     let sources = sources_of(alloc, deck)?;
     let coverage = coverage_of(alloc, form, config, &sources, others, least)?;

@@ -9,8 +9,8 @@ ghost use Rattle.sms_explain.specs.Picking.{is_picked};
 ghost use Rattle.sms_story.specs.Runs.{runs_of};
 ghost use Rattle.routine_records.specs.EventRecords.{alloc_records, event_record, front_in, item_records, run_in};
 ghost use Rattle.routine_records.specs.EventRecords.{outcome_record, run_records, told_record};
-ghost use Rattle.routine_records.specs.ExplainedRecords.{AreExplained};
-ghost use Rattle.routine_records.specs.Inner.Under.{AreExplainedUnder};
+ghost use Rattle.routine_records.specs.ExplainedRecords.{IsExplanationRecorded};
+ghost use Rattle.routine_records.specs.Inner.Under.{IsExplanationUnder};
 
 use crate::asked::Asked;
 use crate::happening::Happening;
@@ -43,7 +43,7 @@ pub fn explain_records(
     job: &Option<Name>,
     number: Option<u32>,
 ) -> Result<Simulated, AllocError>
-    ensures { IfOk result (AreExplained form job.now number (items_of script.now)) }
+    ensures { IfOk result (IsExplanationRecorded form job.now number (items_of script.now)) }
 {
     let items = all_items(alloc, script.as_slice())?;
     explain_items(alloc, form, &items, job, number)
@@ -57,7 +57,7 @@ fn explain_items(
     job: &Option<Name>,
     number: Option<u32>,
 ) -> Result<Simulated, AllocError>
-    ensures { IfOk result (AreExplained form job.now number (map (λ item. item.now) items.now)) }
+    ensures { IfOk result (IsExplanationRecorded form job.now number (map (λ item. item.now) items.now)) }
 {
     match Asked::by(items) {
         Asked::Nothing => {
@@ -78,7 +78,7 @@ fn explain_picked(
     job: &Option<Name>,
     number: Option<u32>,
 ) -> Result<Simulated, AllocError>
-    ensures { IfOk result (AreExplainedUnder form deck.now
+    ensures { IfOk result (IsExplanationUnder form deck.now
         (filter (is_picked job.now number) (map (λ item. item.now) others.now))) }
 {
     let picked = picked_items(alloc, others, job, number)?;
@@ -92,7 +92,7 @@ fn explain_under(
     deck: &DeckText,
     others: &[&Item],
 ) -> Result<Simulated, AllocError>
-    ensures { IfOk result (AreExplainedUnder form deck.now (map (λ item. item.now) others.now)) }
+    ensures { IfOk result (IsExplanationUnder form deck.now (map (λ item. item.now) others.now)) }
 {
     match read_deck(alloc, deck) {
         Ok(config) => explain_by(alloc, form, deck, &config, others),
@@ -110,7 +110,7 @@ fn explain_by(
     others: &[&Item],
 ) -> Result<Simulated, AllocError>
     ensures { IfOk result (λ made. Configures deck.now config.now →
-        AreExplainedUnder form deck.now (map (λ item. item.now) others.now) made) }
+        IsExplanationUnder form deck.now (map (λ item. item.now) others.now) made) }
 {
     let sources = sources_of(alloc, deck)?;
     let text = text_of(alloc, form, config, &sources, others)?;
@@ -273,7 +273,8 @@ fn push_outcome(
     item: &Item,
     made: &Classified,
 ) -> Result<(), AllocError>
-    ensures { OnOk result (text.new.items ≡ text.old.items ++ outcome_record form item.now made.now.stop made.now.values) }
+    ensures { OnOk result (text.new.items ≡ text.old.items ++
+        outcome_record form item.now made.now.stop made.now.values) }
 {
     let told = told_outcome(alloc, made.stop, &made.values)?;
     let fields = told_fields(alloc, item, FieldValue::Missing, told)?;

@@ -5,6 +5,7 @@ mod asked;
 mod coverage;
 mod explanation;
 mod happening;
+mod laws;
 mod point_fields;
 mod told;
 mod told_events;
@@ -12,3 +13,4 @@ mod told_fields;
 
 pub use coverage::coverage_records;
 pub use explanation::explain_records;
+pub use laws::headers_name_fields;

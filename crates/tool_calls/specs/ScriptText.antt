@@ -1,8 +1,8 @@
 -- What is told of the allocations of a script (docs/manual/tool.md).
 use Rattle.std.specs.Prelude.{◌≡◌, ℕ, Bool, List, if◌then◌else◌}
 use Rattle.flat_records.specs.declared.form.RecordForm.TheVariants as forms
-use Rattle.routine_records.specs.CoveredRecords.{AreCovered}
-use Rattle.routine_records.specs.ExplainedRecords.{AreExplained}
+use Rattle.routine_records.specs.CoveredRecords.{IsCoverageRecorded}
+use Rattle.routine_records.specs.ExplainedRecords.{IsExplanationRecorded}
 use Rattle.sms_construct.specs.declared.fault.Fault.{Fault as DeckFault}
 use Rattle.sms_coverage.specs.Coverage.{IsCoverage}
 use Rattle.sms_coverage.specs.declared.coverage.Covered.{Covered}
@@ -33,14 +33,14 @@ IsSimulationIn formats.Json items made = IsRecorded forms.Json items made
 -- what the explanation of these items comes to in a form
 abbrev pub IsExplanationIn : Pick → Format → List Item → Simulated → Type 0
 IsExplanationIn pick formats.Text items made = IsExplanation pick.job pick.number items made
-IsExplanationIn pick formats.Csv items made = AreExplained forms.Csv pick.job pick.number items made
-IsExplanationIn pick formats.Json items made = AreExplained forms.Json pick.job pick.number items made
+IsExplanationIn pick formats.Csv items made = IsExplanationRecorded forms.Csv pick.job pick.number items made
+IsExplanationIn pick formats.Json items made = IsExplanationRecorded forms.Json pick.job pick.number items made
 
 -- what the coverage of these items comes to in a form
 abbrev pub IsCoverageIn : ℕ → Format → List Item → Covered → Type 0
 IsCoverageIn least formats.Text items made = IsCoverage least items made
-IsCoverageIn least formats.Csv items made = AreCovered forms.Csv least items made
-IsCoverageIn least formats.Json items made = AreCovered forms.Json least items made
+IsCoverageIn least formats.Csv items made = IsCoverageRecorded forms.Csv least items made
+IsCoverageIn least formats.Json items made = IsCoverageRecorded forms.Json least items made
 
 -- the status of a coverage, which may be less than was asked for
 abbrev pub coverage_status : Bool → ToolStatus

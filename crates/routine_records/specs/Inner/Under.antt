@@ -7,17 +7,17 @@ use Rattle.sms_coverage.specs.declared.coverage.Covered.{Covered}
 use Rattle.sms_coverage.specs.declared.coverage.Covered.TheVariants as coverages
 use Rattle.sms_simulation.specs.declared.simulated.Simulated.{Simulated}
 use Rattle.sms_simulation.specs.declared.simulated.Simulated.TheVariants as simulations
-use Rattle.routine_records.specs.CoveredRecords.{CountsUnder}
+use Rattle.routine_records.specs.CoveredRecords.{CoverageUnder}
 use Rattle.routine_records.specs.ExplainedRecords.{RecordsUnder}
 
 -- what the explanation comes to
-abbrev pub AreExplainedUnder : RecordForm → List ℕ → List Item → Simulated → Type 0
-AreExplainedUnder form deck others (simulations.Shown text) = RecordsUnder form deck others text
-AreExplainedUnder form deck others (simulations.Refused fault) = HasFirstFault deck fault
-AreExplainedUnder form deck others (simulations.Misplaced line) = ⊥
+abbrev pub IsExplanationUnder : RecordForm → List ℕ → List Item → Simulated → Type 0
+IsExplanationUnder form deck others (simulations.Shown text) = RecordsUnder form deck others text
+IsExplanationUnder form deck others (simulations.Refused fault) = HasFirstFault deck fault
+IsExplanationUnder form deck others (simulations.Misplaced line) = ⊥
 
 -- what the coverage comes to
-abbrev pub AreCoveredUnder : RecordForm → ℕ → List ℕ → List Item → Covered → Type 0
-AreCoveredUnder form least deck others (coverages.Shown coverage) = CountsUnder form least deck others coverage
-AreCoveredUnder form least deck others (coverages.Refused fault) = HasFirstFault deck fault
-AreCoveredUnder form least deck others (coverages.Misplaced line) = ⊥
+abbrev pub IsCoverageUnder : RecordForm → ℕ → List ℕ → List Item → Covered → Type 0
+IsCoverageUnder form least deck others (coverages.Shown coverage) = CoverageUnder form least deck others coverage
+IsCoverageUnder form least deck others (coverages.Refused fault) = HasFirstFault deck fault
+IsCoverageUnder form least deck others (coverages.Misplaced line) = ⊥
