@@ -1,6 +1,6 @@
 //! The cases of a table as a script, so that what is told of scripts can be told of them.
 #![tactic(auto)]
 
-mod case_script;
+mod script;
 
-pub use case_script::case_script;
+pub use script::case_script;

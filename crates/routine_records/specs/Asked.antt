@@ -1,12 +1,11 @@
 -- What is asked by the items of a script (docs/manual/tool.md, "Simulating a script").
-use Rattle.std.specs.Prelude.{◌≡◌, List, [], Some, map}
+use Rattle.std.specs.Prelude.{◌≡◌, ℕ, List, [], Option, None, Some, Result, Ok, Err, map}
 use Rattle.sms_script.specs.declared.item.Item.{Item}
 use Rattle.sms_simulation.specs.Simulation.{AreAsked, first_misplaced}
-use Rattle.routine_records.specs.declared.asked.Asked.{Asked}
-use Rattle.routine_records.specs.declared.asked.Asked.TheVariants.{Nothing, Under, Misplaced}
+use Rattle.routine_records.specs.declared.asked.AskedDeck.{AskedDeck}
 
 -- what these items ask
-abbrev pub IsAsked : List Item → Asked → Type 0
-IsAsked items Nothing = items ≡ []
-IsAsked items (Under deck others) = AreAsked items deck.now (map (λ item. item.now) others.now)
-IsAsked items (Misplaced line) = first_misplaced items ≡ Some line
+abbrev pub IsAsked : List Item → Result (Option AskedDeck) ℕ → Type 0
+IsAsked items (Ok None) = items ≡ []
+IsAsked items (Ok (Some asked)) = AreAsked items asked.deck.now (map (λ item. item.now) asked.others.now)
+IsAsked items (Err line) = first_misplaced items ≡ Some line

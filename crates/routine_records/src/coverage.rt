@@ -11,7 +11,7 @@ ghost use Rattle.routine_records.specs.CoveredRecords.{IsCoverageRecorded, deck_
 ghost use Rattle.routine_records.specs.Inner.Under.{IsCoverageUnder};
 ghost use Rattle.routine_records.specs.PointRecords.{point_record, points_front, points_records};
 
-use crate::asked::Asked;
+use crate::asked::asked_by;
 use crate::point_fields::{NAMES, point_fields};
 use acs_coverage::{Point, Tallies, points_of};
 use acs_telling::Source;
@@ -59,16 +59,16 @@ fn cover_items(
 ) -> Result<Covered, AllocError>
     ensures { IfOk result (IsCoverageRecorded form least (map (λ item. item.now) items.now)) }
 {
-    match Asked::by(items) {
-        Asked::Nothing => {
+    match asked_by(items) {
+        Ok(None) => {
             let front = front_text(alloc, form)?;
             Ok(Covered::Shown(Coverage {
                 text: Items::from_vec(front),
                 short: false,
             }))
         }
-        Asked::Under { deck, others } => cover_under(alloc, form, deck, others, least),
-        Asked::Misplaced(line) => Ok(Covered::Misplaced(line)),
+        Ok(Some(asked)) => cover_under(alloc, form, asked.deck, asked.others, least),
+        Err(line) => Ok(Covered::Misplaced(line)),
     }
 }
 

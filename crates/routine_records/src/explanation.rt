@@ -12,7 +12,7 @@ ghost use Rattle.routine_records.specs.EventRecords.{outcome_record, run_records
 ghost use Rattle.routine_records.specs.ExplainedRecords.{IsExplanationRecorded};
 ghost use Rattle.routine_records.specs.Inner.Under.{IsExplanationUnder};
 
-use crate::asked::Asked;
+use crate::asked::asked_by;
 use crate::happening::Happening;
 use crate::told::Told;
 use crate::told_events::{text_value, told_event, told_outcome, told_values};
@@ -59,13 +59,13 @@ fn explain_items(
 ) -> Result<Simulated, AllocError>
     ensures { IfOk result (IsExplanationRecorded form job.now number (map (λ item. item.now) items.now)) }
 {
-    match Asked::by(items) {
-        Asked::Nothing => {
+    match asked_by(items) {
+        Ok(None) => {
             let front = front_text(alloc, form)?;
             Ok(Simulated::Shown(Items::from_vec(front)))
         }
-        Asked::Under { deck, others } => explain_picked(alloc, form, deck, others, job, number),
-        Asked::Misplaced(line) => Ok(Simulated::Misplaced(line)),
+        Ok(Some(asked)) => explain_picked(alloc, form, asked.deck, asked.others, job, number),
+        Err(line) => Ok(Simulated::Misplaced(line)),
     }
 }
 

@@ -1,7 +1,7 @@
 //! The fields of points.
-ghost use Rattle.std.specs.Prelude.{◌≡◌, ◌++◌, IfOk, OnOk};
+ghost use Rattle.std.specs.Prelude.{◌≡◌, IfOk};
 ghost use Rattle.flat_records.specs.declared.field.FieldValue.{FieldValue as Value};
-ghost use Rattle.routine_records.specs.PointRecords.{class_word, count_at, failed_at, held_at, place_fields};
+ghost use Rattle.routine_records.specs.PointRecords.{class_word, count_at, failed_at, held_at};
 ghost use Rattle.routine_records.specs.PointRecords.{point_fields, words_at};
 
 use crate::told_events::text_value;
@@ -34,29 +34,22 @@ pub fn point_fields(
 ) -> Result<Fields<'static>, AllocError>
     ensures { IfOk result (λ fields. fields ≡ point_fields name.now source.now point.now tally.now) }
 {
+    let place = source.spot_at(point.place() as usize).place;
+    let routine = text_value(alloc, name)?;
+    let class = text_value(alloc, class_word(point))?;
+    let text = words_at(alloc, source, point)?;
+    let covered = FieldValue::Truth(is_covered(point, tally));
     let mut fields = Fields::new(alloc);
-    fields.push(b"routine", text_value(alloc, name)?)?;
-    push_place(&mut fields, source, point)?;
-    fields.push(b"point", text_value(alloc, class_word(point))?)?;
-    fields.push(b"text", words_at(alloc, source, point)?)?;
-    fields.push(b"covered", FieldValue::Truth(is_covered(point, tally)))?;
+    fields.push(b"routine", routine)?;
+    fields.push(b"routine_line", FieldValue::Count(place.line))?;
+    fields.push(b"routine_column", FieldValue::Count(place.column))?;
+    fields.push(b"point", class)?;
+    fields.push(b"text", text)?;
+    fields.push(b"covered", covered)?;
     fields.push(b"count", count_at(point, tally))?;
     fields.push(b"true", held_at(point, tally))?;
     fields.push(b"false", failed_at(point, tally))?;
     Ok(fields)
-}
-
-// The line and the column of a point.
-fn push_place(
-    fields: &mut Fields<'static>,
-    source: &Source,
-    point: &Point,
-) -> Result<(), AllocError>
-    ensures { OnOk result (fields.new ≡ fields.old ++ place_fields source.now point.now) }
-{
-    let place = source.spot_at(point.place() as usize).place;
-    fields.push(b"routine_line", FieldValue::Count(place.line))?;
-    fields.push(b"routine_column", FieldValue::Count(place.column))
 }
 
 // The word of a point's class.

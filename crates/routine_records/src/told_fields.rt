@@ -1,6 +1,6 @@
 //! The fields of what is told.
-ghost use Rattle.std.specs.Prelude.{◌≡◌, ◌++◌, IfOk, OnOk};
-ghost use Rattle.routine_records.specs.EventRecords.{item_fields, place_fields, told_fields};
+ghost use Rattle.std.specs.Prelude.{◌≡◌, IfOk};
+ghost use Rattle.routine_records.specs.EventRecords.{column_of, item_fields, line_of, told_fields};
 
 use crate::told::Told;
 use crate::told_events::text_value;
@@ -32,10 +32,13 @@ pub fn told_fields(
 ) -> Result<Fields<'static>, AllocError>
     ensures { IfOk result (λ fields. fields ≡ told_fields item.now routine told) }
 {
+    let event = text_value(alloc, told.event.word())?;
+    let (line, column) = (line_of(told.place), column_of(told.place));
     let mut fields = item_fields(alloc, item)?;
     fields.push(b"routine", routine)?;
-    fields.push(b"event", text_value(alloc, told.event.word())?)?;
-    push_place(&mut fields, told.place)?;
+    fields.push(b"event", event)?;
+    fields.push(b"routine_line", line)?;
+    fields.push(b"routine_column", column)?;
     fields.push(b"text", told.text)?;
     fields.push(b"holds", told.holds)?;
     fields.push(b"value", told.value)?;
@@ -46,25 +49,31 @@ pub fn told_fields(
 fn item_fields(alloc: Global, item: &Item) -> Result<Fields<'static>, AllocError>
     ensures { IfOk result (λ fields. fields ≡ item_fields item.now) }
 {
+    let job = text_value(alloc, item.request.job.bytes())?;
+    let number = FieldValue::Count(u64::from(item.request.number.get()));
     let mut fields = Fields::new(alloc);
     fields.push(b"line", FieldValue::Count(u64::from(item.line)))?;
-    fields.push(b"job", text_value(alloc, item.request.job.bytes())?)?;
-    let number = FieldValue::Count(u64::from(item.request.number.get()));
+    fields.push(b"job", job)?;
     fields.push(b"number", number)?;
     Ok(fields)
 }
 
-// The line and the column of a place, if there is one.
-fn push_place(fields: &mut Fields<'static>, place: Option<Place>) -> Result<(), AllocError>
-    ensures { OnOk result (fields.new ≡ fields.old ++ place_fields place) }
+// The line of a place, if there is one.
+fn line_of(place: Option<Place>) -> FieldValue
+    ensures { result ≡ line_of place }
 {
-    let (line, column) = match place {
-        Some(place) => (
-            FieldValue::Count(place.line),
-            FieldValue::Count(place.column),
-        ),
-        None => (FieldValue::Missing, FieldValue::Missing),
-    };
-    fields.push(b"routine_line", line)?;
-    fields.push(b"routine_column", column)
+    match place {
+        Some(place) => FieldValue::Count(place.line),
+        None => FieldValue::Missing,
+    }
+}
+
+// Its column.
+fn column_of(place: Option<Place>) -> FieldValue
+    ensures { result ≡ column_of place }
+{
+    match place {
+        Some(place) => FieldValue::Count(place.column),
+        None => FieldValue::Missing,
+    }
 }

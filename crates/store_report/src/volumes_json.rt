@@ -1,6 +1,6 @@
 //! Volumes as JSON.
 ghost use Rattle.std.specs.Prelude.{◌≡◌, ◌++◌, IfOk, OnOk, false};
-ghost use Rattle.serde_json.specs.Written.{items_text};
+ghost use Rattle.serde_json.specs.Written.{comma_if, items_text};
 ghost use Rattle.store_report.specs.VolumesJson.{volume_body, volume_values, volumes_body};
 ghost use Rattle.store_report.specs.Inner.VolumePieces.{volume_figures, volume_measures, volume_names, volumes_piece};
 
@@ -34,14 +34,22 @@ fn push_volumes(text: &mut Vec<u8>, volumes: &[ListedVolume]) -> Result<(), Allo
     let mut later = false;
     let mut rest = volumes;
     while let [volume, others @ ..] = rest {
-        if later {
-            text.push(b',')?;
-        }
+        push_comma(text, later)?;
         push_volume(text, volume)?;
         later = true;
         rest = others;
     }
     text.push(b']')?;
+    Ok(())
+}
+
+// Puts a comma behind a text that goes on.
+fn push_comma(text: &mut Vec<u8>, later: bool) -> Result<(), AllocError>
+    ensures { OnOk result (text.new.items ≡ text.old.items ++ comma_if later) }
+{
+    if later {
+        text.push(b',')?;
+    }
     Ok(())
 }
 

@@ -128,11 +128,12 @@ fn fault_record(alloc: Global, form: RecordForm, fault: &Fault) -> Result<Vec<u8
 fn fault_fields(alloc: Global, fault: &Fault) -> Result<Fields<'static>, AllocError>
     ensures { IfOk result (λ fields. fields ≡ fault_fields fault.now) }
 {
+    let told = fault_value(alloc, fault)?;
     let mut fields = Fields::new(alloc);
     fields.push(b"valid", FieldValue::Truth(false))?;
     fields.push(b"groups", FieldValue::Missing)?;
     fields.push(b"volumes", FieldValue::Missing)?;
-    fields.push(b"fault", fault_value(alloc, fault)?)?;
+    fields.push(b"fault", told)?;
     Ok(fields)
 }
 

@@ -7,7 +7,7 @@ use Rattle.store_calls.proofs.checking.asked.Goals as goal
 pub returns-clause-request : goal.returns-clause-request
 returns-clause-request c =
     let asked = c.in_ok-activation.ensures in
-    is_activation c.in_ok-activation.request c.args.bytes.items asked.job (asked.op ∙ ap Activate (c.in_ok-deck.ensures ∙ c.from_vec.ensures))
+    is_activation c.in_ok-activation.field-0 c.args.bytes.items asked.job (asked.op ∙ ap Activate (c.in_ok-deck.ensures ∙ c.from_vec.ensures))
 
 pub returns-clause-changes : goal.returns-clause-changes
 returns-clause-changes c =
