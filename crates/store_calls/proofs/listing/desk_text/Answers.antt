@@ -5,8 +5,8 @@ use Rattle.desk_law.specs.State.{Opening}
 use Rattle.store_calls.specs.StoreLists.{IsListed}
 use Rattle.store_calls.proofs.listing.desk_text.Goals as goal
 
-pub requires-core_text-clause-extents : goal.requires-core_text-clause-extents
-requires-core_text-clause-extents c =
+pub core_text-requires-clause-extents : goal.core_text-requires-clause-extents
+core_text-requires-clause-extents c =
     c.deref.ensures.value ∙ c.in_ok-extents.ensures ∙ ap extents_of c.as_slice.ensures ∙ ap (λ (o : Opening). extents_of o.rows.sets) (sym c.in_ok-core.ensures.opening)
 
 pub returns : goal.returns
