@@ -38,7 +38,7 @@ pub fn answer(
         Task::Validate(format) => {
             validated(alloc, format, bytes, note).map_err(|_| NoAnswer::NoMemory)
         }
-        Task::Script(task) => scripted(alloc, task, &bytes, note),
+        Task::Script(task) => scripted(alloc, &task, &bytes, note),
         Task::Compare(comparison) => {
             compared(alloc, comparison, &bytes, note).map_err(|_| NoAnswer::NoMemory)
         }
@@ -51,19 +51,19 @@ pub fn answer(
 // The answer to a script.
 fn scripted(
     alloc: Global,
-    task: ScriptTask,
+    task: &ScriptTask,
     bytes: &[u8],
     note: &mut String,
 ) -> Result<(ToolStatus, Items<u8>), NoAnswer>
     requires { length bytes.now < 2 ^ 32 }
-    ensures answer { IfOk result (λ found. IsAnswer bytes.now (TaskOf.Script task) found.0 found.1) }
-    ensures hindered { IfErr result (Hinders bytes.now (TaskOf.Script task)) }
+    ensures answer { IfOk result (λ found. IsAnswer bytes.now (TaskOf.Script task.now) found.0 found.1) }
+    ensures hindered { IfErr result (Hinders bytes.now (TaskOf.Script task.now)) }
 {
     let script = match script_in(alloc, bytes, note) {
         Ok(script) => script,
         Err(why) => return Err(why),
     };
-    match told_of(alloc, task, &script) {
+    match told_of(alloc, *task, &script) {
         Ok(told) => {
             note_told(alloc, note, bytes, &script, task, &told);
             answer_told(alloc, told)

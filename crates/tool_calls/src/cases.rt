@@ -31,10 +31,10 @@ pub fn answer_cases<K: Sink>(
     note: &mut String,
 ) -> ToolStatus
     requires { length parts.table.now + 2 < 2 ^ 32 }
-    ensures { EndsTold (IsCasesAnswer parts.deck.now parts.table.now task)
+    ensures { EndsTold (IsCasesAnswer parts.entry.deck.now parts.entry.table.now task)
         (sink_seen K.taken K.write_faults out.old) (sink_seen K.taken K.write_faults out.new) result }
 {
-    let (status, text) = match told_parts(alloc, task, parts, names, note) {
+    let (status, text) = match told_parts(alloc, &task, parts, names, note) {
         Ok(found) => found,
         Err(_) => return ToolStatus::NoMemory,
     };
@@ -47,13 +47,13 @@ pub fn answer_cases<K: Sink>(
 // What is told of the cases of a table, or the fault of the table.
 fn told_parts(
     alloc: Global,
-    task: ScriptTask,
+    task: &ScriptTask,
     parts: CaseParts<'_>,
     names: CasePartNames<'_>,
     note: &mut String,
 ) -> Result<(ToolStatus, Items<u8>), AllocError>
     requires { length parts.table.now + 2 < 2 ^ 32 }
-    ensures { IfOk result (λ found. IsCasesAnswer parts.deck.now parts.table.now task found.0 found.1) }
+    ensures { IfOk result (λ found. IsCasesAnswer parts.entry.deck.now parts.entry.table.now task.now found.0 found.1) }
 {
     match read_table(alloc, parts.table) {
         Ok(cases) => told_under(alloc, task, parts, names, cases.as_slice(), note),
@@ -67,18 +67,18 @@ fn told_parts(
 // What is told of these cases under the deck.
 fn told_under(
     alloc: Global,
-    task: ScriptTask,
+    task: &ScriptTask,
     parts: CaseParts<'_>,
     names: CasePartNames<'_>,
     cases: &[Case],
     note: &mut String,
 ) -> Result<(ToolStatus, Items<u8>), AllocError>
-    ensures { IfOk result (λ found. IsScriptAnswer task
-        (items_of (script_of_cases parts.deck.now (case_of task) cases.now)) found.0 found.1) }
+    ensures { IfOk result (λ found. IsScriptAnswer task.now
+        (items_of (script_of_cases parts.entry.deck.now (case_of task.now) cases.now)) found.0 found.1) }
 {
     let deck = Shared::new(alloc, Items::from_slice(alloc, parts.deck)?)?;
-    let script = case_script(alloc, &deck, cases, &case_of(task))?;
-    let told = told_of(alloc, task, &script)?;
+    let script = case_script(alloc, &deck, cases, &case_of(*task))?;
+    let told = told_of(alloc, *task, &script)?;
     note_cases_told(alloc, note, parts, names, task, &told);
     answer_told(alloc, told).map_err(|_| AllocError)
 }

@@ -47,7 +47,7 @@ pub fn note_told(
     note: &mut String,
     text: &[u8],
     script: &Script,
-    task: ScriptTask,
+    task: &ScriptTask,
     told: &ScriptTold,
 ) {
     match told {
@@ -63,7 +63,7 @@ pub fn note_cases_told(
     note: &mut String,
     parts: CaseParts<'_>,
     names: CasePartNames<'_>,
-    task: ScriptTask,
+    task: &ScriptTask,
     told: &ScriptTold,
 ) {
     match told {
@@ -93,7 +93,7 @@ pub fn note_case_table(
 }
 
 // Notes that a coverage is less than was asked for.
-fn note_short(alloc: Global, note: &mut String, task: ScriptTask, status: ToolStatus) {
+fn note_short(alloc: Global, note: &mut String, task: &ScriptTask, status: ToolStatus) {
     if let (ScriptTask::Coverage { least, .. }, ToolStatus::FaultFound) = (task, status) {
         keep(
             note,
