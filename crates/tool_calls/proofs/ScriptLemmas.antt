@@ -20,12 +20,12 @@ use Rattle.tool_words.specs.declared.script_task.ScriptTask.TheVariants.{Simulat
 
 -- the line that is told, and the status
 
-line_told : ScriptTold → ℕ
+abbrev line_told : ScriptTold → ℕ
 line_told (Shown status text) = 0
 line_told (Refused fault) = 0
 line_told (Misplaced line) = line
 
-status_told : ScriptTold → ToolStatus
+abbrev status_told : ScriptTold → ToolStatus
 status_told (Shown status text) = status
 status_told (Refused fault) = Done
 status_told (Misplaced line) = Done

@@ -80,7 +80,10 @@ fn told_under(
     let script = case_script(alloc, &deck, cases, &case_of(*task))?;
     let told = told_of(alloc, *task, &script)?;
     note_cases_told(alloc, note, parts, names, task, &told);
-    answer_told(alloc, told).map_err(|_| AllocError)
+    match answer_told(alloc, told) {
+        Ok(found) => Ok(found),
+        Err(_) => Err(AllocError),
+    }
 }
 
 // The name of the case that is asked for, where one is.
