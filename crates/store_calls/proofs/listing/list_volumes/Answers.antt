@@ -16,7 +16,7 @@ returns c =
     let groups = c.groups_in.ensures s (rw c.requires.new refl) in
     let picked = c.deref.ensures.value ∙ c.in_ok-picked.ensures ∙ ap (filter (fits_volume c.args.query.now.selection)) rows in
     let volumes = c.deref-2.ensures.value ∙ c.in_ok-volumes.ensures
-        ∙ ap (λ found. map (listed_volume found c.args.extents.now) c.deref.result.now) groups
-        ∙ ap (λ extents. map (listed_volume (groups_in s.active) extents) c.deref.result.now) c.requires.extents
-        ∙ ap (map (listed_volume (groups_in s.active) (extents_of s.sets))) picked in
+    ∙ ap (λ found. map (listed_volume found c.args.extents.now) c.deref.result.now) groups
+    ∙ ap (λ extents. map (listed_volume (groups_in s.active) extents) c.deref.result.now) c.requires.extents
+    ∙ ap (map (listed_volume (groups_in s.active) (extents_of s.sets))) picked in
     IfOk-weaker c.volumes_text.result _ _ (λ text e. e ∙ ap (volumes_text c.args.query.now.format) volumes) c.volumes_text.ensures
