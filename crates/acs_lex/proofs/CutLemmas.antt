@@ -1,11 +1,11 @@
 -- A text has a cut or a fault, never both, and at most one of each.
-use Rattle.std.proofs.Common.{◌≡◌, ◌<◌, ℕ, zero, suc, List, [], ◌∷◌, ◌++◌, length, refl, sym, ◌∙◌, ap, subst, arith}
+use Rattle.std.proofs.Common.{◌≡◌, ◌<◌, ℕ, zero, suc, true, List, [], ◌∷◌, ◌++◌, length, refl, sym, ◌∙◌, ap, subst, arith}
 use Rattle.std.proofs.Common.{append_assoc, inl, inr, ◌⊎◌}
 use Rattle.std.specs.Prelude.{Some, Result, Ok, Err}
 use Rattle.acs_lex.specs.declared.token.Token.{Token}
 use Rattle.acs_lex.specs.declared.fault.LexErr.{LexErr}
 use Rattle.acs_lex.specs.declared.fault.LexErr.TheVariants.{NoMemory}
-use Rattle.acs_lex.specs.Lexical.{IsGap}
+use Rattle.acs_lex.specs.Lexical.{IsGap, blank, is_blank}
 use Rattle.acs_lex.specs.Tokens.{IsToken, CutsInto, nothing_left, after_gap, after_token, IsCut}
 use Rattle.desk_common.specs.Exact.{MayRefuse, IsExact}
 use Rattle.desk_common.proofs.ExactLemmas.{exact_thing, exact_fault as exact_refusal, exact_want}
@@ -128,6 +128,13 @@ pub record FrontCut (total : ℕ) (text rest : List ℕ) (tokens : List Token) :
 stands_as : (total : ℕ) (text : List ℕ) (x : Front) → x ≡ front total text → Stands total text x
 stands_as total text x e = subst (λ z. Stands total text z) (sym e) (front_stands total text)
 
+-- a blank at the front is passed
+pub cut_past_blank : {total a : ℕ} {text rest left : List ℕ} {tokens : List Token} → FrontCut total text rest tokens → rest ≡ a ∷ left → is_blank a ≡ true → FrontCut total text left tokens
+cut_past_blank {total} {a} {text} {rest} {left} {tokens} t e h = record {
+  cut = λ others d. t.cut others (after_gap (subst (λ z. IsGap z left) (sym e) (blank h)) d);
+  fault = λ err d. t.fault err (behind_gap (subst (λ z. IsGap z left) (sym e) (blank h)) d);
+}
+
 pub cut_past_gap : {total : ℕ} {text rest left : List ℕ} {tokens : List Token} → FrontCut total text rest tokens → Skips left ≡ front total rest → FrontCut total text left tokens
 cut_past_gap {total} {text} {rest} {left} t e = record {
   cut = λ others d. t.cut others (after_gap (stands_as total rest (Skips left) e) d);
@@ -147,8 +154,8 @@ empty_right : (xs : List Token) → xs ++ [] ≡ xs
 empty_right [] = refl
 empty_right (x ∷ xs) = ap (λ z. x ∷ z) (empty_right xs)
 
-pub cut_at_end : {total : ℕ} {text rest : List ℕ} {tokens : List Token} → FrontCut total text rest tokens → Ends ≡ front total rest → CutsInto total text tokens
-cut_at_end {total} {text} {rest} {tokens} t e = subst (λ z. CutsInto total text z) (empty_right tokens) (t.cut [] (cut_along (stands_as total rest Ends e) nothing_left))
+pub cut_at_end : {total : ℕ} {text rest : List ℕ} {tokens : List Token} → FrontCut total text rest tokens → rest ≡ [] → CutsInto total text tokens
+cut_at_end {total} {text} {rest} {tokens} t e = subst (λ z. CutsInto total text z) (empty_right tokens) (t.cut [] (cut_along e nothing_left))
 
 pub fault_at : {total : ℕ} {text rest : List ℕ} {tokens : List Token} {err : LexErr} → FrontCut total text rest tokens → Fails err ≡ front total rest → FirstStopsBy total text err
 fault_at {total} {text} {rest} {tokens} {err} t e = t.fault err (here (stands_as total rest (Fails err) e))

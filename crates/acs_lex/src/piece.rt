@@ -1,4 +1,4 @@
-// What stands at the front of a text.
+// What stands at the front of a text that begins with no blank.
 
 use crate::fault::LexErr;
 use crate::token::Token;
@@ -6,7 +6,6 @@ use crate::token::Token;
 /// What stands at the front of a text, with what is behind it.
 #[derive(Clone, Copy)]
 pub enum Piece<'a> {
-    End,
     Gap(&'a [u8]),
     Token(Token, &'a [u8]),
     Fault(LexErr),
