@@ -5,12 +5,15 @@ use Rattle.std.specs.Prelude.{Some, Result, Ok, Err}
 use Rattle.acs_lex.specs.declared.token.Token.{Token}
 use Rattle.acs_lex.specs.declared.fault.LexErr.{LexErr}
 use Rattle.acs_lex.specs.declared.fault.LexErr.TheVariants.{NoMemory}
+use Rattle.acs_lex.specs.declared.piece.Piece.{Piece}
+use Rattle.acs_lex.specs.declared.piece.Piece.TheVariants as piece
+use Rattle.acs_lex.specs.Pieces.{IsPiece}
 use Rattle.acs_lex.specs.Lexical.{IsGap, blank, is_blank}
 use Rattle.acs_lex.specs.Tokens.{IsToken, CutsInto, nothing_left, after_gap, after_token, IsCut}
 use Rattle.desk_common.specs.Exact.{MayRefuse, IsExact}
 use Rattle.desk_common.proofs.ExactLemmas.{exact_thing, exact_fault as exact_refusal, exact_want}
 use Rattle.acs_lex.specs.LexFault.{StopsBy, FirstStopsBy, here, behind_gap, behind_token, IsFirstLexFault}
-use Rattle.acs_lex.specs.Inner.Scanning.{Front, Ends, Skips, Takes, Fails, front}
+use Rattle.acs_lex.specs.Inner.Scanning.{Front, Ends, Skips, Takes, Fails, front, front_of}
 use Rattle.acs_lex.proofs.FrontLemmas.{Stands, front_stands}
 use Rattle.acs_lex.proofs.OneFrontLemmas.{stands_front, gap_shorter, token_shorter}
 
@@ -127,6 +130,12 @@ pub record FrontCut (total : ℕ) (text rest : List ℕ) (tokens : List Token) :
 
 stands_as : (total : ℕ) (text : List ℕ) (x : Front) → x ≡ front total text → Stands total text x
 stands_as total text x e = subst (λ z. Stands total text z) (sym e) (front_stands total text)
+
+-- the value that the code hands on is what stands there
+pub is_piece : (total : ℕ) (text : List ℕ) (found : Piece) → front_of found ≡ front total text → IsPiece total text found
+is_piece total text (piece.Gap rest) e = stands_as total text (Skips rest.now) e
+is_piece total text (piece.Token one rest) e = stands_as total text (Takes one rest.now) e
+is_piece total text (piece.Fault err) e = stands_as total text (Fails err) e
 
 -- a blank at the front is passed
 pub cut_past_blank : {total a : ℕ} {text rest left : List ℕ} {tokens : List Token} → FrontCut total text rest tokens → rest ≡ a ∷ left → is_blank a ≡ true → FrontCut total text left tokens
