@@ -3,25 +3,25 @@ use Rattle.std.proofs.lemmas.Grind.{common_steps}
 use Rattle.std.proofs.lemmas.Result.{err_from_is_err_and}
 use Rattle.acs_symbol.specs.declared.symbol.Symbol.TheVariants.{Open}
 use Rattle.acs_parse.specs.declared.want.Want.TheVariants as want
-use Rattle.acs_parse.proofs.ShorterLemmas.{takes_shorter, stmt_shorter, choice_shorter, when_shorter}
+use Rattle.acs_parse.proofs.ShorterLemmas.{takes_shorter, item_shorter, stmt_shorter, choice_shorter, when_shorter}
 use Rattle.acs_parse.proofs.CondLemmas.{before_shorter}
-use Rattle.acs_parse.proofs.StatementLemmas.{block_turn, block_fails, inner_fails, item_is_statement, if_at}
+use Rattle.acs_parse.proofs.StatementLemmas.{block_turn, block_fails, if_at}
 use Rattle.acs_parse.proofs.StatementLemmas.{if_arms_fail}
 use Rattle.acs_parse.proofs.SelectLemmas.{when_clauses_first, when_clauses_turn, when_clauses_fail, choice_by_value}
 use Rattle.acs_parse.proofs.SelectLemmas.{choice_values_fail, when_of, when_test_fails, when_items_fail}
 use Rattle.acs_parse.proofs.SelectLemmas.{when_body_fails, test_shorter}
 use Rattle.acs_parse.proofs.statements.+statement.Goals as goal
 
-pub block-returns-in_err-next : goal.block-returns-in_err-next
-block-returns-in_err-next t c =
+pub block-returns-in_err-found : goal.block-returns-in_err-found
+block-returns-in_err-found t c =
     let p = err_from_is_err_and c.from_residual.result c.from_residual.ensures.1 in
-    rw (p.1, p.2) (block_fails c.in_err-next.field-0.0 c.items.invariant c.items-test.ensures (inner_fails c.in_err-next.field-0.0 c.args.depth c.skip.new.rest c.in_err-next.ensures))
+    rw (p.1, p.2) (block_fails c.in_err-found.field-0.0 c.items.invariant c.items-test.ensures c.in_err-found.ensures)
 
 pub block-items-smaller : goal.block-items-smaller
-block-items-smaller t c = omega (arith, stmt_shorter c.in_ok-next.ensures, ap length c.items-test.ensures.1)
+block-items-smaller t c = omega (arith, item_shorter c.in_ok-found.ensures.1, ap length c.items-test.ensures.1)
 
 pub block-items-preserved : goal.block-items-preserved
-block-items-preserved t c = block_turn c.items.invariant c.items-test.ensures (item_is_statement false c.in_ok-next.ensures) c.in_ok-found.ensures
+block-items-preserved t c = block_turn c.items.invariant c.items-test.ensures c.in_ok-found.ensures.1 c.in_ok-found.ensures.2
 
 pub when_clauses-whens-init : goal.when_clauses-whens-init
 when_clauses-whens-init t c = when_clauses_first c.in_ok-found.ensures c.new.ensures

@@ -1,6 +1,6 @@
 use Rattle.std.proofs.lemmas.Result.{err_from_is_err_and}
 use Rattle.acs_parse.proofs.StatementLemmas.{set_values_fail}
-use Rattle.acs_parse.proofs.statements.assignment.Goals as goal
+use Rattle.acs_parse.proofs.plain.assignment.Goals as goal
 
 pub returns-in_err-values : goal.returns-in_err-values
 returns-in_err-values c =
