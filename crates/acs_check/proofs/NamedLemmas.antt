@@ -12,10 +12,10 @@ any_past true c e = refl
 any_past false c e = e
 
 -- one statement that passes is one of all
-pub any_at : {test : Stmt → Bool} (statements : List Stmt) (place : ℕ) (statement : Stmt) → place < length statements → statement ≡ get_or statements place statement → test statement ≡ true → list_any test statements ≡ true
-any_at [] place statement h e t = absurd (omega (arith, h))
-any_at {test} (s ∷ statements) zero statement h e t = ap (λ b. b || list_any test statements) (ap test (sym e) ∙ t)
-any_at {test} (s ∷ statements) (suc place) statement h e t = any_past (test s) (list_any test statements) (any_at statements place statement (omega (arith, h)) e t)
+pub any_at : (test : Stmt → Bool) (statements : List Stmt) (place : ℕ) (statement : Stmt) → place < length statements → statement ≡ get_or statements place statement → test statement ≡ true → list_any test statements ≡ true
+any_at test [] place statement h e t = absurd (omega (arith, h))
+any_at test (s ∷ statements) zero statement h e t = ap (λ b. b || list_any test statements) (ap test (sym e) ∙ t)
+any_at test (s ∷ statements) (suc place) statement h e t = any_past (test s) (list_any test statements) (any_at test statements place statement (omega (arith, h)) e t)
 
 module _ (name : List ℕ) where
   -- a list in front of others, by whether it has the name

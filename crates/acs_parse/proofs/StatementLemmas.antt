@@ -223,14 +223,14 @@ inner_fails e n ts h k = along e (inner_item n ts k) (h k)
 
 -- one more statement of a block
 
-pub more_of_statement : {total n : ℕ} (whole : Bool) {ts rest : List Symbol} {list longer : List Stmt} {s : Stmt} → IsStmt total limited n ts s rest → longer ≡ list ++ s ∷ [] → IsItemMore total whole n ts list longer rest
-more_of_statement whole {s = s} d g = (s, item_statement d, g)
+pub more_of_statement : {total n : ℕ} (whole : Bool) {ts rest : List Symbol} (list longer : List Stmt) {s : Stmt} → IsStmt total limited n ts s rest → longer ≡ list ++ s ∷ [] → IsItemMore total whole n ts list longer rest
+more_of_statement whole list longer {s = s} d g = (s, item_statement d, g)
 
-pub more_of_plain : {total : ℕ} (n : ℕ) (whole : Bool) {ts rest : List Symbol} {list longer : List Stmt} → IsPlainMore total ts list longer rest → IsItemMore total whole n ts list longer rest
-more_of_plain n whole (s, d, g) = (s, item_statement (d n), g)
+pub more_of_plain : (total n : ℕ) (whole : Bool) (ts rest : List Symbol) (list longer : List Stmt) → IsPlainMore total ts list longer rest → IsItemMore total whole n ts list longer rest
+more_of_plain total n whole ts rest list longer (s, d, g) = (s, item_statement (d n), g)
 
-pub more_of_filter : {total : ℕ} (n : ℕ) {ts rest : List Symbol} {list longer : List Stmt} {s : Stmt} → starts want.FiltList ts ≡ true → IsFilter total ts s rest → longer ≡ list ++ s ∷ [] → IsItemMore total true n ts list longer rest
-more_of_filter n {s = s} e d g = (s, item_is_filter n e d, g)
+pub more_of_filter : {total : ℕ} (n : ℕ) {ts rest : List Symbol} (list longer : List Stmt) {s : Stmt} → starts want.FiltList ts ≡ true → IsFilter total ts s rest → longer ≡ list ++ s ∷ [] → IsItemMore total true n ts list longer rest
+more_of_filter n list longer {s = s} e d g = (s, item_is_filter n e d, g)
 
 pub inner_plain_fails : (e : Fault) (n : ℕ) (ts : List Symbol) → ((m : ℕ) → FailsAt e (AStatement ∷ []) m ts) → FailsAt e (AnItem false ∷ []) n ts
 inner_plain_fails e n ts h = inner_fails e n ts (h n)
@@ -243,20 +243,20 @@ item_plain_fails e n ts g h = item_fails e n ts g (h n)
 pub plain_more : {total : ℕ} {ts rest : List Symbol} (list longer : List Stmt) {s : Stmt} → IsPlain total ts s rest → longer ≡ list ++ s ∷ [] → IsPlainMore total ts list longer rest
 plain_more list longer {s} d g = (s, d, g)
 
-pub set_read : {total at : ℕ} {w : List ℕ} {ts a rest : List Symbol} {result : Result Stmt Fault} → ts ≡ Word word.Set w ∷ a → at ≡ place_in total ts
+pub set_read : (total : ℕ) {at : ℕ} {w : List ℕ} {ts a : List Symbol} (rest : List Symbol) (result : Result Stmt Fault) → ts ≡ Word word.Set w ∷ a → at ≡ place_in total ts
     → Reads (λ s. IsBehindAt total word.Set at a s rest) (ARef ∷ One want.Equal Keep ∷ AnOperand list.Values ∷ MoreOperands list.Values ∷ []) a result → Reads (λ s. IsPlain total ts s rest) (AStatement ∷ []) ts result
-set_read {result = Ok s} q g (f, h, d) = λ n. stmt_behind n q g d h
-set_read {result = Err e} q g h = λ n. set_fails e n q h
+set_read total rest (Ok s) q g (f, h, d) = λ n. stmt_behind n q g d h
+set_read total rest (Err e) q g h = λ n. set_fails e n q h
 
-pub write_read : {total at : ℕ} {w : List ℕ} {ts a rest : List Symbol} {result : Result Stmt Fault} → ts ≡ Word word.Write w ∷ a → at ≡ place_in total ts
+pub write_read : (total : ℕ) {at : ℕ} {w : List ℕ} {ts a : List Symbol} (rest : List Symbol) (result : Result Stmt Fault) → ts ≡ Word word.Write w ∷ a → at ≡ place_in total ts
     → Reads (λ s. IsBehindAt total word.Write at a s rest) (AnOperand list.Parts ∷ MoreOperands list.Parts ∷ []) a result → Reads (λ s. IsPlain total ts s rest) (AStatement ∷ []) ts result
-write_read {result = Ok s} q g (f, h, d) = λ n. stmt_behind n q g d h
-write_read {result = Err e} q g h = λ n. write_fails e n q h
+write_read total rest (Ok s) q g (f, h, d) = λ n. stmt_behind n q g d h
+write_read total rest (Err e) q g h = λ n. write_fails e n q h
 
-pub exit_read : {total at : ℕ} {w : List ℕ} {ts a rest : List Symbol} {result : Result Stmt Fault} → ts ≡ Word word.Exit w ∷ a → at ≡ place_in total ts
+pub exit_read : (total : ℕ) {at : ℕ} {w : List ℕ} {ts a : List Symbol} (rest : List Symbol) (result : Result Stmt Fault) → ts ≡ Word word.Exit w ∷ a → at ≡ place_in total ts
     → Reads (λ s. IsBehindAt total word.Exit at a s rest) (OrCode ∷ []) a result → Reads (λ s. IsPlain total ts s rest) (AStatement ∷ []) ts result
-exit_read {result = Ok s} q g (f, h, d) = λ n. stmt_behind n q g d h
-exit_read {result = Err e} q g h = λ n. exit_fails e n q h
+exit_read total rest (Ok s) q g (f, h, d) = λ n. stmt_behind n q g d h
+exit_read total rest (Err e) q g h = λ n. exit_fails e n q h
 
 -- what each reader needs of these
 
