@@ -50,17 +50,17 @@ both false w e = absurd (cc)
 abbrev all_upper : List (List ℕ × WordKind) → Bool
 all_upper rows = list_all (λ (row : List ℕ × WordKind). list_all is_upper_byte row.0) rows
 
-found_by : (row : List ℕ × WordKind) (text : List ℕ) (found rest other : WordKind) (b : Bool) → bytes_eq text row.0 ≡ b → list_all is_upper_byte row.0 ≡ true
-    → (list_all is_upper_byte text ≡ true) ⊎ (rest ≡ other) → (list_all is_upper_byte text ≡ true) ⊎ ((if b then found else rest) ≡ other)
-found_by row text found rest other true e u h = inl (subst (λ z. list_all is_upper_byte z ≡ true) (sym ((bytes_eq-Decides text row.0).0 e)) u)
-found_by row text found rest other false e u h = h
+found_by : (row : List ℕ × WordKind) (text : List ℕ) (found rest last : WordKind) (b : Bool) → bytes_eq text row.0 ≡ b → list_all is_upper_byte row.0 ≡ true
+    → (list_all is_upper_byte text ≡ true) ⊎ (rest ≡ last) → (list_all is_upper_byte text ≡ true) ⊎ ((if b then found else rest) ≡ last)
+found_by row text found rest last true e u h = inl (subst (λ z. list_all is_upper_byte z ≡ true) (sym ((bytes_eq-Decides text row.0).0 e)) u)
+found_by row text found rest last false e u h = h
 
 -- what is found in such a table has no small letter
-found_upper : (rows : List (List ℕ × WordKind)) (text : List ℕ) (other : WordKind) → all_upper rows ≡ true → (list_all is_upper_byte text ≡ true) ⊎ (listed rows text other ≡ other)
-found_upper [] text other h = inr refl
-found_upper (row ∷ rows) text other h =
+found_upper : (rows : List (List ℕ × WordKind)) (text : List ℕ) (last : WordKind) → all_upper rows ≡ true → (list_all is_upper_byte text ≡ true) ⊎ (listed rows text last ≡ last)
+found_upper [] text last h = inr refl
+found_upper (row ∷ rows) text last h =
     let parts = both (list_all is_upper_byte row.0) (all_upper rows) h in
-    found_by row text row.1 (listed rows text other) other (bytes_eq text row.0) refl parts.0 (found_upper rows text other parts.1)
+    found_by row text row.1 (listed rows text last) last (bytes_eq text row.0) refl parts.0 (found_upper rows text last parts.1)
 
 digit_upper : (b : ℕ) → is_digit b ≡ true → is_upper_byte b ≡ true
 digit_upper b e = grind (arith, nat_tests)
@@ -87,9 +87,9 @@ upper_or_other text =
     (then_same (found_upper comparisons text (number_kind text) refl) (number_upper text (list_all is_digit text) refl)))
 
 stays_by : (text : List ℕ) (kind : WordKind) → word_kind text ≡ kind → (kind ≡ Other → ⊥) → (list_all is_upper_byte text ≡ true) ⊎ (word_kind text ≡ Other) → kind ≡ word_kind (str_to_ascii_uppercase text)
-stays_by text kind e no (inl u) = sym (kind_stays text u ∙ e)
-stays_by text kind e no (inr o) = absurd (no (sym e ∙ o))
+stays_by text kind e named (inl u) = sym (kind_stays text u ∙ e)
+stays_by text kind e named (inr o) = absurd (named (sym e ∙ o))
 
 -- a keyword or a number is what it is as it stands
 pub keyword_stays : (text : List ℕ) (kind : WordKind) → word_kind text ≡ kind → (kind ≡ Other → ⊥) → kind ≡ word_kind (str_to_ascii_uppercase text)
-keyword_stays text kind e no = stays_by text kind e no (upper_or_other text)
+keyword_stays text kind e named = stays_by text kind e named (upper_or_other text)

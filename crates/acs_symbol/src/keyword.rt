@@ -11,7 +11,6 @@ use desk_common::{MAX_WORD, are_same};
 
 /// What the word can be besides a name, its letters in either case. Most words are keywords or numbers, or have no
 /// small letter: they are read where they stand.
-#[tactic(auto, using(crate::proofs::KeywordLemmas::keyword_stays))]
 pub fn kind_in_any_case(text: &[u8]) -> WordKind
     requires { length text.now ≤ most_word_bytes }
     ensures { result ≡ word_kind (str_to_ascii_uppercase text.now) }
