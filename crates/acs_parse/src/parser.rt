@@ -33,11 +33,12 @@ pub fn parse(alloc: Global, text: &[u8], tokens: &Tokens) -> Result<Routine, Par
 }
 
 /// The tree of the routine that these tokens are, as `parse` gives it.
-pub fn parse_symbols(alloc: Global, symbols: &[Symbol<'_>]) -> Result<Routine, ParseErr>
+pub fn parse_symbols<'a>(alloc: Global, symbols: &'a [Symbol<'a>]) -> Result<Routine, ParseErr>
     requires { length symbols.now < 2 ^ 32 }
-    ensures ok { IfOk result (IsRoutine limited symbols.now) }
-    ensures err { IfErr result (MayRefuse (IsParseFault symbols.now) (Some ParseErr.NoMemory)) }
-    ensures exactly { IsExact (IsRoutine limited symbols.now) (IsParseFault symbols.now) (Some ParseErr.NoMemory) result }
+    ensures ok { IfOk result (IsRoutine limited symbols.entry.now) }
+    ensures err { IfErr result (MayRefuse (IsParseFault symbols.entry.now) (Some ParseErr.NoMemory)) }
+    ensures exactly { IsExact (IsRoutine limited symbols.entry.now) (IsParseFault symbols.entry.now)
+        (Some ParseErr.NoMemory) result }
 {
     let total = symbols.len() as u32;
     let mut rest = Rest::new(symbols);
