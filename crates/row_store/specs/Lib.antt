@@ -1,0 +1,5 @@
+pub mod Contents
+pub mod Histories
+pub mod Outcomes
+pub mod Holds
+pub mod Inner

@@ -1,0 +1,12 @@
+//! What holds of every history of a prefix.
+ghost use Rattle.std.specs.Prelude.{◌≤◌, ◌++◌, ◌∷◌, List};
+ghost use Rattle.row_store.specs.Contents.{Contents};
+ghost use Rattle.row_store.specs.Histories.{IsHistory};
+ghost use Rattle.row_store.specs.declared.transaction.Transaction.{Transaction as Made};
+
+/// No transaction of a desk is made behind one of a desk that took the prefix later: so no two desks both make changes.
+#[tactic(auto, using(crate::proofs::HistoryLemmas::behind_one))]
+pub fn one_desk_at_a_time()
+    ensures { (c : Contents) (before : List Made) (t : Made) (between : List Made) (u : Made) (more : List Made) →
+        IsHistory c (before ++ t ∷ (between ++ u ∷ more)) → t.next.epoch ≤ u.expects.epoch }
+{}
