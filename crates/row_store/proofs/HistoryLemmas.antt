@@ -1,7 +1,8 @@
 -- Epochs rise.
 use Rattle.std.proofs.Common.{◌≤◌, ◌++◌, ◌∷◌, [], List, inl, inr, arith, ap}
 use Rattle.row_store.specs.Histories.{IsHistory, IsRule}
-use Rattle.row_store.specs.Contents.{Contents, contents_after}
+use Rattle.row_store.specs.declared.contents.Contents.{Contents}
+use Rattle.row_store.specs.Contents.{contents_after}
 use Rattle.row_store.specs.declared.transaction.Transaction.{Transaction}
 
 -- the epoch of a transaction doesn't fall

@@ -1,6 +1,6 @@
 -- What a hold goes on to know.
 use Rattle.std.proofs.Common.{◌≡◌, inl, inr}
-use Rattle.row_store.specs.Contents.{Contents}
+use Rattle.row_store.specs.declared.contents.Contents.{Contents}
 use Rattle.row_store.specs.Inner.Holding.{AwaitsOne, IsChange, MayCome, MayWait}
 use Rattle.row_store.specs.declared.guard.Guard.{Guard}
 use Rattle.row_store.specs.declared.transaction.Transaction.{Transaction}

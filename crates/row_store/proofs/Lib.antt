@@ -1,2 +1,3 @@
 pub mod HoldLemmas
+pub mod EngineLemmas
 pub mod HistoryLemmas

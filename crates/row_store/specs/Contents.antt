@@ -1,19 +1,15 @@
--- What an engine holds under a prefix, and what a transaction makes of it.
+-- What a transaction makes of the contents under a prefix; the order of rows means nothing.
 use Rattle.std.specs.Prelude.{◌≡◌, ◌<◌, ◌+◌, ◌⊎◌, ◌++◌, ◌∷◌, [], ℕ, Bool, List, bytes_eq, filter, fold, not, ◌&&◌}
-use Rattle.std.specs.Prelude.{take, drop, length, if◌then◌else◌}
+use Rattle.std.specs.Prelude.{drop, length, nat_eq, if◌then◌else◌}
 use Rattle.std.specs.Cmp.Lexicographic.{slice_cmp}
-use Rattle.std.specs.List.{list_all, list_any}
+use Rattle.std.specs.List.{list_all, list_any, starts_with}
 use Rattle.std.specs.Ordering.{is_lt, nat_cmp}
+use Rattle.row_store.specs.declared.contents.Contents.{Contents}
 use Rattle.row_store.specs.declared.guard.Guard.{Guard}
 use Rattle.row_store.specs.declared.row.Row.{Row}
 use Rattle.row_store.specs.declared.transaction.Transaction.{Transaction}
 use Rattle.row_store.specs.declared.write.Write.{Write}
 use Rattle.row_store.specs.declared.write.Write.TheVariants.{Put, PutUnless, Drop, DropFront, DropBelow}
-
--- the guard, and the rows; their order means nothing
-pub record Contents : Type 0 where
-  pub guard : Guard
-  pub rows : List Row
 
 -- the guard behind a change, behind one that is passed over, and of a desk that takes the prefix
 abbrev pub following : Guard → Guard
@@ -39,7 +35,7 @@ is_above key value row = is_at key row && is_lt (slice_cmp nat_cmp value row.val
 
 -- the key of the row begins with this front
 abbrev pub has_front : List ℕ → Row → Bool
-has_front front row = bytes_eq (take (length front) row.key) front
+has_front front row = starts_with nat_eq row.key front
 
 -- so it does, and what follows comes before this
 abbrev pub is_below : List ℕ → List ℕ → Row → Bool

@@ -1,7 +1,8 @@
 -- Histories of a prefix: the transactions that were made under it, one behind the other.
 use Rattle.std.specs.Prelude.{◌≡◌, ◌⊎◌, ◌∷◌, [], List}
 use Rattle.row_store.specs.declared.transaction.Transaction.{Transaction}
-use Rattle.row_store.specs.Contents.{Contents, claimed, contents_after, following, passing}
+use Rattle.row_store.specs.declared.contents.Contents.{Contents}
+use Rattle.row_store.specs.Contents.{claimed, contents_after, following, passing}
 
 -- the transaction takes the prefix, makes a change or passes over one; no desk writes in another way
 abbrev pub IsRule : Transaction → Type 0

@@ -4,7 +4,8 @@ use Rattle.row_store.specs.declared.row.Row.{Row}
 use Rattle.row_store.specs.declared.standing.Standing.{Standing}
 use Rattle.row_store.specs.declared.standing.Standing.TheVariants.{Free, Waiting, Behind, Taken}
 use Rattle.row_store.specs.declared.write.Write.{Write}
-use Rattle.row_store.specs.Contents.{Contents, IsTaken, are_absent, rows_after}
+use Rattle.row_store.specs.declared.contents.Contents.{Contents}
+use Rattle.row_store.specs.Contents.{IsTaken, are_absent, rows_after}
 
 -- the store, and how the hold stands
 pub record HoldView (S : Type 0) : Type 0 where

@@ -1,2 +1,3 @@
 -- What private clauses, invariants of types and proofs alone cite.
+pub mod Engines
 pub mod Holding

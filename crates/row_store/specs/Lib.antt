@@ -2,4 +2,5 @@ pub mod Contents
 pub mod Histories
 pub mod Outcomes
 pub mod Holds
+pub mod Memory
 pub mod Inner

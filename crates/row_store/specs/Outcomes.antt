@@ -4,7 +4,8 @@ use Rattle.row_store.specs.declared.guard.Guard.{Guard}
 use Rattle.row_store.specs.declared.store.Outcome.{Outcome}
 use Rattle.row_store.specs.declared.store.Outcome.TheVariants.{Done, Refused, Failed, Unknown}
 use Rattle.row_store.specs.declared.transaction.Transaction.{Transaction}
-use Rattle.row_store.specs.Contents.{Contents, IsFrom, IsTaken, are_absent, contents_after}
+use Rattle.row_store.specs.declared.contents.Contents.{Contents}
+use Rattle.row_store.specs.Contents.{IsFrom, IsTaken, are_absent, contents_after}
 
 -- it is what the transaction makes of contents that could be, have the guard that it expects and none of its absent keys
 pub record IsMade (could : Contents → Type 0) (t : Transaction) (c : Contents) : Type 0 where

@@ -1,6 +1,6 @@
 //! What holds of every history of a prefix.
 ghost use Rattle.std.specs.Prelude.{◌≤◌, ◌++◌, ◌∷◌, List};
-ghost use Rattle.row_store.specs.Contents.{Contents};
+ghost use Rattle.row_store.specs.declared.contents.Contents.{Contents};
 ghost use Rattle.row_store.specs.Histories.{IsHistory};
 ghost use Rattle.row_store.specs.declared.transaction.Transaction.{Transaction as Made};
 

@@ -1,10 +1,12 @@
 //! A desk's hold on a prefix.
 ghost use Rattle.std.specs.Prelude.{◌≡◌, Err, IfErr, IfOk, IsErrOf, IsTrue, OnErr, OnOk, true, false};
-ghost use Rattle.row_store.specs.Contents.{Contents, IsTaken};
+ghost use Rattle.row_store.specs.declared.contents.Contents.{Contents};
+ghost use Rattle.row_store.specs.Contents.{IsTaken};
 ghost use Rattle.row_store.specs.Holds.{IsLeft, IsMadeAlone, IsSeen, Stood, is_closed};
 ghost use Rattle.row_store.specs.Inner.Holding.{AwaitsNone, IsClaimed, IsPassedLeft};
 ghost use Rattle.row_store.specs.declared.standing.Standing.TheVariants.{Free, Taken};
 
+use crate::contents::Contents;
 use crate::guard::Guard;
 use crate::passing::{Passed, pass_over};
 use crate::row::Rows;
@@ -61,7 +63,7 @@ impl<S: Store> Hold<S> {
     {
         let mut store = store;
         match begin(alloc, &mut store) {
-            Ok((guard, rows)) => {
+            Ok(Contents { guard, rows }) => {
                 let hold = Hold {
                     alloc,
                     store,
@@ -191,16 +193,17 @@ impl<S: Store> Hold<S> {
     }
 }
 
-// Takes the prefix, and shows the guard and the rows of the desk that has it then.
-fn begin<S: Store>(alloc: Global, store: &mut S) -> Result<(Guard, Rows), StoreErr>
+// Takes the prefix, and shows the contents of the desk that has it then.
+fn begin<S: Store>(alloc: Global, store: &mut S) -> Result<Contents, StoreErr>
     ensures truth { IsTrue (S.is_true store.new) → IsTrue (S.is_true store.old) }
-    ensures rows { IfOk result (λ r. (S.seen store.new).rows ≡ r.1) }
-    ensures stood { IfOk result (λ r. IsTrue (S.is_true store.new) → Stood (S.may store.old) r.1) }
-    ensures left { IfOk result (λ r. IsTrue (S.is_true store.new) → AwaitsNone r.0 (S.seen store.new) (S.may store.new)) }
+    ensures shown { IfOk result (λ found. S.seen store.new ≡ found) }
+    ensures stood { IfOk result (λ found. IsTrue (S.is_true store.new) → Stood (S.may store.old) found.rows) }
+    ensures left { IfOk result (λ found. IsTrue (S.is_true store.new) →
+        AwaitsNone found.guard (S.seen store.new) (S.may store.new)) }
 {
     let next = claim(alloc, store)?;
-    match store.rows() {
-        Ok((found, rows)) if found == next => Ok((found, rows)),
+    match store.contents() {
+        Ok(found) if found.guard == next => Ok(found),
         Ok(_) => Err(StoreErr::Failed),
         Err(err) => Err(err),
     }

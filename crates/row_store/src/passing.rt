@@ -1,6 +1,6 @@
 // Changes that are passed over.
 ghost use Rattle.std.specs.Prelude.{◌≡◌, IsTrue};
-ghost use Rattle.row_store.specs.Contents.{Contents};
+ghost use Rattle.row_store.specs.declared.contents.Contents.{Contents};
 ghost use Rattle.row_store.specs.Inner.Holding.{AwaitsOne, IsPassedLeft, Passes};
 ghost use Rattle.row_store.specs.Contents.{following, passing};
 

@@ -1,6 +1,7 @@
 // Changes that are sent until they are answered.
 ghost use Rattle.std.specs.Prelude.{◌≡◌, IsTrue};
-ghost use Rattle.row_store.specs.Contents.{Contents, following};
+ghost use Rattle.row_store.specs.declared.contents.Contents.{Contents};
+ghost use Rattle.row_store.specs.Contents.{following};
 ghost use Rattle.row_store.specs.Holds.{IsSeen};
 ghost use Rattle.row_store.specs.Inner.Holding.{MayCome, Sends};
 

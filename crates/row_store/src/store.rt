@@ -1,11 +1,12 @@
 //! Engines that hold the rows of a prefix.
 ghost use Rattle.std.specs.Prelude.{◌≡◌, Bool, IfOk, IsTrue, OnErr, OnOk};
-ghost use Rattle.row_store.specs.Contents.{Contents};
+ghost use Rattle.row_store.specs.declared.contents.Contents.{Contents};
+ghost use Rattle.row_store.specs.Contents.{IsFrom};
 ghost use Rattle.row_store.specs.Histories.{IsRule};
 ghost use Rattle.row_store.specs.Outcomes.{IsFound, IsLater, Leaves, Sees};
 
+use crate::contents::Contents;
 use crate::guard::Guard;
-use crate::row::Rows;
 use crate::transaction::Transaction;
 
 /// How a transaction ended.
@@ -21,7 +22,7 @@ pub enum Outcome {
     Unknown,
 }
 
-/// Why a store doesn't show its rows.
+/// Why a store doesn't show its contents.
 #[derive(Clone, Copy, Debug, PartialEq, Eq)]
 pub enum StoreErr {
     /// The engine failed, or no answer came.
@@ -50,19 +51,19 @@ pub trait Store: Drop {
         ensures sees { IsTrue (is_true self.new) → Sees (seen self.old) transaction.now result (seen self.new) }
         ensures leaves { (c : Contents) → may self.new c → Leaves (may self.old) transaction.now result c };
 
-    /// The guard.
+    /// The guard; the rows under it aren't shown.
     fn guard(&mut self) -> Result<Guard, StoreErr>
         ensures truth { IsTrue (is_true self.new) → IsTrue (is_true self.old) }
         ensures found { IsTrue (is_true self.new) → IfOk result (IsFound (may self.old) (seen self.new)) }
         ensures unseen { OnErr result (seen self.new ≡ seen self.old) }
         ensures leaves { (c : Contents) → may self.new c → may self.old c }
-        ensures later { (c : Contents) → may self.new c → OnOk result (IsLater (seen self.new) c) };
+        ensures later { (c : Contents) → may self.new c → OnOk result (IsFrom (seen self.new).guard c.guard) };
 
-    /// The guard and the rows of one moment.
-    fn rows(&mut self) -> Result<(Guard, Rows), StoreErr>
+    /// The contents of one moment.
+    fn contents(&mut self) -> Result<Contents, StoreErr>
         ensures truth { IsTrue (is_true self.new) → IsTrue (is_true self.old) }
-        ensures found { IsTrue (is_true self.new) → IfOk result (λ r. IsFound (may self.old) (seen self.new) r.0) }
-        ensures shown { IfOk result (λ r. (seen self.new).rows ≡ r.1) }
+        ensures found { IsTrue (is_true self.new) → IfOk result (may self.old) }
+        ensures shown { IfOk result (λ c. seen self.new ≡ c) }
         ensures unseen { OnErr result (seen self.new ≡ seen self.old) }
         ensures leaves { (c : Contents) → may self.new c → may self.old c }
         ensures later { (c : Contents) → may self.new c → OnOk result (IsLater (seen self.new) c) };

@@ -8,7 +8,8 @@ use Rattle.row_store.specs.declared.sending.Sent.TheVariants as sends
 use Rattle.row_store.specs.declared.standing.Standing.{Standing}
 use Rattle.row_store.specs.declared.standing.Standing.TheVariants as stands
 use Rattle.row_store.specs.declared.transaction.Transaction.{Transaction}
-use Rattle.row_store.specs.Contents.{Contents, IsTaken, are_absent, contents_after, following, passing}
+use Rattle.row_store.specs.declared.contents.Contents.{Contents}
+use Rattle.row_store.specs.Contents.{IsTaken, are_absent, contents_after, following, passing}
 use Rattle.row_store.specs.Holds.{IsSeen}
 
 -- it is what was seen with the transaction, which could be made

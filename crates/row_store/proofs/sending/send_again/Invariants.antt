@@ -1,6 +1,6 @@
 use Rattle.std.proofs.Common.{◌≡◌}
 use Rattle.std.specs.Prelude.{IsTrue}
-use Rattle.row_store.specs.Contents.{Contents}
+use Rattle.row_store.specs.declared.contents.Contents.{Contents}
 use Rattle.row_store.specs.Inner.Holding.{MayCome}
 use Rattle.row_store.proofs.sending.send_again.Given as goal
 
