@@ -281,10 +281,10 @@ refused_at e t c expected after is = absurd (not_after e.seen.guard c.guard afte
 pub refused_leaves : (e : Engine) (t : Transaction) (c : Contents) → Stands e → t.expects ≡ e.seen.guard →
     (e.held.guard ≡ t.expects → are_absent t.absent e.held.rows ≡ false) → MayHold e c →
     c.guard ≡ t.expects → are_absent t.absent c.rows ≡ false
-refused_leaves e t c stands expected no may is =
+refused_leaves e t c stands expected absent may is =
     elim may [
       | inl here ↦
-          ap (λ (x : Contents). are_absent t.absent x.rows) here ∙ no (sym (ap (λ (x : Contents). x.guard) here) ∙ is)
+          ap (λ (x : Contents). are_absent t.absent x.rows) here ∙ absent (sym (ap (λ (x : Contents). x.guard) here) ∙ is)
       | inr more ↦ elim more [
         | inl late ↦ refused_at e t c expected (stands.late c late.1) is
         | inr more ↦ elim more [

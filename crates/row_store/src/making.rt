@@ -43,6 +43,13 @@ fn is_there(key: &[u8], rows: &[Row]) -> bool
     rows.iter().any(|row| is_at(key, row))
 }
 
+// Whether the row of this key has a value above this one.
+fn has_above(key: &[u8], value: &[u8], rows: &[Row]) -> bool
+    ensures { result ≡ list_any (is_above key.now value.now) rows.now }
+{
+    rows.iter().any(|row| is_above(key, value, row))
+}
+
 // Whether no row has one of these keys.
 pub fn are_absent(keys: &[Items<u8>], rows: &[Row]) -> bool
     ensures { result ≡ are_absent keys.now rows.now }
@@ -92,7 +99,7 @@ fn put_unless(
         (rows.new.items ≡ (if list_any (is_above key.now above.now) rows.old.items then rows.old.items
         else put_row row.now rows.old.items)) }
 {
-    if rows.iter().any(|row| is_above(key, above, row)) {
+    if has_above(key, above, rows) {
         return Ok(());
     }
     put_row(alloc, row, rows)
