@@ -1,10 +1,10 @@
 -- What happens in a store in memory.
-use Rattle.std.proofs.Common.{◌≡◌, ◌<◌, ◌≤◌, ◌⊎◌, ℕ, Bool, true, false, List, [], ◌∷◌, ◌++◌, zero, suc, Option, Some, None, refl, sym, ap, ◌∙◌, subst, inl, inr, arith}
+use Rattle.std.proofs.Common.{◌≡◌, ◌<◌, ◌≤◌, ◌⊎◌, ℕ, true, false, List, [], ◌∷◌, ◌++◌, zero, suc, Some, refl, sym, ap, ◌∙◌, subst, inl, inr, arith}
 use Rattle.std.specs.Prelude.{slice_get}
 use Rattle.row_store.specs.Contents.{IsAfter, IsFrom, IsTaken, are_absent, claimed, contents_after, following}
 use Rattle.row_store.specs.Histories.{IsRule}
 use Rattle.row_store.specs.Inner.Engines.{CanBeMade, Happens, Stands}
-use Rattle.row_store.specs.Memory.{IsLate, IsOneOf, IsOthers, MayHold}
+use Rattle.row_store.specs.Memory.{IsOneOf, MayHold}
 use Rattle.row_store.specs.Outcomes.{IsLater, IsMade, Leaves}
 use Rattle.row_store.specs.declared.contents.Contents.{Contents}
 use Rattle.row_store.specs.declared.engine.Engine.{Engine}
