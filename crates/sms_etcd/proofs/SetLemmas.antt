@@ -10,19 +10,19 @@ use Rattle.sms_keeper.specs.declared.floor.Floor.{Floor}
 use Rattle.sms_keeper.specs.declared.kept_row.KeptRow.{KeptRow}
 use Rattle.sms_keeper.specs.declared.rows.Rows.{Rows}
 use Rattle.sms_keeper.specs.declared.status_row.StatusRow.{StatusRow}
-use Rattle.sms_records.specs.Form.{◌>>=◌, IsReadable, list, whole}
-use Rattle.sms_records.specs.Inner.WholeLaws.{whole-again}
+use Rattle.sms_records.specs.Form.{◌>>=◌, IsReadable}
 use Rattle.sms_records.specs.Sets.{data_set_form}
 use Rattle.row_store.specs.Contents.{is_at, put_row, rows_with}
 use Rattle.row_store.specs.declared.row.Row.{Row}
 use Rattle.sms_etcd.specs.Keys.{set_key}
 use Rattle.sms_etcd.specs.Values.{deck_form, floor_form, is_digit, is_of, kept_form, key_of_deck, key_of_floor, key_of_reply}
+use Rattle.sms_etcd.specs.Values.{statuses_form}
 use Rattle.sms_etcd.specs.Values.{key_of_set, key_of_status, key_of_statuses, status_row_form, statuses_of, table_in}
-use Rattle.sms_etcd.specs.Values.{tables_of, value_in}
+use Rattle.sms_etcd.specs.Values.{tables_of}
 use Rattle.row_store.specs.declared.write.Write.TheVariants.{Put, Drop}
 use Rattle.sms_etcd.specs.Told.{LeadsTo}
 use Rattle.sms_etcd.proofs.ReadLemmas.{some_is}
-use Rattle.sms_etcd.proofs.TableLemmas.{key_is, table_drop, table_drop_other, table_put, table_put_other}
+use Rattle.sms_etcd.proofs.TableLemmas.{table_drop, table_drop_other, table_put, table_put_other, value_reads}
 
 -- what each table of rows stands for
 pub record AreRead (rows : List Row) (t : Rows) : Type 0 where
@@ -30,7 +30,7 @@ pub record AreRead (rows : List Row) (t : Rows) : Type 0 where
   pub replies : table_in 50 kept_form key_of_reply rows ≡ Some t.replies
   pub decks : table_in 51 deck_form key_of_deck rows ≡ Some t.decks
   pub left : List (List StatusRow)
-  pub left_is : table_in 52 (list status_row_form) key_of_statuses rows ≡ Some left
+  pub left_is : table_in 52 statuses_form key_of_statuses rows ≡ Some left
   pub since : List StatusRow
   pub since_is : table_in 53 status_row_form key_of_status rows ≡ Some since
   pub statuses : t.statuses ≡ statuses_of left since
@@ -103,12 +103,6 @@ apart_at d e k (b ∷ bs) differ is =
 pub apart : (d e : ℕ) (k : List ℕ) → (d == e) ≡ false → (row : Row) → is_of d row ≡ true → is_at (e ∷ k) row ≡ false
 apart d e k differ row is = apart_at d e k row.key differ is
 
-set_reads : (set : DataSet) (bytes : List ℕ) → bytes ≡ data_set_form.write set → IsReadable data_set_form set →
-    value_in data_set_form key_of_set (record { key = set_key set.dsn; value = bytes }) ≡ Some set
-unfolding value_in
-set_reads set bytes is again =
-    rw (whole-again data_set_form bytes set again is, (bytes_eq-Decides (set_key set.dsn) (set_key set.dsn)).1 refl) refl
-
 -- a data set is put
 pub set_put : (set : DataSet) (bytes : List ℕ) → bytes ≡ data_set_form.write set → IsReadable data_set_form set →
     (rows : List Row) (t : Rows) → AreRead rows t →
@@ -116,11 +110,11 @@ pub set_put : (set : DataSet) (bytes : List ℕ) → bytes ≡ data_set_form.wri
 set_put set bytes is again rows t read =
     let r : Row = record { key = set_key set.dsn; value = bytes } in record {
       sets = table_put data_set_form key_of_set 49 rows t.sets r set (is_named set.dsn) (λ y. refl) refl
-          (set_reads set bytes is again) read.sets;
+          (value_reads data_set_form key_of_set r set is again refl) read.sets;
       replies = table_put_other kept_form key_of_reply 50 rows t.replies r (apart 50 49 set.dsn refl) refl read.replies;
       decks = table_put_other deck_form key_of_deck 51 rows t.decks r (apart 51 49 set.dsn refl) refl read.decks;
       left = read.left;
-      left_is = table_put_other (list status_row_form) key_of_statuses 52 rows read.left r (apart 52 49 set.dsn refl)
+      left_is = table_put_other statuses_form key_of_statuses 52 rows read.left r (apart 52 49 set.dsn refl)
           refl read.left_is;
       since = read.since;
       since_is = table_put_other status_row_form key_of_status 53 rows read.since r (apart 53 49 set.dsn refl) refl
@@ -135,11 +129,11 @@ pub set_dropped : (dsn : List ℕ) (rows : List Row) (t : Rows) → AreRead rows
 set_dropped dsn rows t read =
     let drops : Row → Bool = is_at (set_key dsn) in record {
       sets = table_drop data_set_form key_of_set 49 rows t.sets drops (is_named dsn)
-          (λ row y is. ap (λ k. bytes_eq k (set_key dsn)) is) read.sets;
+          (λ row y is. ap (λ k. bytes_eq k (set_key dsn)) is.named) read.sets;
       replies = table_drop_other kept_form key_of_reply 50 rows t.replies drops (apart 50 49 dsn refl) read.replies;
       decks = table_drop_other deck_form key_of_deck 51 rows t.decks drops (apart 51 49 dsn refl) read.decks;
       left = read.left;
-      left_is = table_drop_other (list status_row_form) key_of_statuses 52 rows read.left drops (apart 52 49 dsn refl)
+      left_is = table_drop_other statuses_form key_of_statuses 52 rows read.left drops (apart 52 49 dsn refl)
           read.left_is;
       since = read.since;
       since_is = table_drop_other status_row_form key_of_status 53 rows read.since drops (apart 53 49 dsn refl) read.since_is;

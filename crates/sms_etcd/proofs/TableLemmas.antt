@@ -1,15 +1,13 @@
 -- What is read off the rows of a table when rows are put and dropped.
-use Rattle.std.proofs.Common.{◌≡◌, ◌∙◌, Bool, true, false, not, List, [], ◌∷◌, ◌++◌, ℕ, Option, Some, None, filter, refl, sym, ap, subst, cond}
+use Rattle.std.proofs.Common.{◌≡◌, ◌∙◌, ◌&&◌, ◌||◌, Bool, true, false, not, List, [], ◌∷◌, ◌++◌, ℕ, Option, Some, None, filter, refl, sym, ap, subst, cond}
+use Rattle.std.specs.List.{list_any}
 use Rattle.std.specs.Prelude.{bytes_eq}
 use Rattle.std.proofs.lemmas.Slice.Eq.{bytes_eq-Decides}
-use Rattle.sms_construct.specs.declared.data_set.DataSet.{DataSet}
-use Rattle.sms_keeper.specs.Tables.{is_named}
-use Rattle.sms_records.specs.Form.{Form, ◌>>=◌, whole}
-use Rattle.sms_records.specs.Sets.{data_set_form}
+use Rattle.sms_records.specs.Form.{Form, ◌>>=◌, IsReadable, whole}
+use Rattle.sms_records.specs.Inner.WholeLaws.{whole-again}
 use Rattle.row_store.specs.Contents.{is_at, put_row}
 use Rattle.row_store.specs.declared.row.Row.{Row}
-use Rattle.sms_etcd.specs.Keys.{set_key}
-use Rattle.sms_etcd.specs.Values.{each_in, is_of, key_of_set, table_in, value_in}
+use Rattle.sms_etcd.specs.Values.{each_in, is_of, table_in, value_in}
 use Rattle.sms_etcd.proofs.ReadLemmas.{each_filter, each_push, some_is}
 
 module _ {A : Type 0} (p q : A → Bool) where
@@ -64,21 +62,62 @@ module _ {A : Type 0} (p q : A → Bool) where
   filter_none passes [] = refl
   filter_none passes (x ∷ xs) = none_at x xs (p x) (q x) refl refl (passes x) (filter_none passes xs)
 
+-- none is left where each goes
+pub none_left : {A : Type 0} (xs : List A) → filter (λ x. not true) xs ≡ []
+none_left [] = refl
+none_left (x ∷ xs) = none_left xs
+
+left_at : {A : Type 0} (test : A → Bool) (x : A) (xs : List A) (a b : Bool) → test x ≡ a → list_any test xs ≡ b →
+    (a || b) ≡ false → (b ≡ false → filter (λ y. not (test y)) xs ≡ xs) → filter (λ y. not (test y)) (x ∷ xs) ≡ x ∷ xs
+left_at test x xs true b is is′ none rest = absurd cc
+left_at test x xs false true is is′ none rest = absurd cc
+left_at test x xs false false is is′ none rest = rw is (ap (λ l. x ∷ l) (rest refl))
+
+-- all are left where none goes
+pub all_left : {A : Type 0} (test : A → Bool) (xs : List A) → list_any test xs ≡ false →
+    filter (λ x. not (test x)) xs ≡ xs
+all_left test [] none = refl
+all_left test (x ∷ xs) none =
+    left_at test x xs (test x) (list_any test xs) refl refl none (λ e. all_left test xs e)
+
 module _ {T : Type 0} (form : Form T) (key : T → List ℕ) where
-  if_key : (r : Row) (b : Bool) (x y : T) → bytes_eq r.key (key x) ≡ b → cond b (Some x) None ≡ Some y →
-      bytes_eq r.key (key y) ≡ true
-  if_key r true x y is e = subst (λ z. bytes_eq r.key (key z) ≡ true) (some_is x y e) is
-  if_key r false x y is e = absurd cc
+  -- the row is that of the value
+  pub record IsRow (r : Row) (y : T) : Type 0 where
+    pub read : whole form r.value ≡ Some y
+    pub value : r.value ≡ form.write y
+    pub named : r.key ≡ key y
 
-  step_key : (r : Row) (o : Option T) (y : T) →
-      (o >>= (λ x. cond (bytes_eq r.key (key x)) (Some x) None)) ≡ Some y → bytes_eq r.key (key y) ≡ true
-  step_key r None y e = absurd cc
-  step_key r (Some x) y e = if_key r (bytes_eq r.key (key x)) x y refl e
+  if_at : (b c : Bool) (x y : T) → cond (b && c) (Some x) None ≡ Some y → (b ≡ true) × ((c ≡ true) × (x ≡ y))
+  if_at true true x y e = (refl, (refl, some_is x y e))
+  if_at true false x y e = absurd cc
+  if_at false c x y e = absurd cc
 
-  -- the key of a row is that of its value
-  pub key_is : (r : Row) (y : T) → value_in form key r ≡ Some y → r.key ≡ key y
+  found_at : (r : Row) (o : Option T) (y : T) → whole form r.value ≡ o →
+      (o >>= (λ x. cond (bytes_eq r.value (form.write x) && bytes_eq r.key (key x)) (Some x) None)) ≡ Some y → IsRow r y
+  found_at r None y is e = absurd cc
+  found_at r (Some x) y is e =
+      let p = if_at (bytes_eq r.value (form.write x)) (bytes_eq r.key (key x)) x y e in
+      subst (λ z. IsRow r z) p.1.1 (record {
+        read = is;
+        value = (bytes_eq-Decides r.value (form.write x)).0 p.0;
+        named = (bytes_eq-Decides r.key (key x)).0 p.1.0;
+      })
+
+  -- what is read off a row
+  pub row_is : (r : Row) (y : T) → value_in form key r ≡ Some y → IsRow r y
   unfolding value_in
-  key_is r y e = (bytes_eq-Decides r.key (key y)).0 (step_key r (whole form r.value) y e)
+  row_is r y e = found_at r (whole form r.value) y refl e
+
+  pub key_is : (r : Row) (y : T) → value_in form key r ≡ Some y → r.key ≡ key y
+  key_is r y e = (row_is r y e).named
+
+  -- the value is read off its row
+  pub value_reads : (r : Row) (x : T) → r.value ≡ form.write x → IsReadable form x → r.key ≡ key x →
+      value_in form key r ≡ Some x
+  unfolding value_in
+  value_reads r x is again named =
+      rw (whole-again form r.value x again is, (bytes_eq-Decides r.value (form.write x)).1 is,
+      (bytes_eq-Decides r.key (key x)).1 named) refl
 
   module _ (digit : ℕ) where
     -- a row is put into its table, in place of those whose values pass the test
@@ -96,12 +135,12 @@ module _ {T : Type 0} (form : Form T) (key : T → List ℕ) where
 
     -- rows are dropped from their table, where the values tell the test
     pub table_drop : (rows : List Row) (xs : List T) (drops : Row → Bool) (test : T → Bool) →
-        ((row : Row) (y : T) → row.key ≡ key y → drops row ≡ test y) → table_in digit form key rows ≡ Some xs →
+        ((row : Row) (y : T) → IsRow row y → drops row ≡ test y) → table_in digit form key rows ≡ Some xs →
         table_in digit form key (filter (λ row. not (drops row)) rows) ≡ Some (filter (λ y. not (test y)) xs)
     table_drop rows xs drops test alike all =
         ap (each_in (value_in form key)) (filter_both (is_of digit) (λ row. not (drops row)) rows)
         ∙ each_filter (value_in form key) (λ row. not (drops row)) (λ y. not (test y))
-        (λ row y e. ap not (alike row y (key_is row y e))) (filter (is_of digit) rows) xs all
+        (λ row y e. ap not (alike row y (row_is row y e))) (filter (is_of digit) rows) xs all
 
     -- rows of other tables
     pub table_put_other : (rows : List Row) (xs : List T) (r : Row) →
@@ -119,7 +158,3 @@ module _ {T : Type 0} (form : Form T) (key : T → List ℕ) where
         ap (each_in (value_in form key)) (filter_none (is_of digit) (λ row. not (drops row))
         (λ row is. ap not (apart row is)) rows)
         ∙ all
-
--- a data set's name is its key
-pub set_alike : (dsn : List ℕ) (y : DataSet) → bytes_eq (key_of_set y) (set_key dsn) ≡ is_named dsn y
-set_alike dsn y = refl

@@ -11,27 +11,32 @@ use Rattle.row_store.specs.declared.row.Row.{Row}
 use Rattle.row_store.specs.declared.write.Write.{Write}
 use Rattle.sms_etcd.specs.Values.{tables_of}
 
--- what contracts see of a keeper over an engine: its hold on the prefix, whether each row that it found stood for
--- something, and the count of faults
+-- what contracts see of a keeper over an engine: its hold on the prefix, the hold as it was handed in, and the count of
+-- faults
 pub record KeeperView (S : Type 0) : Type 0 where
   pub hold : HoldView S
-  pub is_sound : Bool
+  pub base : HoldView S
   pub faults : ℕ
+
+-- the tables can be told: each row stands for something
+abbrev pub can_tell : List Row → Bool
+can_tell rows = is_some (tables_of rows)
 
 -- what is told of rows that were sound, while the hold isn't lost
 abbrev pub told_of : Bool → Bool → List Row → Option Rows
 told_of is_sound closed rows = if is_sound && not closed then tables_of rows else None
 
--- the tables that the keeper tells: those that the engine's answers come to, while these are of one history
+-- the tables that the keeper tells, where they could be told as it was made: those that the engine's answers come to,
+-- while these are of one history
 abbrev pub told_by : {S : Type 0} → (S → Contents) → (S → Bool) → KeeperView S → Option Rows
 told_by seen is_true k =
-    told_of (k.is_sound && is_true k.hold.store) (is_closed k.hold.standing) (seen k.hold.store).rows
+    told_of (can_tell (seen k.base.store).rows && is_true k.hold.store) (is_closed k.hold.standing) (seen k.hold.store).rows
 
 -- the keeper keeps its tables readable
 abbrev pub IsReadable : {S : Type 0} → (S → Contents) → (S → Bool) → KeeperView S → Type 0
 IsReadable seen is_true k =
-    IsTrue (k.is_sound && is_true k.hold.store) → is_closed k.hold.standing ≡ false →
-    IsTrue (is_some (tables_of (seen k.hold.store).rows))
+    IsTrue (can_tell (seen k.base.store).rows && is_true k.hold.store) → is_closed k.hold.standing ≡ false →
+    IsTrue (can_tell (seen k.hold.store).rows)
 
 -- where no row has one of the absent keys, the writes make the change of the tables
 abbrev pub Leads : Change → List (List ℕ) → List Write → Type 0
@@ -48,10 +53,6 @@ Tells c tables = IsSomeAnd (tables_of c.rows) (λ found. AreSame found tables)
 abbrev pub IsCommitLeft : Contents → (Contents → Type 0) → Change → Contents → Rows → Type 0
 IsCommitLeft seen could change c told =
     could c ⊎ (Tells c told ⊎ (Tells c (with_change told change) ⊎ IsTaken seen.guard c))
-
--- rows that could be read can be read
-abbrev pub CanRead : Bool → List Row → Type 0
-CanRead is_sound rows = IsTrue is_sound → IsTrue (is_some (tables_of rows))
 
 -- the rows of a hold that isn't lost stand for the tables with the change, where they stood for tables
 pub record MakesChange (change : Change) (before after : Bool) (old new : List Row) : Type 0 where

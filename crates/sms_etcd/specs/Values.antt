@@ -1,5 +1,5 @@
 -- What the rows of the engine stand for.
-use Rattle.std.specs.Prelude.{ℕ, Bool, false, ◌==◌, List, [], ◌∷◌, bytes_eq, filter, fold, map, Option, Some, None}
+use Rattle.std.specs.Prelude.{ℕ, Bool, false, ◌==◌, ◌&&◌, List, [], ◌∷◌, bytes_eq, filter, fold, map, Option, Some, None}
 use Rattle.std.specs.Prelude.{if◌then◌else◌}
 use Rattle.std.specs.List.{flat_map}
 use Rattle.sms_construct.specs.declared.data_set.DataSet.{DataSet}
@@ -34,9 +34,18 @@ abbrev pub deck_form : Form DeckRow
 deck_form = made (number_form & text_form) (λ x. record { count = x.0; bytes = x.1 }) (λ d. (d.count, d.bytes))
 
 -- a status: what it is of, and itself
+abbrev pub status_of : Target × Status → StatusRow
+status_of x = record { target = x.0; status = x.1 }
+
+abbrev pub pair_of : StatusRow → Target × Status
+pair_of row = (row.target, row.status)
+
 abbrev pub status_row_form : Form StatusRow
-status_row_form =
-    made (target_form & status_form) (λ x. record { target = x.0; status = x.1 }) (λ s. (s.target, s.status))
+status_row_form = made (target_form & status_form) status_of pair_of
+
+-- all statuses
+abbrev pub statuses_form : Form (List StatusRow)
+statuses_form = made (list (target_form & status_form)) (map status_of) (map pair_of)
 
 -- a floor: its job and itself
 abbrev pub floor_form : Form Floor
@@ -50,11 +59,11 @@ is_digit digit (byte ∷ bytes) = byte == digit
 abbrev pub is_of : ℕ → Row → Bool
 is_of digit row = is_digit digit row.key
 
--- the value of a row, whose key is that of the value
+-- the value of a row, which is written so, and whose key is that of the value
 unfoldable pub value_in : {T : Type 0} → Form T → (T → List ℕ) → Row → Option T
 value_in form key row = do
   x ← whole form row.value
-  if bytes_eq row.key (key x) then Some x else None
+  if bytes_eq row.value (form.write x) && bytes_eq row.key (key x) then Some x else None
 
 -- what rows stand for, where each stands for something
 abbrev pub joined : {B : Type 0} → Option B → Option (List B) → Option (List B)
@@ -102,7 +111,7 @@ tables_of rows = do
   sets ← table_in 49 data_set_form key_of_set rows
   replies ← table_in 50 kept_form key_of_reply rows
   decks ← table_in 51 deck_form key_of_deck rows
-  left ← table_in 52 (list status_row_form) key_of_statuses rows
+  left ← table_in 52 statuses_form key_of_statuses rows
   since ← table_in 53 status_row_form key_of_status rows
   floors ← table_in 54 floor_form key_of_floor rows
   Some (record { sets = sets; replies = replies; decks = decks; statuses = statuses_of left since; floors = floors })

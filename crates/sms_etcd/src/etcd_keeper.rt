@@ -11,17 +11,19 @@ ghost use Rattle.row_store.specs.declared.contents.Contents.{Contents};
 ghost use Rattle.sms_etcd.specs.Told.{IsCommitLeft, KeepsRows, MakesChange, MayLeave, told_by};
 
 use crate::plan::plan;
-use row_store::{Hold, HoldErr, Store};
+use row_store::{Hold, HoldErr, Standing, Store};
 use sms_keeper::{Change, Keeper, KeeperErr};
 use std::alloc::Global;
 use std::marker::Model;
+use std::snapshot::Snapshot;
 
-/// Keeps the records in an engine that several machines reach (docs/records.md, "The engine").
+/// Keeps the records in an engine that several machines reach. It tells its tables where each row stood for something as
+/// the hold was handed in, while the hold isn't lost and the engine's answers are those of one history.
 #[derive(Drop)]
 pub struct EtcdKeeper<S: Store> {
     alloc: Global,
     hold: Hold<S>,
-    is_sound: bool,
+    base: Snapshot<Hold<S>>,
     faults: u64,
 }
 
@@ -30,10 +32,32 @@ impl<S: Store> Model for EtcdKeeper<S> {
 
     ghost Value = { KeeperView S };
 
-    ghost view = { λ k. record { hold = k.hold; is_sound = k.is_sound; faults = k.faults } };
+    ghost view = { λ k. record { hold = k.hold; base = k.base.value; faults = k.faults } };
 
     ghost invariant = { λ k. IsReadable S.seen S.is_true
-        (record { hold = k.hold; is_sound = k.is_sound; faults = k.faults }) };
+        (record { hold = k.hold; base = k.base.value; faults = k.faults }) };
+}
+
+impl<S: Store> EtcdKeeper<S> {
+    /// A keeper over the prefix of this hold. It takes no memory.
+    pub fn new(alloc: Global, hold: Hold<S>) -> Self
+        ensures { result ≡ record { hold = hold; base = hold; faults = 0 } }
+    {
+        let base = Snapshot::of(&hold);
+        EtcdKeeper {
+            alloc,
+            hold,
+            base,
+            faults: 0,
+        }
+    }
+
+    /// How its hold stands.
+    pub fn standing(&self) -> Standing
+        ensures { result ≡ self.now.hold.standing }
+    {
+        self.hold.standing()
+    }
 }
 
 // Makes the change in one transaction.
