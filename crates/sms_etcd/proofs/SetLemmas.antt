@@ -103,6 +103,11 @@ apart_at d e k (b ∷ bs) differ is =
 pub apart : (d e : ℕ) (k : List ℕ) → (d == e) ≡ false → (row : Row) → is_of d row ≡ true → is_at (e ∷ k) row ≡ false
 apart d e k differ row is = apart_at d e k row.key differ is
 
+-- the same of a row whose key begins with that digit
+pub digit_apart : (d e : ℕ) (k : List ℕ) (r : Row) → r.key ≡ e ∷ k → (d == e) ≡ false → (row : Row) →
+    is_of d row ≡ true → is_at r.key row ≡ false
+digit_apart d e k r named differ row is = rw named (apart d e k differ row is)
+
 -- a data set is put
 pub set_put : (set : DataSet) (bytes : List ℕ) → bytes ≡ data_set_form.write set → IsReadable data_set_form set →
     (rows : List Row) (t : Rows) → AreRead rows t →

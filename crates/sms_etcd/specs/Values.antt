@@ -8,6 +8,7 @@ use Rattle.sms_construct.specs.declared.reply.Reply.{Reply}
 use Rattle.sms_construct.specs.declared.target.Target.{Target}
 use Rattle.sms_construct.specs.declared.status.Status.{Status}
 use Rattle.sms_keeper.specs.Tables.{row_with}
+use Rattle.sms_keeper.specs.declared.change.Change.{Change}
 use Rattle.sms_keeper.specs.declared.deck_row.DeckRow.{DeckRow}
 use Rattle.sms_keeper.specs.declared.floor.Floor.{Floor}
 use Rattle.sms_keeper.specs.declared.kept_row.KeptRow.{KeptRow}
@@ -24,14 +25,34 @@ use Rattle.row_store.specs.declared.row.Row.{Row}
 use Rattle.sms_etcd.specs.Keys.{deck_key, floor_key, reply_key, set_key, status_key, statuses_key}
 
 -- a reply: its place, its request and itself
+abbrev pub kept_fields : Form (ℕ × (Request × Reply))
+kept_fields = number_form & (request_form & reply_form)
+
+abbrev pub kept_of : ℕ × (Request × Reply) → KeptRow
+kept_of x = record { job = x.1.0.job; number = x.1.0.number; place = x.0; request = x.1.0; reply = x.1.1 }
+
+abbrev pub fields_of_kept : KeptRow → ℕ × (Request × Reply)
+fields_of_kept row = (row.place, (row.request, row.reply))
+
+-- the same of a change
+abbrev pub told_of : Change → ℕ × (Request × Reply)
+told_of change = (change.place, (change.request, change.reply))
+
 abbrev pub kept_form : Form KeptRow
-kept_form = made (number_form & (request_form & reply_form))
-    (λ x. record { job = x.1.0.job; number = x.1.0.number; place = x.0; request = x.1.0; reply = x.1.1 })
-    (λ r. (r.place, (r.request, r.reply)))
+kept_form = made kept_fields kept_of fields_of_kept
 
 -- a deck: its number and its bytes
+abbrev pub deck_fields : Form (ℕ × List ℕ)
+deck_fields = number_form & text_form
+
+abbrev pub deck_of : ℕ × List ℕ → DeckRow
+deck_of x = record { count = x.0; bytes = x.1 }
+
+abbrev pub fields_of_deck : DeckRow → ℕ × List ℕ
+fields_of_deck deck = (deck.count, deck.bytes)
+
 abbrev pub deck_form : Form DeckRow
-deck_form = made (number_form & text_form) (λ x. record { count = x.0; bytes = x.1 }) (λ d. (d.count, d.bytes))
+deck_form = made deck_fields deck_of fields_of_deck
 
 -- a status: what it is of, and itself
 abbrev pub status_of : Target × Status → StatusRow
@@ -40,16 +61,28 @@ status_of x = record { target = x.0; status = x.1 }
 abbrev pub pair_of : StatusRow → Target × Status
 pair_of row = (row.target, row.status)
 
+abbrev pub pair_form : Form (Target × Status)
+pair_form = target_form & status_form
+
 abbrev pub status_row_form : Form StatusRow
-status_row_form = made (target_form & status_form) status_of pair_of
+status_row_form = made pair_form status_of pair_of
 
 -- all statuses
 abbrev pub statuses_form : Form (List StatusRow)
-statuses_form = made (list (target_form & status_form)) (map status_of) (map pair_of)
+statuses_form = made (list pair_form) (map status_of) (map pair_of)
 
 -- a floor: its job and itself
+abbrev pub floor_fields : Form (List ℕ × ℕ)
+floor_fields = name_form & number_32_form
+
+abbrev pub floor_of : List ℕ × ℕ → Floor
+floor_of x = record { job = x.0; floor = x.1 }
+
+abbrev pub fields_of_floor : Floor → List ℕ × ℕ
+fields_of_floor floor = (floor.job, floor.floor)
+
 abbrev pub floor_form : Form Floor
-floor_form = made (name_form & number_32_form) (λ x. record { job = x.0; floor = x.1 }) (λ f. (f.job, f.floor))
+floor_form = made floor_fields floor_of fields_of_floor
 
 -- the row is one of the table with this digit
 abbrev pub is_digit : ℕ → List ℕ → Bool

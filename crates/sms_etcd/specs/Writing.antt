@@ -4,6 +4,7 @@ use Rattle.std.specs.List.{list_any}
 use Rattle.row_store.specs.Contents.{are_absent, rows_after}
 use Rattle.row_store.specs.declared.row.Row.{Row}
 use Rattle.row_store.specs.declared.write.Write.{Write}
+use Rattle.sms_construct.specs.declared.request.Op.{Op}
 use Rattle.sms_keeper.specs.Tables.{decks_added, floors_with, replies_left, row_of, sets_with, statuses_with}
 use Rattle.sms_keeper.specs.Tables.{with_change}
 use Rattle.sms_keeper.specs.declared.change.Change.{Change}
@@ -37,15 +38,18 @@ LacksDeckOf (effects.Activated count statuses) tables = LacksDeck count tables
 LacksDeckOf (effects.SetStatus target status) tables = Unit {0}
 LacksDeckOf (effects.Floor job floor) tables = Unit {0}
 
--- the tables after the effect of a change, without the row of its reply
-abbrev pub with_effect : Change → Rows → Rows
-with_effect change tables = record {
-  sets = sets_with change.effect tables.sets;
-  replies = replies_left change.effect tables.replies;
-  decks = tables.decks ++ decks_added change.request.op change.effect;
-  statuses = statuses_with change.effect tables.statuses;
-  floors = floors_with change.effect tables.floors;
+-- the tables after the effect of an op, without the row of its reply
+abbrev pub effect_on : Op → Effect → Rows → Rows
+effect_on op effect tables = record {
+  sets = sets_with effect tables.sets;
+  replies = replies_left effect tables.replies;
+  decks = tables.decks ++ decks_added op effect;
+  statuses = statuses_with effect tables.statuses;
+  floors = floors_with effect tables.floors;
 }
+
+abbrev pub with_effect : Change → Rows → Rows
+with_effect change tables = effect_on change.request.op change.effect tables
 
 -- where no row has one of these keys, the reply and the deck of the change aren't there yet
 abbrev pub AsksFor : Change → List (List ℕ) → Type 0

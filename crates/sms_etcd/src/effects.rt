@@ -5,6 +5,7 @@ ghost use Rattle.sms_keeper.specs.Tables.{deck_rows, is_reply_below, put_floor, 
 ghost use Rattle.sms_etcd.specs.Told.{LeadsTo};
 ghost use Rattle.sms_etcd.specs.Writing.{LacksDeck, LeadsWhere, MakesEffect};
 
+use crate::draft::only;
 use crate::keys::{
     deck_key, floor_key, reply_front, set_key, status_front, status_key, statuses_key,
 };
@@ -16,15 +17,6 @@ use sms_construct::{DataSet, Op, Status, Target};
 use sms_keeper::{Change, Effect, StatusRow};
 use sms_records::set_record;
 use std::alloc::{AllocError, Global};
-
-// One write.
-fn only(alloc: Global, write: Write) -> Result<Writes, AllocError>
-    ensures { IfOk result (λ writes. writes ≡ write ∷ []) }
-{
-    let mut writes = Items::new(alloc);
-    writes.push(write)?;
-    Ok(writes)
-}
 
 // Puts the data set in place of the one of its name, or adds it.
 #[tactic(auto, using(crate::proofs::SetLemmas::put_leads))]

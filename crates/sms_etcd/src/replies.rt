@@ -3,6 +3,7 @@ ghost use Rattle.std.specs.Prelude.{◌≡◌, ◌++◌, ◌∷◌, [], IfOk};
 ghost use Rattle.sms_keeper.specs.Tables.{keep_row, row_of};
 ghost use Rattle.sms_etcd.specs.Writing.{IsOwnFloor, IsReplyRow, KeepsReply, LacksReply, LeadsWhere};
 
+use crate::draft::only;
 use crate::keys::{floor_key, reply_key};
 use crate::values::{floor_value, reply_value};
 use desk_common::Items;
@@ -11,13 +12,13 @@ use sms_keeper::{Change, Effect};
 use std::alloc::{AllocError, Global};
 
 // The row of the change's reply.
+#[tactic(auto, using(crate::proofs::ReplyLemmas::reply_row_is))]
 fn reply_row(alloc: Global, change: &Change) -> Result<Row, AllocError>
     ensures { IfOk result (IsReplyRow change.now) }
 {
-    Ok(Row {
-        key: reply_key(alloc, &change.request.job, change.request.number)?,
-        value: reply_value(alloc, change)?,
-    })
+    let key = reply_key(alloc, &change.request.job, change.request.number)?;
+    let value = reply_value(alloc, change)?;
+    Ok(Row { key, value })
 }
 
 // Adds the row of the reply.
@@ -26,9 +27,8 @@ fn add_reply(alloc: Global, change: &Change) -> Result<Writes, AllocError>
     ensures { IfOk result (LeadsWhere (LacksReply change.now.request.job change.now.request.number)
         (λ t. record t { replies = t.replies ++ row_of change.now ∷ [] })) }
 {
-    let mut writes = Items::new(alloc);
-    writes.push(Write::Put(reply_row(alloc, change)?))?;
-    Ok(writes)
+    let row = reply_row(alloc, change)?;
+    only(alloc, Write::Put(row))
 }
 
 // Adds the row of the reply, unless its number is below the floor of its job.
@@ -37,14 +37,10 @@ fn keep_reply(alloc: Global, change: &Change) -> Result<Writes, AllocError>
     ensures { IfOk result (LeadsWhere (LacksReply change.now.request.job change.now.request.number)
         (λ t. record t { replies = keep_row t.floors (row_of change.now) t.replies })) }
 {
-    let job = &change.request.job;
-    let mut writes = Items::new(alloc);
-    writes.push(Write::PutUnless {
-        row: reply_row(alloc, change)?,
-        key: floor_key(alloc, job)?,
-        above: floor_value(alloc, job, change.request.number.get())?,
-    })?;
-    Ok(writes)
+    let row = reply_row(alloc, change)?;
+    let key = floor_key(alloc, &change.request.job)?;
+    let above = floor_value(alloc, &change.request.job, change.request.number.get())?;
+    only(alloc, Write::PutUnless { row, key, above })
 }
 
 // The same behind a floor of the job that the change sets, in whose row an engine doesn't see it yet.
