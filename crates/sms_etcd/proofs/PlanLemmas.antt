@@ -1,10 +1,10 @@
 -- What the writes of a change come to.
-use Rattle.std.proofs.Common.{◌≡◌, ◌∙◌, ◌&&◌, ◌||◌, ◌<◌, ◌≤◌, Bool, true, false, not, List, [], ◌∷◌, ◌++◌, ℕ, Some, Result, Ok, Err, cond, filter, refl, sym, ap, ap₂, subst}
+use Rattle.std.proofs.Common.{◌≡◌, ◌∙◌, ◌&&◌, ◌||◌, ◌<◌, ◌≤◌, Bool, true, false, not, List, [], ◌∷◌, ◌++◌, ℕ, Option, Some, None, Result, Ok, Err, cond, filter, refl, sym, ap, ap₂, subst}
 use Rattle.std.proofs.lemmas.Bool.{le-ltb, lt-ltb}
 use Rattle.std.proofs.lemmas.List.{append-nil}
 use Rattle.std.proofs.lemmas.Slice.Eq.{bytes_eq-Decides}
 use Rattle.std.specs.List.{list_any}
-use Rattle.std.specs.Prelude.{IfOk, IsSomeAnd, bytes_eq, map, nat_lt}
+use Rattle.std.specs.Prelude.{IfOk, IfSome, IsSomeAnd, bytes_eq, map, nat_lt}
 use Rattle.row_store.specs.Contents.{are_absent, is_at, rows_after}
 use Rattle.row_store.specs.declared.row.Row.{Row}
 use Rattle.row_store.specs.declared.write.Write.{Write}
@@ -26,7 +26,7 @@ use Rattle.sms_etcd.specs.Keys.{deck_key, reply_key}
 use Rattle.sms_etcd.specs.Told.{Leads, LeadsTo}
 use Rattle.sms_etcd.specs.Values.{deck_form, is_of, kept_form, key_of_deck, key_of_reply, tables_of, value_in}
 use Rattle.sms_etcd.specs.Writing.{AsksFor, IsOwnFloor, KeepsReply, LacksDeck, LacksDeckOf, LacksReply, LeadsWhere}
-use Rattle.sms_etcd.specs.Writing.{MakesEffect, effect_on, with_effect}
+use Rattle.sms_etcd.specs.Writing.{MakesEffect, deck_added, effect_on, with_effect}
 use Rattle.sms_etcd.proofs.ChainLemmas.{after_both}
 use Rattle.sms_etcd.proofs.ReadLemmas.{each_any}
 use Rattle.sms_etcd.proofs.ReplyLemmas.{any_in, key_of_digit}
@@ -91,11 +91,11 @@ module _ {E : Type 0} (change : Change) (r : Result (List Write) E) where
 fewer_at : {A : Type 0} (p q : A → Bool) (x : A) (xs : List A) (a b : Bool) → q x ≡ a → p x ≡ b →
     list_any q (x ∷ xs) ≡ false → (list_any q xs ≡ false → list_any q (filter p xs) ≡ false) →
     list_any q (filter p (x ∷ xs)) ≡ false
-fewer_at p q x xs true b is is′ none rest = absurd (let e : (true || list_any q xs) ≡ false = rw (sym is) none in cc)
+fewer_at p q x xs true b is is′ none rest = absurd (let e = subst (λ (c : Bool). (c || list_any q xs) ≡ false) is none in cc)
 fewer_at p q x xs false true is is′ none rest =
-    let e : (false || list_any q xs) ≡ false = rw (sym is) none in rw is′ (rw is (rest e))
+    let e = subst (λ (c : Bool). (c || list_any q xs) ≡ false) is none in rw is′ (rw is (rest e))
 fewer_at p q x xs false false is is′ none rest =
-    let e : (false || list_any q xs) ≡ false = rw (sym is) none in rw is′ (rest e)
+    let e = subst (λ (c : Bool). (c || list_any q xs) ≡ false) is none in rw is′ (rest e)
 
 -- where none passes, none of those passes that are left
 fewer : {A : Type 0} (p q : A → Bool) (xs : List A) → list_any q xs ≡ false → list_any q (filter p xs) ≡ false
@@ -208,30 +208,24 @@ deck_lacks count key is rows t told absent =
     (filter (is_of 51) rows) t.decks read.decks)
     ∙ sym (any_in (is_of 51) (is_at (deck_key count)) (λ row e. key_of_digit 51 _ row e) rows) ∙ none
 
-no_deck : (e : Effect) → ((count : ℕ) (statuses : List StatusRow) → e ≡ effects.Activated count statuses → ⊥) →
-    (t : Rows) → LacksDeckOf e t
-no_deck effects.Nothing other t = tt
-no_deck (effects.PutSet set) other t = tt
-no_deck (effects.DropSet dsn) other t = tt
-no_deck (effects.Activated count statuses) other t = absurd (other count statuses refl)
-no_deck (effects.SetStatus target status) other t = tt
-no_deck (effects.Floor job floor) other t = tt
-
 pub reply_asked : (change : Change) (key : List ℕ) → key ≡ reply_key change.request.job change.request.number →
-    ((count : ℕ) (statuses : List StatusRow) → change.effect ≡ effects.Activated count statuses → ⊥) →
-    AsksFor change (key ∷ [])
-reply_asked change key is other rows t told absent =
-    (reply_lacks change.request.job change.request.number key is rows t told (both_true _ _ absent).0,
-    no_deck change.effect other t)
+    deck_added change.effect ≡ None → AsksFor change (key ∷ [])
+reply_asked change key is none rows t told absent =
+    let P : Option ℕ → Type 0 = λ o. IfSome o (λ count. LacksDeck count t) in (
+      reply_lacks change.request.job change.request.number key is rows t told (both_true _ _ absent).0,
+      subst P (sym none) tt,
+    )
 
-pub deck_asked : (change : Change) (key deck : List ℕ) (count : ℕ) (statuses : List StatusRow) →
-    key ≡ reply_key change.request.job change.request.number → deck ≡ deck_key count →
-    change.effect ≡ effects.Activated count statuses → AsksFor change (key ∷ deck ∷ [])
-deck_asked change key deck count statuses is deck_is activated rows t told absent =
-    let a = both_true _ _ absent in
-    let P : Effect → Type 0 = λ e. LacksDeckOf e t in
-    (reply_lacks change.request.job change.request.number key is rows t told a.0,
-    subst P (sym activated) (deck_lacks count deck deck_is rows t told (both_true _ _ a.1).0))
+pub deck_asked : {E : Type 0} (change : Change) (r : Result (List (List ℕ)) E) (key deck : List ℕ) (count : ℕ) →
+    key ≡ reply_key change.request.job change.request.number → deck ≡ deck_key count → deck_added change.effect ≡ Some count →
+    IfOk r (λ all. all ≡ key ∷ deck ∷ []) → IfOk r (AsksFor change)
+deck_asked change r key deck count is deck_is added = ok_more r (λ all all_is rows t told absent.
+    let both = subst (λ keys. are_absent keys rows ≡ true) all_is absent in
+    let a = both_true _ _ both in
+    let P : Option ℕ → Type 0 = λ o. IfSome o (λ count. LacksDeck count t) in (
+      reply_lacks change.request.job change.request.number key is rows t told a.0,
+      subst P (sym added) (deck_lacks count deck deck_is rows t told (both_true _ _ a.1).0),
+    ))
 
 -- all of it
 

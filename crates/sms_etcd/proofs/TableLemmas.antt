@@ -116,8 +116,11 @@ module _ {T : Type 0} (form : Form T) (key : T → List ℕ) where
       value_in form key r ≡ Some x
   unfolding value_in
   value_reads r x is again named =
-      rw (whole-again form r.value x again is, (bytes_eq-Decides r.value (form.write x)).1 is,
-      (bytes_eq-Decides r.key (key x)).1 named) refl
+      rw (
+        whole-again form r.value x again is,
+        (bytes_eq-Decides r.value (form.write x)).1 is,
+        (bytes_eq-Decides r.key (key x)).1 named,
+      ) refl
 
   module _ (digit : ℕ) where
     -- a row is put into its table, in place of those whose values pass the test

@@ -1,5 +1,5 @@
 -- What the writes of a change make of the tables.
-use Rattle.std.specs.Prelude.{◌≡◌, ◌++◌, ℕ, false, true, List, Some, bytes_eq}
+use Rattle.std.specs.Prelude.{◌≡◌, ◌++◌, ℕ, false, true, List, Option, Some, None, IfSome, bytes_eq}
 use Rattle.std.specs.List.{list_any}
 use Rattle.row_store.specs.Contents.{are_absent, rows_after}
 use Rattle.row_store.specs.declared.row.Row.{Row}
@@ -29,14 +29,18 @@ LacksReply job number tables =
 abbrev pub LacksDeck : ℕ → Rows → Type 0
 LacksDeck count tables = list_any (λ row. bytes_eq (key_of_deck row) (deck_key count)) tables.decks ≡ false
 
--- none is kept under the number of the one that the effect adds
+-- the number of the deck that an effect adds
+abbrev pub deck_added : Effect → Option ℕ
+deck_added effects.Nothing = None
+deck_added (effects.PutSet set) = None
+deck_added (effects.DropSet dsn) = None
+deck_added (effects.Activated count statuses) = Some count
+deck_added (effects.SetStatus target status) = None
+deck_added (effects.Floor job floor) = None
+
+-- no deck is kept under that number
 abbrev pub LacksDeckOf : Effect → Rows → Type 0
-LacksDeckOf effects.Nothing tables = Unit {0}
-LacksDeckOf (effects.PutSet set) tables = Unit {0}
-LacksDeckOf (effects.DropSet dsn) tables = Unit {0}
-LacksDeckOf (effects.Activated count statuses) tables = LacksDeck count tables
-LacksDeckOf (effects.SetStatus target status) tables = Unit {0}
-LacksDeckOf (effects.Floor job floor) tables = Unit {0}
+LacksDeckOf effect tables = IfSome (deck_added effect) (λ count. LacksDeck count tables)
 
 -- the tables after the effect of an op, without the row of its reply
 abbrev pub effect_on : Op → Effect → Rows → Rows

@@ -38,11 +38,7 @@ pub fn reply_front(alloc: Global, job: &Name) -> Result<Vec<u8>, AllocError>
 }
 
 /// The key of the reply to this request.
-pub fn reply_key(
-    alloc: Global,
-    job: &Name,
-    number: RequestNumber,
-) -> Result<Items<u8>, AllocError>
+pub fn reply_key(alloc: Global, job: &Name, number: RequestNumber) -> Result<Items<u8>, AllocError>
     ensures { IfOk result (λ key. key ≡ reply_key job.now number) }
 {
     let mut key = reply_front(alloc, job)?;

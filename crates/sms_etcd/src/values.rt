@@ -71,11 +71,7 @@ pub fn statuses_value(alloc: Global, rows: &[StatusRow]) -> Result<Items<u8>, Al
 
 /// The value of a status.
 #[tactic(auto, using(crate::proofs::ValueLemmas::status_readable))]
-pub fn status_value(
-    alloc: Global,
-    target: &Target,
-    status: Status,
-) -> Result<Items<u8>, AllocError>
+pub fn status_value(alloc: Global, target: &Target, status: Status) -> Result<Items<u8>, AllocError>
     ensures written { IfOk result (λ value.
         value ≡ status_row_form.write (record { target = target.now; status = status })) }
     ensures readable { IfOk result (λ value.
