@@ -1,5 +1,5 @@
 -- What an activation of a deck would be answered on a store (docs/manual/smsd.md, "Check of a deck").
-use Rattle.std.specs.Prelude.{◌≡◌, ◌≤◌, ℕ, Bool, true, false, List, [], codes, find, flat_map, None, Option}
+use Rattle.std.specs.Prelude.{◌≡◌, ◌≤◌, ℕ, Bool, true, false, List, [], ◌++◌, codes, find, flat_map, None, Option}
 use Rattle.sms_base.specs.Observed.{Observed, HasReadFault, HasWriteFault, IsOutOfMemory, IsTooLong, WasAnswered}
 use Rattle.desk_common.specs.Limits.{most_input_bytes}
 use Rattle.sms_construct.specs.declared.entry.Answer.{Answer}
@@ -13,6 +13,7 @@ use Rattle.sms_keeper.specs.declared.keeper.Keeper.{Ghosts}
 use Rattle.sms_keeper.specs.declared.rows.Rows.{Rows}
 use Rattle.sms_keeper.specs.declared.table.Table.{Table}
 use Rattle.sms_script.specs.AnswerText.{answer_lines, ended}
+use Rattle.deck_changes.specs.DeckChanges.{IsDifference}
 use Rattle.desk_law.specs.Kept.{greatest_floor}
 use Rattle.desk_law.specs.State.{Opening}
 use Rattle.sms_core.specs.Core.{Enters}
@@ -47,7 +48,7 @@ abbrev pub lines_text : Answer → List ℕ
 lines_text answer = flat_map ended (answer_lines answer)
 
 -- the text is that of an answer which a desk with this opening gives a fresh request to activate these bytes, where no
--- keeper fails; they would be active or not
+-- keeper fails, and of what they change of what is active; they would be active or not
 pub record IsChecked (o : Opening) (good : Bool) (deck text : List ℕ) : Type 0 where
   pub number : ℕ
   pub free : IsFreeFrom administrator o.rows number
@@ -55,7 +56,9 @@ pub record IsChecked (o : Opening) (good : Bool) (deck text : List ℕ) : Type 0
   pub journal : List Entry
   pub enters : Enters o [] journal None None 0 0 (activation number deck) answer
   pub good_is : good ≡ is_activated answer.reply
-  pub text_is : text ≡ lines_text answer
+  pub changed : List ℕ
+  pub difference : IsDifference o.config deck changed
+  pub text_is : text ≡ lines_text answer ++ changed
 
 -- what each status says of a check
 abbrev pub CheckEnds : Opening → Bool → Observed → Observed → RunStatus → Type 0

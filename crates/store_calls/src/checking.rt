@@ -16,12 +16,13 @@ use crate::nowhere::Nowhere;
 use crate::numbers::first_free;
 use crate::status::StoreStatus;
 use acs_tree::Slate;
+use deck_changes::deck_changes;
 use deck_meaning::Config;
 use desk_calls::RunStatus;
 use desk_common::{Items, MAX_INPUT, Shared};
 use dsn_mask::Name;
 use sms_base::{ReadEnd, Sink, Source, read_all, write_all};
-use sms_construct::{Answer, Op, Reply, Request, RequestNumber};
+use sms_construct::{Answer, DeckText, Op, Reply, Request, RequestNumber};
 use sms_core::{Core, Work};
 use sms_keeper::{Rows, Stored};
 use sms_script::answer_lines;
@@ -85,7 +86,7 @@ fn check_source<S: Source, K: Sink>(
     }
 }
 
-// The text of the answer, and whether the deck would be active.
+// The text of the answer and of what the deck changes, and whether it would be active.
 fn check_text(
     alloc: Global,
     rows: Rows,
@@ -95,16 +96,19 @@ fn check_text(
     requires sound { IsSoundOpening (opening_of rows config) }
     ensures { IfOk result (λ found. IsChecked (opening_of rows config) found.1 bytes.items found.0.items) }
 {
-    let request = activation(alloc, &rows, bytes)?;
+    let deck = Shared::new(alloc, Items::from_vec(bytes))?;
+    let changes = deck_changes(alloc, &config, &deck)?;
+    let request = activation(&rows, deck)?;
     let answer = answer_alone(alloc, rows, config, &request)?;
-    let text = lines_text(alloc, &answer)?;
+    let mut text = lines_text(alloc, &answer)?;
+    text.extend_from_slice(&changes)?;
     Ok((text, is_activated(&answer.reply)))
 }
 
-// The administrator's request to activate these bytes, under a number that is free in the rows.
-fn activation(alloc: Global, rows: &Rows, bytes: Vec<u8>) -> Result<Request, AllocError>
+// The administrator's request to activate this deck, under a number that is free in the rows.
+fn activation(rows: &Rows, deck: DeckText) -> Result<Request, AllocError>
     ensures job { IfOk result (λ request. request.job ≡ administrator) }
-    ensures op { IfOk result (λ request. request.op ≡ ops.Activate bytes.items) }
+    ensures op { IfOk result (λ request. request.op ≡ ops.Activate deck) }
     ensures free { IfOk result (λ request. IsFreeFrom administrator rows.now request.number) }
 {
     let Some(job) = Name::new(ADMINISTRATOR) else {
@@ -113,7 +117,6 @@ fn activation(alloc: Global, rows: &Rows, bytes: Vec<u8>) -> Result<Request, All
     let Some(number) = free_number(&job, rows) else {
         return Err(AllocError);
     };
-    let deck = Shared::new(alloc, Items::from_vec(bytes))?;
     Ok(Request {
         job,
         number,

@@ -110,8 +110,28 @@ static PICKED: &[([&str; 3], &str)] = &[
 // A deck, whether it would be active behind both scripts, and what it would be answered.
 #[rattlefmt::skip]
 static DECKS: &[(&str, bool, &str)] = &[
-    ("version = 1\n[storgroup.SG1.volume.VOL001]\ntracks = 100\n", true, "A04 ACTIVATED 2\n"),
-    ("version = 1\n[storgroup.SG1.volume.VOL001]\ntracks = 99\n", false, "R22 VOLUME IN USE VOL001\n"),
+    ("version = 1\n[storgroup.SG1.volume.VOL001]\ntracks = 100\n", true,
+        "A04 ACTIVATED 2\n- DATACLAS DC1 space=(TRK,(5,2)) volcount=3 eattr=NO\n- DATACLAS DC2 eattr=OPT\n\
+        - STORCLAS SC1 multi_tier=NO\n- MGMTCLAS MC1 release=YES\n- MGMTCLAS MC2 expire_after=30 release=NO\n\
+        - ROUTINE STORCLAS\n- ROUTINE MGMTCLAS\n- ROUTINE STORGRP\n"),
+    ("version = 1\n[storgroup.SG1.volume.VOL001]\ntracks = 99\n", false,
+        "R22 VOLUME IN USE VOL001\n- DATACLAS DC1 space=(TRK,(5,2)) volcount=3 eattr=NO\n- DATACLAS DC2 eattr=OPT\n\
+        - STORCLAS SC1 multi_tier=NO\n- MGMTCLAS MC1 release=YES\n- MGMTCLAS MC2 expire_after=30 release=NO\n\
+        - VOLUME VOL001 group=SG1 status=ENABLE tracks=100\n\
+        + VOLUME VOL001 group=SG1 status=ENABLE tracks=99\n\
+        - ROUTINE STORCLAS\n- ROUTINE MGMTCLAS\n- ROUTINE STORGRP\n"),
+    ("version = 2\n[storclass.SC1]\nmulti_tier = \"YES\"\n[mgmtclass.MC1]\nrelease = \"YES\"\n\
+        [mgmtclass.MC2]\nexpire_after = 31\n[dataclass.DC1]\nspace = \"(TRK,(5,2))\"\nvolcount = 3\n\
+        [dataclass.DC2]\neattr = \"OPT\"\n[storgroup.SG1]\nhigh = 90\n[storgroup.SG1.volume.VOL001]\ntracks = 100\n\
+        [storgroup.SG1.volume.VOL002]\ntracks = 7\nstatus = \"QUINEW\"\n[routine]\n\
+        storclass = \"PROC STORCLAS SET &STORCLAS = 'SC1' END\"\n\
+        mgmtclass = \"PROC MGMTCLAS SET &MGMTCLAS = 'MC2' END\"\n", true,
+        "A04 ACTIVATED 2\n- STORCLAS SC1 multi_tier=NO\n+ STORCLAS SC1 multi_tier=YES\n\
+        - MGMTCLAS MC2 expire_after=30 release=NO\n+ MGMTCLAS MC2 expire_after=31 release=NO\n\
+        - STORGRP SG1 status=ENABLE high=85 low=1 overflow=NO breakpoint=10\n\
+        + STORGRP SG1 status=ENABLE high=90 low=1 overflow=NO breakpoint=10\n\
+        + VOLUME VOL002 group=SG1 status=QUINEW tracks=7\n\
+        - ROUTINE MGMTCLAS\n+ ROUTINE MGMTCLAS\n- ROUTINE STORGRP\n"),
     ("version = 1\n[storgroup.SG1.volume.VOL001]\ntracks = 0\n", false,
         "R21 DECK K4 storgroup.SG1.volume.VOL001.tracks\n"),
 ];

@@ -1,0 +1,4 @@
+pub mod DeckLines
+pub mod Differences
+pub mod RoutineChanges
+pub mod DeckChanges
