@@ -7,8 +7,9 @@ ghost use Rattle.desk_records.specs.Tied.{IsSoundOpening};
 ghost use Rattle.desk_restoring.specs.Opened.{opening_of};
 ghost use Rattle.sms_core.specs.Core.{Enters};
 ghost use Rattle.sms_script.specs.AnswerText.{answer_lines, ended};
-ghost use Rattle.store_calls.specs.Checked.{CheckEnds, IsChecked, IsFreeFrom, StoreCheckEnds, administrator};
-ghost use Rattle.store_calls.specs.Checked.{is_activated, lines_text};
+ghost use Rattle.deck_changes.specs.DeckChanges.{IsDifference};
+ghost use Rattle.store_calls.specs.Checked.{CheckEnds, IsChecked, IsFreeFrom, StoreCheckEnds, activation};
+ghost use Rattle.store_calls.specs.Checked.{administrator, is_activated, lines_text};
 ghost use Rattle.store_calls.specs.Statuses.{leaves_sink, leaves_sink_of};
 
 use crate::loading::{FoundRows, load_store};
@@ -96,13 +97,27 @@ fn check_text(
     requires sound { IsSoundOpening (opening_of rows config) }
     ensures { IfOk result (λ found. IsChecked (opening_of rows config) found.1 bytes.items found.0.items) }
 {
-    let deck = Shared::new(alloc, Items::from_vec(bytes))?;
-    let changes = deck_changes(alloc, &config, &deck)?;
-    let request = activation(&rows, deck)?;
+    let (request, changes) = asked(alloc, &rows, &config, bytes)?;
     let answer = answer_alone(alloc, rows, config, &request)?;
-    let mut text = lines_text(alloc, &answer)?;
-    text.extend_from_slice(&changes)?;
+    let text = told_text(alloc, &answer, &changes)?;
     Ok((text, is_activated(&answer.reply)))
+}
+
+// The administrator's request to activate a deck of these bytes, under a number that is free in the rows, and the text
+// of what the deck changes.
+fn asked(
+    alloc: Global,
+    rows: &Rows,
+    config: &Option<Config>,
+    bytes: Vec<u8>,
+) -> Result<(Request, Vec<u8>), AllocError>
+    ensures request { IfOk result (λ found. found.0 ≡ activation found.0.number bytes.items) }
+    ensures free { IfOk result (λ found. IsFreeFrom administrator rows.now found.0.number) }
+    ensures changes { IfOk result (λ found. IsDifference config.now bytes.items found.1.items) }
+{
+    let deck = Shared::new(alloc, Items::from_vec(bytes))?;
+    let changes = deck_changes(alloc, config, &deck)?;
+    Ok((activation(rows, deck)?, changes))
 }
 
 // The administrator's request to activate this deck, under a number that is free in the rows.
@@ -163,13 +178,14 @@ fn is_activated(reply: &Reply) -> bool
     matches!(reply, Reply::Activated { .. })
 }
 
-// The lines of the answer.
-fn lines_text(alloc: Global, answer: &Answer) -> Result<Vec<u8>, AllocError>
-    ensures { IfOk result (λ text. text.items ≡ lines_text answer.now) }
+// The lines of the answer, and the text of what the deck changes behind them.
+fn told_text(alloc: Global, answer: &Answer, changes: &[u8]) -> Result<Vec<u8>, AllocError>
+    ensures { IfOk result (λ text. text.items ≡ lines_text answer.now ++ changes.now) }
 {
     let lines = answer_lines(alloc, answer)?;
     let mut text = Vec::new(alloc);
     push_lines(&mut text, lines.as_slice())?;
+    text.extend_from_slice(changes)?;
     Ok(text)
 }
 

@@ -18,6 +18,7 @@ mod summing;
 mod tables;
 mod texts;
 
+pub use class_parts::{eattr_bytes, unit_bytes};
 pub use extent_row::ExtentRow;
 pub use format::Format;
 pub use listing::Listing;
