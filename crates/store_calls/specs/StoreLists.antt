@@ -5,10 +5,10 @@ use Rattle.desk_common.specs.Causes.{Rose}
 use Rattle.desk_common.specs.Fronts.{IsProperPrefix}
 use Rattle.sms_construct.specs.Configuration.{Configuration}
 use Rattle.sms_construct.specs.declared.data_set.DataSet.{DataSet}
-use Rattle.sms_construct.specs.declared.vol_row.VolRow.{VolRow}
 use Rattle.sms_keeper.specs.declared.keeper.Keeper.{Ghosts}
 use Rattle.sms_keeper.specs.declared.table.Table.{Table}
 use Rattle.desk_law.specs.Display.{shown_volume}
+use Rattle.desk_law.specs.Extents.{extents_of}
 use Rattle.desk_law.specs.State.{DeskState, Opening, start_of}
 use Rattle.desk_law.specs.Volumes.{groups_in, volumes_in}
 use Rattle.desk_calls.specs.declared.status.RunStatus.{RunStatus}
@@ -20,10 +20,12 @@ use Rattle.store_report.specs.Selecting.{extents_on, fits_group, fits_set, fits_
 use Rattle.store_report.specs.Texts.{classes_text, extents_text, groups_text, sets_text, volumes_text}
 use Rattle.store_report.specs.declared.extent_row.ExtentRow.{ExtentRow}
 use Rattle.store_report.specs.declared.format.Format.{Format}
+use Rattle.store_report.specs.declared.listed_volume.ListedVolume.{ListedVolume}
 use Rattle.store_report.specs.declared.listing.Listing.{Listing}
 use Rattle.store_report.specs.declared.listing.Listing.TheVariants as lists
 use Rattle.store_report.specs.declared.query.Query.{Query}
 use Rattle.store_report.specs.declared.selection.Selection.{Selection}
+use Rattle.volume_gaps.specs.ListedVolumes.{listed_volume}
 use Rattle.store_calls.specs.Opened.{IsUnopened, WasOpened}
 use Rattle.store_calls.specs.declared.status.StoreStatus.{StoreStatus}
 use Rattle.store_calls.specs.declared.status.StoreStatus.TheVariants.{Ran, Unopened}
@@ -37,9 +39,11 @@ pub record Seen : Type 0 where
 abbrev pub seen_sink : {K : Type 0} → (K → Option (List ℕ)) → (K → ℕ) → K → Seen
 seen_sink taken faults sink = record { taken = taken sink; faults = faults sink }
 
--- the volumes of a desk that fit
-abbrev pub volume_rows : Selection → DeskState → List VolRow
-volume_rows selection s = filter (fits_volume selection) (map (shown_volume s) (volumes_in s.active))
+-- the volumes of a desk that fit, each with the thresholds of its storage group and its longest gap
+abbrev pub volume_rows : Selection → DeskState → List ListedVolume
+volume_rows selection s =
+    map (listed_volume (groups_in s.active) (extents_of s.sets))
+    (filter (fits_volume selection) (map (shown_volume s) (volumes_in s.active)))
 
 -- its storage groups that fit, each with the sums of its volumes
 abbrev pub group_rows : Selection → DeskState → List GroupRow

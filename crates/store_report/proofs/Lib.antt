@@ -1,2 +1,3 @@
 mod ExtentLemmas
 mod ClassLemmas
+mod VolumeLemmas

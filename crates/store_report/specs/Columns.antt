@@ -30,7 +30,7 @@ abbrev pub groups_widths : List ℕ
 groups_widths = 8 ∷ 7 ∷ 10 ∷ 10 ∷ []
 
 abbrev pub volumes_widths : List ℕ
-volumes_widths = 6 ∷ 8 ∷ 6 ∷ 10 ∷ 10 ∷ 10 ∷ []
+volumes_widths = 6 ∷ 8 ∷ 6 ∷ 10 ∷ 10 ∷ 10 ∷ 4 ∷ 3 ∷ 11 ∷ []
 
 abbrev pub classes_widths : List ℕ
 classes_widths = 8 ∷ 8 ∷ 4 ∷ 8 ∷ 9 ∷ 8 ∷ 5 ∷ 10 ∷ 12 ∷ 7 ∷ []

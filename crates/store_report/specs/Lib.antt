@@ -5,5 +5,7 @@ pub mod ClassTable
 pub mod Columns
 pub mod ExtentsJson
 pub mod ClassesJson
+pub mod VolumeTable
+pub mod VolumesJson
 pub mod Texts
 pub mod Inner

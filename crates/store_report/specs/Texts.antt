@@ -1,21 +1,22 @@
 -- The text of each list in each form (docs/manual/smsd.md, "Lists").
 use Rattle.std.specs.Prelude.{ℕ, List, [], ◌∷◌, ◌++◌, None}
-use Rattle.page_text.specs.PageBodies.{groups_body, sets_body, volumes_body}
+use Rattle.page_text.specs.PageBodies.{groups_body, sets_body}
 use Rattle.page_text.specs.declared.group_row.GroupRow.{GroupRow}
 use Rattle.sms_construct.specs.declared.data_class.DataClass.{DataClass}
 use Rattle.sms_construct.specs.declared.data_set.DataSet.{DataSet}
 use Rattle.sms_construct.specs.declared.management_class.MgmtClass.{MgmtClass}
 use Rattle.sms_construct.specs.declared.storage_class.StorClass.{StorClass}
-use Rattle.sms_construct.specs.declared.vol_row.VolRow.{VolRow}
-use Rattle.sms_report.specs.VolumesTable.{table_text}
 use Rattle.store_report.specs.ClassTable.{classes_table}
 use Rattle.store_report.specs.ClassesJson.{classes_body}
 use Rattle.store_report.specs.Columns.{classes_widths, columns_of, extents_widths, groups_widths, sets_widths}
 use Rattle.store_report.specs.Columns.{volumes_widths}
 use Rattle.store_report.specs.ExtentsJson.{extents_body}
 use Rattle.store_report.specs.Tables.{extents_table, groups_table, sets_table}
+use Rattle.store_report.specs.VolumeTable.{volumes_table}
+use Rattle.store_report.specs.VolumesJson.{volumes_body}
 use Rattle.store_report.specs.declared.extent_row.ExtentRow.{ExtentRow}
 use Rattle.store_report.specs.declared.format.Format.{Format}
+use Rattle.store_report.specs.declared.listed_volume.ListedVolume.{ListedVolume}
 use Rattle.store_report.specs.declared.format.Format.TheVariants.{Csv, Json, Text}
 
 -- a value of JSON as a line
@@ -29,10 +30,10 @@ groups_text Json rows = line_of (groups_body rows)
 groups_text Text rows = columns_of groups_widths (groups_table rows)
 
 -- volumes
-abbrev pub volumes_text : Format → List VolRow → List ℕ
-volumes_text Csv rows = table_text rows
-volumes_text Json rows = line_of (volumes_body rows)
-volumes_text Text rows = columns_of volumes_widths (table_text rows)
+abbrev pub volumes_text : Format → List ListedVolume → List ℕ
+volumes_text Csv volumes = volumes_table volumes
+volumes_text Json volumes = line_of (volumes_body volumes)
+volumes_text Text volumes = columns_of volumes_widths (volumes_table volumes)
 
 -- classes, kind by kind
 abbrev pub classes_text : Format → List DataClass → List StorClass → List MgmtClass → List ℕ

@@ -8,7 +8,7 @@ use std::alloc::{AllocError, Global};
 /// The widths of the columns of each list.
 pub const GROUPS_WIDTHS: [u8; 4] = [8, 7, 10, 10];
 
-pub const VOLUMES_WIDTHS: [u8; 6] = [6, 8, 6, 10, 10, 10];
+pub const VOLUMES_WIDTHS: [u8; 9] = [6, 8, 6, 10, 10, 10, 4, 3, 11];
 
 pub const CLASSES_WIDTHS: [u8; 10] = [8, 8, 4, 8, 9, 8, 5, 10, 12, 7];
 

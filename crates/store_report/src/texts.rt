@@ -10,11 +10,12 @@ use crate::columns::{
 use crate::extent_row::ExtentRow;
 use crate::extents_json::extents_body;
 use crate::format::Format;
+use crate::listed_volume::ListedVolume;
 use crate::tables::{extents_csv, groups_csv, sets_csv};
-use desk_common::Items;
-use page_text::{GroupRow, groups_body, sets_body, volumes_body};
-use sms_construct::{DataClass, DataSet, MgmtClass, StorClass, VolRow};
-use sms_report::volumes_csv;
+use crate::volume_table::volumes_csv;
+use crate::volumes_json::volumes_body;
+use page_text::{GroupRow, groups_body, sets_body};
+use sms_construct::{DataClass, DataSet, MgmtClass, StorClass};
 use std::alloc::{AllocError, Global};
 
 /// The list of these storage groups (docs/manual/smsd.md, "Lists").
@@ -35,17 +36,21 @@ pub fn groups_text(alloc: Global, format: Format, rows: &[GroupRow]) -> Result<V
 }
 
 /// The list of these volumes (docs/manual/smsd.md, "Lists").
-pub fn volumes_text(alloc: Global, format: Format, rows: Vec<VolRow>) -> Result<Vec<u8>, AllocError>
-    ensures { IfOk result (λ text. text.items ≡ volumes_text format rows.items) }
+pub fn volumes_text(
+    alloc: Global,
+    format: Format,
+    volumes: &[ListedVolume],
+) -> Result<Vec<u8>, AllocError>
+    ensures { IfOk result (λ text. text.items ≡ volumes_text format volumes.now) }
 {
     match format {
-        Format::Csv => volumes_csv(alloc, &Items::from_vec(rows)),
+        Format::Csv => volumes_csv(alloc, volumes),
         Format::Json => {
-            let body = volumes_body(alloc, &rows)?;
-            line_of(alloc, body.as_slice())
+            let body = volumes_body(alloc, volumes)?;
+            line_of(alloc, &body)
         }
         Format::Text => {
-            let records = volumes_csv(alloc, &Items::from_vec(rows))?;
+            let records = volumes_csv(alloc, volumes)?;
             columns_text(alloc, &records, &VOLUMES_WIDTHS)
         }
     }

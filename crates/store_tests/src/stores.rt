@@ -62,8 +62,12 @@ static LISTS: &[(Listing, Format, &str, &str)] = &[
     (Listing::Groups, Format::Json,
         "{\"groups\":[{\"group\":\"SG1\",\"volumes\":1,\"capacity\":100,\"free\":82}]}\n", "{\"groups\":[]}\n"),
     (Listing::Volumes, Format::Csv,
-        "volser,group,status,capacity,free,extents\nVOL001,SG1,ENABLE,100,82,3\n",
-        "volser,group,status,capacity,free,extents\n"),
+        "volser,group,status,capacity,free,extents,high,low,longest_gap\nVOL001,SG1,ENABLE,100,82,3,85,1,82\n",
+        "volser,group,status,capacity,free,extents,high,low,longest_gap\n"),
+    (Listing::Volumes, Format::Json,
+        "{\"volumes\":[{\"volser\":\"VOL001\",\"group\":\"SG1\",\"status\":\"ENABLE\",\"capacity\":100,\"free\":82,\
+        \"extents\":3,\"high\":85,\"low\":1,\"longest_gap\":82}]}\n",
+        "{\"volumes\":[]}\n"),
     (Listing::Classes, Format::Csv,
         "kind,name,unit,primary,secondary,volcount,eattr,multi_tier,expire_after,release\n\
         DATACLAS,DC1,TRK,5,2,3,NO,,,\nDATACLAS,DC2,,,,,OPT,,,\nSTORCLAS,SC1,,,,,,NO,,\n\
@@ -157,25 +161,29 @@ JOB1 3 ALLOC A.C SPACE=(TRK,10) DAY=1 RETPD=5
 SMSMGMT 9 USED A.B 4
 ";
 
-// Days one behind the other, what is due then, and what is answered.
+// Days one behind the other, what is due then, what is answered, and the volume behind it.
 #[rattlefmt::skip]
-static DAYS: &[(u32, &str, &str)] = &[
+static DAYS: &[(u32, &str, &str, &str)] = &[
     (3, "DUE A.A DELETE\nDUE A.B RELEASE\nDUE A.C RELEASE\n",
-        "MANAGE 10 A.A A03 DELETED 10\nMANAGE 11 A.B A09 RELEASED 6\nMANAGE 12 A.C A09 RELEASED 9\nMANAGED 1 2\n"),
-    (3, "", "MANAGED 0 0\n"),
+        "MANAGE 10 A.A A03 DELETED 10\nMANAGE 11 A.B A09 RELEASED 6\nMANAGE 12 A.C A09 RELEASED 9\nMANAGED 1 2\n",
+        "\nVOL001,SG1,ENABLE,100,95,2,85,1,79\n"),
+    (3, "", "MANAGED 0 0\n", "\nVOL001,SG1,ENABLE,100,95,2,85,1,79\n"),
     (6, "DUE A.B DELETE\nDUE A.C DELETE\n",
-        "MANAGE 13 A.B A03 DELETED 4\nMANAGE 14 A.C A03 DELETED 1\nMANAGED 2 0\n"),
+        "MANAGE 13 A.B A03 DELETED 4\nMANAGE 14 A.C A03 DELETED 1\nMANAGED 2 0\n",
+        "\nVOL001,SG1,ENABLE,100,100,0,85,1,100\n"),
 ];
 
-// Whether each day is told and then done, each act once.
+// Whether each day is told and then done, each act once, and leaves the volume so.
 fn is_managed(alloc: Global) -> Result<bool, Fail> {
     let (first, _, mut keeper) = run(alloc, DAILY, false, None, MemKeeper::new(alloc))?;
     let mut good = first == DONE;
-    for (day, told, text) in DAYS {
+    for (day, told, text, volume) in DAYS {
         let (status, out, store) = due(alloc, *day, keeper)?;
         good &= status == DONE && out.taken() == told.as_bytes();
         let (status, out, store) = manage(alloc, *day, None, store)?;
         good &= status == DONE && out.taken() == text.as_bytes();
+        let (status, out, store) = list(alloc, &all(Listing::Volumes, Format::Csv), None, store)?;
+        good &= status == DONE && out.taken().ends_with(volume.as_bytes());
         keeper = store;
     }
     Ok(good)

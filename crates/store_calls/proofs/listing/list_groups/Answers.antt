@@ -8,7 +8,7 @@ use Rattle.store_report.specs.Texts.{groups_text}
 use Rattle.store_calls.proofs.listing.list_groups.Goals as goal
 
 pub returns : goal.returns
-returns g c =
+returns c =
     let s = start_of c.args.core.now.opening in
     let rows = c.as_slice.ensures ∙ c.in_ok-rows.ensures.rows s (rw c.requires refl) in
     let groups = c.groups_in.ensures s (rw c.requires refl) in

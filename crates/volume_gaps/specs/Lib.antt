@@ -1,0 +1,3 @@
+pub mod LongestGap
+pub mod ListedVolumes
+pub mod Inner
