@@ -245,6 +245,8 @@ def try_days():
         ended(["manage", day, "--dry-run", "--store", "days.db"], 0, told)
         ended(["manage", day, "--store", "days.db"], 0, text)
     ended(["list", "sets", "--store", "days.db"], 0, "dsn,dataclas,storclas,mgmtclas,group,day,used,extents\n")
+    ended(["list", "volumes", "--store", "days.db"], 0,
+          "volser,group,status,capacity,free,extents,high,low,longest_gap\nVOL001,SG1,ENABLE,100,100,0,85,1,100\n")
 
 
 def try_run_and_day():
