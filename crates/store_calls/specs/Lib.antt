@@ -1,6 +1,7 @@
 pub mod Statuses
 pub mod Opened
 pub mod StoreRun
+pub mod Phased
 pub mod StoreLists
 pub mod Written
 pub mod Checked
