@@ -55,9 +55,9 @@ abbrev pub told_without : Happening → FieldValue → Told
 told_without event value =
     record { event = event; place = None; text = Missing; holds = Missing; value = value }
 
--- a comparison of what begins at two tokens, whether it holds, and what the variable held
-abbrev pub told_compared : Source → ℕ → List ℕ → ℕ → Bool → List ℕ → Told
-told_compared source left text right holds value = record {
+-- a comparison in this text, at the token of its right side, whether it holds, and what the variable held
+abbrev pub told_compared : Source → List ℕ → ℕ → Bool → List ℕ → Told
+told_compared source text right holds value = record {
   event = happenings.Comparison;
   place = Some (spot_at source right).place;
   text = Text text;
@@ -69,7 +69,7 @@ told_compared source left text right holds value = record {
 abbrev pub told_event : Source → Event → Told
 told_event source (events.Ran at) = told_at source at happenings.Statement Missing
 told_event source (events.Compared left op right value holds) =
-    told_compared source left (comparison_text source left op right) right holds value
+    told_compared source (comparison_text source left op right) right holds value
 told_event source (events.Taken at) = told_at source at happenings.When Missing
 told_event source (events.Set target value) = told_at source target happenings.Set (Text value)
 told_event source (events.Wrote line) = told_without happenings.Wrote (Text line)
