@@ -1,11 +1,21 @@
 -- A filter list by its name, statement by statement.
-use Rattle.std.proofs.Common.{◌≡◌, ◌<◌, ◌+◌, ◌||◌, ℕ, suc, Bool, true, false, List, [], ◌∷◌, length, drop, drop-cons}
+use Rattle.std.proofs.Common.{◌≡◌, ◌<◌, ◌+◌, ◌||◌, ℕ, zero, suc, Bool, true, false, List, [], ◌∷◌, length, drop, drop-cons}
 use Rattle.std.proofs.Common.{get_or, refl, sym, ap, ◌∙◌, arith}
 use Rattle.std.specs.Prelude.{Option, Some, None, bytes_eq, cond, find, is_some}
 use Rattle.std.specs.List.{cons_option, list_any}
 use Rattle.acs_tree.specs.declared.routine.Stmt.{Stmt}
 use Rattle.acs_tree.specs.FilterLists.{FilterList, is_list, is_simple_list, list_named, list_of, lists_in}
 use Rattle.acs_check.specs.Inner.Marks.{has_name, is_list_named, is_simple_statement}
+
+any_past : (b c : Bool) → c ≡ true → (b || c) ≡ true
+any_past true c e = refl
+any_past false c e = e
+
+-- one statement that passes is one of all
+pub any_at : (test : Stmt → Bool) (statements : List Stmt) (place : ℕ) (statement : Stmt) → place < length statements → statement ≡ get_or statements place statement → test statement ≡ true → list_any test statements ≡ true
+any_at test [] place statement h e t = absurd (omega (arith, h))
+any_at test (s ∷ statements) zero statement h e t = ap (λ b. b || list_any test statements) (ap test (sym e) ∙ t)
+any_at test (s ∷ statements) (suc place) statement h e t = any_past (test s) (list_any test statements) (any_at test statements place statement (omega (arith, h)) e t)
 
 module _ (name : List ℕ) where
   -- a list in front of others, by whether it has the name

@@ -9,6 +9,7 @@ ghost use Rattle.acs_check.specs.Inner.Walk.{first_fault_of, passed};
 use crate::earlier::Earlier;
 use crate::lists::is_simple_statement;
 use crate::nodes::{Best, head};
+use crate::places::Places;
 use crate::statements::statement;
 use acs_tree::{CheckErr, Checked, Kind, Routine, Stmt};
 
@@ -36,11 +37,13 @@ fn body(kind: Kind, body: &[Stmt], best: Best) -> Best
 {
     let mut marks = [false; MARKS];
     let mut marked = 0;
+    let mut places = Places::new();
     let mut best = best;
     for index in 0..body.len() {
-        let before = Earlier::new(&body[..index], &marks[..marked]);
+        let before = Earlier::new(&body[..index], &marks[..marked], &places);
         best = statement(&body[index], kind, &before, best);
         marked = mark_next(body, &mut marks, marked);
+        places.note(&body[index], index);
     }
     best
 }

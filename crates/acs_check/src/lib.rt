@@ -11,6 +11,7 @@ mod named;
 mod nodes;
 mod numbers;
 mod operands;
+mod places;
 mod references;
 mod statements;
 

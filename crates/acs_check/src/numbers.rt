@@ -15,7 +15,7 @@ pub fn is_between(least: u64, most: u64, word: &[u8]) -> bool
 pub fn is_great_number(word: &[u8]) -> bool
     ensures { result ≡ is_past_greatest (number_of word.now) }
 {
-    is_number(word) && number(word, 0, u64::MAX).is_none()
+    number(word, 0, u64::MAX).is_none() && is_number(word)
 }
 
 /// Whether it is a size that is too great to be counted with, in KB.
@@ -23,5 +23,5 @@ pub fn is_great_number(word: &[u8]) -> bool
 pub fn is_great_size(word: &[u8]) -> bool
     ensures { result ≡ is_past_greatest (size_of word.now) }
 {
-    is_size(word) && size(word).is_none()
+    size(word).is_none() && is_size(word)
 }

@@ -5,7 +5,7 @@ ghost use Rattle.acs_tree.specs.References.{is_group_list, is_misindexed_by, is_
 
 use crate::numbers::is_between;
 use acs_tree::{Ident, Indexing, Kind, Ref, Variable, VariableKind};
-use desk_common::Boxed;
+use desk_common::{Boxed, are_same};
 
 fn is_text_kind(kind: VariableKind) -> bool
     ensures { result ≡ is_text_kind kind }
@@ -79,7 +79,7 @@ pub fn takes_masks(row: Option<Variable>) -> bool
 pub fn is_group_list(reference: &Ref) -> bool
     ensures { result ≡ is_group_list reference.now }
 {
-    reference.name.bytes() == b"STORGRP".as_slice()
+    are_same(reference.name.bytes(), b"STORGRP")
 }
 
 fn is_misindexed_by(indexing: Indexing, index: &Option<Boxed<Ident>>) -> bool

@@ -1,16 +1,19 @@
 -- A text has a cut or a fault, never both, and at most one of each.
-use Rattle.std.proofs.Common.{◌≡◌, ◌<◌, ℕ, zero, suc, List, [], ◌∷◌, ◌++◌, length, refl, sym, ◌∙◌, ap, subst, arith}
+use Rattle.std.proofs.Common.{◌≡◌, ◌<◌, ℕ, zero, suc, true, List, [], ◌∷◌, ◌++◌, length, refl, sym, ◌∙◌, ap, subst, arith}
 use Rattle.std.proofs.Common.{append_assoc, inl, inr, ◌⊎◌}
 use Rattle.std.specs.Prelude.{Some, Result, Ok, Err}
 use Rattle.acs_lex.specs.declared.token.Token.{Token}
 use Rattle.acs_lex.specs.declared.fault.LexErr.{LexErr}
 use Rattle.acs_lex.specs.declared.fault.LexErr.TheVariants.{NoMemory}
-use Rattle.acs_lex.specs.Lexical.{IsGap}
+use Rattle.acs_lex.specs.declared.piece.Piece.{Piece}
+use Rattle.acs_lex.specs.declared.piece.Piece.TheVariants as piece
+use Rattle.acs_lex.specs.Pieces.{IsPiece}
+use Rattle.acs_lex.specs.Lexical.{IsGap, blank, is_blank}
 use Rattle.acs_lex.specs.Tokens.{IsToken, CutsInto, nothing_left, after_gap, after_token, IsCut}
 use Rattle.desk_common.specs.Exact.{MayRefuse, IsExact}
 use Rattle.desk_common.proofs.ExactLemmas.{exact_thing, exact_fault as exact_refusal, exact_want}
 use Rattle.acs_lex.specs.LexFault.{StopsBy, FirstStopsBy, here, behind_gap, behind_token, IsFirstLexFault}
-use Rattle.acs_lex.specs.Inner.Scanning.{Front, Ends, Skips, Takes, Fails, front}
+use Rattle.acs_lex.specs.Inner.Scanning.{Front, Ends, Skips, Takes, Fails, front, front_of}
 use Rattle.acs_lex.proofs.FrontLemmas.{Stands, front_stands}
 use Rattle.acs_lex.proofs.OneFrontLemmas.{stands_front, gap_shorter, token_shorter}
 
@@ -128,6 +131,19 @@ pub record FrontCut (total : ℕ) (text rest : List ℕ) (tokens : List Token) :
 stands_as : (total : ℕ) (text : List ℕ) (x : Front) → x ≡ front total text → Stands total text x
 stands_as total text x e = subst (λ z. Stands total text z) (sym e) (front_stands total text)
 
+-- the value that the code hands on is what stands there
+pub is_piece : (total : ℕ) (text : List ℕ) (found : Piece) → front_of found ≡ front total text → IsPiece total text found
+is_piece total text (piece.Gap rest) e = stands_as total text (Skips rest.now) e
+is_piece total text (piece.Token one rest) e = stands_as total text (Takes one rest.now) e
+is_piece total text (piece.Fault err) e = stands_as total text (Fails err) e
+
+-- a blank at the front is passed
+pub cut_past_blank : {total a : ℕ} {text rest left : List ℕ} {tokens : List Token} → FrontCut total text rest tokens → rest ≡ a ∷ left → is_blank a ≡ true → FrontCut total text left tokens
+cut_past_blank {total} {a} {text} {rest} {left} {tokens} t e h = record {
+  cut = λ others d. t.cut others (after_gap (subst (λ z. IsGap z left) (sym e) (blank h)) d);
+  fault = λ err d. t.fault err (behind_gap (subst (λ z. IsGap z left) (sym e) (blank h)) d);
+}
+
 pub cut_past_gap : {total : ℕ} {text rest left : List ℕ} {tokens : List Token} → FrontCut total text rest tokens → Skips left ≡ front total rest → FrontCut total text left tokens
 cut_past_gap {total} {text} {rest} {left} t e = record {
   cut = λ others d. t.cut others (after_gap (stands_as total rest (Skips left) e) d);
@@ -147,8 +163,8 @@ empty_right : (xs : List Token) → xs ++ [] ≡ xs
 empty_right [] = refl
 empty_right (x ∷ xs) = ap (λ z. x ∷ z) (empty_right xs)
 
-pub cut_at_end : {total : ℕ} {text rest : List ℕ} {tokens : List Token} → FrontCut total text rest tokens → Ends ≡ front total rest → CutsInto total text tokens
-cut_at_end {total} {text} {rest} {tokens} t e = subst (λ z. CutsInto total text z) (empty_right tokens) (t.cut [] (cut_along (stands_as total rest Ends e) nothing_left))
+pub cut_at_end : {total : ℕ} {text rest : List ℕ} {tokens : List Token} → FrontCut total text rest tokens → rest ≡ [] → CutsInto total text tokens
+cut_at_end {total} {text} {rest} {tokens} t e = subst (λ z. CutsInto total text z) (empty_right tokens) (t.cut [] (cut_along e nothing_left))
 
 pub fault_at : {total : ℕ} {text rest : List ℕ} {tokens : List Token} {err : LexErr} → FrontCut total text rest tokens → Fails err ≡ front total rest → FirstStopsBy total text err
 fault_at {total} {text} {rest} {tokens} {err} t e = t.fault err (here (stands_as total rest (Fails err) e))

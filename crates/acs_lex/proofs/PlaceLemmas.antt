@@ -69,18 +69,18 @@ form_alone {rest = rest} (single {a = a} e) = subst (λ z. IsForm Sign z []) (si
 
 -- what is behind is an end of the text
 
-abbrev any_byte : ℕ → Bool
+abbrev pub any_byte : ℕ → Bool
 any_byte b = true
 
 runs_any : {test : ℕ → Bool} {bytes rest : List ℕ} → Runs test bytes rest → Runs any_byte bytes rest
 runs_any stop = stop
 runs_any (on e d) = on refl (runs_any d)
 
-runs_join : {test : ℕ → Bool} {bytes at rest : List ℕ} → Runs test bytes at → Runs test at rest → Runs test bytes rest
+pub runs_join : {test : ℕ → Bool} {bytes at rest : List ℕ} → Runs test bytes at → Runs test at rest → Runs test bytes rest
 runs_join stop d = d
 runs_join (on e c) d = on e (runs_join c d)
 
-form_runs : {form : TokenForm} {text rest : List ℕ} → IsForm form text rest → Runs any_byte text rest
+pub form_runs : {form : TokenForm} {text rest : List ℕ} → IsForm form text rest → Runs any_byte text rest
 form_runs (word e d) = on refl (runs_any d)
 form_runs (variable e n d) = on refl (on refl (runs_any d))
 form_runs (literal e d k) = on refl (runs_join (runs_any d) (on refl stop))
@@ -91,7 +91,7 @@ tail_runs : {text rest : List ℕ} → IsCommentTail text rest → Runs any_byte
 tail_runs (over e) = on refl (on refl stop)
 tail_runs (inside e d) = on refl (tail_runs d)
 
-gap_runs : {text rest : List ℕ} → IsGap text rest → Runs any_byte text rest
+pub gap_runs : {text rest : List ℕ} → IsGap text rest → Runs any_byte text rest
 gap_runs (blank e) = on refl stop
 gap_runs (comment o d) = on refl (on refl (tail_runs d))
 
@@ -116,7 +116,7 @@ text_of whole text rest form d h = ap (λ n. take n (drop (length whole - length
 length_taken : (text rest : List ℕ) → length rest ≤ length text → length (take (length text - length rest) text) ≡ length text - length rest
 length_taken text rest h = grind (arith, common_steps)
 
-is_token_of : (whole text rest : List ℕ) (form : TokenForm) → Runs any_byte whole text → IsLongest form text rest → counted_bytes form (size_of text rest) ≤ most_bytes form → IsTokenOf whole (token_at (length whole) form text rest)
+pub is_token_of : (whole text rest : List ℕ) (form : TokenForm) → Runs any_byte whole text → IsLongest form text rest → counted_bytes form (size_of text rest) ≤ most_bytes form → IsTokenOf whole (token_at (length whole) form text rest)
 is_token_of whole text rest form d l h =
     let shorter : length rest < length text = form_shorter l.is in
     let inside : length text ≤ length whole = runs_shorter d in

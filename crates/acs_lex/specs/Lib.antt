@@ -2,3 +2,4 @@ pub mod Lexical
 pub mod Tokens
 pub mod LexFault
 pub mod Inner
+pub mod Pieces

@@ -1,5 +1,6 @@
-// What each byte is good for (docs/manual/acs-language.md, Bytes and Tokens).
+//! What each byte is good for (docs/manual/acs-language.md, Bytes and Tokens).
 ghost use Rattle.std.specs.Prelude.{◌≡◌};
+ghost use Rattle.std.specs.Char.{is_ascii_alphanumeric};
 ghost use Rattle.acs_lex.specs.Lexical.{is_blank, is_line_end, is_name_byte, is_word_byte, is_quotable, is_single_sign};
 ghost use Rattle.acs_lex.specs.Lexical.{is_double_sign};
 
@@ -9,22 +10,30 @@ pub fn is_line_end(byte: u8) -> bool
     matches!(byte, b'\n' | b'\r')
 }
 
+/// Whether it is a space, a tab or an end of a line.
 pub fn is_blank(byte: u8) -> bool
     ensures { result ≡ is_blank byte }
 {
     matches!(byte, b' ' | b'\t' | b'\n' | b'\r')
 }
 
+// Most are letters, so these are told first.
+fn is_letter_or_digit(byte: u8) -> bool
+    ensures { result ≡ is_ascii_alphanumeric byte }
+{
+    byte.is_ascii_alphabetic() || byte.is_ascii_digit()
+}
+
 pub fn is_name_byte(byte: u8) -> bool
     ensures { result ≡ is_name_byte byte }
 {
-    byte.is_ascii_alphanumeric() || byte == b'_'
+    is_letter_or_digit(byte) || byte == b'_'
 }
 
 pub fn is_word_byte(byte: u8) -> bool
     ensures { result ≡ is_word_byte byte }
 {
-    byte.is_ascii_alphanumeric()
+    is_letter_or_digit(byte)
         || matches!(byte, b'#' | b'@' | b'$' | b'-' | b'.' | b'_' | b'%' | b'*')
 }
 

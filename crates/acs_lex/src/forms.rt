@@ -1,30 +1,28 @@
 // The piece at the front of what is left of a text: a function for each kind of token, for
 // comments and for blanks. Each is passed the size of the whole text, from which places follow.
-ghost use Rattle.std.specs.Prelude.{◌≡◌, ◌≤◌, ◌-◌, length, MatchOption, None, Some};
-ghost use Rattle.acs_lex.specs.Lexical.{is_name_byte, is_word_byte, is_quotable, counted_bytes, most_bytes};
+ghost use Rattle.std.specs.Prelude.{◌≡◌, ◌≤◌, ◌-◌, ◌∷◌, false, length, MatchOption, None, Some};
+ghost use Rattle.acs_lex.specs.Lexical.{is_blank, is_name_byte, is_word_byte, is_quotable, counted_bytes};
+ghost use Rattle.acs_lex.specs.Lexical.{most_bytes};
 ghost use Rattle.acs_lex.specs.Inner.Scanning.{after, after_comment, token_front, bad_front, comment_front};
 ghost use Rattle.acs_lex.specs.Inner.Scanning.{slash_front, literal_front, single_front, sign_front, ampersand_front};
 ghost use Rattle.acs_lex.specs.Inner.Scanning.{front, front_of};
 
 use crate::bytes::{
-    is_blank, is_double_sign, is_line_end, is_name_byte, is_quotable, is_single_sign, is_word_byte,
+    is_double_sign, is_line_end, is_name_byte, is_quotable, is_single_sign, is_word_byte,
 };
 use crate::fault::LexErr;
 use crate::piece::Piece;
 use crate::token::{MAX_SIGN, Token, TokenForm};
 use desk_common::{MAX_LITERAL, MAX_WORD};
 
-pub fn front(total: u32, text: &[u8]) -> Piece<'_>
-    requires { length text.now ≤ total }
-    ensures { front_of result ≡ front total text.now }
+/// The piece at the front of a text that begins with a byte that is no blank, and has others behind it.
+pub fn front<'a>(total: u32, text: &'a [u8], first: u8, behind: &'a [u8]) -> Piece<'a>
+    requires fits { length text.now ≤ total }
+    requires parts { text.now ≡ first ∷ behind.now }
+    requires inked { is_blank first ≡ false }
+    ensures { front_of result ≡ front total text.entry.now }
 {
-    let Some((first, behind)) = text.split_first() else {
-        return Piece::End;
-    };
-    let first = *first;
-    if is_blank(first) {
-        Piece::Gap(behind)
-    } else if is_word_byte(first) {
+    if is_word_byte(first) {
         token(total, TokenForm::Word, text, after_word(behind))
     } else if first == b'\'' {
         literal(total, text, after_quotable(behind))

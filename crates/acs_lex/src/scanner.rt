@@ -4,6 +4,7 @@ ghost use Rattle.acs_lex.specs.Tokens.{IsCut, InOrder, IsTokenOf};
 ghost use Rattle.desk_common.specs.Exact.{MayRefuse, IsExact};
 ghost use Rattle.acs_lex.specs.LexFault.{IsFirstLexFault};
 
+use crate::bytes::is_blank;
 use crate::fault::LexErr;
 use crate::forms::front;
 use crate::piece::Piece;
@@ -40,9 +41,12 @@ pub fn scan(alloc: Global, text: &[u8]) -> Result<Tokens, LexErr>
     let total = text.len() as u32;
     let mut tokens = room_for(alloc, text)?;
     let mut rest = text;
-    'pieces: loop {
-        match front(total, rest) {
-            Piece::End => return Ok(tokens),
+    'pieces: while let Some((first, behind)) = rest.split_first() {
+        if is_blank(*first) {
+            rest = behind;
+            continue;
+        }
+        match front(total, rest, *first, behind) {
             Piece::Gap(behind) => rest = behind,
             Piece::Token(token, behind) => {
                 tokens.push(token).map_err(|_| LexErr::NoMemory)?;
@@ -51,4 +55,5 @@ pub fn scan(alloc: Global, text: &[u8]) -> Result<Tokens, LexErr>
             Piece::Fault(err) => return Err(err),
         }
     }
+    Ok(tokens)
 }

@@ -222,18 +222,17 @@ filter_word _ e = let no : ⊥ = cc in absurd no
 pub takes_filter : {ts rest : List Symbol} → Takes want.FiltList ts rest → (text : List ℕ) × (ts ≡ Word word.FiltList text ∷ rest)
 takes_filter {rest = rest} q = let w = filter_word q.0 q.1 in (w.0, q.2 ∙ ap (λ x. x ∷ rest) w.1)
 
-pub filter_at : {total at name_at : ℕ} {name kept : List ℕ} {ts a b rest : List Symbol} {os xs : List Operand} {s : Stmt} → Takes want.FiltList ts a → ((t : Symbol) × IsListName t name × (a ≡ t ∷ b))
+pub filter_at : {total at name_at : ℕ} {name : List ℕ} {ts a b rest : List Symbol} {os xs : List Operand} → Takes want.FiltList ts a → ((t : Symbol) × IsListName t name × (a ≡ t ∷ b))
     → name_at ≡ place_in total a → at ≡ place_in total ts → IsLists total b os xs rest
-    → kept ≡ name → s ≡ record { at = at; form = form.Filt kept name_at os xs } → IsFilter total ts s rest
-filter_at {total} {at} {name_at} {name} {kept} {ts} {a} {b} {rest} {os} {xs} {s} p q f g d y z =
+    → IsFilter total ts (record { at = at; form = form.Filt name name_at os xs }) rest
+filter_at {total} {at} {name_at} {name} {ts} {a} {b} {rest} {os} {xs} p q f g d =
     let w = takes_filter p in
     let e : ts ≡ Word word.FiltList w.0 ∷ q.0 ∷ b = w.1 ∙ ap (λ x. Word word.FiltList w.0 ∷ x) q.2 in
     let c : IsFilter total ts (placed total ts (form.Filt name (place_in total (q.0 ∷ b)) os xs)) rest =
     subst (λ x. IsFilter total x (placed total x (form.Filt name (place_in total (q.0 ∷ b)) os xs)) rest) (sym e) (filter q.1 d) in
     let i : IsFilter total ts (placed total ts (form.Filt name name_at os xs)) rest =
     subst (λ x. IsFilter total ts (placed total ts (form.Filt name x os xs)) rest) (sym (f ∙ ap (λ x. place_in total x) q.2)) c in
-    let j : IsFilter total ts (record { at = at; form = form.Filt name name_at os xs }) rest = subst (λ x. IsFilter total ts (record { at = x; form = form.Filt name name_at os xs }) rest) (sym g) i in
-    subst (λ x. IsFilter total ts x rest) (sym z) (subst (λ x. IsFilter total ts (record { at = at; form = form.Filt x name_at os xs }) rest) (sym y) j)
+    subst (λ x. IsFilter total ts (record { at = x; form = form.Filt name name_at os xs }) rest) (sym g) i
 
 goes_filter : (n : ℕ) {ts a : List Symbol} → Takes want.FiltList ts a → Goes (AnItem true ∷ []) n ts (One want.Name Keep ∷ Lists ∷ []) n a
 goes_filter n p k = ap (λ x. verdict limited (AnItem true ∷ k) n x) (takes_filter p).1
@@ -254,16 +253,15 @@ code_none e = no_code e
 pub takes_code : {ts rest : List Symbol} → Takes want.Code ts rest → (text : List ℕ) × (ts ≡ Word word.Code text ∷ rest)
 takes_code {rest = rest} q = let w = is_code q.0 q.1 in (w.0, q.2 ∙ ap (λ x. x ∷ rest) w.1)
 
-pub code_some : {total at : ℕ} {text : List ℕ} {ts a b d rest : List Symbol} {o : Operand} → Takes want.Code ts a → Takes want.Open a b → at ≡ place_in total b
-    → ((kind : WordKind) × (b ≡ Word kind text ∷ d)) → Takes want.Close d rest → o ≡ record { at = at; form = operand.Word text } → IsCode total ts (Some o) rest
-code_some {total} {at} {text} {ts} {a} {b} {d} {rest} {o} p q f r s y =
+pub code_some : {total at : ℕ} {text : List ℕ} {ts a b d rest : List Symbol} → Takes want.Code ts a → Takes want.Open a b → at ≡ place_in total b
+    → ((kind : WordKind) × (b ≡ Word kind text ∷ d)) → Takes want.Close d rest → IsCode total ts (Some (record { at = at; form = operand.Word text })) rest
+code_some {total} {at} {text} {ts} {a} {b} {d} {rest} p q f r s =
     let w = takes_code p in
     let g : b ≡ Word r.0 text ∷ Close ∷ rest = r.1 ∙ ap (λ x. Word r.0 text ∷ x) (takes_close s) in
     let e : ts ≡ Word word.Code w.0 ∷ Open ∷ Word r.0 text ∷ Close ∷ rest = w.1 ∙ ap (λ x. Word word.Code w.0 ∷ x) (takes_open q ∙ ap (λ x. Open ∷ x) g) in
     let c : IsCode total ts (Some (operand_at total (Word r.0 text ∷ Close ∷ rest) (operand.Word text))) rest =
     subst (λ x. IsCode total x (Some (operand_at total (Word r.0 text ∷ Close ∷ rest) (operand.Word text))) rest) (sym e) code in
-    let i : IsCode total ts (Some (record { at = at; form = operand.Word text })) rest = subst (λ x. IsCode total ts (Some (record { at = x; form = operand.Word text })) rest) (sym (f ∙ ap (λ x. place_in total x) g)) c in
-    subst (λ x. IsCode total ts (Some x) rest) (sym y) i
+    subst (λ x. IsCode total ts (Some (record { at = x; form = operand.Word text })) rest) (sym (f ∙ ap (λ x. place_in total x) g)) c
 
 goes_code : (n : ℕ) {ts a : List Symbol} → Takes want.Code ts a → Goes (OrCode ∷ []) n ts (One want.Open Keep ∷ One want.Word Keep ∷ One want.Close Keep ∷ []) n a
 goes_code n p k = ap (λ x. verdict limited (OrCode ∷ k) n x) (takes_code p).1

@@ -170,6 +170,6 @@ exact_fault e ts {total} q h = exact_err ts (told total e) (right_fault e ts q h
 
 pub ruleset parse_steps = (tokens_in_text, tokens_in_order, as_many, exact_memory, refuses_want)
 
-pub ruleset parse_symbols_steps = (right_tree, exact_tree, right_fault, exact_fault)
+pub ruleset parse_rest_steps = (right_tree, exact_tree, right_fault, exact_fault)
 
 pub ruleset routine_steps = (number_at, whole_at, whole_proc_fails, whole_head_fails, whole_body_fails, whole_rest_fails)

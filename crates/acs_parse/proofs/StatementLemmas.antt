@@ -1,7 +1,7 @@
 -- What the readers of statements and blocks give, and where they fail.
 use Rattle.std.proofs.Common.{◌≡◌, ◌≤◌, ℕ, suc, Bool, true, false, cond, List, [], ◌∷◌, ◌++◌, length, refl, ap, sym}
 use Rattle.std.proofs.Common.{◌∙◌, subst, arith, append_assoc}
-use Rattle.std.specs.Prelude.{Option, Some, None}
+use Rattle.std.specs.Prelude.{Option, Some, None, Result, Ok, Err}
 use Rattle.acs_tree.specs.declared.routine.Ref.{Ref}
 use Rattle.acs_tree.specs.declared.routine.Operand.{Operand}
 use Rattle.acs_tree.specs.declared.routine.Cond.{Cond}
@@ -24,7 +24,8 @@ use Rattle.acs_parse.specs.Inner.Table.{Effect, Keep, Lower, To, Part, One, ABlo
 use Rattle.acs_parse.specs.Inner.Table.{AChoice, ACondition, AnOperand, MoreOperands, ARef, OrCode, Back, Read, Full}
 use Rattle.acs_parse.specs.Inner.Table.{Pass, gate, rule, TooMany, verdict}
 use Rattle.acs_parse.specs.Inner.Language.{Takes}
-use Rattle.acs_parse.specs.Inner.Reads.{FailsAt, IsBehind, IsInside, IsCondBefore, AreArms}
+use Rattle.acs_parse.specs.Inner.Reads.{FailsAt, Reads, IsPlain, IsPlainMore, IsBehind, IsBehindAt, IsInside}
+use Rattle.acs_parse.specs.Inner.Reads.{IsCondBefore, AreArms, IsItemMore}
 use Rattle.acs_parse.proofs.RunLemmas.{moved, taken, opened, runs_ref, runs_cond, runs_stmt, runs_item, block_as_item}
 use Rattle.acs_parse.proofs.RunLemmas.{item_as_statement}
 use Rattle.acs_parse.proofs.SoundLemmas.{is_then, is_end}
@@ -96,9 +97,9 @@ select_deep e n {w} q o = stmt_deep e n (Word word.Select w) (AChoice ∷ OrAlte
 pub do_deep : (e : Fault) (n : ℕ) {w : List ℕ} {ts a : List Symbol} → ts ≡ Word word.Do w ∷ a → (limited n ≡ false) × (e ≡ Deep (length ts)) → FailsAt e (AStatement ∷ []) n ts
 do_deep e n {w} q o = stmt_deep e n (Word word.Do w) (ABlock false ∷ Back ∷ []) refl q o
 
-pub set_at : {total : ℕ} {ts a b rest : List Symbol} {r : Ref} {os : List Operand} → IsRef total ts r a → Takes want.Equal a b → IsOperands total list.Values b os rest
-    → (n : ℕ) → IsBehind total word.Set n ts (form.Put r os) rest
-set_at {total} {ts} {a} {b} {rest} {r} {os} d q ds n w = set (subst (λ x. IsRef total ts r x) q.2 d) q.1 ds
+pub set_at : {total : ℕ} (at : ℕ) {ts a b rest : List Symbol} {r : Ref} {os : List Operand} → IsRef total ts r a → Takes want.Equal a b → IsOperands total list.Values b os rest
+    → IsBehindAt total word.Set at ts (record { at = at; form = form.Put r os }) rest
+set_at {total} at {ts} {a} {b} {rest} {r} {os} d q ds = (form.Put r os, refl, λ n w. set (subst (λ x. IsRef total ts r x) q.2 d) q.1 ds)
 
 pub set_ref_fails : (e : Fault) (ts : List Symbol) → ((m : ℕ) → FailsAt e (ARef ∷ []) m ts) → (n : ℕ) → FailsAt e (ARef ∷ One want.Equal Keep ∷ AnOperand list.Values ∷ MoreOperands list.Values ∷ []) n ts
 set_ref_fails e ts h n k = h n (One want.Equal Keep ∷ AnOperand list.Values ∷ MoreOperands list.Values ∷ k)
@@ -112,11 +113,11 @@ pub set_values_fail : (e : Fault) {total : ℕ} {ts a b : List Symbol} {r : Ref}
 set_values_fail e d q h n k =
     along e (runs_ref limited n d (One want.Equal Keep ∷ AnOperand list.Values ∷ MoreOperands list.Values ∷ k) ∙ goes_one want.Equal Keep n (AnOperand list.Values ∷ MoreOperands list.Values ∷ []) q k) (h n k)
 
-pub write_at : {total : ℕ} {ts rest : List Symbol} {os : List Operand} → IsOperands total list.Parts ts os rest → (n : ℕ) → IsBehind total word.Write n ts (form.Write os) rest
-write_at d n w = write d
+pub write_at : {total : ℕ} (at : ℕ) {ts rest : List Symbol} {os : List Operand} → IsOperands total list.Parts ts os rest → IsBehindAt total word.Write at ts (record { at = at; form = form.Write os }) rest
+write_at at {os = os} d = (form.Write os, refl, λ n w. write d)
 
-pub exit_at : {total : ℕ} {ts rest : List Symbol} {o : Option Operand} → IsCode total ts o rest → (n : ℕ) → IsBehind total word.Exit n ts (form.Exit o) rest
-exit_at d n w = exit d
+pub exit_at : {total : ℕ} (at : ℕ) {ts rest : List Symbol} {o : Option Operand} → IsCode total ts o rest → IsBehindAt total word.Exit at ts (record { at = at; form = form.Exit o }) rest
+exit_at at {o = o} d = (form.Exit o, refl, λ n w. exit d)
 
 pub if_at : {total i : ℕ} {ts b rest : List Symbol} {c : Cond} {s : Stmt} {o : Option Stmt} → IsCondBefore total want.Then i ts c b → AreArms total i b s o rest
     → IsInside total word.If i ts (form.If c s o) rest
@@ -220,10 +221,51 @@ inner_item n (t ∷ ts) k = refl
 pub inner_fails : (e : Fault) (n : ℕ) (ts : List Symbol) → FailsAt e (AStatement ∷ []) n ts → FailsAt e (AnItem false ∷ []) n ts
 inner_fails e n ts h k = along e (inner_item n ts k) (h k)
 
+-- one more statement of a block
+
+pub more_of_statement : {total n : ℕ} (whole : Bool) {ts rest : List Symbol} (list longer : List Stmt) {s : Stmt} → IsStmt total limited n ts s rest → longer ≡ list ++ s ∷ [] → IsItemMore total whole n ts list longer rest
+more_of_statement whole list longer {s = s} d g = (s, item_statement d, g)
+
+pub more_of_plain : (total n : ℕ) (whole : Bool) (ts rest : List Symbol) (list longer : List Stmt) → IsPlainMore total ts list longer rest → IsItemMore total whole n ts list longer rest
+more_of_plain total n whole ts rest list longer (s, d, g) = (s, item_statement (d n), g)
+
+pub more_of_filter : {total : ℕ} (n : ℕ) {ts rest : List Symbol} (list longer : List Stmt) {s : Stmt} → starts want.FiltList ts ≡ true → IsFilter total ts s rest → longer ≡ list ++ s ∷ [] → IsItemMore total true n ts list longer rest
+more_of_filter n list longer {s = s} e d g = (s, item_is_filter n e d, g)
+
+pub inner_plain_fails : (e : Fault) (n : ℕ) (ts : List Symbol) → ((m : ℕ) → FailsAt e (AStatement ∷ []) m ts) → FailsAt e (AnItem false ∷ []) n ts
+inner_plain_fails e n ts h = inner_fails e n ts (h n)
+
+pub item_plain_fails : (e : Fault) (n : ℕ) (ts : List Symbol) → starts want.FiltList ts ≡ false → ((m : ℕ) → FailsAt e (AStatement ∷ []) m ts) → FailsAt e (AnItem true ∷ []) n ts
+item_plain_fails e n ts g h = item_fails e n ts g (h n)
+
+-- statements with no others inside them
+
+pub plain_more : {total : ℕ} {ts rest : List Symbol} (list longer : List Stmt) {s : Stmt} → IsPlain total ts s rest → longer ≡ list ++ s ∷ [] → IsPlainMore total ts list longer rest
+plain_more list longer {s} d g = (s, d, g)
+
+pub set_read : (total : ℕ) {at : ℕ} {w : List ℕ} {ts a : List Symbol} (rest : List Symbol) (result : Result Stmt Fault) → ts ≡ Word word.Set w ∷ a → at ≡ place_in total ts
+    → Reads (λ s. IsBehindAt total word.Set at a s rest) (ARef ∷ One want.Equal Keep ∷ AnOperand list.Values ∷ MoreOperands list.Values ∷ []) a result → Reads (λ s. IsPlain total ts s rest) (AStatement ∷ []) ts result
+set_read total rest (Ok s) q g (f, h, d) = λ n. stmt_behind n q g d h
+set_read total rest (Err e) q g h = λ n. set_fails e n q h
+
+pub write_read : (total : ℕ) {at : ℕ} {w : List ℕ} {ts a : List Symbol} (rest : List Symbol) (result : Result Stmt Fault) → ts ≡ Word word.Write w ∷ a → at ≡ place_in total ts
+    → Reads (λ s. IsBehindAt total word.Write at a s rest) (AnOperand list.Parts ∷ MoreOperands list.Parts ∷ []) a result → Reads (λ s. IsPlain total ts s rest) (AStatement ∷ []) ts result
+write_read total rest (Ok s) q g (f, h, d) = λ n. stmt_behind n q g d h
+write_read total rest (Err e) q g h = λ n. write_fails e n q h
+
+pub exit_read : (total : ℕ) {at : ℕ} {w : List ℕ} {ts a : List Symbol} (rest : List Symbol) (result : Result Stmt Fault) → ts ≡ Word word.Exit w ∷ a → at ≡ place_in total ts
+    → Reads (λ s. IsBehindAt total word.Exit at a s rest) (OrCode ∷ []) a result → Reads (λ s. IsPlain total ts s rest) (AStatement ∷ []) ts result
+exit_read total rest (Ok s) q g (f, h, d) = λ n. stmt_behind n q g d h
+exit_read total rest (Err e) q g h = λ n. exit_fails e n q h
+
 -- what each reader needs of these
 
-pub ruleset statement_steps = (stmt_behind, stmt_inside, set_fails, write_fails, exit_fails, if_fails, select_fails, do_fails, if_deep, select_deep, do_deep)
+pub ruleset plain_steps = (set_read, write_read, exit_read)
+
+pub ruleset inner_item_steps = (more_of_statement, more_of_plain, inner_fails, inner_plain_fails)
+
+pub ruleset statement_steps = (stmt_inside, if_fails, select_fails, do_fails, if_deep, select_deep, do_deep)
 
 pub ruleset assignment_steps = (set_at, set_ref_fails, set_equal_fails, set_values_fail)
 
-pub ruleset item_steps = (item_is_filter, item_filter_fails, item_is_statement, item_fails)
+pub ruleset item_steps = (more_of_filter, more_of_statement, more_of_plain, item_filter_fails, item_fails, item_plain_fails)

@@ -5,10 +5,7 @@ ghost use Rattle.std.specs.Prelude.{◌≡◌, ◌∷◌, ◌++◌, [], IfOk};
 ghost use Rattle.acs_parse.specs.Inner.Parts.{form_of_parts, test_of_parts, when_of_parts};
 
 use crate::parts::{FormParts, TestParts, WhenParts};
-use acs_tree::{
-    Block, Cond, Form, Ident, Operand, Operands, Ref, Stmt, When, WhenTest, Whens, with_stmt,
-    with_when,
-};
+use acs_tree::{Block, Cond, Form, Ref, Stmt, When, WhenTest, Whens, with_stmt, with_when};
 use desk_common::Boxed;
 use std::alloc::{AllocError, Global};
 
@@ -18,13 +15,6 @@ pub fn stmt_of(alloc: Global, at: u32, parts: FormParts) -> Result<Boxed<Stmt>, 
     ensures { IfOk result (λ stmt. stmt ≡ record { at = at; form = form_of_parts parts }) }
 {
     match parts {
-        FormParts::Filt {
-            name,
-            name_at,
-            include,
-            exclude,
-        } => filter_of(alloc, at, name, name_at, include, exclude),
-        FormParts::Put { target, values } => assignment_of(alloc, at, target, values),
         FormParts::If {
             cond,
             yes,
@@ -36,46 +26,10 @@ pub fn stmt_of(alloc: Global, at: u32, parts: FormParts) -> Result<Boxed<Stmt>, 
             otherwise,
         } => selection_of(alloc, at, subject, whens, otherwise),
         FormParts::Do(body) => boxed(alloc, at, Form::Do(body)),
-        FormParts::Write(parts) => boxed(alloc, at, Form::Write(parts)),
-        FormParts::Exit { code } => ending_of(alloc, at, code),
     }
 }
 
 // Each form is made in a function of its own, which holds no other.
-
-#[inline(never)]
-fn filter_of(
-    alloc: Global,
-    at: u32,
-    name: Boxed<Ident>,
-    name_at: u32,
-    include: Operands,
-    exclude: Operands,
-) -> Result<Boxed<Stmt>, AllocError>
-    ensures { IfOk result (λ stmt. stmt ≡ record { at = at; form = Form.Filt name name_at include exclude }) }
-{
-    let name = name.into_inner();
-    let form = Form::Filt {
-        name,
-        name_at,
-        include,
-        exclude,
-    };
-    boxed(alloc, at, form)
-}
-
-#[inline(never)]
-fn assignment_of(
-    alloc: Global,
-    at: u32,
-    target: Boxed<Ref>,
-    values: Operands,
-) -> Result<Boxed<Stmt>, AllocError>
-    ensures { IfOk result (λ stmt. stmt ≡ record { at = at; form = Form.Put target values }) }
-{
-    let target = target.into_inner();
-    boxed(alloc, at, Form::Put { target, values })
-}
 
 #[inline(never)]
 fn conditional_of(
@@ -112,18 +66,6 @@ fn selection_of(
         otherwise,
     };
     boxed(alloc, at, form)
-}
-
-#[inline(never)]
-fn ending_of(
-    alloc: Global,
-    at: u32,
-    code: Option<Boxed<Operand>>,
-) -> Result<Boxed<Stmt>, AllocError>
-    ensures { IfOk result (λ stmt. stmt ≡ record { at = at; form = Form.Exit code }) }
-{
-    let code = unboxed(code);
-    boxed(alloc, at, Form::Exit { code })
 }
 
 fn boxed(alloc: Global, at: u32, form: Form) -> Result<Boxed<Stmt>, AllocError>

@@ -8,14 +8,12 @@ ghost use Rattle.acs_parse.specs.Inner.Table.{AnOperand, MoreOperands, ARef, OrI
 ghost use Rattle.acs_parse.specs.Inner.Table.{entries};
 ghost use Rattle.acs_parse.specs.Inner.Reads.{Reads, IsEntries};
 
-use crate::building::stmt_of;
 use crate::fault::Fault;
 use crate::list_kind::ListKind;
-use crate::parts::FormParts;
 use crate::tokens::{expect, further, list_name, number, place, skip, word};
 use crate::want::Want;
 use acs_symbol::{Rest, Symbol, WordKind};
-use acs_tree::{Ident, Operand, OperandForm, Operands, Ref, Stmt, with_operand};
+use acs_tree::{Form, Ident, Operand, OperandForm, Operands, Ref, Stmt, with_operand};
 use desk_common::Boxed;
 use std::alloc::{AllocError, Global};
 
@@ -179,31 +177,27 @@ fn lists(alloc: Global, total: u32, rest: &mut Rest<'_>) -> Result<(Operands, Op
 /// A filter list, where its word stands.
 #[tactic(auto, using(crate::proofs::OperandLemmas::filter_list_steps))]
 #[inline(never)]
-pub fn filter_list(alloc: Global, total: u32, rest: &mut Rest<'_>) -> Result<Boxed<Stmt>, Fault>
+pub fn filter_list(alloc: Global, total: u32, rest: &mut Rest<'_>) -> Result<Stmt, Fault>
     requires { starts want.FiltList rest.old ≡ true }
     ensures { Reads (λ found. IsFilter total rest.old found rest.new) (AnItem true ∷ []) rest.old result }
 {
     let at = place(total, rest);
     expect(Want::FiltList, rest)?;
     let name_at = place(total, rest);
-    let name = Boxed::new(alloc, list_name(rest)?)?;
+    let name = list_name(rest)?;
     let (include, exclude) = lists(alloc, total, rest)?;
-    let parts = FormParts::Filt {
+    let form = Form::Filt {
         name,
         name_at,
         include,
         exclude,
     };
-    Ok(stmt_of(alloc, at, parts)?)
+    Ok(Stmt { at, form })
 }
 
 /// The code of an EXIT, if it has one.
 #[tactic(auto, using(crate::proofs::OperandLemmas::exit_code_steps))]
-pub fn exit_code(
-    alloc: Global,
-    total: u32,
-    rest: &mut Rest<'_>,
-) -> Result<Option<Boxed<Operand>>, Fault>
+pub fn exit_code(total: u32, rest: &mut Rest<'_>) -> Result<Option<Operand>, Fault>
     ensures { Reads (λ found. IsCode total rest.old found rest.new) (OrCode ∷ []) rest.old result }
 {
     if !skip(Want::Code, rest) {
@@ -216,6 +210,5 @@ pub fn exit_code(
     let text = word(rest)?;
     expect(Want::Close, rest)?;
     let form = OperandForm::Word(text);
-    let code = Boxed::new(alloc, Operand { at, form })?;
-    Ok(Some(code))
+    Ok(Some(Operand { at, form }))
 }

@@ -1,5 +1,5 @@
 // The parser.
-ghost use Rattle.std.specs.Prelude.{◌≡◌, ℕ, length, Some, IfOk, IfErr};
+ghost use Rattle.std.specs.Prelude.{◌≡◌, ◌<◌, ◌^◌, ℕ, length, Some, IfOk, IfErr};
 ghost use Rattle.acs_lex.specs.Tokens.{IsCut, InOrder};
 ghost use Rattle.acs_symbol.specs.Symbols.{symbols_of};
 ghost use Rattle.acs_parse.specs.Grammar.{limited, IsRoutine};
@@ -12,7 +12,7 @@ use crate::statements::body;
 use crate::tokens::{expect, head, place, skip};
 use crate::want::Want;
 use acs_lex::Tokens;
-use acs_symbol::{Rest, symbols};
+use acs_symbol::{Rest, Symbol, symbols};
 use acs_tree::Routine;
 use std::alloc::Global;
 
@@ -29,7 +29,20 @@ pub fn parse(alloc: Global, text: &[u8], tokens: &Tokens) -> Result<Routine, Par
     let total = count(tokens);
     let symbols = symbols(alloc, text, tokens).map_err(|_| ParseErr::NoMemory)?;
     let mut rest = Rest::new(symbols.as_slice());
-    parse_symbols(alloc, total, &mut rest)
+    parse_rest(alloc, total, &mut rest)
+}
+
+/// The tree of the routine that these tokens are, as `parse` gives it.
+pub fn parse_symbols<'a>(alloc: Global, symbols: &'a [Symbol<'a>]) -> Result<Routine, ParseErr>
+    requires { length symbols.now < 2 ^ 32 }
+    ensures ok { IfOk result (IsRoutine limited symbols.entry.now) }
+    ensures err { IfErr result (MayRefuse (IsParseFault symbols.entry.now) (Some ParseErr.NoMemory)) }
+    ensures exactly { IsExact (IsRoutine limited symbols.entry.now) (IsParseFault symbols.entry.now)
+        (Some ParseErr.NoMemory) result }
+{
+    let total = symbols.len() as u32;
+    let mut rest = Rest::new(symbols);
+    parse_rest(alloc, total, &mut rest)
 }
 
 /// The number of tokens of a text. It fits, since each has a byte of its own and all their places fit.
@@ -43,8 +56,8 @@ fn count(tokens: &Tokens) -> u32
     }
 }
 
-#[tactic(auto, using(crate::proofs::RoutineLemmas::parse_symbols_steps))]
-fn parse_symbols(alloc: Global, total: u32, rest: &mut Rest<'_>) -> Result<Routine, ParseErr>
+#[tactic(auto, using(crate::proofs::RoutineLemmas::parse_rest_steps))]
+fn parse_rest(alloc: Global, total: u32, rest: &mut Rest<'_>) -> Result<Routine, ParseErr>
     requires { total ≡ length rest.old }
     ensures ok { IfOk result (IsRoutine limited rest.old) }
     ensures err { IfErr result (MayRefuse (IsParseFault rest.old) (Some ParseErr.NoMemory)) }

@@ -1,21 +1,11 @@
 // What a reader has read of a statement, before it is one. What is wide is in a box, so that readers
 // that call themselves keep little on the stack.
-use acs_tree::{Block, Cond, Ident, Operand, Operands, Ref, Stmt, Whens};
+use acs_tree::{Block, Cond, Operands, Ref, Stmt, Whens};
 use desk_common::Boxed;
 
-/// The parts of a statement's form.
+/// The parts of the form of a statement that has others inside it.
 #[derive(Drop)]
 pub enum FormParts {
-    Filt {
-        name: Boxed<Ident>,
-        name_at: u32,
-        include: Operands,
-        exclude: Operands,
-    },
-    Put {
-        target: Boxed<Ref>,
-        values: Operands,
-    },
     If {
         cond: Boxed<Cond>,
         yes: Boxed<Stmt>,
@@ -27,10 +17,6 @@ pub enum FormParts {
         otherwise: Option<Boxed<Stmt>>,
     },
     Do(Block),
-    Write(Operands),
-    Exit {
-        code: Option<Boxed<Operand>>,
-    },
 }
 
 /// The parts of what a WHEN has in parentheses.

@@ -4,24 +4,24 @@ ghost use Rattle.std.specs.Prelude.{◌∷◌, [], ℕ, true, false};
 ghost use Rattle.acs_parse.specs.declared.list_kind.ListKind.TheVariants as list;
 ghost use Rattle.acs_parse.specs.declared.want.Want.TheVariants as want;
 ghost use Rattle.acs_symbol.specs.declared.symbol.WordKind.TheVariants as word;
-ghost use Rattle.acs_parse.specs.Grammar.{limited, IsStmt, IsAlternative, IsChoice, IsBlock, IsItem};
+ghost use Rattle.acs_parse.specs.Grammar.{limited, IsStmt, IsAlternative, IsChoice, IsBlock};
 ghost use Rattle.acs_parse.specs.Inner.Parts.{form_of_parts, test_of_parts};
 ghost use Rattle.acs_parse.specs.Inner.Table.{Keep, Lower, To, One, ABlock, AnItem, AStatement, OrAlternative, AChoice};
-ghost use Rattle.acs_parse.specs.Inner.Table.{AWhen, MoreWhens, ACondition, AnOperand, MoreOperands, ARef, OrCode};
-ghost use Rattle.acs_parse.specs.Inner.Table.{Back};
-ghost use Rattle.acs_parse.specs.Inner.Reads.{Reads, Parses, IsBehind, IsInside, AreWhens, IsTest, IsOneMore, AreArms};
-ghost use Rattle.acs_parse.specs.Inner.Reads.{test_parts};
+ghost use Rattle.acs_parse.specs.Inner.Table.{AWhen, MoreWhens, ACondition, AnOperand, MoreOperands, Back};
+ghost use Rattle.acs_parse.specs.Inner.Reads.{Reads, Parses, IsInside, AreWhens, IsTest, IsOneMore, IsItemMore};
+ghost use Rattle.acs_parse.specs.Inner.Reads.{AreArms, test_parts};
 
 use crate::building::{stmt_of, with_boxed, with_when_parts};
 use crate::conditions::cond_before;
 use crate::fault::Fault;
 use crate::list_kind::ListKind;
-use crate::lists::{boxed_variable, exit_code, filter_list, operands};
+use crate::lists::{boxed_variable, filter_list, operands};
 use crate::parts::{FormParts, TestParts, WhenParts};
-use crate::tokens::{begins, expect, opened, place, skip};
+use crate::plain::{boxed_plain, with_plain};
+use crate::tokens::{begins, expect, nests, opened, place, skip};
 use crate::want::Want;
 use acs_symbol::{Rest, Symbol, WordKind};
-use acs_tree::{Block, Ref, Stmt, Whens};
+use acs_tree::{Block, Ref, Stmt, Whens, with_stmt};
 use desk_common::Boxed;
 use std::alloc::Global;
 
@@ -40,11 +40,6 @@ pub fn statement(
     let at = place(total, rest);
     match rest.split_first() {
         None => Err(Fault::Ended),
-        Some((Symbol::Word(WordKind::Set, _), behind)) => {
-            *rest = behind;
-            let parts = assignment(alloc, total, rest)?;
-            Ok(stmt_of(alloc, at, parts)?)
-        }
         Some((Symbol::Word(WordKind::If, _), behind)) => {
             let inner = opened(depth, rest)?;
             *rest = behind;
@@ -63,50 +58,20 @@ pub fn statement(
             let parts = group(alloc, total, inner, rest)?;
             Ok(stmt_of(alloc, at, parts)?)
         }
-        Some((Symbol::Word(WordKind::Write, _), behind)) => {
-            *rest = behind;
-            let parts = written(alloc, total, rest)?;
-            Ok(stmt_of(alloc, at, parts)?)
+        Some((Symbol::Word(WordKind::Set, _), _)) => {
+            let found = boxed_plain(alloc, total, rest)?;
+            Ok(found)
         }
-        Some((Symbol::Word(WordKind::Exit, _), behind)) => {
-            *rest = behind;
-            let parts = ending(alloc, total, rest)?;
-            Ok(stmt_of(alloc, at, parts)?)
+        Some((Symbol::Word(WordKind::Write, _), _)) => {
+            let found = boxed_plain(alloc, total, rest)?;
+            Ok(found)
+        }
+        Some((Symbol::Word(WordKind::Exit, _), _)) => {
+            let found = boxed_plain(alloc, total, rest)?;
+            Ok(found)
         }
         Some(_) => Err(Fault::Unexpected(rest.len())),
     }
-}
-
-/// What stands behind SET.
-#[tactic(auto, using(crate::proofs::StatementLemmas::assignment_steps))]
-fn assignment(alloc: Global, total: u32, rest: &mut Rest<'_>) -> Result<FormParts, Fault>
-    ensures { Reads (λ parts. (n : ℕ) → IsBehind total word.Set n rest.old (form_of_parts parts) rest.new)
-        (ARef ∷ One want.Equal Keep ∷ AnOperand list.Values ∷ MoreOperands list.Values ∷ []) rest.old result }
-{
-    let target = boxed_variable(alloc, total, rest)?;
-    expect(Want::Equal, rest)?;
-    let values = operands(alloc, total, ListKind::Values, rest)?;
-    Ok(FormParts::Put { target, values })
-}
-
-/// What stands behind WRITE.
-#[tactic(auto, using(crate::proofs::StatementLemmas::write_at))]
-fn written(alloc: Global, total: u32, rest: &mut Rest<'_>) -> Result<FormParts, Fault>
-    ensures { Reads (λ parts. (n : ℕ) → IsBehind total word.Write n rest.old (form_of_parts parts) rest.new)
-        (AnOperand list.Parts ∷ MoreOperands list.Parts ∷ []) rest.old result }
-{
-    let parts = operands(alloc, total, ListKind::Parts, rest)?;
-    Ok(FormParts::Write(parts))
-}
-
-/// What stands behind EXIT.
-#[tactic(auto, using(crate::proofs::StatementLemmas::exit_at))]
-fn ending(alloc: Global, total: u32, rest: &mut Rest<'_>) -> Result<FormParts, Fault>
-    ensures { Reads (λ parts. (n : ℕ) → IsBehind total word.Exit n rest.old (form_of_parts parts) rest.new)
-        (OrCode ∷ []) rest.old result }
-{
-    let code = exit_code(alloc, total, rest)?;
-    Ok(FormParts::Exit { code })
 }
 
 /// What stands behind IF.
@@ -317,10 +282,31 @@ fn block(alloc: Global, total: u32, depth: u32, rest: &mut Rest<'_>) -> Result<B
 {
     let mut found = Block::new(alloc);
     'items: while !skip(Want::End, rest) {
-        let next = statement(alloc, total, depth, rest)?;
-        found = with_boxed(found, next)?;
+        found = inner_item(alloc, total, depth, found, rest)?;
     }
     Ok(found)
+}
+
+/// The statements found so far, and one more behind them.
+#[cycle(statement)]
+#[tactic(auto, using(crate::proofs::StatementLemmas::inner_item_steps))]
+fn inner_item(
+    alloc: Global,
+    total: u32,
+    depth: u32,
+    found: Block,
+    rest: &mut Rest<'_>,
+) -> Result<Block, Fault>
+    ensures { Parses (λ longer. IsItemMore total false depth rest.old found longer rest.new)
+        (AnItem false ∷ []) depth rest.old result }
+{
+    if nests(rest) {
+        let next = statement(alloc, total, depth, rest)?;
+        Ok(with_boxed(found, next)?)
+    } else {
+        let longer = with_plain(alloc, total, found, rest)?;
+        Ok(longer)
+    }
 }
 
 /// Statements and filter lists up to the END of the routine.
@@ -331,23 +317,26 @@ pub fn body(alloc: Global, total: u32, rest: &mut Rest<'_>) -> Result<Block, Fau
 {
     let mut found = Block::new(alloc);
     'items: while !skip(Want::End, rest) {
-        let next = item(alloc, total, rest)?;
-        found = with_boxed(found, next)?;
+        found = item(alloc, total, found, rest)?;
     }
     Ok(found)
 }
 
+/// The statements and filter lists found so far, and one more behind them.
 #[tactic(auto, using(crate::proofs::StatementLemmas::item_steps))]
-fn item(alloc: Global, total: u32, rest: &mut Rest<'_>) -> Result<Boxed<Stmt>, Fault>
-    ensures { Parses (λ found. IsItem total limited true 0 rest.old found rest.new)
+fn item(alloc: Global, total: u32, found: Block, rest: &mut Rest<'_>) -> Result<Block, Fault>
+    ensures { Parses (λ longer. IsItemMore total true 0 rest.old found longer rest.new)
         (AnItem true ∷ []) 0 rest.old result }
 {
     if begins(Want::FiltList, rest) {
-        let found = filter_list(alloc, total, rest)?;
-        Ok(found)
+        let next = filter_list(alloc, total, rest)?;
+        Ok(with_stmt(found, next)?)
+    } else if nests(rest) {
+        let next = statement(alloc, total, 0, rest)?;
+        Ok(with_boxed(found, next)?)
     } else {
-        let found = statement(alloc, total, 0, rest)?;
-        Ok(found)
+        let longer = with_plain(alloc, total, found, rest)?;
+        Ok(longer)
     }
 }
 

@@ -8,7 +8,7 @@ ghost use Rattle.acs_symbol.specs.declared.symbol.WordKind.TheVariants as word;
 ghost use Rattle.acs_parse.specs.declared.want.Want.TheVariants as want;
 ghost use Rattle.acs_parse.specs.Grammar.{starts, place_in, back, goes_on, IsOperator, IsListName, IsHead};
 ghost use Rattle.acs_parse.specs.Inner.Language.{Takes};
-ghost use Rattle.acs_parse.specs.Inner.Reads.{ReadsOne, Opens, Skips, GoesOn};
+ghost use Rattle.acs_parse.specs.Inner.Reads.{ReadsOne, Opens, Skips, GoesOn, nesting, nests};
 
 use crate::fault::Fault;
 use crate::list_kind::ListKind;
@@ -74,6 +74,22 @@ pub fn begins(want: Want, rest: &Rest<'_>) -> bool
     ensures { result ≡ starts want rest.now }
 {
     rest.first().is_some_and(|first| want.fits(first))
+}
+
+/// Whether a statement begins that has others inside it.
+pub fn nests(rest: &Rest<'_>) -> bool
+    ensures { result ≡ nests rest.now }
+{
+    rest.first().is_some_and(|first| is_nesting(first))
+}
+
+fn is_nesting(symbol: &Symbol<'_>) -> bool
+    ensures { result ≡ nesting symbol.now }
+{
+    match symbol {
+        Symbol::Word(WordKind::If | WordKind::Select | WordKind::Do, _) => true,
+        _ => false,
+    }
 }
 
 pub fn number(rest: &mut Rest<'_>) -> Result<Ident, Fault>

@@ -1,4 +1,4 @@
 pub mod LiteralLemmas
 pub mod CountLemmas
-pub mod UpperLemmas
 pub mod KeywordLemmas
+pub mod ScanLemmas

@@ -1,12 +1,12 @@
 -- The tokens of a text as the grammar reads them (docs/manual/acs-language.md, Grammar).
-use Rattle.std.specs.Prelude.{◌-◌, ℕ, List, [], ◌∷◌, length, map, codes, slice_range, if◌then◌else◌}
+use Rattle.std.specs.Prelude.{◌≡◌, ◌-◌, ℕ, List, [], ◌∷◌, length, map, codes, slice_range, if◌then◌else◌}
 use Rattle.std.specs.List.{list_all}
 use Rattle.std.specs.Str.{bytes_eq}
 use Rattle.dsn_mask.specs.Name.{is_digit}
 use Rattle.acs_lex.specs.declared.token.TokenForm.{TokenForm}
 use Rattle.acs_lex.specs.declared.token.TokenForm.TheVariants as token_form
 use Rattle.acs_lex.specs.declared.token.Token.{Token}
-use Rattle.acs_lex.specs.Tokens.{token_text, upper_text}
+use Rattle.acs_lex.specs.Tokens.{IsCut, token_text, upper_text}
 use Rattle.acs_tree.specs.declared.routine.Compare.TheVariants.{Eq, Ne, Gt, Lt, Ge, Le, Ng, Nl}
 use Rattle.acs_symbol.specs.declared.symbol.WordKind.{WordKind}
 use Rattle.acs_symbol.specs.declared.symbol.WordKind.TheVariants as word
@@ -81,3 +81,7 @@ symbol_of text one = form_symbol one.form text one
 -- the tokens of a text, with their texts
 abbrev pub symbols_of : List ℕ → List Token → List Symbol
 symbols_of text tokens = map (symbol_of text) tokens
+
+-- these are the tokens of the text, with their texts
+abbrev pub AreSymbolsOf : List ℕ → List Symbol → Type 0
+AreSymbolsOf text symbols = (tokens : List Token) × IsCut text tokens × (symbols ≡ symbols_of text tokens)

@@ -1,34 +1,38 @@
 // What a word or a sign is, by its text.
 ghost use Rattle.std.specs.Prelude.{◌≡◌, ◌≤◌, length};
-ghost use Rattle.std.specs.List.{list_all};
 ghost use Rattle.std.specs.Str.{str_to_ascii_uppercase};
 ghost use Rattle.desk_common.specs.Limits.{most_word_bytes};
-ghost use Rattle.acs_tree.specs.Ident.{is_upper_byte};
 ghost use Rattle.acs_symbol.specs.Symbols.{comparisons, listed, number_kind, word_kind, sign_of};
 ghost use Rattle.acs_symbol.specs.Inner.Keywords.{kind_among};
 
 use crate::symbol::{Symbol, WordKind};
-use acs_tree::{Compare, are_digits};
+use acs_tree::{Compare, are_digits, is_upper};
 use desk_common::{MAX_WORD, are_same};
 
-/// What the word can be besides a name, its letters in either case. Most words have no small letter, and
-/// are read where they stand.
-#[tactic(auto, using(crate::proofs::UpperLemmas::upper_stays))]
+/// What the word can be besides a name, its letters in either case. Most words are keywords or numbers, or have no
+/// small letter: they are read where they stand.
 pub fn kind_in_any_case(text: &[u8]) -> WordKind
     requires { length text.now ≤ most_word_bytes }
     ensures { result ≡ word_kind (str_to_ascii_uppercase text.now) }
 {
-    if is_upper(text) {
-        word_kind(text)
-    } else {
-        raised_kind(text)
+    match word_kind(text) {
+        WordKind::Other => other_kind(text),
+        kind => kind,
     }
 }
 
-fn is_upper(text: &[u8]) -> bool
-    ensures { result ≡ list_all is_upper_byte text.now }
+// The same of a word that is nothing besides a name as it stands.
+#[tactic(auto, using(crate::proofs::KeywordLemmas::kind_stays))]
+fn other_kind(text: &[u8]) -> WordKind
+    requires fits { length text.now ≤ most_word_bytes }
+    requires other { word_kind text.now ≡ WordKind.Other }
+    ensures { result ≡ word_kind (str_to_ascii_uppercase text.now) }
 {
-    text.iter().all(|byte| !byte.is_ascii_lowercase())
+    if is_upper(text) {
+        WordKind::Other
+    } else {
+        raised_kind(text)
+    }
 }
 
 #[inline(never)]

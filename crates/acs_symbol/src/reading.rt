@@ -4,7 +4,7 @@ ghost use Rattle.std.specs.Str.{str_to_ascii_uppercase};
 ghost use Rattle.desk_common.specs.Limits.{most_literal_bytes, most_word_bytes};
 ghost use Rattle.acs_lex.specs.declared.token.TokenForm.TheVariants as token_form;
 ghost use Rattle.acs_lex.specs.Lexical.{IsForm};
-ghost use Rattle.acs_lex.specs.Tokens.{IsTokenOf};
+ghost use Rattle.acs_lex.specs.Tokens.{IsTokenOf, token_text};
 ghost use Rattle.acs_symbol.specs.Symbols.{word_kind, unquoted, symbol_of, symbols_of};
 
 use crate::keyword::{kind_in_any_case, sign};
@@ -32,17 +32,24 @@ pub fn symbols<'a>(
 }
 
 /// A token of a text, with its text.
-fn symbol<'a>(text: &'a [u8], token: &Token) -> Symbol<'a>
+pub fn symbol<'a>(text: &'a [u8], token: &Token) -> Symbol<'a>
     requires { IsTokenOf text.now token.now }
     ensures { result ≡ symbol_of text.entry.now token.now }
 {
-    let bytes = &text[token.from as usize..token.to as usize];
     match token.form {
-        TokenForm::Word => word(bytes),
-        TokenForm::Variable => variable(bytes),
-        TokenForm::Literal => literal(bytes),
-        TokenForm::Sign => sign(bytes),
+        TokenForm::Word => word(bytes_of(text, token)),
+        TokenForm::Variable => variable(bytes_of(text, token)),
+        TokenForm::Literal => literal(bytes_of(text, token)),
+        TokenForm::Sign => sign(bytes_of(text, token)),
     }
+}
+
+/// The bytes of a text that a token covers.
+fn bytes_of<'a>(text: &'a [u8], token: &Token) -> &'a [u8]
+    requires { IsTokenOf text.now token.now }
+    ensures { result.now ≡ token_text text.entry.now token.now }
+{
+    &text[token.from as usize..token.to as usize]
 }
 
 fn word(bytes: &[u8]) -> Symbol<'_>

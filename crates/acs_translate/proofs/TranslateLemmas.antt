@@ -9,8 +9,10 @@ use Rattle.desk_common.specs.Exact as answers
 use Rattle.acs_lex.specs.LexFault.{IsFirstLexFault}
 use Rattle.acs_lex.proofs.CutLemmas.{cut_once, fault_once, never_both}
 use Rattle.acs_symbol.specs.declared.symbol.Symbol.{Symbol}
-use Rattle.acs_symbol.specs.Symbols.{symbols_of}
+use Rattle.acs_lex.proofs.PlaceLemmas.{cut_in_order}
+use Rattle.acs_symbol.specs.Symbols.{symbols_of, AreSymbolsOf}
 use Rattle.acs_symbol.proofs.CountLemmas.{count_within}
+use Rattle.acs_symbol.proofs.ScanLemmas.{as_many}
 use Rattle.acs_parse.specs.declared.fault.ParseErr.{ParseErr}
 use Rattle.acs_parse.specs.declared.fault.ParseErr.TheVariants as parse
 use Rattle.acs_parse.specs.Grammar.{limited, IsRoutine}
@@ -29,10 +31,10 @@ use Rattle.acs_translate.specs.declared.fault.TranslateErr.TheVariants.{Fault, N
 use Rattle.acs_translate.specs.Translation.{IsTranslated, lex_err, parse_err, check_fault, IsRoutineFault}
 use Rattle.acs_translate.specs.Translation.{in_text, in_tokens, in_tree, MayRefuse, IsExact}
 
-pub few_tokens : (text : List ℕ) (tokens : List Token) → length text < 2 ^ 32 → InOrder 0 (length text) tokens → length tokens < 2 ^ 32
+few_tokens : (text : List ℕ) (tokens : List Token) → length text < 2 ^ 32 → InOrder 0 (length text) tokens → length tokens < 2 ^ 32
 few_tokens text tokens h d = omega (arith, h, count_within 0 (length text) tokens d)
 
-pub right : {text : List ℕ} {kind : Kind} {tokens : List Token} {tree : Routine} {checked : CheckedRoutine} {count : ℕ} → IsCut text tokens → IsRoutine limited (symbols_of text tokens) tree
+right : {text : List ℕ} {kind : Kind} {tokens : List Token} {tree : Routine} {checked : CheckedRoutine} {count : ℕ} → IsCut text tokens → IsRoutine limited (symbols_of text tokens) tree
     → IsSound tree kind × (checked ≡ record { tree = tree; kind = kind }) → count ≡ length tokens → IsTranslated text kind checked.tree count × (checked.kind ≡ kind)
 right {text} {kind} {tokens} {tree} {checked} {count} c d e f =
     let t : IsTranslated text kind tree count = record { tokens = tokens; cut = c; routine = d; sound = e.0; counted = f } in
@@ -67,11 +69,11 @@ right_parse_at : (text : List ℕ) (kind : Kind) (tokens : List Token) (err : Pa
 right_parse_at text kind tokens err c (inl d) = told_parse text kind tokens err c d
 right_parse_at text kind tokens err c (inr e) = let same : parse.NoMemory ≡ err = cc in subst (λ x. MayRefuse text kind (parse_err (length tokens) x)) same tt
 
-pub right_parse : {text : List ℕ} (kind : Kind) {tokens : List Token} (err : ParseErr) {count : ℕ} → IsCut text tokens → ParseMayRefuse (symbols_of text tokens) err → count ≡ length tokens
+right_parse : {text : List ℕ} (kind : Kind) {tokens : List Token} (err : ParseErr) {count : ℕ} → IsCut text tokens → ParseMayRefuse (symbols_of text tokens) err → count ≡ length tokens
     → MayRefuse text kind (parse_err count err)
 right_parse {text} kind {tokens} err {count} c d e = subst (λ n. MayRefuse text kind (parse_err n err)) (sym e) (right_parse_at text kind tokens err c d)
 
-pub right_check : {text : List ℕ} {kind : Kind} {tokens : List Token} {tree : Routine} {err : CheckErr} → IsCut text tokens → IsRoutine limited (symbols_of text tokens) tree → IsFirstFault tree kind err
+right_check : {text : List ℕ} {kind : Kind} {tokens : List Token} {tree : Routine} {err : CheckErr} → IsCut text tokens → IsRoutine limited (symbols_of text tokens) tree → IsFirstFault tree kind err
     → IsRoutineFault text kind (check_fault err)
 right_check {tokens = tokens} {tree = tree} {err = err} c d e = in_tree tokens tree err c d e refl
 
@@ -160,5 +162,43 @@ pub exact_check : {text : List ℕ} {kind : Kind} {tokens : List Token} {tree : 
     → IsExact text kind (Err (Fault (check_fault err)))
 exact_check c d e = exact_fault (right_check c d e)
 
+-- the same of the tokens as they are read with their texts
+
+few_at : (text : List ℕ) (symbols : List Symbol) → length text < 2 ^ 32 → (s : AreSymbolsOf text symbols) → length s.0 < 2 ^ 32
+few_at text symbols h s = few_tokens text s.0 h (cut_in_order text s.0 s.1)
+
+pub few_symbols : (text : List ℕ) (symbols : List Symbol) → length text < 2 ^ 32 → AreSymbolsOf text symbols → length symbols < 2 ^ 32
+few_symbols text symbols h s = omega (arith, few_at text symbols h s, as_many s)
+
+tree_of : {text : List ℕ} {symbols : List Symbol} {tree : Routine} (s : AreSymbolsOf text symbols) → IsRoutine limited symbols tree → IsRoutine limited (symbols_of text s.0) tree
+tree_of {tree = tree} s d = subst (λ z. IsRoutine limited z tree) s.2 d
+
+refusal_of : {text : List ℕ} {symbols : List Symbol} {err : ParseErr} (s : AreSymbolsOf text symbols) → ParseMayRefuse symbols err → ParseMayRefuse (symbols_of text s.0) err
+refusal_of {err = err} s d = subst (λ z. ParseMayRefuse z err) s.2 d
+
+pub read_right : {text : List ℕ} {kind : Kind} {symbols : List Symbol} {tree : Routine} {checked : CheckedRoutine} {count : ℕ} → AreSymbolsOf text symbols → IsRoutine limited symbols tree
+    → IsSound tree kind × (checked ≡ record { tree = tree; kind = kind }) → count ≡ length symbols → IsTranslated text kind checked.tree count × (checked.kind ≡ kind)
+read_right s d e f = right s.1 (tree_of s d) e (f ∙ as_many s)
+
+pub read_parse : {text : List ℕ} (kind : Kind) {symbols : List Symbol} (err : ParseErr) {count : ℕ} → AreSymbolsOf text symbols → ParseMayRefuse symbols err → count ≡ length symbols
+    → MayRefuse text kind (parse_err count err)
+read_parse kind err s d e = right_parse kind err s.1 (refusal_of s d) (e ∙ as_many s)
+
+pub read_check : {text : List ℕ} {kind : Kind} {symbols : List Symbol} {tree : Routine} {err : CheckErr} → AreSymbolsOf text symbols → IsRoutine limited symbols tree → IsFirstFault tree kind err
+    → IsRoutineFault text kind (check_fault err)
+read_check s d e = right_check s.1 (tree_of s d) e
+
+pub exact_read : {text : List ℕ} {kind : Kind} {symbols : List Symbol} {tree : Routine} {checked : CheckedRoutine} {count : ℕ} → AreSymbolsOf text symbols → IsRoutine limited symbols tree
+    → IsSound tree kind × (checked ≡ record { tree = tree; kind = kind }) → count ≡ length symbols → IsExact text kind (Ok (checked, count))
+exact_read s d e f = exact s.1 (tree_of s d) e (f ∙ as_many s)
+
+pub exact_read_parse : {text : List ℕ} (kind : Kind) {symbols : List Symbol} (err : ParseErr) {count : ℕ} → AreSymbolsOf text symbols → ParseMayRefuse symbols err → count ≡ length symbols
+    → IsExact text kind (Err (parse_err count err))
+exact_read_parse kind err s d e = exact_parse kind err s.1 (refusal_of s d) (e ∙ as_many s)
+
+pub exact_read_check : {text : List ℕ} {kind : Kind} {symbols : List Symbol} {tree : Routine} {err : CheckErr} → AreSymbolsOf text symbols → IsRoutine limited symbols tree → IsFirstFault tree kind err
+    → IsExact text kind (Err (Fault (check_fault err)))
+exact_read_check s d e = exact_check s.1 (tree_of s d) e
+
 -- what translating needs of these
-pub ruleset translate_steps = (right, right_lex, right_parse, right_check, exact, exact_lex, exact_parse, exact_check)
+pub ruleset translate_steps = (read_right, right_lex, read_parse, read_check, exact_read, exact_lex, exact_read_parse, exact_read_check)

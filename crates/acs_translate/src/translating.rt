@@ -4,8 +4,9 @@ ghost use Rattle.acs_translate.specs.Translation.{IsTranslated, MayRefuse, IsExa
 
 use crate::fault::{RoutineFault, Stage, TranslateErr};
 use acs_check::check;
-use acs_lex::{LexErr, scan};
-use acs_parse::{ParseErr, parse};
+use acs_lex::LexErr;
+use acs_parse::{ParseErr, parse_symbols};
+use acs_symbol::read_symbols;
 use acs_tree::{CheckErr, Checked, Kind};
 use std::alloc::Global;
 
@@ -18,12 +19,12 @@ pub fn translate(alloc: Global, text: &[u8], kind: Kind) -> Result<(Checked, u32
     ensures err { IfErr result (MayRefuse text.now kind) }
     ensures exactly { IsExact text.now kind result }
 {
-    let tokens = match scan(alloc, text) {
-        Ok(tokens) => tokens,
+    let symbols = match read_symbols(alloc, text) {
+        Ok(symbols) => symbols,
         Err(fault) => return Err(told_by_scanner(fault)),
     };
-    let count = tokens.len() as u32;
-    let tree = match parse(alloc, text, &tokens) {
+    let count = symbols.len() as u32;
+    let tree = match parse_symbols(alloc, symbols.as_slice()) {
         Ok(tree) => tree,
         Err(fault) => return Err(told_by_parser(count, fault)),
     };

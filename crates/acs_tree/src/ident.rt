@@ -1,8 +1,9 @@
 // Names of variables and words.
 ghost use Rattle.std.specs.Prelude.{◌≡◌, ◌≤◌, length};
+ghost use Rattle.std.specs.List.{list_all};
 ghost use Rattle.std.specs.Str.{str_to_ascii_uppercase};
 ghost use Rattle.desk_common.specs.Limits.{most_word_bytes};
-ghost use Rattle.acs_tree.specs.Ident.{IsIdent};
+ghost use Rattle.acs_tree.specs.Ident.{IsIdent, is_upper_byte};
 
 use desk_common::MAX_WORD;
 use dsn_mask::Text;
@@ -61,17 +62,18 @@ impl Eq for Ident {
 }
 
 impl Ident {
-    /// The text with its letters in upper case.
+    /// The text with its letters in upper case. Most words have no small letter, and are copied as they stand.
+    #[tactic(auto, using(crate::proofs::UpperLemmas::upper_stays))]
     pub fn upper(bytes: &[u8]) -> Self
         requires { length bytes.now ≤ most_word_bytes }
         ensures { result ≡ str_to_ascii_uppercase bytes.now }
     {
-        let mut upper = [0; MAX_WORD];
-        let upper = &mut upper[..bytes.len()];
-        upper.copy_from_slice(bytes);
-        upper.make_ascii_uppercase();
-        Ident {
-            text: Text::new(upper),
+        if is_upper(bytes) {
+            Ident {
+                text: Text::new(bytes),
+            }
+        } else {
+            raised(bytes)
         }
     }
 
@@ -81,5 +83,26 @@ impl Ident {
         ensures form { IsIdent self.now }
     {
         self.text.bytes()
+    }
+}
+
+/// Whether no byte is a small letter.
+pub fn is_upper(text: &[u8]) -> bool
+    ensures { result ≡ list_all is_upper_byte text.now }
+{
+    text.iter().all(|byte| !byte.is_ascii_lowercase())
+}
+
+#[inline(never)]
+fn raised(bytes: &[u8]) -> Ident
+    requires { length bytes.now ≤ most_word_bytes }
+    ensures { result ≡ str_to_ascii_uppercase bytes.now }
+{
+    let mut upper = [0; MAX_WORD];
+    let upper = &mut upper[..bytes.len()];
+    upper.copy_from_slice(bytes);
+    upper.make_ascii_uppercase();
+    Ident {
+        text: Text::new(upper),
     }
 }

@@ -43,7 +43,7 @@ pub use environment::Environment;
 pub use given::Given;
 pub use given_lists::GivenLists;
 pub use given_texts::GivenTexts;
-pub use ident::Ident;
+pub use ident::{Ident, is_upper};
 pub use input::{Input, kilobytes_of};
 pub use kind::Kind;
 pub use line::Line;

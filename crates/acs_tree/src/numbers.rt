@@ -4,6 +4,8 @@ ghost use Rattle.std.specs.List.{list_all};
 ghost use Rattle.dsn_mask.specs.Name.{is_digit};
 ghost use Rattle.acs_tree.specs.Numbers.{greatest, kilobytes_in, number_of, size_of, value_of, within};
 
+use desk_common::are_same;
+
 fn is_digit(byte: u8) -> bool
     ensures { result ≡ is_digit byte }
 {
@@ -83,11 +85,11 @@ fn kilobytes_in(unit: &[u8]) -> Option<u64>
     ensures value { result ≡ kilobytes_in unit.now }
     ensures positive { IfSome result (λ kilobytes. 0 < kilobytes) }
 {
-    if unit == b"KB".as_slice() {
+    if are_same(unit, b"KB") {
         Some(1)
-    } else if unit == b"MB".as_slice() {
+    } else if are_same(unit, b"MB") {
         Some(1024)
-    } else if unit == b"GB".as_slice() {
+    } else if are_same(unit, b"GB") {
         Some(1048576)
     } else {
         None

@@ -4,7 +4,7 @@ ghost use Rattle.std.specs.Prelude.{◌≡◌};
 ghost use Rattle.acs_tree.specs.References.{is_whole_name};
 
 use crate::ident::Ident;
-use desk_common::{Boxed, Items};
+use desk_common::{Boxed, Items, are_same};
 use dsn_mask::Lit;
 
 /// A routine: the name at its head, and its statements in order.
@@ -117,7 +117,7 @@ impl Ref {
     pub fn is_whole_name(&self) -> bool
         ensures { result ≡ is_whole_name self.now }
     {
-        self.name.bytes() == b"DSN".as_slice() && self.index.is_none()
+        are_same(self.name.bytes(), b"DSN") && self.index.is_none()
     }
 }
 

@@ -13,3 +13,7 @@ greatest_place (row ∷ rows) = max row.place (greatest_place rows)
 -- the opening of these rows and this configuration: new entries come behind all whose replies are kept
 abbrev pub opening_of : Rows → Option Configuration → Opening
 opening_of rows config = record { rows = rows; config = config; base = greatest_place rows.replies }
+
+-- the same, and new entries come behind this place too
+abbrev pub opening_behind : ℕ → Rows → Option Configuration → Opening
+opening_behind place rows config = record { rows = rows; config = config; base = max place (greatest_place rows.replies) }

@@ -1,9 +1,8 @@
 //! What is told of the events of a run.
-ghost use Rattle.std.specs.Prelude.{◌≡◌, ◌++◌, IfOk, OnOk};
+ghost use Rattle.std.specs.Prelude.{◌≡◌, IfOk};
 ghost use Rattle.acs_telling.specs.Telling.{comparison_text};
 ghost use Rattle.flat_records.specs.declared.field.FieldValue.{FieldValue as Value};
 ghost use Rattle.routine_records.specs.EventRecords.{told_at, told_event, told_outcome, told_values, told_without};
-ghost use Rattle.sms_explain.specs.RunText.{groups_text, values_text};
 ghost use Rattle.sms_simulation.specs.OutcomeText.{outcome_text};
 
 use crate::happening::Happening;
@@ -12,10 +11,9 @@ use acs_telling::{Source, push_comparison};
 use acs_trace::Event;
 use acs_tree::{Compare, Values};
 use desk_common::Items;
-use dsn_mask::Name;
 use flat_records::FieldValue;
 use sms_construct::Stop;
-use sms_script::{push_word_and_blank, value_bytes};
+use sms_explain::push_values;
 use sms_simulation::push_outcome;
 use std::alloc::{AllocError, Global};
 
@@ -99,27 +97,6 @@ pub fn told_values(alloc: Global, event: Happening, values: &Values) -> Result<T
     let mut text = Vec::new(alloc);
     push_values(&mut text, values)?;
     Ok(told_without(event, FieldValue::Text(Items::from_vec(text))))
-}
-
-// The three classes, and the storage groups behind them.
-fn push_values(text: &mut Vec<u8>, values: &Values) -> Result<(), AllocError>
-    ensures { OnOk result (text.new.items ≡ text.old.items ++ values_text values.now) }
-{
-    push_word_and_blank(text, value_bytes(&values.dataclas))?;
-    push_word_and_blank(text, value_bytes(&values.storclas))?;
-    text.extend_from_slice(value_bytes(&values.mgmtclas))?;
-    push_groups(text, values.groups.as_slice())
-}
-
-// The storage groups, with a blank before each.
-fn push_groups(text: &mut Vec<u8>, groups: &[Name]) -> Result<(), AllocError>
-    ensures { OnOk result (text.new.items ≡ text.old.items ++ groups_text groups.now) }
-{
-    for group in groups {
-        text.extend_from_slice(b" ")?;
-        text.extend_from_slice(group.bytes())?;
-    }
-    Ok(())
 }
 
 /// What is told of what a classification comes to.

@@ -9,7 +9,7 @@ use ready_wires::MemWire;
 use sms_construct::Request;
 use sms_core::{Core, Work};
 use sms_keeper::FaultKeeper;
-use sms_open::reopen;
+use sms_open::reopen_behind;
 use std::alloc::{AllocError, Global};
 
 // The activation that a store begins with, which has the first place.
@@ -27,7 +27,7 @@ const MOST: u64 = 10_000;
 /// A store that was activated, whose commits with these numbers fail; the activation's is 1.
 pub fn begun(alloc: Global, fails: &[u64]) -> Result<FaultKeeper, AllocError> {
     let keeper = FaultKeeper::new(alloc, fails)?;
-    let mut desk = Desk::new(alloc, keeper)?;
+    let mut desk = Desk::behind(alloc, keeper, 0)?;
     if let Next::Message { request, .. } = read_message(alloc, &Routes::new(alloc)?, DECK)? {
         desk.core.step(&request, Work::Nothing, &mut desk.slate);
     }
@@ -42,10 +42,10 @@ pub struct Desk {
 }
 
 impl Desk {
-    /// The desk that goes on from the tables of the keeper.
-    pub fn new(alloc: Global, keeper: FaultKeeper) -> Result<Self, AllocError> {
+    /// The desk that goes on from the tables of the keeper, and behind this place.
+    pub fn behind(alloc: Global, keeper: FaultKeeper, place: u64) -> Result<Self, AllocError> {
         let slate = Slate::new(alloc)?;
-        match reopen(alloc, keeper) {
+        match reopen_behind(alloc, keeper, place) {
             Ok(core) => Ok(Desk { core, slate }),
             Err(_) => Err(AllocError),
         }
@@ -64,13 +64,14 @@ impl Desk {
         Ok(text)
     }
 
-    // This desk, or one that goes on from its tables.
+    // This desk, or one that goes on from its tables, and behind its last place.
     fn kept(self, alloc: Global, renewed: bool) -> Result<Self, AllocError> {
         if !renewed {
             return Ok(self);
         }
+        let place = self.core.last_place();
         let (keeper, _) = self.core.into_parts();
-        Desk::new(alloc, keeper)
+        Desk::behind(alloc, keeper, place)
     }
 }
 
@@ -83,7 +84,7 @@ pub fn are_answered(
     wires: &[MemWire],
 ) -> Result<bool, AllocError> {
     let routes = Routes::new(alloc)?;
-    let mut desk = Desk::new(alloc, keeper)?;
+    let mut desk = Desk::behind(alloc, keeper, 0)?;
     let mut all = Vec::new(alloc);
     for wire in wires {
         if !wire.given().is_empty() {

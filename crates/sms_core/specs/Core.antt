@@ -1,6 +1,6 @@
 -- What contracts see of a core, and what a step does to it.
 use Rattle.std.specs.Prelude.{ℕ, Bool, true, false, ◌≡◌, ◌≤◌, ◌↔◌, ◌||◌, nat_lt, List, [], ◌∷◌, ◌++◌, Option, IfSome}
-use Rattle.std.specs.Prelude.{is_some, if◌then◌else◌}
+use Rattle.std.specs.Prelude.{◌+◌, is_some, if◌then◌else◌, length}
 use Rattle.desk_common.specs.Causes.{Rose}
 use Rattle.sms_construct.specs.declared.entry.Answer.{Answer}
 use Rattle.sms_construct.specs.declared.entry.Entry.{Entry}
@@ -21,6 +21,10 @@ pub record CoreView (P : Type 0) : Type 0 where
   pub journal : List Entry
   pub keeper : P
   pub mark : ℕ
+
+-- the place of its last entry; where there is none, the place behind which the first will stand
+abbrev pub last_place : {P : Type 0} → CoreView P → ℕ
+last_place core = core.opening.base + length core.journal
 
 -- the entry is a lawful step after these entries
 pub record IsNext (o : Opening) (before : List Entry) (e : Entry) : Type 0 where

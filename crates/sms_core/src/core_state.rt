@@ -10,11 +10,11 @@ ghost use Rattle.desk_law.specs.Step.{is_activation};
 ghost use Rattle.desk_law.specs.History.{IsLegal, Reaches, WasActive};
 ghost use Rattle.desk_law.specs.Records.{empty_opening};
 ghost use Rattle.desk_records.specs.Tied.{IsLogOf, IsSoundOpening, faults_in};
-ghost use Rattle.desk_restoring.specs.Opened.{opening_of};
+ghost use Rattle.desk_restoring.specs.Opened.{opening_behind, opening_of};
 ghost use Rattle.desk_state.specs.Following.{IsNextSet};
 ghost use Rattle.desk_state.specs.Standing.{IsRunning};
 ghost use Rattle.desk_state.specs.Working.{IsWork};
-ghost use Rattle.sms_core.specs.Core.{Enters, HasTables, WasTold, needs_no_commit};
+ghost use Rattle.sms_core.specs.Core.{Enters, HasTables, WasTold, last_place, needs_no_commit};
 
 use crate::preparing::{Prepared, prepare};
 use crate::room::take_room;
@@ -101,7 +101,26 @@ impl<P: Keeper> Core<P> {
         ensures mark { IfOk result (λ core. core.mark ≡ P.count keeper) }
         ensures err { IfErr result (λ back. back.0 ≡ keeper) }
     {
-        let base = greatest_place(rows.replies.as_slice());
+        Core::resume_behind(alloc, keeper, rows, config, 0)
+    }
+
+    /// The same, and its entries come behind this place too.
+    pub fn resume_behind(
+        alloc: Global,
+        keeper: P,
+        rows: Rows,
+        config: Option<Config>,
+        place: u64,
+    ) -> Result<Self, (P, AllocError)>
+        requires sound { IsSoundOpening (opening_behind place rows config) }
+        requires tables { IfSome (P.told keeper) (λ told. AreSame told rows) }
+        ensures opening { IfOk result (λ core. core.opening ≡ opening_behind place rows config) }
+        ensures journal { IfOk result (λ core. core.journal ≡ []) }
+        ensures keeper { IfOk result (λ core. core.keeper ≡ keeper) }
+        ensures mark { IfOk result (λ core. core.mark ≡ P.count keeper) }
+        ensures err { IfErr result (λ back. back.0 ≡ keeper) }
+    {
+        let base = place.max(greatest_place(rows.replies.as_slice()));
         let opening = Opening { rows, config, base };
         let begun = Snapshot::of(&opening);
         match restore(alloc, opening) {
@@ -192,6 +211,13 @@ impl<P: Keeper> Core<P> {
         ensures tables { HasTables self.now.opening self.now.journal (P.told self.now.keeper) }
     {
         &self.journal
+    }
+
+    /// The place of the last entry; where there is none, the place behind which the first will stand.
+    pub fn last_place(&self) -> u64
+        ensures { result ≡ last_place self.now }
+    {
+        self.base + self.journal.len() as u64
     }
 
     /// The active configuration, with the number of activations that there were. Who shares it can classify under it

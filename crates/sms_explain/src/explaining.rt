@@ -129,7 +129,8 @@ fn text_of(
     Ok(text)
 }
 
-fn push_item(
+/// Puts what is told of an item behind a text, or only a front of it where memory is wanting; nothing but of an ALLOC.
+pub fn push_item(
     alloc: Global,
     text: &mut Vec<u8>,
     config: &Config,

@@ -7,6 +7,6 @@ mod picking;
 mod run_text;
 
 pub use deck_sources::{DeckSources, sources_of};
-pub use explaining::explain;
+pub use explaining::{explain, push_item};
 pub use picking::picked_items;
-pub use run_text::push_runs;
+pub use run_text::{push_runs, push_values};

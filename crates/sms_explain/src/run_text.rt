@@ -61,7 +61,8 @@ fn push_ending(text: &mut Vec<u8>, ending: Ending) -> Result<(), AllocError>
     }
 }
 
-fn push_values(text: &mut Vec<u8>, values: &Values) -> Result<(), AllocError>
+/// Puts what the variables hold behind a text: the three classes, and the storage groups behind them.
+pub fn push_values(text: &mut Vec<u8>, values: &Values) -> Result<(), AllocError>
     ensures { OnOk result (text.new.items ≡ text.old.items ++ values_text values.now) }
 {
     push_word_and_blank(text, value_bytes(&values.dataclas))?;

@@ -23,9 +23,10 @@ use Rattle.desk_law.specs.State.{start_of}
 use Rattle.desk_law.proofs.ByteLemmas.{same-bytes}
 use Rattle.desk_records.specs.Tied.{IsGoodRow, IsSoundOpening}
 use Rattle.desk_records.proofs.KeyLemmas.{reply-key}
+use Rattle.desk_records.proofs.TiedLemmas.{each-weaker}
 use Rattle.sms_open.specs.declared.rows_err.RowsErr.{RowsErr}
 use Rattle.sms_open.specs.declared.rows_err.RowsErr.TheVariants.{Unsound}
-use Rattle.desk_restoring.specs.Opened.{greatest_place, opening_of}
+use Rattle.desk_restoring.specs.Opened.{greatest_place, opening_behind, opening_of}
 use Rattle.sms_open.specs.Tests.{AreCounted, ArePlaced, AreSingle, AreSoundReplies, AreStatusesOf, IsSoundReply}
 use Rattle.sms_open.specs.Tests.{most_place, times_floor, times_kept}
 use Rattle.sms_open.specs.Verdicts.{IsVerdict, Tested}
@@ -233,6 +234,20 @@ sound-at rows active few p = record {
   base_fits = omega (arith, most-place rows.floors rows.replies p.replies.each);
   decks_fit = few;
 }
+
+-- entries that come behind a place too make no difference
+pub sound-behind : (place : ℕ) (rows : Rows) (config : Option Configuration) → place < 2 ^ 63 → IsSoundOpening (opening_of rows config) → IsSoundOpening (opening_behind place rows config)
+sound-behind place rows config low is =
+    let fits : greatest_place rows.replies < 2 ^ 63 = is.base_fits in
+    let floors = λ (job : List ℕ). greatest_floor job rows.floors in
+    record {
+      lawful = is.lawful;
+      good = each-weaker (IsGoodRow floors (greatest_place rows.replies)) (IsGoodRow floors (max place (greatest_place rows.replies)))
+          (λ row good. record { place = (let within : row.place ≤ greatest_place rows.replies = good.place in omega (arith, within)); entered = good.entered; no_fault = good.no_fault; floors_stand = good.floors_stand }) rows.replies is.good;
+      kept = is.kept;
+      base_fits = omega (arith, low, fits);
+      decks_fit = is.decks_fit;
+    }
 
 pub decked-at : (rows : Rows) (active : Option Configuration) → Passed rows active → IsDecked rows.decks (start_of (opening_of rows active))
 decked-at rows active p = record { counted = refl; numbered = p.counted.in_order; last = p.last }

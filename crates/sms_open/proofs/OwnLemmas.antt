@@ -1,7 +1,7 @@
 -- The tables that a desk leaves, in the order of their keys, pass all tests.
 use Rattle.std.proofs.Common.{◌≡◌, ◌≤◌, ◌<◌, ◌+◌, ℕ, zero, suc, cond, List, [], ◌∷◌, ◌++◌, Option, None, Some, Ok, Err}
 use Rattle.std.proofs.Common.{length, refl, sym, ap, ◌∙◌, subst, arith}
-use Rattle.std.specs.Prelude.{IfErr, IfSome, IsSorted, Result}
+use Rattle.std.specs.Prelude.{IfErr, IfSome, IsSorted, Result, max, min}
 use Rattle.std.specs.List.{AllByRecursion}
 use Rattle.sms_construct.specs.Configuration.{Configuration}
 use Rattle.sms_construct.specs.declared.data_set.DataSet.{DataSet}
@@ -40,7 +40,7 @@ use Rattle.sms_open.specs.declared.open_err.OpenErr.TheVariants as refusals
 use Rattle.sms_open.specs.declared.rows_err.RowsErr.{RowsErr}
 use Rattle.sms_open.specs.declared.rows_err.RowsErr.TheVariants.{Unsound}
 use Rattle.sms_open.specs.Own.{AreOwn, HasSoundRows, SparesTables}
-use Rattle.sms_open.specs.Reopening.{IsOpened, NamesRefusal, refusal_of_load}
+use Rattle.sms_open.specs.Reopening.{IsOpened, IsOpenedAt, NamesRefusal, refusal_of_load}
 use Rattle.sms_open.specs.Tests.{AreCounted, ArePlaced, AreSingle, AreSoundReplies, AreStatusesOf, HasLastFault}
 use Rattle.sms_open.specs.Tests.{IsSoundReply, most_place}
 use Rattle.sms_open.specs.Verdicts.{IsVerdict}
@@ -72,6 +72,12 @@ pub opened-sound : (told : Option Rows) (o : Opening) → IsOpened told o → Ha
 opened-sound told o is = record {
   verdict = is.verdict;
   behind = (let base : o.base ≡ greatest_place o.rows.replies = ap (λ (other : Opening). other.base) is.opening in omega (arith, base));
+}
+
+pub placed-sound : (place : ℕ) (told : Option Rows) (o : Opening) → IsOpenedAt place told o → HasSoundRows o
+placed-sound place told o is = record {
+  verdict = is.verdict;
+  behind = (let base : o.base ≡ max (min place most_place) (greatest_place o.rows.replies) = ap (λ (other : Opening). other.base) is.opening in omega (arith, base));
 }
 
 start-passed : (o : Opening) → HasSoundRows o → Passed o.rows o.config

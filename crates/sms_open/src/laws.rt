@@ -1,5 +1,5 @@
 //! What holds of the tables that desks leave.
-ghost use Rattle.std.specs.Prelude.{◌+◌, ◌≤◌, List, Ok, Option, length};
+ghost use Rattle.std.specs.Prelude.{◌+◌, ◌≤◌, ℕ, List, Ok, Option, length};
 ghost use Rattle.sms_construct.specs.declared.entry.Entry.{Entry};
 ghost use Rattle.sms_keeper.specs.declared.rows.Rows.{Rows};
 ghost use Rattle.sms_keeper.specs.Loading.{AreLoaded};
@@ -8,7 +8,7 @@ ghost use Rattle.desk_law.specs.History.{Reaches};
 ghost use Rattle.desk_law.specs.Records.{IsTables, empty_opening};
 ghost use Rattle.desk_law.specs.State.{DeskState, Opening};
 ghost use Rattle.sms_open.specs.Own.{AreOwn, HasSoundRows};
-ghost use Rattle.sms_open.specs.Reopening.{IsOpened};
+ghost use Rattle.sms_open.specs.Reopening.{IsOpened, IsOpenedAt};
 ghost use Rattle.sms_open.specs.Tests.{most_place};
 ghost use Rattle.sms_open.specs.Verdicts.{IsVerdict};
 
@@ -20,6 +20,11 @@ pub fn new_desks_are_sound()
 /// A desk that goes on begins with sound rows.
 pub fn opened_desks_are_sound()
     ensures { (told : Option Rows) (o : Opening) → IsOpened told o → HasSoundRows o }
+{}
+
+/// So does one whose entries come behind a place too.
+pub fn placed_desks_are_sound()
+    ensures { (place : ℕ) (told : Option Rows) (o : Opening) → IsOpenedAt place told o → HasSoundRows o }
 {}
 
 /// The tables of a desk that began with sound rows and came to no place over the greatest are its own.

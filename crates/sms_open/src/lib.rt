@@ -17,9 +17,9 @@ mod testing;
 
 pub use laws::{
     left_tables_are_own, new_desks_are_sound, opened_desks_are_sound, own_tables_pass,
-    same_tables_are_own,
+    placed_desks_are_sound, same_tables_are_own,
 };
 pub use open_err::OpenErr;
-pub use reopening::reopen;
+pub use reopening::{reopen, reopen_behind};
 pub use rows_err::RowsErr;
 pub use testing::test_rows;

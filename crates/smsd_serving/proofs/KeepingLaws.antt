@@ -13,7 +13,7 @@ use Rattle.http_flow.proofs.ExchangeLaws.{AreShown-append, talks-append}
 use Rattle.sms_keeper.specs.declared.rows.Rows.{Rows}
 use Rattle.sms_keeper.specs.declared.table.Table.{Table}
 use Rattle.sms_keeper.specs.Told.{Stays}
-use Rattle.sms_core.specs.Core.{CoreView}
+use Rattle.sms_core.specs.Core.{CoreView, last_place}
 use Rattle.sms_open.specs.Own.{AreOwn, SparesTables}
 use Rattle.sms_open.specs.declared.open_err.OpenErr.{OpenErr}
 use Rattle.sms_open.specs.declared.open_err.OpenErr.TheVariants as refusals
@@ -80,9 +80,9 @@ exchanges_push : {P : Type 0} (before : List (Epoch P)) (epoch : Epoch P) → ex
 exchanges_push {P} before epoch = flat_map-append (λ (e : Epoch P). e.exchanges) before (epoch ∷ []) ∙ ap (λ l. exchanges_in before ++ l) (append-nil epoch.exchanges)
 
 module _ {P : Type 0} (told : P → Option Rows) (count : P → ℕ) where
-  turn_more : (keeper : P) (before : List (Epoch P)) (left : P) (epoch : Epoch P) → AreInTurn told count keeper before left → IsEpoch told count left epoch → AreInTurn told count keeper (before ++ epoch ∷ []) epoch.core.keeper
-  turn_more keeper [] left epoch h e = let e' : IsEpoch told count keeper epoch = rw h at e in (e', refl)
-  turn_more keeper (x ∷ before) left epoch h e = (h.0, turn_more x.core.keeper before left epoch h.1 e)
+  turn_more : (keeper : P) (place : ℕ) (before : List (Epoch P)) (left : P) (end : ℕ) (epoch : Epoch P) → AreInTurn told count keeper place before left end → IsEpoch told count left end epoch → AreInTurn told count keeper place (before ++ epoch ∷ []) epoch.core.keeper (last_place epoch.core)
+  turn_more keeper place [] left end epoch h e = let e' : IsEpoch told count keeper place epoch = rw (h.0, h.1) at e in (e', refl, refl)
+  turn_more keeper place (x ∷ before) left end epoch h e = (h.0, turn_more x.core.keeper (last_place x.core) before left end epoch h.1 e)
 
   -- the keeper that was handed in is handed back
   pub unopened_now : (damage : P → Option (Table × ℕ)) (keeper : P) → IsUnopened told count damage keeper keeper refusals.NoMemory
@@ -96,11 +96,11 @@ module _ {P : Type 0} (told : P → Option Rows) (count : P → ℕ) where
   pub unopened_behind : (damage : P → Option (Table × ℕ)) (keeper ready last : P) (err : OpenErr) → Stays (told keeper) (told ready) → count ready ≡ count keeper → IsUnopened told count damage ready last err → IsUnopened told count damage keeper last err
   unopened_behind damage keeper ready last err kept same h = record { names = h.names; own = h.own; kept = stays_on (told keeper) (told ready) (told last) kept h.kept; cause = λ failed. rw same at (h.cause failed) }
 
-  pub opened_behind : (keeper ready : P) (start : CoreView P) → Stays (told keeper) (told ready) → count ready ≡ count keeper → IsOpenedBehind told count ready start → IsOpenedBehind told count keeper start
-  opened_behind keeper ready start kept same h = record { kept = stays_on (told keeper) (told ready) (told start.keeper) kept h.kept; stands = h.stands ∙ same; opened = h.opened; new = h.new; mark = h.mark }
+  pub opened_behind : (keeper ready : P) (place : ℕ) (start : CoreView P) → Stays (told keeper) (told ready) → count ready ≡ count keeper → IsOpenedBehind told count ready place start → IsOpenedBehind told count keeper place start
+  opened_behind keeper ready place start kept same h = record { kept = stays_on (told keeper) (told ready) (told start.keeper) kept h.kept; stands = h.stands ∙ same; opened = h.opened; new = h.new; mark = h.mark }
 
-  epoch_of : (left : P) (start : CoreView P) (clerk : ClerkView P) (xs : List Exchange) → IsOpenedBehind told count left start → begun_with clerk.start ≡ begun_with start → clerk.talks ≡ talks_in xs → AreShown ShowsPage (begun_with start) [] xs → IsLeft told count clerk.start clerk.core clerk.talks → IsEpoch told count left (record { start = start; core = clerk.core; exchanges = xs })
-  epoch_of left start clerk xs opened same talks shown l = record {
+  epoch_of : (left : P) (place : ℕ) (start : CoreView P) (clerk : ClerkView P) (xs : List Exchange) → IsOpenedBehind told count left place start → begun_with clerk.start ≡ begun_with start → clerk.talks ≡ talks_in xs → AreShown ShowsPage (begun_with start) [] xs → IsLeft told count clerk.start clerk.core clerk.talks → IsEpoch told count left place (record { start = start; core = clerk.core; exchanges = xs })
+  epoch_of left place start clerk xs opened same talks shown l = record {
     opened = opened;
     left = record {
       entered = rw talks at (entered_by start clerk.start clerk.core clerk.talks same l.entered);
@@ -123,11 +123,12 @@ module _ {P : Type 0} (told : P → Option Rows) (count : P → ℕ) where
 
   module _ {C : Type 0} (seen : C → WireSeen) (port : ℕ) where
     -- nothing was served before
-    pub serving_first : (keeper : P) (clerk : ClerkView P) (ready : ReadySeen) (back : Option (List C)) (hall : Hall C) → IsOpenedBehind told count keeper clerk.start → clerk.talks ≡ [] → hall.seats.slots ≡ [] → hall.count ≡ 0 → hall.most ≤ hall.seats.capacity → IsServing told count seen port keeper clerk ready ready back back hall
+    pub serving_first : (keeper : P) (clerk : ClerkView P) (ready : ReadySeen) (back : Option (List C)) (hall : Hall C) → IsOpenedBehind told count keeper 0 clerk.start → clerk.talks ≡ [] → hall.seats.slots ≡ [] → hall.count ≡ 0 → hall.most ≤ hall.seats.capacity → IsServing told count seen port keeper clerk ready ready back back hall
     serving_first keeper clerk ready back hall opened none empty nobody fits = record {
       before = [];
       left = keeper;
-      in_turn = refl;
+      place = 0;
+      in_turn = (refl, refl);
       filled = All-nil (λ (e : Epoch P). HasFilled e);
       start = clerk.start;
       opened = opened;
@@ -149,6 +150,7 @@ module _ {P : Type 0} (told : P → Option Rows) (count : P → ℕ) where
     goes_on_served clerk clerk' ready ready' back back' hall hall' k keeper first old h = record {
       before = h.before;
       left = h.left;
+      place = h.place;
       in_turn = h.in_turn;
       filled = h.filled;
       start = h.start;
@@ -165,7 +167,8 @@ module _ {P : Type 0} (told : P → Option Rows) (count : P → ℕ) where
     goes_on_renewed clerk next ready back hall r keeper first old h = let e : Epoch P = record { start = h.start; core = clerk.core; exchanges = h.exchanges } in record {
       before = h.before ++ e ∷ [];
       left = clerk.core.keeper;
-      in_turn = turn_more keeper h.before h.left e h.in_turn (epoch_of h.left h.start clerk h.exchanges h.opened h.same h.talks h.shown r.left);
+      place = last_place clerk.core;
+      in_turn = turn_more keeper 0 h.before h.left h.place e h.in_turn (epoch_of h.left h.place h.start clerk h.exchanges h.opened h.same h.talks h.shown r.left);
       filled = All-push (λ (e : Epoch P). HasFilled e) h.before e h.filled (sym (room_by h.start clerk.start clerk.talks (talks_in h.exchanges) h.same h.talks) ∙ r.filled);
       start = next.start;
       opened = r.opened;
@@ -181,10 +184,11 @@ module _ {P : Type 0} (told : P → Option Rows) (count : P → ℕ) where
     ends_loop damage clerk clerk' last ready ready' back back' hall hall' end goes left is room keeper first old h = let s = goes keeper first old h in record {
       before = s.before;
       left = s.left;
+      place = s.place;
       epoch = record { start = s.start; core = clerk'.core; exchanges = s.exchanges };
       in_turn = s.in_turn;
       filled = s.filled;
-      is_epoch = epoch_of s.left s.start clerk' s.exchanges s.opened s.same s.talks s.shown left;
+      is_epoch = epoch_of s.left s.place s.start clerk' s.exchanges s.opened s.same s.talks s.shown left;
       ending = (is, λ turns filled. room turns (room_by s.start clerk'.start clerk'.talks (talks_in s.exchanges) s.same s.talks ∙ filled));
       stands = s.stands;
     }
@@ -194,10 +198,11 @@ module _ {P : Type 0} (told : P → Option Rows) (count : P → ℕ) where
     ends_unopened damage clerk clerk' last ready ready' back back' hall hall' err goes filled left unopened keeper first old h = let s = goes keeper first old h in record {
       before = s.before;
       left = s.left;
+      place = s.place;
       epoch = record { start = s.start; core = clerk'.core; exchanges = s.exchanges };
       in_turn = s.in_turn;
       filled = s.filled;
-      is_epoch = epoch_of s.left s.start clerk' s.exchanges s.opened s.same s.talks s.shown left;
+      is_epoch = epoch_of s.left s.place s.start clerk' s.exchanges s.opened s.same s.talks s.shown left;
       ending = (sym (room_by s.start clerk'.start clerk'.talks (talks_in s.exchanges) s.same s.talks) ∙ filled, unopened);
       stands = s.stands;
     }

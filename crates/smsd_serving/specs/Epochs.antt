@@ -12,9 +12,9 @@ use Rattle.sms_keeper.specs.declared.table.Table.{Table}
 use Rattle.sms_keeper.specs.Told.{Stays}
 use Rattle.desk_law.specs.History.{IsLegal}
 use Rattle.desk_records.specs.Tied.{faults_in}
-use Rattle.sms_core.specs.Core.{CoreView, HasTables}
+use Rattle.sms_core.specs.Core.{CoreView, HasTables, last_place}
 use Rattle.sms_open.specs.Own.{AreOwn, SparesTables}
-use Rattle.sms_open.specs.Reopening.{IsOpened, NamesRefusal}
+use Rattle.sms_open.specs.Reopening.{IsOpenedAt, NamesRefusal}
 use Rattle.sms_open.specs.declared.open_err.OpenErr.{OpenErr}
 use Rattle.sms_open.specs.declared.open_err.OpenErr.TheVariants.{Failed}
 use Rattle.desk_http.specs.Entered.{HasEntered}
@@ -47,11 +47,12 @@ abbrev pub HasFilled : {P : Type 0} → Epoch P → Type 0
 HasFilled epoch = (begun_with epoch.start).has_room (talks_in epoch.exchanges) ≡ false
 
 module _ {P : Type 0} (told : P → Option Rows) (count : P → ℕ) where
-  -- a core is opened from the tables of this keeper, which stay, and no fault is counted for that
-  pub record IsOpenedBehind (keeper : P) (start : CoreView P) : Type 0 where
+  -- a core is opened from the tables of this keeper, which stay, and no fault is counted for that; its entries come
+  -- behind this place
+  pub record IsOpenedBehind (keeper : P) (place : ℕ) (start : CoreView P) : Type 0 where
     pub kept : Stays (told keeper) (told start.keeper)
     pub stands : count start.keeper ≡ count keeper
-    pub opened : IsOpened (told start.keeper) start.opening
+    pub opened : IsOpenedAt place (told start.keeper) start.opening
     pub new : start.journal ≡ []
     pub mark : start.mark ≡ count start.keeper
 
@@ -65,18 +66,19 @@ module _ {P : Type 0} (told : P → Option Rows) (count : P → ℕ) where
     pub tables : HasTables core.opening core.journal (told core.keeper)
     pub counted : min (core.mark + faults_in core.journal) (2 ^ 64 - 1) ≤ count core.keeper
 
-  -- an epoch behind this keeper: whatever was asked in it was asked where the journal had room, and each page shows
+  -- an epoch behind this keeper and this place: whatever was asked in it was asked where the journal had room, and each page shows
   -- what was answered before it
-  pub record IsEpoch (keeper : P) (epoch : Epoch P) : Type 0 where
-    pub opened : IsOpenedBehind keeper epoch.start
+  pub record IsEpoch (keeper : P) (place : ℕ) (epoch : Epoch P) : Type 0 where
+    pub opened : IsOpenedBehind keeper place epoch.start
     pub left : IsLeft epoch.start epoch.core (talks_in epoch.exchanges)
     pub shown : AreShown ShowsPage (begun_with epoch.start) [] epoch.exchanges
 
-  -- each epoch is one behind the keeper that the one before it left, the first behind the first keeper; the last keeper
-  -- is that which the last epoch left
-  abbrev pub AreInTurn : P → List (Epoch P) → P → Type 0
-  AreInTurn keeper [] last = last ≡ keeper
-  AreInTurn keeper (epoch ∷ epochs) last = IsEpoch keeper epoch × AreInTurn epoch.core.keeper epochs last
+  -- each epoch is one behind the keeper that the one before it left, and behind the place of its last entry, the first
+  -- behind the first keeper and place; the last ones are those which the last epoch left
+  abbrev pub AreInTurn : P → ℕ → List (Epoch P) → P → ℕ → Type 0
+  AreInTurn keeper place [] last end = (last ≡ keeper) × (end ≡ place)
+  AreInTurn keeper place (epoch ∷ epochs) last end =
+      IsEpoch keeper place epoch × AreInTurn epoch.core.keeper (last_place epoch.core) epochs last end
 
   -- no core is opened from the tables of this keeper, for this cause, and the tables stay; tables that a desk left are
   -- never refused for what they hold
@@ -107,9 +109,10 @@ pub record WasKept {P C : Type 0} (told : P → Option Rows) (count : P → ℕ)
     (hall : Hall C) (end : ServingEnd) : Type 0 where
   pub before : List (Epoch P)
   pub left : P
+  pub place : ℕ
   pub epoch : Epoch P
-  pub in_turn : AreInTurn told count keeper before left
+  pub in_turn : AreInTurn told count keeper 0 before left place
   pub filled : All HasFilled before
-  pub is_epoch : IsEpoch told count left epoch
+  pub is_epoch : IsEpoch told count left place epoch
   pub ending : EndsWith told count damage epoch last end
   pub stands : Stands (house_at port) seen ready ready' (exchanges_in before ++ epoch.exchanges) back back' hall

@@ -1,6 +1,7 @@
 //! The desk of a store, served through several journals.
 ghost use Rattle.std.specs.Prelude.{◌≡◌, ◌≤◌, ◌⊎◌, [], false, true, IfErr, IfOk, OnErr, OnOk};
 ghost use Rattle.sms_base.specs.Counts.{one_call_more};
+ghost use Rattle.sms_core.specs.Core.{last_place};
 ghost use Rattle.page_text.specs.RefusalText.{said_refusal};
 ghost use Rattle.sms_open.specs.declared.open_err.OpenErr.{OpenErr as Refusal};
 ghost use Rattle.page_clerk.specs.Shows.{begun_with};
@@ -16,7 +17,7 @@ use page_clerk::PageClerk;
 use ready_wires::Readiness;
 use serve_poll::{Hall, LoopEnd, serve_event};
 use sms_keeper::{KeeperErr, Stored};
-use sms_open::{OpenErr, reopen};
+use sms_open::{OpenErr, reopen_behind};
 use std::alloc::Global;
 
 /// Why serving ended, and the connections that are still served.
@@ -66,7 +67,7 @@ fn open_ready<P: Stored>(
     keeper: P,
     slate: Slate,
 ) -> Result<PageClerk<P>, (P, OpenErr)>
-    ensures start { IfOk result (λ clerk. IsOpenedBehind P.Keeper.told P.Keeper.count keeper clerk.start) }
+    ensures start { IfOk result (λ clerk. IsOpenedBehind P.Keeper.told P.Keeper.count keeper 0 clerk.start) }
     ensures talks { IfOk result (λ clerk. clerk.talks ≡ []) }
     ensures roomy { IfOk result (λ clerk. (begun_with clerk.start).has_room clerk.talks ≡ true) }
     ensures unopened { IfErr result (λ back.
@@ -74,38 +75,41 @@ fn open_ready<P: Stored>(
 {
     let mut keeper = keeper;
     match keeper.ready() {
-        Ok(()) => open_clerk(alloc, keeper, slate),
+        Ok(()) => open_clerk(alloc, keeper, slate, 0),
         Err(KeeperErr::Failed) => Err((keeper, OpenErr::Failed)),
         Err(KeeperErr::NoMemory) => Err((keeper, OpenErr::NoMemory)),
     }
 }
 
-// A clerk of a desk that goes on from the tables of the keeper; or why there is none.
+// A clerk of a desk that goes on from the tables of the keeper, and behind this place; or why there is none.
 fn open_clerk<P: Stored>(
     alloc: Global,
     keeper: P,
     slate: Slate,
+    place: u64,
 ) -> Result<PageClerk<P>, (P, OpenErr)>
-    ensures start { IfOk result (λ clerk. IsOpenedBehind P.Keeper.told P.Keeper.count keeper clerk.start) }
+    ensures start { IfOk result (λ clerk. IsOpenedBehind P.Keeper.told P.Keeper.count keeper place clerk.start) }
     ensures talks { IfOk result (λ clerk. clerk.talks ≡ []) }
     ensures roomy { IfOk result (λ clerk. (begun_with clerk.start).has_room clerk.talks ≡ true) }
     ensures unopened { IfErr result (λ back.
         IsUnopened P.Keeper.told P.Keeper.count P.damage keeper back.0 back.1) }
 {
-    match reopen(alloc, keeper) {
+    match reopen_behind(alloc, keeper, place) {
         Ok(core) => Ok(PageClerk::new(alloc, core, slate)),
         Err(back) => Err(back),
     }
 }
 
-// The keeper of the clerk's core, and the slate. The journal and the talks are freed.
-fn take_keeper<P: Stored>(clerk: PageClerk<P>) -> (P, Slate)
+// The keeper of the clerk's core, the slate, and the place of the last entry. The journal and the talks are freed.
+fn take_keeper<P: Stored>(clerk: PageClerk<P>) -> (P, Slate, u64)
     ensures keeper { result.0 ≡ clerk.core.keeper }
+    ensures place { result.2 ≡ last_place clerk.core }
     ensures left { IsLeft P.Keeper.told P.Keeper.count clerk.start clerk.core clerk.talks }
 {
     let (core, slate, _) = clerk.into_parts();
+    let place = core.last_place();
     let (keeper, _) = core.into_parts();
-    (keeper, slate)
+    (keeper, slate, place)
 }
 
 // Serves the connections that come, epoch by epoch, until so many events came.
@@ -123,7 +127,7 @@ fn serve_epochs<P: Stored, R: Readiness>(
     requires empty { hall.seats.slots ≡ [] }
     requires first { hall.count ≡ 0 }
     requires fits { hall.most ≤ hall.seats.capacity }
-    ensures served { (keeper : P) → IsOpenedBehind P.Keeper.told P.Keeper.count keeper clerk.start
+    ensures served { (keeper : P) → IsOpenedBehind P.Keeper.told P.Keeper.count keeper 0 clerk.start
         → WasKept P.Keeper.told P.Keeper.count P.damage R.Conn.seen room.site keeper result.1
         (R.seen poller.old) (R.seen poller.new) (R.back poller.old) (R.back poller.new) result.0.hall result.0.end }
     ensures watched { AreWatched R.Conn.seen (R.seen poller.new).awaited result.0.hall.seats }
@@ -140,7 +144,7 @@ fn serve_epochs<P: Stored, R: Readiness>(
             Err((end, keeper)) => return (Kept { end, hall }, keeper),
         }
     }
-    let (keeper, _) = take_keeper(clerk);
+    let (keeper, _, _) = take_keeper(clerk);
     let end = ServingEnd::Loop(LoopEnd::Turns);
     (Kept { end, hall }, keeper)
 }
@@ -192,7 +196,7 @@ fn stop<P: Stored>(clerk: PageClerk<P>, end: LoopEnd) -> (ServingEnd, P)
     ensures keeper { result.1 ≡ clerk.core.keeper }
     ensures left { IsLeft P.Keeper.told P.Keeper.count clerk.start clerk.core clerk.talks }
 {
-    let (keeper, _) = take_keeper(clerk);
+    let (keeper, _, _) = take_keeper(clerk);
     (ServingEnd::Loop(end), keeper)
 }
 
@@ -209,8 +213,8 @@ fn go_on<P: Stored>(alloc: Global, clerk: PageClerk<P>) -> Result<PageClerk<P>, 
     if clerk.has_room() {
         return Ok(clerk);
     }
-    let (keeper, slate) = take_keeper(clerk);
-    match open_clerk(alloc, keeper, slate) {
+    let (keeper, slate, place) = take_keeper(clerk);
+    match open_clerk(alloc, keeper, slate, place) {
         Ok(next) => Ok(next),
         Err((keeper, err)) => Err((ServingEnd::Unopened(err), keeper)),
     }

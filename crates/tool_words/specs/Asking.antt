@@ -111,11 +111,15 @@ pick_in rows =
 
 -- which allocations these rows ask to be explained, and in which form
 abbrev pub explain_in : List Row → Option Task
-explain_in rows = option_and_then (λ pick. option_map (λ format. tasks.Script (script_tasks.Explain pick format)) (format_in rows)) (pick_in rows)
+explain_in rows =
+    option_and_then (λ pick. option_map (λ format. tasks.Script (script_tasks.Explain pick format)) (format_in rows))
+    (pick_in rows)
 
 -- which coverage these rows ask for, and in which form it is told
 abbrev pub coverage_in : List Row → Option Task
-coverage_in rows = option_and_then (λ least. option_map (λ format. tasks.Script (script_tasks.Coverage least format)) (format_in rows)) (least_in rows)
+coverage_in rows =
+    option_and_then (λ least. option_map (λ format. tasks.Script (script_tasks.Coverage least format)) (format_in rows))
+    (least_in rows)
 
 -- how these rows ask two decks to be compared, in this form
 abbrev pub comparison_with : List Row → Format → Comparison
@@ -130,7 +134,8 @@ abbrev pub task_of : Text → List Row → Option Task
 task_of name rows =
     if bytes_eq name (codes "translate") then option_map tasks.Translate (kind_in rows)
     else if bytes_eq name (codes "validate") then option_map tasks.Validate (format_in rows)
-    else if bytes_eq name (codes "simulate") then option_map (λ format. tasks.Script (script_tasks.Simulate format)) (format_in rows)
+    else if bytes_eq name (codes "simulate")
+    then option_map (λ format. tasks.Script (script_tasks.Simulate format)) (format_in rows)
     else if bytes_eq name (codes "compare")
     then option_map (λ format. tasks.Compare (comparison_with rows format)) (format_in rows)
     else if bytes_eq name (codes "explain") then explain_in rows

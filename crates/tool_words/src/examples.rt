@@ -39,10 +39,10 @@ smsc compare [OLD [NEW [CASES]]] [--changed] [--fail] [--format FORM]
 const EXPLAIN: &str = "
 smsc explain [FILE | DECK CASES] [--case NAME] [--job JOB] [--number N]
              [--format FORM]
-                     tell what each routine does with the allocations of such
-                     a script, or the cases of a table, statement by
-                     statement, or with those of a name, of a job or with a
-                     number alone; FORM is text, csv or json
+                     tell what each routine does with the allocations of a
+                     script as simulate reads it, or with the cases of a
+                     table, statement by statement; --case, --job and
+                     --number tell those alone; FORM is text, csv or json
 
     smsc explain morning.txt --job PAYJOB --number 1
     smsc explain deck.toml cases.csv --case PAY1
@@ -50,10 +50,11 @@ smsc explain [FILE | DECK CASES] [--case NAME] [--job JOB] [--number N]
 
 const COVERAGE: &str = "
 smsc coverage [FILE | DECK CASES] [--fail-under N] [--format FORM]
-                     tell what the allocations of such a script, or the cases
-                     of a table, reach of the routines, and what they don't;
-                     with --fail-under the exit status is 1 where they cover
-                     less than N per cent of one; FORM is text, csv or json
+                     tell what the allocations of a script as simulate reads
+                     it, or the cases of a table, reach of the routines, and
+                     what they don't; with --fail-under the exit status is 1
+                     where they cover less than N per cent of one; FORM is
+                     text, csv or json
 
     smsc coverage deck.toml cases.csv --fail-under 90
 ";

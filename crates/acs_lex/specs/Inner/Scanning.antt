@@ -22,7 +22,6 @@ pub data Front : Type 0 where
 
 -- the same of the value that the code hands on
 abbrev pub front_of : Piece → Front
-front_of piece.End = Ends
 front_of (piece.Gap rest) = Skips rest.now
 front_of (piece.Token one rest) = Takes one rest.now
 front_of (piece.Fault err) = Fails err

@@ -12,13 +12,9 @@ use Rattle.acs_parse.specs.declared.parts.WhenParts.{WhenParts}
 
 -- the form of these parts
 abbrev pub form_of_parts : FormParts → Form
-form_of_parts (form_parts.Filt name at os xs) = form.Filt name at os xs
-form_of_parts (form_parts.Put r os) = form.Put r os
 form_of_parts (form_parts.If c s o) = form.If c s o
 form_of_parts (form_parts.Pick r ws o) = form.Pick r ws o
 form_of_parts (form_parts.Do ss) = form.Do ss
-form_of_parts (form_parts.Write os) = form.Write os
-form_of_parts (form_parts.Exit o) = form.Exit o
 
 -- the test of these parts
 abbrev pub test_of_parts : TestParts → WhenTest

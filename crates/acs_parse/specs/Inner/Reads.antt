@@ -14,6 +14,7 @@ use Rattle.acs_parse.specs.declared.list_kind.ListKind.{ListKind}
 use Rattle.acs_parse.specs.declared.list_kind.ListKind.TheVariants as list
 use Rattle.acs_symbol.specs.declared.symbol.Symbol.{Symbol}
 use Rattle.acs_symbol.specs.declared.symbol.WordKind.{WordKind}
+use Rattle.acs_symbol.specs.declared.symbol.WordKind.TheVariants as word
 use Rattle.acs_symbol.specs.declared.symbol.Symbol.TheVariants.{Word, Open, Close, Comma}
 use Rattle.acs_parse.specs.declared.want.Want.{Want}
 use Rattle.acs_parse.specs.declared.want.Want.TheVariants as want
@@ -21,8 +22,8 @@ use Rattle.acs_parse.specs.declared.fault.ParseErr.{ParseErr}
 use Rattle.acs_parse.specs.declared.fault.ParseErr.TheVariants as answer
 use Rattle.acs_parse.specs.declared.fault.Fault.{Fault}
 use Rattle.acs_parse.specs.declared.fault.Fault.TheVariants.{Unexpected, Ended, Deep, NoMemory}
-use Rattle.acs_parse.specs.Grammar.{starts, placed, joins, limited, IsOperands, IsCond, IsStmt, IsAlternative, IsWhen}
-use Rattle.acs_parse.specs.Grammar.{IsWhens, IsRoutineOf}
+use Rattle.acs_parse.specs.Grammar.{starts, placed, joins, limited, IsOperands, IsCond, IsStmt, IsAlternative, IsItem}
+use Rattle.acs_parse.specs.Grammar.{IsWhen, IsWhens, IsRoutineOf}
 use Rattle.acs_parse.specs.Inner.Language.{Takes}
 use Rattle.acs_parse.specs.Inner.Table.{Effect, Keep, To, Part, One, ACondition, AnOperand, MoreOperands, start}
 use Rattle.acs_parse.specs.Inner.Table.{Verdict, Short, Stop, TooMany, verdict}
@@ -72,10 +73,35 @@ GoesOn kind ts behind =
 abbrev pub IsEntries : ℕ → List Symbol → List Operand → List Symbol → Type 0
 IsEntries total ts os rest = (ms : List Symbol) × (ts ≡ Open ∷ ms) × IsOperands total list.Entries ms os (Close ∷ rest)
 
+-- the token begins a statement that has others inside it
+abbrev pub nesting : Symbol → Bool
+nesting (Word word.If a) = true
+nesting (Word word.Select a) = true
+nesting (Word word.Do a) = true
+nesting _ = false
+
+-- such a statement begins at these tokens
+abbrev pub nests : List Symbol → Bool
+nests [] = false
+nests (t ∷ ts) = nesting t
+
+-- a statement, however many are open where it begins
+abbrev pub IsPlain : ℕ → List Symbol → Stmt → List Symbol → Type 0
+IsPlain total ts s rest = (n : ℕ) → IsStmt total limited n ts s rest
+
+-- these statements and such a one behind them, which is read
+abbrev pub IsPlainMore : ℕ → List Symbol → List Stmt → List Stmt → List Symbol → Type 0
+IsPlainMore total ts list longer rest = (s : Stmt) × IsPlain total ts s rest × (longer ≡ list ++ s ∷ [])
+
 -- what a statement with this word is, by the tokens behind the word
 abbrev pub IsBehind : ℕ → WordKind → ℕ → List Symbol → Form → List Symbol → Type 0
 IsBehind total kind n ts form rest =
     (a : List ℕ) → IsStmt total limited n (Word kind a ∷ ts) (placed total (Word kind a ∷ ts) form) rest
+
+-- the same of a statement whose first token is at this place, however many are open
+abbrev pub IsBehindAt : ℕ → WordKind → ℕ → List Symbol → Stmt → List Symbol → Type 0
+IsBehindAt total kind at ts s rest =
+    (f : Form) × (s ≡ record { at = at; form = f }) × ((n : ℕ) → IsBehind total kind n ts f rest)
 
 -- the same where the word opens one more, so that this many are open behind it
 abbrev pub IsInside : ℕ → WordKind → ℕ → List Symbol → Form → List Symbol → Type 0
@@ -94,6 +120,11 @@ IsCondBefore total w n ts c rest = (m : ℕ) × (a : List Symbol) × IsCond tota
 abbrev pub AreArms : ℕ → ℕ → List Symbol → Stmt → Option Stmt → List Symbol → Type 0
 AreArms total n ts s o rest =
     (ms : List Symbol) × IsStmt total limited n ts s ms × IsAlternative total limited want.Else n ms o rest
+
+-- these statements of a block and one more, which is read
+abbrev pub IsItemMore : ℕ → Bool → ℕ → List Symbol → List Stmt → List Stmt → List Symbol → Type 0
+IsItemMore total whole n ts list longer rest =
+    (s : Stmt) × IsItem total limited whole n ts s rest × (longer ≡ list ++ s ∷ [])
 
 -- this list of WHENs and one more, which is read
 abbrev pub IsOneMore : ℕ → Bool → ℕ → List Symbol → List When → List When → List Symbol → Type 0

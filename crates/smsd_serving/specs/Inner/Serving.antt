@@ -5,7 +5,7 @@ use Rattle.ready_wires.specs.Events.{ReadySeen}
 use Rattle.http_flow.specs.Exchange.{Exchange, AreShown, talks_in}
 use Rattle.sms_keeper.specs.declared.rows.Rows.{Rows}
 use Rattle.sms_keeper.specs.declared.table.Table.{Table}
-use Rattle.sms_core.specs.Core.{CoreView}
+use Rattle.sms_core.specs.Core.{CoreView, last_place}
 use Rattle.desk_http.specs.Entered.{ClerkView}
 use Rattle.page_clerk.specs.Shows.{ShowsPage, begun_with}
 use Rattle.serve_poll.specs.Halls.{Stands}
@@ -19,7 +19,7 @@ module _ {P : Type 0} (told : P → Option Rows) (count : P → ℕ) where
   pub record IsRenewed (clerk next : ClerkView P) : Type 0 where
     pub filled : (begun_with clerk.start).has_room clerk.talks ≡ false
     pub left : IsLeft told count clerk.start clerk.core clerk.talks
-    pub opened : IsOpenedBehind told count clerk.core.keeper next.start
+    pub opened : IsOpenedBehind told count clerk.core.keeper (last_place clerk.core) next.start
     pub none : next.talks ≡ []
 
   module _ {C : Type 0} (seen : C → WireSeen) (port : ℕ) where
@@ -28,10 +28,11 @@ module _ {P : Type 0} (told : P → Option Rows) (count : P → ℕ) where
         (hall : Hall C) : Type 0 where
       pub before : List (Epoch P)
       pub left : P
-      pub in_turn : AreInTurn told count keeper before left
+      pub place : ℕ
+      pub in_turn : AreInTurn told count keeper 0 before left place
       pub filled : All HasFilled before
       pub start : CoreView P
-      pub opened : IsOpenedBehind told count left start
+      pub opened : IsOpenedBehind told count left place start
       pub same : begun_with clerk.start ≡ begun_with start
       pub exchanges : List Exchange
       pub talks : clerk.talks ≡ talks_in exchanges

@@ -3,25 +3,25 @@ use Rattle.std.proofs.lemmas.Grind.{common_steps}
 use Rattle.std.proofs.lemmas.Result.{err_from_is_err_and}
 use Rattle.acs_symbol.specs.declared.symbol.Symbol.TheVariants.{Open}
 use Rattle.acs_parse.specs.declared.want.Want.TheVariants as want
-use Rattle.acs_parse.proofs.ShorterLemmas.{takes_shorter, stmt_shorter, choice_shorter, when_shorter}
+use Rattle.acs_parse.proofs.ShorterLemmas.{takes_shorter, item_shorter, stmt_shorter, choice_shorter, when_shorter}
 use Rattle.acs_parse.proofs.CondLemmas.{before_shorter}
-use Rattle.acs_parse.proofs.StatementLemmas.{block_turn, block_fails, inner_fails, item_is_statement, if_at}
-use Rattle.acs_parse.proofs.StatementLemmas.{if_arms_fail}
+use Rattle.acs_parse.proofs.StatementLemmas.{block_turn, block_fails, if_at}
+use Rattle.acs_parse.proofs.StatementLemmas.{if_arms_fail, more_of_plain, more_of_statement}
 use Rattle.acs_parse.proofs.SelectLemmas.{when_clauses_first, when_clauses_turn, when_clauses_fail, choice_by_value}
 use Rattle.acs_parse.proofs.SelectLemmas.{choice_values_fail, when_of, when_test_fails, when_items_fail}
 use Rattle.acs_parse.proofs.SelectLemmas.{when_body_fails, test_shorter}
 use Rattle.acs_parse.proofs.statements.+statement.Goals as goal
 
-pub block-returns-in_err-next : goal.block-returns-in_err-next
-block-returns-in_err-next t c =
+pub block-returns-in_err-found : goal.block-returns-in_err-found
+block-returns-in_err-found t c =
     let p = err_from_is_err_and c.from_residual.result c.from_residual.ensures.1 in
-    rw (p.1, p.2) (block_fails c.in_err-next.field-0.0 c.items.invariant c.items-test.ensures (inner_fails c.in_err-next.field-0.0 c.args.depth c.skip.new.rest c.in_err-next.ensures))
+    rw (p.1, p.2) (block_fails c.in_err-found.field-0.0 c.items.invariant c.items-test.ensures c.in_err-found.ensures)
 
 pub block-items-smaller : goal.block-items-smaller
-block-items-smaller t c = omega (arith, stmt_shorter c.in_ok-next.ensures, ap length c.items-test.ensures.1)
+block-items-smaller t c = omega (arith, item_shorter c.in_ok-found.ensures.1, ap length c.items-test.ensures.1)
 
 pub block-items-preserved : goal.block-items-preserved
-block-items-preserved t c = block_turn c.items.invariant c.items-test.ensures (item_is_statement false c.in_ok-next.ensures) c.in_ok-found.ensures
+block-items-preserved t c = block_turn c.items.invariant c.items-test.ensures c.in_ok-found.ensures.1 c.in_ok-found.ensures.2
 
 pub when_clauses-whens-init : goal.when_clauses-whens-init
 when_clauses-whens-init t c = when_clauses_first c.in_ok-found.ensures c.new.ensures
@@ -91,3 +91,9 @@ when_value-statement-requires t c = (omega (arith, takes_shorter want.When c.in_
 
 pub when_condition-statement-requires : goal.when_condition-statement-requires
 when_condition-statement-requires t c = (omega (arith, takes_shorter want.When c.in_ok-expect.ensures, test_shorter c.in_ok-test.ensures), tt)
+
+pub inner_item-returns-in_ok-with_boxed : goal.inner_item-returns-in_ok-with_boxed
+inner_item-returns-in_ok-with_boxed t c = more_of_statement false c.args.found c.in_ok-with_boxed.field-0 c.in_ok-next.ensures c.in_ok-with_boxed.ensures
+
+pub inner_item-returns-in_ok-longer : goal.inner_item-returns-in_ok-longer
+inner_item-returns-in_ok-longer t c = more_of_plain _ _ false _ _ c.args.found c.in_ok-longer.longer c.in_ok-longer.ensures

@@ -46,7 +46,10 @@ abbrev pub decreases-arms : goal.decreases-arms
 decreases-arms l = 5 * length l.rest.now + 1
 
 abbrev pub decreases-block : goal.decreases-block
-decreases-block l = 5 * length l.rest.now + 1
+decreases-block l = 5 * length l.rest.now + 2
+
+abbrev pub decreases-inner_item : goal.decreases-inner_item
+decreases-inner_item l = 5 * length l.rest.now + 1
 
 abbrev pub decreases-group : goal.decreases-group
-decreases-group l = 5 * length l.rest.now + 2
+decreases-group l = 5 * length l.rest.now + 3

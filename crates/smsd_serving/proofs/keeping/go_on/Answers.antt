@@ -8,7 +8,7 @@ returns-then-has_room-clause-ok g c = inl refl
 pub returns-in-Ok-clause-ok : goal.returns-in-Ok-clause-ok
 returns-in-Ok-clause-ok g c =
     let took = c.take_keeper-keeper.ensures in
-    inr (record { filled = sym c.has_room.ensures ∙ c.if-has_room.false; left = took.left; opened = rw took.keeper at c.in-Ok.ensures.start; none = c.in-Ok.ensures.talks })
+    inr (record { filled = sym c.has_room.ensures ∙ c.if-has_room.false; left = took.left; opened = rw (took.keeper, took.place) at c.in-Ok.ensures.start; none = c.in-Ok.ensures.talks })
 
 pub returns-in-Err-clause-err : goal.returns-in-Err-clause-err
 returns-in-Err-clause-err g c = (c.in-Err.err, refl, rw c.take_keeper-keeper.ensures.keeper at c.in-Err.ensures.unopened)

@@ -8,7 +8,7 @@ use Rattle.smsd_serving.proofs.keeping.open_clerk.Goals as goal
 pub returns-in-Ok-clause-start : goal.returns-in-Ok-clause-start
 returns-in-Ok-clause-start g c =
     let opened = c.in-Ok.ensures in
-    let own : IsOpenedBehind g.P.Keeper.told g.P.Keeper.count c.args.keeper c.in-Ok.core = record { kept = opened.kept; stands = opened.stands; opened = opened.opened; new = opened.journal; mark = opened.mark ∙ sym opened.stands } in
+    let own : IsOpenedBehind g.P.Keeper.told g.P.Keeper.count c.args.keeper c.args.place c.in-Ok.core = record { kept = opened.kept; stands = opened.stands; opened = opened.opened; new = opened.journal; mark = opened.mark ∙ sym opened.stands } in
     rw c.new.ensures.start own
 
 pub returns-in-Ok-clause-roomy : goal.returns-in-Ok-clause-roomy

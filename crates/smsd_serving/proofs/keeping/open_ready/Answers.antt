@@ -6,7 +6,7 @@ use Rattle.smsd_serving.proofs.keeping.open_ready.Goals as goal
 
 pub returns-in-Ok-clause-start : goal.returns-in-Ok-clause-start
 returns-in-Ok-clause-start g c =
-    IfOk-weaker c.open_clerk.result _ _ (λ clerk h. opened_behind _ _ _ _ clerk.start c.in-Ok.ensures.kept (c.in-Ok.ensures.stands (λ e. cc)) h) c.open_clerk.ensures.start
+    IfOk-weaker c.open_clerk.result _ _ (λ clerk h. opened_behind _ _ _ _ _ clerk.start c.in-Ok.ensures.kept (c.in-Ok.ensures.stands (λ e. cc)) h) c.open_clerk.ensures.start
 
 pub returns-in-Ok-clause-unopened : goal.returns-in-Ok-clause-unopened
 returns-in-Ok-clause-unopened g c =

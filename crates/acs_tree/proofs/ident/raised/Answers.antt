@@ -2,7 +2,7 @@ use Rattle.std.proofs.Common.{arith, ◌≡◌}
 use Rattle.std.proofs.lemmas.Grind.{common_steps}
 use Rattle.std.specs.Str.{str_to_ascii_uppercase}
 use Rattle.acs_tree.proofs.UpperLemmas.{upper_is_ident}
-use Rattle.acs_tree.proofs.ident.Ident.upper.Goals as goal
+use Rattle.acs_tree.proofs.ident.raised.Goals as goal
 
 pub invariant_of-result : goal.invariant_of-result
 invariant_of-result c =
