@@ -1,9 +1,9 @@
 -- The cases of records, one after the other.
 use Rattle.std.proofs.Common.{◌≡◌, ℕ, ◌+◌, List, [], ◌∷◌, ◌++◌, Ok, Err, refl, sym, ap, ◌∙◌, append_assoc}
 use Rattle.std.specs.Prelude.{Result, Some, codes, false}
-use Rattle.std.specs.List.{list_any}
 use Rattle.sms_construct.specs.declared.alloc.Alloc.{Alloc}
-use Rattle.acs_test.specs.AllocLine.{field_of, has_blank}
+use Rattle.acs_test.specs.AllocLine.{field_of}
+use Rattle.acs_test.specs.Expected.{expected_in, has_unfit}
 use Rattle.acs_test.specs.Records.{alloc_in, case_behind, case_of, cases_behind, job_in, name_in, with_case}
 use Rattle.acs_test.specs.declared.case.Case.{Case}
 use Rattle.acs_test.specs.declared.cases_err.CasesErr.{CasesErr}
@@ -34,7 +34,7 @@ case_joins columns count fields records cases case found =
     ∙ behind_more cases case (cases_behind columns (count + 1) records)
 
 -- the case that the fields write
-pub case_found : (columns fields : List (List ℕ)) (number : ℕ) (name job dsn : List ℕ) (alloc : Alloc) → list_any has_blank fields ≡ false
+pub case_found : (columns fields : List (List ℕ)) (number : ℕ) (name job dsn : List ℕ) (alloc : Alloc) (expect : List ℕ) → has_unfit columns fields ≡ false
     → name_in columns fields ≡ Some name → job_in columns fields ≡ Some job → field_of (codes "DSN") columns fields ≡ Some dsn → alloc_in dsn columns fields ≡ Some alloc
-    → case_of columns number fields ≡ Some (record { name = name; job = job; number = number; alloc = alloc })
-case_found columns fields number name job dsn alloc blank one two three four = rw (blank, one, two, three, four) refl
+    → expect ≡ expected_in columns fields → case_of columns number fields ≡ Some (record { name = name; job = job; number = number; alloc = alloc; expect = expect })
+case_found columns fields number name job dsn alloc expect fit one two three four expects = rw (fit, one, two, three, four, expects) refl

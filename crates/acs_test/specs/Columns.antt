@@ -4,6 +4,7 @@ use Rattle.std.specs.Prelude.{None, Some, if◌then◌else◌}
 use Rattle.std.specs.Char.{to_ascii_uppercase}
 use Rattle.std.specs.List.{list_any}
 use Rattle.sms_script.specs.Operands.{is_key}
+use Rattle.acs_test.specs.Expected.{is_expect}
 
 -- the column is one of these
 abbrev pub is_among : List (List ℕ) → List ℕ → Bool
@@ -13,9 +14,9 @@ is_among columns column = list_any (bytes_eq column) columns
 abbrev pub wanted : List (List ℕ)
 wanted = codes "CASE" ∷ codes "JOB" ∷ codes "DSN" ∷ []
 
--- the column is one of these names, or the key of an operand
+-- the column is one of these names, the key of an operand, or that of what is expected
 abbrev pub is_column : List ℕ → Bool
-is_column column = is_among wanted column || is_key column
+is_column column = (is_among wanted column || is_key column) || is_expect column
 
 -- each of the columns that a table has is among these
 abbrev pub has_wanted : List (List ℕ) → Bool

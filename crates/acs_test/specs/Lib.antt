@@ -1,6 +1,7 @@
 pub mod Layout
 pub mod Columns
 pub mod AllocLine
+pub mod Expected
 pub mod Table
 pub mod Records
 pub mod Reading

@@ -1,15 +1,15 @@
 -- The cases that the records of a table write (docs/manual/tool.md, "Comparing two decks").
 use Rattle.std.specs.Prelude.{ℕ, ◌≡◌, ◌+◌, ◌==◌, false, not, List, [], ◌∷◌, codes, length, nat_le, Option, None, Some}
 use Rattle.std.specs.Prelude.{Result, Ok, Err, if◌then◌else◌}
-use Rattle.std.specs.List.{list_any}
 use Rattle.dsn_mask.specs.Name.{name_of}
 use Rattle.sms_construct.specs.declared.alloc.Alloc.{Alloc}
 use Rattle.sms_script.specs.Commands.{is_admin}
 use Rattle.sms_script.specs.Found.{◌⊳◌}
 use Rattle.sms_script.specs.Ops.{op_of}
 use Rattle.sms_simulation.specs.Simulation.{alloc_of}
-use Rattle.acs_test.specs.AllocLine.{alloc_line, field_of, has_blank}
+use Rattle.acs_test.specs.AllocLine.{alloc_line, field_of}
 use Rattle.acs_test.specs.Columns.{columns_of, header_fault}
+use Rattle.acs_test.specs.Expected.{expected_in, has_unfit}
 use Rattle.acs_test.specs.Table.{IsTable}
 use Rattle.acs_test.specs.declared.case.Case.{Case}
 use Rattle.acs_test.specs.declared.cases_err.CasesErr.{CasesErr}
@@ -34,12 +34,18 @@ alloc_in dsn columns fields = op_of false (alloc_line dsn columns fields) ⊳ al
 -- the case that the record with this number writes, if any
 abbrev pub case_of : List (List ℕ) → ℕ → List (List ℕ) → Option Case
 case_of columns number fields =
-    if list_any has_blank fields then None else
+    if has_unfit columns fields then None else
     name_in columns fields ⊳ λ name.
     job_in columns fields ⊳ λ job.
     field_of (codes "DSN") columns fields ⊳ λ dsn.
     alloc_in dsn columns fields ⊳ λ alloc.
-    Some (record { name = name; job = job; number = number; alloc = alloc })
+    Some (record {
+      name = name;
+      job = job;
+      number = number;
+      alloc = alloc;
+      expect = expected_in columns fields;
+    })
 
 -- the most cases of a table
 abbrev pub most_cases : ℕ

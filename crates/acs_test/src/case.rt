@@ -1,5 +1,5 @@
 //! One case.
-use desk_common::Shared;
+use desk_common::{Items, Shared};
 use dsn_mask::Name;
 use sms_construct::{Alloc, RequestNumber};
 
@@ -12,4 +12,6 @@ pub struct Case {
     pub job: Name,
     pub number: RequestNumber,
     pub alloc: Shared<Alloc>,
+    /// What it is expected to come to (docs/manual/tool.md, "Cases with what is expected"); empty where nothing is.
+    pub expect: Items<u8>,
 }

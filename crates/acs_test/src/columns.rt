@@ -57,6 +57,7 @@ fn is_column(name: &[u8]) -> bool
         || name == b"JOB".as_slice()
         || name == b"DSN".as_slice()
         || is_key(name)
+        || name == b"EXPECT".as_slice()
 }
 
 // Whether each column is there that a table has.

@@ -26,5 +26,6 @@ pub use cases_err::{CasesErr, Side};
 pub use form::CaseForm;
 pub use layout::InputParts;
 pub use listing::{Listing, compare, list_cases};
+pub use outcome::classified;
 pub use reading::{read_cases, read_parts};
 pub use table_cases::read_table;

@@ -6,6 +6,7 @@ ghost use Rattle.std.specs.List.{list_any};
 ghost use Rattle.csv.specs.Records.{fields_of};
 ghost use Rattle.desk_common.specs.Exact.{MayRefuse};
 ghost use Rattle.acs_test.specs.AllocLine.{field_of, has_blank};
+ghost use Rattle.acs_test.specs.Expected.{expected_in, has_unfit, is_unfit, is_unprinted};
 ghost use Rattle.acs_test.specs.Records.{alloc_in, case_behind, case_of, job_in, job_of, most_cases, name_in};
 
 use crate::case::Case;
@@ -66,7 +67,7 @@ fn read_case(
     requires some { 0 < number }
     ensures { IfOk result (λ case. case ≡ case_of columns.now number (map (λ field. field.now) fields.now)) }
 {
-    if has_any_blank(fields) {
+    if has_unfit(columns, fields) {
         return Ok(None);
     }
     let Some(name) = name_in(columns, fields) else {
@@ -78,6 +79,7 @@ fn read_case(
     let Some(dsn) = field_of(b"DSN", columns, fields) else {
         return Ok(None);
     };
+    let expect = expected_in(alloc, columns, fields)?;
     let Some(alloc) = read_alloc(alloc, buffer, dsn, columns, fields)? else {
         return Ok(None);
     };
@@ -86,18 +88,37 @@ fn read_case(
         job,
         number: request_number(number),
         alloc,
+        expect,
     }))
 }
 
-fn has_any_blank(fields: &[&[u8]]) -> bool
-    ensures { result ≡ list_any has_blank (map (λ field. field.now) fields.now) }
+// Whether a field has a byte that can't stand under its column.
+fn has_unfit(columns: &[Items<u8>], fields: &[&[u8]]) -> bool
+    requires { length fields.now ≡ length columns.now }
+    ensures { result ≡ has_unfit columns.now (map (λ field. field.now) fields.now) }
 {
-    for field in fields {
-        if has_blank(field) {
+    for (at, column) in columns.iter().enumerate() {
+        if is_unfit(column.as_slice(), fields[at]) {
             return true;
         }
     }
     false
+}
+
+fn is_unfit(column: &[u8], field: &[u8]) -> bool
+    ensures { result ≡ is_unfit column.now field.now }
+{
+    if column == b"EXPECT".as_slice() {
+        has_unprinted(field)
+    } else {
+        has_blank(field)
+    }
+}
+
+fn has_unprinted(field: &[u8]) -> bool
+    ensures { result ≡ list_any is_unprinted field.now }
+{
+    field.iter().any(|byte| *byte < b' ' || b'~' < *byte)
 }
 
 fn has_blank(field: &[u8]) -> bool
@@ -111,6 +132,20 @@ fn request_number(number: u32) -> RequestNumber
     ensures { result ≡ number }
 {
     RequestNumber::new(number).unwrap()
+}
+
+// What the record expects of its case; empty where it expects nothing.
+fn expected_in(
+    alloc: Global,
+    columns: &[Items<u8>],
+    fields: &[&[u8]],
+) -> Result<Items<u8>, AllocError>
+    ensures { IfOk result (λ expect. expect ≡ expected_in columns.now (map (λ field. field.now) fields.now)) }
+{
+    match field_of(b"EXPECT", columns, fields) {
+        Some(field) => Items::from_slice(alloc, field),
+        None => Ok(Items::new(alloc)),
+    }
 }
 
 fn name_in(columns: &[Items<u8>], fields: &[&[u8]]) -> Option<Name>

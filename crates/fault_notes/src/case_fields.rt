@@ -9,12 +9,15 @@ const CASE: &str = "a name: 1 to 8 capitals, digits, #, @ and $, the first no di
 const JOB: &str =
     "the name of a job other than SMSADMIN: 1 to 8 capitals, digits, #, @ and $, the first no digit";
 
-/// The keys that may stand in a header beside CASE, JOB and DSN.
-pub static KEYS: [&str; 32] = [
+const EXPECT: &str =
+    "a storage class, or the outcome as simulate prints it: bytes of printed ASCII";
+
+/// The columns that a header may have.
+pub static KEYS: [&str; 33] = [
     "CASE", "JOB", "DSN", "SPACE", "DATACLAS", "STORCLAS", "MGMTCLAS", "DEFDC", "DEFSC", "DEFMC",
     "VOL", "VOLCNT", "USER", "GROUP", "PGM", "DD", "UNIT", "DSORG", "RECORG", "DSNTYPE", "DSTYPE",
     "ACSENVIR", "XMODE", "APPLIC", "OWNER", "ACCT", "STEPACCT", "RETPD", "EXPDT", "BLKSIZE", "DAY",
-    "EATTR",
+    "EATTR", "EXPECT",
 ];
 
 /// What is wanted in the field of a case under this column, in capitals, where the field is out of form; `None` where
@@ -24,6 +27,13 @@ pub fn wanted_in(
     column: &[u8],
     field: &[u8],
 ) -> Result<Option<&'static str>, AllocError> {
+    if column == b"EXPECT".as_slice() {
+        return Ok(if is_printed(field) {
+            None
+        } else {
+            Some(EXPECT)
+        });
+    }
     if field.contains(&b' ') {
         return Ok(Some("a text without blanks"));
     }
@@ -37,6 +47,10 @@ pub fn wanted_in(
         (true, _) => None,
         (false, wanted) => Some(wanted),
     })
+}
+
+fn is_printed(field: &[u8]) -> bool {
+    field.iter().all(|byte| matches!(*byte, b' '..=b'~'))
 }
 
 fn is_job(field: &[u8]) -> bool {

@@ -11,7 +11,7 @@ use csv::ByteRecord;
 use sms_script::is_key;
 use std::alloc::{AllocError, Global};
 
-const KNOWN: &str = "CASE, JOB, DSN and the keys of operands stand there, each once";
+const KNOWN: &str = "CASE, JOB, DSN, EXPECT and the keys of operands stand there, each once";
 
 /// The deck of a comparison behind OLD, or the one behind NEW.
 pub fn compared_deck(text: &[u8], new: bool) -> DeckPart<'_> {
@@ -112,6 +112,47 @@ pub fn case_note(alloc: Global, table: Rest<'_>, number: u32) -> Result<String, 
     plain(alloc, number, "is no case")
 }
 
+/// What is said of a case whose name stood before, by the numbers of both records.
+pub fn repeated_note(
+    alloc: Global,
+    table: Rest<'_>,
+    earlier: u32,
+    number: u32,
+) -> Result<String, AllocError> {
+    let (header, first) = (
+        record_at(alloc, table, 1)?,
+        record_at(alloc, table, earlier)?,
+    );
+    let (Some(header), Some(first), Some(record)) = (
+        header,
+        first,
+        record_at(alloc, table, number)?,
+    ) else {
+        return plain(alloc, number, "has the name of an earlier case");
+    };
+    let at = name_column(alloc, &header)?;
+    let name = shown(alloc, record.get(at).unwrap_or(&[]))?;
+    let line = line_of(table, &first, at);
+    let sentence = format!(in alloc; "the case {name} stood before, in line {line}")?;
+    told_in(alloc, table, &record, at, &sentence)
+}
+
+// The number of the column CASE, from 0.
+fn name_column(alloc: Global, header: &ByteRecord) -> Result<usize, AllocError> {
+    for at in 0..header.len() {
+        if column_at(alloc, header, at)?.as_slice() == b"CASE".as_slice() {
+            return Ok(at);
+        }
+    }
+    Ok(0)
+}
+
+// The line of the input in which the field with this number, from 0, of a record stands.
+fn line_of(table: Rest<'_>, record: &ByteRecord, field: usize) -> usize {
+    let place = field_place(table, record, field);
+    place.line.saturating_add(table.lines)
+}
+
 /// What is wrong with the column of this number, from 1, of the header.
 pub fn header_note(alloc: Global, table: Rest<'_>, column: u32) -> Result<String, AllocError> {
     let Some(header) = record_at(alloc, table, 1)? else {
@@ -169,7 +210,7 @@ fn has_column(alloc: Global, header: &ByteRecord, name: &[u8]) -> Result<bool, A
 }
 
 fn is_column(name: &[u8]) -> bool {
-    matches!(name, b"CASE" | b"JOB" | b"DSN") || is_key(name)
+    matches!(name, b"CASE" | b"JOB" | b"DSN" | b"EXPECT") || is_key(name)
 }
 
 // The column's name in capitals.

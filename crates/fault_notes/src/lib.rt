@@ -11,6 +11,7 @@ mod command_line;
 mod compared;
 mod deck;
 mod deck_part;
+mod deck_said;
 mod deck_sentence;
 mod deck_table;
 mod deck_values;
@@ -27,6 +28,7 @@ mod place;
 mod probing;
 mod routine;
 mod routine_text;
+mod said;
 mod script;
 mod showing;
 mod slot;
@@ -37,11 +39,13 @@ mod wording;
 
 pub use cases::{
     case_note, compared_deck, compared_table, fields_note, header_note, layout_note,
-    many_cases_note,
+    many_cases_note, repeated_note,
 };
 pub use compared::Rest;
 pub use deck::deck_note;
 pub use deck_part::DeckPart;
+pub use deck_said::fault_said;
 pub use routine::routine_note;
+pub use said::FaultSaid;
 pub use script::{misplaced_note, reserved_note, script_note};
 pub use showing::shown;

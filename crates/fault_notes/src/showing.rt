@@ -25,8 +25,8 @@ fn shown_byte(byte: u8) -> char {
     }
 }
 
-/// A sentence with the place of which it speaks, its line, and a mark below it. Of a long line the part around
-/// the place is quoted. The text begins behind so many lines of the input.
+/// A sentence with the place of which it speaks, its line, and a mark below it. The text begins behind so many lines of
+/// the input.
 pub fn told(
     alloc: Global,
     lines_before: usize,
@@ -35,11 +35,17 @@ pub fn told(
 ) -> Result<String, AllocError> {
     let line = place.line.saturating_add(lines_before);
     let column = place.column;
-    let before = column.saturating_sub(1);
+    let quote = quoted(alloc, place)?;
+    format!(in alloc; "line {line}, column {column}: {sentence}\n{quote}")
+}
+
+/// The line of a place, and below it a mark. Of a long line the part around the place is quoted.
+pub fn quoted(alloc: Global, place: &Place<'_>) -> Result<String, AllocError> {
+    let before = place.column.saturating_sub(1);
     let skipped = before.saturating_sub(MAX_BEFORE);
-    let quoted = quote(alloc, place.text, skipped)?;
+    let line = quote(alloc, place.text, skipped)?;
     let blanks = blanks(alloc, before.saturating_sub(skipped))?;
-    format!(in alloc; "line {line}, column {column}: {sentence}\n    {quoted}\n    {blanks}^\n")
+    format!(in alloc; "    {line}\n    {blanks}^\n")
 }
 
 fn quote(alloc: Global, line: &[u8], skipped: usize) -> Result<String, AllocError> {
