@@ -31,13 +31,14 @@ use Rattle.tool_calls.specs.CasesText.{IsComparison, TellsListing, TellsCases, c
 use Rattle.tool_calls.specs.PartsEnds.{EndsTold, SinkSeen, WasCutOff}
 use Rattle.tool_calls.specs.declared.no_answer.NoAnswer.{NoAnswer}
 use Rattle.tool_calls.specs.declared.no_answer.NoAnswer.TheVariants as hindrances
-use Rattle.tool_calls.specs.DeckText.{refused_in, refused_text, valid_in}
+use Rattle.tool_calls.specs.DeckText.{TellsRefusal, refused_text, valid_in}
 use Rattle.tool_calls.specs.ScriptText.{IsScriptAnswer, IsToldOf, TellsScript, shown, unshown}
-use Rattle.tool_calls.specs.ToolText.{translated_text, IsAnswer, translated, faulty, valid, refused, scripted, compared, linted, unlinted}
+use Rattle.tool_calls.specs.ToolText.{translated_text, IsAnswer, translated, faulty, valid, refused, scripted, compared, linted, unlinted, tested}
 use Rattle.tool_calls.specs.ToolText.{lint_status, lint_text, unread, misplaced, Hinders, HindersScript, HindersTold, hindrance_of, TellsFault}
 use Rattle.tool_calls.specs.declared.script_told.ScriptTold.{ScriptTold}
 use Rattle.tool_calls.specs.declared.script_told.ScriptTold.TheVariants as tolds
 use Rattle.tool_calls.proofs.ScriptLemmas.{IsEnd, misplaced_told, script_ends}
+use Rattle.tool_calls.proofs.TestLemmas.{test_ends}
 use Rattle.tool_calls.specs.ToolEnds.{Ends, HasAnswer, leaves_sink}
 use Rattle.tool_calls.specs.declared.status.ToolStatus.{ToolStatus}
 use Rattle.tool_calls.specs.declared.status.ToolStatus.TheVariants.{Done, FaultFound, BadWords}
@@ -58,8 +59,8 @@ found NoMemory d e = absurd e
 pub validated : {bytes text : List ℕ} {format : Format} {config : Configuration} → Configures bytes config → text ≡ valid_in format (length config.groups) (length config.volumes) → IsAnswer bytes (Validate format) Done text
 validated {bytes} {text} {format} {config} c e = subst (λ x. IsAnswer bytes (Validate format) Done x) (sym e) (valid format config c)
 
-pub deck_refused : {bytes text : List ℕ} {format : Format} {fault : DeckFault} → HasFirstFault bytes fault → text ≡ refused_in format fault → IsAnswer bytes (Validate format) FaultFound text
-deck_refused {bytes} {text} {format} {fault} f e = subst (λ x. IsAnswer bytes (Validate format) FaultFound x) (sym e) (refused format fault f)
+pub deck_refused : {bytes text : List ℕ} {format : Format} {fault : DeckFault} → HasFirstFault bytes fault → TellsRefusal format fault text → IsAnswer bytes (Validate format) FaultFound text
+deck_refused {text = text} {format = format} {fault = fault} f tells = refused format fault text f tells
 
 -- what is found in a deck, or its fault, is the answer to it
 
@@ -166,11 +167,12 @@ answer_ends : {bytes text : List ℕ} {task : Task} {status : ToolStatus} → Is
 answer_ends (translated kind tree count d) = inl refl
 answer_ends (faulty kind fault d) = inr refl
 answer_ends (valid format config d) = inl refl
-answer_ends (refused format fault d) = inr refl
+answer_ends (refused format fault text d tells) = inr refl
 answer_ends (scripted task phases status text script is) = script_ends task (items_of phases) is
 answer_ends (compared comparison status text is) = comparison_ends is
 answer_ends (linted fail format status lint is e) = lint_ends fail (length lint.findings) status e
 answer_ends (unlinted fail format fault is) = inr refl
+answer_ends (tested fail format status text is) = test_ends is
 
 pub answered : {bytes text : List ℕ} {task : Task} {status : ToolStatus} (old new : Observed) → IsAnswer bytes task status text → WasRead (most_bytes task) old new bytes → Appends old.taken new.taken text → new.write_faults ≡ old.write_faults → Ends task old new status
 answered {bytes} {text} {task} {status} old new a r w f = elim (answer_ends a) [

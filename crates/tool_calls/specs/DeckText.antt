@@ -1,6 +1,9 @@
 -- What the translator prints of a deck (docs/manual/tool.md, "Validating a deck").
-use Rattle.std.specs.Prelude.{ℕ, List, [], ◌∷◌, ◌++◌, true, false, codes, decimal}
+use Rattle.std.specs.Prelude.{◌≡◌, ℕ, List, [], ◌∷◌, ◌++◌, true, false, codes, decimal, nat_lt, string_bytes}
+use Rattle.std.specs.Prelude.{if◌then◌else◌}
+use Rattle.fault_notes.specs.declared.said.FaultSaid.{FaultSaid}
 use Rattle.flat_records.specs.Records.{Named, header_in, named, record_in}
+use Rattle.flat_records.specs.declared.field.FieldValue.{FieldValue}
 use Rattle.flat_records.specs.declared.field.FieldValue.TheVariants.{Text, Count, Truth, Missing}
 use Rattle.flat_records.specs.declared.form.RecordForm.{RecordForm}
 use Rattle.flat_records.specs.declared.form.RecordForm.TheVariants as forms
@@ -19,19 +22,37 @@ refused_text fault = codes "FAULT " ++ (fault_text fault ++ codes "\n")
 
 -- the names of the fields of a deck's record
 abbrev pub deck_names : List (List ℕ)
-deck_names = codes "valid" ∷ codes "groups" ∷ codes "volumes" ∷ codes "fault" ∷ []
+deck_names =
+    codes "valid" ∷ codes "groups" ∷ codes "volumes" ∷ codes "fault" ∷ codes "line" ∷ codes "column"
+    ∷ codes "sentence" ∷ []
 
 -- the fields of a deck with so many storage groups and volumes
 abbrev pub valid_fields : ℕ → ℕ → List Named
 valid_fields groups volumes =
     named (codes "valid") (Truth true) ∷ named (codes "groups") (Count groups)
-    ∷ named (codes "volumes") (Count volumes) ∷ named (codes "fault") Missing ∷ []
+    ∷ named (codes "volumes") (Count volumes) ∷ named (codes "fault") Missing
+    ∷ named (codes "line") Missing ∷ named (codes "column") Missing ∷ named (codes "sentence") Missing ∷ []
 
--- the fields of a deck with this fault
-abbrev pub fault_fields : Fault → List Named
-fault_fields fault =
+-- what is said of a fault: where it stands, 0 where that isn't known, and a sentence
+pub record Said : Type 0 where
+  pub line : ℕ
+  pub column : ℕ
+  pub sentence : List ℕ
+
+-- what the code says of a fault
+abbrev pub said_seen : FaultSaid → Said
+said_seen said = record { line = said.line; column = said.column; sentence = string_bytes said.sentence }
+
+-- the number of a line or a column, as a field; nothing where it isn't known
+abbrev pub place_value : ℕ → FieldValue
+place_value number = if nat_lt 0 number then Count number else Missing
+
+-- the fields of a deck with this fault, of which this is said
+abbrev pub fault_fields : Fault → Said → List Named
+fault_fields fault said =
     named (codes "valid") (Truth false) ∷ named (codes "groups") Missing ∷ named (codes "volumes") Missing
-    ∷ named (codes "fault") (Text (fault_text fault)) ∷ []
+    ∷ named (codes "fault") (Text (fault_text fault)) ∷ named (codes "line") (place_value said.line)
+    ∷ named (codes "column") (place_value said.column) ∷ named (codes "sentence") (Text said.sentence) ∷ []
 
 -- a deck's record in a form, and what stands before it
 abbrev pub deck_record : RecordForm → List Named → List ℕ
@@ -43,8 +64,13 @@ valid_in formats.Text groups volumes = valid_text groups volumes
 valid_in formats.Csv groups volumes = deck_record forms.Csv (valid_fields groups volumes)
 valid_in formats.Json groups volumes = deck_record forms.Json (valid_fields groups volumes)
 
+-- the record of a deck with this fault; what is said of that isn't told, as its words may change
+pub record TellsRecord (form : RecordForm) (fault : Fault) (text : List ℕ) : Type 0 where
+  pub said : Said
+  pub text_is : text ≡ deck_record form (fault_fields fault said)
+
 -- what is told of a deck with this fault
-abbrev pub refused_in : Format → Fault → List ℕ
-refused_in formats.Text fault = refused_text fault
-refused_in formats.Csv fault = deck_record forms.Csv (fault_fields fault)
-refused_in formats.Json fault = deck_record forms.Json (fault_fields fault)
+abbrev pub TellsRefusal : Format → Fault → List ℕ → Type 0
+TellsRefusal formats.Text fault text = text ≡ refused_text fault
+TellsRefusal formats.Csv fault text = TellsRecord forms.Csv fault text
+TellsRefusal formats.Json fault text = TellsRecord forms.Json fault text

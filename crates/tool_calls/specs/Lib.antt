@@ -4,6 +4,7 @@ pub mod CasesText
 pub mod DeckText
 pub mod ScriptText
 pub mod CaseAnswers
+pub mod TestText
 pub mod ToolText
 pub mod ToolEnds
 pub mod PartsEnds

@@ -24,8 +24,9 @@ use Rattle.lint_records.specs.FindingRecords.{records_text}
 use Rattle.flat_records.specs.declared.form.RecordForm.TheVariants as forms
 use Rattle.sms_lint.specs.declared.linted.Lint.{Lint}
 use Rattle.tool_calls.specs.CasesText.{IsComparison}
-use Rattle.tool_calls.specs.DeckText.{refused_in, refused_text, valid_in}
+use Rattle.tool_calls.specs.DeckText.{TellsRefusal, refused_text, valid_in}
 use Rattle.tool_calls.specs.ScriptText.{IsScriptAnswer}
+use Rattle.tool_calls.specs.TestText.{IsTest}
 use Rattle.tool_calls.specs.declared.no_answer.NoAnswer.{NoAnswer}
 use Rattle.tool_calls.specs.declared.no_answer.NoAnswer.TheVariants as hindrances
 use Rattle.tool_calls.specs.declared.script_told.ScriptTold.{ScriptTold}
@@ -37,7 +38,7 @@ use Rattle.tool_words.specs.declared.format.Format.{Format}
 use Rattle.tool_words.specs.declared.format.Format.TheVariants as formats
 use Rattle.tool_words.specs.declared.script_task.ScriptTask.{ScriptTask}
 use Rattle.tool_words.specs.declared.task.Task.{Task}
-use Rattle.tool_words.specs.declared.task.Task.TheVariants.{Translate, Validate, Script, Compare, Lint as LintDeck}
+use Rattle.tool_words.specs.declared.task.Task.TheVariants.{Translate, Validate, Script, Compare, Lint as LintDeck, Test}
 
 -- L, P or C
 abbrev pub letter_of : Stage → List ℕ
@@ -73,8 +74,8 @@ pub data IsAnswer (bytes : List ℕ) : Task → ToolStatus → List ℕ → Type
       IsAnswer bytes (Translate kind) FaultFound (fault_text fault)
   valid : (format : Format) (config : Configuration) → Configures bytes config →
       IsAnswer bytes (Validate format) Done (valid_in format (length config.groups) (length config.volumes))
-  refused : (format : Format) (fault : DeckFault) → HasFirstFault bytes fault →
-      IsAnswer bytes (Validate format) FaultFound (refused_in format fault)
+  refused : (format : Format) (fault : DeckFault) (text : List ℕ) → HasFirstFault bytes fault →
+      TellsRefusal format fault text → IsAnswer bytes (Validate format) FaultFound text
   scripted : (task : ScriptTask) (phases : List (List Item)) (status : ToolStatus) (text : List ℕ) →
       script_of bytes ≡ Ok phases → IsScriptAnswer task (items_of phases) status text →
       IsAnswer bytes (Script task) status text
@@ -86,6 +87,8 @@ pub data IsAnswer (bytes : List ℕ) : Task → ToolStatus → List ℕ → Type
       IsAnswer bytes (LintDeck fail format) status (lint_text format lint)
   unlinted : (fail : Bool) (format : Format) (fault : DeckFault) → HasFirstFault bytes fault →
       IsAnswer bytes (LintDeck fail format) FaultFound (refused_text fault)
+  tested : (fail : Bool) (format : Format) (status : ToolStatus) (text : List ℕ) →
+      IsTest bytes fail format status text → IsAnswer bytes (Test fail format) status text
 
 -- the input is no script that can be simulated: it has this fault as a script, or is one with an item that isn't the
 -- one asked there

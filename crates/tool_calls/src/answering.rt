@@ -13,6 +13,7 @@ use crate::no_answer::NoAnswer;
 use crate::noting::{note_refusal, note_script, note_told};
 use crate::scripts::{answer_told, told_of};
 use crate::status::ToolStatus;
+use crate::testing::tested;
 use acs_translate::{RoutineFault, Stage, TranslateErr, translate};
 use acs_tree::Kind;
 use desk_common::{Items, push_number};
@@ -44,6 +45,9 @@ pub fn answer(
         }
         Task::Lint { fail, format } => {
             linted(alloc, fail, format, bytes, note).map_err(|_| NoAnswer::NoMemory)
+        }
+        Task::Test { fail, format } => {
+            tested(alloc, fail, format, &bytes, note).map_err(|_| NoAnswer::NoMemory)
         }
     }
 }

@@ -8,7 +8,7 @@ ghost use Rattle.tool_calls.specs.ScriptText.{IsScriptAnswer};
 
 use crate::case_parts::{CasePartNames, CaseParts};
 use crate::comparing::told;
-use crate::noting::{note_case_table, note_cases_told};
+use crate::noting::{note_case_table, note_cases_told, note_repeated_part};
 use crate::scripts::{answer_told, told_of};
 use crate::status::ToolStatus;
 use acs_test::{Case, read_table};
@@ -80,6 +80,7 @@ fn told_under(
     let script = case_script(alloc, &deck, cases, &case_of(*task))?;
     let told = told_of(alloc, *task, &script)?;
     note_cases_told(alloc, note, parts, names, task, &told);
+    note_repeated_part(alloc, note, parts.table, names.table, cases);
     match answer_told(alloc, told) {
         Ok(found) => Ok(found),
         Err(_) => Err(AllocError),

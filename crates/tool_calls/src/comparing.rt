@@ -8,7 +8,7 @@ ghost use Rattle.tool_calls.specs.CasesText.{form_of, numbered, side_code};
 ghost use Rattle.tool_calls.specs.ToolText.{IsAnswer};
 ghost use Rattle.tool_words.specs.declared.task.Task.TheVariants.{Compare};
 
-use crate::noting::{note_cases, note_parts};
+use crate::noting::{note_cases, note_parts, note_repeated, note_repeated_part};
 use crate::part_names::PartNames;
 use crate::status::ToolStatus;
 use acs_test::{
@@ -31,7 +31,10 @@ pub fn compared(
     ensures { IfOk result (λ found. IsAnswer bytes.now (Compare comparison) found.0 found.1) }
 {
     match read_cases(alloc, bytes) {
-        Ok(cases) => listed(alloc, comparison, &cases),
+        Ok(cases) => {
+            note_repeated(alloc, note, bytes, cases.list.as_slice());
+            listed(alloc, comparison, &cases)
+        }
         Err(err) => {
             note_cases(alloc, note, bytes, &err);
             told(alloc, &err)
@@ -53,7 +56,10 @@ pub fn compared_parts(
         comparison found.0 found.1) }
 {
     match read_parts(alloc, parts) {
-        Ok(cases) => listed(alloc, comparison, &cases),
+        Ok(cases) => {
+            note_repeated_part(alloc, note, parts.table, names.table, cases.list.as_slice());
+            listed(alloc, comparison, &cases)
+        }
         Err(err) => {
             note_parts(alloc, note, parts, names, &err);
             told(alloc, &err)
@@ -81,8 +87,8 @@ fn listing_of(alloc: Global, comparison: Comparison, cases: &Cases) -> Result<Li
     list_cases(alloc, cases, form, comparison.changed)
 }
 
-// The form of the listing.
-fn form_of(format: Format) -> CaseForm
+/// The form of the listing.
+pub fn form_of(format: Format) -> CaseForm
     ensures { result ≡ form_of format }
 {
     match format {

@@ -1,10 +1,10 @@
 //! What is told of a deck.
-ghost use Rattle.std.specs.Prelude.{◌≡◌, ◌++◌, ◌∷◌, [], IfOk};
+ghost use Rattle.std.specs.Prelude.{◌≡◌, ◌++◌, ◌∷◌, [], IfOk, string_bytes};
 ghost use Rattle.flat_records.specs.Records.{Named};
 ghost use Rattle.flat_records.specs.declared.field.FieldValue.{FieldValue as Value};
 ghost use Rattle.sms_script.specs.FaultText.{fault_text as deck_fault_text};
-ghost use Rattle.tool_calls.specs.DeckText.{deck_record, fault_fields, refused_in, refused_text, valid_fields};
-ghost use Rattle.tool_calls.specs.DeckText.{valid_in, valid_text};
+ghost use Rattle.tool_calls.specs.DeckText.{TellsRecord, TellsRefusal, deck_record, fault_fields, place_value};
+ghost use Rattle.tool_calls.specs.DeckText.{refused_text, said_seen, valid_fields, valid_in, valid_text};
 ghost use Rattle.tool_calls.specs.ToolText.{IsAnswer};
 ghost use Rattle.tool_words.specs.declared.task.Task.TheVariants.{Validate};
 
@@ -12,6 +12,7 @@ use crate::noting::note_deck;
 use crate::status::ToolStatus;
 use deck_meaning::DeckErr;
 use desk_common::{Items, Shared, push_number};
+use fault_notes::{DeckPart, FaultSaid, fault_said};
 use flat_records::{FieldValue, Fields, RecordForm, push_header, push_record};
 use sms_construct::Fault;
 use sms_deck::read_deck;
@@ -20,7 +21,15 @@ use std::alloc::{AllocError, Global};
 use tool_words::Format;
 
 // The names of the fields of a deck's record.
-const NAMES: [&[u8]; 4] = [b"valid", b"groups", b"volumes", b"fault"];
+const NAMES: [&[u8]; 7] = [
+    b"valid",
+    b"groups",
+    b"volumes",
+    b"fault",
+    b"line",
+    b"column",
+    b"sentence",
+];
 
 /// The answer to a deck in a form. What its fault means is noted.
 #[tactic(auto, using(crate::proofs::AnswerLemmas::validated, crate::proofs::AnswerLemmas::deck_refused))]
@@ -40,7 +49,7 @@ pub fn validated(
         }
         Err(DeckErr::Fault(fault)) => {
             note_deck(alloc, note, deck.get().as_slice(), &fault);
-            let text = refused_in(alloc, format, &fault)?;
+            let text = refused_in(alloc, format, deck.get().as_slice(), &fault)?;
             Ok((ToolStatus::FaultFound, Items::from_vec(text)))
         }
         Err(DeckErr::NoMemory) => Err(AllocError),
@@ -94,6 +103,9 @@ fn valid_fields(alloc: Global, groups: usize, volumes: usize) -> Result<Fields<'
     fields.push(b"groups", FieldValue::Count(groups as u64))?;
     fields.push(b"volumes", FieldValue::Count(volumes as u64))?;
     fields.push(b"fault", FieldValue::Missing)?;
+    fields.push(b"line", FieldValue::Missing)?;
+    fields.push(b"column", FieldValue::Missing)?;
+    fields.push(b"sentence", FieldValue::Missing)?;
     Ok(fields)
 }
 
@@ -108,33 +120,78 @@ fn deck_record(alloc: Global, form: RecordForm, fields: &Fields<'_>) -> Result<V
 }
 
 // What is told of a deck with this fault.
-fn refused_in(alloc: Global, format: Format, fault: &Fault) -> Result<Vec<u8>, AllocError>
-    ensures { IfOk result (λ text. text.items ≡ refused_in format fault.now) }
+fn refused_in(
+    alloc: Global,
+    format: Format,
+    deck: &[u8],
+    fault: &Fault,
+) -> Result<Vec<u8>, AllocError>
+    ensures { IfOk result (λ text. TellsRefusal format fault.now text.items) }
 {
     match format {
         Format::Text => refused_text(alloc, fault),
-        Format::Csv => fault_record(alloc, RecordForm::Csv, fault),
-        Format::Json => fault_record(alloc, RecordForm::Json, fault),
+        Format::Csv => fault_record(alloc, RecordForm::Csv, deck, fault),
+        Format::Json => fault_record(alloc, RecordForm::Json, deck, fault),
     }
 }
 
-fn fault_record(alloc: Global, form: RecordForm, fault: &Fault) -> Result<Vec<u8>, AllocError>
-    ensures { IfOk result (λ text. text.items ≡ deck_record form (fault_fields fault.now)) }
+fn fault_record(
+    alloc: Global,
+    form: RecordForm,
+    deck: &[u8],
+    fault: &Fault,
+) -> Result<Vec<u8>, AllocError>
+    ensures { IfOk result (λ text. TellsRecord form fault.now text.items) }
 {
-    let fields = fault_fields(alloc, fault)?;
+    let said = said_of(alloc, deck, fault)?;
+    let fields = fault_fields(alloc, fault, &said)?;
     deck_record(alloc, form, &fields)
 }
 
-fn fault_fields(alloc: Global, fault: &Fault) -> Result<Fields<'static>, AllocError>
-    ensures { IfOk result (λ fields. fields ≡ fault_fields fault.now) }
+fn said_of(alloc: Global, deck: &[u8], fault: &Fault) -> Result<FaultSaid, AllocError> {
+    let deck = DeckPart {
+        bytes: deck,
+        lines_before: 0,
+    };
+    fault_said(alloc, deck, fault)
+}
+
+fn fault_fields(
+    alloc: Global,
+    fault: &Fault,
+    said: &FaultSaid,
+) -> Result<Fields<'static>, AllocError>
+    ensures { IfOk result (λ fields. fields ≡ fault_fields fault.now (said_seen said.now)) }
 {
     let told = fault_value(alloc, fault)?;
+    let sentence = sentence_value(alloc, &said.sentence)?;
     let mut fields = Fields::new(alloc);
     fields.push(b"valid", FieldValue::Truth(false))?;
     fields.push(b"groups", FieldValue::Missing)?;
     fields.push(b"volumes", FieldValue::Missing)?;
     fields.push(b"fault", told)?;
+    fields.push(b"line", place_value(said.line))?;
+    fields.push(b"column", place_value(said.column))?;
+    fields.push(b"sentence", sentence)?;
     Ok(fields)
+}
+
+fn sentence_value(alloc: Global, sentence: &String) -> Result<FieldValue, AllocError>
+    ensures { IfOk result (λ value. value ≡ Value.Text (string_bytes sentence.now)) }
+{
+    let text = Items::from_slice(alloc, sentence.as_bytes())?;
+    Ok(FieldValue::Text(text))
+}
+
+// The number of a line or a column, where it is known.
+fn place_value(number: usize) -> FieldValue
+    ensures { result ≡ place_value number }
+{
+    if 0 < number {
+        FieldValue::Count(number as u64)
+    } else {
+        FieldValue::Missing
+    }
 }
 
 fn fault_value(alloc: Global, fault: &Fault) -> Result<FieldValue, AllocError>

@@ -12,9 +12,12 @@ mod no_answer;
 mod noting;
 mod part_names;
 mod parts;
+mod repeating;
 mod script_told;
 mod scripts;
 mod status;
+mod testing;
+mod tests;
 mod tool;
 
 pub use case_parts::{CasePartNames, CaseParts};
@@ -23,4 +26,5 @@ pub use noting::note_name;
 pub use part_names::PartNames;
 pub use parts::compare_parts;
 pub use status::ToolStatus;
+pub use tests::test_cases;
 pub use tool::smsc_main;

@@ -2,13 +2,14 @@
 //! means"). Where memory for it is wanting, nothing is said.
 use crate::case_parts::{CasePartNames, CaseParts};
 use crate::part_names::PartNames;
+use crate::repeating::first_repeated;
 use crate::script_told::ScriptTold;
 use crate::status::ToolStatus;
-use acs_test::{CasesErr, InputParts, Side};
+use acs_test::{Case, CasesErr, InputParts, Side};
 use acs_translate::{RoutineFault, TranslateErr};
 use fault_notes::{
     DeckPart, Rest, case_note, compared_deck, compared_table, deck_note, fields_note, header_note,
-    layout_note, many_cases_note, misplaced_note, routine_note, script_note, shown,
+    layout_note, many_cases_note, misplaced_note, repeated_note, routine_note, script_note, shown,
 };
 use sms_construct::{Fault, Op, Stage, TextFault};
 use sms_script::{Item, Script, ScriptErr};
@@ -67,12 +68,55 @@ pub fn note_cases_told(
     told: &ScriptTold,
 ) {
     match told {
-        ScriptTold::Refused(fault) => {
-            note_deck(alloc, note, parts.deck, fault);
-            note_name(alloc, note, names.deck);
-        }
+        ScriptTold::Refused(fault) => note_case_deck(alloc, note, parts, names, fault),
         ScriptTold::Misplaced(_) => (),
         ScriptTold::Shown(status, _) => note_short(alloc, note, task, *status),
+    }
+}
+
+/// Notes the fault of a deck that has a table of cases, with its name.
+pub fn note_case_deck(
+    alloc: Global,
+    note: &mut String,
+    parts: CaseParts<'_>,
+    names: CasePartNames<'_>,
+    fault: &Fault,
+) {
+    note_deck(alloc, note, parts.deck, fault);
+    note_name(alloc, note, names.deck);
+}
+
+/// Notes the first case of a comparison whose name stood before.
+pub fn note_repeated(alloc: Global, note: &mut String, text: &[u8], cases: &[Case]) {
+    note_repeated_in(alloc, note, compared_table(text), cases);
+}
+
+/// Notes the first case of a table that is a text of its own whose name stood before, with the table's name. Where
+/// something is noted already, it isn't.
+pub fn note_repeated_part(
+    alloc: Global,
+    note: &mut String,
+    table: &[u8],
+    name: &str,
+    cases: &[Case],
+) {
+    if !note.is_empty() {
+        return;
+    }
+    let table = Rest {
+        text: table,
+        lines: 0,
+    };
+    note_repeated_in(alloc, note, table, cases);
+    note_name(alloc, note, name);
+}
+
+fn note_repeated_in(alloc: Global, note: &mut String, table: Rest<'_>, cases: &[Case]) {
+    if let Ok(Some(found)) = first_repeated(alloc, cases) {
+        keep(
+            note,
+            repeated_note(alloc, table, found.earlier, found.number),
+        );
     }
 }
 

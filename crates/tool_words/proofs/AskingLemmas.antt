@@ -256,6 +256,11 @@ unfolding clap_on_literals
 lint_asks true = (refl, refl)
 lint_asks false = (refl, refl)
 
+test_asks : (fail : Bool) → Asks (codes "test" ∷ flag_words (codes "--fail") fail) (tasks.Test fail formats.Text)
+unfolding clap_on_literals
+test_asks true = (refl, refl)
+test_asks false = (refl, refl)
+
 kind_asks : (kind : Kind) → Asks (codes "translate" ∷ name_of kind ∷ []) (tasks.Translate kind)
 unfolding clap_on_literals
 kind_asks DataClas = (refl, refl)
@@ -323,6 +328,11 @@ linted_asks words fail formats.Text w = asks_as words _ _ w (lint_asks fail)
 linted_asks words fail formats.Csv w = absurd (cc w)
 linted_asks words fail formats.Json w = absurd (cc w)
 
+tested_asks : (words : List Text) (fail : Bool) (format : Format) → Some words ≡ where_usual format (codes "test" ∷ flag_words (codes "--fail") fail) → Asks words (tasks.Test fail format)
+tested_asks words fail formats.Text w = asks_as words _ _ w (test_asks fail)
+tested_asks words fail formats.Csv w = absurd (cc w)
+tested_asks words fail formats.Json w = absurd (cc w)
+
 task_asks : (words : List Text) (task : Task) → Some words ≡ words_of task → Asks words task
 task_asks words (tasks.Translate kind) w = asks_as words _ _ w (kind_asks kind)
 task_asks words (tasks.Validate format) w = validated_asks words format w
@@ -331,6 +341,7 @@ task_asks words (tasks.Compare comparison) w = form_asks words comparison.change
 task_asks words (tasks.Script (script_tasks.Explain pick format)) w = pick_asks words pick.job pick.number pick.case format w
 task_asks words (tasks.Script (script_tasks.Coverage least format)) w = least_asks words least format w
 task_asks words (tasks.Lint fail format) w = linted_asks words fail format w
+task_asks words (tasks.Test fail format) w = tested_asks words fail format w
 
 known_asks : (words : List Text) (task : Task) → Some words ≡ words_of task → AskFor words task
 known_asks words task w = let asks = task_asks words task w in record { free = asks.0; found = asks.1 }

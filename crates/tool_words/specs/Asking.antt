@@ -141,7 +141,9 @@ task_of name rows =
     else if bytes_eq name (codes "explain") then explain_in rows
     else if bytes_eq name (codes "coverage") then coverage_in rows
     else if bytes_eq name (codes "lint")
-    then option_map (tasks.Lint (is_set (codes "fail") rows)) (format_in rows) else None
+    then option_map (tasks.Lint (is_set (codes "fail") rows)) (format_in rows)
+    else if bytes_eq name (codes "test")
+    then option_map (tasks.Test (is_set (codes "fail") rows)) (format_in rows) else None
 
 -- what the subcommand that was found asks for
 abbrev pub task_found : Option (Text × List Row) → Option Task

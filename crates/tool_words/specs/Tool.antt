@@ -73,6 +73,11 @@ abbrev pub lint_app : App
 lint_app =
     with_rule (with_rule (file_app (codes "lint")) (flag_rule (codes "fail"))) (option_rule (codes "format"))
 
+-- the subcommand `test`
+abbrev pub test_app : App
+test_app =
+    with_rule (with_rule (cases_app (codes "test")) (flag_rule (codes "fail"))) (option_rule (codes "format"))
+
 -- the command without its subcommands: one is wanted, there is no `help` among them, and there is a version
 abbrev pub bare_app : App
 bare_app = record (new_app (codes "smsc")) {
@@ -88,14 +93,15 @@ bare_app = record (new_app (codes "smsc")) {
 abbrev pub tool : App
 tool =
     with_subcommand (with_subcommand (with_subcommand (with_subcommand (with_subcommand (with_subcommand (with_subcommand
-    bare_app
+    (with_subcommand bare_app
     translate_app.top)
     validate_app.top)
     simulate_app.top)
     compare_app.top)
     explain_app.top)
     coverage_app.top)
-    lint_app.top
+    lint_app.top)
+    test_app.top
 
 -- no argument of the command is one of its subcommands too
 abbrev pub KeepsItsOwn : Command → Type 0
@@ -136,3 +142,4 @@ words_of (tasks.Script (script_tasks.Explain pick format)) =
 words_of (tasks.Script (script_tasks.Coverage least format)) =
     option_and_then (where_usual format) (where_any least (codes "coverage" ∷ []))
 words_of (tasks.Lint fail format) = where_usual format (codes "lint" ∷ flag_words (codes "--fail") fail)
+words_of (tasks.Test fail format) = where_usual format (codes "test" ∷ flag_words (codes "--fail") fail)

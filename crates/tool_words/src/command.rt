@@ -3,7 +3,7 @@ ghost use Rattle.std.specs.Prelude.{◌≡◌, false, IfOk};
 ghost use Rattle.clap.specs.Words.{app_of, rule_of};
 ghost use Rattle.clap.specs.declared.builder.command.Command.TheViews.{out-Command};
 ghost use Rattle.tool_words.specs.Tool.{KeepsItsOwn, bare_app, compare_app, coverage_app, explain_app, flag_rule};
-ghost use Rattle.tool_words.specs.Tool.{lint_app, option_rule, path_rule, simulate_app, tool, translate_app};
+ghost use Rattle.tool_words.specs.Tool.{lint_app, option_rule, path_rule, simulate_app, test_app, tool, translate_app};
 ghost use Rattle.tool_words.specs.Tool.{validate_app, wanted_rule};
 
 use clap::{Arg, ArgAction, Command};
@@ -51,6 +51,11 @@ const LINT: Said = Said {
     usage: "smsc lint [FILE] [--fail] [--format FORM]",
 };
 
+const TEST: Said = Said {
+    about: "Say whether a deck gives cases what is expected of them",
+    usage: "smsc test [FILE | DECK CASES] [--fail] [--format FORM]",
+};
+
 const TOOL: Said = Said {
     about: "The translator of ACS routines and decks",
     usage: "smsc <COMMAND>",
@@ -67,6 +72,7 @@ pub fn tool_command<'a>(alloc: Global) -> Result<Command<'a>, AllocError>
     let explain = explaining(alloc)?;
     let coverage = covering(alloc)?;
     let lint = linting(alloc)?;
+    let test = testing(alloc)?;
     bare_tool(alloc)
         .subcommand(translate)?
         .subcommand(validate)?
@@ -74,7 +80,8 @@ pub fn tool_command<'a>(alloc: Global) -> Result<Command<'a>, AllocError>
         .subcommand(compare)?
         .subcommand(explain)?
         .subcommand(coverage)?
-        .subcommand(lint)
+        .subcommand(lint)?
+        .subcommand(test)
 }
 
 // The subcommand `translate`, which wants the name of a kind.
@@ -155,6 +162,18 @@ fn linting<'a>(alloc: Global) -> Result<Command<'a>, AllocError>
 {
     described(Command::new(alloc, "lint"), LINT)
         .arg(path(alloc, "file"))?
+        .arg(flag(alloc, "fail"))?
+        .arg(option(alloc, "format"))
+}
+
+// The subcommand `test`, which reads one file, or a deck and a table of cases.
+fn testing<'a>(alloc: Global) -> Result<Command<'a>, AllocError>
+    ensures app { IfOk result (λ command. app_of command ≡ test_app) }
+    ensures own { IfOk result (KeepsItsOwn) }
+{
+    described(Command::new(alloc, "test"), TEST)
+        .arg(path(alloc, "file"))?
+        .arg(path(alloc, "cases"))?
         .arg(flag(alloc, "fail"))?
         .arg(option(alloc, "format"))
 }

@@ -68,6 +68,16 @@ smsc lint [FILE] [--fail] [--format FORM]
     smsc lint deck.toml --fail
 ";
 
+const TEST: &str = "
+smsc test [FILE | DECK CASES] [--fail] [--format FORM]
+                     say whether a deck gives the cases of a table what is
+                     expected of them, in their column EXPECT; with --fail the
+                     exit status is 1 where one fails; FORM is text, csv or
+                     json
+
+    smsc test deck.toml cases.csv --fail
+";
+
 const DOCUMENT: &str = "
 Without a file each reads standard input. docs/manual/tool.md has what each
 reads and prints, and the exit statuses.
@@ -83,9 +93,10 @@ pub fn examples_of(alloc: Global, word: &str) -> Result<String, AllocError> {
         "explain" => format!(in alloc; "{EXPLAIN}{DOCUMENT}"),
         "coverage" => format!(in alloc; "{COVERAGE}{DOCUMENT}"),
         "lint" => format!(in alloc; "{LINT}{DOCUMENT}"),
+        "test" => format!(in alloc; "{TEST}{DOCUMENT}"),
         _ => {
             format!(in alloc;
-                "{TRANSLATE}{VALIDATE}{SIMULATE}{COMPARE}{EXPLAIN}{COVERAGE}{LINT}{DOCUMENT}"
+                "{TRANSLATE}{VALIDATE}{SIMULATE}{COMPARE}{EXPLAIN}{COVERAGE}{LINT}{TEST}{DOCUMENT}"
             )
         }
     }

@@ -145,6 +145,13 @@ fn task_of(name: &str, matches: &ArgMatches<'_>) -> Option<Task>
             format,
         });
     }
+    if name == "test" {
+        let format = format_in(matches)?;
+        return Some(Task::Test {
+            fail: is_set(matches, "fail"),
+            format,
+        });
+    }
     None
 }
 

@@ -18,4 +18,7 @@ pub enum Task {
     /// It is a deck, of which it is to be told in this form what is certain and hardly meant so; with `fail` a finding
     /// is told by the exit status.
     Lint { fail: bool, format: Format },
+    /// It has a deck and a table of cases, of which it is to be told in this form whether each comes to what is expected;
+    /// with `fail` a case that doesn't is told by the exit status.
+    Test { fail: bool, format: Format },
 }

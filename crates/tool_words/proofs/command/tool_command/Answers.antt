@@ -17,5 +17,7 @@ returns c =
     ∙ ap₂ with_subcommand four (ap (λ (a : App). a.top) c.in_ok-explain.ensures.app) in
     let six = c.in_ok-subcommand-6.ensures.shape c.in_ok-coverage.ensures.own
     ∙ ap₂ with_subcommand five (ap (λ (a : App). a.top) c.in_ok-coverage.ensures.app) in
-    IfOk-weaker c.subcommand-7.result _ _ (λ r h. h.shape c.in_ok-lint.ensures.own
-    ∙ ap₂ with_subcommand six (ap (λ (a : App). a.top) c.in_ok-lint.ensures.app)) c.subcommand-7.ensures
+    let seven = c.in_ok-subcommand-7.ensures.shape c.in_ok-lint.ensures.own
+    ∙ ap₂ with_subcommand six (ap (λ (a : App). a.top) c.in_ok-lint.ensures.app) in
+    IfOk-weaker c.subcommand-8.result _ _ (λ r h. h.shape c.in_ok-test.ensures.own
+    ∙ ap₂ with_subcommand seven (ap (λ (a : App). a.top) c.in_ok-test.ensures.app)) c.subcommand-8.ensures
