@@ -2,8 +2,8 @@
 use crate::files::file_bytes;
 use sms_base::StdSink;
 use std::io;
-use tool_calls::{CasePartNames, CaseParts, ToolStatus, answer_cases};
-use tool_words::{ScriptTask, Task, WordsErr, task_asked};
+use tool_calls::{CasePartNames, CaseParts, ToolStatus, answer_cases, test_cases};
+use tool_words::{Task, WordsErr, task_asked};
 
 /// The paths of a deck and of a table of cases.
 #[derive(Clone, Copy)]
@@ -20,8 +20,8 @@ pub fn answer_files(
     note: &mut String,
 ) -> ToolStatus {
     let task = match task_asked(rt.alloc(), words) {
-        Ok(Task::Script(task)) => task,
-        Ok(_) | Err(WordsErr::Bad | WordsErr::Shown) => return ToolStatus::BadWords,
+        Ok(task) => task,
+        Err(WordsErr::Bad | WordsErr::Shown) => return ToolStatus::BadWords,
         Err(WordsErr::NoMemory) => return ToolStatus::NoMemory,
     };
     match answered(rt, task, files, note) {
@@ -31,7 +31,7 @@ pub fn answer_files(
 
 fn answered(
     rt: &HostRuntime,
-    task: ScriptTask,
+    task: Task,
     files: CaseFiles<'_>,
     note: &mut String,
 ) -> Result<ToolStatus, ToolStatus> {
@@ -46,5 +46,12 @@ fn answered(
         table: files.table,
     };
     let mut out = StdSink::new(io::writer(rt));
-    Ok(answer_cases(rt.alloc(), task, parts, names, &mut out, note))
+    let alloc = rt.alloc();
+    Ok(match task {
+        Task::Script(task) => answer_cases(alloc, task, parts, names, &mut out, note),
+        Task::Test { fail, format } => {
+            test_cases(alloc, fail, format, parts, names, &mut out, note)
+        }
+        _ => ToolStatus::BadWords,
+    })
 }

@@ -1,5 +1,6 @@
 //! The translator as a program: it translates the routine, validates the deck, simulates or explains the script, tells
-//! what it reaches of the routines, compares two decks or lints one, from the files that the words name or from standard input.
+//! what it reaches of the routines, compares two decks, or lints or tests one, from the files that the words name or from
+//! standard input.
 #![tactic(auto)]
 
 ghost use Rattle.std.specs.Prelude.{◌≡◌};

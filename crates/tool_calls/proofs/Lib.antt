@@ -1,4 +1,6 @@
 pub mod ScriptLemmas
+mod TestLemmas
 pub mod AnswerLemmas
+mod TestedLemmas
 mod CaseLemmas
 mod WordsLemmas

@@ -3,8 +3,10 @@ use crate::ended::Ended;
 use acs_test::InputParts;
 use sms_base::MemSink;
 use std::alloc::{AllocError, Global};
-use tool_calls::{CasePartNames, CaseParts, PartNames, ToolStatus, answer_cases, compare_parts};
-use tool_words::{Comparison, ScriptTask, Task, task_asked};
+use tool_calls::{
+    CasePartNames, CaseParts, PartNames, ToolStatus, answer_cases, compare_parts, test_cases,
+};
+use tool_words::{Comparison, Format, ScriptTask, Task, task_asked};
 
 // The longest input that is parted.
 const MOST_BYTES: usize = 1_000_000;
@@ -20,8 +22,8 @@ const CASE_NAMES: CasePartNames<'static> = CasePartNames {
     table: "cases.csv",
 };
 
-/// What the parts of an input come to, as the words ask: two decks that are compared, or one of which the cases are told;
-/// bad words where they ask for neither, or the input isn't laid out so.
+/// What the parts of an input come to, as the words ask: two decks that are compared, or one of which the cases are told
+/// or tested; bad words where they ask for neither, or the input isn't laid out so.
 pub fn told_parts(
     alloc: Global,
     words: &[String],
@@ -32,6 +34,7 @@ pub fn told_parts(
     let status = match task_asked(alloc, words) {
         Ok(Task::Compare(comparison)) => compared(alloc, comparison, input, out, &mut note),
         Ok(Task::Script(task)) => told(alloc, task, input, out, &mut note),
+        Ok(Task::Test { fail, format }) => tested(alloc, fail, format, input, out, &mut note),
         _ => ToolStatus::BadWords,
     };
     Ok(Ended {
@@ -66,6 +69,21 @@ fn told(
     match case_parts_of(input) {
         Some(parts) if parts.table.len() > MOST_BYTES => ToolStatus::TooLong,
         Some(parts) => answer_cases(alloc, task, parts, CASE_NAMES, out, note),
+        None => ToolStatus::BadWords,
+    }
+}
+
+fn tested(
+    alloc: Global,
+    fail: bool,
+    format: Format,
+    input: &str,
+    out: &mut MemSink,
+    note: &mut String,
+) -> ToolStatus {
+    match case_parts_of(input) {
+        Some(parts) if parts.table.len() > MOST_BYTES => ToolStatus::TooLong,
+        Some(parts) => test_cases(alloc, fail, format, parts, CASE_NAMES, out, note),
         None => ToolStatus::BadWords,
     }
 }
