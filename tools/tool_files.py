@@ -21,6 +21,7 @@ storclass = "PROC STORCLAS SET &STORCLAS = 'SC1' END"
 storgroup = "PROC STORGRP SET &STORGRP = 'SG1' END"
 """
 NEW = DECK.replace("SET &STORCLAS = 'SC1'", "IF &HLQ = 'PAY' THEN SET &STORCLAS = 'SC2' ELSE SET &STORCLAS = 'SC1'")
+EXPECTED = 'case,job,dsn,space,expect\nC1,JOB1,A.B,"(TRK,1)",SC1\nC2,JOB1,PAY.A,"(TRK,1)",CLASSES - SC1 - SG1\nC3,JOB1,PAY.A,"(TRK,1)",\n'
 CASES = 'case,job,dsn,space\nC1,JOB1,A.B,"(TRK,1)"\nC2,JOB1,PAY.A,"(TRK,1)"\n'
 ROUTINE = "PROC STORCLAS SET &STORCLAS = 'SC1' END"
 SCRIPT = f"SMSADMIN 1 ACTIVATE\n{DECK}./END\nJOB1 1 ALLOC A.B SPACE=(TRK,1)\n"
@@ -29,6 +30,7 @@ FILES = {
     "deck.toml": DECK,
     "new.toml": NEW,
     "cases.csv": CASES,
+    "expected.csv": EXPECTED,
     "routine.acs": ROUTINE,
     "script.txt": SCRIPT,
     "layout.txt": LAYOUT,
@@ -84,6 +86,28 @@ with tempfile.TemporaryDirectory() as folder:
     values = [json.loads(line) for line in run(["compare", *parts, "--format", "json"])[1].splitlines()]
     check("compare --format json", [value["case"] for value in values], ["C1", "C2"])
     check("compare --format json", [value["new"]["storclas"] for value in values], ["SC1", "SC2"])
+    tested = ["test", "new.toml", "expected.csv"]
+    status, text, said = run(tested)
+    check("test", (status, text.splitlines()[-1], said), (0, "cases 3, passed 1, failed 1, without EXPECT 1", ""))
+    check("test --fail", run([*tested, "--fail"])[0], 1)
+    check("test --fail the old deck", run(["test", "--fail", "deck.toml", "expected.csv"])[0], 0)
+    records = list(csv.DictReader(io.StringIO(run([*tested, "--format", "csv"])[1])))
+    check("test --format csv", [(record["case"], record["passed"]) for record in records], [("C1", "true"), ("C2", "false"), ("C3", "")])
+    values = [json.loads(line) for line in run([*tested, "--format", "json"])[1].splitlines()]
+    check("test --format json", [value["passed"] for value in values], [True, False, None])
+    check("test --format json", [value["expected"] for value in values], ["SC1", "CLASSES - SC1 - SG1", None])
+    check("test --format json", [value["outcome"].split()[2] for value in values], ["SC1", "SC2", "SC2"])
+    same(["test"], "layout.txt", LAYOUT)
+    for path, fault in (("bad.toml", "K2 owner"), ("deck.toml", None)):
+        (record,) = csv.DictReader(io.StringIO(run(["validate", path, "--format", "csv"])[1]))
+        (line,) = run(["validate", path, "--format", "json"])[1].splitlines()
+        value = json.loads(line)
+        check(f"validate {path}", (value["valid"], value["fault"]), (fault is None, fault))
+        check(f"validate {path}", (value["line"], value["column"]), (2, 1) if fault else (None, None))
+        written = {name: {True: "true", False: "false", None: ""}.get(found, str(found)) for name, found in value.items()}
+        check(f"validate {path}", record, written)
+    repeated = "case,job,dsn\nC1,JOB1,A.B\nC1,JOB1,A.B\n"
+    check("a name again", run(["compare", "deck.toml", "new.toml"], repeated)[2].split("\n")[0], "smsc: standard input: line 3, column 1: the case C1 stood before, in line 2")
     check("coverage --fail-under", run(["coverage", "--fail-under", "100", "script.txt"])[0], 0)
     check("compare the same", run(["compare", "--fail", "deck.toml", "deck.toml", "cases.csv"])[0], 0)
     for words, front in (
