@@ -1,6 +1,6 @@
 -- Candidates as the lists see them.
 use Rattle.std.proofs.Common.{◌≡◌, ◌<◌, ◌≤◌, ◌+◌, ℕ, Bool, true, false, List, [], ◌∷◌, ◌++◌, length, map, take, refl, sym, ap, ◌∙◌}
-use Rattle.std.specs.Prelude.{None, Some, filter, is_some, slice_get}
+use Rattle.std.specs.Prelude.{Option, None, Some, filter, is_some, option_map, slice_get}
 use Rattle.std.proofs.lemmas.List.{append-nil, map-append, take_all, take_more}
 use Rattle.std.proofs.lemmas.List.Elements.{filter-append}
 use Rattle.std.proofs.lemmas.Option.{get_or_from_slice_get}
@@ -28,6 +28,10 @@ pub view-there : (s : DeskState) (running : ActiveVolumes) (asked : Asked) (plac
 view-there s running asked place v group fits are at there is =
     ap (λ (x : VolView). record x { fits = fits }) (seen-at s running asked place v group are at there)
     ∙ ap (λ (b : Bool). record (view_of s (ask_of asked) v.volume) { fits = b }) is
+
+pub mapped-some : {X Y : Type 0} (f : X → Y) (o : Option X) → is_some o ≡ is_some (option_map f o)
+mapped-some f None = refl
+mapped-some f (Some x) = refl
 
 -- its storage group is there
 pub group-there : (s : DeskState) (running : ActiveVolumes) (place : ℕ) (v : ActiveVolume) → AreVolumesOf s running → slice_get running.volumes.items place ≡ Some v → slice_get running.groups.items v.group ≡ None → ⊥

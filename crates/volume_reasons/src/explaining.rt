@@ -183,7 +183,8 @@ fn push_item_volumes(
     match &item.request.op {
         Op::Alloc(allocation) => {
             let job = &item.request.job;
-            push_candidates(alloc, text, config, volumes, job, allocation.get(), slate)
+            push_candidates(alloc, text, config, volumes, job, allocation.get(), slate)?;
+            Ok(())
         }
         _ => Ok(()),
     }
@@ -207,7 +208,8 @@ fn push_candidates(
     if !is_done(classified.stop) {
         return Ok(());
     }
-    push_done(alloc, text, config, volumes, allocation, &classified.values)
+    push_done(alloc, text, config, volumes, allocation, &classified.values)?;
+    Ok(())
 }
 
 // Whether nothing stopped a classification.
@@ -239,9 +241,13 @@ fn push_done(
     match space_of(allocation, data_class_of(config, &values.dataclas)) {
         Some(space) => {
             let asked = asked_for(config, allocation, values, space);
-            push_listed(alloc, text, volumes, groups, &asked)
+            push_listed(alloc, text, volumes, groups, &asked)?;
+            Ok(())
         }
-        None => text.extend_from_slice(b"  NO QUANTITY\n"),
+        None => {
+            text.extend_from_slice(b"  NO QUANTITY\n")?;
+            Ok(())
+        }
     }
 }
 
@@ -257,8 +263,9 @@ fn push_listed(
     requires stand { StandForSome volumes.now }
     ensures { OnOk result ((s : DeskState) → IsLawful s → AreVolumesOf s volumes.now →
         text.new.items ≡ text.old.items ++ views_text
-        (map (view_of s (ask_of asked.now)) (candidates_in s (Listed groups))) (want_of (ask_of asked.now))) }
+        (map (view_of s (ask_of asked.now)) (candidates_in s (Listed groups.entry))) (want_of (ask_of asked.now))) }
 {
     let views = views_of(alloc, volumes, &Candidates::Listed(groups), asked)?;
-    push_views(text, &views, &want_of(asked))
+    push_views(text, &views, &want_of(asked))?;
+    Ok(())
 }
