@@ -11,7 +11,7 @@ use Rattle.acs_test.specs.declared.case.Case.{Case}
 use Rattle.acs_test.specs.declared.cases.Cases.{Cases}
 use Rattle.case_results.specs.Results.{failed_in}
 use Rattle.tool_calls.specs.DeckText.{refused_text}
-use Rattle.tool_calls.specs.TestText.{IsCasesTest, IsTest, IsTestUnder, TellsResults, test_status, judged, unjudged}
+use Rattle.tool_calls.specs.TestText.{IsCasesTest, IsTest, IsTestUnder, TellsResults, test_status, cases_tested, cases_refused}
 use Rattle.tool_calls.specs.TestText.{configured, unconfigured, table_judged, table_refused}
 use Rattle.tool_calls.proofs.ScriptLemmas.{IsEnd}
 use Rattle.tool_calls.specs.declared.status.ToolStatus.{ToolStatus}
@@ -30,8 +30,8 @@ results_end : {config : Configuration} {fail : Bool} {format : Format} {cases : 
 results_end {config} {fail} {cases = cases} {status = status} tells = status_ends fail (failed_in config cases) status tells.status_is
 
 pub test_ends : {bytes : List ℕ} {fail : Bool} {format : Format} {status : ToolStatus} {text : List ℕ} → IsTest bytes fail format status text → IsEnd status
-test_ends (judged cases status text reads tells) = results_end tells
-test_ends (unjudged err refuses) = inr refl
+test_ends (cases_tested cases status text reads tells) = results_end tells
+test_ends (cases_refused err refuses) = inr refl
 
 under_ends : {deck : List ℕ} {fail : Bool} {format : Format} {cases : List Case} {status : ToolStatus} {text : List ℕ} → IsTestUnder deck fail format cases status text → IsEnd status
 under_ends (configured config status text configures tells) = results_end tells
