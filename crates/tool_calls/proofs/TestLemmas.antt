@@ -49,9 +49,6 @@ module _ (deck : List ℕ) (fail : Bool) (format : Format) (cases : List Case) w
   configured_told config (Ok found) configures tells = configured config found.0 found.1 configures tells
   configured_told config (Err err) configures tells = tt
 
-  pub unconfigured_told : {E : Type 0} (fault : Fault) (made : Result (ToolStatus × List ℕ) E) → HasFirstFault deck fault → IfOk made (λ found. (found.0 ≡ FaultFound) × (found.1 ≡ refused_text fault))
-      → IfOk made (λ found. IsTestUnder deck fail format cases found.0 found.1)
-  unconfigured_told fault (Ok found) faulty e =
-      subst (λ x. IsTestUnder deck fail format cases x found.1) (sym e.0)
-      (subst (λ x. IsTestUnder deck fail format cases FaultFound x) (sym e.1) (unconfigured fault faulty))
-  unconfigured_told fault (Err err) faulty e = tt
+pub unconfigured_told : {deck text : List ℕ} {fail : Bool} {format : Format} {cases : List Case} {status : ToolStatus} {fault : Fault} → HasFirstFault deck fault → (status ≡ FaultFound) × (text ≡ refused_text fault) → IsTestUnder deck fail format cases status text
+unconfigured_told {deck} {text} {fail} {format} {cases} {status} {fault} faulty e =
+    subst (λ x. IsTestUnder deck fail format cases x text) (sym e.0) (subst (λ x. IsTestUnder deck fail format cases FaultFound x) (sym e.1) (unconfigured fault faulty))
