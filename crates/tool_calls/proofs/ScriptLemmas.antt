@@ -16,7 +16,8 @@ use Rattle.tool_words.specs.declared.format.Format.{Format}
 use Rattle.tool_words.specs.declared.format.Format.TheVariants as formats
 use Rattle.tool_words.specs.declared.pick.Pick.{Pick}
 use Rattle.tool_words.specs.declared.script_task.ScriptTask.{ScriptTask}
-use Rattle.tool_words.specs.declared.script_task.ScriptTask.TheVariants.{Simulate, Explain, Coverage}
+use Rattle.tool_words.specs.declared.script_task.ScriptTask.TheVariants.{Simulate, Explain, ExplainVolumes, Coverage}
+use Rattle.volume_reasons.specs.Explained.{IsVolumesExplained}
 
 -- the line that is told, and the status
 
@@ -60,6 +61,7 @@ covered_in least formats.Json items line is = is
 pub misplaced_told : (task : ScriptTask) (items : List Item) (line : ℕ) → IsToldOf task items (Misplaced line) → first_misplaced items ≡ Some line
 misplaced_told (Simulate format) items line is = simulation_misplaced items (IsSimulationIn format items) (simulated_in format items) line is.0 is.1 is.2
 misplaced_told (Explain pick format) items line is = simulation_misplaced items (IsExplanationIn pick format items) (explained_in pick format items) line is.0 is.1 is.2
+misplaced_told (ExplainVolumes pick) items line is = simulation_misplaced items (IsVolumesExplained pick.job pick.number items) (λ other is. is) line is.0 is.1 is.2
 misplaced_told (Coverage least format) items line is = coverage_misplaced items (IsCoverageIn least format items) (covered_in least format items) line is.0 is.1 is.2
 
 -- what is shown has the status of an answer, or of a fault
@@ -84,6 +86,7 @@ coverage_ends status text (coverages.Misplaced line) e = absurd (cc e)
 told_ends : (task : ScriptTask) (items : List Item) (status : ToolStatus) (text : List ℕ) → IsToldOf task items (Shown status text) → IsEnd status
 told_ends (Simulate format) items status text is = simulation_ends status text is.0 is.2
 told_ends (Explain pick format) items status text is = simulation_ends status text is.0 is.2
+told_ends (ExplainVolumes pick) items status text is = simulation_ends status text is.0 is.2
 told_ends (Coverage least format) items status text is = coverage_ends status text is.0 is.2
 
 pub script_ends : {status : ToolStatus} {text : List ℕ} (task : ScriptTask) (items : List Item) → IsScriptAnswer task items status text → IsEnd status

@@ -10,12 +10,13 @@ use Rattle.tool_calls.specs.ScriptText.{IsScriptAnswer}
 use Rattle.tool_calls.specs.declared.status.ToolStatus.{ToolStatus}
 use Rattle.tool_calls.specs.declared.status.ToolStatus.TheVariants.{FaultFound}
 use Rattle.tool_words.specs.declared.script_task.ScriptTask.{ScriptTask}
-use Rattle.tool_words.specs.declared.script_task.ScriptTask.TheVariants.{Simulate, Explain, Coverage}
+use Rattle.tool_words.specs.declared.script_task.ScriptTask.TheVariants.{Simulate, Explain, ExplainVolumes, Coverage}
 
 -- the name of the case that is asked for, where one is
 abbrev pub case_of : ScriptTask → Option (List ℕ)
 case_of (Simulate format) = None
 case_of (Explain pick format) = pick.case
+case_of (ExplainVolumes pick) = pick.case
 case_of (Coverage least format) = None
 
 -- what is told of the cases under the deck, or the fault of their table

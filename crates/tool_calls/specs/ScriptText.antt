@@ -22,7 +22,8 @@ use Rattle.tool_words.specs.declared.format.Format.{Format}
 use Rattle.tool_words.specs.declared.format.Format.TheVariants as formats
 use Rattle.tool_words.specs.declared.pick.Pick.{Pick}
 use Rattle.tool_words.specs.declared.script_task.ScriptTask.{ScriptTask}
-use Rattle.tool_words.specs.declared.script_task.ScriptTask.TheVariants.{Simulate, Explain, Coverage}
+use Rattle.tool_words.specs.declared.script_task.ScriptTask.TheVariants.{Simulate, Explain, ExplainVolumes, Coverage}
+use Rattle.volume_reasons.specs.Explained.{IsVolumesExplained}
 
 -- what the simulation of these items comes to in a form
 abbrev pub IsSimulationIn : Format → List Item → Simulated → Type 0
@@ -64,6 +65,8 @@ IsToldOf (Simulate format) items told =
     (made : Simulated) × IsSimulationIn format items made × (told ≡ told_simulation made)
 IsToldOf (Explain pick format) items told =
     (made : Simulated) × IsExplanationIn pick format items made × (told ≡ told_simulation made)
+IsToldOf (ExplainVolumes pick) items told =
+    (made : Simulated) × IsVolumesExplained pick.job pick.number items made × (told ≡ told_simulation made)
 IsToldOf (Coverage least format) items told =
     (made : Covered) × IsCoverageIn least format items made × (told ≡ told_coverage made)
 

@@ -92,7 +92,7 @@ fn case_of(task: ScriptTask) -> Option<Name>
     ensures { result ≡ case_of task }
 {
     match task {
-        ScriptTask::Explain { pick, .. } => pick.case,
+        ScriptTask::Explain { pick, .. } | ScriptTask::ExplainVolumes(pick) => pick.case,
         ScriptTask::Simulate(_) | ScriptTask::Coverage { .. } => None,
     }
 }

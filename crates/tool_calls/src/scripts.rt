@@ -4,7 +4,8 @@ ghost use Rattle.sms_script.specs.Script.{items_of};
 ghost use Rattle.tool_calls.specs.ScriptText.{IsCoverageIn, IsExplanationIn, IsSimulationIn, IsToldOf, TellsScript};
 ghost use Rattle.tool_calls.specs.ScriptText.{coverage_status, told_coverage, told_simulation};
 ghost use Rattle.tool_calls.specs.ToolText.{HindersTold};
-ghost use Rattle.tool_words.specs.declared.script_task.ScriptTask.TheVariants.{Coverage, Explain, Simulate};
+ghost use Rattle.tool_words.specs.declared.script_task.ScriptTask.TheVariants.{Coverage, Explain, ExplainVolumes};
+ghost use Rattle.tool_words.specs.declared.script_task.ScriptTask.TheVariants.{Simulate};
 
 use crate::deck_answers::refused;
 use crate::no_answer::NoAnswer;
@@ -20,6 +21,7 @@ use sms_script::{Script, ScriptErr};
 use sms_simulation::{Simulated, simulate};
 use std::alloc::{AllocError, Global};
 use tool_words::{Format, Pick, ScriptTask};
+use volume_reasons::explain_volumes;
 
 /// What a task tells of a script.
 pub fn told_of(alloc: Global, task: ScriptTask, script: &Script) -> Result<ScriptTold, AllocError>
@@ -28,6 +30,7 @@ pub fn told_of(alloc: Global, task: ScriptTask, script: &Script) -> Result<Scrip
     match task {
         ScriptTask::Simulate(format) => simulated(alloc, format, script),
         ScriptTask::Explain { pick, format } => explained(alloc, &pick, format, script),
+        ScriptTask::ExplainVolumes(pick) => explained_with_volumes(alloc, &pick, script),
         ScriptTask::Coverage { least, format } => covered(alloc, least, format, script),
     }
 }
@@ -59,6 +62,17 @@ fn explained(
     ensures { IfOk result (IsToldOf (Explain pick.now format) (items_of script.now)) }
 {
     let made = explanation_in(alloc, pick, format, script)?;
+    Ok(told_simulation(made))
+}
+
+fn explained_with_volumes(
+    alloc: Global,
+    pick: &Pick,
+    script: &Script,
+) -> Result<ScriptTold, AllocError>
+    ensures { IfOk result (IsToldOf (ExplainVolumes pick.now) (items_of script.now)) }
+{
+    let made = explain_volumes(alloc, script, &pick.job, pick.number)?;
     Ok(told_simulation(made))
 }
 

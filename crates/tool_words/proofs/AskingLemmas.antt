@@ -280,6 +280,10 @@ explain_asks : Asks (codes "explain" ∷ []) (tasks.Script (script_tasks.Explain
 unfolding clap_on_literals
 explain_asks = (refl, refl)
 
+volumes_asks : Asks (codes "explain" ∷ codes "--volumes" ∷ []) (tasks.Script (script_tasks.ExplainVolumes (record { job = None; number = None; case = None })))
+unfolding clap_on_literals
+volumes_asks = (refl, refl)
+
 coverage_asks : Asks (codes "coverage" ∷ []) (tasks.Script (script_tasks.Coverage 0 formats.Text))
 unfolding clap_on_literals
 coverage_asks = (refl, refl)
@@ -313,6 +317,13 @@ pick_asks words (Some job) number case format w = absurd (cc w)
 pick_asks words None (Some number) case format w = absurd (cc w)
 pick_asks words None None (Some case) format w = absurd (cc w)
 
+viewed_asks : (words : List Text) (job : Option Text) (number : Option ℕ) (case : Option Text) → Some words ≡ where_all job number case (codes "explain" ∷ codes "--volumes" ∷ [])
+    → Asks words (tasks.Script (script_tasks.ExplainVolumes (record { job = job; number = number; case = case })))
+viewed_asks words None None None w = asks_as words _ _ w volumes_asks
+viewed_asks words (Some job) number case w = absurd (cc w)
+viewed_asks words None (Some number) case w = absurd (cc w)
+viewed_asks words None None (Some case) w = absurd (cc w)
+
 validated_asks : (words : List Text) (format : Format) → Some words ≡ where_usual format (codes "validate" ∷ []) → Asks words (tasks.Validate format)
 validated_asks words formats.Text w = asks_as words _ _ w validate_asks
 validated_asks words formats.Csv w = absurd (cc w)
@@ -339,6 +350,7 @@ task_asks words (tasks.Validate format) w = validated_asks words format w
 task_asks words (tasks.Script (script_tasks.Simulate format)) w = simulated_asks words format w
 task_asks words (tasks.Compare comparison) w = form_asks words comparison.changed comparison.fail comparison.format w
 task_asks words (tasks.Script (script_tasks.Explain pick format)) w = pick_asks words pick.job pick.number pick.case format w
+task_asks words (tasks.Script (script_tasks.ExplainVolumes pick)) w = viewed_asks words pick.job pick.number pick.case w
 task_asks words (tasks.Script (script_tasks.Coverage least format)) w = least_asks words least format w
 task_asks words (tasks.Lint fail format) w = linted_asks words fail format w
 task_asks words (tasks.Test fail format) w = tested_asks words fail format w

@@ -109,10 +109,17 @@ pick_in rows =
     option_and_then (λ job. option_and_then (λ number. option_map (λ case.
     record { job = job; number = number; case = case }) (case_in rows)) (number_in rows)) (job_in rows)
 
--- which allocations these rows ask to be explained, and in which form
+-- these allocations explained in this form, with their candidate volumes or without; with them as text alone
+abbrev pub explanation_with : Bool → Pick → Format → Option Task
+explanation_with false pick format = Some (tasks.Script (script_tasks.Explain pick format))
+explanation_with true pick formats.Text = Some (tasks.Script (script_tasks.ExplainVolumes pick))
+explanation_with true pick formats.Csv = None
+explanation_with true pick formats.Json = None
+
+-- which allocations these rows ask to be explained, and how
 abbrev pub explain_in : List Row → Option Task
 explain_in rows =
-    option_and_then (λ pick. option_map (λ format. tasks.Script (script_tasks.Explain pick format)) (format_in rows))
+    option_and_then (λ pick. option_and_then (explanation_with (is_set (codes "volumes") rows) pick) (format_in rows))
     (pick_in rows)
 
 -- which coverage these rows ask for, and in which form it is told

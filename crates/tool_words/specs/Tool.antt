@@ -60,8 +60,9 @@ compare_app =
 -- the subcommand `explain`
 abbrev pub explain_app : App
 explain_app =
-    with_rule (with_rule (with_rule (with_rule (cases_app (codes "explain")) (option_rule (codes "case")))
-    (option_rule (codes "job"))) (option_rule (codes "number"))) (option_rule (codes "format"))
+    with_rule (with_rule (with_rule (with_rule (with_rule (cases_app (codes "explain")) (option_rule (codes "case")))
+    (option_rule (codes "job"))) (option_rule (codes "number"))) (flag_rule (codes "volumes")))
+    (option_rule (codes "format"))
 
 -- the subcommand `coverage`
 abbrev pub coverage_app : App
@@ -139,6 +140,8 @@ words_of (tasks.Compare comparison) =
     ++ flag_words (codes "--fail") comparison.fail))
 words_of (tasks.Script (script_tasks.Explain pick format)) =
     option_and_then (where_usual format) (where_all pick.job pick.number pick.case (codes "explain" ∷ []))
+words_of (tasks.Script (script_tasks.ExplainVolumes pick)) =
+    where_all pick.job pick.number pick.case (codes "explain" ∷ codes "--volumes" ∷ [])
 words_of (tasks.Script (script_tasks.Coverage least format)) =
     option_and_then (where_usual format) (where_any least (codes "coverage" ∷ []))
 words_of (tasks.Lint fail format) = where_usual format (codes "lint" ∷ flag_words (codes "--fail") fail)

@@ -38,7 +38,8 @@ const COMPARE: Said = Said {
 
 const EXPLAIN: Said = Said {
     about: "Tell what each routine does with allocations, statement by statement",
-    usage: "smsc explain [FILE | DECK CASES] [--case NAME] [--job JOB] [--number N] [--format FORM]",
+    usage: "smsc explain [FILE | DECK CASES] [--case NAME] [--job JOB] [--number N] [--volumes] \
+        [--format FORM]",
 };
 
 const COVERAGE: Said = Said {
@@ -140,6 +141,7 @@ fn explaining<'a>(alloc: Global) -> Result<Command<'a>, AllocError>
         .arg(option(alloc, "case"))?
         .arg(option(alloc, "job"))?
         .arg(option(alloc, "number"))?
+        .arg(flag(alloc, "volumes"))?
         .arg(option(alloc, "format"))
 }
 

@@ -38,14 +38,16 @@ smsc compare [OLD [NEW [CASES]]] [--changed] [--fail] [--format FORM]
 
 const EXPLAIN: &str = "
 smsc explain [FILE | DECK CASES] [--case NAME] [--job JOB] [--number N]
-             [--format FORM]
+             [--volumes] [--format FORM]
                      tell what each routine does with the allocations of a
                      script as simulate reads it, or with the cases of a
                      table, statement by statement; --case, --job and
-                     --number tell those alone; FORM is text, csv or json
+                     --number tell those alone; --volumes tells also which
+                     volumes may be chosen for each, and why others may not;
+                     FORM is text, csv or json, with --volumes text
 
     smsc explain morning.txt --job PAYJOB --number 1
-    smsc explain deck.toml cases.csv --case PAY1
+    smsc explain deck.toml cases.csv --case PAY1 --volumes
 ";
 
 const COVERAGE: &str = "

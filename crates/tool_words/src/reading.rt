@@ -4,14 +4,16 @@ ghost use Rattle.clap.specs.Words.{kind_of, IsAmong, fault_of, found_of, rows_of
 ghost use Rattle.clap.specs.Words.{subcommand_rows_of};
 ghost use Rattle.desk_common.specs.Exact.{IsExact, MayRefuse};
 ghost use Rattle.tool_words.specs.Asking.{AskFor, Hinders, AreSorted, NamePaths, err_of, task_found, task_of};
-ghost use Rattle.tool_words.specs.Asking.{comparison_with, format_in, task_or_bad};
+ghost use Rattle.tool_words.specs.Asking.{comparison_with, explanation_with, format_in, task_or_bad};
 ghost use Rattle.tool_words.specs.Tool.{tool, words_of};
 ghost use Rattle.tool_words.specs.declared.task.Task.{Task as TaskOf};
 
 use crate::command::tool_command;
 use crate::comparison::Comparison;
 use crate::examples::examples_of;
+use crate::format::Format;
 use crate::paths::Paths;
+use crate::pick::Pick;
 use crate::printed::printed_words;
 use crate::script_task::ScriptTask;
 use crate::task::Task;
@@ -131,7 +133,7 @@ fn task_of(name: &str, matches: &ArgMatches<'_>) -> Option<Task>
     if name == "explain" {
         let pick = pick_in(matches)?;
         let format = format_in(matches)?;
-        return Some(Task::Script(ScriptTask::Explain { pick, format }));
+        return explanation_with(is_set(matches, "volumes"), pick, format);
     }
     if name == "coverage" {
         let least = least_in(matches)?;
@@ -153,6 +155,19 @@ fn task_of(name: &str, matches: &ArgMatches<'_>) -> Option<Task>
         });
     }
     None
+}
+
+// These allocations explained in this form, with their candidate volumes or without; with them as text alone.
+fn explanation_with(volumes: bool, pick: Pick, format: Format) -> Option<Task>
+    ensures { result ≡ explanation_with volumes pick format }
+{
+    if !volumes {
+        return Some(Task::Script(ScriptTask::Explain { pick, format }));
+    }
+    match format {
+        Format::Text => Some(Task::Script(ScriptTask::ExplainVolumes(pick))),
+        Format::Csv | Format::Json => None,
+    }
 }
 
 // How the words ask two decks to be compared.

@@ -1,5 +1,6 @@
 //! What is said of a value that isn't as its word asks.
-use crate::values::{format_in, kind_in, least_in, number_in, pick_in, value_of};
+use crate::format::Format;
+use crate::values::{format_in, is_set, kind_in, least_in, number_in, pick_in, value_of};
 use clap::ArgMatches;
 use dsn_mask::Name;
 use std::alloc::{AllocError, Global};
@@ -19,6 +20,11 @@ pub fn value_fault(alloc: Global, matches: &ArgMatches<'_>) -> Result<String, Al
     }
     if pick_in(inner).is_none() {
         return pick_fault(alloc, inner);
+    }
+    if is_set(inner, "volumes") && !matches!(format_in(inner), Some(Format::Text)) {
+        let word = "--format <format>";
+        let form = "text, where --volumes stands";
+        return invalid(alloc, value_of(inner, "format"), word, form);
     }
     if least_in(inner).is_none() {
         let word = "--fail-under <fail-under>";

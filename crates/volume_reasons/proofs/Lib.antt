@@ -1,0 +1,5 @@
+pub mod EmptyLemmas
+pub mod ExplainedLemmas
+pub mod LawLemmas
+pub mod TurnLemmas
+pub mod ViewLemmas
