@@ -1,0 +1,14 @@
+use Rattle.std.proofs.Common.{◌≡◌}
+use Rattle.toml.specs.View.{table_view, members_view}
+use Rattle.dsn_mask.specs.Name.{is_name}
+use Rattle.deck_faults.specs.Survey.{each_faults}
+use Rattle.deck_faults.specs.Tables.{construct_survey}
+use Rattle.deck_faults.specs.Inner.Telling.{put_all}
+use Rattle.deck_faults.proofs.constructs.tell_each.Given as goal
+
+abbrev pub invariant-loop-name : goal.invariant-loop-name
+invariant-loop-name l =
+    (goal.iterator-loop-name).can_next l.name-iterator
+    × (goal.iterator-loop-name).is_finite l.name-iterator
+    × (put_all l.told.items (each_faults is_name (construct_survey l.version l.kind) l.fn.path (members_view l.name-iterator))
+    ≡ put_all l.initial.told.items (each_faults is_name (construct_survey l.version l.kind) l.fn.path (table_view l.fn.constructs)))
