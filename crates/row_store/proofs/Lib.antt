@@ -1,3 +1,4 @@
 pub mod HoldLemmas
 pub mod EngineLemmas
 pub mod HistoryLemmas
+pub mod OrderLemmas

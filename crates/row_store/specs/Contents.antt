@@ -1,4 +1,4 @@
--- What a transaction makes of the contents under a prefix; the order of rows means nothing.
+-- What a transaction makes of the contents under a prefix; rows stand in the order of their keys.
 use Rattle.std.specs.Prelude.{◌≡◌, ◌<◌, ◌+◌, ◌⊎◌, ◌++◌, ◌∷◌, [], ℕ, Bool, List, bytes_eq, filter, fold, not, ◌&&◌}
 use Rattle.std.specs.Prelude.{drop, length, nat_eq, if◌then◌else◌}
 use Rattle.std.specs.Cmp.Lexicographic.{slice_cmp}
@@ -45,9 +45,17 @@ is_below front below row = has_front front row && is_lt (slice_cmp nat_cmp (drop
 abbrev pub rows_without : (Row → Bool) → List Row → List Row
 rows_without goes rows = filter (λ row. not (goes row)) rows
 
--- the row in place of the one of its key, or added
+-- the key of the row comes before this one
+abbrev pub comes_before : List ℕ → Row → Bool
+comes_before key row = is_lt (slice_cmp nat_cmp row.key key)
+
+-- it comes behind this one
+abbrev pub comes_behind : List ℕ → Row → Bool
+comes_behind key row = is_lt (slice_cmp nat_cmp key row.key)
+
+-- the row in place of the one of its key, or added at the place of its key
 abbrev pub put_row : Row → List Row → List Row
-put_row row rows = rows_without (is_at row.key) rows ++ row ∷ []
+put_row row rows = filter (comes_before row.key) rows ++ row ∷ filter (comes_behind row.key) rows
 
 -- the rows after a write
 abbrev pub rows_with : List Row → Write → List Row

@@ -1,4 +1,5 @@
 pub mod Contents
+pub mod Order
 pub mod Histories
 pub mod Outcomes
 pub mod Holds

@@ -19,7 +19,7 @@ mod write;
 
 pub use contents::Contents;
 pub use guard::Guard;
-pub use histories::one_desk_at_a_time;
+pub use histories::{one_desk_at_a_time, rows_stay_in_order};
 pub use hold::{Hold, HoldErr};
 pub use mem_store::MemStore;
 pub use row::{Row, Rows};

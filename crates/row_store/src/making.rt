@@ -1,8 +1,8 @@
 // Transactions that are made in memory.
-ghost use Rattle.std.specs.Prelude.{◌≡◌, IfOk, OnOk, if◌then◌else◌};
+ghost use Rattle.std.specs.Prelude.{◌≡◌, IfOk, OnOk, filter, if◌then◌else◌};
 ghost use Rattle.std.specs.List.{list_any};
-ghost use Rattle.row_store.specs.Contents.{are_absent, contents_after, has_front, is_above, is_at, is_below, put_row};
-ghost use Rattle.row_store.specs.Contents.{rows_after, rows_with, rows_without};
+ghost use Rattle.row_store.specs.Contents.{are_absent, comes_before, comes_behind, contents_after, has_front, is_above};
+ghost use Rattle.row_store.specs.Contents.{is_at, is_below, put_row, rows_after, rows_with, rows_without};
 
 use crate::contents::Contents;
 use crate::row::{Row, copied_rows};
@@ -75,16 +75,42 @@ fn drop_below(front: &[u8], below: &[u8], rows: &mut Vec<Row>)
     rows.retain(|row| !is_below(front, below, row));
 }
 
-// Puts the row in the place of the one of its key, or adds it.
+fn comes_before(key: &[u8], row: &Row) -> bool
+    ensures { result ≡ comes_before key.now row.now }
+{
+    row.key.as_slice().cmp(key).is_lt()
+}
+
+fn comes_behind(key: &[u8], row: &Row) -> bool
+    ensures { result ≡ comes_behind key.now row.now }
+{
+    key.cmp(row.key.as_slice()).is_lt()
+}
+
+fn keep_before(key: &[u8], rows: &mut Vec<Row>)
+    ensures { rows.new.items ≡ filter (comes_before key.now) rows.old.items }
+{
+    rows.retain(|row| comes_before(key, row));
+}
+
+fn keep_behind(key: &[u8], rows: &mut Vec<Row>)
+    ensures { rows.new.items ≡ filter (comes_behind key.now) rows.old.items }
+{
+    rows.retain(|row| comes_behind(key, row));
+}
+
+// Puts the row in the place of the one of its key, or adds it at the place of its key.
 pub fn put_row(alloc: Global, row: &Row, rows: &mut Vec<Row>) -> Result<(), AllocError>
     ensures { OnOk result (rows.new.items ≡ put_row row.now rows.old.items) }
 {
+    let key = row.key.as_slice();
     let copy = row.copy(alloc)?;
-    drop_key(row.key.as_slice(), rows);
-    match rows.push(copy) {
-        Ok(()) => Ok(()),
-        Err(_) => Err(AllocError),
-    }
+    let mut behind = copied_rows(alloc, rows.as_slice())?;
+    keep_behind(key, &mut behind);
+    keep_before(key, rows);
+    rows.push(copy)?;
+    rows.append(&mut behind)?;
+    Ok(())
 }
 
 // The same, unless the row of this key has a value above this one.

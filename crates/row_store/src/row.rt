@@ -11,7 +11,7 @@ pub struct Row {
     pub value: Items<u8>,
 }
 
-/// Rows, in any order.
+/// Rows, in the order of their keys where a history began with none.
 pub type Rows = Items<Row>;
 
 impl Row {
