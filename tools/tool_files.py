@@ -104,7 +104,7 @@ with tempfile.TemporaryDirectory() as folder:
         value = json.loads(line)
         check(f"validate {path}", (value["valid"], value["fault"]), (fault is None, fault))
         check(f"validate {path}", (value["line"], value["column"]), (2, 1) if fault else (None, None))
-        written = {name: {True: "true", False: "false", None: ""}.get(found, str(found)) for name, found in value.items()}
+        written = {name: "" if found is None else found if isinstance(found, str) else json.dumps(found) for name, found in value.items()}
         check(f"validate {path}", record, written)
     repeated = "case,job,dsn\nC1,JOB1,A.B\nC1,JOB1,A.B\n"
     check("a name again", run(["compare", "deck.toml", "new.toml"], repeated)[2].split("\n")[0], "smsc: standard input: line 3, column 1: the case C1 stood before, in line 2")

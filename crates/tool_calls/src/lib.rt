@@ -3,6 +3,7 @@
 
 mod answering;
 mod case_parts;
+mod case_test;
 mod cases;
 mod comparing;
 mod deck_answers;
@@ -17,14 +18,13 @@ mod script_told;
 mod scripts;
 mod status;
 mod testing;
-mod tests;
 mod tool;
 
 pub use case_parts::{CasePartNames, CaseParts};
+pub use case_test::test_cases;
 pub use cases::answer_cases;
 pub use noting::note_name;
 pub use part_names::PartNames;
 pub use parts::compare_parts;
 pub use status::ToolStatus;
-pub use tests::test_cases;
 pub use tool::smsc_main;
