@@ -7,7 +7,8 @@ use Rattle.sms_simulation.specs.Simulation.{AreAsked, first_misplaced, first_oth
 use Rattle.sms_simulation.specs.declared.simulated.Simulated.{Simulated}
 use Rattle.sms_simulation.specs.declared.simulated.Simulated.TheVariants as simulations
 use Rattle.sms_explain.specs.Picking.{is_picked}
-use Rattle.volume_reasons.specs.Explained.{IsVolumesExplained, IsVolumesExplainedUnder}
+use Rattle.volume_reasons.specs.Explained.{IsVolumesExplained}
+use Rattle.volume_reasons.specs.Inner.Under.{IsVolumesExplainedUnder}
 
 asked : (first : Item) (others : List Item) (deck : List ℕ) → deck_of first.request.op ≡ Some deck → first_other others ≡ None → AreAsked (first ∷ others) deck others
 asked first others deck activates allocates = record { first = first; items_are = refl; activates = activates; allocates = allocates }

@@ -1,6 +1,6 @@
 -- The explanation of a script with the candidate volumes of its allocations (docs/manual/tool.md, "Candidate volumes").
 use Rattle.std.specs.Prelude.{◌≡◌, ◌⊎◌, ◌++◌, ℕ, List, [], Option, None, Some, Result, Ok, Err, codes, filter, flat_map}
-use Rattle.deck_meaning.specs.Reading.{Configures, HasFirstFault}
+use Rattle.deck_meaning.specs.Reading.{Configures}
 use Rattle.desk_law.specs.Allocation.{Wish, alloc_case}
 use Rattle.desk_law.specs.State.{DeskState}
 use Rattle.sms_construct.specs.Configuration.{Configuration}
@@ -66,9 +66,3 @@ IsVolumesExplained job number items (simulations.Shown text) =
     ShowsNothing items text ⊎ TellsVolumes job number items text
 IsVolumesExplained job number items (simulations.Refused fault) = RefusesDeck items fault
 IsVolumesExplained job number items (simulations.Misplaced line) = first_misplaced items ≡ Some line
-
--- what it comes to where this deck is activated and these are the ALLOCs behind it
-abbrev pub IsVolumesExplainedUnder : List ℕ → List Item → Simulated → Type 0
-IsVolumesExplainedUnder deck others (simulations.Shown text) = TellsVolumesUnder deck others text
-IsVolumesExplainedUnder deck others (simulations.Refused fault) = HasFirstFault deck fault
-IsVolumesExplainedUnder deck others (simulations.Misplaced line) = ⊥

@@ -14,9 +14,10 @@ ghost use Rattle.sms_volumes.specs.Holding.{AreVolumesOf, StandForSome};
 ghost use Rattle.sms_volumes.specs.Viewing.{candidates_in};
 ghost use Rattle.sms_volumes.specs.declared.candidates.Candidates.TheVariants.{Listed};
 ghost use Rattle.volume_reasons.specs.EmptyDesk.{empty_under};
-ghost use Rattle.volume_reasons.specs.Explained.{IsVolumesExplained, IsVolumesExplainedUnder, case_text};
-ghost use Rattle.volume_reasons.specs.Explained.{told_with_volumes, volumes_if, volumes_text};
+ghost use Rattle.volume_reasons.specs.Explained.{IsVolumesExplained, case_text, told_with_volumes, volumes_if};
+ghost use Rattle.volume_reasons.specs.Explained.{volumes_text};
 ghost use Rattle.volume_reasons.specs.Inner.Stops.{is_done};
+ghost use Rattle.volume_reasons.specs.Inner.Under.{IsVolumesExplainedUnder};
 ghost use Rattle.volume_reasons.specs.VolumesText.{views_text};
 
 use crate::asking::{asked_for, want_of};

@@ -50,12 +50,7 @@ fn push_volumes(
 }
 
 // The line of a volume that may be chosen, or that may not.
-fn push_volume(
-    text: &mut Vec<u8>,
-    view: &VolView,
-    want: &Want,
-    may: bool,
-) -> Result<(), AllocError>
+fn push_volume(text: &mut Vec<u8>, view: &VolView, want: &Want, may: bool) -> Result<(), AllocError>
     ensures { OnOk result (text.new.items ≡ text.old.items ++ line_text want.now view.now may) }
 {
     push_front(text, view)?;
@@ -94,11 +89,7 @@ fn list_bytes(listing: Listing) -> &'static [u8]
     }
 }
 
-fn push_reason(
-    text: &mut Vec<u8>,
-    reason: Option<Reason>,
-    view: &VolView,
-) -> Result<(), AllocError>
+fn push_reason(text: &mut Vec<u8>, reason: Option<Reason>, view: &VolView) -> Result<(), AllocError>
     ensures { OnOk result (text.new.items ≡ text.old.items ++ reason_if reason view.now) }
 {
     match reason {
@@ -107,11 +98,7 @@ fn push_reason(
     }
 }
 
-fn push_one_reason(
-    text: &mut Vec<u8>,
-    reason: Reason,
-    view: &VolView,
-) -> Result<(), AllocError>
+fn push_one_reason(text: &mut Vec<u8>, reason: Reason, view: &VolView) -> Result<(), AllocError>
     ensures { OnOk result (text.new.items ≡ text.old.items ++ reason_text reason view.now) }
 {
     match reason {

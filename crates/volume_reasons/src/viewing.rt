@@ -53,10 +53,11 @@ fn look_at(
     if !candidates.has(&volumes.volumes[place].volume) {
         return Ok(());
     }
-    match view_at(volumes, place, asked) {
-        Some(view) => views.push(view),
-        None => Err(AllocError),
-    }
+    let Some(view) = view_at(volumes, place, asked) else {
+        return Err(AllocError);
+    };
+    views.push(view)?;
+    Ok(())
 }
 
 // The volume at a place as it stands; there is its storage group.
