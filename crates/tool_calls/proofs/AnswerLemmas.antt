@@ -31,9 +31,11 @@ use Rattle.tool_calls.specs.CasesText.{IsComparison, TellsListing, TellsCases, c
 use Rattle.tool_calls.specs.PartsEnds.{EndsTold, SinkSeen, WasCutOff}
 use Rattle.tool_calls.specs.declared.no_answer.NoAnswer.{NoAnswer}
 use Rattle.tool_calls.specs.declared.no_answer.NoAnswer.TheVariants as hindrances
+use Rattle.deck_faults.specs.Faults.{HasFaults}
 use Rattle.tool_calls.specs.DeckText.{refused_in, refused_text, valid_in}
+use Rattle.tool_calls.specs.FaultsText.{faults_in}
 use Rattle.tool_calls.specs.ScriptText.{IsScriptAnswer, IsToldOf, TellsScript, shown, unshown}
-use Rattle.tool_calls.specs.ToolText.{translated_text, IsAnswer, translated, faulty, valid, refused, scripted, compared, linted, unlinted}
+use Rattle.tool_calls.specs.ToolText.{translated_text, IsAnswer, translated, faulty, valid, refused, all_valid, all_refused, scripted, compared, linted, unlinted}
 use Rattle.tool_calls.specs.ToolText.{lint_status, lint_text, unread, misplaced, Hinders, HindersScript, HindersTold, hindrance_of, TellsFault}
 use Rattle.tool_calls.specs.declared.script_told.ScriptTold.{ScriptTold}
 use Rattle.tool_calls.specs.declared.script_told.ScriptTold.TheVariants as tolds
@@ -46,7 +48,7 @@ use Rattle.tool_words.specs.declared.format.Format.{Format}
 use Rattle.tool_words.specs.declared.script_task.ScriptTask.{ScriptTask}
 use Rattle.tool_words.specs.declared.task.Task.{Task}
 use Rattle.tool_words.specs.declared.task.Task.TheVariants.{Translate, Validate, Script, Compare}
-use Rattle.tool_words.specs.declared.task.Task.TheVariants.{Lint as LintDeck}
+use Rattle.tool_words.specs.declared.task.Task.TheVariants.{Faults, Lint as LintDeck}
 
 pub done : {bytes text : List ℕ} {kind : Kind} {tree : Routine} {count : ℕ} → IsTranslated bytes kind tree count → text ≡ translated_text kind count → IsAnswer bytes (Translate kind) Done text
 done {bytes} {text} {kind} {tree} {count} d e = subst (λ x. IsAnswer bytes (Translate kind) Done x) (sym e) (translated kind tree count d)
@@ -60,6 +62,12 @@ validated {bytes} {text} {format} {config} c e = subst (λ x. IsAnswer bytes (Va
 
 pub deck_refused : {bytes text : List ℕ} {format : Format} {fault : DeckFault} → HasFirstFault bytes fault → text ≡ refused_in format fault → IsAnswer bytes (Validate format) FaultFound text
 deck_refused {bytes} {text} {format} {fault} f e = subst (λ x. IsAnswer bytes (Validate format) FaultFound x) (sym e) (refused format fault f)
+
+pub all_validated : {bytes text : List ℕ} {format : Format} {config : Configuration} → Configures bytes config → text ≡ valid_in format (length config.groups) (length config.volumes) → IsAnswer bytes (Faults format) Done text
+all_validated {bytes} {text} {format} {config} c e = subst (λ x. IsAnswer bytes (Faults format) Done x) (sym e) (all_valid format config c)
+
+pub all_deck_refused : {bytes text : List ℕ} {format : Format} {fault : DeckFault} {faults : List DeckFault} → HasFirstFault bytes fault → HasFaults bytes faults → text ≡ faults_in format faults → IsAnswer bytes (Faults format) FaultFound text
+all_deck_refused {bytes} {text} {format} {fault} {faults} f h e = subst (λ x. IsAnswer bytes (Faults format) FaultFound x) (sym e) (all_refused format fault faults f h)
 
 -- what is found in a deck, or its fault, is the answer to it
 
@@ -167,6 +175,8 @@ answer_ends (translated kind tree count d) = inl refl
 answer_ends (faulty kind fault d) = inr refl
 answer_ends (valid format config d) = inl refl
 answer_ends (refused format fault d) = inr refl
+answer_ends (all_valid format config d) = inl refl
+answer_ends (all_refused format fault faults d h) = inr refl
 answer_ends (scripted task phases status text script is) = script_ends task (items_of phases) is
 answer_ends (compared comparison status text is) = comparison_ends is
 answer_ends (linted fail format status lint is e) = lint_ends fail (length lint.findings) status e

@@ -13,6 +13,7 @@ use Rattle.acs_translate.specs.Translation.{IsTranslated, IsRoutineFault}
 use Rattle.sms_construct.specs.Configuration.{Configuration}
 use Rattle.sms_construct.specs.declared.fault.Fault.{Fault as DeckFault}
 use Rattle.deck_meaning.specs.Reading.{Configures, HasFirstFault}
+use Rattle.deck_faults.specs.Faults.{HasFaults}
 use Rattle.sms_script.specs.Script.{items_of, script_of}
 use Rattle.sms_script.specs.declared.item.Item.{Item}
 use Rattle.sms_script.specs.declared.script_err.ScriptErr.{ScriptErr}
@@ -25,6 +26,7 @@ use Rattle.flat_records.specs.declared.form.RecordForm.TheVariants as forms
 use Rattle.sms_lint.specs.declared.linted.Lint.{Lint}
 use Rattle.tool_calls.specs.CasesText.{IsComparison}
 use Rattle.tool_calls.specs.DeckText.{refused_in, refused_text, valid_in}
+use Rattle.tool_calls.specs.FaultsText.{faults_in}
 use Rattle.tool_calls.specs.ScriptText.{IsScriptAnswer}
 use Rattle.tool_calls.specs.declared.no_answer.NoAnswer.{NoAnswer}
 use Rattle.tool_calls.specs.declared.no_answer.NoAnswer.TheVariants as hindrances
@@ -37,7 +39,7 @@ use Rattle.tool_words.specs.declared.format.Format.{Format}
 use Rattle.tool_words.specs.declared.format.Format.TheVariants as formats
 use Rattle.tool_words.specs.declared.script_task.ScriptTask.{ScriptTask}
 use Rattle.tool_words.specs.declared.task.Task.{Task}
-use Rattle.tool_words.specs.declared.task.Task.TheVariants.{Translate, Validate, Script, Compare, Lint as LintDeck}
+use Rattle.tool_words.specs.declared.task.Task.TheVariants.{Translate, Validate, Script, Compare, Lint as LintDeck, Faults}
 
 -- L, P or C
 abbrev pub letter_of : Stage → List ℕ
@@ -75,6 +77,10 @@ pub data IsAnswer (bytes : List ℕ) : Task → ToolStatus → List ℕ → Type
       IsAnswer bytes (Validate format) Done (valid_in format (length config.groups) (length config.volumes))
   refused : (format : Format) (fault : DeckFault) → HasFirstFault bytes fault →
       IsAnswer bytes (Validate format) FaultFound (refused_in format fault)
+  all_valid : (format : Format) (config : Configuration) → Configures bytes config →
+      IsAnswer bytes (Faults format) Done (valid_in format (length config.groups) (length config.volumes))
+  all_refused : (format : Format) (fault : DeckFault) (faults : List DeckFault) → HasFirstFault bytes fault →
+      HasFaults bytes faults → IsAnswer bytes (Faults format) FaultFound (faults_in format faults)
   scripted : (task : ScriptTask) (phases : List (List Item)) (status : ToolStatus) (text : List ℕ) →
       script_of bytes ≡ Ok phases → IsScriptAnswer task (items_of phases) status text →
       IsAnswer bytes (Script task) status text

@@ -1,5 +1,5 @@
 //! What is told of a deck.
-ghost use Rattle.std.specs.Prelude.{◌≡◌, ◌++◌, ◌∷◌, [], IfOk};
+ghost use Rattle.std.specs.Prelude.{◌≡◌, ◌++◌, ◌∷◌, [], IfOk, OnOk};
 ghost use Rattle.flat_records.specs.Records.{Named};
 ghost use Rattle.flat_records.specs.declared.field.FieldValue.{FieldValue as Value};
 ghost use Rattle.sms_script.specs.FaultText.{fault_text as deck_fault_text};
@@ -19,8 +19,8 @@ use sms_script::push_fault;
 use std::alloc::{AllocError, Global};
 use tool_words::Format;
 
-// The names of the fields of a deck's record.
-const NAMES: [&[u8]; 4] = [b"valid", b"groups", b"volumes", b"fault"];
+/// The names of the fields of a deck's record.
+pub const NAMES: [&[u8]; 4] = [b"valid", b"groups", b"volumes", b"fault"];
 
 /// The answer to a deck in a form. What its fault means is noted.
 #[tactic(auto, using(crate::proofs::AnswerLemmas::validated, crate::proofs::AnswerLemmas::deck_refused))]
@@ -47,8 +47,8 @@ pub fn validated(
     }
 }
 
-// What is told of a deck with so many storage groups and volumes.
-fn valid_in(
+/// What is told of a deck with so many storage groups and volumes.
+pub fn valid_in(
     alloc: Global,
     format: Format,
     groups: usize,
@@ -125,7 +125,8 @@ fn fault_record(alloc: Global, form: RecordForm, fault: &Fault) -> Result<Vec<u8
     deck_record(alloc, form, &fields)
 }
 
-fn fault_fields(alloc: Global, fault: &Fault) -> Result<Fields<'static>, AllocError>
+/// The fields of a deck with this fault.
+pub fn fault_fields(alloc: Global, fault: &Fault) -> Result<Fields<'static>, AllocError>
     ensures { IfOk result (λ fields. fields ≡ fault_fields fault.now) }
 {
     let told = fault_value(alloc, fault)?;
@@ -156,8 +157,16 @@ pub fn refused(alloc: Global, fault: &Fault) -> Result<(ToolStatus, Items<u8>), 
 fn refused_text(alloc: Global, fault: &Fault) -> Result<Vec<u8>, AllocError>
     ensures { IfOk result (λ text. text.items ≡ refused_text fault.now) }
 {
-    let mut text = b"FAULT ".to_vec(alloc)?;
-    push_fault(&mut text, fault)?;
-    text.extend_from_slice(b"\n")?;
+    let mut text = Vec::new(alloc);
+    push_refused(&mut text, fault)?;
     Ok(text)
+}
+
+/// Appends the line of a deck's fault.
+pub fn push_refused(text: &mut Vec<u8>, fault: &Fault) -> Result<(), AllocError>
+    ensures { OnOk result (text.new.items ≡ text.old.items ++ refused_text fault.now) }
+{
+    text.extend_from_slice(b"FAULT ")?;
+    push_fault(text, fault)?;
+    text.extend_from_slice(b"\n")
 }

@@ -12,6 +12,10 @@ pub fn most_bytes(task: Task) -> usize
 {
     match task {
         Task::Translate(_) => MAX_ROUTINE,
-        Task::Validate(_) | Task::Script(_) | Task::Compare(_) | Task::Lint { .. } => MAX_INPUT,
+        Task::Validate(_)
+        | Task::Faults(_)
+        | Task::Script(_)
+        | Task::Compare(_)
+        | Task::Lint { .. } => MAX_INPUT,
     }
 }
