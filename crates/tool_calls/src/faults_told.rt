@@ -64,11 +64,7 @@ fn faults_text(alloc: Global, faults: &[Fault]) -> Result<Vec<u8>, AllocError>
     Ok(text)
 }
 
-fn faults_records(
-    alloc: Global,
-    form: RecordForm,
-    faults: &[Fault],
-) -> Result<Vec<u8>, AllocError>
+fn faults_records(alloc: Global, form: RecordForm, faults: &[Fault]) -> Result<Vec<u8>, AllocError>
     ensures { IfOk result (λ text. text.items ≡ faults_records form faults.now) }
 {
     let mut text = Vec::new(alloc);
