@@ -158,7 +158,7 @@ leads_top : (version : Version) → Leads (top_survey version) (top_walk version
 leads_top version path top =
     let unknown = unknown_fault path (map (λ row. row.key) (top_rows version)) top in
     let head = rows_fault path top (take 3 (top_rows version)) in
-    let data = row_fault path top (constructs_row version DataClas) (get_member (key_of DataClas) top) in
+    let dataclass = row_fault path top (constructs_row version DataClas) (get_member (key_of DataClas) top) in
     let stor = row_fault path top (constructs_row version StorClas) (get_member (key_of StorClas) top) in
     let mgmt = row_fault path top (constructs_row version MgmtClas) (get_member (key_of MgmtClas) top) in
     let group = row_fault path top (constructs_row version StorGrp) (get_member (key_of StorGrp) top) in
@@ -169,7 +169,7 @@ leads_top version path top =
     let four = joined (alone (head_walk version path top) ++ constructs_faults version DataClas path top ++ constructs_faults version StorClas path top ++ constructs_faults version MgmtClas path top) (constructs_faults version StorGrp path top) three (of_constructs version StorGrp path top) in
     let five = joined (alone (head_walk version path top) ++ constructs_faults version DataClas path top ++ constructs_faults version StorClas path top ++ constructs_faults version MgmtClas path top ++ constructs_faults version StorGrp path top) (routine_faults path top) four (of_routines path top) in
     five
-    ∙ nest unknown head data stor mgmt group routines
+    ∙ nest unknown head dataclass stor mgmt group routines
     ∙ ap (option_or unknown) (sym (rows_append path top (take 3 (top_rows version)) (constructs_row version DataClas ∷ constructs_row version StorClas ∷ constructs_row version MgmtClas ∷ constructs_row version StorGrp ∷ inner (codes "routine") routine_walk ∷ [])))
 
 -- what the walk of the top table meets where the version is missing or wrong: an unknown key, or that

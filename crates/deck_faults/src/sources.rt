@@ -184,8 +184,20 @@ pub fn tell_assigned(
     requires { table_view none.now ≡ no_members }
     ensures { OnOk result (told.new.items ≡ put_all told.old.items (known_faults (table_view top.now) sources.now)) }
 {
-    tell_first(told, check_known(top, none, Kind::DataClas, &sources.dataclas))?;
-    tell_first(told, check_known(top, none, Kind::StorClas, &sources.storclas))?;
-    tell_first(told, check_known(top, none, Kind::MgmtClas, &sources.mgmtclas))?;
-    tell_first(told, check_known(top, none, Kind::StorGrp, &sources.storgrp))
+    tell_first(
+        told,
+        check_known(top, none, Kind::DataClas, &sources.dataclas),
+    )?;
+    tell_first(
+        told,
+        check_known(top, none, Kind::StorClas, &sources.storclas),
+    )?;
+    tell_first(
+        told,
+        check_known(top, none, Kind::MgmtClas, &sources.mgmtclas),
+    )?;
+    tell_first(
+        told,
+        check_known(top, none, Kind::StorGrp, &sources.storgrp),
+    )
 }

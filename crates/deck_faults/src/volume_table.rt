@@ -10,9 +10,7 @@ ghost use Rattle.deck_faults.specs.Survey.{each_faults, first_alone, inner_fault
 ghost use Rattle.deck_faults.specs.Tables.{volumes_survey};
 ghost use Rattle.deck_faults.specs.Inner.Telling.{put_all};
 
-use crate::rows::{
-    check_count, check_keys, check_row, check_size, has_either, has_key, value_at,
-};
+use crate::rows::{check_count, check_keys, check_row, check_size, has_either, has_key, value_at};
 use crate::telling::{tell, tell_first};
 use deck_meaning::{MAX_GROUP_VOLUMES, MAX_TRACKS, ValueForm};
 use dsn_mask::Volser;

@@ -31,9 +31,11 @@ use Rattle.tool_calls.specs.CasesText.{IsComparison, TellsListing, TellsCases, c
 use Rattle.tool_calls.specs.PartsEnds.{EndsTold, SinkSeen, WasCutOff}
 use Rattle.tool_calls.specs.declared.no_answer.NoAnswer.{NoAnswer}
 use Rattle.tool_calls.specs.declared.no_answer.NoAnswer.TheVariants as hindrances
+use Rattle.deck_faults.specs.Faults.{HasFaults}
 use Rattle.tool_calls.specs.DeckText.{TellsRefusal, refused_text, valid_in}
+use Rattle.tool_calls.specs.FaultsText.{TellsFaults}
 use Rattle.tool_calls.specs.ScriptText.{IsScriptAnswer, IsToldOf, TellsScript, shown, unshown}
-use Rattle.tool_calls.specs.ToolText.{translated_text, IsAnswer, translated, faulty, valid, refused, scripted, compared, linted, unlinted, tested}
+use Rattle.tool_calls.specs.ToolText.{translated_text, IsAnswer, translated, faulty, valid, refused, all_valid, all_refused, scripted, compared, linted, unlinted, tested}
 use Rattle.tool_calls.specs.ToolText.{lint_status, lint_text, unread, misplaced, Hinders, HindersScript, HindersTold, hindrance_of, TellsFault}
 use Rattle.tool_calls.specs.declared.script_told.ScriptTold.{ScriptTold}
 use Rattle.tool_calls.specs.declared.script_told.ScriptTold.TheVariants as tolds
@@ -47,7 +49,7 @@ use Rattle.tool_words.specs.declared.format.Format.{Format}
 use Rattle.tool_words.specs.declared.script_task.ScriptTask.{ScriptTask}
 use Rattle.tool_words.specs.declared.task.Task.{Task}
 use Rattle.tool_words.specs.declared.task.Task.TheVariants.{Translate, Validate, Script, Compare}
-use Rattle.tool_words.specs.declared.task.Task.TheVariants.{Lint as LintDeck}
+use Rattle.tool_words.specs.declared.task.Task.TheVariants.{Faults, Lint as LintDeck}
 
 pub done : {bytes text : List ℕ} {kind : Kind} {tree : Routine} {count : ℕ} → IsTranslated bytes kind tree count → text ≡ translated_text kind count → IsAnswer bytes (Translate kind) Done text
 done {bytes} {text} {kind} {tree} {count} d e = subst (λ x. IsAnswer bytes (Translate kind) Done x) (sym e) (translated kind tree count d)
@@ -61,6 +63,12 @@ validated {bytes} {text} {format} {config} c e = subst (λ x. IsAnswer bytes (Va
 
 pub deck_refused : {bytes text : List ℕ} {format : Format} {fault : DeckFault} → HasFirstFault bytes fault → TellsRefusal format fault text → IsAnswer bytes (Validate format) FaultFound text
 deck_refused {text = text} {format = format} {fault = fault} f tells = refused format fault text f tells
+
+pub all_validated : {bytes text : List ℕ} {format : Format} {config : Configuration} → Configures bytes config → text ≡ valid_in format (length config.groups) (length config.volumes) → IsAnswer bytes (Faults format) Done text
+all_validated {bytes} {text} {format} {config} c e = subst (λ x. IsAnswer bytes (Faults format) Done x) (sym e) (all_valid format config c)
+
+pub all_deck_refused : {bytes text : List ℕ} {format : Format} {fault : DeckFault} {faults : List DeckFault} → HasFirstFault bytes fault → HasFaults bytes faults → TellsFaults format faults text → IsAnswer bytes (Faults format) FaultFound text
+all_deck_refused {text = text} {format = format} {fault = fault} {faults = faults} f h tells = all_refused format fault faults text f h tells
 
 -- what is found in a deck, or its fault, is the answer to it
 
@@ -168,6 +176,8 @@ answer_ends (translated kind tree count d) = inl refl
 answer_ends (faulty kind fault d) = inr refl
 answer_ends (valid format config d) = inl refl
 answer_ends (refused format fault text d tells) = inr refl
+answer_ends (all_valid format config d) = inl refl
+answer_ends (all_refused format fault faults text d h tells) = inr refl
 answer_ends (scripted task phases status text script is) = script_ends task (items_of phases) is
 answer_ends (compared comparison status text is) = comparison_ends is
 answer_ends (linted fail format status lint is e) = lint_ends fail (length lint.findings) status e

@@ -4,3 +4,4 @@ pub mod AnswerLemmas
 mod TestedLemmas
 mod CaseLemmas
 mod WordsLemmas
+pub mod FaultsLemmas

@@ -2,6 +2,7 @@ pub mod ExitStatus
 pub mod Limits
 pub mod CasesText
 pub mod DeckText
+pub mod FaultsText
 pub mod ScriptText
 pub mod CaseAnswers
 pub mod TestText

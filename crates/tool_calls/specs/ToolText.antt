@@ -13,6 +13,7 @@ use Rattle.acs_translate.specs.Translation.{IsTranslated, IsRoutineFault}
 use Rattle.sms_construct.specs.Configuration.{Configuration}
 use Rattle.sms_construct.specs.declared.fault.Fault.{Fault as DeckFault}
 use Rattle.deck_meaning.specs.Reading.{Configures, HasFirstFault}
+use Rattle.deck_faults.specs.Faults.{HasFaults}
 use Rattle.sms_script.specs.Script.{items_of, script_of}
 use Rattle.sms_script.specs.declared.item.Item.{Item}
 use Rattle.sms_script.specs.declared.script_err.ScriptErr.{ScriptErr}
@@ -25,6 +26,7 @@ use Rattle.flat_records.specs.declared.form.RecordForm.TheVariants as forms
 use Rattle.sms_lint.specs.declared.linted.Lint.{Lint}
 use Rattle.tool_calls.specs.CasesText.{IsComparison}
 use Rattle.tool_calls.specs.DeckText.{TellsRefusal, refused_text, valid_in}
+use Rattle.tool_calls.specs.FaultsText.{TellsFaults}
 use Rattle.tool_calls.specs.ScriptText.{IsScriptAnswer}
 use Rattle.tool_calls.specs.TestText.{IsTest}
 use Rattle.tool_calls.specs.declared.no_answer.NoAnswer.{NoAnswer}
@@ -38,7 +40,7 @@ use Rattle.tool_words.specs.declared.format.Format.{Format}
 use Rattle.tool_words.specs.declared.format.Format.TheVariants as formats
 use Rattle.tool_words.specs.declared.script_task.ScriptTask.{ScriptTask}
 use Rattle.tool_words.specs.declared.task.Task.{Task}
-use Rattle.tool_words.specs.declared.task.Task.TheVariants.{Translate, Validate, Script, Compare, Lint as LintDeck, Test}
+use Rattle.tool_words.specs.declared.task.Task.TheVariants.{Translate, Validate, Script, Compare, Lint as LintDeck, Faults, Test}
 
 -- L, P or C
 abbrev pub letter_of : Stage → List ℕ
@@ -76,6 +78,11 @@ pub data IsAnswer (bytes : List ℕ) : Task → ToolStatus → List ℕ → Type
       IsAnswer bytes (Validate format) Done (valid_in format (length config.groups) (length config.volumes))
   refused : (format : Format) (fault : DeckFault) (text : List ℕ) → HasFirstFault bytes fault →
       TellsRefusal format fault text → IsAnswer bytes (Validate format) FaultFound text
+  all_valid : (format : Format) (config : Configuration) → Configures bytes config →
+      IsAnswer bytes (Faults format) Done (valid_in format (length config.groups) (length config.volumes))
+  all_refused : (format : Format) (fault : DeckFault) (faults : List DeckFault) (text : List ℕ) →
+      HasFirstFault bytes fault → HasFaults bytes faults → TellsFaults format faults text →
+      IsAnswer bytes (Faults format) FaultFound text
   scripted : (task : ScriptTask) (phases : List (List Item)) (status : ToolStatus) (text : List ℕ) →
       script_of bytes ≡ Ok phases → IsScriptAnswer task (items_of phases) status text →
       IsAnswer bytes (Script task) status text

@@ -8,6 +8,7 @@ ghost use Rattle.tool_words.specs.declared.task.Task.TheVariants.{Translate};
 
 use crate::comparing::compared;
 use crate::deck_answers::validated;
+use crate::faults_told::all_faults;
 use crate::linting::linted;
 use crate::no_answer::NoAnswer;
 use crate::noting::{note_refusal, note_script, note_told};
@@ -38,6 +39,9 @@ pub fn answer(
         }
         Task::Validate(format) => {
             validated(alloc, format, bytes, note).map_err(|_| NoAnswer::NoMemory)
+        }
+        Task::Faults(format) => {
+            all_faults(alloc, format, bytes, note).map_err(|_| NoAnswer::NoMemory)
         }
         Task::Script(task) => scripted(alloc, &task, &bytes, note),
         Task::Compare(comparison) => {

@@ -1,5 +1,5 @@
 //! What is told of a deck.
-ghost use Rattle.std.specs.Prelude.{◌≡◌, ◌++◌, ◌∷◌, [], IfOk, string_bytes};
+ghost use Rattle.std.specs.Prelude.{◌≡◌, ◌++◌, ◌∷◌, [], IfOk, OnOk, string_bytes};
 ghost use Rattle.flat_records.specs.Records.{Named};
 ghost use Rattle.flat_records.specs.declared.field.FieldValue.{FieldValue as Value};
 ghost use Rattle.sms_script.specs.FaultText.{fault_text as deck_fault_text};
@@ -20,8 +20,8 @@ use sms_script::push_fault;
 use std::alloc::{AllocError, Global};
 use tool_words::Format;
 
-// The names of the fields of a deck's record.
-const NAMES: [&[u8]; 7] = [
+/// The names of the fields of a deck's record.
+pub const NAMES: [&[u8]; 7] = [
     b"valid",
     b"groups",
     b"volumes",
@@ -56,8 +56,8 @@ pub fn validated(
     }
 }
 
-// What is told of a deck with so many storage groups and volumes.
-fn valid_in(
+/// What is told of a deck with so many storage groups and volumes.
+pub fn valid_in(
     alloc: Global,
     format: Format,
     groups: usize,
@@ -148,7 +148,8 @@ fn fault_record(
     deck_record(alloc, form, &fields)
 }
 
-fn said_of(alloc: Global, deck: &[u8], fault: &Fault) -> Result<FaultSaid, AllocError> {
+/// What is said of a fault.
+pub fn said_of(alloc: Global, deck: &[u8], fault: &Fault) -> Result<FaultSaid, AllocError> {
     let deck = DeckPart {
         bytes: deck,
         lines_before: 0,
@@ -156,7 +157,8 @@ fn said_of(alloc: Global, deck: &[u8], fault: &Fault) -> Result<FaultSaid, Alloc
     fault_said(alloc, deck, fault)
 }
 
-fn fault_fields(
+/// The fields of a deck with this fault, of which this is said.
+pub fn fault_fields(
     alloc: Global,
     fault: &Fault,
     said: &FaultSaid,
@@ -213,8 +215,16 @@ pub fn refused(alloc: Global, fault: &Fault) -> Result<(ToolStatus, Items<u8>), 
 fn refused_text(alloc: Global, fault: &Fault) -> Result<Vec<u8>, AllocError>
     ensures { IfOk result (λ text. text.items ≡ refused_text fault.now) }
 {
-    let mut text = b"FAULT ".to_vec(alloc)?;
-    push_fault(&mut text, fault)?;
-    text.extend_from_slice(b"\n")?;
+    let mut text = Vec::new(alloc);
+    push_refused(&mut text, fault)?;
     Ok(text)
+}
+
+/// Appends the line of a deck's fault.
+pub fn push_refused(text: &mut Vec<u8>, fault: &Fault) -> Result<(), AllocError>
+    ensures { OnOk result (text.new.items ≡ text.old.items ++ refused_text fault.now) }
+{
+    text.extend_from_slice(b"FAULT ")?;
+    push_fault(text, fault)?;
+    text.extend_from_slice(b"\n")
 }

@@ -7,6 +7,7 @@ mod case_test;
 mod cases;
 mod comparing;
 mod deck_answers;
+mod faults_told;
 mod limit;
 mod linting;
 mod no_answer;

@@ -13,6 +13,7 @@ pub fn most_bytes(task: Task) -> usize
     match task {
         Task::Translate(_) => MAX_ROUTINE,
         Task::Validate(_)
+        | Task::Faults(_)
         | Task::Script(_)
         | Task::Compare(_)
         | Task::Lint { .. }

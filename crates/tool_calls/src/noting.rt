@@ -37,6 +37,19 @@ pub fn note_deck(alloc: Global, note: &mut String, deck: &[u8], fault: &Fault) {
     keep(note, deck_note(alloc, deck, fault));
 }
 
+/// Notes the faults of a deck, one after another.
+pub fn note_faults(alloc: Global, note: &mut String, deck: &[u8], faults: &[Fault]) {
+    let deck = DeckPart {
+        bytes: deck,
+        lines_before: 0,
+    };
+    for fault in faults {
+        if let Ok(text) = deck_note(alloc, deck, fault) {
+            let _ = note.push_str(&text);
+        }
+    }
+}
+
 /// Notes the fault of a script.
 pub fn note_script(alloc: Global, note: &mut String, text: &[u8], fault: ScriptErr) {
     keep(note, script_note(alloc, text, fault));

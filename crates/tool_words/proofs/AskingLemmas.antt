@@ -272,6 +272,10 @@ validate_asks : Asks (codes "validate" ∷ []) (tasks.Validate formats.Text)
 unfolding clap_on_literals
 validate_asks = (refl, refl)
 
+faults_asks : Asks (codes "validate" ∷ codes "--all" ∷ []) (tasks.Faults formats.Text)
+unfolding clap_on_literals
+faults_asks = (refl, refl)
+
 simulate_asks : Asks (codes "simulate" ∷ []) (tasks.Script (script_tasks.Simulate formats.Text))
 unfolding clap_on_literals
 simulate_asks = (refl, refl)
@@ -329,6 +333,11 @@ validated_asks words formats.Text w = asks_as words _ _ w validate_asks
 validated_asks words formats.Csv w = absurd (cc w)
 validated_asks words formats.Json w = absurd (cc w)
 
+all_asks : (words : List Text) (format : Format) → Some words ≡ where_usual format (codes "validate" ∷ codes "--all" ∷ []) → Asks words (tasks.Faults format)
+all_asks words formats.Text w = asks_as words _ _ w faults_asks
+all_asks words formats.Csv w = absurd (cc w)
+all_asks words formats.Json w = absurd (cc w)
+
 simulated_asks : (words : List Text) (format : Format) → Some words ≡ where_usual format (codes "simulate" ∷ []) → Asks words (tasks.Script (script_tasks.Simulate format))
 simulated_asks words formats.Text w = asks_as words _ _ w simulate_asks
 simulated_asks words formats.Csv w = absurd (cc w)
@@ -347,6 +356,7 @@ tested_asks words fail formats.Json w = absurd (cc w)
 task_asks : (words : List Text) (task : Task) → Some words ≡ words_of task → Asks words task
 task_asks words (tasks.Translate kind) w = asks_as words _ _ w (kind_asks kind)
 task_asks words (tasks.Validate format) w = validated_asks words format w
+task_asks words (tasks.Faults format) w = all_asks words format w
 task_asks words (tasks.Script (script_tasks.Simulate format)) w = simulated_asks words format w
 task_asks words (tasks.Compare comparison) w = form_asks words comparison.changed comparison.fail comparison.format w
 task_asks words (tasks.Script (script_tasks.Explain pick format)) w = pick_asks words pick.job pick.number pick.case format w

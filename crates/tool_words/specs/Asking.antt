@@ -136,11 +136,15 @@ comparison_with rows format = record {
   format = format;
 }
 
+-- whether these rows ask for every fault of a deck, in this form, or for its first alone
+abbrev pub validation_with : List Row → Format → Task
+validation_with rows format = if is_set (codes "all") rows then tasks.Faults format else tasks.Validate format
+
 -- what the subcommand of this name with these rows asks for
 abbrev pub task_of : Text → List Row → Option Task
 task_of name rows =
     if bytes_eq name (codes "translate") then option_map tasks.Translate (kind_in rows)
-    else if bytes_eq name (codes "validate") then option_map tasks.Validate (format_in rows)
+    else if bytes_eq name (codes "validate") then option_map (validation_with rows) (format_in rows)
     else if bytes_eq name (codes "simulate")
     then option_map (λ format. tasks.Script (script_tasks.Simulate format)) (format_in rows)
     else if bytes_eq name (codes "compare")

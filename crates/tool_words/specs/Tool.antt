@@ -44,7 +44,8 @@ cases_app name = with_rule (file_app name) (path_rule (codes "cases"))
 
 -- the subcommand `validate`
 abbrev pub validate_app : App
-validate_app = with_rule (file_app (codes "validate")) (option_rule (codes "format"))
+validate_app =
+    with_rule (with_rule (file_app (codes "validate")) (flag_rule (codes "all"))) (option_rule (codes "format"))
 
 -- the subcommand `simulate`
 abbrev pub simulate_app : App
@@ -134,6 +135,7 @@ where_any least words = if least == 0 then Some words else None
 abbrev pub words_of : Task → Option (List Text)
 words_of (tasks.Translate kind) = Some (codes "translate" ∷ name_of kind ∷ [])
 words_of (tasks.Validate format) = where_usual format (codes "validate" ∷ [])
+words_of (tasks.Faults format) = where_usual format (codes "validate" ∷ codes "--all" ∷ [])
 words_of (tasks.Script (script_tasks.Simulate format)) = where_usual format (codes "simulate" ∷ [])
 words_of (tasks.Compare comparison) =
     where_usual comparison.format (codes "compare" ∷ (flag_words (codes "--changed") comparison.changed

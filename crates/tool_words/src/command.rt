@@ -23,7 +23,7 @@ const TRANSLATE: Said = Said {
 
 const VALIDATE: Said = Said {
     about: "Validate a deck",
-    usage: "smsc validate [FILE] [--format FORM]",
+    usage: "smsc validate [FILE] [--all] [--format FORM]",
 };
 
 const SIMULATE: Said = Said {
@@ -102,6 +102,7 @@ fn validating<'a>(alloc: Global) -> Result<Command<'a>, AllocError>
 {
     described(Command::new(alloc, "validate"), VALIDATE)
         .arg(path(alloc, "file"))?
+        .arg(flag(alloc, "all"))?
         .arg(option(alloc, "format"))
 }
 

@@ -10,10 +10,11 @@ smsc translate KIND [FILE]
 ";
 
 const VALIDATE: &str = "
-smsc validate [FILE] [--format FORM]
-                     validate a deck; FORM is text, csv or json
+smsc validate [FILE] [--all] [--format FORM]
+                     validate a deck; with --all every fault is told, 100 at
+                     most, and not the first alone; FORM is text, csv or json
 
-    smsc validate deck.toml
+    smsc validate deck.toml --all
 ";
 
 const SIMULATE: &str = "

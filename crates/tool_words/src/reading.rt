@@ -4,7 +4,7 @@ ghost use Rattle.clap.specs.Words.{kind_of, IsAmong, fault_of, found_of, rows_of
 ghost use Rattle.clap.specs.Words.{subcommand_rows_of};
 ghost use Rattle.desk_common.specs.Exact.{IsExact, MayRefuse};
 ghost use Rattle.tool_words.specs.Asking.{AskFor, Hinders, AreSorted, NamePaths, err_of, task_found, task_of};
-ghost use Rattle.tool_words.specs.Asking.{comparison_with, explanation_with, format_in, task_or_bad};
+ghost use Rattle.tool_words.specs.Asking.{comparison_with, explanation_with, format_in, task_or_bad, validation_with};
 ghost use Rattle.tool_words.specs.Tool.{tool, words_of};
 ghost use Rattle.tool_words.specs.declared.task.Task.{Task as TaskOf};
 
@@ -120,7 +120,7 @@ fn task_of(name: &str, matches: &ArgMatches<'_>) -> Option<Task>
     }
     if name == "validate" {
         let format = format_in(matches)?;
-        return Some(Task::Validate(format));
+        return Some(validation_with(matches, format));
     }
     if name == "simulate" {
         let format = format_in(matches)?;
@@ -167,6 +167,17 @@ fn explanation_with(volumes: bool, pick: Pick, format: Format) -> Option<Task>
     match format {
         Format::Text => Some(Task::Script(ScriptTask::ExplainVolumes(pick))),
         Format::Csv | Format::Json => None,
+    }
+}
+
+// Whether the words ask for every fault of a deck, or for its first alone.
+fn validation_with(matches: &ArgMatches<'_>, format: Format) -> Task
+    ensures { result ≡ validation_with (rows_of (found_of matches.now)) format }
+{
+    if is_set(matches, "all") {
+        Task::Faults(format)
+    } else {
+        Task::Validate(format)
     }
 }
 

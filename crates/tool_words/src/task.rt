@@ -11,6 +11,8 @@ pub enum Task {
     Translate(Kind),
     /// It is a deck, to be validated, and told in this form.
     Validate(Format),
+    /// It is a deck, of which every fault is to be told in this form.
+    Faults(Format),
     /// It is a script, or a deck and a table of cases, of which this is to be told.
     Script(ScriptTask),
     /// It has two decks and a table of cases, under which the decks are to be compared so.
