@@ -75,12 +75,17 @@ front_in Json = header_in records.Json case_names
 abbrev pub counted : List ℕ → ℕ → List ℕ
 counted front count = front ++ decimal count
 
+-- the line of so many cases, of which so many pass and fail, and of so many nothing is expected
+abbrev pub counts_text : ℕ → ℕ → ℕ → ℕ → List ℕ
+counts_text cases passed failed unjudged =
+    counted (codes "cases ") cases ++ (counted (codes ", passed ") passed ++ (counted (codes ", failed ") failed
+    ++ (counted (codes ", without EXPECT ") unjudged ++ codes "\n")))
+
 -- the last line: how many cases there are, and how many are judged so
 abbrev pub end_text : List Verdict → List ℕ
 end_text verdicts =
-    counted (codes "cases ") (length verdicts) ++ (counted (codes ", passed ") (count_by is_passed verdicts)
-    ++ (counted (codes ", failed ") (count_by is_failed verdicts)
-    ++ (counted (codes ", without EXPECT ") (count_by is_unjudged verdicts) ++ codes "\n")))
+    counts_text (length verdicts) (count_by is_passed verdicts) (count_by is_failed verdicts)
+    (count_by is_unjudged verdicts)
 
 -- what stands behind the cases
 abbrev pub end_in : CaseForm → List Verdict → List ℕ

@@ -1,6 +1,7 @@
 //! Results as lines.
 ghost use Rattle.std.specs.Prelude.{◌≡◌, ◌++◌, OnOk, count_by};
-ghost use Rattle.case_results.specs.Results.{came_text, counted, end_text, judged_text, line_of, unjudged_text};
+ghost use Rattle.case_results.specs.Results.{came_text, counted, counts_text, end_text, judged_text};
+ghost use Rattle.case_results.specs.Results.{line_of, unjudged_text};
 ghost use Rattle.case_results.specs.Verdicts.{is_failed, is_passed, is_unjudged};
 
 use crate::verdict::Verdict;
@@ -62,11 +63,26 @@ fn push_came(text: &mut Vec<u8>, outcome: &[u8]) -> Result<(), AllocError>
 pub fn push_end(text: &mut Vec<u8>, verdicts: &[Verdict]) -> Result<(), AllocError>
     ensures { OnOk result (text.new.items ≡ text.old.items ++ end_text verdicts.now) }
 {
-    push_count(text, b"cases ", verdicts.len())?;
-    push_count(text, b", passed ", passed_of(verdicts))?;
-    push_count(text, b", failed ", failed_of(verdicts))?;
-    push_count(text, b", without EXPECT ", unjudged_of(verdicts))?;
-    text.extend_from_slice(b"\n")
+    let (passed, failed) = (passed_of(verdicts), failed_of(verdicts));
+    push_counts(text, verdicts.len(), passed, failed, unjudged_of(verdicts))
+}
+
+// Puts how many cases there are, and how many of them are judged so.
+fn push_counts(
+    text: &mut Vec<u8>,
+    cases: usize,
+    passed: usize,
+    failed: usize,
+    unjudged: usize,
+) -> Result<(), AllocError>
+    ensures { OnOk result (text.new.items ≡ text.old.items ++ counts_text cases passed failed unjudged) }
+{
+    push_count(text, b"cases ", cases)?;
+    push_count(text, b", passed ", passed)?;
+    push_count(text, b", failed ", failed)?;
+    push_count(text, b", without EXPECT ", unjudged)?;
+    text.push(b'\n')?;
+    Ok(())
 }
 
 fn push_count(text: &mut Vec<u8>, front: &[u8], count: usize) -> Result<(), AllocError>
